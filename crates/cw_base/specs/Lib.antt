@@ -1,0 +1,4 @@
+pub mod Exit
+pub mod Flags
+pub mod Notes
+pub mod Text

@@ -1,0 +1,17 @@
+use crate::Bytes;
+
+/// An output of the program: the terminal, the TeX file, the index and the file of section names.
+#[derive(Clone, Copy, Debug, PartialEq, Eq)]
+pub enum Out {
+    Term,
+    Tex,
+    Idx,
+    Scn,
+}
+
+/// What a journal records: an output was made under a name, or one byte was written to it.
+#[derive(Drop)]
+pub enum Event {
+    Made(Out, Bytes),
+    Byte(Out, u8),
+}

@@ -1,0 +1,20 @@
+//! The types that every crate of `cweave` shares: texts, words, flags, events, notes and counters.
+#![tactic(auto)]
+
+mod bytes;
+mod event;
+mod exit;
+mod flags;
+mod memory;
+mod notes;
+mod span;
+mod words;
+
+pub use bytes::Bytes;
+pub use event::{Event, Out};
+pub use exit::Exit;
+pub use flags::Flags;
+pub use memory::Memory;
+pub use notes::{Grade, Note, NoteKind, Place};
+pub use span::Span;
+pub use words::Words;

@@ -1,0 +1,6 @@
+/// A part of a text: the bytes from `start` on, up to and without `end`.
+#[derive(Clone, Copy, Debug, PartialEq, Eq)]
+pub struct Span {
+    pub start: usize,
+    pub end: usize,
+}
