@@ -1,0 +1,7 @@
+pub mod Journal
+pub mod JournalLaws
+pub mod Make
+pub mod Meaning
+pub mod Open
+pub mod Put
+pub mod Read

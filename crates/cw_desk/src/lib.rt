@@ -1,0 +1,8 @@
+//! The outside: files that are read, outputs that are made and written, and the kinds of desk on which this happens.
+#![tactic(auto)]
+
+mod desk;
+mod outputs;
+
+pub use desk::{Desk, Fetched, FileId, MadeOut, Opened, Taken};
+pub use outputs::Outputs;
