@@ -1,5 +1,5 @@
 -- Words over byte texts that several crates speak of.
-use Rattle.std.specs.Prelude.{◌≡◌, ℕ, ◌+◌, ◌==◌, ◌||◌, Bool, true, false, List, [], ◌∷◌, ◌++◌, Option, Some, None, map}
+use Rattle.std.specs.Prelude.{ℕ, ◌+◌, ◌==◌, ◌||◌, Bool, true, false, List, [], ◌∷◌, Option, Some, None, map}
 
 -- a blank: byte 32, 9, 11, 12 or 13
 abbrev pub is_blank : ℕ → Bool

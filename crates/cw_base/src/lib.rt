@@ -8,6 +8,7 @@ mod flags;
 mod memory;
 mod notes;
 mod span;
+mod steps;
 mod words;
 
 pub use bytes::Bytes;
@@ -17,4 +18,5 @@ pub use flags::Flags;
 pub use memory::Memory;
 pub use notes::{Grade, Note, NoteKind, Place};
 pub use span::Span;
+pub use steps::{Kept, Ledger, Silent, Steps};
 pub use words::Words;
