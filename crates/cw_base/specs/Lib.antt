@@ -1,3 +1,4 @@
+pub mod Category
 pub mod Exit
 pub mod Flags
 pub mod Notes

@@ -2,20 +2,24 @@
 #![tactic(auto)]
 
 mod bytes;
+mod category;
 mod event;
 mod exit;
 mod flags;
 mod memory;
+mod mode;
 mod notes;
 mod span;
 mod steps;
 mod words;
 
 pub use bytes::Bytes;
+pub use category::{Cat, CatSet};
 pub use event::{Event, Out};
 pub use exit::Exit;
 pub use flags::Flags;
 pub use memory::Memory;
+pub use mode::MathMode;
 pub use notes::{Grade, Note, NoteKind, Place};
 pub use span::Span;
 pub use steps::{Kept, Ledger, Silent, Steps};

@@ -1,0 +1,127 @@
+ghost use Rattle.std.specs.Prelude.{◌≡◌, ℕ, ◌^◌};
+ghost use Rattle.cw_base.specs.Category.{number_of, in_set};
+
+/// What kind of thing a scrap is to the productions. `End` is of tests only: it stands past the last
+/// scrap, and it is the last variant, so that a new category moves no other.
+#[derive(Clone, Copy, PartialEq, Eq, Debug)]
+pub enum Cat {
+    /// A type word such as `int`.
+    RawInt,
+    /// `const` and `volatile`.
+    ConstLike,
+    /// A type in parentheses.
+    Cast,
+    /// The beginning of a declaration, such as `static int`.
+    IntLike,
+    /// `if` and its condition.
+    IfClause,
+    /// The name of a section.
+    SectionScrap,
+    /// An expression.
+    Exp,
+    /// A declaration without its end.
+    DeclHead,
+    /// `else`, or what takes one statement as `else` does.
+    ElseLike,
+    /// `if`, its condition and the brace behind it.
+    IfHead,
+    /// A semicolon.
+    Semi,
+    /// `*` and `&` before it is known whether `const` follows.
+    RawUbin,
+    /// An operator on one side, such as `!`.
+    Unop,
+    /// An operator between two expressions.
+    Binop,
+    /// An operator that is both, such as `-`.
+    Ubinop,
+    /// `?`.
+    Question,
+    /// `(` or `[`.
+    Lpar,
+    /// `)` or `]`.
+    Rpar,
+    /// `{`.
+    Lbrace,
+    /// `}`.
+    Rbrace,
+    /// `,`.
+    Comma,
+    /// `:`.
+    Colon,
+    /// `struct`, `union` and `enum`.
+    StructLike,
+    /// `case`, `return`, `goto` and their kind.
+    CaseLike,
+    /// `for`, `while` and `switch`.
+    ForLike,
+    /// `do`.
+    DoLike,
+    /// `if`.
+    IfLike,
+    /// `define` of a `#` line.
+    DefineLike,
+    /// `sizeof`.
+    SizeofLike,
+    /// `typedef`.
+    TypedefLike,
+    /// A whole declaration.
+    Decl,
+    /// The head of a function.
+    FnDecl,
+    /// A whole function.
+    Function,
+    /// A statement.
+    Stmt,
+    /// A label with its colon.
+    Tag,
+    /// `struct`, its name and its brace.
+    StructHead,
+    /// `else` and the brace behind it.
+    ElseHead,
+    /// `#` at the beginning of a `#` line.
+    Lproc,
+    /// The end of a `#` line.
+    Rproc,
+    /// What may stand anywhere, such as a comment.
+    Insert,
+    /// `@[`.
+    BeginArg,
+    /// `@]`.
+    EndArg,
+    /// What no row joins.
+    Dead,
+    /// Stands past the last scrap; the category of no scrap.
+    End,
+}
+
+impl Cat {
+    /// The one bit that stands for this category in a `CatSet`.
+    pub fn bit(self) -> u64
+        ensures { result ≡ 2 ^ number_of self }
+    {
+        1 << self as u64
+    }
+}
+
+/// A set of categories, `End` among them where it is wanted: one bit for each variant of `Cat`, the
+/// first variant in the lowest bit.
+#[derive(Clone, Copy, PartialEq, Eq, Debug)]
+pub struct CatSet {
+    /// The categories of the set; the bits above that of `End` mean nothing.
+    pub bits: u64,
+}
+
+impl CatSet {
+    /// Every category, and `End`.
+    pub const ALL: CatSet = CatSet {
+        bits: (1 << (Cat::End as u64 + 1)) - 1,
+    };
+
+    /// Whether this category is in the set.
+    pub fn has(self, cat: Cat) -> bool
+        ensures { result ≡ in_set self cat }
+    {
+        self.bits & cat.bit() != 0
+    }
+}

@@ -1,0 +1,6 @@
+//! The production table: which scraps are rewritten, into what, and how far a reducer steps back.
+#![tactic(auto)]
+
+mod types;
+
+pub use types::{Action, Choice, Piece, Pieces, Row, RowNo, RowResult, Table};
