@@ -3,3 +3,6 @@ pub mod Exit
 pub mod Flags
 pub mod Notes
 pub mod Text
+pub mod Web
+pub mod WebLaws
+pub mod WebLayout

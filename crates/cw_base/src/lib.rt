@@ -11,6 +11,7 @@ mod mode;
 mod notes;
 mod span;
 mod steps;
+mod web;
 mod words;
 
 pub use bytes::Bytes;
@@ -23,4 +24,5 @@ pub use mode::MathMode;
 pub use notes::{Grade, Note, NoteKind, Place};
 pub use span::Span;
 pub use steps::{Kept, Ledger, Silent, Steps};
+pub use web::{LineInfo, Web};
 pub use words::Words;
