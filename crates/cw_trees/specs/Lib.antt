@@ -1,0 +1,4 @@
+pub mod Tree
+pub mod Joining
+pub mod Flat
+pub mod Printing

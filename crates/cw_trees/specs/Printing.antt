@@ -1,0 +1,129 @@
+-- The bytes that a flat list prints. Breaks, blanks, indents and the like that follow one another are a run,
+-- and print as one; every other item prints its own bytes.
+use Rattle.std.specs.Prelude.{ℕ, zero, suc, pred, max, Bool, true, false, ◌&&◌, ◌||◌, eqb, ltb, leb, Option, Some, None, List, [], ◌∷◌, ◌++◌, length, codes}
+use Rattle.std.specs.List.{list_any}
+use Rattle.cw_trees.specs.declared.Control.{Control}
+use Rattle.cw_trees.specs.declared.Control.TheVariants.{Blank, OptionalBreak, Break, BigBreak, Cancel, Backup, Indent, Outdent, OptionalLineBreak0, OptionalLineBreak9, ThinSpace, OpenBrace, CloseBrace, OpenRelation, ToMath, ToText, Dollar, CommentEnd}
+use Rattle.cw_trees.specs.Flat.{Item, SignItem, Open, Close, is_run_sign}
+
+-- an item of a flat list, and the bytes that it prints where it is in no run
+pub record Printable : Type 0 where
+  pub item : Item
+  pub bytes : List ℕ
+
+-- what a control that is in no run prints
+abbrev pub sign_bytes : Control → List ℕ
+sign_bytes OptionalLineBreak0 = codes "\\30"
+sign_bytes OptionalLineBreak9 = codes "\\39"
+sign_bytes ThinSpace = codes "\\,"
+sign_bytes OpenBrace = codes "{"
+sign_bytes CloseBrace = codes "}"
+sign_bytes OpenRelation = codes "\\MRL{"
+sign_bytes ToMath = codes "${}"
+sign_bytes ToText = codes "{}$"
+sign_bytes Dollar = codes "$"
+sign_bytes CommentEnd = codes "}"
+sign_bytes _ = []
+
+-- Names. In a name `_` and `$` have a backslash.
+abbrev pub name_byte : ℕ → List ℕ
+name_byte byte = elim (eqb byte 95 || eqb byte 36) [ true ↦ 92 ∷ byte ∷ [] | false ↦ byte ∷ [] ]
+
+abbrev pub name_bytes : List ℕ → List ℕ
+name_bytes [] = []
+name_bytes (byte ∷ bytes) = name_byte byte ++ name_bytes bytes
+
+-- a lower case letter of ASCII, or a byte of 128 and above
+abbrev pub is_lower : ℕ → Bool
+is_lower byte = (leb 97 byte && leb byte 122) || leb 128 byte
+
+abbrev pub long_ident_bytes : List ℕ → List ℕ
+long_ident_bytes name = elim (list_any is_lower name) [
+  | true ↦ codes "\\\\{" ++ name_bytes name ++ codes "}"
+  | false ↦ codes "\\.{" ++ name_bytes name ++ codes "}"
+]
+
+-- an identifier: one byte, a name with lower case letters, or a name of capitals
+abbrev pub ident_bytes : List ℕ → List ℕ
+ident_bytes name = elim (eqb (length name) 1) [
+  | true ↦ codes "\\|" ++ name_bytes name
+  | false ↦ long_ident_bytes name
+]
+
+abbrev pub reserved_bytes : List ℕ → List ℕ
+reserved_bytes name = codes "\\&{" ++ name_bytes name ++ codes "}"
+
+-- Runs. The strongest of the breaks and blanks of a run is the one that it prints.
+abbrev pub strength : Control → ℕ
+strength BigBreak = 4
+strength Break = 3
+strength OptionalBreak = 2
+strength Blank = 1
+strength _ = 0
+
+abbrev pub strongest : List Control → ℕ
+strongest [] = 0
+strongest (control ∷ run) = max (strength control) (strongest run)
+
+abbrev pub break_bytes : ℕ → List ℕ
+break_bytes zero = []
+break_bytes (suc zero) = codes " "
+break_bytes (suc (suc zero)) = codes "\\5"
+break_bytes (suc (suc (suc zero))) = codes "\\6\n"
+break_bytes (suc (suc (suc (suc _)))) = codes "\\7\n"
+
+abbrev pub indent_bytes : Control → List ℕ
+indent_bytes Indent = codes "\\1"
+indent_bytes Outdent = codes "\\2"
+indent_bytes _ = []
+
+abbrev pub indents : List Control → List ℕ
+indents [] = []
+indents (control ∷ run) = indent_bytes control ++ indents run
+
+abbrev pub is_cancel : Control → Bool
+is_cancel Cancel = true
+is_cancel _ = false
+
+abbrev pub is_backup : Control → Bool
+is_backup Backup = true
+is_backup _ = false
+
+abbrev pub backup_bytes : List Control → List ℕ
+backup_bytes run = elim (list_any is_backup run) [ true ↦ codes "\\4" | false ↦ [] ]
+
+-- a run in the C text of a part or a definition: its indents, and without a Cancel its break and its backup
+abbrev pub part_run : List Control → List ℕ
+part_run run = indents run ++ elim (list_any is_cancel run) [ true ↦ [] | false ↦ break_bytes (strongest run) ++ backup_bytes run ]
+
+-- a run in inner C text: a blank if it has a break or blank, and no Cancel
+abbrev pub inner_run : List Control → List ℕ
+inner_run run = elim (list_any is_cancel run) [ true ↦ [] | false ↦ elim (ltb 0 (strongest run)) [ true ↦ codes " " | false ↦ [] ] ]
+
+abbrev pub run_bytes : Bool → List Control → List ℕ
+run_bytes true run = inner_run run
+run_bytes false run = part_run run
+
+-- an item that goes into a run
+abbrev pub run_sign : Item → Option Control
+run_sign (SignItem control) = elim (is_run_sign control) [ true ↦ Some control | false ↦ None ]
+run_sign _ = None
+
+-- how many inner texts are open behind an item
+abbrev pub opened : ℕ → Item → ℕ
+opened depth Open = suc depth
+opened depth Close = pred depth
+opened depth _ = depth
+
+-- The bytes of a list, where `depth` inner texts are open and the controls of `run` stand directly before it.
+abbrev pub printed_from : Bool → ℕ → List Control → List Printable → List ℕ
+printed_from inner depth run [] = run_bytes (inner || ltb 0 depth) run
+printed_from inner depth run (p ∷ ps) = elim (run_sign p.item) [
+  | Some control ↦ printed_from inner depth (run ++ control ∷ []) ps
+  | None ↦ run_bytes (inner || ltb 0 depth) run ++ (p.bytes ++ printed_from inner (opened depth p.item) [] ps)
+]
+
+-- The bytes of a trimmed list, as inner C text or as that of a part or a definition: its longest runs and all
+-- its other items, in order.
+abbrev pub printed : Bool → List Printable → List ℕ
+printed inner ps = printed_from inner 0 [] ps
