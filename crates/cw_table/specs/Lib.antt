@@ -1,3 +1,4 @@
 pub mod Rows
+pub mod Productions
 pub mod Fitting
 pub mod Sound

@@ -3,7 +3,7 @@ use Rattle.std.specs.Prelude.{ℕ, zero, suc, List, [], ◌∷◌, Option, Some,
 use Rattle.cw_base.specs.declared.category.Cat.{Cat}
 use Rattle.cw_base.specs.declared.category.Cat.TheVariants.{End}
 use Rattle.cw_base.specs.declared.category.CatSet.{CatSet}
-use Rattle.cw_base.specs.Category.{set_of}
+use Rattle.cw_base.specs.Category.{any_but, set_of}
 use Rattle.cw_table.specs.declared.types.RowNo.{RowNo}
 use Rattle.cw_table.specs.declared.types.RowResult.{RowResult}
 use Rattle.cw_table.specs.declared.types.RowResult.TheVariants.{Is, SameAs}
@@ -48,3 +48,56 @@ test row q = get_or (tests_of row) q empty
 abbrev pub result_at : RowResult → List Cat → Cat
 result_at (Is cat) cats = cat
 result_at (SameAs k) cats = get_or cats k End
+
+-- the words in which the productions are written
+
+-- a test that these categories pass
+abbrev pub one_of : List Cat → CatSet
+one_of cats = set_of cats
+
+-- a test that every category passes, and End doesn't
+abbrev pub any : CatSet
+any = any_but []
+
+-- these pieces, whatever the flags
+abbrev pub joins : List Piece → Action
+joins pieces = record {
+  usual = pieces_of pieces;
+  other = pieces_of pieces;
+  choice = Always;
+  underline = None;
+  reserve = None;
+}
+
+-- these pieces, or the second ones where the choice says so
+abbrev pub joins_by : Choice → List Piece → List Piece → Action
+joins_by choice usual other = record {
+  usual = pieces_of usual;
+  other = pieces_of other;
+  choice = choice;
+  underline = None;
+  reserve = None;
+}
+
+-- the same, and the first identifier of that scrap is underlined, or becomes a reserved word
+abbrev pub underlining : ℕ → Action → Action
+underlining k action = record action { underline = Some k }
+
+abbrev pub reserving : ℕ → Action → Action
+reserving k action = record action { reserve = Some k }
+
+-- a production that replaces some of the tested scraps: so many, from one on
+abbrev pub replaces : (offset count number : ℕ) → List CatSet → RowResult → Action → Row
+replaces offset count number tests result action = record {
+  number = record { number = number };
+  tests = filled empty tests 4;
+  test_count = length tests;
+  offset = offset;
+  replaced = count;
+  result = result;
+  action = action;
+}
+
+-- a production that replaces all tested scraps
+abbrev pub replaces_all : (number : ℕ) → List CatSet → RowResult → Action → Row
+replaces_all number tests result action = replaces 0 (length tests) number tests result action
