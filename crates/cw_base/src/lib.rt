@@ -26,3 +26,6 @@ pub use span::Span;
 pub use steps::{Kept, Ledger, Silent, Steps};
 pub use web::{LineInfo, Web};
 pub use words::Words;
+
+#[cfg(test)]
+mod tests;
