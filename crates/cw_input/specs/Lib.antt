@@ -1,0 +1,4 @@
+pub mod Lines
+pub mod Merge
+pub mod Merged
+pub mod Names

@@ -1,0 +1,69 @@
+-- The merged web of a web word and a change word, over files that are there by name.
+use Rattle.std.specs.Prelude.{ℕ, ◌==◌, Bool, true, false, List, [], ◌∷◌, length, Option, Some, None, option_and_then, option_map, bytes_eq, codes}
+use Rattle.cw_base.specs.Web.{WebState, empty_web}
+use Rattle.cw_input.specs.Lines.{file_lines}
+use Rattle.cw_input.specs.Merge.{Lookup, Over, MergeState, read, advance, web_lines, drained, unmatched}
+use Rattle.cw_input.specs.Names.{first_name, second_name, change_name}
+use Rattle.cw_input.specs.declared.phase.Phase.TheVariants.{Outside}
+
+-- the outcome of reading
+pub data Merged : Type 0 where
+  NoWeb : Merged
+  NoChange : Merged
+  TooLong : Merged
+  Whole : WebState → Merged
+
+-- a file that was found: its name and its bytes
+pub record Found : Type 0 where
+  pub name : List ℕ
+  pub bytes : List ℕ
+
+abbrev pub found : Lookup → List ℕ → Option Found
+found named name = option_map (λ bytes. record { name = name; bytes = bytes }) (named name)
+
+-- the file of a web word: the first name that is there
+abbrev pub found_or : Option Found → Option Found → Option Found
+found_or (Some file) other = Some file
+found_or None other = other
+
+abbrev pub web_file : Lookup → List ℕ → Option Found
+web_file named word = found_or (found named (first_name word)) (found named (second_name word))
+
+-- the change word, where there is one: `-` means none
+abbrev pub change_by : Bool → List ℕ → Option (List ℕ)
+change_by true word = None
+change_by false word = Some word
+
+abbrev pub change_word : Option (List ℕ) → Option (List ℕ)
+change_word None = None
+change_word (Some word) = change_by (bytes_eq word (codes "-")) word
+
+abbrev pub start_state : MergeState
+start_state = record { web = empty_web; sum = 0; mark = false; group = Over }
+
+abbrev pub whole : Option MergeState → Merged
+whole None = TooLong
+whole (Some m) = Whole (unmatched m).web
+
+-- The lines of the web are taken, whatever the change file waits for; then what waits is handled. The web is file 0.
+abbrev pub taken : Lookup → List ℕ → Option MergeState → Merged
+taken named web m = whole (option_and_then (drained named) (option_and_then (web_lines named 10 (file_lines 0 web)) m))
+
+-- The change file is file 1. It is handled up to its first match line before a line of the web is taken.
+abbrev pub merge_change : Lookup → List ℕ → Option Found → MergeState → Merged
+merge_change named web None m = NoChange
+merge_change named web (Some change) m =
+    taken named web (option_and_then (advance named Outside (record { file = 1; line = 0 }) (file_lines 1 change.bytes)) (read change.name change.bytes m))
+
+abbrev pub merge_with : Lookup → List ℕ → Option (List ℕ) → Option MergeState → Merged
+merge_with named web change None = TooLong
+merge_with named web None (Some m) = taken named web (Some m)
+merge_with named web (Some word) (Some m) = merge_change named web (found named (change_name word)) m
+
+abbrev pub merge_web : Lookup → Option Found → Option (List ℕ) → Merged
+merge_web named None change = NoWeb
+merge_web named (Some file) change = merge_with named file.bytes change (read file.name file.bytes start_state)
+
+-- The web word and the change word stand as on the command line.
+abbrev pub merged : Lookup → List ℕ → Option (List ℕ) → Merged
+merged named web change = merge_web named (web_file named web) (change_word change)
