@@ -2,3 +2,4 @@ pub mod Lines
 pub mod Merge
 pub mod Merged
 pub mod Names
+pub mod Words
