@@ -1,0 +1,9 @@
+pub mod Bytes
+pub mod Signs
+pub mod Constants
+pub mod Codes
+pub mod Bodies
+pub mod Names
+pub mod Answers
+pub mod Tokens
+pub mod Lexing

@@ -1,0 +1,496 @@
+-- The tokens of a web: one rule for each class of token, and one for each kind of text in which tokens stand.
+--
+-- Each rule says what begins at a place: which answers it gives, how many bytes belong to it, and where the text goes on.
+-- `place` is the number of the byte, `byte` the byte itself, and `bytes` are the bytes behind it.
+use Rattle.std.specs.Prelude.{ℕ, ◌+◌, ◌-◌, Bool, true, false, ◌&&◌, ◌||◌, not, ◌==◌, nat_lt, List, [], ◌∷◌, ◌++◌, Option, Some, None, codes, drop, take, length, if◌then◌else◌}
+use Rattle.cw_base.specs.declared.notes.NoteKind.{NoteKind}
+use Rattle.cw_base.specs.declared.notes.NoteKind.TheVariants as notes
+use Rattle.cw_lex.specs.declared.bodies.Body.{Body}
+use Rattle.cw_lex.specs.declared.bodies.Body.TheVariants as bodies
+use Rattle.cw_lex.specs.declared.bodies.Inside.{Inside}
+use Rattle.cw_lex.specs.declared.bodies.Noted.{Noted}
+use Rattle.cw_lex.specs.declared.classes.Class.TheVariants as classes
+use Rattle.cw_lex.specs.declared.codes.Code.{Code}
+use Rattle.cw_lex.specs.declared.codes.Code.TheVariants as at
+use Rattle.cw_lex.specs.declared.codes.Effect.{Effect}
+use Rattle.cw_lex.specs.declared.codes.Effect.TheVariants as effects
+use Rattle.cw_lex.specs.declared.parts.Part.{Part}
+use Rattle.cw_lex.specs.declared.parts.Part.TheVariants as parts
+use Rattle.cw_lex.specs.declared.parts.Opened.{Opened}
+use Rattle.cw_lex.specs.declared.parts.Start.{Start}
+use Rattle.cw_lex.specs.declared.parts.Start.TheVariants as start
+use Rattle.cw_lex.specs.declared.signs.Sign.{Sign}
+use Rattle.cw_lex.specs.declared.signs.Sign.TheVariants as signs
+use Rattle.cw_lex.specs.declared.tokens.TokKind.{TokKind}
+use Rattle.cw_lex.specs.declared.tokens.TokKind.TheVariants as kinds
+use Rattle.cw_lex.specs.Bytes.{newline, quote, hash, apostrophe, left_paren, right_paren, star, comma, slash, less, greater, equals, at_sign, backslash, bar, run, begins, begins_by, begins_with, is_letter, is_in}
+use Rattle.cw_lex.specs.Signs.{all_signs, longest, spelling}
+use Rattle.cw_lex.specs.Constants.{constant}
+use Rattle.cw_lex.specs.Codes.{code_at, begins_section, has_control_text, effect_in_limbo, effect_in_tex, effect_in_c, effect_in_definition, effect_at_begin}
+use Rattle.cw_lex.specs.Bodies.{at_start, Read, read, ended}
+use Rattle.cw_lex.specs.Names.{is_void}
+use Rattle.cw_lex.specs.Answers.{Seen, Answer, Token, Begin, Finish, Note, Where, Cut, Found, before, note_answers, token_of, plain, dropped}
+
+-- ## Tokens, by their classes
+
+-- a note unless the token is closed
+abbrev pub unless : Bool → NoteKind → ℕ → List Noted
+unless true note place = []
+unless false note place = record { kind = note; place = place } ∷ []
+
+-- Where a token that isn't closed stopped: at the byte that comes then, else at the last byte of all.
+abbrev pub stop_at : ℕ → List ℕ → ℕ
+stop_at place [] = place - 1
+stop_at place (byte ∷ bytes) = place
+
+-- An identifier is a letter, then letters and digits. So each byte of it is of the class Word.
+abbrev pub identifier : List ℕ → Cut
+identifier bytes = plain kinds.Identifier (run classes.Word bytes)
+
+-- A string goes from a quote, the last of its first `opening` bytes, to the same byte.
+abbrev pub string_by : TokKind → ℕ → ℕ → List ℕ → Read → Cut
+string_by kind opening place bytes r = record {
+  kind = kind;
+  size = opening + r.size;
+  notes = r.notes ++ unless r.closed notes.StringUnended (stop_at (place + opening + r.size) (drop (opening + r.size) bytes));
+}
+
+abbrev pub string : TokKind → ℕ → ℕ → ℕ → List ℕ → Cut
+string kind opening quote place bytes =
+    string_by kind opening place bytes (read (at_start (bodies.Quoted quote) (place + opening)) (drop opening bytes))
+
+-- An include name goes from `<` to the first `>` of the line.
+abbrev pub closes_on_line : List ℕ → Bool
+closes_on_line bytes = begins greater (drop (run classes.IncludeName bytes) bytes)
+
+abbrev pub include_name : ℕ → List ℕ → Cut
+include_name place bytes = record {
+  kind = kinds.IncludeName;
+  size = 1 + (run classes.IncludeName (drop 1 bytes) + 1);
+  notes = (read (at_start bodies.IncludeName (place + 1)) (drop 1 bytes)).notes;
+}
+
+-- A control text goes to `@>` on its line.
+abbrev pub control_text_by : Code → ℕ → List ℕ → Read → Cut
+control_text_by code place bytes r = record {
+  kind = kinds.Code code;
+  size = 2 + r.size;
+  notes = r.notes ++ unless r.closed notes.ControlTextUnended (stop_at (place + 2 + r.size) (drop (2 + r.size) bytes));
+}
+
+abbrev pub control_text : Code → ℕ → List ℕ → Cut
+control_text code place bytes =
+    control_text_by code place bytes (read (at_start bodies.ControlText (place + 2)) (drop 2 bytes))
+
+-- A section name goes to `@>`, perhaps on a later line.
+abbrev pub section_name_by : Code → ℕ → List ℕ → Read → Cut
+section_name_by code place bytes r = record {
+  kind = kinds.Code code;
+  size = 2 + r.size;
+  notes = unless r.closed notes.NameUnended place ++
+      (unless (not (is_void (take r.inner_size (drop 2 bytes)))) notes.NameEmpty place ++ r.notes);
+}
+
+abbrev pub name_body : ℕ → List ℕ → Read
+name_body place bytes = read (at_start bodies.SectionName (place + 2)) (drop 2 bytes)
+
+abbrev pub section_name : Code → ℕ → List ℕ → Cut
+section_name code place bytes = section_name_by code place bytes (name_body place bytes)
+
+-- Any other code is the `@` and the byte behind it, where one is there.
+abbrev pub alone_size : List ℕ → ℕ
+alone_size (byte ∷ []) = 1
+alone_size bytes = 2
+
+-- A code with its control text, name or string.
+abbrev pub code_token : Code → ℕ → List ℕ → Cut
+code_token at.SectionName place bytes = section_name at.SectionName place bytes
+code_token at.FileName place bytes = section_name at.FileName place bytes
+code_token at.Quote place bytes = string (kinds.Code at.Quote) 2 apostrophe place bytes
+code_token code place bytes =
+    if has_control_text code then control_text code place bytes else plain (kinds.Code code) (alone_size bytes)
+
+-- A code that may not stand here is dropped with its control text.
+abbrev pub dropped_code : NoteKind → Code → ℕ → List ℕ → Cut
+dropped_code note code place bytes =
+    dropped note place (if has_control_text code then control_text code place bytes else plain (kinds.Code code) (alone_size bytes))
+
+-- A section code has its depth with it, a star or digits, and the blanks behind it on its line.
+abbrev pub depth_size : List ℕ → ℕ
+depth_size bytes = if begins star bytes then 1 else run classes.Digit bytes
+
+abbrev pub section_code : List ℕ → Cut
+section_code bytes =
+    if begins star (drop 1 bytes)
+    then (let size = 2 + depth_size (drop 2 bytes) in plain (kinds.Code at.StarredSection) (size + run classes.Blank (drop size bytes)))
+    else plain (kinds.Code at.Section) (1 + run classes.Blank (drop 1 bytes))
+
+-- The sign behind the name that begins a C part, and whether it stands there, after blanks of the line.
+abbrev pub head_sign_size : List ℕ → ℕ
+head_sign_size bytes =
+    if begins_with (codes "==") bytes || begins_with (codes "+=") bytes then 2
+    else (if begins equals bytes then 1 else 0)
+
+abbrev pub is_signed : List ℕ → Bool
+is_signed bytes = nat_lt 0 (head_sign_size (drop (run classes.Blank bytes) bytes))
+
+abbrev pub is_head : ℕ → List ℕ → Bool
+is_head place bytes =
+    (name_body place bytes).closed && is_signed (drop (2 + (name_body place bytes).size) bytes)
+
+-- ## What holds of a place
+
+abbrev pub in_hash_line : Part → Bool
+in_hash_line (parts.Plain hash_line include) = hash_line
+in_hash_line part = false
+
+abbrev pub behind_include : Part → Bool
+behind_include (parts.Plain hash_line include) = include
+behind_include part = false
+
+-- the part behind a token of C text
+abbrev pub passed : Part → Part
+passed parts.Begin = parts.Plain false false
+passed (parts.Plain hash_line include) = parts.Plain hash_line false
+passed part = part
+
+-- The depth of C text in which no comment is open: inner C text of TeX text, and that of a section name, have depth 1.
+abbrev pub first_depth : Part → ℕ
+first_depth parts.Tex = 1
+first_depth parts.Inner = 1
+first_depth part = 0
+
+-- inner C text would reach a depth above 20 here, in the text of a comment
+abbrev pub is_deep : Part → List Opened → Bool
+is_deep part comments = nat_lt 20 (first_depth part + length comments)
+
+-- A bar ends C text in a comment and in TeX text.
+abbrev pub ends_at_bar : Part → List Opened → Bool
+ends_at_bar parts.Tex comments = true
+ends_at_bar part [] = false
+ends_at_bar part (c ∷ comments) = true
+
+abbrev pub to_code : Where → Part → Where
+to_code w part = record { part = part; comments = w.comments; code = true }
+
+abbrev pub to_text : Where → Part → Where
+to_text w part = record { part = part; comments = w.comments; code = false }
+
+-- a token, and where the text goes on
+abbrev pub one : Bool → Where → ℕ → List ℕ → Cut → Found
+one hash_line next place bytes cut = record {
+  answers = Token (token_of hash_line cut.kind place cut.size bytes) ∷ note_answers cut.notes;
+  more = cut.size - 1;
+  next = next;
+}
+
+-- a byte that gives no answer
+abbrev pub skipped_byte : Where → Found
+skipped_byte w = record { answers = []; more = 0; next = w }
+
+-- ## Ends
+
+-- A comment ends at a place by the bytes there, of this size. The note on missing braces is about the byte at `about`.
+abbrev pub comment_kind : Bool → TokKind
+comment_kind true = kinds.LongComment
+comment_kind false = kinds.ShortComment
+
+abbrev pub missing_brace : Opened → ℕ → List Answer
+missing_brace c about = if nat_lt 0 c.braces then Note notes.MissingBrace about ∷ [] else []
+
+abbrev pub comment_end : Bool → Opened → ℕ → ℕ → List ℕ → List Answer
+comment_end hash_line c place size bytes =
+    Finish (token_of hash_line (comment_kind c.long) place size bytes) ∷ missing_brace c place
+
+-- Inner C text, and a comment, that end without bytes of their own.
+abbrev pub inner_cut : Bool → ℕ → ℕ → List Answer
+inner_cut hash_line place about = Finish (token_of hash_line kinds.InnerText place 0 []) ∷ Note notes.BarMissing about ∷ []
+
+abbrev pub comment_cut : Bool → Opened → ℕ → ℕ → List Answer
+comment_cut hash_line c place about =
+    Finish (token_of hash_line (comment_kind c.long) place 0 []) ∷ Note notes.CommentUnended c.start ∷ missing_brace c about
+
+-- All that is open ends at a section code or at the end of the text. Its notes are about the byte at `about`.
+abbrev pub part_cut : Part → Bool → ℕ → ℕ → List Answer
+part_cut parts.Tex true place about = inner_cut false place about
+part_cut (parts.MacroName code) in_code place about = Note notes.ImproperMacro code ∷ []
+part_cut (parts.MacroParen code) in_code place about = Note notes.ImproperMacro code ∷ []
+part_cut (parts.Parameters code) in_code place about = Note notes.ImproperMacro code ∷ []
+part_cut (parts.FormatName code second limbo) in_code place about = Note notes.ImproperFormat code ∷ []
+part_cut part in_code place about = []
+
+abbrev pub all_cut : Part → List Opened → Bool → ℕ → ℕ → List Answer
+all_cut part [] in_code place about = part_cut part in_code place about
+all_cut part (c ∷ comments) true place about =
+    inner_cut (in_hash_line part) place about ++
+    (comment_cut (in_hash_line part) c place about ++ all_cut part comments true place about)
+all_cut part (c ∷ comments) false place about =
+    comment_cut (in_hash_line part) c place about ++ all_cut part comments true place about
+
+abbrev pub section : Where → ℕ → List ℕ → Found
+section w place bytes =
+    before (all_cut w.part w.comments w.code place place)
+    (one false (record { part = parts.Tex; comments = []; code = false }) place (at_sign ∷ bytes) (section_code bytes))
+
+-- A line's end in C text ends the short comments around it, up to the innermost long one. Where no comment is left it
+-- ends a `#` line, unless a backslash stands before it. Else it is white space.
+abbrev pub part_line_end : Part → ℕ → ℕ → Found
+part_line_end part last place =
+    if in_hash_line part && not (last == backslash)
+    then one true (record { part = parts.Plain false false; comments = []; code = true }) place (newline ∷ []) (plain kinds.HashLineEnd 1)
+    else skipped_byte (record { part = part; comments = []; code = true })
+
+abbrev pub line_end : Part → List Opened → ℕ → ℕ → Found
+line_end part [] last place = part_line_end part last place
+line_end part (c ∷ comments) last place =
+    if c.long then skipped_byte (record { part = part; comments = c ∷ comments; code = true })
+    else before (inner_cut (in_hash_line part) place place ++ comment_end (in_hash_line part) c place 0 [])
+    (line_end part comments last place)
+
+-- ## C text
+
+-- What begins at a byte of C text, by the order of the manual's list.
+abbrev pub sign_or_other : Option Sign → Start
+sign_or_other None = start.OtherByte
+sign_or_other (Some sign) = start.Sign sign
+
+abbrev pub start_of : Bool → Bool → ℕ → List ℕ → Start
+start_of hash_line bar_ends byte bytes =
+    if is_in classes.White byte || (hash_line && (byte == backslash && begins newline bytes)) then start.White
+    else (if is_letter byte then start.Identifier
+    else (if nat_lt 0 (constant (byte ∷ bytes)) then start.Constant
+    else (if byte == quote || byte == apostrophe then start.Quoted byte
+    else (if byte == slash && begins star bytes then start.LongComment
+    else (if byte == slash && begins slash bytes then start.ShortComment
+    else (if byte == at_sign then start.Code (code_at bytes)
+    else (if byte == bar && (bar_ends && not (begins bar bytes)) then start.EndOfInner
+    else sign_or_other (longest all_signs (byte ∷ bytes)))))))))
+
+-- In a `#` line the word `include` lets an include name follow.
+abbrev pub is_include : List ℕ → Bool
+is_include bytes = begins_with (codes "include") bytes && run classes.Word bytes == 7
+
+abbrev pub behind_word : Part → List ℕ → Part
+behind_word part bytes = if in_hash_line part && is_include bytes then parts.Plain true true else passed part
+
+-- A comment begins.
+abbrev pub comment_begin : Bool → Where → ℕ → List ℕ → Found
+comment_begin long w place bytes = record {
+  answers = Begin (token_of (in_hash_line w.part) (comment_kind long) place 2 bytes) ∷ [];
+  more = 1;
+  next = record { part = passed w.part; comments = record { start = place; long = long; braces = 0 } ∷ w.comments; code = false };
+}
+
+-- Inner C text begins in TeX text or in a comment, and ends.
+abbrev pub inner_begin : Where → ℕ → List ℕ → Found
+inner_begin w place bytes = record {
+  answers = Begin (token_of (in_hash_line w.part) kinds.InnerText place 1 bytes) ∷ [];
+  more = 0;
+  next = to_code w w.part;
+}
+
+abbrev pub inner_end : Where → ℕ → List ℕ → Found
+inner_end w place bytes = record {
+  answers = Finish (token_of (in_hash_line w.part) kinds.InnerText place 1 bytes) ∷ [];
+  more = 0;
+  next = to_text w (passed w.part);
+}
+
+-- A code of C text. Definitions and C parts begin in a definition's text, and its own code or name begins a C part.
+abbrev pub effect_in : Part → List Opened → Code → Effect
+effect_in parts.Definition [] code = effect_in_definition code
+effect_in parts.Begin [] code = effect_at_begin code
+effect_in part comments code = effect_in_c code
+
+abbrev pub may_head : Part → List Opened → Bool
+may_head parts.Definition [] = true
+may_head parts.Begin [] = true
+may_head part comments = false
+
+abbrev pub is_name : Code → Bool
+is_name at.SectionName = true
+is_name at.FileName = true
+is_name code = false
+
+abbrev pub code_by : Effect → Code → Where → ℕ → List ℕ → Found
+code_by effects.Stands code w place bytes =
+    one (in_hash_line w.part)
+    (if is_name code && (may_head w.part w.comments && is_head place bytes) then to_text w parts.Head else to_code w (passed w.part))
+    place bytes (code_token code place bytes)
+code_by (effects.Drops note) code w place bytes =
+    one (in_hash_line w.part) (to_code w (passed w.part)) place bytes (dropped_code note code place bytes)
+code_by effects.Defines code w place bytes = one false (to_text w (parts.MacroName place)) place bytes (plain (kinds.Code code) 2)
+code_by effects.Formats code w place bytes = one false (to_text w (parts.FormatName place false false)) place bytes (plain (kinds.Code code) 2)
+code_by effects.BeginsC code w place bytes = one false (to_code w (parts.Plain false false)) place bytes (plain (kinds.Code code) 2)
+
+-- The token that begins at a byte of C text.
+abbrev pub in_code : Start → Where → ℕ → List ℕ → Found
+in_code start.White w place bytes = skipped_byte w
+in_code start.Identifier w place bytes = one (in_hash_line w.part) (to_code w (behind_word w.part bytes)) place bytes (identifier bytes)
+in_code start.Constant w place bytes = one (in_hash_line w.part) (to_code w (passed w.part)) place bytes (plain kinds.Constant (constant bytes))
+in_code (start.Quoted quote) w place bytes = one (in_hash_line w.part) (to_code w (passed w.part)) place bytes (string kinds.Quoted 1 quote place bytes)
+in_code start.LongComment w place bytes = comment_begin true w place bytes
+in_code start.ShortComment w place bytes = comment_begin false w place bytes
+in_code (start.Code code) w place bytes = code_by (effect_in w.part w.comments code) code w place bytes
+in_code start.EndOfInner w place bytes = inner_end w place bytes
+in_code (start.Sign sign) w place bytes = one (in_hash_line w.part) (to_code w (passed w.part)) place bytes (plain (kinds.Sign sign) (length (spelling sign)))
+in_code start.OtherByte w place bytes = one (in_hash_line w.part) (to_code w (passed w.part)) place bytes (plain kinds.OtherByte 1)
+
+-- A `#` begins a `#` line as the first byte of its line that isn't blank, in a C part and outside its comments.
+abbrev pub takes_hash_line : Part → List Opened → Bool
+takes_hash_line parts.Begin [] = true
+takes_hash_line (parts.Plain hash_line include) [] = not hash_line
+takes_hash_line part comments = false
+
+abbrev pub code_text : Where → Bool → ℕ → ℕ → ℕ → List ℕ → Found
+code_text w fresh last place byte bytes =
+    if byte == newline then line_end w.part w.comments last place
+    else (if byte == hash && (fresh && takes_hash_line w.part w.comments)
+    then one true (to_code w (parts.Plain true false)) place (byte ∷ bytes) (plain kinds.HashLine 1)
+    else (if byte == less && (behind_include w.part && closes_on_line bytes)
+    then one true (to_code w (passed w.part)) place (byte ∷ bytes) (include_name place (byte ∷ bytes))
+    else in_code (start_of (in_hash_line w.part) (ends_at_bar w.part w.comments) byte bytes) w place (byte ∷ bytes)))
+
+-- ## The text of a comment
+
+-- A piece of it, in which so many braces are open behind the one before.
+abbrev pub piece_start : Part → List Opened → Opened → ℕ → Inside
+piece_start part comments c place = record {
+  body = bodies.Piece c.long (is_deep part (c ∷ comments));
+  braces = c.braces;
+  place = place;
+  before = 0;
+  along = false;
+}
+
+abbrev pub piece : Part → List Opened → Opened → ℕ → List ℕ → Found
+piece part comments c place bytes =
+    let i = piece_start part comments c place in
+    one (in_hash_line part)
+    (record { part = part; comments = record c { braces = (ended i bytes).braces } ∷ comments; code = false })
+    place bytes (record { kind = kinds.Text; size = (read i bytes).size; notes = (read i bytes).notes })
+
+abbrev pub comment_text : Part → Opened → List Opened → ℕ → ℕ → ℕ → List ℕ → Found
+comment_text part c comments last place byte bytes =
+    if c.long && (byte == star && begins slash bytes)
+    then record {
+      answers = comment_end (in_hash_line part) c place 2 (byte ∷ bytes);
+      more = 1;
+      next = record { part = part; comments = comments; code = true };
+    }
+    else (if not c.long && byte == newline
+    then before (comment_end (in_hash_line part) c place 0 []) (line_end part comments last place)
+    else (if byte == bar && not (is_deep part (c ∷ comments))
+    then inner_begin (record { part = part; comments = c ∷ comments; code = false }) place (byte ∷ bytes)
+    else piece part comments c place (byte ∷ bytes)))
+
+-- ## Limbo, TeX text, and the heads of definitions and C parts
+
+abbrev pub limbo_by : Effect → Code → Where → ℕ → List ℕ → Found
+limbo_by effects.Stands code w place bytes = one false w place bytes (code_token code place bytes)
+limbo_by effects.Formats code w place bytes = one false (to_text w (parts.FormatName place false true)) place bytes (plain (kinds.Code code) 2)
+limbo_by (effects.Drops note) code w place bytes =
+    one false w place bytes (dropped note place (plain (kinds.Code code) (alone_size bytes)))
+limbo_by effect code w place bytes = skipped_byte w
+
+abbrev pub limbo_text : Where → ℕ → ℕ → List ℕ → Found
+limbo_text w place byte bytes =
+    if byte == at_sign then limbo_by (effect_in_limbo (code_at bytes)) (code_at bytes) w place (byte ∷ bytes)
+    else one false w place (byte ∷ bytes) (plain kinds.Text (run classes.LimboText (byte ∷ bytes)))
+
+abbrev pub tex_by : Effect → Code → Where → ℕ → List ℕ → Found
+tex_by effects.Stands code w place bytes =
+    one false (if is_name code && is_head place bytes then to_text w parts.Head else w) place bytes (code_token code place bytes)
+tex_by (effects.Drops note) code w place bytes = one false w place bytes (dropped_code note code place bytes)
+tex_by effects.Defines code w place bytes = one false (to_text w (parts.MacroName place)) place bytes (plain (kinds.Code code) 2)
+tex_by effects.Formats code w place bytes = one false (to_text w (parts.FormatName place false false)) place bytes (plain (kinds.Code code) 2)
+tex_by effects.BeginsC code w place bytes = one false (to_code w (parts.Plain false false)) place bytes (plain (kinds.Code code) 2)
+
+abbrev pub tex_text : Where → ℕ → ℕ → List ℕ → Found
+tex_text w place byte bytes =
+    if byte == at_sign then tex_by (effect_in_tex (code_at bytes)) (code_at bytes) w place (byte ∷ bytes)
+    else (if byte == bar then inner_begin w place (byte ∷ bytes)
+    else one false w place (byte ∷ bytes) (plain kinds.Text (run classes.TexText (byte ∷ bytes))))
+
+-- The head of a C part: its name has been read, and blanks and its sign follow.
+abbrev pub head_text : Where → ℕ → ℕ → List ℕ → Found
+head_text w place byte bytes =
+    if is_in classes.Blank byte then skipped_byte w
+    else one false (to_code w (parts.Plain false false)) place (byte ∷ bytes) (plain kinds.HeadSign (if begins equals bytes then 2 else 1))
+
+-- White space may stand before what the head of a definition wants. Where something else follows, the head is improper,
+-- and all from here on is no part of it.
+abbrev pub behind_white : List ℕ → List ℕ
+behind_white bytes = drop (run classes.White bytes) bytes
+
+abbrev pub name_follows : List ℕ → Bool
+name_follows bytes = begins_by is_letter (behind_white bytes)
+
+-- The name of a macro, directly behind which a `(` opens its parameters.
+abbrev pub macro_name : ℕ → Where → ℕ → ℕ → List ℕ → Found
+macro_name code w place byte bytes =
+    if is_in classes.White byte then skipped_byte w
+    else one false
+    (if begins left_paren (drop (run classes.Word (byte ∷ bytes)) (byte ∷ bytes)) then to_text w (parts.MacroParen code) else to_code w parts.Definition)
+    place (byte ∷ bytes) (identifier (byte ∷ bytes))
+
+-- Its parameters: identifiers, commas and `...` in any order, up to `)`.
+abbrev pub parameter_follows : List ℕ → Bool
+parameter_follows bytes =
+    begins_by is_letter (behind_white bytes) || (begins comma (behind_white bytes) ||
+    (begins right_paren (behind_white bytes) || begins_with (codes "...") (behind_white bytes)))
+
+abbrev pub parameter : Where → ℕ → ℕ → List ℕ → Found
+parameter w place byte bytes =
+    if is_in classes.White byte then skipped_byte w
+    else (if is_letter byte then one false w place (byte ∷ bytes) (identifier (byte ∷ bytes))
+    else (if byte == comma then one false w place (byte ∷ bytes) (plain (kinds.Sign signs.Comma) 1)
+    else (if byte == right_paren then one false (to_code w parts.Definition) place (byte ∷ bytes) (plain (kinds.Sign signs.RightParen) 1)
+    else one false w place (byte ∷ bytes) (plain (kinds.Sign signs.Ellipsis) 3))))
+
+-- The two names of a format definition. Behind them, in limbo, limbo goes on.
+abbrev pub behind_format : Bool → Where → Where
+behind_format true w = to_text w parts.Limbo
+behind_format false w = to_code w parts.Definition
+
+abbrev pub format_name : ℕ → Bool → Bool → Where → ℕ → ℕ → List ℕ → Found
+format_name code second limbo w place byte bytes =
+    if is_in classes.White byte then skipped_byte w
+    else one false (if second then behind_format limbo w else to_text w (parts.FormatName code true limbo)) place (byte ∷ bytes) (identifier (byte ∷ bytes))
+
+abbrev pub behind_head : Bool → Where → Bool → ℕ → ℕ → ℕ → List ℕ → Found
+behind_head true w fresh last place byte bytes = limbo_text (to_text w parts.Limbo) place byte bytes
+behind_head false w fresh last place byte bytes = code_text (to_code w parts.Definition) fresh last place byte bytes
+
+abbrev pub part_text : Part → Where → Bool → ℕ → ℕ → ℕ → List ℕ → Found
+part_text parts.Limbo w fresh last place byte bytes = limbo_text w place byte bytes
+part_text parts.Tex w fresh last place byte bytes = tex_text w place byte bytes
+part_text parts.Head w fresh last place byte bytes = head_text w place byte bytes
+part_text (parts.MacroName code) w fresh last place byte bytes =
+    if name_follows (byte ∷ bytes) then macro_name code w place byte bytes
+    else before (Note notes.ImproperMacro code ∷ []) (behind_head false w fresh last place byte bytes)
+part_text (parts.MacroParen code) w fresh last place byte bytes =
+    one false (to_text w (parts.Parameters code)) place (byte ∷ bytes) (plain (kinds.Sign signs.LeftParen) 1)
+part_text (parts.Parameters code) w fresh last place byte bytes =
+    if parameter_follows (byte ∷ bytes) then parameter w place byte bytes
+    else before (Note notes.ImproperMacro code ∷ []) (behind_head false w fresh last place byte bytes)
+part_text (parts.FormatName code second limbo) w fresh last place byte bytes =
+    if name_follows (byte ∷ bytes) then format_name code second limbo w place byte bytes
+    else before (Note notes.ImproperFormat code ∷ []) (behind_head limbo w fresh last place byte bytes)
+part_text part w fresh last place byte bytes = code_text (to_code w part) fresh last place byte bytes
+
+-- ## Any text
+
+abbrev pub in_text : Part → List Opened → Bool → Bool → ℕ → ℕ → ℕ → List ℕ → Found
+in_text part comments true fresh last place byte bytes =
+    code_text (record { part = part; comments = comments; code = true }) fresh last place byte bytes
+in_text part [] false fresh last place byte bytes =
+    part_text part (record { part = part; comments = []; code = false }) fresh last place byte bytes
+in_text part (c ∷ comments) false fresh last place byte bytes = comment_text part c comments last place byte bytes
+
+-- What begins at a place. A section code ends all that is open. `last` is the byte before the place, and `fresh` says
+-- that only blanks stand before it on its line.
+abbrev pub found : Where → Bool → ℕ → ℕ → ℕ → List ℕ → Found
+found w fresh last place byte bytes =
+    if byte == at_sign && begins_section bytes then section w place bytes
+    else in_text w.part w.comments w.code fresh last place byte bytes
