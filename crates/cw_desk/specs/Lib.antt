@@ -1,7 +1,9 @@
+pub mod File
 pub mod Journal
 pub mod JournalLaws
 pub mod Make
 pub mod Meaning
+pub mod Mem
 pub mod Open
 pub mod Put
 pub mod Read

@@ -2,7 +2,11 @@
 #![tactic(auto)]
 
 mod desk;
+mod file;
+mod mem;
 mod outputs;
 
 pub use desk::{Desk, Fetched, FileId, MadeOut, Opened, Taken};
+pub use file::FileDesk;
+pub use mem::MemDesk;
 pub use outputs::Outputs;
