@@ -113,6 +113,9 @@ pub struct CatSet {
 }
 
 impl CatSet {
+    /// No category.
+    pub const EMPTY: CatSet = CatSet { bits: 0 };
+
     /// Every category, and `End`.
     pub const ALL: CatSet = CatSet {
         bits: (1 << (Cat::End as u64 + 1)) - 1,

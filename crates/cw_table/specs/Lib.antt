@@ -1,3 +1,4 @@
+pub mod Joined
 pub mod Rows
 pub mod Productions
 pub mod Fitting

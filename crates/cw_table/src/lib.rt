@@ -1,6 +1,8 @@
 //! The production table: which scraps are rewritten, into what, and how far a reducer steps back.
 #![tactic(auto)]
 
+mod productions;
 mod types;
 
+pub use productions::table;
 pub use types::{Action, Choice, Piece, Pieces, Row, RowNo, RowResult, Table};

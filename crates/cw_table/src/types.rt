@@ -1,5 +1,3 @@
-ghost use Rattle.std.specs.Prelude.{◌≡◌};
-
 use cw_base::{Cat, CatSet};
 use std::marker::Model;
 
@@ -118,26 +116,21 @@ pub struct Row {
     pub action: Action,
 }
 
-/// The productions in order of their numbers, which begin at 1.
+/// The productions in order of their numbers, which begin at 1. There is no other table: N says how
+/// many they are.
 #[derive(Drop)]
 pub struct Table<const N: usize> {
-    rows: [Row; N],
+    pub(crate) rows: [Row; N],
 }
 
 impl<const N: usize> Model for Table<N> {
-    ghost use Rattle.std.specs.Prelude.{List};
+    ghost use Rattle.std.specs.Prelude.{List, ◌≡◌};
     ghost use Rattle.cw_table.specs.declared.types.Row.{Row};
+    ghost use Rattle.cw_table.specs.Productions.{productions};
 
     ghost Value = { List Row };
 
     ghost view = { λ t. t.rows };
-}
 
-impl<const N: usize> Table<N> {
-    /// The table with these rows.
-    pub(crate) fn of(rows: [Row; N]) -> Self
-        ensures { result ≡ rows.entry }
-    {
-        Table { rows }
-    }
+    ghost invariant = { λ t. t.rows ≡ productions };
 }

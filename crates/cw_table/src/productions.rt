@@ -1,0 +1,304 @@
+ghost use Rattle.std.specs.Prelude.{◌≡◌, ◌+◌, ◌<◌, ◌≤◌, Option, Some, true, slice_get};
+ghost use Rattle.std.specs.List.{list_all};
+ghost use Rattle.cw_table.specs.Productions.{productions};
+ghost use Rattle.cw_table.specs.Joined.{joined};
+ghost use Rattle.cw_table.specs.Sound.{are_numbered, row_is_sound};
+
+use crate::types::{Action, Choice, Piece, Pieces, Row, RowNo, RowResult, Table};
+use cw_base::{Cat, CatSet};
+
+// A row is written as its number, its tests, the first scrap that it replaces and how many these are,
+// its result, and its pieces, in which a digit is a tested scrap. A test is a choice of categories;
+// `any` is every category but End, and `not` every one and End but Insert and those listed. Behind
+// `or` stand the pieces that take the place of the first ones where the flag of that name is off.
+macro_rules! productions {
+    ($show:ident) => {
+        $show! {
+            1: [any], [Insert]; 0 + 2 => same 0; [0 1];
+            2: [BeginArg], [EndArg]; 0 + 2 => is Exp; [0 1];
+            3: [any but BeginArg], [EndArg]; 0 + 2 => is EndArg; [0 1];
+            4: [Exp], [Lbrace IntLike Decl]; 0 + 1 => is FnDecl; [0 Indent Indent] or Indent [0] underline 0;
+            5: [Exp], [Unop]; 0 + 2 => is Exp; [0 1];
+            6: [Exp], [Binop Ubinop], [Exp]; 0 + 3 => is Exp; [0 1 2];
+            7: [Exp], [Comma], [Exp]; 0 + 3 => is Exp; [0 1 OptionalLineBreak9 2];
+            8: [Exp], [Semi]; 0 + 2 => is Stmt; [0 1];
+            9: [Exp], [Colon]; 0 + 2 => is Tag; [0 1] underline 0;
+            10: [Exp], [Rbrace]; 0 + 1 => is Stmt; [0];
+            11: [Exp], [Exp Cast]; 0 + 2 => is Exp; [0 1];
+            12: [Lpar], [Exp Ubinop], [Rpar]; 0 + 3 => is Exp; [0 1 2];
+            13: [Lpar], [Rpar]; 0 + 2 => is Exp; [0 ThinSpace 1];
+            14: [Lpar], [DeclHead IntLike Cast], [Rpar]; 0 + 3 => is Cast; [0 1 2];
+            15: [Lpar], [DeclHead IntLike Exp], [Comma]; 0 + 3 => is Lpar; [0 1 2 OptionalLineBreak9];
+            16: [Lpar], [Stmt Decl]; 0 + 2 => is Lpar; [0 1 Blank];
+            17: [Unop], [Exp IntLike]; 0 + 2 => same 1; [0 1];
+            18: [Ubinop], [Cast], [Rpar]; 0 + 2 => is Cast; [OpenBrace 0 CloseBrace 1];
+            19: [Ubinop], [Exp IntLike]; 0 + 2 => same 1; [OpenBrace 0 CloseBrace 1];
+            20: [Ubinop], [Binop]; 0 + 2 => is Binop; [OpenRelation 0 OpenBrace 1 CloseBrace CloseBrace];
+            21: [Binop], [Binop]; 0 + 2 => is Binop;
+                [OpenRelation OpenBrace 0 CloseBrace OpenBrace 1 CloseBrace CloseBrace];
+            22: [Cast], [Lpar]; 0 + 2 => is Lpar; [0 1];
+            23: [Cast], [Exp]; 0 + 2 => is Exp; [0 Blank 1];
+            24: [Cast], [Semi]; 0 + 1 => is Exp; [0];
+            25: [SizeofLike], [Cast]; 0 + 2 => is Exp; [0 1];
+            26: [SizeofLike], [Exp]; 0 + 2 => is Exp; [0 Blank 1];
+            27: [IntLike], [IntLike StructLike]; 0 + 2 => same 1; [0 Blank 1];
+            28: [IntLike], [Exp], [RawInt StructLike]; 0 + 2 => is IntLike; [0 1];
+            29: [IntLike], [Exp Ubinop Colon]; 0 + 1 => is DeclHead; [0 Blank];
+            30: [IntLike], [Semi Binop]; 0 + 1 => is DeclHead; [0];
+            31: [DeclHead], [Comma]; 0 + 2 => is DeclHead; [0 1 Blank];
+            32: [DeclHead], [Ubinop]; 0 + 2 => is DeclHead; [0 OpenBrace 1 CloseBrace];
+            33: [DeclHead], [Exp], [not Lpar Exp Cast]; 0 + 2 => is DeclHead; [0 1] underline 1;
+            34: [DeclHead], [Binop Colon], [Exp], [Comma Semi Rpar]; 0 + 3 => is DeclHead; [0 1 2];
+            35: [DeclHead], [Cast]; 0 + 2 => is DeclHead; [0 1];
+            36: [DeclHead], [Lbrace IntLike Decl]; 0 + 1 => is FnDecl; [0 Indent Indent] or Indent [0];
+            37: [DeclHead], [Semi]; 0 + 2 => is Decl; [0 1];
+            38: [Decl], [Decl]; 0 + 2 => is Decl; [0 Break 1];
+            39: [Decl], [Stmt Function]; 0 + 2 => same 1; [0 BigBreak 1] or Separate [0 Break 1];
+            40: [StructLike], [Lbrace]; 0 + 2 => is StructHead; [0 Blank 1];
+            41: [StructLike], [Exp IntLike], [Semi]; 0 + 2 => is DeclHead; [0 Blank 1] underline 1 reserve 1;
+            42: [StructLike], [Exp IntLike], [Lbrace]; 0 + 3 => is StructHead;
+                [0 Blank 1 Blank 2] underline 1 reserve 1;
+            43: [StructLike], [Exp IntLike], [not Semi Lbrace]; 0 + 2 => is IntLike; [0 Blank 1];
+            44: [StructHead], [Decl Stmt Function], [Rbrace]; 0 + 3 => is IntLike;
+                [0 Indent Break 1 Outdent Break 2];
+            45: [StructHead], [Rbrace]; 0 + 2 => is IntLike; [0 ThinSpace 1];
+            46: [FnDecl], [Decl]; 0 + 2 => is FnDecl; [0 Break 1];
+            47: [FnDecl], [Stmt]; 0 + 2 => is Function; [0 Outdent Outdent Break 1] or Indent [0 Break 1];
+            48: [Function], [Function Decl Stmt]; 0 + 2 => same 1; [0 BigBreak 1];
+            49: [Lbrace], [Rbrace]; 0 + 2 => is Stmt; [0 ThinSpace 1];
+            50: [Lbrace], [Stmt Decl Function], [Rbrace]; 0 + 3 => is Stmt;
+                [Break 0 Indent Break 1 Break Backup 2 Outdent Break];
+            51: [Lbrace], [Exp], [Rbrace]; 0 + 3 => is Exp; [0 1 2];
+            52: [Lbrace], [Exp], [Comma], [Rbrace]; 0 + 4 => is Exp; [0 1 2 3];
+            53: [IfLike], [Exp]; 0 + 2 => is IfClause; [0 Blank 1];
+            54: [ElseLike], [Lbrace]; 0 + 1 => is ElseHead; [0];
+            55: [ElseLike], [Stmt]; 0 + 2 => is Stmt; [Break 0 Indent OptionalBreak Wall Cancel 1 Outdent Break];
+            56: [ElseHead], [Stmt Exp]; 0 + 2 => is Stmt; [Break 0 OptionalBreak Wall Cancel 1 Break];
+            57: [IfClause], [Lbrace]; 0 + 1 => is IfHead; [0];
+            58: [IfClause], [Stmt], [ElseLike], [IfLike]; 0 + 4 => is IfLike;
+                [Break 0 Indent OptionalBreak Wall Cancel 1 Outdent Break 2 Blank 3];
+            59: [IfClause], [Stmt], [ElseLike], [not IfLike]; 0 + 3 => is ElseLike;
+                [Break 0 Indent OptionalBreak Wall Cancel 1 Outdent Break 2];
+            60: [IfClause], [Stmt], [not ElseLike]; 0 + 1 => is ElseLike; [0];
+            61: [IfHead], [Stmt Exp], [ElseLike], [IfLike]; 0 + 4 => is IfLike;
+                [Break 0 OptionalBreak Wall Cancel 1 Break 2 Blank 3];
+            62: [IfHead], [Stmt Exp], [ElseLike], [not IfLike]; 0 + 3 => is ElseLike;
+                [Break 0 OptionalBreak Wall Cancel 1 Break 2];
+            63: [IfHead], [Stmt Exp], [not ElseLike]; 0 + 1 => is ElseHead; [0];
+            64: [DoLike], [Stmt], [ElseLike], [Semi]; 0 + 4 => is Stmt;
+                [0 OptionalBreak Wall Cancel 1 Cancel Wall OptionalBreak 2 3];
+            65: [ForLike], [Exp]; 0 + 2 => is ElseLike; [0 Blank 1];
+            66: [CaseLike], [Semi]; 0 + 2 => is Stmt; [0 1];
+            67: [CaseLike], [Colon]; 0 + 2 => is Tag; [0 1];
+            68: [CaseLike], [Exp]; 0 + 2 => is Exp; [0 Blank 1];
+            69: [Tag], [Tag]; 0 + 2 => is Tag; [0 OptionalBreak 1];
+            70: [Tag], [Stmt Decl Function]; 0 + 2 => same 1; [Break Backup 0 OptionalBreak 1];
+            71: [Stmt], [Decl Function]; 0 + 2 => same 1; [0 BigBreak 1];
+            72: [Stmt], [Stmt]; 0 + 2 => is Stmt; [0 Break 1] or Force [0 OptionalBreak 1];
+            73: [Semi]; 0 + 1 => is Stmt; [Blank 0];
+            74: [Lproc], [DefineLike], [Exp]; 0 + 2 => is Lproc; [0 1] underline 2;
+            75: [Lproc], [DefineLike IfLike ElseLike]; 0 + 2 => is Lproc; [0 1];
+            76: [Lproc], [Rproc]; 0 + 2 => is Insert; [Inserted 0 1];
+            77: [Lproc], [Exp Function], [Rproc]; 0 + 3 => is Insert; [Inserted 0 Blank 1 2];
+            78: [Lproc], [Exp], [Exp], [Rproc]; 0 + 4 => is Insert; [Inserted 0 Blank 1 OptionalBreak 2 3];
+            79: [SectionScrap], [Semi]; 0 + 2 => is Stmt; [0 1 Break];
+            80: [SectionScrap]; 0 + 1 => is Exp; [0];
+            81: [Insert], [any]; 0 + 2 => same 1; [0 1];
+            82: [TypedefLike], [IntLike Cast], [Comma Semi]; 1 + 1 => is Exp; [1];
+            83: [TypedefLike], [IntLike]; 0 + 2 => is TypedefLike; [0 Blank 1];
+            84: [TypedefLike], [Exp], [not Lpar Exp Cast]; 0 + 2 => is TypedefLike;
+                [0 Blank 1] underline 1 reserve 1;
+            85: [TypedefLike], [Comma]; 0 + 2 => is TypedefLike; [0 1 Blank];
+            86: [TypedefLike], [Semi]; 0 + 2 => is Decl; [0 1];
+            87: [TypedefLike], [Ubinop], [Ubinop Cast]; 1 + 2 => same 2; [OpenBrace 1 CloseBrace 2];
+            88: [Question], [Exp], [Colon]; 0 + 3 => is Binop; [0 1 math];
+            89: [RawInt]; 0 + 1 => is IntLike; [0];
+            90: [RawUbin], [ConstLike]; 0 + 2 => is RawUbin; [0 1 Blank];
+            91: [RawUbin]; 0 + 1 => is Ubinop; [0];
+            92: [ConstLike]; 0 + 1 => is IntLike; [0];
+        }
+    };
+}
+
+// What a row has beside its tests and its pieces.
+#[derive(Clone, Copy)]
+struct Head {
+    number: u8,
+    test_count: u8,
+    offset: u8,
+    replaced: u8,
+    result: RowResult,
+    choice: Choice,
+    usual_count: u8,
+    other_count: u8,
+    underline: Option<u8>,
+    reserve: Option<u8>,
+}
+
+macro_rules! set {
+    (any) => { CatSet { bits: (1 << Cat::End as u64) - 1 } };
+    (any but $($cat:ident)+) => { CatSet { bits: (1 << Cat::End as u64) - 1 $(- (1 << Cat::$cat as u64))+ } };
+    (not $($cat:ident)+) => {
+        CatSet { bits: (1 << (Cat::End as u64 + 1)) - 1 - (1 << Cat::Insert as u64) $(- (1 << Cat::$cat as u64))+ }
+    };
+    ($($cat:ident)+) => { CatSet { bits: 0 $(+ (1 << Cat::$cat as u64))+ } };
+}
+
+macro_rules! tests {
+    ([$($a:tt)+]) => { [set!($($a)+), CatSet::EMPTY, CatSet::EMPTY, CatSet::EMPTY] };
+    ([$($a:tt)+], [$($b:tt)+]) => { [set!($($a)+), set!($($b)+), CatSet::EMPTY, CatSet::EMPTY] };
+    ([$($a:tt)+], [$($b:tt)+], [$($c:tt)+]) => { [set!($($a)+), set!($($b)+), set!($($c)+), CatSet::EMPTY] };
+    ([$($a:tt)+], [$($b:tt)+], [$($c:tt)+], [$($d:tt)+]) => {
+        [set!($($a)+), set!($($b)+), set!($($c)+), set!($($d)+)]
+    };
+}
+
+macro_rules! piece {
+    (0) => { Piece::Scrap(0) };
+    (1) => { Piece::Scrap(1) };
+    (2) => { Piece::Scrap(2) };
+    (3) => { Piece::Scrap(3) };
+    (math) => { Piece::MathScrap(2) };
+    ($sign:ident) => { Piece::$sign };
+}
+
+// Twelve pieces, the first of which are given.
+macro_rules! pad {
+    ([$($done:tt)*] [] [$($unused:ident)*]) => { [$(piece!($done),)* $(Piece::$unused),*] };
+    ([$($done:tt)*] [$next:tt $($rest:tt)*] [$unused:ident $($more:ident)*]) => {
+        pad!([$($done)* $next] [$($rest)*] [$($more)*])
+    };
+}
+
+macro_rules! pieces {
+    ($($piece:tt)+) => {
+        pad!([] [$($piece)+] [Unused Unused Unused Unused Unused Unused Unused Unused Unused Unused Unused Unused])
+    };
+}
+
+macro_rules! pieces_or {
+    ([$($usual:tt)+]) => { pieces!($($usual)+) };
+    ([$($usual:tt)+] [$($other:tt)+]) => { pieces!($($other)+) };
+}
+
+macro_rules! count {
+    ($($thing:tt)+) => { 0 $(+ one!($thing))+ };
+}
+
+macro_rules! one {
+    ($thing:tt) => { 1 };
+}
+
+macro_rules! count_or {
+    ([$($usual:tt)+]) => { count!($($usual)+) };
+    ([$($usual:tt)+] [$($other:tt)+]) => { count!($($other)+) };
+}
+
+macro_rules! choice {
+    () => { Choice::Always };
+    ($choice:ident) => { Choice::$choice };
+}
+
+macro_rules! result {
+    (is $cat:ident) => { RowResult::Is(Cat::$cat) };
+    (same $scrap:literal) => { RowResult::SameAs($scrap) };
+}
+
+macro_rules! perhaps {
+    () => { None };
+    ($scrap:literal) => { Some($scrap) };
+}
+
+macro_rules! tests_of {
+    ($($number:literal: $([$($test:tt)+]),+; $offset:literal + $replaced:literal => $how:tt $what:tt;
+        [$($usual:tt)+] $(or $choice:ident [$($other:tt)+])? $(underline $underline:literal)? $(reserve $reserve:literal)?;)+
+    ) => { [$(tests!($([$($test)+]),+)),+] };
+}
+
+macro_rules! usual_of {
+    ($($number:literal: $([$($test:tt)+]),+; $offset:literal + $replaced:literal => $how:tt $what:tt;
+        [$($usual:tt)+] $(or $choice:ident [$($other:tt)+])? $(underline $underline:literal)? $(reserve $reserve:literal)?;)+
+    ) => { [$(pieces!($($usual)+)),+] };
+}
+
+macro_rules! other_of {
+    ($($number:literal: $([$($test:tt)+]),+; $offset:literal + $replaced:literal => $how:tt $what:tt;
+        [$($usual:tt)+] $(or $choice:ident [$($other:tt)+])? $(underline $underline:literal)? $(reserve $reserve:literal)?;)+
+    ) => { [$(pieces_or!([$($usual)+] $([$($other)+])?)),+] };
+}
+
+macro_rules! heads_of {
+    ($($number:literal: $([$($test:tt)+]),+; $offset:literal + $replaced:literal => $how:tt $what:tt;
+        [$($usual:tt)+] $(or $choice:ident [$($other:tt)+])? $(underline $underline:literal)? $(reserve $reserve:literal)?;)+
+    ) => {
+        [$(Head {
+            number: $number,
+            test_count: count!($([$($test)+])+),
+            offset: $offset,
+            replaced: $replaced,
+            result: result!($how $what),
+            choice: choice!($($choice)?),
+            usual_count: count!($($usual)+),
+            other_count: count_or!([$($usual)+] $([$($other)+])?),
+            underline: perhaps!($($underline)?),
+            reserve: perhaps!($($reserve)?),
+        }),+]
+    };
+}
+
+static TESTS: [[CatSet; 4]; 92] = productions!(tests_of);
+
+static USUAL: [[Piece; 12]; 92] = productions!(usual_of);
+
+static OTHER: [[Piece; 12]; 92] = productions!(other_of);
+
+static HEADS: [Head; 92] = productions!(heads_of);
+
+fn row_of(tests: [CatSet; 4], usual: [Piece; 12], other: [Piece; 12], head: Head) -> Row
+    ensures { result ≡ joined tests usual other head }
+{
+    Row {
+        number: RowNo {
+            number: head.number,
+        },
+        tests,
+        test_count: head.test_count,
+        offset: head.offset,
+        replaced: head.replaced,
+        result: head.result,
+        action: Action {
+            usual: Pieces {
+                pieces: usual,
+                count: head.usual_count,
+            },
+            other: Pieces {
+                pieces: other,
+                count: head.other_count,
+            },
+            choice: head.choice,
+            underline: head.underline,
+            reserve: head.reserve,
+        },
+    }
+}
+
+// The row at a place of the table, from 0 on.
+fn row_at(i: usize) -> Row
+    requires { i < 92 }
+    ensures { slice_get productions i ≡ Some result }
+{
+    row_of(TESTS[i], USUAL[i], OTHER[i], HEADS[i])
+}
+
+/// The table of the productions.
+pub fn table() -> Table<92>
+    ensures rows { result ≡ productions }
+    ensures sound { list_all row_is_sound result ≡ true }
+    ensures numbered { are_numbered 1 result ≡ true }
+{
+    let mut rows = [row_at(0); 92];
+    for i in 0..92 {
+        rows[i] = row_at(i);
+    }
+    Table { rows }
+}
