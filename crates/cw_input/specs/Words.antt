@@ -67,15 +67,24 @@ is_digit byte = nat_le 48 byte && nat_le byte 57
 abbrev pub value_of : List ℕ → ℕ
 value_of digits = fold (λ value digit. 10 * value + (digit - 48)) 0 digits
 
-abbrev pub sample_by : Bool → ℕ → Command
-sample_by true number = Sample number
-sample_by false number = Usage start_flags
+abbrev pub is_sample_number : List ℕ → Bool
+is_sample_number [] = false
+is_sample_number (first ∷ digits) = not (first == 48) && list_all is_digit (first ∷ digits) && nat_le (value_of (first ∷ digits)) 2000
+
+abbrev pub sample_number_by : Bool → ℕ → Option ℕ
+sample_number_by true number = Some number
+sample_number_by false number = None
+
+abbrev pub sample_number : List ℕ → Option ℕ
+sample_number word = sample_number_by (is_sample_number word) (value_of word)
+
+abbrev pub sample_by : Option ℕ → Command
+sample_by (Some number) = Sample number
+sample_by None = Usage start_flags
 
 abbrev pub sample_of : List (List ℕ) → Command
 sample_of [] = Usage start_flags
-sample_of ([] ∷ []) = Usage start_flags
-sample_of ((first ∷ digits) ∷ []) =
-    sample_by (not (first == 48) && list_all is_digit (first ∷ digits) && nat_le (value_of (first ∷ digits)) 2000) (value_of (first ∷ digits))
+sample_of (word ∷ []) = sample_by (sample_number word)
 sample_of (word ∷ other ∷ words) = Usage start_flags
 
 -- `--sample` is special as the first word alone
