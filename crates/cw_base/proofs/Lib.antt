@@ -1,1 +1,3 @@
+pub mod CategoryLaws
+pub mod TestLaws
 pub mod WebLayoutLaws

@@ -1,2 +1,4 @@
 pub mod Examples
 pub mod Joining
+pub mod Soundness
+pub mod Numbers

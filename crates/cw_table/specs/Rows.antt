@@ -1,5 +1,5 @@
 -- How a production is written down: its tests, what it replaces, and its pieces.
-use Rattle.std.specs.Prelude.{ℕ, zero, suc, List, [], ◌∷◌, Option, Some, None, length, get_or, take}
+use Rattle.std.specs.Prelude.{ℕ, zero, suc, true, false, eqb, List, [], ◌∷◌, Option, Some, None, length, get_or, take}
 use Rattle.cw_base.specs.declared.category.Cat.{Cat}
 use Rattle.cw_base.specs.declared.category.Cat.TheVariants.{End}
 use Rattle.cw_base.specs.declared.category.CatSet.{CatSet}
@@ -101,3 +101,11 @@ replaces offset count number tests result action = record {
 -- a production that replaces all tested scraps
 abbrev pub replaces_all : (number : ℕ) → List CatSet → RowResult → Action → Row
 replaces_all number tests result action = replaces 0 (length tests) number tests result action
+
+-- the row of that number
+abbrev pub row_numbered : List Row → ℕ → Option Row
+row_numbered [] number = None
+row_numbered (row ∷ rows) number = elim (eqb row.number.number number) [
+  | true ↦ Some row
+  | false ↦ row_numbered rows number
+]

@@ -1,3 +1,5 @@
+ghost use Rattle.std.specs.Prelude.{◌≡◌, ◌≤◌, Some};
+
 use cw_base::{Cat, CatSet};
 use std::marker::Model;
 
@@ -133,4 +135,17 @@ impl<const N: usize> Model for Table<N> {
     ghost view = { λ t. t.rows };
 
     ghost invariant = { λ t. t.rows ≡ productions };
+}
+
+impl<const N: usize> Table<N> {
+    ghost use Rattle.cw_table.specs.Rows.{row_numbered};
+
+    /// The production of this number.
+    pub fn row(&self, row: RowNo) -> &Row
+        requires from_one { 1 ≤ row.number }
+        requires to_last { row.number ≤ N }
+        ensures { row_numbered self.now row.number ≡ Some result.now }
+    {
+        &self.rows[row.number as usize - 1]
+    }
 }

@@ -1,0 +1,39 @@
+-- What follows from tests that are put together.
+use Rattle.std.proofs.Common.{◌≡◌, ◌⊎◌, inl, inr, Bool, true, false, not, ◌&&◌, ◌||◌, refl}
+
+pub both-left : (a b : Bool) → (a && b) ≡ true → a ≡ true
+both-left true b h = refl
+both-left false b h = h
+
+pub both-right : (a b : Bool) → (a && b) ≡ true → b ≡ true
+both-right true b h = h
+both-right false b h = absurd cc
+
+pub both : (a b : Bool) → a ≡ true → b ≡ true → (a && b) ≡ true
+both true b h k = k
+both false b h k = h
+
+pub one-left : (a b : Bool) → a ≡ true → (a || b) ≡ true
+one-left true b h = refl
+one-left false b h = absurd cc
+
+pub one-right : (a b : Bool) → b ≡ true → (a || b) ≡ true
+one-right true b h = refl
+one-right false b h = h
+
+pub one-of : (a b : Bool) → (a || b) ≡ true → (a ≡ true) ⊎ (b ≡ true)
+one-of true b h = inl refl
+one-of false b h = inr h
+
+pub other-one : (a b : Bool) → (a || b) ≡ true → a ≡ false → b ≡ true
+other-one true b h f = absurd cc
+other-one false b h f = h
+
+-- a test that is not to hold, or one beside it: where the first holds, so does the other
+pub unless : (a b : Bool) → (not a || b) ≡ true → a ≡ true → b ≡ true
+unless true b h t = h
+unless false b h t = absurd cc
+
+pub not-true : (b : Bool) → not b ≡ true → b ≡ false
+not-true true h = absurd cc
+not-true false h = refl
