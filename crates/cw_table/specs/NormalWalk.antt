@@ -1,0 +1,39 @@
+-- A walk with a pointer: it goes on where no row fits at its place, and after a production it goes back a little.
+use Rattle.std.specs.Prelude.{ℕ, zero, suc, ◌+◌, ◌-◌, ◌*◌, Bool, true, false, ltb, Option, Some, None, List, [], ◌∷◌, length, drop}
+use Rattle.cw_base.specs.declared.flags.Flags.{Flags}
+use Rattle.cw_table.specs.declared.types.Row.{Row}
+use Rattle.cw_table.specs.Fitting.{first_of}
+use Rattle.cw_table.specs.Rewriting.{State, rewrite, cats_of}
+use Rattle.cw_table.specs.Normal.{weight, Production}
+
+-- Each turn lowers this number: a production lowers the weight, and goes back at most three places.
+abbrev pub walk_left : ℕ → State → ℕ
+walk_left place state = 4 * weight state.scraps + (length state.scraps - place)
+
+abbrev pub walk_of : List Row → Flags → (Row → ℕ) → ℕ → ℕ → State → List Production
+walk_of rows flags back zero place state = []
+walk_of rows flags back (suc n) place state = elim (ltb place (length state.scraps)) [
+  | false ↦ []
+  | true ↦ elim (first_of rows (drop place (cats_of state.scraps))) [
+    | None ↦ walk_of rows flags back n (suc place) state
+    | Some row ↦ record { number = row.number.number; place = place } ∷ walk_of rows flags back n (place - back row) (rewrite flags row place state)
+  ]
+]
+
+-- the productions of the walk from a place on, where `back` says how far to go back after each row
+unfoldable pub walk_log : List Row → Flags → (Row → ℕ) → ℕ → State → List Production
+walk_log rows flags back place state = walk_of rows flags back (suc (walk_left place state)) place state
+
+abbrev pub turns_of : List Row → Flags → (Row → ℕ) → ℕ → ℕ → State → ℕ
+turns_of rows flags back zero place state = 0
+turns_of rows flags back (suc n) place state = elim (ltb place (length state.scraps)) [
+  | false ↦ 0
+  | true ↦ elim (first_of rows (drop place (cats_of state.scraps))) [
+    | None ↦ 1 + turns_of rows flags back n (suc place) state
+    | Some row ↦ 1 + turns_of rows flags back n (place - back row) (rewrite flags row place state)
+  ]
+]
+
+-- how many turns the walk takes, those that rewrite and those that go on
+unfoldable pub turns : List Row → Flags → (Row → ℕ) → ℕ → State → ℕ
+turns rows flags back place state = turns_of rows flags back (suc (walk_left place state)) place state
