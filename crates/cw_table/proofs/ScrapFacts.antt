@@ -1,0 +1,226 @@
+-- Facts on lists of scraps: their weights, their categories, and whether each is fine.
+use Rattle.std.proofs.Common.{◌≡◌, ℕ, zero, suc, ◌+◌, ◌*◌, ◌<◌, ◌≤◌, Bool, true, false, ◌&&◌, Option, Some, None, List, [], ◌∷◌, ◌++◌, map, length, get_or, take, drop, set, eqb, refl, sym, ◌∙◌, ap, arith, add_assoc, zero-add, take-append-drop}
+use Rattle.std.specs.List.{list_all}
+use Rattle.cw_base.specs.declared.category.Cat.{Cat}
+use Rattle.cw_base.specs.declared.category.Cat.TheVariants.{Exp, RawInt, End}
+use Rattle.cw_base.specs.Category.{rank, may_be_bare}
+use Rattle.cw_base.specs.declared.mode.MathMode.{MathMode}
+use Rattle.cw_base.specs.declared.mode.MathMode.TheVariants.{Text, Math, Maybe}
+use Rattle.cw_trees.specs.Tree.{Leaf, Source, Ident, Reserved, Sign, Tree, Empty, Then, Sub, Inner, bare_name, Search, Found, Stopped, Nothing, search_leaf, search_word, search_sign, first_ident, reserve_first, reserved_leaf}
+use Rattle.cw_trees.specs.Joining.{Scrap, no_scrap, Joined, Whole, Mark, toggled, joined_tree, after, needs}
+use Rattle.cw_table.specs.Sound.{is_exp}
+use Rattle.cw_table.specs.Rewriting.{cats_of, reserved_in, reserved_at, with_cat, is_name, named_scrap, named_right}
+use Rattle.cw_table.specs.Normal.{rank_with, weight_of, weight, fine_with, is_fine}
+
+-- tests of lists
+pub and-left : (a b : Bool) → (a && b) ≡ true → a ≡ true
+and-left true b h = refl
+and-left false b h = h
+
+pub and-right : (a b : Bool) → (a && b) ≡ true → b ≡ true
+and-right true b h = h
+and-right false b h = cc
+
+pub and-both : (a b : Bool) → a ≡ true → b ≡ true → (a && b) ≡ true
+and-both true b h k = k
+and-both false b h k = cc
+
+pub all-append : {A : Type 0} (p : A → Bool) (xs ys : List A) → list_all p xs ≡ true → list_all p ys ≡ true → list_all p (xs ++ ys) ≡ true
+all-append p [] ys h k = k
+all-append p (x ∷ xs) ys h k = and-both (p x) _ (and-left (p x) _ h) (all-append p xs ys (and-right (p x) _ h) k)
+
+pub all-take : {A : Type 0} (p : A → Bool) (n : ℕ) (xs : List A) → list_all p xs ≡ true → list_all p (take n xs) ≡ true
+all-take p zero xs h = refl
+all-take p (suc n) [] h = refl
+all-take p (suc n) (x ∷ xs) h = and-both (p x) _ (and-left (p x) _ h) (all-take p n xs (and-right (p x) _ h))
+
+pub all-drop : {A : Type 0} (p : A → Bool) (n : ℕ) (xs : List A) → list_all p xs ≡ true → list_all p (drop n xs) ≡ true
+all-drop p zero xs h = h
+all-drop p (suc n) [] h = refl
+all-drop p (suc n) (x ∷ xs) h = all-drop p n xs (and-right (p x) _ h)
+
+pub all-set : {A : Type 0} (p : A → Bool) (xs : List A) (n : ℕ) (y : A) → p y ≡ true → list_all p xs ≡ true → list_all p (set xs n y) ≡ true
+all-set p [] n y k h = refl
+all-set p (x ∷ xs) zero y k h = and-both (p y) _ k (and-right (p x) _ h)
+all-set p (x ∷ xs) (suc n) y k h = and-both (p x) _ (and-left (p x) _ h) (all-set p xs n y k (and-right (p x) _ h))
+
+pub all-get : {A : Type 0} (p : A → Bool) (xs : List A) (n : ℕ) (d : A) → n < length xs → list_all p xs ≡ true → p (get_or xs n d) ≡ true
+all-get p [] n d k h = absurd (omega arith)
+all-get p (x ∷ xs) zero d k h = and-left (p x) _ h
+all-get p (x ∷ xs) (suc n) d k h = all-get p xs n d (omega arith) (and-right (p x) _ h)
+
+pub all-map : {A : Type 0} (p : A → Bool) (f : A → A) → ((x : A) → p x ≡ true → p (f x) ≡ true) → (xs : List A) → list_all p xs ≡ true → list_all p (map f xs) ≡ true
+all-map p f keeps [] h = refl
+all-map p f keeps (x ∷ xs) h = and-both (p (f x)) _ (keeps x (and-left (p x) _ h)) (all-map p f keeps xs (and-right (p x) _ h))
+
+-- ranks
+pub rank_with-none : (c : Cat) → rank_with c None ≡ rank c
+rank_with-none Exp = refl
+rank_with-none _ = refl
+
+pub rank_with-least : (c : Cat) (b : Option ℕ) → rank c ≤ rank_with c b
+rank_with-least Exp (Some n) = omega arith
+rank_with-least _ _ = omega arith
+
+pub rank_with-most : (c : Cat) (b : Option ℕ) → rank_with c b ≤ 4
+rank_with-most Exp (Some n) = omega arith
+rank_with-most _ _ = omega arith
+
+pub rank-most : (c : Cat) → rank c ≤ 3
+rank-most Exp = omega arith
+rank-most _ = omega arith
+
+-- a tree whose first identifier was reserved is no bare identifier, nor is a joined one
+pub reserve-bare : (t : Tree) → bare_name (reserve_first t) ≡ None
+reserve-bare Empty = refl
+reserve-bare (Then (Source number mode) rest) = refl
+reserve-bare (Then (Ident name number) rest) = refl
+reserve-bare (Then (Reserved name number cat) rest) = go (search_word cat)
+  where
+    go : (s : Search) → bare_name (elim s [ Found n ↦ Then (Reserved name number cat) rest | Stopped ↦ Then (Reserved name number cat) rest | Nothing ↦ Then (Reserved name number cat) (reserve_first rest) ]) ≡ None
+    go (Found n) = refl
+    go Stopped = refl
+    go Nothing = refl
+reserve-bare (Then (Sign control) rest) = go (search_sign control)
+  where
+    go : (s : Search) → bare_name (elim s [ Found n ↦ Then (Sign control) rest | Stopped ↦ Then (Sign control) rest | Nothing ↦ Then (Sign control) (reserve_first rest) ]) ≡ None
+    go (Found n) = refl
+    go Stopped = refl
+    go Nothing = refl
+reserve-bare (Sub tree rest) = go (first_ident tree)
+  where
+    go : (s : Search) → bare_name (elim s [ Found n ↦ Sub (reserve_first tree) rest | Stopped ↦ Sub tree rest | Nothing ↦ Sub tree (reserve_first rest) ]) ≡ None
+    go (Found n) = refl
+    go Stopped = refl
+    go Nothing = refl
+reserve-bare (Inner tree rest) = refl
+
+toggled-bare : (m n : MathMode) (t : Tree) → bare_name t ≡ None → bare_name (toggled m n t) ≡ None
+toggled-bare Math Text t h = refl
+toggled-bare Text Math t h = refl
+toggled-bare _ _ t h = h
+
+pub joined-bare : (m : MathMode) (js : List Joined) → bare_name (joined_tree m js) ≡ None
+joined-bare m [] = refl
+joined-bare m (Whole t l r ∷ js) = toggled-bare m l _ refl
+joined-bare m (Mark c ∷ js) = toggled-bare m (needs c) _ refl
+
+-- weights
+pub weight-append : (xs ys : List Scrap) → weight (xs ++ ys) ≡ weight xs + weight ys
+weight-append [] ys = sym (zero-add (weight ys))
+weight-append (x ∷ xs) ys = ap (λ n. weight_of x + n) (weight-append xs ys) ∙ sym (add_assoc (weight_of x) (weight xs) (weight ys))
+
+pub weight-split : (n : ℕ) (xs : List Scrap) → weight (take n xs) + weight (drop n xs) ≡ weight xs
+weight-split n xs = sym (weight-append (take n xs) (drop n xs)) ∙ ap weight (take-append-drop n xs)
+
+pub weight-least : (xs : List Scrap) → 4 * length xs ≤ weight xs
+weight-least [] = omega arith
+weight-least (x ∷ xs) = omega (arith, weight-least xs)
+
+pub weight-most : (xs : List Scrap) → weight xs ≤ 8 * length xs
+weight-most [] = omega arith
+weight-most (x ∷ xs) = omega (arith, weight-most xs, rank_with-most x.cat (bare_name x.tree))
+
+pub weight-one : (xs : List Scrap) (n : ℕ) → n < length xs → weight (take 1 (drop n xs)) ≡ weight_of (get_or xs n no_scrap)
+weight-one [] n h = absurd (omega arith)
+weight-one (x ∷ xs) zero h = omega arith
+weight-one (x ∷ xs) (suc n) h = weight-one xs n (omega arith)
+
+-- categories
+pub cats-get : (xs : List Scrap) (n : ℕ) → get_or (cats_of xs) n End ≡ (get_or xs n no_scrap).cat
+cats-get [] n = refl
+cats-get (x ∷ xs) zero = refl
+cats-get (x ∷ xs) (suc n) = cats-get xs n
+
+pub cats-length : (xs : List Scrap) → length (cats_of xs) ≡ length xs
+cats-length [] = refl
+cats-length (x ∷ xs) = ap suc (cats-length xs)
+
+pub cats-append : (xs ys : List Scrap) → cats_of (xs ++ ys) ≡ cats_of xs ++ cats_of ys
+cats-append [] ys = refl
+cats-append (x ∷ xs) ys = ap (λ cs. x.cat ∷ cs) (cats-append xs ys)
+
+pub cats-take : (n : ℕ) (xs : List Scrap) → cats_of (take n xs) ≡ take n (cats_of xs)
+cats-take zero xs = refl
+cats-take (suc n) [] = refl
+cats-take (suc n) (x ∷ xs) = ap (λ cs. x.cat ∷ cs) (cats-take n xs)
+
+pub cats-drop : (n : ℕ) (xs : List Scrap) → cats_of (drop n xs) ≡ drop n (cats_of xs)
+cats-drop zero xs = refl
+cats-drop (suc n) [] = refl
+cats-drop (suc n) (x ∷ xs) = cats-drop n xs
+
+-- reserving in a scrap
+pub reserved-fine : (s : Scrap) → is_fine (reserved_in s) ≡ true
+reserved-fine s = ap (λ b. fine_with s.cat b) (reserve-bare s.tree)
+
+pub reserved-weight : (s : Scrap) → weight_of (reserved_in s) ≤ weight_of s
+reserved-weight s = let e : rank_with s.cat (bare_name (reserve_first s.tree)) ≡ rank s.cat = ap (λ b. rank_with s.cat b) (reserve-bare s.tree) ∙ rank_with-none s.cat in omega (arith, rank_with-least s.cat (bare_name s.tree))
+
+set-cats : (xs : List Scrap) (n : ℕ) → cats_of (set xs n (reserved_in (get_or xs n no_scrap))) ≡ cats_of xs
+set-cats [] n = refl
+set-cats (x ∷ xs) zero = refl
+set-cats (x ∷ xs) (suc n) = ap (λ cs. x.cat ∷ cs) (set-cats xs n)
+
+set-weight : (xs : List Scrap) (n : ℕ) → weight (set xs n (reserved_in (get_or xs n no_scrap))) ≤ weight xs
+set-weight [] n = omega arith
+set-weight (x ∷ xs) zero = omega (arith, reserved-weight x)
+set-weight (x ∷ xs) (suc n) = omega (arith, set-weight xs n)
+
+pub at-cats : (o : Option ℕ) (xs : List Scrap) → cats_of (reserved_at o xs) ≡ cats_of xs
+at-cats None xs = refl
+at-cats (Some k) xs = set-cats xs k
+
+pub at-weight : (o : Option ℕ) (xs : List Scrap) → weight (reserved_at o xs) ≤ weight xs
+at-weight None xs = omega arith
+at-weight (Some k) xs = set-weight xs k
+
+pub at-fine : (o : Option ℕ) (xs : List Scrap) → list_all is_fine xs ≡ true → list_all is_fine (reserved_at o xs) ≡ true
+at-fine None xs h = h
+at-fine (Some k) xs h = all-set is_fine xs k _ (reserved-fine (get_or xs k no_scrap)) h
+
+pub at-length : (o : Option ℕ) (xs : List Scrap) → length (reserved_at o xs) ≡ length xs
+at-length o xs = sym (cats-length (reserved_at o xs)) ∙ ap length (at-cats o xs) ∙ cats-length xs
+
+-- the scraps to the right
+exp-named : (c : Cat) (b : Option ℕ) (name : ℕ) → (is_exp c && is_name name b) ≡ true → rank_with c b ≡ 4
+exp-named Exp None name h = cc
+exp-named Exp (Some bare) name h = refl
+exp-named _ b name h = cc
+
+named-weight : (name : ℕ) (s : Scrap) → weight_of (named_scrap name s) ≤ weight_of s
+named-weight name s = go (is_exp s.cat && is_name name (bare_name s.tree)) refl
+  where
+    go : (t : Bool) → (is_exp s.cat && is_name name (bare_name s.tree)) ≡ t → weight_of (elim t [ true ↦ with_cat RawInt (reserved_in s) | false ↦ s ]) ≤ weight_of s
+    go true e = omega (arith, exp-named s.cat (bare_name s.tree) name e)
+    go false e = omega arith
+
+named-fine : (name : ℕ) (s : Scrap) → is_fine s ≡ true → is_fine (named_scrap name s) ≡ true
+named-fine name s h = go (is_exp s.cat && is_name name (bare_name s.tree))
+  where
+    go : (t : Bool) → is_fine (elim t [ true ↦ with_cat RawInt (reserved_in s) | false ↦ s ]) ≡ true
+    go true = ap (λ b. fine_with RawInt b) (reserve-bare s.tree)
+    go false = h
+
+map-weight : (name : ℕ) (xs : List Scrap) → weight (map (named_scrap name) xs) ≤ weight xs
+map-weight name [] = omega arith
+map-weight name (x ∷ xs) = omega (arith, map-weight name xs, named-weight name x)
+
+pub right-weight : (s : Search) (xs : List Scrap) → weight (named_right s xs) ≤ weight xs
+right-weight (Found name) xs = map-weight name xs
+right-weight Stopped xs = omega arith
+right-weight Nothing xs = omega arith
+
+pub right-fine : (s : Search) (xs : List Scrap) → list_all is_fine xs ≡ true → list_all is_fine (named_right s xs) ≡ true
+right-fine (Found name) xs h = all-map is_fine (named_scrap name) (named-fine name) xs h
+right-fine Stopped xs h = h
+right-fine Nothing xs h = h
+
+map-length : (f : Scrap → Scrap) (xs : List Scrap) → length (map f xs) ≡ length xs
+map-length f [] = refl
+map-length f (x ∷ xs) = ap suc (map-length f xs)
+
+pub right-length : (s : Search) (xs : List Scrap) → length (named_right s xs) ≡ length xs
+right-length (Found name) xs = map-length (named_scrap name) xs
+right-length Stopped xs = refl
+right-length Nothing xs = refl
