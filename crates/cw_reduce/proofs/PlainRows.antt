@@ -1,0 +1,41 @@
+-- Worked C parts of plain statements.
+use Rattle.std.proofs.Common.{◌≡◌, true, false, codes, refl, map}
+use Rattle.cw_base.specs.Flags.{start_flags}
+use Rattle.cw_table.specs.Productions.{productions}
+use Rattle.cw_table.specs.Normal.{normal, log}
+use Rattle.cw_reduce.specs.Plain.{is_plain_part, c_part, plain_start}
+
+increment : c_part (codes "@c i=i+1;\n") ≡ codes "$\\|i\\K\\|i+\\T{1};$"
+unfolding c_part normal productions
+increment = refl
+
+two_statements : c_part (codes "@c a=(b); c;") ≡ codes "$\\|a\\K(\\|b);{}$\\6\n\\|c;"
+unfolding c_part normal productions
+two_statements = refl
+
+constants : c_part (codes "@C x=0+120-(7);") ≡ codes "$\\|x\\K\\T{0}+\\T{120}-(\\T{7});$"
+unfolding c_part normal productions
+constants = refl
+
+left_over : c_part (codes "@c ) = ; (") ≡ codes ") $\\K$ ; ("
+unfolding c_part normal productions
+left_over = refl
+
+empty_part : c_part (codes "@c\n \n") ≡ codes ""
+unfolding c_part normal productions
+empty_part = refl
+
+plain : is_plain_part (codes "@c i=i+1;\n x = (10-a) ;") ≡ true
+plain = refl
+
+not_two_letters : is_plain_part (codes "@c ab;") ≡ false
+not_two_letters = refl
+
+not_octal : is_plain_part (codes "@c 01;") ≡ false
+not_octal = refl
+
+not_increment : is_plain_part (codes "@c a++;") ≡ false
+not_increment = refl
+
+not_a_program : is_plain_part (codes "@p a;") ≡ false
+not_a_program = refl

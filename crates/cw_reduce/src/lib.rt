@@ -1,0 +1,4 @@
+//! Productions are applied to C texts, leftmost place and first row first, until none fits.
+#![tactic(auto)]
+
+mod scan;
