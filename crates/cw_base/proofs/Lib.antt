@@ -1,3 +1,4 @@
 pub mod CategoryLaws
+pub mod SetLaws
 pub mod TestLaws
 pub mod WebLayoutLaws

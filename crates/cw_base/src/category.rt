@@ -1,5 +1,5 @@
 ghost use Rattle.std.specs.Prelude.{◌≡◌, ℕ, ◌^◌};
-ghost use Rattle.cw_base.specs.Category.{number_of, in_set};
+ghost use Rattle.cw_base.specs.Category.{number_of, in_set, meet};
 
 /// What kind of thing a scrap is to the productions. `End` is of tests only: it stands past the last
 /// scrap, and it is the last variant, so that a new category moves no other.
@@ -126,5 +126,12 @@ impl CatSet {
         ensures { result ≡ in_set self cat }
     {
         self.bits & cat.bit() != 0
+    }
+
+    /// Whether some category is in both sets.
+    pub fn meets(self, other: CatSet) -> bool
+        ensures { result ≡ meet self other }
+    {
+        self.bits & other.bits & CatSet::ALL.bits != 0
     }
 }
