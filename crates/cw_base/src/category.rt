@@ -1,4 +1,4 @@
-ghost use Rattle.std.specs.Prelude.{◌≡◌, ℕ, ◌^◌};
+ghost use Rattle.std.specs.Prelude.{◌≡◌, ◌≤◌, ℕ, ◌^◌};
 ghost use Rattle.cw_base.specs.Category.{number_of, in_set, meet};
 
 /// What kind of thing a scrap is to the productions. `End` is of tests only: it stands past the last
@@ -96,6 +96,15 @@ pub enum Cat {
 }
 
 impl Cat {
+    /// The number of this category, from 0 on; that of `End` is the greatest.
+    #[inline]
+    pub fn number(self) -> usize
+        ensures number { result ≡ number_of self }
+        ensures at_most { result ≤ number_of Cat.End }
+    {
+        self as usize
+    }
+
     /// The one bit that stands for this category in a `CatSet`.
     pub fn bit(self) -> u64
         ensures { result ≡ 2 ^ number_of self }

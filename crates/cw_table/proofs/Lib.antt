@@ -1,5 +1,7 @@
 pub mod Examples
+pub mod FirstLaws
 pub mod Joining
+pub mod MaskLaws
 pub mod Soundness
 pub mod Numbers
 pub mod RewritingRows

@@ -1,3 +1,4 @@
+pub mod Masks
 pub mod Joined
 pub mod Rows
 pub mod Productions

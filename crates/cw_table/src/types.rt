@@ -1,5 +1,6 @@
 ghost use Rattle.std.specs.Prelude.{◌≡◌, ◌≤◌, Some};
 
+use crate::masks::first_production;
 use cw_base::{Cat, CatSet};
 use std::marker::Model;
 
@@ -138,6 +139,8 @@ impl<const N: usize> Model for Table<N> {
 }
 
 impl<const N: usize> Table<N> {
+    ghost use Rattle.std.specs.Option.{option_map};
+    ghost use Rattle.cw_table.specs.Fitting.{first_of};
     ghost use Rattle.cw_table.specs.Rows.{row_numbered};
 
     /// The production of this number.
@@ -147,5 +150,14 @@ impl<const N: usize> Table<N> {
         ensures { row_numbered self.now row.number ≡ Some result.now }
     {
         &self.rows[row.number as usize - 1]
+    }
+
+    /// The number of the first production whose tests all admit the categories of the window; None
+    /// exactly where no production fits. Past the last scrap the window holds `End`.
+    pub fn first_at(&self, window: [Cat; 4]) -> Option<RowNo>
+        ensures { result ≡ option_map (λ row. row.number) (first_of self.now window) }
+    {
+        let _productions = &self.rows;
+        first_production(window)
     }
 }
