@@ -1,0 +1,9 @@
+use Rattle.std.proofs.Common.{ap, ◌∙◌}
+use Rattle.cw_names.specs.Names.{with_category}
+use Rattle.cw_names.proofs.Lookup.{with_category-map}
+use Rattle.cw_names.proofs.names.Names.set_category.Goals as goal
+
+pub returns : goal.returns
+returns c =
+    with_category-map c.self.inside.categories.entries c.args.id.index c.args.category
+    ∙ ap (with_category c.args.id.index c.args.category) c.self.view_is

@@ -1,0 +1,145 @@
+ghost use Rattle.std.specs.Prelude.{◌≡◌, ◌≢◌, ◌<◌, ◌↔◌, length, Some, true, map, slice_get, IsTrue, IfOk, OnOk, OnErr};
+ghost use Rattle.std.specs.Option.{option_map};
+ghost use Rattle.cw_names.specs.Names.{Entry, place_of, with_entry, with_category};
+ghost use Rattle.cw_names.specs.Table.{row, with_table, has_no_end};
+ghost use Rattle.cw_names.specs.Words.{built_in_words};
+
+use crate::entry::Key;
+use crate::words::WORDS;
+use crate::{EntryKind, NameId};
+use cw_base::{Cat, Memory};
+use indexmap::IndexMap;
+use std::alloc::Global;
+use std::marker::Model;
+
+/// Names in order of first appearance. An entry is found by its kind and text through a hash table.
+#[derive(Drop)]
+pub struct Names {
+    categories: IndexMap<Key, Cat>,
+    /// What is looked for. Its room serves all look-ups.
+    wanted: Key,
+    alloc: Global,
+}
+
+impl Model for Names {
+    ghost use Rattle.std.specs.Prelude.{List, map};
+    ghost use Rattle.cw_names.specs.Names.{Entry};
+
+    ghost Value = { List Entry };
+
+    ghost use Rattle.cw_names.specs.Inside.{entry_of};
+
+    ghost view = { λ n. map entry_of n.categories.entries };
+}
+
+impl Names {
+    /// The names that are known from the start: the built-in words.
+    pub fn with_words(alloc: Global) -> Result<Names, Memory>
+        ensures { IfOk result (λ names. names ≡ built_in_words) }
+    {
+        let mut names = Names {
+            categories: IndexMap::new(alloc),
+            wanted: Key {
+                kind: EntryKind::Ident,
+                text: Vec::new(alloc),
+            },
+            alloc,
+        };
+        names.add_words(&WORDS)?;
+        Ok(names)
+    }
+
+    // Adds each word of a table with its category.
+    fn add_words(&mut self, words: &[(&[u8], Cat)]) -> Result<(), Memory>
+        requires { has_no_end words.now ≡ true }
+        ensures { OnOk result (self.new ≡ with_table (map row words.now) self.old) }
+    {
+        for (word, category) in words {
+            let id = self.find_or_add(EntryKind::Ident, word)?;
+            self.set_category(id, *category);
+        }
+        Ok(())
+    }
+
+    /// The entry of this kind and text. A new one is last and has the category exp; a present one keeps
+    /// its place. After `Memory` the names are as before.
+    pub fn find_or_add(&mut self, kind: EntryKind, text: &[u8]) -> Result<NameId, Memory>
+        ensures id { IfOk result (λ id. id.index ≡ place_of kind text.now self.old) }
+        ensures within { IfOk result (λ id. id.index < length self.new) }
+        ensures ok { OnOk result (self.new ≡ with_entry kind text.now self.old) }
+        ensures err { OnErr result (self.new ≡ self.old) }
+    {
+        self.wanted.kind = kind;
+        self.wanted.text.clear();
+        self.wanted.text.extend_from_slice(text)?;
+        match self.categories.get_index_of(&self.wanted) {
+            Some(index) => Ok(NameId { index }),
+            None => {
+                let index = self.categories.len();
+                let text = Vec::from_slice(self.alloc, text)?;
+                self.categories.insert(Key { kind, text }, Cat::Exp)?;
+                Ok(NameId { index })
+            }
+        }
+    }
+
+    /// Gives an entry another category.
+    pub fn set_category(&mut self, id: NameId, category: Cat)
+        requires id { id.index < length self.old }
+        requires category { category ≢ Cat.End }
+        ensures { self.new ≡ with_category id.index category self.old }
+    {
+        match self.categories.get_index_mut(id.index) {
+            Some(value) => *value = category,
+            None => unreachable!(),
+        }
+    }
+
+    /// The text of an entry.
+    pub fn text(&self, id: NameId) -> &[u8]
+        requires { id.index < length self.now }
+        ensures { option_map (λ entry. entry.text) (slice_get self.now id.index) ≡ Some result.now }
+    {
+        match self.categories.get_index(id.index) {
+            Some((key, _)) => key.text.as_slice(),
+            None => unreachable!(),
+        }
+    }
+
+    /// The kind of an entry.
+    pub fn kind(&self, id: NameId) -> EntryKind
+        requires { id.index < length self.now }
+        ensures { option_map (λ entry. entry.kind) (slice_get self.now id.index) ≡ Some result }
+    {
+        match self.categories.get_index(id.index) {
+            Some((key, _)) => key.kind,
+            None => unreachable!(),
+        }
+    }
+
+    /// The category of an entry.
+    pub fn category(&self, id: NameId) -> Cat
+        requires { id.index < length self.now }
+        ensures { option_map (λ entry. entry.category) (slice_get self.now id.index) ≡ Some result }
+    {
+        match self.categories.get_index(id.index) {
+            Some((_key, category)) => *category,
+            None => unreachable!(),
+        }
+    }
+
+    /// Whether an entry is one of the words that are known from the start.
+    pub fn is_built_in(&self, id: NameId) -> bool
+        requires { id.index < length self.now }
+        ensures { IsTrue result ↔ (id.index < length built_in_words) }
+    {
+        id.index < WORDS.len()
+    }
+
+    /// How many entries there are.
+    pub fn len(&self) -> usize
+        ensures { result ≡ length self.now }
+    {
+        self.categories.len()
+    }
+}
