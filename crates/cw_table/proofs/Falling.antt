@@ -133,10 +133,13 @@ new-weight f r xs s fits fine = go (alone r.replaced (row_pieces f r (cats_of xs
   where
     there : r.offset + r.replaced ≤ length xs
     there = rw (← cats-length xs) (room r (cats_of xs) s fits)
+
     joined : (js : _) → weight_of (join (result_at r.result (cats_of xs)) js) ≡ 4 + rank (result_at r.result (cats_of xs))
     joined js = ap (λ b. 4 + rank_with (result_at r.result (cats_of xs)) b) (joined-bare Maybe js) ∙ ap (λ n. 4 + n) (rank_with-none (result_at r.result (cats_of xs)))
+
     some : 1 ≤ r.replaced
     some = s.some_replaced
+
     go : (o : Option ℕ) → alone r.replaced (row_pieces f r (cats_of xs)) ≡ o → weight_of (elim o [ Some k ↦ with_cat (result_at r.result (cats_of xs)) (get_or xs k no_scrap) | None ↦ join (result_at r.result (cats_of xs)) (map (joined_of xs) (row_pieces f r (cats_of xs))) ]) < weight (take r.replaced (drop r.offset xs))
     go None e = more (one-or-more r.replaced some)
       where
@@ -159,6 +162,7 @@ new-fine f r xs s fits fine = go (alone r.replaced (row_pieces f r (cats_of xs))
   where
     there : r.offset + r.replaced ≤ length xs
     there = rw (← cats-length xs) (room r (cats_of xs) s fits)
+
     go : (o : Option ℕ) → alone r.replaced (row_pieces f r (cats_of xs)) ≡ o → is_fine (elim o [ Some k ↦ with_cat (result_at r.result (cats_of xs)) (get_or xs k no_scrap) | None ↦ join (result_at r.result (cats_of xs)) (map (joined_of xs) (row_pieces f r (cats_of xs))) ]) ≡ true
     go None e = ap (λ b. fine_with (result_at r.result (cats_of xs)) b) (joined-bare Maybe (map (joined_of xs) (row_pieces f r (cats_of xs))))
     go (Some n) e =

@@ -3,6 +3,7 @@ pub mod Joined
 pub mod Rows
 pub mod Productions
 pub mod Fitting
+pub mod Safe
 pub mod Sound
 pub mod Rewriting
 pub mod Normal
