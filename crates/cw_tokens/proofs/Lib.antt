@@ -1,0 +1,11 @@
+pub mod Cutting
+pub mod Linking
+pub mod Storing
+pub mod Unfolding
+pub mod Searching
+pub mod Measuring
+pub mod Reaching
+pub mod Reserve
+pub mod Flattening
+pub mod Places
+pub mod Rewriting

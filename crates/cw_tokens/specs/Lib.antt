@@ -1,0 +1,6 @@
+pub mod Shapes
+pub mod References
+pub mod Stored
+pub mod Walking
+pub mod Reserving
+pub mod FlatItems

@@ -1,0 +1,11 @@
+//! Lists of tokens in one store, changed in place.
+#![tactic(auto)]
+
+mod flat;
+mod store;
+mod token;
+mod walk;
+
+pub use flat::{FlatItem, FlatTokens};
+pub use store::TokenStore;
+pub use token::{ListId, Token};

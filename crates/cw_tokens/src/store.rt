@@ -1,0 +1,213 @@
+ghost use Rattle.std.specs.Prelude.{◌≡◌, ℕ, ◌+◌, ◌-◌, ◌<◌, ◌≤◌, [], ◌∷◌, ◌++◌, length, IsSome, IfSome, IfNone, IfOk, OnOk, OnErr, option_map, vec_capacity, vec_len};
+ghost use Rattle.std.specs.Option.{option_to_list};
+ghost use Rattle.cw_trees.specs.Tree.{first_ident};
+ghost use Rattle.cw_trees.specs.Flat.{flat};
+ghost use Rattle.cw_tokens.specs.Shapes.{shape, ref_of, unfolded};
+ghost use Rattle.cw_tokens.specs.FlatItems.{items_are};
+ghost use Rattle.cw_tokens.specs.Walking.{found_name};
+ghost use Rattle.cw_tokens.specs.Reserving.{Reserves, ReservesToken};
+ghost use Rattle.cw_tokens.specs.Stored.{StoredLists, MayBePushed, all_lists, last_end, linked};
+ghost use Rattle.cw_tokens.specs.References.{IsTied};
+
+use crate::flat::{FlatTokens, flatten};
+use crate::token::{ListId, Token};
+use crate::walk::{find, start};
+use cw_base::{Cat, Memory};
+use cw_names::{NameId, Names};
+use std::alloc::Global;
+use std::marker::Model;
+
+/// The token that refers to a list: the list in which it stands, and the place behind it there.
+#[derive(Clone, Copy, PartialEq, Eq, Debug)]
+pub struct Link {
+    pub list: usize,
+    pub place: usize,
+}
+
+/// Lists of tokens in one vector, one behind another. A list refers to earlier lists alone, and to
+/// each list at most one token refers; so a list and all below it are a tree, and joining lists copies
+/// none of them.
+#[derive(Drop)]
+pub struct TokenStore {
+    tokens: Vec<Token>,
+    ends: Vec<usize>,
+    links: Vec<Link>,
+    building: bool,
+    spare: usize,
+}
+
+impl Model for TokenStore {
+    ghost use Rattle.std.specs.Prelude.{vec_capacity};
+    ghost use Rattle.cw_tokens.specs.Stored.{StoredLists, cut, built, IsStored};
+
+    ghost Value = { StoredLists };
+
+    ghost view = { λ s. record { lists = cut 0 s.ends.items s.tokens.items; building = built s.building s.ends.items s.tokens.items; spare = s.spare } };
+
+    ghost invariant = { λ s. IsStored s.building s.ends.items s.tokens.items s.links.items s.spare (vec_capacity s.tokens) (vec_capacity s.ends) (vec_capacity s.links) };
+}
+
+impl TokenStore {
+    /// A store without lists.
+    pub fn new_in(alloc: Global) -> TokenStore
+        ensures lists { result.lists ≡ [] }
+        ensures idle { result.building ≡ None }
+        ensures spare { result.spare ≡ 0 }
+    {
+        TokenStore {
+            tokens: Vec::new(alloc),
+            ends: Vec::new(alloc),
+            links: Vec::new(alloc),
+            building: false,
+            spare: 0,
+        }
+    }
+
+    /// How many times `begin` and `push` can be called before the next `reserve`.
+    pub fn spare(&self) -> usize
+        ensures spare { result ≡ self.now.spare }
+        ensures tied { IsTied (all_lists self.now) }
+    {
+        self.spare
+    }
+
+    /// Makes room for `n` calls of `begin` and `push`.
+    pub fn reserve(&mut self, n: usize) -> Result<(), Memory>
+        ensures lists { self.new.lists ≡ self.old.lists }
+        ensures building { self.new.building ≡ self.old.building }
+        ensures room { OnOk result (n ≤ self.new.spare) }
+        ensures grows { self.old.spare ≤ self.new.spare }
+        ensures refused { OnErr result (self.new ≡ self.old) }
+    {
+        if n <= self.spare {
+            return Ok(());
+        }
+        let Some(lists) = n.checked_add(usize::from(self.building)) else {
+            return Err(Memory);
+        };
+        self.tokens.reserve(n)?;
+        self.ends.reserve(lists)?;
+        self.links.reserve(lists)?;
+        self.spare = n;
+        Ok(())
+    }
+
+    /// Begins a list.
+    pub fn begin(&mut self)
+        requires idle { self.old.building ≡ None }
+        requires room { 0 < self.old.spare }
+        ensures lists { self.new.lists ≡ self.old.lists }
+        ensures building { self.new.building ≡ Some [] }
+        ensures spare { self.new.spare + 1 ≡ self.old.spare }
+    {
+        self.building = true;
+        self.spare -= 1;
+    }
+
+    /// Puts a token behind those of the list that is being built.
+    pub fn push(&mut self, token: Token)
+        requires building { IsSome self.old.building }
+        requires room { 0 < self.old.spare }
+        requires reference { MayBePushed self.old token }
+        ensures lists { self.new.lists ≡ self.old.lists }
+        ensures building { self.new.building ≡ option_map (λ tokens. tokens ++ token ∷ []) self.old.building }
+        ensures spare { self.new.spare + 1 ≡ self.old.spare }
+    {
+        let place = self.tokens.len() - last_end(&self.ends) + 1;
+        let list = self.ends.len();
+        set_link(token, Link { list, place }, &mut self.links);
+        self.tokens.push_reserved(token);
+        self.spare -= 1;
+    }
+
+    /// Ends the list that is being built, and answers its place.
+    pub fn finish(&mut self) -> ListId
+        requires building { IsSome self.old.building }
+        ensures id { result.index ≡ length self.old.lists }
+        ensures lists { self.new.lists ≡ self.old.lists ++ option_to_list self.old.building }
+        ensures idle { self.new.building ≡ None }
+        ensures spare { self.new.spare ≡ self.old.spare }
+    {
+        let index = self.ends.len();
+        self.ends.push_reserved(self.tokens.len());
+        self.links.push_reserved(Link { list: 0, place: 0 });
+        self.building = false;
+        ListId { index }
+    }
+
+    /// Takes out all lists, and gives up the one that is being built.
+    pub fn reset(&mut self)
+        ensures lists { self.new.lists ≡ [] }
+        ensures idle { self.new.building ≡ None }
+        ensures spare { self.new.spare ≡ self.old.spare }
+    {
+        self.tokens.clear();
+        self.ends.clear();
+        self.links.clear();
+        self.building = false;
+    }
+
+    /// The items of a list's tree in order, each inner text between two brackets.
+    pub fn flat(&self, alloc: Global, id: ListId) -> Result<FlatTokens, Memory>
+        requires list { id.index < length self.now.lists }
+        ensures items { IfOk result (λ items. items_are items ≡ flat (unfolded self.now.lists id.index)) }
+    {
+        let mut items = Vec::new(alloc);
+        flatten(&self.tokens, &self.ends, &self.links, id.index, &mut items)?;
+        Ok(FlatTokens::of(items))
+    }
+
+    /// The name of the first identifier of a list's tree. A reserved word like `case` and the mark
+    /// `Inserted` end the search; inner texts are passed over.
+    pub fn first_ident(&self, id: ListId, _names: &Names) -> Option<NameId>
+        requires list { id.index < length self.now.lists }
+        ensures name { result ≡ found_name (first_ident (unfolded self.now.lists id.index)) }
+    {
+        match find(&self.tokens, &self.ends, &self.links, id.index) {
+            Some(spot) => Some(spot.name),
+            None => None,
+        }
+    }
+
+    /// Turns the first identifier of a list's tree into a reserved word, in place, and answers its name.
+    pub fn reserve_ident(&mut self, id: ListId, _names: &Names) -> Option<NameId>
+        requires list { id.index < length self.old.lists }
+        ensures name { result ≡ found_name (first_ident (unfolded self.old.lists id.index)) }
+        ensures token { IfSome result (ReservesToken self.old.lists self.new.lists) }
+        ensures reserves { Reserves self.old.lists self.new.lists id.index }
+        ensures none { IfNone result (self.new ≡ self.old) }
+        ensures building { self.new.building ≡ self.old.building }
+        ensures spare { self.new.spare ≡ self.old.spare }
+    {
+        match find(&self.tokens, &self.ends, &self.links, id.index) {
+            Some(spot) => {
+                let place = start(&self.ends, spot.list) + spot.place;
+                self.tokens[place] = Token::Reserved(spot.name, spot.number, Cat::RawInt);
+                Some(spot.name)
+            }
+            None => None,
+        }
+    }
+}
+
+/// Where the last list ends.
+fn last_end(ends: &[usize]) -> usize
+    ensures { result ≡ last_end 0 ends.now }
+{
+    match ends {
+        [.., end] => *end,
+        [] => 0,
+    }
+}
+
+/// Links the list to which a token refers, where it refers to one.
+fn set_link(token: Token, up: Link, links: &mut Vec<Link>)
+    requires { (x : ℕ) → ref_of (shape token) ≡ Some x → x < vec_len links.old }
+    ensures items { links.new.items ≡ linked (ref_of (shape token)) up links.old.items }
+    ensures capacity { vec_capacity links.new ≡ vec_capacity links.old }
+{
+    match token {
+        Token::List(id) | Token::Inner(id) => links[id.index] = up,
+        Token::Source(..) | Token::Ident(..) | Token::Reserved(..) | Token::Control(_) => {}
+    }
+}
