@@ -6,6 +6,7 @@ use Rattle.cw_lex.specs.declared.bodies.Noted.{Noted}
 use Rattle.cw_lex.specs.declared.parts.Part.{Part}
 use Rattle.cw_lex.specs.declared.parts.Opened.{Opened}
 use Rattle.cw_lex.specs.declared.tokens.TokKind.{TokKind}
+use Rattle.cw_lex.specs.declared.tokens.TokKind.TheVariants as kinds
 use Rattle.cw_lex.specs.declared.tokens.Tok.{Tok}
 use Rattle.cw_lex.specs.declared.tokens.Lexed.{Lexed}
 use Rattle.cw_lex.specs.declared.tokens.Lexed.TheVariants as lexed
@@ -72,4 +73,5 @@ plain kind size = record { kind = kind; size = size; notes = [] }
 
 -- a cut that is dropped, with the note why before its own
 abbrev pub dropped : NoteKind → ℕ → Cut → Cut
-dropped note place cut = record cut { notes = record { kind = note; place = place } ∷ cut.notes }
+dropped note place cut =
+    record { kind = kinds.Dropped; size = cut.size; notes = record { kind = note; place = place } ∷ cut.notes }

@@ -1,6 +1,6 @@
 -- The insides of strings, include names, control texts, section names and pieces of comments. Each goes on byte by byte
 -- until it stops; some bytes take the next one along, and some have a note.
-use Rattle.std.specs.Prelude.{ℕ, ◌+◌, ◌-◌, Bool, true, false, ◌&&◌, ◌||◌, not, ◌==◌, List, [], ◌∷◌, Option, Some, None, codes, drop, length, if◌then◌else◌}
+use Rattle.std.specs.Prelude.{ℕ, ◌+◌, ◌-◌, Bool, true, false, ◌&&◌, ◌||◌, not, ◌==◌, List, [], ◌∷◌, ◌++◌, Option, Some, None, codes, drop, length, if◌then◌else◌}
 use Rattle.cw_base.specs.declared.notes.NoteKind.{NoteKind}
 use Rattle.cw_base.specs.declared.notes.NoteKind.TheVariants.{AtInString, CodeInControlText, CodeInName, AtInComment, ExtraBrace, TooDeep}
 use Rattle.cw_lex.specs.declared.bodies.Body.{Body}
@@ -101,20 +101,35 @@ closing_bytes ControlText = codes "@>"
 closing_bytes SectionName = codes "@>"
 closing_bytes (Piece long deep) = []
 
--- A body that is read: its size without and with what closes it, whether that stands there, and its notes.
+-- Where a body that isn't closed stopped: at the byte that comes then, else at the last byte of all.
+abbrev pub stop_at : ℕ → List ℕ → ℕ
+stop_at place [] = place - 1
+stop_at place (byte ∷ bytes) = place
+
+-- A body that is read: its size without and with what closes it, whether that stands there, where it stopped without it,
+-- and its notes.
 pub record Read : Type 0 where
   pub inner_size : ℕ
   pub size : ℕ
   pub closed : Bool
+  pub stop : ℕ
   pub notes : List Noted
 
 abbrev pub read_to : Inside → List ℕ → ℕ → Read
-read_to i bytes stop = record {
-  inner_size = stop;
-  size = if begins_with (closing_bytes i.body) (drop stop bytes) then stop + length (closing_bytes i.body) else stop;
-  closed = begins_with (closing_bytes i.body) (drop stop bytes);
-  notes = noted i bytes;
+read_to i bytes size = record {
+  inner_size = size;
+  size = if begins_with (closing_bytes i.body) (drop size bytes) then size + length (closing_bytes i.body) else size;
+  closed = begins_with (closing_bytes i.body) (drop size bytes);
+  stop = stop_at (i.place + size) (drop size bytes);
+  notes = noted i bytes
 }
 
 abbrev pub read : Inside → List ℕ → Read
 read i bytes = read_to i bytes ((ended i bytes).place - i.place)
+
+-- its notes, with one more where it isn't closed
+abbrev pub and_lost : Bool → NoteKind → ℕ → List Noted → List Noted
+and_lost true note place notes = notes
+and_lost false note place notes = notes ++ record { kind = note; place = place } ∷ []
+abbrev pub all_notes : NoteKind → Read → List Noted
+all_notes lost r = and_lost r.closed lost r.stop r.notes

@@ -27,7 +27,7 @@ use Rattle.cw_lex.specs.Bytes.{newline, quote, hash, apostrophe, left_paren, rig
 use Rattle.cw_lex.specs.Signs.{all_signs, longest, spelling}
 use Rattle.cw_lex.specs.Constants.{constant}
 use Rattle.cw_lex.specs.Codes.{code_at, begins_section, has_control_text, effect_in_limbo, effect_in_tex, effect_in_c, effect_in_definition, effect_at_begin}
-use Rattle.cw_lex.specs.Bodies.{at_start, Read, read, ended}
+use Rattle.cw_lex.specs.Bodies.{at_start, Read, read, ended, all_notes}
 use Rattle.cw_lex.specs.Names.{is_void}
 use Rattle.cw_lex.specs.Answers.{Seen, Answer, Token, Begin, Finish, Note, Where, Cut, Found, before, note_answers, token_of, plain, dropped}
 
@@ -38,26 +38,16 @@ abbrev pub unless : Bool → NoteKind → ℕ → List Noted
 unless true note place = []
 unless false note place = record { kind = note; place = place } ∷ []
 
--- Where a token that isn't closed stopped: at the byte that comes then, else at the last byte of all.
-abbrev pub stop_at : ℕ → List ℕ → ℕ
-stop_at place [] = place - 1
-stop_at place (byte ∷ bytes) = place
-
 -- An identifier is a letter, then letters and digits. So each byte of it is of the class Word.
 abbrev pub identifier : List ℕ → Cut
 identifier bytes = plain kinds.Identifier (run classes.Word bytes)
 
 -- A string goes from a quote, the last of its first `opening` bytes, to the same byte.
-abbrev pub string_by : TokKind → ℕ → ℕ → List ℕ → Read → Cut
-string_by kind opening place bytes r = record {
-  kind = kind;
-  size = opening + r.size;
-  notes = r.notes ++ unless r.closed notes.StringUnended (stop_at (place + opening + r.size) (drop (opening + r.size) bytes));
-}
-
+abbrev pub string_of : TokKind → ℕ → Read → Cut
+string_of kind opening r = record { kind = kind; size = opening + r.size; notes = all_notes notes.StringUnended r }
 abbrev pub string : TokKind → ℕ → ℕ → ℕ → List ℕ → Cut
 string kind opening quote place bytes =
-    string_by kind opening place bytes (read (at_start (bodies.Quoted quote) (place + opening)) (drop opening bytes))
+    string_of kind opening (read (at_start (bodies.Quoted quote) (place + opening)) (drop opening bytes))
 
 -- An include name goes from `<` to the first `>` of the line.
 abbrev pub closes_on_line : List ℕ → Bool
@@ -71,31 +61,23 @@ include_name place bytes = record {
 }
 
 -- A control text goes to `@>` on its line.
-abbrev pub control_text_by : Code → ℕ → List ℕ → Read → Cut
-control_text_by code place bytes r = record {
-  kind = kinds.Code code;
-  size = 2 + r.size;
-  notes = r.notes ++ unless r.closed notes.ControlTextUnended (stop_at (place + 2 + r.size) (drop (2 + r.size) bytes));
-}
-
+abbrev pub control_text_of : Code → Read → Cut
+control_text_of code r = record { kind = kinds.Code code; size = 2 + r.size; notes = all_notes notes.ControlTextUnended r }
 abbrev pub control_text : Code → ℕ → List ℕ → Cut
-control_text code place bytes =
-    control_text_by code place bytes (read (at_start bodies.ControlText (place + 2)) (drop 2 bytes))
+control_text code place bytes = control_text_of code (read (at_start bodies.ControlText (place + 2)) (drop 2 bytes))
 
 -- A section name goes to `@>`, perhaps on a later line.
-abbrev pub section_name_by : Code → ℕ → List ℕ → Read → Cut
-section_name_by code place bytes r = record {
+abbrev pub section_name_of : Code → ℕ → List ℕ → Read → Cut
+section_name_of code place bytes r = record {
   kind = kinds.Code code;
   size = 2 + r.size;
   notes = unless r.closed notes.NameUnended place ++
-      (unless (not (is_void (take r.inner_size (drop 2 bytes)))) notes.NameEmpty place ++ r.notes);
+    (unless (not (is_void (take r.inner_size bytes))) notes.NameEmpty place ++ r.notes)
 }
-
-abbrev pub name_body : ℕ → List ℕ → Read
-name_body place bytes = read (at_start bodies.SectionName (place + 2)) (drop 2 bytes)
-
+abbrev pub name_read : ℕ → List ℕ → Read
+name_read place bytes = read (at_start bodies.SectionName (place + 2)) (drop 2 bytes)
 abbrev pub section_name : Code → ℕ → List ℕ → Cut
-section_name code place bytes = section_name_by code place bytes (name_body place bytes)
+section_name code place bytes = section_name_of code place (drop 2 bytes) (name_read place bytes)
 
 -- Any other code is the `@` and the byte behind it, where one is there.
 abbrev pub alone_size : List ℕ → ℕ
@@ -136,7 +118,7 @@ is_signed bytes = nat_lt 0 (head_sign_size (drop (run classes.Blank bytes) bytes
 
 abbrev pub is_head : ℕ → List ℕ → Bool
 is_head place bytes =
-    (name_body place bytes).closed && is_signed (drop (2 + (name_body place bytes).size) bytes)
+    (name_read place bytes).closed && is_signed (drop (2 + (name_read place bytes).size) bytes)
 
 -- ## What holds of a place
 
@@ -230,7 +212,7 @@ all_cut part (c ∷ comments) false place about =
 abbrev pub section : Where → ℕ → List ℕ → Found
 section w place bytes =
     before (all_cut w.part w.comments w.code place place)
-    (one false (record { part = parts.Tex; comments = []; code = false }) place (at_sign ∷ bytes) (section_code bytes))
+    (one false (record { part = parts.Tex; comments = []; code = false }) place (at_sign ∷ bytes) (section_code (at_sign ∷ bytes)))
 
 -- A line's end in C text ends the short comments around it, up to the innermost long one. Where no comment is left it
 -- ends a `#` line, unless a backslash stands before it. Else it is white space.
@@ -254,17 +236,16 @@ abbrev pub sign_or_other : Option Sign → Start
 sign_or_other None = start.OtherByte
 sign_or_other (Some sign) = start.Sign sign
 
-abbrev pub start_of : Bool → Bool → ℕ → List ℕ → Start
-start_of hash_line bar_ends byte bytes =
-    if is_in classes.White byte || (hash_line && (byte == backslash && begins newline bytes)) then start.White
-    else (if is_letter byte then start.Identifier
+abbrev pub start_of : Bool → ℕ → List ℕ → Start
+start_of bar_ends byte bytes =
+    if is_letter byte then start.Identifier
     else (if nat_lt 0 (constant (byte ∷ bytes)) then start.Constant
     else (if byte == quote || byte == apostrophe then start.Quoted byte
     else (if byte == slash && begins star bytes then start.LongComment
     else (if byte == slash && begins slash bytes then start.ShortComment
     else (if byte == at_sign then start.Code (code_at bytes)
     else (if byte == bar && (bar_ends && not (begins bar bytes)) then start.EndOfInner
-    else sign_or_other (longest all_signs (byte ∷ bytes)))))))))
+    else sign_or_other (longest all_signs (byte ∷ bytes))))))))
 
 -- In a `#` line the word `include` lets an include name follow.
 abbrev pub is_include : List ℕ → Bool
@@ -325,7 +306,6 @@ code_by effects.BeginsC code w place bytes = one false (to_code w (parts.Plain f
 
 -- The token that begins at a byte of C text.
 abbrev pub in_code : Start → Where → ℕ → List ℕ → Found
-in_code start.White w place bytes = skipped_byte w
 in_code start.Identifier w place bytes = one (in_hash_line w.part) (to_code w (behind_word w.part bytes)) place bytes (identifier bytes)
 in_code start.Constant w place bytes = one (in_hash_line w.part) (to_code w (passed w.part)) place bytes (plain kinds.Constant (constant bytes))
 in_code (start.Quoted quote) w place bytes = one (in_hash_line w.part) (to_code w (passed w.part)) place bytes (string kinds.Quoted 1 quote place bytes)
@@ -342,14 +322,19 @@ takes_hash_line parts.Begin [] = true
 takes_hash_line (parts.Plain hash_line include) [] = not hash_line
 takes_hash_line part comments = false
 
+-- White space is skipped: blanks, and in a `#` line a backslash at a line's end.
+abbrev pub is_space : Part → ℕ → List ℕ → Bool
+is_space part byte bytes = is_in classes.Blank byte || (in_hash_line part && (byte == backslash && begins newline bytes))
+
 abbrev pub code_text : Where → Bool → ℕ → ℕ → ℕ → List ℕ → Found
 code_text w fresh last place byte bytes =
     if byte == newline then line_end w.part w.comments last place
-    else (if byte == hash && (fresh && takes_hash_line w.part w.comments)
+    else (if is_space w.part byte bytes then skipped_byte w
+    else (if byte == hash && (takes_hash_line w.part w.comments && fresh)
     then one true (to_code w (parts.Plain true false)) place (byte ∷ bytes) (plain kinds.HashLine 1)
     else (if byte == less && (behind_include w.part && closes_on_line bytes)
     then one true (to_code w (passed w.part)) place (byte ∷ bytes) (include_name place (byte ∷ bytes))
-    else in_code (start_of (in_hash_line w.part) (ends_at_bar w.part w.comments) byte bytes) w place (byte ∷ bytes)))
+    else in_code (start_of (ends_at_bar w.part w.comments) byte bytes) w place (byte ∷ bytes))))
 
 -- ## The text of a comment
 

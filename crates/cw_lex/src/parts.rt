@@ -47,10 +47,9 @@ pub(crate) struct Opened {
     pub braces: usize,
 }
 
-/// What begins at a byte of C text, but for a line's end, the `#` of a `#` line and an include name.
+/// What begins at a byte of C text, but for white space, the `#` of a `#` line and an include name.
 #[derive(Clone, Copy)]
 pub(crate) enum Start {
-    White,
     Identifier,
     Constant,
     /// A string with this quote.
