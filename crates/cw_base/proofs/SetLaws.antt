@@ -17,7 +17,7 @@ use Rattle.cw_base.specs.Category.{all_cats, in_set, meet, number_of}
 use Rattle.cw_base.proofs.CategoryLaws.{place-of}
 use Rattle.cw_base.proofs.TestLaws.{both, both-left, both-right, one-left, one-right}
 
-any-found : {X : Type 0} (p : X → Bool) (xs : List X) → list_any p xs ≡ true → (x : X) × (p x ≡ true)
+pub any-found : {X : Type 0} (p : X → Bool) (xs : List X) → list_any p xs ≡ true → (x : X) × (p x ≡ true)
 any-found p [] h = absurd cc
 any-found p (x ∷ xs) h = go (p x) refl (any-found p xs)
   where
@@ -25,7 +25,7 @@ any-found p (x ∷ xs) h = go (p x) refl (any-found p xs)
     go true e rest = (x, e)
     go false e rest = rest (ap (λ b. b || list_any p xs) (sym e) ∙ h)
 
-any-at : {X : Type 0} (p : X → Bool) (xs : List X) (i : ℕ) (x : X) → slice_get xs i ≡ Some x → p x ≡ true → list_any p xs ≡ true
+pub any-at : {X : Type 0} (p : X → Bool) (xs : List X) (i : ℕ) (x : X) → slice_get xs i ≡ Some x → p x ≡ true → list_any p xs ≡ true
 any-at p [] i x e h = absurd cc
 any-at p (y ∷ ys) zero x e h = let same : x ≡ y = cc in one-left _ _ (ap p (sym same) ∙ h)
 any-at p (y ∷ ys) (suc i) x e h = one-right _ _ (any-at p ys i x e h)

@@ -37,3 +37,19 @@ unless false b h t = absurd cc
 pub not-true : (b : Bool) → not b ≡ true → b ≡ false
 not-true true h = absurd cc
 not-true false h = refl
+
+pub not-false : (b : Bool) → not b ≡ false → b ≡ true
+not-false true h = refl
+not-false false h = absurd cc
+
+pub both-failed : (a b : Bool) → (a && b) ≡ false → a ≡ true → b ≡ false
+both-failed true b h t = h
+both-failed false b h t = absurd cc
+
+pub one-failed-left : (a b : Bool) → (a || b) ≡ false → a ≡ false
+one-failed-left true b h = h
+one-failed-left false b h = refl
+
+pub one-failed-right : (a b : Bool) → (a || b) ≡ false → b ≡ false
+one-failed-right true b h = absurd cc
+one-failed-right false b h = h

@@ -2,6 +2,7 @@ pub mod Examples
 pub mod FirstLaws
 pub mod Joining
 pub mod MaskLaws
+pub mod SafeLaws
 pub mod Soundness
 pub mod Numbers
 pub mod RewritingRows
