@@ -9,3 +9,4 @@ pub mod Reserve
 pub mod Flattening
 pub mod Places
 pub mod Rewriting
+pub mod Bare

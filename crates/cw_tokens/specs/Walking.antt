@@ -1,5 +1,5 @@
 -- The walk through a tree in its store: down by the tokens that refer to lists, and up by the links.
-use Rattle.std.specs.Prelude.{◌≡◌, ℕ, zero, suc, ◌+◌, ◌<◌, ◌≤◌, true, false, eqb, List, [], length, Option, Some, None, take, drop, get_or, slice_get}
+use Rattle.std.specs.Prelude.{◌≡◌, ℕ, zero, suc, ◌+◌, ◌<◌, ◌≤◌, true, false, eqb, List, [], ◌∷◌, length, Option, Some, None, take, drop, get_or, slice_get}
 use Rattle.cw_names.specs.declared.NameId.{NameId}
 use Rattle.cw_trees.specs.Tree.{Tree, Empty, Then, Sub, Inner, Search, Found, Stopped, Nothing, search_leaf, first_ident}
 use Rattle.cw_tokens.specs.declared.token.Token.{Token}
@@ -16,6 +16,11 @@ abbrev pub found_name : Search → Option NameId
 found_name (Found name) = Some (record { index = name })
 found_name Stopped = None
 found_name Nothing = None
+
+-- the name of a list that is exactly one identifier
+abbrev pub only_name_of : List Token → Option NameId
+only_name_of (Ident name number ∷ []) = Some name
+only_name_of _ = None
 
 -- a search passes over a token
 abbrev pub IsPassed : Shape → Type 0

@@ -1,6 +1,6 @@
 ghost use Rattle.std.specs.Prelude.{◌≡◌, ℕ, ◌+◌, ◌-◌, ◌<◌, ◌≤◌, [], ◌∷◌, ◌++◌, length, IsSome, IfSome, IfNone, IfOk, OnOk, OnErr, option_map, vec_capacity, vec_len};
 ghost use Rattle.std.specs.Option.{option_to_list};
-ghost use Rattle.cw_trees.specs.Tree.{first_ident};
+ghost use Rattle.cw_trees.specs.Tree.{first_ident, bare_name};
 ghost use Rattle.cw_trees.specs.Flat.{flat};
 ghost use Rattle.cw_tokens.specs.Shapes.{shape, ref_of, unfolded};
 ghost use Rattle.cw_tokens.specs.FlatItems.{items_are};
@@ -11,7 +11,7 @@ ghost use Rattle.cw_tokens.specs.References.{IsTied};
 
 use crate::flat::{FlatTokens, flatten};
 use crate::token::{ListId, Token};
-use crate::walk::{find, start};
+use crate::walk::{find, list_at, only_name, start};
 use cw_base::{Cat, Memory};
 use cw_names::{NameId, Names};
 use std::alloc::Global;
@@ -167,6 +167,14 @@ impl TokenStore {
             Some(spot) => Some(spot.name),
             None => None,
         }
+    }
+
+    /// The name of a list that is exactly one identifier.
+    pub fn bare_name(&self, id: ListId) -> Option<NameId>
+        requires list { id.index < length self.now.lists }
+        ensures name { result ≡ option_map (λ name. record { index = name }) (bare_name (unfolded self.now.lists id.index)) }
+    {
+        only_name(list_at(&self.tokens, &self.ends, id.index))
     }
 
     /// Turns the first identifier of a list's tree into a reserved word, in place, and answers its name.

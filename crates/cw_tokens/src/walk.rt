@@ -1,9 +1,9 @@
-ghost use Rattle.std.specs.Prelude.{◌≡◌, ℕ, ◌+◌, ◌-◌, ◌<◌, ◌≤◌, [], length, get_or, MatchOption, drop, take, slice_get};
+ghost use Rattle.std.specs.Prelude.{◌≡◌, ℕ, ◌+◌, ◌-◌, ◌<◌, ◌≤◌, [], ◌∷◌, length, get_or, MatchOption, drop, take, slice_get};
 ghost use Rattle.cw_trees.specs.Tree.{first_ident};
 ghost use Rattle.cw_tokens.specs.Shapes.{shape, unfolded};
 ghost use Rattle.cw_tokens.specs.Stored.{cut, last_end, start_of, no_link, IsAscending, IsLinked};
 ghost use Rattle.cw_tokens.specs.FlatItems.{IsPart};
-ghost use Rattle.cw_tokens.specs.Walking.{Shows, Finds, found_name};
+ghost use Rattle.cw_tokens.specs.Walking.{Shows, Finds, found_name, only_name_of};
 
 use crate::flat::FlatItem;
 use crate::store::Link;
@@ -69,6 +69,29 @@ pub fn list_at<'a>(tokens: &'a [Token], ends: &[usize], list: usize) -> &'a [Tok
     ensures { result.now ≡ get_or (cut 0 ends.now tokens.now) list [] }
 {
     between(tokens, start(ends, list), ends[list])
+}
+
+/// The name of the one token, if there is one and it is an identifier.
+pub fn only_name(tokens: &[Token]) -> Option<NameId>
+    ensures { result ≡ only_name_of tokens.now }
+{
+    if tokens.len() != 1 {
+        return None;
+    }
+    name_of(tokens[0])
+}
+
+fn name_of(token: Token) -> Option<NameId>
+    ensures { result ≡ only_name_of (token ∷ []) }
+{
+    match token {
+        Token::Ident(name, _) => Some(name),
+        Token::Source(..)
+        | Token::Reserved(..)
+        | Token::Control(_)
+        | Token::Inner(_)
+        | Token::List(_) => None,
+    }
 }
 
 /// The link of a list.

@@ -1,0 +1,10 @@
+use Rattle.std.proofs.Common.{sym, ap, ◌∙◌}
+use Rattle.cw_tokens.specs.Walking.{only_name_of}
+use Rattle.cw_tokens.proofs.Bare.{only-none, one-token}
+use Rattle.cw_tokens.proofs.walk.only_name.Goals as goal
+
+pub returns-then-tokens-ne1 : goal.returns-then-tokens-ne1
+returns-then-tokens-ne1 c = sym (only-none _ c.if-tokens-ne1.true)
+
+pub returns : goal.returns
+returns c = c.name_of.ensures ∙ ap only_name_of (one-token _ _ c.if-tokens-ne1.false)
