@@ -1,1 +1,5 @@
 pub mod PlainRows
+pub mod LaidLaws
+pub mod SumLaws
+pub mod WholeLaws
+pub mod ProduceLaws
