@@ -7,3 +7,4 @@ pub mod Mem
 pub mod Open
 pub mod Put
 pub mod Read
+pub mod Results

@@ -1,0 +1,11 @@
+//! Output lines: the bytes of an output file, cut into lines of at most 80 bytes, and written to a desk a line at a time.
+#![tactic(auto)]
+
+mod division;
+mod line_out;
+mod put_error;
+mod writing;
+
+pub use line_out::LineOut;
+pub use put_error::PutError;
+pub use writing::write_all;

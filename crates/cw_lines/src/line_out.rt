@@ -1,0 +1,253 @@
+ghost use Rattle.std.specs.Prelude.{◌≡◌, ◌≢◌, ◌==◌, ◌<◌, ◌≤◌, [], ◌∷◌, ◌++◌, IfSome, IsErrOf, OnErr, OnOk, length, take};
+ghost use Rattle.cw_desk.specs.Journal.{grown, GrownByPart};
+ghost use Rattle.cw_desk.specs.Meaning.{OnlyPuts, Rose};
+ghost use Rattle.cw_lines.specs.Cut.{comment_mark, divide};
+ghost use Rattle.cw_lines.specs.Line.{new_line, next_number, number_if, line_events, CanWrite, Writes, WritesPart, IsEndedLine};
+
+use crate::division::divide;
+use crate::put_error::PutError;
+use crate::writing::{append, write_all, write_line};
+use arrayvec::ArrayVec;
+use cw_base::Out;
+use cw_desk::Desk;
+use std::alloc::Global;
+use std::marker::Model;
+
+/// The line of an output that is being filled. It never holds more than 80 bytes; a line that would is cut.
+#[derive(Drop)]
+pub struct LineOut {
+    out: Out,
+    pending: ArrayVec<u8, 80>,
+    lines: u64,
+    broken: Vec<u64>,
+}
+
+impl Model for LineOut {
+    ghost use Rattle.cw_lines.specs.Line.{LineState};
+
+    ghost Value = { LineState };
+
+    ghost view = { λ l. record { out = l.out; pending = l.pending.items; lines = l.lines; broken = l.broken.items } };
+}
+
+impl LineOut {
+    /// A line on which nothing was put. It takes no memory.
+    pub fn new_in(alloc: Global, out: Out) -> LineOut
+        ensures { result ≡ new_line out }
+    {
+        LineOut {
+            out,
+            pending: ArrayVec::new(),
+            lines: 0,
+            broken: Vec::new(alloc),
+        }
+    }
+
+    /// How many lines were ended, those that a cut ended included.
+    pub fn lines(&self) -> u64
+        ensures { result ≡ self.now.lines }
+    {
+        self.lines
+    }
+
+    /// The numbers of the lines that had no good place to be cut, in order.
+    pub fn broken(&self) -> &[u64]
+        ensures { result.now ≡ self.now.broken }
+    {
+        self.broken.as_slice()
+    }
+
+    /// Whether no byte is pending.
+    pub fn is_empty(&self) -> bool
+        ensures { result ≡ (length self.now.pending == 0) }
+    {
+        self.pending.is_empty()
+    }
+
+    /// Ends the line and writes it in one piece.
+    pub fn end_line<D: Desk>(&mut self, desk: &mut D) -> Result<(), PutError>
+        requires can { CanWrite (D.outputs desk.old) self.old }
+        ensures ok { OnOk result (Writes self.old self.new (D.journal desk.old) (D.journal desk.new) (10 ∷ [])) }
+        ensures err { OnErr result (WritesPart self.old (D.journal desk.old) (D.journal desk.new) (10 ∷ [])) }
+        ensures same { OnlyPuts D.opened D.outputs D.files D.rest D.faults desk.old desk.new }
+        ensures fault { IsErrOf result PutError.Fault → Rose (D.faults desk.old) (D.faults desk.new) }
+    {
+        write_line(desk, self.out, self.pending.as_slice(), false)?;
+        self.pending.clear();
+        self.lines = self.lines.saturating_add(1);
+        Ok(())
+    }
+
+    /// Divides a full line, writes its first part, and begins the next line with the rest.
+    fn cut<D: Desk>(&mut self, desk: &mut D) -> Result<(), PutError>
+        requires can { CanWrite (D.outputs desk.old) self.old }
+        requires full { length self.old.pending ≡ 80 }
+        ensures ok { OnOk result (D.journal desk.new ≡ grown (D.journal desk.old) (line_events self.old.out ((divide self.old.pending).first ∷ []))) }
+        ensures err { OnErr result (GrownByPart (D.journal desk.old) (D.journal desk.new) (line_events self.old.out ((divide self.old.pending).first ∷ []))) }
+        ensures line { OnOk result (self.new ≡ record {
+          out = self.old.out;
+          pending = (divide self.old.pending).rest;
+          lines = next_number self.old.lines;
+          broken = self.old.broken ++ number_if (divide self.old.pending).first.broken (next_number self.old.lines);
+        }) }
+        ensures same { OnlyPuts D.opened D.outputs D.files D.rest D.faults desk.old desk.new }
+        ensures fault { IsErrOf result PutError.Fault → Rose (D.faults desk.old) (D.faults desk.new) }
+    {
+        let division = divide(self.pending.as_slice());
+        let number = self.lines.saturating_add(1);
+        self.lines = number;
+        note_broken(&mut self.broken, division.broken, number)?;
+        let (first, behind) = self.pending.as_slice().split_at(division.at);
+        write_line(desk, self.out, first, division.percent)?;
+        self.pending = begun_line(division.comment, behind);
+        Ok(())
+    }
+
+    /// Puts one byte. Byte 10 ends the line; where the line is full and another byte comes, it is cut.
+    pub fn put<D: Desk>(&mut self, byte: u8, desk: &mut D) -> Result<(), PutError>
+        requires can { CanWrite (D.outputs desk.old) self.old }
+        ensures ok { OnOk result (Writes self.old self.new (D.journal desk.old) (D.journal desk.new) (byte ∷ [])) }
+        ensures err { OnErr result (WritesPart self.old (D.journal desk.old) (D.journal desk.new) (byte ∷ [])) }
+        ensures same { OnlyPuts D.opened D.outputs D.files D.rest D.faults desk.old desk.new }
+        ensures fault { IsErrOf result PutError.Fault → Rose (D.faults desk.old) (D.faults desk.new) }
+    {
+        if byte == b'\n' {
+            return self.end_line(desk);
+        }
+        if self.is_full() {
+            return self.put_behind_cut(byte, desk);
+        }
+        self.add(byte);
+        Ok(())
+    }
+
+    /// Puts bytes as `put` puts them one by one. Whole lines are written as they stand.
+    pub fn put_all<D: Desk>(&mut self, bytes: &[u8], desk: &mut D) -> Result<(), PutError>
+        requires can { CanWrite (D.outputs desk.old) self.old }
+        ensures ok { OnOk result (Writes self.old self.new (D.journal desk.old) (D.journal desk.new) bytes.now) }
+        ensures err { OnErr result (WritesPart self.old (D.journal desk.old) (D.journal desk.new) bytes.now) }
+        ensures same { OnlyPuts D.opened D.outputs D.files D.rest D.faults desk.old desk.new }
+        ensures fault { IsErrOf result PutError.Fault → Rose (D.faults desk.old) (D.faults desk.new) }
+    {
+        let mut at = 0;
+        while let Some(size) = first_line(&bytes[at..]) {
+            let end = at + size;
+            self.put_line(&bytes[at..end], desk)?;
+            at = end;
+        }
+        self.put_each(&bytes[at..], desk)?;
+        Ok(())
+    }
+
+    /// Puts a line with its end.
+    fn put_line<D: Desk>(&mut self, bytes: &[u8], desk: &mut D) -> Result<(), PutError>
+        requires can { CanWrite (D.outputs desk.old) self.old }
+        requires line { IsEndedLine bytes.now }
+        ensures ok { OnOk result (Writes self.old self.new (D.journal desk.old) (D.journal desk.new) bytes.now) }
+        ensures err { OnErr result (WritesPart self.old (D.journal desk.old) (D.journal desk.new) bytes.now) }
+        ensures same { OnlyPuts D.opened D.outputs D.files D.rest D.faults desk.old desk.new }
+        ensures fault { IsErrOf result PutError.Fault → Rose (D.faults desk.old) (D.faults desk.new) }
+    {
+        if self.is_empty() && bytes.len() <= 81 {
+            return self.put_whole(bytes, desk);
+        }
+        self.put_each(bytes, desk)
+    }
+
+    /// Writes a line that fits, when nothing is pending.
+    fn put_whole<D: Desk>(&mut self, bytes: &[u8], desk: &mut D) -> Result<(), PutError>
+        requires can { CanWrite (D.outputs desk.old) self.old }
+        requires line { IsEndedLine bytes.now }
+        requires empty { length self.old.pending ≡ 0 }
+        requires short { length bytes.now ≤ 81 }
+        ensures ok { OnOk result (Writes self.old self.new (D.journal desk.old) (D.journal desk.new) bytes.now) }
+        ensures err { OnErr result (WritesPart self.old (D.journal desk.old) (D.journal desk.new) bytes.now) }
+        ensures same { OnlyPuts D.opened D.outputs D.files D.rest D.faults desk.old desk.new }
+        ensures fault { IsErrOf result PutError.Fault → Rose (D.faults desk.old) (D.faults desk.new) }
+    {
+        write_all(desk, self.out, bytes)?;
+        self.lines = self.lines.saturating_add(1);
+        Ok(())
+    }
+
+    /// Puts bytes one by one.
+    fn put_each<D: Desk>(&mut self, bytes: &[u8], desk: &mut D) -> Result<(), PutError>
+        requires can { CanWrite (D.outputs desk.old) self.old }
+        ensures ok { OnOk result (Writes self.old self.new (D.journal desk.old) (D.journal desk.new) bytes.now) }
+        ensures err { OnErr result (WritesPart self.old (D.journal desk.old) (D.journal desk.new) bytes.now) }
+        ensures same { OnlyPuts D.opened D.outputs D.files D.rest D.faults desk.old desk.new }
+        ensures fault { IsErrOf result PutError.Fault → Rose (D.faults desk.old) (D.faults desk.new) }
+    {
+        for byte in bytes {
+            self.put(*byte, desk)?;
+        }
+        Ok(())
+    }
+
+    /// Cuts a full line and puts a byte other than byte 10 behind what is left.
+    fn put_behind_cut<D: Desk>(&mut self, byte: u8, desk: &mut D) -> Result<(), PutError>
+        requires can { CanWrite (D.outputs desk.old) self.old }
+        requires full { length self.old.pending ≡ 80 }
+        requires other { byte ≢ 10 }
+        ensures ok { OnOk result (Writes self.old self.new (D.journal desk.old) (D.journal desk.new) (byte ∷ [])) }
+        ensures err { OnErr result (WritesPart self.old (D.journal desk.old) (D.journal desk.new) (byte ∷ [])) }
+        ensures same { OnlyPuts D.opened D.outputs D.files D.rest D.faults desk.old desk.new }
+        ensures fault { IsErrOf result PutError.Fault → Rose (D.faults desk.old) (D.faults desk.new) }
+    {
+        self.cut(desk)?;
+        self.add(byte);
+        Ok(())
+    }
+
+    /// Whether no byte more has room.
+    fn is_full(&self) -> bool
+        ensures { result ≡ (length self.now.pending == 80) }
+    {
+        self.pending.is_full()
+    }
+
+    /// Appends a byte for which there is room.
+    fn add(&mut self, byte: u8)
+        requires { length self.old.pending < 80 }
+        ensures { self.new ≡ record self.old { pending = self.old.pending ++ byte ∷ [] } }
+    {
+        self.pending.push(byte);
+    }
+}
+
+/// Takes note of a line that had no good place to be cut.
+fn note_broken(numbers: &mut Vec<u64>, broken: bool, number: u64) -> Result<(), PutError>
+    ensures ok { OnOk result (numbers.new.items ≡ numbers.old.items ++ number_if broken number) }
+    ensures err { result ≢ Err PutError.Fault }
+{
+    if broken && numbers.push(number).is_err() {
+        return Err(PutError::Memory);
+    }
+    Ok(())
+}
+
+/// The line that begins with what a cut left.
+fn begun_line(comment: bool, rest: &[u8]) -> ArrayVec<u8, 80>
+    requires { length (comment_mark comment ++ rest.now) ≤ 80 }
+    ensures { result.items ≡ comment_mark comment ++ rest.now }
+{
+    let mut line = ArrayVec::new();
+    if comment {
+        line.push(b'%');
+    }
+    append(&mut line, rest);
+    line
+}
+
+/// How many bytes the first line has with its end, where it has one.
+fn first_line(bytes: &[u8]) -> Option<usize>
+    ensures line { IfSome result (λ size. IsEndedLine (take size bytes.now)) }
+    ensures size { IfSome result (λ size. (0 < size) × (size ≤ length bytes.now)) }
+{
+    for (i, byte) in bytes.iter().enumerate() {
+        if *byte == b'\n' {
+            return Some(i + 1);
+        }
+    }
+    None
+}
