@@ -2,19 +2,19 @@
 use Rattle.std.proofs.Common.{◌≡◌, ◌≢◌, ◌<◌, ◌≤◌, ◌+◌, ◌-◌, ◌*◌, ◌^◌, ◌∙◌, sym, ap, ℕ, zero, suc, Bool, true, false, List, [], ◌∷◌, length, map, get_or, Option, Some, refl, arith, add-zero, zero-add, min, w64, not, eqb, ◌⊎◌, inl, inr, ◌&&◌, ◌||◌, ltb}
 use Rattle.std.specs.Prelude.{bit_and, slice_get}
 use Rattle.std.specs.List.{list_any}
-use Rattle.std.specs.Int.{bit_at, trailing_zeros}
+use Rattle.std.specs.Int.{bit_at, bit_not, trailing_zeros}
 use Rattle.std.proofs.lemmas.Bool.{ltb-true, lt-ltb}
 use Rattle.std.proofs.lemmas.Bool.Decides.{leb_tells}
 use Rattle.std.proofs.Math.Dec.{eqb-suc-zero}
-use Rattle.std.proofs.lemmas.Nat.Bits.{and_pow, bit_at-lt, bit_at-trailing_zeros, bit_at-zero, bit_at_and, bit_at_ones, bit_at_ones_above}
+use Rattle.std.proofs.lemmas.Nat.Bits.{and_pow, bit_at-lt, bit_at-trailing_zeros, bit_at-zero, bit_at_and, bit_at_not, bit_at_ones, bit_at_ones_above}
 use Rattle.std.proofs.lemmas.Nat.{and_le_r, pow_pos}
 use Rattle.std.proofs.lemmas.List.{get_or-map}
 use Rattle.std.proofs.lemmas.Option.{slice_get_within}
 use Rattle.cw_base.specs.declared.category.Cat.{Cat}
 use Rattle.cw_base.specs.declared.category.Cat.TheVariants.{End}
 use Rattle.cw_base.specs.declared.category.CatSet.{CatSet}
-use Rattle.cw_base.specs.Category.{all_cats, in_set, meet, number_of}
-use Rattle.cw_base.proofs.CategoryLaws.{place-of}
+use Rattle.cw_base.specs.Category.{all_cats, in_set, leaves, meet, number_of, some_of}
+use Rattle.cw_base.proofs.CategoryLaws.{every-cat, place-of}
 use Rattle.cw_base.proofs.TestLaws.{both, both-left, both-right, one-left, one-right}
 
 pub any-found : {X : Type 0} (p : X → Bool) (xs : List X) → list_any p xs ≡ true → (x : X) × (p x ≡ true)
@@ -127,3 +127,47 @@ nonzero (suc n) = rw (eqb-suc-zero n) (sym (lt-ltb 0 (suc n) (omega arith)))
 -- the code's test, as it is written
 pub meets-is : (s t : CatSet) → not (eqb (common s t) 0) ≡ meet s t
 meets-is s t = nonzero (common s t) ∙ meet-is s t
+
+pub any-same : {X : Type 0} (p q : X → Bool) (xs : List X) → ((x : X) → p x ≡ q x) → list_any p xs ≡ list_any q xs
+any-same p q [] h = refl
+any-same p q (x ∷ xs) h = ap (λ b. b || list_any p xs) (h x) ∙ ap (λ b. q x || b) (any-same p q xs h)
+
+-- the set of the categories that a set lacks
+in-complement : (t : CatSet) (c : Cat) → t.bits < 2 ^ 64 → in_set (record { bits = bit_not w64 t.bits }) c ≡ not (in_set t c)
+in-complement t c fits = go (in_set t c) (in_set (record { bits = bit_not w64 t.bits }) c) refl refl
+  where
+    small : number_of c < number_of End + 1
+    small = slice_get_within all_cats (number_of c) c (place-of c)
+
+    turned : bit_at (bit_not w64 t.bits) (number_of c) ≡ 1 - bit_at t.bits (number_of c)
+    turned = bit_at_not w64 t.bits (number_of c) fits (omega (arith, small))
+
+    go : (a b : Bool) → in_set t c ≡ a → in_set (record { bits = bit_not w64 t.bits }) c ≡ b → b ≡ not a
+    go true true ea eb = absurd (omega (arith, turned, bit-of t c ea, bit-of (record { bits = bit_not w64 t.bits }) c eb))
+    go true false ea eb = refl
+    go false true ea eb = refl
+    go false false ea eb =
+        let zero_bit : bit_at t.bits (number_of c) ≡ 0 = go_bit (bit_at t.bits (number_of c)) refl in
+        absurd (let yes = in-by-bit (record { bits = bit_not w64 t.bits }) c (omega (arith, turned)) in cc)
+      where
+        go_bit : (b : ℕ) → bit_at t.bits (number_of c) ≡ b → b ≡ 0
+        go_bit zero e = refl
+        go_bit (suc zero) e = absurd (let yes_in = in-by-bit t c e in cc)
+        go_bit (suc (suc b)) e = absurd (omega (arith, bit_at-lt t.bits (number_of c)))
+
+pub leaves-is : (s t : CatSet) → t.bits < 2 ^ 64 → meet s (record { bits = bit_not w64 t.bits }) ≡ leaves s t
+unfolding meet leaves
+leaves-is s t fits =
+    any-same _ _ all_cats (λ c. ap (λ b. in_set s c && b) (in-complement t c fits))
+
+abbrev whole : CatSet
+whole = record { bits = 2 ^ (number_of End + 1) - 1 }
+
+and-true : (b : Bool) → (b && true) ≡ b
+and-true true = refl
+and-true false = refl
+
+pub some-is : (s : CatSet) → meet s whole ≡ some_of s
+unfolding meet some_of
+some-is s =
+    any-same _ _ all_cats (λ c. ap (λ b. in_set s c && b) (every-cat (in_set whole) refl c) ∙ and-true (in_set s c))

@@ -1,5 +1,5 @@
 -- Categories of scraps, their numbers and ranks, and sets of categories.
-use Rattle.std.specs.Prelude.{ℕ, ◌+◌, ◌-◌, ◌^◌, Bool, true, false, ltb, bit_and, ◌&&◌, List, [], ◌∷◌}
+use Rattle.std.specs.Prelude.{ℕ, ◌+◌, ◌-◌, ◌^◌, Bool, true, false, not, ltb, bit_and, ◌&&◌, List, [], ◌∷◌}
 use Rattle.std.specs.List.{list_any}
 use Rattle.cw_base.specs.declared.category.Cat.{Cat}
 use Rattle.cw_base.specs.declared.category.CatSet.{CatSet}
@@ -91,6 +91,14 @@ in_set s c = ltb 0 (bit_and s.bits (2 ^ number_of c))
 -- two sets have a category in common
 unfoldable pub meet : CatSet → CatSet → Bool
 meet s t = list_any (λ c. in_set s c && in_set t c) all_cats
+
+-- some category of the first set is not in the second
+unfoldable pub leaves : CatSet → CatSet → Bool
+leaves s t = list_any (λ c. in_set s c && not (in_set t c)) all_cats
+
+-- the set has a category
+unfoldable pub some_of : CatSet → Bool
+some_of s = list_any (in_set s) all_cats
 
 -- the sum of the bits of some categories, each named once
 abbrev pub bits_of : List Cat → ℕ

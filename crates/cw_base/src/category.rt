@@ -1,5 +1,5 @@
-ghost use Rattle.std.specs.Prelude.{◌≡◌, ◌≤◌, ℕ, ◌^◌};
-ghost use Rattle.cw_base.specs.Category.{number_of, in_set, meet};
+ghost use Rattle.std.specs.Prelude.{not, ◌≡◌, ◌≤◌, ℕ, ◌^◌};
+ghost use Rattle.cw_base.specs.Category.{in_set, leaves, meet, number_of, some_of};
 
 /// What kind of thing a scrap is to the productions. `End` is of tests only: it stands past the last
 /// scrap, and it is the last variant, so that a new category moves no other.
@@ -142,5 +142,19 @@ impl CatSet {
         ensures { result ≡ meet self other }
     {
         self.bits & other.bits & CatSet::ALL.bits != 0
+    }
+
+    /// Whether some category of this set is not in the other.
+    pub fn leaves(self, other: CatSet) -> bool
+        ensures { result ≡ leaves self other }
+    {
+        self.meets(CatSet { bits: !other.bits })
+    }
+
+    /// Whether no category is in the set.
+    pub fn is_empty(self) -> bool
+        ensures { result ≡ not (some_of self) }
+    {
+        !self.meets(CatSet::ALL)
     }
 }

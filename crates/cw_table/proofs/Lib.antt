@@ -1,5 +1,6 @@
 pub mod Examples
 pub mod FirstLaws
+pub mod HazardLaws
 pub mod Joining
 pub mod MaskLaws
 pub mod SafeLaws

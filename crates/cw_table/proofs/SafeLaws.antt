@@ -1,7 +1,7 @@
 -- A safe distance is safe.
 use Rattle.std.proofs.Common.{◌≡◌, ◌≢◌, ◌<◌, ◌≤◌, ◌+◌, ◌-◌, ◌∙◌, sym, ap, subst, ℕ, zero, suc, Bool, true, false, not, List, [], ◌∷◌, ◌++◌, length, map, get_or, take, drop, Option, Some, None, refl, arith, ◌&&◌, ◌||◌, ◌⊎◌, inl, inr, eqb, leb, ltb, length-take-le, length-drop, take-append-drop, add-zero}
 use Rattle.std.specs.List.{flat_map, list_all, list_any}
-use Rattle.std.specs.Prelude.{filter}
+use Rattle.std.specs.Prelude.{IfSome, filter}
 use Rattle.std.proofs.lemmas.Bool.{eqb-true, leb-true, ltb-true, lt-ltb}
 use Rattle.std.proofs.lemmas.Bool.Decides.{eqb_tells, leb_tells}
 use Rattle.std.proofs.lemmas.List.{drop-append-le, get_or_past, get_or-append-add, get_or-append_right, get_or-drop, get_or-take, get_or_append_left}
@@ -20,6 +20,8 @@ use Rattle.cw_table.specs.Fitting.{all_hold, first_of, row_fits}
 use Rattle.cw_table.specs.Rows.{empty, result_at, test, tests_of}
 use Rattle.cw_table.specs.Safe.{IsLeast, Pair, SafeIsSound, brings, endangers, is_hazard, least, members, pairs_by, pairs_of, reserves, rewritten, safe, sees_moved, suits_after, suits_at, suits_before}
 use Rattle.cw_table.specs.Sound.{IsSound, numbers_from, row_is_sound}
+use Rattle.cw_table.specs.Productions.{productions}
+use Rattle.cw_table.proofs.Examples.{productions-sound}
 use Rattle.cw_table.proofs.FirstLaws.{first-behind, first-here, length-tests_of}
 use Rattle.cw_table.proofs.Soundness.{sound-row}
 
@@ -37,13 +39,13 @@ both-true : (b x : Bool) → b ≡ true → x ≡ true → elim b [ true ↦ x |
 both-true true x h k = k
 both-true false x h k = h
 
-all-numbers : (p : ℕ → Bool) (first n : ℕ) → ((i : ℕ) → i < n → p (first + i) ≡ true) → list_all p (numbers_from first n) ≡ true
+pub all-numbers : (p : ℕ → Bool) (first n : ℕ) → ((i : ℕ) → i < n → p (first + i) ≡ true) → list_all p (numbers_from first n) ≡ true
 all-numbers p first zero h = refl
 all-numbers p first (suc n) h =
     both _ _ (ap p (sym (add-zero first)) ∙ h 0 (omega arith))
     (all-numbers p (suc first) n (λ i lt. let e : suc first + i ≡ first + suc i = omega arith in ap p e ∙ h (suc i) (omega arith)))
 
-any-map : {X Y : Type 0} (p : Y → Bool) (f : X → Y) (xs : List X) → list_any p (map f xs) ≡ list_any (λ x. p (f x)) xs
+pub any-map : {X Y : Type 0} (p : Y → Bool) (f : X → Y) (xs : List X) → list_any p (map f xs) ≡ list_any (λ x. p (f x)) xs
 any-map p f [] = refl
 any-map p f (x ∷ xs) = ap (λ b. p (f x) || b) (any-map p f xs)
 
@@ -68,10 +70,10 @@ any-flat p f (x ∷ xs) h = go (list_any p (f x)) refl (any-flat p f xs)
     go true e rest = any-append-left p (f x) (flat_map f xs) e
     go false e rest = any-append p (f x) (flat_map f xs) (rest (ap (λ b. b || list_any (λ y. list_any p (f y)) xs) (sym e) ∙ h))
 
-filter-yes : {X : Type 0} (q : X → Bool) (x : X) (xs : List X) → q x ≡ true → filter q (x ∷ xs) ≡ x ∷ filter q xs
+pub filter-yes : {X : Type 0} (q : X → Bool) (x : X) (xs : List X) → q x ≡ true → filter q (x ∷ xs) ≡ x ∷ filter q xs
 filter-yes {X} q x xs e = rw e refl
 
-filter-no : {X : Type 0} (q : X → Bool) (x : X) (xs : List X) → q x ≡ false → filter q (x ∷ xs) ≡ filter q xs
+pub filter-no : {X : Type 0} (q : X → Bool) (x : X) (xs : List X) → q x ≡ false → filter q (x ∷ xs) ≡ filter q xs
 filter-no {X} q x xs e = rw e refl
 
 any-filter : {X : Type 0} (p q : X → Bool) (xs : List X) → list_any (λ x. q x && p x) xs ≡ true → list_any p (filter q xs) ≡ true
@@ -106,10 +108,10 @@ hold-from (test ∷ tests) [] h = both-true _ _ (h 0 (omega arith)) (hold-from t
 hold-from (test ∷ tests) (cat ∷ cats) h =
     both-true _ _ (h 0 (omega arith)) (hold-from tests cats (λ k lt. h (suc k) (omega arith)))
 
-same-pairs : (row : Row) (k : ℕ) → eqb k row.offset ≡ true → pairs_by (SameAs k) row ≡ map (λ c. (c, c)) (members (test row row.offset))
+pub same-pairs : (row : Row) (k : ℕ) → eqb k row.offset ≡ true → pairs_by (SameAs k) row ≡ map (λ c. (c, c)) (members (test row row.offset))
 same-pairs row k e = rw (e, pairs_by) refl
 
-other-pairs : (row : Row) (k : ℕ) → eqb k row.offset ≡ false → pairs_by (SameAs k) row ≡ flat_map (λ o. map (λ n. (o, n)) (members (test row k))) (members (test row row.offset))
+pub other-pairs : (row : Row) (k : ℕ) → eqb k row.offset ≡ false → pairs_by (SameAs k) row ≡ flat_map (λ o. map (λ n. (o, n)) (members (test row k))) (members (test row row.offset))
 other-pairs row k e = rw (e, pairs_by) refl
 
 -- the pair of categories that was really there is a pair of the row
@@ -389,3 +391,8 @@ least-at-most rows r = go (safe rows r 0) (safe rows r 1) (safe rows r 2) refl r
     go false true c ea eb ec = let is : least rows r ≡ 1 = rw (ea, eb, least) refl in omega arith
     go false false true ea eb ec = let is : least rows r ≡ 2 = rw (ea, eb, ec, least) refl in omega arith
     go false false false ea eb ec = let is : least rows r ≡ 3 = rw (ea, eb, ec, least) refl in omega arith
+
+-- the law for each row of the table
+pub law-of : (rows now : List Row) (found : Option Row) → rows ≡ now → rows ≡ productions → IfSome found (SafeIsSound now)
+law-of rows now None view is = tt
+law-of rows now (Some row) view is = safe-sound now row (ap (list_all row_is_sound) (sym view ∙ is) ∙ productions-sound)

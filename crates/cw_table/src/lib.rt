@@ -1,6 +1,8 @@
 //! The production table: which scraps are rewritten, into what, and how far a reducer steps back.
 #![tactic(auto)]
 
+mod distance;
+mod hazard;
 mod masks;
 mod productions;
 mod types;

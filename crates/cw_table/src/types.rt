@@ -1,4 +1,4 @@
-ghost use Rattle.std.specs.Prelude.{◌≡◌, ◌≤◌, Some};
+ghost use Rattle.std.specs.Prelude.{true, ◌≡◌, ◌≤◌, Some};
 
 use crate::masks::first_production;
 use cw_base::{Cat, CatSet};
@@ -142,12 +142,14 @@ impl<const N: usize> Table<N> {
     ghost use Rattle.std.specs.Option.{option_map};
     ghost use Rattle.cw_table.specs.Fitting.{first_of};
     ghost use Rattle.cw_table.specs.Rows.{row_numbered};
+    ghost use Rattle.cw_table.specs.Sound.{row_is_sound};
 
     /// The production of this number.
     pub fn row(&self, row: RowNo) -> &Row
         requires from_one { 1 ≤ row.number }
         requires to_last { row.number ≤ N }
-        ensures { row_numbered self.now row.number ≡ Some result.now }
+        ensures number { row_numbered self.now row.number ≡ Some result.now }
+        ensures sound { row_is_sound result.now ≡ true }
     {
         &self.rows[row.number as usize - 1]
     }

@@ -1,0 +1,6 @@
+use Rattle.std.proofs.Common.{ap, not, ◌∙◌}
+use Rattle.cw_base.proofs.SetLaws.{some-is}
+use Rattle.cw_base.proofs.category.CatSet.is_empty.Goals as goal
+
+pub returns : goal.returns
+returns c = ap not (c.meets.ensures ∙ some-is c.args.self)

@@ -1,0 +1,6 @@
+use Rattle.std.proofs.Common.{arith, ◌∙◌}
+use Rattle.cw_base.proofs.SetLaws.{leaves-is}
+use Rattle.cw_base.proofs.category.CatSet.leaves.Goals as goal
+
+pub returns : goal.returns
+returns c = c.meets.ensures ∙ leaves-is c.args.self c.args.other (omega arith)
