@@ -1,3 +1,4 @@
+pub mod BackLaws
 pub mod Examples
 pub mod FirstLaws
 pub mod HazardLaws

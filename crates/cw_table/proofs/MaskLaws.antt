@@ -190,3 +190,24 @@ first-met w d m0 m1 m2 m3 len e0 e1 e2 e3 some =
     ap (count_trailing_zeros 128) mask
     ∙ trailing_mask_l (λ row. row_fits row w) 128 productions (omega (arith, productions-length)) positive in
     sym (lowest-mask productions 1 w productions-numbered positive ∙ ap (λ n. Some (record { number = n })) (omega arith))
+
+-- the number of the first row that fits is that of a row
+misfits-below : (rows : List Row) (cats : List Cat) → 0 < fit_mask rows cats → misfits rows cats < length rows
+misfits-below [] cats h = absurd (omega arith)
+misfits-below (row ∷ rows) cats h = go (row_fits row cats) refl (misfits-below rows cats)
+  where
+    go : (b : Bool) → row_fits row cats ≡ b → (0 < fit_mask rows cats → misfits rows cats < length rows) → misfits (row ∷ rows) cats < length (row ∷ rows)
+    go true e rest = subst (λ b. cond (not b) (1 + misfits rows cats) 0 < suc (length rows)) (sym e) (omega arith)
+    go false e rest =
+        let m : 0 < cond false 1 0 + 2 * fit_mask rows cats = subst (λ b. 0 < cond b 1 0 + 2 * fit_mask rows cats) e h in
+        let below = rest (omega arith) in
+        subst (λ b. cond (not b) (1 + misfits rows cats) 0 < suc (length rows)) (sym e) (omega arith)
+
+pub first-bound : (w : List Cat) (d : Cat) (m0 m1 m2 m3 : ℕ) → length w ≡ 4 → m0 ≡ mask_of productions 0 (get_or w 0 d) → m1 ≡ mask_of productions 1 (get_or w 1 d) → m2 ≡ mask_of productions 2 (get_or w 2 d) → m3 ≡ mask_of productions 3 (get_or w 3 d) → (bit_and (bit_and (bit_and m0 m1) m2) m3 ≡ 0 → ⊥) → count_trailing_zeros 128 (bit_and (bit_and (bit_and m0 m1) m2) m3) + 1 ≤ 92
+first-bound w d m0 m1 m2 m3 len e0 e1 e2 e3 some =
+    let mask : bit_and (bit_and (bit_and m0 m1) m2) m3 ≡ fit_mask productions w = met-by w d m0 m1 m2 m3 len e0 e1 e2 e3 in
+    let positive : 0 < fit_mask productions w = subst (λ k. 0 < k) mask (omega (arith, some)) in
+    let lowest : count_trailing_zeros 128 (bit_and (bit_and (bit_and m0 m1) m2) m3) ≡ misfits productions w =
+    ap (count_trailing_zeros 128) mask
+    ∙ trailing_mask_l (λ row. row_fits row w) 128 productions (omega (arith, productions-length)) positive in
+    omega (arith, misfits-below productions w positive, productions-length)

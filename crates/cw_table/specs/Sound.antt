@@ -79,8 +79,8 @@ sound_parts row =
     ∷ leb (row.offset + row.replaced) row.test_count
     ∷ not (in_set (test row 0) End)
     ∷ without_end row row.offset row.replaced
-    ∷ leb (length (translation row.action.usual)) 12
-    ∷ leb (length (translation row.action.other)) 12
+    ∷ leb row.action.usual.count 12
+    ∷ leb row.action.other.count 12
     ∷ same_numbers (scraps_in (translation row.action.usual)) (numbers_from row.offset row.replaced)
     ∷ same_numbers (scraps_in (translation row.action.other)) (numbers_from row.offset row.replaced)
     ∷ result_is_good row row.result
@@ -112,8 +112,8 @@ pub record IsSound (row : Row) : Type 0 where
   pub replaced_tested : row.offset + row.replaced ≤ row.test_count
   pub first_not_end : in_set (test row 0) End ≡ false
   pub replaced_not_end : (k : ℕ) → row.offset ≤ k → k < row.offset + row.replaced → in_set (test row k) End ≡ false
-  pub usual_short : length (translation row.action.usual) ≤ 12
-  pub other_short : length (translation row.action.other) ≤ 12
+  pub usual_short : row.action.usual.count ≤ 12
+  pub other_short : row.action.other.count ≤ 12
   pub usual_whole : scraps_in (translation row.action.usual) ≡ numbers_from row.offset row.replaced
   pub other_whole : scraps_in (translation row.action.other) ≡ numbers_from row.offset row.replaced
   pub result_not_end : row.result ≡ Is End → ⊥

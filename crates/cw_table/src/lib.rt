@@ -1,12 +1,16 @@
 //! The production table: which scraps are rewritten, into what, and how far a reducer steps back.
 #![tactic(auto)]
 
+mod back;
 mod distance;
 mod hazard;
 mod masks;
 mod productions;
+mod ranks;
 mod types;
 
+pub use back::step_back;
 pub use masks::first_production;
-pub use productions::table;
+pub use productions::{ROW_COUNT, production, table};
+pub use ranks::rank;
 pub use types::{Action, Choice, Piece, Pieces, Row, RowNo, RowResult, Table};

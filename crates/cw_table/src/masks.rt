@@ -1,9 +1,10 @@
-ghost use Rattle.std.specs.Prelude.{◌≡◌, ◌<◌};
+ghost use Rattle.std.specs.Prelude.{◌≡◌, ◌≤◌, ◌<◌, IfSome};
 ghost use Rattle.std.specs.Option.{option_map};
 ghost use Rattle.cw_table.specs.Fitting.{first_of};
 ghost use Rattle.cw_table.specs.Masks.{mask_of};
 ghost use Rattle.cw_table.specs.Productions.{productions};
 
+use crate::productions::ROW_COUNT;
 use crate::types::RowNo;
 use cw_base::Cat;
 
@@ -12,7 +13,9 @@ const CATS: usize = Cat::End as usize + 1;
 /// The first production whose tests all admit the categories of the window; None exactly where no
 /// production fits. Past the last scrap the window holds `End`.
 pub fn first_production(window: [Cat; 4]) -> Option<RowNo>
-    ensures { result ≡ option_map (λ row. row.number) (first_of productions window) }
+    ensures first { result ≡ option_map (λ row. row.number) (first_of productions window) }
+    ensures from_one { IfSome result (λ row. 1 ≤ row.number) }
+    ensures to_last { IfSome result (λ row. row.number ≤ ROW_COUNT) }
 {
     let fitting = mask(window[0], 0) & mask(window[1], 1) & mask(window[2], 2) & mask(window[3], 3);
     if fitting == 0 {

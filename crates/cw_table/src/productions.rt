@@ -2,6 +2,7 @@ ghost use Rattle.std.specs.Prelude.{◌≡◌, ◌+◌, ◌<◌, ◌≤◌, Opti
 ghost use Rattle.std.specs.List.{list_all};
 ghost use Rattle.cw_table.specs.Productions.{productions};
 ghost use Rattle.cw_table.specs.Joined.{joined};
+ghost use Rattle.cw_table.specs.Rows.{row_numbered};
 ghost use Rattle.cw_table.specs.Sound.{are_numbered, row_is_sound};
 
 use crate::types::{Action, Choice, Piece, Pieces, Row, RowNo, RowResult, Table};
@@ -246,13 +247,16 @@ macro_rules! heads_of {
     };
 }
 
-static TESTS: [[CatSet; 4]; 92] = productions!(tests_of);
+/// How many productions there are.
+pub const ROW_COUNT: usize = 92;
 
-static USUAL: [[Piece; 12]; 92] = productions!(usual_of);
+static TESTS: [[CatSet; 4]; ROW_COUNT] = productions!(tests_of);
 
-static OTHER: [[Piece; 12]; 92] = productions!(other_of);
+static USUAL: [[Piece; 12]; ROW_COUNT] = productions!(usual_of);
 
-static HEADS: [Head; 92] = productions!(heads_of);
+static OTHER: [[Piece; 12]; ROW_COUNT] = productions!(other_of);
+
+static HEADS: [Head; ROW_COUNT] = productions!(heads_of);
 
 fn row_of(tests: [CatSet; 4], usual: [Piece; 12], other: [Piece; 12], head: Head) -> Row
     ensures { result ≡ joined tests usual other head }
@@ -284,7 +288,7 @@ fn row_of(tests: [CatSet; 4], usual: [Piece; 12], other: [Piece; 12], head: Head
 
 // The row at a place of the table, from 0 on.
 fn row_at(i: usize) -> Row
-    requires { i < 92 }
+    requires { i < ROW_COUNT }
     ensures { slice_get productions i ≡ Some result }
 {
     row_of(TESTS[i], USUAL[i], OTHER[i], HEADS[i])
@@ -296,9 +300,19 @@ pub fn table() -> Table<92>
     ensures sound { list_all row_is_sound result ≡ true }
     ensures numbered { are_numbered 1 result ≡ true }
 {
-    let mut rows = [row_at(0); 92];
-    for i in 0..92 {
+    let mut rows = [row_at(0); ROW_COUNT];
+    for i in 0..ROW_COUNT {
         rows[i] = row_at(i);
     }
     Table { rows }
+}
+
+/// The production of this number, as the table has it, for a caller that has no table at hand.
+pub fn production(row: RowNo) -> Row
+    requires from_one { 1 ≤ row.number }
+    requires to_last { row.number ≤ ROW_COUNT }
+    ensures number { row_numbered productions row.number ≡ Some result }
+    ensures sound { row_is_sound result ≡ true }
+{
+    row_at(row.number as usize - 1)
 }

@@ -1,4 +1,4 @@
-ghost use Rattle.std.specs.Prelude.{true, ◌≡◌, ◌≤◌, Some};
+ghost use Rattle.std.specs.Prelude.{true, ◌≡◌, ◌≤◌, IfSome, Some};
 
 use crate::masks::first_production;
 use cw_base::{Cat, CatSet};
@@ -157,7 +157,9 @@ impl<const N: usize> Table<N> {
     /// The number of the first production whose tests all admit the categories of the window; None
     /// exactly where no production fits. Past the last scrap the window holds `End`.
     pub fn first_at(&self, window: [Cat; 4]) -> Option<RowNo>
-        ensures { result ≡ option_map (λ row. row.number) (first_of self.now window) }
+        ensures first { result ≡ option_map (λ row. row.number) (first_of self.now window) }
+        ensures from_one { IfSome result (λ row. 1 ≤ row.number) }
+        ensures to_last { IfSome result (λ row. row.number ≤ N) }
     {
         let _productions = &self.rows;
         first_production(window)
