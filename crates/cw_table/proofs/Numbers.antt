@@ -69,7 +69,9 @@ first-numbered (r ∷ rows) first cats row numbered e =
         (omega (arith, is), here r rows row.number.number (eq-eqb _ _ number) ∙ ap Some same)
     go false f rest =
         let later = rest (sym (first-behind r rows cats f) ∙ e) in
-        (omega (arith, later.0), behind r rows row.number.number (ne_eqb _ _ (omega (arith, later.0))) ∙ later.1)
+        let above : suc first ≤ row.number.number = later.0 in
+        let mine : r.number.number ≡ first = is in
+        (omega arith, behind r rows row.number.number (ne_eqb _ _ (omega arith)) ∙ later.1)
 
 -- a number that was found by its window leads to the first row that fits there
 pub found-row : (rows : List Row) (cats : List Cat) (found : RowNo) (row : Row) → are_numbered 1 rows ≡ true → Some found ≡ option_map (λ r. r.number) (first_of rows cats) → row_numbered rows found.number ≡ Some row → first_of rows cats ≡ Some row
