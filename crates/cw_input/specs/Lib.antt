@@ -1,5 +1,7 @@
+pub mod Answers
 pub mod Lines
 pub mod Merge
 pub mod Merged
 pub mod Names
+pub mod State
 pub mod Words

@@ -4,6 +4,7 @@ use Rattle.cw_base.specs.Web.{WebState, empty_web}
 use Rattle.cw_input.specs.Lines.{file_lines}
 use Rattle.cw_input.specs.Merge.{Lookup, Over, MergeState, read, advance, web_lines, drained, unmatched}
 use Rattle.cw_input.specs.Names.{first_name, second_name, change_name}
+use Rattle.cw_input.specs.declared.found.Found.{Found}
 use Rattle.cw_input.specs.declared.phase.Phase.TheVariants.{Outside}
 
 -- the outcome of reading
@@ -13,11 +14,7 @@ pub data Merged : Type 0 where
   TooLong : Merged
   Whole : WebState → Merged
 
--- a file that was found: its name and its bytes
-pub record Found : Type 0 where
-  pub name : List ℕ
-  pub bytes : List ℕ
-
+-- a file that is there by its name
 abbrev pub found : Lookup → List ℕ → Option Found
 found named name = option_map (λ bytes. record { name = name; bytes = bytes }) (named name)
 

@@ -2,10 +2,14 @@
 #![tactic(auto)]
 
 mod command;
+mod error;
+mod found;
 mod lines;
+mod merger;
 mod names;
 mod phase;
 mod words;
 
 pub use command::read_command;
+pub use error::LoadError;
 pub use words::{Command, CommandLine, OutputNames};

@@ -11,3 +11,28 @@ pub(crate) enum Phase {
     Spent(u32),
     New,
 }
+
+/// A line of the change file: its bytes from `start` up to `end`, and its number.
+#[derive(Clone, Copy, Debug, PartialEq, Eq)]
+pub(crate) struct Piece {
+    pub start: usize,
+    pub end: usize,
+    pub line: u32,
+}
+
+/// A place between two lines of the change file, and how many lines stand before it.
+#[derive(Clone, Copy, Debug, PartialEq, Eq)]
+pub(crate) struct Cursor {
+    pub at: usize,
+    pub line: u32,
+}
+
+/// What the next line of the web meets: no group, the match line of a group, or an old line of a group
+/// that has been met. With each line stands what follows it in the change file, and with an old line how
+/// many lines of the group differ so far.
+#[derive(Clone, Copy, Debug, PartialEq, Eq)]
+pub(crate) enum Meets {
+    Nothing,
+    MatchLine(Piece, Cursor),
+    OldLine(Piece, u32, Cursor),
+}
