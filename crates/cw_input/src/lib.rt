@@ -4,10 +4,13 @@
 mod command;
 mod error;
 mod found;
+mod including;
 mod lines;
 mod merger;
 mod names;
+mod new_lines;
 mod phase;
+mod reading;
 mod words;
 
 pub use command::read_command;

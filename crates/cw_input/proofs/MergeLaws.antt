@@ -1,0 +1,49 @@
+-- The walk over lines, one step at a time.
+use Rattle.std.proofs.Common.{◌≡◌, ℕ, zero, suc, ◌-◌, ◌+◌, List, [], ◌∷◌, Option, Some, None, true, refl, ap, arith, drop, slice_range}
+use Rattle.std.proofs.lemmas.List.{drop_all}
+use Rattle.std.proofs.Common.{◌≤◌, length, option_and_then, ◌∙◌}
+use Rattle.cw_base.specs.Text.{lines_of}
+use Rattle.cw_base.specs.declared.notes.Place.{Place}
+use Rattle.cw_input.specs.Lines.{FileLine, numbered}
+use Rattle.cw_input.specs.Merge.{Lookup, MergeState, put, take_line, walk, new_lines, web_lines}
+use Rattle.cw_input.specs.State.{into_at, line_of, lines_from}
+use Rattle.cw_input.proofs.AnswerLaws.{walk-none}
+
+pub new_lines-walk : (named : Lookup) (left : ℕ) (lines : List FileLine) (m : MergeState)
+    → new_lines named left lines m ≡ walk (put named true (into_at left (new_lines named (left - 1)))) lines (Some m)
+unfolding new_lines
+new_lines-walk named zero lines m = refl
+new_lines-walk named (suc left) lines m = let less : suc left - 1 ≡ left = omega arith in rw less refl
+
+pub web_lines-walk : (named : Lookup) (left : ℕ) (lines : List FileLine) (m : MergeState)
+    → web_lines named left lines m ≡ walk (take_line named (into_at left (web_lines named (left - 1)))) lines (Some m)
+unfolding web_lines
+web_lines-walk named zero lines m = refl
+web_lines-walk named (suc left) lines m = let less : suc left - 1 ≡ left = omega arith in rw less refl
+
+-- a new line of a group at depth 0
+pub new_lines-one : (named : Lookup) (line : FileLine) (m : MergeState) → new_lines named 10 (line ∷ []) m ≡ put named true (into_at 10 (new_lines named 9)) line m
+new_lines-one named line m = new_lines-walk named 10 (line ∷ []) m
+
+-- the first line that is cut off is given before the others
+pub lines_from-first : (file line at next : ℕ) (text bytes : List ℕ) → lines_of (drop at bytes) ≡ text ∷ lines_of (drop next bytes)
+    → lines_from file line at bytes ≡ line_of text (record { file = file; line = line + 1 }) ∷ lines_from file (line + 1) next bytes
+lines_from-first file line at next text bytes cut = ap (numbered file line) cut
+
+pub walk-first : (each : FileLine → MergeState → Option MergeState) (file line at next : ℕ) (text bytes : List ℕ) (m new : MergeState)
+    → lines_of (drop at bytes) ≡ text ∷ lines_of (drop next bytes) → each (line_of text (record { file = file; line = line + 1 })) m ≡ Some new
+    → walk each (lines_from file line at bytes) (Some m) ≡ walk each (lines_from file (line + 1) next bytes) (Some new)
+walk-first each file line at next text bytes m new cut first =
+    ap (λ lines. walk each lines (Some m)) (lines_from-first file line at next text bytes cut)
+    ∙ ap (walk each (lines_from file (line + 1) next bytes)) first
+
+-- behind the end no line is left
+pub lines_from-end : (file line at : ℕ) (bytes : List ℕ) → length bytes ≤ at → lines_from file line at bytes ≡ []
+lines_from-end file line at bytes past = ap (λ rest. numbered file line (lines_of rest)) (drop_all at bytes past)
+
+pub walk-fails : (each : FileLine → MergeState → Option MergeState) (file line at next : ℕ) (text bytes : List ℕ) (m : MergeState)
+    → lines_of (drop at bytes) ≡ text ∷ lines_of (drop next bytes) → each (line_of text (record { file = file; line = line + 1 })) m ≡ None
+    → walk each (lines_from file line at bytes) (Some m) ≡ None
+walk-fails each file line at next text bytes m cut fails =
+    ap (λ lines. walk each lines (Some m)) (lines_from-first file line at next text bytes cut)
+    ∙ ap (walk each (lines_from file (line + 1) next bytes)) fails ∙ walk-none each (lines_from file (line + 1) next bytes)

@@ -1,0 +1,35 @@
+-- Each deeper file leaves one depth less, and a line comes before the lines of its file. In the lines of a file, those that are left give
+-- from the state so far what all give from the first state; and the room that was enough at first is enough for what is left.
+use Rattle.std.proofs.Common.{◌≡◌, ℕ, ◌+◌, ◌-◌, ◌*◌, ◌≤◌, List, Some, true, length}
+use Rattle.std.specs.FinMap.{get}
+use Rattle.cw_base.specs.Web.{text_of}
+use Rattle.cw_desk.specs.Meaning.{Files, OnlyReads}
+use Rattle.cw_input.specs.Lines.{file_lines}
+use Rattle.cw_input.specs.Merge.{new_lines, put, walk}
+use Rattle.cw_input.specs.State.{into_at, lines_from, state_of}
+use Rattle.cw_input.proofs.new_lines.+new.Given as goal
+
+abbrev pub decreases-put_new_line : goal.decreases-put_new_line
+decreases-put_new_line g l = 2 * l.left
+
+abbrev pub decreases-put_new_lines : goal.decreases-put_new_lines
+decreases-put_new_lines g l = 2 * l.left + 1
+
+abbrev pub invariant-put_new_lines-lines : goal.invariant-put_new_lines-lines
+invariant-put_new_lines-lines g l = let d = g.D.Desk in record {
+  all : l.bytes ≡ l.source.bytes;
+  within : l.at ≤ length l.bytes;
+  count : l.line ≤ l.at;
+  more_files : length l.fn.m.web.files ≤ length l.m.web.files;
+  text : length (text_of l.m.web.lines) + 2 * (length l.bytes - l.at) + 2 * (8388608 - l.m.sum) ≤ length (text_of l.fn.m.web.lines) + 2 * length l.bytes + 2 * (8388608 - l.fn.m.sum);
+  files : length l.m.web.files + (length l.bytes - l.at) + (8388608 - l.m.sum) ≤ length l.fn.m.web.files + length l.bytes + (8388608 - l.fn.m.sum);
+  sum : l.m.sum ≤ 8388608;
+  meets : l.m.meets ≡ l.fn.m.meets;
+  gives : (told : Files) → d.files l.fn.desk ≡ Some told → (change : List ℕ) →
+      new_lines (get told) l.left (file_lines l.source.file l.bytes) (state_of change l.fn.m)
+      ≡ walk (put (get told) true (into_at l.left (new_lines (get told) (l.left - 1)))) (lines_from l.source.file l.line l.at l.bytes) (Some (state_of change l.m));
+  same : OnlyReads d.opened d.outputs d.files d.rest d.journal d.faults l.fn.desk l.desk;
+}
+
+abbrev pub decreases-put_new_lines-lines : goal.decreases-put_new_lines-lines
+decreases-put_new_lines-lines g l = length l.bytes - l.at

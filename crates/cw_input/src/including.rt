@@ -1,0 +1,85 @@
+ghost use Rattle.std.specs.Prelude.{◌≡◌, ◌≢◌, ◌+◌, ◌<◌, ◌≤◌, ℕ, All, IsErrOf, List, OnOk, Option, Some, length};
+ghost use Rattle.std.specs.FinMap.{get};
+ghost use Rattle.cw_desk.specs.Meaning.{Files, OnlyReads, Rose};
+ghost use Rattle.cw_input.specs.Answers.{Leads, Leaves};
+ghost use Rattle.cw_input.specs.Lines.{FileLine};
+ghost use Rattle.cw_input.specs.Merge.{MergeState, include, put};
+ghost use Rattle.cw_input.specs.State.{HasRoom, into_at, line_of, state_of};
+
+use crate::error::LoadError;
+use crate::lines::included_name;
+use crate::merger::{Merger, Source};
+use crate::reading::{LIMIT, find_file};
+use cw_base::{Bytes, NoteKind, Place};
+use cw_desk::Desk;
+
+/// A line that no group takes, when so many files deep may still be included: any line is appended,
+/// but of an include line the file is answered whose lines follow.
+pub(crate) fn put_line<D: Desk>(
+    desk: &mut D,
+    m: &mut Merger,
+    line: &[u8],
+    place: Place,
+    changed: bool,
+    left: u32,
+) -> Result<Option<Source>, LoadError>
+    requires whole { All (λ byte. byte ≢ 10) line.now }
+    requires place { place.file < length m.old.web.files }
+    requires room { HasRoom (length line.now + 1) 1 m.old }
+    ensures leads { (told : Files) → D.files desk.old ≡ Some told → (change : List ℕ) (next : List FileLine → MergeState → Option MergeState) →
+        Leads (put (get told) changed (into_at left next) (line_of line.now place) (state_of change m.old)) next (state_of change m.new) result }
+    ensures leaves { Leaves (length line.now + 1) 1 0 0 left m.old m.new result }
+    ensures meets { OnOk result (m.new.meets ≡ m.old.meets) }
+    ensures same { OnlyReads D.opened D.outputs D.files D.rest D.journal D.faults desk.old desk.new }
+    ensures fault { IsErrOf result LoadError.Fault → Rose (D.faults desk.old) (D.faults desk.new) }
+{
+    match included_name(line) {
+        Some(name) => include_file(desk, m, name, place, left),
+        None => {
+            m.append(line, place, changed)?;
+            Ok(None)
+        }
+    }
+}
+
+// The file of an include line is read, or a note says why not.
+fn include_file<D: Desk>(
+    desk: &mut D,
+    m: &mut Merger,
+    name: &[u8],
+    place: Place,
+    left: u32,
+) -> Result<Option<Source>, LoadError>
+    requires place { place.file < length m.old.web.files }
+    requires room { HasRoom 1 1 m.old }
+    ensures leads { (told : Files) → D.files desk.old ≡ Some told → (change : List ℕ) (next : List FileLine → MergeState → Option MergeState) →
+        Leads (include (get told) (into_at left next) name.now place (state_of change m.old)) next (state_of change m.new) result }
+    ensures leaves { Leaves 1 1 0 0 left m.old m.new result }
+    ensures meets { OnOk result (m.new.meets ≡ m.old.meets) }
+    ensures same { OnlyReads D.opened D.outputs D.files D.rest D.journal D.faults desk.old desk.new }
+    ensures fault { IsErrOf result LoadError.Fault → Rose (D.faults desk.old) (D.faults desk.new) }
+{
+    if name.is_empty() {
+        m.note(NoteKind::IncludeUnnamed, 0, place)?;
+        return Ok(None);
+    }
+    if left == 0 {
+        m.note(NoteKind::IncludeTooDeep, 0, place)?;
+        return Ok(None);
+    }
+    let name = Bytes::from_slice(m.alloc, name)?;
+    match find_file(m.alloc, desk, name, LIMIT - m.sum) {
+        Ok(Some(file)) => {
+            let number = m.add_file(file.name.as_slice(), file.bytes.len())?;
+            Ok(Some(Source {
+                file: number,
+                bytes: file.bytes,
+            }))
+        }
+        Ok(None) => {
+            m.note(NoteKind::IncludeMissing, 0, place)?;
+            Ok(None)
+        }
+        Err(error) => Err(error),
+    }
+}
