@@ -1,6 +1,7 @@
 //! Reading: what the words of the command line ask for, and the merged lines of a web, its included files and its change file.
 #![tactic(auto)]
 
+mod change_lines;
 mod command;
 mod error;
 mod found;
