@@ -4,8 +4,9 @@ use Rattle.std.proofs.lemmas.List.{drop_all}
 use Rattle.std.proofs.Common.{◌≤◌, length, option_and_then, ◌∙◌}
 use Rattle.cw_base.specs.Text.{lines_of}
 use Rattle.cw_base.specs.declared.notes.Place.{Place}
-use Rattle.cw_input.specs.Lines.{FileLine, numbered}
-use Rattle.cw_input.specs.Merge.{Lookup, MergeState, put, take_line, walk, new_lines, web_lines}
+use Rattle.cw_input.specs.Lines.{FileLine, code_of, numbered}
+use Rattle.cw_input.specs.declared.phase.Phase.{Phase}
+use Rattle.cw_input.specs.Merge.{Lookup, MergeState, Onward, advance, ended, step, put, take_line, walk, new_lines, web_lines}
 use Rattle.cw_input.specs.State.{into_at, line_of, lines_from}
 use Rattle.cw_input.proofs.AnswerLaws.{walk-none}
 
@@ -47,3 +48,16 @@ pub walk-fails : (each : FileLine → MergeState → Option MergeState) (file li
 walk-fails each file line at next text bytes m cut fails =
     ap (λ lines. walk each lines (Some m)) (lines_from-first file line at next text bytes cut)
     ∙ ap (walk each (lines_from file (line + 1) next bytes)) fails ∙ walk-none each (lines_from file (line + 1) next bytes)
+
+-- the rest of the change file, from a phase on
+abbrev pub onward : Lookup → ℕ → ℕ → List ℕ → Onward
+onward named line at change = λ phase state. advance named phase (record { file = 1; line = line }) (lines_from 1 line at change) state
+
+pub advance-first : (named : Lookup) (phase : Phase) (last : Place) (line at next : ℕ) (text change : List ℕ) (m : MergeState) → lines_of (drop at change) ≡ text ∷ lines_of (drop next change)
+    → advance named phase last (lines_from 1 line at change) m
+    ≡ step named phase (code_of text) (line_of text (record { file = 1; line = line + 1 })) (lines_from 1 (line + 1) next change) (onward named (line + 1) next change) m
+advance-first named phase last line at next text change m cut = ap (λ lines. advance named phase last lines m) (lines_from-first 1 line at next text change cut)
+
+pub advance-end : (named : Lookup) (phase : Phase) (last : Place) (line at : ℕ) (change : List ℕ) (m : MergeState) → length change ≤ at
+    → advance named phase last (lines_from 1 line at change) m ≡ Some (ended phase last m)
+advance-end named phase last line at change m past = ap (λ lines. advance named phase last lines m) (lines_from-end 1 line at change past)

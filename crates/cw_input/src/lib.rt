@@ -2,6 +2,7 @@
 #![tactic(auto)]
 
 mod change_lines;
+mod changes;
 mod command;
 mod error;
 mod found;

@@ -13,6 +13,9 @@ use crate::merger::{Merger, Source};
 use cw_base::Place;
 use cw_desk::Desk;
 
+/// How many files deep may be included from the web or the change file.
+pub(crate) const DEPTH: u32 = 10;
+
 /// A new line of a group: it is appended as changed, or the lines of the file that it includes are.
 #[cycle(new)]
 pub(crate) fn put_new_line<D: Desk>(

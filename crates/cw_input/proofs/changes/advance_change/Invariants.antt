@@ -1,0 +1,28 @@
+-- The lines that are left, in the phase so far, give from the state so far what all give from the first state; and the room that was
+-- enough at first is enough for what is left.
+use Rattle.std.proofs.Common.{◌≡◌, ◌+◌, ◌-◌, ◌*◌, ◌<◌, ◌≤◌, Some, length}
+use Rattle.std.specs.FinMap.{get}
+use Rattle.cw_base.specs.Web.{text_of}
+use Rattle.cw_desk.specs.Meaning.{Files, OnlyReads}
+use Rattle.cw_input.specs.Merge.{advance}
+use Rattle.cw_input.specs.State.{IsPhase, lines_from, rest_of, state_of}
+use Rattle.cw_input.proofs.changes.advance_change.Given as goal
+
+abbrev pub invariant-lines : goal.invariant-lines
+invariant-lines g l = let d = g.D.Desk in record {
+  within : l.at ≤ length l.change;
+  count : l.line ≤ l.at;
+  phase : IsPhase l.line l.phase;
+  listed : 1 < length l.m.web.files;
+  text : length (text_of l.m.web.lines) + 2 * (length l.change - l.at) + 2 * (8388608 - l.m.sum) ≤ length (text_of l.fn.m.web.lines) + 2 * (length l.change - l.fn.rest.at) + 2 * (8388608 - l.fn.m.sum);
+  files : length l.m.web.files + (length l.change - l.at) + (8388608 - l.m.sum) ≤ length l.fn.m.web.files + (length l.change - l.fn.rest.at) + (8388608 - l.fn.m.sum);
+  sum : l.m.sum ≤ 8388608;
+  more_files : length l.fn.m.web.files ≤ length l.m.web.files;
+  gives : (told : Files) → d.files l.fn.desk ≡ Some told →
+      advance (get told) l.fn.from (record { file = 1; line = l.fn.rest.line }) (rest_of l.change l.fn.rest) (state_of l.change l.fn.m)
+      ≡ advance (get told) l.phase (record { file = 1; line = l.line }) (lines_from 1 l.line l.at l.change) (state_of l.change l.m);
+  same : OnlyReads d.opened d.outputs d.files d.rest d.journal d.faults l.fn.desk l.desk;
+}
+
+abbrev pub decreases-lines : goal.decreases-lines
+decreases-lines g l = length l.change - l.at
