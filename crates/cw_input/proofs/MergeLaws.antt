@@ -1,12 +1,14 @@
 -- The walk over lines, one step at a time.
 use Rattle.std.proofs.Common.{◌≡◌, ℕ, zero, suc, ◌-◌, ◌+◌, List, [], ◌∷◌, Option, Some, None, true, refl, ap, arith, drop, slice_range}
 use Rattle.std.proofs.lemmas.List.{drop_all}
-use Rattle.std.proofs.Common.{◌≤◌, length, option_and_then, ◌∙◌}
+use Rattle.std.proofs.Common.{◌≤◌, length, option_and_then, ◌∙◌, sym, false, bytes_eq}
 use Rattle.cw_base.specs.Text.{lines_of}
 use Rattle.cw_base.specs.declared.notes.Place.{Place}
 use Rattle.cw_input.specs.Lines.{FileLine, code_of, numbered}
 use Rattle.cw_input.specs.declared.phase.Phase.{Phase}
-use Rattle.cw_input.specs.Merge.{Lookup, MergeState, Onward, advance, ended, step, put, take_line, walk, new_lines, web_lines}
+use Rattle.cw_base.specs.declared.notes.NoteKind.TheVariants.{WebEnded}
+use Rattle.cw_input.specs.declared.phase.Phase.TheVariants.{Old, Spent}
+use Rattle.cw_input.specs.Merge.{Lookup, Into, MergeState, Over, Pending, Waiting, Onward, advance, compared, counted, drained, drained_by, ended, noted, step, put, take_by, take_line, walk, new_lines, web_lines}
 use Rattle.cw_input.specs.State.{into_at, line_of, lines_from}
 use Rattle.cw_input.proofs.AnswerLaws.{walk-none}
 
@@ -61,3 +63,26 @@ advance-first named phase last line at next text change m cut = ap (λ lines. ad
 pub advance-end : (named : Lookup) (phase : Phase) (last : Place) (line at : ℕ) (change : List ℕ) (m : MergeState) → length change ≤ at
     → advance named phase last (lines_from 1 line at change) m ≡ Some (ended phase last m)
 advance-end named phase last line at change m past = ap (λ lines. advance named phase last lines m) (lines_from-end 1 line at change past)
+
+-- a line of the web, by what it meets
+pub take-nothing : (named : Lookup) (into : Into) (line : FileLine) (m : MergeState) → m.group ≡ Over → take_line named into line m ≡ put named m.mark into line m
+take-nothing named into line m is = ap (λ group. take_by group named into line m) is
+
+pub take-other : (named : Lookup) (into : Into) (line first : FileLine) (rest : List FileLine) (m : MergeState) → m.group ≡ Pending first rest → bytes_eq first.text line.text ≡ false
+    → take_line named into line m ≡ put named m.mark into line m
+take-other named into line first rest m is other =
+    ap (λ group. take_by group named into line m) is ∙ ap (λ same. compared same named first rest into line m) other
+
+pub take-match : (named : Lookup) (into : Into) (line first : FileLine) (rest : List FileLine) (m : MergeState) → m.group ≡ Pending first rest → bytes_eq first.text line.text ≡ true
+    → take_line named into line m ≡ advance named (Old 0) first.place rest (record m { mark = true })
+take-match named into line first rest m is same =
+    ap (λ group. take_by group named into line m) is ∙ ap (λ same. compared same named first rest into line m) same
+
+pub take-old : (named : Lookup) (into : Into) (line old : FileLine) (differ now : ℕ) (rest : List FileLine) (m : MergeState) → m.group ≡ Waiting old differ rest
+    → now ≡ counted (bytes_eq old.text line.text) differ → take_line named into line m ≡ advance named (Old now) old.place rest m
+take-old named into line old differ now rest m is counts =
+    ap (λ group. take_by group named into line m) is ∙ ap (λ n. advance named (Old n) old.place rest m) (sym counts)
+
+pub drained-old : (named : Lookup) (old : FileLine) (differ : ℕ) (rest : List FileLine) (m : MergeState) → m.group ≡ Waiting old differ rest
+    → drained named m ≡ advance named (Spent differ) old.place rest (noted WebEnded 0 old.place m)
+drained-old named old differ rest m is = ap (λ group. drained_by group named m) is

@@ -77,3 +77,21 @@ Loads given (Err NoChange) = given ≡ outcome.NoChange
 Loads given (Err TooLong) = given ≡ outcome.TooLong
 Loads given (Err Fault) = ⊤
 Loads given (Err Memory) = ⊤
+
+-- the file of the web was looked for under both its names
+abbrev pub FindsWeb : Option Found → Result Found LoadError → Type 0
+FindsWeb given (Ok file) = given ≡ Some file
+FindsWeb given (Err NoWeb) = given ≡ None
+FindsWeb given (Err NoChange) = ⊥
+FindsWeb given (Err TooLong) = (file : Found) × (given ≡ Some file) × (8388608 < length file.bytes)
+FindsWeb given (Err Fault) = ⊤
+FindsWeb given (Err Memory) = ⊤
+
+-- all lines were merged, and the web is whole
+abbrev pub Merges : outcome.Merged → WebState → Result (Unit {0}) LoadError → Type 0
+Merges given web (Ok u) = given ≡ outcome.Whole web
+Merges given web (Err NoWeb) = ⊥
+Merges given web (Err NoChange) = ⊥
+Merges given web (Err TooLong) = given ≡ outcome.TooLong
+Merges given web (Err Fault) = ⊤
+Merges given web (Err Memory) = ⊤

@@ -53,10 +53,11 @@ with_line text place changed m =
 abbrev pub with_file : List ℕ → ℕ → Merger → Merger
 with_file name size m = record m { web = record m.web { files = m.web.files ++ name ∷ [] }; sum = m.sum + size }
 
--- offsets lie within the change file, and lines are no more than bytes
-pub record IsPiece (change : List ℕ) (piece : Piece) : Type 0 where
+-- offsets lie within the change file, lines are no more than bytes, and the place behind a line counts that line
+pub record IsPiece (change : List ℕ) (piece : Piece) (rest : Cursor) : Type 0 where
   pub order : piece.start ≤ piece.«end»
   pub within : piece.«end» ≤ length change
+  pub numbered : piece.line ≡ rest.line
 
 pub record IsCursor (change : List ℕ) (rest : Cursor) : Type 0 where
   pub within : rest.at ≤ length change
@@ -65,8 +66,8 @@ pub record IsCursor (change : List ℕ) (rest : Cursor) : Type 0 where
 -- a group that waits has its lines in the change file, which is the second of the files
 abbrev pub IsMet : List ℕ → ℕ → Meets → Type 0
 IsMet change files Nothing = ⊤
-IsMet change files (MatchLine piece rest) = IsPiece change piece × IsCursor change rest × (1 < files)
-IsMet change files (OldLine piece differ rest) = IsPiece change piece × IsCursor change rest × (1 < files) × (differ < rest.line)
+IsMet change files (MatchLine piece rest) = IsPiece change piece rest × IsCursor change rest × (1 < files)
+IsMet change files (OldLine piece differ rest) = IsPiece change piece rest × IsCursor change rest × (1 < files) × (differ < rest.line)
 
 -- no more lines differ than were compared
 abbrev pub IsPhase : ℕ → Phase → Type 0

@@ -57,7 +57,7 @@ pub(crate) fn opening_line(
     ensures steps { (named : Lookup) (change : List ℕ) (go : Onward) →
         Steps (step named Opening code (line_at change piece) (rest_of change rest) go (state_of change m.old)) go (state_of change m.new) result }
     ensures moves { OnOk result (Moves 0 0 0 0 m.old m.new) }
-    ensures waits { (change : List ℕ) → IsPiece change piece → IsCursor change rest → Waits change rest m.new result }
+    ensures waits { (change : List ℕ) → IsPiece change piece rest → IsCursor change rest → Waits change rest m.new result }
     ensures fault { ¬ IsErrOf result LoadError.Fault }
 {
     match code {
@@ -110,7 +110,7 @@ pub(crate) fn old_line(
     ensures steps { (named : Lookup) (change : List ℕ) (go : Onward) →
         Steps (step named (Old differ) code (line_at change piece) (rest_of change rest) go (state_of change m.old)) go (state_of change m.new) result }
     ensures moves { OnOk result (Moves 0 0 0 0 m.old m.new) }
-    ensures waits { (change : List ℕ) → IsPiece change piece → IsCursor change rest → Waits change rest m.new result }
+    ensures waits { (change : List ℕ) → IsPiece change piece rest → IsCursor change rest → Waits change rest m.new result }
     ensures fault { ¬ IsErrOf result LoadError.Fault }
 {
     match code {

@@ -102,7 +102,7 @@ fn change_line<D: Desk>(
     piece: Piece,
     rest: Cursor,
 ) -> Result<Option<Phase>, LoadError>
-    requires piece { IsPiece change.now piece }
+    requires piece { IsPiece change.now piece rest }
     requires whole { All (λ byte. byte ≢ 10) (slice_range change.now piece.start piece.«end») }
     requires rest { IsCursor change.now rest }
     requires behind { 0 < rest.line }

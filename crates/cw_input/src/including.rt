@@ -70,11 +70,8 @@ fn include_file<D: Desk>(
     let name = Bytes::from_slice(m.alloc, name)?;
     match find_file(m.alloc, desk, name, LIMIT - m.sum) {
         Ok(Some(file)) => {
-            let number = m.add_file(file.name.as_slice(), file.bytes.len())?;
-            Ok(Some(Source {
-                file: number,
-                bytes: file.bytes,
-            }))
+            let source = m.add_file(file)?;
+            Ok(Some(source))
         }
         Ok(None) => {
             m.note(NoteKind::IncludeMissing, 0, place)?;

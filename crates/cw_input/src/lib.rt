@@ -8,13 +8,16 @@ mod error;
 mod found;
 mod including;
 mod lines;
+mod loading;
 mod merger;
 mod names;
 mod new_lines;
 mod phase;
 mod reading;
+mod web_lines;
 mod words;
 
 pub use command::read_command;
 pub use error::LoadError;
+pub use loading::load;
 pub use words::{Command, CommandLine, OutputNames};

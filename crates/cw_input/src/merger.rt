@@ -6,13 +6,15 @@ ghost use Rattle.std.specs.Prelude.{
   ◌≤◌,
   All,
   IfOk,
-  OnOk,
   IsOkUnless,
+  OnOk,
+  false,
   length,
 };
 ghost use Rattle.cw_base.specs.Web.{text_of};
 
 use crate::error::LoadError;
+use crate::found::Found;
 use crate::phase::Meets;
 use cw_base::{Bytes, Note, NoteKind, Place, Web};
 use std::alloc::Global;
@@ -36,6 +38,7 @@ pub(crate) struct Source {
 }
 
 impl Merger {
+    ghost use Rattle.cw_base.specs.Web.{empty_web};
     ghost use Rattle.cw_input.specs.State.{with_note, with_line, with_file};
 
     /// Appends a note.
@@ -66,16 +69,35 @@ impl Merger {
         Ok(())
     }
 
-    /// Adds a file that was read, and answers its number.
-    pub(crate) fn add_file(&mut self, name: &[u8], size: usize) -> Result<u32, LoadError>
+    /// Nothing was merged yet.
+    pub(crate) fn new(alloc: Global) -> Merger
+        ensures web { result.web ≡ empty_web }
+        ensures sum { result.sum ≡ 0 }
+        ensures mark { result.mark ≡ false }
+        ensures nothing { result.meets ≡ Meets.Nothing }
+    {
+        Merger {
+            alloc,
+            web: Web::new_in(alloc),
+            sum: 0,
+            mark: false,
+            meets: Meets::Nothing,
+        }
+    }
+
+    /// Adds a file that was read, and answers its number and its bytes.
+    pub(crate) fn add_file(&mut self, file: Found) -> Result<Source, LoadError>
         requires few { length self.old.web.files < 4294967295 }
-        requires sum { self.old.sum + size ≤ 8388608 }
-        ensures number { IfOk result (λ file. file ≡ length self.old.web.files) }
-        ensures ok { OnOk result (self.new ≡ with_file name.now size self.old) }
+        requires bytes { self.old.sum + length file.bytes ≤ 8388608 }
+        ensures source { IfOk result (λ source. source ≡ record { file = length self.old.web.files; bytes = file.bytes }) }
+        ensures ok { OnOk result (self.new ≡ with_file file.name (length file.bytes) self.old) }
         ensures only { IsOkUnless result LoadError.Memory }
     {
-        let file = self.web.add_file(name)?;
-        self.sum += size;
-        Ok(file)
+        let number = self.web.add_file(file.name.as_slice())?;
+        self.sum += file.bytes.len();
+        Ok(Source {
+            file: number,
+            bytes: file.bytes,
+        })
     }
 }

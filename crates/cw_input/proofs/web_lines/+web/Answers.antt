@@ -1,0 +1,51 @@
+-- What a line leads to is what its file's lines make of the state; and an error of a line is one of all lines.
+use Rattle.std.proofs.Common.{ℕ, ◌-◌, ◌+◌, List, Option, Some, refl, sym, ap, ◌∙◌, arith, rules, slice_range}
+use Rattle.std.proofs.lemmas.Result.{err_from_is_err_and}
+use Rattle.std.specs.FinMap.{get}
+use Rattle.cw_input.specs.Lines.{FileLine, file_lines}
+use Rattle.cw_input.specs.Merge.{MergeState, take_line, web_lines}
+use Rattle.cw_input.specs.State.{into_at, line_of, state_of}
+use Rattle.cw_input.proofs.AnswerLaws.{fails_as}
+use Rattle.cw_input.proofs.MergeLaws.{web_lines-walk, walk-fails}
+use Rattle.cw_input.proofs.web_lines.+web.Goals as goal
+
+pub give_line-returns-in-Ok-None-clause-gives : goal.give_line-returns-in-Ok-None-clause-gives
+give_line-returns-in-Ok-None-clause-gives g t c = λ told is.
+    rw c.in-Ok-None.field-0-is at (c.in-Ok-None.ensures.leads told is (web_lines (get told) (c.args.left - 1)))
+
+pub give_line-returns-in-Ok-Some-clause-gives : goal.give_line-returns-in-Ok-Some-clause-gives
+give_line-returns-in-Ok-Some-clause-gives g t c = λ told is.
+    let next : List FileLine → MergeState → Option MergeState = web_lines (get told) (c.args.left - 1) in
+    let leads = rw c.in-Ok-Some.field-0-is at (c.in-Ok-Some.ensures.leads told is next) in
+    rw leads (c.give_lines.ensures.gives told (c.take_web_line.ensures.same.same_files ∙ is))
+
+pub give_line-returns-in-Err-clause-gives : goal.give_line-returns-in-Err-clause-gives
+give_line-returns-in-Err-clause-gives g t c = λ told is. c.in-Err.ensures.leads told is (web_lines (get told) (c.args.left - 1))
+
+pub give_lines-lines-init : goal.give_lines-lines-init
+give_lines-lines-init g t c = record {
+  all = search rules;
+  within = omega arith;
+  count = omega arith;
+  more_files = omega arith;
+  text = omega arith;
+  files = omega arith;
+  sum = c.requires.room.for_bytes;
+  met = c.requires.met;
+  gives = λ told is. web_lines-walk (get told) c.args.left (file_lines c.args.source.now.file c.as_slice-bytes.result.now) (state_of c.args.change.now c.args.m.now);
+  same = search rules;
+}
+
+pub give_lines-returns-in_err-give_line-clause-gives : goal.give_lines-returns-in_err-give_line-clause-gives
+give_lines-returns-in_err-give_line-clause-gives g t c = λ told is.
+    let inv = c.lines.invariant in
+    let file = c.args.source.now.file in
+    let bytes = c.as_slice-bytes.result.now in
+    let each : FileLine → MergeState → Option MergeState = take_line (get told) (into_at c.args.left (web_lines (get told) (c.args.left - 1))) in
+    let whole = ap (λ (all : List ℕ). web_lines (get told) c.args.left (file_lines file all) (state_of c.args.change.now c.args.m.now)) (sym inv.all) ∙ inv.gives told is in
+    let p = err_from_is_err_and c.from_residual.result c.from_residual.ensures.1 in
+    rw (p.1, p.2) (fails_as
+    (each (line_of (slice_range bytes c.lines.at c.cut_line-cut.result.«end») (record { file = file; line = c.lines.line + 1 })) (state_of c.args.change.now c.lines.m))
+    (web_lines (get told) c.args.left (file_lines file c.args.source.now.bytes) (state_of c.args.change.now c.args.m.now)) _
+    (λ none. whole ∙ walk-fails each file c.lines.line c.lines.at c.cut_line-cut.result.next _ bytes (state_of c.args.change.now c.lines.m) c.cut_line-cut.ensures.lines none)
+    (c.in_err-give_line.ensures.gives told (inv.same.same_files ∙ is)))

@@ -1,0 +1,218 @@
+ghost use Rattle.std.specs.Prelude.{
+  ◌≡◌,
+  ◌*◌,
+  ◌+◌,
+  ◌-◌,
+  ◌<◌,
+  ◌≤◌,
+  [],
+  IsErrOf,
+  None,
+  Some,
+  IfOk,
+  length,
+  option_and_then,
+  option_map,
+};
+ghost use Rattle.std.specs.FinMap.{get};
+ghost use Rattle.cw_desk.specs.Meaning.{Files, OnlyReads, Rose};
+ghost use Rattle.cw_input.specs.Answers.{FindsWeb, Loads, Merges};
+ghost use Rattle.cw_input.specs.Lines.{file_lines};
+ghost use Rattle.cw_input.specs.Merge.{advance, read};
+ghost use Rattle.cw_input.specs.Merged.{found, merge_web, merge_with, merged, start_state, taken, web_file};
+ghost use Rattle.cw_input.specs.Names.{second_name};
+ghost use Rattle.cw_input.specs.State.{HasRoom, IsMet, ahead, state_of};
+ghost use Rattle.cw_input.specs.declared.phase.Phase.TheVariants.{Outside};
+
+use crate::changes::advance_change;
+use crate::error::LoadError;
+use crate::found::Found;
+use crate::merger::{Merger, Source};
+use crate::names::{change_file_name, first_web_name, second_web_name};
+use crate::new_lines::DEPTH;
+use crate::phase::{Cursor, Meets, Phase};
+use crate::reading::{LIMIT, find_file};
+use crate::web_lines::{drain, give_lines, note_unmatched};
+use cw_base::Web;
+use cw_desk::Desk;
+use std::alloc::Global;
+
+/// Reads a web file, its included files and perhaps a change file, and merges their lines.
+///
+/// Both texts are words as they stand on the command line: the names of files are made of them. A change
+/// word `-` means no change file, as None does.
+pub fn load<D: Desk>(
+    alloc: Global,
+    desk: &mut D,
+    web: &[u8],
+    change: Option<&[u8]>,
+) -> Result<Web, LoadError>
+    requires { 0 < length web.now }
+    ensures loads { (told : Files) → D.files desk.old ≡ Some told →
+        Loads (merged (get told) web.now (option_map (λ word. word.now) change.entry)) result }
+    ensures same { OnlyReads D.opened D.outputs D.files D.rest D.journal D.faults desk.old desk.new }
+    ensures fault { IsErrOf result LoadError.Fault → Rose (D.faults desk.old) (D.faults desk.new) }
+{
+    match change {
+        Some(word) if word != b"-".as_slice() => load_changed(alloc, desk, web, word),
+        Some(_) => load_plain(alloc, desk, web),
+        None => load_plain(alloc, desk, web),
+    }
+}
+
+// Without a change file.
+fn load_plain<D: Desk>(alloc: Global, desk: &mut D, web: &[u8]) -> Result<Web, LoadError>
+    ensures loads { (told : Files) → D.files desk.old ≡ Some told → Loads (merge_web (get told) (web_file (get told) web.now) None) result }
+    ensures same { OnlyReads D.opened D.outputs D.files D.rest D.journal D.faults desk.old desk.new }
+    ensures fault { IsErrOf result LoadError.Fault → Rose (D.faults desk.old) (D.faults desk.new) }
+{
+    match open_web(alloc, desk, web) {
+        Ok(file) => merge_plain(alloc, desk, file),
+        Err(error) => Err(error),
+    }
+}
+
+// With a change file, whose word isn't `-`.
+fn load_changed<D: Desk>(
+    alloc: Global,
+    desk: &mut D,
+    web: &[u8],
+    word: &[u8],
+) -> Result<Web, LoadError>
+    ensures loads { (told : Files) → D.files desk.old ≡ Some told → Loads (merge_web (get told) (web_file (get told) web.now) (Some word.now)) result }
+    ensures same { OnlyReads D.opened D.outputs D.files D.rest D.journal D.faults desk.old desk.new }
+    ensures fault { IsErrOf result LoadError.Fault → Rose (D.faults desk.old) (D.faults desk.new) }
+{
+    match open_web(alloc, desk, web) {
+        Ok(file) => merge_changed(alloc, desk, file, word),
+        Err(error) => Err(error),
+    }
+}
+
+// The file of a web word: the first name that is there.
+fn open_web<D: Desk>(alloc: Global, desk: &mut D, word: &[u8]) -> Result<Found, LoadError>
+    ensures finds { (told : Files) → D.files desk.old ≡ Some told → FindsWeb (web_file (get told) word.now) result }
+    ensures within { IfOk result (λ file. length file.bytes ≤ 8388608) }
+    ensures same { OnlyReads D.opened D.outputs D.files D.rest D.journal D.faults desk.old desk.new }
+    ensures fault { IsErrOf result LoadError.Fault → Rose (D.faults desk.old) (D.faults desk.new) }
+{
+    let first = first_web_name(alloc, word)?;
+    match find_file(alloc, desk, first, LIMIT) {
+        Ok(Some(file)) => Ok(file),
+        Ok(None) => open_second(alloc, desk, word),
+        Err(error) => Err(error),
+    }
+}
+
+// The file of a web word under its second name.
+fn open_second<D: Desk>(alloc: Global, desk: &mut D, word: &[u8]) -> Result<Found, LoadError>
+    ensures finds { (told : Files) → D.files desk.old ≡ Some told → FindsWeb (found (get told) (second_name word.now)) result }
+    ensures within { IfOk result (λ file. length file.bytes ≤ 8388608) }
+    ensures same { OnlyReads D.opened D.outputs D.files D.rest D.journal D.faults desk.old desk.new }
+    ensures fault { IsErrOf result LoadError.Fault → Rose (D.faults desk.old) (D.faults desk.new) }
+{
+    let second = second_web_name(alloc, word)?;
+    match find_file(alloc, desk, second, LIMIT) {
+        Ok(Some(file)) => Ok(file),
+        Ok(None) => Err(LoadError::NoWeb),
+        Err(error) => Err(error),
+    }
+}
+
+// The web of a file alone.
+fn merge_plain<D: Desk>(alloc: Global, desk: &mut D, file: Found) -> Result<Web, LoadError>
+    requires { length file.bytes ≤ 8388608 }
+    ensures loads { (told : Files) → D.files desk.old ≡ Some told →
+        Loads (merge_with (get told) file.bytes None (read file.name file.bytes start_state)) result }
+    ensures same { OnlyReads D.opened D.outputs D.files D.rest D.journal D.faults desk.old desk.new }
+    ensures fault { IsErrOf result LoadError.Fault → Rose (D.faults desk.old) (D.faults desk.new) }
+{
+    let mut m = Merger::new(alloc);
+    let source = m.add_file(file)?;
+    match merge_lines(desk, &[], &mut m, &source) {
+        Ok(()) => Ok(m.web),
+        Err(error) => Err(error),
+    }
+}
+
+// The web of a file and of the change file of a word.
+fn merge_changed<D: Desk>(
+    alloc: Global,
+    desk: &mut D,
+    file: Found,
+    word: &[u8],
+) -> Result<Web, LoadError>
+    requires { length file.bytes ≤ 8388608 }
+    ensures loads { (told : Files) → D.files desk.old ≡ Some told →
+        Loads (merge_with (get told) file.bytes (Some word.now) (read file.name file.bytes start_state)) result }
+    ensures same { OnlyReads D.opened D.outputs D.files D.rest D.journal D.faults desk.old desk.new }
+    ensures fault { IsErrOf result LoadError.Fault → Rose (D.faults desk.old) (D.faults desk.new) }
+{
+    let mut m = Merger::new(alloc);
+    let source = m.add_file(file)?;
+    let name = change_file_name(alloc, word)?;
+    match find_file(alloc, desk, name, LIMIT - m.sum) {
+        Ok(Some(change)) => merge_found(desk, m, &source, change),
+        Ok(None) => Err(LoadError::NoChange),
+        Err(error) => Err(error),
+    }
+}
+
+// The same, when both files have been read, and the web's file has been added.
+fn merge_found<D: Desk>(
+    desk: &mut D,
+    m: Merger,
+    source: &Source,
+    change: Found,
+) -> Result<Web, LoadError>
+    requires nothing { m.meets ≡ Meets.Nothing }
+    requires files { length m.web.files ≡ 1 }
+    requires lines { m.web.lines ≡ [] }
+    requires source { source.now.file ≡ 0 }
+    requires sum { m.sum ≡ length source.now.bytes }
+    requires bytes { length source.now.bytes + length change.bytes ≤ 8388608 }
+    ensures loads { (told : Files) → D.files desk.old ≡ Some told →
+        Loads (taken (get told) source.now.bytes (option_and_then (advance (get told) Outside (record { file = 1; line = 0 }) (file_lines 1 change.bytes)) (read change.name change.bytes (state_of [] m)))) result }
+    ensures same { OnlyReads D.opened D.outputs D.files D.rest D.journal D.faults desk.old desk.new }
+    ensures fault { IsErrOf result LoadError.Fault → Rose (D.faults desk.old) (D.faults desk.new) }
+{
+    let mut m = m;
+    let change = m.add_file(change)?;
+    let bytes = change.bytes.as_slice();
+    let begin = Cursor { at: 0, line: 0 };
+    match advance_change(desk, bytes, &mut m, Phase::Outside, begin) {
+        Ok(()) => (),
+        Err(error) => return Err(error),
+    }
+    match merge_lines(desk, bytes, &mut m, source) {
+        Ok(()) => Ok(m.web),
+        Err(error) => Err(error),
+    }
+}
+
+// All lines of the web, and what the change file then waits for.
+fn merge_lines<D: Desk>(
+    desk: &mut D,
+    change: &[u8],
+    m: &mut Merger,
+    source: &Source,
+) -> Result<(), LoadError>
+    requires short { length change.now ≤ 8388608 }
+    requires met { IsMet change.now (length m.old.web.files) m.old.meets }
+    requires listed { 0 < length m.old.web.files }
+    requires source { source.now.file ≡ 0 }
+    requires room { HasRoom (2 * length source.now.bytes + 2 * ahead change.now m.old.meets) (length source.now.bytes + ahead change.now m.old.meets) m.old }
+    ensures merges { (told : Files) → D.files desk.old ≡ Some told → Merges (taken (get told) source.now.bytes (Some (state_of change.now m.old))) m.new.web result }
+    ensures same { OnlyReads D.opened D.outputs D.files D.rest D.journal D.faults desk.old desk.new }
+    ensures fault { IsErrOf result LoadError.Fault → Rose (D.faults desk.old) (D.faults desk.new) }
+{
+    match give_lines(desk, change, m, source, DEPTH) {
+        Ok(()) => (),
+        Err(error) => return Err(error),
+    }
+    match drain(desk, change, m) {
+        Ok(()) => (),
+        Err(error) => return Err(error),
+    }
+    note_unmatched(change, m)
+}
