@@ -1,2 +1,3 @@
 pub mod Lookup
+pub mod Ends
 pub mod Table

@@ -4,7 +4,8 @@ use Rattle.std.proofs.lemmas.List.{drop_all}
 use Rattle.cw_base.specs.declared.category.Cat.TheVariants.{End}
 use Rattle.cw_base.specs.declared.category.Cat.{Cat}
 use Rattle.cw_names.specs.Names.{Entry}
-use Rattle.cw_names.specs.Table.{with_word, with_table, row, is_end, has_no_end}
+use Rattle.cw_names.specs.Inside.{is_end}
+use Rattle.cw_names.specs.Table.{with_word, with_table, row, has_no_end}
 use Rattle.cw_names.specs.Words.{built_in_words}
 
 pub with_table-nil : (names : List Entry) → with_table [] names ≡ names

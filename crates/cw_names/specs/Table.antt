@@ -1,9 +1,9 @@
 -- Tables of words in memory, each of which is added with its category.
-use Rattle.std.specs.Prelude.{ℕ, Bool, true, false, ◌&&◌, not, List, [], ◌∷◌}
+use Rattle.std.specs.Prelude.{ℕ, Bool, true, ◌&&◌, not, List, [], ◌∷◌}
 use denote.Bor.{Bor}
 use Rattle.cw_base.specs.declared.category.Cat.{Cat}
-use Rattle.cw_base.specs.declared.category.Cat.TheVariants.{End}
 use Rattle.cw_names.specs.declared.entry.EntryKind.TheVariants.{Ident}
+use Rattle.cw_names.specs.Inside.{is_end}
 use Rattle.cw_names.specs.Names.{Entry, place_of, with_entry, with_category}
 
 -- the names after a word is added with its category
@@ -19,10 +19,6 @@ abbrev pub row : Bor (List ℕ) × Cat → List ℕ × Cat
 row w = (w.0.now, w.1)
 
 -- no word has the category of tests
-abbrev pub is_end : Cat → Bool
-is_end End = true
-is_end _ = false
-
 abbrev pub has_no_end : List (Bor (List ℕ) × Cat) → Bool
 has_no_end [] = true
 has_no_end (w ∷ words) = not (is_end w.1) && has_no_end words

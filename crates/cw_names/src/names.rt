@@ -27,9 +27,12 @@ impl Model for Names {
 
     ghost Value = { List Entry };
 
-    ghost use Rattle.cw_names.specs.Inside.{entry_of};
+    ghost use Rattle.std.specs.Prelude.{◌≡◌, true};
+    ghost use Rattle.cw_names.specs.Inside.{entry_of, has_no_end_entry};
 
     ghost view = { λ n. map entry_of n.categories.entries };
+
+    ghost invariant = { λ n. has_no_end_entry n.categories.entries ≡ true };
 }
 
 impl Names {
@@ -120,7 +123,8 @@ impl Names {
     /// The category of an entry.
     pub fn category(&self, id: NameId) -> Cat
         requires { id.index < length self.now }
-        ensures { option_map (λ entry. entry.category) (slice_get self.now id.index) ≡ Some result }
+        ensures value { option_map (λ entry. entry.category) (slice_get self.now id.index) ≡ Some result }
+        ensures real { result ≢ Cat.End }
     {
         match self.categories.get_index(id.index) {
             Some((_key, category)) => *category,

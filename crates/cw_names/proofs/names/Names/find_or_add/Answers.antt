@@ -1,8 +1,9 @@
 use Rattle.std.proofs.Common.{◌≡◌, ◌++◌, length, sym, ap, ◌∙◌, refl, arith, map}
 use Rattle.std.proofs.lemmas.List.{length-map}
 use Rattle.cw_names.specs.Names.{place_of}
-use Rattle.cw_names.specs.Inside.{entry_of}
-use Rattle.cw_names.proofs.Lookup.{found-place, new-place, with_entry-present, with_entry-new, length-new}
+use Rattle.cw_names.specs.Inside.{entry_of, has_no_end_entry}
+use Rattle.cw_names.proofs.Ends.{inserted}
+use Rattle.cw_names.proofs.Lookup.{key_eq, found-place, new-place, with_entry-present, with_entry-new, length-new}
 use Rattle.cw_names.proofs.names.Names.find_or_add.Goals as goal
 
 pub returns-in-Some-clause-id : goal.returns-in-Some-clause-id
@@ -48,3 +49,8 @@ returns-in_ok-insert-in-None-clause-within c =
     let size = length-new c.self.inside.categories.entries c.args.self.now c.self.view_is c.args.kind c.args.text.now place
     (record { kind = c.args.kind; text = c.in_ok-text-in-None.text }) refl c.in_ok-text-in-None.ensures.items in
     omega (arith, ap (λ es. length (map entry_of es)) c.in_ok-insert-in-None.ensures.entries, size, c.len-index.ensures.len)
+
+pub invariant_of-self-in-None : goal.invariant_of-self-in-None
+invariant_of-self-in-None c =
+    ap has_no_end_entry c.in_ok-insert-in-None.ensures.entries
+    ∙ inserted key_eq c.self.inside.categories.entries (record { kind = c.args.kind; text = c.in_ok-text-in-None.text }) c.self.invariant

@@ -1,5 +1,6 @@
 use Rattle.std.proofs.Common.{ap, ◌∙◌}
 use Rattle.cw_names.specs.Names.{with_category}
+use Rattle.cw_names.proofs.Ends.{changed}
 use Rattle.cw_names.proofs.Lookup.{with_category-map}
 use Rattle.cw_names.proofs.names.Names.set_category.Goals as goal
 
@@ -7,3 +8,6 @@ pub returns : goal.returns
 returns c =
     with_category-map c.self.inside.categories.entries c.args.id.index c.args.category
     ∙ ap (with_category c.args.id.index c.args.category) c.self.view_is
+
+pub invariant_of-self : goal.invariant_of-self
+invariant_of-self c = changed c.self.inside.categories.entries c.args.id.index c.args.category c.requires.category c.self.invariant
