@@ -1,4 +1,5 @@
 pub mod Answers
+pub mod Causes
 pub mod Lines
 pub mod Merge
 pub mod Merged

@@ -12,14 +12,15 @@ ghost use Rattle.std.specs.Prelude.{
   IfOk,
   length,
   option_and_then,
-  option_map,
+  option_copied,
 };
 ghost use Rattle.std.specs.FinMap.{get};
 ghost use Rattle.cw_desk.specs.Meaning.{Files, OnlyReads, Rose};
 ghost use Rattle.cw_input.specs.Answers.{FindsWeb, Loads, Merges};
+ghost use Rattle.cw_input.specs.Causes.{ComesWhere, IsTooLong, LacksChange, LacksWeb};
 ghost use Rattle.cw_input.specs.Lines.{file_lines};
 ghost use Rattle.cw_input.specs.Merge.{advance, read};
-ghost use Rattle.cw_input.specs.Merged.{found, merge_web, merge_with, merged, start_state, taken, web_file};
+ghost use Rattle.cw_input.specs.Merged.{change_word, found, merge_web, merge_with, merged, start_state, taken, web_file};
 ghost use Rattle.cw_input.specs.Names.{second_name};
 ghost use Rattle.cw_input.specs.State.{HasRoom, IsMet, ahead, state_of};
 ghost use Rattle.cw_input.specs.declared.phase.Phase.TheVariants.{Outside};
@@ -48,14 +49,46 @@ pub fn load<D: Desk>(
     change: Option<&[u8]>,
 ) -> Result<Web, LoadError>
     requires { 0 < length web.now }
-    ensures loads { (told : Files) → D.files desk.old ≡ Some told →
-        Loads (merged (get told) web.now (option_map (λ word. word.now) change.entry)) result }
+    ensures loads { (told : Files) → D.files desk.old ≡ Some told → Loads (merged (get told) web.now (option_copied change.entry)) result }
+
+    // When each error comes.
+    ensures no_web { (told : Files) → D.files desk.old ≡ Some told → ComesWhere (LacksWeb (get told) web.now) LoadError.NoWeb result }
+    ensures no_change { (told : Files) → D.files desk.old ≡ Some told →
+        ComesWhere (LacksChange (get told) web.now (option_copied change.entry)) LoadError.NoChange result }
+    ensures too_long { (told : Files) → D.files desk.old ≡ Some told →
+        ComesWhere (IsTooLong (get told) web.now (option_copied change.entry)) LoadError.TooLong result }
+    ensures fault { IsErrOf result LoadError.Fault → Rose (D.faults desk.old) (D.faults desk.new) }
+
+    // What it leaves, whatever it answers.
+    ensures same { OnlyReads D.opened D.outputs D.files D.rest D.journal D.faults desk.old desk.new }
+{
+    load_words(alloc, desk, web, wanted_change(change))
+}
+
+// The change word, if it isn't `-`.
+fn wanted_change(change: Option<&[u8]>) -> Option<&[u8]>
+    ensures { option_copied result ≡ change_word (option_copied change.entry) }
+{
+    match change {
+        Some(word) if word != b"-".as_slice() => Some(word),
+        Some(_) => None,
+        None => None,
+    }
+}
+
+// With a change file where there is a word for it.
+fn load_words<D: Desk>(
+    alloc: Global,
+    desk: &mut D,
+    web: &[u8],
+    change: Option<&[u8]>,
+) -> Result<Web, LoadError>
+    ensures loads { (told : Files) → D.files desk.old ≡ Some told → Loads (merge_web (get told) (web_file (get told) web.now) (option_copied change.entry)) result }
     ensures same { OnlyReads D.opened D.outputs D.files D.rest D.journal D.faults desk.old desk.new }
     ensures fault { IsErrOf result LoadError.Fault → Rose (D.faults desk.old) (D.faults desk.new) }
 {
     match change {
-        Some(word) if word != b"-".as_slice() => load_changed(alloc, desk, web, word),
-        Some(_) => load_plain(alloc, desk, web),
+        Some(word) => load_changed(alloc, desk, web, word),
         None => load_plain(alloc, desk, web),
     }
 }
