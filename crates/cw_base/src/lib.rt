@@ -15,7 +15,7 @@ mod web;
 mod words;
 
 pub use bytes::Bytes;
-pub use category::{Cat, CatSet};
+pub use category::{ALL_CATS, Cat, CatSet};
 pub use event::{Event, Out};
 pub use exit::Exit;
 pub use flags::Flags;

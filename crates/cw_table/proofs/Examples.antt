@@ -4,10 +4,10 @@ use Rattle.cw_table.specs.Safe.{endangers, least}
 use Rattle.std.proofs.Common.{[], ◌∷◌, map, ◌≡◌, true, refl}
 use Rattle.std.specs.List.{list_all}
 use Rattle.cw_table.specs.Productions.{productions}
-use Rattle.cw_table.specs.Sound.{row_is_sound, are_numbered}
+use Rattle.cw_table.specs.Sound.{row_is_sound, are_numbered, lowers_all}
 
 pub productions-sound : list_all row_is_sound productions ≡ true
-unfolding productions row_is_sound
+unfolding productions row_is_sound lowers_all
 productions-sound = refl
 
 pub productions-numbered : are_numbered 1 productions ≡ true

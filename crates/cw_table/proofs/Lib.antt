@@ -1,4 +1,5 @@
 pub mod BackLaws
+pub mod CheckLaws
 pub mod Examples
 pub mod FirstLaws
 pub mod HazardLaws

@@ -13,7 +13,7 @@ use Rattle.cw_table.specs.declared.types.RowResult.{RowResult}
 use Rattle.cw_table.specs.declared.types.RowResult.TheVariants.{Is, SameAs}
 use Rattle.cw_table.specs.declared.types.Row.{Row}
 use Rattle.cw_table.specs.Rows.{test, translation}
-use Rattle.cw_table.specs.Sound.{IsLowering, IsSound, is_end, is_exp, lowers, numbers_from, reserve_is_good, result_from, result_is_good, row_is_sound, same_numbers, scraps_in, sound_parts, underline_is_good, without_end}
+use Rattle.cw_table.specs.Sound.{IsLowering, IsSound, is_end, is_exp, lowers, lowers_all, numbers_from, reserve_is_good, result_from, result_is_good, row_is_sound, same_numbers, scraps_in, sound_parts, underline_is_good, without_end}
 
 pub same-numbers : (ms ns : List ℕ) → same_numbers ms ns ≡ true → ms ≡ ns
 same-numbers [] [] h = refl
@@ -29,6 +29,10 @@ never-end row first (suc count) k h above below = elim (eqb_tells first k) [
   | inl same ↦ ap (λ q. in_set (test row q) End) (sym same.1) ∙ not-true _ (both-left _ _ h)
   | inr other ↦ never-end row (suc first) count k (both-right _ _ h) (omega (arith, other.1)) (omega arith)
 ]
+
+lowers-each : (row : Row) → lowers_all row ≡ true → (old : Cat) → lowers row old ≡ true
+unfolding lowers_all
+lowers-each row all old = every-cat (lowers row) all old
 
 module _ (row : Row) (sound : row_is_sound row ≡ true) where
   part : (i : ℕ) (b : Bool) → slice_get (sound_parts row) i ≡ Some b → b ≡ true
@@ -50,8 +54,8 @@ module _ (row : Row) (sound : row_is_sound row ≡ true) where
   lowering : row.replaced ≡ 1 → (old : Cat) → in_set (test row row.offset) old ≡ true → IsLowering row old
   lowering one old admitted =
       let more : leb 2 row.replaced ≡ false = ap (leb 2) one in
-      let all : list_all (lowers row) all_cats ≡ true = other-one _ _ (part 12 _ refl) more in
-      let this = unless _ _ (every-cat (lowers row) all old) admitted in
+      let all : lowers_all row ≡ true = other-one _ _ (part 12 _ refl) more in
+      let this = unless _ _ (lowers-each row all old) admitted in
       record {
         rank_falls = ltb-true _ _ (both-left _ _ (both-left _ _ this));
         exp_from_rank_2 = λ e. eqb-true _ _ (unless _ _ (both-right _ _ (both-left _ _ this)) (ap is_exp e));

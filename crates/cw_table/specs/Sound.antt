@@ -1,5 +1,5 @@
 -- What holds of each production by itself: first the test that computes it, then the rule that it stands for.
-use Rattle.std.specs.Prelude.{ℕ, zero, suc, ◌+◌, ◌≡◌, ◌≤◌, ◌<◌, Bool, true, false, not, ◌&&◌, ◌||◌, ltb, leb, eqb, List, [], ◌∷◌, length, Option, Some, None, cond}
+use Rattle.std.specs.Prelude.{ℕ, zero, suc, ◌+◌, ◌≡◌, ◌≤◌, ◌<◌, Bool, true, false, not, ◌&&◌, ◌||◌, ltb, leb, eqb, List, [], ◌∷◌, ◌++◌, length, Option, Some, None, cond}
 use Rattle.std.specs.List.{list_all}
 use Rattle.cw_base.specs.declared.category.Cat.{Cat}
 use Rattle.cw_base.specs.declared.category.Cat.TheVariants.{Exp, End}
@@ -8,8 +8,15 @@ use Rattle.cw_table.specs.declared.types.Piece.{Piece}
 use Rattle.cw_table.specs.declared.types.Piece.TheVariants.{Scrap, MathScrap}
 use Rattle.cw_table.specs.declared.types.RowResult.{RowResult}
 use Rattle.cw_table.specs.declared.types.RowResult.TheVariants.{Is, SameAs}
+use Rattle.cw_table.specs.declared.types.Pieces.{Pieces}
 use Rattle.cw_table.specs.declared.types.Row.{Row}
 use Rattle.cw_table.specs.Rows.{test, translation}
+
+-- the number of the scrap that a piece is, where it is one
+abbrev pub scrap_in : Piece → Option ℕ
+scrap_in (Scrap k) = Some k
+scrap_in (MathScrap k) = Some k
+scrap_in _ = None
 
 -- the numbers of the scraps among the pieces, in order
 abbrev pub scraps_in : List Piece → List ℕ
@@ -49,6 +56,10 @@ lowers row old =
     && (not (is_exp (result_from row.result old)) || eqb (rank old) 2)
     && (not (is_exp old) || may_be_bare (result_from row.result old)))
 
+-- it does so with a scrap of each category
+unfoldable pub lowers_all : Row → Bool
+lowers_all row = list_all (lowers row) all_cats
+
 -- the category of the new scrap is that of a tested scrap, which isn't End, or one that isn't End
 abbrev pub result_is_good : Row → RowResult → Bool
 result_is_good row (Is cat) = not (is_end cat)
@@ -56,8 +67,7 @@ result_is_good row (SameAs k) = ltb k row.test_count && not (in_set (test row k)
 
 -- the scraps from one number on, so many, don't admit End
 abbrev pub without_end : Row → ℕ → ℕ → Bool
-without_end row first zero = true
-without_end row first (suc count) = not (in_set (test row first) End) && without_end row (suc first) count
+without_end row first count = list_all (λ k. not (in_set (test row k) End)) (numbers_from first count)
 
 -- an underlined scrap is a tested one and not End
 abbrev pub underline_is_good : Row → Option ℕ → Bool
@@ -69,9 +79,9 @@ abbrev pub reserve_is_good : Row → Option ℕ → Bool
 reserve_is_good row None = true
 reserve_is_good row (Some k) = leb row.offset k && ltb k (row.offset + row.replaced)
 
--- the test of a row, as a list of its parts
-abbrev pub sound_parts : Row → List Bool
-sound_parts row =
+-- the test of a row, as a list of its parts: of its tests, its pieces, its result and its marks
+abbrev pub tests_parts : Row → List Bool
+tests_parts row =
     leb 1 row.test_count
     ∷ leb row.test_count 4
     ∷ leb row.test_count (length row.tests)
@@ -79,15 +89,34 @@ sound_parts row =
     ∷ leb (row.offset + row.replaced) row.test_count
     ∷ not (in_set (test row 0) End)
     ∷ without_end row row.offset row.replaced
-    ∷ leb row.action.usual.count 12
+    ∷ []
+
+-- the pieces hold each replaced scrap once, in order
+abbrev pub holds_replaced : Row → Pieces → Bool
+holds_replaced row pieces = same_numbers (scraps_in (translation pieces)) (numbers_from row.offset row.replaced)
+
+abbrev pub pieces_parts : Row → List Bool
+pieces_parts row =
+    leb row.action.usual.count 12
     ∷ leb row.action.other.count 12
-    ∷ same_numbers (scraps_in (translation row.action.usual)) (numbers_from row.offset row.replaced)
-    ∷ same_numbers (scraps_in (translation row.action.other)) (numbers_from row.offset row.replaced)
-    ∷ result_is_good row row.result
-    ∷ (leb 2 row.replaced || list_all (lowers row) all_cats)
-    ∷ underline_is_good row row.action.underline
+    ∷ holds_replaced row row.action.usual
+    ∷ holds_replaced row row.action.other
+    ∷ []
+
+abbrev pub result_parts : Row → List Bool
+result_parts row =
+    result_is_good row row.result
+    ∷ (leb 2 row.replaced || lowers_all row)
+    ∷ []
+
+abbrev pub marks_parts : Row → List Bool
+marks_parts row =
+    underline_is_good row row.action.underline
     ∷ reserve_is_good row row.action.reserve
     ∷ []
+
+abbrev pub sound_parts : Row → List Bool
+sound_parts row = tests_parts row ++ pieces_parts row ++ result_parts row ++ marks_parts row
 
 unfoldable pub row_is_sound : Row → Bool
 row_is_sound row = list_all (λ b. b) (sound_parts row)

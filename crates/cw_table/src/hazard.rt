@@ -10,7 +10,7 @@ impl Row {
     ghost use Rattle.cw_table.specs.Safe.{brings, is_hazard, pairs_of, reserves, sees_moved, suits_after, suits_at, suits_before};
 
     // The test of a number; past the tests nothing is admitted.
-    fn test_at(&self, q: usize) -> CatSet
+    pub(crate) fn test_at(&self, q: usize) -> CatSet
         ensures { result ≡ test self.now q }
     {
         if q < self.test_count as usize && q < 4 {

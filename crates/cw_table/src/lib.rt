@@ -2,6 +2,7 @@
 #![tactic(auto)]
 
 mod back;
+mod checks;
 mod distance;
 mod hazard;
 mod masks;

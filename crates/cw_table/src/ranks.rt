@@ -9,6 +9,12 @@ pub fn rank(cat: Cat) -> u8
     requires { cat ≢ Cat.End }
     ensures { result ≡ spec.rank cat }
 {
+    rank_of(cat)
+}
+
+pub(crate) fn rank_of(cat: Cat) -> u8
+    ensures { result ≡ spec.rank cat }
+{
     match cat {
         Cat::RawInt | Cat::ConstLike => 3,
         Cat::Cast | Cat::IntLike | Cat::IfClause | Cat::SectionScrap => 2,
