@@ -3,3 +3,5 @@ pub mod LaidLaws
 pub mod SumLaws
 pub mod WholeLaws
 pub mod ProduceLaws
+pub mod PlainCats
+pub mod Going

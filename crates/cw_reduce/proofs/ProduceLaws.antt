@@ -76,7 +76,7 @@ produced-joined f r place xs line new cat ps is-cat is-ps none is e =
     spliced-in f r place xs line new (same ∙ sym (new-joined (result_at r.result (laid_cats (map seen (drop place xs)))) r.replaced (row_pieces f r (laid_cats (map seen (drop place xs)))) (map seen (drop place xs)) (sym (ap (alone r.replaced) is-ps) ∙ none))) e
 
 -- what the row replaces stands in the line
-cats-here : (place : ℕ) (xs : List Scrap) → laid_cats (map seen (drop place xs)) ≡ drop place (laid_cats (map seen xs))
+pub cats-here : (place : ℕ) (xs : List Scrap) → laid_cats (map seen (drop place xs)) ≡ drop place (laid_cats (map seen xs))
 cats-here place xs = ap laid_cats (map-drop seen place xs) ∙ map-drop (λ l. l.cat) place (map seen xs)
 
 here-length : (place : ℕ) (xs : List Scrap) → length (laid_cats (map seen (drop place xs))) ≡ length (drop place xs)

@@ -1,3 +1,4 @@
 pub mod Plain
 pub mod Laid
 pub mod Lines
+pub mod Reducing

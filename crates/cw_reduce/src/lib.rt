@@ -3,5 +3,6 @@
 
 mod join;
 mod produce;
+mod reduce;
 mod scan;
 mod whole;

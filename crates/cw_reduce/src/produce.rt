@@ -81,8 +81,8 @@ fn replace(line: &mut Vec<Scrap>, at: usize, count: usize, scrap: Scrap)
     }
 }
 
-// The scraps from a place on.
-fn from_place(line: &[Scrap], place: usize) -> &[Scrap]
+/// The scraps from a place on.
+pub fn from_place(line: &[Scrap], place: usize) -> &[Scrap]
     requires { place ≤ length line.now }
     ensures { result.now ≡ drop place line.now }
 {

@@ -12,3 +12,4 @@ pub mod RewritingRows
 pub mod ScrapFacts
 pub mod Falling
 pub mod Normals
+pub mod RewrittenCats

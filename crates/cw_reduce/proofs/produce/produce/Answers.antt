@@ -27,9 +27,9 @@ replace-requires-clause-within c = (inside c.args.row.now c.args.place c.args.li
 
 pub returns-in_ok-joined-in-None : goal.returns-in_ok-joined-in-None
 returns-in_ok-joined-in-None c =
-    produced-joined c.args.flags.now c.args.row.now c.args.place c.args.line.now.items c.replace.new.line.items c.in_ok-joined.joined c.new_cat-cat.result c.counted.result.now
+    produced-joined c.args.flags.now c.args.row.now c.args.place c.args.line.now.items c.replace.new.line.items c.in_ok-joined-in-None.joined c.new_cat-cat.result c.counted.result.now
     (c.new_cat-cat.ensures ∙ ap (λ xs. result_at c.args.row.now.result (laid_cats (map seen xs))) (c.from_place-scraps.ensures ∙ ap (drop c.args.place) c.deref.ensures.value))
     (c.counted.ensures ∙ c.pieces-used.ensures ∙ ap (λ xs. row_pieces c.args.flags.now c.args.row.now (laid_cats (map seen xs))) (c.from_place-scraps.ensures ∙ ap (drop c.args.place) c.deref.ensures.value))
     (sym c.in-None.ensures)
-    (c.in_ok-joined.ensures ∙ ap (λ xs. laid_sum (laid_empty c.new_cat-cat.result) (map (piece_laid (map seen xs)) (translation c.pieces-used.result.now))) (c.from_place-scraps.ensures ∙ ap (drop c.args.place) c.deref.ensures.value) ∙ ap (λ ps. laid_sum (laid_empty c.new_cat-cat.result) (map (piece_laid (map seen (drop c.args.place c.args.line.now.items))) ps)) (sym c.counted.ensures))
+    (c.in_ok-joined-in-None.ensures ∙ ap (λ xs. laid_sum (laid_empty c.new_cat-cat.result) (map (piece_laid (map seen xs)) (translation c.pieces-used.result.now))) (c.from_place-scraps.ensures ∙ ap (drop c.args.place) c.deref.ensures.value) ∙ ap (λ ps. laid_sum (laid_empty c.new_cat-cat.result) (map (piece_laid (map seen (drop c.args.place c.args.line.now.items))) ps)) (sym c.counted.ensures))
     c.replace.ensures

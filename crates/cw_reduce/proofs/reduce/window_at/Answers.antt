@@ -1,0 +1,10 @@
+use Rattle.std.proofs.Common.{sym, ◌∙◌, ap, drop, map, get_or, ◌∷◌, [], List}
+use Rattle.cw_base.specs.declared.category.Cat.TheVariants.{End}
+use Rattle.cw_base.specs.declared.category.Cat.{Cat}
+use Rattle.cw_reduce.specs.Laid.{laid_cats}
+use Rattle.cw_reduce.specs.Lines.{seen}
+use Rattle.cw_reduce.proofs.Going.{four-of}
+use Rattle.cw_reduce.proofs.reduce.window_at.Goals as goal
+
+pub returns : goal.returns
+returns c = four-of c.args.line.now c.from_place-scraps.result.now c.args.place _ _ _ _ c.from_place-scraps.ensures c.cat_at.ensures c.cat_at-2.ensures c.cat_at-3.ensures c.cat_at-4.ensures
