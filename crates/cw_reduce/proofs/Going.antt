@@ -1,5 +1,5 @@
 -- The plain reducer goes on along the leftmost-first productions.
-use Rattle.std.proofs.Common.{◌≡◌, ℕ, zero, suc, ◌+◌, ◌-◌, ◌*◌, ◌<◌, ◌≤◌, Bool, true, false, Option, Some, None, List, [], ◌∷◌, ◌++◌, map, get_or, take, drop, length, ◌&&◌, eqb, refl, sym, ◌∙◌, ap, arith, add-one, eq-eqb, eqb-true}
+use Rattle.std.proofs.Common.{◌≡◌, ℕ, zero, suc, ◌+◌, ◌*◌, ◌<◌, ◌≤◌, Bool, true, false, Option, Some, None, List, [], ◌∷◌, map, get_or, take, drop, length, eqb, refl, sym, ◌∙◌, ap, arith, add-one, eq-eqb, eqb-true}
 use Rattle.std.proofs.lemmas.Bool.{ne_eqb}
 use Rattle.std.proofs.lemmas.List.{length-map}
 use Rattle.cw_table.proofs.Joining.{productions-length}
@@ -12,16 +12,15 @@ use Rattle.cw_table.specs.declared.types.Row.{Row}
 use Rattle.cw_table.specs.declared.types.RowNo.{RowNo}
 use Rattle.cw_table.specs.Fitting.{row_fits, first_of, window_of}
 use Rattle.cw_table.specs.Productions.{productions}
-use Rattle.cw_table.specs.Rows.{result_at, row_numbered}
-use Rattle.cw_table.specs.Safe.{rewritten}
+use Rattle.cw_table.specs.Rows.{row_numbered}
 use Rattle.cw_table.specs.Sound.{row_is_sound, are_numbered}
 use Rattle.cw_table.specs.Rewriting.{cats_of, State, rewrite}
-use Rattle.cw_table.specs.Normal.{Place, Nowhere, At, least_place, next_place, is_fine, normal, count}
+use Rattle.cw_table.specs.Normal.{Place, Nowhere, At, least_place, next_place, normal, count}
 use Rattle.cw_table.proofs.Examples.{productions-sound, productions-numbered}
 use Rattle.cw_table.proofs.FirstLaws.{first-window}
 use Rattle.cw_table.proofs.Normals.{Takes, takes, normal-none, normal-step, count-none, count-step, count-most}
 use Rattle.cw_table.proofs.RewrittenCats.{rewritten-cats, right-kept}
-use Rattle.cw_table.proofs.ScrapFacts.{and-left, and-right, all-append, all-take, all-drop, and-both, cats-length}
+use Rattle.cw_table.proofs.ScrapFacts.{and-left, and-right, all-append, all-take, all-drop, and-both}
 use Rattle.cw_reduce.specs.Laid.{Laid, laid, laid_cats, laid_rewrite}
 use Rattle.std.specs.Option.{option_map}
 use Rattle.cw_reduce.specs.Reducing.{Holds, is_plain_cat, place_number}
@@ -68,6 +67,7 @@ numbered (x ∷ rows) first cs r all h = go (λ k. numbered rows (suc first) cs 
   where
     at : x.number.number ≡ first
     at = eqb-true _ _ (and-left (eqb x.number.number first) _ all)
+
     go : (first_of rows cs ≡ Some r → Numbered rows (suc first) r) → (b : Bool) → elim b [ true ↦ Some x | false ↦ first_of rows cs ] ≡ Some r → Numbered (x ∷ rows) first r
     go rec true h =
         let same : x ≡ r = cc in

@@ -1,11 +1,10 @@
 -- Laying flat and rewriting can be done in either order.
-use Rattle.std.proofs.Common.{◌≡◌, ℕ, zero, suc, ◌+◌, Bool, true, false, Option, Some, None, List, [], ◌∷◌, ◌++◌, map, length, get_or, take, drop, refl, sym, ◌∙◌, ap, append_assoc, append-nil}
+use Rattle.std.proofs.Common.{◌≡◌, ℕ, zero, suc, ◌+◌, Option, Some, None, List, [], ◌∷◌, ◌++◌, map, get_or, take, drop, refl, sym, ◌∙◌, ap, append_assoc, append-nil}
 use Rattle.cw_base.specs.declared.category.Cat.{Cat}
-use Rattle.cw_base.specs.declared.category.Cat.TheVariants.{End}
 use Rattle.cw_base.specs.declared.flags.Flags.{Flags}
 use Rattle.cw_base.specs.declared.mode.MathMode.{MathMode}
 use Rattle.cw_base.specs.declared.mode.MathMode.TheVariants.{Text, Math, Maybe}
-use Rattle.cw_trees.specs.Tree.{Tree, Empty, Then, Sub, Inner, Sign}
+use Rattle.cw_trees.specs.Tree.{Tree, Then, Sub, Sign}
 use Rattle.cw_trees.specs.Joining.{Scrap, no_scrap, Joined, Whole, Mark, needs, after, first_mode, toggled, joined_tree, joined_left, joined_right, join, in_text, dollar_before, blank_and_whole, whole}
 use Rattle.cw_trees.specs.declared.Control.TheVariants.{Blank}
 use Rattle.cw_trees.specs.Flat.{Item, SignItem, flat}
@@ -14,7 +13,7 @@ use Rattle.cw_table.specs.declared.types.Piece.TheVariants as piece
 use Rattle.cw_table.specs.declared.types.Row.{Row}
 use Rattle.cw_table.specs.Rows.{result_at}
 use Rattle.cw_table.specs.Rewriting.{cats_of, alone, row_pieces, joined_of, math_piece, with_cat, new_from, new_scrap, rewrite_from, reserved_at, search_in, named_right, State, rewrite}
-use Rattle.cw_reduce.specs.Laid.{Laid, laid, no_laid, laid_cats, LaidPiece, laid_piece, math_laid, sign_piece, sign_of, piece_laid, toggles, laid_add, laid_sum, laid_empty, recat, laid_new, laid_from, laid_rewrite, dollar_items, laid_in_text, laid_behind, laid_whole}
+use Rattle.cw_reduce.specs.Laid.{Laid, laid, no_laid, laid_cats, LaidPiece, laid_piece, math_laid, sign_piece, piece_laid, toggles, laid_add, laid_sum, laid_empty, recat, laid_new, laid_from, laid_rewrite, dollar_items, laid_in_text, laid_behind, laid_whole}
 
 -- a joined piece, laid flat
 abbrev lay : Joined → LaidPiece

@@ -5,3 +5,6 @@ pub mod WholeLaws
 pub mod ProduceLaws
 pub mod PlainCats
 pub mod Going
+pub mod ScanLaws
+pub mod PlainStart
+pub mod PartLaws

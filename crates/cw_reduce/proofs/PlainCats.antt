@@ -1,5 +1,5 @@
 -- The categories of plain statements are closed under productions, and no row that fits them reserves a name.
-use Rattle.std.proofs.Common.{◌≡◌, ℕ, zero, suc, ◌+◌, Bool, true, false, not, ◌&&◌, ◌||◌, Option, Some, None, List, [], ◌∷◌, ◌++◌, map, get_or, take, drop, length, ◌<◌, refl, sym, ◌∙◌, ap, arith, true≢false, slice_get}
+use Rattle.std.proofs.Common.{◌≡◌, ℕ, zero, suc, Bool, true, false, not, ◌&&◌, ◌||◌, Option, Some, None, List, [], ◌∷◌, get_or, length, ◌<◌, refl, sym, ◌∙◌, ap, arith, true≢false, slice_get}
 use Rattle.cw_table.specs.Sound.{IsSound}
 use Rattle.cw_table.proofs.ScrapFacts.{and-left, and-right, and-both}
 use Rattle.cw_table.proofs.Falling.{hold-at}

@@ -1,9 +1,8 @@
 -- Worked C parts of plain statements.
-use Rattle.std.proofs.Common.{◌≡◌, true, false, codes, refl, map}
-use Rattle.cw_base.specs.Flags.{start_flags}
+use Rattle.std.proofs.Common.{◌≡◌, true, false, codes, refl}
 use Rattle.cw_table.specs.Productions.{productions}
-use Rattle.cw_table.specs.Normal.{normal, log}
-use Rattle.cw_reduce.specs.Plain.{is_plain_part, c_part, plain_start}
+use Rattle.cw_table.specs.Normal.{normal}
+use Rattle.cw_reduce.specs.Plain.{is_plain_part, c_part}
 
 increment : c_part (codes "@c i=i+1;\n") ≡ codes "$\\|i\\K\\|i+\\T{1};$"
 unfolding c_part normal productions

@@ -1,5 +1,5 @@
 -- One production in the line of the plain reducer.
-use Rattle.std.proofs.Common.{◌≡◌, ℕ, zero, suc, ◌+◌, ◌<◌, ◌≤◌, Bool, true, false, Option, Some, None, List, [], ◌∷◌, ◌++◌, map, length, get_or, take, drop, set, refl, sym, ◌∙◌, ap, arith, add-one, append_assoc, drop-drop, get_or-drop, length-drop}
+use Rattle.std.proofs.Common.{◌≡◌, ℕ, zero, suc, ◌+◌, ◌<◌, ◌≤◌, true, Option, Some, None, List, [], ◌∷◌, ◌++◌, map, length, get_or, take, drop, set, refl, sym, ◌∙◌, ap, arith, add-one, append_assoc, drop-drop, get_or-drop, length-drop}
 use Rattle.std.proofs.lemmas.List.{length-map, set_split, length-take-le}
 use Rattle.std.proofs.Math.Seq.{take-add, take-append-add, drop-append-add}
 use Rattle.cw_base.specs.declared.category.Cat.{Cat}
@@ -9,12 +9,12 @@ use Rattle.cw_table.specs.declared.types.Piece.{Piece}
 use Rattle.cw_table.specs.declared.types.Row.{Row}
 use Rattle.cw_table.specs.Rows.{result_at}
 use Rattle.cw_table.specs.Fitting.{row_fits}
-use Rattle.cw_table.specs.Sound.{row_is_sound, IsSound}
+use Rattle.cw_table.specs.Sound.{row_is_sound}
 use Rattle.cw_table.specs.Rewriting.{alone, row_pieces}
 use Rattle.cw_table.proofs.Falling.{room, alone-at}
 use Rattle.cw_table.proofs.Soundness.{sound-row}
 use Rattle.cw_reduce.specs.declared.join.Scrap.{Scrap}
-use Rattle.cw_reduce.specs.Laid.{Laid, no_laid, laid_cats, LaidPiece, piece_laid, laid_sum, laid_empty, recat, laid_new, laid_from, laid_rewrite}
+use Rattle.cw_reduce.specs.Laid.{Laid, no_laid, laid_cats, piece_laid, laid_sum, laid_empty, recat, laid_new, laid_rewrite}
 use Rattle.cw_reduce.specs.Lines.{seen}
 use Rattle.cw_reduce.proofs.LaidLaws.{map-append, map-take, map-drop}
 
@@ -117,5 +117,5 @@ produced-kept f r place k xs old new cat ps kept is-cat is-ps some at is =
     let new-is : seen new ≡ new_of f r (map seen (drop place xs)) = same ∙ sym (new-kept (result_at r.result (laid_cats (map seen (drop place xs)))) r.replaced k (row_pieces f r (laid_cats (map seen (drop place xs)))) (map seen (drop place xs)) (sym (ap (alone r.replaced) is-ps) ∙ some)) in
     let first : place + k ≡ place + r.offset = ap (λ n. place + n) kept.at in
     let line : set xs (place + k) new ≡ take (place + r.offset) xs ++ new ∷ drop (place + r.offset + r.replaced) xs =
-        set-first xs (place + k) new kept.within ∙ ap (λ n. take n xs ++ new ∷ drop (n + 1) xs) first ∙ ap (λ n. take (place + r.offset) xs ++ new ∷ drop (place + r.offset + n) xs) (sym kept.one) in
+    set-first xs (place + k) new kept.within ∙ ap (λ n. take n xs ++ new ∷ drop (n + 1) xs) first ∙ ap (λ n. take (place + r.offset) xs ++ new ∷ drop (place + r.offset + n) xs) (sym kept.one) in
     spliced-in f r place xs (set xs (place + k) new) new new-is line

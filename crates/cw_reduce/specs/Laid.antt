@@ -1,5 +1,5 @@
 -- Scraps as the plain reducer holds them: each with all items of its translation in one list, without subtrees.
-use Rattle.std.specs.Prelude.{ℕ, zero, suc, ◌+◌, Bool, true, false, Option, Some, None, List, [], ◌∷◌, ◌++◌, map, get_or, take, drop}
+use Rattle.std.specs.Prelude.{ℕ, ◌+◌, Some, None, List, [], ◌∷◌, ◌++◌, map, get_or, take, drop}
 use Rattle.cw_base.specs.declared.category.Cat.{Cat}
 use Rattle.cw_base.specs.declared.category.Cat.TheVariants.{End}
 use Rattle.cw_base.specs.declared.flags.Flags.{Flags}
@@ -9,7 +9,7 @@ use Rattle.cw_trees.specs.declared.Control.{Control}
 use Rattle.cw_trees.specs.declared.Control.TheVariants.{ToMath, ToText, Dollar, Blank}
 use Rattle.cw_trees.specs.declared.Control.TheVariants as control
 use Rattle.cw_trees.specs.Joining.{Scrap, needs, after, first_mode}
-use Rattle.cw_trees.specs.Flat.{Item, SourceItem, IdentItem, SignItem, flat}
+use Rattle.cw_trees.specs.Flat.{Item, SignItem, flat}
 use Rattle.cw_table.specs.declared.types.Piece.{Piece}
 use Rattle.cw_table.specs.declared.types.Piece.TheVariants as piece
 use Rattle.cw_table.specs.declared.types.Row.{Row}

@@ -1,5 +1,5 @@
 -- The plain reducer's scraps, as the definitions see them.
-use Rattle.std.specs.Prelude.{List, [], ◌∷◌, map}
+use Rattle.std.specs.Prelude.{List, map}
 use Rattle.cw_trees.specs.Flat.{Item as FlatItem, SourceItem, IdentItem, SignItem}
 use Rattle.cw_reduce.specs.declared.join.Item.{Item}
 use Rattle.cw_reduce.specs.declared.join.Item.TheVariants.{Source, Ident, Sign}

@@ -1,13 +1,13 @@
 -- C parts of plain statements: `@c`, and then one letter identifiers, decimal constants, the signs `=`, `+`, `-`,
 -- `;`, `(` and `)`, and white space. How they are scanned, what they are made of, and the bytes that they print.
-use Rattle.std.specs.Prelude.{ℕ, zero, suc, Bool, true, false, ◌&&◌, ◌||◌, eqb, leb, List, [], ◌∷◌, ◌++◌, map, drop, codes}
+use Rattle.std.specs.Prelude.{ℕ, suc, Bool, true, false, ◌&&◌, ◌||◌, eqb, leb, List, [], ◌∷◌, ◌++◌, map, drop, codes}
 use Rattle.cw_base.specs.Flags.{start_flags}
 use Rattle.cw_base.specs.Text.{is_blank}
 use Rattle.cw_base.specs.declared.category.Cat.{Cat}
 use Rattle.cw_base.specs.declared.category.Cat.TheVariants.{Exp, Binop, Ubinop, Semi, Lpar, Rpar}
 use Rattle.cw_base.specs.declared.mode.MathMode.{MathMode}
 use Rattle.cw_base.specs.declared.mode.MathMode.TheVariants.{Math, Maybe}
-use Rattle.cw_trees.specs.Tree.{Source, Ident, Tree, Empty, Then}
+use Rattle.cw_trees.specs.Tree.{Source, Ident, Empty, Then}
 use Rattle.cw_trees.specs.Joining.{Scrap, whole}
 use Rattle.cw_trees.specs.Flat.{Item, SourceItem, IdentItem, ReservedItem, SignItem, Open, Close, flat, trimmed}
 use Rattle.cw_trees.specs.Printing.{Printable, printed, sign_bytes, ident_bytes, reserved_bytes}

@@ -40,10 +40,8 @@ fn needed(control: Control) -> MathMode
         | Control::Backup
         | Control::ToMath
         | Control::CommentEnd => MathMode::Text,
-        Control::OpenBrace
-        | Control::CloseBrace
-        | Control::OpenRelation
-        | Control::ToText => MathMode::Math,
+        Control::OpenBrace | Control::CloseBrace | Control::OpenRelation | Control::ToText =>
+            MathMode::Math,
         _ => MathMode::Maybe,
     }
 }
@@ -155,7 +153,11 @@ impl Scrap {
         ensures { OnOk result (seen self.new ≡ laid_add (seen self.old) (math_laid (seen scrap.now).items (seen scrap.now).left (seen scrap.now).right)) }
     {
         match (scrap.left, scrap.right) {
-            (MathMode::Maybe, MathMode::Maybe) => self.add(scrap.items.as_slice(), MathMode::Math, MathMode::Math),
+            (MathMode::Maybe, MathMode::Maybe) => self.add(
+                scrap.items.as_slice(),
+                MathMode::Math,
+                MathMode::Math,
+            ),
             _ => self.add(scrap.items.as_slice(), scrap.left, scrap.right),
         }
     }

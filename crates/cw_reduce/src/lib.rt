@@ -2,7 +2,16 @@
 #![tactic(auto)]
 
 mod join;
+mod part;
+mod print;
 mod produce;
 mod reduce;
 mod scan;
+mod trim;
 mod whole;
+
+pub use part::c_part_bytes;
+pub use scan::is_plain_c_part;
+
+#[cfg(test)]
+mod tests;

@@ -15,7 +15,11 @@ use std::alloc::{AllocError, Global};
 pub fn cat_at(scraps: &[Scrap], i: usize) -> Cat
     ensures { result ≡ get_or (laid_cats (map seen scraps.now)) i Cat.End }
 {
-    if i < scraps.len() { scraps[i].cat } else { Cat::End }
+    if i < scraps.len() {
+        scraps[i].cat
+    } else {
+        Cat::End
+    }
 }
 
 // The category of the new scrap, where these scraps stand from the row's place on.
@@ -90,7 +94,13 @@ pub fn from_place(line: &[Scrap], place: usize) -> &[Scrap]
 }
 
 /// The production of a row that reserves nothing, at a place where it fits.
-pub fn produce(alloc: Global, line: &mut Vec<Scrap>, place: usize, row: &Row, flags: &Flags) -> Result<(), AllocError>
+pub fn produce(
+    alloc: Global,
+    line: &mut Vec<Scrap>,
+    place: usize,
+    row: &Row,
+    flags: &Flags,
+) -> Result<(), AllocError>
     requires sound { row_is_sound row.now ≡ true }
     requires place { place ≤ length line.old.items }
     requires fits { row_fits row.now (drop place (laid_cats (map seen line.old.items))) ≡ true }
@@ -106,7 +116,12 @@ pub fn produce(alloc: Global, line: &mut Vec<Scrap>, place: usize, row: &Row, fl
         }
         None => {
             let joined = join(alloc, cat, scraps, used)?;
-            replace(line, place + row.offset as usize, row.replaced as usize, joined);
+            replace(
+                line,
+                place + row.offset as usize,
+                row.replaced as usize,
+                joined,
+            );
             Ok(())
         }
     }

@@ -1,6 +1,5 @@
-use Rattle.std.proofs.Common.{◌≡◌, ◌<◌, ◌≤◌, ◌+◌, ◌∙◌, sym, map, length, get_or, drop, take, min, arith, refl, ap}
-use Rattle.cw_table.specs.Rows.{translation}
-use Rattle.cw_reduce.specs.Laid.{piece_laid, laid_sum, laid_empty}
+use Rattle.std.proofs.Common.{◌+◌, ◌∙◌, sym, map, arith}
+use Rattle.cw_reduce.specs.Laid.{piece_laid}
 use Rattle.cw_reduce.specs.Lines.{seen}
 use Rattle.cw_reduce.proofs.SumLaws.{sum-step, sum-past}
 use Rattle.cw_reduce.proofs.join.join.Goals as goal

@@ -1,4 +1,4 @@
-use Rattle.std.proofs.Common.{◌≡◌, ◌+◌, ◌≤◌, ◌++◌, ◌∷◌, take, drop, length}
+use Rattle.std.proofs.Common.{◌≡◌, ◌+◌, ◌++◌, ◌∷◌, take, drop}
 use Rattle.cw_reduce.proofs.produce.replace.Given as goal
 
 abbrev pub invariant-loop-i : goal.invariant-loop-i

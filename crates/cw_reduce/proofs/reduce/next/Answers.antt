@@ -1,4 +1,4 @@
-use Rattle.std.proofs.Common.{arith, map, length, ◌<◌}
+use Rattle.std.proofs.Common.{arith, map}
 use Rattle.cw_reduce.specs.Laid.{laid_cats}
 use Rattle.cw_reduce.specs.Lines.{seen}
 use Rattle.cw_reduce.proofs.Going.{found-here, none-here, line-length}

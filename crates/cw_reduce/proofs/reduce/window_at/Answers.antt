@@ -1,8 +1,3 @@
-use Rattle.std.proofs.Common.{sym, ◌∙◌, ap, drop, map, get_or, ◌∷◌, [], List}
-use Rattle.cw_base.specs.declared.category.Cat.TheVariants.{End}
-use Rattle.cw_base.specs.declared.category.Cat.{Cat}
-use Rattle.cw_reduce.specs.Laid.{laid_cats}
-use Rattle.cw_reduce.specs.Lines.{seen}
 use Rattle.cw_reduce.proofs.Going.{four-of}
 use Rattle.cw_reduce.proofs.reduce.window_at.Goals as goal
 

@@ -1,4 +1,3 @@
-use Rattle.std.proofs.Common.{arith}
 use Rattle.cw_reduce.proofs.WholeLaws.{whole-step}
 use Rattle.cw_reduce.proofs.whole.whole.Goals as goal
 
