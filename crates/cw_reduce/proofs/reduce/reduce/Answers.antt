@@ -12,30 +12,26 @@ row-row-requires c =
     let s : Stepping c.args.flags.now (plain_start c.args.part.now) c.loop-place.line.items c.loop-place.done c.in-Some.place c.in-Some.number = step-of c.args.flags.now (plain_start c.args.part.now) c.loop-place.line.items c.as_slice.result.now c.loop-place.done c.in-Some.place c.in-Some.number c.loop-place.invariant c.as_slice.ensures.value c.in-Some.ensures in
     (omega arith, (omega (arith, s.goes.from_one), omega (arith, s.goes.to_last)))
 
-pub produce-requires-clause-sound : goal.produce-requires-clause-sound
-produce-requires-clause-sound c =
-    let t : Turning c.args.flags.now (plain_start c.args.part.now) c.loop-place.line.items c.loop-place.done c.in-Some.place c.row-row.result.now = turn-of c.args.flags.now (plain_start c.args.part.now) c.loop-place.line.items c.as_slice.result.now c.loop-place.done c.in-Some.place c.in-Some.number c.args.table.now c.row-row.result.now c.loop-place.invariant c.as_slice.ensures.value c.in-Some.ensures c.requires c.row-row.ensures in t.is_sound
-
 pub produce-requires-clause-place : goal.produce-requires-clause-place
 produce-requires-clause-place c =
-    let t : Turning c.args.flags.now (plain_start c.args.part.now) c.loop-place.line.items c.loop-place.done c.in-Some.place c.row-row.result.now = turn-of c.args.flags.now (plain_start c.args.part.now) c.loop-place.line.items c.as_slice.result.now c.loop-place.done c.in-Some.place c.in-Some.number c.args.table.now c.row-row.result.now c.loop-place.invariant c.as_slice.ensures.value c.in-Some.ensures c.requires c.row-row.ensures in t.within
+    let t : Turning c.args.flags.now (plain_start c.args.part.now) c.loop-place.line.items c.loop-place.done c.in-Some.place c.row-row.result.now = turn-of c.args.flags.now (plain_start c.args.part.now) c.loop-place.line.items c.as_slice.result.now c.loop-place.done c.in-Some.place c.in-Some.number c.args.table.now c.row-row.result.now c.loop-place.invariant c.as_slice.ensures.value c.in-Some.ensures c.requires c.row-row.ensures.number in t.within
 
 pub produce-requires-clause-fits : goal.produce-requires-clause-fits
 produce-requires-clause-fits c =
-    let t : Turning c.args.flags.now (plain_start c.args.part.now) c.loop-place.line.items c.loop-place.done c.in-Some.place c.row-row.result.now = turn-of c.args.flags.now (plain_start c.args.part.now) c.loop-place.line.items c.as_slice.result.now c.loop-place.done c.in-Some.place c.in-Some.number c.args.table.now c.row-row.result.now c.loop-place.invariant c.as_slice.ensures.value c.in-Some.ensures c.requires c.row-row.ensures in t.fits
+    let t : Turning c.args.flags.now (plain_start c.args.part.now) c.loop-place.line.items c.loop-place.done c.in-Some.place c.row-row.result.now = turn-of c.args.flags.now (plain_start c.args.part.now) c.loop-place.line.items c.as_slice.result.now c.loop-place.done c.in-Some.place c.in-Some.number c.args.table.now c.row-row.result.now c.loop-place.invariant c.as_slice.ensures.value c.in-Some.ensures c.requires c.row-row.ensures.number in t.fits
 
 pub overflow_add-done : goal.overflow_add-done
 overflow_add-done c =
-    let t : Turning c.args.flags.now (plain_start c.args.part.now) c.loop-place.line.items c.loop-place.done c.in-Some.place c.row-row.result.now = turn-of c.args.flags.now (plain_start c.args.part.now) c.loop-place.line.items c.as_slice.result.now c.loop-place.done c.in-Some.place c.in-Some.number c.args.table.now c.row-row.result.now c.loop-place.invariant c.as_slice.ensures.value c.in-Some.ensures c.requires c.row-row.ensures in
+    let t : Turning c.args.flags.now (plain_start c.args.part.now) c.loop-place.line.items c.loop-place.done c.in-Some.place c.row-row.result.now = turn-of c.args.flags.now (plain_start c.args.part.now) c.loop-place.line.items c.as_slice.result.now c.loop-place.done c.in-Some.place c.in-Some.number c.args.table.now c.row-row.result.now c.loop-place.invariant c.as_slice.ensures.value c.in-Some.ensures c.requires c.row-row.ensures.number in
     Fits-le {n = 2 ^ 67} (omega (arith, t.enough, few-plain c.args.part.now)) (Fits-lit tt)
 
 pub loop-place-smaller : goal.loop-place-smaller
 loop-place-smaller c =
-    let t : Turning c.args.flags.now (plain_start c.args.part.now) c.loop-place.line.items c.loop-place.done c.in-Some.place c.row-row.result.now = turn-of c.args.flags.now (plain_start c.args.part.now) c.loop-place.line.items c.as_slice.result.now c.loop-place.done c.in-Some.place c.in-Some.number c.args.table.now c.row-row.result.now c.loop-place.invariant c.as_slice.ensures.value c.in-Some.ensures c.requires c.row-row.ensures in omega (arith, t.more)
+    let t : Turning c.args.flags.now (plain_start c.args.part.now) c.loop-place.line.items c.loop-place.done c.in-Some.place c.row-row.result.now = turn-of c.args.flags.now (plain_start c.args.part.now) c.loop-place.line.items c.as_slice.result.now c.loop-place.done c.in-Some.place c.in-Some.number c.args.table.now c.row-row.result.now c.loop-place.invariant c.as_slice.ensures.value c.in-Some.ensures c.requires c.row-row.ensures.number in omega (arith, t.more)
 
 pub loop-place-preserved : goal.loop-place-preserved
 loop-place-preserved c =
-    let t : Turning c.args.flags.now (plain_start c.args.part.now) c.loop-place.line.items c.loop-place.done c.in-Some.place c.row-row.result.now = turn-of c.args.flags.now (plain_start c.args.part.now) c.loop-place.line.items c.as_slice.result.now c.loop-place.done c.in-Some.place c.in-Some.number c.args.table.now c.row-row.result.now c.loop-place.invariant c.as_slice.ensures.value c.in-Some.ensures c.requires c.row-row.ensures in t.next c.produce.new.line.items c.in_ok-produce.ensures
+    let t : Turning c.args.flags.now (plain_start c.args.part.now) c.loop-place.line.items c.loop-place.done c.in-Some.place c.row-row.result.now = turn-of c.args.flags.now (plain_start c.args.part.now) c.loop-place.line.items c.as_slice.result.now c.loop-place.done c.in-Some.place c.in-Some.number c.args.table.now c.row-row.result.now c.loop-place.invariant c.as_slice.ensures.value c.in-Some.ensures c.requires c.row-row.ensures.number in t.next c.produce.new.line.items c.in_ok-produce.ensures
 
 pub returns-clause-normal : goal.returns-clause-normal
 returns-clause-normal c = (end-of c.args.flags.now (plain_start c.args.part.now) c.loop-place.line.items c.as_slice.result.now c.loop-place.done c.loop-place.invariant c.as_slice.ensures.value c.in_default.ensures).normal
