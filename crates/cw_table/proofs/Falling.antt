@@ -1,5 +1,5 @@
 -- Each production of a sound row lowers the weight, and keeps every scrap fine.
-use Rattle.std.proofs.Common.{◌≡◌, ℕ, zero, suc, ◌+◌, ◌-◌, ◌*◌, ◌<◌, ◌≤◌, ◌⊎◌, inl, inr, Bool, true, false, ◌&&◌, Option, Some, None, List, [], ◌∷◌, ◌++◌, map, length, get_or, take, drop, set, leb, refl, sym, ◌∙◌, ap, arith, true≢false, leb-true, leb-false, length-append, length-drop, drop-drop}
+use Rattle.std.proofs.Common.{◌≡◌, ℕ, zero, suc, ◌+◌, ◌-◌, ◌<◌, ◌≤◌, ◌⊎◌, inl, inr, Bool, true, false, Option, Some, None, List, [], ◌∷◌, map, length, get_or, take, drop, leb, refl, sym, ◌∙◌, ap, arith, true≢false, leb-true, leb-false, length-append, length-drop, drop-drop}
 use Rattle.std.proofs.lemmas.List.{length-take-le, get_or_past}
 use Rattle.std.specs.List.{list_all}
 use Rattle.cw_base.specs.declared.category.Cat.{Cat}
@@ -9,7 +9,7 @@ use Rattle.cw_base.specs.declared.flags.Flags.{Flags}
 use Rattle.cw_base.specs.Category.{rank, may_be_bare, in_set}
 use Rattle.cw_base.specs.declared.mode.MathMode.TheVariants.{Maybe}
 use Rattle.cw_trees.specs.Tree.{bare_name}
-use Rattle.cw_trees.specs.Joining.{Scrap, no_scrap, join, joined_tree}
+use Rattle.cw_trees.specs.Joining.{Scrap, no_scrap, join}
 use Rattle.cw_table.specs.declared.types.Piece.{Piece}
 use Rattle.cw_table.specs.declared.types.Piece.TheVariants as piece
 use Rattle.cw_table.specs.declared.types.Row.{Row}
@@ -18,7 +18,7 @@ use Rattle.cw_table.specs.declared.types.RowResult.TheVariants.{Is, SameAs}
 use Rattle.cw_table.specs.Rows.{empty, tests_of, test, translation, result_at}
 use Rattle.cw_table.specs.Fitting.{all_hold, row_fits}
 use Rattle.cw_table.specs.Sound.{scraps_in, numbers_from, result_from, IsLowering, IsSound}
-use Rattle.cw_table.specs.Rewriting.{cats_of, takes_other, row_pieces, joined_of, alone, with_cat, new_from, new_scrap, search_in, reserved_at, named_right, rewrite_from, State, rewrite}
+use Rattle.cw_table.specs.Rewriting.{cats_of, takes_other, row_pieces, joined_of, alone, with_cat, new_scrap, search_in, reserved_at, named_right, rewrite_from, State, rewrite}
 use Rattle.cw_table.specs.Normal.{rank_with, weight_of, weight, fine_with, is_fine}
 use Rattle.cw_table.proofs.ScrapFacts.{and-both, all-append, all-take, all-drop, all-get, rank_with-none, rank_with-least, rank-most, joined-bare, weight-append, weight-split, weight-least, weight-one, cats-get, cats-length, cats-drop, at-cats, at-weight, at-fine, at-length, right-weight, right-fine, right-length}
 

@@ -1,5 +1,5 @@
 -- Laws of the first row that fits.
-use Rattle.std.proofs.Common.{◌≡◌, ◌<◌, ◌≤◌, ◌+◌, ◌∙◌, sym, ap, ℕ, zero, suc, Bool, true, false, List, [], ◌∷◌, length, take, Option, Some, None, refl, arith, length-take-le}
+use Rattle.std.proofs.Common.{◌≡◌, ◌≤◌, ◌∙◌, sym, ap, ℕ, zero, suc, Bool, true, false, List, [], ◌∷◌, length, Some, refl, arith, length-take-le}
 use Rattle.std.specs.List.{list_all}
 use Rattle.cw_base.specs.declared.category.Cat.{Cat}
 use Rattle.cw_base.specs.declared.category.Cat.TheVariants.{End}

@@ -1,5 +1,5 @@
 -- The code's test of pairs, on sets of categories, is that of the pairs themselves.
-use Rattle.std.proofs.Common.{◌≡◌, ◌<◌, ◌≤◌, ◌+◌, ◌-◌, ◌∙◌, sym, ap, ℕ, zero, suc, Bool, true, false, not, List, [], ◌∷◌, ◌++◌, map, refl, arith, ◌&&◌, ◌||◌, eq-eqb, add-zero, get_or, length, take, take_all}
+use Rattle.std.proofs.Common.{◌≡◌, ◌<◌, ◌≤◌, ◌+◌, ◌∙◌, sym, ap, ℕ, zero, suc, Bool, true, false, not, List, [], ◌∷◌, ◌++◌, map, refl, arith, ◌&&◌, ◌||◌, eq-eqb, add-zero, get_or, length, take, take_all}
 use Rattle.std.specs.List.{flat_map, list_all, list_any}
 use Rattle.std.specs.Prelude.{filter}
 use Rattle.std.proofs.lemmas.Bool.{ne_eqb}
@@ -8,7 +8,6 @@ use Rattle.cw_base.specs.declared.category.Cat.{Cat}
 use Rattle.cw_base.specs.declared.category.CatSet.{CatSet}
 use Rattle.cw_base.specs.Category.{all_cats, in_set, leaves, meet, some_of}
 use Rattle.cw_base.proofs.SetLaws.{any-same}
-use Rattle.cw_table.specs.declared.types.RowResult.{RowResult}
 use Rattle.cw_table.specs.declared.types.RowResult.TheVariants.{Is, SameAs}
 use Rattle.cw_table.specs.declared.types.Row.{Row}
 use Rattle.cw_table.specs.Rows.{test}

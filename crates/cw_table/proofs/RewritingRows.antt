@@ -1,11 +1,11 @@
 -- Worked rows of rewriting: the productions, the marks and the trees of some C texts, by the 92 rows.
-use Rattle.std.proofs.Common.{◌≡◌, ℕ, zero, suc, ◌+◌, Bool, true, false, Option, Some, None, List, [], ◌∷◌, ◌++◌, map, length, codes, get_or, replicate, refl}
+use Rattle.std.proofs.Common.{◌≡◌, ℕ, false, List, [], ◌∷◌, map, codes, get_or, replicate, refl}
 use Rattle.cw_base.specs.declared.category.Cat.{Cat}
-use Rattle.cw_base.specs.declared.category.Cat.TheVariants.{RawInt, ConstLike, Cast, IntLike, SectionScrap, Exp, DeclHead, ElseLike, Semi, RawUbin, Unop, Binop, Ubinop, Question, Lpar, Rpar, Lbrace, Rbrace, Comma, Colon, StructLike, CaseLike, IfLike, TypedefLike, Decl, Stmt}
+use Rattle.cw_base.specs.declared.category.Cat.TheVariants.{RawInt, Exp, ElseLike, Semi, RawUbin, Binop, Ubinop, Question, Lpar, Rpar, Lbrace, Rbrace, Comma, Colon, IfLike, TypedefLike, Decl}
 use Rattle.cw_base.specs.declared.mode.MathMode.{MathMode}
-use Rattle.cw_base.specs.declared.mode.MathMode.TheVariants.{Text, Math, Maybe}
+use Rattle.cw_base.specs.declared.mode.MathMode.TheVariants.{Math, Maybe}
 use Rattle.cw_base.specs.Flags.{start_flags}
-use Rattle.cw_trees.specs.Tree.{Leaf, Source, Ident, Reserved, Sign, Tree, Empty, Then, Sub, Inner}
+use Rattle.cw_trees.specs.Tree.{Source, Ident, Reserved, Empty, Then}
 use Rattle.cw_trees.specs.Joining.{Scrap, whole}
 use Rattle.cw_trees.specs.Flat.{Item, SourceItem, IdentItem, ReservedItem, SignItem, flat, trimmed}
 use Rattle.cw_trees.specs.Printing.{Printable, printed, sign_bytes, ident_bytes, reserved_bytes}

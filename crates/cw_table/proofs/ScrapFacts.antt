@@ -1,13 +1,13 @@
 -- Facts on lists of scraps: their weights, their categories, and whether each is fine.
-use Rattle.std.proofs.Common.{◌≡◌, ℕ, zero, suc, ◌+◌, ◌*◌, ◌<◌, ◌≤◌, Bool, true, false, ◌&&◌, Option, Some, None, List, [], ◌∷◌, ◌++◌, map, length, get_or, take, drop, set, eqb, refl, sym, ◌∙◌, ap, arith, add_assoc, zero-add, take-append-drop}
+use Rattle.std.proofs.Common.{◌≡◌, ℕ, zero, suc, ◌+◌, ◌*◌, ◌<◌, ◌≤◌, Bool, true, false, ◌&&◌, Option, Some, None, List, [], ◌∷◌, ◌++◌, map, length, get_or, take, drop, set, refl, sym, ◌∙◌, ap, arith, add_assoc, zero-add, take-append-drop}
 use Rattle.std.specs.List.{list_all}
 use Rattle.cw_base.specs.declared.category.Cat.{Cat}
 use Rattle.cw_base.specs.declared.category.Cat.TheVariants.{Exp, RawInt, End}
-use Rattle.cw_base.specs.Category.{rank, may_be_bare}
+use Rattle.cw_base.specs.Category.{rank}
 use Rattle.cw_base.specs.declared.mode.MathMode.{MathMode}
-use Rattle.cw_base.specs.declared.mode.MathMode.TheVariants.{Text, Math, Maybe}
-use Rattle.cw_trees.specs.Tree.{Leaf, Source, Ident, Reserved, Sign, Tree, Empty, Then, Sub, Inner, bare_name, Search, Found, Stopped, Nothing, search_leaf, search_word, search_sign, first_ident, reserve_first, reserved_leaf}
-use Rattle.cw_trees.specs.Joining.{Scrap, no_scrap, Joined, Whole, Mark, toggled, joined_tree, after, needs}
+use Rattle.cw_base.specs.declared.mode.MathMode.TheVariants.{Text, Math}
+use Rattle.cw_trees.specs.Tree.{Source, Ident, Reserved, Sign, Tree, Empty, Then, Sub, Inner, bare_name, Search, Found, Stopped, Nothing, search_word, search_sign, first_ident, reserve_first}
+use Rattle.cw_trees.specs.Joining.{Scrap, no_scrap, Joined, Whole, Mark, toggled, joined_tree, needs}
 use Rattle.cw_table.specs.Sound.{is_exp}
 use Rattle.cw_table.specs.Rewriting.{cats_of, reserved_in, reserved_at, with_cat, is_name, named_scrap, named_right}
 use Rattle.cw_table.specs.Normal.{rank_with, weight_of, weight, fine_with, is_fine}

@@ -1,19 +1,17 @@
 -- A row that passes the test keeps the rule.
-use Rattle.std.proofs.Common.{◌≡◌, ◌<◌, ◌≤◌, ◌+◌, ◌∙◌, sym, ap, ℕ, zero, suc, List, [], ◌∷◌, Option, Some, None, Bool, true, false, not, refl, arith, ◌&&◌, ◌||◌, ◌⊎◌, inl, inr, ◌≢◌, eqb, leb, ltb}
+use Rattle.std.proofs.Common.{◌≡◌, ◌<◌, ◌≤◌, ◌+◌, ◌∙◌, sym, ap, ℕ, zero, suc, List, [], ◌∷◌, Some, Bool, true, false, refl, arith, inl, inr, leb}
 use Rattle.std.proofs.lemmas.Bool.Decides.{eqb_tells}
 use Rattle.cw_base.proofs.CategoryLaws.{each-of, every-cat}
 use Rattle.cw_base.proofs.TestLaws.{both-left, both-right, not-true, other-one, unless}
 use Rattle.std.specs.Prelude.{slice_get}
-use Rattle.std.specs.List.{list_all}
 use Rattle.std.proofs.lemmas.Bool.{leb-true, ltb-true, eqb-true}
 use Rattle.cw_base.specs.declared.category.Cat.{Cat}
-use Rattle.cw_base.specs.declared.category.Cat.TheVariants.{Exp, End}
-use Rattle.cw_base.specs.Category.{all_cats, in_set, may_be_bare, number_of, rank}
-use Rattle.cw_table.specs.declared.types.RowResult.{RowResult}
+use Rattle.cw_base.specs.declared.category.Cat.TheVariants.{End}
+use Rattle.cw_base.specs.Category.{in_set}
 use Rattle.cw_table.specs.declared.types.RowResult.TheVariants.{Is, SameAs}
 use Rattle.cw_table.specs.declared.types.Row.{Row}
-use Rattle.cw_table.specs.Rows.{test, translation}
-use Rattle.cw_table.specs.Sound.{IsLowering, IsSound, is_end, is_exp, lowers, lowers_all, numbers_from, reserve_is_good, result_from, result_is_good, row_is_sound, same_numbers, scraps_in, sound_parts, underline_is_good, without_end}
+use Rattle.cw_table.specs.Rows.{test}
+use Rattle.cw_table.specs.Sound.{IsLowering, IsSound, is_exp, lowers, lowers_all, reserve_is_good, result_is_good, row_is_sound, same_numbers, sound_parts, underline_is_good, without_end}
 
 pub same-numbers : (ms ns : List ℕ) → same_numbers ms ns ≡ true → ms ≡ ns
 same-numbers [] [] h = refl

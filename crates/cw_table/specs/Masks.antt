@@ -1,5 +1,5 @@
 -- The productions that admit a category at a place of the window, as the bits of one number.
-use Rattle.std.specs.Prelude.{ℕ, Bool, ◌||◌, leb, List, get_or, map}
+use Rattle.std.specs.Prelude.{ℕ, Bool, ◌||◌, leb, List, map}
 use Rattle.std.specs.Simd.Lanes.{mask_l}
 use Rattle.cw_base.specs.declared.category.Cat.{Cat}
 use Rattle.cw_base.specs.Category.{in_set}

@@ -1,6 +1,6 @@
 -- Rewriting, leftmost place and first row first, until no row fits: the normal form, the log of the productions,
 -- and the weight, which falls at each.
-use Rattle.std.specs.Prelude.{ℕ, zero, suc, ◌+◌, ◌-◌, ◌*◌, Bool, true, false, ltb, Option, Some, None, List, [], ◌∷◌, length, drop}
+use Rattle.std.specs.Prelude.{ℕ, zero, suc, ◌+◌, Bool, true, Option, Some, None, List, [], ◌∷◌, length}
 use Rattle.cw_base.specs.declared.category.Cat.{Cat}
 use Rattle.cw_base.specs.declared.category.Cat.TheVariants.{Exp}
 use Rattle.cw_base.specs.declared.flags.Flags.{Flags}

@@ -1,10 +1,10 @@
 -- One production on a list of scraps: what it replaces, the scrap that it makes, and its marks.
 use Rattle.std.specs.Prelude.{ℕ, zero, suc, ◌+◌, Bool, true, false, not, ◌&&◌, eqb, Option, Some, None, List, [], ◌∷◌, ◌++◌, map, get_or, take, drop, set}
 use Rattle.cw_base.specs.declared.category.Cat.{Cat}
-use Rattle.cw_base.specs.declared.category.Cat.TheVariants.{Exp, Stmt, RawInt, End}
+use Rattle.cw_base.specs.declared.category.Cat.TheVariants.{Stmt, RawInt, End}
 use Rattle.cw_base.specs.declared.flags.Flags.{Flags}
 use Rattle.cw_base.specs.declared.mode.MathMode.{MathMode}
-use Rattle.cw_base.specs.declared.mode.MathMode.TheVariants.{Text, Math, Maybe}
+use Rattle.cw_base.specs.declared.mode.MathMode.TheVariants.{Math, Maybe}
 use Rattle.cw_trees.specs.declared.Control.TheVariants as control
 use Rattle.cw_trees.specs.Tree.{Tree, bare_name, Search, Found, Stopped, Nothing, first_ident, reserve_first}
 use Rattle.cw_trees.specs.Joining.{Scrap, no_scrap, Joined, Whole, Mark, join}

@@ -1,9 +1,9 @@
 -- What holds of each production by itself: first the test that computes it, then the rule that it stands for.
-use Rattle.std.specs.Prelude.{ℕ, zero, suc, ◌+◌, ◌≡◌, ◌≤◌, ◌<◌, Bool, true, false, not, ◌&&◌, ◌||◌, ltb, leb, eqb, List, [], ◌∷◌, ◌++◌, length, Option, Some, None, cond}
+use Rattle.std.specs.Prelude.{ℕ, zero, suc, ◌+◌, ◌≡◌, ◌≤◌, ◌<◌, Bool, true, false, not, ◌&&◌, ◌||◌, ltb, leb, eqb, List, [], ◌∷◌, ◌++◌, length, Option, Some, None}
 use Rattle.std.specs.List.{list_all}
 use Rattle.cw_base.specs.declared.category.Cat.{Cat}
 use Rattle.cw_base.specs.declared.category.Cat.TheVariants.{Exp, End}
-use Rattle.cw_base.specs.Category.{all_cats, in_set, may_be_bare, number_of, rank}
+use Rattle.cw_base.specs.Category.{all_cats, in_set, may_be_bare, rank}
 use Rattle.cw_table.specs.declared.types.Piece.{Piece}
 use Rattle.cw_table.specs.declared.types.Piece.TheVariants.{Scrap, MathScrap}
 use Rattle.cw_table.specs.declared.types.RowResult.{RowResult}

@@ -15,3 +15,6 @@ pub use masks::first_production;
 pub use productions::{ROW_COUNT, production, table};
 pub use ranks::rank;
 pub use types::{Action, Choice, Piece, Pieces, Row, RowNo, RowResult, Table};
+
+#[cfg(test)]
+mod tests;

@@ -1,4 +1,3 @@
-use Rattle.std.proofs.Common.{ap, ◌∙◌}
 use Rattle.cw_table.proofs.MaskLaws.{mask-is}
 use Rattle.cw_table.proofs.masks.mask.Goals as goal
 

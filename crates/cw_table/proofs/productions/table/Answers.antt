@@ -1,4 +1,4 @@
-use Rattle.std.proofs.Common.{◌∙◌, length-set, ap}
+use Rattle.std.proofs.Common.{◌∙◌, length-set}
 use Rattle.std.specs.List.{list_all}
 use Rattle.cw_table.specs.Sound.{are_numbered, row_is_sound}
 use Rattle.cw_table.proofs.Examples.{productions-numbered, productions-sound}

@@ -1,4 +1,4 @@
-use Rattle.std.proofs.Common.{sym, ◌∙◌, arith}
+use Rattle.std.proofs.Common.{sym, ◌∙◌}
 use Rattle.cw_table.proofs.CheckLaws.{lowers-more, lowers-none, lowers-whole}
 use Rattle.cw_table.proofs.types.Row.lowers_all.Goals as goal
 

@@ -1,6 +1,3 @@
-use Rattle.std.proofs.Common.{◌≡◌, ap, sym, ◌∙◌, true}
-use Rattle.std.specs.List.{list_all}
-use Rattle.cw_table.specs.Sound.{row_is_sound}
 use Rattle.cw_table.proofs.SafeLaws.{law-of}
 use Rattle.cw_table.proofs.types.Table.distance.Goals as goal
 

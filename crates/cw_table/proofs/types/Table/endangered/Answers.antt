@@ -1,6 +1,4 @@
-use Rattle.std.proofs.Common.{◌≡◌, ap, sym, ◌∙◌, arith, false, true, take, take_all}
-use Rattle.std.specs.List.{list_any}
-use Rattle.cw_table.specs.Safe.{endangers, is_hazard}
+use Rattle.std.proofs.Common.{sym, ◌∙◌, arith}
 use Rattle.cw_table.proofs.HazardLaws.{endangered-none, endangered-some, none-more}
 use Rattle.cw_table.proofs.types.Table.endangered.Goals as goal
 

@@ -1,4 +1,4 @@
-use Rattle.std.proofs.Common.{◌≤◌, ap, sym, ◌∙◌, arith, subst, ℕ, length}
+use Rattle.std.proofs.Common.{◌≤◌, ap, sym, ◌∙◌, subst, length}
 use Rattle.std.specs.Option.{IfSome, option_map}
 use Rattle.cw_table.specs.Fitting.{first_of}
 use Rattle.cw_table.proofs.Joining.{productions-length}
