@@ -14,6 +14,8 @@ mod names;
 mod new_lines;
 mod phase;
 mod reading;
+#[cfg(test)]
+mod tests;
 mod web_lines;
 mod words;
 
