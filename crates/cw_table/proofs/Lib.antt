@@ -13,3 +13,4 @@ pub mod ScrapFacts
 pub mod Falling
 pub mod Normals
 pub mod RewrittenCats
+pub mod WalkLaws

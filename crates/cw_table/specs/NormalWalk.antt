@@ -37,3 +37,17 @@ turns_of rows flags back (suc n) place state = elim (ltb place (length state.scr
 -- how many turns the walk takes, those that rewrite and those that go on
 unfoldable pub turns : List Row → Flags → (Row → ℕ) → ℕ → State → ℕ
 turns rows flags back place state = turns_of rows flags back (suc (walk_left place state)) place state
+
+abbrev pub walked_of : List Row → Flags → (Row → ℕ) → ℕ → ℕ → State → State
+walked_of rows flags back zero place state = state
+walked_of rows flags back (suc n) place state = elim (ltb place (length state.scraps)) [
+  | false ↦ state
+  | true ↦ elim (first_of rows (drop place (cats_of state.scraps))) [
+    | None ↦ walked_of rows flags back n (suc place) state
+    | Some row ↦ walked_of rows flags back n (place - back row) (rewrite flags row place state)
+  ]
+]
+
+-- what the walk ends in
+unfoldable pub walked : List Row → Flags → (Row → ℕ) → ℕ → State → State
+walked rows flags back place state = walked_of rows flags back (suc (walk_left place state)) place state
