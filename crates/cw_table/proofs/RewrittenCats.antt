@@ -1,10 +1,7 @@
 -- The categories after a production.
-use Rattle.std.proofs.Common.{◌≡◌, ℕ, zero, suc, ◌+◌, Bool, true, false, ◌&&◌, Option, Some, None, List, [], ◌∷◌, ◌++◌, map, get_or, take, drop, refl, sym, ◌∙◌, ap}
-use Rattle.cw_base.specs.declared.category.Cat.{Cat}
+use Rattle.std.proofs.Common.{◌≡◌, ℕ, ◌+◌, false, Option, Some, None, List, ◌∷◌, ◌++◌, map, get_or, take, drop, refl, ◌∙◌, ap}
 use Rattle.cw_base.specs.declared.flags.Flags.{Flags}
 use Rattle.cw_trees.specs.Joining.{Scrap, no_scrap, join}
-use Rattle.cw_trees.specs.Tree.{Search, Found, Stopped, Nothing}
-use Rattle.cw_table.specs.declared.types.Piece.{Piece}
 use Rattle.cw_table.specs.declared.types.Row.{Row}
 use Rattle.cw_table.specs.Rows.{result_at}
 use Rattle.cw_table.specs.Safe.{reserves, is_some, rewritten}

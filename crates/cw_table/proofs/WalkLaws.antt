@@ -1,22 +1,19 @@
 -- The walk with a pointer makes the productions of the leftmost-first rewriting.
-use Rattle.std.proofs.Common.{◌≡◌, ℕ, zero, suc, ◌+◌, ◌-◌, ◌*◌, ◌<◌, ◌≤◌, ◌⊎◌, inl, inr, Bool, true, false, ltb, Option, Some, None, List, [], ◌∷◌, ◌++◌, map, length, get_or, take, drop, refl, sym, ◌∙◌, ap, arith, ltb-true, ltb-false}
+use Rattle.std.proofs.Common.{◌≡◌, ℕ, zero, suc, ◌+◌, ◌-◌, ◌<◌, ◌≤◌, ◌⊎◌, inl, inr, Bool, true, false, ltb, Option, Some, None, List, [], ◌∷◌, length, drop, refl, sym, ◌∙◌, ap, arith, ltb-true, ltb-false}
 use Rattle.std.specs.List.{list_all}
 use Rattle.cw_base.specs.declared.category.Cat.{Cat}
 use Rattle.cw_base.specs.declared.flags.Flags.{Flags}
-use Rattle.cw_trees.specs.Joining.{Scrap}
 use Rattle.cw_table.specs.declared.types.Row.{Row}
-use Rattle.cw_table.specs.Fitting.{row_fits, first_of}
-use Rattle.cw_table.specs.Safe.{least, rewritten, reserves, IsLeast}
-use Rattle.cw_table.specs.Sound.{row_is_sound, IsSound}
+use Rattle.cw_table.specs.Fitting.{first_of}
+use Rattle.cw_table.specs.Safe.{least}
+use Rattle.cw_table.specs.Sound.{row_is_sound}
 use Rattle.cw_table.specs.Rewriting.{cats_of, State, rewrite}
-use Rattle.cw_table.specs.Normal.{Place, Nowhere, At, least_place, next_place, weight, is_fine, normal, Production, log}
+use Rattle.cw_table.specs.Normal.{Nowhere, At, least_place, next_place, is_fine, normal, Production, log}
 use Rattle.cw_table.specs.NormalWalk.{walk_left, walk_of, walk_log, walked_of, walked}
-use Rattle.cw_table.proofs.Falling.{Falls, falls}
-use Rattle.cw_table.proofs.Normals.{Least, least-at, least-none, Takes, takes, normal-none, normal-step, log-none, log-step}
+use Rattle.cw_table.proofs.Normals.{Takes, takes, normal-none, normal-step, log-none, log-step}
 use Rattle.cw_table.proofs.RewrittenCats.{rewritten-cats, right-kept, right_after}
-use Rattle.cw_table.proofs.SafeLaws.{first-fits, safe-sound, least-safe, least-at-most}
+use Rattle.cw_table.proofs.SafeLaws.{safe-sound, least-safe, least-at-most}
 use Rattle.cw_table.proofs.ScrapFacts.{cats-length}
-use Rattle.cw_table.proofs.Soundness.{sound-row}
 
 -- no row fits below a place
 abbrev pub NoneBelow : List Row → State → ℕ → Type 0

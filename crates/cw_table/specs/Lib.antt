@@ -8,3 +8,4 @@ pub mod Sound
 pub mod Rewriting
 pub mod Normal
 pub mod NormalWalk
+pub mod NormalLaws

@@ -5,12 +5,14 @@ mod back;
 mod checks;
 mod distance;
 mod hazard;
+mod laws;
 mod masks;
 mod productions;
 mod ranks;
 mod types;
 
 pub use back::step_back;
+pub use laws::{rewriting_laws, walk_laws};
 pub use masks::first_production;
 pub use productions::{ROW_COUNT, production, table};
 pub use ranks::rank;

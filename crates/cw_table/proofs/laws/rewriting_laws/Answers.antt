@@ -1,0 +1,20 @@
+use Rattle.cw_table.proofs.Normals.{takes, normal-step, normal-done, count-weight, count-most}
+use Rattle.cw_table.proofs.laws.rewriting_laws.Goals as goal
+
+pub returns-clause-weight : goal.returns-clause-weight
+returns-clause-weight c = λ rows flags state place row sound fine next. (takes rows flags state place row sound fine next).falls.lighter
+
+pub returns-clause-fine : goal.returns-clause-fine
+returns-clause-fine c = λ rows flags state place row sound fine next. (takes rows flags state place row sound fine next).falls.fine
+
+pub returns-clause-normal : goal.returns-clause-normal
+returns-clause-normal c = normal-step
+
+pub returns-clause-done : goal.returns-clause-done
+returns-clause-done c = normal-done
+
+pub returns-clause-count : goal.returns-clause-count
+returns-clause-count c = count-weight
+
+pub returns-clause-eight : goal.returns-clause-eight
+returns-clause-eight c = count-most

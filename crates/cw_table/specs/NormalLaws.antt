@@ -1,0 +1,40 @@
+-- What holds of every table of sound rows and of every list of scraps that are fine, as statements.
+use Rattle.std.specs.Prelude.{◌≡◌, ℕ, ◌*◌, ◌<◌, ◌≤◌, true, List, length}
+use Rattle.std.specs.List.{list_all}
+use Rattle.cw_base.specs.declared.flags.Flags.{Flags}
+use Rattle.cw_table.specs.declared.types.Row.{Row}
+use Rattle.cw_table.specs.Rewriting.{State, rewrite}
+use Rattle.cw_table.specs.Normal.{Nowhere, At, next_place, weight, is_fine, normal, log, count}
+use Rattle.cw_table.specs.NormalWalk.{walk_log, walked}
+use Rattle.cw_table.specs.Safe.{least}
+use Rattle.cw_table.specs.Sound.{row_is_sound}
+
+-- each production at the least place lowers the weight
+abbrev pub WeightFalls : Type 0
+WeightFalls = (rows : List Row) (flags : Flags) (state : State) (place : ℕ) (row : Row) → list_all row_is_sound rows ≡ true → list_all is_fine state.scraps ≡ true → next_place rows state ≡ At place row → weight (rewrite flags row place state).scraps < weight state.scraps
+
+-- each production at the least place keeps the scraps fine
+abbrev pub StaysFine : Type 0
+StaysFine = (rows : List Row) (flags : Flags) (state : State) (place : ℕ) (row : Row) → list_all row_is_sound rows ≡ true → list_all is_fine state.scraps ≡ true → next_place rows state ≡ At place row → list_all is_fine (rewrite flags row place state).scraps ≡ true
+
+-- a production leads to a list with the same normal form
+abbrev pub NormalStays : Type 0
+NormalStays = (rows : List Row) (flags : Flags) (state : State) (place : ℕ) (row : Row) → list_all row_is_sound rows ≡ true → list_all is_fine state.scraps ≡ true → next_place rows state ≡ At place row → normal rows flags state ≡ normal rows flags (rewrite flags row place state)
+
+-- in the normal form no row fits anywhere
+abbrev pub NormalIsDone : Type 0
+NormalIsDone = (rows : List Row) (flags : Flags) (state : State) → list_all row_is_sound rows ≡ true → list_all is_fine state.scraps ≡ true → next_place rows (normal rows flags state) ≡ Nowhere
+
+-- the productions are at most the weight, and so at most eight for each scrap
+abbrev pub CountAtMostWeight : Type 0
+CountAtMostWeight = (rows : List Row) (flags : Flags) (state : State) → count rows flags state ≤ weight state.scraps
+
+abbrev pub CountAtMostEight : Type 0
+CountAtMostEight = (rows : List Row) (flags : Flags) (state : State) → count rows flags state ≤ 8 * length state.scraps
+
+-- the walk that goes back by the least safe distance makes the leftmost-first productions, and ends where they end
+abbrev pub WalkHasLog : Type 0
+WalkHasLog = (rows : List Row) (flags : Flags) (state : State) → list_all row_is_sound rows ≡ true → list_all is_fine state.scraps ≡ true → walk_log rows flags (least rows) 0 state ≡ log rows flags state
+
+abbrev pub WalkEndsNormal : Type 0
+WalkEndsNormal = (rows : List Row) (flags : Flags) (state : State) → list_all row_is_sound rows ≡ true → list_all is_fine state.scraps ≡ true → walked rows flags (least rows) 0 state ≡ normal rows flags state
