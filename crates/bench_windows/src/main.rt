@@ -1,0 +1,35 @@
+//! Looks up 4,400 windows in the production table, so that `bench/run` can count the instructions of one.
+#![tactic(auto)]
+
+use cw_base::{ALL_CATS, Cat};
+use cw_table::{Table, table};
+use std::io;
+
+#[inline(never)]
+fn look(table: &Table<92>, window: [Cat; 4]) -> u8 {
+    match table.first_at(window) {
+        Some(row) => row.number,
+        None => 0,
+    }
+}
+
+fn main(rt: HostRuntime) -> io::Result<()> {
+    let table = table();
+    let mut found = 0u64;
+    let mut sum = 0u64;
+    for round in 0..100usize {
+        for (i, first) in ALL_CATS.iter().enumerate() {
+            let window = [
+                *first,
+                ALL_CATS[(i * 7 + round) % ALL_CATS.len()],
+                ALL_CATS[(i * 5 + 1) % ALL_CATS.len()],
+                ALL_CATS[(i * 3 + 2) % ALL_CATS.len()],
+            ];
+            let number = look(&table, window);
+            found = found.wrapping_add((number > 0) as u64);
+            sum = sum.wrapping_add(number as u64);
+        }
+    }
+    println!(rt; "windows 4400, some row fits in {found}, sum of the rows {sum}")?;
+    Ok(())
+}
