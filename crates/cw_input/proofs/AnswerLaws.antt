@@ -1,5 +1,5 @@
 -- An error of one call is an error of the call around it.
-use Rattle.std.proofs.Common.{◌≡◌, ℕ, ◌+◌, ◌<◌, ◌≤◌, false, List, [], ◌∷◌, ◌++◌, length, nat_le, Option, Some, None, Err, option_and_then, refl, ap, ◌∙◌, sym, arith, le-leb}
+use Rattle.std.proofs.Common.{◌≡◌, ℕ, ◌+◌, ◌<◌, ◌≤◌, false, List, [], ◌∷◌, ◌++◌, length, nat_le, Option, Some, None, Err, option_and_then, refl, ap, ◌∙◌, arith, le-leb}
 use Rattle.std.proofs.lemmas.Bool.Decides.{nat_tests}
 use Rattle.cw_base.specs.Web.{WebState}
 use Rattle.cw_input.specs.Answers.{Fails, Reads, Finds, FindsWeb, Loads, Merges}

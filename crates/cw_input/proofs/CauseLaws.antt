@@ -1,5 +1,5 @@
 -- The causes of the outcomes of reading, and of the answers of `load`.
-use Rattle.std.proofs.Common.{◌≡◌, ℕ, ◌+◌, ◌≤◌, ◌⊎◌, Bool, true, false, List, [], ◌∷◌, length, nat_le, leb-true, Option, Some, None, Result, Ok, Err, IsErrOf, option_map, option_and_then, inl, inr, refl, ap, sym, subst, ◌∙◌, arith}
+use Rattle.std.proofs.Common.{◌≡◌, ℕ, ◌+◌, Bool, true, false, List, [], ◌∷◌, length, nat_le, leb-true, Option, Some, None, Result, Ok, Err, option_map, inl, inr, refl, ap, subst, ◌∙◌, arith}
 use Rattle.cw_base.specs.Web.{WebState, empty_web}
 use Rattle.cw_input.specs.Answers.{Loads}
 use Rattle.cw_input.specs.Causes.{FailsWith, ComesWhere, LacksWeb, LacksChange, IsTooLong}

@@ -1,7 +1,7 @@
 -- The walk over lines, one step at a time.
-use Rattle.std.proofs.Common.{◌≡◌, ℕ, zero, suc, ◌-◌, ◌+◌, List, [], ◌∷◌, Option, Some, None, true, refl, ap, arith, drop, slice_range}
+use Rattle.std.proofs.Common.{◌≡◌, ℕ, zero, suc, ◌-◌, ◌+◌, List, [], ◌∷◌, Option, Some, None, true, refl, ap, arith, drop}
 use Rattle.std.proofs.lemmas.List.{drop_all}
-use Rattle.std.proofs.Common.{◌≤◌, length, option_and_then, ◌∙◌, sym, false, bytes_eq}
+use Rattle.std.proofs.Common.{◌≤◌, length, ◌∙◌, sym, false, bytes_eq}
 use Rattle.cw_base.specs.Text.{lines_of}
 use Rattle.cw_base.specs.declared.notes.Place.{Place}
 use Rattle.cw_input.specs.Lines.{FileLine, code_of, numbered}

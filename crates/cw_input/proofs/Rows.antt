@@ -1,11 +1,11 @@
 -- Worked webs: the merged lines, computed.
-use Rattle.std.proofs.Common.{◌≡◌, ℕ, Bool, true, false, cond, List, [], ◌∷◌, ◌++◌, Option, Some, None, codes, bytes_eq, refl}
-use Rattle.cw_base.specs.Web.{MergedLine, WebState}
+use Rattle.std.proofs.Common.{◌≡◌, ℕ, Bool, true, false, cond, List, [], ◌∷◌, ◌++◌, Some, None, codes, bytes_eq, refl}
+use Rattle.cw_base.specs.Web.{MergedLine}
 use Rattle.cw_base.specs.declared.notes.Note.{Note}
 use Rattle.cw_base.specs.declared.notes.NoteKind.{NoteKind}
 use Rattle.cw_base.specs.declared.notes.NoteKind.TheVariants.{IncludeMissing, IncludeUnnamed, IncludeTooDeep, NoMatchingX, NoMatchingY, NoMatchingZ, NoOldLine, EndedBeforeY, EndedBeforeZ, LinesDiffer, WebEnded, ChangeUnmatched}
 use Rattle.cw_input.specs.Merge.{Lookup, new_lines, web_lines}
-use Rattle.cw_input.specs.Merged.{Merged, NoWeb, NoChange, TooLong, Whole, merged}
+use Rattle.cw_input.specs.Merged.{Merged, NoWeb, NoChange, Whole, merged}
 
 pub record File : Type 0 where
   pub name : List ℕ

@@ -1,7 +1,7 @@
 -- The first files are read.
-use Rattle.std.proofs.Common.{◌≡◌, ℕ, ◌+◌, ◌≤◌, ◌++◌, ◌∷◌, List, [], false, length, Option, Some, refl, ap, ◌∙◌, arith}
+use Rattle.std.proofs.Common.{◌≡◌, ℕ, ◌+◌, ◌≤◌, List, [], false, length, Some, arith}
 use Rattle.cw_base.specs.Web.{empty_web}
-use Rattle.cw_input.specs.Merge.{MergeState, read}
+use Rattle.cw_input.specs.Merge.{read}
 use Rattle.cw_input.specs.Merged.{start_state}
 use Rattle.cw_input.specs.State.{state_of, with_file}
 use Rattle.cw_input.specs.declared.merger.Merger.{Merger}

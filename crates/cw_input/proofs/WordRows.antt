@@ -1,7 +1,6 @@
 -- Worked command lines.
 use Rattle.std.proofs.Common.{◌≡◌, ℕ, true, false, List, [], ◌∷◌, Some, None, codes, refl}
 use Rattle.cw_base.specs.Flags.{start_flags}
-use Rattle.cw_base.specs.declared.flags.Flags.{Flags}
 use Rattle.cw_input.specs.Names.{first_name, second_name, change_name}
 use Rattle.cw_input.specs.Words.{command_of}
 use Rattle.cw_input.specs.declared.words.Command.TheVariants.{Weave, Sample, Usage}

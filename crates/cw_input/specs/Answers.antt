@@ -1,5 +1,5 @@
 -- What the answers of the calls say.
-use Rattle.std.specs.Prelude.{◌≡◌, ℕ, ◌+◌, ◌-◌, ◌*◌, ◌<◌, ◌≤◌, List, length, Option, Some, None, Result, Ok, Err, ⊤, IfSome}
+use Rattle.std.specs.Prelude.{◌≡◌, ℕ, ◌+◌, ◌-◌, ◌*◌, ◌<◌, List, length, Option, Some, None, Result, Ok, Err, ⊤}
 use Rattle.cw_base.specs.Web.{WebState}
 use Rattle.cw_input.specs.Lines.{FileLine, file_lines}
 use Rattle.cw_input.specs.Merge.{MergeState, Onward}

@@ -4,7 +4,7 @@
 -- to be met. Here the stack is the recursion itself: the lines of a file are given to a state one by one, and where one of them is an
 -- include line, the lines of its file are given before the next one. So an included file that ends is followed by the rest of the file
 -- that includes it, and the next line of the web comes from wherever it comes.
-use Rattle.std.specs.Prelude.{◌≡◌, ℕ, zero, suc, ◌+◌, ◌==◌, Bool, true, false, cond, nat_lt, nat_le, List, [], ◌∷◌, ◌++◌, length, Option, Some, None, option_and_then, bytes_eq}
+use Rattle.std.specs.Prelude.{ℕ, zero, suc, ◌+◌, Bool, true, false, nat_lt, nat_le, List, [], ◌∷◌, ◌++◌, length, Option, Some, None, option_and_then, bytes_eq}
 use Rattle.cw_base.specs.Web.{WebState}
 use Rattle.cw_base.specs.declared.notes.NoteKind.{NoteKind}
 use Rattle.cw_base.specs.declared.notes.NoteKind.TheVariants.{IncludeMissing, IncludeUnnamed, IncludeTooDeep, NoMatchingX, NoMatchingY, NoMatchingZ, NoOldLine, EndedBeforeY, EndedBeforeZ, LinesDiffer, WebEnded, ChangeUnmatched}

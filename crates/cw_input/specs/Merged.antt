@@ -1,5 +1,5 @@
 -- The merged web of a web word and a change word, over files that are there by name.
-use Rattle.std.specs.Prelude.{ℕ, ◌==◌, Bool, true, false, List, [], ◌∷◌, length, Option, Some, None, option_and_then, option_map, bytes_eq, codes}
+use Rattle.std.specs.Prelude.{ℕ, Bool, true, false, List, Option, Some, None, option_and_then, option_map, bytes_eq, codes}
 use Rattle.cw_base.specs.Web.{WebState, empty_web}
 use Rattle.cw_input.specs.Lines.{file_lines}
 use Rattle.cw_input.specs.Merge.{Lookup, Over, MergeState, read, advance, web_lines, drained, unmatched}

@@ -1,7 +1,7 @@
 -- What the fields of the state mean: offsets into the change file stand for its lines.
 use Rattle.std.specs.Prelude.{◌≡◌, ℕ, zero, suc, ◌+◌, ◌-◌, ◌*◌, ◌<◌, ◌≤◌, Bool, false, List, [], ◌∷◌, ◌++◌, length, drop, slice_range, Option, Some, None, ⊤}
 use Rattle.cw_base.specs.Text.{lines_of}
-use Rattle.cw_base.specs.Web.{WebState, text_of}
+use Rattle.cw_base.specs.Web.{text_of}
 use Rattle.cw_base.specs.declared.notes.NoteKind.{NoteKind}
 use Rattle.cw_base.specs.declared.notes.Place.{Place}
 use Rattle.cw_input.specs.Lines.{FileLine, numbered}

@@ -1,5 +1,5 @@
 -- One line more is one step of the definition; at the end no line is left.
-use Rattle.std.proofs.Common.{◌≡◌, ℕ, ◌+◌, ◌≤◌, List, Option, Some, length, slice_range, subst, sym, ◌∙◌, arith, rules}
+use Rattle.std.proofs.Common.{◌+◌, Option, slice_range, subst, sym, ◌∙◌, arith, rules}
 use Rattle.std.specs.FinMap.{get}
 use Rattle.cw_input.specs.Answers.{Gives}
 use Rattle.cw_input.specs.Lines.{code_of}

@@ -1,5 +1,5 @@
 -- The line is what stands before the next byte 10, without its trailing blanks.
-use Rattle.std.proofs.Common.{◌≢◌, ◌+◌, ◌∷◌, ◌==◌, All, drop, slice_range, refl, sym, ap, ◌∙◌, arith}
+use Rattle.std.proofs.Common.{◌≢◌, ◌+◌, ◌∷◌, ◌==◌, drop, slice_range, refl, sym, ap, ◌∙◌, arith}
 use Rattle.std.proofs.lemmas.List.Elements.{All-same}
 use Rattle.cw_base.specs.Text.{lines_of}
 use Rattle.cw_input.specs.Lines.{until}

@@ -1,5 +1,5 @@
 -- An error in the change file or in the lines of the web is one of the whole.
-use Rattle.std.proofs.Common.{◌≡◌, ℕ, ◌+◌, ◌≤◌, List, [], length, Option, Some, None, Err, option_and_then, ap, sym, subst, ◌∙◌, arith}
+use Rattle.std.proofs.Common.{◌≡◌, ℕ, ◌+◌, ◌≤◌, List, [], length, Option, Some, Err, option_and_then, ap, sym, subst, ◌∙◌, arith}
 use Rattle.std.specs.FinMap.{get}
 use Rattle.cw_input.specs.Answers.{Loads, Merges}
 use Rattle.cw_input.specs.Lines.{file_lines}

@@ -1,5 +1,5 @@
 -- What a line leads to is what its file's lines make of the state; and an error of a line is one of all lines.
-use Rattle.std.proofs.Common.{ℕ, ◌-◌, ◌+◌, List, Option, Some, true, refl, sym, ap, ◌∙◌, arith, rules, slice_range}
+use Rattle.std.proofs.Common.{ℕ, ◌-◌, ◌+◌, List, Option, true, refl, sym, ap, ◌∙◌, arith, rules, slice_range}
 use Rattle.std.proofs.lemmas.Result.{err_from_is_err_and}
 use Rattle.std.specs.FinMap.{get}
 use Rattle.cw_input.specs.Lines.{FileLine, file_lines}

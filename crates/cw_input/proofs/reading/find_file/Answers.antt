@@ -1,5 +1,5 @@
 -- What reading the opened file answers is what looking for it answers.
-use Rattle.std.proofs.Common.{◌≡◌, ℕ, List, Some, option_map, sym, ap, ◌∙◌}
+use Rattle.std.proofs.Common.{ℕ, List, option_map, sym, ap, ◌∙◌}
 use Rattle.std.specs.FinMap.{get}
 use Rattle.cw_input.specs.declared.found.Found.{Found}
 use Rattle.cw_input.specs.Merged.{found}

@@ -1,6 +1,6 @@
 -- Each deeper file leaves one depth less, and a line comes before the lines of its file. In the lines of a file, those that are left give
 -- from the state so far what all give from the first state; and the room that was enough at first is enough for what is left.
-use Rattle.std.proofs.Common.{◌≡◌, ℕ, ◌+◌, ◌-◌, ◌*◌, ◌≤◌, List, Some, true, length}
+use Rattle.std.proofs.Common.{◌≡◌, ◌+◌, ◌-◌, ◌*◌, ◌≤◌, Some, length}
 use Rattle.std.specs.FinMap.{get}
 use Rattle.cw_base.specs.Web.{text_of}
 use Rattle.cw_desk.specs.Meaning.{Files, OnlyReads}

@@ -1,9 +1,8 @@
 -- What a line meets decides what is done with it.
-use Rattle.std.proofs.Common.{◌≡◌, ℕ, Bool, true, false, not, List, Option, Some, None, bytes_eq, slice_range, refl, subst, sym, ap, ◌∙◌}
+use Rattle.std.proofs.Common.{◌≡◌, ℕ, Bool, true, false, not, Option, bytes_eq, refl, subst, sym, ap, ◌∙◌}
 use Rattle.std.specs.FinMap.{get}
 use Rattle.cw_input.specs.Answers.{Leads}
-use Rattle.cw_input.specs.Merge.{MergeState, Into, advance, put, take_line, counted}
-use Rattle.cw_input.specs.Lines.{FileLine}
+use Rattle.cw_input.specs.Merge.{MergeState, advance, take_line}
 use Rattle.cw_input.specs.State.{group_of, into_at, line_at, line_of, rest_of, state_of}
 use Rattle.cw_input.specs.declared.phase.Phase.TheVariants.{Old}
 use Rattle.cw_input.proofs.AnswerLaws.{fails_as}
