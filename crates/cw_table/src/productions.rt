@@ -1,9 +1,9 @@
 ghost use Rattle.std.specs.Prelude.{◌≡◌, ◌+◌, ◌<◌, ◌≤◌, Option, Some, true, slice_get};
-ghost use Rattle.std.specs.List.{list_all};
+ghost use Rattle.std.specs.List.{All, list_all};
 ghost use Rattle.cw_table.specs.Productions.{productions};
 ghost use Rattle.cw_table.specs.Joined.{joined};
 ghost use Rattle.cw_table.specs.Rows.{row_numbered};
-ghost use Rattle.cw_table.specs.Sound.{are_numbered, row_is_sound};
+ghost use Rattle.cw_table.specs.Sound.{IsSound, are_numbered, row_is_sound};
 
 use crate::types::{Action, Choice, Piece, Pieces, Row, RowNo, RowResult, Table};
 use cw_base::{Cat, CatSet};
@@ -298,6 +298,7 @@ fn row_at(i: usize) -> Row
 pub fn table() -> Table<92>
     ensures rows { result ≡ productions }
     ensures sound { list_all row_is_sound result ≡ true }
+    ensures rules { All IsSound result }
     ensures numbered { are_numbered 1 result ≡ true }
 {
     let mut rows = [row_at(0); ROW_COUNT];

@@ -1,6 +1,7 @@
 use Rattle.std.proofs.Common.{◌∙◌, length-set}
 use Rattle.std.specs.List.{list_all}
 use Rattle.cw_table.specs.Sound.{are_numbered, row_is_sound}
+use Rattle.cw_table.proofs.CheckLaws.{all-sound}
 use Rattle.cw_table.proofs.Examples.{productions-numbered, productions-sound}
 use Rattle.cw_table.proofs.Joining.{joins-more, joins-all, joined-test}
 use Rattle.cw_table.proofs.productions.table.Goals as goal
@@ -26,3 +27,9 @@ pub returns-clause-numbered : goal.returns-clause-numbered
 returns-clause-numbered c =
     joined-test (are_numbered 1) _ productions-numbered
     (joins-all _ c.loop-i.i c.loop-i.invariant.filled c.loop-i-test.false c.loop-i.invariant.same)
+
+pub returns-clause-rules : goal.returns-clause-rules
+returns-clause-rules c =
+    all-sound _
+    (joined-test (list_all row_is_sound) _ productions-sound
+    (joins-all _ c.loop-i.i c.loop-i.invariant.filled c.loop-i-test.false c.loop-i.invariant.same))
