@@ -1,9 +1,25 @@
 -- How the lines of a web, of the files that it includes and of a change file become the merged lines.
 --
--- One may think of a stack of the lines that are still to be taken, the lines of the change file that are left, and a group that waits
--- to be met. Here the stack is the recursion itself: the lines of a file are given to a state one by one, and where one of them is an
--- include line, the lines of its file are given before the next one. So an included file that ends is followed by the rest of the file
--- that includes it, and the next line of the web comes from wherever it comes.
+-- One may think of a stack of the lines that are still to be taken, of the lines of the change file that are left, and of a group of the
+-- change file that waits to be met. The first of these cases that holds is taken, over and over:
+--
+--   1. No group waits, and lines of the change file are left: the next group is looked for.
+--   2. The stack has no line: a group that waits is noted, and the result is complete.
+--   3. The next line equals the match line of the group that waits: it is dropped; then each further old line takes and drops one line of
+--      the stack, then the new lines are appended as changed, and no group waits. If the group appended nothing, a mark waits.
+--   4. The next line is an include line: the lines of its file are put on the stack, or a note says why not.
+--   5. Any other line is appended. It is changed if a mark waits, and the mark is gone.
+--
+-- Here the stack is the recursion itself: the lines of a file are given to a state one by one, and where one of them is an include line,
+-- the lines of its file are given before the next one. So an included file that ends is followed by the rest of the file that includes it.
+-- And an old line doesn't take a line from the stack, but waits until the next one is given, wherever it comes from. The cases are:
+--
+--   1. `advance` in the phases Outside, Opening and Skipping. It is called at the start, and goes on by itself when a group is done, so all
+--      lines of the change file that need no line of the web are handled before the next line is given: case 1 never waits.
+--   2. `drained` (when an old line still waits) and then `unmatched`.
+--   3. `compared true`; `advance` in the phases Old, then New, with `Waiting` between one old line and the next.
+--   4. `put_by (Some name)`.
+--   5. `put_by None`.
 use Rattle.std.specs.Prelude.{ℕ, zero, suc, ◌+◌, Bool, true, false, nat_lt, nat_le, List, [], ◌∷◌, ◌++◌, length, Option, Some, None, option_and_then, bytes_eq}
 use Rattle.cw_base.specs.Web.{WebState}
 use Rattle.cw_base.specs.declared.notes.NoteKind.{NoteKind}

@@ -69,6 +69,12 @@ IsMet change files Nothing = ⊤
 IsMet change files (MatchLine piece rest) = IsPiece change piece rest × IsCursor change rest × (1 < files)
 IsMet change files (OldLine piece differ rest) = IsPiece change piece rest × IsCursor change rest × (1 < files) × (differ < rest.line)
 
+-- of that only the second: a group that waits is one of the second file
+abbrev pub IsListed : ℕ → Meets → Type 0
+IsListed files Nothing = ⊤
+IsListed files (MatchLine piece rest) = 1 < files
+IsListed files (OldLine piece differ rest) = 1 < files
+
 -- no more lines differ than were compared
 abbrev pub IsPhase : ℕ → Phase → Type 0
 IsPhase line Outside = ⊤

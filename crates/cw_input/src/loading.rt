@@ -1,19 +1,4 @@
-ghost use Rattle.std.specs.Prelude.{
-  ◌≡◌,
-  ◌*◌,
-  ◌+◌,
-  ◌-◌,
-  ◌<◌,
-  ◌≤◌,
-  [],
-  IsErrOf,
-  None,
-  Some,
-  IfOk,
-  length,
-  option_and_then,
-  option_copied,
-};
+ghost use Rattle.std.specs.Prelude.{◌≡◌, ◌*◌, ◌+◌, ◌-◌, ◌<◌, ◌≤◌, [], IsErrOf, None, Some, IfOk, length, option_and_then, option_copied};
 ghost use Rattle.std.specs.FinMap.{get};
 ghost use Rattle.cw_desk.specs.Meaning.{Files, OnlyReads, Rose};
 ghost use Rattle.cw_input.specs.Answers.{FindsWeb, Loads, Merges};
@@ -247,5 +232,5 @@ fn merge_lines<D: Desk>(
         Ok(()) => (),
         Err(error) => return Err(error),
     }
-    note_unmatched(change, m)
+    note_unmatched(m)
 }

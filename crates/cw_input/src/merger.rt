@@ -1,16 +1,4 @@
-ghost use Rattle.std.specs.Prelude.{
-  ◌≡◌,
-  ◌≢◌,
-  ◌+◌,
-  ◌<◌,
-  ◌≤◌,
-  All,
-  IfOk,
-  IsOkUnless,
-  OnOk,
-  false,
-  length,
-};
+ghost use Rattle.std.specs.Prelude.{◌≡◌, ◌≢◌, ◌+◌, ◌<◌, ◌≤◌, All, IfOk, IsOkUnless, OnOk, false, length};
 ghost use Rattle.cw_base.specs.Web.{text_of};
 
 use crate::error::LoadError;

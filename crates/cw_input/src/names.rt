@@ -1,16 +1,6 @@
 ghost use Rattle.std.specs.Prelude.{◌≡◌, ◌<◌, ◌==◌, ◌++◌, length, IfOk, IfSome};
 ghost use Rattle.cw_base.specs.Text.{last_place};
-ghost use Rattle.cw_input.specs.Names.{
-  extension,
-  extended,
-  stem,
-  last_part,
-  first_name,
-  second_name,
-  change_name,
-  outputs_of_web,
-  outputs_of_word,
-};
+ghost use Rattle.cw_input.specs.Names.{extension, extended, stem, last_part, first_name, second_name, change_name, outputs_of_web, outputs_of_word};
 
 use crate::words::OutputNames;
 use cw_base::{Bytes, Memory};

@@ -1,36 +1,10 @@
-ghost use Rattle.std.specs.Prelude.{
-  ◌≡◌,
-  ◌≢◌,
-  ◌+◌,
-  ◌-◌,
-  ◌*◌,
-  ◌<◌,
-  ◌≤◌,
-  ℕ,
-  All,
-  IsErrOf,
-  IsOkUnless,
-  List,
-  OnOk,
-  Option,
-  Some,
-  bytes_eq,
-  length,
-};
+ghost use Rattle.std.specs.Prelude.{◌≡◌, ◌≢◌, ◌+◌, ◌-◌, ◌*◌, ◌<◌, ◌≤◌, ℕ, All, IsErrOf, IsOkUnless, List, OnOk, Option, Some, bytes_eq, length};
 ghost use Rattle.std.specs.FinMap.{get};
 ghost use Rattle.cw_desk.specs.Meaning.{Files, OnlyReads, Rose};
 ghost use Rattle.cw_input.specs.Answers.{Gives, Leads, Leaves};
 ghost use Rattle.cw_input.specs.Lines.{FileLine, file_lines};
 ghost use Rattle.cw_input.specs.Merge.{MergeState, counted, drained, take_line, unmatched, web_lines};
-ghost use Rattle.cw_input.specs.State.{
-  HasRoom,
-  IsMet,
-  Moves,
-  ahead,
-  into_at,
-  line_of,
-  state_of,
-};
+ghost use Rattle.cw_input.specs.State.{HasRoom, IsListed, IsMet, Moves, ahead, into_at, line_of, state_of};
 
 use crate::changes::advance_change;
 use crate::error::LoadError;
@@ -186,12 +160,11 @@ pub(crate) fn drain<D: Desk>(desk: &mut D, change: &[u8], m: &mut Merger) -> Res
 }
 
 /// A group that still waits is noted.
-pub(crate) fn note_unmatched(change: &[u8], m: &mut Merger) -> Result<(), LoadError>
-    requires met { IsMet change.now (length m.old.web.files) m.old.meets }
-    ensures ok { OnOk result (m.new.web ≡ (unmatched (state_of change.now m.old)).web) }
+pub(crate) fn note_unmatched(m: &mut Merger) -> Result<(), LoadError>
+    requires listed { IsListed (length m.old.web.files) m.old.meets }
+    ensures ok { OnOk result ((change : List ℕ) → m.new.web ≡ (unmatched (state_of change m.old)).web) }
     ensures only { IsOkUnless result LoadError.Memory }
 {
-    let _ = change;
     match m.meets {
         Meets::Nothing => Ok(()),
         Meets::MatchLine(first, _) => {
