@@ -8,3 +8,4 @@ pub mod Going
 pub mod ScanLaws
 pub mod PlainStart
 pub mod PartLaws
+mod WhiteLaws

@@ -141,3 +141,8 @@ plain_start part = record { scraps = plain_scraps part; marks = []; cats = [] }
 -- flags of the start, and what is left is put together, trimmed and printed.
 unfoldable pub c_part : List ℕ → List ℕ
 c_part part = printed false (map (shown part) (trimmed (flat (whole (normal productions start_flags (plain_start part)).scraps))))
+
+-- whether there is a scrap
+abbrev pub has_scraps : List Scrap → Bool
+has_scraps [] = false
+has_scraps (scrap ∷ scraps) = true

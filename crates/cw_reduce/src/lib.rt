@@ -11,7 +11,7 @@ mod trim;
 mod whole;
 
 pub use part::c_part_bytes;
-pub use scan::is_plain_c_part;
+pub use scan::{has_scraps, is_plain_c_part};
 
 #[cfg(test)]
 mod tests;

@@ -1,5 +1,5 @@
-ghost use Rattle.std.specs.Prelude.{◌≡◌, ◌+◌, ◌≤◌, [], ◌∷◌, map, option_to_list, IfOk};
-ghost use Rattle.cw_reduce.specs.Plain.{behind, first_kind, kind_of, one_byte_kinds, plain_scraps, scraps_at, is_plain_from, is_plain_part, may_follow};
+ghost use Rattle.std.specs.Prelude.{true, ◌≡◌, ◌+◌, ◌≤◌, [], ◌∷◌, map, option_to_list, IfOk};
+ghost use Rattle.cw_reduce.specs.Plain.{has_scraps, behind, first_kind, kind_of, one_byte_kinds, plain_scraps, scraps_at, is_plain_from, is_plain_part, may_follow};
 ghost use Rattle.cw_reduce.specs.Laid.{laid};
 ghost use Rattle.cw_reduce.specs.Lines.{seen, seen_item};
 
@@ -169,4 +169,18 @@ pub fn is_plain_c_part(part: &[u8]) -> bool
         before = passed(before, here);
     }
     true
+}
+
+/// Whether a C part of plain statements has a scrap: a byte that isn't white.
+pub fn has_scraps(part: &[u8]) -> bool
+    requires { is_plain_part part.now ≡ true }
+    ensures { result ≡ has_scraps (plain_scraps part.now) }
+{
+    for byte in &part[2..] {
+        match look(*byte) {
+            Kind::White => {}
+            _ => return true,
+        }
+    }
+    false
 }
