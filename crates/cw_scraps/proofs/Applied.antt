@@ -1,0 +1,204 @@
+-- One production as a whole.
+use Rattle.std.proofs.Common.{◌≡◌, ℕ, zero, suc, ◌+◌, ◌<◌, ◌≤◌, true, List, [], ◌∷◌, ◌++◌, length, map, take, drop, set, Option, Some, None, refl, sym, ap, ◌∙◌, arith}
+use Rattle.std.specs.List.{All, list_all}
+use Rattle.std.specs.Option.{option_to_list}
+use Rattle.std.proofs.lemmas.List.{map-append, drop-map, append_assoc, take_at, drop_at, take-append-drop, length-append, length-take, length-take-le, length-drop}
+use Rattle.std.proofs.lemmas.List.Elements.{All-drop}
+use Rattle.cw_base.specs.declared.category.Cat.TheVariants.{RawInt}
+use Rattle.cw_base.specs.declared.flags.Flags.{Flags}
+use Rattle.cw_names.specs.declared.NameId.{NameId}
+use Rattle.cw_names.specs.Names.{Entry, with_category}
+use Rattle.cw_trees.specs.Tree.{Search, Found, Stopped, Nothing}
+use Rattle.cw_trees.specs.Joining.{Scrap}
+use Rattle.cw_table.specs.declared.types.Row.{Row}
+use Rattle.cw_table.specs.Fitting.{row_fits}
+use Rattle.cw_table.specs.Normal.{is_fine}
+use Rattle.cw_table.specs.Rewriting.{cats_of, new_scrap, search_in, reserved_at, named_right, named_scrap, rewrite_from, found_names, with_type, rewrite}
+use Rattle.cw_table.proofs.Falling.{falls, Falls}
+use Rattle.cw_table.proofs.ScrapFacts.{at-length}
+use Rattle.cw_tokens.specs.declared.token.Token.{Token}
+use Rattle.cw_tokens.specs.References.{IsTied}
+use Rattle.cw_tokens.specs.Stored.{StoredLists}
+use Rattle.cw_tokens.specs.Walking.{found_name}
+use Rattle.cw_scraps.specs.declared.line.LineEntry.{LineEntry}
+use Rattle.cw_scraps.specs.Lines.{scraps_of, roots_of, AreRoots, IsNamedBelow, IsSoundLine}
+use Rattle.cw_scraps.specs.Inserting.{entry_cats}
+use Rattle.cw_scraps.specs.Changing.{Changes, Keeps}
+use Rattle.cw_scraps.specs.Replacing.{replaced_from, Replaces}
+use Rattle.cw_scraps.specs.Turning.{named_by}
+use Rattle.cw_scraps.specs.Marking.{MarkList, marked_names}
+use Rattle.cw_scraps.specs.Applying.{categories, state_of, retyped, retyped_by}
+use Rattle.cw_scraps.proofs.Changings.{roots-stay, outside-stay, trees-outside}
+use Rattle.cw_scraps.proofs.Fits.{FitsAt, place-inside}
+use Rattle.cw_scraps.proofs.Keeping.{keeps-modes, keeps-named, search-named}
+use Rattle.cw_scraps.proofs.Productions.{cats-same}
+use Rattle.cw_scraps.proofs.Reservings.{length-scraps}
+
+-- no name turns no scrap
+map-none : (xs : List Scrap) → map (named_by None) xs ≡ xs
+map-none [] = refl
+map-none (x ∷ xs) = ap (λ ys. x ∷ ys) (map-none xs)
+
+pub unturned : (name : Option NameId) (xs : List Scrap) (start : ℕ) → name ≡ None → xs ≡ take start xs ++ map (named_by name) (drop start xs)
+unturned name xs start e = sym (ap (λ n. take start xs ++ map (named_by n) (drop start xs)) e ∙ (ap (λ ys. take start xs ++ ys) (map-none (drop start xs)) ∙ take-append-drop start xs))
+
+right-is : (s : Search) (xs : List Scrap) → map (named_by (found_name s)) xs ≡ named_right s xs
+right-is (Found name) xs = same xs
+  where
+    same : (ys : List Scrap) → map (named_by (Some (record { index = name }))) ys ≡ map (named_scrap name) ys
+    same [] = refl
+    same (y ∷ ys) = ap (λ zs. named_scrap name y ∷ zs) (same ys)
+right-is Stopped xs = map-none xs
+right-is Nothing xs = map-none xs
+
+-- the row fits the entries as it fits their scraps
+pub fits-line : (row : Row) (lists : List (List Token)) (line : List LineEntry) (place : ℕ) → row_fits row (drop place (cats_of (scraps_of lists line))) ≡ true → row_fits row (entry_cats (drop place line)) ≡ true
+fits-line row lists line place h = ap (row_fits row) (sym (ap (drop place) (cats-same lists line) ∙ drop-map (λ entry. entry.cat) place line)) ∙ h
+
+pub keeps-changed : (old new : List (List Token)) (rs : List ℕ) → IsTied old → Changes old new rs → Keeps old new rs rs
+keeps-changed old new rs tied ch = record {
+  lists = ch.others;
+  trees = λ k o. trees-outside old new rs k tied ch o;
+  outside = λ k o. outside-stay old new rs rs k ch o;
+}
+
+pub keeps-trans : (a b d : List (List Token)) (rs ss ts : List ℕ) → Keeps a b rs ss → Keeps b d ss ts → Keeps a d rs ts
+keeps-trans a b d rs ss ts x y = record {
+  lists = λ k o. y.lists k (x.outside k o) ∙ x.lists k o;
+  trees = λ k o. y.trees k (x.outside k o) ∙ x.trees k o;
+  outside = λ k o. y.outside k (x.outside k o);
+}
+
+-- the new scrap stands in the line, so the scraps to the right begin in it
+pub right-inside : (flags : Flags) (row : Row) (place : ℕ) (lists : List (List Token)) (line : List LineEntry) (new : List (List Token)) (after : List LineEntry) → FitsAt flags row (drop place line) → Replaces flags row place lists line new after → place + row.offset + 1 ≤ length after
+right-inside flags row place lists line new after f r =
+    let some : 1 ≤ row.replaced = f.some in
+    let inside : row.offset + row.replaced ≤ length (drop place line) = f.inside in
+    let count : length after + row.replaced ≡ length line + 1 = r.count in
+    omega (arith, length-drop place line)
+
+pub record Applies (flags : Flags) (row : Row) (place : ℕ) (old : List (List Token)) (line : List LineEntry) (new : List (List Token)) (after : List LineEntry) : Type 0 where
+  pub scraps : scraps_of new after ≡ take place (scraps_of old line) ++ rewrite_from flags row (drop place (scraps_of old line))
+  pub roots : AreRoots new (roots_of after)
+  pub keeps : Keeps old new (roots_of line) (roots_of after)
+
+module _ (flags : Flags) (row : Row) (place : ℕ) (l0 l1 l2 l3 : List (List Token)) (line0 line1 line2 : List LineEntry) (reserved : Option NameId) (f : FitsAt flags row (drop place line0)) (tied : IsTied l0) (tied2 : IsTied l2)
+    (e1 : scraps_of l1 line0 ≡ take place (scraps_of l0 line0) ++ reserved_at row.action.reserve (drop place (scraps_of l0 line0))) (ch1 : Changes l0 l1 (roots_of line0)) (r : Replaces flags row place l1 line0 l2 line1)
+    (e3 : scraps_of l3 line2 ≡ take (place + row.offset + 1) (scraps_of l2 line1) ++ map (named_by reserved) (drop (place + row.offset + 1) (scraps_of l2 line1))) (same : roots_of line2 ≡ roots_of line1) (ch3 : Changes l2 l3 (roots_of line1))
+    (name : reserved ≡ found_name (search_in row.action.reserve (drop place (scraps_of l0 line0)))) where
+  abbrev front : List Scrap
+  front = take place (scraps_of l0 line0)
+
+  abbrev named : List Scrap
+  named = reserved_at row.action.reserve (drop place (scraps_of l0 line0))
+
+  abbrev rest : List Scrap
+  rest = drop (row.offset + row.replaced) (reserved_at row.action.reserve (drop place (scraps_of l0 line0)))
+
+  front-length : length front ≡ place
+  front-length = length-take-le place (scraps_of l0 line0) (let h : place < length line0 = place-inside flags row line0 place f in omega (arith, length-scraps l0 line0))
+
+  named-length : length named ≡ length (drop place line0)
+  named-length = at-length row.action.reserve (drop place (scraps_of l0 line0)) ∙ omega (arith, length-drop place (scraps_of l0 line0), length-drop place line0, length-scraps l0 line0)
+
+  -- up to the new scrap
+  abbrev head : List Scrap
+  head = front ++ (take row.offset named ++ new_scrap flags row named ∷ [])
+
+  replaced-is : scraps_of l2 line1 ≡ head ++ rest
+  replaced-is =
+      r.scraps
+      ∙ (ap (λ xs. take place xs ++ replaced_from flags row (drop place xs)) e1
+      ∙ (ap (λ xs. xs ++ replaced_from flags row (drop place (front ++ named))) (take_at front named place front-length)
+      ∙ (ap (λ xs. front ++ replaced_from flags row xs) (drop_at front named place front-length)
+      ∙ (ap (λ xs. front ++ xs) (sym (append_assoc (take row.offset named) (new_scrap flags row named ∷ []) rest))
+      ∙ sym (append_assoc front (take row.offset named ++ new_scrap flags row named ∷ []) rest)))))
+
+  head-length : length head ≡ place + row.offset + 1
+  head-length =
+      let inside : row.offset + row.replaced ≤ length (drop place line0) = f.inside in
+      omega (arith, front-length, named-length, length-append front (take row.offset named ++ new_scrap flags row named ∷ []), length-append (take row.offset named) (new_scrap flags row named ∷ []), length-take row.offset named)
+
+  scraps-are : scraps_of l3 line2 ≡ front ++ rewrite_from flags row (drop place (scraps_of l0 line0))
+  scraps-are =
+      e3
+      ∙ (ap (λ xs. take (place + row.offset + 1) xs ++ map (named_by reserved) (drop (place + row.offset + 1) xs)) replaced-is
+      ∙ (ap (λ xs. xs ++ map (named_by reserved) (drop (place + row.offset + 1) (head ++ rest))) (take_at head rest (place + row.offset + 1) head-length)
+      ∙ (ap (λ xs. head ++ map (named_by reserved) xs) (drop_at head rest (place + row.offset + 1) head-length)
+      ∙ (ap (λ n. head ++ map (named_by n) rest) name
+      ∙ (ap (λ xs. head ++ xs) (right-is (search_in row.action.reserve (drop place (scraps_of l0 line0))) rest)
+      ∙ (append_assoc front (take row.offset named ++ new_scrap flags row named ∷ []) (named_right (search_in row.action.reserve (drop place (scraps_of l0 line0))) rest)
+      ∙ ap (λ xs. front ++ xs) (append_assoc (take row.offset named) (new_scrap flags row named ∷ []) (named_right (search_in row.action.reserve (drop place (scraps_of l0 line0))) rest))))))))
+
+  pub applies : Applies flags row place l0 line0 l3 line2
+  applies = record {
+    scraps = scraps-are;
+    roots = rw same (roots-stay l2 l3 (roots_of line1) (roots_of line1) ch3 r.roots);
+    keeps = rw same (keeps-trans l0 l1 l3 (roots_of line0) (roots_of line0) (roots_of line1) (keeps-changed l0 l1 (roots_of line0) tied ch1)
+        (keeps-trans l1 l2 l3 (roots_of line0) (roots_of line1) (roots_of line1) r.keeps (keeps-changed l2 l3 (roots_of line1) tied2 ch3)));
+  }
+
+-- names and marks
+some-found : (s : Search) (id : NameId) → found_name s ≡ Some id → s ≡ Found id.index
+some-found (Found name) id e = ap (λ (o : Option NameId). Found (elim o [ Some i ↦ i.index | None ↦ name ])) e
+some-found Stopped id e = absurd (let k : ◌≡◌ {A = Option NameId} None (Some id) = e in cc)
+some-found Nothing id e = absurd (let k : ◌≡◌ {A = Option NameId} None (Some id) = e in cc)
+
+pub reserved-there : (names : List Entry) (reserve : Option ℕ) (place : ℕ) (scraps : List Scrap) (reserved : Option NameId) (id : NameId) → All (λ scrap. IsNamedBelow (length names) scrap.tree) scraps → reserved ≡ found_name (search_in reserve (drop place scraps)) → reserved ≡ Some id → id.index < length names
+reserved-there names reserve place scraps reserved id all is e =
+    search-named (length names) reserve (drop place scraps) id.index (All-drop (λ scrap. IsNamedBelow (length names) scrap.tree) place scraps all) (some-found (search_in reserve (drop place scraps)) id (sym is ∙ e))
+
+pub retyped-is : (s : Search) (names : List Entry) → retyped_by (found_name s) names ≡ retyped s names
+retyped-is (Found name) names = refl
+retyped-is Stopped names = refl
+retyped-is Nothing names = refl
+
+cats-retyped : (n : ℕ) (names : List Entry) → categories (with_category n RawInt names) ≡ set (categories names) n RawInt
+cats-retyped n [] = refl
+cats-retyped zero (e ∷ names) = refl
+cats-retyped (suc n) (e ∷ names) = ap (λ cs. e.category ∷ cs) (cats-retyped n names)
+
+categories-are : (s : Search) (names : List Entry) → categories (retyped s names) ≡ with_type s (categories names)
+categories-are (Found name) names = cats-retyped name names
+categories-are Stopped names = refl
+categories-are Nothing names = refl
+
+length-with : (n : ℕ) (names : List Entry) → length (with_category n RawInt names) ≡ length names
+length-with n [] = refl
+length-with zero (e ∷ names) = refl
+length-with (suc n) (e ∷ names) = ap suc (length-with n names)
+
+pub length-retyped : (s : Search) (names : List Entry) → length (retyped s names) ≡ length names
+length-retyped (Found name) names = length-with name names
+length-retyped Stopped names = refl
+length-retyped Nothing names = refl
+
+marks-found : (s : Search) → map (λ (id : NameId). id.index) (option_to_list (found_name s)) ≡ found_names s
+marks-found (Found name) = refl
+marks-found Stopped = refl
+marks-found Nothing = refl
+
+-- the state as a whole
+pub state-is : (flags : Flags) (row : Row) (place : ℕ) (old : List (List Token)) (line : List LineEntry) (marks : MarkList) (names : List Entry) (new : List (List Token)) (after : List LineEntry) (marks' : MarkList) (names' : List Entry) (marked : Option NameId)
+    → Applies flags row place old line new after → marks'.names ≡ marks.names ++ option_to_list marked → marked ≡ found_name (search_in row.action.underline (drop place (scraps_of old line))) → names' ≡ retyped (search_in row.action.reserve (drop place (scraps_of old line))) names
+    → state_of new after marks' names' ≡ rewrite flags row place (state_of old line marks names)
+state-is flags row place old line marks names new after marks' names' marked a m n e =
+    ap (λ ss. record { scraps = ss; marks = marked_names marks'; cats = categories names' }) a.scraps
+    ∙ (ap (λ ms. record { scraps = take place (scraps_of old line) ++ rewrite_from flags row (drop place (scraps_of old line)); marks = ms; cats = categories names' })
+    (ap (map (λ (id : NameId). id.index)) m ∙ (map-append (λ (id : NameId). id.index) marks.names (option_to_list marked) ∙ ap (λ xs. marked_names marks ++ xs) (ap (λ o. map (λ (id : NameId). id.index) (option_to_list o)) n ∙ marks-found (search_in row.action.underline (drop place (scraps_of old line))))))
+    ∙ ap (λ cs. record { scraps = take place (scraps_of old line) ++ rewrite_from flags row (drop place (scraps_of old line)); marks = marked_names marks ++ found_names (search_in row.action.underline (drop place (scraps_of old line))); cats = cs })
+    (ap categories e ∙ categories-are (search_in row.action.reserve (drop place (scraps_of old line))) names))
+
+pub sound-after : (flags : Flags) (row : Row) (place : ℕ) (old new : StoredLists) (line after : List LineEntry) (names names' : List Entry) → FitsAt flags row (drop place line) → row_fits row (drop place (cats_of (scraps_of old.lists line))) ≡ true
+    → IsSoundLine old names line → Applies flags row place old.lists line new.lists after → new.building ≡ None → names' ≡ retyped (search_in row.action.reserve (drop place (scraps_of old.lists line))) names → IsSoundLine new names' after
+sound-after flags row place old new line after names names' f fits sound a idle e =
+    let same : length names' ≡ length names = ap length e ∙ length-retyped (search_in row.action.reserve (drop place (scraps_of old.lists line))) names in
+    let short : place ≤ length (scraps_of old.lists line) = let h : place < length line = place-inside flags row line place f in omega (arith, length-scraps old.lists line) in
+    let fall : Falls flags row place (record { scraps = scraps_of old.lists line; marks = []; cats = [] }) = falls flags row place (record { scraps = scraps_of old.lists line; marks = []; cats = [] }) f.is_sound fits sound.fine short in
+    record {
+      idle = idle;
+      roots = a.roots;
+      named = rw (same, a.scraps) (keeps-named (length names) flags row place (scraps_of old.lists line) sound.named);
+      modes = rw a.scraps (keeps-modes flags row place (scraps_of old.lists line) sound.modes);
+      fine = ap (list_all is_fine) a.scraps ∙ fall.fine;
+    }

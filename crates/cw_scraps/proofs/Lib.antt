@@ -1,0 +1,13 @@
+pub mod Gaps
+pub mod RowPieces
+pub mod Buildings
+pub mod Changings
+pub mod Reservings
+pub mod JoinedTrees
+pub mod Fits
+pub mod Splices
+pub mod Growing
+pub mod Productions
+pub mod ModeLaw
+pub mod Keeping
+pub mod Applied

@@ -1,0 +1,6 @@
+use Rattle.std.proofs.Common.{◌≡◌, ◌+◌}
+use Rattle.cw_scraps.specs.Gap.{around}
+use Rattle.cw_scraps.proofs.line.move_right.Given as goal
+
+abbrev pub invariant-loop-moved : goal.invariant-loop-moved
+invariant-loop-moved l = around (l.left + l.moved) (l.right + l.moved) l.items ≡ around l.left l.right l.initial.items

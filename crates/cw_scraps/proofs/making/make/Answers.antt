@@ -1,0 +1,35 @@
+use Rattle.std.proofs.Common.{◌+◌, ◌<◌, length, drop, refl, sym, ap, ◌∙◌, arith}
+use Rattle.cw_table.specs.Rewriting.{alone}
+use Rattle.cw_scraps.specs.Making.{kept}
+use Rattle.cw_scraps.proofs.Fits.{fits-at, run-at, behind, kept-there, place-inside, kept-is}
+use Rattle.cw_scraps.proofs.making.make.Goals as goal
+
+pub result_cat-cat-requires : goal.result_cat-cat-requires
+result_cat-cat-requires c =
+    let f = fits-at c.args.flags.now c.args.row.now (drop c.args.place c.args.line.now) c.requires.sound c.requires.fits in
+    λ k e. behind _ _ k (f.result_there k e)
+
+pub row_pieces-pieces-requires : goal.row_pieces-pieces-requires
+row_pieces-pieces-requires c =
+    let f = fits-at c.args.flags.now c.args.row.now (drop c.args.place c.args.line.now) c.requires.sound c.requires.fits in
+    place-inside _ _ _ _ f
+
+pub overflow_add-place : goal.overflow_add-place
+overflow_add-place c =
+    let f = fits-at c.args.flags.now c.args.row.now (drop c.args.place c.args.line.now) c.requires.sound c.requires.fits in
+    let inside : c.args.place + c.in-Some.k < length c.args.line.now = behind _ _ c.in-Some.k (kept-there _ _ _ c.in-Some.k f (ap (alone c.args.row.now.replaced) (sym c.row_pieces-pieces.ensures) ∙ sym c.in-Some.ensures)) in
+    omega (arith, c.len-length.ensures, c.len-length.type_inv)
+
+pub join-part-requires-clause-place : goal.join-part-requires-clause-place
+join-part-requires-clause-place c =
+    let f = fits-at c.args.flags.now c.args.row.now (drop c.args.place c.args.line.now) c.requires.sound c.requires.fits in
+    let inside : c.args.place < length c.args.line.now = place-inside _ _ _ _ f in
+    omega arith
+
+pub join-part-requires-clause-run : goal.join-part-requires-clause-run
+join-part-requires-clause-run c =
+    let f = fits-at c.args.flags.now c.args.row.now (drop c.args.place c.args.line.now) c.requires.sound c.requires.fits in
+    rw c.row_pieces-pieces.ensures (run-at _ _ _ f)
+
+pub returns-in-Some : goal.returns-in-Some
+returns-in-Some c = kept c.in-Some.k (ap (alone c.args.row.now.replaced) (sym c.row_pieces-pieces.ensures) ∙ sym c.in-Some.ensures) refl (kept-is c.args.line.now c.args.place c.in-Some.k _ _ _ c.result_cat-cat.ensures c.entry-entry.ensures)

@@ -1,0 +1,5 @@
+use Rattle.cw_scraps.proofs.Applied.{unturned}
+use Rattle.cw_scraps.proofs.reserving.turn_right.Goals as goal
+
+pub returns-in-None-clause-scraps : goal.returns-in-None-clause-scraps
+returns-in-None-clause-scraps g c = unturned _ _ _ (c.requires.unnamed c.in-None.is)

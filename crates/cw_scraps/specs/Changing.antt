@@ -1,0 +1,18 @@
+-- What a step leaves of a store.
+use Rattle.std.specs.Prelude.{◌≡◌, ℕ, List, [], length, get_or}
+use Rattle.cw_tokens.specs.declared.token.Token.{Token}
+use Rattle.cw_tokens.specs.Shapes.{unfolded}
+use Rattle.cw_tokens.specs.References.{refers}
+use Rattle.cw_scraps.specs.Lines.{IsOutside}
+
+-- no reference changes, and no list but those in the trees of the roots
+pub record Changes (old new : List (List Token)) (roots : List ℕ) : Type 0 where
+  pub others : (k : ℕ) → IsOutside old roots k → get_or new k [] ≡ get_or old k []
+  pub same_length : length new ≡ length old
+  pub same_refs : (l p : ℕ) → refers new l p ≡ refers old l p
+
+-- A list that stood in no tree of a line is as it was, with its tree, and stands in no tree of the new line.
+pub record Keeps (old new : List (List Token)) (old_roots new_roots : List ℕ) : Type 0 where
+  pub lists : (k : ℕ) → IsOutside old old_roots k → get_or new k [] ≡ get_or old k []
+  pub trees : (k : ℕ) → IsOutside old old_roots k → unfolded new k ≡ unfolded old k
+  pub outside : (k : ℕ) → IsOutside old old_roots k → IsOutside new new_roots k

@@ -1,0 +1,11 @@
+pub mod Gap
+pub mod Lines
+pub mod Inserting
+pub mod Building
+pub mod Changing
+pub mod Turning
+pub mod Making
+pub mod Replacing
+pub mod Marking
+pub mod Applying
+pub mod Modes

@@ -1,0 +1,14 @@
+//! Scraps of C text: the scrap of a token, a line of scraps, and one production on a line.
+#![tactic(auto)]
+
+mod applying;
+mod joining;
+mod line;
+mod making;
+mod marks;
+mod pieces;
+mod producing;
+mod reserving;
+
+pub use line::{LineEntry, Part, ScrapLine};
+pub use marks::Marks;

@@ -1,0 +1,66 @@
+ghost use Rattle.std.specs.Prelude.{◌≡◌, ℕ, ◌+◌, ◌<◌, ◌≤◌, true, length, drop};
+ghost use Rattle.cw_table.specs.Fitting.{row_fits};
+ghost use Rattle.cw_table.specs.Rows.{translation};
+ghost use Rattle.cw_table.specs.Sound.{row_is_sound};
+ghost use Rattle.cw_scraps.specs.Lines.{roots_of, AreRoots};
+ghost use Rattle.cw_scraps.specs.Inserting.{entry_cats};
+ghost use Rattle.cw_scraps.specs.Making.{pieces_at, IsMade};
+
+use crate::joining::join;
+use crate::line::{LineEntry, ScrapLine};
+use crate::pieces::{alone, result_cat, takes_other};
+use cw_base::Flags;
+use cw_table::{Pieces, Row};
+use cw_tokens::TokenStore;
+
+/// The pieces of a row at a place.
+fn row_pieces<'a>(row: &'a Row, flags: &Flags, line: &ScrapLine, place: usize) -> &'a Pieces
+    requires { place < length line.now }
+    ensures { translation result.now ≡ pieces_at flags.now row.now (drop place line.now) }
+{
+    if takes_other(flags, row.action.choice, line, place) {
+        &row.action.other
+    } else {
+        &row.action.usual
+    }
+}
+
+/// The entry of the scrap that a row makes at a place.
+pub fn make(
+    line: &ScrapLine,
+    place: usize,
+    row: &Row,
+    flags: &Flags,
+    store: &mut TokenStore,
+) -> LineEntry
+    requires sound { row_is_sound row.now ≡ true }
+    requires fits { row_fits row.now (entry_cats (drop place line.now)) ≡ true }
+    requires idle { store.old.building ≡ None }
+    requires room { 24 ≤ store.old.spare }
+    requires roots { AreRoots store.old.lists (roots_of (drop place line.now)) }
+    ensures { IsMade flags.now row.now (drop place line.now) store.old store.new result }
+{
+    let _length = line.len();
+    let cat = result_cat(row.result, line, place);
+    let pieces = row_pieces(row, flags, line, place);
+    match alone(row.replaced, pieces) {
+        Some(k) => {
+            let entry = line.entry(place + k as usize);
+            LineEntry {
+                cat,
+                list: entry.list,
+                left: entry.left,
+                right: entry.right,
+            }
+        }
+        None => {
+            let part = join(line, place, pieces, store);
+            LineEntry {
+                cat,
+                list: part.list,
+                left: part.left,
+                right: part.right,
+            }
+        }
+    }
+}

@@ -1,0 +1,195 @@
+ghost use Rattle.std.specs.Prelude.{◌≡◌, ℕ, ◌+◌, ◌<◌, ◌≤◌, [], ◌∷◌, length, drop, take, get_or};
+ghost use Rattle.cw_trees.specs.Joining.{needs, after, first_mode};
+ghost use Rattle.cw_table.specs.declared.types.RowResult.TheVariants.{SameAs};
+ghost use Rattle.cw_table.specs.Rows.{result_at, translation};
+ghost use Rattle.cw_table.specs.Rewriting.{alone, takes_other};
+ghost use Rattle.cw_scraps.specs.Inserting.{entry_cats, sign_of, math_insert, control_insert, inserting, IsPieceWithin};
+
+use crate::line::ScrapLine;
+use cw_base::{Cat, Flags, MathMode};
+use cw_table::{Choice, Piece, Pieces, RowResult};
+use cw_tokens::Token;
+use cw_trees::Control;
+
+/// A token of a new list, and the modes in which it begins and ends.
+#[derive(Clone, Copy)]
+pub struct Insert {
+    pub token: Token,
+    pub left: MathMode,
+    pub right: MathMode,
+}
+
+/// The control of a piece that is no scrap.
+fn sign_of(piece: Piece) -> Control
+    ensures { result ≡ sign_of piece }
+{
+    match piece {
+        Piece::Blank => Control::Blank,
+        Piece::OptionalBreak => Control::OptionalBreak,
+        Piece::Break => Control::Break,
+        Piece::BigBreak => Control::BigBreak,
+        Piece::Cancel => Control::Cancel,
+        Piece::Backup => Control::Backup,
+        Piece::Wall => Control::Wall,
+        Piece::Indent => Control::Indent,
+        Piece::Outdent => Control::Outdent,
+        Piece::OptionalLineBreak0 => Control::OptionalLineBreak0,
+        Piece::OptionalLineBreak9 => Control::OptionalLineBreak9,
+        Piece::ThinSpace => Control::ThinSpace,
+        Piece::OpenBrace => Control::OpenBrace,
+        Piece::CloseBrace => Control::CloseBrace,
+        Piece::OpenRelation => Control::OpenRelation,
+        Piece::Scrap(_) | Piece::MathScrap(_) | Piece::Unused | Piece::Inserted =>
+            Control::Inserted,
+    }
+}
+
+/// The mode that a control needs; `Maybe` where it needs none.
+pub fn needs(control: Control) -> MathMode
+    ensures { result ≡ needs control }
+{
+    match control {
+        Control::Blank
+        | Control::OptionalBreak
+        | Control::Break
+        | Control::BigBreak
+        | Control::Cancel
+        | Control::Backup
+        | Control::ToMath
+        | Control::CommentEnd => MathMode::Text,
+        Control::OpenBrace | Control::CloseBrace | Control::OpenRelation | Control::ToText =>
+            MathMode::Math,
+        Control::Wall
+        | Control::Indent
+        | Control::Outdent
+        | Control::OptionalLineBreak0
+        | Control::OptionalLineBreak9
+        | Control::ThinSpace
+        | Control::Inserted
+        | Control::Dollar
+        | Control::NameText
+        | Control::NameEnd => MathMode::Maybe,
+    }
+}
+
+/// The mode so far after a piece: as before where its left mode is `Maybe`, else its right mode.
+pub fn after(mode: MathMode, left: MathMode, right: MathMode) -> MathMode
+    ensures { result ≡ after mode left right }
+{
+    match left {
+        MathMode::Maybe => mode,
+        MathMode::Text | MathMode::Math => right,
+    }
+}
+
+/// The first of two modes that is not `Maybe`.
+pub fn first_mode(mode: MathMode, later: MathMode) -> MathMode
+    ensures { result ≡ first_mode mode later }
+{
+    match mode {
+        MathMode::Maybe => later,
+        MathMode::Text | MathMode::Math => mode,
+    }
+}
+
+fn in_math(token: Token, left: MathMode, right: MathMode) -> Insert
+    ensures { result ≡ math_insert token left right }
+{
+    match (left, right) {
+        (MathMode::Maybe, MathMode::Maybe) => Insert {
+            token,
+            left: MathMode::Math,
+            right: MathMode::Math,
+        },
+        _ => Insert { token, left, right },
+    }
+}
+
+fn sign_insert(control: Control) -> Insert
+    ensures { result ≡ control_insert control }
+{
+    let mode = needs(control);
+    Insert {
+        token: Token::Control(control),
+        left: mode,
+        right: mode,
+    }
+}
+
+/// What a piece puts into the list of a production at a place.
+pub fn insert_of(line: &ScrapLine, place: usize, piece: Piece) -> Insert
+    requires { IsPieceWithin place (length line.now) piece }
+    ensures { result ≡ inserting (drop place line.now) piece }
+{
+    let _length = line.len();
+    match piece {
+        Piece::Scrap(k) => {
+            let entry = line.entry(place + k as usize);
+            Insert {
+                token: Token::List(entry.list),
+                left: entry.left,
+                right: entry.right,
+            }
+        }
+        Piece::MathScrap(k) => {
+            let entry = line.entry(place + k as usize);
+            in_math(Token::List(entry.list), entry.left, entry.right)
+        }
+        _ => sign_insert(sign_of(piece)),
+    }
+}
+
+/// The scrap that stays as it is: where one scrap is replaced and the pieces are that scrap alone.
+pub fn alone(replaced: u8, pieces: &Pieces) -> Option<u8>
+    ensures { result ≡ alone replaced (translation pieces.now) }
+{
+    if replaced == 1 && count_of(pieces) == 1 {
+        only_scrap(pieces.pieces[0])
+    } else {
+        None
+    }
+}
+
+/// The number of pieces.
+pub fn count_of(pieces: &Pieces) -> usize
+    ensures count { result ≡ length (translation pieces.now) }
+    ensures twelve { result ≤ 12 }
+{
+    let all: &[Piece] = &pieces.pieces;
+    usize::from(pieces.count).min(all.len())
+}
+
+fn only_scrap(piece: Piece) -> Option<u8>
+    ensures { result ≡ alone 1 (piece ∷ []) }
+{
+    match piece {
+        Piece::Scrap(k) => Some(k),
+        _ => None,
+    }
+}
+
+/// Whether a row takes its other pieces at a place.
+pub fn takes_other(flags: &Flags, choice: Choice, line: &ScrapLine, place: usize) -> bool
+    requires { place < length line.now }
+    ensures { result ≡ takes_other flags.now choice (entry_cats (drop place line.now)) }
+{
+    let _length = line.len();
+    match choice {
+        Choice::Always => false,
+        Choice::Indent => !flags.indent,
+        Choice::Separate => !flags.separate && line.entry(place + 1).cat == Cat::Stmt,
+        Choice::Force => !flags.force,
+    }
+}
+
+/// The category that a row gives at a place.
+pub fn result_cat(outcome: RowResult, line: &ScrapLine, place: usize) -> Cat
+    requires { (k : ℕ) → outcome ≡ SameAs k → place + k < length line.now }
+    ensures { result ≡ result_at outcome (entry_cats (drop place line.now)) }
+{
+    let _length = line.len();
+    match outcome {
+        RowResult::Is(cat) => cat,
+        RowResult::SameAs(k) => line.entry(place + k as usize).cat,
+    }
+}
