@@ -47,3 +47,6 @@ part-second old first {second = second} begun part = record {
   journal = grown-after old first (take part.count second) begun part.journal
       ∙ ap (λ (events : List Event). grown old events) (sym (take-append-add first second part.count));
 }
+
+-- what proves that journals grow call by call
+pub ruleset growing = (part-same, part-all, part-first, part-second, grown-after)

@@ -3,6 +3,7 @@ pub mod Journal
 pub mod JournalLaws
 pub mod Make
 pub mod Meaning
+pub mod MeaningLaws
 pub mod Mem
 pub mod Open
 pub mod Put

@@ -1,0 +1,19 @@
+-- A woven book never ends with a fault.
+use Rattle.std.proofs.Common.{◌≡◌, ◌≢◌, Bool, true, false}
+use Rattle.cw_base.specs.Web.{WebState}
+use Rattle.cw_base.specs.declared.exit.Exit.{Exit}
+use Rattle.cw_base.specs.declared.exit.Exit.TheVariants.{Clean, Errors, Fault, Memory}
+use Rattle.cw_input.specs.declared.words.CommandLine.{CommandLine}
+use Rattle.cw_base.specs.Web.{text_of}
+use Rattle.cw_weave.specs.Notes.{exit_by, has_error, broken_notes}
+use Rattle.cw_weave.specs.Tex.{tex_text}
+use Rattle.cw_weave.specs.Woven.{weave_text, weave_tex, broken_lines}
+use Rattle.std.proofs.Common.{◌++◌}
+
+exit_by-real : (error : Bool) → exit_by error ≢ Fault
+exit_by-real true e = cc
+exit_by-real false e = cc
+
+pub weave_text-real : (plain : Bool) (line : CommandLine) (web : WebState) → (weave_text plain line web).exit ≢ Fault
+weave_text-real true line web = exit_by-real (has_error (web.notes ++ broken_notes (broken_lines (tex_text line.flags.index (text_of web.lines)))))
+weave_text-real false line web = λ e. cc

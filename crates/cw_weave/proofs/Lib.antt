@@ -1,0 +1,4 @@
+pub mod NotesLaws
+mod Rows
+pub mod ExitLaws
+pub mod Said

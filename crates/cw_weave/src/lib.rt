@@ -1,0 +1,12 @@
+//! The top call: a web is read, woven and written.
+#![tactic(auto)]
+
+mod message;
+mod notes;
+mod output;
+mod terminal;
+mod tex;
+mod text;
+mod weave;
+
+pub use weave::weave_command;

@@ -1,0 +1,214 @@
+ghost use Rattle.std.specs.Prelude.{◌≡◌, ◌≤◌, ◌<◌, ◌≢◌, ◌++◌, Some, None, length, IfOk, IsErrOf, OnErr, OnOk};
+ghost use Rattle.std.specs.FinMap.{get};
+ghost use Rattle.cw_base.specs.Web.{text_of};
+ghost use Rattle.cw_desk.specs.Journal.{grown, GrownByPart};
+ghost use Rattle.cw_desk.specs.Meaning.{Files, Rose};
+ghost use Rattle.cw_input.specs.Merged.{merged};
+ghost use Rattle.cw_weave.specs.Notes.{says};
+ghost use Rattle.cw_weave.specs.Plain.{is_plain};
+ghost use Rattle.cw_weave.specs.Terminal.{fatal_text};
+ghost use Rattle.cw_weave.specs.WebWord.{HasWebWord};
+ghost use Rattle.cw_weave.specs.Woven.{Outcome, events, is_built, weave_command_of, weave_line, weave_tex, weave_text, weave_web, woven};
+
+use crate::message::Message;
+use crate::notes::print_notes;
+use crate::output::{end_run, write_index, write_tex};
+use crate::terminal::{say, say_if, stop, stop_with};
+use crate::tex::tex_text;
+use crate::text::is_plain;
+use cw_base::{Bytes, Exit, Ledger, Steps, Web, Words};
+use cw_desk::Desk;
+use cw_input::{Command, CommandLine, LoadError, load, read_command};
+use cw_lines::PutError;
+use std::alloc::Global;
+
+/// Prints the notes of reading, writes the files, and ends the run.
+#[tactic(auto, using(cw_desk::specs::JournalLaws::growing))]
+fn write_book<D: Desk>(
+    alloc: Global,
+    desk: &mut D,
+    line: &CommandLine,
+    web: &Web,
+    tex: &[u8],
+) -> Result<Exit, PutError>
+    ensures ok { OnOk result (D.journal desk.new ≡ grown (D.journal desk.old) (weave_tex line.now web.now.files web.now.notes tex.now).rest) }
+    ensures exit { IfOk result (λ exit. exit ≡ (weave_tex line.now web.now.files web.now.notes tex.now).exit) }
+    ensures err { OnErr result (GrownByPart (D.journal desk.old) (D.journal desk.new) (weave_tex line.now web.now.files web.now.notes tex.now).rest) }
+    ensures faults { D.faults desk.old ≤ D.faults desk.new }
+    ensures fault { IsErrOf result PutError.Fault → Rose (D.faults desk.old) (D.faults desk.new) }
+{
+    print_notes(alloc, web, web.notes(), desk)?;
+    let out = write_tex(alloc, desk, &line.flags, &line.outputs, tex)?;
+    write_index(desk, &line.flags, &line.outputs)?;
+    let exit = end_run(
+        alloc,
+        desk,
+        &line.flags,
+        &line.outputs,
+        web.notes(),
+        out.broken(),
+    )?;
+    Ok(exit)
+}
+
+/// Weaves a web that was read.
+#[tactic(auto, using(cw_desk::specs::JournalLaws::growing))]
+fn weave_web<D: Desk>(
+    alloc: Global,
+    desk: &mut D,
+    line: &CommandLine,
+    web: &Web,
+) -> Result<Exit, PutError>
+    ensures ok { OnOk result (D.journal desk.new ≡ grown (D.journal desk.old) (weave_text (is_plain (text_of web.now.lines)) line.now web.now).rest) }
+    ensures exit { IfOk result (λ exit. exit ≡ (weave_text (is_plain (text_of web.now.lines)) line.now web.now).exit) }
+    ensures err { OnErr result (GrownByPart (D.journal desk.old) (D.journal desk.new) (weave_text (is_plain (text_of web.now.lines)) line.now web.now).rest) }
+    ensures faults { D.faults desk.old ≤ D.faults desk.new }
+    ensures fault { IsErrOf result PutError.Fault → Rose (D.faults desk.old) (D.faults desk.new) }
+    ensures real { IfOk result (λ exit. exit ≢ Exit.Fault) }
+{
+    let text = web.text();
+    if !is_plain(text) {
+        stop(desk, Message::NotBuilt)?;
+        return Ok(Exit::Errors);
+    }
+    let tex = tex_text(alloc, line.flags.index, text)?;
+    let exit = write_book(alloc, desk, line, web, tex.as_slice())?;
+    Ok(exit)
+}
+
+/// Ends the run with a message about a word of the command line.
+#[tactic(auto, using(cw_desk::specs::JournalLaws::growing))]
+fn stop_at<D: Desk>(
+    alloc: Global,
+    desk: &mut D,
+    message: &[u8],
+    word: &Bytes,
+) -> Result<Exit, PutError>
+    ensures ok { OnOk result (D.journal desk.new ≡ grown (D.journal desk.old) (says (message.now ++ word.now) ++ says fatal_text)) }
+    ensures exit { IfOk result (λ exit. exit ≡ Exit.Errors) }
+    ensures err { OnErr result (GrownByPart (D.journal desk.old) (D.journal desk.new) (says (message.now ++ word.now) ++ says fatal_text)) }
+    ensures faults { D.faults desk.old ≤ D.faults desk.new }
+    ensures fault { IsErrOf result PutError.Fault → Rose (D.faults desk.old) (D.faults desk.new) }
+{
+    let mut text = Bytes::from_slice(alloc, message)?;
+    text.append(word.as_slice())?;
+    stop_with(desk, text)?;
+    Ok(Exit::Errors)
+}
+
+/// Whether what the command line asks for is built.
+fn is_built(line: &CommandLine) -> bool
+    ensures { result ≡ is_built line.now }
+{
+    line.change.is_none() && !line.flags.stats
+}
+
+/// Reads a web and weaves it.
+#[tactic(auto, using(cw_desk::specs::JournalLaws::growing))]
+fn weave_named<D: Desk>(alloc: Global, desk: &mut D, line: &CommandLine) -> Result<Exit, PutError>
+    requires { 0 < length line.now.web }
+    ensures ok { (told : Files) → D.files desk.old ≡ Some told →
+        OnOk result (D.journal desk.new ≡ grown (D.journal desk.old) (weave_web line.now (merged (get told) line.now.web None)).rest) }
+    ensures exit { (told : Files) → D.files desk.old ≡ Some told →
+        IfOk result (λ exit. exit ≡ (weave_web line.now (merged (get told) line.now.web None)).exit) }
+    ensures err { (told : Files) → D.files desk.old ≡ Some told →
+        OnErr result (GrownByPart (D.journal desk.old) (D.journal desk.new) (weave_web line.now (merged (get told) line.now.web None)).rest) }
+    ensures faults { D.faults desk.old ≤ D.faults desk.new }
+    ensures fault { IsErrOf result PutError.Fault → Rose (D.faults desk.old) (D.faults desk.new) }
+    ensures real { IfOk result (λ exit. exit ≢ Exit.Fault) }
+{
+    match load(alloc, desk, line.web.as_slice(), None) {
+        Ok(web) => weave_web(alloc, desk, line, &web),
+        Err(LoadError::NoWeb) => stop_at(alloc, desk, b"! Cannot open web file ", &line.web),
+        Err(LoadError::NoChange) => stop_at(
+            alloc,
+            desk,
+            b"! Cannot open change file ",
+            &Bytes::new_in(alloc),
+        ),
+        Err(LoadError::TooLong) => {
+            stop(desk, Message::TooLong)?;
+            Ok(Exit::Errors)
+        }
+        Err(LoadError::Fault) => Err(PutError::Fault),
+        Err(LoadError::Memory) => Err(PutError::Memory),
+    }
+}
+
+/// Does what a command line asks for.
+#[tactic(auto, using(cw_desk::specs::JournalLaws::growing))]
+fn weave_line<D: Desk>(alloc: Global, desk: &mut D, line: &CommandLine) -> Result<Exit, PutError>
+    requires { 0 < length line.now.web }
+    ensures ok { (told : Files) → D.files desk.old ≡ Some told →
+        OnOk result (D.journal desk.new ≡ grown (D.journal desk.old) (weave_line (is_built line.now) line.now (get told)).rest) }
+    ensures exit { (told : Files) → D.files desk.old ≡ Some told →
+        IfOk result (λ exit. exit ≡ (weave_line (is_built line.now) line.now (get told)).exit) }
+    ensures err { (told : Files) → D.files desk.old ≡ Some told →
+        OnErr result (GrownByPart (D.journal desk.old) (D.journal desk.new) (weave_line (is_built line.now) line.now (get told)).rest) }
+    ensures faults { D.faults desk.old ≤ D.faults desk.new }
+    ensures fault { IsErrOf result PutError.Fault → Rose (D.faults desk.old) (D.faults desk.new) }
+    ensures real { IfOk result (λ exit. exit ≢ Exit.Fault) }
+{
+    if !is_built(line) {
+        stop(desk, Message::NotBuilt)?;
+        return Ok(Exit::Errors);
+    }
+    weave_named(alloc, desk, line)
+}
+
+/// Prints the banner, and does what a command asks for.
+#[tactic(auto, using(cw_desk::specs::JournalLaws::growing))]
+fn run<D: Desk>(alloc: Global, desk: &mut D, command: &Command) -> Result<Exit, PutError>
+    requires { HasWebWord command.now }
+    ensures ok { (told : Files) → D.files desk.old ≡ Some told →
+        OnOk result (D.journal desk.new ≡ grown (D.journal desk.old) (events (weave_command_of command.now (get told)))) }
+    ensures exit { (told : Files) → D.files desk.old ≡ Some told →
+        IfOk result (λ exit. exit ≡ (weave_command_of command.now (get told)).run.exit) }
+    ensures err { (told : Files) → D.files desk.old ≡ Some told →
+        OnErr result (GrownByPart (D.journal desk.old) (D.journal desk.new) (events (weave_command_of command.now (get told)))) }
+    ensures faults { D.faults desk.old ≤ D.faults desk.new }
+    ensures fault { IsErrOf result PutError.Fault → Rose (D.faults desk.old) (D.faults desk.new) }
+    ensures real { IfOk result (λ exit. exit ≢ Exit.Fault) }
+{
+    match command {
+        Command::Usage(flags) => {
+            say_if(desk, flags.banner, Message::Banner)?;
+            stop(desk, Message::Usage)?;
+            Ok(Exit::Errors)
+        }
+        Command::Sample(_) => {
+            say(desk, Message::Banner)?;
+            stop(desk, Message::NotBuilt)?;
+            Ok(Exit::Errors)
+        }
+        Command::Weave(line) => {
+            say_if(desk, line.flags.banner, Message::Banner)?;
+            let exit = weave_line(alloc, desk, line)?;
+            Ok(exit)
+        }
+    }
+}
+
+/// Reads the words of a command line and does what they ask for: weaves a web over the files of the desk into its outputs, and
+/// answers the status of the run. It prints nothing after a fault or want of memory, and tries no failed call again.
+pub fn weave_command<D: Desk, L: Ledger>(
+    alloc: Global,
+    words: &Words,
+    desk: &mut D,
+    steps: &mut Steps<L>,
+) -> Exit
+    ensures woven { (told : Files) → D.files desk.old ≡ Some told →
+        Outcome (woven words.now (get told)) (D.journal desk.old) (D.journal desk.new) result }
+    ensures fault { result ≡ Exit.Fault → Rose (D.faults desk.old) (D.faults desk.new) }
+    ensures steps { steps.new ≡ steps.old }
+{
+    let _ = steps;
+    let Ok(command) = read_command(alloc, words) else {
+        return Exit::Memory;
+    };
+    match run(alloc, desk, &command) {
+        Ok(exit) => exit,
+        Err(PutError::Fault) => Exit::Fault,
+        Err(PutError::Memory) => Exit::Memory,
+    }
+}
