@@ -14,3 +14,5 @@ pub mod Falling
 pub mod Normals
 pub mod RewrittenCats
 pub mod WalkLaws
+pub mod CountLaws
+pub mod StepLaws

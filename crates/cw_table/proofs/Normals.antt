@@ -96,9 +96,9 @@ log-turn-of : (rows : List Row) (f : Flags) (n i : ℕ) (r : Row) (st : State) �
 log-turn-of rows f n i r st e = ap (λ (p : Place). elim p [ Nowhere ↦ [] | At j q ↦ record { number = q.number.number; place = j } ∷ log_of rows f n (rewrite f q j st) ]) e
 
 -- a function of a number of productions that counts them down: more than the weight change nothing
-pub more-same : (A : Type 0) (rows : List Row) (f : Flags) (g : ℕ → State → A) (next : ℕ → Row → A → A) (still : State → A)
+pub more-same : (A : Type 0) (rows : List Row) (f : Flags) (g : ℕ → State → A) (next : State → ℕ → Row → A → A) (still : State → A)
     → ((n : ℕ) (st : State) → next_place rows st ≡ Nowhere → g n st ≡ still st)
-    → ((n i : ℕ) (r : Row) (st : State) → next_place rows st ≡ At i r → g (suc n) st ≡ next i r (g n (rewrite f r i st)))
+    → ((n i : ℕ) (r : Row) (st : State) → next_place rows st ≡ At i r → g (suc n) st ≡ next st i r (g n (rewrite f r i st)))
     → (n m : ℕ) (st : State) → list_all row_is_sound rows ≡ true → list_all is_fine st.scraps ≡ true → weight st.scraps ≤ n → weight st.scraps ≤ m → g n st ≡ g m st
 more-same A rows f g next still none turn zero m st all fine a b = go (next_place rows st) refl
   where
@@ -112,13 +112,13 @@ more-same A rows f g next still none turn (suc n) m st all fine a b = go (λ k s
     go rec zero b (At i r) e = absurd (omega (arith, (takes rows f st i r all fine e).falls.lighter))
     go rec (suc k) b (At i r) e =
         let t = (takes rows f st i r all fine e).falls in
-        turn n i r st e ∙ ap (λ x. next i r x) (rec k (rewrite f r i st) t.fine (omega (arith, t.lighter)) (omega (arith, t.lighter))) ∙ sym (turn k i r st e)
+        turn n i r st e ∙ ap (λ x. next st i r x) (rec k (rewrite f r i st) t.fine (omega (arith, t.lighter)) (omega (arith, t.lighter))) ∙ sym (turn k i r st e)
 
-steps-same : (rows : List Row) (f : Flags) (n m : ℕ) (st : State) → list_all row_is_sound rows ≡ true → list_all is_fine st.scraps ≡ true → weight st.scraps ≤ n → weight st.scraps ≤ m → steps rows f n st ≡ steps rows f m st
-steps-same rows f = more-same State rows f (steps rows f) (λ i r x. x) (λ st. st) (steps-none rows f) (steps-turn rows f)
+pub steps-same : (rows : List Row) (f : Flags) (n m : ℕ) (st : State) → list_all row_is_sound rows ≡ true → list_all is_fine st.scraps ≡ true → weight st.scraps ≤ n → weight st.scraps ≤ m → steps rows f n st ≡ steps rows f m st
+steps-same rows f = more-same State rows f (steps rows f) (λ s i r x. x) (λ st. st) (steps-none rows f) (steps-turn rows f)
 
 log-same : (rows : List Row) (f : Flags) (n m : ℕ) (st : State) → list_all row_is_sound rows ≡ true → list_all is_fine st.scraps ≡ true → weight st.scraps ≤ n → weight st.scraps ≤ m → log_of rows f n st ≡ log_of rows f m st
-log-same rows f = more-same (List Production) rows f (log_of rows f) (λ i r x. record { number = r.number.number; place = i } ∷ x) (λ st. []) (log-none-of rows f) (log-turn-of rows f)
+log-same rows f = more-same (List Production) rows f (log_of rows f) (λ s i r x. record { number = r.number.number; place = i } ∷ x) (λ st. []) (log-none-of rows f) (log-turn-of rows f)
 
 -- The normal form: where a row fits it is that of the rewritten list, and where none does it is the list itself.
 pub normal-none : (rows : List Row) (f : Flags) (st : State) → next_place rows st ≡ Nowhere → normal rows f st ≡ st

@@ -28,7 +28,7 @@ next-here rows first (c ∷ cs) (suc place) r h below found =
     ∙ next-here rows (suc first) cs place r (omega arith) (λ k less. below (suc k) (omega arith)) found
     ∙ ap (λ n. At n r) (omega arith)
 
-next-nowhere : (rows : List Row) (first : ℕ) (cs : List Cat) → ((k : ℕ) → k < length cs → first_of rows (drop k cs) ≡ None) → least_place rows first cs ≡ Nowhere
+pub next-nowhere : (rows : List Row) (first : ℕ) (cs : List Cat) → ((k : ℕ) → k < length cs → first_of rows (drop k cs) ≡ None) → least_place rows first cs ≡ Nowhere
 next-nowhere rows first [] below = refl
 next-nowhere rows first (c ∷ cs) below =
     ap (λ (o : Option Row). elim o [ Some q ↦ At first q | None ↦ least_place rows (suc first) cs ]) (below 0 (omega arith))
@@ -54,14 +54,14 @@ turning rows f st place r all fine below inside found =
       less = omega (arith, t.falls.lighter, t.falls.shorter, t.falls.some, least-at-most rows r);
     }
 
-lt-or-is : (k n : ℕ) → k < suc n → (k < n) ⊎ (k ≡ n)
+pub lt-or-is : (k n : ℕ) → k < suc n → (k < n) ⊎ (k ≡ n)
 lt-or-is k n h = elim (ltb k n) as (λ b. ltb k n ≡ b → (k < n) ⊎ (k ≡ n)) [ true ↦ λ e. inl (ltb-true _ _ e) | false ↦ λ e. inr (omega (arith, ltb-false _ _ e)) ] refl
 
 -- one step of the two recursions
-abbrev step_of : {A : Type 0} → Bool → Option Row → A → A → (Row → A) → A
+abbrev pub step_of : {A : Type 0} → Bool → Option Row → A → A → (Row → A) → A
 step_of inside found ended passed turned = elim inside [ false ↦ ended | true ↦ elim found [ None ↦ passed | Some row ↦ turned row ] ]
 
-step-is : {A : Type 0} (inside : Bool) (found : Option Row) (b : Bool) (o : Option Row) (ended passed : A) (turned : Row → A) → inside ≡ b → found ≡ o → step_of inside found ended passed turned ≡ step_of b o ended passed turned
+pub step-is : {A : Type 0} (inside : Bool) (found : Option Row) (b : Bool) (o : Option Row) (ended passed : A) (turned : Row → A) → inside ≡ b → found ≡ o → step_of inside found ended passed turned ≡ step_of b o ended passed turned
 step-is inside found b o ended passed turned e g = ap (λ (x : Bool). step_of x found ended passed turned) e ∙ ap (λ (y : Option Row). step_of b y ended passed turned) g
 
 -- what a walk gives, seen from the productions

@@ -8,4 +8,6 @@ pub mod Sound
 pub mod Rewriting
 pub mod Normal
 pub mod NormalWalk
+pub mod WalkCounts
+pub mod Reaching
 pub mod NormalLaws

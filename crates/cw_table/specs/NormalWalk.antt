@@ -24,19 +24,28 @@ walk_of rows flags back (suc n) place state = elim (ltb place (length state.scra
 unfoldable pub walk_log : List Row → Flags → (Row → ℕ) → ℕ → State → List Production
 walk_log rows flags back place state = walk_of rows flags back (suc (walk_left place state)) place state
 
-abbrev pub turns_of : List Row → Flags → (Row → ℕ) → ℕ → ℕ → State → ℕ
-turns_of rows flags back zero place state = 0
-turns_of rows flags back (suc n) place state = elim (ltb place (length state.scraps)) [
-  | false ↦ 0
+-- where the walk stands at a turn
+pub record Position : Type 0 where
+  pub place : ℕ
+  pub state : State
+
+abbrev pub positions_of : List Row → Flags → (Row → ℕ) → ℕ → ℕ → State → List Position
+positions_of rows flags back zero place state = []
+positions_of rows flags back (suc n) place state = elim (ltb place (length state.scraps)) [
+  | false ↦ []
   | true ↦ elim (first_of rows (drop place (cats_of state.scraps))) [
-    | None ↦ 1 + turns_of rows flags back n (suc place) state
-    | Some row ↦ 1 + turns_of rows flags back n (place - back row) (rewrite flags row place state)
+    | None ↦ record { place = place; state = state } ∷ positions_of rows flags back n (suc place) state
+    | Some row ↦ record { place = place; state = state } ∷ positions_of rows flags back n (place - back row) (rewrite flags row place state)
   ]
 ]
 
--- how many turns the walk takes, those that rewrite and those that go on
-unfoldable pub turns : List Row → Flags → (Row → ℕ) → ℕ → State → ℕ
-turns rows flags back place state = turns_of rows flags back (suc (walk_left place state)) place state
+-- the turns that the walk takes from a place on, those that rewrite and those that go on
+unfoldable pub positions : List Row → Flags → (Row → ℕ) → ℕ → State → List Position
+positions rows flags back place state = positions_of rows flags back (suc (walk_left place state)) place state
+
+-- and how many they are
+abbrev pub turns : List Row → Flags → (Row → ℕ) → ℕ → State → ℕ
+turns rows flags back place state = length (positions rows flags back place state)
 
 abbrev pub walked_of : List Row → Flags → (Row → ℕ) → ℕ → ℕ → State → State
 walked_of rows flags back zero place state = state
