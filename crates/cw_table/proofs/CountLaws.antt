@@ -1,6 +1,7 @@
 -- How many turns the walk takes, and how many steps it counts.
-use Rattle.std.proofs.Common.{◌≡◌, ℕ, zero, suc, ◌+◌, ◌-◌, ◌*◌, ◌<◌, ◌≤◌, ◌⊎◌, inl, inr, Bool, true, false, ltb, Option, Some, None, List, [], ◌∷◌, length, drop, refl, sym, ◌∙◌, ap, arith, ltb-true, ltb-false}
-use Rattle.std.specs.List.{list_all}
+use Rattle.std.proofs.Common.{◌≡◌, ℕ, zero, suc, ◌+◌, ◌-◌, ◌*◌, ◌<◌, ◌≤◌, inl, inr, Bool, true, false, ltb, Option, Some, None, List, [], ◌∷◌, length, drop, refl, sym, ◌∙◌, ap, arith, ltb-true, ltb-false}
+use Rattle.std.specs.List.{list_all, All}
+use Rattle.std.proofs.lemmas.List.Elements.{All-nil, All-cons}
 use Rattle.cw_base.specs.declared.flags.Flags.{Flags}
 use Rattle.cw_table.specs.declared.types.Row.{Row}
 use Rattle.cw_table.specs.Fitting.{first_of}
@@ -10,6 +11,7 @@ use Rattle.cw_table.specs.Rewriting.{cats_of, State, rewrite}
 use Rattle.cw_table.specs.Normal.{Place, Nowhere, At, next_place, weight, is_fine}
 use Rattle.cw_table.specs.NormalWalk.{walk_left, Position, positions_of, positions, turns}
 use Rattle.cw_table.specs.WalkCounts.{where_reserving, right_of_new, looks_of, looks, reservings_of, reservings, ticks_from, ticks}
+use Rattle.cw_table.specs.NormalLaws.{NoneFitsBelow}
 use Rattle.cw_table.proofs.Normals.{takes, more-same}
 use Rattle.cw_table.proofs.ScrapFacts.{cats-length, weight-most}
 use Rattle.cw_table.proofs.WalkLaws.{NoneBelow, Turns, turning, next-nowhere, lt-or-is, step_of, step-is}
@@ -90,6 +92,23 @@ turns-short rows f (suc n) place st all fine below = go (ltb place (length st.sc
 pub turns-most : (rows : List Row) (f : Flags) (st : State) → list_all row_is_sound rows ≡ true → list_all is_fine st.scraps ≡ true → turns rows f (least rows) 0 st ≤ 33 * length st.scraps
 unfolding positions
 turns-most rows f st all fine = omega (arith, turns-short rows f (suc (walk_left 0 st)) 0 st all fine (λ k less. absurd (omega arith)), weight-most st.scraps)
+
+-- at each turn no row fits below its place
+leftmost-of : (rows : List Row) (f : Flags) (n place : ℕ) (st : State) → list_all row_is_sound rows ≡ true → list_all is_fine st.scraps ≡ true → NoneBelow rows st place → All (NoneFitsBelow rows) (positions_of rows f (least rows) n place st)
+leftmost-of rows f zero place st all fine below = All-nil (NoneFitsBelow rows)
+leftmost-of rows f (suc n) place st all fine below = go (ltb place (length st.scraps)) (first_of rows (drop place (cats_of st.scraps))) refl refl (λ q s. leftmost-of rows f n q s all)
+  where
+    go : (inside : Bool) (o : Option Row) → ltb place (length st.scraps) ≡ inside → first_of rows (drop place (cats_of st.scraps)) ≡ o → ((q : ℕ) (s : State) → list_all is_fine s.scraps ≡ true → NoneBelow rows s q → All (NoneFitsBelow rows) (positions_of rows f (least rows) n q s)) → All (NoneFitsBelow rows) (positions_of rows f (least rows) (suc n) place st)
+    go false o e found rec = rw (positions-step rows f n place st false o e found) (All-nil (NoneFitsBelow rows))
+    go true None e found rec = rw (positions-step rows f n place st true None e found) (All-cons (NoneFitsBelow rows) (here place st) _ below (rec (suc place) st fine (none-below-next rows st place below found)))
+    go true (Some r) e found rec =
+        let inside : place < length st.scraps = ltb-true _ _ e in
+        let t = turning rows f st place r all fine below inside found in
+        rw (positions-step rows f n place st true (Some r) e found) (All-cons (NoneFitsBelow rows) (here place st) _ below (rec (place - least rows r) (rewrite f r place st) t.takes.falls.fine t.below))
+
+pub walk-leftmost : (rows : List Row) (f : Flags) (st : State) → list_all row_is_sound rows ≡ true → list_all is_fine st.scraps ≡ true → All (NoneFitsBelow rows) (positions rows f (least rows) 0 st)
+unfolding positions
+walk-leftmost rows f st all fine = leftmost-of rows f (suc (walk_left 0 st)) 0 st all fine (λ k less. absurd (omega arith))
 
 -- What is summed over the productions.
 none-looks : (rows : List Row) (f : Flags) (n : ℕ) (st : State) → next_place rows st ≡ Nowhere → looks_of rows f n st ≡ 0

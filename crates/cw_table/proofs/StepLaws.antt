@@ -1,5 +1,5 @@
 -- The states on the way to the normal form: each is lighter than those before it.
-use Rattle.std.proofs.Common.{◌≡◌, ℕ, zero, suc, ◌+◌, ◌-◌, ◌<◌, ◌≤◌, ◌⊎◌, inl, inr, Bool, true, false, ltb, List, refl, sym, ◌∙◌, ap, arith, ltb-true, ltb-false}
+use Rattle.std.proofs.Common.{◌≡◌, ℕ, zero, suc, ◌+◌, ◌-◌, ◌<◌, ◌≤◌, Bool, true, false, ltb, List, refl, sym, ◌∙◌, ap, arith, ltb-true, ltb-false}
 use Rattle.std.specs.List.{list_all}
 use Rattle.cw_base.specs.declared.flags.Flags.{Flags}
 use Rattle.cw_table.specs.declared.types.Row.{Row}
@@ -7,7 +7,7 @@ use Rattle.cw_table.specs.Sound.{row_is_sound}
 use Rattle.cw_table.specs.Rewriting.{State, rewrite}
 use Rattle.cw_table.specs.Normal.{Place, Nowhere, At, next_place, weight, is_fine, steps, normal, count}
 use Rattle.cw_table.specs.Reaching.{IsAfter}
-use Rattle.cw_table.proofs.Normals.{takes, steps-none, steps-turn, steps-same, count-none, count-step, normal-step}
+use Rattle.cw_table.proofs.Normals.{takes, steps-none, steps-turn, count-none, count-step, normal-step}
 
 pub steps-add : (rows : List Row) (f : Flags) (k m : ℕ) (st : State) → steps rows f (k + m) st ≡ steps rows f m (steps rows f k st)
 steps-add rows f zero m st = ap (λ n. steps rows f n st) (omega arith)

@@ -1,11 +1,14 @@
 -- What holds of every table of sound rows and of every list of scraps that are fine, as statements.
-use Rattle.std.specs.Prelude.{◌≡◌, ℕ, ◌*◌, ◌<◌, ◌≤◌, true, List, length}
+use Rattle.std.specs.Prelude.{◌≡◌, ℕ, ◌+◌, ◌*◌, ◌<◌, ◌≤◌, true, List, length, drop, None, All}
 use Rattle.std.specs.List.{list_all}
 use Rattle.cw_base.specs.declared.flags.Flags.{Flags}
 use Rattle.cw_table.specs.declared.types.Row.{Row}
-use Rattle.cw_table.specs.Rewriting.{State, rewrite}
-use Rattle.cw_table.specs.Normal.{Nowhere, At, next_place, weight, is_fine, normal, log, count}
-use Rattle.cw_table.specs.NormalWalk.{walk_log, walked}
+use Rattle.cw_table.specs.Fitting.{first_of}
+use Rattle.cw_table.specs.Rewriting.{State, rewrite, cats_of}
+use Rattle.cw_table.specs.Normal.{Nowhere, At, next_place, weight, is_fine, steps, normal, log, count}
+use Rattle.cw_table.specs.NormalWalk.{walk_log, walked, Position, positions, turns}
+use Rattle.cw_table.specs.Reaching.{IsAfter}
+use Rattle.cw_table.specs.WalkCounts.{reservings, ticks}
 use Rattle.cw_table.specs.Safe.{least}
 use Rattle.cw_table.specs.Sound.{row_is_sound}
 
@@ -38,3 +41,22 @@ WalkHasLog = (rows : List Row) (flags : Flags) (state : State) → list_all row_
 
 abbrev pub WalkEndsNormal : Type 0
 WalkEndsNormal = (rows : List Row) (flags : Flags) (state : State) → list_all row_is_sound rows ≡ true → list_all is_fine state.scraps ≡ true → walked rows flags (least rows) 0 state ≡ normal rows flags state
+
+-- The walk takes at most 33 turns for each scrap, and at each turn no row fits below its place.
+abbrev pub TurnsAtMost : Type 0
+TurnsAtMost = (rows : List Row) (flags : Flags) (state : State) → list_all row_is_sound rows ≡ true → list_all is_fine state.scraps ≡ true → turns rows flags (least rows) 0 state ≤ 33 * length state.scraps
+
+abbrev pub NoneFitsBelow : List Row → Position → Type 0
+NoneFitsBelow rows position = (lower : ℕ) → lower < position.place → first_of rows (drop lower (cats_of position.state.scraps)) ≡ None
+
+abbrev pub WalkIsLeftmost : Type 0
+WalkIsLeftmost = (rows : List Row) (flags : Flags) (state : State) → list_all row_is_sound rows ≡ true → list_all is_fine state.scraps ≡ true → All (NoneFitsBelow rows) (positions rows flags (least rows) 0 state)
+
+-- its steps are at most 132 for each scrap, and as many more as there are scraps for each production by a row
+-- that reserves
+abbrev pub TicksAtMost : Type 0
+TicksAtMost = (rows : List Row) (flags : Flags) (state : State) → list_all row_is_sound rows ≡ true → list_all is_fine state.scraps ≡ true → ticks rows flags state ≤ 132 * length state.scraps + length state.scraps * reservings rows flags state
+
+-- the weight tells how many productions were done
+abbrev pub WeightTellsNumber : Type 0
+WeightTellsNumber = (rows : List Row) (flags : Flags) (state : State) (number : ℕ) → list_all row_is_sound rows ≡ true → list_all is_fine state.scraps ≡ true → number ≤ count rows flags state → IsAfter rows flags state (steps rows flags number state)

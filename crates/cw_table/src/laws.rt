@@ -1,4 +1,4 @@
-ghost use Rattle.cw_table.specs.NormalLaws.{CountAtMostEight, CountAtMostWeight, NormalIsDone, NormalStays, StaysFine, WalkEndsNormal, WalkHasLog, WeightFalls};
+ghost use Rattle.cw_table.specs.NormalLaws.{CountAtMostEight, CountAtMostWeight, NormalIsDone, NormalStays, StaysFine, TicksAtMost, TurnsAtMost, WalkEndsNormal, WalkHasLog, WalkIsLeftmost, WeightFalls, WeightTellsNumber};
 
 /// The laws of leftmost-first rewriting, for every table of sound rows. It does nothing: what it ensures is for
 /// proofs.
@@ -9,6 +9,7 @@ pub fn rewriting_laws()
     ensures done { NormalIsDone }
     ensures count { CountAtMostWeight }
     ensures eight { CountAtMostEight }
+    ensures number { WeightTellsNumber }
 {}
 
 /// The law of the walk with a pointer, for every table of sound rows. It does nothing: what it ensures is for
@@ -16,4 +17,7 @@ pub fn rewriting_laws()
 pub fn walk_laws()
     ensures log { WalkHasLog }
     ensures normal { WalkEndsNormal }
+    ensures leftmost { WalkIsLeftmost }
+    ensures turns { TurnsAtMost }
+    ensures ticks { TicksAtMost }
 {}

@@ -1,4 +1,5 @@
 use Rattle.cw_table.proofs.Normals.{takes, normal-step, normal-done, count-weight, count-most}
+use Rattle.cw_table.proofs.StepLaws.{is-after}
 use Rattle.cw_table.proofs.laws.rewriting_laws.Goals as goal
 
 pub returns-clause-weight : goal.returns-clause-weight
@@ -18,3 +19,6 @@ returns-clause-count c = count-weight
 
 pub returns-clause-eight : goal.returns-clause-eight
 returns-clause-eight c = count-most
+
+pub returns-clause-number : goal.returns-clause-number
+returns-clause-number c = λ rows flags state number sound fine most. is-after rows flags number state sound fine most
