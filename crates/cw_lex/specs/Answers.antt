@@ -35,12 +35,10 @@ Gives old (lexed.Finish t) new = old ≡ Finish (seen t) ∷ new
 Gives old (lexed.Note kind place) new = old ≡ Note kind place ∷ new
 Gives old lexed.End new = (old ≡ []) × (new ≡ [])
 
--- Where the scanner stands. The innermost open comment comes first. `code` says that C text goes on there; else the text
--- of the innermost comment does, or without one limbo, TeX text or the head of a definition or of a C part.
+-- Where the scanner stands: in a part, and in open comments, the innermost first.
 pub record Where : Type 0 where
   pub part : Part
   pub comments : List Opened
-  pub code : Bool
 
 -- A token with its size and its notes.
 pub record Cut : Type 0 where

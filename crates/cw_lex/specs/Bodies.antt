@@ -7,6 +7,7 @@ use Rattle.cw_lex.specs.declared.bodies.Body.{Body}
 use Rattle.cw_lex.specs.declared.bodies.Body.TheVariants.{Quoted, IncludeName, ControlText, SectionName, Piece}
 use Rattle.cw_lex.specs.declared.bodies.Inside.{Inside}
 use Rattle.cw_lex.specs.declared.bodies.Noted.{Noted}
+use Rattle.cw_lex.specs.declared.bodies.Extent.{Extent}
 use Rattle.cw_lex.specs.Bytes.{newline, star, slash, greater, at_sign, backslash, left_brace, right_brace, bar, begins, begins_with}
 use Rattle.cw_lex.specs.Codes.{begins_section}
 
@@ -106,30 +107,31 @@ abbrev pub stop_at : ℕ → List ℕ → ℕ
 stop_at place [] = place - 1
 stop_at place (byte ∷ bytes) = place
 
--- A body that is read: its size without and with what closes it, whether that stands there, where it stopped without it,
--- and its notes.
-pub record Read : Type 0 where
-  pub inner_size : ℕ
-  pub size : ℕ
-  pub closed : Bool
-  pub stop : ℕ
-  pub notes : List Noted
-
-abbrev pub read_to : Inside → List ℕ → ℕ → Read
-read_to i bytes size = record {
+-- How far a body goes: its size without and with what closes it, whether that stands there, and where it stopped.
+abbrev pub extent_of : Inside → List ℕ → ℕ → Extent
+extent_of i bytes size = record {
   inner_size = size;
   size = if begins_with (closing_bytes i.body) (drop size bytes) then size + length (closing_bytes i.body) else size;
   closed = begins_with (closing_bytes i.body) (drop size bytes);
   stop = stop_at (i.place + size) (drop size bytes);
-  notes = noted i bytes
 }
 
-abbrev pub read : Inside → List ℕ → Read
-read i bytes = read_to i bytes ((ended i bytes).place - i.place)
+abbrev pub extent : Inside → List ℕ → Extent
+extent i bytes = extent_of i bytes ((ended i bytes).place - i.place)
+
+-- a note where something doesn't hold
+abbrev pub note_unless : Bool → NoteKind → ℕ → Option Noted
+note_unless true note place = None
+note_unless false note place = Some (record { kind = note; place = place })
+
+abbrev pub one_note : Option Noted → List Noted
+one_note None = []
+one_note (Some n) = n ∷ []
+
+abbrev pub and_last : List Noted → Option Noted → List Noted
+and_last notes None = notes
+and_last notes (Some n) = notes ++ n ∷ []
 
 -- its notes, with one more where it isn't closed
-abbrev pub and_lost : Bool → NoteKind → ℕ → List Noted → List Noted
-and_lost true note place notes = notes
-and_lost false note place notes = notes ++ record { kind = note; place = place } ∷ []
-abbrev pub all_notes : NoteKind → Read → List Noted
-all_notes lost r = and_lost r.closed lost r.stop r.notes
+abbrev pub all_notes : NoteKind → Inside → List ℕ → List Noted
+all_notes lost i bytes = and_last (noted i bytes) (note_unless (extent i bytes).closed lost (extent i bytes).stop)

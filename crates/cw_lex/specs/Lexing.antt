@@ -18,7 +18,7 @@ joined f rest = f.answers ++ rest f.next f.more
 -- All answers for these bytes, of which the first `taken` belong to what was answered before. At the end all that is
 -- open ends, with notes about the last byte.
 abbrev pub answers : List ℕ → Where → Bool → ℕ → ℕ → ℕ → List Answer
-answers [] w fresh last place taken = all_cut w.part w.comments w.code place (place - 1)
+answers [] w fresh last place taken = all_cut w.part w.comments place (place - 1)
 answers (byte ∷ bytes) w fresh last place zero =
     joined (found w fresh last place byte bytes) (λ next more. answers bytes next (still_fresh fresh byte) byte (place + 1) more)
 answers (byte ∷ bytes) w fresh last place (suc taken) =
@@ -45,11 +45,11 @@ answers_at text w place = answers (drop place text) w (fresh_at text place) (las
 
 -- where a mode begins
 abbrev pub beginning : Mode → Where
-beginning modes.Limbo = record { part = parts.Limbo; comments = []; code = false }
-beginning modes.TexText = record { part = parts.Tex; comments = []; code = false }
-beginning modes.CPart = record { part = parts.Begin; comments = []; code = true }
-beginning modes.Definition = record { part = parts.Definition; comments = []; code = true }
-beginning modes.Inner = record { part = parts.Inner; comments = []; code = true }
+beginning modes.Limbo = record { part = parts.Limbo; comments = [] }
+beginning modes.TexText = record { part = parts.Tex; comments = [] }
+beginning modes.CPart = record { part = parts.Begin; comments = [] }
+beginning modes.Definition = record { part = parts.Definition; comments = [] }
+beginning modes.Inner = record { part = parts.Inner; comments = [] }
 
 -- The tokens of the bytes from `start` up to `end`, in this mode, with their notes.
 abbrev pub tokens_of : List ℕ → ℕ → ℕ → Mode → List Answer

@@ -7,3 +7,8 @@ pub mod Names
 pub mod Answers
 pub mod Tokens
 pub mod Lexing
+pub mod Pending
+pub mod Stack
+pub mod Coming
+pub mod Effects
+pub mod Starts

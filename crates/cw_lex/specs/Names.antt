@@ -1,7 +1,7 @@
 -- The names of sections, as they stand between `@<` or `@(` and `@>`.
-use Rattle.std.specs.Prelude.{ℕ, Bool, true, false, ◌&&◌, ◌==◌, List, [], ◌∷◌, codes, length, filter, nat_lt, if◌then◌else◌}
+use Rattle.std.specs.Prelude.{ℕ, zero, suc, Bool, ◌&&◌, ◌||◌, ◌==◌, List, [], ◌∷◌, codes, length, drop, if◌then◌else◌}
 use Rattle.cw_lex.specs.declared.classes.Class.TheVariants.{White}
-use Rattle.cw_lex.specs.Bytes.{at_sign, is_in, begins_with}
+use Rattle.cw_lex.specs.Bytes.{at_sign, run, begins_with}
 
 -- The name without its codes: `@@` is one `@`, and every other code is dropped.
 abbrev pub uncoded : List ℕ → List ℕ
@@ -12,25 +12,23 @@ uncoded (byte ∷ next ∷ bytes) =
     then (if next == at_sign then at_sign ∷ uncoded bytes else uncoded bytes)
     else byte ∷ uncoded (next ∷ bytes)
 
--- The bytes cut at white space.
-abbrev pub cut_by : Bool → ℕ → List (List ℕ) → List (List ℕ)
-cut_by true byte words = [] ∷ words
-cut_by false byte [] = (byte ∷ []) ∷ []
-cut_by false byte (word ∷ words) = (byte ∷ word) ∷ words
+abbrev pub is_white : List ℕ → Bool
+is_white bytes = run White bytes == length bytes
 
-abbrev pub cut_at_white : List ℕ → List (List ℕ)
-cut_at_white [] = []
-cut_at_white (byte ∷ bytes) = cut_by (is_in White byte) byte (cut_at_white bytes)
+-- nothing but white space, or nothing but `...` with white space around it
+abbrev pub is_void_from : List ℕ → Bool
+is_void_from bytes = length bytes == 0 || (begins_with (codes "...") bytes && is_white (drop 3 bytes))
 
--- The words of a name, which its reduced text holds with single blanks between them.
-abbrev pub words_of : List ℕ → List (List ℕ)
-words_of name = filter (λ word. nat_lt 0 (length word)) (cut_at_white (uncoded name))
-
-abbrev pub are_void : List (List ℕ) → Bool
-are_void [] = true
-are_void (word ∷ []) = begins_with (codes "...") word && length word == 3
-are_void (word ∷ other ∷ words) = false
+abbrev pub is_void_text : List ℕ → Bool
+is_void_text text = is_void_from (drop (run White text) text)
 
 -- An empty name, and one that is only `...`, is ignored.
 abbrev pub is_void : List ℕ → Bool
-is_void name = are_void (words_of name)
+is_void name = is_void_text (uncoded name)
+
+-- what is said of the rest of a name behind so many dots
+abbrev pub void_behind : ℕ → List ℕ → Bool
+void_behind zero bytes = is_void_text bytes
+void_behind (suc zero) bytes = begins_with (codes "..") bytes && is_white (drop 2 bytes)
+void_behind (suc (suc zero)) bytes = begins_with (codes ".") bytes && is_white (drop 1 bytes)
+void_behind (suc (suc (suc n))) bytes = is_white bytes

@@ -1,3 +1,9 @@
+ghost use Rattle.std.specs.Prelude.{◌≡◌, ◌≤◌, ◌<◌, ◌+◌, ◌-◌, ◌^◌, ◌∷◌, [], length, drop, slice_index, MatchOption, IsTrue};
+ghost use Rattle.cw_lex.specs.Bodies.{stops, takes_next, note_on, braces_after, stepped, goes_on, note_here, ended, noted, closing_bytes, extent};
+ghost use Rattle.cw_lex.specs.Bytes.{begins_with};
+
+use crate::classes::{begins, from};
+use crate::codes::begins_section;
 use cw_base::NoteKind;
 
 /// The inside of a token that ends at a byte of its own and whose bytes may have notes.
@@ -30,4 +36,220 @@ pub(crate) struct Inside {
 pub(crate) struct Noted {
     pub kind: NoteKind,
     pub place: usize,
+}
+
+/// How far a body goes.
+#[derive(Clone, Copy)]
+pub(crate) struct Extent {
+    /// Its bytes without what closes it.
+    pub inner_size: usize,
+    /// Its bytes with what closes it, where that stands there.
+    pub size: usize,
+    pub closed: bool,
+    /// The place before which it stopped, or of the last byte of the text.
+    pub stop: usize,
+}
+
+impl Body {
+    // Whether what closes the body stands at the beginning of these bytes.
+    fn closes(self, bytes: &[u8]) -> bool
+        ensures { result ≡ begins_with (closing_bytes self) bytes.now }
+    {
+        match self {
+            Body::Quoted(quote) => begins(quote, bytes),
+            Body::IncludeName => begins(b'>', bytes),
+            Body::ControlText | Body::SectionName => {
+                bytes.len() >= 2 && bytes[0] == b'@' && bytes[1] == b'>'
+            }
+            Body::Piece { .. } => true,
+        }
+    }
+
+    fn closing_size(self) -> usize
+        ensures { result ≡ length (closing_bytes self) }
+    {
+        match self {
+            Body::Quoted(_) | Body::IncludeName => 1,
+            Body::ControlText | Body::SectionName => 2,
+            Body::Piece { .. } => 0,
+        }
+    }
+
+    fn stops(self, before: u8, byte: u8, rest: &[u8]) -> bool
+        ensures { result ≡ stops self before byte rest.now }
+    {
+        match self {
+            Body::Quoted(quote) => byte == quote || (byte == b'\n' && before != b'\\'),
+            Body::IncludeName => byte == b'>',
+            Body::ControlText => byte == b'\n' || (byte == b'@' && begins(b'>', rest)),
+            Body::SectionName => byte == b'@' && (begins(b'>', rest) || begins_section(rest)),
+            Body::Piece { long, deep } => {
+                (if long {
+                    byte == b'*' && begins(b'/', rest)
+                } else {
+                    byte == b'\n'
+                }) || (byte == b'@' && begins_section(rest))
+                    || (byte == b'|' && !deep)
+            }
+        }
+    }
+
+    fn takes_next(self, byte: u8, rest: &[u8]) -> bool
+        ensures { result ≡ takes_next self byte rest.now }
+    {
+        match self {
+            Body::Quoted(_) => byte == b'\\' || (byte == b'@' && begins(b'@', rest)),
+            Body::IncludeName | Body::ControlText => byte == b'@' && begins(b'@', rest),
+            Body::SectionName => byte == b'@',
+            Body::Piece { long, .. } => {
+                (byte == b'\\' && !(begins(b'@', rest) || (!long && begins(b'\n', rest))))
+                    || (byte == b'@' && begins(b'@', rest))
+            }
+        }
+    }
+
+    fn note_on(self, braces: usize, byte: u8, rest: &[u8]) -> Option<NoteKind>
+        ensures { result ≡ note_on self braces byte rest.now }
+    {
+        let single = byte == b'@' && !begins(b'@', rest);
+        match self {
+            Body::Quoted(_) | Body::IncludeName => single.then_some(NoteKind::AtInString),
+            Body::ControlText => single.then_some(NoteKind::CodeInControlText),
+            Body::SectionName => single.then_some(NoteKind::CodeInName),
+            Body::Piece { .. } => {
+                if single {
+                    Some(NoteKind::AtInComment)
+                } else if byte == b'}' && braces == 0 {
+                    Some(NoteKind::ExtraBrace)
+                } else if byte == b'|' {
+                    Some(NoteKind::TooDeep)
+                } else {
+                    None
+                }
+            }
+        }
+    }
+}
+
+fn braces_after(braces: usize, byte: u8) -> usize
+    requires { braces < 2 ^ 64 - 1 }
+    ensures { result ≡ braces_after braces byte }
+{
+    match byte {
+        b'{' => braces + 1,
+        b'}' => braces.saturating_sub(1),
+        _ => braces,
+    }
+}
+
+fn goes_on(inside: &Inside, bytes: &[u8]) -> bool
+    ensures value { result ≡ goes_on inside.now bytes.now }
+    ensures some { IsTrue result → 0 < length bytes.now }
+{
+    if bytes.is_empty() {
+        return false;
+    }
+    inside.along || !inside.body.stops(inside.before, bytes[0], from(bytes, 1))
+}
+
+fn note_here(inside: &Inside, bytes: &[u8]) -> Option<NoteKind>
+    requires { 0 < length bytes.now }
+    ensures { result ≡ note_here inside.now (slice_index bytes.now 0) (drop 1 bytes.now) }
+{
+    if inside.along {
+        return None;
+    }
+    inside.body.note_on(inside.braces, bytes[0], from(bytes, 1))
+}
+
+// One byte on.
+fn step(inside: Inside, bytes: &[u8]) -> Inside
+    requires some { 0 < length bytes.now }
+    requires place { inside.place < 2 ^ 64 - 1 }
+    requires braces { inside.braces ≤ inside.place }
+    ensures value { result ≡ stepped inside (slice_index bytes.now 0) (drop 1 bytes.now) }
+    ensures place { result.place ≡ inside.place + 1 }
+    ensures braces { result.braces ≤ result.place }
+{
+    let byte = bytes[0];
+    Inside {
+        body: inside.body,
+        braces: if inside.along {
+            inside.braces
+        } else {
+            braces_after(inside.braces, byte)
+        },
+        place: inside.place + 1,
+        before: byte,
+        along: !inside.along && inside.body.takes_next(byte, from(bytes, 1)),
+    }
+}
+
+/// Where the body stops in the text.
+pub(crate) fn end_of(inside: Inside, text: &[u8]) -> Inside
+    requires within { inside.place ≤ length text.now }
+    requires braces { inside.braces ≤ inside.place }
+    ensures value { result ≡ ended inside (drop inside.place text.now) }
+    ensures from { inside.place ≤ result.place }
+    ensures within { result.place ≤ length text.now }
+    ensures braces { result.braces ≤ result.place }
+{
+    let mut i = inside;
+    while goes_on(&i, from(text, i.place)) {
+        i = step(i, from(text, i.place));
+    }
+    i
+}
+
+/// The next note inside, and the place behind it, from which the later ones are found.
+pub(crate) fn next_noted(inside: &mut Inside, text: &[u8]) -> Option<Noted>
+    requires within { inside.old.place ≤ length text.now }
+    requires braces { inside.old.braces ≤ inside.old.place }
+    ensures value { MatchOption result (noted inside.old (drop inside.old.place text.now) ≡ []) (λ n. noted inside.old (drop inside.old.place text.now) ≡ n ∷ noted inside.new (drop inside.new.place text.now)) }
+    ensures within { inside.new.place ≤ length text.now }
+    ensures braces { inside.new.braces ≤ inside.new.place }
+{
+    let mut i = *inside;
+    while goes_on(&i, from(text, i.place)) {
+        let place = i.place;
+        let bytes = from(text, place);
+        let here = note_here(&i, bytes);
+        i = step(i, bytes);
+        match here {
+            Some(kind) => {
+                *inside = i;
+                return Some(Noted { kind, place });
+            }
+            None => {}
+        }
+    }
+    *inside = i;
+    None
+}
+
+/// How far the body goes in the text.
+pub(crate) fn extent_in(inside: Inside, text: &[u8]) -> Extent
+    requires within { inside.place ≤ length text.now }
+    requires braces { inside.braces ≤ inside.place }
+    ensures value { result ≡ extent inside (drop inside.place text.now) }
+    ensures within { inside.place + result.size ≤ length text.now }
+    ensures inner { result.inner_size ≤ result.size }
+{
+    let end = end_of(inside, text).place;
+    let inner_size = end - inside.place;
+    let closed = inside.body.closes(from(text, end));
+    Extent {
+        inner_size,
+        size: if closed {
+            inner_size + inside.body.closing_size()
+        } else {
+            inner_size
+        },
+        closed,
+        stop: if end < text.len() {
+            end
+        } else {
+            end.saturating_sub(1)
+        },
+    }
 }

@@ -3,11 +3,24 @@
 
 mod bodies;
 mod classes;
+mod code_text;
 mod codes;
+mod comment_text;
+mod comments;
+mod constants;
+mod cuttings;
+mod ends;
+mod giving;
+mod lexer;
+mod names;
 mod parts;
+mod pending;
+mod plain;
 mod signs;
+mod state;
 mod tokens;
 
 pub use codes::Code;
+pub use lexer::Lexer;
 pub use signs::Sign;
 pub use tokens::{Lexed, Mode, Tok, TokKind};

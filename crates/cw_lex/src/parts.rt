@@ -1,3 +1,7 @@
+ghost use Rattle.std.specs.Prelude.{◌≡◌};
+ghost use Rattle.cw_lex.specs.Tokens.{in_hash_line, behind_include, passed, first_depth};
+ghost use Rattle.cw_lex.specs.Coming.{is_code_part};
+
 use crate::{Code, Sign};
 
 /// What is scanned where no comment is open, with what the head of a definition still wants.
@@ -5,6 +9,8 @@ use crate::{Code, Sign};
 pub(crate) enum Part {
     Limbo,
     Tex,
+    /// Inner C text of TeX text.
+    TexInner,
     /// The first byte of a C part, where its code or its head may stand.
     Begin,
     /// A C part: in a `#` line or not, and directly behind the word `include` there or not.
@@ -45,6 +51,8 @@ pub(crate) struct Opened {
     pub long: bool,
     /// How many braces are open in its text.
     pub braces: usize,
+    /// Whether inner C text is open in it.
+    pub inner: bool,
 }
 
 /// What begins at a byte of C text, but for white space, the `#` of a `#` line and an include name.
@@ -61,4 +69,62 @@ pub(crate) enum Start {
     EndOfInner,
     Sign(Sign),
     OtherByte,
+}
+
+impl Part {
+    /// Whether C text goes on where no comment is open.
+    pub(crate) fn is_code(self) -> bool
+        ensures { result ≡ is_code_part self }
+    {
+        matches!(
+            self,
+            Part::Begin | Part::Plain { .. } | Part::Definition | Part::TexInner | Part::Inner
+        )
+    }
+
+    pub(crate) fn in_hash_line(self) -> bool
+        ensures { result ≡ in_hash_line self }
+    {
+        match self {
+            Part::Plain { hash_line, .. } => hash_line,
+            _ => false,
+        }
+    }
+
+    pub(crate) fn behind_include(self) -> bool
+        ensures { result ≡ behind_include self }
+    {
+        match self {
+            Part::Plain { include, .. } => include,
+            _ => false,
+        }
+    }
+
+    /// The part behind a token of C text.
+    pub(crate) fn passed(self) -> Part
+        ensures value { result ≡ passed self }
+        ensures code { is_code_part result ≡ is_code_part self }
+    {
+        match self {
+            Part::Begin => Part::Plain {
+                hash_line: false,
+                include: false,
+            },
+            Part::Plain { hash_line, .. } => Part::Plain {
+                hash_line,
+                include: false,
+            },
+            _ => self,
+        }
+    }
+
+    /// The depth of C text in which no comment is open.
+    pub(crate) fn first_depth(self) -> usize
+        ensures { result ≡ first_depth self }
+    {
+        match self {
+            Part::TexInner | Part::Inner => 1,
+            _ => 0,
+        }
+    }
 }

@@ -1,0 +1,38 @@
+-- What begins at a line's end of C text.
+use Rattle.std.proofs.Common.{◌≡◌, ℕ, ◌+◌, Bool, true, false, true≢false, List, [], ◌∷◌, slice_index, drop, refl, sym, ap, ◌∙◌, if◌then◌else◌}
+use Rattle.cw_lex.specs.declared.parts.Part.{Part}
+use Rattle.cw_lex.specs.declared.parts.Part.TheVariants as parts
+use Rattle.cw_lex.specs.declared.parts.Opened.{Opened}
+use Rattle.cw_lex.specs.Answers.{Where, Found}
+use Rattle.cw_lex.specs.Tokens.{found, part_text, in_text, code_text, comment_text, line_end}
+use Rattle.cw_lex.specs.Lexing.{fresh_at, last_at}
+use Rattle.cw_lex.specs.Coming.{is_code, is_code_part, found_at}
+
+-- where C text goes on, the rules of C text hold
+pub part_text-code : (part : Part) (fresh : Bool) (last place byte : ℕ) (bytes : List ℕ) → is_code_part part ≡ true
+    → part_text part (record { part = part; comments = [] }) fresh last place byte bytes ≡ code_text (record { part = part; comments = [] }) fresh last place byte bytes
+part_text-code parts.Limbo fresh last place byte bytes h = absurd (true≢false (sym h))
+part_text-code parts.Tex fresh last place byte bytes h = absurd (true≢false (sym h))
+part_text-code parts.Head fresh last place byte bytes h = absurd (true≢false (sym h))
+part_text-code (parts.MacroName code) fresh last place byte bytes h = absurd (true≢false (sym h))
+part_text-code (parts.MacroParen code) fresh last place byte bytes h = absurd (true≢false (sym h))
+part_text-code (parts.Parameters code) fresh last place byte bytes h = absurd (true≢false (sym h))
+part_text-code (parts.FormatName code second limbo) fresh last place byte bytes h = absurd (true≢false (sym h))
+part_text-code parts.TexInner fresh last place byte bytes h = refl
+part_text-code parts.Begin fresh last place byte bytes h = refl
+part_text-code (parts.Plain hash_line include) fresh last place byte bytes h = refl
+part_text-code parts.Definition fresh last place byte bytes h = refl
+part_text-code parts.Inner fresh last place byte bytes h = refl
+
+pub in_text-code : (part : Part) (comments : List Opened) (fresh : Bool) (last place byte : ℕ) (bytes : List ℕ) → is_code part comments ≡ true
+    → in_text part comments fresh last place byte bytes ≡ code_text (record { part = part; comments = comments }) fresh last place byte bytes
+in_text-code part [] fresh last place byte bytes h = part_text-code part fresh last place byte bytes h
+in_text-code part (c ∷ comments) fresh last place byte bytes h =
+    ap (λ t. if t then code_text (record { part = part; comments = c ∷ comments }) fresh last place byte bytes else comment_text part c comments last place byte bytes) h
+
+pub found-newline : (text : List ℕ) (part : Part) (comments : List Opened) (place : ℕ) → slice_index text place ≡ 10 → is_code part comments ≡ true
+    → found_at text (record { part = part; comments = comments }) place ≡ line_end part comments (last_at text place) place
+found-newline text part comments place h code =
+    let bytes = drop (place + 1) text in
+    ap (λ b. found (record { part = part; comments = comments }) (fresh_at text place) (last_at text place) place b bytes) h
+    ∙ in_text-code part comments (fresh_at text place) (last_at text place) place 10 bytes code

@@ -1,0 +1,89 @@
+-- What stays true of a scanner's parts and comments.
+use Rattle.std.proofs.Common.{◌≡◌, ℕ, suc, ◌+◌, ◌≤◌, Bool, true, false, List, [], ◌∷◌, length, drop, refl, sym, ap, subst, ◌∙◌, arith}
+use Rattle.cw_lex.specs.declared.parts.Part.{Part}
+use Rattle.cw_lex.specs.declared.parts.Opened.{Opened}
+use Rattle.cw_lex.specs.declared.pending.Pending.{Pending}
+use Rattle.cw_lex.specs.declared.state.State.{State}
+use Rattle.cw_lex.specs.Pending.{IsInside}
+use Rattle.cw_lex.specs.Coming.{one_if, is_code, is_code_part, IsNested, AllWithin, IsReady}
+use Rattle.cw_lex.proofs.Steps.{AllWithin-more}
+
+one_if-le : (b : Bool) → one_if b ≤ 1
+one_if-le true = omega arith
+one_if-le false = omega arith
+
+-- another part leaves room for as many comments
+pub depth-part : (p q : Part) (comments : List Opened) → length comments + one_if (is_code p comments) ≤ 21 → length comments + one_if (is_code q comments) ≤ 21
+depth-part p q [] h = let e : one_if (is_code_part q) ≤ 1 = one_if-le (is_code_part q) in omega arith
+depth-part p q (c ∷ comments) h = h
+
+pub is_code-part : (p q : Part) (comments : List Opened) → is_code_part q ≡ is_code_part p → is_code q comments ≡ is_code p comments
+is_code-part p q [] e = e
+is_code-part p q (c ∷ comments) e = refl
+
+pub nested-part : (p q : Part) (comments : List Opened) → is_code_part q ≡ is_code_part p → IsNested p comments → IsNested q comments
+nested-part p q [] e n = tt
+nested-part p q (c ∷ comments) e n = (is_code-part p q comments e ∙ n.0, nested-part p q comments e n.1)
+
+-- where C text goes on, the part is one of C text
+pub part-code : (p : Part) (comments : List Opened) → IsNested p comments → is_code p comments ≡ true → is_code_part p ≡ true
+part-code p [] n h = h
+part-code p (c ∷ comments) n h = part-code p comments n.1 n.0
+
+-- one comment more
+pub ready-push : (text : List ℕ) (s : State) (q : Part) (c : Opened) (comments : List Opened) (next : ℕ) → IsReady text s → is_code s.part s.comments ≡ true
+    → is_code_part q ≡ is_code_part s.part → c.braces ≡ 0 → c.inner ≡ false → comments ≡ c ∷ s.comments → s.at ≤ next → next ≤ length text
+    → IsReady text (record { at = next; part = q; comments = comments; pending = s.pending; clear = s.clear })
+ready-push text s q c comments next ready code part braces inner e from within =
+    let P : List Opened → Type 0 = λ cs. IsReady text (record { at = next; part = q; comments = cs; pending = s.pending; clear = s.clear }) in
+    subst P (sym e) (record {
+      within = within;
+      depth = omega (arith, ready.depth, ap one_if code, ap one_if inner);
+      nested = (is_code-part s.part q s.comments part ∙ code, nested-part s.part q s.comments part ready.nested);
+      braces = (omega arith, AllWithin-more s.at next s.comments from ready.braces);
+      notes = ready.notes;
+      clear = ready.clear;
+    })
+
+-- the innermost comment changed
+pub ready-top : (text : List ℕ) (s : State) (q : Part) (c d : Opened) (comments : List Opened) (p : Pending) (next : ℕ) → IsReady text s → s.comments ≡ c ∷ drop 1 s.comments
+    → is_code_part q ≡ is_code_part s.part → d.braces ≤ next → (length s.comments + one_if d.inner) ≤ 21 → comments ≡ d ∷ drop 1 s.comments → s.at ≤ next → next ≤ length text
+    → IsInside (length text) p.body → IsReady text (record { at = next; part = q; comments = comments; pending = p; clear = s.clear })
+ready-top text s q c d comments p next ready top part braces depth e from within notes =
+    let rest = drop 1 s.comments in
+    let P : List Opened → Type 0 = λ cs. IsReady text (record { at = next; part = q; comments = cs; pending = p; clear = s.clear }) in
+    let all : AllWithin s.at (c ∷ rest) = subst (AllWithin s.at) top ready.braces in
+    let nested : IsNested s.part (c ∷ rest) = subst (IsNested s.part) top ready.nested in
+    subst P (sym e) (record {
+      within = within;
+      depth = omega (arith, depth, ap length top);
+      nested = (is_code-part s.part q rest part ∙ nested.0, nested-part s.part q rest part nested.1);
+      braces = (braces, AllWithin-more s.at next rest from all.1);
+      notes = notes;
+      clear = ready.clear;
+    })
+
+-- the innermost comment ended
+pub ready-pop : (text : List ℕ) (s : State) (c : Opened) (comments : List Opened) (p : Pending) (next : ℕ) → IsReady text s → s.comments ≡ c ∷ comments
+    → s.at ≤ next → next ≤ length text → IsInside (length text) p.body
+    → IsReady text (record { at = next; part = s.part; comments = comments; pending = p; clear = s.clear })
+ready-pop text s c comments p next ready top from within notes =
+    let all : AllWithin s.at (c ∷ comments) = subst (AllWithin s.at) top ready.braces in
+    let nested : IsNested s.part (c ∷ comments) = subst (IsNested s.part) top ready.nested in
+    let room : one_if (is_code s.part comments) ≤ 1 = one_if-le (is_code s.part comments) in
+    record {
+      within = within;
+      depth = omega (arith, ready.depth, ap length top);
+      nested = nested.1;
+      braces = AllWithin-more s.at next comments from all.1;
+      notes = notes;
+      clear = ready.clear;
+    }
+
+-- the innermost comment's braces
+pub top-within : (n : ℕ) (comments : List Opened) (c : Opened) (rest : List Opened) → AllWithin n comments → comments ≡ c ∷ rest → c.braces ≤ n
+top-within n comments c rest all e = (subst (AllWithin n) e all).0
+
+-- behind the innermost comment C text goes on
+pub top-nested : (part : Part) (comments : List Opened) (c : Opened) (rest : List Opened) → IsNested part comments → comments ≡ c ∷ rest → is_code part rest ≡ true
+top-nested part comments c rest nested e = (subst (IsNested part) e nested).0

@@ -1,0 +1,7 @@
+use Rattle.std.proofs.Common.{◌≡◌, true, sym}
+use Rattle.cw_lex.proofs.Cuts.{name-cut}
+use Rattle.cw_lex.proofs.cuttings.code_token.Goals as goal
+
+pub returns-then-at-text-clause-same : goal.returns-then-at-text-clause-same
+returns-then-at-text-clause-same c =
+    name-cut c.args.text.now c.args.code c.args.at _ (sym c.if-is_name.ensures) c.section_name.ensures.same

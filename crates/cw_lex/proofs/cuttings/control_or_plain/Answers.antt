@@ -1,0 +1,8 @@
+use Rattle.std.proofs.Common.{◌≡◌, true, sym}
+use Rattle.cw_lex.specs.Codes.{has_control_text}
+use Rattle.cw_lex.proofs.Cuts.{control-cut}
+use Rattle.cw_lex.proofs.cuttings.control_or_plain.Goals as goal
+
+pub returns-then-at-text-clause-same : goal.returns-then-at-text-clause-same
+returns-then-at-text-clause-same c =
+    control-cut c.args.text.now c.args.code c.args.at _ (sym c.if-has_control_text.ensures) c.control_text.ensures.same

@@ -1,0 +1,9 @@
+use Rattle.std.proofs.Common.{ap, ◌∙◌}
+use Rattle.cw_lex.specs.Coming.{cut_of}
+use Rattle.cw_lex.proofs.Cuts.{dropped-cut}
+use Rattle.cw_lex.proofs.cuttings.dropped_code.Goals as goal
+
+pub returns-clause-same : goal.returns-clause-same
+returns-clause-same c =
+    ap (cut_of c.args.text.now) c.dropped.ensures
+    ∙ dropped-cut c.args.text.now c.control_or_plain.result c.args.note c.args.at _ c.control_or_plain.ensures.first c.control_or_plain.ensures.same

@@ -1,0 +1,22 @@
+use Rattle.std.proofs.Common.{◌≡◌, ◌+◌, true, slice_index, drop, sym, ap, ◌∙◌, arith}
+use Rattle.cw_lex.specs.declared.classes.Class.TheVariants.{Blank}
+use Rattle.cw_lex.specs.Bytes.{run}
+use Rattle.cw_lex.specs.Lexing.{last_at}
+use Rattle.cw_lex.specs.Coming.{is_head_part}
+use Rattle.cw_lex.proofs.Heads.{head-coming, head-is, head-skipped, run-behind}
+use Rattle.cw_lex.proofs.lexer.skip.Goals as goal
+
+pub returns-then-is_head-clause-same : goal.returns-then-is_head-clause-same
+returns-then-is_head-clause-same c =
+    let s = c.args.state.now in
+    let head : is_head_part s.part s.comments ≡ true = sym c.if-is_head.ensures in
+    let both = head-is s.part s.comments head in
+    head-coming c.args.text.now s c.run.result both.0 both.1 (c.run.ensures.value ∙ ap (run Blank) c.from.ensures.value)
+
+pub returns-then-is_head-clause-skipped : goal.returns-then-is_head-clause-skipped
+returns-then-is_head-clause-skipped c =
+    let s = c.args.state.now in
+    let head : is_head_part s.part s.comments ≡ true = sym c.if-is_head.ensures in
+    record {
+      none = λ within. head-skipped s.part s.comments (last_at c.args.text.now (s.at + c.run.result)) (slice_index c.args.text.now (s.at + c.run.result)) (drop ((s.at + c.run.result) + 1) c.args.text.now) head (run-behind Blank c.args.text.now s.at c.run.result (c.run.ensures.value ∙ ap (run Blank) c.from.ensures.value) within);
+    }

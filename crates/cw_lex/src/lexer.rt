@@ -1,0 +1,297 @@
+//! The scanner.
+ghost use Rattle.std.specs.Prelude.{◌≡◌, ◌≤◌, ◌<◌, ◌+◌, ◌-◌, [], true, false, ◌==◌, ◌&&◌, length, drop, slice_index};
+ghost use Rattle.cw_lex.specs.Answers.{Gives};
+ghost use Rattle.cw_lex.specs.Codes.{begins_section};
+ghost use Rattle.cw_lex.specs.Pending.{no_notes};
+ghost use Rattle.cw_lex.specs.Lexing.{tokens_of, fresh_at, last_at, answers_at};
+ghost use Rattle.cw_lex.specs.Tokens.{part_text, is_parameter};
+ghost use Rattle.cw_lex.specs.Bytes.{run, is_letter, begins_by};
+ghost use Rattle.cw_lex.specs.Coming.{where_of, coming, bytes_at, found_at, is_code_part, beginning_part, IsSkipped, IsReady, CanStep};
+
+use crate::classes::{Class, begins_with, from, is_letter, run};
+use crate::code_text::{code_text, skip_white};
+use crate::comment_text::comment_text;
+use crate::comments::Comments;
+use crate::cuttings::{plain, section_code};
+use crate::ends::{cut_off, is_section_at};
+use crate::giving::{give, give_note};
+use crate::parts::Part;
+use crate::pending::Pending;
+use crate::plain::{format_name, head_text, limbo_text, macro_name, parameter, tex_text};
+use crate::state::{Clear, State};
+use crate::{Lexed, Mode, Sign, TokKind};
+use cw_base::NoteKind;
+use std::marker::Model;
+
+/// A scanner over a part of a text. It is seen as the list of its answers that are still to come.
+#[derive(Drop)]
+pub struct Lexer<'a> {
+    // The text up to the part's end.
+    text: &'a [u8],
+    state: State,
+}
+
+impl<'a> Model for Lexer<'a> {
+    ghost use Rattle.std.specs.Prelude.{List};
+    ghost use Rattle.cw_lex.specs.Answers.{Answer};
+    ghost use Rattle.cw_lex.specs.Coming.{coming, IsReady};
+
+    ghost Value = { List Answer };
+
+    ghost view = { λ l. coming l.text.now l.state };
+
+    ghost invariant = { λ l. IsReady l.text.now l.state };
+}
+
+impl<'a> Lexer<'a> {
+    /// A scanner of the bytes from `start` up to `end`, in this mode.
+    pub fn over(text: &'a [u8], start: usize, end: usize, mode: Mode) -> Lexer<'a>
+        requires order { start ≤ end }
+        requires within { end ≤ length text.now }
+        ensures { result ≡ tokens_of text.now start end mode }
+    {
+        Lexer {
+            text: &text[..end],
+            state: State {
+                at: start,
+                part: beginning(mode),
+                comments: Comments::new(),
+                pending: Pending::new(),
+                clear: Clear {
+                    from: start + 1,
+                    to: start,
+                },
+            },
+        }
+    }
+
+    /// The next answer. It takes no memory.
+    pub fn next(&mut self) -> Lexed<'a>
+        ensures { Gives self.old result self.new }
+    {
+        advance(self.text, &mut self.state)
+    }
+}
+
+fn beginning(mode: Mode) -> Part
+    ensures { result ≡ beginning_part mode }
+{
+    match mode {
+        Mode::Limbo => Part::Limbo,
+        Mode::TexText => Part::Tex,
+        Mode::CPart => Part::Begin,
+        Mode::Definition => Part::Definition,
+        Mode::Inner => Part::Inner,
+    }
+}
+
+// A note that is left, else what begins behind the white space.
+fn advance<'a>(text: &'a [u8], state: &mut State) -> Lexed<'a>
+    requires ready { IsReady text.now state.old }
+    ensures gives { Gives (coming text.now state.old) result (coming text.now state.new) }
+    ensures ready { IsReady text.now state.new }
+{
+    match state.pending.next(text) {
+        Some(note) => Lexed::Note(note.kind, note.place),
+        None => after_notes(text, state),
+    }
+}
+
+fn after_notes<'a>(text: &'a [u8], state: &mut State) -> Lexed<'a>
+    requires ready { IsReady text.now state.old }
+    requires quiet { state.old.pending ≡ no_notes }
+    ensures gives { Gives (coming text.now state.old) result (coming text.now state.new) }
+    ensures ready { IsReady text.now state.new }
+{
+    skip(text, state);
+    after_white(text, state)
+}
+
+// Goes behind the white space that gives no answer.
+fn skip(text: &[u8], state: &mut State)
+    requires ready { IsReady text.now state.old }
+    requires quiet { state.old.pending ≡ no_notes }
+    ensures same { coming text.now state.new ≡ coming text.now state.old }
+    ensures quiet { state.new.pending ≡ no_notes }
+    ensures ready { IsReady text.now state.new }
+    ensures skipped { IsSkipped text.now state.new }
+{
+    if state.is_code() {
+        state.at = skip_white(text, state);
+        return;
+    }
+    if state.is_head() {
+        state.at += run(Class::Blank, from(text, state.at));
+    }
+}
+
+fn after_white<'a>(text: &'a [u8], state: &mut State) -> Lexed<'a>
+    requires ready { IsReady text.now state.old }
+    requires quiet { state.old.pending ≡ no_notes }
+    requires skipped { IsSkipped text.now state.old }
+    ensures gives { Gives (coming text.now state.old) result (coming text.now state.new) }
+    ensures ready { IsReady text.now state.new }
+{
+    if state.at >= text.len() {
+        return at_end(text, state);
+    }
+    if is_section_at(text, state.at) {
+        return at_section(text, state);
+    }
+    if state.is_code() {
+        return code_text(text, state);
+    }
+    match state.comments.top() {
+        Some(comment) => comment_text(text, state, comment),
+        None => part_text(text, state),
+    }
+}
+
+fn at_end<'a>(text: &'a [u8], state: &mut State) -> Lexed<'a>
+    requires ready { IsReady text.now state.old }
+    requires quiet { state.old.pending ≡ no_notes }
+    requires end { state.old.at ≡ length text.now }
+    ensures gives { Gives (coming text.now state.old) result (coming text.now state.new) }
+    ensures ready { IsReady text.now state.new }
+{
+    let about = state.at.saturating_sub(1);
+    match cut_off(text, state, about) {
+        Some(answer) => answer,
+        None => Lexed::End,
+    }
+}
+
+fn at_section<'a>(text: &'a [u8], state: &mut State) -> Lexed<'a>
+    requires step { CanStep text.now state.old }
+    requires section { (slice_index text.now state.old.at == 64 && begins_section (drop (state.old.at + 1) text.now)) ≡ true }
+    ensures gives { Gives (coming text.now state.old) result (coming text.now state.new) }
+    ensures ready { IsReady text.now state.new }
+{
+    let at = state.at;
+    match cut_off(text, state, at) {
+        Some(answer) => answer,
+        None => give(text, state, Part::Tex, false, section_code(text, at)),
+    }
+}
+
+// What begins where no comment is open and no C text goes on.
+fn part_text<'a>(text: &'a [u8], state: &mut State) -> Lexed<'a>
+    requires step { CanStep text.now state.old }
+    requires skipped { IsSkipped text.now state.old }
+    requires comments { state.old.comments ≡ [] }
+    requires text { is_code_part state.old.part ≡ false }
+    requires section { (slice_index text.now state.old.at == 64 && begins_section (drop (state.old.at + 1) text.now)) ≡ false }
+    requires found { found_at text.now (where_of state.old) state.old.at ≡ part_text state.old.part (where_of state.old) (fresh_at text.now state.old.at) (last_at text.now state.old.at) state.old.at (slice_index text.now state.old.at) (drop (state.old.at + 1) text.now) }
+    ensures gives { Gives (coming text.now state.old) result (coming text.now state.new) }
+    ensures ready { IsReady text.now state.new }
+{
+    match state.part {
+        Part::Limbo => limbo_text(text, state),
+        Part::Tex => tex_text(text, state),
+        Part::Head => head_text(text, state),
+        Part::MacroName { code } => want_macro_name(text, state, code),
+        Part::MacroParen { code } => {
+            let next = Part::Parameters { code };
+            give(
+                text,
+                state,
+                next,
+                false,
+                plain(TokKind::Sign(Sign::LeftParen), 1),
+            )
+        }
+        Part::Parameters { code } => want_parameter(text, state, code),
+        Part::FormatName {
+            code,
+            second,
+            limbo,
+        } => want_format_name(text, state, code, second, limbo),
+        Part::Begin | Part::Plain { .. } | Part::Definition | Part::TexInner | Part::Inner => {
+            unreachable!()
+        }
+    }
+}
+
+fn want_macro_name<'a>(text: &'a [u8], state: &mut State, code: usize) -> Lexed<'a>
+    requires step { CanStep text.now state.old }
+    requires comments { state.old.comments ≡ [] }
+    requires part { state.old.part ≡ Part.MacroName code }
+    requires section { (slice_index text.now state.old.at == 64 && begins_section (drop (state.old.at + 1) text.now)) ≡ false }
+    ensures gives { Gives (coming text.now state.old) result (coming text.now state.new) }
+    ensures ready { IsReady text.now state.new }
+{
+    let at = behind_white(text, state.at);
+    if !is_name(from(text, at)) {
+        return give_note(text, state, Part::Definition, NoteKind::ImproperMacro, code);
+    }
+    state.at = at;
+    macro_name(text, state, code)
+}
+
+fn want_parameter<'a>(text: &'a [u8], state: &mut State, code: usize) -> Lexed<'a>
+    requires step { CanStep text.now state.old }
+    requires comments { state.old.comments ≡ [] }
+    requires part { state.old.part ≡ Part.Parameters code }
+    requires section { (slice_index text.now state.old.at == 64 && begins_section (drop (state.old.at + 1) text.now)) ≡ false }
+    ensures gives { Gives (coming text.now state.old) result (coming text.now state.new) }
+    ensures ready { IsReady text.now state.new }
+{
+    let at = behind_white(text, state.at);
+    if !is_parameter(from(text, at)) {
+        return give_note(text, state, Part::Definition, NoteKind::ImproperMacro, code);
+    }
+    state.at = at;
+    parameter(text, state)
+}
+
+fn want_format_name<'a>(
+    text: &'a [u8],
+    state: &mut State,
+    code: usize,
+    second: bool,
+    limbo: bool,
+) -> Lexed<'a>
+    requires step { CanStep text.now state.old }
+    requires comments { state.old.comments ≡ [] }
+    requires part { state.old.part ≡ Part.FormatName code second limbo }
+    requires section { (slice_index text.now state.old.at == 64 && begins_section (drop (state.old.at + 1) text.now)) ≡ false }
+    ensures gives { Gives (coming text.now state.old) result (coming text.now state.new) }
+    ensures ready { IsReady text.now state.new }
+{
+    let at = behind_white(text, state.at);
+    if !is_name(from(text, at)) {
+        let next = if limbo { Part::Limbo } else { Part::Definition };
+        return give_note(text, state, next, NoteKind::ImproperFormat, code);
+    }
+    state.at = at;
+    format_name(text, state, code, second, limbo)
+}
+
+// The place behind the white space.
+fn behind_white(text: &[u8], at: usize) -> usize
+    requires { at ≤ length text.now }
+    ensures value { result ≡ at + run Class.White (drop at text.now) }
+    ensures within { result ≤ length text.now }
+{
+    at + run(Class::White, from(text, at))
+}
+
+// Whether an identifier begins.
+fn is_name(bytes: &[u8]) -> bool
+    ensures value { result ≡ begins_by is_letter bytes.now }
+    ensures some { result ≡ true → 0 < length bytes.now }
+{
+    !bytes.is_empty() && is_letter(bytes[0])
+}
+
+// Whether a parameter, comma, `...` or `)` begins.
+fn is_parameter(bytes: &[u8]) -> bool
+    ensures value { result ≡ is_parameter bytes.now }
+    ensures some { result ≡ true → 0 < length bytes.now }
+{
+    if bytes.is_empty() {
+        return false;
+    }
+    let byte = bytes[0];
+    is_letter(byte) || byte == b',' || byte == b')' || begins_with(b"...", bytes)
+}
