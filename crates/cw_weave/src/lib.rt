@@ -5,6 +5,8 @@ mod message;
 mod notes;
 mod output;
 mod terminal;
+#[cfg(test)]
+mod tests;
 mod tex;
 mod text;
 mod weave;

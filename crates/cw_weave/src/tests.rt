@@ -1,0 +1,246 @@
+use crate::weave_command;
+use cw_base::{Bytes, Event, Exit, Memory, Out, Silent, Steps, Words};
+use cw_desk::MemDesk;
+use std::alloc::Global;
+use std::test::Fail;
+
+/// The journal as a text: each run of bytes on one output begins with its name in brackets.
+fn read_journal(alloc: Global, journal: &[Event]) -> Result<Bytes, Memory> {
+    let mut text = Bytes::new_in(alloc);
+    let mut last = None;
+    for event in journal {
+        match event {
+            Event::Made(out, name) => {
+                text.append(out_name(*out))?;
+                text.append(b" is ")?;
+                text.append(name.as_slice())?;
+                text.push(b'\n')?;
+                last = None;
+            }
+            Event::Byte(out, byte) => {
+                if last != Some(*out) {
+                    text.append(out_name(*out))?;
+                }
+                text.push(*byte)?;
+                last = Some(*out);
+            }
+        }
+    }
+    Ok(text)
+}
+
+fn out_name(out: Out) -> &'static [u8] {
+    match out {
+        Out::Term => b"[term]",
+        Out::Tex => b"[tex]",
+        Out::Idx => b"[idx]",
+        Out::Scn => b"[scn]",
+    }
+}
+
+/// A desk on which `foo.w` has these bytes.
+fn desk_with(alloc: Global, bytes: &[u8]) -> Result<MemDesk, Memory> {
+    let mut desk = MemDesk::new_in(alloc);
+    if desk.add_file(b"foo.w", bytes).is_err() {
+        return Err(Memory);
+    }
+    Ok(desk)
+}
+
+fn weave(alloc: Global, words: &[&[u8]], desk: &mut MemDesk) -> Result<Exit, Memory> {
+    let mut list = Words::new_in(alloc);
+    for word in words {
+        list.push(word)?;
+    }
+    Ok(weave_command(alloc, &list, desk, &mut Steps::<Silent>::new()))
+}
+
+const HELLO: &[u8] = b"% limbo\n@ Hello.\n";
+
+#[test]
+fn a_section(rt: HostRuntime) -> Result<(), Fail> {
+    let mut desk = desk_with(rt.alloc(), HELLO)?;
+    let exit = weave(rt.alloc(), &[b"foo".as_slice()], &mut desk)?;
+    assert_eq!(rt; exit, Exit::Clean);
+    let text = read_journal(rt.alloc(), desk.journal())?;
+    assert_eq!(rt;
+        text.as_slice(),
+        b"[term]This is CWEAVE (profile 1)
+Writing the output file...
+[tex] is foo.tex
+[tex]\\input cwebmac
+% limbo
+\\M{1}Hello.
+\\fi
+
+\\inx
+\\fin
+\\end
+[term]Writing the index...
+[idx] is foo.idx
+[scn] is foo.scn
+[term]Done.
+(No errors were found.)
+"
+            .as_slice()
+    );
+    Ok(())
+}
+
+#[test]
+fn an_empty_web(rt: HostRuntime) -> Result<(), Fail> {
+    let mut desk = desk_with(rt.alloc(), b"")?;
+    let exit = weave(rt.alloc(), &[b"foo".as_slice()], &mut desk)?;
+    assert_eq!(rt; exit, Exit::Clean);
+    let text = read_journal(rt.alloc(), desk.journal())?;
+    assert_eq!(rt;
+        text.as_slice(),
+        b"[term]This is CWEAVE (profile 1)
+Writing the output file...
+[tex] is foo.tex
+[tex]\\input cwebmac
+\\inx
+\\fin
+\\end
+[term]Writing the index...
+[idx] is foo.idx
+[scn] is foo.scn
+[term]Done.
+(No errors were found.)
+"
+            .as_slice()
+    );
+    Ok(())
+}
+
+#[test]
+fn no_words(rt: HostRuntime) -> Result<(), Fail> {
+    let mut desk = desk_with(rt.alloc(), HELLO)?;
+    let exit = weave(rt.alloc(), &[], &mut desk)?;
+    assert_eq!(rt; exit, Exit::Errors);
+    let text = read_journal(rt.alloc(), desk.journal())?;
+    assert_eq!(rt;
+        text.as_slice(),
+        b"[term]This is CWEAVE (profile 1)
+! Usage: cweave [options] webfile[.w] [{changefile[.ch]|-} [outfile[.tex]]]
+(That was a fatal error, my friend.)
+"
+            .as_slice()
+    );
+    Ok(())
+}
+
+#[test]
+fn no_web(rt: HostRuntime) -> Result<(), Fail> {
+    let mut desk = MemDesk::new_in(rt.alloc());
+    let exit = weave(rt.alloc(), &[b"foo".as_slice()], &mut desk)?;
+    assert_eq!(rt; exit, Exit::Errors);
+    let text = read_journal(rt.alloc(), desk.journal())?;
+    assert_eq!(rt;
+        text.as_slice(),
+        b"[term]This is CWEAVE (profile 1)
+! Cannot open web file foo
+(That was a fatal error, my friend.)
+"
+            .as_slice()
+    );
+    Ok(())
+}
+
+#[test]
+fn a_failing_put(rt: HostRuntime) -> Result<(), Fail> {
+    let mut desk = desk_with(rt.alloc(), HELLO)?;
+    desk.fail_at(9)?;
+    let exit = weave(rt.alloc(), &[b"foo".as_slice()], &mut desk)?;
+    assert_eq!(rt; exit, Exit::Fault);
+    assert_eq!(rt; desk.calls(), 9, "no call follows");
+    let text = read_journal(rt.alloc(), desk.journal())?;
+    assert_eq!(rt;
+        text.as_slice(),
+        b"[term]This is CWEAVE (profile 1)
+Writing the output file...
+[tex] is foo.tex
+[tex]\\input cwebmac
+% limbo
+"
+            .as_slice()
+    );
+    Ok(())
+}
+
+#[test]
+fn a_failing_read(rt: HostRuntime) -> Result<(), Fail> {
+    let mut desk = desk_with(rt.alloc(), HELLO)?;
+    desk.fail_at(3)?;
+    let exit = weave(rt.alloc(), &[b"foo".as_slice()], &mut desk)?;
+    assert_eq!(rt; exit, Exit::Fault);
+    assert_eq!(rt; desk.calls(), 3, "no call follows");
+    let text = read_journal(rt.alloc(), desk.journal())?;
+    assert_eq!(rt;
+        text.as_slice(),
+        b"[term]This is CWEAVE (profile 1)\n".as_slice()
+    );
+    Ok(())
+}
+
+#[test]
+fn pieces_of_any_size(rt: HostRuntime) -> Result<(), Fail> {
+    let mut whole = desk_with(rt.alloc(), HELLO)?;
+    let mut pieces = desk_with(rt.alloc(), HELLO)?;
+    pieces.limit(3)?;
+    pieces.limit(1)?;
+    let first = weave(rt.alloc(), &[b"foo".as_slice()], &mut whole)?;
+    let second = weave(rt.alloc(), &[b"foo".as_slice()], &mut pieces)?;
+    assert_eq!(rt; first, second);
+    let all = read_journal(rt.alloc(), whole.journal())?;
+    let same = read_journal(rt.alloc(), pieces.journal())?;
+    assert_eq!(rt; all.as_slice(), same.as_slice());
+    Ok(())
+}
+
+#[test]
+fn a_broken_line(rt: HostRuntime) -> Result<(), Fail> {
+    let long = vec![in rt.alloc(); b'a'; 90]?;
+    let mut desk = desk_with(rt.alloc(), long.as_slice())?;
+    let exit = weave(
+        rt.alloc(),
+        &[b"-x".as_slice(), b"foo".as_slice()],
+        &mut desk,
+    )?;
+    assert_eq!(rt; exit, Exit::Clean);
+    let text = read_journal(rt.alloc(), desk.journal())?;
+    assert_eq!(rt;
+        text.as_slice(),
+        b"[term]This is CWEAVE (profile 1)
+Writing the output file...
+[tex] is foo.tex
+[tex]\\input cwebmac
+aaaaaaaaaaaaaaaaaaaaaaaaaaaaaaaaaaaaaaaaaaaaaaaaaaaaaaaaaaaaaaaaaaaaaaaaaaaaaaa%
+aaaaaaaaaaa
+\\end
+[term]Done.
+! Line had to be broken (output l. 2 of foo.tex)
+(Did you see the warning message above?)
+"
+            .as_slice()
+    );
+    Ok(())
+}
+
+#[test]
+fn too_long(rt: HostRuntime) -> Result<(), Fail> {
+    let long = vec![in rt.alloc(); b'a'; 8388609]?;
+    let mut desk = desk_with(rt.alloc(), long.as_slice())?;
+    let exit = weave(rt.alloc(), &[b"foo".as_slice()], &mut desk)?;
+    assert_eq!(rt; exit, Exit::Errors);
+    let text = read_journal(rt.alloc(), desk.journal())?;
+    assert_eq!(rt;
+        text.as_slice(),
+        b"[term]This is CWEAVE (profile 1)
+! Input is longer than 8388608 bytes
+(That was a fatal error, my friend.)
+"
+            .as_slice()
+    );
+    Ok(())
+}
