@@ -1,4 +1,4 @@
-ghost use Rattle.std.specs.Prelude.{◌≡◌, ◌≢◌, ℕ, ◌+◌, ◌-◌, ◌<◌, ◌≤◌, ◌↔◌, [], ◌∷◌, ◌++◌, length, take, drop, set, get_or, IsTrue, OnOk, OnErr, Some, slice_get, slice_index_or};
+ghost use Rattle.std.specs.Prelude.{◌≡◌, ◌≢◌, ℕ, ◌+◌, ◌-◌, ◌^◌, ◌<◌, ◌≤◌, ◌↔◌, [], ◌∷◌, ◌++◌, length, take, drop, set, get_or, IsTrue, OnOk, OnErr, Some, slice_get, slice_index_or};
 ghost use Rattle.cw_base.specs.declared.category.Cat.TheVariants.{End};
 ghost use Rattle.cw_scraps.specs.Gap.{around, IsGap};
 ghost use Rattle.cw_scraps.specs.Lines.{no_entry};
@@ -85,9 +85,10 @@ impl ScrapLine {
 
     /// The number of scraps.
     pub fn len(&self) -> usize
-        ensures { result ≡ length self.now }
+        ensures length { result ≡ length self.now }
+        ensures short { result < 2 ^ 60 }
     {
-        self.left + (self.items.len() - self.right)
+        self.left + (count(&self.items) - self.right)
     }
 
     /// Whether there is no scrap.
@@ -150,6 +151,14 @@ impl ScrapLine {
         self.left = at + 1;
         self.right = gap;
     }
+}
+
+/// The number of entries, each of which takes sixteen bytes.
+fn count(items: &[LineEntry]) -> usize
+    ensures length { result ≡ length items.now }
+    ensures short { result < 2 ^ 60 }
+{
+    items.len()
 }
 
 fn read(items: &[LineEntry], left: usize, right: usize, i: usize) -> LineEntry
