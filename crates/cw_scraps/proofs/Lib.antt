@@ -11,3 +11,4 @@ pub mod Productions
 pub mod ModeLaw
 pub mod Keeping
 pub mod Applied
+pub mod LeafForms

@@ -74,7 +74,7 @@ module _ (flags : Flags) (row : Row) (entries : List LineEntry) (f : FitsAt flag
     ap (λ ls. get_or ls k []) grown ∙ get_or_append_left old.lists (tokens_of Maybe (map (inserting entries) (pieces_at flags row entries)) ∷ []) [] k h,
   )
 
-seen-line : (old new : List (List Token)) (line : List LineEntry) → ((k : ℕ) → k < length old → unfolded new k ≡ unfolded old k) → ((i : ℕ) → i < length line → (get_or line i no_entry).list.index < length old) → scraps_of new line ≡ scraps_of old line
+pub seen-line : (old new : List (List Token)) (line : List LineEntry) → ((k : ℕ) → k < length old → unfolded new k ≡ unfolded old k) → ((i : ℕ) → i < length line → (get_or line i no_entry).list.index < length old) → scraps_of new line ≡ scraps_of old line
 seen-line old new [] same there = refl
 seen-line old new (e ∷ line) same there =
     ap (λ s. s ∷ scraps_of new line) (seen-same old new e (same e.list.index (there 0 (omega arith))))

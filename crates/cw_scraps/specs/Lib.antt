@@ -9,3 +9,4 @@ pub mod Replacing
 pub mod Marking
 pub mod Applying
 pub mod Modes
+pub mod Leaves

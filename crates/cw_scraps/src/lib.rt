@@ -3,6 +3,7 @@
 
 mod applying;
 mod joining;
+mod leaves;
 mod line;
 mod making;
 mod marks;
@@ -10,5 +11,6 @@ mod pieces;
 mod producing;
 mod reserving;
 
+pub use leaves::{Leaf, scrap_of};
 pub use line::{LineEntry, Part, ScrapLine};
 pub use marks::Marks;
