@@ -24,3 +24,6 @@ pub use codes::Code;
 pub use lexer::Lexer;
 pub use signs::Sign;
 pub use tokens::{Lexed, Mode, Tok, TokKind};
+
+#[cfg(test)]
+mod tests;

@@ -7,3 +7,6 @@ mod words;
 
 pub use entry::{EntryKind, NameId};
 pub use names::Names;
+
+#[cfg(test)]
+mod tests;
