@@ -1,5 +1,5 @@
 -- Codes that are cut, by their rules.
-use Rattle.std.proofs.Common.{◌≡◌, ℕ, ◌+◌, Bool, true, false, List, ◌∷◌, ◌++◌, Option, None, Some, drop, sym, ap, ◌∙◌, if◌then◌else◌}
+use Rattle.std.proofs.Common.{◌≡◌, ℕ, ◌+◌, true, List, ◌∷◌, ◌++◌, None, Some, drop, sym, ap, ◌∙◌, if◌then◌else◌}
 use Rattle.cw_base.specs.declared.notes.NoteKind.{NoteKind}
 use Rattle.cw_lex.specs.declared.bodies.Body.TheVariants as bodies
 use Rattle.cw_lex.specs.declared.bodies.Noted.{Noted}

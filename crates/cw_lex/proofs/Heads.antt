@@ -6,11 +6,11 @@ use Rattle.cw_base.specs.declared.notes.NoteKind.TheVariants as notes
 use Rattle.cw_lex.specs.declared.classes.Class.{Class}
 use Rattle.cw_lex.specs.declared.classes.Class.TheVariants as classes
 use Rattle.cw_lex.specs.declared.parts.Part.TheVariants as parts
-use Rattle.cw_lex.specs.Answers.{Where, Found, Note, before, plain, note_answers}
+use Rattle.cw_lex.specs.Answers.{Where, Note, before, plain, note_answers}
 use Rattle.cw_lex.specs.Bytes.{is_in, is_letter, run, begins, begins_by}
 use Rattle.cw_lex.specs.Codes.{begins_section}
 use Rattle.cw_lex.specs.Lexing.{fresh_at, last_at, answers_at}
-use Rattle.cw_lex.specs.Tokens.{section, in_text, part_text, head_text, macro_name, format_name, parameter, is_parameter, behind_white, behind_head, behind_format, identifier, skipped_byte, one, moved}
+use Rattle.cw_lex.specs.Tokens.{section, in_text, macro_name, format_name, parameter, is_parameter, behind_white, behind_head, behind_format, identifier, skipped_byte, one, moved}
 use Rattle.cw_lex.specs.declared.signs.Sign.TheVariants as signs
 use Rattle.cw_lex.specs.declared.tokens.TokKind.TheVariants as kinds
 use Rattle.cw_lex.specs.Coming.{found_at, bytes_at, where_of, coming, is_head_part, is_skipped, is_code, is_white_here}

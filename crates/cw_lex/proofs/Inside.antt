@@ -1,9 +1,8 @@
 -- One byte on, inside a body.
-use Rattle.std.proofs.Common.{◌≡◌, ℕ, ◌+◌, ◌<◌, ◌≤◌, Bool, true, false, true≢false, arith, refl, List, [], ◌∷◌, Option, None, Some, slice_index, drop, ap, sym, ◌∙◌}
+use Rattle.std.proofs.Common.{◌≡◌, ℕ, ◌+◌, ◌<◌, ◌≤◌, Bool, true, false, true≢false, arith, refl, List, [], ◌∷◌, Option, slice_index, drop, ap, sym, ◌∙◌}
 use Rattle.std.proofs.lemmas.List.{drop-drop}
 use Rattle.cw_base.specs.declared.notes.NoteKind.{NoteKind}
 use Rattle.cw_lex.specs.declared.bodies.Inside.{Inside}
-use Rattle.cw_lex.specs.declared.bodies.Noted.{Noted}
 use Rattle.cw_lex.specs.Bodies.{goes_on, stepped, ended, noted, note_here, with_note}
 
 noted-step : (i : Inside) (bytes : List ℕ) → goes_on i bytes ≡ true

@@ -11,3 +11,4 @@ pub mod Pieces
 pub mod White
 pub mod Runs
 pub mod Heads
+pub mod Order

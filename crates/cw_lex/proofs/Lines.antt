@@ -1,9 +1,8 @@
 -- What begins at a line's end of C text.
-use Rattle.std.proofs.Common.{◌≡◌, ℕ, ◌+◌, Bool, true, false, true≢false, List, [], ◌∷◌, slice_index, drop, refl, sym, ap, ◌∙◌, if◌then◌else◌}
+use Rattle.std.proofs.Common.{◌≡◌, ℕ, ◌+◌, Bool, true, true≢false, List, [], ◌∷◌, slice_index, drop, refl, sym, ap, ◌∙◌, if◌then◌else◌}
 use Rattle.cw_lex.specs.declared.parts.Part.{Part}
 use Rattle.cw_lex.specs.declared.parts.Part.TheVariants as parts
 use Rattle.cw_lex.specs.declared.parts.Opened.{Opened}
-use Rattle.cw_lex.specs.Answers.{Where, Found}
 use Rattle.cw_lex.specs.Tokens.{found, part_text, in_text, code_text, comment_text, line_end}
 use Rattle.cw_lex.specs.Lexing.{fresh_at, last_at}
 use Rattle.cw_lex.specs.Coming.{is_code, is_code_part, found_at}

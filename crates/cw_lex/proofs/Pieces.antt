@@ -1,5 +1,5 @@
 -- A piece of a comment's text, as the scanner reads it.
-use Rattle.std.proofs.Common.{◌≡◌, ℕ, ◌+◌, ◌-◌, ◌<◌, ◌≤◌, Bool, true, false, not, ◌||◌, List, [], ◌∷◌, length, slice_index, drop, refl, sym, ap, subst, ◌∙◌, arith}
+use Rattle.std.proofs.Common.{◌≡◌, ℕ, ◌+◌, ◌-◌, ◌<◌, Bool, true, false, not, ◌||◌, List, ◌∷◌, length, slice_index, drop, refl, sym, ap, ◌∙◌, arith}
 use Rattle.cw_lex.specs.declared.bodies.Body.TheVariants as bodies
 use Rattle.cw_lex.specs.declared.bodies.Inside.{Inside}
 use Rattle.cw_lex.specs.declared.parts.Part.{Part}

@@ -1,5 +1,5 @@
 -- What stays true of a scanner's parts and comments.
-use Rattle.std.proofs.Common.{◌≡◌, ℕ, suc, ◌+◌, ◌≤◌, Bool, true, false, List, [], ◌∷◌, length, drop, refl, sym, ap, subst, ◌∙◌, arith}
+use Rattle.std.proofs.Common.{◌≡◌, ℕ, ◌+◌, ◌≤◌, Bool, true, false, List, [], ◌∷◌, length, drop, refl, sym, ap, subst, ◌∙◌, arith}
 use Rattle.cw_lex.specs.declared.parts.Part.{Part}
 use Rattle.cw_lex.specs.declared.parts.Opened.{Opened}
 use Rattle.cw_lex.specs.declared.pending.Pending.{Pending}

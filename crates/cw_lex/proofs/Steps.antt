@@ -1,7 +1,6 @@
 -- How one answer follows from what begins at the scanner's place.
 use Rattle.std.proofs.Common.{◌≡◌, ℕ, Bool, ◌+◌, ◌<◌, ◌≤◌, List, [], ◌∷◌, ◌++◌, length, sym, ap, ◌∙◌, arith, append_assoc, add_assoc, drop}
 use Rattle.std.proofs.lemmas.List.{drop-drop}
-use Rattle.cw_lex.specs.declared.bodies.Noted.{Noted}
 use Rattle.cw_lex.specs.declared.parts.Opened.{Opened}
 use Rattle.cw_lex.specs.declared.state.State.{State}
 use Rattle.cw_lex.specs.declared.tokens.TokKind.{TokKind}

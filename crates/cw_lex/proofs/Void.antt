@@ -3,8 +3,8 @@ use Rattle.std.proofs.Common.{◌≡◌, ℕ, zero, suc, ◌+◌, ◌<◌, ◌�
 use Rattle.std.proofs.lemmas.Bool.{eqb-true}
 use Rattle.std.proofs.lemmas.Bool.Decides.{nat_tests}
 use Rattle.cw_lex.specs.declared.classes.Class.TheVariants.{White}
-use Rattle.cw_lex.specs.Bytes.{is_in, run, begins, begins_with}
-use Rattle.cw_lex.specs.Names.{uncoded, is_white, is_void_from, is_void_text, void_behind}
+use Rattle.cw_lex.specs.Bytes.{is_in, run, begins_with}
+use Rattle.cw_lex.specs.Names.{uncoded, is_white, is_void_from, void_behind}
 
 abbrev pub may_be_white : ℕ → Bool
 may_be_white zero = true

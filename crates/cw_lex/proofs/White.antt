@@ -6,11 +6,11 @@ use Rattle.cw_lex.specs.declared.parts.Part.{Part}
 use Rattle.cw_lex.specs.declared.parts.Opened.{Opened}
 use Rattle.cw_lex.specs.declared.tokens.TokKind.TheVariants as kinds
 use Rattle.cw_lex.specs.declared.parts.Part.TheVariants as parts
-use Rattle.cw_lex.specs.Answers.{Where, Found, before, plain}
-use Rattle.cw_lex.specs.Bytes.{is_in, begins}
+use Rattle.cw_lex.specs.Answers.{Where, before, plain}
+use Rattle.cw_lex.specs.Bytes.{is_in}
 use Rattle.cw_lex.specs.Codes.{begins_section}
-use Rattle.cw_lex.specs.Lexing.{still_fresh, fresh_at, last_at}
-use Rattle.cw_lex.specs.Tokens.{found, section, in_text, code_text, line_end, part_line_end, is_space, in_hash_line, skipped_byte, comment_end, inner_cut, one}
+use Rattle.cw_lex.specs.Lexing.{fresh_at, last_at}
+use Rattle.cw_lex.specs.Tokens.{section, in_text, code_text, line_end, is_space, in_hash_line, skipped_byte, comment_end, inner_cut, one}
 use Rattle.cw_lex.specs.Coming.{is_code, ends_line, is_white_here, found_at}
 use Rattle.cw_lex.proofs.Lines.{in_text-code, found-newline}
 use Rattle.cw_lex.proofs.Walk.{fresh-here, last-here}

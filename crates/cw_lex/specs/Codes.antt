@@ -1,7 +1,6 @@
 -- The control codes, and what each does where it stands.
-use Rattle.std.specs.Prelude.{ℕ, ◌+◌, Bool, true, false, ◌||◌, ◌==◌, List, [], ◌∷◌, if◌then◌else◌}
+use Rattle.std.specs.Prelude.{ℕ, Bool, true, false, ◌||◌, ◌==◌, List, [], ◌∷◌, if◌then◌else◌}
 use Rattle.cw_base.specs.Text.{is_blank}
-use Rattle.cw_base.specs.declared.notes.NoteKind.{NoteKind}
 use Rattle.cw_base.specs.declared.notes.NoteKind.TheVariants.{CodeInLimbo, CodeInTexText, CodeInCText, UnknownCode}
 use Rattle.cw_lex.specs.declared.codes.Code.{Code}
 use Rattle.cw_lex.specs.declared.codes.Code.TheVariants.{At, Section, StarredSection, Define, Format, SilentFormat, Program, SectionName, FileName, Roman, Typewriter, UserEntry, Underline, Ignored, TexBox, Verbatim, ThinSpace, LineBreak, OptionalBreak, BigBreak, NoBreak, InvisibleSemicolon, BeginArgument, EndArgument, HeaderFile, Join, Quote, Trace, Letters, Unknown}

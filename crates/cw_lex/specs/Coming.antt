@@ -12,7 +12,7 @@ use Rattle.cw_lex.specs.declared.cuttings.Cutting.{Cutting}
 use Rattle.cw_lex.specs.declared.state.Clear.{Clear}
 use Rattle.cw_lex.specs.declared.state.State.{State}
 use Rattle.cw_lex.specs.Bytes.{newline, backslash, is_in, run}
-use Rattle.cw_lex.specs.Answers.{Answer, Token, Begin, Finish, Note, seen, Where, Cut, Found, note_answers}
+use Rattle.cw_lex.specs.Answers.{Answer, Finish, Note, seen, Where, Cut, Found, note_answers}
 use Rattle.cw_lex.specs.Pending.{pending_notes, no_notes, IsInside}
 use Rattle.cw_lex.specs.Tokens.{in_hash_line, is_space, found}
 use Rattle.cw_lex.specs.Lexing.{answers_at, fresh_at, last_at}

@@ -12,3 +12,4 @@ pub mod Stack
 pub mod Coming
 pub mod Effects
 pub mod Starts
+pub mod Order

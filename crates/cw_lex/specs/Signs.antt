@@ -1,5 +1,5 @@
 -- The signs of C and their spellings. Of the signs that fit at a place the longest is taken.
-use Rattle.std.specs.Prelude.{ℕ, Bool, true, false, ◌&&◌, nat_lt, List, [], ◌∷◌, Option, Some, None, codes, length, if◌then◌else◌}
+use Rattle.std.specs.Prelude.{ℕ, Bool, ◌&&◌, nat_lt, List, [], ◌∷◌, Option, Some, None, codes, length, if◌then◌else◌}
 use Rattle.cw_lex.specs.declared.signs.Sign.{Sign}
 use Rattle.cw_lex.specs.declared.signs.Sign.TheVariants.{Slash, Dot, Less, Greater, Bar, Assign, Caret, Percent, Arrow, ShiftLeft, ShiftRight, Equal, NotEqual, AtMost, AtLeast, AndAnd, OrOr, Not, Tilde, PlusPlus, MinusMinus, Plus, Minus, Hash, Star, Ampersand, Question, LeftParen, LeftBracket, RightParen, RightBracket, LeftBrace, RightBrace, Comma, Semicolon, Colon, Ellipsis}
 use Rattle.cw_lex.specs.Bytes.{begins_with}

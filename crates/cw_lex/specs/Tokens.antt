@@ -5,11 +5,9 @@
 use Rattle.std.specs.Prelude.{ℕ, ◌+◌, ◌-◌, Bool, true, false, ◌&&◌, ◌||◌, not, ◌==◌, nat_lt, List, [], ◌∷◌, ◌++◌, Option, Some, None, codes, drop, take, length, if◌then◌else◌}
 use Rattle.cw_base.specs.declared.notes.NoteKind.{NoteKind}
 use Rattle.cw_base.specs.declared.notes.NoteKind.TheVariants as notes
-use Rattle.cw_lex.specs.declared.bodies.Body.{Body}
 use Rattle.cw_lex.specs.declared.bodies.Body.TheVariants as bodies
 use Rattle.cw_lex.specs.declared.bodies.Inside.{Inside}
 use Rattle.cw_lex.specs.declared.bodies.Extent.{Extent}
-use Rattle.cw_lex.specs.declared.bodies.Noted.{Noted}
 use Rattle.cw_lex.specs.declared.classes.Class.TheVariants as classes
 use Rattle.cw_lex.specs.declared.codes.Code.{Code}
 use Rattle.cw_lex.specs.declared.codes.Code.TheVariants as at
@@ -30,7 +28,7 @@ use Rattle.cw_lex.specs.Constants.{constant}
 use Rattle.cw_lex.specs.Codes.{code_at, begins_section, has_control_text, effect_in_limbo, effect_in_tex, effect_in_c, effect_in_definition, effect_at_begin}
 use Rattle.cw_lex.specs.Bodies.{at_start, extent, noted, ended, one_note, note_unless, all_notes}
 use Rattle.cw_lex.specs.Names.{is_void}
-use Rattle.cw_lex.specs.Answers.{Seen, Answer, Token, Begin, Finish, Note, Where, Cut, Found, before, note_answers, token_of, plain, dropped}
+use Rattle.cw_lex.specs.Answers.{Answer, Token, Begin, Finish, Note, Where, Cut, Found, before, note_answers, token_of, plain, dropped}
 
 -- ## Tokens, by their classes
 

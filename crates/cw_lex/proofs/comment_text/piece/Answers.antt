@@ -1,22 +1,14 @@
-use Rattle.std.proofs.Common.{ℕ, zero, suc, ◌≡◌, ◌+◌, ◌≤◌, ◌<◌, ◌-◌, Some, List, [], ◌∷◌, true, false, length, drop, refl, sym, ap, ◌∙◌, arith}
-use Rattle.cw_lex.specs.declared.parts.Opened.{Opened}
-use Rattle.cw_lex.specs.declared.parts.Part.TheVariants as parts
+use Rattle.std.proofs.Common.{ℕ, ◌≡◌, ◌≤◌, ◌<◌, ◌-◌, Some, List, ◌∷◌, false, drop, refl, sym, ◌∙◌, arith}
 use Rattle.cw_lex.specs.declared.state.State.{State}
 use Rattle.cw_lex.specs.declared.tokens.TokKind.TheVariants as kinds
-use Rattle.cw_lex.specs.Answers.{Where, Token, seen, before, Begin, Finish, note_answers, token_of}
-use Rattle.cw_lex.specs.Pending.{pending_notes, no_notes}
-use Rattle.cw_lex.specs.Bodies.{note_unless, noted, ended, extent}
-use Rattle.cw_lex.specs.Lexing.{last_at}
-use Rattle.cw_lex.proofs.Notes.{one-note, one-inside}
-use Rattle.cw_base.specs.declared.notes.NoteKind.TheVariants.{MissingBrace}
-use Rattle.cw_lex.specs.Tokens.{moved, passed, in_hash_line, comment_kind, comment_closed, missing_brace, line_end, behind_inner, one, piece_start, is_deep}
-use Rattle.cw_lex.specs.Coming.{where_of, bytes_at, is_code, found_at}
-use Rattle.cw_lex.proofs.Steps.{one-gives, step-gives, zero-gives, token-here}
-use Rattle.cw_lex.proofs.States.{ready-push, ready-top, ready-pop, top-within, top-nested}
+use Rattle.cw_lex.specs.Answers.{Token, note_answers, token_of}
+use Rattle.cw_lex.specs.Pending.{no_notes}
+use Rattle.cw_lex.specs.Bodies.{noted, ended}
+use Rattle.cw_lex.proofs.Steps.{step-gives}
+use Rattle.cw_lex.proofs.States.{ready-top, top-within}
 use Rattle.cw_lex.proofs.Pieces.{piece_found, piece-found, piece-some}
 use Rattle.cw_lex.specs.declared.bodies.Inside.{Inside}
 use Rattle.cw_lex.specs.declared.bodies.Body.TheVariants as bodies
-use Rattle.cw_lex.proofs.Lines.{found-newline}
 use Rattle.cw_lex.proofs.comment_text.piece.Goals as goal
 
 pub returns-clause-gives : goal.returns-clause-gives

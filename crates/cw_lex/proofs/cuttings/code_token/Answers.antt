@@ -1,4 +1,4 @@
-use Rattle.std.proofs.Common.{◌≡◌, true, sym}
+use Rattle.std.proofs.Common.{sym}
 use Rattle.cw_lex.proofs.Cuts.{name-cut}
 use Rattle.cw_lex.proofs.cuttings.code_token.Goals as goal
 

@@ -1,5 +1,4 @@
-use Rattle.std.proofs.Common.{◌≡◌, true, sym}
-use Rattle.cw_lex.specs.Codes.{has_control_text}
+use Rattle.std.proofs.Common.{sym}
 use Rattle.cw_lex.proofs.Cuts.{control-cut}
 use Rattle.cw_lex.proofs.cuttings.control_or_plain.Goals as goal
 

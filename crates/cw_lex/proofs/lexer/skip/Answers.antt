@@ -1,4 +1,4 @@
-use Rattle.std.proofs.Common.{◌≡◌, ◌+◌, true, slice_index, drop, sym, ap, ◌∙◌, arith}
+use Rattle.std.proofs.Common.{◌≡◌, ◌+◌, true, slice_index, drop, sym, ap, ◌∙◌}
 use Rattle.cw_lex.specs.declared.classes.Class.TheVariants.{Blank}
 use Rattle.cw_lex.specs.Bytes.{run}
 use Rattle.cw_lex.specs.Lexing.{last_at}

@@ -1,4 +1,4 @@
-use Rattle.std.proofs.Common.{◌≡◌, ℕ, List, true, drop, sym, ap, subst, ◌∙◌}
+use Rattle.std.proofs.Common.{◌≡◌, List, true, drop, subst}
 use Rattle.cw_lex.specs.Tokens.{is_parameter}
 use Rattle.cw_lex.specs.Answers.{Answer, Gives}
 use Rattle.cw_lex.specs.Coming.{coming}

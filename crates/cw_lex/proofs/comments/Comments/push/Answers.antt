@@ -1,4 +1,4 @@
-use Rattle.std.proofs.Common.{◌≡◌, ◌∷◌, ◌<◌, length, sym, ap, ◌∙◌, arith, add-one}
+use Rattle.std.proofs.Common.{◌≡◌, ◌∷◌, length, sym, ap, ◌∙◌, arith, add-one}
 use Rattle.cw_lex.specs.Stack.{innermost}
 use Rattle.cw_lex.proofs.Stack.{innermost-length, innermost-push}
 use Rattle.cw_lex.proofs.comments.Comments.push.Goals as goal
