@@ -12,3 +12,4 @@ pub mod White
 pub mod Runs
 pub mod Heads
 pub mod Order
+mod Rows

@@ -1,0 +1,146 @@
+-- Worked texts: what the scanner's definition gives for them.
+use Rattle.std.proofs.Common.{◌≡◌, ℕ, List, [], ◌∷◌, ◌++◌, codes, length, refl}
+use Rattle.cw_base.specs.declared.notes.NoteKind.{NoteKind}
+use Rattle.cw_base.specs.declared.notes.NoteKind.TheVariants as notes
+use Rattle.cw_lex.specs.declared.codes.Code.TheVariants as at
+use Rattle.cw_lex.specs.declared.signs.Sign.TheVariants as signs
+use Rattle.cw_lex.specs.declared.tokens.Mode.{Mode}
+use Rattle.cw_lex.specs.declared.tokens.Mode.TheVariants as modes
+use Rattle.cw_lex.specs.declared.tokens.TokKind.{TokKind}
+use Rattle.cw_lex.specs.declared.tokens.TokKind.TheVariants as kinds
+use Rattle.cw_lex.specs.Answers.{Answer, Token, Begin, Finish, Note}
+use Rattle.cw_lex.specs.Lexing.{tokens_of}
+
+-- an answer: a token, beginning or end with its kind and span, or a note with its place
+data Shown : Type 0 where
+  token : (kind : TokKind) → (start end : ℕ) → Shown
+  begin : (kind : TokKind) → (start end : ℕ) → Shown
+  finish : (kind : TokKind) → (start end : ℕ) → Shown
+  note : (kind : NoteKind) → (place : ℕ) → Shown
+
+abbrev shown : List Answer → List Shown
+shown [] = []
+shown (Token t ∷ answers) = token t.kind t.span.start t.span.end ∷ shown answers
+shown (Begin t ∷ answers) = begin t.kind t.span.start t.span.end ∷ shown answers
+shown (Finish t ∷ answers) = finish t.kind t.span.start t.span.end ∷ shown answers
+shown (Note kind place ∷ answers) = note kind place ∷ shown answers
+
+abbrev of : Mode → List ℕ → List Shown
+of mode text = shown (tokens_of text 0 (length text) mode)
+
+-- Letters, then letters and digits.
+identifiers : of modes.CPart (codes "a _b1 $ int") ≡
+    token kinds.Identifier 0 1 ∷ token kinds.Identifier 2 5 ∷ token kinds.Identifier 6 7 ∷
+    token kinds.Identifier 8 11 ∷ []
+identifiers = refl
+
+-- Each form of a constant; an exponent and `0x` need a digit.
+constants : of modes.CPart (codes "0x1fL 012 1. .5e-3 1e 0x 2.5E+1f") ≡
+    token kinds.Constant 0 5 ∷ token kinds.Constant 6 9 ∷ token kinds.Constant 10 12 ∷ token kinds.Constant 13 18 ∷
+    token kinds.Constant 19 20 ∷ token kinds.Identifier 20 21 ∷ token kinds.Constant 22 23 ∷
+    token kinds.Identifier 23 24 ∷ token kinds.Constant 25 32 ∷ []
+constants = refl
+
+-- A backslash takes the next byte along; a single `@` is noted.
+strings : of modes.CPart (codes "\"a\\\"b\" '@@' \"x@y\" @'c'") ≡
+    token kinds.Quoted 0 6 ∷ token kinds.Quoted 7 11 ∷ token kinds.Quoted 12 17 ∷ note notes.AtInString 14 ∷
+    token (kinds.Code at.Quote) 18 22 ∷ []
+strings = refl
+
+-- A line's end closes a string, with a note.
+string-ends : of modes.CPart (codes "\"ab" ++ (10 ∷ []) ++ codes "c") ≡
+    token kinds.Quoted 0 3 ∷ note notes.StringUnended 3 ∷ token kinds.Identifier 4 5 ∷ []
+string-ends = refl
+
+-- The longest sign at each place.
+longest-signs : of modes.CPart (codes "...->a<<=b+++c||d") ≡
+    token (kinds.Sign signs.Ellipsis) 0 3 ∷ token (kinds.Sign signs.Arrow) 3 5 ∷ token kinds.Identifier 5 6 ∷
+    token (kinds.Sign signs.ShiftLeft) 6 8 ∷ token (kinds.Sign signs.Assign) 8 9 ∷ token kinds.Identifier 9 10 ∷
+    token (kinds.Sign signs.PlusPlus) 10 12 ∷ token (kinds.Sign signs.Plus) 12 13 ∷ token kinds.Identifier 13 14 ∷
+    token (kinds.Sign signs.OrOr) 14 16 ∷ token kinds.Identifier 16 17 ∷ []
+longest-signs = refl
+
+-- A comment in inner text, a brace that is protected and one that is noted, a dropped `@`.
+comments : of modes.CPart (codes "/* a |b/*c*/| \\} } @ */") ≡
+    begin kinds.LongComment 0 2 ∷ token kinds.Text 2 5 ∷ begin kinds.InnerText 5 6 ∷ token kinds.Identifier 6 7 ∷
+    begin kinds.LongComment 7 9 ∷ token kinds.Text 9 10 ∷ finish kinds.LongComment 10 12 ∷
+    finish kinds.InnerText 12 13 ∷ token kinds.Text 13 19 ∷ note notes.ExtraBrace 17 ∷
+    finish kinds.LongComment 19 19 ∷ note notes.CommentUnended 0 ∷ token (kinds.Code at.Section) 19 21 ∷
+    token kinds.Text 21 23 ∷ []
+comments = refl
+
+-- A line's end ends a short comment.
+short-comment : of modes.CPart (codes "// {x" ++ (10 ∷ []) ++ codes "y") ≡
+    begin kinds.ShortComment 0 2 ∷ token kinds.Text 2 5 ∷ finish kinds.ShortComment 5 5 ∷ note notes.MissingBrace 5 ∷
+    token kinds.Identifier 6 7 ∷ []
+short-comment = refl
+
+-- A `#` line with an include name; elsewhere `#` is a sign.
+hash-line : of modes.CPart (codes "#include <a.h>" ++ (10 ∷ []) ++ codes "x#y" ++ (10 ∷ [])) ≡
+    token kinds.HashLine 0 1 ∷ token kinds.Identifier 1 8 ∷ token kinds.IncludeName 9 14 ∷
+    token kinds.HashLineEnd 14 15 ∷ token kinds.Identifier 15 16 ∷ token (kinds.Sign signs.Hash) 16 17 ∷
+    token kinds.Identifier 17 18 ∷ []
+hash-line = refl
+
+-- A backslash at a line's end is white space of a `#` line.
+hash-line-goes-on : of modes.CPart (codes "#a \\" ++ (10 ∷ []) ++ codes " b" ++ (10 ∷ []) ++ codes "c") ≡
+    token kinds.HashLine 0 1 ∷ token kinds.Identifier 1 2 ∷ token kinds.Identifier 6 7 ∷
+    token kinds.HashLineEnd 7 8 ∷ token kinds.Identifier 8 9 ∷ []
+hash-line-goes-on = refl
+
+-- Codes of C text, one that is noted and one that is unknown.
+codes-of-c : of modes.CPart (codes "@d@^x@>@q y@>@,@!@3") ≡
+    token kinds.Dropped 0 2 ∷ note notes.CodeInCText 0 ∷ token (kinds.Code at.Roman) 2 7 ∷
+    token (kinds.Code at.Ignored) 7 13 ∷ token (kinds.Code at.ThinSpace) 13 15 ∷
+    token (kinds.Code at.Underline) 15 17 ∷ token kinds.Dropped 17 19 ∷ note notes.UnknownCode 17 ∷ []
+codes-of-c = refl
+
+-- Section names of both kinds, and two that are noted.
+names : of modes.CPart (codes "@<A b@>@(f@>@< @>@<...@>") ≡
+    token (kinds.Code at.SectionName) 0 7 ∷ token (kinds.Code at.FileName) 7 12 ∷
+    token (kinds.Code at.SectionName) 12 17 ∷ note notes.NameEmpty 12 ∷ token (kinds.Code at.SectionName) 17 24 ∷
+    note notes.NameEmpty 17 ∷ []
+names = refl
+
+-- A double bar is the operator; the end cuts inner text.
+inner : of modes.TexText (codes "|a||b| |c") ≡
+    begin kinds.InnerText 0 1 ∷ token kinds.Identifier 1 2 ∷ token (kinds.Sign signs.OrOr) 2 4 ∷
+    token kinds.Identifier 4 5 ∷ finish kinds.InnerText 5 6 ∷ token kinds.Text 6 7 ∷ begin kinds.InnerText 7 8 ∷
+    token kinds.Identifier 8 9 ∷ finish kinds.InnerText 9 9 ∷ note notes.BarMissing 8 ∷ []
+inner = refl
+
+-- Limbo: `@t` is noted, and `@s` takes two names.
+limbo : of modes.Limbo (codes "a@@b@q x@>c@t@s d int e") ≡
+    token kinds.Text 0 1 ∷ token (kinds.Code at.At) 1 3 ∷ token kinds.Text 3 4 ∷ token (kinds.Code at.Ignored) 4 10 ∷
+    token kinds.Text 10 11 ∷ token kinds.Dropped 11 13 ∷ note notes.CodeInLimbo 11 ∷
+    token (kinds.Code at.SilentFormat) 13 15 ∷ token kinds.Identifier 16 17 ∷ token kinds.Identifier 18 21 ∷
+    token kinds.Text 21 23 ∷ []
+limbo = refl
+
+-- A starred section, an entry, a dropped box, a citation and a head.
+tex : of modes.TexText (codes "@*2 A@^r@>@t b@>@<N@>@<N@>=") ≡
+    token (kinds.Code at.StarredSection) 0 4 ∷ token kinds.Text 4 5 ∷ token (kinds.Code at.Roman) 5 10 ∷
+    token kinds.Dropped 10 16 ∷ note notes.CodeInTexText 10 ∷ token (kinds.Code at.SectionName) 16 21 ∷
+    token (kinds.Code at.SectionName) 21 26 ∷ token kinds.HeadSign 26 27 ∷ []
+tex = refl
+
+-- A macro with parameters, and an improper one.
+macro : of modes.TexText (codes "@d m(a,...) b @d 3") ≡
+    token (kinds.Code at.Define) 0 2 ∷ token kinds.Identifier 3 4 ∷ token (kinds.Sign signs.LeftParen) 4 5 ∷
+    token kinds.Identifier 5 6 ∷ token (kinds.Sign signs.Comma) 6 7 ∷ token (kinds.Sign signs.Ellipsis) 7 10 ∷
+    token (kinds.Sign signs.RightParen) 10 11 ∷ token kinds.Identifier 12 13 ∷ token (kinds.Code at.Define) 14 16 ∷
+    note notes.ImproperMacro 14 ∷ token kinds.Constant 17 18 ∷ []
+macro = refl
+
+-- A format, and an improper one.
+format : of modes.TexText (codes "@f a int @f b") ≡
+    token (kinds.Code at.Format) 0 2 ∷ token kinds.Identifier 3 4 ∷ token kinds.Identifier 5 8 ∷
+    token (kinds.Code at.Format) 9 11 ∷ token kinds.Identifier 12 13 ∷ note notes.ImproperFormat 9 ∷ []
+format = refl
+
+-- A section code ends all that is open.
+section : of modes.CPart (codes "/* |a @ b") ≡
+    begin kinds.LongComment 0 2 ∷ token kinds.Text 2 3 ∷ begin kinds.InnerText 3 4 ∷ token kinds.Identifier 4 5 ∷
+    finish kinds.InnerText 6 6 ∷ note notes.BarMissing 6 ∷ finish kinds.LongComment 6 6 ∷
+    note notes.CommentUnended 0 ∷ token (kinds.Code at.Section) 6 8 ∷ token kinds.Text 8 9 ∷ []
+section = refl
