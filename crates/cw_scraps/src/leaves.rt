@@ -1,7 +1,8 @@
-ghost use Rattle.std.specs.Prelude.{◌≡◌, ℕ, ◌+◌, ◌^◌, ◌<◌, ◌≤◌, ◌++◌, ◌∷◌, [], List, length, IsSome, IfSome, IfOk, OnOk, OnErr, option_map, unwrap_or, nat_eq};
+ghost use Rattle.std.specs.Prelude.{◌≡◌, ◌≢◌, ℕ, ◌+◌, ◌^◌, ◌<◌, ◌≤◌, ◌++◌, ◌∷◌, [], List, length, IsSome, IfSome, IfOk, OnOk, OnErr, option_map, unwrap_or, nat_eq};
 ghost use Rattle.std.specs.Cmp.Lexicographic.{pointwise};
 ghost use Rattle.std.specs.Option.{option_to_list};
 ghost use Rattle.cw_names.specs.Words.{hash_line_category};
+ghost use Rattle.cw_base.specs.declared.category.Cat.TheVariants as Cats;
 ghost use Rattle.cw_base.specs.declared.mode.MathMode.TheVariants as MathMode;
 ghost use Rattle.cw_lex.specs.declared.codes.Code.TheVariants as Code;
 ghost use Rattle.cw_tokens.specs.declared.token.Token.TheVariants as Token;
@@ -33,6 +34,7 @@ pub fn scrap_of(token: &Tok, names: &mut Names, store: &mut TokenStore) -> Resul
     requires start { token.now.span.start < 2 ^ 32 }
     requires idle { store.old.building ≡ None }
     ensures form { IfOk result (λ leaf. IfSome (token_form token.now.kind token.now.text.now token.now.hash_line token.now.span.start names.old) (λ form. HasForm form leaf store.old.lists store.new.lists)) }
+    ensures real { IfOk result (λ leaf. leaf.cat ≢ Cats.End) }
     ensures names { OnOk result (names.new ≡ names_with token.now.kind token.now.text.now names.old) }
     ensures idle { store.new.building ≡ None }
     // A line that was sound stays so with this scrap behind it.
@@ -55,7 +57,8 @@ pub fn scrap_of(token: &Tok, names: &mut Names, store: &mut TokenStore) -> Resul
 
 /// The category of an identifier that has a category of its own.
 fn word_cat(hash_line: bool, text: &[u8], own: Cat) -> Cat
-    ensures { result ≡ word_cat hash_line text.now own }
+    ensures cat { result ≡ word_cat hash_line text.now own }
+    ensures real { own ≢ Cats.End → result ≢ Cats.End }
 {
     if hash_line {
         hash_line_category(text).unwrap_or(own)
@@ -72,7 +75,8 @@ fn is_word(text: &[u8], word: &[u8]) -> bool
 
 /// The category that a word has in a `#` line whatever it has elsewhere.
 fn hash_line_category(text: &[u8]) -> Option<Cat>
-    ensures { result ≡ hash_line_category text.now }
+    ensures cat { result ≡ hash_line_category text.now }
+    ensures real { IfSome result (λ cat. cat ≢ Cats.End) }
 {
     if is_word(text, b"elif")
         || is_word(text, b"error")
@@ -100,6 +104,7 @@ fn word_leaf(cat: Cat, name: NameId, number: u32, store: &mut TokenStore) -> Lea
     requires idle { store.old.building ≡ None }
     requires room { 6 ≤ store.old.spare }
     ensures form { HasForm (word_form cat name number) result store.old.lists store.new.lists }
+    ensures cat { result.cat ≡ cat }
     ensures idle { store.new.building ≡ None }
 {
     store.begin();
@@ -122,6 +127,7 @@ fn token_leaf(kind: TokKind, number: u32, store: &mut TokenStore) -> Leaf
     requires idle { store.old.building ≡ None }
     requires room { 6 ≤ store.old.spare }
     ensures form { IfSome (form_of kind number) (λ form. HasForm form result store.old.lists store.new.lists) }
+    ensures real { result.cat ≢ Cats.End }
     ensures idle { store.new.building ≡ None }
 {
     match kind {
@@ -143,6 +149,7 @@ fn source_leaf(cat: Cat, mode: MathMode, number: u32, store: &mut TokenStore) ->
     requires idle { store.old.building ≡ None }
     requires room { 6 ≤ store.old.spare }
     ensures form { HasForm (source cat mode number) result store.old.lists store.new.lists }
+    ensures cat { result.cat ≡ cat }
     ensures idle { store.new.building ≡ None }
 {
     store.begin();
@@ -155,6 +162,7 @@ fn control_leaf(cat: Cat, mode: MathMode, control: Control, store: &mut TokenSto
     requires idle { store.old.building ≡ None }
     requires room { 6 ≤ store.old.spare }
     ensures form { HasForm (record { cat = cat; mode = mode; tokens = Token.Control control ∷ [] }) result store.old.lists store.new.lists }
+    ensures cat { result.cat ≡ cat }
     ensures idle { store.new.building ≡ None }
 {
     store.begin();
@@ -167,6 +175,7 @@ fn empty_leaf(cat: Cat, store: &mut TokenStore) -> Leaf
     requires idle { store.old.building ≡ None }
     requires room { 6 ≤ store.old.spare }
     ensures form { HasForm (record { cat = cat; mode = MathMode.Maybe; tokens = [] }) result store.old.lists store.new.lists }
+    ensures cat { result.cat ≡ cat }
     ensures idle { store.new.building ≡ None }
 {
     store.begin();
@@ -198,6 +207,7 @@ fn code_leaf(code: Code, number: u32, store: &mut TokenStore) -> Leaf
     requires idle { store.old.building ≡ None }
     requires room { 6 ≤ store.old.spare }
     ensures form { IfSome (code_form code number) (λ form. HasForm form result store.old.lists store.new.lists) }
+    ensures real { result.cat ≢ Cats.End }
     ensures idle { store.new.building ≡ None }
 {
     match code {
@@ -231,6 +241,7 @@ fn no_break_leaf(store: &mut TokenStore) -> Leaf
     requires idle { store.old.building ≡ None }
     requires room { 6 ≤ store.old.spare }
     ensures form { IfSome (code_form Code.NoBreak 0) (λ form. HasForm form result store.old.lists store.new.lists) }
+    ensures real { result.cat ≢ Cats.End }
     ensures idle { store.new.building ≡ None }
 {
     store.begin();
@@ -247,6 +258,7 @@ fn header_leaf(number: u32, store: &mut TokenStore) -> Leaf
     requires idle { store.old.building ≡ None }
     requires room { 6 ≤ store.old.spare }
     ensures form { IfSome (code_form Code.HeaderFile number) (λ form. HasForm form result store.old.lists store.new.lists) }
+    ensures real { result.cat ≢ Cats.End }
     ensures idle { store.new.building ≡ None }
 {
     store.begin();
@@ -257,7 +269,8 @@ fn header_leaf(number: u32, store: &mut TokenStore) -> Leaf
 }
 
 fn sign_cat(sign: Sign) -> Cat
-    ensures { result ≡ sign_cat sign }
+    ensures cat { result ≡ sign_cat sign }
+    ensures real { result ≢ Cats.End }
 {
     match sign {
         Sign::Slash

@@ -9,3 +9,6 @@ mod walk;
 pub use flat::{FlatItem, FlatTokens};
 pub use store::TokenStore;
 pub use token::{ListId, Token};
+
+#[cfg(test)]
+mod tests;
