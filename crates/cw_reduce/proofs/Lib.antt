@@ -9,3 +9,5 @@ pub mod ScanLaws
 pub mod PlainStart
 pub mod PartLaws
 mod WhiteLaws
+pub mod WalkSteps
+pub mod WalkLoop

@@ -2,3 +2,4 @@ pub mod Plain
 pub mod Laid
 pub mod Lines
 pub mod Reducing
+pub mod Reduction

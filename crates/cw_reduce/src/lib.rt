@@ -5,13 +5,15 @@ mod join;
 mod part;
 mod print;
 mod produce;
-mod reduce;
 mod scan;
+mod slow;
 mod trim;
+mod walk;
 mod whole;
 
 pub use part::c_part_bytes;
 pub use scan::{has_scraps, is_plain_c_part};
+pub use walk::{Reduced, reduce};
 
 #[cfg(test)]
 mod tests;

@@ -2,7 +2,7 @@ ghost use Rattle.std.specs.Prelude.{◌≡◌, ◌≤◌, length, slice_range, t
 ghost use Rattle.cw_reduce.specs.Plain.{c_part, is_plain_part};
 
 use crate::print::print;
-use crate::reduce::reduce;
+use crate::slow::reduce;
 use crate::trim::trim;
 use crate::whole::whole;
 use cw_base::{Bytes, Flags, Memory};

@@ -5,7 +5,7 @@ use Rattle.cw_table.proofs.Normals.{count-weight}
 use Rattle.cw_reduce.specs.Lines.{seen}
 use Rattle.cw_reduce.specs.Plain.{plain_start}
 use Rattle.cw_reduce.proofs.PlainStart.{few-plain, holds-plain}
-use Rattle.cw_reduce.proofs.reduce.reduce.Goals as goal
+use Rattle.cw_reduce.proofs.slow.reduce.Goals as goal
 
 pub row-row-requires : goal.row-row-requires
 row-row-requires c =

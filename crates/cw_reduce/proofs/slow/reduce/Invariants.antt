@@ -4,7 +4,7 @@ use Rattle.cw_table.specs.Productions.{productions}
 use Rattle.cw_reduce.specs.Lines.{seen}
 use Rattle.cw_reduce.specs.Plain.{plain_start}
 use Rattle.cw_reduce.proofs.Going.{Going}
-use Rattle.cw_reduce.proofs.reduce.reduce.Given as goal
+use Rattle.cw_reduce.proofs.slow.reduce.Given as goal
 
 abbrev pub invariant-loop-place : goal.invariant-loop-place
 invariant-loop-place l = Going l.flags (plain_start l.part) (map seen l.line.items) l.done

@@ -1,0 +1,107 @@
+-- The loop of the reducer, over a line in its store.
+use Rattle.std.proofs.Common.{◌≡◌, ℕ, ◌+◌, ◌-◌, ◌*◌, ◌^◌, ◌<◌, ◌≤◌, true, None, List, length, drop, refl, sym, ◌∙◌, ap, arith}
+use Rattle.std.specs.List.{list_all}
+use Rattle.cw_base.specs.declared.flags.Flags.{Flags}
+use Rattle.cw_names.specs.Names.{Entry}
+use Rattle.cw_table.specs.Fitting.{row_fits, first_of}
+use Rattle.cw_table.specs.Normal.{count, normal, weight, is_fine}
+use Rattle.cw_table.specs.NormalWalk.{walk_left}
+use Rattle.cw_table.specs.Productions.{productions}
+use Rattle.cw_table.specs.Reaching.{IsAfter}
+use Rattle.cw_table.specs.Rewriting.{State, cats_of, rewrite}
+use Rattle.cw_table.specs.Safe.{least}
+use Rattle.cw_table.specs.WalkCounts.{right_of_new, ticks, reservings}
+use Rattle.cw_table.proofs.CountLaws.{ticks-most}
+use Rattle.cw_table.proofs.Examples.{productions-sound}
+use Rattle.cw_table.proofs.Normals.{count-weight, count-most}
+use Rattle.cw_tokens.specs.Stored.{StoredLists}
+use Rattle.cw_scraps.specs.declared.line.LineEntry.{LineEntry}
+use Rattle.cw_scraps.specs.Applying.{state_of, row_of}
+use Rattle.cw_scraps.specs.Changing.{Keeps}
+use Rattle.cw_scraps.specs.Inserting.{entry_cats}
+use Rattle.cw_scraps.specs.Lines.{IsSoundLine, scraps_of, roots_of}
+use Rattle.cw_scraps.specs.Marking.{MarkList}
+use Rattle.cw_scraps.proofs.Applied.{keeps-trans}
+use Rattle.cw_scraps.proofs.Productions.{cats-same}
+use Rattle.cw_scraps.proofs.Reservings.{length-scraps}
+use Rattle.cw_reduce.specs.Reduction.{IsFirst, words_of}
+use Rattle.cw_reduce.proofs.WalkSteps.{Walks, walk-starts, Rewrites, rewrites, GoesOn, goes-on, WalkEnds, walk-ends, walk-reaches}
+
+-- what holds at each turn; the first values are those with which the reducer was called
+pub record InLoop (f : Flags) (line0 : List LineEntry) (store0 : StoredLists) (names0 : List Entry) (marks0 : MarkList) (steps0 : ℕ) (line : List LineEntry) (store : StoredLists) (names : List Entry) (marks : MarkList) (steps place done : ℕ) : Type 0 where
+  pub walks : Walks f (state_of store0.lists line0 marks0 names0) (state_of store.lists line marks names) place done steps0 steps
+  pub sound : IsSoundLine store names line
+  pub keeps : Keeps store0.lists store.lists (roots_of line0) (roots_of line)
+  pub words : words_of names ≡ words_of names0
+  pub short : length line0 < 2 ^ 60
+
+-- what holds wherever the reducer returns
+pub record Stops (f : Flags) (line0 : List LineEntry) (store0 : StoredLists) (names0 : List Entry) (marks0 : MarkList) (steps0 : ℕ) (line : List LineEntry) (store : StoredLists) (names : List Entry) (marks : MarkList) (steps : ℕ) : Type 0 where
+  pub after : IsAfter productions f (state_of store0.lists line0 marks0 names0) (state_of store.lists line marks names)
+  pub no_more : steps ≤ steps0 + ticks productions f (state_of store0.lists line0 marks0 names0)
+  pub bound : steps ≤ steps0 + (132 * length line0 + length line0 * reservings productions f (state_of store0.lists line0 marks0 names0))
+
+-- a turn that rewrites
+pub record Turn (f : Flags) (line0 : List LineEntry) (store0 : StoredLists) (names0 : List Entry) (marks0 : MarkList) (steps0 : ℕ) (line : List LineEntry) (store : StoredLists) (names : List Entry) (marks : MarkList) (steps place done number : ℕ) : Type 0 where
+  pub fits : row_fits (row_of productions number) (drop place (cats_of (scraps_of store.lists line))) ≡ true
+  pub enough : done + 1 < 2 ^ 64
+  pub less : (new : State) (back place' : ℕ) → new ≡ rewrite f (row_of productions number) place (state_of store.lists line marks names) → back ≡ least productions (row_of productions number) → place' ≡ place - back → walk_left place' new < walk_left place (state_of store.lists line marks names)
+  pub next : (back place' : ℕ) → back ≡ least productions (row_of productions number) → place' ≡ place - back → (line' : List LineEntry) (store' : StoredLists) (names' : List Entry) (marks' : MarkList) (steps' : ℕ) → state_of store'.lists line' marks' names' ≡ rewrite f (row_of productions number) place (state_of store.lists line marks names) → steps' ≡ steps + 4 + right_of_new f (row_of productions number) place (state_of store.lists line marks names) → IsSoundLine store' names' line' → Keeps store.lists store'.lists (roots_of line) (roots_of line') → words_of names' ≡ words_of names
+      → InLoop f line0 store0 names0 marks0 steps0 line' store' names' marks' steps' place' (done + 1)
+  pub refused : (line' : List LineEntry) (store' : StoredLists) (names' : List Entry) (marks' : MarkList) (steps' : ℕ) → state_of store'.lists line' marks' names' ≡ state_of store.lists line marks names → steps' ≡ steps + 4 → Stops f line0 store0 names0 marks0 steps0 line' store' names' marks' steps'
+
+module _ (f : Flags) (line0 : List LineEntry) (store0 : StoredLists) (names0 : List Entry) (marks0 : MarkList) (steps0 : ℕ) (line : List LineEntry) (store : StoredLists) (names : List Entry) (marks : MarkList) (steps place done : ℕ)
+    (h : InLoop f line0 store0 names0 marks0 steps0 line store names marks steps place done) where
+  bound-line : ticks productions f (state_of store0.lists line0 marks0 names0) ≤ 132 * length line0 + length line0 * reservings productions f (state_of store0.lists line0 marks0 names0)
+  bound-line = rw (← length-scraps store0.lists line0) (ticks-most productions f (state_of store0.lists line0 marks0 names0) productions-sound h.walks.start_fine)
+
+  pub turn : (number : ℕ) → place < length line → IsFirst (drop place (entry_cats line)) number → Turn f line0 store0 names0 marks0 steps0 line store names marks steps place done number
+  turn number inside is =
+      let same : drop place (entry_cats line) ≡ drop place (cats_of (scraps_of store.lists line)) = ap (drop place) (sym (cats-same store.lists line)) in
+      let w : Rewrites f (state_of store0.lists line0 marks0 names0) (state_of store.lists line marks names) place done steps0 steps number = rewrites f (state_of store0.lists line0 marks0 names0) (state_of store.lists line marks names) place done steps0 steps number h.walks (omega (arith, length-scraps store.lists line)) (record { from_one = is.from_one; to_last = is.to_last; numbered = is.numbered; fits = ap (first_of productions) (sym same) ∙ is.fits }) in
+      record {
+        fits = w.fits;
+        enough = omega (arith, w.enough, count-most productions f (state_of store0.lists line0 marks0 names0), length-scraps store0.lists line0, h.short);
+        less = λ new back place' e b p. rw (e, p, b) w.less;
+        next = λ back place' b p line' store' names' marks' steps' e s sound keeps words. record {
+          walks = rw (s, p, b) (w.next (state_of store'.lists line' marks' names') e);
+          sound = sound;
+          keeps = keeps-trans store0.lists store.lists store'.lists (roots_of line0) (roots_of line) (roots_of line') h.keeps keeps;
+          words = words ∙ h.words;
+          short = h.short;
+        };
+        refused = λ line' store' names' marks' steps' e s. record {
+          after = rw e (walk-reaches f (state_of store0.lists line0 marks0 names0) (state_of store.lists line marks names) place done steps0 steps h.walks);
+          no_more = omega (arith, s, w.room);
+          bound = omega (arith, s, w.room, bound-line);
+        };
+      }
+
+  pub passes : (steps' : ℕ) → place < length line → first_of productions (drop place (entry_cats line)) ≡ None → steps' ≡ steps + 4 → InLoop f line0 store0 names0 marks0 steps0 line store names marks steps' (place + 1) done
+  passes steps' inside none s =
+      let g : GoesOn f (state_of store0.lists line0 marks0 names0) (state_of store.lists line marks names) place done steps0 steps = goes-on f (state_of store0.lists line0 marks0 names0) (state_of store.lists line marks names) place done steps0 steps h.walks (omega (arith, length-scraps store.lists line)) (ap (λ cs. first_of productions (drop place cs)) (cats-same store.lists line) ∙ none) in
+      record { walks = rw s g.next; sound = h.sound; keeps = h.keeps; words = h.words; short = h.short }
+
+  pub ends : length line ≤ place → WalkEnds f (state_of store0.lists line0 marks0 names0) (state_of store.lists line marks names) done steps0 steps
+  ends past = walk-ends f (state_of store0.lists line0 marks0 names0) (state_of store.lists line marks names) place done steps0 steps h.walks (omega (arith, length-scraps store.lists line))
+
+  pub stops : length line ≤ place → Stops f line0 store0 names0 marks0 steps0 line store names marks steps
+  stops past =
+      let e = ends past in
+      record { after = walk-reaches f (state_of store0.lists line0 marks0 names0) (state_of store.lists line marks names) place done steps0 steps h.walks; no_more = omega (arith, e.ticked); bound = omega (arith, e.ticked, bound-line) }
+
+  -- the productions are at most the weight, and at most eight for each scrap
+  pub light : length line ≤ place → done ≤ weight (scraps_of store0.lists line0)
+  light past = omega (arith, (ends past).number, count-weight productions f (state_of store0.lists line0 marks0 names0))
+
+  pub few : length line ≤ place → done ≤ 8 * length line0
+  few past = omega (arith, (ends past).number, count-most productions f (state_of store0.lists line0 marks0 names0), length-scraps store0.lists line0)
+
+pub loop-starts : (f : Flags) (line : List LineEntry) (store : StoredLists) (names : List Entry) (marks : MarkList) (steps : ℕ) → IsSoundLine store names line → length line < 2 ^ 60 → InLoop f line store names marks steps line store names marks steps 0 0
+loop-starts f line store names marks steps sound short = record {
+  walks = walk-starts f (state_of store.lists line marks names) steps sound.fine;
+  sound = sound;
+  keeps = record { lists = λ k out. refl; trees = λ k out. refl; outside = λ k out. out };
+  words = refl;
+  short = short;
+}

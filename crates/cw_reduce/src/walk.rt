@@ -1,0 +1,121 @@
+ghost use Rattle.std.specs.Prelude.{◌≡◌, ℕ, ◌+◌, ◌*◌, ◌<◌, ◌≤◌, true, drop, length, IfOk, OnOk, MatchOption, MatchResult};
+ghost use Rattle.cw_table.specs.Fitting.{first_of, row_fits};
+ghost use Rattle.cw_table.specs.Normal.{count, normal, weight};
+ghost use Rattle.cw_table.specs.Productions.{productions};
+ghost use Rattle.cw_table.specs.Reaching.{IsAfter};
+ghost use Rattle.cw_table.specs.Rewriting.{cats_of, rewrite};
+ghost use Rattle.cw_table.specs.Safe.{least};
+ghost use Rattle.cw_table.specs.WalkCounts.{reservings, right_of_new, ticks};
+ghost use Rattle.cw_scraps.specs.Applying.{row_of, state_of};
+ghost use Rattle.cw_scraps.specs.Changing.{Keeps};
+ghost use Rattle.cw_scraps.specs.Inserting.{entry_cats};
+ghost use Rattle.cw_scraps.specs.Lines.{IsSoundLine, roots_of, scraps_of};
+ghost use Rattle.cw_reduce.specs.Reduction.{IsFirst, words_of};
+
+use cw_base::{Flags, Ledger, Memory, Steps};
+use cw_names::Names;
+use cw_scraps::{Marks, ScrapLine};
+use cw_table::{RowNo, first_production, production, step_back};
+use cw_tokens::TokenStore;
+
+/// What was done to a line of scraps.
+#[derive(Clone, Copy, Debug, PartialEq, Eq)]
+pub struct Reduced {
+    /// The number of productions.
+    pub productions: u64,
+}
+
+/// Applies productions to a line, at the least place where one fits and by the first row that fits there, until
+/// none fits. A pointer goes along the line: where a row fits, the line is rewritten and the pointer goes back by
+/// the least safe distance of the row; where none fits, it goes on by one. Each turn counts four steps, and each
+/// production by a row that reserves counts one more for each scrap to the right of the new one. After `Memory` the
+/// line is one that the productions reach, and can be reduced further.
+pub fn reduce<L: Ledger>(
+    line: &mut ScrapLine,
+    store: &mut TokenStore,
+    names: &mut Names,
+    marks: &mut Marks,
+    flags: &Flags,
+    steps: &mut Steps<L>,
+) -> Result<Reduced, Memory>
+    requires sound { IsSoundLine store.old names.old line.old }
+    ensures normal { OnOk result (state_of store.new.lists line.new marks.new names.new ≡ normal productions flags.now (state_of store.old.lists line.old marks.old names.old)) }
+    ensures productions { IfOk result (λ done. done.productions ≡ count productions flags.now (state_of store.old.lists line.old marks.old names.old)) }
+    ensures light { IfOk result (λ done. done.productions ≤ weight (scraps_of store.old.lists line.old)) }
+    ensures few { IfOk result (λ done. done.productions ≤ 8 * length line.old) }
+    ensures after { IsAfter productions flags.now (state_of store.old.lists line.old marks.old names.old) (state_of store.new.lists line.new marks.new names.new) }
+    ensures words { words_of names.new ≡ words_of names.old }
+    ensures sound { IsSoundLine store.new names.new line.new }
+    ensures others { Keeps store.old.lists store.new.lists (roots_of line.old) (roots_of line.new) }
+    ensures steps { OnOk result (steps.new ≡ steps.old + ticks productions flags.now (state_of store.old.lists line.old marks.old names.old)) }
+    ensures no_more { steps.new ≤ steps.old + ticks productions flags.now (state_of store.old.lists line.old marks.old names.old) }
+    ensures bound { steps.new ≤ steps.old + (132 * length line.old + length line.old * reservings productions flags.now (state_of store.old.lists line.old marks.old names.old)) }
+{
+    let _length = line.len();
+    let mut place = 0;
+    let mut productions = 0;
+    while place < line.len() {
+        match row_at(line, place, steps) {
+            Some(row) => {
+                produce(row, place, flags, line, names, marks, store, steps)?;
+                productions += 1;
+                place = place.saturating_sub(distance(row));
+            }
+            None => place += 1,
+        }
+    }
+    Ok(Reduced { productions })
+}
+
+// The first row that fits at a place.
+fn row_at<L: Ledger>(line: &ScrapLine, place: usize, steps: &mut Steps<L>) -> Option<RowNo>
+    requires { place < length line.now }
+    ensures first { MatchOption result (first_of productions (drop place (entry_cats line.now)) ≡ None) (λ row. IsFirst (drop place (entry_cats line.now)) row.number) }
+    ensures steps { steps.new ≡ steps.old + 4 }
+{
+    let _length = line.len();
+    first_production([
+        line.cat_at(place, steps),
+        line.cat_at(place + 1, steps),
+        line.cat_at(place + 2, steps),
+        line.cat_at(place + 3, steps),
+    ])
+}
+
+// How far the pointer goes back after a row.
+fn distance(row: RowNo) -> usize
+    requires from_one { 1 ≤ row.number }
+    requires to_last { row.number ≤ 92 }
+    ensures { result ≡ least productions (row_of productions row.number) }
+{
+    let _row = production(row);
+    step_back(row)
+}
+
+// One production at a place, where its row fits, with the room that it needs.
+fn produce<L: Ledger>(
+    row: RowNo,
+    place: usize,
+    flags: &Flags,
+    line: &mut ScrapLine,
+    names: &mut Names,
+    marks: &mut Marks,
+    store: &mut TokenStore,
+    steps: &mut Steps<L>,
+) -> Result<(), Memory>
+    requires from_one { 1 ≤ row.number }
+    requires to_last { row.number ≤ 92 }
+    requires fits { row_fits (row_of productions row.number) (drop place (cats_of (scraps_of store.old.lists line.old))) ≡ true }
+    requires sound { IsSoundLine store.old names.old line.old }
+    ensures state { MatchResult result (λ _. state_of store.new.lists line.new marks.new names.new ≡ rewrite flags.now (row_of productions row.number) place (state_of store.old.lists line.old marks.old names.old)) (λ _. state_of store.new.lists line.new marks.new names.new ≡ state_of store.old.lists line.old marks.old names.old) }
+    ensures steps { MatchResult result (λ _. steps.new ≡ steps.old + right_of_new flags.now (row_of productions row.number) place (state_of store.old.lists line.old marks.old names.old)) (λ _. steps.new ≡ steps.old) }
+    ensures words { words_of names.new ≡ words_of names.old }
+    ensures sound { IsSoundLine store.new names.new line.new }
+    ensures others { Keeps store.old.lists store.new.lists (roots_of line.old) (roots_of line.new) }
+{
+    store.reserve(24)?;
+    marks.reserve(1)?;
+    let production = production(row);
+    line.apply_row(&production, place, flags, names, marks, store, steps);
+    Ok(())
+}
