@@ -11,3 +11,4 @@ pub mod PartLaws
 mod WhiteLaws
 pub mod WalkSteps
 pub mod WalkLoop
+pub mod TranslatedRows

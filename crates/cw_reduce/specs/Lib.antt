@@ -3,3 +3,5 @@ pub mod Laid
 pub mod Lines
 pub mod Reducing
 pub mod Reduction
+pub mod Translating
+pub mod Visible
