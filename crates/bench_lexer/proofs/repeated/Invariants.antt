@@ -1,0 +1,5 @@
+use Rattle.std.proofs.Common.{◌-◌, vec_len}
+use Rattle.bench_lexer.proofs.repeated.Given as goal
+
+abbrev pub decreases-loop-text : goal.decreases-loop-text
+decreases-loop-text l = 100000 - vec_len l.text
