@@ -254,3 +254,23 @@ length-entry k text names = go (nat_lt (place_of k text names) (length names))
     go : (b : Bool) → length names ≤ length (cond b names (names ++ record { kind = k; text = text; category = cat.Exp } ∷ []))
     go true = omega arith
     go false = omega (arith, length-append names (record { kind = k; text = text; category = cat.Exp } ∷ []))
+
+-- the list of a scrap is one of the store
+token-some : (k : TokKind) (text : List ℕ) (hash : Bool) (number : ℕ) (names : List Entry) → MakesLeaf k → IsSome (token_form k text hash number names)
+token-some kind.Identifier text hash number names h = refl
+token-some (kind.Code c) text hash number names h = code-some c number h
+token-some kind.Constant text hash number names h = refl
+token-some kind.Quoted text hash number names h = refl
+token-some kind.IncludeName text hash number names h = refl
+token-some kind.OtherByte text hash number names h = refl
+token-some (kind.Sign s) text hash number names h = refl
+token-some kind.HashLine text hash number names h = refl
+token-some kind.HashLineEnd text hash number names h = refl
+token-some _ text hash number names h = h
+
+pub list-there : (k : TokKind) (text : List ℕ) (hash : Bool) (number : ℕ) (names : List Entry) (leaf : Leaf) (old new : List (List Token)) → MakesLeaf k → IfSome (token_form k text hash number names) (λ form. HasForm form leaf old new) → leaf.list.index < length new
+list-there k text hash number names leaf old new makes has = go (token_form k text hash number names) (token-some k text hash number names makes) has
+  where
+    go : (o : Option LeafForm) → IsSome o → IfSome o (λ form. HasForm form leaf old new) → leaf.list.index < length new
+    go None some h = cc
+    go (Some form) some h = omega (arith, h.list, ap length h.lists, length-append old (form.tokens ∷ []))

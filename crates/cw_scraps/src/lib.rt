@@ -14,3 +14,6 @@ mod reserving;
 pub use leaves::{Leaf, scrap_of};
 pub use line::{LineEntry, Part, ScrapLine};
 pub use marks::Marks;
+
+#[cfg(test)]
+mod tests;
