@@ -13,6 +13,8 @@ use Rattle.cw_table.specs.Safe.{least}
 use Rattle.cw_table.specs.WalkCounts.{right_of_new, ticks, reservings}
 use Rattle.cw_table.proofs.CountLaws.{ticks-most}
 use Rattle.cw_table.proofs.Examples.{productions-sound}
+use Rattle.cw_table.specs.SourceNumbers.{numbers_of}
+use Rattle.cw_table.proofs.NumberLaws.{steps-numbers}
 use Rattle.cw_table.proofs.Normals.{count-weight, count-most}
 use Rattle.cw_tokens.specs.Stored.{StoredLists}
 use Rattle.cw_scraps.specs.declared.line.LineEntry.{LineEntry}
@@ -38,6 +40,7 @@ pub record InLoop (f : Flags) (line0 : List LineEntry) (store0 : StoredLists) (n
 -- what holds wherever the reducer returns
 pub record Stops (f : Flags) (line0 : List LineEntry) (store0 : StoredLists) (names0 : List Entry) (marks0 : MarkList) (steps0 : ℕ) (line : List LineEntry) (store : StoredLists) (names : List Entry) (marks : MarkList) (steps : ℕ) : Type 0 where
   pub after : IsAfter productions f (state_of store0.lists line0 marks0 names0) (state_of store.lists line marks names)
+  pub numbers : numbers_of (scraps_of store.lists line) ≡ numbers_of (scraps_of store0.lists line0)
   pub no_more : steps ≤ steps0 + ticks productions f (state_of store0.lists line0 marks0 names0)
   pub bound : steps ≤ steps0 + (132 * length line0 + length line0 * reservings productions f (state_of store0.lists line0 marks0 names0))
 
@@ -54,6 +57,9 @@ module _ (f : Flags) (line0 : List LineEntry) (store0 : StoredLists) (names0 : L
     (h : InLoop f line0 store0 names0 marks0 steps0 line store names marks steps place done) where
   bound-line : ticks productions f (state_of store0.lists line0 marks0 names0) ≤ 132 * length line0 + length line0 * reservings productions f (state_of store0.lists line0 marks0 names0)
   bound-line = rw (← length-scraps store0.lists line0) (ticks-most productions f (state_of store0.lists line0 marks0 names0) productions-sound h.walks.start_fine)
+
+  numbers-stay : numbers_of (scraps_of store.lists line) ≡ numbers_of (scraps_of store0.lists line0)
+  numbers-stay = ap (λ (x : State). numbers_of x.scraps) h.walks.reached ∙ steps-numbers productions f done (state_of store0.lists line0 marks0 names0) productions-sound h.walks.start_fine
 
   pub turn : (number : ℕ) → place < length line → IsFirst (drop place (entry_cats line)) number → Turn f line0 store0 names0 marks0 steps0 line store names marks steps place done number
   turn number inside is =
@@ -72,6 +78,7 @@ module _ (f : Flags) (line0 : List LineEntry) (store0 : StoredLists) (names0 : L
         };
         refused = λ line' store' names' marks' steps' e s. record {
           after = rw e (walk-reaches f (state_of store0.lists line0 marks0 names0) (state_of store.lists line marks names) place done steps0 steps h.walks);
+          numbers = ap (λ (x : State). numbers_of x.scraps) e ∙ numbers-stay;
           no_more = omega (arith, s, w.room);
           bound = omega (arith, s, w.room, bound-line);
         };
@@ -88,7 +95,7 @@ module _ (f : Flags) (line0 : List LineEntry) (store0 : StoredLists) (names0 : L
   pub stops : length line ≤ place → Stops f line0 store0 names0 marks0 steps0 line store names marks steps
   stops past =
       let e = ends past in
-      record { after = walk-reaches f (state_of store0.lists line0 marks0 names0) (state_of store.lists line marks names) place done steps0 steps h.walks; no_more = omega (arith, e.ticked); bound = omega (arith, e.ticked, bound-line) }
+      record { after = walk-reaches f (state_of store0.lists line0 marks0 names0) (state_of store.lists line marks names) place done steps0 steps h.walks; numbers = numbers-stay; no_more = omega (arith, e.ticked); bound = omega (arith, e.ticked, bound-line) }
 
   -- the productions are at most the weight, and at most eight for each scrap
   pub light : length line ≤ place → done ≤ weight (scraps_of store0.lists line0)

@@ -17,3 +17,5 @@ pub use walk::{Reduced, reduce};
 
 #[cfg(test)]
 mod tests;
+#[cfg(test)]
+mod walk_tests;

@@ -5,6 +5,7 @@ ghost use Rattle.cw_table.specs.Productions.{productions};
 ghost use Rattle.cw_table.specs.Reaching.{IsAfter};
 ghost use Rattle.cw_table.specs.Rewriting.{cats_of, rewrite};
 ghost use Rattle.cw_table.specs.Safe.{least};
+ghost use Rattle.cw_table.specs.SourceNumbers.{numbers_of};
 ghost use Rattle.cw_table.specs.WalkCounts.{reservings, right_of_new, ticks};
 ghost use Rattle.cw_scraps.specs.Applying.{row_of, state_of};
 ghost use Rattle.cw_scraps.specs.Changing.{Keeps};
@@ -45,6 +46,8 @@ pub fn reduce<L: Ledger>(
     ensures few { IfOk result (λ done. done.productions ≤ 8 * length line.old) }
     ensures after { IsAfter productions flags.now (state_of store.old.lists line.old marks.old names.old) (state_of store.new.lists line.new marks.new names.new) }
     ensures words { words_of names.new ≡ words_of names.old }
+    // Each source token stands in the trees once and in order, as before.
+    ensures numbers { numbers_of (scraps_of store.new.lists line.new) ≡ numbers_of (scraps_of store.old.lists line.old) }
     ensures sound { IsSoundLine store.new names.new line.new }
     ensures others { Keeps store.old.lists store.new.lists (roots_of line.old) (roots_of line.new) }
     ensures steps { OnOk result (steps.new ≡ steps.old + ticks productions flags.now (state_of store.old.lists line.old marks.old names.old)) }

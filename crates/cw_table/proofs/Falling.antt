@@ -59,14 +59,14 @@ room r cs s fits = go (leb (r.offset + r.replaced) (length cs)) refl
         absurd (true≢false (sym holds ∙ ap (λ c. in_set (test r (r.offset + r.replaced - 1)) c) ends ∙ never))
 
 -- the pieces hold what is replaced
-pieces-whole : (f : Flags) (r : Row) (cs : List Cat) → IsSound r → scraps_in (row_pieces f r cs) ≡ numbers_from r.offset r.replaced
+pub pieces-whole : (f : Flags) (r : Row) (cs : List Cat) → IsSound r → scraps_in (row_pieces f r cs) ≡ numbers_from r.offset r.replaced
 pieces-whole f r cs s = go (takes_other f r.action.choice cs)
   where
     go : (b : Bool) → scraps_in (elim b [ true ↦ translation r.action.other | false ↦ translation r.action.usual ]) ≡ numbers_from r.offset r.replaced
     go true = s.other_whole
     go false = s.usual_whole
 
-alone-is : (k : ℕ) (ps : List Piece) (n : ℕ) → alone k ps ≡ Some n → (k ≡ 1) × (scraps_in ps ≡ n ∷ [])
+pub alone-is : (k : ℕ) (ps : List Piece) (n : ℕ) → alone k ps ≡ Some n → (k ≡ 1) × (scraps_in ps ≡ n ∷ [])
 alone-is (suc zero) (piece.Scrap k ∷ []) n h = (refl, cc)
 alone-is _ _ n h = cc
 

@@ -16,3 +16,4 @@ pub mod RewrittenCats
 pub mod WalkLaws
 pub mod CountLaws
 pub mod StepLaws
+pub mod NumberLaws

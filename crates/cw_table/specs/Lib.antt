@@ -10,4 +10,5 @@ pub mod Normal
 pub mod NormalWalk
 pub mod WalkCounts
 pub mod Reaching
+pub mod SourceNumbers
 pub mod NormalLaws

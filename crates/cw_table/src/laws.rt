@@ -1,3 +1,4 @@
+ghost use Rattle.cw_table.specs.SourceNumbers.{NormalKeepsNumbers, StepsKeepNumbers};
 ghost use Rattle.cw_table.specs.NormalLaws.{CountAtMostEight, CountAtMostWeight, NormalIsDone, NormalStays, StaysFine, TicksAtMost, TurnsAtMost, WalkEndsNormal, WalkHasLog, WalkIsLeftmost, WeightFalls, WeightTellsNumber};
 
 /// The laws of leftmost-first rewriting, for every table of sound rows. It does nothing: what it ensures is for
@@ -10,6 +11,8 @@ pub fn rewriting_laws()
     ensures count { CountAtMostWeight }
     ensures eight { CountAtMostEight }
     ensures number { WeightTellsNumber }
+    ensures numbers { StepsKeepNumbers }
+    ensures all_numbers { NormalKeepsNumbers }
 {}
 
 /// The law of the walk with a pointer, for every table of sound rows. It does nothing: what it ensures is for

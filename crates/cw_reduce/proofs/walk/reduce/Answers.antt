@@ -69,3 +69,12 @@ returns-clause-steps g c = (ends c.args.flags.now c.args.line.now c.args.store.n
 
 pub returns-clause-bound : goal.returns-clause-bound
 returns-clause-bound g c = (stops c.args.flags.now c.args.line.now c.args.store.now c.args.names.now c.args.marks.now c.args.steps.now c.loop-place.line c.loop-place.store c.loop-place.names c.loop-place.marks c.loop-place.steps c.loop-place.place c.loop-place.productions c.loop-place.invariant (omega (arith, c.len.ensures.length))).bound
+
+pub returns-in_err-produce-in-Some-clause-numbers : goal.returns-in_err-produce-in-Some-clause-numbers
+returns-in_err-produce-in-Some-clause-numbers g c =
+    let t : Turn c.args.flags.now c.args.line.now c.args.store.now c.args.names.now c.args.marks.now c.args.steps.now c.loop-place.line c.loop-place.store c.loop-place.names c.loop-place.marks c.loop-place.steps c.loop-place.place c.loop-place.productions c.in-Some.row.number = turn c.args.flags.now c.args.line.now c.args.store.now c.args.names.now c.args.marks.now c.args.steps.now c.loop-place.line c.loop-place.store c.loop-place.names c.loop-place.marks c.loop-place.steps c.loop-place.place c.loop-place.productions c.loop-place.invariant c.in-Some.row.number (omega (arith, c.len.ensures.length)) c.in-Some.ensures.first in
+    let s : Stops c.args.flags.now c.args.line.now c.args.store.now c.args.names.now c.args.marks.now c.args.steps.now c.produce.new.line c.produce.new.store c.produce.new.names c.produce.new.marks c.produce.new.steps = t.refused c.produce.new.line c.produce.new.store c.produce.new.names c.produce.new.marks c.produce.new.steps c.in_err-produce-in-Some.ensures.state (omega (arith, c.in_err-produce-in-Some.ensures.steps, c.in-Some.ensures.steps)) in
+    s.numbers
+
+pub returns-clause-numbers : goal.returns-clause-numbers
+returns-clause-numbers g c = (stops c.args.flags.now c.args.line.now c.args.store.now c.args.names.now c.args.marks.now c.args.steps.now c.loop-place.line c.loop-place.store c.loop-place.names c.loop-place.marks c.loop-place.steps c.loop-place.place c.loop-place.productions c.loop-place.invariant (omega (arith, c.len.ensures.length))).numbers

@@ -1,5 +1,6 @@
 use Rattle.cw_table.proofs.Normals.{takes, normal-step, normal-done, count-weight, count-most}
 use Rattle.cw_table.proofs.StepLaws.{is-after}
+use Rattle.cw_table.proofs.NumberLaws.{steps-numbers, normal-numbers}
 use Rattle.cw_table.proofs.laws.rewriting_laws.Goals as goal
 
 pub returns-clause-weight : goal.returns-clause-weight
@@ -22,3 +23,9 @@ returns-clause-eight c = count-most
 
 pub returns-clause-number : goal.returns-clause-number
 returns-clause-number c = λ rows flags state number sound fine most. is-after rows flags number state sound fine most
+
+pub returns-clause-numbers : goal.returns-clause-numbers
+returns-clause-numbers c = steps-numbers
+
+pub returns-clause-all_numbers : goal.returns-clause-all_numbers
+returns-clause-all_numbers c = normal-numbers

@@ -1,0 +1,5 @@
+use Rattle.cw_scraps.specs.Lines.{IsSoundLine}
+use Rattle.cw_reduce.proofs.walk_tests.add_all.Given as goal
+
+abbrev pub invariant-loop-byte : goal.invariant-loop-byte
+invariant-loop-byte l = IsSoundLine l.store l.names l.line
