@@ -12,3 +12,4 @@ mod WhiteLaws
 pub mod WalkSteps
 pub mod WalkLoop
 pub mod TranslatedRows
+pub mod ShownTokens

@@ -5,3 +5,4 @@ pub mod Reducing
 pub mod Reduction
 pub mod Translating
 pub mod Visible
+pub mod TranslationLaws

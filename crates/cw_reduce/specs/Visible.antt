@@ -1,6 +1,6 @@
 -- The tokens of a text that its translation shows: all that make a scrap or stand in a comment, but for the codes
 -- that only lay out and the end of a `#` line.
-use Rattle.std.specs.Prelude.{ℕ, Bool, true, false, List, [], ◌∷◌, ◌++◌}
+use Rattle.std.specs.Prelude.{◌≡◌, ℕ, Bool, true, false, Option, Some, None, List, [], ◌∷◌, ◌++◌}
 use Rattle.cw_lex.specs.Answers.{Answer, Token, Begin, Finish, Note, Seen}
 use Rattle.cw_lex.specs.declared.codes.Code.{Code}
 use Rattle.cw_lex.specs.declared.codes.Code.TheVariants as code
@@ -25,9 +25,13 @@ is_shown kind.HashLine = true
 is_shown kind.OtherByte = true
 is_shown (kind.Code c) = is_shown_code c
 is_shown kind.Text = true
-is_shown kind.LongComment = true
-is_shown kind.ShortComment = true
 is_shown _ = false
+
+-- a comment has a number of its own, that of its first byte
+abbrev pub is_comment : TokKind → Bool
+is_comment kind.LongComment = true
+is_comment kind.ShortComment = true
+is_comment _ = false
 
 abbrev pub number_if : Bool → ℕ → List ℕ
 number_if true number = number ∷ []
@@ -36,10 +40,49 @@ number_if false number = []
 -- the numbers of the visible tokens, in order; the number of a token is the place of its first byte
 abbrev pub visible_of : Answer → List ℕ
 visible_of (Token token) = number_if (is_shown token.kind) token.span.start
-visible_of (Begin token) = number_if (is_shown token.kind) token.span.start
+visible_of (Begin token) = number_if (is_comment token.kind) token.span.start
 visible_of (Finish token) = []
 visible_of (Note note place) = []
 
 abbrev pub visible : List Answer → List ℕ
 visible [] = []
 visible (answer ∷ answers) = visible_of answer ++ visible answers
+
+-- Answers are nested: pieces of text stand in comments and other tokens in C text, comments begin in C text and inner
+-- texts in comments, and what begins ends.
+pub data Level : Type 0 where
+  InCode : Level
+  InComment : Level
+
+abbrev pub after_token : TokKind → List Level → Option (List Level)
+after_token kind.Text (InComment ∷ levels) = Some (InComment ∷ levels)
+after_token kind.Text levels = None
+after_token k (InCode ∷ levels) = Some (InCode ∷ levels)
+after_token k levels = None
+
+abbrev pub after_begin : TokKind → List Level → Option (List Level)
+after_begin kind.InnerText (InComment ∷ levels) = Some (InCode ∷ InComment ∷ levels)
+after_begin kind.LongComment (InCode ∷ levels) = Some (InComment ∷ InCode ∷ levels)
+after_begin kind.ShortComment (InCode ∷ levels) = Some (InComment ∷ InCode ∷ levels)
+after_begin k levels = None
+
+abbrev pub after_finish : List Level → Option (List Level)
+after_finish (InCode ∷ InComment ∷ levels) = Some (InComment ∷ levels)
+after_finish (InComment ∷ InCode ∷ levels) = Some (InCode ∷ levels)
+after_finish levels = None
+
+abbrev pub levels_after : Answer → List Level → Option (List Level)
+levels_after (Token token) levels = after_token token.kind levels
+levels_after (Begin token) levels = after_begin token.kind levels
+levels_after (Finish token) levels = after_finish levels
+levels_after (Note note place) levels = Some levels
+
+abbrev pub all_levels_after : List Answer → List Level → Option (List Level)
+all_levels_after [] levels = Some levels
+all_levels_after (answer ∷ answers) levels = elim (levels_after answer levels) [
+  | None ↦ None
+  | Some next ↦ all_levels_after answers next
+]
+
+abbrev pub IsNested : List Answer → Type 0
+IsNested answers = all_levels_after answers (InCode ∷ []) ≡ Some (InCode ∷ [])

@@ -1,0 +1,155 @@
+-- Each visible token stands in the tree of a translation once and in order.
+use Rattle.std.proofs.Common.{◌≡◌, ℕ, Bool, true, false, ◌&&◌, Option, Some, None, List, [], ◌∷◌, ◌++◌, refl, sym, ◌∙◌, ap}
+use Rattle.std.proofs.lemmas.List.{append_assoc}
+use Rattle.std.specs.List.{list_all}
+use Rattle.cw_base.specs.declared.category.Cat.{Cat}
+use Rattle.cw_base.specs.declared.category.Cat.TheVariants.{Exp}
+use Rattle.cw_base.specs.declared.flags.Flags.{Flags}
+use Rattle.cw_base.specs.declared.mode.MathMode.{MathMode}
+use Rattle.cw_base.specs.declared.mode.MathMode.TheVariants.{Text, Math, Maybe}
+use Rattle.cw_lex.specs.Answers.{Answer, Token, Begin, Finish, Note, Seen}
+use Rattle.cw_lex.specs.declared.codes.Code.{Code}
+use Rattle.cw_lex.specs.declared.codes.Code.TheVariants as code
+use Rattle.cw_lex.specs.declared.tokens.TokKind.{TokKind}
+use Rattle.cw_lex.specs.declared.tokens.TokKind.TheVariants as kind
+use Rattle.cw_names.specs.declared.NameId.{NameId}
+use Rattle.cw_names.specs.Names.{Entry}
+use Rattle.cw_trees.specs.declared.Control.TheVariants as control
+use Rattle.cw_trees.specs.Tree.{Tree, Empty, Then, Sub, Inner, Sign}
+use Rattle.cw_trees.specs.Flat.{continues_name, struck}
+use Rattle.cw_trees.specs.Joining.{Scrap, dollar_before, in_text, blank_and_whole, whole}
+use Rattle.cw_table.specs.Normal.{is_fine, normal}
+use Rattle.cw_table.specs.Productions.{productions}
+use Rattle.cw_table.specs.SourceNumbers.{numbers_of}
+use Rattle.cw_table.proofs.Examples.{productions-sound}
+use Rattle.cw_table.proofs.NumberLaws.{numbers-append, normal-numbers}
+use Rattle.cw_table.proofs.ScrapFacts.{all-append, and-left, and-right, and-both}
+use Rattle.cw_tokens.specs.Shapes.{tree_in}
+use Rattle.cw_scraps.specs.Leaves.{LeafForm, form_of, code_form, word_form, token_form, names_with}
+use Rattle.cw_reduce.specs.Translating.{leaf_scrap, CommentItem, Piece, InnerText, comment_rest, comment_tree, comment_scrap, Frame, CText, Comment, with_scrap, with_item, with_form, Progress, state_in, put_together, reduced, with_frames, after_token, after_begin, after_finish, after_answer, after_answers, last_scraps, begun, ended, all_ended, translation}
+use Rattle.cw_reduce.specs.Visible.{is_shown, is_shown_code, is_comment, number_if, visible_of, visible, Level, InCode, InComment, after_token as level_token, after_begin as level_begin, after_finish as level_finish, levels_after, all_levels_after, IsNested}
+
+append-none : (ns : List ℕ) → ns ++ [] ≡ ns
+append-none [] = refl
+append-none (n ∷ ns) = ap (λ ms. n ∷ ms) (append-none ns)
+
+-- what no production joins
+struck-dollar : (mode : MathMode) (tree : Tree) → struck (dollar_before mode tree) ≡ struck tree
+struck-dollar Math tree = refl
+struck-dollar _ tree = refl
+
+struck-in-text : (scrap : Scrap) (rest : Tree) → struck (in_text scrap rest) ≡ struck scrap.tree ++ struck rest
+struck-in-text scrap rest = struck-dollar scrap.left (Sub scrap.tree (dollar_before scrap.right rest)) ∙ ap (λ ns. struck scrap.tree ++ ns) (struck-dollar scrap.right rest)
+
+struck-blank : (scraps : List Scrap) → struck (blank_and_whole scraps) ≡ numbers_of scraps
+struck-blank [] = refl
+struck-blank (scrap ∷ scraps) = struck-in-text scrap (blank_and_whole scraps) ∙ ap (λ ns. struck scrap.tree ++ ns) (struck-blank scraps)
+
+struck-whole : (scraps : List Scrap) → struck (whole scraps) ≡ numbers_of scraps
+struck-whole [] = refl
+struck-whole (scrap ∷ scraps) = struck-in-text scrap (blank_and_whole scraps) ∙ ap (λ ns. struck scrap.tree ++ ns) (struck-blank scraps)
+
+struck-together : (flags : Flags) (scraps : List Scrap) (p : Progress) → list_all is_fine scraps ≡ true → struck (put_together flags scraps p) ≡ numbers_of scraps
+struck-together flags scraps p fine = struck-whole (normal productions flags (state_in scraps p)).scraps ∙ normal-numbers productions flags (state_in scraps p) productions-sound fine
+
+-- the scrap of a token
+form_numbers : Option LeafForm → List ℕ
+form_numbers None = []
+form_numbers (Some form) = struck (tree_in [] form.tokens)
+
+fine_form : Option LeafForm → Bool
+fine_form None = true
+fine_form (Some form) = is_fine (leaf_scrap form)
+
+word-numbers : (c : Cat) (name : NameId) (n : ℕ) → struck (tree_in [] (word_form c name n).tokens) ≡ n ∷ []
+word-numbers Exp name n = refl
+word-numbers _ name n = refl
+
+word-fine : (c : Cat) (name : NameId) (n : ℕ) → is_fine (leaf_scrap (word_form c name n)) ≡ true
+word-fine Exp name n = refl
+word-fine _ name n = refl
+
+code-numbers : (c : Code) (n : ℕ) → form_numbers (code_form c n) ≡ number_if (is_shown_code c) n
+unfolding form_numbers
+code-numbers code.TexBox n = refl
+code-numbers _ n = refl
+
+code-fine : (c : Code) (n : ℕ) → fine_form (code_form c n) ≡ true
+unfolding fine_form
+code-fine code.TexBox n = refl
+code-fine _ n = refl
+
+other-numbers : (k : TokKind) (n : ℕ) → (k ≡ kind.Text → ⊥) → (k ≡ kind.Identifier → ⊥) → form_numbers (form_of k n) ≡ number_if (is_shown k) n
+unfolding form_numbers
+other-numbers kind.Text n text word = absurd (text refl)
+other-numbers kind.Identifier n text word = absurd (word refl)
+other-numbers (kind.Code c) n text word = code-numbers c n
+other-numbers _ n text word = refl
+
+other-fine : (k : TokKind) (n : ℕ) → fine_form (form_of k n) ≡ true
+unfolding fine_form
+other-fine (kind.Code c) n = code-fine c n
+other-fine _ n = refl
+
+-- what is open
+level_of : Frame → Level
+level_of (CText scraps) = InCode
+level_of (Comment n items) = InComment
+
+levels_of : List Frame → List Level
+levels_of [] = []
+levels_of (frame ∷ frames) = level_of frame ∷ levels_of frames
+
+item_numbers : List CommentItem → List ℕ
+item_numbers [] = []
+item_numbers (Piece n ∷ items) = n ∷ item_numbers items
+item_numbers (InnerText tree ∷ items) = struck tree ++ item_numbers items
+
+own_numbers : Frame → List ℕ
+own_numbers (CText scraps) = numbers_of scraps
+own_numbers (Comment n items) = n ∷ item_numbers items
+
+numbers_in : List Frame → List ℕ
+numbers_in [] = []
+numbers_in (frame ∷ frames) = numbers_in frames ++ own_numbers frame
+
+fine_frame : Frame → Bool
+fine_frame (CText scraps) = list_all is_fine scraps
+fine_frame (Comment n items) = true
+
+continues-comment : (items : List CommentItem) → continues_name (comment_rest items) ≡ false
+continues-comment [] = refl
+continues-comment (Piece n ∷ items) = refl
+continues-comment (InnerText tree ∷ items) = refl
+
+struck-rest : (items : List CommentItem) → struck (comment_rest items) ≡ item_numbers items
+unfolding item_numbers
+struck-rest [] = refl
+struck-rest (Piece n ∷ items) = ap (λ ns. n ∷ ns) (struck-rest items)
+struck-rest (InnerText tree ∷ items) =
+    ap (λ (b : Bool). elim b [ true ↦ struck (comment_rest items) | false ↦ struck tree ++ struck (comment_rest items) ]) (continues-comment items)
+    ∙ ap (λ ns. struck tree ++ ns) (struck-rest items)
+
+items-append : (items more : List CommentItem) → item_numbers (items ++ more) ≡ item_numbers items ++ item_numbers more
+unfolding item_numbers
+items-append [] more = refl
+items-append (Piece n ∷ items) more = ap (λ ns. n ∷ ns) (items-append items more)
+items-append (InnerText tree ∷ items) more = ap (λ ns. struck tree ++ ns) (items-append items more) ∙ sym (append_assoc (struck tree) (item_numbers items) (item_numbers more))
+
+-- One answer.
+record Shows (before after : List Frame) (levels : List Level) (numbers : List ℕ) : Type 0 where
+  pub level : levels_of after ≡ levels
+  pub fine : list_all fine_frame after ≡ true
+  pub numbers_are : numbers_in after ≡ numbers_in before ++ numbers
+
+some-level : (a b : List Level) → ◌≡◌ {A = Option (List Level)} (Some a) (Some b) → a ≡ b
+some-level a b e = cc
+
+shows-form : (o : Option LeafForm) (scraps : List Scrap) (frames : List Frame) → list_all fine_frame (CText scraps ∷ frames) ≡ true → fine_form o ≡ true → Shows (CText scraps ∷ frames) (with_form o (CText scraps ∷ frames)) (InCode ∷ levels_of frames) (form_numbers o)
+unfolding form_numbers fine_form level_of levels_of own_numbers numbers_in fine_frame
+shows-form None scraps frames fine f = record { level = refl; fine = fine; numbers_are = sym (append-none (numbers_in (CText scraps ∷ frames))) }
+shows-form (Some form) scraps frames fine f = record {
+  level = refl;
+  fine = and-both (list_all is_fine (scraps ++ leaf_scrap form ∷ [])) (list_all fine_frame frames) (all-append is_fine scraps (leaf_scrap form ∷ []) (and-left (list_all is_fine scraps) (list_all fine_frame frames) fine) (and-both (is_fine (leaf_scrap form)) true f refl)) (and-right (list_all is_fine scraps) (list_all fine_frame frames) fine);
+  numbers_are = ap (λ ns. numbers_in frames ++ ns) (numbers-append scraps (leaf_scrap form ∷ []) ∙ ap (λ ns. numbers_of scraps ++ ns) (append-none (struck (tree_in [] form.tokens)))) ∙ sym (append_assoc (numbers_in frames) (numbers_of scraps) (struck (tree_in [] form.tokens)));
+}
