@@ -2,6 +2,7 @@
 #![tactic(auto)]
 
 mod join;
+mod laws;
 mod part;
 mod print;
 mod produce;
@@ -11,6 +12,7 @@ mod trim;
 mod walk;
 mod whole;
 
+pub use laws::translation_laws;
 pub use part::c_part_bytes;
 pub use scan::{has_scraps, is_plain_c_part};
 pub use walk::{Reduced, reduce};
