@@ -1,12 +1,12 @@
 -- Each visible token stands in the tree of a translation once and in order.
-use Rattle.std.proofs.Common.{◌≡◌, ℕ, Bool, true, false, ◌&&◌, Option, Some, None, List, [], ◌∷◌, ◌++◌, refl, sym, ◌∙◌, ap}
+use Rattle.std.proofs.Common.{◌≡◌, ℕ, Bool, true, false, Option, Some, None, List, [], ◌∷◌, ◌++◌, refl, sym, ◌∙◌, ap}
 use Rattle.std.proofs.lemmas.List.{append_assoc}
 use Rattle.std.specs.List.{list_all}
 use Rattle.cw_base.specs.declared.category.Cat.{Cat}
 use Rattle.cw_base.specs.declared.category.Cat.TheVariants.{Exp}
 use Rattle.cw_base.specs.declared.flags.Flags.{Flags}
 use Rattle.cw_base.specs.declared.mode.MathMode.{MathMode}
-use Rattle.cw_base.specs.declared.mode.MathMode.TheVariants.{Text, Math, Maybe}
+use Rattle.cw_base.specs.declared.mode.MathMode.TheVariants.{Math}
 use Rattle.cw_lex.specs.Answers.{Answer, Token, Begin, Finish, Note, Seen}
 use Rattle.cw_lex.specs.declared.codes.Code.{Code}
 use Rattle.cw_lex.specs.declared.codes.Code.TheVariants as code
@@ -14,8 +14,7 @@ use Rattle.cw_lex.specs.declared.tokens.TokKind.{TokKind}
 use Rattle.cw_lex.specs.declared.tokens.TokKind.TheVariants as kind
 use Rattle.cw_names.specs.declared.NameId.{NameId}
 use Rattle.cw_names.specs.Names.{Entry}
-use Rattle.cw_trees.specs.declared.Control.TheVariants as control
-use Rattle.cw_trees.specs.Tree.{Tree, Empty, Then, Sub, Inner, Sign}
+use Rattle.cw_trees.specs.Tree.{Tree, Sub}
 use Rattle.cw_trees.specs.Flat.{continues_name, struck}
 use Rattle.cw_trees.specs.Joining.{Scrap, dollar_before, in_text, blank_and_whole, whole}
 use Rattle.cw_table.specs.Normal.{is_fine, normal}
@@ -25,8 +24,8 @@ use Rattle.cw_table.proofs.Examples.{productions-sound}
 use Rattle.cw_table.proofs.NumberLaws.{numbers-append, normal-numbers}
 use Rattle.cw_table.proofs.ScrapFacts.{all-append, and-left, and-right, and-both}
 use Rattle.cw_tokens.specs.Shapes.{tree_in}
-use Rattle.cw_scraps.specs.Leaves.{LeafForm, form_of, code_form, word_form, token_form, names_with}
-use Rattle.cw_reduce.specs.Translating.{leaf_scrap, CommentItem, Piece, InnerText, comment_rest, comment_tree, comment_scrap, Frame, CText, Comment, with_scrap, with_item, with_form, Progress, state_in, put_together, reduced, with_frames, after_token, after_begin, after_finish, after_answer, after_answers, last_scraps, begun, ended, all_ended, translation}
+use Rattle.cw_scraps.specs.Leaves.{LeafForm, code_form, word_form, token_form}
+use Rattle.cw_reduce.specs.Translating.{leaf_scrap, CommentItem, Piece, InnerText, comment_rest, comment_tree, comment_scrap, Frame, CText, Comment, with_form, Progress, state_in, put_together, after_token, after_begin, after_finish, after_answer, after_answers, last_scraps, begun, translation}
 use Rattle.cw_reduce.specs.Visible.{is_shown, is_shown_code, is_comment, number_if, visible_of, visible, Level, InCode, InComment, after_token as level_token, after_begin as level_begin, after_finish as level_finish, levels_after, all_levels_after, IsNested}
 
 append-none : (ns : List ℕ) → ns ++ [] ≡ ns

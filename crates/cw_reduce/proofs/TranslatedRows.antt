@@ -1,5 +1,5 @@
 -- Worked rows of translation: the counts, the visible tokens and the bytes of some C texts.
-use Rattle.std.proofs.Common.{◌≡◌, ℕ, false, Bool, true, List, [], ◌∷◌, ◌++◌, map, codes, get_or, length, eqb, refl}
+use Rattle.std.proofs.Common.{◌≡◌, ℕ, false, true, List, [], ◌∷◌, map, codes, get_or, length, eqb, refl}
 use Rattle.cw_base.specs.Flags.{start_flags}
 use Rattle.cw_lex.specs.declared.tokens.Mode.TheVariants.{CPart, Inner as InnerMode}
 use Rattle.cw_lex.specs.Answers.{Answer}

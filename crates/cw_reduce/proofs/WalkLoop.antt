@@ -1,10 +1,9 @@
 -- The loop of the reducer, over a line in its store.
 use Rattle.std.proofs.Common.{◌≡◌, ℕ, ◌+◌, ◌-◌, ◌*◌, ◌^◌, ◌<◌, ◌≤◌, true, None, List, length, drop, refl, sym, ◌∙◌, ap, arith}
-use Rattle.std.specs.List.{list_all}
 use Rattle.cw_base.specs.declared.flags.Flags.{Flags}
 use Rattle.cw_names.specs.Names.{Entry}
 use Rattle.cw_table.specs.Fitting.{row_fits, first_of}
-use Rattle.cw_table.specs.Normal.{count, normal, weight, is_fine}
+use Rattle.cw_table.specs.Normal.{weight}
 use Rattle.cw_table.specs.NormalWalk.{walk_left}
 use Rattle.cw_table.specs.Productions.{productions}
 use Rattle.cw_table.specs.Reaching.{IsAfter}

@@ -1,5 +1,5 @@
 -- The walk of the reducer.
-use Rattle.std.proofs.Common.{◌≡◌, ℕ, zero, suc, ◌+◌, ◌-◌, ◌*◌, ◌<◌, ◌≤◌, Bool, true, false, Option, Some, None, List, [], ◌∷◌, length, map, drop, set, get_or, unwrap_or, IfSome, MatchOption, refl, sym, ◌∙◌, ap, arith}
+use Rattle.std.proofs.Common.{◌≡◌, ℕ, zero, suc, ◌+◌, ◌-◌, ◌<◌, ◌≤◌, true, Option, Some, None, List, [], ◌∷◌, length, drop, get_or, unwrap_or, IfSome, MatchOption, refl, sym, ◌∙◌, ap, arith}
 use Rattle.std.specs.List.{list_all}
 use Rattle.std.specs.Option.{option_map}
 use Rattle.std.proofs.lemmas.List.{get_or-drop}
@@ -8,38 +8,30 @@ use Rattle.cw_base.specs.declared.category.Cat.{Cat}
 use Rattle.cw_base.specs.declared.category.Cat.TheVariants.{End, RawInt}
 use Rattle.cw_base.specs.declared.flags.Flags.{Flags}
 use Rattle.cw_names.specs.Names.{Entry, with_category}
-use Rattle.cw_names.specs.declared.entry.EntryKind.{EntryKind}
 use Rattle.cw_trees.specs.Tree.{Search, Found, Stopped, Nothing}
 use Rattle.cw_table.specs.declared.types.Row.{Row}
 use Rattle.cw_table.specs.declared.types.RowNo.{RowNo}
 use Rattle.cw_table.specs.Fitting.{row_fits, first_of, window_of}
-use Rattle.cw_table.specs.Normal.{At, Nowhere, next_place, normal, count, steps, weight, is_fine}
+use Rattle.cw_table.specs.Normal.{Nowhere, next_place, normal, count, steps, is_fine}
 use Rattle.cw_table.specs.NormalWalk.{walk_left}
 use Rattle.cw_table.specs.Productions.{productions}
 use Rattle.cw_table.specs.Reaching.{IsAfter}
 use Rattle.cw_table.specs.Rewriting.{State, cats_of, rewrite}
 use Rattle.cw_table.specs.Rows.{row_numbered}
 use Rattle.cw_table.specs.Safe.{least}
-use Rattle.cw_table.specs.Sound.{row_is_sound}
-use Rattle.cw_table.specs.WalkCounts.{right_of_new, where_reserving, ticks_from, ticks, reservings}
-use Rattle.cw_table.proofs.CountLaws.{ticks-end, ticks-past, ticks-taken, ticks-most, none-below-next}
+use Rattle.cw_table.specs.WalkCounts.{right_of_new, ticks_from, ticks}
+use Rattle.cw_table.proofs.CountLaws.{ticks-end, ticks-past, ticks-taken, none-below-next}
 use Rattle.cw_table.proofs.Examples.{productions-sound, productions-numbered}
 use Rattle.cw_table.proofs.FirstLaws.{first-window}
-use Rattle.cw_table.proofs.Normals.{normal-none, normal-step, count-none, count-step, count-weight, count-most}
+use Rattle.cw_table.proofs.Normals.{normal-none, normal-step, count-none, count-step}
 use Rattle.cw_table.proofs.Numbers.{first-numbered}
-use Rattle.cw_table.proofs.ScrapFacts.{cats-length, cats-drop}
+use Rattle.cw_table.proofs.ScrapFacts.{cats-length}
 use Rattle.cw_table.proofs.StepLaws.{steps-next, is-after}
 use Rattle.cw_table.proofs.WalkLaws.{NoneBelow, Turns, turning, next-nowhere}
-use Rattle.cw_tokens.specs.declared.token.Token.{Token}
-use Rattle.cw_tokens.specs.Stored.{StoredLists}
 use Rattle.cw_scraps.specs.declared.line.LineEntry.{LineEntry}
-use Rattle.cw_scraps.specs.Applying.{state_of, row_of, no_row, looked_at, retyped}
-use Rattle.cw_scraps.specs.Changing.{Keeps}
+use Rattle.cw_scraps.specs.Applying.{row_of, no_row, retyped}
 use Rattle.cw_scraps.specs.Inserting.{entry_cats}
-use Rattle.cw_scraps.specs.Lines.{IsSoundLine, scraps_of, roots_of, no_entry}
-use Rattle.cw_scraps.specs.Marking.{MarkList}
-use Rattle.cw_scraps.proofs.Productions.{cats-same}
-use Rattle.cw_scraps.proofs.Reservings.{length-scraps}
+use Rattle.cw_scraps.specs.Lines.{no_entry}
 use Rattle.cw_reduce.specs.Reduction.{IsFirst, words_of}
 use Rattle.cw_reduce.proofs.Going.{window-four}
 

@@ -1,7 +1,7 @@
 -- The tokens of a text that its translation shows: all that make a scrap or stand in a comment, but for the codes
 -- that only lay out and the end of a `#` line.
 use Rattle.std.specs.Prelude.{◌≡◌, ℕ, Bool, true, false, Option, Some, None, List, [], ◌∷◌, ◌++◌}
-use Rattle.cw_lex.specs.Answers.{Answer, Token, Begin, Finish, Note, Seen}
+use Rattle.cw_lex.specs.Answers.{Answer, Token, Begin, Finish, Note}
 use Rattle.cw_lex.specs.declared.codes.Code.{Code}
 use Rattle.cw_lex.specs.declared.codes.Code.TheVariants as code
 use Rattle.cw_lex.specs.declared.tokens.TokKind.{TokKind}

@@ -13,9 +13,9 @@ use Rattle.cw_trees.specs.Flat.{leaf_numbers, is_name_text, continues_name, stru
 use Rattle.cw_table.specs.declared.types.Piece.{Piece}
 use Rattle.cw_table.specs.declared.types.Piece.TheVariants as piece
 use Rattle.cw_table.specs.declared.types.Row.{Row}
-use Rattle.cw_table.specs.Rows.{translation, result_at}
+use Rattle.cw_table.specs.Rows.{result_at}
 use Rattle.cw_table.specs.Sound.{scraps_in, numbers_from, is_exp, row_is_sound, IsSound}
-use Rattle.cw_table.specs.Rewriting.{cats_of, takes_other, row_pieces, as_piece, math_piece, joined_of, alone, with_cat, new_from, new_scrap, search_in, reserved_in, reserved_at, is_name, named_scrap, named_right, rewrite_from, State, rewrite}
+use Rattle.cw_table.specs.Rewriting.{cats_of, row_pieces, math_piece, joined_of, alone, with_cat, new_from, new_scrap, search_in, reserved_in, reserved_at, is_name, named_scrap, named_right, rewrite_from, State, rewrite}
 use Rattle.cw_table.specs.Normal.{Place, Nowhere, At, next_place, weight, is_fine, steps, normal}
 use Rattle.cw_table.specs.SourceNumbers.{numbers_of}
 use Rattle.cw_table.proofs.Falling.{pieces-whole, alone-is}

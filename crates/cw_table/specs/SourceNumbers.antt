@@ -5,8 +5,8 @@ use Rattle.cw_base.specs.declared.flags.Flags.{Flags}
 use Rattle.cw_trees.specs.Flat.{struck}
 use Rattle.cw_trees.specs.Joining.{Scrap}
 use Rattle.cw_table.specs.declared.types.Row.{Row}
-use Rattle.cw_table.specs.Rewriting.{State, rewrite}
-use Rattle.cw_table.specs.Normal.{At, next_place, is_fine, steps, normal}
+use Rattle.cw_table.specs.Rewriting.{State}
+use Rattle.cw_table.specs.Normal.{is_fine, steps, normal}
 use Rattle.cw_table.specs.Sound.{row_is_sound}
 
 -- those of all trees, without those inside section names

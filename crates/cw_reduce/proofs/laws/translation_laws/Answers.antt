@@ -2,4 +2,4 @@ use Rattle.cw_reduce.proofs.ShownTokens.{shows-each}
 use Rattle.cw_reduce.proofs.laws.translation_laws.Goals as goal
 
 pub returns : goal.returns
-returns c = shows-each
+returns c = record { shown = shows-each }

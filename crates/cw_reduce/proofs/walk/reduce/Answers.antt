@@ -1,8 +1,8 @@
-use Rattle.std.proofs.Common.{arith, ◌^◌, Fits-le, Fits-lit, ap, ◌∙◌}
+use Rattle.std.proofs.Common.{arith}
 use Rattle.cw_scraps.proofs.Applied.{keeps-trans}
 use Rattle.cw_scraps.specs.Applying.{state_of}
 use Rattle.cw_scraps.specs.Lines.{roots_of}
-use Rattle.cw_reduce.proofs.WalkLoop.{Turn, turn, Stops, stops, passes, ends, light, few, loop-starts}
+use Rattle.cw_reduce.proofs.WalkLoop.{Turn, turn, Stops, stops, passes, ends, light, few}
 use Rattle.cw_reduce.proofs.walk.reduce.Goals as goal
 
 pub produce-requires-clause-fits : goal.produce-requires-clause-fits

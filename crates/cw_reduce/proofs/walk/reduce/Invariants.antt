@@ -1,4 +1,3 @@
-use Rattle.std.proofs.Common.{◌*◌}
 use Rattle.cw_table.specs.NormalWalk.{walk_left}
 use Rattle.cw_scraps.specs.Applying.{state_of}
 use Rattle.cw_reduce.proofs.WalkLoop.{InLoop}
