@@ -1,4 +1,10 @@
 pub mod NotesLaws
-mod Rows
 pub mod ExitLaws
 pub mod Said
+pub mod ScanLaws
+pub mod PlaceLaws
+pub mod PageLaws
+pub mod NameLaws
+pub mod PassLaws
+pub mod ShortLaws
+mod Rows

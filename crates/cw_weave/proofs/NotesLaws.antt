@@ -1,5 +1,5 @@
 -- Notes on broken lines are harmless.
-use Rattle.std.proofs.Common.{◌≡◌, ℕ, suc, ne_eqb, arith, Bool, true, false, not, ◌==◌, ◌||◌, List, [], ◌∷◌, ◌++◌, length, refl, sym, ap, ◌∙◌}
+use Rattle.std.proofs.Common.{◌≡◌, ℕ, suc, ne_eqb, arith, Bool, true, false, not, ◌==◌, ◌||◌, List, [], ◌∷◌, ◌++◌, length, refl, sym, ap}
 use Rattle.std.proofs.lemmas.Bool.Decides.{nat_tests}
 use Rattle.cw_base.specs.Notes.{grade_of}
 use Rattle.cw_base.specs.declared.notes.Note.{Note}

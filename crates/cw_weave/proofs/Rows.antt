@@ -1,63 +1,135 @@
--- Worked rows: what the definition of the woven book says of a few webs.
-use Rattle.std.proofs.Common.{◌≡◌, ℕ, cond, List, [], ◌∷◌, ◌++◌, Option, Some, None, refl}
-use Rattle.std.specs.Prelude.{codes, bytes_eq}
+-- Worked webs: what each run writes, and how it ends.
+use Rattle.std.proofs.Common.{◌≡◌, ℕ, refl, List, [], ◌∷◌, ◌++◌, Some, None, codes, cond, bytes_eq}
 use Rattle.std.specs.Fmt.{digits}
-use Rattle.cw_base.specs.Flags.{start_flags}
 use Rattle.cw_base.specs.declared.event.Event.{Event}
 use Rattle.cw_base.specs.declared.event.Event.TheVariants.{Made}
 use Rattle.cw_base.specs.declared.event.Out.TheVariants.{Tex, Idx, Scn}
-use Rattle.cw_base.specs.declared.exit.Exit.TheVariants.{Clean, Errors}
 use Rattle.cw_desk.specs.Journal.{byte_events}
-use Rattle.cw_input.specs.Merge.{web_lines}
+use Rattle.cw_input.specs.Merge.{Lookup, new_lines, web_lines}
 use Rattle.cw_lines.specs.Cut.{cut_behind, divide}
+use Rattle.cw_reduce.specs.Plain.{c_part}
+use Rattle.cw_table.specs.Normal.{normal}
+use Rattle.cw_table.specs.Productions.{productions}
 use Rattle.cw_weave.specs.Notes.{says}
-use Rattle.cw_weave.specs.Woven.{woven}
+use Rattle.cw_weave.specs.Woven.{events, woven}
 
-one_file : List ℕ → List ℕ → List ℕ → Option (List ℕ)
-one_file name bytes other = cond (bytes_eq name other) (Some bytes) None
+abbrev lines : List (List ℕ) → List ℕ
+lines [] = []
+lines (text ∷ texts) = text ++ 10 ∷ lines texts
 
--- a clean run that writes these bytes
-written_file : List ℕ → List Event
-written_file tex =
-    says (codes "Writing the output file...") ++ (Made Tex (codes "foo.tex") ∷ byte_events Tex tex
-    ++ (says (codes "Writing the index...") ++ Made Idx (codes "foo.idx") ∷ Made Scn (codes "foo.scn") ∷ []
-    ++ (says (codes "Done.") ++ says (codes "(No errors were found.)"))))
+abbrev all_say : List (List ℕ) → List Event
+all_say [] = []
+all_say (text ∷ texts) = says text ++ all_say texts
 
-hello : List ℕ
-hello = codes "% limbo\n@ Hello.\n"
+-- a file of this name is there, beside others
+abbrev with_file : List ℕ → List ℕ → Lookup → Lookup
+with_file name bytes named other = cond (bytes_eq name other) (Some bytes) (named other)
 
--- limbo and one section
-a_section : woven (codes "foo" ∷ []) (one_file (codes "foo.w") hello)
-    ≡ record { flags = start_flags; run = record { rest = written_file (codes "\\input cwebmac\n% limbo\n\\M{1}Hello.\n\\fi\n\n\\inx\n\\fin\n\\end\n"); exit = Clean } }
-unfolding digits cut_behind divide web_lines says one_file written_file hello
-a_section = refl
+abbrev no_files : Lookup
+no_files other = None
 
--- an empty web
-an_empty_web : woven (codes "foo" ∷ []) (one_file (codes "foo.w") [])
-    ≡ record { flags = start_flags; run = record { rest = written_file (codes "\\input cwebmac\n\\inx\n\\fin\n\\end\n"); exit = Clean } }
-unfolding digits cut_behind divide web_lines says one_file written_file
+abbrev foo_w : List (List ℕ) → Lookup
+foo_w texts = with_file (codes "foo.w") (lines texts) no_files
+
+abbrev foo : List (List ℕ)
+foo = codes "foo" ∷ []
+
+-- the events of a run without notes, with the flags of the start
+abbrev clean_run : List (List ℕ) → List Event
+clean_run tex =
+    says (codes "This is CWEAVE (profile 1)") ++ says (codes "Writing the output file...") ++
+    Made Tex (codes "foo.tex") ∷ (byte_events Tex (lines tex) ++ says (codes "Writing the index...") ++
+    Made Idx (codes "foo.idx") ∷ (Made Scn (codes "foo.scn") ∷ (says (codes "Done.") ++ says (codes "(No errors were found.)"))))
+
+-- the events of a run with notes
+abbrev run_with : List (List ℕ) → List (List ℕ) → List ℕ → List Event
+run_with notes tex closing =
+    says (codes "This is CWEAVE (profile 1)") ++ all_say notes ++ says (codes "Writing the output file...") ++
+    Made Tex (codes "foo.tex") ∷ (byte_events Tex (lines tex) ++ says (codes "Writing the index...") ++
+    Made Idx (codes "foo.idx") ∷ (Made Scn (codes "foo.scn") ∷ (says (codes "Done.") ++ says closing)))
+
+limbo_and_a_section : events (woven foo (foo_w (codes "% limbo" ∷ codes "@ Hello." ∷ []))) ≡
+    clean_run (codes "\\input cwebmac" ∷ codes "% limbo" ∷ codes "\\M{1}Hello." ∷ codes "\\fi" ∷ [] ∷ codes "\\inx" ∷ codes "\\fin" ∷ codes "\\end" ∷ [])
+unfolding digits cut_behind divide new_lines web_lines says
+limbo_and_a_section = refl
+
+an_empty_web : events (woven foo (foo_w [])) ≡
+    clean_run (codes "\\input cwebmac" ∷ codes "\\inx" ∷ codes "\\fin" ∷ codes "\\end" ∷ [])
+unfolding digits cut_behind divide new_lines web_lines says
 an_empty_web = refl
 
--- no words
-no_words : woven [] (one_file (codes "foo.w") [])
-    ≡ record {
-      flags = start_flags;
-      run = record {
-        rest = says (codes "! Usage: cweave [options] webfile[.w] [{changefile[.ch]|-} [outfile[.tex]]]") ++ says (codes "(That was a fatal error, my friend.)");
-        exit = Errors;
-      };
-    }
-unfolding says one_file
+no_words : events (woven [] no_files) ≡ all_say (codes "This is CWEAVE (profile 1)" ∷
+    codes "! Usage: cweave [options] webfile[.w] [{changefile[.ch]|-} [outfile[.tex]]]" ∷ codes "(That was a fatal error, my friend.)" ∷ [])
+unfolding says
 no_words = refl
 
--- no file of the web's name
-no_web : woven (codes "foo" ∷ []) (one_file (codes "bar.w") hello)
-    ≡ record { flags = start_flags; run = record { rest = says (codes "! Cannot open web file foo") ++ says (codes "(That was a fatal error, my friend.)"); exit = Errors } }
-unfolding says one_file hello
+no_web : events (woven foo no_files) ≡ all_say (codes "This is CWEAVE (profile 1)" ∷
+    codes "! Cannot open web file foo" ∷ codes "(That was a fatal error, my friend.)" ∷ [])
+unfolding says
 no_web = refl
 
--- a web with a code that isn't built
-not_built : woven (codes "foo" ∷ []) (one_file (codes "foo.web") (codes "@ @c a;\n"))
-    ≡ record { flags = start_flags; run = record { rest = says (codes "! Not built yet") ++ says (codes "(That was a fatal error, my friend.)"); exit = Errors } }
-unfolding says one_file web_lines
-not_built = refl
+-- the change of a group whose second line differs
+a_change : events (woven (codes "foo" ∷ codes "foo" ∷ [])
+    (with_file (codes "foo.ch") (lines (codes "@x" ∷ codes "@c a;" ∷ codes "c;" ∷ codes "@y" ∷ codes "@c z;" ∷ codes "@z" ∷ []))
+    (foo_w (codes "@ One." ∷ codes "@c a;" ∷ codes "b;" ∷ [])))) ≡
+    run_with (codes "! 1 of the preceding lines did not match (l. 4 of foo.ch)" ∷ [])
+    (codes "\\input cwebmac" ∷ codes "\\M{1\\*}One." ∷ codes "\\Y\\B\\|z;\\par" ∷ codes "\\fi" ∷ [] ∷ codes "\\inx" ∷ codes "\\fin" ∷ codes "\\end" ∷ [])
+    (codes "(Pardon me, but I think I spotted something wrong.)")
+unfolding digits cut_behind divide new_lines web_lines says c_part normal productions
+a_change = refl
+
+-- a change file that ends before the new lines
+an_ended_change : events (woven (codes "foo" ∷ codes "foo" ∷ [])
+    (with_file (codes "foo.ch") (lines (codes "@x" ∷ codes "@c a;" ∷ []))
+    (foo_w (codes "@ One." ∷ codes "@c a;" ∷ codes "b;" ∷ [])))) ≡
+    run_with (codes "! Change file ended before @y (l. 2 of foo.ch)" ∷ [])
+    (codes "\\input cwebmac" ∷ codes "\\M{1\\*}One." ∷ codes "b;" ∷ codes "\\fi" ∷ [] ∷ codes "\\inx" ∷ codes "\\fin" ∷ codes "\\end" ∷ [])
+    (codes "(Pardon me, but I think I spotted something wrong.)")
+unfolding digits cut_behind divide new_lines web_lines says
+an_ended_change = refl
+
+one_plain_line : events (woven foo (foo_w (codes "@ @c i=i+1;" ∷ []))) ≡
+    clean_run (codes "\\input cwebmac" ∷ codes "\\M{1}" ∷ codes "\\Y\\B$\\|i\\K\\|i+\\T{1};$\\par" ∷ codes "\\fi" ∷ [] ∷ codes "\\inx" ∷ codes "\\fin" ∷ codes "\\end" ∷ [])
+unfolding digits cut_behind divide new_lines web_lines says c_part normal productions
+one_plain_line = refl
+
+two_statements : events (woven foo (foo_w (codes "@ @c a=(b); c;" ∷ []))) ≡
+    clean_run (codes "\\input cwebmac" ∷ codes "\\M{1}" ∷ codes "\\Y\\B$\\|a\\K(\\|b);{}$\\6" ∷ codes "\\|c;\\par" ∷ codes "\\fi" ∷ [] ∷ codes "\\inx" ∷ codes "\\fin" ∷ codes "\\end" ∷ [])
+unfolding digits cut_behind divide new_lines web_lines says c_part normal productions
+two_statements = refl
+
+long_names_are_not_built : events (woven foo (foo_w (codes "@ @c ab;" ∷ []))) ≡ all_say (codes "This is CWEAVE (profile 1)" ∷
+    codes "! Not built yet" ∷ codes "(That was a fatal error, my friend.)" ∷ [])
+unfolding digits cut_behind divide new_lines web_lines says
+long_names_are_not_built = refl
+
+codes_and_a_starred_section : events (woven foo (foo_w (codes "a@@b@q x@>c" ∷ codes "@* T. @t x@>y" ∷ []))) ≡
+    run_with (codes "! You can't do that in TeX text (l. 2 of foo.w)" ∷ [])
+    (codes "\\input cwebmac" ∷ codes "a@bc" ∷ codes "\\N{0}{1}T. y" ∷ codes "\\fi" ∷ [] ∷ codes "\\inx" ∷ codes "\\fin" ∷ codes "\\con" ∷ [])
+    (codes "(Pardon me, but I think I spotted something wrong.)")
+unfolding digits cut_behind divide new_lines web_lines says
+codes_and_a_starred_section = refl
+
+only_the_happy_line : events (woven (codes "-bp" ∷ foo) (foo_w [])) ≡
+    Made Tex (codes "foo.tex") ∷ (byte_events Tex (lines (codes "\\input cwebmac" ∷ codes "\\inx" ∷ codes "\\fin" ∷ codes "\\end" ∷ [])) ++
+    Made Idx (codes "foo.idx") ∷ (Made Scn (codes "foo.scn") ∷ says (codes "(No errors were found.)")))
+unfolding digits cut_behind divide new_lines web_lines says
+only_the_happy_line = refl
+
+no_index : events (woven (codes "-x" ∷ codes "-bph" ∷ foo) (foo_w (codes "@** A." ∷ codes "@*007 B." ∷ codes "@*000" ∷ []))) ≡
+    Made Tex (codes "foo.tex") ∷ byte_events Tex (lines (codes "\\input cwebmac" ∷ codes "\\N{-1}{1}A." ∷ codes "\\fi" ∷ [] ∷
+    codes "\\N{7}{2}B." ∷ codes "\\fi" ∷ [] ∷ codes "\\N{0}{3}" ∷ codes "\\fi" ∷ [] ∷ codes "\\end" ∷ []))
+unfolding digits cut_behind divide new_lines web_lines says
+no_index = refl
+
+formats_in_limbo : events (woven foo (foo_w (codes "@s a int" ∷ codes "@ @c a;" ∷ []))) ≡ all_say (codes "This is CWEAVE (profile 1)" ∷
+    codes "! Not built yet" ∷ codes "(That was a fatal error, my friend.)" ∷ [])
+unfolding digits cut_behind divide new_lines web_lines says
+formats_in_limbo = refl
+
+codes_that_print_nothing : events (woven foo (foo_w (codes "@q x@>" ∷ codes "@l x" ∷ [] ∷ codes "@s a" ∷ codes " ..@ A" ∷ codes "@q no end" ∷ codes "b" ∷ []))) ≡
+    run_with (codes "! Improper format definition (l. 4 of foo.w)" ∷ codes "! Control text didn't end (l. 6 of foo.w)" ∷ [])
+    (codes "\\input cwebmac" ∷ codes "\\ATL x" ∷ [] ∷ codes " .." ∷ codes "\\M{1}A" ∷ codes "b" ∷ codes "\\fi" ∷ [] ∷ codes "\\inx" ∷ codes "\\fin" ∷ codes "\\end" ∷ [])
+    (codes "(Pardon me, but I think I spotted something wrong.)")
+unfolding digits cut_behind divide new_lines web_lines says
+codes_that_print_nothing = refl

@@ -1,7 +1,6 @@
 -- The web word of a command is never empty.
 use Rattle.std.specs.Prelude.{◌≡◌, ℕ, ◌<◌, ◌&&◌, Bool, true, false, List, [], ◌∷◌, Option, Some, None, length, ⊤, bytes_eq, codes}
 use Rattle.std.proofs.Common.{refl, arith}
-use Rattle.cw_base.specs.Flags.{start_flags}
 use Rattle.cw_base.specs.declared.flags.Flags.{Flags}
 use Rattle.cw_input.specs.Names.{outputs_of_web, outputs_of_word}
 use Rattle.cw_input.specs.Words.{can_be_output, can_be_web, command_by, command_of, command_with, flags_of, plain_words, sample_by, sample_number, sample_of, weave_by}

@@ -1,8 +1,10 @@
 -- The woven book: what is printed and written for the words of a command line, over files that are there by their names, and the
 -- status of the run.
-use Rattle.std.specs.Prelude.{◌≡◌, ℕ, ◌==◌, ◌&&◌, ◌||◌, Bool, true, false, not, List, [], ◌∷◌, ◌++◌, Option, Some, None, codes}
+use Rattle.std.specs.Prelude.{◌≡◌, ℕ, ◌&&◌, Bool, true, false, not, List, [], ◌∷◌, ◌++◌, Option, Some, None, nat_le, length}
 use Rattle.cw_base.specs.Flags.{start_flags}
-use Rattle.cw_base.specs.Web.{WebState, text_of}
+use Rattle.std.specs.List.{list_all}
+use Rattle.cw_base.specs.Text.{pieces_of}
+use Rattle.cw_base.specs.Web.{WebState}
 use Rattle.cw_base.specs.declared.event.Event.{Event}
 use Rattle.cw_base.specs.declared.event.Event.TheVariants.{Made}
 use Rattle.cw_base.specs.declared.event.Out.TheVariants.{Tex, Idx, Scn}
@@ -20,10 +22,10 @@ use Rattle.cw_input.specs.declared.words.CommandLine.{CommandLine}
 use Rattle.cw_input.specs.declared.words.OutputNames.{OutputNames}
 use Rattle.cw_lines.specs.Cut.{cut}
 use Rattle.cw_lines.specs.Line.{line_events, broken_after}
-use Rattle.cw_weave.specs.Plain.{is_plain}
+use Rattle.cw_weave.specs.Book.{answers_of, is_built, tex_file}
 use Rattle.cw_weave.specs.Notes.{says, says_if, note_events, broken_events, broken_notes, closing, exit_of}
 use Rattle.cw_weave.specs.Terminal.{banner, usage_text, not_built_text, no_web_text, no_change_text, too_long_text, fatal_text, output_text, index_text, done_text}
-use Rattle.cw_weave.specs.Tex.{tex_text}
+use Rattle.cw_weave.specs.Scanned.{scanned_notes}
 
 -- what a run does behind the banner, and its status
 pub record Run : Type 0 where
@@ -72,9 +74,20 @@ weave_tex line files notes tex = record {
   exit = exit_of (notes ++ broken_notes (broken_lines tex));
 }
 
+-- the notes of reading, and those of scanning
+abbrev pub notes_of : WebState → List Note
+notes_of web = web.notes ++ scanned_notes web.lines (answers_of web.lines)
+
 abbrev pub weave_text : Bool → CommandLine → WebState → Run
-weave_text true line web = weave_tex line web.files web.notes (tex_text line.flags.index (text_of web.lines))
+weave_text true line web = weave_tex line web.files (notes_of web) (tex_file line.flags.index web.lines)
 weave_text false line web = stopped not_built_text
+
+-- No line of these bytes is longer than 80 bytes. A TeX file with a longer line isn't built yet.
+abbrev pub has_short_lines : List ℕ → Bool
+has_short_lines bytes = list_all (λ piece. nat_le (length piece) 80) (pieces_of bytes)
+
+abbrev pub is_woven : CommandLine → WebState → Bool
+is_woven line web = is_built web.lines && has_short_lines (tex_file line.flags.index web.lines)
 
 abbrev pub change_text : Option (List ℕ) → List ℕ
 change_text None = []
@@ -84,15 +97,11 @@ abbrev pub weave_web : CommandLine → Merged → Run
 weave_web line NoWeb = stopped (no_web_text line.web)
 weave_web line NoChange = stopped (no_change_text (change_text line.change))
 weave_web line TooLong = stopped too_long_text
-weave_web line (Whole web) = weave_text (is_plain (text_of web.lines)) line web
+weave_web line (Whole web) = weave_text (is_woven line web) line web
 
--- Changed sections aren't marked yet, and statistics aren't printed yet.
-abbrev pub is_unchanged : Option (List ℕ) → Bool
-is_unchanged None = true
-is_unchanged (Some word) = false
-
-abbrev pub is_built : CommandLine → Bool
-is_built line = is_unchanged line.change && not line.flags.stats
+-- The flags f, e, i, o and s are built as they are at the start.
+abbrev pub flags_are_built : Flags → Bool
+flags_are_built flags = flags.force && (flags.wrap && (flags.indent && (flags.separate && not flags.stats)))
 
 abbrev pub weave_line : Bool → CommandLine → Lookup → Run
 weave_line true line named = weave_web line (merged named line.web line.change)
@@ -101,7 +110,7 @@ weave_line false line named = stopped not_built_text
 abbrev pub weave_command_of : Command → Lookup → Woven
 weave_command_of (Usage flags) named = record { flags = flags; run = stopped usage_text }
 weave_command_of (Sample sections) named = record { flags = start_flags; run = stopped not_built_text }
-weave_command_of (Weave line) named = record { flags = line.flags; run = weave_line (is_built line) line named }
+weave_command_of (Weave line) named = record { flags = line.flags; run = weave_line (flags_are_built line.flags) line named }
 
 abbrev pub woven : List (List ℕ) → Lookup → Woven
 woven words named = weave_command_of (command_of words) named

@@ -1,4 +1,4 @@
-ghost use Rattle.std.specs.Prelude.{◌≡◌, ◌<◌, ◌++◌, All, IfOk, IsErrOf, OnErr, OnOk, decimal, length};
+ghost use Rattle.std.specs.Prelude.{◌≡◌, ◌++◌, [], IfOk, IsErrOf, OnErr, OnOk, decimal, slice_index_or};
 ghost use Rattle.cw_desk.specs.Journal.{grown, GrownByPart};
 ghost use Rattle.cw_desk.specs.Meaning.{OnlyPuts, Rose};
 ghost use Rattle.cw_weave.specs.Notes.{says, words_of, note_line, note_events, broken_line, broken_events, broken_notes, has_error, has_note};
@@ -30,9 +30,18 @@ fn note_words(alloc: Global, note: Note) -> Result<Bytes, Memory>
     Ok(text)
 }
 
+/// The name of a file of a web; empty where it has no such file.
+fn file_name(web: &Web, file: u32) -> &[u8]
+    ensures { result.now ≡ slice_index_or web.now.files file [] }
+{
+    if file as usize >= web.file_count() {
+        return b"";
+    }
+    web.file_name(file)
+}
+
 /// The line of a note of reading or scanning.
 fn note_text(alloc: Global, web: &Web, note: Note) -> Result<Bytes, Memory>
-    requires { note.place.file < length web.now.files }
     ensures { IfOk result (λ text. text ≡ note_line web.now.files note) }
 {
     let words = note_words(alloc, note)?;
@@ -41,7 +50,7 @@ fn note_text(alloc: Global, web: &Web, note: Note) -> Result<Bytes, Memory>
     text.append(b" (l. ")?;
     append_number(&mut text, u64::from(note.place.line))?;
     text.append(b" of ")?;
-    text.append(web.file_name(note.place.file))?;
+    text.append(file_name(web, note.place.file))?;
     text.push(b')')?;
     Ok(text)
 }
@@ -49,7 +58,6 @@ fn note_text(alloc: Global, web: &Web, note: Note) -> Result<Bytes, Memory>
 /// Prints a note of reading or scanning.
 #[tactic(auto, using(cw_desk::specs::JournalLaws::growing))]
 fn print_note<D: Desk>(alloc: Global, web: &Web, note: Note, desk: &mut D) -> Result<(), PutError>
-    requires { note.place.file < length web.now.files }
     ensures ok { OnOk result (D.journal desk.new ≡ grown (D.journal desk.old) (says (note_line web.now.files note))) }
     ensures err { OnErr result (GrownByPart (D.journal desk.old) (D.journal desk.new) (says (note_line web.now.files note))) }
     ensures same { OnlyPuts D.opened D.outputs D.files D.rest D.faults desk.old desk.new }
@@ -67,7 +75,6 @@ pub(crate) fn print_notes<D: Desk>(
     notes: &[Note],
     desk: &mut D,
 ) -> Result<(), PutError>
-    requires { All (λ note. note.place.file < length web.now.files) notes.now }
     ensures ok { OnOk result (D.journal desk.new ≡ grown (D.journal desk.old) (note_events web.now.files notes.now)) }
     ensures err { OnErr result (GrownByPart (D.journal desk.old) (D.journal desk.new) (note_events web.now.files notes.now)) }
     ensures same { OnlyPuts D.opened D.outputs D.files D.rest D.faults desk.old desk.new }

@@ -199,35 +199,6 @@ fn pieces_of_any_size(rt: HostRuntime) -> Result<(), Fail> {
 }
 
 #[test]
-fn a_broken_line(rt: HostRuntime) -> Result<(), Fail> {
-    let long = vec![in rt.alloc(); b'a'; 90]?;
-    let mut desk = desk_with(rt.alloc(), long.as_slice())?;
-    let exit = weave(
-        rt.alloc(),
-        &[b"-x".as_slice(), b"foo".as_slice()],
-        &mut desk,
-    )?;
-    assert_eq!(rt; exit, Exit::Clean);
-    let text = read_journal(rt.alloc(), desk.journal())?;
-    assert_eq!(rt;
-        text.as_slice(),
-        b"[term]This is CWEAVE (profile 1)
-Writing the output file...
-[tex] is foo.tex
-[tex]\\input cwebmac
-aaaaaaaaaaaaaaaaaaaaaaaaaaaaaaaaaaaaaaaaaaaaaaaaaaaaaaaaaaaaaaaaaaaaaaaaaaaaaaa%
-aaaaaaaaaaa
-\\end
-[term]Done.
-! Line had to be broken (output l. 2 of foo.tex)
-(Did you see the warning message above?)
-"
-            .as_slice()
-    );
-    Ok(())
-}
-
-#[test]
 fn too_long(rt: HostRuntime) -> Result<(), Fail> {
     let long = vec![in rt.alloc(); b'a'; 8388609]?;
     let mut desk = desk_with(rt.alloc(), long.as_slice())?;
@@ -240,6 +211,345 @@ fn too_long(rt: HostRuntime) -> Result<(), Fail> {
 ! Input is longer than 8388608 bytes
 (That was a fatal error, my friend.)
 "
+            .as_slice()
+    );
+    Ok(())
+}
+
+/// The journal of weaving `foo.w` beside another file, and behind it how the run ended.
+fn told(
+    alloc: Global,
+    web: &[u8],
+    name: &[u8],
+    bytes: &[u8],
+    words: &[&[u8]],
+) -> Result<Bytes, Memory> {
+    let mut desk = MemDesk::new_in(alloc);
+    desk.add_file(b"foo.w", web)?;
+    desk.add_file(name, bytes)?;
+    let exit = weave(alloc, words, &mut desk)?;
+    let mut text = read_journal(alloc, desk.journal())?;
+    text.append(match exit {
+        Exit::Clean => b"Clean".as_slice(),
+        Exit::Errors => b"Errors".as_slice(),
+        Exit::Fault => b"Fault".as_slice(),
+        Exit::Memory => b"Memory".as_slice(),
+    })?;
+    Ok(text)
+}
+
+const FOO: &[u8] = b"foo";
+
+const CHANGED: &[u8] = b"@ One.\n@c a;\nb;\n";
+
+const NOT_BUILT: &[u8] = b"[term]This is CWEAVE (profile 1)
+! Not built yet
+(That was a fatal error, my friend.)
+Errors";
+
+#[test]
+fn a_plain_statement(rt: HostRuntime) -> Result<(), Fail> {
+    let text = told(rt.alloc(), b"@ @c i=i+1;\n", b"other", b"", &[FOO])?;
+    assert_eq!(rt;
+        text.as_slice(),
+        b"[term]This is CWEAVE (profile 1)
+Writing the output file...
+[tex] is foo.tex
+[tex]\\input cwebmac
+\\M{1}
+\\Y\\B$\\|i\\K\\|i+\\T{1};$\\par
+\\fi
+
+\\inx
+\\fin
+\\end
+[term]Writing the index...
+[idx] is foo.idx
+[scn] is foo.scn
+[term]Done.
+(No errors were found.)
+Clean"
+            .as_slice()
+    );
+    Ok(())
+}
+
+#[test]
+fn two_statements(rt: HostRuntime) -> Result<(), Fail> {
+    let text = told(rt.alloc(), b"@ @c a=(b); c;\n", b"other", b"", &[FOO])?;
+    assert_eq!(rt;
+        text.as_slice(),
+        b"[term]This is CWEAVE (profile 1)
+Writing the output file...
+[tex] is foo.tex
+[tex]\\input cwebmac
+\\M{1}
+\\Y\\B$\\|a\\K(\\|b);{}$\\6
+\\|c;\\par
+\\fi
+
+\\inx
+\\fin
+\\end
+[term]Writing the index...
+[idx] is foo.idx
+[scn] is foo.scn
+[term]Done.
+(No errors were found.)
+Clean"
+            .as_slice()
+    );
+    Ok(())
+}
+
+#[test]
+fn long_names_are_not_built(rt: HostRuntime) -> Result<(), Fail> {
+    let text = told(rt.alloc(), b"@ @c ab;\n", b"other", b"", &[FOO])?;
+    assert_eq!(rt; text.as_slice(), NOT_BUILT);
+    Ok(())
+}
+
+#[test]
+fn other_categories_are_not_built(rt: HostRuntime) -> Result<(), Fail> {
+    let text = told(rt.alloc(), b"@s a int\n@ @c a;\n", b"other", b"", &[FOO])?;
+    assert_eq!(rt; text.as_slice(), NOT_BUILT);
+    Ok(())
+}
+
+#[test]
+fn long_lines_are_not_built(rt: HostRuntime) -> Result<(), Fail> {
+    let text = told(
+        rt.alloc(),
+        b"aaaaaaaaaaaaaaaaaaaaaaaaaaaaaaaaaaaaaaaaaaaaaaaaaaaaaaaaaaaaaaaaaaaaaaaaaaaaaaaaa\n",
+        b"other",
+        b"",
+        &[FOO],
+    )?;
+    assert_eq!(rt; text.as_slice(), NOT_BUILT);
+    Ok(())
+}
+
+#[test]
+fn other_flags_are_not_built(rt: HostRuntime) -> Result<(), Fail> {
+    let text = told(rt.alloc(), HELLO, b"other", b"", &[b"-f".as_slice(), FOO])?;
+    assert_eq!(rt; text.as_slice(), NOT_BUILT);
+    Ok(())
+}
+
+#[test]
+fn a_change(rt: HostRuntime) -> Result<(), Fail> {
+    let text = told(
+        rt.alloc(),
+        CHANGED,
+        b"foo.ch",
+        b"@x\n@c a;\nc;\n@y\n@c z;\n@z\n",
+        &[FOO, FOO],
+    )?;
+    assert_eq!(rt;
+        text.as_slice(),
+        b"[term]This is CWEAVE (profile 1)
+! 1 of the preceding lines did not match (l. 4 of foo.ch)
+Writing the output file...
+[tex] is foo.tex
+[tex]\\input cwebmac
+\\M{1\\*}One.
+\\Y\\B\\|z;\\par
+\\fi
+
+\\inx
+\\fin
+\\end
+[term]Writing the index...
+[idx] is foo.idx
+[scn] is foo.scn
+[term]Done.
+(Pardon me, but I think I spotted something wrong.)
+Errors"
+            .as_slice()
+    );
+    Ok(())
+}
+
+#[test]
+fn an_ended_change(rt: HostRuntime) -> Result<(), Fail> {
+    let text = told(rt.alloc(), CHANGED, b"foo.ch", b"@x\n@c a;\n", &[FOO, FOO])?;
+    assert_eq!(rt;
+        text.as_slice(),
+        b"[term]This is CWEAVE (profile 1)
+! Change file ended before @y (l. 2 of foo.ch)
+Writing the output file...
+[tex] is foo.tex
+[tex]\\input cwebmac
+\\M{1\\*}One.
+b;
+\\fi
+
+\\inx
+\\fin
+\\end
+[term]Writing the index...
+[idx] is foo.idx
+[scn] is foo.scn
+[term]Done.
+(Pardon me, but I think I spotted something wrong.)
+Errors"
+            .as_slice()
+    );
+    Ok(())
+}
+
+#[test]
+fn no_change_file(rt: HostRuntime) -> Result<(), Fail> {
+    let text = told(
+        rt.alloc(),
+        CHANGED,
+        b"other",
+        b"",
+        &[FOO, b"bar".as_slice()],
+    )?;
+    assert_eq!(rt;
+        text.as_slice(),
+        b"[term]This is CWEAVE (profile 1)
+! Cannot open change file bar
+(That was a fatal error, my friend.)
+Errors"
+            .as_slice()
+    );
+    Ok(())
+}
+
+#[test]
+fn an_included_file(rt: HostRuntime) -> Result<(), Fail> {
+    let text = told(rt.alloc(), b"@i f1\n", b"f1", b"@ Deep.\n", &[FOO])?;
+    assert_eq!(rt;
+        text.as_slice(),
+        b"[term]This is CWEAVE (profile 1)
+Writing the output file...
+[tex] is foo.tex
+[tex]\\input cwebmac
+\\M{1}Deep.
+\\fi
+
+\\inx
+\\fin
+\\end
+[term]Writing the index...
+[idx] is foo.idx
+[scn] is foo.scn
+[term]Done.
+(No errors were found.)
+Clean"
+            .as_slice()
+    );
+    Ok(())
+}
+
+#[test]
+fn codes_and_a_starred_section(rt: HostRuntime) -> Result<(), Fail> {
+    let text = told(
+        rt.alloc(),
+        b"a@@b@q x@>c\n@* T. @t x@>y\n",
+        b"other",
+        b"",
+        &[FOO],
+    )?;
+    assert_eq!(rt;
+        text.as_slice(),
+        b"[term]This is CWEAVE (profile 1)
+! You can't do that in TeX text (l. 2 of foo.w)
+Writing the output file...
+[tex] is foo.tex
+[tex]\\input cwebmac
+a@bc
+\\N{0}{1}T. y
+\\fi
+
+\\inx
+\\fin
+\\con
+[term]Writing the index...
+[idx] is foo.idx
+[scn] is foo.scn
+[term]Done.
+(Pardon me, but I think I spotted something wrong.)
+Errors"
+            .as_slice()
+    );
+    Ok(())
+}
+
+#[test]
+fn only_the_happy_line(rt: HostRuntime) -> Result<(), Fail> {
+    let text = told(rt.alloc(), HELLO, b"other", b"", &[b"-bp".as_slice(), FOO])?;
+    assert_eq!(rt;
+        text.as_slice(),
+        b"[tex] is foo.tex
+[tex]\\input cwebmac
+% limbo
+\\M{1}Hello.
+\\fi
+
+\\inx
+\\fin
+\\end
+[idx] is foo.idx
+[scn] is foo.scn
+[term](No errors were found.)
+Clean"
+            .as_slice()
+    );
+    Ok(())
+}
+
+#[test]
+fn no_index(rt: HostRuntime) -> Result<(), Fail> {
+    let text = told(
+        rt.alloc(),
+        b"@** A.\n@*007 B.\n@*000\n",
+        b"other",
+        b"",
+        &[b"-x".as_slice(), b"-bph".as_slice(), FOO],
+    )?;
+    assert_eq!(rt;
+        text.as_slice(),
+        b"[tex] is foo.tex
+[tex]\\input cwebmac
+\\N{-1}{1}A.
+\\fi
+
+\\N{7}{2}B.
+\\fi
+
+\\N{0}{3}
+\\fi
+
+\\end
+Clean"
+            .as_slice()
+    );
+    Ok(())
+}
+
+#[test]
+fn too_many_words(rt: HostRuntime) -> Result<(), Fail> {
+    let text = told(
+        rt.alloc(),
+        HELLO,
+        b"other",
+        b"",
+        &[
+            b"a".as_slice(),
+            b"b".as_slice(),
+            b"c".as_slice(),
+            b"d".as_slice(),
+        ],
+    )?;
+    assert_eq!(rt;
+        text.as_slice(),
+        b"[term]This is CWEAVE (profile 1)
+! Usage: cweave [options] webfile[.w] [{changefile[.ch]|-} [outfile[.tex]]]
+(That was a fatal error, my friend.)
+Errors"
             .as_slice()
     );
     Ok(())

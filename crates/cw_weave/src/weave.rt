@@ -1,53 +1,99 @@
-ghost use Rattle.std.specs.Prelude.{◌≡◌, ◌≤◌, ◌<◌, ◌≢◌, ◌++◌, Some, None, length, IfOk, IsErrOf, OnErr, OnOk};
+ghost use Rattle.std.specs.Prelude.{◌≡◌, ◌≤◌, ◌<◌, ◌≢◌, ◌++◌, Some, length, option_copied, IfOk, IsErrOf, OnErr, OnOk};
 ghost use Rattle.std.specs.FinMap.{get};
-ghost use Rattle.cw_base.specs.Web.{text_of};
 ghost use Rattle.cw_desk.specs.Journal.{grown, GrownByPart};
 ghost use Rattle.cw_desk.specs.Meaning.{Files, Rose};
 ghost use Rattle.cw_input.specs.Merged.{merged};
 ghost use Rattle.cw_weave.specs.Notes.{says};
-ghost use Rattle.cw_weave.specs.Plain.{is_plain};
 ghost use Rattle.cw_weave.specs.Terminal.{fatal_text};
 ghost use Rattle.cw_weave.specs.WebWord.{HasWebWord};
-ghost use Rattle.cw_weave.specs.Woven.{Outcome, events, is_built, weave_command_of, weave_line, weave_tex, weave_text, weave_web, woven};
+ghost use Rattle.cw_weave.specs.Woven.{Outcome, change_text, events, flags_are_built, has_short_lines, is_woven, notes_of, weave_command_of, weave_line, weave_tex, weave_text, weave_web, woven};
+ghost use Rattle.cw_weave.specs.Passes.{BookIsRead};
 
 use crate::message::Message;
 use crate::notes::print_notes;
 use crate::output::{end_run, write_index, write_tex};
+use crate::reading::{Book, read_book};
 use crate::terminal::{say, say_if, stop, stop_with};
-use crate::tex::tex_text;
-use crate::text::is_plain;
-use cw_base::{Bytes, Exit, Ledger, Steps, Web, Words};
+use cw_base::{Bytes, Exit, Flags, Ledger, Memory, Note, Steps, Web, Words};
 use cw_desk::Desk;
 use cw_input::{Command, CommandLine, LoadError, load, read_command};
 use cw_lines::PutError;
 use std::alloc::Global;
 
-/// Prints the notes of reading, writes the files, and ends the run.
+/// Whether no line of these bytes is longer than the 80 bytes of an output line.
+fn has_short_lines(bytes: &[u8]) -> bool
+    ensures { result ≡ has_short_lines bytes.now }
+{
+    let mut size = 0usize;
+    for byte in bytes {
+        if *byte == b'\n' {
+            size = 0;
+            continue;
+        }
+        if size >= 80 {
+            return false;
+        }
+        size += 1;
+    }
+    true
+}
+
+/// The notes of reading a web, and behind them those of scanning it.
+fn notes_of(alloc: Global, web: &Web, scanned: &[Note]) -> Result<Vec<Note>, Memory>
+    ensures { IfOk result (λ notes. notes.items ≡ web.now.notes ++ scanned.now) }
+{
+    let reading = web.notes();
+    let mut notes = Vec::with_capacity(alloc, reading.len())?;
+    notes.extend_from_slice(reading)?;
+    notes.extend_from_slice(scanned)?;
+    Ok(notes)
+}
+
+/// Prints the notes, writes the files, and ends the run.
 #[tactic(auto, using(cw_desk::specs::JournalLaws::growing))]
 fn write_book<D: Desk>(
     alloc: Global,
     desk: &mut D,
     line: &CommandLine,
     web: &Web,
+    notes: &[Note],
     tex: &[u8],
 ) -> Result<Exit, PutError>
-    ensures ok { OnOk result (D.journal desk.new ≡ grown (D.journal desk.old) (weave_tex line.now web.now.files web.now.notes tex.now).rest) }
-    ensures exit { IfOk result (λ exit. exit ≡ (weave_tex line.now web.now.files web.now.notes tex.now).exit) }
-    ensures err { OnErr result (GrownByPart (D.journal desk.old) (D.journal desk.new) (weave_tex line.now web.now.files web.now.notes tex.now).rest) }
+    ensures ok { OnOk result (D.journal desk.new ≡ grown (D.journal desk.old) (weave_tex line.now web.now.files notes.now tex.now).rest) }
+    ensures exit { IfOk result (λ exit. exit ≡ (weave_tex line.now web.now.files notes.now tex.now).exit) }
+    ensures err { OnErr result (GrownByPart (D.journal desk.old) (D.journal desk.new) (weave_tex line.now web.now.files notes.now tex.now).rest) }
     ensures faults { D.faults desk.old ≤ D.faults desk.new }
     ensures fault { IsErrOf result PutError.Fault → Rose (D.faults desk.old) (D.faults desk.new) }
 {
-    print_notes(alloc, web, web.notes(), desk)?;
+    print_notes(alloc, web, notes, desk)?;
     let out = write_tex(alloc, desk, &line.flags, &line.outputs, tex)?;
     write_index(desk, &line.flags, &line.outputs)?;
-    let exit = end_run(
-        alloc,
-        desk,
-        &line.flags,
-        &line.outputs,
-        web.notes(),
-        out.broken(),
-    )?;
+    let exit = end_run(alloc, desk, &line.flags, &line.outputs, notes, out.broken())?;
+    Ok(exit)
+}
+
+/// Writes the book of a web that was read, if no line of it is too long.
+#[tactic(auto, using(cw_desk::specs::JournalLaws::growing))]
+fn weave_read<D: Desk>(
+    alloc: Global,
+    desk: &mut D,
+    line: &CommandLine,
+    web: &Web,
+    book: &Book,
+) -> Result<Exit, PutError>
+    requires { BookIsRead line.now.flags.index web.now.lines (Some book.now) }
+    ensures ok { OnOk result (D.journal desk.new ≡ grown (D.journal desk.old) (weave_text (is_woven line.now web.now) line.now web.now).rest) }
+    ensures exit { IfOk result (λ exit. exit ≡ (weave_text (is_woven line.now web.now) line.now web.now).exit) }
+    ensures err { OnErr result (GrownByPart (D.journal desk.old) (D.journal desk.new) (weave_text (is_woven line.now web.now) line.now web.now).rest) }
+    ensures faults { D.faults desk.old ≤ D.faults desk.new }
+    ensures fault { IsErrOf result PutError.Fault → Rose (D.faults desk.old) (D.faults desk.new) }
+{
+    if !has_short_lines(&book.tex) {
+        stop(desk, Message::NotBuilt)?;
+        return Ok(Exit::Errors);
+    }
+    let notes = notes_of(alloc, web, &book.notes)?;
+    let exit = write_book(alloc, desk, line, web, &notes, &book.tex)?;
     Ok(exit)
 }
 
@@ -59,21 +105,24 @@ fn weave_web<D: Desk>(
     line: &CommandLine,
     web: &Web,
 ) -> Result<Exit, PutError>
-    ensures ok { OnOk result (D.journal desk.new ≡ grown (D.journal desk.old) (weave_text (is_plain (text_of web.now.lines)) line.now web.now).rest) }
-    ensures exit { IfOk result (λ exit. exit ≡ (weave_text (is_plain (text_of web.now.lines)) line.now web.now).exit) }
-    ensures err { OnErr result (GrownByPart (D.journal desk.old) (D.journal desk.new) (weave_text (is_plain (text_of web.now.lines)) line.now web.now).rest) }
+    ensures ok { OnOk result (D.journal desk.new ≡ grown (D.journal desk.old) (weave_text (is_woven line.now web.now) line.now web.now).rest) }
+    ensures exit { IfOk result (λ exit. exit ≡ (weave_text (is_woven line.now web.now) line.now web.now).exit) }
+    ensures err { OnErr result (GrownByPart (D.journal desk.old) (D.journal desk.new) (weave_text (is_woven line.now web.now) line.now web.now).rest) }
     ensures faults { D.faults desk.old ≤ D.faults desk.new }
     ensures fault { IsErrOf result PutError.Fault → Rose (D.faults desk.old) (D.faults desk.new) }
     ensures real { IfOk result (λ exit. exit ≢ Exit.Fault) }
 {
-    let text = web.text();
-    if !is_plain(text) {
-        stop(desk, Message::NotBuilt)?;
-        return Ok(Exit::Errors);
+    let found = read_book(alloc, web, line.flags.index)?;
+    match found {
+        Some(book) => {
+            let exit = weave_read(alloc, desk, line, web, &book)?;
+            Ok(exit)
+        }
+        None => {
+            stop(desk, Message::NotBuilt)?;
+            Ok(Exit::Errors)
+        }
     }
-    let tex = tex_text(alloc, line.flags.index, text)?;
-    let exit = write_book(alloc, desk, line, web, tex.as_slice())?;
-    Ok(exit)
 }
 
 /// Ends the run with a message about a word of the command line.
@@ -82,7 +131,7 @@ fn stop_at<D: Desk>(
     alloc: Global,
     desk: &mut D,
     message: &[u8],
-    word: &Bytes,
+    word: &[u8],
 ) -> Result<Exit, PutError>
     ensures ok { OnOk result (D.journal desk.new ≡ grown (D.journal desk.old) (says (message.now ++ word.now) ++ says fatal_text)) }
     ensures exit { IfOk result (λ exit. exit ≡ Exit.Errors) }
@@ -91,16 +140,36 @@ fn stop_at<D: Desk>(
     ensures fault { IsErrOf result PutError.Fault → Rose (D.faults desk.old) (D.faults desk.new) }
 {
     let mut text = Bytes::from_slice(alloc, message)?;
-    text.append(word.as_slice())?;
+    text.append(word)?;
     stop_with(desk, text)?;
     Ok(Exit::Errors)
 }
 
-/// Whether what the command line asks for is built.
-fn is_built(line: &CommandLine) -> bool
-    ensures { result ≡ is_built line.now }
+/// Whether these flags are built so far.
+fn flags_are_built(flags: &Flags) -> bool
+    ensures { result ≡ flags_are_built flags.now }
 {
-    line.change.is_none() && !line.flags.stats
+    flags.force && flags.wrap && flags.indent && flags.separate && !flags.stats
+}
+
+/// The change word of a command line.
+fn change_word(line: &CommandLine) -> Option<&[u8]>
+    ensures { option_copied result ≡ line.now.change }
+{
+    match &line.change {
+        Some(word) => Some(word.as_slice()),
+        None => None,
+    }
+}
+
+/// The same, empty where there is none.
+fn change_text(line: &CommandLine) -> &[u8]
+    ensures { result.now ≡ change_text line.now.change }
+{
+    match &line.change {
+        Some(word) => word.as_slice(),
+        None => b"",
+    }
 }
 
 /// Reads a web and weaves it.
@@ -108,23 +177,28 @@ fn is_built(line: &CommandLine) -> bool
 fn weave_named<D: Desk>(alloc: Global, desk: &mut D, line: &CommandLine) -> Result<Exit, PutError>
     requires { 0 < length line.now.web }
     ensures ok { (told : Files) → D.files desk.old ≡ Some told →
-        OnOk result (D.journal desk.new ≡ grown (D.journal desk.old) (weave_web line.now (merged (get told) line.now.web None)).rest) }
+        OnOk result (D.journal desk.new ≡ grown (D.journal desk.old) (weave_web line.now (merged (get told) line.now.web line.now.change)).rest) }
     ensures exit { (told : Files) → D.files desk.old ≡ Some told →
-        IfOk result (λ exit. exit ≡ (weave_web line.now (merged (get told) line.now.web None)).exit) }
+        IfOk result (λ exit. exit ≡ (weave_web line.now (merged (get told) line.now.web line.now.change)).exit) }
     ensures err { (told : Files) → D.files desk.old ≡ Some told →
-        OnErr result (GrownByPart (D.journal desk.old) (D.journal desk.new) (weave_web line.now (merged (get told) line.now.web None)).rest) }
+        OnErr result (GrownByPart (D.journal desk.old) (D.journal desk.new) (weave_web line.now (merged (get told) line.now.web line.now.change)).rest) }
     ensures faults { D.faults desk.old ≤ D.faults desk.new }
     ensures fault { IsErrOf result PutError.Fault → Rose (D.faults desk.old) (D.faults desk.new) }
     ensures real { IfOk result (λ exit. exit ≢ Exit.Fault) }
 {
-    match load(alloc, desk, line.web.as_slice(), None) {
+    match load(alloc, desk, line.web.as_slice(), change_word(line)) {
         Ok(web) => weave_web(alloc, desk, line, &web),
-        Err(LoadError::NoWeb) => stop_at(alloc, desk, b"! Cannot open web file ", &line.web),
+        Err(LoadError::NoWeb) => stop_at(
+            alloc,
+            desk,
+            b"! Cannot open web file ",
+            line.web.as_slice(),
+        ),
         Err(LoadError::NoChange) => stop_at(
             alloc,
             desk,
             b"! Cannot open change file ",
-            &Bytes::new_in(alloc),
+            change_text(line),
         ),
         Err(LoadError::TooLong) => {
             stop(desk, Message::TooLong)?;
@@ -140,16 +214,16 @@ fn weave_named<D: Desk>(alloc: Global, desk: &mut D, line: &CommandLine) -> Resu
 fn weave_line<D: Desk>(alloc: Global, desk: &mut D, line: &CommandLine) -> Result<Exit, PutError>
     requires { 0 < length line.now.web }
     ensures ok { (told : Files) → D.files desk.old ≡ Some told →
-        OnOk result (D.journal desk.new ≡ grown (D.journal desk.old) (weave_line (is_built line.now) line.now (get told)).rest) }
+        OnOk result (D.journal desk.new ≡ grown (D.journal desk.old) (weave_line (flags_are_built line.now.flags) line.now (get told)).rest) }
     ensures exit { (told : Files) → D.files desk.old ≡ Some told →
-        IfOk result (λ exit. exit ≡ (weave_line (is_built line.now) line.now (get told)).exit) }
+        IfOk result (λ exit. exit ≡ (weave_line (flags_are_built line.now.flags) line.now (get told)).exit) }
     ensures err { (told : Files) → D.files desk.old ≡ Some told →
-        OnErr result (GrownByPart (D.journal desk.old) (D.journal desk.new) (weave_line (is_built line.now) line.now (get told)).rest) }
+        OnErr result (GrownByPart (D.journal desk.old) (D.journal desk.new) (weave_line (flags_are_built line.now.flags) line.now (get told)).rest) }
     ensures faults { D.faults desk.old ≤ D.faults desk.new }
     ensures fault { IsErrOf result PutError.Fault → Rose (D.faults desk.old) (D.faults desk.new) }
     ensures real { IfOk result (λ exit. exit ≢ Exit.Fault) }
 {
-    if !is_built(line) {
+    if !flags_are_built(&line.flags) {
         stop(desk, Message::NotBuilt)?;
         return Ok(Exit::Errors);
     }

@@ -1,5 +1,5 @@
 -- By whether there are notes of reading.
-use Rattle.std.proofs.Common.{◌≡◌, sym, ap, ◌∙◌, not}
+use Rattle.std.proofs.Common.{sym, ap, ◌∙◌, not}
 use Rattle.cw_weave.proofs.NotesLaws.{has_note-none, has_note-some}
 use Rattle.cw_weave.proofs.notes.has_note.Goals as goal
 

@@ -1,5 +1,5 @@
 -- Note by note.
-use Rattle.std.proofs.Common.{rules, ◌≡◌, get_or, refl}
+use Rattle.std.proofs.Common.{rules, get_or, refl}
 use Rattle.cw_desk.specs.Results.{on_err}
 use Rattle.cw_weave.specs.Notes.{says, broken_line}
 use Rattle.cw_weave.proofs.Said.{said-more, said-part}

@@ -1,7 +1,4 @@
 -- What is printed is the message and its end.
-use Rattle.std.proofs.Common.{◌≡◌, ap, ◌∙◌}
-use Rattle.cw_base.specs.declared.event.Out.TheVariants.{Term}
-use Rattle.cw_desk.specs.Journal.{byte_events, grown, GrownByPart}
 use Rattle.cw_desk.specs.Results.{on_err}
 use Rattle.cw_weave.specs.Notes.{says}
 use Rattle.cw_weave.proofs.terminal.say.Goals as goal

@@ -1,5 +1,5 @@
 -- The banner comes first.
-use Rattle.std.proofs.Common.{◌≡◌, sym, ap, ◌∙◌}
+use Rattle.std.proofs.Common.{◌∙◌}
 use Rattle.cw_desk.specs.JournalLaws.{part-second}
 use Rattle.cw_desk.specs.Results.{on_err}
 use Rattle.cw_weave.specs.Terminal.{banner}
