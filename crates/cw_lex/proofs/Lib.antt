@@ -13,3 +13,4 @@ pub mod Runs
 pub mod Heads
 pub mod Order
 mod Rows
+pub mod Nesting

@@ -13,3 +13,4 @@ pub mod Coming
 pub mod Effects
 pub mod Starts
 pub mod Order
+pub mod Nested

@@ -11,6 +11,7 @@ mod constants;
 mod cuttings;
 mod ends;
 mod giving;
+mod laws;
 mod lexer;
 mod names;
 mod parts;
@@ -21,6 +22,7 @@ mod state;
 mod tokens;
 
 pub use codes::Code;
+pub use laws::nesting_law;
 pub use lexer::Lexer;
 pub use signs::Sign;
 pub use tokens::{Lexed, Mode, Tok, TokKind};

@@ -26,7 +26,8 @@ use Rattle.cw_table.proofs.ScrapFacts.{all-append, and-left, and-right, and-both
 use Rattle.cw_tokens.specs.Shapes.{tree_in}
 use Rattle.cw_scraps.specs.Leaves.{LeafForm, code_form, word_form, token_form}
 use Rattle.cw_reduce.specs.Translating.{leaf_scrap, CommentItem, Piece, InnerText, comment_rest, comment_tree, comment_scrap, Frame, CText, Comment, with_form, Progress, state_in, put_together, after_token, after_begin, after_finish, after_answer, after_answers, last_scraps, begun, translation}
-use Rattle.cw_reduce.specs.Visible.{is_shown, is_shown_code, is_comment, number_if, visible_of, visible, Level, InCode, InComment, after_token as level_token, after_begin as level_begin, after_finish as level_finish, levels_after, all_levels_after, IsNested}
+use Rattle.cw_lex.specs.Nested.{Level, InCode, InComment, after_token as level_token, after_begin as level_begin, after_finish as level_finish, levels_after, all_levels_after, IsNested}
+use Rattle.cw_reduce.specs.Visible.{is_shown, is_shown_code, is_comment, number_if, visible_of, visible}
 
 append-none : (ns : List ℕ) → ns ++ [] ≡ ns
 append-none [] = refl

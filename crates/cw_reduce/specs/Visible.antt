@@ -1,6 +1,6 @@
 -- The tokens of a text that its translation shows: all that make a scrap or stand in a comment, but for the codes
 -- that only lay out and the end of a `#` line.
-use Rattle.std.specs.Prelude.{◌≡◌, ℕ, Bool, true, false, Option, Some, None, List, [], ◌∷◌, ◌++◌}
+use Rattle.std.specs.Prelude.{ℕ, Bool, true, false, List, [], ◌∷◌, ◌++◌}
 use Rattle.cw_lex.specs.Answers.{Answer, Token, Begin, Finish, Note}
 use Rattle.cw_lex.specs.declared.codes.Code.{Code}
 use Rattle.cw_lex.specs.declared.codes.Code.TheVariants as code
@@ -47,42 +47,3 @@ visible_of (Note note place) = []
 abbrev pub visible : List Answer → List ℕ
 visible [] = []
 visible (answer ∷ answers) = visible_of answer ++ visible answers
-
--- Answers are nested: pieces of text stand in comments and other tokens in C text, comments begin in C text and inner
--- texts in comments, and what begins ends.
-pub data Level : Type 0 where
-  InCode : Level
-  InComment : Level
-
-abbrev pub after_token : TokKind → List Level → Option (List Level)
-after_token kind.Text (InComment ∷ levels) = Some (InComment ∷ levels)
-after_token kind.Text levels = None
-after_token k (InCode ∷ levels) = Some (InCode ∷ levels)
-after_token k levels = None
-
-abbrev pub after_begin : TokKind → List Level → Option (List Level)
-after_begin kind.InnerText (InComment ∷ levels) = Some (InCode ∷ InComment ∷ levels)
-after_begin kind.LongComment (InCode ∷ levels) = Some (InComment ∷ InCode ∷ levels)
-after_begin kind.ShortComment (InCode ∷ levels) = Some (InComment ∷ InCode ∷ levels)
-after_begin k levels = None
-
-abbrev pub after_finish : List Level → Option (List Level)
-after_finish (InCode ∷ InComment ∷ levels) = Some (InComment ∷ levels)
-after_finish (InComment ∷ InCode ∷ levels) = Some (InCode ∷ levels)
-after_finish levels = None
-
-abbrev pub levels_after : Answer → List Level → Option (List Level)
-levels_after (Token token) levels = after_token token.kind levels
-levels_after (Begin token) levels = after_begin token.kind levels
-levels_after (Finish token) levels = after_finish levels
-levels_after (Note note place) levels = Some levels
-
-abbrev pub all_levels_after : List Answer → List Level → Option (List Level)
-all_levels_after [] levels = Some levels
-all_levels_after (answer ∷ answers) levels = elim (levels_after answer levels) [
-  | None ↦ None
-  | Some next ↦ all_levels_after answers next
-]
-
-abbrev pub IsNested : List Answer → Type 0
-IsNested answers = all_levels_after answers (InCode ∷ []) ≡ Some (InCode ∷ [])
