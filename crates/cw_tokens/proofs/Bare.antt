@@ -1,7 +1,7 @@
 -- A tree that is exactly one identifier is a list of one token.
-use Rattle.std.proofs.Common.{◌≡◌, ℕ, suc, ◌<◌, List, [], ◌∷◌, length, Option, Some, None, get_or, refl, sym, ap, ◌∙◌, option_map, arith}
+use Rattle.std.proofs.Common.{◌≡◌, ℕ, suc, ◌<◌, List, [], ◌∷◌, length, Option, None, get_or, refl, sym, ap, ◌∙◌, option_map, arith}
 use Rattle.cw_names.specs.declared.NameId.{NameId}
-use Rattle.cw_trees.specs.Tree.{Leaf, Tree, Empty, Then, Sub, Inner, bare_name}
+use Rattle.cw_trees.specs.Tree.{Leaf, Tree, bare_name}
 use Rattle.cw_tokens.specs.declared.token.Token.{Token}
 use Rattle.cw_tokens.specs.declared.token.Token.TheVariants.{Source, Ident, Reserved, Control, Inner as InnerOf, «List» as ListOf}
 use Rattle.cw_tokens.specs.Shapes.{Shape, Plain, Below, InnerBelow, shape, item_of, tree_in, trees_from, unfolded}

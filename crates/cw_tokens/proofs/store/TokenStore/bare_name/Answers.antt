@@ -1,4 +1,4 @@
-use Rattle.std.proofs.Common.{sym, ap, ◌∙◌}
+use Rattle.std.proofs.Common.{ap, ◌∙◌}
 use Rattle.std.proofs.Common.{refl}
 use Rattle.cw_trees.specs.Tree.{bare_name}
 use Rattle.cw_tokens.specs.Shapes.{unfolded}
