@@ -2,6 +2,8 @@
 #![tactic(auto)]
 
 mod formats;
+#[cfg(test)]
+mod merging_tests;
 mod message;
 mod notes;
 mod output;

@@ -38,11 +38,16 @@ fn out_name(out: Out) -> &'static [u8] {
     }
 }
 
-/// A desk on which `foo.w` has these bytes.
-fn desk_with(alloc: Global, bytes: &[u8]) -> Result<MemDesk, Memory> {
+/// A desk on which `foo.w` has these bytes, beside other files.
+pub(crate) fn desk_with(
+    alloc: Global,
+    web: &[u8],
+    others: &[(&[u8], &[u8])],
+) -> Result<MemDesk, Memory> {
     let mut desk = MemDesk::new_in(alloc);
-    if desk.add_file(b"foo.w", bytes).is_err() {
-        return Err(Memory);
+    desk.add_file(b"foo.w", web)?;
+    for (name, bytes) in others {
+        desk.add_file(name, bytes)?;
     }
     Ok(desk)
 }
@@ -59,7 +64,7 @@ const HELLO: &[u8] = b"% limbo\n@ Hello.\n";
 
 #[test]
 fn a_section(rt: HostRuntime) -> Result<(), Fail> {
-    let mut desk = desk_with(rt.alloc(), HELLO)?;
+    let mut desk = desk_with(rt.alloc(), HELLO, &[])?;
     let exit = weave(rt.alloc(), &[b"foo".as_slice()], &mut desk)?;
     assert_eq!(rt; exit, Exit::Clean);
     let text = read_journal(rt.alloc(), desk.journal())?;
@@ -89,7 +94,7 @@ Writing the output file...
 
 #[test]
 fn an_empty_web(rt: HostRuntime) -> Result<(), Fail> {
-    let mut desk = desk_with(rt.alloc(), b"")?;
+    let mut desk = desk_with(rt.alloc(), b"", &[])?;
     let exit = weave(rt.alloc(), &[b"foo".as_slice()], &mut desk)?;
     assert_eq!(rt; exit, Exit::Clean);
     let text = read_journal(rt.alloc(), desk.journal())?;
@@ -115,7 +120,7 @@ Writing the output file...
 
 #[test]
 fn no_words(rt: HostRuntime) -> Result<(), Fail> {
-    let mut desk = desk_with(rt.alloc(), HELLO)?;
+    let mut desk = desk_with(rt.alloc(), HELLO, &[])?;
     let exit = weave(rt.alloc(), &[], &mut desk)?;
     assert_eq!(rt; exit, Exit::Errors);
     let text = read_journal(rt.alloc(), desk.journal())?;
@@ -149,7 +154,7 @@ fn no_web(rt: HostRuntime) -> Result<(), Fail> {
 
 #[test]
 fn a_failing_put(rt: HostRuntime) -> Result<(), Fail> {
-    let mut desk = desk_with(rt.alloc(), HELLO)?;
+    let mut desk = desk_with(rt.alloc(), HELLO, &[])?;
     desk.fail_at(9)?;
     let exit = weave(rt.alloc(), &[b"foo".as_slice()], &mut desk)?;
     assert_eq!(rt; exit, Exit::Fault);
@@ -170,7 +175,7 @@ Writing the output file...
 
 #[test]
 fn a_failing_read(rt: HostRuntime) -> Result<(), Fail> {
-    let mut desk = desk_with(rt.alloc(), HELLO)?;
+    let mut desk = desk_with(rt.alloc(), HELLO, &[])?;
     desk.fail_at(3)?;
     let exit = weave(rt.alloc(), &[b"foo".as_slice()], &mut desk)?;
     assert_eq!(rt; exit, Exit::Fault);
@@ -185,8 +190,8 @@ fn a_failing_read(rt: HostRuntime) -> Result<(), Fail> {
 
 #[test]
 fn pieces_of_any_size(rt: HostRuntime) -> Result<(), Fail> {
-    let mut whole = desk_with(rt.alloc(), HELLO)?;
-    let mut pieces = desk_with(rt.alloc(), HELLO)?;
+    let mut whole = desk_with(rt.alloc(), HELLO, &[])?;
+    let mut pieces = desk_with(rt.alloc(), HELLO, &[])?;
     pieces.limit(3)?;
     pieces.limit(1)?;
     let first = weave(rt.alloc(), &[b"foo".as_slice()], &mut whole)?;
@@ -201,7 +206,7 @@ fn pieces_of_any_size(rt: HostRuntime) -> Result<(), Fail> {
 #[test]
 fn too_long(rt: HostRuntime) -> Result<(), Fail> {
     let long = vec![in rt.alloc(); b'a'; 8388609]?;
-    let mut desk = desk_with(rt.alloc(), long.as_slice())?;
+    let mut desk = desk_with(rt.alloc(), long.as_slice(), &[])?;
     let exit = weave(rt.alloc(), &[b"foo".as_slice()], &mut desk)?;
     assert_eq!(rt; exit, Exit::Errors);
     let text = read_journal(rt.alloc(), desk.journal())?;
@@ -216,18 +221,9 @@ fn too_long(rt: HostRuntime) -> Result<(), Fail> {
     Ok(())
 }
 
-/// The journal of weaving `foo.w` beside another file, and behind it how the run ended.
-fn told(
-    alloc: Global,
-    web: &[u8],
-    name: &[u8],
-    bytes: &[u8],
-    words: &[&[u8]],
-) -> Result<Bytes, Memory> {
-    let mut desk = MemDesk::new_in(alloc);
-    desk.add_file(b"foo.w", web)?;
-    desk.add_file(name, bytes)?;
-    let exit = weave(alloc, words, &mut desk)?;
+/// The journal of a run over a desk, and behind it how the run ended.
+pub(crate) fn told_by(alloc: Global, desk: &mut MemDesk, words: &[&[u8]]) -> Result<Bytes, Memory> {
+    let exit = weave(alloc, words, desk)?;
     let mut text = read_journal(alloc, desk.journal())?;
     text.append(match exit {
         Exit::Clean => b"Clean".as_slice(),
@@ -238,9 +234,18 @@ fn told(
     Ok(text)
 }
 
-const FOO: &[u8] = b"foo";
+/// The same over a desk on which `foo.w` has these bytes, beside other files.
+pub(crate) fn told(
+    alloc: Global,
+    web: &[u8],
+    others: &[(&[u8], &[u8])],
+    words: &[&[u8]],
+) -> Result<Bytes, Memory> {
+    let mut desk = desk_with(alloc, web, others)?;
+    told_by(alloc, &mut desk, words)
+}
 
-const CHANGED: &[u8] = b"@ One.\n@c a;\nb;\n";
+pub(crate) const FOO: &[u8] = b"foo";
 
 const NOT_BUILT: &[u8] = b"[term]This is CWEAVE (profile 1)
 ! Not built yet
@@ -249,7 +254,7 @@ Errors";
 
 #[test]
 fn a_plain_statement(rt: HostRuntime) -> Result<(), Fail> {
-    let text = told(rt.alloc(), b"@ @c i=i+1;\n", b"other", b"", &[FOO])?;
+    let text = told(rt.alloc(), b"@ @c i=i+1;\n", &[], &[FOO])?;
     assert_eq!(rt;
         text.as_slice(),
         b"[term]This is CWEAVE (profile 1)
@@ -276,7 +281,7 @@ Clean"
 
 #[test]
 fn two_statements(rt: HostRuntime) -> Result<(), Fail> {
-    let text = told(rt.alloc(), b"@ @c a=(b); c;\n", b"other", b"", &[FOO])?;
+    let text = told(rt.alloc(), b"@ @c a=(b); c;\n", &[], &[FOO])?;
     assert_eq!(rt;
         text.as_slice(),
         b"[term]This is CWEAVE (profile 1)
@@ -304,14 +309,14 @@ Clean"
 
 #[test]
 fn long_names_are_not_built(rt: HostRuntime) -> Result<(), Fail> {
-    let text = told(rt.alloc(), b"@ @c ab;\n", b"other", b"", &[FOO])?;
+    let text = told(rt.alloc(), b"@ @c ab;\n", &[], &[FOO])?;
     assert_eq!(rt; text.as_slice(), NOT_BUILT);
     Ok(())
 }
 
 #[test]
 fn other_categories_are_not_built(rt: HostRuntime) -> Result<(), Fail> {
-    let text = told(rt.alloc(), b"@s a int\n@ @c a;\n", b"other", b"", &[FOO])?;
+    let text = told(rt.alloc(), b"@s a int\n@ @c a;\n", &[], &[FOO])?;
     assert_eq!(rt; text.as_slice(), NOT_BUILT);
     Ok(())
 }
@@ -321,8 +326,7 @@ fn long_lines_are_not_built(rt: HostRuntime) -> Result<(), Fail> {
     let text = told(
         rt.alloc(),
         b"aaaaaaaaaaaaaaaaaaaaaaaaaaaaaaaaaaaaaaaaaaaaaaaaaaaaaaaaaaaaaaaaaaaaaaaaaaaaaaaaa\n",
-        b"other",
-        b"",
+        &[],
         &[FOO],
     )?;
     assert_eq!(rt; text.as_slice(), NOT_BUILT);
@@ -331,128 +335,14 @@ fn long_lines_are_not_built(rt: HostRuntime) -> Result<(), Fail> {
 
 #[test]
 fn other_flags_are_not_built(rt: HostRuntime) -> Result<(), Fail> {
-    let text = told(rt.alloc(), HELLO, b"other", b"", &[b"-f".as_slice(), FOO])?;
+    let text = told(rt.alloc(), HELLO, &[], &[b"-f".as_slice(), FOO])?;
     assert_eq!(rt; text.as_slice(), NOT_BUILT);
     Ok(())
 }
 
 #[test]
-fn a_change(rt: HostRuntime) -> Result<(), Fail> {
-    let text = told(
-        rt.alloc(),
-        CHANGED,
-        b"foo.ch",
-        b"@x\n@c a;\nc;\n@y\n@c z;\n@z\n",
-        &[FOO, FOO],
-    )?;
-    assert_eq!(rt;
-        text.as_slice(),
-        b"[term]This is CWEAVE (profile 1)
-! 1 of the preceding lines did not match (l. 4 of foo.ch)
-Writing the output file...
-[tex] is foo.tex
-[tex]\\input cwebmac
-\\M{1\\*}One.
-\\Y\\B\\|z;\\par
-\\fi
-
-\\inx
-\\fin
-\\end
-[term]Writing the index...
-[idx] is foo.idx
-[scn] is foo.scn
-[term]Done.
-(Pardon me, but I think I spotted something wrong.)
-Errors"
-            .as_slice()
-    );
-    Ok(())
-}
-
-#[test]
-fn an_ended_change(rt: HostRuntime) -> Result<(), Fail> {
-    let text = told(rt.alloc(), CHANGED, b"foo.ch", b"@x\n@c a;\n", &[FOO, FOO])?;
-    assert_eq!(rt;
-        text.as_slice(),
-        b"[term]This is CWEAVE (profile 1)
-! Change file ended before @y (l. 2 of foo.ch)
-Writing the output file...
-[tex] is foo.tex
-[tex]\\input cwebmac
-\\M{1\\*}One.
-b;
-\\fi
-
-\\inx
-\\fin
-\\end
-[term]Writing the index...
-[idx] is foo.idx
-[scn] is foo.scn
-[term]Done.
-(Pardon me, but I think I spotted something wrong.)
-Errors"
-            .as_slice()
-    );
-    Ok(())
-}
-
-#[test]
-fn no_change_file(rt: HostRuntime) -> Result<(), Fail> {
-    let text = told(
-        rt.alloc(),
-        CHANGED,
-        b"other",
-        b"",
-        &[FOO, b"bar".as_slice()],
-    )?;
-    assert_eq!(rt;
-        text.as_slice(),
-        b"[term]This is CWEAVE (profile 1)
-! Cannot open change file bar
-(That was a fatal error, my friend.)
-Errors"
-            .as_slice()
-    );
-    Ok(())
-}
-
-#[test]
-fn an_included_file(rt: HostRuntime) -> Result<(), Fail> {
-    let text = told(rt.alloc(), b"@i f1\n", b"f1", b"@ Deep.\n", &[FOO])?;
-    assert_eq!(rt;
-        text.as_slice(),
-        b"[term]This is CWEAVE (profile 1)
-Writing the output file...
-[tex] is foo.tex
-[tex]\\input cwebmac
-\\M{1}Deep.
-\\fi
-
-\\inx
-\\fin
-\\end
-[term]Writing the index...
-[idx] is foo.idx
-[scn] is foo.scn
-[term]Done.
-(No errors were found.)
-Clean"
-            .as_slice()
-    );
-    Ok(())
-}
-
-#[test]
 fn codes_and_a_starred_section(rt: HostRuntime) -> Result<(), Fail> {
-    let text = told(
-        rt.alloc(),
-        b"a@@b@q x@>c\n@* T. @t x@>y\n",
-        b"other",
-        b"",
-        &[FOO],
-    )?;
+    let text = told(rt.alloc(), b"a@@b@q x@>c\n@* T. @t x@>y\n", &[], &[FOO])?;
     assert_eq!(rt;
         text.as_slice(),
         b"[term]This is CWEAVE (profile 1)
@@ -480,7 +370,7 @@ Errors"
 
 #[test]
 fn only_the_happy_line(rt: HostRuntime) -> Result<(), Fail> {
-    let text = told(rt.alloc(), HELLO, b"other", b"", &[b"-bp".as_slice(), FOO])?;
+    let text = told(rt.alloc(), HELLO, &[], &[b"-bp".as_slice(), FOO])?;
     assert_eq!(rt;
         text.as_slice(),
         b"[tex] is foo.tex
@@ -506,8 +396,7 @@ fn no_index(rt: HostRuntime) -> Result<(), Fail> {
     let text = told(
         rt.alloc(),
         b"@** A.\n@*007 B.\n@*000\n",
-        b"other",
-        b"",
+        &[],
         &[b"-x".as_slice(), b"-bph".as_slice(), FOO],
     )?;
     assert_eq!(rt;
@@ -535,8 +424,7 @@ fn too_many_words(rt: HostRuntime) -> Result<(), Fail> {
     let text = told(
         rt.alloc(),
         HELLO,
-        b"other",
-        b"",
+        &[],
         &[
             b"a".as_slice(),
             b"b".as_slice(),
