@@ -12,5 +12,7 @@ pub mod White
 pub mod Runs
 pub mod Heads
 pub mod Order
+pub mod Sizes
+pub mod Within
 mod Rows
 pub mod Nesting
