@@ -1,84 +1,97 @@
-//! Scans 100,000 bytes of ordinary C and of hostile texts, so that `bench/run` can count the instructions of each.
+//! Scans texts of a size, ordinary C and hostile ones, so that `bench/run` can count the instructions of the scanner.
+//! usage: bench_lexer [SIZE [NAME]]
 #![tactic(auto)]
 
 use cw_lex::{Lexed, Lexer, Mode};
 use std::alloc::{AllocError, Global};
-use std::io;
+use std::{env, io};
 
-const SIZE: usize = 100_000;
+/// A text, which repeats its piece.
+struct Sample {
+    name: &'static str,
+    piece: &'static [u8],
+    mode: Mode,
+}
 
-// No text has more than two answers for a byte, and its end. Each text has its own bound, so that each has its own function.
-const MOST: usize = 3 * SIZE;
+const SAMPLES: [Sample; 6] = [
+    Sample {
+        name: "ordinary",
+        piece: b"for (i = 0; i < count; i++) {\n    total += values[i] * 0x1f; /* the |sum| so far */\n}\n",
+        mode: Mode::CPart,
+    },
+    Sample {
+        name: "names",
+        piece: b"@<",
+        mode: Mode::TexText,
+    },
+    Sample {
+        name: "strings",
+        piece: b"\"\n",
+        mode: Mode::CPart,
+    },
+    Sample {
+        name: "comments",
+        piece: b"/*",
+        mode: Mode::CPart,
+    },
+    Sample {
+        name: "includes",
+        piece: b"\\\n#include<",
+        mode: Mode::CPart,
+    },
+    Sample {
+        name: "bars",
+        piece: b"|/*|x*/",
+        mode: Mode::TexText,
+    },
+];
 
-// The piece again and again, up to the size of the texts.
-fn repeated(alloc: Global, piece: &[u8]) -> Result<Vec<u8>, AllocError> {
-    let mut text = Vec::with_capacity(alloc, SIZE)?;
-    while text.len() < SIZE {
+// The size where no word gives one.
+const SMALL: usize = 10_000;
+
+// The piece again and again, each time with a blank, up to the size.
+fn repeated(alloc: Global, size: usize, piece: &[u8]) -> Result<Vec<u8>, AllocError> {
+    let mut text = Vec::with_capacity(alloc, size)?;
+    while text.len() < size {
         text.extend_from_slice(piece)?;
         text.push(b' ')?;
     }
-    text.truncate(SIZE);
+    text.truncate(size);
     Ok(text)
 }
 
-fn count(text: &[u8], mode: Mode, most: usize) -> u64 {
+// The number of answers.
+#[inline(never)]
+fn count(text: &[u8], mode: Mode) -> u64 {
     let mut lexer = Lexer::over(text, 0, text.len(), mode);
     let mut answers = 0u64;
-    for _ in 0..most {
-        if let Lexed::End = lexer.next() {
-            return answers;
+    loop {
+        match lexer.next() {
+            Lexed::End => return answers,
+            Lexed::Token(_) | Lexed::Begin(_) | Lexed::Finish(_) | Lexed::Note(_, _) => {
+                answers = answers.wrapping_add(1);
+            }
         }
-        answers = answers.wrapping_add(1);
     }
-    answers
-}
-
-#[inline(never)]
-fn ordinary(text: &[u8]) -> u64 {
-    count(text, Mode::CPart, MOST + 0)
-}
-
-#[inline(never)]
-fn open_names(text: &[u8]) -> u64 {
-    count(text, Mode::TexText, MOST + 1)
-}
-
-#[inline(never)]
-fn open_strings(text: &[u8]) -> u64 {
-    count(text, Mode::CPart, MOST + 2)
-}
-
-#[inline(never)]
-fn open_comments(text: &[u8]) -> u64 {
-    count(text, Mode::CPart, MOST + 3)
-}
-
-#[inline(never)]
-fn open_includes(text: &[u8]) -> u64 {
-    count(text, Mode::CPart, MOST + 4)
-}
-
-#[inline(never)]
-fn bars(text: &[u8]) -> u64 {
-    count(text, Mode::TexText, MOST + 5)
 }
 
 fn main(rt: HostRuntime) -> io::Result<()> {
     let alloc = rt.alloc();
-    let c = repeated(
-        alloc,
-        b"for (i = 0; i < count; i++) {\n    total += values[i] * 0x1f; /* the |sum| so far */\n}\n",
-    )?;
-    println!(rt; "ordinary C: {} answers", ordinary(&c))?;
-    let names = repeated(alloc, b"@<")?;
-    println!(rt; "open names: {} answers", open_names(&names))?;
-    let strings = repeated(alloc, b"\"")?;
-    println!(rt; "open strings: {} answers", open_strings(&strings))?;
-    let comments = repeated(alloc, b"/*")?;
-    println!(rt; "open comments: {} answers", open_comments(&comments))?;
-    let includes = repeated(alloc, b"\\\n#include<")?;
-    println!(rt; "open include names: {} answers", open_includes(&includes))?;
-    let inner = repeated(alloc, b"|/*|x*/")?;
-    println!(rt; "bars: {} answers", bars(&inner))?;
+    let mut words = env::args(&rt)?.skip(1);
+    let size = match words.next() {
+        Some(word) => word.parse().unwrap_or(SMALL),
+        None => SMALL,
+    };
+    let only = words.next();
+    for sample in &SAMPLES {
+        let wanted = match &only {
+            Some(name) => name.as_bytes() == sample.name.as_bytes(),
+            None => true,
+        };
+        if wanted {
+            let text = repeated(alloc, size, sample.piece)?;
+            println!(rt; "{}: {} answers", sample.name, count(&text, sample.mode))?;
+        }
+    }
     Ok(())
 }

@@ -2,4 +2,4 @@ use Rattle.std.proofs.Common.{◌-◌, vec_len}
 use Rattle.bench_lexer.proofs.repeated.Given as goal
 
 abbrev pub decreases-loop-text : goal.decreases-loop-text
-decreases-loop-text l = 100000 - vec_len l.text
+decreases-loop-text l = l.fn.size - vec_len l.text
