@@ -1,5 +1,5 @@
 -- Worked texts: what the scanner's definition gives for them.
-use Rattle.std.proofs.Common.{◌≡◌, ℕ, List, [], ◌∷◌, ◌++◌, codes, length, refl}
+use Rattle.std.proofs.Common.{◌≡◌, ℕ, zero, suc, List, [], ◌∷◌, ◌++◌, codes, length, take, drop, refl}
 use Rattle.cw_base.specs.declared.notes.NoteKind.{NoteKind}
 use Rattle.cw_base.specs.declared.notes.NoteKind.TheVariants as notes
 use Rattle.cw_lex.specs.declared.codes.Code.TheVariants as at
@@ -144,3 +144,77 @@ section : of modes.CPart (codes "/* |a @ b") ≡
     finish kinds.InnerText 6 6 ∷ note notes.BarMissing 6 ∷ finish kinds.LongComment 6 6 ∷
     note notes.CommentUnended 0 ∷ token (kinds.Code at.Section) 6 8 ∷ token kinds.Text 8 9 ∷ []
 section = refl
+
+-- A line's end in a string goes on behind a backslash; a backslash elsewhere is a byte of its own.
+string-goes-on : of modes.CPart (codes "\"a\\" ++ (10 ∷ []) ++ codes "b\" \\") ≡ token kinds.Quoted 0 6 ∷ token kinds.OtherByte 7 8 ∷ []
+string-goes-on = refl
+
+-- Only directly behind the word, on its line: include names.
+include-names : of modes.CPart (codes "#include/**/<a>" ++ (10 ∷ []) ++ codes "#include<a" ++ (10 ∷ []) ++ codes "include<a>") ≡
+    token kinds.HashLine 0 1 ∷ token kinds.Identifier 1 8 ∷ begin kinds.LongComment 8 10 ∷ finish kinds.LongComment 10 12 ∷
+    token (kinds.Sign signs.Less) 12 13 ∷ token kinds.Identifier 13 14 ∷ token (kinds.Sign signs.Greater) 14 15 ∷
+    token kinds.HashLineEnd 15 16 ∷ token kinds.HashLine 16 17 ∷ token kinds.Identifier 17 24 ∷
+    token (kinds.Sign signs.Less) 24 25 ∷ token kinds.Identifier 25 26 ∷ token kinds.HashLineEnd 26 27 ∷
+    token kinds.Identifier 27 34 ∷ token (kinds.Sign signs.Less) 34 35 ∷ token kinds.Identifier 35 36 ∷
+    token (kinds.Sign signs.Greater) 36 37 ∷ []
+include-names = refl
+
+-- A short comment ends behind a backslash too, and the `#` line around it goes on; so it does over a long comment's line end.
+hash-line-comments : of modes.CPart (codes "#//\\" ++ (10 ∷ []) ++ codes "/*" ++ (10 ∷ []) ++ codes "*/a" ++ (10 ∷ []) ++ codes "b") ≡
+    token kinds.HashLine 0 1 ∷ begin kinds.ShortComment 1 3 ∷ token kinds.Text 3 4 ∷ finish kinds.ShortComment 4 4 ∷
+    begin kinds.LongComment 5 7 ∷ token kinds.Text 7 8 ∷ finish kinds.LongComment 8 10 ∷ token kinds.Identifier 10 11 ∷
+    token kinds.HashLineEnd 11 12 ∷ token kinds.Identifier 12 13 ∷ []
+hash-line-comments = refl
+
+-- In inner text `*/` is two signs; a line's end ends the short comments and the inner text in them.
+inner-in-comments : of modes.CPart (codes "/*|*/|*///|//" ++ (10 ∷ [])) ≡
+    begin kinds.LongComment 0 2 ∷ begin kinds.InnerText 2 3 ∷ token (kinds.Sign signs.Star) 3 4 ∷
+    token (kinds.Sign signs.Slash) 4 5 ∷ finish kinds.InnerText 5 6 ∷ finish kinds.LongComment 6 8 ∷
+    begin kinds.ShortComment 8 10 ∷ begin kinds.InnerText 10 11 ∷ begin kinds.ShortComment 11 13 ∷
+    finish kinds.ShortComment 13 13 ∷ finish kinds.InnerText 13 13 ∷ note notes.BarMissing 13 ∷
+    finish kinds.ShortComment 13 13 ∷ []
+inner-in-comments = refl
+
+-- Depth 20 is inner text, depth 21 a byte of the comment.
+abbrev nested : ℕ → List ℕ
+nested zero = []
+nested (suc n) = codes "/*|" ++ nested n
+
+depth-20 : take 3 (drop 39 (of modes.CPart (nested 20 ++ codes "x"))) ≡
+    begin kinds.InnerText 59 60 ∷ token kinds.Identifier 60 61 ∷ finish kinds.InnerText 61 61 ∷ []
+depth-20 = refl
+
+depth-21 : take 4 (drop 40 (of modes.CPart (nested 21 ++ codes "x*/"))) ≡
+    begin kinds.LongComment 60 62 ∷ token kinds.Text 62 64 ∷ note notes.TooDeep 62 ∷ finish kinds.LongComment 64 66 ∷ []
+depth-21 = refl
+
+-- A name begins a C part where its sign stands behind it on its line.
+heads : of modes.CPart (codes "@<a@> +=b@<c@>=") ≡
+    token (kinds.Code at.SectionName) 0 5 ∷ token kinds.HeadSign 6 8 ∷ token kinds.Identifier 8 9 ∷
+    token (kinds.Code at.SectionName) 9 14 ∷ token (kinds.Sign signs.Assign) 14 15 ∷ []
+heads = refl
+
+no-head : of modes.TexText (codes "@<a@>" ++ (10 ∷ []) ++ codes "=") ≡ token (kinds.Code at.SectionName) 0 5 ∷ token kinds.Text 5 7 ∷ []
+no-head = refl
+
+-- A definition ends at the next one, a comment in it doesn't; a C part may follow.
+definitions : of modes.Definition (codes "/*@d*/@s a b@c") ≡
+    begin kinds.LongComment 0 2 ∷ token kinds.Text 2 4 ∷ note notes.AtInComment 2 ∷ finish kinds.LongComment 4 6 ∷
+    token (kinds.Code at.SilentFormat) 6 8 ∷ token kinds.Identifier 9 10 ∷ token kinds.Identifier 11 12 ∷
+    token (kinds.Code at.Program) 12 14 ∷ []
+definitions = refl
+
+-- In TeX text two bars are an empty inner text; in limbo a bar is text, and a code that may not stand there is two bytes.
+bars : of modes.TexText (codes "\\||a") ≡ token kinds.Text 0 1 ∷ begin kinds.InnerText 1 2 ∷ finish kinds.InnerText 2 3 ∷ token kinds.Text 3 4 ∷ []
+bars = refl
+
+limbo-codes : of modes.Limbo (codes "|@t x@>") ≡
+    token kinds.Text 0 1 ∷ token kinds.Dropped 1 3 ∷ note notes.CodeInLimbo 1 ∷ token kinds.Text 3 5 ∷
+    token kinds.Dropped 5 7 ∷ note notes.CodeInLimbo 5 ∷ []
+limbo-codes = refl
+
+-- Behind white space a parenthesis is none of a macro's head.
+no-parameters : of modes.TexText (codes "@d m (a)") ≡
+    token (kinds.Code at.Define) 0 2 ∷ token kinds.Identifier 3 4 ∷ token (kinds.Sign signs.LeftParen) 5 6 ∷
+    token kinds.Identifier 6 7 ∷ token (kinds.Sign signs.RightParen) 7 8 ∷ []
+no-parameters = refl

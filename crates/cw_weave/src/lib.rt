@@ -10,6 +10,8 @@ mod output;
 mod page;
 mod places;
 mod reading;
+#[cfg(test)]
+mod scanning_tests;
 mod sheet;
 mod slices;
 mod terminal;
