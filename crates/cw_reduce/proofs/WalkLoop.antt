@@ -107,7 +107,7 @@ pub loop-starts : (f : Flags) (line : List LineEntry) (store : StoredLists) (nam
 loop-starts f line store names marks steps sound short = record {
   walks = walk-starts f (state_of store.lists line marks names) steps sound.fine;
   sound = sound;
-  keeps = record { lists = λ k out. refl; trees = λ k out. refl; outside = λ k out. out };
+  keeps = record { lists = λ k out. refl; trees = λ k out. refl; outside = λ k out. out; free = λ k out unreferred. unreferred };
   words = refl;
   short = short;
 }

@@ -60,6 +60,7 @@ keeps-changed old new rs tied ch = record {
   lists = ch.others;
   trees = λ k o. trees-outside old new rs k tied ch o;
   outside = λ k o. outside-stay old new rs rs k ch o;
+  free = λ k o u l p e. u l p (sym (ch.same_refs l p) ∙ e);
 }
 
 pub keeps-trans : (a b d : List (List Token)) (rs ss ts : List ℕ) → Keeps a b rs ss → Keeps b d ss ts → Keeps a d rs ts
@@ -67,6 +68,7 @@ keeps-trans a b d rs ss ts x y = record {
   lists = λ k o. y.lists k (x.outside k o) ∙ x.lists k o;
   trees = λ k o. y.trees k (x.outside k o) ∙ x.trees k o;
   outside = λ k o. y.outside k (x.outside k o);
+  free = λ k o u. y.free k (x.outside k o) (x.free k o u);
 }
 
 -- the new scrap stands in the line, so the scraps to the right begin in it

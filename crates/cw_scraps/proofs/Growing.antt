@@ -3,7 +3,7 @@ use Rattle.std.proofs.Common.{◌≡◌, ℕ, ◌+◌, ◌<◌, ◌≤◌, List,
 use Rattle.std.specs.List.{slice_get}
 use Rattle.std.proofs.lemmas.List.{length_push, map-append, take-map, drop-map, drop_more, take-append-drop}
 use Rattle.cw_tokens.specs.declared.token.Token.{Token}
-use Rattle.cw_tokens.specs.References.{token_ref, refers, IsTied, Reach, here, next}
+use Rattle.cw_tokens.specs.References.{token_ref, refers, IsTied, IsUnreferred, Reach, here, next}
 use Rattle.cw_tokens.proofs.Linking.{refers-within, refers-more, refers-old}
 use Rattle.cw_tokens.proofs.Unfolding.{reach-le}
 use Rattle.cw_scraps.specs.declared.line.LineEntry.{LineEntry}
@@ -122,6 +122,13 @@ module _ (old : List (List Token)) (ts : List Token) (rs : List ℕ) (at n : ℕ
       | high j a b e s ↦ o.below j b (reach-old (get_or rs j 0) k (roots.there j b) (subst (λ x. Reach new x k) e r))
     ];
   }
+
+  -- the new list refers to nothing outside
+  pub grown-free : (k : ℕ) → IsOutside old rs k → IsUnreferred old k → IsUnreferred new k
+  grown-free k o u l p e = elim (refers-cases l p k e) [
+    | inl q ↦ u l p q
+    | inr q ↦ o.below q.1.place (let h : q.1.place < n = q.1.below_n in omega arith) (subst (λ x. Reach old x k) q.1.is here)
+  ]
 
 -- the lists of a line in which entries are replaced
 pub roots-replaced : (line : List LineEntry) (at n : ℕ) (made : LineEntry) → roots_of (take at line ++ made ∷ drop n line) ≡ spliced (roots_of line) at n made.list.index

@@ -14,7 +14,7 @@ use Rattle.cw_table.specs.Rows.{result_at}
 use Rattle.cw_table.specs.Rewriting.{cats_of, alone, row_pieces, with_cat, new_from, new_scrap, joined_of}
 use Rattle.cw_tokens.specs.declared.token.Token.{Token}
 use Rattle.cw_tokens.specs.Shapes.{unfolded}
-use Rattle.cw_tokens.specs.References.{token_ref, IsTied}
+use Rattle.cw_tokens.specs.References.{token_ref, IsTied, IsUnreferred}
 use Rattle.cw_tokens.specs.Stored.{StoredLists}
 use Rattle.cw_tokens.proofs.Unfolding.{unfolded-old, unfolded-new}
 use Rattle.cw_scraps.specs.declared.line.LineEntry.{LineEntry}
@@ -28,7 +28,7 @@ use Rattle.cw_scraps.proofs.Reservings.{seen-get}
 use Rattle.cw_scraps.proofs.Buildings.{root-entry, length-roots}
 use Rattle.cw_scraps.proofs.Changings.{seen-same}
 use Rattle.cw_scraps.proofs.Splices.{spliced, tokens-ref, FromScrap}
-use Rattle.cw_scraps.proofs.Growing.{FromRoot, grown-roots, grown-outside, roots-replaced, same-spliced}
+use Rattle.cw_scraps.proofs.Growing.{FromRoot, grown-roots, grown-outside, grown-free, roots-replaced, same-spliced}
 
 pub cats-same : (lists : List (List Token)) (entries : List LineEntry) → cats_of (scraps_of lists entries) ≡ entry_cats entries
 cats-same lists [] = refl
@@ -136,6 +136,7 @@ module _ (flags : Flags) (row : Row) (place : ℕ) (line : List LineEntry) (old 
   pub record NewRoots : Type 0 where
     pub are : AreRoots new.lists (roots_of result)
     pub outside : (k : ℕ) → IsOutside old.lists (roots_of line) k → IsOutside new.lists (roots_of result) k
+    pub free : (k : ℕ) → IsOutside old.lists (roots_of line) k → IsUnreferred old.lists k → IsUnreferred new.lists k
 
   from-kept : (k : ℕ) → alone row.replaced (pieces_at flags row (drop place line)) ≡ Some k → new ≡ old → made.list.index ≡ (get_or (drop place line) k no_entry).list.index → NewRoots
   from-kept k a same is =
@@ -147,6 +148,7 @@ module _ (flags : Flags) (row : Row) (place : ℕ) (line : List LineEntry) (old 
       record {
         are = rw (all, same) roots;
         outside = λ m o. rw (all, same) o;
+        free = λ m o u. rw same u;
       }
 
   from-joined : new.lists ≡ old.lists ++ tokens_of Maybe (map (inserting (drop place line)) (pieces_at flags row (drop place line))) ∷ [] → made.list.index ≡ length old.lists → NewRoots
@@ -158,6 +160,7 @@ module _ (flags : Flags) (row : Row) (place : ℕ) (line : List LineEntry) (old 
       record {
         are = rw (all, grown) (grown-roots old.lists (tokens_of Maybe (map (inserting (drop place line)) (pieces_at flags row (drop place line)))) (roots_of line) at (at + row.replaced) ordered fits tied roots refs);
         outside = λ m o. rw (all, grown) (grown-outside old.lists (tokens_of Maybe (map (inserting (drop place line)) (pieces_at flags row (drop place line)))) (roots_of line) at (at + row.replaced) ordered fits tied roots refs m o);
+        free = λ m o u. rw grown (grown-free old.lists (tokens_of Maybe (map (inserting (drop place line)) (pieces_at flags row (drop place line)))) (roots_of line) at (at + row.replaced) ordered fits tied roots refs m o u);
       }
     where
       refs : (p x : ℕ) → token_ref (slice_get (tokens_of Maybe (map (inserting (drop place line)) (pieces_at flags row (drop place line)))) p) ≡ Some x → FromRoot (roots_of line) at (at + row.replaced) x
@@ -187,6 +190,7 @@ module _ (flags : Flags) (row : Row) (place : ℕ) (line : List LineEntry) (old 
       lists = λ k o. (made-old flags row (drop place line) f old new made is_made k o.there).1;
       trees = λ k o. (made-old flags row (drop place line) f old new made is_made k o.there).0;
       outside = new-roots.outside;
+      free = new-roots.free;
     };
     count = count-is;
   }

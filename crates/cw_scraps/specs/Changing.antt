@@ -2,7 +2,7 @@
 use Rattle.std.specs.Prelude.{◌≡◌, ℕ, List, [], length, get_or}
 use Rattle.cw_tokens.specs.declared.token.Token.{Token}
 use Rattle.cw_tokens.specs.Shapes.{unfolded}
-use Rattle.cw_tokens.specs.References.{refers}
+use Rattle.cw_tokens.specs.References.{refers, IsUnreferred}
 use Rattle.cw_scraps.specs.Lines.{IsOutside}
 
 -- no reference changes, and no list but those in the trees of the roots
@@ -11,8 +11,10 @@ pub record Changes (old new : List (List Token)) (roots : List ℕ) : Type 0 whe
   pub same_length : length new ≡ length old
   pub same_refs : (l p : ℕ) → refers new l p ≡ refers old l p
 
--- A list that stood in no tree of a line is as it was, with its tree, and stands in no tree of the new line.
+-- A list that stood in no tree of a line is as it was, with its tree, and stands in no tree of the new line; if
+-- nothing referred to it, as to the lists of every other line over the store, nothing refers to it now.
 pub record Keeps (old new : List (List Token)) (old_roots new_roots : List ℕ) : Type 0 where
   pub lists : (k : ℕ) → IsOutside old old_roots k → get_or new k [] ≡ get_or old k []
   pub trees : (k : ℕ) → IsOutside old old_roots k → unfolded new k ≡ unfolded old k
   pub outside : (k : ℕ) → IsOutside old old_roots k → IsOutside new new_roots k
+  pub free : (k : ℕ) → IsOutside old old_roots k → IsUnreferred old k → IsUnreferred new k
