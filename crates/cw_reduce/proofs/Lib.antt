@@ -13,3 +13,7 @@ pub mod WalkSteps
 pub mod WalkLoop
 pub mod TranslatedRows
 pub mod ShownTokens
+pub mod GatherSteps
+pub mod GatherTrees
+pub mod GatherLines
+pub mod GatherLaws

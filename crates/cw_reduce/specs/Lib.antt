@@ -4,5 +4,6 @@ pub mod Lines
 pub mod Reducing
 pub mod Reduction
 pub mod Translating
+pub mod Gathering
 pub mod Visible
 pub mod TranslationLaws
