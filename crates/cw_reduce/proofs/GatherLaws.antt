@@ -10,7 +10,7 @@ use Rattle.cw_trees.specs.Joining.{Scrap, scrap_agrees, reads, dollar_before, in
 use Rattle.cw_table.specs.Normal.{is_fine}
 use Rattle.cw_tokens.specs.declared.token.Token.{Token}
 use Rattle.cw_tokens.specs.Shapes.{unfolded}
-use Rattle.cw_tokens.specs.References.{token_ref, IsUnreferred, IsTied}
+use Rattle.cw_tokens.specs.References.{token_ref, IsUnreferred, IsTied, Reach, here}
 use Rattle.cw_tokens.proofs.Linking.{refers-within, refers-more}
 use Rattle.cw_tokens.proofs.Unfolding.{unfolded-old}
 use Rattle.cw_scraps.specs.Lines.{AreRoots, IsOutside, IsNamedBelow}
@@ -53,6 +53,12 @@ module _ (old new : List (List Token)) (roots : List ℕ) (list : ℕ) (g : Gath
     fits : length before + length roots ≤ length (before ++ (roots ++ after))
     fits = omega (arith, length-append before (roots ++ after), length-append roots after)
 
+    inside : (i : ℕ) → i < length roots → length before + i < length (before ++ (roots ++ after))
+    inside i h = omega (arith, fits)
+
+    root-at : (i : ℕ) → i < length roots → get_or (before ++ (roots ++ after)) (length before + i) 0 ≡ get_or roots i 0
+    root-at i h = get_or-append-add before (roots ++ after) i 0 ∙ get_or_append_left roots after 0 i h
+
     from-root : (p x : ℕ) → token_ref (slice_get g.tokens p) ≡ Some x → FromRoot (before ++ (roots ++ after)) (length before) (length before + length roots) x
     from-root p x e =
         let a : AtPlace roots x = root-place p x e in
@@ -61,7 +67,7 @@ module _ (old new : List (List Token)) (roots : List ℕ) (list : ℕ) (g : Gath
           place = length before + a.place;
           from_at = omega arith;
           below_n = omega arith;
-          is = a.is ∙ (sym (get_or_append_left roots after 0 a.place low) ∙ sym (get_or-append-add before (roots ++ after) a.place 0));
+          is = a.is ∙ sym (root-at a.place low);
         }
 
     rest : drop (length before + length roots) (before ++ (roots ++ after)) ≡ after
@@ -82,6 +88,7 @@ module _ (old new : List (List Token)) (roots : List ℕ) (list : ℕ) (g : Gath
       lists = λ k o. gathers-lists k o.there;
       trees = λ k o. gathers-trees k o.there;
       outside = gathers-outside;
+      free = λ k o u. gathers-unreferred k u (λ i h e. o.above (length before + i) (inside i h) (subst (λ x. Reach old k x) (sym e ∙ sym (root-at i h)) here));
     }
 
   pub gathers-keeps : IsTied old → AreRoots old roots → Keeps old new roots (list ∷ [])

@@ -17,3 +17,4 @@ pub mod GatherSteps
 pub mod GatherTrees
 pub mod GatherLines
 pub mod GatherLaws
+pub mod SharedRoots
