@@ -5,6 +5,8 @@ mod desk;
 mod file;
 mod mem;
 mod outputs;
+#[cfg(test)]
+mod tests;
 
 pub use desk::{Desk, Fetched, FileId, MadeOut, Opened, Taken};
 pub use file::FileDesk;

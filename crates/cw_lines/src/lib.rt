@@ -4,6 +4,8 @@
 mod division;
 mod line_out;
 mod put_error;
+#[cfg(test)]
+mod tests;
 mod writing;
 
 pub use line_out::LineOut;
