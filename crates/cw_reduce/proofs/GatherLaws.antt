@@ -19,6 +19,7 @@ use Rattle.cw_scraps.proofs.Splices.{spliced}
 use Rattle.cw_scraps.proofs.Growing.{FromRoot, grown-roots, grown-outside}
 use Rattle.cw_reduce.specs.Translating.{CommentItem, Piece, InnerText, comment_rest, comment_tree, comment_scrap}
 use Rattle.cw_reduce.specs.Gathering.{Gathers}
+use Rattle.cw_reduce.specs.Opening.{IsNamedItem}
 use Rattle.cw_reduce.proofs.GatherSteps.{AtPlace, ref-place}
 
 module _ (old new : List (List Token)) (roots : List ℕ) (list : ℕ) (g : Gathers old new roots list) where
@@ -112,17 +113,12 @@ module _ (count : ℕ) where
   whole-named [] all = tt
   whole-named (scrap ∷ scraps) all = in_text-named scrap (blank_and_whole scraps) (All-head (λ s. IsNamedBelow count s.tree) scrap scraps all) (blank-named scraps (All-tail (λ s. IsNamedBelow count s.tree) scrap scraps all))
 
-  -- the names of an inner text
-  abbrev pub item_named : CommentItem → Type 0
-  item_named (Piece number) = Unit {0}
-  item_named (InnerText tree) = IsNamedBelow count tree
-
-  rest-named : (items : List CommentItem) → All item_named items → IsNamedBelow count (comment_rest items)
+  rest-named : (items : List CommentItem) → All (IsNamedItem count) items → IsNamedBelow count (comment_rest items)
   rest-named [] all = (tt, (tt, tt))
-  rest-named (Piece number ∷ items) all = (tt, rest-named items (All-tail item_named (Piece number) items all))
-  rest-named (InnerText tree ∷ items) all = (All-head item_named (InnerText tree) items all, rest-named items (All-tail item_named (InnerText tree) items all))
+  rest-named (Piece number ∷ items) all = (tt, rest-named items (All-tail (IsNamedItem count) (Piece number) items all))
+  rest-named (InnerText tree ∷ items) all = (All-head (IsNamedItem count) (InnerText tree) items all, rest-named items (All-tail (IsNamedItem count) (InnerText tree) items all))
 
-  pub comment-named : (number : ℕ) (items : List CommentItem) → All item_named items → IsNamedBelow count (comment_tree number items)
+  pub comment-named : (number : ℕ) (items : List CommentItem) → All (IsNamedItem count) items → IsNamedBelow count (comment_tree number items)
   comment-named number items all = (tt, (tt, rest-named items all))
 
 -- a comment begins and ends in text

@@ -17,4 +17,10 @@ pub mod GatherSteps
 pub mod GatherTrees
 pub mod GatherLines
 pub mod GatherLaws
-pub mod SharedRoots
+pub mod Beside
+pub mod OpenLaws
+pub mod LeafSteps
+pub mod Retypings
+pub mod FinishSteps
+pub mod AnswerSteps
+pub mod EndSteps

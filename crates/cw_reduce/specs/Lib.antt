@@ -7,3 +7,5 @@ pub mod Translating
 pub mod Gathering
 pub mod Visible
 pub mod TranslationLaws
+pub mod Opening
+pub mod Retyping

@@ -166,7 +166,7 @@ pub token-good : (count : ℕ) (k : TokKind) (text : List ℕ) (hash : Bool) (nu
 token-good count kind.Identifier text hash number names h = word-good count (word_cat hash text (own_cat (with_entry ident_kind text names) (place_of ident_kind text names))) (record { index = place_of ident_kind text names }) number (h refl)
 token-good count k text hash number names h = form-good count k number
 
-more-named : (m n : ℕ) (t : Tree) → m ≤ n → IsNamedBelow m t → IsNamedBelow n t
+pub more-named : (m n : ℕ) (t : Tree) → m ≤ n → IsNamedBelow m t → IsNamedBelow n t
 more-named m n Empty le h = h
 more-named m n (Then leaf rest) le h = (more-leaf leaf h.0, more-named m n rest le h.1)
   where
@@ -256,7 +256,7 @@ length-entry k text names = go (nat_lt (place_of k text names) (length names))
     go false = omega (arith, length-append names (record { kind = k; text = text; category = cat.Exp } ∷ []))
 
 -- the list of a scrap is one of the store
-token-some : (k : TokKind) (text : List ℕ) (hash : Bool) (number : ℕ) (names : List Entry) → MakesLeaf k → IsSome (token_form k text hash number names)
+pub token-some : (k : TokKind) (text : List ℕ) (hash : Bool) (number : ℕ) (names : List Entry) → MakesLeaf k → IsSome (token_form k text hash number names)
 token-some kind.Identifier text hash number names h = refl
 token-some (kind.Code c) text hash number names h = code-some c number h
 token-some kind.Constant text hash number names h = refl

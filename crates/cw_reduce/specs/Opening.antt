@@ -1,0 +1,122 @@
+-- What is open while a C text is read, over the store in which its translation is built.
+use Rattle.std.specs.Prelude.{◌≡◌, ℕ, ◌*◌, ◌<◌, ◌≤◌, true, List, [], ◌∷◌, ◌++◌, length, map, All, None}
+use Rattle.std.specs.List.{list_all}
+use Rattle.cw_lex.specs.declared.tokens.TokKind.{TokKind}
+use Rattle.cw_lex.specs.declared.tokens.TokKind.TheVariants as kind
+use Rattle.cw_lex.specs.Answers.{Answer, Token, Begin, Finish, Note, seen}
+use Rattle.cw_lex.specs.declared.tokens.Lexed.{Lexed}
+use Rattle.cw_lex.specs.declared.tokens.Lexed.TheVariants as lexed
+use Rattle.cw_names.specs.Names.{Entry}
+use Rattle.cw_trees.specs.Joining.{Scrap, scrap_agrees}
+use Rattle.cw_table.specs.Normal.{is_fine}
+use Rattle.cw_tokens.specs.declared.token.Token.{Token as StoredToken}
+use Rattle.cw_tokens.specs.Shapes.{unfolded}
+use Rattle.cw_tokens.specs.Stored.{StoredLists}
+use Rattle.cw_scraps.specs.declared.line.LineEntry.{LineEntry}
+use Rattle.cw_scraps.specs.Lines.{scraps_of, roots_of, AreRoots, IsNamedBelow}
+use Rattle.cw_scraps.specs.Marking.{MarkList, marked_names}
+use Rattle.cw_reduce.specs.declared.gathering.CommentPart.{CommentPart}
+use Rattle.cw_reduce.specs.declared.nesting.Open.{Open}
+use Rattle.cw_reduce.specs.declared.nesting.Open.TheVariants.{CText, Comment}
+use Rattle.cw_reduce.specs.declared.translating.Translated.{Translated}
+use Rattle.cw_reduce.specs.declared.translating.Translator.{Translator}
+use Rattle.cw_reduce.specs.Gathering.{part_seen, inner_lists}
+use Rattle.cw_reduce.specs.Translating.{Frame, CommentItem, Piece, InnerText, Progress, Translation}
+use Rattle.cw_reduce.specs.Translating.{CText as CTextFrame, Comment as CommentFrame}
+
+-- a scrap behind those of the innermost C text, and a part behind those of the innermost comment
+abbrev pub with_entry : LineEntry → List Open → List Open
+with_entry entry (CText line ∷ rest) = CText (line ++ entry ∷ []) ∷ rest
+with_entry entry all = all
+
+abbrev pub with_part : CommentPart → List Open → List Open
+with_part part (Comment number parts ∷ rest) = Comment number (parts ++ part ∷ []) ∷ rest
+with_part part all = all
+
+-- the scraps of the C text that is open alone
+abbrev pub last_line : List Open → List LineEntry
+last_line (CText line ∷ []) = line
+last_line all = []
+
+-- what begins becomes the innermost
+abbrev pub begun_by : TokKind → ℕ → List Open → List Open
+begun_by kind.InnerText number all = CText [] ∷ all
+begun_by kind.LongComment number all = Comment number [] ∷ all
+begun_by kind.ShortComment number all = Comment number [] ∷ all
+begun_by _ number all = all
+
+-- what is open, with the trees of its lists
+abbrev pub frame_of : List (List StoredToken) → Open → Frame
+frame_of lists (CText line) = CTextFrame (scraps_of lists line)
+frame_of lists (Comment number parts) = CommentFrame number (map (part_seen lists) parts)
+
+abbrev pub frames_of : List (List StoredToken) → List Open → List Frame
+frames_of lists all = map (frame_of lists) all
+
+-- its lists, the outermost first
+abbrev pub open_roots : Open → List ℕ
+open_roots (CText line) = roots_of line
+open_roots (Comment number parts) = inner_lists parts
+
+abbrev pub all_roots : List Open → List ℕ
+all_roots [] = []
+all_roots (inner ∷ outer) = all_roots outer ++ open_roots inner
+
+-- The scraps of open C texts are as in a sound line, and the names in the inner texts of open comments are names.
+abbrev pub IsNamedItem : ℕ → CommentItem → Type 0
+IsNamedItem count (Piece number) = Unit {0}
+IsNamedItem count (InnerText tree) = IsNamedBelow count tree
+
+pub record AreSoundScraps (count : ℕ) (scraps : List Scrap) : Type 0 where
+  pub named : All (λ scrap. IsNamedBelow count scrap.tree) scraps
+  pub modes : All scrap_agrees scraps
+  pub fine : list_all is_fine scraps ≡ true
+
+abbrev pub IsSoundFrame : ℕ → Frame → Type 0
+IsSoundFrame count (CTextFrame scraps) = AreSoundScraps count scraps
+IsSoundFrame count (CommentFrame number items) = All (IsNamedItem count) items
+
+-- The lists of all that is open are distinct lists of the store, to which no list refers, and no list is being built.
+pub record IsTranslating (store : StoredLists) (names : List Entry) (t : Translator) : Type 0 where
+  pub idle : store.building ≡ None
+  pub roots : AreRoots store.lists (all_roots t.nesting)
+  pub sound : All (IsSoundFrame (length names)) (frames_of store.lists t.nesting)
+  pub light : t.productions ≤ 8 * t.scraps
+
+-- one answer of the scanner, and none where all is answered
+abbrev pub answers_in : Lexed → List Answer
+answers_in (lexed.Token token) = Token (seen token) ∷ []
+answers_in (lexed.Begin token) = Begin (seen token) ∷ []
+answers_in (lexed.Finish token) = Finish (seen token) ∷ []
+answers_in (lexed.Note note place) = Note note place ∷ []
+answers_in lexed.End = []
+
+-- the first bytes of tokens and comments stand before a place
+abbrev pub StartsBelow : ℕ → List Answer → Type 0
+StartsBelow limit [] = Unit {0}
+StartsBelow limit (Token token ∷ answers) = (token.span.start < limit) × StartsBelow limit answers
+StartsBelow limit (Begin token ∷ answers) = (token.span.start < limit) × StartsBelow limit answers
+StartsBelow limit (Finish token ∷ answers) = StartsBelow limit answers
+StartsBelow limit (Note note place ∷ answers) = StartsBelow limit answers
+
+-- how far the translation has come
+abbrev pub progress_of : List (List StoredToken) → List Entry → MarkList → Translator → ℕ → Progress
+progress_of lists names marks t steps = record {
+  frames = frames_of lists t.nesting;
+  names = names;
+  marks = marked_names marks;
+  scraps = t.scraps;
+  productions = t.productions;
+  steps = steps;
+}
+
+-- what has become of a text
+abbrev pub translation_of : List (List StoredToken) → List Entry → MarkList → Translated → ℕ → Translation
+translation_of lists names marks done steps = record {
+  tree = unfolded lists done.list.index;
+  names = names;
+  marks = marked_names marks;
+  scraps = done.scraps;
+  productions = done.productions;
+  steps = steps;
+}

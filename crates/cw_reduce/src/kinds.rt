@@ -1,0 +1,50 @@
+ghost use Rattle.std.specs.Prelude.{◌↔◌, IsTrue};
+ghost use Rattle.cw_lex.specs.declared.tokens.TokKind.TheVariants as kinds;
+ghost use Rattle.cw_scraps.specs.Leaves.{MakesLeaf};
+
+use cw_lex::{Code, TokKind};
+
+/// Whether a token makes a scrap of its own.
+pub(crate) fn makes_leaf(kind: TokKind) -> bool
+    ensures { IsTrue result ↔ MakesLeaf kind }
+{
+    match kind {
+        TokKind::Identifier
+        | TokKind::Constant
+        | TokKind::Quoted
+        | TokKind::IncludeName
+        | TokKind::Sign(_)
+        | TokKind::HashLine
+        | TokKind::HashLineEnd
+        | TokKind::OtherByte => true,
+        TokKind::Code(code) => is_laid_out(code),
+        TokKind::Dropped
+        | TokKind::HeadSign
+        | TokKind::Text
+        | TokKind::LongComment
+        | TokKind::ShortComment
+        | TokKind::InnerText => false,
+    }
+}
+
+/// Whether a code makes a scrap of its own.
+fn is_laid_out(code: Code) -> bool
+    ensures { IsTrue result ↔ MakesLeaf (kinds.Code code) }
+{
+    matches!(
+        code,
+        Code::TexBox
+            | Code::Verbatim
+            | Code::Quote
+            | Code::Join
+            | Code::ThinSpace
+            | Code::LineBreak
+            | Code::BigBreak
+            | Code::OptionalBreak
+            | Code::NoBreak
+            | Code::HeaderFile
+            | Code::InvisibleSemicolon
+            | Code::BeginArgument
+            | Code::EndArgument
+    )
+}

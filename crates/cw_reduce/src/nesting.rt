@@ -1,0 +1,148 @@
+ghost use Rattle.std.specs.Prelude.{◌≡◌, ◌≢◌, [], ◌∷◌, ◌++◌, OnOk, MatchOption, IsTrue, ◌↔◌};
+ghost use Rattle.cw_base.specs.declared.category.Cat.TheVariants.{End};
+ghost use Rattle.cw_reduce.specs.Opening.{last_line, with_entry, with_part};
+ghost use Rattle.cw_scraps.specs.Leaves.{entry_of};
+
+use crate::gathering::CommentPart;
+use cw_base::Memory;
+use cw_scraps::{Leaf, ScrapLine};
+use std::alloc::Global;
+use std::marker::Model;
+
+/// What stands in a comment's text so far.
+#[derive(Drop)]
+pub(crate) struct CommentText {
+    parts: Vec<CommentPart>,
+}
+
+impl Model for CommentText {
+    ghost use Rattle.std.specs.Prelude.{List};
+    ghost use Rattle.cw_reduce.specs.declared.gathering.CommentPart.{CommentPart};
+
+    ghost Value = { List CommentPart };
+
+    ghost view = { λ t. t.parts.items };
+}
+
+impl CommentText {
+    /// Nothing stands in it.
+    pub(crate) fn new_in(alloc: Global) -> CommentText
+        ensures { result ≡ [] }
+    {
+        CommentText {
+            parts: Vec::new(alloc),
+        }
+    }
+
+    /// A part comes behind the others.
+    pub(crate) fn add(&mut self, part: CommentPart) -> Result<(), Memory>
+        ensures { OnOk result (self.new ≡ self.old ++ part ∷ []) }
+    {
+        self.parts.push(part)?;
+        Ok(())
+    }
+
+    /// All parts, in order.
+    pub(crate) fn parts(&self) -> &[CommentPart]
+        ensures { result.now ≡ self.now }
+    {
+        &self.parts
+    }
+}
+
+/// What is open while a C text is read: C text with its scraps so far, or a comment, which begins at this number.
+#[derive(Drop)]
+pub(crate) enum Open {
+    CText(ScrapLine),
+    Comment(u32, CommentText),
+}
+
+/// All that is open, seen as a list with the innermost first.
+#[derive(Drop)]
+pub(crate) struct Nesting {
+    all: Vec<Open>,
+}
+
+impl Model for Nesting {
+    ghost use Rattle.std.specs.Prelude.{List};
+    ghost use Rattle.std.specs.Prelude.{reverse};
+    ghost use Rattle.cw_reduce.specs.declared.nesting.Open.{Open};
+
+    ghost Value = { List Open };
+
+    ghost view = { λ n. reverse n.all.items };
+}
+
+impl Nesting {
+    /// Nothing is open.
+    pub(crate) fn new_in(alloc: Global) -> Nesting
+        ensures { result ≡ [] }
+    {
+        Nesting {
+            all: Vec::new(alloc),
+        }
+    }
+
+    /// Something opens.
+    pub(crate) fn begin(&mut self, inner: Open) -> Result<(), Memory>
+        ensures { OnOk result (self.new ≡ inner ∷ self.old) }
+    {
+        self.all.push(inner)?;
+        Ok(())
+    }
+
+    /// The innermost ends.
+    pub(crate) fn end(&mut self) -> Option<Open>
+        ensures { MatchOption result ((self.old ≡ []) × (self.new ≡ [])) (λ inner. self.old ≡ inner ∷ self.new) }
+    {
+        self.all.pop()
+    }
+
+    /// Whether nothing is open.
+    pub(crate) fn is_empty(&self) -> bool
+        ensures { IsTrue result ↔ (self.now ≡ []) }
+    {
+        self.all.is_empty()
+    }
+
+    /// The scraps of the C text that is open alone, and none where more is open, or less.
+    pub(crate) fn take_line(&mut self, alloc: Global) -> ScrapLine
+        ensures { result ≡ last_line self.old }
+    {
+        if let Some(Open::CText(line)) = self.end() {
+            if self.is_empty() {
+                return line;
+            }
+        }
+        ScrapLine::new_in(alloc)
+    }
+
+    /// A scrap comes behind those of the innermost C text.
+    pub(crate) fn add_scrap(&mut self, leaf: Leaf) -> Result<(), Memory>
+        requires { leaf.cat ≢ End }
+        ensures { OnOk result (self.new ≡ with_entry (entry_of leaf) self.old) }
+    {
+        match self.end() {
+            Some(Open::CText(mut line)) => {
+                line.add(leaf.cat, leaf.list, leaf.left, leaf.right)?;
+                self.begin(Open::CText(line))
+            }
+            Some(inner) => self.begin(inner),
+            None => Ok(()),
+        }
+    }
+
+    /// A piece or an inner text comes behind those of the innermost comment.
+    pub(crate) fn add_part(&mut self, part: CommentPart) -> Result<(), Memory>
+        ensures { OnOk result (self.new ≡ with_part part self.old) }
+    {
+        match self.end() {
+            Some(Open::Comment(number, mut text)) => {
+                text.add(part)?;
+                self.begin(Open::Comment(number, text))
+            }
+            Some(inner) => self.begin(inner),
+            None => Ok(()),
+        }
+    }
+}

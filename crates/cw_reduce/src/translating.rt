@@ -1,0 +1,328 @@
+ghost use Rattle.std.specs.Prelude.{◌≡◌, ℕ, ◌+◌, ◌*◌, ◌^◌, ◌<◌, ◌≤◌, ◌⊎◌, [], ◌∷◌, length, IfOk, OnOk, OnErr, None};
+ghost use Rattle.cw_table.specs.Normal.{count, normal};
+ghost use Rattle.cw_table.specs.Productions.{productions};
+ghost use Rattle.cw_table.specs.WalkCounts.{ticks};
+ghost use Rattle.cw_trees.specs.Joining.{whole};
+ghost use Rattle.cw_tokens.specs.Shapes.{unfolded};
+ghost use Rattle.cw_lex.specs.Answers.{seen};
+ghost use Rattle.cw_lex.specs.Lexing.{tokens_of};
+ghost use Rattle.cw_scraps.specs.Applying.{state_of};
+ghost use Rattle.cw_scraps.specs.Changing.{Keeps};
+ghost use Rattle.cw_scraps.specs.Leaves.{MakesLeaf, names_with};
+ghost use Rattle.cw_scraps.specs.Lines.{AreRoots, IsNamedBelow, IsSoundLine, roots_of};
+ghost use Rattle.cw_scraps.specs.Marking.{MarkList, marked_names};
+ghost use Rattle.cw_reduce.specs.declared.nesting.Open.TheVariants as CTexts;
+ghost use Rattle.cw_reduce.specs.Opening.{IsTranslating, StartsBelow, all_roots, answers_in, begun_by, frames_of, progress_of, translation_of};
+ghost use Rattle.cw_reduce.specs.Reduction.{words_of};
+ghost use Rattle.cw_reduce.specs.Retyping.{NamesAmong, NamesHere, NamesOnTheWay, Retypes};
+ghost use Rattle.cw_reduce.specs.Translating.{after_answers, after_finish, after_token, all_ended, begun, last_scraps, state_in, translation, with_categories};
+
+use crate::gathering::{CommentPart, comment_list, put_together};
+use crate::kinds::makes_leaf;
+use crate::nesting::{CommentText, Nesting, Open};
+use crate::walk::reduce;
+use cw_base::{Cat, Flags, Ledger, MathMode, Memory, Span, Steps};
+use cw_lex::{Lexed, Lexer, Mode, Tok, TokKind};
+use cw_names::Names;
+use cw_scraps::{Leaf, Marks, ScrapLine, scrap_of};
+use cw_tokens::{ListId, TokenStore};
+use std::alloc::Global;
+
+/// The translation of a C text.
+#[derive(Clone, Copy, Debug, PartialEq, Eq)]
+pub struct Translated {
+    /// Its list.
+    pub list: ListId,
+    /// How many scraps the text and its inner texts were made into.
+    pub scraps: u64,
+    /// How many productions were applied to them.
+    pub productions: u64,
+}
+
+/// Reduces the scraps of a C text and puts together what is left.
+fn translate_line<L: Ledger>(
+    mut line: ScrapLine,
+    flags: &Flags,
+    names: &mut Names,
+    store: &mut TokenStore,
+    marks: &mut Marks,
+    steps: &mut Steps<L>,
+) -> Result<Translated, Memory>
+    requires sound { IsSoundLine store.old names.old line }
+    ensures tree { IfOk result (λ done. unfolded store.new.lists done.list.index ≡ whole (normal productions flags.now (state_of store.old.lists line marks.old names.old)).scraps) }
+    ensures scraps { IfOk result (λ done. done.scraps ≡ length line) }
+    ensures productions { IfOk result (λ done. done.productions ≡ count productions flags.now (state_of store.old.lists line marks.old names.old)) }
+    ensures few { IfOk result (λ done. done.productions ≤ 8 * done.scraps) }
+    ensures names { OnOk result (names.new ≡ with_categories (normal productions flags.now (state_of store.old.lists line marks.old names.old)).cats names.old) }
+    ensures marks { OnOk result (marked_names marks.new ≡ (normal productions flags.now (state_of store.old.lists line marks.old names.old)).marks) }
+    ensures steps { OnOk result (steps.new ≡ steps.old + ticks productions flags.now (state_of store.old.lists line marks.old names.old)) }
+    ensures words { words_of names.new ≡ words_of names.old }
+    ensures named { IfOk result (λ done. IsNamedBelow (length names.new) (unfolded store.new.lists done.list.index)) }
+    ensures root { IfOk result (λ done. AreRoots store.new.lists (done.list.index ∷ [])) }
+    ensures keeps { IfOk result (λ done. Keeps store.old.lists store.new.lists (roots_of line) (done.list.index ∷ [])) }
+    ensures idle { store.new.building ≡ None }
+    ensures retypes { Retypes flags.now (state_of store.old.lists line marks.old names.old) names.old names.new }
+{
+    let scraps = line.len() as u64;
+    let reduced = reduce(&mut line, store, names, marks, flags, steps)?;
+    let _spare = store.spare();
+    let list = put_together(&line, store)?;
+    Ok(Translated {
+        list,
+        scraps,
+        productions: reduced.productions,
+    })
+}
+
+/// A translation on its way: what is open, and how many scraps were reduced in how many productions.
+#[derive(Drop)]
+pub struct Translator {
+    nesting: Nesting,
+    scraps: u64,
+    productions: u64,
+}
+
+impl Translator {
+    /// A C text begins, and nothing is counted yet.
+    fn new_in(alloc: Global) -> Result<Translator, Memory>
+        ensures { IfOk result (λ t. t ≡ record { nesting = CTexts.CText [] ∷ []; scraps = 0; productions = 0 }) }
+    {
+        let mut nesting = Nesting::new_in(alloc);
+        nesting.begin(Open::CText(ScrapLine::new_in(alloc)))?;
+        Ok(Translator {
+            nesting,
+            scraps: 0,
+            productions: 0,
+        })
+    }
+
+    /// A token without parts: a scrap of the innermost C text, or a piece of the innermost comment.
+    fn token(
+        &mut self,
+        token: &Tok,
+        names: &mut Names,
+        store: &mut TokenStore,
+    ) -> Result<(), Memory>
+        requires translating { IsTranslating store.old names.old self.old }
+        requires start { token.now.span.start < 2 ^ 32 }
+        ensures translating { OnOk result (IsTranslating store.new names.new self.new) }
+        ensures progress { OnOk result ((marks : MarkList) (steps : ℕ) → progress_of store.new.lists names.new marks self.new steps ≡ after_token token.now.kind (seen token.now) (progress_of store.old.lists names.old marks self.old steps)) }
+        ensures keeps { OnOk result (Keeps store.old.lists store.new.lists (all_roots self.old.nesting) (all_roots self.new.nesting)) }
+        ensures names { (names.new ≡ names.old) ⊎ (names.new ≡ names_with token.now.kind token.now.text.now names.old) }
+        ensures idle { store.new.building ≡ None }
+    {
+        if token.kind == TokKind::Text {
+            let number = token.span.start as u32;
+            return self.nesting.add_part(CommentPart::Piece(number));
+        }
+        if makes_leaf(token.kind) {
+            return self.leaf(token, names, store);
+        }
+        Ok(())
+    }
+
+    /// A token that makes a scrap of its own.
+    fn leaf(&mut self, token: &Tok, names: &mut Names, store: &mut TokenStore) -> Result<(), Memory>
+        requires translating { IsTranslating store.old names.old self.old }
+        requires start { token.now.span.start < 2 ^ 32 }
+        requires makes { MakesLeaf token.now.kind }
+        ensures translating { OnOk result (IsTranslating store.new names.new self.new) }
+        ensures progress { OnOk result ((marks : MarkList) (steps : ℕ) → progress_of store.new.lists names.new marks self.new steps ≡ after_token token.now.kind (seen token.now) (progress_of store.old.lists names.old marks self.old steps)) }
+        ensures keeps { OnOk result (Keeps store.old.lists store.new.lists (all_roots self.old.nesting) (all_roots self.new.nesting)) }
+        ensures names { (names.new ≡ names.old) ⊎ (names.new ≡ names_with token.now.kind token.now.text.now names.old) }
+        ensures idle { store.new.building ≡ None }
+    {
+        let _spare = store.spare();
+        let leaf = scrap_of(token, names, store)?;
+        self.nesting.add_scrap(leaf)
+    }
+
+    /// A comment or an inner text begins.
+    fn begin(&mut self, token: &Tok, alloc: Global) -> Result<(), Memory>
+        requires start { token.now.span.start < 2 ^ 32 }
+        ensures begins { OnOk result (self.new ≡ record self.old { nesting = begun_by token.now.kind token.now.span.start self.old.nesting }) }
+    {
+        let number = token.span.start as u32;
+        match token.kind {
+            TokKind::InnerText => self.nesting.begin(Open::CText(ScrapLine::new_in(alloc))),
+            TokKind::LongComment | TokKind::ShortComment => self
+                .nesting
+                .begin(Open::Comment(number, CommentText::new_in(alloc))),
+            _ => Ok(()),
+        }
+    }
+
+    /// Counts what was done for one text; `Memory` where no memory could hold so many scraps.
+    fn count(&mut self, done: &Translated) -> Result<(), Memory>
+        ensures counted { OnOk result (self.new ≡ record self.old { scraps = self.old.scraps + done.now.scraps; productions = self.old.productions + done.now.productions }) }
+    {
+        self.scraps = self.scraps.checked_add(done.scraps).ok_or(Memory)?;
+        self.productions = self
+            .productions
+            .checked_add(done.productions)
+            .ok_or(Memory)?;
+        Ok(())
+    }
+
+    /// The innermost text or comment ends.
+    fn finish<L: Ledger>(
+        &mut self,
+        flags: &Flags,
+        names: &mut Names,
+        store: &mut TokenStore,
+        marks: &mut Marks,
+        steps: &mut Steps<L>,
+    ) -> Result<(), Memory>
+        requires translating { IsTranslating store.old names.old self.old }
+        ensures translating { OnOk result (IsTranslating store.new names.new self.new) }
+        ensures progress { OnOk result (progress_of store.new.lists names.new marks.new self.new steps.new ≡ after_finish flags.now (frames_of store.old.lists self.old.nesting) (progress_of store.old.lists names.old marks.old self.old steps.old)) }
+        ensures keeps { OnOk result (Keeps store.old.lists store.new.lists (all_roots self.old.nesting) (all_roots self.new.nesting)) }
+        ensures names { NamesHere flags.now (progress_of store.old.lists names.old marks.old self.old steps.old) names.new }
+        ensures idle { store.new.building ≡ None }
+    {
+        let _spare = store.spare();
+        match self.nesting.end() {
+            Some(Open::CText(line)) => {
+                let done = translate_line(line, flags, names, store, marks, steps)?;
+                self.count(&done)?;
+                self.nesting.add_part(CommentPart::InnerText(done.list))
+            }
+            Some(Open::Comment(number, text)) => {
+                let list = comment_list(number, text.parts(), store)?;
+                self.nesting.add_scrap(Leaf {
+                    cat: Cat::Insert,
+                    list,
+                    left: MathMode::Text,
+                    right: MathMode::Text,
+                })
+            }
+            None => Ok(()),
+        }
+    }
+
+    /// One answer of the scanner.
+    fn answer<L: Ledger>(
+        &mut self,
+        answer: &Lexed,
+        alloc: Global,
+        flags: &Flags,
+        names: &mut Names,
+        store: &mut TokenStore,
+        marks: &mut Marks,
+        steps: &mut Steps<L>,
+    ) -> Result<(), Memory>
+        requires translating { IsTranslating store.old names.old self.old }
+        requires start { StartsBelow (2 ^ 32) (answers_in answer.now) }
+        ensures translating { OnOk result (IsTranslating store.new names.new self.new) }
+        ensures progress { OnOk result (progress_of store.new.lists names.new marks.new self.new steps.new ≡ after_answers flags.now (answers_in answer.now) (progress_of store.old.lists names.old marks.old self.old steps.old)) }
+        ensures keeps { OnOk result (Keeps store.old.lists store.new.lists (all_roots self.old.nesting) (all_roots self.new.nesting)) }
+        ensures names { NamesAmong flags.now (answers_in answer.now) (progress_of store.old.lists names.old marks.old self.old steps.old) names.new }
+        ensures idle { store.new.building ≡ None }
+    {
+        match answer {
+            Lexed::Token(token) => self.token(token, names, store),
+            Lexed::Begin(token) => self.begin(token, alloc),
+            Lexed::Finish(_) => self.finish(flags, names, store, marks, steps),
+            Lexed::Note(..) | Lexed::End => Ok(()),
+        }
+    }
+
+    /// All answers of a scanner.
+    fn read<L: Ledger>(
+        &mut self,
+        lexer: &mut Lexer,
+        alloc: Global,
+        flags: &Flags,
+        names: &mut Names,
+        store: &mut TokenStore,
+        marks: &mut Marks,
+        steps: &mut Steps<L>,
+    ) -> Result<(), Memory>
+        requires translating { IsTranslating store.old names.old self.old }
+        requires start { StartsBelow (2 ^ 32) lexer.old }
+        ensures translating { OnOk result (IsTranslating store.new names.new self.new) }
+        ensures progress { OnOk result (progress_of store.new.lists names.new marks.new self.new steps.new ≡ after_answers flags.now lexer.old (progress_of store.old.lists names.old marks.old self.old steps.old)) }
+        ensures keeps { OnOk result (Keeps store.old.lists store.new.lists (all_roots self.old.nesting) (all_roots self.new.nesting)) }
+        ensures names { OnErr result (NamesOnTheWay flags.now lexer.old (progress_of store.old.lists names.old marks.old self.old steps.old) names.new) }
+        ensures idle { store.new.building ≡ None }
+    {
+        loop {
+            let answer = lexer.next();
+            if matches!(answer, Lexed::End) {
+                return Ok(());
+            }
+            self.answer(&answer, alloc, flags, names, store, marks, steps)?;
+        }
+    }
+
+    /// The text ends: its scraps are reduced, and what is left is put together.
+    fn end<L: Ledger>(
+        &mut self,
+        alloc: Global,
+        flags: &Flags,
+        names: &mut Names,
+        store: &mut TokenStore,
+        marks: &mut Marks,
+        steps: &mut Steps<L>,
+    ) -> Result<Translated, Memory>
+        requires translating { IsTranslating store.old names.old self.old }
+        ensures ended { IfOk result (λ done. translation_of store.new.lists names.new marks.new done steps.new ≡ all_ended flags.now (progress_of store.old.lists names.old marks.old self.old steps.old)) }
+        ensures few { IfOk result (λ done. done.productions ≤ 8 * done.scraps) }
+        ensures named { IfOk result (λ done. IsNamedBelow (length names.new) (unfolded store.new.lists done.list.index)) }
+        ensures root { IfOk result (λ done. AreRoots store.new.lists (done.list.index ∷ [])) }
+        ensures keeps { IfOk result (λ done. Keeps store.old.lists store.new.lists (all_roots self.old.nesting) (done.list.index ∷ [])) }
+        ensures retypes { let p = progress_of store.old.lists names.old marks.old self.old steps.old in Retypes flags.now (state_in (last_scraps p.frames) p) names.old names.new }
+        ensures idle { store.new.building ≡ None }
+    {
+        let line = self.nesting.take_line(alloc);
+        let done = translate_line(line, flags, names, store, marks, steps)?;
+        self.count(&done)?;
+        Ok(Translated {
+            list: done.list,
+            scraps: self.scraps,
+            productions: self.productions,
+        })
+    }
+}
+
+/// Translates a C text, whose first byte stands at `span.start`: its tokens become scraps, the inner texts of its
+/// comments are translated in the same store where they end, the scraps are reduced, and what no production joins
+/// stands side by side. Tokens have the place of their first byte as their number. Codes and section names that make no
+/// scrap are passed over. `Memory` is the only refusal; the names then have the categories after the productions that
+/// were done, and lists may have been added to the store.
+pub fn translate<L: Ledger>(
+    alloc: Global,
+    text: &[u8],
+    span: Span,
+    mode: Mode,
+    names: &mut Names,
+    store: &mut TokenStore,
+    marks: &mut Marks,
+    flags: &Flags,
+    steps: &mut Steps<L>,
+) -> Result<Translated, Memory>
+    requires order { span.start ≤ span.end }
+    requires within { span.end ≤ length text.now }
+    requires short { length text.now ≤ 2 ^ 24 }
+    requires idle { store.old.building ≡ None }
+    // The tree, the names with their categories, the marks and the counts are those of the definition.
+    ensures tree { IfOk result (λ done. unfolded store.new.lists done.list.index ≡ (translation flags.now (tokens_of text.now span.start span.end mode) names.old (marked_names marks.old)).tree) }
+    ensures names { OnOk result (names.new ≡ (translation flags.now (tokens_of text.now span.start span.end mode) names.old (marked_names marks.old)).names) }
+    ensures marks { OnOk result (marked_names marks.new ≡ (translation flags.now (tokens_of text.now span.start span.end mode) names.old (marked_names marks.old)).marks) }
+    ensures scraps { IfOk result (λ done. done.scraps ≡ (translation flags.now (tokens_of text.now span.start span.end mode) names.old (marked_names marks.old)).scraps) }
+    ensures productions { IfOk result (λ done. done.productions ≡ (translation flags.now (tokens_of text.now span.start span.end mode) names.old (marked_names marks.old)).productions) }
+    ensures few { IfOk result (λ done. done.productions ≤ 8 * done.scraps) }
+    ensures steps { OnOk result (steps.new ≡ steps.old + (translation flags.now (tokens_of text.now span.start span.end mode) names.old (marked_names marks.old)).steps) }
+    // The list is one of the store to which no list refers, and the names in its tree are names.
+    ensures root { IfOk result (λ done. AreRoots store.new.lists (done.list.index ∷ [])) }
+    ensures named { IfOk result (λ done. IsNamedBelow (length names.new) (unfolded store.new.lists done.list.index)) }
+    // The lists that the store held stay, and no new list refers to them.
+    ensures others { IfOk result (λ done. Keeps store.old.lists store.new.lists [] (done.list.index ∷ [])) }
+    ensures idle { store.new.building ≡ None }
+    ensures refused { OnErr result (NamesOnTheWay flags.now (tokens_of text.now span.start span.end mode) (begun names.old (marked_names marks.old)) names.new) }
+{
+    let mut lexer = Lexer::over(text, span.start, span.end, mode);
+    let mut translator = Translator::new_in(alloc)?;
+    translator.read(&mut lexer, alloc, flags, names, store, marks, steps)?;
+    translator.end(alloc, flags, names, store, marks, steps)
+}
