@@ -1,9 +1,8 @@
 -- What contracts see of a `MemDesk`, and how a call changes it.
-use Rattle.std.specs.Prelude.{◌≡◌, ◌==◌, ℕ, ◌+◌, ◌-◌, ◌^◌, ◌<◌, Bool, List, [], ◌∷◌, ◌++◌, if◌then◌else◌, min, length, slice_index, drop}
+use Rattle.std.specs.Prelude.{◌==◌, ℕ, ◌+◌, ◌-◌, ◌^◌, Bool, List, [], ◌∷◌, if◌then◌else◌, min, length, slice_index}
 use Rattle.std.specs.FinMap.{from_entries}
 use Rattle.std.specs.List.{list_any}
 use Rattle.cw_base.specs.declared.event.Event.{Event}
-use Rattle.cw_base.specs.declared.event.Out.{Out}
 use Rattle.cw_desk.specs.Meaning.{Files, no_outputs}
 use Rattle.cw_desk.specs.declared.outputs.Outputs.{Outputs}
 
