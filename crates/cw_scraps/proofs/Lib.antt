@@ -12,3 +12,4 @@ pub mod ModeLaw
 pub mod Keeping
 pub mod Applied
 pub mod LeafForms
+pub mod FirstRows

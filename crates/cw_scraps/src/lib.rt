@@ -16,4 +16,8 @@ pub use line::{LineEntry, Part, ScrapLine};
 pub use marks::Marks;
 
 #[cfg(test)]
+mod leaf_tests;
+#[cfg(test)]
+mod row_tests;
+#[cfg(test)]
 mod tests;
