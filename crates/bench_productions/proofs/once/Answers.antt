@@ -1,0 +1,5 @@
+use Rattle.cw_scraps.proofs.Productions.{cats-same}
+use Rattle.bench_productions.proofs.once.Goals as goal
+
+pub apply-requires-clause-fits : goal.apply-requires-clause-fits
+apply-requires-clause-fits c = rw (c.requires.table, cats-same _ _) c.in-Some.ensures.fits

@@ -1,0 +1,164 @@
+//! Does the production of a sum twice in a line of 10 scraps, or of 1,000,000 where the command line has a word, so that
+//! `bench/run` can count the instructions of one.
+#![tactic(auto)]
+
+ghost use Rattle.std.specs.Prelude.{◌≡◌, ◌<◌, ◌≤◌, true, drop, length, IfSome, OnOk};
+ghost use Rattle.cw_table.specs.Fitting.{row_fits};
+ghost use Rattle.cw_table.specs.Productions.{productions};
+ghost use Rattle.cw_table.specs.Rewriting.{cats_of};
+ghost use Rattle.cw_scraps.specs.Applying.{row_of};
+ghost use Rattle.cw_scraps.specs.Inserting.{entry_cats};
+ghost use Rattle.cw_scraps.specs.Leaves.{MakesLeaf};
+ghost use Rattle.cw_scraps.specs.Lines.{IsSoundLine, scraps_of};
+
+use cw_base::{Flags, Memory, Silent, Span, Steps};
+use cw_lex::{Sign, Tok, TokKind};
+use cw_names::Names;
+use cw_scraps::{Marks, ScrapLine, scrap_of};
+use cw_table::{RowNo, Table, first_production, table};
+use cw_tokens::TokenStore;
+use std::alloc::Global;
+use std::{env, io};
+
+fn kind_of(i: usize) -> TokKind
+    ensures { MakesLeaf result }
+{
+    if i % 2 == 0 {
+        TokKind::Constant
+    } else {
+        TokKind::Sign(Sign::Slash)
+    }
+}
+
+fn add(
+    kind: TokKind,
+    line: &mut ScrapLine,
+    store: &mut TokenStore,
+    names: &mut Names,
+) -> Result<(), Memory>
+    requires kind { MakesLeaf kind }
+    requires sound { IsSoundLine store.old names.old line.old }
+    ensures sound { OnOk result (IsSoundLine store.new names.new line.new) }
+{
+    let token = Tok {
+        kind,
+        text: b"1",
+        span: Span { start: 0, end: 0 },
+        hash_line: false,
+    };
+    let leaf = scrap_of(&token, names, store)?;
+    line.add(leaf.cat, leaf.list, leaf.left, leaf.right)
+}
+
+// The scraps of `1/1/1` and so on, so many.
+fn add_all(
+    count: usize,
+    line: &mut ScrapLine,
+    store: &mut TokenStore,
+    names: &mut Names,
+) -> Result<(), Memory>
+    requires sound { IsSoundLine store.old names.old line.old }
+    ensures sound { OnOk result (IsSoundLine store.new names.new line.new) }
+{
+    for i in 0..count {
+        add(kind_of(i), line, store, names)?;
+    }
+    Ok(())
+}
+
+// The first row that fits at a place.
+fn first_row(line: &ScrapLine, place: usize, steps: &mut Steps<Silent>) -> Option<RowNo>
+    requires { place < length line.now }
+    ensures from_one { IfSome result (λ row. 1 ≤ row.number) }
+    ensures to_last { IfSome result (λ row. row.number ≤ 92) }
+    ensures fits { IfSome result (λ row. row_fits (row_of productions row.number) (drop place (entry_cats line.now)) ≡ true) }
+{
+    let _length = line.len();
+    first_production([
+        line.cat_at(place, steps),
+        line.cat_at(place + 1, steps),
+        line.cat_at(place + 2, steps),
+        line.cat_at(place + 3, steps),
+    ])
+}
+
+// The production whose instructions are counted.
+#[inline(never)]
+fn apply(
+    table: &Table<92>,
+    row: RowNo,
+    place: usize,
+    line: &mut ScrapLine,
+    names: &mut Names,
+    marks: &mut Marks,
+    store: &mut TokenStore,
+    steps: &mut Steps<Silent>,
+)
+    requires from_one { 1 ≤ row.number }
+    requires to_last { row.number ≤ 92 }
+    requires fits { row_fits (row_of table.now row.number) (drop place (cats_of (scraps_of store.old.lists line.old))) ≡ true }
+    requires sound { IsSoundLine store.old names.old line.old }
+    requires room { 24 ≤ store.old.spare }
+    requires free { 0 < marks.old.spare }
+    ensures { IsSoundLine store.new names.new line.new }
+{
+    let flags = Flags::start();
+    line.apply(table, row, place, &flags, names, marks, store, steps);
+}
+
+// The production by the first row that fits at a place, where there is one.
+fn once(
+    table: &Table<92>,
+    place: usize,
+    line: &mut ScrapLine,
+    names: &mut Names,
+    marks: &mut Marks,
+    store: &mut TokenStore,
+    steps: &mut Steps<Silent>,
+) -> Result<(), Memory>
+    requires table { table.now ≡ productions }
+    requires sound { IsSoundLine store.old names.old line.old }
+    ensures sound { OnOk result (IsSoundLine store.new names.new line.new) }
+{
+    if place >= line.len() {
+        return Ok(());
+    }
+    store.reserve(24)?;
+    marks.reserve(1)?;
+    if let Some(row) = first_row(line, place, steps) {
+        apply(table, row, place, line, names, marks, store, steps);
+    }
+    Ok(())
+}
+
+// How many scraps are left of so many after two productions in the middle.
+fn left(alloc: Global, count: usize) -> Result<usize, Memory> {
+    let mut line = ScrapLine::new_in(alloc);
+    let mut store = TokenStore::new_in(alloc);
+    let mut names = Names::with_words(alloc)?;
+    let mut marks = Marks::new_in(alloc);
+    let mut steps: Steps<Silent> = Steps::new();
+    let table = table();
+    add_all(count, &mut line, &mut store, &mut names)?;
+    let place = count / 4 * 2;
+    once(
+        &table, place, &mut line, &mut names, &mut marks, &mut store, &mut steps,
+    )?;
+    once(
+        &table, place, &mut line, &mut names, &mut marks, &mut store, &mut steps,
+    )?;
+    Ok(line.len())
+}
+
+fn main(rt: HostRuntime) -> io::Result<()> {
+    let count = if env::args(&rt)?.count() > 1 {
+        1_000_000
+    } else {
+        10
+    };
+    match left(rt.alloc(), count) {
+        Ok(left) => println!(rt; "scraps {count}, after two productions {left}")?,
+        Err(Memory) => println!(rt; "want of memory")?,
+    }
+    Ok(())
+}
