@@ -144,3 +144,19 @@ fn a_store_that_is_emptied_keeps_its_room(rt: HostRuntime) -> Result<(), Fail> {
     assert_eq!(rt; store.spare(), 1);
     Ok(())
 }
+
+// Run with `rt try --test --fail-alloc N` for N from 1 to 3, each of the three vectors is refused once.
+#[test]
+fn a_store_that_was_refused_room_is_as_before_and_can_ask_again(
+    rt: HostRuntime,
+) -> Result<(), Fail> {
+    let mut store = TokenStore::new_in(rt.alloc());
+    if store.reserve(3).is_err() {
+        assert_eq!(rt; store.spare(), 0);
+    }
+    store.reserve(3)?;
+    let list = word(&mut store, NameId { index: 50 });
+    assert_eq!(rt; list.index, 0);
+    assert_eq!(rt; store.spare(), 0);
+    Ok(())
+}
