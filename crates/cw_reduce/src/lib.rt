@@ -25,4 +25,6 @@ pub use walk::{Reduced, reduce};
 #[cfg(test)]
 mod tests;
 #[cfg(test)]
+mod translate_tests;
+#[cfg(test)]
 mod walk_tests;

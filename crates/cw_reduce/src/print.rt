@@ -10,8 +10,8 @@ use cw_base::{Bytes, Memory};
 use cw_trees::Control;
 use std::alloc::Global;
 
-// The control of an item that goes into a run.
-fn run_control(item: Item) -> Option<Control>
+/// The control of an item that goes into a run.
+pub fn run_control(item: Item) -> Option<Control>
     ensures { result ≡ run_sign (seen_item item) }
 {
     match item {
@@ -99,8 +99,8 @@ fn put_break(out: &mut Bytes, strength: u8) -> Result<(), Memory>
     }
 }
 
-// A run: its indents, and without a Cancel its strongest break and its backup.
-fn put_run(out: &mut Bytes, run: &[Control]) -> Result<(), Memory>
+/// A run: its indents, and without a Cancel its strongest break and its backup.
+pub fn put_run(out: &mut Bytes, run: &[Control]) -> Result<(), Memory>
     ensures { OnOk result (out.new ≡ out.old ++ part_run run.now) }
 {
     put_indents(out, run)?;
@@ -114,7 +114,8 @@ fn put_run(out: &mut Bytes, run: &[Control]) -> Result<(), Memory>
     Ok(())
 }
 
-fn put_sign(out: &mut Bytes, control: Control) -> Result<(), Memory>
+/// What a control prints outside of runs.
+pub fn put_sign(out: &mut Bytes, control: Control) -> Result<(), Memory>
     ensures { OnOk result (out.new ≡ out.old ++ sign_bytes control) }
 {
     match control {
