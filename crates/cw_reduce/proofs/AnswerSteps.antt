@@ -1,5 +1,5 @@
 -- One answer of the scanner, and all of them.
-use Rattle.std.proofs.Common.{◌≡◌, ℕ, ◌^◌, ◌<◌, ◌≤◌, List, [], ◌∷◌, ◌++◌, length, ◌⊎◌, inl, inr, refl, sym, ap, ◌∙◌, subst, arith}
+use Rattle.std.proofs.Common.{◌≡◌, ℕ, ◌+◌, ◌^◌, ◌<◌, ◌≤◌, List, [], ◌∷◌, ◌++◌, length, ◌⊎◌, inl, inr, refl, sym, ap, ◌∙◌, subst, arith}
 use Rattle.std.specs.Prelude.{Result, Ok, Err}
 use Rattle.std.specs.Result.{OnErr}
 use Rattle.std.specs.List.{All}
@@ -24,6 +24,7 @@ use Rattle.cw_reduce.specs.declared.nesting.Open.{Open}
 use Rattle.cw_reduce.specs.declared.translating.Translator.{Translator}
 use Rattle.cw_reduce.specs.Opening.{all_roots, answers_in, begun_by, frames_of, IsSoundFrame, IsTranslating, StartsBelow, progress_of}
 use Rattle.cw_reduce.specs.Retyping.{NamesHere, NamesOnTheWay, NamesAmong, same, here, later}
+use Rattle.cw_reduce.specs.StepLimits.{answer_limit, inner_limit}
 use Rattle.cw_reduce.specs.Translating.{Progress, after_token, after_begin, after_answer, after_answers}
 use Rattle.cw_reduce.specs.Translating.{CText as CTextFrame, Comment as CommentFrame}
 use Rattle.cw_reduce.proofs.LeafSteps.{Steps, keeps-itself}
@@ -108,6 +109,10 @@ within-starts limit start end (Begin t ∷ answers) e h = ((let a : t.span.start
 within-starts limit start end (Finish t ∷ answers) e h = within-starts limit start end answers e h.1
 within-starts limit start end (Note n place ∷ answers) e h = within-starts limit start end answers e h
 
+inner-append : (flags : Flags) (xs ys : List Answer) (p : Progress) → inner_limit flags (xs ++ ys) p ≡ inner_limit flags xs p + inner_limit flags ys (after_answers flags xs p)
+inner-append flags [] ys p = omega arith
+inner-append flags (x ∷ xs) ys p = ap (λ m. answer_limit flags x p + m) (inner-append flags xs ys (after_answer flags x p)) ∙ omega arith
+
 later-all : (flags : Flags) (xs ys : List Answer) (p : Progress) (new : List Entry) → NamesOnTheWay flags ys (after_answers flags xs p) new → NamesOnTheWay flags (xs ++ ys) p new
 later-all flags [] ys p new h = h
 later-all flags (x ∷ xs) ys p new h = later x (xs ++ ys) p new (later-all flags xs ys (after_answer flags x p) new h)
@@ -118,10 +123,11 @@ pub record Reads (flags : Flags) (all : List Answer) (old : StoredLists) (names 
   pub keeps : Keeps old.lists new.lists (all_roots t.nesting) (all_roots t'.nesting)
   pub progress : after_answers flags rest (progress_of new.lists names' marks' t' steps') ≡ after_answers flags all (progress_of old.lists names marks t steps)
   pub starts : StartsBelow (2 ^ 32) rest
+  pub spent : steps' + inner_limit flags rest (progress_of new.lists names' marks' t' steps') ≤ steps + inner_limit flags all (progress_of old.lists names marks t steps)
   pub way : (entries : List Entry) → NamesOnTheWay flags rest (progress_of new.lists names' marks' t' steps') entries → NamesOnTheWay flags all (progress_of old.lists names marks t steps) entries
 
 pub reads-start : (flags : Flags) (all : List Answer) (store : StoredLists) (names : List Entry) (marks : MarkList) (t : Translator) (steps : ℕ) → IsTranslating store names t → StartsBelow (2 ^ 32) all → Reads flags all store names marks t steps all store names marks t steps
-reads-start flags all store names marks t steps is starts = record { translating = is; keeps = keeps-itself store.lists (all_roots t.nesting); progress = refl; starts = starts; way = λ entries h. h }
+reads-start flags all store names marks t steps is starts = record { translating = is; keeps = keeps-itself store.lists (all_roots t.nesting); progress = refl; starts = starts; spent = omega arith; way = λ entries h. h }
 
 module _ (flags : Flags) (all : List Answer) (old : StoredLists) (names : List Entry) (marks : MarkList) (t : Translator) (steps : ℕ) (rest : List Answer) (mid : StoredLists) (names1 : List Entry) (marks1 : MarkList) (t1 : Translator) (steps1 : ℕ)
     (r : Reads flags all old names marks t steps rest mid names1 marks1 t1 steps1) (answer : Lexed) (next : List Answer) (gives : Gives rest answer next) where
@@ -134,9 +140,18 @@ module _ (flags : Flags) (all : List Answer) (old : StoredLists) (names : List E
   pub reads-fails : (entries : List Entry) → NamesAmong flags (answers_in answer) (progress_of mid.lists names1 marks1 t1 steps1) entries → NamesOnTheWay flags all (progress_of old.lists names marks t steps) entries
   reads-fails entries h = r.way entries (subst (λ list. NamesOnTheWay flags list (progress_of mid.lists names1 marks1 t1 steps1) entries) (sym (gives-is rest next answer gives)) (h next))
 
+  split-limit : inner_limit flags rest (progress_of mid.lists names1 marks1 t1 steps1)
+      ≡ inner_limit flags (answers_in answer) (progress_of mid.lists names1 marks1 t1 steps1) + inner_limit flags next (after_answers flags (answers_in answer) (progress_of mid.lists names1 marks1 t1 steps1))
+  split-limit = ap (λ list. inner_limit flags list (progress_of mid.lists names1 marks1 t1 steps1)) (gives-is rest next answer gives) ∙ inner-append flags (answers_in answer) next (progress_of mid.lists names1 marks1 t1 steps1)
+
+  pub reads-few : (steps2 : ℕ) → steps2 ≤ steps1 + inner_limit flags (answers_in answer) (progress_of mid.lists names1 marks1 t1 steps1) → steps2 ≤ steps + inner_limit flags all (progress_of old.lists names marks t steps)
+  reads-few steps2 few =
+      let before : steps1 + inner_limit flags rest (progress_of mid.lists names1 marks1 t1 steps1) ≤ steps + inner_limit flags all (progress_of old.lists names marks t steps) = r.spent in
+      omega (arith, few, split-limit, before)
+
   pub reads-more : (new : StoredLists) (names2 : List Entry) (marks2 : MarkList) (t2 : Translator) (steps2 : ℕ) → IsTranslating new names2 t2 → Keeps mid.lists new.lists (all_roots t1.nesting) (all_roots t2.nesting)
-      → progress_of new.lists names2 marks2 t2 steps2 ≡ after_answers flags (answers_in answer) (progress_of mid.lists names1 marks1 t1 steps1) → Reads flags all old names marks t steps next new names2 marks2 t2 steps2
-  reads-more new names2 marks2 t2 steps2 is keeps progress = record {
+      → progress_of new.lists names2 marks2 t2 steps2 ≡ after_answers flags (answers_in answer) (progress_of mid.lists names1 marks1 t1 steps1) → steps2 ≤ steps1 + inner_limit flags (answers_in answer) (progress_of mid.lists names1 marks1 t1 steps1) → Reads flags all old names marks t steps next new names2 marks2 t2 steps2
+  reads-more new names2 marks2 t2 steps2 is keeps progress few = record {
     translating = is;
     keeps = keeps-trans old.lists mid.lists new.lists (all_roots t.nesting) (all_roots t1.nesting) (all_roots t2.nesting) r.keeps keeps;
     progress =
@@ -144,6 +159,10 @@ module _ (flags : Flags) (all : List Answer) (old : StoredLists) (names : List E
         ∙ (sym (after-append flags (answers_in answer) next (progress_of mid.lists names1 marks1 t1 steps1))
         ∙ (ap (λ list. after_answers flags list (progress_of mid.lists names1 marks1 t1 steps1)) (sym (gives-is rest next answer gives)) ∙ r.progress));
     starts = split.1;
+    spent =
+        let behind : inner_limit flags next (progress_of new.lists names2 marks2 t2 steps2) ≡ inner_limit flags next (after_answers flags (answers_in answer) (progress_of mid.lists names1 marks1 t1 steps1)) = ap (inner_limit flags next) progress in
+        let before : steps1 + inner_limit flags rest (progress_of mid.lists names1 marks1 t1 steps1) ≤ steps + inner_limit flags all (progress_of old.lists names marks t steps) = r.spent in
+        omega (arith, few, split-limit, behind, before);
     way = λ entries h. r.way entries (subst (λ list. NamesOnTheWay flags list (progress_of mid.lists names1 marks1 t1 steps1) entries) (sym (gives-is rest next answer gives))
         (later-all flags (answers_in answer) next (progress_of mid.lists names1 marks1 t1 steps1) entries (subst (λ p. NamesOnTheWay flags next p entries) progress h)));
   }

@@ -1,5 +1,5 @@
 -- The whole text ends.
-use Rattle.std.proofs.Common.{◌≡◌, ℕ, ◌+◌, List, [], ◌∷◌, refl, ap, ◌∙◌, subst, arith}
+use Rattle.std.proofs.Common.{◌≡◌, ℕ, ◌+◌, ◌≤◌, List, [], ◌∷◌, refl, ap, ◌∙◌, subst, arith}
 use Rattle.cw_base.specs.declared.flags.Flags.{Flags}
 use Rattle.cw_lex.specs.Answers.{Answer, Token, Begin, Finish, Note}
 use Rattle.cw_lex.specs.declared.tokens.TokKind.{TokKind}
@@ -16,6 +16,7 @@ use Rattle.cw_reduce.specs.declared.nesting.Open.TheVariants.{CText, Comment}
 use Rattle.cw_reduce.specs.declared.translating.Translator.{Translator}
 use Rattle.cw_reduce.specs.Opening.{last_line, all_roots, IsTranslating, progress_of}
 use Rattle.cw_reduce.specs.Retyping.{Retypes, NamesHere, same, retyped, NamesOnTheWay, here, at_end, later}
+use Rattle.cw_reduce.specs.StepLimits.{answer_limit, finish_limit, inner_limit, text_limit, whole_limit}
 use Rattle.cw_reduce.specs.Translating.{Frame, Progress, Translation, state_in, last_scraps, after_token, after_begin, after_finish, after_answer, after_answers, all_ended, begun, translation}
 use Rattle.cw_reduce.specs.Translating.{CText as CTextFrame, Comment as CommentFrame}
 use Rattle.cw_reduce.proofs.FinishSteps.{open-line}
@@ -103,3 +104,32 @@ way-end flags (answer ∷ answers) p q new e h = later answer answers p new (way
 
 pub here-start : (flags : Flags) (answers : List Answer) (names : List Entry) (marks : List ℕ) → NamesOnTheWay flags answers (begun names marks) names
 here-start flags answers names marks = here answers (begun names marks) names (same refl)
+
+-- limits of steps don't depend on what was counted before
+behind-limit : (flags : Flags) (n : ℕ) (answer : Answer) (p : Progress) → answer_limit flags answer (behind n p) ≡ answer_limit flags answer p
+behind-limit flags n (Token token) p = refl
+behind-limit flags n (Begin token) p = refl
+behind-limit flags n (Note note place) p = refl
+behind-limit flags n (Finish token) p = same-finish p.frames
+  where
+    same-finish : (frames : List Frame) → finish_limit flags frames (behind n p) ≡ finish_limit flags frames p
+    same-finish [] = refl
+    same-finish (CTextFrame scraps ∷ frames) = refl
+    same-finish (CommentFrame number items ∷ frames) = refl
+
+pub behind-inner : (flags : Flags) (n : ℕ) (answers : List Answer) (p : Progress) → inner_limit flags answers (behind n p) ≡ inner_limit flags answers p
+behind-inner flags n [] p = refl
+behind-inner flags n (answer ∷ answers) p =
+    ap (λ m. m + inner_limit flags answers (after_answer flags answer (behind n p))) (behind-limit flags n answer p)
+    ∙ ap (λ m. answer_limit flags answer p + m) (ap (inner_limit flags answers) (behind-answer flags n answer p) ∙ behind-inner flags n answers (after_answer flags answer p))
+
+-- the steps of the inner texts, and those of the whole
+pub within-limit : (flags : Flags) (n : ℕ) (answers : List Answer) (p : Progress) (q : Progress) (mid end : ℕ) → q ≡ after_answers flags answers (behind n p) → mid ≤ n + inner_limit flags answers p
+    → end ≤ mid + text_limit flags (last_scraps q.frames) q → end ≤ n + whole_limit flags answers p
+within-limit flags n answers p q mid end is low high =
+    let same : q ≡ behind n (after_answers flags answers p) = is ∙ behind-answers flags n answers p in
+    let last : text_limit flags (last_scraps q.frames) q ≡ text_limit flags (last_scraps (after_answers flags answers p).frames) (after_answers flags answers p) = ap (λ (x : Progress). text_limit flags (last_scraps x.frames) x) same in
+    omega (arith, low, high, last)
+
+pub inner-start : (flags : Flags) (n : ℕ) (answers list : List Answer) (q p : Progress) (steps : ℕ) → list ≡ answers → q ≡ behind n p → steps ≤ n + inner_limit flags list q → steps ≤ n + inner_limit flags answers p
+inner-start flags n answers list q p steps l e h = subst (λ m. steps ≤ n + m) (ap (λ xs. inner_limit flags xs q) l ∙ (ap (inner_limit flags answers) e ∙ behind-inner flags n answers p)) h

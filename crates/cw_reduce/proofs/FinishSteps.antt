@@ -11,7 +11,7 @@ use Rattle.cw_names.specs.Names.{Entry}
 use Rattle.cw_table.specs.Normal.{normal, count}
 use Rattle.cw_table.specs.Productions.{productions}
 use Rattle.cw_table.specs.Rewriting.{State}
-use Rattle.cw_table.specs.WalkCounts.{ticks}
+use Rattle.cw_table.specs.WalkCounts.{reservings, ticks}
 use Rattle.cw_tokens.specs.declared.token.ListId.{ListId}
 use Rattle.cw_tokens.specs.declared.token.Token.{Token}
 use Rattle.cw_tokens.specs.Shapes.{unfolded}
@@ -35,6 +35,7 @@ use Rattle.cw_reduce.specs.Gathering.{Gathers, part_seen, inner_lists}
 use Rattle.cw_reduce.specs.Opening.{with_entry, with_part, frame_of, frames_of, open_roots, all_roots, IsNamedItem, AreSoundScraps, IsSoundFrame, IsTranslating, progress_of}
 use Rattle.cw_reduce.specs.Reduction.{words_of}
 use Rattle.cw_reduce.specs.Retyping.{Retypes, NamesHere, retyped}
+use Rattle.cw_reduce.specs.StepLimits.{finish_limit}
 use Rattle.cw_reduce.specs.Translating.{Progress, CommentItem, InnerText, with_scrap, with_item, with_categories, comment_tree, comment_scrap, after_finish}
 use Rattle.cw_reduce.proofs.Beside.{outside-group, right-roots, beside-roots, beside-keeps}
 use Rattle.cw_reduce.proofs.GatherLaws.{gathers-roots, gathers-keeps, comment-named, comment-agrees}
@@ -242,3 +243,10 @@ comment-step flags old new names marks t t' number parts outer list steps tree g
 pub text-names : (flags : Flags) (store : StoredLists) (names names' : List Entry) (marks : MarkList) (t : Translator) (line : List LineEntry) (outer : List Open) (steps : ℕ)
     → t.nesting ≡ CText line ∷ outer → Retypes flags (state_of store.lists line marks names) names names' → NamesHere flags (progress_of store.lists names marks t steps) names'
 text-names flags store names names' marks t line outer steps open_is r = retyped (scraps_of store.lists line) (frames_of store.lists outer) (ap (frames_of store.lists) open_is) r
+
+pub text-bound : (flags : Flags) (store : StoredLists) (names : List Entry) (marks : MarkList) (t : Translator) (line : List LineEntry) (outer : List Open) (steps steps' : ℕ)
+    → t.nesting ≡ CText line ∷ outer → steps' ≤ steps + (132 * length line + length line * reservings productions flags (state_of store.lists line marks names))
+    → steps' ≤ steps + finish_limit flags (frames_of store.lists t.nesting) (progress_of store.lists names marks t steps)
+text-bound flags store names marks t line outer steps steps' open_is h =
+    subst (λ all. steps' ≤ steps + finish_limit flags (frames_of store.lists all) (progress_of store.lists names marks t steps)) (sym open_is)
+    (subst (λ n. steps' ≤ steps + (132 * n + n * reservings productions flags (state_of store.lists line marks names))) (sym (length-map line (seen store.lists))) h)

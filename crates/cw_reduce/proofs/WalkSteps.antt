@@ -33,7 +33,14 @@ use Rattle.cw_scraps.specs.Applying.{row_of, no_row, retyped}
 use Rattle.cw_scraps.specs.Inserting.{entry_cats}
 use Rattle.cw_scraps.specs.Lines.{no_entry}
 use Rattle.cw_reduce.specs.Reduction.{IsFirst, words_of}
-use Rattle.cw_reduce.proofs.Going.{window-four}
+
+-- the window of four
+window-four : (cats : List Cat) → window_of cats ≡ get_or cats 0 End ∷ get_or cats 1 End ∷ get_or cats 2 End ∷ get_or cats 3 End ∷ []
+window-four [] = refl
+window-four (a ∷ []) = refl
+window-four (a ∷ b ∷ []) = refl
+window-four (a ∷ b ∷ c ∷ []) = refl
+window-four (a ∷ b ∷ c ∷ d ∷ cats) = refl
 
 -- the four categories at a place of a line
 cat-line : (line : List LineEntry) (place i : ℕ) → (get_or line (place + i) no_entry).cat ≡ get_or (drop place (entry_cats line)) i End

@@ -1,7 +1,3 @@
-pub mod Plain
-pub mod Laid
-pub mod Lines
-pub mod Reducing
 pub mod Reduction
 pub mod Translating
 pub mod Gathering
@@ -9,3 +5,4 @@ pub mod Visible
 pub mod TranslationLaws
 pub mod Opening
 pub mod Retyping
+pub mod StepLimits

@@ -1,6 +1,4 @@
-use crate::join::Item;
-use crate::print::{put_run, put_sign, run_control};
-use crate::trim::trim;
+use crate::test_printing::{put_run, put_sign, run_control, trimmed};
 use crate::{Translated, translate};
 use cw_base::{Bytes, Flags, Kept, Memory, Span, Steps};
 use cw_lex::Mode;
@@ -106,26 +104,6 @@ fn put_item(out: &mut Bytes, item: FlatItem, text: &[u8], names: &Names) -> Resu
     }
 }
 
-// Only controls can be trimmed: any other item is its place in the list.
-fn trimmed(alloc: Global, items: &FlatTokens) -> Result<Vec<Item>, Memory> {
-    let mut all = Vec::new(alloc);
-    for i in 0..items.len() {
-        all.push(match items.item(i) {
-            FlatItem::Control(control) => Item::Sign(control),
-            _ => Item::Source(i),
-        })?;
-    }
-    Ok(trim(alloc, &all)?)
-}
-
-fn item_at(items: &FlatTokens, item: Item) -> Option<FlatItem> {
-    match item {
-        Item::Sign(control) => Some(FlatItem::Control(control)),
-        Item::Source(i) if i < items.len() => Some(items.item(i)),
-        _ => None,
-    }
-}
-
 // How many inner texts are open behind an item.
 fn depth_after(depth: usize, item: FlatItem) -> usize {
     match item {
@@ -143,13 +121,13 @@ fn printed(alloc: Global, text: &[u8], outcome: &Outcome) -> Result<Bytes, Memor
     for item in &trimmed(alloc, &outcome.items)? {
         if let Some(control) = run_control(*item) {
             run.push(control)?;
-        } else if let Some(item) = item_at(&outcome.items, *item) {
+        } else {
             if depth == 0 {
                 put_run(&mut out, &run)?;
             }
             run.clear();
-            put_item(&mut out, item, text, &outcome.names)?;
-            depth = depth_after(depth, item);
+            put_item(&mut out, *item, text, &outcome.names)?;
+            depth = depth_after(depth, *item);
         }
     }
     put_run(&mut out, &run)?;

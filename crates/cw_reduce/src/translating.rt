@@ -1,7 +1,7 @@
 ghost use Rattle.std.specs.Prelude.{◌≡◌, ℕ, ◌+◌, ◌*◌, ◌^◌, ◌<◌, ◌≤◌, ◌⊎◌, [], ◌∷◌, length, IfOk, OnOk, OnErr, None};
 ghost use Rattle.cw_table.specs.Normal.{count, normal};
 ghost use Rattle.cw_table.specs.Productions.{productions};
-ghost use Rattle.cw_table.specs.WalkCounts.{ticks};
+ghost use Rattle.cw_table.specs.WalkCounts.{reservings, ticks};
 ghost use Rattle.cw_trees.specs.Joining.{whole};
 ghost use Rattle.cw_tokens.specs.Shapes.{unfolded};
 ghost use Rattle.cw_lex.specs.Answers.{seen};
@@ -15,6 +15,7 @@ ghost use Rattle.cw_reduce.specs.declared.nesting.Open.TheVariants as CTexts;
 ghost use Rattle.cw_reduce.specs.Opening.{IsTranslating, StartsBelow, all_roots, answers_in, begun_by, frames_of, progress_of, translation_of};
 ghost use Rattle.cw_reduce.specs.Reduction.{words_of};
 ghost use Rattle.cw_reduce.specs.Retyping.{NamesAmong, NamesHere, NamesOnTheWay, Retypes};
+ghost use Rattle.cw_reduce.specs.StepLimits.{finish_limit, inner_limit, text_limit, whole_limit};
 ghost use Rattle.cw_reduce.specs.Translating.{after_answers, after_finish, after_token, all_ended, begun, last_scraps, state_in, translation, with_categories};
 
 use crate::gathering::{CommentPart, comment_list, put_together};
@@ -56,6 +57,7 @@ fn translate_line<L: Ledger>(
     ensures names { OnOk result (names.new ≡ with_categories (normal productions flags.now (state_of store.old.lists line marks.old names.old)).cats names.old) }
     ensures marks { OnOk result (marked_names marks.new ≡ (normal productions flags.now (state_of store.old.lists line marks.old names.old)).marks) }
     ensures steps { OnOk result (steps.new ≡ steps.old + ticks productions flags.now (state_of store.old.lists line marks.old names.old)) }
+    ensures bound { steps.new ≤ steps.old + (132 * length line + length line * reservings productions flags.now (state_of store.old.lists line marks.old names.old)) }
     ensures words { words_of names.new ≡ words_of names.old }
     ensures named { IfOk result (λ done. IsNamedBelow (length names.new) (unfolded store.new.lists done.list.index)) }
     ensures root { IfOk result (λ done. AreRoots store.new.lists (done.list.index ∷ [])) }
@@ -178,6 +180,7 @@ impl Translator {
         ensures progress { OnOk result (progress_of store.new.lists names.new marks.new self.new steps.new ≡ after_finish flags.now (frames_of store.old.lists self.old.nesting) (progress_of store.old.lists names.old marks.old self.old steps.old)) }
         ensures keeps { OnOk result (Keeps store.old.lists store.new.lists (all_roots self.old.nesting) (all_roots self.new.nesting)) }
         ensures names { NamesHere flags.now (progress_of store.old.lists names.old marks.old self.old steps.old) names.new }
+        ensures bound { steps.new ≤ steps.old + finish_limit flags.now (frames_of store.old.lists self.old.nesting) (progress_of store.old.lists names.old marks.old self.old steps.old) }
         ensures idle { store.new.building ≡ None }
     {
         let _spare = store.spare();
@@ -217,6 +220,7 @@ impl Translator {
         ensures progress { OnOk result (progress_of store.new.lists names.new marks.new self.new steps.new ≡ after_answers flags.now (answers_in answer.now) (progress_of store.old.lists names.old marks.old self.old steps.old)) }
         ensures keeps { OnOk result (Keeps store.old.lists store.new.lists (all_roots self.old.nesting) (all_roots self.new.nesting)) }
         ensures names { NamesAmong flags.now (answers_in answer.now) (progress_of store.old.lists names.old marks.old self.old steps.old) names.new }
+        ensures bound { steps.new ≤ steps.old + inner_limit flags.now (answers_in answer.now) (progress_of store.old.lists names.old marks.old self.old steps.old) }
         ensures idle { store.new.building ≡ None }
     {
         match answer {
@@ -244,6 +248,7 @@ impl Translator {
         ensures progress { OnOk result (progress_of store.new.lists names.new marks.new self.new steps.new ≡ after_answers flags.now lexer.old (progress_of store.old.lists names.old marks.old self.old steps.old)) }
         ensures keeps { OnOk result (Keeps store.old.lists store.new.lists (all_roots self.old.nesting) (all_roots self.new.nesting)) }
         ensures names { OnErr result (NamesOnTheWay flags.now lexer.old (progress_of store.old.lists names.old marks.old self.old steps.old) names.new) }
+        ensures bound { steps.new ≤ steps.old + inner_limit flags.now lexer.old (progress_of store.old.lists names.old marks.old self.old steps.old) }
         ensures idle { store.new.building ≡ None }
     {
         loop {
@@ -272,6 +277,7 @@ impl Translator {
         ensures root { IfOk result (λ done. AreRoots store.new.lists (done.list.index ∷ [])) }
         ensures keeps { IfOk result (λ done. Keeps store.old.lists store.new.lists (all_roots self.old.nesting) (done.list.index ∷ [])) }
         ensures retypes { let p = progress_of store.old.lists names.old marks.old self.old steps.old in Retypes flags.now (state_in (last_scraps p.frames) p) names.old names.new }
+        ensures bound { let p = progress_of store.old.lists names.old marks.old self.old steps.old in steps.new ≤ steps.old + text_limit flags.now (last_scraps p.frames) p }
         ensures idle { store.new.building ≡ None }
     {
         let line = self.nesting.take_line(alloc);
@@ -313,6 +319,8 @@ pub fn translate<L: Ledger>(
     ensures productions { IfOk result (λ done. done.productions ≡ (translation flags.now (tokens_of text.now span.start span.end mode) names.old (marked_names marks.old)).productions) }
     ensures few { IfOk result (λ done. done.productions ≤ 8 * done.scraps) }
     ensures steps { OnOk result (steps.new ≡ steps.old + (translation flags.now (tokens_of text.now span.start span.end mode) names.old (marked_names marks.old)).steps) }
+    // Whatever it answers: of each text of n scraps 132 n steps, and n for each production by a row that reserves.
+    ensures bound { steps.new ≤ steps.old + whole_limit flags.now (tokens_of text.now span.start span.end mode) (begun names.old (marked_names marks.old)) }
     // The list is one of the store to which no list refers, and the names in its tree are names.
     ensures root { IfOk result (λ done. AreRoots store.new.lists (done.list.index ∷ [])) }
     ensures named { IfOk result (λ done. IsNamedBelow (length names.new) (unfolded store.new.lists done.list.index)) }

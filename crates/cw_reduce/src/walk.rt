@@ -71,7 +71,11 @@ pub fn reduce<L: Ledger>(
 }
 
 // The first row that fits at a place.
-fn row_at<L: Ledger>(line: &ScrapLine, place: usize, steps: &mut Steps<L>) -> Option<RowNo>
+pub(crate) fn row_at<L: Ledger>(
+    line: &ScrapLine,
+    place: usize,
+    steps: &mut Steps<L>,
+) -> Option<RowNo>
     requires { place < length line.now }
     ensures first { MatchOption result (first_of productions (drop place (entry_cats line.now)) ≡ None) (λ row. IsFirst (drop place (entry_cats line.now)) row.number) }
     ensures steps { steps.new ≡ steps.old + 4 }
@@ -96,7 +100,7 @@ fn distance(row: RowNo) -> usize
 }
 
 // One production at a place, where its row fits, with the room that it needs.
-fn produce<L: Ledger>(
+pub(crate) fn produce<L: Ledger>(
     row: RowNo,
     place: usize,
     flags: &Flags,

@@ -60,7 +60,7 @@ fn add(
     line.add(leaf.cat, leaf.list, leaf.left, leaf.right)
 }
 
-fn add_all(
+pub(crate) fn add_all(
     bytes: &[u8],
     line: &mut ScrapLine,
     store: &mut TokenStore,

@@ -8,3 +8,6 @@ pub mod NameLaws
 pub mod PassLaws
 pub mod ShortLaws
 mod Rows
+pub mod CRows
+pub mod CTextLaws
+pub mod CPartLaws

@@ -6,8 +6,8 @@ use Rattle.cw_lex.specs.Answers.{Answer}
 use Rattle.cw_lex.specs.Lexing.{tokens_of}
 use Rattle.cw_lex.specs.declared.tokens.Mode.TheVariants as modes
 use Rattle.cw_names.specs.Words.{built_in_words}
-use Rattle.cw_reduce.specs.Plain.{plain_scraps, c_part, has_scraps}
 use Rattle.cw_weave.specs.Built.{section_is_built}
+use Rattle.cw_weave.specs.CParts.{c_part, has_scraps}
 use Rattle.cw_weave.specs.Formats.{names_after}
 use Rattle.cw_weave.specs.Inks.{inks, laid}
 use Rattle.cw_weave.specs.Sections.{Section, Sections, sections_of, parts_of, c_part_of, is_starred, depth_of, is_changed}
@@ -34,7 +34,8 @@ part_by false part = []
 part_by true part = codes "\\Y\\B" ++ (c_part part ++ codes "\\par\n")
 
 abbrev pub part_text : List ℕ → List ℕ
-part_text part = part_by (has_scraps (plain_scraps part)) part
+part_text [] = []
+part_text (byte ∷ bytes) = part_by (has_scraps (byte ∷ bytes)) (byte ∷ bytes)
 
 -- A section: its head, directly behind it its TeX part, its C part, and a line that ends it.
 abbrev pub section_text : List MergedLine → ℕ → Section → List ℕ

@@ -9,7 +9,7 @@ use Rattle.cw_lex.specs.declared.tokens.TokKind.TheVariants as kinds
 use Rattle.cw_lex.specs.Answers.{Answer, Token, Begin, Finish, Note}
 use Rattle.cw_names.specs.declared.entry.EntryKind.TheVariants.{Ident}
 use Rattle.cw_names.specs.Names.{Entry, place_of}
-use Rattle.cw_reduce.specs.Plain.{is_letter, is_plain_part}
+use Rattle.cw_weave.specs.Plain.{is_letter, is_plain_part}
 use Rattle.cw_weave.specs.Sections.{Section, parts_of, c_part_of}
 
 -- TeX text without inner C text, citations, index entries and definitions

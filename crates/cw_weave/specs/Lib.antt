@@ -1,3 +1,6 @@
+pub mod Plain
+pub mod CText
+pub mod CParts
 pub mod Messages
 pub mod Notes
 pub mod Scanned

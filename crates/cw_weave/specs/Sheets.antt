@@ -1,6 +1,5 @@
 -- What contracts see of the section that is being written.
-use Rattle.std.specs.Prelude.{◌≡◌, ◌≤◌, ℕ, length, Bool, true, List, [], ◌∷◌, slice_range}
-use Rattle.cw_reduce.specs.Plain.{is_plain_part}
+use Rattle.std.specs.Prelude.{◌≡◌, ◌≤◌, ℕ, length, Bool, true, List, slice_range}
 use Rattle.cw_weave.specs.declared.sheet.Sheet.{Sheet}
 use Rattle.cw_weave.specs.Book.{part_text}
 use Rattle.cw_weave.specs.Inks.{end_if}
@@ -17,11 +16,6 @@ abbrev pub part_end : List ℕ → ℕ → Stand → List ℕ
 part_end text end (InLimbo holds) = end_if holds
 part_end text end (InTex holds) = end_if holds
 part_end text end (InC start) = part_text (slice_range text start end)
-
--- the bytes are a C part of plain statements, or none
-abbrev pub part_is_plain : List ℕ → Bool
-part_is_plain [] = true
-part_is_plain (byte ∷ bytes) = is_plain_part (byte ∷ bytes)
 
 -- the same section, its part and its page aside
 pub record SameSection (old new : Sheet) : Type 0 where

@@ -1,6 +1,11 @@
 //! The top call: a web is read, woven and written.
 #![tactic(auto)]
 
+mod c_part;
+#[cfg(test)]
+mod c_part_tests;
+mod c_print;
+mod c_trim;
 mod formats;
 #[cfg(test)]
 mod merging_tests;
@@ -9,6 +14,7 @@ mod notes;
 mod output;
 mod page;
 mod places;
+mod plain;
 mod reading;
 #[cfg(test)]
 mod scanning_tests;

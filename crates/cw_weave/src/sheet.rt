@@ -10,15 +10,16 @@ ghost use Rattle.cw_weave.specs.Reading.{Knows};
 ghost use Rattle.cw_weave.specs.Scan.{ended, held, inked, is_right, moved, part_is_right, said, tex_is_right, tex_moved, tex_said};
 ghost use Rattle.cw_weave.specs.Sections.{begins_c, depth_by, drop_zeros, holds_changed, starred_kind};
 ghost use Rattle.cw_lex.specs.Bytes.{is_digit};
-ghost use Rattle.cw_weave.specs.Sheets.{part_end, part_is_plain, stand_of, IsBegun, IsOnPage, SameSection};
+ghost use Rattle.cw_weave.specs.Sheets.{part_end, stand_of, IsBegun, IsOnPage, SameSection};
 
+use crate::c_part::c_part_bytes;
 use crate::formats::Letters;
 use crate::page::Page;
 use crate::places::holds_changed;
+use crate::plain::is_plain_c_part;
 use crate::slices::part_of;
 use cw_base::{Memory, Web};
 use cw_lex::{Code, Tok, TokKind};
-use cw_reduce::{c_part_bytes, has_scraps, is_plain_c_part};
 use itoa::Buffer;
 use std::alloc::Global;
 
@@ -151,7 +152,6 @@ fn behind_code(code: &[u8]) -> &[u8]
 /// Whether bytes are a C part that is built so far, or none.
 fn is_built_part(letters: &Letters, part: &[u8]) -> bool
     ensures built { (names : List Entry) → Knows names letters.now → result ≡ part_is_built names part.now }
-    ensures plain { result ≡ true → part_is_plain part.now ≡ true }
 {
     if part.is_empty() {
         return true;
@@ -162,18 +162,18 @@ fn is_built_part(letters: &Letters, part: &[u8]) -> bool
     letters.all_are_expressions(&part[2..])
 }
 
-/// Prints a C part that is built so far, where it has a scrap.
+/// Prints a C part, where it has a scrap.
 fn print_part(alloc: Global, page: &mut Page, part: &[u8]) -> Result<(), Memory>
-    requires { part_is_plain part.now ≡ true }
     ensures { OnOk result (page.new.bytes.items ≡ page.old.bytes.items ++ part_text part.now) }
 {
-    if part.is_empty() || !has_scraps(part) {
+    if part.is_empty() {
         return Ok(());
     }
-    let bytes = c_part_bytes(alloc, part, 0, part.len())?;
-    page.print(b"\\Y\\B")?;
-    page.print(bytes.as_slice())?;
-    page.print(b"\\par\n")?;
+    if let Some(bytes) = c_part_bytes(alloc, part)? {
+        page.print(b"\\Y\\B")?;
+        page.print(bytes.as_slice())?;
+        page.print(b"\\par\n")?;
+    }
     Ok(())
 }
 

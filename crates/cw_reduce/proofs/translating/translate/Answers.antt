@@ -1,4 +1,4 @@
-use Rattle.std.proofs.Common.{◌≡◌, ◌+◌, [], ◌∷◌, refl, ap, ◌∙◌, subst, arith}
+use Rattle.std.proofs.Common.{◌≡◌, ◌+◌, ◌≤◌, [], ◌∷◌, refl, ap, ◌∙◌, subst, arith}
 use Rattle.std.proofs.lemmas.Result.{IfOk-weaker}
 use Rattle.cw_lex.specs.Lexing.{tokens_of}
 use Rattle.cw_tokens.specs.Shapes.{unfolded}
@@ -7,9 +7,10 @@ use Rattle.cw_scraps.specs.Marking.{marked_names}
 use Rattle.cw_scraps.proofs.Applied.{keeps-trans}
 use Rattle.cw_reduce.specs.Opening.{all_roots, progress_of, translation_of}
 use Rattle.cw_reduce.specs.Retyping.{NamesOnTheWay, at_end}
+use Rattle.cw_reduce.specs.StepLimits.{inner_limit}
 use Rattle.cw_reduce.specs.Translating.{after_answers, all_ended, begun, translation}
 use Rattle.cw_reduce.proofs.AnswerSteps.{on-err, within-starts}
-use Rattle.cw_reduce.proofs.EndSteps.{behind, translated, start-progress, way-behind, way-end, here-start}
+use Rattle.cw_reduce.proofs.EndSteps.{behind, here-start, inner-start, start-progress, translated, way-behind, way-end, within-limit}
 use Rattle.cw_reduce.proofs.translating.translate.Goals as goal
 
 pub returns-in_err-translator-clause-refused : goal.returns-in_err-translator-clause-refused
@@ -48,3 +49,12 @@ pub returns-clause-refused : goal.returns-clause-refused
 returns-clause-refused g c = on-err c.end.result (NamesOnTheWay c.args.flags.now (tokens_of c.args.text.now c.args.span.start c.args.span.end c.args.mode) (begun c.args.names.now (marked_names c.args.marks.now)) c.end.new.names)
     (way-behind c.args.flags.now c.args.steps.now (tokens_of c.args.text.now c.args.span.start c.args.span.end c.args.mode) (behind c.args.steps.now (begun c.args.names.now (marked_names c.args.marks.now))) (begun c.args.names.now (marked_names c.args.marks.now)) c.end.new.names refl
     (way-end c.args.flags.now (tokens_of c.args.text.now c.args.span.start c.args.span.end c.args.mode) (behind c.args.steps.now (begun c.args.names.now (marked_names c.args.marks.now))) (progress_of c.read.new.store.lists c.read.new.names c.read.new.marks c.read.new.self c.read.new.steps) c.end.new.names (c.in_ok-read.ensures.progress ∙ (ap (λ list. after_answers c.args.flags.now list (progress_of c.args.store.now.lists c.args.names.now c.args.marks.now c.in_ok-translator.translator c.args.steps.now)) c.over-lexer.ensures.tokens ∙ ap (after_answers c.args.flags.now (tokens_of c.args.text.now c.args.span.start c.args.span.end c.args.mode)) (start-progress c.args.store.now.lists c.args.names.now c.args.marks.now c.in_ok-translator.translator c.args.steps.now c.in_ok-translator.ensures))) (at_end (progress_of c.read.new.store.lists c.read.new.names c.read.new.marks c.read.new.self c.read.new.steps) c.end.new.names c.end.ensures.retypes)))
+
+pub returns-in_err-read-clause-bound : goal.returns-in_err-read-clause-bound
+returns-in_err-read-clause-bound g c = (
+    let low : c.read.new.steps ≤ c.args.steps.now + inner_limit c.args.flags.now (tokens_of c.args.text.now c.args.span.start c.args.span.end c.args.mode) (begun c.args.names.now (marked_names c.args.marks.now)) = (inner-start c.args.flags.now c.args.steps.now (tokens_of c.args.text.now c.args.span.start c.args.span.end c.args.mode) c.over-lexer.result (progress_of c.args.store.now.lists c.args.names.now c.args.marks.now c.in_ok-translator.translator c.args.steps.now) (begun c.args.names.now (marked_names c.args.marks.now)) c.read.new.steps c.over-lexer.ensures.tokens (start-progress c.args.store.now.lists c.args.names.now c.args.marks.now c.in_ok-translator.translator c.args.steps.now c.in_ok-translator.ensures) c.in_err-read.ensures.bound) in
+    omega (arith, low)
+    )
+
+pub returns-clause-bound : goal.returns-clause-bound
+returns-clause-bound g c = within-limit c.args.flags.now c.args.steps.now (tokens_of c.args.text.now c.args.span.start c.args.span.end c.args.mode) (begun c.args.names.now (marked_names c.args.marks.now)) (progress_of c.read.new.store.lists c.read.new.names c.read.new.marks c.read.new.self c.read.new.steps) c.read.new.steps c.end.new.steps (c.in_ok-read.ensures.progress ∙ (ap (λ list. after_answers c.args.flags.now list (progress_of c.args.store.now.lists c.args.names.now c.args.marks.now c.in_ok-translator.translator c.args.steps.now)) c.over-lexer.ensures.tokens ∙ ap (after_answers c.args.flags.now (tokens_of c.args.text.now c.args.span.start c.args.span.end c.args.mode)) (start-progress c.args.store.now.lists c.args.names.now c.args.marks.now c.in_ok-translator.translator c.args.steps.now c.in_ok-translator.ensures))) (inner-start c.args.flags.now c.args.steps.now (tokens_of c.args.text.now c.args.span.start c.args.span.end c.args.mode) c.over-lexer.result (progress_of c.args.store.now.lists c.args.names.now c.args.marks.now c.in_ok-translator.translator c.args.steps.now) (begun c.args.names.now (marked_names c.args.marks.now)) c.read.new.steps c.over-lexer.ensures.tokens (start-progress c.args.store.now.lists c.args.names.now c.args.marks.now c.in_ok-translator.translator c.args.steps.now c.in_ok-translator.ensures) c.in_ok-read.ensures.bound) c.end.ensures.bound

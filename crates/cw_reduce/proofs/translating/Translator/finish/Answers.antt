@@ -3,7 +3,7 @@ use Rattle.std.proofs.lemmas.Result.{on_ok_weaker}
 use Rattle.cw_scraps.proofs.Changings.{tied-idle}
 use Rattle.cw_reduce.specs.declared.gathering.CommentPart.TheVariants as part
 use Rattle.cw_reduce.specs.Opening.{with_part}
-use Rattle.cw_reduce.proofs.FinishSteps.{open-line, open-lists, text-step, text-names, comment-step}
+use Rattle.cw_reduce.proofs.FinishSteps.{open-line, open-lists, text-bound, text-step, text-names, comment-step}
 use Rattle.cw_reduce.proofs.translating.Translator.finish.Goals as goal
 
 pub translate_line-requires : goal.translate_line-requires
@@ -38,3 +38,12 @@ returns-in_err-count-in-Some-CText-clause-names g c = text-names c.args.flags.no
 
 pub returns-in_ok-count-in-Some-CText-clause-names : goal.returns-in_ok-count-in-Some-CText-clause-names
 returns-in_ok-count-in-Some-CText-clause-names g c = text-names c.args.flags.now c.args.store.now c.args.names.now c.translate_line.new.names c.args.marks.now c.args.self.now c.in-Some-CText.line c.end.new.self c.args.steps.now (c.in-Some-CText.ensures ∙ ap (λ x. x ∷ c.end.new.self) c.in-Some-CText.field-0-is) c.in_ok-done-in-Some-CText.ensures.retypes
+
+pub returns-in_err-done-in-Some-CText-clause-bound : goal.returns-in_err-done-in-Some-CText-clause-bound
+returns-in_err-done-in-Some-CText-clause-bound g c = text-bound c.args.flags.now c.args.store.now c.args.names.now c.args.marks.now c.args.self.now c.in-Some-CText.line c.end.new.self c.args.steps.now c.translate_line.new.steps (c.in-Some-CText.ensures ∙ ap (λ x. x ∷ c.end.new.self) c.in-Some-CText.field-0-is) c.in_err-done-in-Some-CText.ensures.bound
+
+pub returns-in_err-count-in-Some-CText-clause-bound : goal.returns-in_err-count-in-Some-CText-clause-bound
+returns-in_err-count-in-Some-CText-clause-bound g c = text-bound c.args.flags.now c.args.store.now c.args.names.now c.args.marks.now c.args.self.now c.in-Some-CText.line c.end.new.self c.args.steps.now c.translate_line.new.steps (c.in-Some-CText.ensures ∙ ap (λ x. x ∷ c.end.new.self) c.in-Some-CText.field-0-is) c.in_ok-done-in-Some-CText.ensures.bound
+
+pub returns-in_ok-count-in-Some-CText-clause-bound : goal.returns-in_ok-count-in-Some-CText-clause-bound
+returns-in_ok-count-in-Some-CText-clause-bound g c = text-bound c.args.flags.now c.args.store.now c.args.names.now c.args.marks.now c.args.self.now c.in-Some-CText.line c.end.new.self c.args.steps.now c.translate_line.new.steps (c.in-Some-CText.ensures ∙ ap (λ x. x ∷ c.end.new.self) c.in-Some-CText.field-0-is) c.in_ok-done-in-Some-CText.ensures.bound

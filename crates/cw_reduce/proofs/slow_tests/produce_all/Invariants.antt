@@ -1,0 +1,5 @@
+use Rattle.cw_scraps.specs.Lines.{IsSoundLine}
+use Rattle.cw_reduce.proofs.slow_tests.produce_all.Given as goal
+
+abbrev pub invariant-loop-done : goal.invariant-loop-done
+invariant-loop-done l = IsSoundLine l.store l.names l.line
