@@ -13,7 +13,8 @@ use Rattle.cw_names.specs.declared.entry.EntryKind.{EntryKind}
 use Rattle.cw_names.specs.declared.entry.EntryKind.TheVariants.{Ident, Roman, Typewriter, User}
 use Rattle.cw_names.specs.contracts.entry.KeyPartialEq.TheImpl.{eq-value}
 use Rattle.cw_names.specs.Names.{Entry, is_entry, place_of, with_entry, with_category}
-use Rattle.cw_names.specs.Inside.{entry_of}
+use Rattle.cw_names.specs.declared.entry.Wanted.{Wanted}
+use Rattle.cw_names.specs.Inside.{entry_of, is_wanted}
 
 -- what `==` says of two keys
 abbrev pub key_eq : Key → Key → Bool
@@ -46,6 +47,11 @@ place-keys k [] = refl
 place-keys k (e ∷ es) =
     ap (λ b. cond (not b) (1 + position_or_len (key_eq k) (keys_of es)) 0) (key_eq-is k e)
     ∙ ap (λ n. cond (not (is_entry k.kind k.text.items (entry_of e))) (1 + n) 0) (place-keys k es)
+
+-- so is the position of a key that is looked for
+place-wanted : (wanted : Wanted) (es : List (Key × Cat)) → position_or_len (is_wanted wanted) (keys_of es) ≡ place_of wanted.kind wanted.text.now (map entry_of es)
+place-wanted wanted [] = refl
+place-wanted wanted (e ∷ es) = ap (λ n. cond (not (is_entry wanted.kind wanted.text.now (entry_of e))) (1 + n) 0) (place-wanted wanted es)
 
 pub position-found : {X : Type 0} (test : X → Bool) (xs : List X) (i : ℕ) → position test xs ≡ Some i → position_or_len test xs ≡ i
 position-found test xs i h = pick (nat_lt (position_or_len test xs) (length xs)) (position_or_len test xs) i h
@@ -86,11 +92,14 @@ module _ (es : List (Key × Cat)) (names : List Entry) (view : map entry_of es �
   place-names : (k : Key) → k.kind ≡ kind → k.text.items ≡ text → position_or_len (key_eq k) (keys_of es) ≡ place_of kind text names
   place-names k p q = place-keys k es ∙ (λ i. place_of (p i) (q i) (view i))
 
-  pub found-place : (k : Key) → k.kind ≡ kind → k.text.items ≡ text → (i : ℕ) → Some i ≡ position (key_eq k) (keys_of es) → i ≡ place_of kind text names
-  found-place k p q i h = sym (position-found (key_eq k) (keys_of es) i (sym h)) ∙ place-names k p q
+  place-looked-for : (wanted : Wanted) → wanted.kind ≡ kind → wanted.text.now ≡ text → position_or_len (is_wanted wanted) (keys_of es) ≡ place_of kind text names
+  place-looked-for wanted p q = place-wanted wanted es ∙ (λ i. place_of (p i) (q i) (view i))
 
-  pub new-place : (k : Key) → k.kind ≡ kind → k.text.items ≡ text → position (key_eq k) (keys_of es) ≡ None → length es ≡ place_of kind text names
-  new-place k p q h = sym (length-map es (λ (e : Key × Cat). e.0)) ∙ sym (position-none (key_eq k) (keys_of es) h) ∙ place-names k p q
+  pub found-place : (wanted : Wanted) → wanted.kind ≡ kind → wanted.text.now ≡ text → (i : ℕ) → Some i ≡ position (is_wanted wanted) (keys_of es) → i ≡ place_of kind text names
+  found-place wanted p q i h = sym (position-found (is_wanted wanted) (keys_of es) i (sym h)) ∙ place-looked-for wanted p q
+
+  pub new-place : (wanted : Wanted) → wanted.kind ≡ kind → wanted.text.now ≡ text → position (is_wanted wanted) (keys_of es) ≡ None → length es ≡ place_of kind text names
+  new-place wanted p q h = sym (length-map es (λ (e : Key × Cat). e.0)) ∙ sym (position-none (is_wanted wanted) (keys_of es) h) ∙ place-looked-for wanted p q
 
   pub with_entry-present : place_of kind text names < length names → with_entry kind text names ≡ names
   with_entry-present h = ap (λ b. if b then names else names ++ record { kind = kind; text = text; category = Exp } ∷ []) (lt-ltb (place_of kind text names) (length names) h)

@@ -1,4 +1,5 @@
 pub mod Names
+pub mod Wanting
 pub mod Words
 pub mod Inside
 pub mod Table

@@ -1,3 +1,16 @@
+ghost use Rattle.std.specs.Prelude.{◌&&◌, ◌∷◌, length, nat_eq};
+ghost use Rattle.std.proofs.Common.{◌∙◌, ap, rules};
+ghost use Rattle.std.specs.Hash.{le_bytes, u8};
+ghost use Rattle.std.specs.List.{flat_map};
+ghost use denote.Enum.Declared.{tag_of};
+ghost use Rattle.cw_names.specs.contracts.entry.EntryKind.{the_type};
+ghost use Rattle.std.specs.Cmp.Lexicographic.{pointwise};
+ghost use Rattle.cw_names.specs.Names.{same_kind};
+ghost use Rattle.cw_names.specs.Inside.{is_wanted};
+ghost use Rattle.cw_names.specs.Wanting.{alike};
+
+use indexmap::Equivalent;
+
 /// What a name is: an identifier, or an index entry of one of three kinds.
 #[derive(Clone, Copy, PartialEq, Eq, Hash, Debug)]
 pub enum EntryKind {
@@ -18,4 +31,23 @@ pub struct NameId {
 pub(crate) struct Key {
     pub kind: EntryKind,
     pub text: Vec<u8>,
+}
+
+/// A name that is looked for, by a text that lies elsewhere.
+#[derive(Clone, Copy, PartialEq, Eq, Hash)]
+pub(crate) struct Wanted<'a> {
+    pub kind: EntryKind,
+    pub text: &'a [u8],
+}
+
+impl<'a> Equivalent<Key> for Wanted<'a> {
+    ghost equivalent = { is_wanted };
+
+    ghost respects_hash = { alike (λ kind text. le_bytes 8 (tag_of the_type kind) ∷ le_bytes 8 (length text) ∷ flat_map u8 text) };
+
+    ghost respects_eq = { λ q x y h. alike (λ kind text. same_kind kind y.kind && pointwise nat_eq text y.text.items) q x h ∙ ap (λ b. b && pointwise nat_eq x.text.items y.text.items) (Prim.search rules) };
+
+    fn equivalent(&self, key: &Key) -> bool {
+        self.kind == key.kind && self.text == key.text.as_slice()
+    }
 }

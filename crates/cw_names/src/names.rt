@@ -4,7 +4,7 @@ ghost use Rattle.cw_names.specs.Names.{Entry, place_of, with_entry, with_categor
 ghost use Rattle.cw_names.specs.Table.{row, with_table, has_no_end};
 ghost use Rattle.cw_names.specs.Words.{built_in_words};
 
-use crate::entry::Key;
+use crate::entry::{Key, Wanted};
 use crate::words::WORDS;
 use crate::{EntryKind, NameId};
 use cw_base::{Cat, Memory};
@@ -16,8 +16,6 @@ use std::marker::Model;
 #[derive(Drop)]
 pub struct Names {
     categories: IndexMap<Key, Cat>,
-    /// What is looked for. Its room serves all look-ups.
-    wanted: Key,
     alloc: Global,
 }
 
@@ -42,10 +40,6 @@ impl Names {
     {
         let mut names = Names {
             categories: IndexMap::new(alloc),
-            wanted: Key {
-                kind: EntryKind::Ident,
-                text: Vec::new(alloc),
-            },
             alloc,
         };
         names.add_words(&WORDS)?;
@@ -72,10 +66,7 @@ impl Names {
         ensures ok { OnOk result (self.new ≡ with_entry kind text.now self.old) }
         ensures err { OnErr result (self.new ≡ self.old) }
     {
-        self.wanted.kind = kind;
-        self.wanted.text.clear();
-        self.wanted.text.extend_from_slice(text)?;
-        match self.categories.get_index_of(&self.wanted) {
+        match self.categories.get_index_of(Wanted { kind, text }) {
             Some(index) => Ok(NameId { index }),
             None => {
                 let index = self.categories.len();

@@ -1,4 +1,4 @@
-use Rattle.std.proofs.Common.{◌≡◌, ◌++◌, length, sym, ap, ◌∙◌, refl, arith, map}
+use Rattle.std.proofs.Common.{◌≡◌, length, sym, ap, ◌∙◌, refl, arith, map}
 use Rattle.std.proofs.lemmas.List.{length-map}
 use Rattle.cw_names.specs.Names.{place_of}
 use Rattle.cw_names.specs.Inside.{entry_of, has_no_end_entry}
@@ -9,25 +9,22 @@ use Rattle.cw_names.proofs.names.Names.find_or_add.Goals as goal
 pub returns-in-Some-clause-id : goal.returns-in-Some-clause-id
 returns-in-Some-clause-id c =
     found-place c.self.inside.categories.entries c.args.self.now c.self.view_is c.args.kind c.args.text.now
-    (record { kind = c.args.kind; text = c.extend_from_slice.new.self }) refl
-    (c.in_ok-extend_from_slice.ensures.items ∙ ap (λ l. l ++ c.args.text.now) c.clear.ensures.items)
+    (record { kind = c.args.kind; text = c.args.text }) refl refl
     c.in-Some.index c.in-Some.ensures.index
 
 pub returns-in-Some-clause-ok : goal.returns-in-Some-clause-ok
 returns-in-Some-clause-ok c =
     let place : c.in-Some.index ≡ place_of c.args.kind c.args.text.now c.args.self.now = found-place c.self.inside.categories.entries c.args.self.now c.self.view_is c.args.kind c.args.text.now
-    (record { kind = c.args.kind; text = c.extend_from_slice.new.self }) refl
-    (c.in_ok-extend_from_slice.ensures.items ∙ ap (λ l. l ++ c.args.text.now) c.clear.ensures.items)
+    (record { kind = c.args.kind; text = c.args.text }) refl refl
     c.in-Some.index c.in-Some.ensures.index in
     let size : length c.self.inside.categories.entries ≡ length c.args.self.now = sym (length-map c.self.inside.categories.entries entry_of) ∙ ap length c.self.view_is in
-    c.self.view_is ∙ sym (with_entry-present c.self.inside.categories.entries c.args.self.now c.self.view_is c.args.kind c.args.text.now (omega (arith, c.in-Some.ensures.within)))
+    sym (with_entry-present c.self.inside.categories.entries c.args.self.now c.self.view_is c.args.kind c.args.text.now (omega (arith, c.in-Some.ensures.within)))
 
 pub returns-in_ok-insert-in-None-clause-id : goal.returns-in_ok-insert-in-None-clause-id
 returns-in_ok-insert-in-None-clause-id c =
     c.len-index.ensures.len
     ∙ new-place c.self.inside.categories.entries c.args.self.now c.self.view_is c.args.kind c.args.text.now
-    (record { kind = c.args.kind; text = c.extend_from_slice.new.self }) refl
-    (c.in_ok-extend_from_slice.ensures.items ∙ ap (λ l. l ++ c.args.text.now) c.clear.ensures.items)
+    (record { kind = c.args.kind; text = c.args.text }) refl refl
     (sym c.in-None.ensures.index)
 
 pub returns-in_ok-insert-in-None-clause-ok : goal.returns-in_ok-insert-in-None-clause-ok
@@ -35,16 +32,14 @@ returns-in_ok-insert-in-None-clause-ok c =
     ap (map entry_of) c.in_ok-insert-in-None.ensures.entries
     ∙ with_entry-new c.self.inside.categories.entries c.args.self.now c.self.view_is c.args.kind c.args.text.now
     (new-place c.self.inside.categories.entries c.args.self.now c.self.view_is c.args.kind c.args.text.now
-    (record { kind = c.args.kind; text = c.extend_from_slice.new.self }) refl
-    (c.in_ok-extend_from_slice.ensures.items ∙ ap (λ l. l ++ c.args.text.now) c.clear.ensures.items)
+    (record { kind = c.args.kind; text = c.args.text }) refl refl
     (sym c.in-None.ensures.index))
     (record { kind = c.args.kind; text = c.in_ok-text-in-None.text }) refl c.in_ok-text-in-None.ensures.items
 
 pub returns-in_ok-insert-in-None-clause-within : goal.returns-in_ok-insert-in-None-clause-within
 returns-in_ok-insert-in-None-clause-within c =
     let place = new-place c.self.inside.categories.entries c.args.self.now c.self.view_is c.args.kind c.args.text.now
-    (record { kind = c.args.kind; text = c.extend_from_slice.new.self }) refl
-    (c.in_ok-extend_from_slice.ensures.items ∙ ap (λ l. l ++ c.args.text.now) c.clear.ensures.items)
+    (record { kind = c.args.kind; text = c.args.text }) refl refl
     (sym c.in-None.ensures.index) in
     let size = length-new c.self.inside.categories.entries c.args.self.now c.self.view_is c.args.kind c.args.text.now place
     (record { kind = c.args.kind; text = c.in_ok-text-in-None.text }) refl c.in_ok-text-in-None.ensures.items in
