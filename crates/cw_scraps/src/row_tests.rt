@@ -507,12 +507,14 @@ fn a_block_takes_one_list_with_toggles_between_its_pieces(rt: HostRuntime) -> Re
     let statement = produce(
         1, &flags, &mut line, &mut names, &mut marks, &mut store, &mut steps,
     )?;
+    store.reserve(24)?;
+    let room = store.spare();
     let block = produce(
         0, &flags, &mut line, &mut names, &mut marks, &mut store, &mut steps,
     )?;
     assert_eq!(rt; statement, 8);
     assert_eq!(rt; block, 50);
-    assert_eq!(rt; store.spare(), 9);
+    assert_eq!(rt; room.saturating_sub(store.spare()), 15);
     let bytes = translation(alloc, &line, 0, &store, &names)?;
     assert!(rt; bytes.as_slice() == b"F$0>#F12FU$3<#F".as_slice());
     assert!(rt; line.len() == 1);

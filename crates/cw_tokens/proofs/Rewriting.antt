@@ -16,14 +16,14 @@ use Rattle.cw_tokens.proofs.Storing.{view_of}
 use Rattle.cw_tokens.proofs.Reserve.{finds-reserves, finds-token, written}
 
 -- the fields after the identifier at a spot has become a reserved word, where the ones before were seen as v
-pub record Rewrites (b : Bool) (es : List ℕ) (ts : List Token) (ks : List Link) (s t e k : ℕ) (root : ℕ) (spot : Spot) (place : ℕ) (v : StoredLists) : Type 0 where
+pub record Rewrites (b : Bool) (from : ℕ) (es : List ℕ) (ts : List Token) (ks : List Link) (s t e k : ℕ) (root : ℕ) (spot : Spot) (place : ℕ) (v : StoredLists) : Type 0 where
   pub inside : place < length ts
-  pub stored : IsStored b es (set ts place (Reserved spot.name spot.number RawInt)) ks s t e k
+  pub stored : IsStored b from es (set ts place (Reserved spot.name spot.number RawInt)) ks s t e k
   pub building : built b es (set ts place (Reserved spot.name spot.number RawInt)) ≡ v.building
   pub reserves : Reserves v.lists (cut 0 es (set ts place (Reserved spot.name spot.number RawInt))) root
   pub token : ReservesToken v.lists (cut 0 es (set ts place (Reserved spot.name spot.number RawInt))) spot.name
 
-module _ (b : Bool) (es : List ℕ) (ts : List Token) (ks : List Link) (s t e k : ℕ) (root : ℕ) (spot : Spot) (place : ℕ) (old : IsStored b es ts ks s t e k)
+module _ (b : Bool) (from : ℕ) (es : List ℕ) (ts : List Token) (ks : List Link) (s t e k : ℕ) (root : ℕ) (spot : Spot) (place : ℕ) (old : IsStored b from es ts ks s t e k)
     (lt : root < length (cut 0 es ts)) (f : Finds (cut 0 es ts) root spot) (at : place ≡ start_of 0 es spot.list + spot.place) where
   abbrev word : Token
   word = Reserved spot.name spot.number RawInt
@@ -53,7 +53,7 @@ module _ (b : Bool) (es : List ℕ) (ts : List Token) (ks : List Link) (s t e k 
   reserves-here : Reserves (cut 0 es ts) (cut 0 es (set ts place word)) root
   reserves-here = rw new-lists (finds-reserves (cut 0 es ts) root spot (linked-tied (cut 0 es ts) ks (linked-lists (cut 0 es ts) (built b es ts) ks old.linked)) lt f)
 
-  pub rewrites-own : Rewrites b es ts ks s t e k root spot place (view_of b es ts s)
+  pub rewrites-own : Rewrites b from es ts ks s t e k root spot place (view_of b es ts s)
   rewrites-own = record {
     inside = let h : last_end 0 es ≤ length ts = old.within in let p : place < last_end 0 es = below-end in omega arith;
     stored = record {
@@ -62,6 +62,7 @@ module _ (b : Bool) (es : List ℕ) (ts : List Token) (ks : List Link) (s t e k 
       for_links = old.for_links;
       ascending = old.ascending;
       within = let h : last_end 0 es ≤ length ts = old.within in omega (arith, length-set ts place word);
+      begun = old.begun;
       all = λ n. old.all n ∙ sym (length-set ts place word);
       as_many = old.as_many;
       linked = subst (λ o. IsLinked (with_built (cut 0 es (set ts place word)) o) ks) (sym (same-built b))
@@ -72,6 +73,6 @@ module _ (b : Bool) (es : List ℕ) (ts : List Token) (ks : List Link) (s t e k 
     token = rw new-lists (finds-token (cut 0 es ts) root spot (linked-tied (cut 0 es ts) ks (linked-lists (cut 0 es ts) (built b es ts) ks old.linked)) lt f);
   }
 
-pub rewrites-view : (b : Bool) (es : List ℕ) (ts : List Token) (ks : List Link) (s t e k : ℕ) (root : ℕ) (spot : Spot) (place : ℕ) (v : StoredLists) → IsStored b es ts ks s t e k → view_of b es ts s ≡ v
-    → root < length (cut 0 es ts) → Finds (cut 0 es ts) root spot → place ≡ start_of 0 es spot.list + spot.place → Rewrites b es ts ks s t e k root spot place v
-rewrites-view b es ts ks s t e k root spot place v old q lt f at = subst (λ (w : StoredLists). Rewrites b es ts ks s t e k root spot place w) q (rewrites-own b es ts ks s t e k root spot place old lt f at)
+pub rewrites-view : (b : Bool) (from : ℕ) (es : List ℕ) (ts : List Token) (ks : List Link) (s t e k : ℕ) (root : ℕ) (spot : Spot) (place : ℕ) (v : StoredLists) → IsStored b from es ts ks s t e k → view_of b es ts s ≡ v
+    → root < length (cut 0 es ts) → Finds (cut 0 es ts) root spot → place ≡ start_of 0 es spot.list + spot.place → Rewrites b from es ts ks s t e k root spot place v
+rewrites-view b from es ts ks s t e k root spot place v old q lt f at = subst (λ (w : StoredLists). Rewrites b from es ts ks s t e k root spot place w) q (rewrites-own b from es ts ks s t e k root spot place old lt f at)

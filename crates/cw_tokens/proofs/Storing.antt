@@ -1,5 +1,5 @@
 -- What the fields of a store keep, from one call to the next.
-use Rattle.std.proofs.Common.{◌≡◌, ℕ, suc, ◌+◌, ◌-◌, ◌<◌, ◌≤◌, Bool, true, false, List, [], ◌∷◌, ◌++◌, length, Option, Some, None, drop, get_or, refl, sym, ap, ◌∙◌, subst, IsSome, arith}
+use Rattle.std.proofs.Common.{◌≡◌, ℕ, ◌+◌, ◌-◌, ◌<◌, ◌≤◌, Bool, true, false, List, [], ◌∷◌, ◌++◌, length, Option, Some, None, drop, refl, sym, ap, ◌∙◌, subst, IsSome, arith}
 use Rattle.std.specs.Option.{option_to_list}
 use Rattle.std.proofs.lemmas.List.{drop-append-le, drop_all, length-drop, length-set, length_push}
 use Rattle.cw_tokens.specs.declared.token.Token.{Token}
@@ -17,38 +17,44 @@ view_of building ends tokens spare = record { lists = cut 0 ends tokens; buildin
 no-lists : (l p x : ℕ) → refers [] l p ≡ Some x → ⊥
 no-lists l p x h = cc
 
-pub empty-stored : (spare token_room end_room link_room : ℕ) → spare ≤ token_room → spare ≤ end_room → spare ≤ link_room → IsStored false [] [] [] spare token_room end_room link_room
-empty-stored spare token_room end_room link_room a b d = record {
+false-true : ◌≡◌ {A = Bool} false true → ⊥
+false-true n = cc
+
+pub empty-stored : (f spare token_room end_room link_room : ℕ) → spare ≤ token_room → spare ≤ end_room → spare ≤ link_room → IsStored false f [] [] [] spare token_room end_room link_room
+empty-stored f spare token_room end_room link_room a b d = record {
   for_tokens = omega arith;
   for_ends = omega arith;
   for_links = omega arith;
   ascending = tt;
   within = omega arith;
+  begun = λ n. absurd (false-true n);
   all = λ _. refl;
   as_many = refl;
   linked = record { earlier = λ l p x h. absurd (no-lists l p x h); up = λ l p x h. absurd (no-lists l p x h) };
 }
 
-pub room-stored : (b : Bool) (es : List ℕ) (ts : List Token) (ks : List Link) (s t e k s' t' e' k' : ℕ) → IsStored b es ts ks s t e k
-    → length ts + s' ≤ t' → length es + one_if b + s' ≤ e' → length ks + one_if b + s' ≤ k' → IsStored b es ts ks s' t' e' k'
-room-stored b es ts ks s t e k s' t' e' k' old x y z = record {
+pub room-stored : (b : Bool) (f : ℕ) (es : List ℕ) (ts : List Token) (ks : List Link) (s t e k s' t' e' k' : ℕ) → IsStored b f es ts ks s t e k
+    → length ts + s' ≤ t' → length es + one_if b + s' ≤ e' → length ks + one_if b + s' ≤ k' → IsStored b f es ts ks s' t' e' k'
+room-stored b f es ts ks s t e k s' t' e' k' old x y z = record {
   for_tokens = x;
   for_ends = y;
   for_links = z;
   ascending = old.ascending;
   within = old.within;
+  begun = old.begun;
   all = old.all;
   as_many = old.as_many;
   linked = old.linked;
 }
 
-pub begin-stored : (es : List ℕ) (ts : List Token) (ks : List Link) (s t e k : ℕ) → 0 < s → IsStored false es ts ks s t e k → IsStored true es ts ks (s - 1) t e k
-begin-stored es ts ks s t e k h old = record {
+pub begin-stored : (f : ℕ) (es : List ℕ) (ts : List Token) (ks : List Link) (s t e k : ℕ) → 0 < s → IsStored false f es ts ks s t e k → IsStored true (length ts) es ts ks (s - 1) t e k
+begin-stored f es ts ks s t e k h old = record {
   for_tokens = let a : length ts + s ≤ t = old.for_tokens in omega arith;
   for_ends = let a : length es + 0 + s ≤ e = old.for_ends in omega arith;
   for_links = let a : length ks + 0 + s ≤ k = old.for_links in omega arith;
   ascending = old.ascending;
   within = old.within;
+  begun = λ _. sym (old.all refl);
   all = λ n. absurd (true-false n);
   as_many = old.as_many;
   linked = rw nothing (linked-begin (cut 0 es ts) ks old.linked);
@@ -60,24 +66,25 @@ begin-stored es ts ks s t e k h old = record {
     nothing : drop (last_end 0 es) ts ≡ []
     nothing = drop_all (last_end 0 es) ts (let a : last_end 0 es ≡ length ts = old.all refl in omega arith)
 
-abbrev pub up_here : List ℕ → List Token → Link
-up_here es ts = record { list = length es; place = (length ts - last_end 0 es) + 1 }
+abbrev pub up_here : ℕ → List ℕ → List Token → Link
+up_here f es ts = record { list = length es; place = (length ts - f) + 1 }
 
 length-linked : (r : Option ℕ) (up : Link) (links : List Link) → length (linked r up links) ≡ length links
 length-linked None up links = refl
 length-linked (Some x) up links = length-set links x up
 
-pub push-stored : (es : List ℕ) (ts : List Token) (ks : List Link) (s t e k : ℕ) (token : Token) → 0 < s → MayBePushed (view_of true es ts s) token → IsStored true es ts ks s t e k
-    → IsStored true es (ts ++ token ∷ []) (linked (ref_of (shape token)) (up_here es ts) ks) (s - 1) t e k
-push-stored es ts ks s t e k token h may old = record {
+pub push-stored : (f : ℕ) (es : List ℕ) (ts : List Token) (ks : List Link) (s t e k : ℕ) (token : Token) → 0 < s → MayBePushed (view_of true es ts s) token → IsStored true f es ts ks s t e k
+    → IsStored true f es (ts ++ token ∷ []) (linked (ref_of (shape token)) (up_here f es ts) ks) (s - 1) t e k
+push-stored f es ts ks s t e k token h may old = record {
   for_tokens = let a : length ts + s ≤ t = old.for_tokens in omega (arith, length_push ts token);
   for_ends = let a : length es + 1 + s ≤ e = old.for_ends in omega arith;
-  for_links = let a : length ks + 1 + s ≤ k = old.for_links in omega (arith, length-linked (ref_of (shape token)) (up_here es ts) ks);
+  for_links = let a : length ks + 1 + s ≤ k = old.for_links in omega (arith, length-linked (ref_of (shape token)) (up_here f es ts) ks);
   ascending = old.ascending;
   within = let a : last_end 0 es ≤ length ts = old.within in omega (arith, length_push ts token);
+  begun = old.begun;
   all = λ n. absurd (true-false n);
-  as_many = length-linked (ref_of (shape token)) (up_here es ts) ks ∙ old.as_many;
-  linked = rw (cut-push 0 es ts token old.ascending zero-within, drop-append-le (last_end 0 es) ts (token ∷ []) old.within, ← number, ← length-drop (last_end 0 es) ts) (linked-push (cut 0 es ts) (drop (last_end 0 es) ts) token ks old.linked (old.as_many ∙ sym number) may);
+  as_many = length-linked (ref_of (shape token)) (up_here f es ts) ks ∙ old.as_many;
+  linked = rw (old.begun refl, cut-push 0 es ts token old.ascending zero-within, drop-append-le (last_end 0 es) ts (token ∷ []) old.within, ← number, ← length-drop (last_end 0 es) ts) (linked-push (cut 0 es ts) (drop (last_end 0 es) ts) token ks old.linked (old.as_many ∙ sym number) may);
 }
   where
     true-false : ◌≡◌ {A = Bool} true false → ⊥
@@ -89,8 +96,8 @@ push-stored es ts ks s t e k token h may old = record {
     zero-within : last_end 0 es ≤ 0 + length ts
     zero-within = let a : last_end 0 es ≤ length ts = old.within in omega arith
 
-pub finish-lists : (es : List ℕ) (ts : List Token) (ks : List Link) (s t e k : ℕ) → IsStored true es ts ks s t e k → cut 0 (es ++ length ts ∷ []) ts ≡ cut 0 es ts ++ drop (last_end 0 es) ts ∷ []
-finish-lists es ts ks s t e k old =
+pub finish-lists : (f : ℕ) (es : List ℕ) (ts : List Token) (ks : List Link) (s t e k : ℕ) → IsStored true f es ts ks s t e k → cut 0 (es ++ length ts ∷ []) ts ≡ cut 0 es ts ++ drop (last_end 0 es) ts ∷ []
+finish-lists f es ts ks s t e k old =
     let within : last_end 0 es ≤ 0 + length ts = let a : last_end 0 es ≤ length ts = old.within in omega arith in
     let all : length ts ≡ 0 + length ts = omega arith in
     cut-finish 0 es ts (length ts) old.ascending within all ∙ ap (λ n. cut 0 es ts ++ drop n ts ∷ []) (sub-zero (last_end 0 es))
@@ -98,67 +105,60 @@ finish-lists es ts ks s t e k old =
     sub-zero : (n : ℕ) → n - 0 ≡ n
     sub-zero n = omega arith
 
-pub finish-stored : (es : List ℕ) (ts : List Token) (ks : List Link) (s t e k : ℕ) → IsStored true es ts ks s t e k → IsStored false (es ++ length ts ∷ []) ts (ks ++ no_link ∷ []) s t e k
-finish-stored es ts ks s t e k old = record {
+pub finish-stored : (f : ℕ) (es : List ℕ) (ts : List Token) (ks : List Link) (s t e k : ℕ) → IsStored true f es ts ks s t e k → IsStored false f (es ++ length ts ∷ []) ts (ks ++ no_link ∷ []) s t e k
+finish-stored f es ts ks s t e k old = record {
   for_tokens = old.for_tokens;
   for_ends = let a : length es + 1 + s ≤ e = old.for_ends in omega (arith, length_push es (length ts));
   for_links = let a : length ks + 1 + s ≤ k = old.for_links in omega (arith, length_push ks no_link);
   ascending = ascending-finish 0 es (length ts) old.ascending old.within;
   within = let a : last_end 0 (es ++ length ts ∷ []) ≡ length ts = last_end-finish 0 es (length ts) in omega arith;
+  begun = λ n. absurd (false-true n);
   all = λ n. last_end-finish 0 es (length ts);
   as_many = let a : length ks ≡ length es = old.as_many in omega (arith, length_push es (length ts), length_push ks no_link);
-  linked = rw (finish-lists es ts ks s t e k old) (linked-finish (cut 0 es ts ++ drop (last_end 0 es) ts ∷ []) ks (let a : length ks ≡ length es = old.as_many in omega (arith, length_push (cut 0 es ts) (drop (last_end 0 es) ts), length-cut 0 es ts)) old.linked);
+  linked = rw (finish-lists f es ts ks s t e k old) (linked-finish (cut 0 es ts ++ drop (last_end 0 es) ts ∷ []) ks (let a : length ks ≡ length es = old.as_many in omega (arith, length_push (cut 0 es ts) (drop (last_end 0 es) ts), length-cut 0 es ts)) old.linked);
 }
 
 -- the fields after a push, where the ones before were seen as v
-pub record Pushes (b : Bool) (es : List ℕ) (ts : List Token) (ks : List Link) (s t e k : ℕ) (token : Token) (v : StoredLists) : Type 0 where
-  pub stored : IsStored b es (ts ++ token ∷ []) (linked (ref_of (shape token)) (up_here es ts) ks) (s - 1) t e k
+pub record Pushes (b : Bool) (f : ℕ) (es : List ℕ) (ts : List Token) (ks : List Link) (s t e k : ℕ) (token : Token) (v : StoredLists) : Type 0 where
+  pub stored : IsStored b f es (ts ++ token ∷ []) (linked (ref_of (shape token)) (up_here f es ts) ks) (s - 1) t e k
   pub lists : cut 0 es (ts ++ token ∷ []) ≡ v.lists
   pub below : (x : ℕ) → ref_of (shape token) ≡ Some x → x < length ks
 
-push-own : (b : Bool) (es : List ℕ) (ts : List Token) (ks : List Link) (s t e k : ℕ) (token : Token) → IsStored b es ts ks s t e k
-    → IsSome (built b es ts) → 0 < s → MayBePushed (view_of b es ts s) token → Pushes b es ts ks s t e k token (view_of b es ts s)
-push-own true es ts ks s t e k token old some room may = record {
-  stored = push-stored es ts ks s t e k token room may old;
+push-own : (b : Bool) (f : ℕ) (es : List ℕ) (ts : List Token) (ks : List Link) (s t e k : ℕ) (token : Token) → IsStored b f es ts ks s t e k
+    → IsSome (built b es ts) → 0 < s → MayBePushed (view_of b es ts s) token → Pushes b f es ts ks s t e k token (view_of b es ts s)
+push-own true f es ts ks s t e k token old some room may = record {
+  stored = push-stored f es ts ks s t e k token room may old;
   lists = cut-push 0 es ts token old.ascending (let a : last_end 0 es ≤ length ts = old.within in omega arith);
   below = λ x h. let lt : x < length (cut 0 es ts) = (may x h).0 in let a : length ks ≡ length es = old.as_many in omega (arith, length-cut 0 es ts);
 }
-push-own false es ts ks s t e k token old some room may = cc
+push-own false f es ts ks s t e k token old some room may = cc
 
-pub push-view : (b : Bool) (es : List ℕ) (ts : List Token) (ks : List Link) (s t e k : ℕ) (token : Token) (v : StoredLists) → IsStored b es ts ks s t e k → view_of b es ts s ≡ v
-    → IsSome v.building → 0 < v.spare → MayBePushed v token → Pushes b es ts ks s t e k token v
-push-view b es ts ks s t e k token v old q =
-    subst (λ (w : StoredLists). IsSome w.building → 0 < w.spare → MayBePushed w token → Pushes b es ts ks s t e k token w) q (push-own b es ts ks s t e k token old)
+pub push-view : (b : Bool) (f : ℕ) (es : List ℕ) (ts : List Token) (ks : List Link) (s t e k : ℕ) (token : Token) (v : StoredLists) → IsStored b f es ts ks s t e k → view_of b es ts s ≡ v
+    → IsSome v.building → 0 < v.spare → MayBePushed v token → Pushes b f es ts ks s t e k token v
+push-view b f es ts ks s t e k token v old q =
+    subst (λ (w : StoredLists). IsSome w.building → 0 < w.spare → MayBePushed w token → Pushes b f es ts ks s t e k token w) q (push-own b f es ts ks s t e k token old)
 
 -- the fields after the end of a list, where the ones before were seen as v
-pub record Finishes (es : List ℕ) (ts : List Token) (ks : List Link) (s t e k : ℕ) (v : StoredLists) : Type 0 where
-  pub stored : IsStored false (es ++ length ts ∷ []) ts (ks ++ no_link ∷ []) s t e k
+pub record Finishes (f : ℕ) (es : List ℕ) (ts : List Token) (ks : List Link) (s t e k : ℕ) (v : StoredLists) : Type 0 where
+  pub stored : IsStored false f (es ++ length ts ∷ []) ts (ks ++ no_link ∷ []) s t e k
   pub lists : cut 0 (es ++ length ts ∷ []) ts ≡ v.lists ++ option_to_list v.building
   pub number : length es ≡ length v.lists
 
-finish-own : (b : Bool) (es : List ℕ) (ts : List Token) (ks : List Link) (s t e k : ℕ) → IsStored b es ts ks s t e k → IsSome (built b es ts) → Finishes es ts ks s t e k (view_of b es ts s)
-finish-own true es ts ks s t e k old some = record {
-  stored = finish-stored es ts ks s t e k old;
-  lists = finish-lists es ts ks s t e k old;
+finish-own : (b : Bool) (f : ℕ) (es : List ℕ) (ts : List Token) (ks : List Link) (s t e k : ℕ) → IsStored b f es ts ks s t e k → IsSome (built b es ts) → Finishes f es ts ks s t e k (view_of b es ts s)
+finish-own true f es ts ks s t e k old some = record {
+  stored = finish-stored f es ts ks s t e k old;
+  lists = finish-lists f es ts ks s t e k old;
   number = sym (length-cut 0 es ts);
 }
-finish-own false es ts ks s t e k old some = cc
+finish-own false f es ts ks s t e k old some = cc
 
-pub finish-view : (b : Bool) (es : List ℕ) (ts : List Token) (ks : List Link) (s t e k : ℕ) (v : StoredLists) → IsStored b es ts ks s t e k → view_of b es ts s ≡ v
-    → IsSome v.building → Finishes es ts ks s t e k v
-finish-view b es ts ks s t e k v old q =
-    subst (λ (w : StoredLists). IsSome w.building → Finishes es ts ks s t e k w) q (finish-own b es ts ks s t e k old)
+pub finish-view : (b : Bool) (f : ℕ) (es : List ℕ) (ts : List Token) (ks : List Link) (s t e k : ℕ) (v : StoredLists) → IsStored b f es ts ks s t e k → view_of b es ts s ≡ v
+    → IsSome v.building → Finishes f es ts ks s t e k v
+finish-view b f es ts ks s t e k v old q =
+    subst (λ (w : StoredLists). IsSome w.building → Finishes f es ts ks s t e k w) q (finish-own b f es ts ks s t e k old)
 
-pub tied-view : (b : Bool) (es : List ℕ) (ts : List Token) (ks : List Link) (s t e k : ℕ) (v : StoredLists) → IsStored b es ts ks s t e k → view_of b es ts s ≡ v → IsTied (all_lists v)
-tied-view b es ts ks s t e k v old q = subst (λ (w : StoredLists). IsTied (all_lists w)) q (linked-tied (with_built (cut 0 es ts) (built b es ts)) ks old.linked)
-
-pub last_end-is : (start : ℕ) (es : List ℕ) → 1 ≤ length es → get_or es (length es - 1) 0 ≡ last_end start es
-last_end-is start [] h = absurd (omega arith)
-last_end-is start (e ∷ []) h = refl
-last_end-is start (e ∷ x ∷ es) h =
-    let n : suc (length es) ≡ length (x ∷ es) = refl in
-    let a : (suc (suc (length es))) - 1 ≡ suc (length (x ∷ es) - 1) = omega arith in
-    ap (λ i. get_or (e ∷ x ∷ es) i 0) a ∙ last_end-is e (x ∷ es) (omega arith)
+pub tied-view : (b : Bool) (f : ℕ) (es : List ℕ) (ts : List Token) (ks : List Link) (s t e k : ℕ) (v : StoredLists) → IsStored b f es ts ks s t e k → view_of b es ts s ≡ v → IsTied (all_lists v)
+tied-view b f es ts ks s t e k v old q = subst (λ (w : StoredLists). IsTied (all_lists w)) q (linked-tied (with_built (cut 0 es ts) (built b es ts)) ks old.linked)
 
 -- a list that contracts see is one of the fields
 pub record IsKept (es : List ℕ) (ts : List Token) (i : ℕ) : Type 0 where

@@ -64,13 +64,14 @@ pub record IsLinked (lists : List (List Token)) (links : List Link) : Type 0 whe
   pub earlier : (l p x : ℕ) → refers lists l p ≡ Some x → x < l
   pub up : (l p x : ℕ) → refers lists l p ≡ Some x → get_or links x no_link ≡ record { list = l; place = p + 1 }
 
--- what the fields of a store keep; the rooms are the capacities of its three vectors
-pub record IsStored (building : Bool) (ends : List ℕ) (tokens : List Token) (links : List Link) (spare token_room end_room link_room : ℕ) : Type 0 where
+-- what the fields of a store keep, among them where the list that is being built begins; the rooms are the capacities of its three vectors
+pub record IsStored (building : Bool) (from : ℕ) (ends : List ℕ) (tokens : List Token) (links : List Link) (spare token_room end_room link_room : ℕ) : Type 0 where
   pub for_tokens : length tokens + spare ≤ token_room
   pub for_ends : length ends + one_if building + spare ≤ end_room
   pub for_links : length links + one_if building + spare ≤ link_room
   pub ascending : IsAscending 0 ends
   pub within : last_end 0 ends ≤ length tokens
+  pub begun : building ≡ true → from ≡ last_end 0 ends
   pub all : building ≡ false → last_end 0 ends ≡ length tokens
   pub as_many : length links ≡ length ends
   pub linked : IsLinked (with_built (cut 0 ends tokens) (built building ends tokens)) links

@@ -32,8 +32,10 @@ pub struct TokenStore {
     tokens: Vec<Token>,
     ends: Vec<usize>,
     links: Vec<Link>,
-    building: bool,
+    // Where the list that is being built begins.
+    from: usize,
     spare: usize,
+    building: bool,
 }
 
 impl Model for TokenStore {
@@ -44,7 +46,7 @@ impl Model for TokenStore {
 
     ghost view = { λ s. record { lists = cut 0 s.ends.items s.tokens.items; building = built s.building s.ends.items s.tokens.items; spare = s.spare } };
 
-    ghost invariant = { λ s. IsStored s.building s.ends.items s.tokens.items s.links.items s.spare (vec_capacity s.tokens) (vec_capacity s.ends) (vec_capacity s.links) };
+    ghost invariant = { λ s. IsStored s.building s.from s.ends.items s.tokens.items s.links.items s.spare (vec_capacity s.tokens) (vec_capacity s.ends) (vec_capacity s.links) };
 }
 
 impl TokenStore {
@@ -58,8 +60,9 @@ impl TokenStore {
             tokens: Vec::new(alloc),
             ends: Vec::new(alloc),
             links: Vec::new(alloc),
-            building: false,
+            from: 0,
             spare: 0,
+            building: false,
         }
     }
 
@@ -72,6 +75,7 @@ impl TokenStore {
     }
 
     /// Makes room for `n` calls of `begin` and `push`.
+    #[inline]
     pub fn reserve(&mut self, n: usize) -> Result<(), Memory>
         ensures lists { self.new.lists ≡ self.old.lists }
         ensures building { self.new.building ≡ self.old.building }
@@ -82,17 +86,32 @@ impl TokenStore {
         if n <= self.spare {
             return Ok(());
         }
+        self.make_room(n)
+    }
+
+    /// The same where there is less room. Then there is as much as the three vectors have.
+    #[inline(never)]
+    fn make_room(&mut self, n: usize) -> Result<(), Memory>
+        requires less { self.old.spare < n }
+        ensures lists { self.new.lists ≡ self.old.lists }
+        ensures building { self.new.building ≡ self.old.building }
+        ensures room { OnOk result (n ≤ self.new.spare) }
+        ensures grows { self.old.spare ≤ self.new.spare }
+        ensures refused { OnErr result (self.new ≡ self.old) }
+    {
         let Some(lists) = n.checked_add(usize::from(self.building)) else {
             return Err(Memory);
         };
         self.tokens.reserve(n)?;
         self.ends.reserve(lists)?;
         self.links.reserve(lists)?;
-        self.spare = n;
+        let for_lists = free(&self.ends).min(free(&self.links)) - usize::from(self.building);
+        self.spare = free(&self.tokens).min(for_lists);
         Ok(())
     }
 
     /// Begins a list.
+    #[inline]
     pub fn begin(&mut self)
         requires idle { self.old.building ≡ None }
         requires room { 0 < self.old.spare }
@@ -100,11 +119,13 @@ impl TokenStore {
         ensures building { self.new.building ≡ Some [] }
         ensures spare { self.new.spare + 1 ≡ self.old.spare }
     {
+        self.from = self.tokens.len();
         self.building = true;
         self.spare -= 1;
     }
 
     /// Puts a token behind those of the list that is being built.
+    #[inline]
     pub fn push(&mut self, token: Token)
         requires building { IsSome self.old.building }
         requires room { 0 < self.old.spare }
@@ -113,7 +134,7 @@ impl TokenStore {
         ensures building { self.new.building ≡ option_map (λ tokens. tokens ++ token ∷ []) self.old.building }
         ensures spare { self.new.spare + 1 ≡ self.old.spare }
     {
-        let place = self.tokens.len() - last_end(&self.ends) + 1;
+        let place = self.tokens.len() - self.from + 1;
         let list = self.ends.len();
         set_link(token, Link { list, place }, &mut self.links);
         self.tokens.push_reserved(token);
@@ -121,6 +142,7 @@ impl TokenStore {
     }
 
     /// Ends the list that is being built, and answers its place.
+    #[inline]
     pub fn finish(&mut self) -> ListId
         requires building { IsSome self.old.building }
         ensures id { result.index ≡ length self.old.lists }
@@ -198,14 +220,11 @@ impl TokenStore {
     }
 }
 
-/// Where the last list ends.
-fn last_end(ends: &[usize]) -> usize
-    ensures { result ≡ last_end 0 ends.now }
+/// For how many more elements a vector has room.
+fn free<T>(items: &Vec<T>) -> usize
+    ensures { result ≡ vec_capacity items.now - vec_len items.now }
 {
-    match ends {
-        [.., end] => *end,
-        [] => 0,
-    }
+    items.capacity() - items.len()
 }
 
 /// Links the list to which a token refers, where it refers to one.
