@@ -1,7 +1,6 @@
 ghost use Rattle.std.specs.Prelude.{◌≡◌, ◌+◌, ◌<◌, ◌≤◌, Option, Some, true, slice_get};
 ghost use Rattle.std.specs.List.{All, list_all};
 ghost use Rattle.cw_table.specs.Productions.{productions};
-ghost use Rattle.cw_table.specs.Joined.{joined};
 ghost use Rattle.cw_table.specs.Rows.{row_numbered};
 ghost use Rattle.cw_table.specs.Sound.{IsSound, are_numbered, row_is_sound};
 
@@ -258,25 +257,28 @@ static OTHER: [[Piece; 12]; ROW_COUNT] = productions!(other_of);
 
 static HEADS: [Head; ROW_COUNT] = productions!(heads_of);
 
-fn row_of(tests: [CatSet; 4], usual: [Piece; 12], other: [Piece; 12], head: Head) -> Row
-    ensures { result ≡ joined tests usual other head }
+// The row at a place of the table, from 0 on.
+fn row_at(i: usize) -> Row
+    requires { i < ROW_COUNT }
+    ensures { slice_get productions i ≡ Some result }
 {
+    let head = HEADS[i];
     Row {
+        tests: TESTS[i],
         number: RowNo {
             number: head.number,
         },
-        tests,
         test_count: head.test_count,
         offset: head.offset,
         replaced: head.replaced,
         result: head.result,
         action: Action {
             usual: Pieces {
-                pieces: usual,
+                pieces: USUAL[i],
                 count: head.usual_count,
             },
             other: Pieces {
-                pieces: other,
+                pieces: OTHER[i],
                 count: head.other_count,
             },
             choice: head.choice,
@@ -284,14 +286,6 @@ fn row_of(tests: [CatSet; 4], usual: [Piece; 12], other: [Piece; 12], head: Head
             reserve: head.reserve,
         },
     }
-}
-
-// The row at a place of the table, from 0 on.
-fn row_at(i: usize) -> Row
-    requires { i < ROW_COUNT }
-    ensures { slice_get productions i ≡ Some result }
-{
-    row_of(TESTS[i], USUAL[i], OTHER[i], HEADS[i])
 }
 
 /// The table of the productions.

@@ -103,10 +103,10 @@ pub struct Action {
 /// One production.
 #[derive(Clone, Copy, PartialEq, Eq, Debug)]
 pub struct Row {
-    /// Its number in the table.
-    pub number: RowNo,
     /// What is tested of the scraps from a place on; past the tests it holds empty sets.
     pub tests: [CatSet; 4],
+    /// Its number in the table.
+    pub number: RowNo,
     /// How many tests there are, from one to four.
     pub test_count: u8,
     /// The first tested scrap that is replaced.
