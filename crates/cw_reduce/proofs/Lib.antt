@@ -1,3 +1,4 @@
+pub mod Innermost
 pub mod WalkSteps
 pub mod WalkLoop
 pub mod TranslatedRows

@@ -24,7 +24,8 @@ use Rattle.cw_table.proofs.CountLaws.{ticks-end, ticks-past, ticks-taken, none-b
 use Rattle.cw_table.proofs.Examples.{productions-sound, productions-numbered}
 use Rattle.cw_table.proofs.FirstLaws.{first-window}
 use Rattle.cw_table.proofs.Normals.{normal-none, normal-step, count-none, count-step}
-use Rattle.cw_table.proofs.Numbers.{first-numbered}
+use Rattle.cw_table.proofs.Joining.{productions-length}
+use Rattle.cw_table.proofs.Numbers.{first-numbered, numbered-row}
 use Rattle.cw_table.proofs.ScrapFacts.{cats-length}
 use Rattle.cw_table.proofs.StepLaws.{steps-next, is-after}
 use Rattle.cw_table.proofs.WalkLaws.{NoneBelow, Turns, turning, next-nowhere}
@@ -70,6 +71,15 @@ first-is cats (Some n) (Some row) found is one last =
 
 pub first-line : (line : List LineEntry) (place : ℕ) (window : List Cat) (o : Option RowNo) → window ≡ window_of (drop place (entry_cats line)) → o ≡ number_of (first_of productions window) → IfSome o (λ row. 1 ≤ row.number) → IfSome o (λ row. row.number ≤ 92) → first_fits (drop place (entry_cats line)) o
 first-line line place window o w is one last = first-is (drop place (entry_cats line)) o (first_of productions (drop place (entry_cats line))) refl (is ∙ ap number_of (ap (first_of productions) w ∙ first-window productions (drop place (entry_cats line)) productions-sound)) one last
+
+-- the least safe distance of a number is that of its row
+pub least-row : (n distance : ℕ) → 1 ≤ n → n ≤ 92 → IfSome (row_numbered productions n) (λ row. distance ≡ least productions row) → distance ≡ least productions (row_of productions n)
+least-row n distance one last is =
+    go (row_numbered productions n) (numbered-row productions productions n no_row refl refl one (omega (arith, productions-length))) is
+  where
+    go : {row : Row} (o : Option Row) → o ≡ Some row → IfSome o (λ row. distance ≡ least productions row) → distance ≡ least productions (unwrap_or o no_row)
+    go None e is = absurd cc
+    go (Some row) e is = is
 
 -- a change of category keeps the words
 words-with : (n : ℕ) (cat : Cat) (names : List Entry) → words_of (with_category n cat names) ≡ words_of names

@@ -1,5 +1,6 @@
-ghost use Rattle.std.specs.Prelude.{◌≡◌, ◌≢◌, [], ◌∷◌, ◌++◌, OnOk, MatchOption, IsTrue, ◌↔◌};
+ghost use Rattle.std.specs.Prelude.{List, ◌≡◌, ◌≢◌, [], ◌∷◌, ◌++◌, OnOk, MatchOption, IsTrue, ◌↔◌};
 ghost use Rattle.cw_base.specs.declared.category.Cat.TheVariants.{End};
+ghost use Rattle.cw_reduce.specs.declared.nesting.Open.{Open};
 ghost use Rattle.cw_reduce.specs.Opening.{last_line, with_entry, with_part};
 ghost use Rattle.cw_scraps.specs.Leaves.{entry_of};
 
@@ -55,6 +56,29 @@ impl CommentText {
 pub(crate) enum Open {
     CText(ScrapLine),
     Comment(u32, CommentText),
+}
+
+impl Open {
+    /// A scrap comes behind those of a C text.
+    fn add_scrap(&mut self, leaf: Leaf) -> Result<(), Memory>
+        requires { leaf.cat ≢ End }
+        ensures { OnOk result ((outer : List Open) → self.new ∷ outer ≡ with_entry (entry_of leaf) (self.old ∷ outer)) }
+    {
+        match self {
+            Open::CText(line) => line.add(leaf.cat, leaf.list, leaf.left, leaf.right),
+            Open::Comment(..) => Ok(()),
+        }
+    }
+
+    /// A piece or an inner text comes behind those of a comment.
+    fn add_part(&mut self, part: CommentPart) -> Result<(), Memory>
+        ensures { OnOk result ((outer : List Open) → self.new ∷ outer ≡ with_part part (self.old ∷ outer)) }
+    {
+        match self {
+            Open::Comment(_, text) => text.add(part),
+            Open::CText(_) => Ok(()),
+        }
+    }
 }
 
 /// All that is open, seen as a list with the innermost first.
@@ -122,27 +146,21 @@ impl Nesting {
         requires { leaf.cat ≢ End }
         ensures { OnOk result (self.new ≡ with_entry (entry_of leaf) self.old) }
     {
-        match self.end() {
-            Some(Open::CText(mut line)) => {
-                line.add(leaf.cat, leaf.list, leaf.left, leaf.right)?;
-                self.begin(Open::CText(line))
-            }
-            Some(inner) => self.begin(inner),
-            None => Ok(()),
+        let count = self.all.len();
+        if count == 0 {
+            return Ok(());
         }
+        self.all[count - 1].add_scrap(leaf)
     }
 
     /// A piece or an inner text comes behind those of the innermost comment.
     pub(crate) fn add_part(&mut self, part: CommentPart) -> Result<(), Memory>
         ensures { OnOk result (self.new ≡ with_part part self.old) }
     {
-        match self.end() {
-            Some(Open::Comment(number, mut text)) => {
-                text.add(part)?;
-                self.begin(Open::Comment(number, text))
-            }
-            Some(inner) => self.begin(inner),
-            None => Ok(()),
+        let count = self.all.len();
+        if count == 0 {
+            return Ok(());
         }
+        self.all[count - 1].add_part(part)
     }
 }

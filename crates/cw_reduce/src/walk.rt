@@ -95,7 +95,6 @@ fn distance(row: RowNo) -> usize
     requires to_last { row.number ≤ 92 }
     ensures { result ≡ least productions (row_of productions row.number) }
 {
-    let _row = production(row);
     step_back(row)
 }
 
