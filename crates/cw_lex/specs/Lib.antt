@@ -10,6 +10,7 @@ pub mod Lexing
 pub mod Pending
 pub mod Stack
 pub mod Coming
+pub mod Short
 pub mod Effects
 pub mod Starts
 pub mod Order

@@ -50,7 +50,7 @@ pub(crate) fn is_blank(byte: u8) -> bool
     byte == 32 || byte == 9 || byte == 11 || byte == 12 || byte == 13
 }
 
-fn is_digit(byte: u8) -> bool
+pub(crate) fn is_digit(byte: u8) -> bool
     ensures { result ≡ is_in Class.Digit byte }
 {
     48 <= byte && byte <= 57

@@ -74,6 +74,7 @@ impl State {
 }
 
 /// The place behind the white space.
+#[inline(always)]
 pub(crate) fn skip_white(text: &[u8], state: &State) -> usize
     requires within { state.now.at ≤ length text.now }
     requires code { is_code state.now.part state.now.comments ≡ true }
@@ -337,13 +338,22 @@ fn behind_word(part: Part, bytes: &[u8], size: usize) -> Part
     ensures value { result ≡ behind_word part bytes.now }
     ensures code { is_code_part part ≡ true → is_code_part result ≡ true }
 {
-    if part.in_hash_line() && is_include(bytes, size) {
+    if is_include_word(part, bytes, size) {
         return Part::Plain {
             hash_line: true,
             include: true,
         };
     }
     part.passed()
+}
+
+/// Whether an identifier of this size is the word `include` of a `#` line.
+#[inline(always)]
+pub(crate) fn is_include_word(part: Part, bytes: &[u8], size: usize) -> bool
+    requires { size ≡ run Class.Word bytes.now }
+    ensures { result ≡ (in_hash_line part && is_include bytes.now) }
+{
+    part.in_hash_line() && is_include(bytes, size)
 }
 
 fn is_include(bytes: &[u8], size: usize) -> bool

@@ -17,6 +17,7 @@ mod names;
 mod parts;
 mod pending;
 mod plain;
+mod short;
 mod signs;
 mod state;
 mod tokens;

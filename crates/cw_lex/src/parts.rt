@@ -1,4 +1,4 @@
-ghost use Rattle.std.specs.Prelude.{◌≡◌};
+ghost use Rattle.std.specs.Prelude.{◌≡◌, true};
 ghost use Rattle.cw_lex.specs.Tokens.{in_hash_line, behind_include, passed, first_depth};
 ghost use Rattle.cw_lex.specs.Coming.{is_code_part};
 
@@ -100,6 +100,18 @@ impl Part {
         }
     }
 
+    // Whether the part stays the same behind a token of C text.
+    #[inline(always)]
+    fn is_passed(self) -> bool
+        ensures { result ≡ true → passed self ≡ self }
+    {
+        match self {
+            Part::Begin => false,
+            Part::Plain { include, .. } => !include,
+            _ => true,
+        }
+    }
+
     /// The part behind a token of C text.
     pub(crate) fn passed(self) -> Part
         ensures value { result ≡ passed self }
@@ -115,6 +127,17 @@ impl Part {
                 include: false,
             },
             _ => self,
+        }
+    }
+
+    /// Goes behind a token of C text. It writes only where the part changes, which is seldom.
+    #[inline(always)]
+    pub(crate) fn pass(&mut self)
+        ensures value { self.new ≡ passed self.old }
+        ensures code { is_code_part self.new ≡ is_code_part self.old }
+    {
+        if !self.is_passed() {
+            *self = self.passed();
         }
     }
 

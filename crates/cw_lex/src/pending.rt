@@ -1,4 +1,4 @@
-ghost use Rattle.std.specs.Prelude.{◌≡◌, ◌∷◌, [], length, MatchOption};
+ghost use Rattle.std.specs.Prelude.{◌≡◌, ◌∷◌, [], true, length, MatchOption};
 ghost use Rattle.cw_lex.specs.Pending.{pending_notes, IsInside, no_notes};
 
 use crate::bodies::{Inside, Noted, next_noted};
@@ -23,6 +23,14 @@ impl Pending {
             body: None,
             last: None,
         }
+    }
+
+    /// Whether no note is left to look for.
+    #[inline(always)]
+    pub(crate) fn is_quiet(&self) -> bool
+        ensures { result ≡ true → self.now ≡ no_notes }
+    {
+        self.first.is_none() && self.second.is_none() && self.body.is_none() && self.last.is_none()
     }
 
     /// The next note, which is taken out.

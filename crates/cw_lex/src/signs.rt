@@ -83,6 +83,7 @@ pub enum Sign {
 }
 
 /// The longest sign that a byte and the bytes behind it begin with.
+#[inline(always)]
 pub(crate) fn sign_at(byte: u8, rest: &[u8]) -> Option<Sign>
     ensures value { result ≡ longest all_signs (byte ∷ rest.now) }
     ensures within { IfSome result (λ sign. length (spelling sign) ≤ length rest.now + 1) }

@@ -1,0 +1,186 @@
+-- Short tokens of C text, by its rules.
+use Rattle.std.proofs.Common.{◌≡◌, ℕ, ◌+◌, ◌<◌, ◌≤◌, arith, length-drop, Bool, true, false, ◌&&◌, ◌||◌, ◌==◌, nat_lt, List, ◌∷◌, Some, None, length, slice_index, drop, refl, sym, ap, ◌∙◌, if◌then◌else◌}
+use Rattle.cw_lex.specs.declared.classes.Class.TheVariants as classes
+use Rattle.cw_lex.specs.declared.parts.Part.{Part}
+use Rattle.cw_lex.specs.declared.parts.Part.TheVariants as parts
+use Rattle.cw_lex.specs.declared.parts.Opened.{Opened}
+use Rattle.cw_lex.specs.declared.parts.Start.{Start}
+use Rattle.cw_lex.specs.declared.parts.Start.TheVariants as start
+use Rattle.cw_lex.specs.declared.signs.Sign.{Sign}
+use Rattle.cw_lex.specs.declared.tokens.TokKind.TheVariants as kinds
+use Rattle.cw_lex.specs.Answers.{Where, plain}
+use Rattle.cw_lex.specs.Bytes.{is_in, is_letter, is_letter_of, is_digit, begins_by, run}
+use Rattle.cw_lex.specs.Codes.{begins_section}
+use Rattle.cw_lex.specs.Constants.{hexadecimal, fraction, exponent, mantissa, decimal, number, constant}
+use Rattle.cw_lex.specs.Signs.{all_signs, longest, spelling}
+use Rattle.cw_lex.specs.Lexing.{fresh_at, last_at}
+use Rattle.cw_lex.specs.Tokens.{section, in_text, code_text, in_code, start_of, sign_or_other, is_space, is_include, behind_word, ends_at_bar, in_hash_line, passed, one, moved}
+use Rattle.cw_lex.specs.Coming.{is_code, found_at, bytes_at}
+use Rattle.cw_lex.specs.Short.{is_lone, IsShort}
+use Rattle.cw_lex.proofs.Lines.{in_text-code}
+use Rattle.cw_lex.proofs.White.{other-byte}
+use Rattle.cw_lex.proofs.Steps.{bytes-here}
+use Rattle.cw_lex.proofs.Sizes.{run-le}
+use Rattle.std.proofs.lemmas.Bool.{lt-ltb}
+
+-- a byte that begins no line's end, white space, code, `#` line or include name
+pub record IsStart (b : ℕ) : Type 0 where
+  pub newline : (b == 10) ≡ false
+  pub blank : is_in classes.Blank b ≡ false
+  pub backslash : (b == 92) ≡ false
+  pub at_sign : (b == 64) ≡ false
+  pub hash : (b == 35) ≡ false
+  pub less : (b == 60) ≡ false
+
+and-false : (b : Bool) → (b && false) ≡ false
+and-false true = refl
+and-false false = refl
+
+no-space : (part : Part) (b : ℕ) (bs : List ℕ) → IsStart b → is_space part b bs ≡ false
+no-space part b bs s = rw (s.blank, s.backslash) (and-false (in_hash_line part))
+
+code-start : (w : Where) (fresh : Bool) (last place b : ℕ) (bs : List ℕ) → IsStart b
+    → code_text w fresh last place b bs ≡ in_code (start_of (ends_at_bar w.part w.comments) b bs) w place (b ∷ bs)
+code-start w fresh last place b bs s = rw (s.newline, no-space w.part b bs s, s.hash, s.less) refl
+
+-- what begins there is found by the rule of its start
+start-found : (text : List ℕ) (part : Part) (comments : List Opened) (place : ℕ) (kind : Start) → is_code part comments ≡ true
+    → IsStart (slice_index text place) → start_of (ends_at_bar part comments) (slice_index text place) (drop (place + 1) text) ≡ kind
+    → found_at text (record { part = part; comments = comments }) place ≡ in_code kind (record { part = part; comments = comments }) place (bytes_at text place)
+start-found text part comments place kind code s e =
+    let b = slice_index text place in
+    let bs = drop (place + 1) text in
+    let w : Where = record { part = part; comments = comments } in
+    ap (λ t. if t && begins_section bs then section w place bs else in_text part comments (fresh_at text place) (last_at text place) place b bs) s.at_sign
+    ∙ in_text-code part comments (fresh_at text place) (last_at text place) place b bs code
+    ∙ code-start w (fresh_at text place) (last_at text place) place b bs s
+    ∙ ap (λ k. in_code k w place (bytes_at text place)) e
+
+no-blank : (b : ℕ) → (b == 32) ≡ false → (b == 9) ≡ false → (b == 11) ≡ false → (b == 12) ≡ false → (b == 13) ≡ false → is_in classes.Blank b ≡ false
+no-blank b e f g h k = rw (e, f, g, h, k) refl
+
+letter-starts : (b : ℕ) → is_letter b ≡ true → IsStart b
+letter-starts b h = record {
+  newline = other-byte is_letter b 10 h refl;
+  blank = no-blank b (other-byte is_letter b 32 h refl) (other-byte is_letter b 9 h refl) (other-byte is_letter b 11 h refl) (other-byte is_letter b 12 h refl) (other-byte is_letter b 13 h refl);
+  backslash = other-byte is_letter b 92 h refl;
+  at_sign = other-byte is_letter b 64 h refl;
+  hash = other-byte is_letter b 35 h refl;
+  less = other-byte is_letter b 60 h refl;
+}
+
+digit-starts : (b : ℕ) → is_in classes.Digit b ≡ true → IsStart b
+digit-starts b h = record {
+  newline = other-byte (is_in classes.Digit) b 10 h refl;
+  blank = no-blank b (other-byte (is_in classes.Digit) b 32 h refl) (other-byte (is_in classes.Digit) b 9 h refl) (other-byte (is_in classes.Digit) b 11 h refl) (other-byte (is_in classes.Digit) b 12 h refl) (other-byte (is_in classes.Digit) b 13 h refl);
+  backslash = other-byte (is_in classes.Digit) b 92 h refl;
+  at_sign = other-byte (is_in classes.Digit) b 64 h refl;
+  hash = other-byte (is_in classes.Digit) b 35 h refl;
+  less = other-byte (is_in classes.Digit) b 60 h refl;
+}
+
+abbrev begins_sign : List ℕ → ℕ → Bool
+begins_sign bs b = elim (longest all_signs (b ∷ bs)) [ None ↦ false | Some sign ↦ true ]
+
+sign-starts : (b : ℕ) (bs : List ℕ) (sign : Sign) → is_lone b ≡ true → longest all_signs (b ∷ bs) ≡ Some sign → IsStart b
+sign-starts b bs sign lone e =
+    let h : begins_sign bs b ≡ true = ap (λ o. elim o [ None ↦ false | Some sign ↦ true ]) e in
+    record {
+      newline = other-byte (begins_sign bs) b 10 h refl;
+      blank = no-blank b (other-byte (begins_sign bs) b 32 h refl) (other-byte (begins_sign bs) b 9 h refl) (other-byte (begins_sign bs) b 11 h refl) (other-byte (begins_sign bs) b 12 h refl) (other-byte (begins_sign bs) b 13 h refl);
+      backslash = other-byte (begins_sign bs) b 92 h refl;
+      at_sign = other-byte (begins_sign bs) b 64 h refl;
+      hash = other-byte is_lone b 35 lone refl;
+      less = other-byte is_lone b 60 lone refl;
+    }
+
+no-constant : (b : ℕ) (bs : List ℕ) → is_in classes.Digit b ≡ false → (b == 48) ≡ false → (b == 46) ≡ false → constant (b ∷ bs) ≡ 0
+no-constant b bs d z p =
+    let digits : run classes.Digit (b ∷ bs) ≡ 0 = ap (λ t. elim t [ true ↦ 1 + run classes.Digit bs | false ↦ 0 ]) d in
+    let part : fraction false (b ∷ bs) ≡ 0 = ap (λ t. if t && (false || nat_lt 0 (run classes.Digit bs)) then 1 + run classes.Digit bs else 0) p in
+    let whole : mantissa (b ∷ bs) ≡ 0 = ap (λ n. n + fraction (nat_lt 0 n) (drop n (b ∷ bs))) digits ∙ ap (λ n. 0 + n) part in
+    let decimally : decimal (b ∷ bs) ≡ 0 = ap (λ m. if nat_lt 0 m then m + exponent (drop m (b ∷ bs)) else 0) whole in
+    let more = run classes.HexDigit (drop 1 bs) in
+    let hex : hexadecimal (b ∷ bs) ≡ 0 = ap (λ t. if t && begins_by (is_letter_of 120) bs && nat_lt 0 more then 2 + more else 0) z in
+    let both : number (b ∷ bs) ≡ 0 = (λ i. if nat_lt 0 (hex i) then hex i else decimally i) in
+    ap (λ n. if nat_lt 0 n then n + run classes.Suffix (drop n (b ∷ bs)) else 0) both
+
+sign-is : (bars : Bool) (b : ℕ) (bs : List ℕ) (sign : Sign) → is_letter b ≡ false → is_in classes.Digit b ≡ false → is_lone b ≡ true
+    → longest all_signs (b ∷ bs) ≡ Some sign → start_of bars b bs ≡ start.Sign sign
+sign-is bars b bs sign letter digit lone e =
+    let h : begins_sign bs b ≡ true = ap (λ o. elim o [ None ↦ false | Some sign ↦ true ]) e in
+    let none = no-constant b bs digit (other-byte (begins_sign bs) b 48 h refl) (other-byte is_lone b 46 lone refl) in
+    let only : start_of bars b bs ≡ sign_or_other (longest all_signs (b ∷ bs)) =
+    rw (
+      letter,
+      none,
+      other-byte (begins_sign bs) b 34 h refl,
+      other-byte (begins_sign bs) b 39 h refl,
+      other-byte is_lone b 47 lone refl,
+      other-byte (begins_sign bs) b 64 h refl,
+      other-byte is_lone b 124 lone refl,
+    ) refl in
+    only ∙ ap sign_or_other e
+
+letter-is : (bars : Bool) (b : ℕ) (bs : List ℕ) → is_letter b ≡ true → start_of bars b bs ≡ start.Identifier
+letter-is bars b bs h = rw h refl
+
+number-is : (bars : Bool) (b : ℕ) (bs : List ℕ) → is_letter b ≡ false → nat_lt 0 (constant (b ∷ bs)) ≡ true → start_of bars b bs ≡ start.Constant
+number-is bars b bs h n = rw (h, n) refl
+
+-- behind no `include` of a `#` line the part is the next
+word-passed : (part : Part) (bytes : List ℕ) → (in_hash_line part && is_include bytes) ≡ false → behind_word part bytes ≡ passed part
+word-passed part bytes h = ap (λ t. if t then parts.Plain true true else passed part) h
+
+-- ## Tokens
+
+pub word-short : (text : List ℕ) (part : Part) (comments : List Opened) (place size : ℕ) → is_code part comments ≡ true → place < length text
+    → is_letter (slice_index text place) ≡ true → size ≡ run classes.Word (drop place text) → (in_hash_line part && is_include (drop place text)) ≡ false
+    → IsShort text (record { part = part; comments = comments }) place (record { kind = kinds.Identifier; size = size })
+word-short text part comments place size code within letter e plainly =
+    let w : Where = record { part = part; comments = comments } in
+    let b = slice_index text place in
+    let bs = drop (place + 1) text in
+    let here : drop place text ≡ bytes_at text place = bytes-here text place within in
+    let more : run classes.Word (b ∷ bs) ≡ 1 + run classes.Word bs = ap (λ t. elim (t || is_digit b) [ true ↦ 1 + run classes.Word bs | false ↦ 0 ]) letter in
+    let same : size ≡ run classes.Word (b ∷ bs) = e ∙ ap (run classes.Word) here in
+    record {
+      some = omega arith;
+      within = omega (arith, e, run-le classes.Word (drop place text), length-drop place text);
+      found =
+          start-found text part comments place start.Identifier code (letter-starts b letter) (letter-is (ends_at_bar part comments) b bs letter)
+          ∙ (λ i. one (in_hash_line part) (moved w (word-passed part (b ∷ bs) (ap (λ bytes. in_hash_line part && is_include bytes) (sym here) ∙ plainly) i)) place (b ∷ bs) (plain kinds.Identifier (sym same i)));
+    }
+
+pub number-short : (text : List ℕ) (part : Part) (comments : List Opened) (place size : ℕ) → is_code part comments ≡ true → place < length text
+    → is_letter (slice_index text place) ≡ false → is_in classes.Digit (slice_index text place) ≡ true → 0 < size → place + size ≤ length text → size ≡ constant (drop place text)
+    → IsShort text (record { part = part; comments = comments }) place (record { kind = kinds.Constant; size = size })
+number-short text part comments place size code within letter digit some most e =
+    let w : Where = record { part = part; comments = comments } in
+    let b = slice_index text place in
+    let bs = drop (place + 1) text in
+    let same : size ≡ constant (b ∷ bs) = e ∙ ap constant (bytes-here text place within) in
+    record {
+      some = some;
+      within = most;
+      found =
+          start-found text part comments place start.Constant code (digit-starts b digit)
+          (number-is (ends_at_bar part comments) b bs letter (lt-ltb 0 (constant (b ∷ bs)) (omega arith)))
+          ∙ (λ i. one (in_hash_line part) (moved w (passed part)) place (b ∷ bs) (plain kinds.Constant (sym same i)));
+    }
+
+pub sign-short : (text : List ℕ) (part : Part) (comments : List Opened) (place size : ℕ) (sign : Sign) → is_code part comments ≡ true → place < length text
+    → is_letter (slice_index text place) ≡ false → is_in classes.Digit (slice_index text place) ≡ false → is_lone (slice_index text place) ≡ true
+    → longest all_signs (bytes_at text place) ≡ Some sign → 0 < size → size ≡ length (spelling sign) → place + size ≤ length text
+    → IsShort text (record { part = part; comments = comments }) place (record { kind = kinds.Sign sign; size = size })
+sign-short text part comments place size sign code within letter digit lone e some same most =
+    let w : Where = record { part = part; comments = comments } in
+    let b = slice_index text place in
+    let bs = drop (place + 1) text in
+    record {
+      some = some;
+      within = most;
+      found =
+          start-found text part comments place (start.Sign sign) code (sign-starts b bs sign lone e) (sign-is (ends_at_bar part comments) b bs sign letter digit lone e)
+          ∙ (λ i. one (in_hash_line part) (moved w (passed part)) place (b ∷ bs) (plain (kinds.Sign sign) (sym same i)));
+    }

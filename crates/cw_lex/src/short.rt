@@ -1,0 +1,127 @@
+//! The short tokens of C text, of which most of it consists.
+ghost use Rattle.std.specs.Prelude.{◌≡◌, ◌<◌, true, false, length, slice_index, IfSome};
+ghost use Rattle.cw_lex.specs.Answers.{Gives};
+ghost use Rattle.cw_lex.specs.Bytes.{is_in, is_letter};
+ghost use Rattle.cw_lex.specs.Pending.{no_notes};
+ghost use Rattle.cw_lex.specs.Coming.{where_of, coming, is_code, IsReady};
+ghost use Rattle.cw_lex.specs.Short.{IsShort, is_lone};
+
+use crate::classes::{Class, from, is_digit, is_letter, run};
+use crate::code_text::is_include_word;
+use crate::constants::constant;
+use crate::giving::token;
+use crate::signs::sign_at;
+use crate::state::State;
+use crate::{Lexed, TokKind};
+
+/// An identifier, a constant or a sign that lets the C text go on as it does.
+#[derive(Clone, Copy)]
+pub(crate) struct Short {
+    pub kind: TokKind,
+    pub size: usize,
+}
+
+/// The short token that begins here. None is said of tokens for which more has to be looked at.
+#[inline(always)]
+pub(crate) fn short_at(text: &[u8], state: &State) -> Option<Short>
+    requires code { is_code state.now.part state.now.comments ≡ true }
+    ensures { IfSome result (IsShort text.now (where_of state.now) state.now.at) }
+{
+    if state.at >= text.len() {
+        return None;
+    }
+    let byte = text[state.at];
+    if is_letter(byte) {
+        return identifier(text, state);
+    }
+    if is_digit(byte) {
+        return number(text, state);
+    }
+    sign(text, state)
+}
+
+#[inline(always)]
+fn identifier(text: &[u8], state: &State) -> Option<Short>
+    requires code { is_code state.now.part state.now.comments ≡ true }
+    requires place { state.now.at < length text.now }
+    requires letter { is_letter (slice_index text.now state.now.at) ≡ true }
+    ensures { IfSome result (IsShort text.now (where_of state.now) state.now.at) }
+{
+    let bytes = from(text, state.at);
+    let size = run(Class::Word, bytes);
+    if is_include_word(state.part, bytes, size) {
+        return None;
+    }
+    Some(Short {
+        kind: TokKind::Identifier,
+        size,
+    })
+}
+
+#[inline(always)]
+fn number(text: &[u8], state: &State) -> Option<Short>
+    requires code { is_code state.now.part state.now.comments ≡ true }
+    requires place { state.now.at < length text.now }
+    requires letter { is_letter (slice_index text.now state.now.at) ≡ false }
+    requires digit { is_in Class.Digit (slice_index text.now state.now.at) ≡ true }
+    ensures { IfSome result (IsShort text.now (where_of state.now) state.now.at) }
+{
+    let size = constant(from(text, state.at));
+    if size == 0 {
+        return None;
+    }
+    Some(Short {
+        kind: TokKind::Constant,
+        size,
+    })
+}
+
+#[inline(always)]
+fn sign(text: &[u8], state: &State) -> Option<Short>
+    requires code { is_code state.now.part state.now.comments ≡ true }
+    requires place { state.now.at < length text.now }
+    requires letter { is_letter (slice_index text.now state.now.at) ≡ false }
+    requires digit { is_in Class.Digit (slice_index text.now state.now.at) ≡ false }
+    ensures { IfSome result (IsShort text.now (where_of state.now) state.now.at) }
+{
+    let byte = text[state.at];
+    if !is_lone(byte) {
+        return None;
+    }
+    match sign_at(byte, from(text, state.at + 1)) {
+        Some(sign) => Some(Short {
+            kind: TokKind::Sign(sign),
+            size: sign.size(),
+        }),
+        None => None,
+    }
+}
+
+// Whether the byte begins no token but signs, where it begins a sign.
+#[inline(always)]
+fn is_lone(byte: u8) -> bool
+    ensures { result ≡ is_lone byte }
+{
+    !matches!(byte, b'/' | b'.' | b'<' | b'|' | b'#')
+}
+
+/// Answers a short token at the scanner's place.
+#[inline(always)]
+pub(crate) fn give_short<'a>(text: &'a [u8], state: &mut State, short: Short) -> Lexed<'a>
+    requires ready { IsReady text.now state.old }
+    requires quiet { state.old.pending ≡ no_notes }
+    requires short { IsShort text.now (where_of state.old) state.old.at short }
+    ensures gives { Gives (coming text.now state.old) result (coming text.now state.new) }
+    ensures ready { IsReady text.now state.new }
+{
+    let token = token(
+        text,
+        state.at,
+        short.size,
+        short.kind,
+        state.part.in_hash_line(),
+    );
+    state.at += short.size;
+    state.part.pass();
+    Lexed::Token(token)
+}
