@@ -18,7 +18,7 @@ use Rattle.cw_tokens.proofs.Linking.{refers-more, pushed-ref}
 use Rattle.cw_scraps.specs.declared.line.LineEntry.{LineEntry}
 use Rattle.cw_scraps.specs.declared.pieces.Insert.{Insert}
 use Rattle.cw_scraps.specs.Lines.{no_entry, roots_of, AreRoots}
-use Rattle.cw_scraps.specs.Inserting.{math_insert, inserting, IsPieceWithin, toggle, tokens_of, left_of, right_after, IsRun}
+use Rattle.cw_scraps.specs.Inserting.{math_insert, inserting, IsPieceWithin, toggle, toggled, tokens_of, left_of, right_after, IsRun}
 use Rattle.cw_scraps.specs.Building.{Joins}
 
 pub root-entry : (es : List LineEntry) (k : ℕ) → get_or (roots_of es) k 0 ≡ (get_or es k no_entry).list.index
@@ -240,12 +240,21 @@ module _ (lists : List (List Token)) (entries : List LineEntry) (pieces : List P
                 (still-free m (omega arith) (omega arith)));
           }
 
-pub joins-may : (lists : List (List Token)) (entries : List LineEntry) (pieces : List Piece) (spare i : ℕ) (left mode : MathMode) (store : StoredLists) → Joins lists entries pieces spare i left mode store → (p : Piece)
-    → drop i pieces ≡ p ∷ drop (i + 1) pieces → AreRoots lists (roots_of entries) → (toggled : StoredLists) → toggled.building ≡ option_map (λ tokens. tokens ++ toggle mode (inserting entries p).left) store.building
-    → toggled.lists ≡ store.lists → toggled.spare + length (toggle mode (inserting entries p).left) ≡ store.spare → 0 < toggled.spare → MayBePushed toggled (inserting entries p).token
-joins-may lists entries pieces spare i left mode store j p at roots toggled tb tl ts room =
-    let pushed : StoredLists = record { lists = toggled.lists; building = option_map (λ tokens. tokens ++ (inserting entries p).token ∷ []) toggled.building; spare = toggled.spare - 1 } in
-    (joins-more lists entries pieces spare i left mode store j p at roots 0 (0 + length entries) refl toggled pushed tb tl ts refl refl (omega arith)).may
+pub joins-put : (lists : List (List Token)) (entries : List LineEntry) (pieces : List Piece) (spare i : ℕ) (left mode : MathMode) (store : StoredLists) → Joins lists entries pieces spare i left mode store → (p : Piece)
+    → drop i pieces ≡ p ∷ drop (i + 1) pieces → AreRoots lists (roots_of entries) → 2 ≤ store.spare → MayBePushed (toggled mode (inserting entries p).left store) (inserting entries p).token
+joins-put lists entries pieces spare i left mode store j p at roots room =
+    let short : length (toggle mode (inserting entries p).left) ≤ 1 = toggle-short mode (inserting entries p).left in
+    let before : StoredLists = toggled mode (inserting entries p).left store in
+    let pushed : StoredLists = record { lists = before.lists; building = option_map (λ tokens. tokens ++ (inserting entries p).token ∷ []) before.building; spare = before.spare - 1 } in
+    (joins-more lists entries pieces spare i left mode store j p at roots 0 (0 + length entries) refl before pushed refl refl (omega arith) refl refl (omega arith)).may
+
+pub joins-next : (lists : List (List Token)) (entries : List LineEntry) (pieces : List Piece) (spare i : ℕ) (left mode : MathMode) (store : StoredLists) → Joins lists entries pieces spare i left mode store → (p : Piece)
+    → drop i pieces ≡ p ∷ drop (i + 1) pieces → AreRoots lists (roots_of entries) → (new : StoredLists)
+    → new.building ≡ option_map (λ tokens. tokens ++ (inserting entries p).token ∷ []) (toggled mode (inserting entries p).left store).building → new.lists ≡ store.lists
+    → new.spare + 1 + length (toggle mode (inserting entries p).left) ≡ store.spare
+    → Joins lists entries pieces spare (i + 1) (first_mode left (inserting entries p).left) (after mode (inserting entries p).left (inserting entries p).right) new
+joins-next lists entries pieces spare i left mode store j p at roots new nb nl ns =
+    (joins-more lists entries pieces spare i left mode store j p at roots 0 (0 + length entries) refl (toggled mode (inserting entries p).left store) new refl refl (omega arith) nb nl (omega arith)).next
 
 pub joins-within : (lists : List (List Token)) (entries : List LineEntry) (pieces : List Piece) (spare i : ℕ) (left mode : MathMode) (store : StoredLists) → Joins lists entries pieces spare i left mode store → (p : Piece)
     → drop i pieces ≡ p ∷ drop (i + 1) pieces → AreRoots lists (roots_of entries) → (place count : ℕ) → count ≡ place + length entries → 2 ≤ store.spare → IsPieceWithin place count p

@@ -1,5 +1,5 @@
 -- The tokens of a new list: those of its pieces, with the toggles that they need between them.
-use Rattle.std.specs.Prelude.{◌≡◌, ℕ, ◌+◌, ◌<◌, ◌≤◌, List, [], ◌∷◌, ◌++◌, map, get_or}
+use Rattle.std.specs.Prelude.{◌≡◌, ℕ, ◌+◌, ◌-◌, ◌<◌, ◌≤◌, List, [], ◌∷◌, ◌++◌, length, map, get_or, option_map}
 use Rattle.cw_base.specs.declared.category.Cat.{Cat}
 use Rattle.cw_base.specs.declared.mode.MathMode.{MathMode}
 use Rattle.cw_base.specs.declared.mode.MathMode.TheVariants.{Text, Math, Maybe}
@@ -11,6 +11,7 @@ use Rattle.cw_table.specs.declared.types.Piece.TheVariants as piece
 use Rattle.cw_table.specs.Sound.{scraps_in, numbers_from}
 use Rattle.cw_tokens.specs.declared.token.Token.{Token}
 use Rattle.cw_tokens.specs.declared.token.Token.TheVariants.{Control as ControlOf, «List» as ListOf}
+use Rattle.cw_tokens.specs.Stored.{StoredLists}
 use Rattle.cw_scraps.specs.declared.line.LineEntry.{LineEntry}
 use Rattle.cw_scraps.specs.declared.pieces.Insert.{Insert}
 use Rattle.cw_scraps.specs.Lines.{no_entry}
@@ -67,6 +68,10 @@ abbrev pub toggle : MathMode → MathMode → List Token
 toggle Math Text = ControlOf control.ToText ∷ []
 toggle Text Math = ControlOf control.ToMath ∷ []
 toggle _ _ = []
+
+-- a store after the toggle between two modes
+abbrev pub toggled : MathMode → MathMode → StoredLists → StoredLists
+toggled mode left s = record { lists = s.lists; building = option_map (λ tokens. tokens ++ toggle mode left) s.building; spare = s.spare - length (toggle mode left) }
 
 abbrev pub tokens_of : MathMode → List Insert → List Token
 tokens_of mode [] = []

@@ -52,6 +52,7 @@ impl ScrapLine {
     }
 
     /// The same for a row at hand.
+    #[inline(always)]
     pub fn apply_row<L: Ledger>(
         &mut self,
         row: &Row,
@@ -75,20 +76,82 @@ impl ScrapLine {
         ensures free { marks.old.spare ≤ marks.new.spare + 1 }
         ensures steps { steps.new ≡ steps.old + looked_at row.now.action.reserve (length self.new - (place + row.now.offset + 1)) }
     {
-        let marked = named_ident(self, place, row.action.underline, names, store);
-        let reserved = reserve_named(self, place, row.action.reserve, names, store);
+        match (row.action.underline, row.action.reserve) {
+            (None, None) => self.apply_naming(
+                row, place, None, None, flags, names, marks, store, steps,
+            ),
+            _ => self.apply_marking(row, place, flags, names, marks, store, steps),
+        }
+    }
+
+    /// The same, kept apart since few rows mark or reserve.
+    #[inline(never)]
+    fn apply_marking<L: Ledger>(
+        &mut self,
+        row: &Row,
+        place: usize,
+        flags: &Flags,
+        names: &mut Names,
+        marks: &mut Marks,
+        store: &mut TokenStore,
+        steps: &mut Steps<L>,
+    )
+        requires row { row_is_sound row.now ≡ true }
+        requires fits { row_fits row.now (drop place (cats_of (scraps_of store.old.lists self.old))) ≡ true }
+        requires sound { IsSoundLine store.old names.old self.old }
+        requires room { 24 ≤ store.old.spare }
+        requires free { 0 < marks.old.spare }
+        ensures state { state_of store.new.lists self.new marks.new names.new ≡ rewrite flags.now row.now place (state_of store.old.lists self.old marks.old names.old) }
+        ensures names { names.new ≡ retyped (search_in row.now.action.reserve (drop place (scraps_of store.old.lists self.old))) names.old }
+        ensures sound { IsSoundLine store.new names.new self.new }
+        ensures others { Keeps store.old.lists store.new.lists (roots_of self.old) (roots_of self.new) }
+        ensures spare { store.old.spare ≤ store.new.spare + 24 }
+        ensures free { marks.old.spare ≤ marks.new.spare + 1 }
+        ensures steps { steps.new ≡ steps.old + looked_at row.now.action.reserve (length self.new - (place + row.now.offset + 1)) }
+    {
+        let underline = row.action.underline;
+        let reserve = row.action.reserve;
+        self.apply_naming(
+            row, place, underline, reserve, flags, names, marks, store, steps,
+        );
+    }
+
+    /// The same, where the two scraps that the row names are given: of a row that names none no more is
+    /// left than the production.
+    #[inline(always)]
+    fn apply_naming<L: Ledger>(
+        &mut self,
+        row: &Row,
+        place: usize,
+        underline: Option<u8>,
+        reserve: Option<u8>,
+        flags: &Flags,
+        names: &mut Names,
+        marks: &mut Marks,
+        store: &mut TokenStore,
+        steps: &mut Steps<L>,
+    )
+        requires underline { underline ≡ row.now.action.underline }
+        requires reserve { reserve ≡ row.now.action.reserve }
+        requires row { row_is_sound row.now ≡ true }
+        requires fits { row_fits row.now (drop place (cats_of (scraps_of store.old.lists self.old))) ≡ true }
+        requires sound { IsSoundLine store.old names.old self.old }
+        requires room { 24 ≤ store.old.spare }
+        requires free { 0 < marks.old.spare }
+        ensures state { state_of store.new.lists self.new marks.new names.new ≡ rewrite flags.now row.now place (state_of store.old.lists self.old marks.old names.old) }
+        ensures names { names.new ≡ retyped (search_in row.now.action.reserve (drop place (scraps_of store.old.lists self.old))) names.old }
+        ensures sound { IsSoundLine store.new names.new self.new }
+        ensures others { Keeps store.old.lists store.new.lists (roots_of self.old) (roots_of self.new) }
+        ensures spare { store.old.spare ≤ store.new.spare + 24 }
+        ensures free { marks.old.spare ≤ marks.new.spare + 1 }
+        ensures steps { steps.new ≡ steps.old + looked_at row.now.action.reserve (length self.new - (place + row.now.offset + 1)) }
+    {
+        let marked = named_ident(self, place, underline, names, store);
+        let reserved = reserve_named(self, place, reserve, names, store);
         produce(self, place, row, flags, store);
         let _length = self.len();
         let right = place + row.offset as usize + 1;
-        turn_right(
-            self,
-            right,
-            row.action.reserve,
-            reserved,
-            names,
-            store,
-            steps,
-        );
+        turn_right(self, right, reserve, reserved, names, store, steps);
         mark(marked, marks);
         retype(reserved, names);
     }

@@ -19,8 +19,8 @@ use cw_trees::Control;
 /// The scrap of one token: its category, its list, and the modes in which the list begins and ends.
 #[derive(Clone, Copy, PartialEq, Eq, Debug)]
 pub struct Leaf {
-    pub cat: Cat,
     pub list: ListId,
+    pub cat: Cat,
     pub left: MathMode,
     pub right: MathMode,
 }
@@ -29,6 +29,7 @@ pub struct Leaf {
 /// string, a sign, the two ends of a `#` line, a code that is laid out or passed on, or any other byte.
 /// The number of the token is the place of its first byte. After `Memory` the names and the lists are as
 /// before; the room that was made stays.
+#[inline(always)]
 pub fn scrap_of(token: &Tok, names: &mut Names, store: &mut TokenStore) -> Result<Leaf, Memory>
     requires kind { MakesLeaf token.now.kind }
     requires start { token.now.span.start < 2 ^ 32 }

@@ -12,8 +12,8 @@ use std::marker::Model;
 /// two ends.
 #[derive(Clone, Copy, PartialEq, Eq, Debug)]
 pub struct LineEntry {
-    pub cat: Cat,
     pub list: ListId,
+    pub cat: Cat,
     pub left: MathMode,
     pub right: MathMode,
 }
@@ -127,6 +127,15 @@ impl ScrapLine {
         read(&self.items, self.left, self.right, i)
     }
 
+    /// A scrap that is there.
+    #[inline]
+    pub(crate) fn inside(&self, i: usize) -> LineEntry
+        requires { i < length self.now }
+        ensures { result ≡ slice_index_or self.now i no_entry }
+    {
+        read_inside(&self.items, self.left, self.right, i)
+    }
+
     /// Writes a scrap over another.
     pub(crate) fn put(&mut self, i: usize, entry: LineEntry)
         requires { i < length self.old }
@@ -177,6 +186,19 @@ fn read(items: &[LineEntry], left: usize, right: usize, i: usize) -> LineEntry
         list: ListId { index: 0 },
         left: MathMode::Maybe,
         right: MathMode::Maybe,
+    }
+}
+
+#[inline]
+fn read_inside(items: &[LineEntry], left: usize, right: usize, i: usize) -> LineEntry
+    requires gap { IsGap left right items.now }
+    requires inside { i < length (around left right items.now) }
+    ensures { result ≡ slice_index_or (around left right items.now) i no_entry }
+{
+    if i < left {
+        items[i]
+    } else {
+        items[i + (right - left)]
     }
 }
 

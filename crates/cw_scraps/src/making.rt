@@ -26,6 +26,7 @@ fn row_pieces<'a>(row: &'a Row, flags: &Flags, line: &ScrapLine, place: usize) -
 }
 
 /// The entry of the scrap that a row makes at a place.
+#[inline(always)]
 pub fn make(
     line: &ScrapLine,
     place: usize,
@@ -45,7 +46,7 @@ pub fn make(
     let pieces = row_pieces(row, flags, line, place);
     match alone(row.replaced, pieces) {
         Some(k) => {
-            let entry = line.entry(place + k as usize);
+            let entry = line.inside(place + k as usize);
             LineEntry {
                 cat,
                 list: entry.list,

@@ -1,5 +1,6 @@
 ghost use Rattle.std.specs.Prelude.{◌≡◌, ℕ, ◌+◌, ◌<◌, ◌≤◌, [], ◌∷◌, length, drop, take, get_or};
 ghost use Rattle.cw_trees.specs.Joining.{needs, after, first_mode};
+ghost use Rattle.cw_table.specs.declared.types.Piece.TheVariants.{Scrap, MathScrap};
 ghost use Rattle.cw_table.specs.declared.types.RowResult.TheVariants.{SameAs};
 ghost use Rattle.cw_table.specs.Rows.{result_at, translation};
 ghost use Rattle.cw_table.specs.Rewriting.{alone, takes_other};
@@ -116,25 +117,42 @@ fn sign_insert(control: Control) -> Insert
     }
 }
 
+/// What a scrap puts into the list of a production at a place.
+#[inline]
+pub fn scrap_insert(line: &ScrapLine, place: usize, k: u8) -> Insert
+    requires { place + k < length line.now }
+    ensures { result ≡ inserting (drop place line.now) (Scrap k) }
+{
+    let _length = line.len();
+    let entry = line.inside(place + k as usize);
+    Insert {
+        token: Token::List(entry.list),
+        left: entry.left,
+        right: entry.right,
+    }
+}
+
+/// The same for a scrap that is joined as math.
+#[inline]
+pub fn math_scrap_insert(line: &ScrapLine, place: usize, k: u8) -> Insert
+    requires { place + k < length line.now }
+    ensures { result ≡ inserting (drop place line.now) (MathScrap k) }
+{
+    let _length = line.len();
+    let entry = line.inside(place + k as usize);
+    in_math(Token::List(entry.list), entry.left, entry.right)
+}
+
 /// What a piece puts into the list of a production at a place.
+#[inline]
 pub fn insert_of(line: &ScrapLine, place: usize, piece: Piece) -> Insert
     requires { IsPieceWithin place (length line.now) piece }
     ensures { result ≡ inserting (drop place line.now) piece }
 {
     let _length = line.len();
     match piece {
-        Piece::Scrap(k) => {
-            let entry = line.entry(place + k as usize);
-            Insert {
-                token: Token::List(entry.list),
-                left: entry.left,
-                right: entry.right,
-            }
-        }
-        Piece::MathScrap(k) => {
-            let entry = line.entry(place + k as usize);
-            in_math(Token::List(entry.list), entry.left, entry.right)
-        }
+        Piece::Scrap(k) => scrap_insert(line, place, k),
+        Piece::MathScrap(k) => math_scrap_insert(line, place, k),
         _ => sign_insert(sign_of(piece)),
     }
 }
@@ -190,6 +208,6 @@ pub fn result_cat(outcome: RowResult, line: &ScrapLine, place: usize) -> Cat
     let _length = line.len();
     match outcome {
         RowResult::Is(cat) => cat,
-        RowResult::SameAs(k) => line.entry(place + k as usize).cat,
+        RowResult::SameAs(k) => line.inside(place + k as usize).cat,
     }
 }

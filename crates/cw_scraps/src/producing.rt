@@ -13,6 +13,7 @@ use cw_table::Row;
 use cw_tokens::TokenStore;
 
 /// Replaces what a row replaces at a place by the scrap that it makes.
+#[inline(always)]
 pub fn produce(line: &mut ScrapLine, place: usize, row: &Row, flags: &Flags, store: &mut TokenStore)
     requires sound { row_is_sound row.now ≡ true }
     requires fits { row_fits row.now (entry_cats (drop place line.old)) ≡ true }

@@ -32,4 +32,9 @@ join-part-requires-clause-run c =
     rw c.row_pieces-pieces.ensures (run-at _ _ _ f)
 
 pub returns-in-Some : goal.returns-in-Some
-returns-in-Some c = kept c.in-Some.k (ap (alone c.args.row.now.replaced) (sym c.row_pieces-pieces.ensures) ∙ sym c.in-Some.ensures) refl (kept-is c.args.line.now c.args.place c.in-Some.k _ _ _ c.result_cat-cat.ensures c.entry-entry.ensures)
+returns-in-Some c = kept c.in-Some.k (ap (alone c.args.row.now.replaced) (sym c.row_pieces-pieces.ensures) ∙ sym c.in-Some.ensures) refl (kept-is c.args.line.now c.args.place c.in-Some.k _ _ _ c.result_cat-cat.ensures c.inside-entry.ensures)
+
+pub inside-entry-requires : goal.inside-entry-requires
+inside-entry-requires c =
+    let f = fits-at c.args.flags.now c.args.row.now (drop c.args.place c.args.line.now) c.requires.sound c.requires.fits in
+    behind _ _ c.in-Some.k (kept-there _ _ _ c.in-Some.k f (ap (alone c.args.row.now.replaced) (sym c.row_pieces-pieces.ensures) ∙ sym c.in-Some.ensures))
