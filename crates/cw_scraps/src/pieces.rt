@@ -192,6 +192,9 @@ pub fn takes_other(flags: &Flags, choice: Choice, line: &ScrapLine, place: usize
     ensures { result ≡ takes_other flags.now choice (entry_cats (drop place line.now)) }
 {
     let _length = line.len();
+    if let Choice::Always = choice {
+        return false;
+    }
     match choice {
         Choice::Always => false,
         Choice::Indent => !flags.indent,
