@@ -104,7 +104,7 @@ impl ScrapLine {
         ensures steps { steps.new ≡ steps.old + 1 }
     {
         steps.tick();
-        self.entry(i).cat
+        read_cat(&self.items, self.left, self.right, i)
     }
 
     /// The translation of a scrap.
@@ -186,6 +186,19 @@ fn read(items: &[LineEntry], left: usize, right: usize, i: usize) -> LineEntry
         list: ListId { index: 0 },
         left: MathMode::Maybe,
         right: MathMode::Maybe,
+    }
+}
+
+/// The category of a scrap, or `End` past the last one.
+#[inline]
+fn read_cat(items: &[LineEntry], left: usize, right: usize, i: usize) -> Cat
+    requires { IsGap left right items.now }
+    ensures { result ≡ (slice_index_or (around left right items.now) i no_entry).cat }
+{
+    if i < left + (items.len() - right) {
+        read_inside(items, left, right, i).cat
+    } else {
+        Cat::End
     }
 }
 
