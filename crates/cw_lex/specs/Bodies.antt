@@ -70,6 +70,16 @@ abbrev pub goes_on : Inside → List ℕ → Bool
 goes_on i [] = false
 goes_on i (byte ∷ bytes) = i.along || not (stops i.body i.before byte bytes)
 
+-- A byte for which no body has a rule, but a string for its quote, and one for which this body has none.
+abbrev pub is_plain : ℕ → Bool
+is_plain byte =
+    not (byte == newline || byte == star || byte == greater || byte == at_sign || byte == backslash || byte == left_brace ||
+    byte == bar || byte == right_brace)
+
+abbrev pub is_idle : Body → ℕ → Bool
+is_idle (Quoted quote) byte = is_plain byte && not (byte == quote)
+is_idle body byte = is_plain byte
+
 -- where it stops
 abbrev pub ended : Inside → List ℕ → Inside
 ended i [] = i

@@ -9,6 +9,11 @@ abbrev pub body_notes : List ℕ → Option Inside → List Noted
 body_notes text None = []
 body_notes text (Some i) = noted i (drop i.place text)
 
+-- the notes from the first byte that has one, or from here on where none was met
+abbrev pub notes_so_far : List ℕ → Option Inside → Inside → List Noted
+notes_so_far text None i = noted i (drop i.place text)
+notes_so_far text (Some first) i = noted first (drop first.place text)
+
 abbrev pub pending_notes : List ℕ → Pending → List Noted
 pending_notes text p = one_note p.first ++ (one_note p.second ++ and_last (body_notes text p.body) p.last)
 

@@ -1,6 +1,7 @@
-ghost use Rattle.std.specs.Prelude.{◌≡◌, ◌≤◌, ◌<◌, ◌+◌, ◌-◌, ◌^◌, ◌∷◌, [], length, drop, slice_index, MatchOption, IsTrue};
-ghost use Rattle.cw_lex.specs.Bodies.{stops, takes_next, note_on, braces_after, stepped, goes_on, note_here, ended, noted, closing_bytes, extent};
+ghost use Rattle.std.specs.Prelude.{◌≡◌, ◌≤◌, ◌<◌, ◌+◌, ◌-◌, ◌^◌, ◌∷◌, [], true, length, drop, slice_index, MatchOption, IsTrue};
+ghost use Rattle.cw_lex.specs.Bodies.{stops, takes_next, note_on, braces_after, stepped, goes_on, note_here, is_plain, is_idle, ended, noted, closing_bytes, extent};
 ghost use Rattle.cw_lex.specs.Bytes.{begins_with};
+ghost use Rattle.cw_lex.specs.Pending.{body_notes, notes_so_far, IsInside};
 
 use crate::classes::{begins, from};
 use crate::codes::begins_section;
@@ -50,8 +51,27 @@ pub(crate) struct Extent {
     pub stop: usize,
 }
 
+/// Where a body stops, and the place of its first byte with a note, from which its notes are found.
+#[derive(Clone, Copy)]
+pub(crate) struct Walked {
+    pub stop: Inside,
+    pub notes: Option<Inside>,
+}
+
 impl Body {
+    // Whether the body has no rule for this byte.
+    #[inline(always)]
+    fn is_idle(self, byte: u8) -> bool
+        ensures { result ≡ is_idle self byte }
+    {
+        match self {
+            Body::Quoted(quote) => is_plain(byte) && byte != quote,
+            _ => is_plain(byte),
+        }
+    }
+
     // Whether what closes the body stands at the beginning of these bytes.
+    #[inline(always)]
     fn closes(self, bytes: &[u8]) -> bool
         ensures { result ≡ begins_with (closing_bytes self) bytes.now }
     {
@@ -65,6 +85,7 @@ impl Body {
         }
     }
 
+    #[inline(always)]
     fn closing_size(self) -> usize
         ensures { result ≡ length (closing_bytes self) }
     {
@@ -75,6 +96,7 @@ impl Body {
         }
     }
 
+    #[inline(always)]
     fn stops(self, before: u8, byte: u8, rest: &[u8]) -> bool
         ensures { result ≡ stops self before byte rest.now }
     {
@@ -94,6 +116,7 @@ impl Body {
         }
     }
 
+    #[inline(always)]
     fn takes_next(self, byte: u8, rest: &[u8]) -> bool
         ensures { result ≡ takes_next self byte rest.now }
     {
@@ -108,6 +131,7 @@ impl Body {
         }
     }
 
+    #[inline(always)]
     fn note_on(self, braces: usize, byte: u8, rest: &[u8]) -> Option<NoteKind>
         ensures { result ≡ note_on self braces byte rest.now }
     {
@@ -131,6 +155,18 @@ impl Body {
     }
 }
 
+// Whether no body has a rule for this byte, but a string for its quote.
+#[inline(always)]
+fn is_plain(byte: u8) -> bool
+    ensures { result ≡ is_plain byte }
+{
+    !matches!(
+        byte,
+        b'\n' | b'*' | b'>' | b'@' | b'\\' | b'{' | b'|' | b'}'
+    )
+}
+
+#[inline(always)]
 fn braces_after(braces: usize, byte: u8) -> usize
     requires { braces < 2 ^ 64 - 1 }
     ensures { result ≡ braces_after braces byte }
@@ -142,6 +178,7 @@ fn braces_after(braces: usize, byte: u8) -> usize
     }
 }
 
+#[inline(always)]
 fn goes_on(inside: &Inside, bytes: &[u8]) -> bool
     ensures value { result ≡ goes_on inside.now bytes.now }
     ensures some { IsTrue result → 0 < length bytes.now }
@@ -152,6 +189,7 @@ fn goes_on(inside: &Inside, bytes: &[u8]) -> bool
     inside.along || !inside.body.stops(inside.before, bytes[0], from(bytes, 1))
 }
 
+#[inline(always)]
 fn note_here(inside: &Inside, bytes: &[u8]) -> Option<NoteKind>
     requires { 0 < length bytes.now }
     ensures { result ≡ note_here inside.now (slice_index bytes.now 0) (drop 1 bytes.now) }
@@ -163,6 +201,7 @@ fn note_here(inside: &Inside, bytes: &[u8]) -> Option<NoteKind>
 }
 
 // One byte on.
+#[inline(always)]
 fn step(inside: Inside, bytes: &[u8]) -> Inside
     requires some { 0 < length bytes.now }
     requires place { inside.place < 2 ^ 64 - 1 }
@@ -185,20 +224,63 @@ fn step(inside: Inside, bytes: &[u8]) -> Inside
     }
 }
 
-/// Where the body stops in the text.
-pub(crate) fn end_of(inside: Inside, text: &[u8]) -> Inside
+// Behind the bytes for which the body has no rule.
+#[inline(always)]
+fn behind_idle(inside: Inside, text: &[u8]) -> Inside
     requires within { inside.place ≤ length text.now }
     requires braces { inside.braces ≤ inside.place }
-    ensures value { result ≡ ended inside (drop inside.place text.now) }
+    ensures stop { ended result (drop result.place text.now) ≡ ended inside (drop inside.place text.now) }
+    ensures notes { noted result (drop result.place text.now) ≡ noted inside (drop inside.place text.now) }
     ensures from { inside.place ≤ result.place }
     ensures within { result.place ≤ length text.now }
     ensures braces { result.braces ≤ result.place }
 {
     let mut i = inside;
-    while goes_on(&i, from(text, i.place)) {
-        i = step(i, from(text, i.place));
+    while !i.along && i.place < text.len() && i.body.is_idle(text[i.place]) {
+        i.before = text[i.place];
+        i.place += 1;
     }
     i
+}
+
+// The place of the first byte with a note, where one was met before or stands here.
+#[inline(always)]
+fn first_noted(notes: Option<Inside>, i: Inside, text: &[u8]) -> Option<Inside>
+    requires goes { goes_on i (drop i.place text.now) ≡ true }
+    requires some { i.place < length text.now }
+    requires braces { i.braces ≤ i.place }
+    requires inside { IsInside (length text.now) notes }
+    ensures notes { notes_so_far text.now result (stepped i (slice_index (drop i.place text.now) 0) (drop 1 (drop i.place text.now))) ≡ notes_so_far text.now notes i }
+    ensures inside { IsInside (length text.now) result }
+{
+    match notes {
+        Some(first) => Some(first),
+        None => match note_here(&i, from(text, i.place)) {
+            Some(_kind) => Some(i),
+            None => None,
+        },
+    }
+}
+
+/// Where the body stops in the text, and its notes.
+pub(crate) fn walk(inside: Inside, text: &[u8]) -> Walked
+    requires within { inside.place ≤ length text.now }
+    requires braces { inside.braces ≤ inside.place }
+    ensures stop { result.stop ≡ ended inside (drop inside.place text.now) }
+    ensures notes { body_notes text.now result.notes ≡ noted inside (drop inside.place text.now) }
+    ensures inside { IsInside (length text.now) result.notes }
+    ensures from { inside.place ≤ result.stop.place }
+    ensures within { result.stop.place ≤ length text.now }
+    ensures braces { result.stop.braces ≤ result.stop.place }
+{
+    let mut notes = None;
+    let mut i = behind_idle(inside, text);
+    while goes_on(&i, from(text, i.place)) {
+        notes = first_noted(notes, i, text);
+        let next = step(i, from(text, i.place));
+        i = behind_idle(next, text);
+    }
+    Walked { stop: i, notes }
 }
 
 /// The next note inside, and the place behind it, from which the later ones are found.
@@ -209,12 +291,13 @@ pub(crate) fn next_noted(inside: &mut Inside, text: &[u8]) -> Option<Noted>
     ensures within { inside.new.place ≤ length text.now }
     ensures braces { inside.new.braces ≤ inside.new.place }
 {
-    let mut i = *inside;
+    let mut i = behind_idle(*inside, text);
     while goes_on(&i, from(text, i.place)) {
         let place = i.place;
         let bytes = from(text, place);
         let here = note_here(&i, bytes);
-        i = step(i, bytes);
+        let next = step(i, bytes);
+        i = behind_idle(next, text);
         match here {
             Some(kind) => {
                 *inside = i;
@@ -227,17 +310,18 @@ pub(crate) fn next_noted(inside: &mut Inside, text: &[u8]) -> Option<Noted>
     None
 }
 
-/// How far the body goes in the text.
-pub(crate) fn extent_in(inside: Inside, text: &[u8]) -> Extent
-    requires within { inside.place ≤ length text.now }
-    requires braces { inside.braces ≤ inside.place }
+/// How far the body goes that stops here.
+pub(crate) fn extent_to(inside: Inside, stop: Inside, text: &[u8]) -> Extent
+    requires stop { stop ≡ ended inside (drop inside.place text.now) }
+    requires from { inside.place ≤ stop.place }
+    requires within { stop.place ≤ length text.now }
     ensures value { result ≡ extent inside (drop inside.place text.now) }
     ensures within { inside.place + result.size ≤ length text.now }
     ensures inner { result.inner_size ≤ result.size }
 {
-    let end = end_of(inside, text).place;
-    let inner_size = end - inside.place;
-    let closed = inside.body.closes(from(text, end));
+    let place = stop.place;
+    let inner_size = place - inside.place;
+    let closed = inside.body.closes(from(text, place));
     Extent {
         inner_size,
         size: if closed {
@@ -246,10 +330,10 @@ pub(crate) fn extent_in(inside: Inside, text: &[u8]) -> Extent
             inner_size
         },
         closed,
-        stop: if end < text.len() {
-            end
+        stop: if place < text.len() {
+            place
         } else {
-            end.saturating_sub(1)
+            place.saturating_sub(1)
         },
     }
 }

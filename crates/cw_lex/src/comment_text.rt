@@ -9,7 +9,7 @@ ghost use Rattle.cw_lex.specs.Codes.{begins_section};
 ghost use Rattle.cw_lex.specs.Tokens.{comment_text, comment_closed, comment_end, piece, is_deep, line_end, inner_begin, inner_end, with_inner, in_hash_line, comment_begin, comment_kind};
 ghost use Rattle.cw_lex.specs.Coming.{where_of, coming, bytes_at, found_at, is_code, IsReady, CanStep};
 
-use crate::bodies::{Body, Inside, end_of};
+use crate::bodies::{Body, Inside, walk};
 use crate::classes::{begins, from};
 use crate::cuttings::note_unless;
 use crate::giving::token;
@@ -254,7 +254,8 @@ fn piece<'a>(text: &'a [u8], state: &mut State, comment: Opened, deep: bool) -> 
         before: 0,
         along: false,
     };
-    let end = end_of(inside, text);
+    let walked = walk(inside, text);
+    let end = walked.stop;
     let size = end.place - state.at;
     let token = token(
         text,
@@ -272,7 +273,7 @@ fn piece<'a>(text: &'a [u8], state: &mut State, comment: Opened, deep: bool) -> 
     state.pending = Pending {
         first: None,
         second: None,
-        body: Some(inside),
+        body: walked.notes,
         last: None,
     };
     state.at = end.place;

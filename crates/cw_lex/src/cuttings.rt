@@ -7,7 +7,7 @@ ghost use Rattle.cw_lex.specs.Tokens.{string, include_name, alone_size, control_
 ghost use Rattle.cw_lex.specs.Answers.{dropped, plain};
 ghost use Rattle.cw_lex.specs.Coming.{bytes_at, cut_of, IsCut};
 
-use crate::bodies::{Body, Inside, Noted, extent_in};
+use crate::bodies::{Body, Inside, Noted, extent_to, walk};
 use crate::classes::{Class, begins, from, run};
 use crate::names::is_void;
 use crate::pending::Pending;
@@ -65,14 +65,15 @@ pub(crate) fn string(text: &[u8], at: usize, kind: TokKind, opening: usize, quot
     ensures fits { IsCut text.now at result }
 {
     let inside = at_start(Body::Quoted(quote), at + opening);
-    let extent = extent_in(inside, text);
+    let walked = walk(inside, text);
+    let extent = extent_to(inside, walked.stop, text);
     Cutting {
         kind,
         size: opening + extent.size,
         pending: Pending {
             first: None,
             second: None,
-            body: Some(inside),
+            body: walked.notes,
             last: note_unless(extent.closed, NoteKind::StringUnended, extent.stop),
         },
     }
@@ -86,14 +87,15 @@ fn control_text(text: &[u8], at: usize, code: Code) -> Cutting
     ensures fits { IsCut text.now at result }
 {
     let inside = at_start(Body::ControlText, at + 2);
-    let extent = extent_in(inside, text);
+    let walked = walk(inside, text);
+    let extent = extent_to(inside, walked.stop, text);
     Cutting {
         kind: TokKind::Code(code),
         size: 2 + extent.size,
         pending: Pending {
             first: None,
             second: None,
-            body: Some(inside),
+            body: walked.notes,
             last: note_unless(extent.closed, NoteKind::ControlTextUnended, extent.stop),
         },
     }
@@ -106,7 +108,8 @@ fn section_name(text: &[u8], at: usize, code: Code) -> Cutting
     ensures fits { IsCut text.now at result }
 {
     let inside = at_start(Body::SectionName, at + 2);
-    let extent = extent_in(inside, text);
+    let walked = walk(inside, text);
+    let extent = extent_to(inside, walked.stop, text);
     let void = is_void(first(from(text, at + 2), extent.inner_size));
     Cutting {
         kind: TokKind::Code(code),
@@ -114,7 +117,7 @@ fn section_name(text: &[u8], at: usize, code: Code) -> Cutting
         pending: Pending {
             first: note_unless(extent.closed, NoteKind::NameUnended, at),
             second: note_unless(!void, NoteKind::NameEmpty, at),
-            body: Some(inside),
+            body: walked.notes,
             last: None,
         },
     }
@@ -232,7 +235,8 @@ fn is_head_from(text: &[u8], place: usize) -> bool
     requires { place ≤ length text.now }
     ensures { result ≡ is_head_by (extent (at_start (Body.SectionName) place) (drop place text.now)) (drop place text.now) }
 {
-    let extent = extent_in(at_start(Body::SectionName, place), text);
+    let inside = at_start(Body::SectionName, place);
+    let extent = extent_to(inside, walk(inside, text).stop, text);
     if !extent.closed {
         return false;
     }

@@ -1,4 +1,5 @@
-use Rattle.std.proofs.Common.{◌≡◌, true, None, Some, slice_index, drop, sym, ◌∙◌, arith}
+use Rattle.std.proofs.Common.{◌≡◌, ◌∷◌, true, None, Some, slice_index, drop, ap, sym, ◌∙◌, arith}
+use Rattle.cw_lex.specs.declared.bodies.Noted.{Noted}
 use Rattle.cw_lex.specs.Bodies.{goes_on, note_here, stepped}
 use Rattle.cw_lex.proofs.Inside.{noted-at}
 use Rattle.cw_lex.proofs.bodies.next_noted.Goals as goal
@@ -6,21 +7,23 @@ use Rattle.cw_lex.proofs.bodies.next_noted.Goals as goal
 pub returns-in-Some-clause-value : goal.returns-in-Some-clause-value
 returns-in-Some-clause-value c =
     let bytes = drop c.loop-place.i.place c.args.text.now in
+    let n : Noted = record { kind = c.in-Some.kind; place = c.loop-place.i.place } in
     let goes : goes_on c.loop-place.i bytes ≡ true = cc in
     let here : note_here c.loop-place.i (slice_index bytes 0) (drop 1 bytes) ≡ Some c.in-Some.kind = cc in
-    let next : c.step-i.result ≡ stepped c.loop-place.i (slice_index bytes 0) (drop 1 bytes) = cc in
+    let next : c.step-next.result ≡ stepped c.loop-place.i (slice_index bytes 0) (drop 1 bytes) = cc in
     sym c.loop-place.invariant.value
-    ∙ noted-at c.args.text.now c.loop-place.i c.step-i.result (Some c.in-Some.kind) goes here next
+    ∙ noted-at c.args.text.now c.loop-place.i c.step-next.result (Some c.in-Some.kind) goes here next
+    ∙ ap (λ notes. n ∷ notes) (sym c.behind_idle-i-in-loop-place.ensures.notes)
 
 pub loop-place-preserved : goal.loop-place-preserved
 loop-place-preserved c =
     let bytes = drop c.loop-place.i.place c.args.text.now in
     let goes : goes_on c.loop-place.i bytes ≡ true = cc in
     let here : note_here c.loop-place.i (slice_index bytes 0) (drop 1 bytes) ≡ None = cc in
-    let next : c.step-i.result ≡ stepped c.loop-place.i (slice_index bytes 0) (drop 1 bytes) = cc in
-    let tested : c.goes_on.result ≡ true = cc in
+    let next : c.step-next.result ≡ stepped c.loop-place.i (slice_index bytes 0) (drop 1 bytes) = cc in
+    let behind = c.behind_idle-i-in-loop-place.ensures in
     record {
-      within = omega (arith, c.goes_on.ensures.some tested, c.from.ensures.length, c.step-i.ensures.place);
-      braces = c.step-i.ensures.braces;
-      value = sym (noted-at c.args.text.now c.loop-place.i c.step-i.result None goes here next) ∙ c.loop-place.invariant.value;
+      within = behind.within;
+      braces = behind.braces;
+      value = behind.notes ∙ sym (noted-at c.args.text.now c.loop-place.i c.step-next.result None goes here next) ∙ c.loop-place.invariant.value;
     }

@@ -1,13 +1,14 @@
 use Rattle.std.proofs.Common.{◌≡◌, ◌-◌, ◌≤◌, length, drop}
-use Rattle.cw_lex.specs.Bodies.{ended}
-use Rattle.cw_lex.proofs.bodies.end_of.Given as goal
+use Rattle.cw_lex.specs.Bodies.{ended, noted}
+use Rattle.cw_lex.proofs.bodies.behind_idle.Given as goal
 
 abbrev pub invariant-loop-i : goal.invariant-loop-i
 invariant-loop-i l = record {
   from : l.fn.inside.place ≤ l.i.place;
   within : l.i.place ≤ length l.text;
   braces : l.i.braces ≤ l.i.place;
-  value : ended l.i (drop l.i.place l.text) ≡ ended l.fn.inside (drop l.fn.inside.place l.text);
+  stop : ended l.i (drop l.i.place l.text) ≡ ended l.fn.inside (drop l.fn.inside.place l.text);
+  notes : noted l.i (drop l.i.place l.text) ≡ noted l.fn.inside (drop l.fn.inside.place l.text);
 }
 
 abbrev pub decreases-loop-i : goal.decreases-loop-i
