@@ -263,6 +263,7 @@ fn first_noted(notes: Option<Inside>, i: Inside, text: &[u8]) -> Option<Inside>
 }
 
 /// Where the body stops in the text, and its notes.
+#[inline(always)]
 pub(crate) fn walk(inside: Inside, text: &[u8]) -> Walked
     requires within { inside.place ≤ length text.now }
     requires braces { inside.braces ≤ inside.place }

@@ -1,5 +1,5 @@
 //! C text.
-ghost use Rattle.std.specs.Prelude.{◌≡◌, ◌≤◌, ◌<◌, ◌+◌, ◌-◌, ◌∷◌, [], true, false, not, ◌==◌, ◌&&◌, ◌++◌, length, drop, slice_index, MatchOption};
+ghost use Rattle.std.specs.Prelude.{◌≡◌, ◌≤◌, ◌<◌, ◌+◌, ◌-◌, ◌∷◌, [], true, false, not, ◌==◌, ◌&&◌, ◌++◌, nat_lt, length, drop, slice_index, MatchOption};
 ghost use Rattle.cw_lex.specs.Answers.{Gives, before};
 ghost use Rattle.cw_lex.specs.Bytes.{run, is_letter};
 ghost use Rattle.cw_lex.specs.Codes.{code_at};
@@ -9,7 +9,7 @@ ghost use Rattle.cw_lex.specs.Coming.{where_of, coming, bytes_at, found_at, cut_
 ghost use Rattle.cw_lex.specs.Starts.{SignFits, CommentFits, CodeIs};
 ghost use Rattle.cw_lex.specs.Constants.{constant};
 
-use crate::classes::{Class, begins, begins_with, from, is_blank, is_letter, run};
+use crate::classes::{Class, begins, begins_with, from, is_blank, is_digit, is_letter, run};
 use crate::codes::Effect;
 use crate::comment_text::{begin_comment, end_inner};
 use crate::constants::constant;
@@ -294,7 +294,7 @@ fn start_at(bar_ends: bool, text: &[u8], at: usize) -> Start
     if is_letter(byte) {
         return Start::Identifier;
     }
-    if constant(from(text, at)) > 0 {
+    if is_constant(byte, from(text, at)) {
         return Start::Constant;
     }
     if byte == b'"' || byte == 39 {
@@ -316,6 +316,15 @@ fn start_at(bar_ends: bool, text: &[u8], at: usize) -> Start
         Some(sign) => Start::Sign(sign),
         None => Start::OtherByte,
     }
+}
+
+// Whether a constant begins, by its first byte and all bytes.
+#[inline(always)]
+fn is_constant(byte: u8, bytes: &[u8]) -> bool
+    requires first { bytes.now ≡ byte ∷ drop 1 bytes.now }
+    ensures { result ≡ nat_lt 0 (constant bytes.now) }
+{
+    (is_digit(byte) || byte == b'.') && constant(bytes) > 0
 }
 
 fn identifier<'a>(text: &'a [u8], state: &mut State) -> Lexed<'a>

@@ -1,4 +1,4 @@
-use Rattle.std.proofs.Common.{◌≡◌, ◌∷◌, true, None, Some, slice_index, drop, ap, sym, ◌∙◌, arith}
+use Rattle.std.proofs.Common.{◌≡◌, ◌∷◌, true, None, Some, slice_index, drop, ap, sym, ◌∙◌}
 use Rattle.cw_lex.specs.declared.bodies.Noted.{Noted}
 use Rattle.cw_lex.specs.Bodies.{goes_on, note_here, stepped}
 use Rattle.cw_lex.proofs.Inside.{noted-at}
