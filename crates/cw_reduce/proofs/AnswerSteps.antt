@@ -25,7 +25,7 @@ use Rattle.cw_reduce.specs.declared.translating.Translator.{Translator}
 use Rattle.cw_reduce.specs.Opening.{all_roots, answers_in, begun_by, frames_of, IsSoundFrame, IsTranslating, StartsBelow, progress_of}
 use Rattle.cw_reduce.specs.Retyping.{NamesHere, NamesOnTheWay, NamesAmong, same, here, later}
 use Rattle.cw_reduce.specs.StepLimits.{answer_limit, inner_limit}
-use Rattle.cw_reduce.specs.Translating.{Progress, after_token, after_begin, after_answer, after_answers}
+use Rattle.cw_reduce.specs.Translating.{Progress, after_token, after_answer, after_answers}
 use Rattle.cw_reduce.specs.Translating.{CText as CTextFrame, Comment as CommentFrame}
 use Rattle.cw_reduce.proofs.LeafSteps.{Steps, keeps-itself}
 
@@ -58,15 +58,6 @@ begin-steps store names t t' k number is e = subst (Steps store store names name
   };
   keeps = subst (Keeps store.lists store.lists (all_roots t.nesting)) (sym (begun-roots k number t.nesting)) (keeps-itself store.lists (all_roots t.nesting));
 })
-
-begun-progress : (lists : List (List StoredToken)) (names : List Entry) (marks : MarkList) (t : Translator) (k : TokKind) (number steps : ℕ) → progress_of lists names marks (record t { nesting = begun_by k number t.nesting }) steps ≡ after_begin k number (progress_of lists names marks t steps)
-begun-progress lists names marks t kind.InnerText number steps = refl
-begun-progress lists names marks t kind.LongComment number steps = refl
-begun-progress lists names marks t kind.ShortComment number steps = refl
-begun-progress lists names marks t _ number steps = refl
-
-pub begin-progress : (lists : List (List StoredToken)) (names : List Entry) (marks : MarkList) (t t' : Translator) (k : TokKind) (number steps : ℕ) → t' ≡ record t { nesting = begun_by k number t.nesting } → progress_of lists names marks t' steps ≡ after_begin k number (progress_of lists names marks t steps)
-begin-progress lists names marks t t' k number steps e = ap (λ x. progress_of lists names marks x steps) e ∙ begun-progress lists names marks t k number steps
 
 -- names on the way
 names-after : (k : TokKind) (token : Seen) (p : Progress) → (after_token k token p).names ≡ names_with k token.text p.names

@@ -1,5 +1,5 @@
 -- What a list that gathers roots leaves of a store, and what holds of the trees of whole lines and of comments.
-use Rattle.std.proofs.Common.{◌≡◌, ℕ, ◌+◌, ◌<◌, ◌≤◌, true, List, [], ◌∷◌, ◌++◌, length, drop, get_or, Some, inl, inr, refl, sym, ap, ◌∙◌, subst, arith}
+use Rattle.std.proofs.Common.{◌≡◌, ℕ, ◌+◌, ◌<◌, ◌≤◌, List, [], ◌∷◌, ◌++◌, length, drop, get_or, Some, inl, inr, refl, sym, ap, ◌∙◌, subst, arith}
 use Rattle.std.specs.List.{All, slice_get}
 use Rattle.std.proofs.lemmas.List.{append-nil, length-append, get_or_append_left, get_or-append-add, take_at, drop_at, drop-drop}
 use Rattle.std.proofs.lemmas.List.Elements.{All-head, All-tail}
@@ -7,11 +7,10 @@ use Rattle.cw_base.specs.declared.mode.MathMode.{MathMode}
 use Rattle.cw_base.specs.declared.mode.MathMode.TheVariants.{Text, Math, Maybe}
 use Rattle.cw_trees.specs.Tree.{Tree}
 use Rattle.cw_trees.specs.Joining.{Scrap, scrap_agrees, reads, dollar_before, in_text, blank_and_whole, whole}
-use Rattle.cw_table.specs.Normal.{is_fine}
 use Rattle.cw_tokens.specs.declared.token.Token.{Token}
 use Rattle.cw_tokens.specs.Shapes.{unfolded}
 use Rattle.cw_tokens.specs.References.{token_ref, IsUnreferred, IsTied, Reach, here}
-use Rattle.cw_tokens.proofs.Linking.{refers-within, refers-more}
+use Rattle.cw_tokens.proofs.Linking.{refers-more}
 use Rattle.cw_tokens.proofs.Unfolding.{unfolded-old}
 use Rattle.cw_scraps.specs.Lines.{AreRoots, IsOutside, IsNamedBelow}
 use Rattle.cw_scraps.specs.Changing.{Keeps}
@@ -42,12 +41,6 @@ module _ (old new : List (List Token)) (roots : List ℕ) (list : ℕ) (g : Gath
         | inl k ↦ free l p k
         | inr k ↦ (let a : AtPlace roots x = root-place p x k.1 in other a.place a.below (sym a.is))
       ]
-
-  -- nothing refers to the new list
-  pub gathers-new : IsTied old → AreRoots old roots → IsUnreferred new list
-  gathers-new tied are = gathers-unreferred list
-      (λ l p e. let a : list < l = tied.earlier l p list e in let b : l < length old = refers-within old l p list e in let n : list ≡ length old = g.number in omega arith)
-      (λ i h e. let a : get_or roots i 0 < length old = are.there i h in let n : list ≡ length old = g.number in omega arith)
 
   -- the new list takes the place of the roots among others
   module _ (before after : List ℕ) (tied : IsTied old) (are : AreRoots old (before ++ (roots ++ after))) where
@@ -129,7 +122,3 @@ rest-reads (InnerText tree ∷ items) = rest-reads items
 
 pub comment-agrees : (number : ℕ) (items : List CommentItem) → scrap_agrees (comment_scrap number items)
 comment-agrees number items = rest-reads items
-
--- a comment is no bare name
-pub comment-fine : (number : ℕ) (items : List CommentItem) → is_fine (comment_scrap number items) ≡ true
-comment-fine number items = refl

@@ -1,6 +1,6 @@
 -- The tokens of a gathered list have the tree of the scraps, or of the comment.
-use Rattle.std.proofs.Common.{◌≡◌, ℕ, zero, suc, ◌+◌, ◌*◌, ◌≤◌, List, [], ◌∷◌, ◌++◌, length, map, get_or, refl, ap, ◌∙◌, arith}
-use Rattle.std.proofs.lemmas.List.{append_assoc, length-append, length-map}
+use Rattle.std.proofs.Common.{◌≡◌, ℕ, zero, suc, ◌*◌, ◌≤◌, List, [], ◌∷◌, ◌++◌, length, map, get_or, refl, ap, ◌∙◌, arith}
+use Rattle.std.proofs.lemmas.List.{append_assoc, length-append}
 use Rattle.cw_base.specs.declared.mode.MathMode.{MathMode}
 use Rattle.cw_base.specs.declared.mode.MathMode.TheVariants.{Text, Math, Maybe}
 use Rattle.cw_trees.specs.declared.Control.TheVariants as control
@@ -124,6 +124,3 @@ parts-refs (part.InnerText list ∷ parts) = ap (λ xs. list.index ∷ xs) (part
 
 pub comment-refs : (number : ℕ) (parts : List CommentPart) → refs_in (comment_tokens number parts) ≡ inner_lists parts
 comment-refs number parts = parts-refs parts
-
-pub comment-length : (number : ℕ) (parts : List CommentPart) → length (comment_tokens number parts) ≡ length parts + 4
-comment-length number parts = omega (arith, length-append (map token_of parts) comment_end, length-map parts token_of)

@@ -2,8 +2,6 @@
 use Rattle.std.proofs.Common.{◌≡◌, ℕ, ◌+◌, ◌<◌, ◌≤◌, List, [], ◌∷◌, ◌++◌, length, get_or, Option, None, Some, IsSome, IfSome, refl, sym, ap, ◌∙◌, subst, arith}
 use Rattle.std.specs.List.{All, slice_get}
 use Rattle.std.proofs.lemmas.Grind.{get_or_default_zero}
-use Rattle.cw_lex.specs.declared.codes.Code.{Code}
-use Rattle.cw_lex.specs.declared.codes.Code.TheVariants as code
 use Rattle.cw_lex.specs.declared.tokens.TokKind.{TokKind}
 use Rattle.cw_lex.specs.declared.tokens.TokKind.TheVariants as kind
 use Rattle.cw_lex.specs.Answers.{Seen}
@@ -17,7 +15,7 @@ use Rattle.cw_tokens.proofs.Unfolding.{tree_in-same, unfolded-new, unfolded-old}
 use Rattle.cw_scraps.specs.declared.leaves.Leaf.{Leaf}
 use Rattle.cw_scraps.specs.declared.line.LineEntry.{LineEntry}
 use Rattle.cw_scraps.specs.Changing.{Keeps}
-use Rattle.cw_scraps.specs.Leaves.{LeafForm, HasForm, MakesLeaf, entry_of, token_form, code_form, names_with}
+use Rattle.cw_scraps.specs.Leaves.{LeafForm, HasForm, MakesLeaf, entry_of, token_form, names_with}
 use Rattle.cw_scraps.specs.Lines.{seen, AreRoots, IsSoundLine}
 use Rattle.cw_scraps.specs.Marking.{MarkList}
 use Rattle.cw_scraps.proofs.LeafForms.{IsGood, token-good, token-some, length-entry}
@@ -51,36 +49,6 @@ after-leaf kind.HashLine token p form makes is = ap (λ o. record p { frames = w
 after-leaf kind.HashLineEnd token p form makes is = ap (λ o. record p { frames = with_form o p.frames }) is
 after-leaf (kind.Code c) token p form makes is = ap (λ o. record p { frames = with_form o p.frames }) is
 after-leaf _ token p form makes is = cc
-
--- a token that makes no scrap and is no text changes nothing
-no-code : (c : Code) (number : ℕ) → (IsSome (code_form c 0) → ⊥) → code_form c number ≡ None
-no-code code.TexBox number h = absurd (h refl)
-no-code code.Verbatim number h = absurd (h refl)
-no-code code.Quote number h = absurd (h refl)
-no-code code.Join number h = absurd (h refl)
-no-code code.ThinSpace number h = absurd (h refl)
-no-code code.LineBreak number h = absurd (h refl)
-no-code code.BigBreak number h = absurd (h refl)
-no-code code.OptionalBreak number h = absurd (h refl)
-no-code code.NoBreak number h = absurd (h refl)
-no-code code.HeaderFile number h = absurd (h refl)
-no-code code.InvisibleSemicolon number h = absurd (h refl)
-no-code code.BeginArgument number h = absurd (h refl)
-no-code code.EndArgument number h = absurd (h refl)
-no-code _ number h = refl
-
-pub no-leaf : (k : TokKind) (token : Seen) (p : Progress) → (k ≡ kind.Text → ⊥) → (MakesLeaf k → ⊥) → after_token k token p ≡ p
-no-leaf kind.Text token p other h = absurd (other refl)
-no-leaf kind.Identifier token p other h = absurd (h refl)
-no-leaf kind.Constant token p other h = absurd (h refl)
-no-leaf kind.Quoted token p other h = absurd (h refl)
-no-leaf kind.IncludeName token p other h = absurd (h refl)
-no-leaf kind.OtherByte token p other h = absurd (h refl)
-no-leaf (kind.Sign s) token p other h = absurd (h refl)
-no-leaf kind.HashLine token p other h = absurd (h refl)
-no-leaf kind.HashLineEnd token p other h = absurd (h refl)
-no-leaf (kind.Code c) token p other h = ap (λ o. record p { frames = with_form o p.frames }) (no-code c token.span.start h)
-no-leaf _ token p other h = refl
 
 -- the names do not get fewer
 pub names-grow : (k : TokKind) (text : List ℕ) (names : List Entry) → length names ≤ length (names_with k text names)

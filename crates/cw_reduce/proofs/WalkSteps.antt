@@ -1,11 +1,9 @@
 -- The walk of the reducer.
-use Rattle.std.proofs.Common.{◌≡◌, ℕ, zero, suc, ◌+◌, ◌-◌, ◌<◌, ◌≤◌, true, Option, Some, None, List, [], ◌∷◌, length, drop, get_or, unwrap_or, IfSome, MatchOption, refl, sym, ◌∙◌, ap, arith}
+use Rattle.std.proofs.Common.{◌≡◌, ℕ, zero, suc, ◌+◌, ◌-◌, ◌<◌, ◌≤◌, true, Option, Some, None, List, [], ◌∷◌, length, drop, unwrap_or, IfSome, MatchOption, refl, sym, ◌∙◌, ap, arith}
 use Rattle.std.specs.List.{list_all}
 use Rattle.std.specs.Option.{option_map}
-use Rattle.std.proofs.lemmas.List.{get_or-drop}
-use Rattle.std.proofs.Math.ListN.{get_or-map}
 use Rattle.cw_base.specs.declared.category.Cat.{Cat}
-use Rattle.cw_base.specs.declared.category.Cat.TheVariants.{End, RawInt}
+use Rattle.cw_base.specs.declared.category.Cat.TheVariants.{RawInt}
 use Rattle.cw_base.specs.declared.flags.Flags.{Flags}
 use Rattle.cw_names.specs.Names.{Entry, with_category}
 use Rattle.cw_trees.specs.Tree.{Search, Found, Stopped, Nothing}
@@ -32,25 +30,7 @@ use Rattle.cw_table.proofs.WalkLaws.{NoneBelow, Turns, turning, next-nowhere}
 use Rattle.cw_scraps.specs.declared.line.LineEntry.{LineEntry}
 use Rattle.cw_scraps.specs.Applying.{row_of, no_row, retyped}
 use Rattle.cw_scraps.specs.Inserting.{entry_cats}
-use Rattle.cw_scraps.specs.Lines.{no_entry}
 use Rattle.cw_reduce.specs.Reduction.{IsFirst, words_of}
-
--- the window of four
-window-four : (cats : List Cat) → window_of cats ≡ get_or cats 0 End ∷ get_or cats 1 End ∷ get_or cats 2 End ∷ get_or cats 3 End ∷ []
-window-four [] = refl
-window-four (a ∷ []) = refl
-window-four (a ∷ b ∷ []) = refl
-window-four (a ∷ b ∷ c ∷ []) = refl
-window-four (a ∷ b ∷ c ∷ d ∷ cats) = refl
-
--- the four categories at a place of a line
-cat-line : (line : List LineEntry) (place i : ℕ) → (get_or line (place + i) no_entry).cat ≡ get_or (drop place (entry_cats line)) i End
-cat-line line place i = sym (get_or-drop place (entry_cats line) i End ∙ get_or-map (λ entry. entry.cat) line (place + i) no_entry)
-
-pub window-line : (line : List LineEntry) (place : ℕ) → (get_or line place no_entry).cat ∷ (get_or line (place + 1) no_entry).cat ∷ (get_or line (place + 2) no_entry).cat ∷ (get_or line (place + 3) no_entry).cat ∷ [] ≡ window_of (drop place (entry_cats line))
-window-line line place =
-    ap (λ i. (get_or line i no_entry).cat ∷ (get_or line (place + 1) no_entry).cat ∷ (get_or line (place + 2) no_entry).cat ∷ (get_or line (place + 3) no_entry).cat ∷ []) (let e : place ≡ place + 0 = omega arith in e)
-    ∙ (rw (cat-line line place 0, cat-line line place 1, cat-line line place 2, cat-line line place 3) (sym (window-four (drop place (entry_cats line)))))
 
 -- the number that the window gives is that of the first row that fits
 abbrev number_of : Option Row → Option RowNo

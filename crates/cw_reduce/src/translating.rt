@@ -262,7 +262,7 @@ impl Translator {
 
     /// The text ends: its scraps are reduced, and what is left is put together.
     fn end<L: Ledger>(
-        &mut self,
+        mut self,
         alloc: Global,
         flags: &Flags,
         names: &mut Names,
@@ -270,14 +270,14 @@ impl Translator {
         marks: &mut Marks,
         steps: &mut Steps<L>,
     ) -> Result<Translated, Memory>
-        requires translating { IsTranslating store.old names.old self.old }
-        ensures ended { IfOk result (λ done. translation_of store.new.lists names.new marks.new done steps.new ≡ all_ended flags.now (progress_of store.old.lists names.old marks.old self.old steps.old)) }
+        requires translating { IsTranslating store.old names.old self }
+        ensures ended { IfOk result (λ done. translation_of store.new.lists names.new marks.new done steps.new ≡ all_ended flags.now (progress_of store.old.lists names.old marks.old self steps.old)) }
         ensures few { IfOk result (λ done. done.productions ≤ 8 * done.scraps) }
         ensures named { IfOk result (λ done. IsNamedBelow (length names.new) (unfolded store.new.lists done.list.index)) }
         ensures root { IfOk result (λ done. AreRoots store.new.lists (done.list.index ∷ [])) }
-        ensures keeps { IfOk result (λ done. Keeps store.old.lists store.new.lists (all_roots self.old.nesting) (done.list.index ∷ [])) }
-        ensures retypes { let p = progress_of store.old.lists names.old marks.old self.old steps.old in Retypes flags.now (state_in (last_scraps p.frames) p) names.old names.new }
-        ensures bound { let p = progress_of store.old.lists names.old marks.old self.old steps.old in steps.new ≤ steps.old + text_limit flags.now (last_scraps p.frames) p }
+        ensures keeps { IfOk result (λ done. Keeps store.old.lists store.new.lists (all_roots self.nesting) (done.list.index ∷ [])) }
+        ensures retypes { let p = progress_of store.old.lists names.old marks.old self steps.old in Retypes flags.now (state_in (last_scraps p.frames) p) names.old names.new }
+        ensures bound { let p = progress_of store.old.lists names.old marks.old self steps.old in steps.new ≤ steps.old + text_limit flags.now (last_scraps p.frames) p }
         ensures idle { store.new.building ≡ None }
     {
         let line = self.nesting.take_line(alloc);

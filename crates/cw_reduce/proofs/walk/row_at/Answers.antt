@@ -1,4 +1,5 @@
-use Rattle.cw_reduce.proofs.WalkSteps.{window-line, first-line}
+use Rattle.cw_scraps.proofs.FirstRows.{window-line}
+use Rattle.cw_reduce.proofs.WalkSteps.{first-line}
 use Rattle.cw_reduce.proofs.walk.row_at.Goals as goal
 
 pub returns-clause-first : goal.returns-clause-first
