@@ -8,6 +8,7 @@ use crate::walk_tests::add_all;
 use cw_base::{Cat, Flags, Kept, Memory, Steps};
 use cw_names::Names;
 use cw_scraps::{Marks, ScrapLine};
+use cw_table::table;
 use cw_tokens::TokenStore;
 use std::alloc::Global;
 use std::test::Fail;
@@ -30,6 +31,7 @@ fn produce_at(
     match row_at(line, place, steps) {
         Some(row) => {
             produce(
+                &table(),
                 row,
                 place,
                 &Flags::start(),

@@ -16,7 +16,7 @@ ghost use Rattle.cw_reduce.specs.Reduction.{IsFirst, words_of};
 use cw_base::{Flags, Ledger, Memory, Steps};
 use cw_names::Names;
 use cw_scraps::{Marks, ScrapLine};
-use cw_table::{RowNo, first_production, production, step_back};
+use cw_table::{RowNo, Table, first_production, step_back, table};
 use cw_tokens::TokenStore;
 
 /// What was done to a line of scraps.
@@ -54,13 +54,41 @@ pub fn reduce<L: Ledger>(
     ensures no_more { steps.new ≤ steps.old + ticks productions flags.now (state_of store.old.lists line.old marks.old names.old) }
     ensures bound { steps.new ≤ steps.old + (132 * length line.old + length line.old * reservings productions flags.now (state_of store.old.lists line.old marks.old names.old)) }
 {
+    reduce_by(&table(), line, store, names, marks, flags, steps)
+}
+
+/// The same by a table at hand, which is the same for all lines.
+pub(crate) fn reduce_by<L: Ledger>(
+    table: &Table<92>,
+    line: &mut ScrapLine,
+    store: &mut TokenStore,
+    names: &mut Names,
+    marks: &mut Marks,
+    flags: &Flags,
+    steps: &mut Steps<L>,
+) -> Result<Reduced, Memory>
+    requires sound { IsSoundLine store.old names.old line.old }
+    ensures normal { OnOk result (state_of store.new.lists line.new marks.new names.new ≡ normal productions flags.now (state_of store.old.lists line.old marks.old names.old)) }
+    ensures productions { IfOk result (λ done. done.productions ≡ count productions flags.now (state_of store.old.lists line.old marks.old names.old)) }
+    ensures light { IfOk result (λ done. done.productions ≤ weight (scraps_of store.old.lists line.old)) }
+    ensures few { IfOk result (λ done. done.productions ≤ 8 * length line.old) }
+    ensures after { IsAfter productions flags.now (state_of store.old.lists line.old marks.old names.old) (state_of store.new.lists line.new marks.new names.new) }
+    ensures words { words_of names.new ≡ words_of names.old }
+    // Each source token stands in the trees once and in order, as before.
+    ensures numbers { numbers_of (scraps_of store.new.lists line.new) ≡ numbers_of (scraps_of store.old.lists line.old) }
+    ensures sound { IsSoundLine store.new names.new line.new }
+    ensures others { Keeps store.old.lists store.new.lists (roots_of line.old) (roots_of line.new) }
+    ensures steps { OnOk result (steps.new ≡ steps.old + ticks productions flags.now (state_of store.old.lists line.old marks.old names.old)) }
+    ensures no_more { steps.new ≤ steps.old + ticks productions flags.now (state_of store.old.lists line.old marks.old names.old) }
+    ensures bound { steps.new ≤ steps.old + (132 * length line.old + length line.old * reservings productions flags.now (state_of store.old.lists line.old marks.old names.old)) }
+{
     let _length = line.len();
     let mut place = 0;
     let mut productions = 0;
     while place < line.len() {
         match row_at(line, place, steps) {
             Some(row) => {
-                produce(row, place, flags, line, names, marks, store, steps)?;
+                produce(table, row, place, flags, line, names, marks, store, steps)?;
                 productions += 1;
                 place = place.saturating_sub(distance(row));
             }
@@ -100,6 +128,7 @@ fn distance(row: RowNo) -> usize
 
 // One production at a place, where its row fits, with the room that it needs.
 pub(crate) fn produce<L: Ledger>(
+    table: &Table<92>,
     row: RowNo,
     place: usize,
     flags: &Flags,
@@ -121,7 +150,6 @@ pub(crate) fn produce<L: Ledger>(
 {
     store.reserve(24)?;
     marks.reserve(1)?;
-    let production = production(row);
-    line.apply_row(&production, place, flags, names, marks, store, steps);
+    line.apply_row(table.row(row), place, flags, names, marks, store, steps);
     Ok(())
 }

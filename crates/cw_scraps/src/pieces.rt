@@ -145,6 +145,7 @@ pub fn math_scrap_insert(line: &ScrapLine, place: usize, k: u8) -> Insert
 
 /// What a piece puts into the list of a production at a place.
 #[inline]
+#[inline(always)]
 pub fn insert_of(line: &ScrapLine, place: usize, piece: Piece) -> Insert
     requires { IsPieceWithin place (length line.now) piece }
     ensures { result ≡ inserting (drop place line.now) piece }

@@ -141,6 +141,7 @@ impl<const N: usize> Model for Table<N> {
 impl<const N: usize> Table<N> {
     ghost use Rattle.std.specs.Option.{option_map};
     ghost use Rattle.cw_table.specs.Fitting.{first_of};
+    ghost use Rattle.cw_table.specs.Productions.{productions};
     ghost use Rattle.cw_table.specs.Rows.{row_numbered};
     ghost use Rattle.cw_table.specs.Sound.{row_is_sound};
 
@@ -149,6 +150,7 @@ impl<const N: usize> Table<N> {
         requires from_one { 1 ≤ row.number }
         requires to_last { row.number ≤ N }
         ensures number { row_numbered self.now row.number ≡ Some result.now }
+        ensures same { row_numbered productions row.number ≡ Some result.now }
         ensures sound { row_is_sound result.now ≡ true }
     {
         &self.rows[row.number as usize - 1]

@@ -5,5 +5,6 @@ use Rattle.cw_table.proofs.types.Table.row.Goals as goal
 pub returns : goal.returns
 returns g c = record {
   number = numbered-row _ _ _ _ c.self.view_is c.self.invariant c.requires.from_one (omega arith);
+  same = numbered-row _ _ _ _ c.self.invariant c.self.invariant c.requires.from_one (omega arith);
   sound = numbered-sound _ _ _ c.self.invariant (omega arith);
 }

@@ -3,7 +3,7 @@ use Rattle.cw_scraps.proofs.Applied.{keeps-trans}
 use Rattle.cw_scraps.specs.Applying.{state_of}
 use Rattle.cw_scraps.specs.Lines.{roots_of}
 use Rattle.cw_reduce.proofs.WalkLoop.{Turn, turn, Stops, stops, passes, ends, light, few}
-use Rattle.cw_reduce.proofs.walk.reduce.Goals as goal
+use Rattle.cw_reduce.proofs.walk.reduce_by.Goals as goal
 
 pub produce-requires-clause-fits : goal.produce-requires-clause-fits
 produce-requires-clause-fits g c =
