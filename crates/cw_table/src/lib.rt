@@ -14,7 +14,7 @@ mod types;
 pub use back::step_back;
 pub use laws::{rewriting_laws, walk_laws};
 pub use masks::first_production;
-pub use productions::{ROW_COUNT, production, table};
+pub use productions::{ROW_COUNT, table};
 pub use ranks::rank;
 pub use types::{Action, Choice, Piece, Pieces, Row, RowNo, RowResult, Table};
 

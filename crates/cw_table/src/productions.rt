@@ -1,7 +1,6 @@
-ghost use Rattle.std.specs.Prelude.{◌≡◌, ◌+◌, ◌<◌, ◌≤◌, Option, Some, true, slice_get};
+ghost use Rattle.std.specs.Prelude.{◌≡◌, ◌<◌, Some, true, slice_get};
 ghost use Rattle.std.specs.List.{All, list_all};
 ghost use Rattle.cw_table.specs.Productions.{productions};
-ghost use Rattle.cw_table.specs.Rows.{row_numbered};
 ghost use Rattle.cw_table.specs.Sound.{IsSound, are_numbered, row_is_sound};
 
 use crate::types::{Action, Choice, Piece, Pieces, Row, RowNo, RowResult, Table};
@@ -300,14 +299,4 @@ pub fn table() -> Table<92>
         rows[i] = row_at(i);
     }
     Table { rows }
-}
-
-/// The production of this number, as the table has it, for a caller that has no table at hand.
-pub fn production(row: RowNo) -> Row
-    requires from_one { 1 ≤ row.number }
-    requires to_last { row.number ≤ ROW_COUNT }
-    ensures number { row_numbered productions row.number ≡ Some result }
-    ensures sound { row_is_sound result ≡ true }
-{
-    row_at(row.number as usize - 1)
 }

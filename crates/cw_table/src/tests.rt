@@ -1,4 +1,4 @@
-use crate::{Piece, RowNo, first_production, production, rank, step_back, table};
+use crate::{Piece, RowNo, first_production, rank, step_back, table};
 use cw_base::{ALL_CATS, Cat, CatSet};
 
 // The first category of a set, or End past the tests.
@@ -68,8 +68,7 @@ fn each_row_is_found_by_its_own_tests(rt: HostRuntime) {
 fn rows_are_as_written(rt: HostRuntime) {
     let table = table();
     assert!(rt; table.is_sound());
-    let row = production(RowNo { number: 58 });
-    assert!(rt; row == *table.row(RowNo { number: 58 }));
+    let row = table.row(RowNo { number: 58 });
     assert!(rt; row.tests[0].has(Cat::IfClause) && !row.tests[0].has(Cat::IfLike));
     assert!(rt; row.action.usual.pieces[11] == Piece::Scrap(3));
     assert!(rt; row.action.usual.count == 12);
