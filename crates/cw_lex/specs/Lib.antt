@@ -15,3 +15,5 @@ pub mod Effects
 pub mod Starts
 pub mod Order
 pub mod Nested
+pub mod Nest
+pub mod Heads

@@ -11,6 +11,7 @@ mod constants;
 mod cuttings;
 mod ends;
 mod giving;
+mod heads;
 mod laws;
 mod lexer;
 mod names;
@@ -23,6 +24,7 @@ mod state;
 mod tokens;
 
 pub use codes::Code;
+pub use heads::Wanted;
 pub use laws::nesting_law;
 pub use lexer::Lexer;
 pub use signs::Sign;
