@@ -11,7 +11,7 @@ pub mod Pieces
 pub mod White
 pub mod ShortTokens
 pub mod Runs
-pub mod Heads
+pub mod HeadSpaces
 pub mod Order
 pub mod Sizes
 pub mod Within

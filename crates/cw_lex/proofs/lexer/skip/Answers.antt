@@ -3,7 +3,7 @@ use Rattle.cw_lex.specs.declared.classes.Class.TheVariants.{Blank}
 use Rattle.cw_lex.specs.Bytes.{run}
 use Rattle.cw_lex.specs.Lexing.{last_at}
 use Rattle.cw_lex.specs.Coming.{is_head_part}
-use Rattle.cw_lex.proofs.Heads.{head-coming, head-is, head-skipped, run-behind}
+use Rattle.cw_lex.proofs.HeadSpaces.{head-coming, head-is, head-skipped, run-behind}
 use Rattle.cw_lex.proofs.lexer.skip.Goals as goal
 
 pub returns-then-is_head-clause-same : goal.returns-then-is_head-clause-same

@@ -2,7 +2,7 @@ use Rattle.std.proofs.Common.{◌≡◌, List, true, drop, subst}
 use Rattle.cw_lex.specs.Bytes.{begins_by, is_letter}
 use Rattle.cw_lex.specs.Answers.{Answer, Gives}
 use Rattle.cw_lex.specs.Coming.{coming}
-use Rattle.cw_lex.proofs.Heads.{macro-here, macro-coming}
+use Rattle.cw_lex.proofs.HeadSpaces.{macro-here, macro-coming}
 use Rattle.cw_lex.proofs.lexer.want_macro_name.Goals as goal
 
 pub macro_name-requires-clause-found : goal.macro_name-requires-clause-found

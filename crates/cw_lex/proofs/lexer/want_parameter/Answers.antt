@@ -2,7 +2,7 @@ use Rattle.std.proofs.Common.{◌≡◌, List, true, drop, subst}
 use Rattle.cw_lex.specs.Tokens.{is_parameter}
 use Rattle.cw_lex.specs.Answers.{Answer, Gives}
 use Rattle.cw_lex.specs.Coming.{coming}
-use Rattle.cw_lex.proofs.Heads.{parameter-here, parameter-coming}
+use Rattle.cw_lex.proofs.HeadSpaces.{parameter-here, parameter-coming}
 use Rattle.cw_lex.proofs.lexer.want_parameter.Goals as goal
 
 pub parameter-requires-clause-found : goal.parameter-requires-clause-found
