@@ -9,3 +9,4 @@ pub mod Open
 pub mod Put
 pub mod Read
 pub mod Results
+pub mod Told

@@ -1,9 +1,8 @@
--- What a desk tells: its files, its outputs, its count of faults; and what calls over a desk leave as it was.
-use Rattle.std.specs.Prelude.{◌≡◌, ℕ, ◌+◌, ◌-◌, ◌^◌, ◌<◌, ◌≤◌, Bool, true, List, Option, min, false}
+-- Files, outputs and the count of faults.
+use Rattle.std.specs.Prelude.{ℕ, ◌+◌, ◌-◌, ◌^◌, ◌≤◌, Bool, true, List, min, false}
 use Rattle.std.specs.FinMap.{FinMap}
 use Rattle.std.specs.Cmp.Lexicographic.{slice_cmp}
 use Rattle.std.specs.Ordering.{nat_cmp}
-use Rattle.cw_base.specs.declared.event.Event.{Event}
 use Rattle.cw_base.specs.declared.event.Out.{Out}
 use Rattle.cw_base.specs.declared.event.Out.TheVariants.{Term, Tex, Idx, Scn}
 use Rattle.cw_desk.specs.declared.outputs.Outputs.{Outputs}
@@ -33,20 +32,3 @@ with_output Term outputs = outputs
 with_output Tex outputs = record { tex = true; idx = outputs.idx; scn = outputs.scn }
 with_output Idx outputs = record { tex = outputs.tex; idx = true; scn = outputs.scn }
 with_output Scn outputs = record { tex = outputs.tex; idx = outputs.idx; scn = true }
-
--- Calls that put bytes and make nothing: of what the desk tells they change the journal alone, but that the count of faults may rise.
-pub record OnlyPuts {D : Type 0} (opened : D → ℕ) (outputs : D → Outputs) (files : D → Option Files) (rest : D → ℕ → List ℕ) (faults : D → ℕ) (old new : D) : Type 0 where
-  pub same_opened : opened new ≡ opened old
-  pub same_outputs : outputs new ≡ outputs old
-  pub same_files : files new ≡ files old
-  pub same_rests : rest new ≡ rest old
-  pub faults_kept : faults old ≤ faults new
-
--- Calls that open and read files: outputs, files and journal stay, and so does what is unread of the files that were open before.
-pub record OnlyReads {D : Type 0} (opened : D → ℕ) (outputs : D → Outputs) (files : D → Option Files) (rest : D → ℕ → List ℕ) (journal : D → Option (List Event)) (faults : D → ℕ) (old new : D) : Type 0 where
-  pub opened_kept : opened old ≤ opened new
-  pub same_outputs : outputs new ≡ outputs old
-  pub same_files : files new ≡ files old
-  pub same_rests : (i : ℕ) → i < opened old → rest new i ≡ rest old i
-  pub same_journal : journal new ≡ journal old
-  pub faults_kept : faults old ≤ faults new
