@@ -1,5 +1,6 @@
 -- How a web is kept: one text, and a table that says where each line lies in it.
 use Rattle.std.specs.Prelude.{◌≡◌, ℕ, ◌+◌, ◌<◌, ◌≤◌, List, [], ◌∷◌, length, slice_index, slice_range, All}
+use Rattle.cw_base.specs.declared.limits.TheConstants.{TEXT_LIMIT}
 use Rattle.cw_base.specs.declared.notes.Note.{Note}
 use Rattle.cw_base.specs.declared.web.LineInfo.{LineInfo}
 use Rattle.cw_base.specs.Web.{MergedLine}
@@ -22,6 +23,6 @@ Covers text from (info ∷ infos) =
 -- what holds of a web's fields; files is the number of its files
 pub record IsLaidOut (text : List ℕ) (infos : List LineInfo) (notes : List Note) (files : ℕ) : Type 0 where
   pub covers : Covers text 0 infos
-  pub limit : length text ≤ 16777216
+  pub limit : length text ≤ TEXT_LIMIT
   pub line_places : All (λ info. info.place.file < files) infos
   pub note_places : All (λ note. note.place.file < files) notes

@@ -15,7 +15,7 @@ ghost use Rattle.std.specs.Prelude.{
   slice_index_or,
 };
 
-use crate::{Bytes, Memory, Note, Place};
+use crate::{Bytes, Memory, Note, Place, TEXT_LIMIT};
 use std::alloc::Global;
 use std::marker::Model;
 
@@ -88,7 +88,7 @@ impl Web {
     pub fn add_line(&mut self, line: &[u8], place: Place, changed: bool) -> Result<(), Memory>
         requires whole { All (λ byte. byte ≢ 10) line.now }
         requires place { place.file < length self.old.files }
-        requires room { length (text_of self.old.lines) + length line.now + 1 ≤ 16777216 }
+        requires room { length (text_of self.old.lines) + length line.now + 1 ≤ TEXT_LIMIT }
         ensures ok { OnOk result (self.new ≡ record self.old {
           lines = self.old.lines ++ record { text = line.now; place = place; changed = changed } ∷ [];
         }) }
@@ -124,7 +124,7 @@ impl Web {
     /// The merged lines, each ended by byte 10.
     pub fn text(&self) -> &[u8]
         ensures lines { result.now ≡ text_of self.now.lines }
-        ensures limit { length result.now ≤ 16777216 }
+        ensures limit { length result.now ≤ TEXT_LIMIT }
     {
         self.text.as_slice()
     }
