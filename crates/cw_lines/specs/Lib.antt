@@ -1,5 +1,8 @@
 pub mod Cut
 pub mod CutLaws
-pub mod Line
-pub mod LineLaws
+pub mod CutOnLaws
 pub mod Division
+pub mod FillLaws
+pub mod Line
+pub mod Writes
+pub mod WritesLaws

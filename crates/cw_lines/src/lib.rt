@@ -1,4 +1,4 @@
-//! Output lines: the bytes of an output file, cut into lines of at most 80 bytes, and written to a desk a line at a time.
+//! Output lines: the bytes of an output file, cut into lines of at most 80 bytes, and written a line at a time.
 #![tactic(auto)]
 
 mod division;

@@ -1,8 +1,9 @@
-ghost use Rattle.std.specs.Prelude.{◌≡◌, ◌≢◌, ◌==◌, ◌<◌, ◌≤◌, [], ◌∷◌, ◌++◌, IfSome, IsErrOf, OnErr, OnOk, length, take};
-ghost use Rattle.cw_desk.specs.Journal.{grown, GrownByPart};
-ghost use Rattle.cw_desk.specs.Meaning.{OnlyPuts, Rose};
-ghost use Rattle.cw_lines.specs.Cut.{comment_mark, divide};
-ghost use Rattle.cw_lines.specs.Line.{new_line, next_number, number_if, line_events, CanWrite, Writes, WritesPart, IsEndedLine};
+ghost use Rattle.std.specs.Prelude.{◌≡◌, ◌≢◌, ◌==◌, ◌<◌, ◌≤◌, [], ◌∷◌, ◌++◌, IfSome, OnErr, OnOk, length, take};
+ghost use Rattle.std.specs.Bool.{OnTrue, OnFalse};
+ghost use Rattle.cw_desk.specs.Journal.{byte_events};
+ghost use Rattle.cw_lines.specs.Cut.{comment_mark, number_if};
+ghost use Rattle.cw_lines.specs.Line.{divided, new_line, with_byte, HoldsLine, IsEndedLine};
+ghost use Rattle.cw_lines.specs.Writes.{Adds, CanWrite, Puts};
 
 use crate::division::divide;
 use crate::put_error::PutError;
@@ -13,31 +14,40 @@ use cw_desk::Desk;
 use std::alloc::Global;
 use std::marker::Model;
 
+/// The bytes of a line that isn't complete.
+type Pending = ArrayVec<u8, 80>;
+
 /// The line of an output that is being filled. It never holds more than 80 bytes; a line that would is cut.
 #[derive(Drop)]
 pub struct LineOut {
     out: Out,
-    pending: ArrayVec<u8, 80>,
+    pending: Pending,
     lines: u64,
     broken: Vec<u64>,
 }
 
 impl Model for LineOut {
+    ghost use Rattle.std.specs.Prelude.{◌≤◌, length};
     ghost use Rattle.cw_lines.specs.Line.{LineState};
 
     ghost Value = { LineState };
 
-    ghost view = { λ l. record { out = l.out; pending = l.pending.items; lines = l.lines; broken = l.broken.items } };
+    ghost view = { λ l. record {
+      line = record { out = l.out; pending = l.pending.items; lines = l.lines; broken = l.broken.items };
+    } };
+
+    ghost invariant = { λ l. length l.pending.items ≤ 80 };
 }
 
 impl LineOut {
     /// A line on which nothing was put. It takes no memory.
     pub fn new_in(alloc: Global, out: Out) -> LineOut
-        ensures { result ≡ new_line out }
+        ensures new { result.line ≡ new_line out }
+        ensures short { HoldsLine result }
     {
         LineOut {
             out,
-            pending: ArrayVec::new(),
+            pending: Pending::new(),
             lines: 0,
             broken: Vec::new(alloc),
         }
@@ -45,32 +55,33 @@ impl LineOut {
 
     /// How many lines were ended, those that a cut ended included.
     pub fn lines(&self) -> u64
-        ensures { result ≡ self.now.lines }
+        ensures count { result ≡ self.now.line.lines }
+        ensures short { HoldsLine self.now }
     {
         self.lines
     }
 
     /// The numbers of the lines that had no good place to be cut, in order.
     pub fn broken(&self) -> &[u64]
-        ensures { result.now ≡ self.now.broken }
+        ensures numbers { result.now ≡ self.now.line.broken }
+        ensures short { HoldsLine self.now }
     {
         self.broken.as_slice()
     }
 
     /// Whether no byte is pending.
     pub fn is_empty(&self) -> bool
-        ensures { result ≡ (length self.now.pending == 0) }
+        ensures empty { result ≡ (length self.now.line.pending == 0) }
+        ensures short { HoldsLine self.now }
     {
         self.pending.is_empty()
     }
 
     /// Ends the line and writes it in one piece.
     pub fn end_line<D: Desk>(&mut self, desk: &mut D) -> Result<(), PutError>
-        requires can { CanWrite (D.outputs desk.old) self.old }
-        ensures ok { OnOk result (Writes self.old self.new (D.journal desk.old) (D.journal desk.new) (10 ∷ [])) }
-        ensures err { OnErr result (WritesPart self.old (D.journal desk.old) (D.journal desk.new) (10 ∷ [])) }
-        ensures same { OnlyPuts D.opened D.outputs D.files D.rest D.faults desk.old desk.new }
-        ensures fault { IsErrOf result PutError.Fault → Rose (D.faults desk.old) (D.faults desk.new) }
+        requires can { CanWrite (D.told desk.old) self.old }
+        ensures puts { Puts (10 ∷ []) self.old self.new (D.told desk.old) (D.told desk.new) result }
+        ensures short { HoldsLine self.new }
     {
         write_line(desk, self.out, self.pending.as_slice(), false)?;
         self.pending.clear();
@@ -80,18 +91,13 @@ impl LineOut {
 
     /// Divides a full line, writes its first part, and begins the next line with the rest.
     fn cut<D: Desk>(&mut self, desk: &mut D) -> Result<(), PutError>
-        requires can { CanWrite (D.outputs desk.old) self.old }
-        requires full { length self.old.pending ≡ 80 }
-        ensures ok { OnOk result (D.journal desk.new ≡ grown (D.journal desk.old) (line_events self.old.out ((divide self.old.pending).first ∷ []))) }
-        ensures err { OnErr result (GrownByPart (D.journal desk.old) (D.journal desk.new) (line_events self.old.out ((divide self.old.pending).first ∷ []))) }
-        ensures line { OnOk result (self.new ≡ record {
-          out = self.old.out;
-          pending = (divide self.old.pending).rest;
-          lines = next_number self.old.lines;
-          broken = self.old.broken ++ number_if (divide self.old.pending).first.broken (next_number self.old.lines);
-        }) }
-        ensures same { OnlyPuts D.opened D.outputs D.files D.rest D.faults desk.old desk.new }
-        ensures fault { IsErrOf result PutError.Fault → Rose (D.faults desk.old) (D.faults desk.new) }
+        requires can { CanWrite (D.told desk.old) self.old }
+        requires full { length self.old.line.pending ≡ 80 }
+        ensures adds { Adds (byte_events self.old.line.out (divided self.old.line).written)
+            (D.told desk.old) (D.told desk.new) result }
+        ensures same_out { self.new.line.out ≡ self.old.line.out }
+        ensures line { OnOk result (self.new.line ≡ (divided self.old.line).line) }
+        ensures short { HoldsLine self.new }
     {
         let division = divide(self.pending.as_slice());
         let number = self.lines.saturating_add(1);
@@ -105,11 +111,9 @@ impl LineOut {
 
     /// Puts one byte. Byte 10 ends the line; where the line is full and another byte comes, it is cut.
     pub fn put<D: Desk>(&mut self, byte: u8, desk: &mut D) -> Result<(), PutError>
-        requires can { CanWrite (D.outputs desk.old) self.old }
-        ensures ok { OnOk result (Writes self.old self.new (D.journal desk.old) (D.journal desk.new) (byte ∷ [])) }
-        ensures err { OnErr result (WritesPart self.old (D.journal desk.old) (D.journal desk.new) (byte ∷ [])) }
-        ensures same { OnlyPuts D.opened D.outputs D.files D.rest D.faults desk.old desk.new }
-        ensures fault { IsErrOf result PutError.Fault → Rose (D.faults desk.old) (D.faults desk.new) }
+        requires can { CanWrite (D.told desk.old) self.old }
+        ensures puts { Puts (byte ∷ []) self.old self.new (D.told desk.old) (D.told desk.new) result }
+        ensures short { HoldsLine self.new }
     {
         if byte == b'\n' {
             return self.end_line(desk);
@@ -123,11 +127,9 @@ impl LineOut {
 
     /// Puts bytes as `put` puts them one by one. Whole lines are written as they stand.
     pub fn put_all<D: Desk>(&mut self, bytes: &[u8], desk: &mut D) -> Result<(), PutError>
-        requires can { CanWrite (D.outputs desk.old) self.old }
-        ensures ok { OnOk result (Writes self.old self.new (D.journal desk.old) (D.journal desk.new) bytes.now) }
-        ensures err { OnErr result (WritesPart self.old (D.journal desk.old) (D.journal desk.new) bytes.now) }
-        ensures same { OnlyPuts D.opened D.outputs D.files D.rest D.faults desk.old desk.new }
-        ensures fault { IsErrOf result PutError.Fault → Rose (D.faults desk.old) (D.faults desk.new) }
+        requires can { CanWrite (D.told desk.old) self.old }
+        ensures puts { Puts bytes.now self.old self.new (D.told desk.old) (D.told desk.new) result }
+        ensures short { HoldsLine self.new }
     {
         let mut at = 0;
         while let Some(size) = first_line(&bytes[at..]) {
@@ -141,12 +143,10 @@ impl LineOut {
 
     /// Puts a line with its end.
     fn put_line<D: Desk>(&mut self, bytes: &[u8], desk: &mut D) -> Result<(), PutError>
-        requires can { CanWrite (D.outputs desk.old) self.old }
+        requires can { CanWrite (D.told desk.old) self.old }
         requires line { IsEndedLine bytes.now }
-        ensures ok { OnOk result (Writes self.old self.new (D.journal desk.old) (D.journal desk.new) bytes.now) }
-        ensures err { OnErr result (WritesPart self.old (D.journal desk.old) (D.journal desk.new) bytes.now) }
-        ensures same { OnlyPuts D.opened D.outputs D.files D.rest D.faults desk.old desk.new }
-        ensures fault { IsErrOf result PutError.Fault → Rose (D.faults desk.old) (D.faults desk.new) }
+        ensures puts { Puts bytes.now self.old self.new (D.told desk.old) (D.told desk.new) result }
+        ensures short { HoldsLine self.new }
     {
         if self.is_empty() && bytes.len() <= 81 {
             return self.put_whole(bytes, desk);
@@ -156,14 +156,12 @@ impl LineOut {
 
     /// Writes a line that fits, when nothing is pending.
     fn put_whole<D: Desk>(&mut self, bytes: &[u8], desk: &mut D) -> Result<(), PutError>
-        requires can { CanWrite (D.outputs desk.old) self.old }
+        requires can { CanWrite (D.told desk.old) self.old }
         requires line { IsEndedLine bytes.now }
-        requires empty { length self.old.pending ≡ 0 }
+        requires empty { length self.old.line.pending ≡ 0 }
         requires short { length bytes.now ≤ 81 }
-        ensures ok { OnOk result (Writes self.old self.new (D.journal desk.old) (D.journal desk.new) bytes.now) }
-        ensures err { OnErr result (WritesPart self.old (D.journal desk.old) (D.journal desk.new) bytes.now) }
-        ensures same { OnlyPuts D.opened D.outputs D.files D.rest D.faults desk.old desk.new }
-        ensures fault { IsErrOf result PutError.Fault → Rose (D.faults desk.old) (D.faults desk.new) }
+        ensures puts { Puts bytes.now self.old self.new (D.told desk.old) (D.told desk.new) result }
+        ensures short { HoldsLine self.new }
     {
         write_all(desk, self.out, bytes)?;
         self.lines = self.lines.saturating_add(1);
@@ -172,27 +170,25 @@ impl LineOut {
 
     /// Puts bytes one by one.
     fn put_each<D: Desk>(&mut self, bytes: &[u8], desk: &mut D) -> Result<(), PutError>
-        requires can { CanWrite (D.outputs desk.old) self.old }
-        ensures ok { OnOk result (Writes self.old self.new (D.journal desk.old) (D.journal desk.new) bytes.now) }
-        ensures err { OnErr result (WritesPart self.old (D.journal desk.old) (D.journal desk.new) bytes.now) }
-        ensures same { OnlyPuts D.opened D.outputs D.files D.rest D.faults desk.old desk.new }
-        ensures fault { IsErrOf result PutError.Fault → Rose (D.faults desk.old) (D.faults desk.new) }
+        requires can { CanWrite (D.told desk.old) self.old }
+        ensures puts { Puts bytes.now self.old self.new (D.told desk.old) (D.told desk.new) result }
+        ensures short { HoldsLine self.new }
     {
         for byte in bytes {
             self.put(*byte, desk)?;
         }
+        // By its type the line holds at most 80 bytes, also where no byte was put.
+        let _ = &self.pending;
         Ok(())
     }
 
     /// Cuts a full line and puts a byte other than byte 10 behind what is left.
     fn put_behind_cut<D: Desk>(&mut self, byte: u8, desk: &mut D) -> Result<(), PutError>
-        requires can { CanWrite (D.outputs desk.old) self.old }
-        requires full { length self.old.pending ≡ 80 }
+        requires can { CanWrite (D.told desk.old) self.old }
+        requires full { length self.old.line.pending ≡ 80 }
         requires other { byte ≢ 10 }
-        ensures ok { OnOk result (Writes self.old self.new (D.journal desk.old) (D.journal desk.new) (byte ∷ [])) }
-        ensures err { OnErr result (WritesPart self.old (D.journal desk.old) (D.journal desk.new) (byte ∷ [])) }
-        ensures same { OnlyPuts D.opened D.outputs D.files D.rest D.faults desk.old desk.new }
-        ensures fault { IsErrOf result PutError.Fault → Rose (D.faults desk.old) (D.faults desk.new) }
+        ensures puts { Puts (byte ∷ []) self.old self.new (D.told desk.old) (D.told desk.new) result }
+        ensures short { HoldsLine self.new }
     {
         self.cut(desk)?;
         self.add(byte);
@@ -201,15 +197,17 @@ impl LineOut {
 
     /// Whether no byte more has room.
     fn is_full(&self) -> bool
-        ensures { result ≡ (length self.now.pending == 80) }
+        ensures full { OnTrue result (length self.now.line.pending ≡ 80) }
+        ensures room { OnFalse result (length self.now.line.pending < 80) }
     {
         self.pending.is_full()
     }
 
     /// Appends a byte for which there is room.
     fn add(&mut self, byte: u8)
-        requires { length self.old.pending < 80 }
-        ensures { self.new ≡ record self.old { pending = self.old.pending ++ byte ∷ [] } }
+        requires { length self.old.line.pending < 80 }
+        ensures line { self.new.line ≡ with_byte self.old.line byte }
+        ensures short { HoldsLine self.new }
     {
         self.pending.push(byte);
     }
@@ -227,11 +225,11 @@ fn note_broken(numbers: &mut Vec<u64>, broken: bool, number: u64) -> Result<(), 
 }
 
 /// The line that begins with what a cut left.
-fn begun_line(comment: bool, rest: &[u8]) -> ArrayVec<u8, 80>
+fn begun_line(comment: bool, rest: &[u8]) -> Pending
     requires { length (comment_mark comment ++ rest.now) ≤ 80 }
     ensures { result.items ≡ comment_mark comment ++ rest.now }
 {
-    let mut line = ArrayVec::new();
+    let mut line = Pending::new();
     if comment {
         line.push(b'%');
     }

@@ -1,7 +1,8 @@
-ghost use Rattle.std.specs.Prelude.{◌≡◌, ◌+◌, ◌≤◌, [], ◌∷◌, ◌++◌, IsErrOf, IsTrue, OnErr, OnOk, length};
-ghost use Rattle.cw_desk.specs.Journal.{byte_events, grown, GrownByPart};
-ghost use Rattle.cw_desk.specs.Meaning.{is_open, OnlyPuts, Rose};
+ghost use Rattle.std.specs.Prelude.{◌≡◌, ◌+◌, ◌≤◌, [], ◌∷◌, ◌++◌, IsTrue, length};
+ghost use Rattle.cw_desk.specs.Journal.{byte_events};
+ghost use Rattle.cw_desk.specs.Meaning.{is_open};
 ghost use Rattle.cw_lines.specs.Cut.{comment_mark};
+ghost use Rattle.cw_lines.specs.Writes.{Adds};
 ghost use Rattle.arrayvec.specs.ArrayVec.{array_vec_len};
 
 use crate::put_error::PutError;
@@ -9,13 +10,10 @@ use arrayvec::ArrayVec;
 use cw_base::Out;
 use cw_desk::{Desk, Taken};
 
-/// Writes all of the bytes: a desk that takes less is asked again for the rest. After an error a first part may be written.
+/// Writes all of the bytes: a desk that takes less is asked again for the rest.
 pub fn write_all<D: Desk>(desk: &mut D, out: Out, bytes: &[u8]) -> Result<(), PutError>
-    requires made { IsTrue (is_open (D.outputs desk.old) out) }
-    ensures ok { OnOk result (D.journal desk.new ≡ grown (D.journal desk.old) (byte_events out bytes.now)) }
-    ensures err { OnErr result (GrownByPart (D.journal desk.old) (D.journal desk.new) (byte_events out bytes.now)) }
-    ensures same { OnlyPuts D.opened D.outputs D.files D.rest D.faults desk.old desk.new }
-    ensures fault { IsErrOf result PutError.Fault → Rose (D.faults desk.old) (D.faults desk.new) }
+    requires made { IsTrue (is_open (D.told desk.old).outputs out) }
+    ensures { Adds (byte_events out bytes.now) (D.told desk.old) (D.told desk.new) result }
 {
     let mut done = 0;
     while done < bytes.len() {
@@ -45,12 +43,10 @@ pub(crate) fn write_line<D: Desk>(
     text: &[u8],
     percent: bool,
 ) -> Result<(), PutError>
-    requires made { IsTrue (is_open (D.outputs desk.old) out) }
+    requires made { IsTrue (is_open (D.told desk.old).outputs out) }
     requires short { length text.now ≤ 80 }
-    ensures ok { OnOk result (D.journal desk.new ≡ grown (D.journal desk.old) (byte_events out (text.now ++ comment_mark percent ++ 10 ∷ []))) }
-    ensures err { OnErr result (GrownByPart (D.journal desk.old) (D.journal desk.new) (byte_events out (text.now ++ comment_mark percent ++ 10 ∷ []))) }
-    ensures same { OnlyPuts D.opened D.outputs D.files D.rest D.faults desk.old desk.new }
-    ensures fault { IsErrOf result PutError.Fault → Rose (D.faults desk.old) (D.faults desk.new) }
+    ensures { Adds (byte_events out (text.now ++ comment_mark percent ++ 10 ∷ []))
+        (D.told desk.old) (D.told desk.new) result }
 {
     let mut line = ArrayVec::<u8, 82>::new();
     append(&mut line, text);

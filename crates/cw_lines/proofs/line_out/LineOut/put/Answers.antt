@@ -1,11 +1,11 @@
 -- Where there is room the byte is appended.
-use Rattle.std.proofs.Common.{◌<◌, ◌≤◌, ◌≢◌, length, arith}
-use Rattle.std.proofs.lemmas.Bool.Decides.{nat_tests}
-use Rattle.cw_lines.specs.LineLaws.{writes-room}
+use Rattle.std.proofs.Common.{rules, true, false, ap}
+use Rattle.cw_lines.specs.FillLaws.{fill-room}
+use Rattle.cw_lines.specs.Line.{Line, fill_by}
+use Rattle.cw_lines.specs.WritesLaws.{puts-known, adds-none}
 use Rattle.cw_lines.proofs.line_out.LineOut.put.Goals as goal
 
-pub returns-clause-ok : goal.returns-clause-ok
-returns-clause-ok g c =
-    let other : c.args.byte ≢ 10 = c.if-byte-eq10.false in
-    let room : length c.args.self.now.pending < 80 = let short : length c.args.self.now.pending ≤ 80 = c.requires.can.short in grind (arith, nat_tests, c.if-is_full.false, c.if-is_full.ensures) in
-    writes-room c.args.self.now _ _ c.args.byte room other c.add.ensures
+pub returns-clause-puts : goal.returns-clause-puts
+returns-clause-puts g c =
+    puts-known (fill_by false true c.args.self.now.line c.args.byte) (fill-room c.args.self.now.line c.args.byte (search rules) c.if-byte-eq10.false)
+    (ap (λ (l : Line). l.out) c.add.ensures.line) c.add.ensures.line (adds-none _ tt)

@@ -1,31 +1,54 @@
 -- The line is written as it stands.
-use Rattle.std.proofs.Common.{◌≡◌, ℕ, List, [], ap, ◌∙◌}
+use Rattle.std.proofs.Common.{◌≡◌, ◌≤◌, ◌+◌, ℕ, List, [], ◌∷◌, ◌++◌, length, refl, sym, ap, ◌∙◌, arith, length-append}
 use Rattle.std.proofs.lemmas.List.{nil_from_length}
 use Rattle.cw_base.specs.declared.event.Out.{Out}
-use Rattle.cw_desk.specs.Journal.{byte_events, grown}
-use Rattle.cw_desk.specs.Results.{on_err}
-use Rattle.cw_lines.specs.Line.{LineState, next_number}
-use Rattle.cw_lines.specs.LineLaws.{writes-whole, part-whole_line}
+use Rattle.cw_desk.specs.Journal.{byte_events}
+use Rattle.cw_lines.specs.FillLaws.{fill-line}
+use Rattle.cw_lines.specs.Line.{Line, LineState, Filled, IsEndedLine, fill, next_number}
+use Rattle.cw_lines.specs.WritesLaws.{puts-known, puts-failed, adds-fail, adds-events}
 use Rattle.cw_lines.specs.contracts.line_out.LineOut.{the_view}
 use Rattle.cw_lines.specs.declared.line_out.LineOut.TheInside.{Inside}
 use Rattle.cw_lines.proofs.line_out.LineOut.put_whole.Goals as goal
 
+whole : List ℕ → Line → Filled
+whole line old = record { line = record { out = old.out; pending = []; lines = next_number old.lines; broken = old.broken }; written = line }
+
+-- a line that ended, when nothing was pending
+fill-ended : (line : List ℕ) (old : Line) → old.pending ≡ [] → length line ≤ 81 → IsEndedLine line → fill old line ≡ whole line old
+unfolding whole
+fill-ended line old empty short is =
+    let size : length line ≡ length is.text + 1 = ap length is.ended ∙ length-append is.text (10 ∷ []) in
+    let none : length old.pending ≡ 0 = ap length empty in
+    ap (λ (bytes : List ℕ). fill old bytes) is.ended
+    ∙ fill-line is.text old (omega arith) is.one
+    ∙ ap (λ (begun : List ℕ). whole (begun ++ is.text ++ 10 ∷ []) old) empty
+    ∙ ap (λ (bytes : List ℕ). whole bytes old) (sym is.ended)
+
 -- the line that was filled, by the fields and by the value
-counted : (inside : Inside) (old : LineState) (lines : ℕ) → the_view inside ≡ old → old.pending ≡ [] → lines ≡ next_number inside.lines
-    → the_view (record { out = inside.out; pending = inside.pending; lines = lines; broken = inside.broken }) ≡ record { out = old.out; pending = []; lines = next_number old.lines; broken = old.broken }
-counted inside old lines view_is empty count =
+counted : (inside : Inside) (old : Line) (lines : ℕ) (line : List ℕ) → (the_view inside).line ≡ old → old.pending ≡ [] → lines ≡ next_number inside.lines
+    → (the_view (record { out = inside.out; pending = inside.pending; lines = lines; broken = inside.broken })).line ≡ (whole line old).line
+unfolding whole
+counted inside old lines line view_is empty count =
     ap (λ (n : ℕ). record { out = inside.out; pending = inside.pending.items; lines = n; broken = inside.broken.items }) count
-    ∙ ap (λ (l : LineState). record { out = l.out; pending = l.pending; lines = next_number l.lines; broken = l.broken }) view_is
+    ∙ ap (λ (l : Line). record { out = l.out; pending = l.pending; lines = next_number l.lines; broken = l.broken }) view_is
     ∙ ap (λ (pending : List ℕ). record { out = old.out; pending = pending; lines = next_number old.lines; broken = old.broken }) empty
 
-pub returns-in_err-write_all-clause-err : goal.returns-in_err-write_all-clause-err
-returns-in_err-write_all-clause-err g c =
-    on_err c.from_residual.result
-    (part-whole_line c.args.self.now _ _ c.args.bytes.now (nil_from_length c.args.self.now.pending c.requires.empty) c.requires.short c.requires.line
-    (rw (ap (λ (l : LineState). l.out) c.self.view_is) at c.in_err-write_all.ensures.err))
+same_events : (out : Out) (old : Line) (line : List ℕ) → out ≡ old.out → byte_events out line ≡ byte_events old.out (whole line old).written
+unfolding whole
+same_events out old line same = ap (λ (o : Out). byte_events o line) same
 
-pub returns-clause-ok : goal.returns-clause-ok
-returns-clause-ok g c =
-    writes-whole c.args.self.now _ _ _ c.args.bytes.now (nil_from_length c.args.self.now.pending c.requires.empty) c.requires.short c.requires.line
-    (counted c.self.inside c.args.self.now c.saturating_add-self-inside.result c.self.view_is (nil_from_length c.args.self.now.pending c.requires.empty) c.saturating_add-self-inside.ensures)
-    (c.in_ok-write_all.ensures.ok ∙ ap (λ (out : Out). grown (g.D.Desk.journal c.args.desk.now) (byte_events out c.args.bytes.now)) (ap (λ (l : LineState). l.out) c.self.view_is))
+pub returns-in_err-write_all-clause-puts : goal.returns-in_err-write_all-clause-puts
+returns-in_err-write_all-clause-puts g c =
+    puts-failed _ (whole c.args.bytes.now c.args.self.now.line)
+    (fill-ended c.args.bytes.now c.args.self.now.line (nil_from_length c.args.self.now.line.pending c.requires.empty) c.requires.short c.requires.line) refl
+    c.from_residual.ensures.1
+    (adds-events (same_events c.self.inside.out c.args.self.now.line c.args.bytes.now (ap (λ (l : LineState). l.line.out) c.self.view_is))
+    (adds-fail c.in_err-write_all.ensures c.from_residual.ensures.1))
+
+pub returns-clause-puts : goal.returns-clause-puts
+returns-clause-puts g c =
+    puts-known (whole c.args.bytes.now c.args.self.now.line)
+    (fill-ended c.args.bytes.now c.args.self.now.line (nil_from_length c.args.self.now.line.pending c.requires.empty) c.requires.short c.requires.line)
+    (ap (λ (l : LineState). l.line.out) c.self.view_is)
+    (counted c.self.inside c.args.self.now.line c.saturating_add-self-inside.result c.args.bytes.now (ap (λ (l : LineState). l.line) c.self.view_is) (nil_from_length c.args.self.now.line.pending c.requires.empty) c.saturating_add-self-inside.ensures)
+    (adds-events (same_events c.self.inside.out c.args.self.now.line c.args.bytes.now (ap (λ (l : LineState). l.line.out) c.self.view_is)) c.in_ok-write_all.ensures)
