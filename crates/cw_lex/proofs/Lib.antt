@@ -12,8 +12,10 @@ pub mod White
 pub mod ShortTokens
 pub mod Runs
 pub mod HeadSpaces
-pub mod Order
+pub mod Tests
+pub mod Taking
 pub mod Sizes
 pub mod Within
+pub mod Covering
 mod Rows
 pub mod Nesting

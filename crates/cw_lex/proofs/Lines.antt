@@ -1,9 +1,10 @@
 -- What begins at a line's end of C text.
-use Rattle.std.proofs.Common.{◌≡◌, ℕ, ◌+◌, Bool, true, true≢false, List, [], ◌∷◌, slice_index, drop, refl, sym, ap, ◌∙◌, if◌then◌else◌}
+use Rattle.std.proofs.Common.{◌≡◌, ℕ, ◌+◌, Bool, true, false, true≢false, List, [], ◌∷◌, slice_index, drop, refl, sym, ap, ◌∙◌, if◌then◌else◌}
 use Rattle.cw_lex.specs.declared.parts.Part.{Part}
 use Rattle.cw_lex.specs.declared.parts.Part.TheVariants as parts
 use Rattle.cw_lex.specs.declared.parts.Opened.{Opened}
-use Rattle.cw_lex.specs.Tokens.{found, part_text, in_text, code_text, comment_text, line_end}
+use Rattle.cw_lex.specs.Tokens.{found, part_text, in_text, code_text, comment_text, comment_end, in_hash_line, passed, line_end}
+use Rattle.cw_lex.specs.Answers.{before}
 use Rattle.cw_lex.specs.Lexing.{fresh_at, last_at}
 use Rattle.cw_lex.specs.Coming.{is_code, is_code_part, found_at}
 
@@ -35,3 +36,17 @@ found-newline text part comments place h code =
     let bytes = drop (place + 1) text in
     ap (λ b. found (record { part = part; comments = comments }) (fresh_at text place) (last_at text place) place b bytes) h
     ∙ in_text-code part comments (fresh_at text place) (last_at text place) place 10 bytes code
+
+-- a line's end ends the text of a short comment
+pub found-comment-line : (text : List ℕ) (part : Part) (start braces place : ℕ) (long : Bool) (rest : List Opened) → slice_index text place ≡ 10 → long ≡ false
+    → found_at text (record { part = part; comments = record { start = start; long = long; braces = braces; inner = false } ∷ rest }) place
+    ≡ before (comment_end (in_hash_line part) (record { start = start; long = long; braces = braces; inner = false }) place 0 []) (line_end part rest (last_at text place) place)
+found-comment-line text part start braces place long rest line short =
+    let bytes = drop (place + 1) text in
+    (λ i. found (record { part = part; comments = record { start = start; long = short i; braces = braces; inner = false } ∷ rest }) (fresh_at text place) (last_at text place) place (line i) bytes)
+    ∙ (λ i. before (comment_end (in_hash_line part) (record { start = start; long = sym short i; braces = braces; inner = false }) place 0 []) (line_end part rest (last_at text place) place))
+
+pub in_hash_line-passed : (part : Part) → in_hash_line (passed part) ≡ in_hash_line part
+in_hash_line-passed parts.Begin = refl
+in_hash_line-passed (parts.Plain hash_line include) = refl
+in_hash_line-passed _ = refl

@@ -134,9 +134,9 @@ line-goes : (part : Part) (cs : List Opened) (last place : ℕ) → is_c part �
 line-goes part [] last place p inner = if-both (Goes (InCode ∷ [])) (in_hash_line part && not (last == backslash)) _ _ (λ e. one-goes true (record { part = parts.Plain false false; comments = [] }) place (newline ∷ []) (plain kind.HashLineEnd 1) refl refl refl) (λ e. skip-goes (record { part = part; comments = [] }) p refl)
 line-goes part (c ∷ cs) last place p inner =
     if-both (Goes (levels_in (c ∷ cs))) c.long _ _ (λ e. skip-goes (record { part = part; comments = c ∷ cs }) p inner)
-    (λ e. before-goes (inner_cut (in_hash_line part) place place ++ comment_end (in_hash_line part) c place 0 []) (levels_in (c ∷ cs)) (levels_in cs) (line_end part cs last place)
+    (λ e. before-goes (inner_cut (in_hash_line part) place place ++ comment_end (in_hash_line part) c place 0 []) (levels_in (c ∷ cs)) (levels_in cs) (line_end (passed part) cs last place)
     (ap (λ b. all_levels_after (inner_cut (in_hash_line part) place place ++ comment_end (in_hash_line part) c place 0 []) (with_code b (InComment ∷ levels_in cs))) (and-left c.inner (all_inner cs) inner) ∙ end-levels (in_hash_line part) c place 0 [] cs (and-right c.inner (all_inner cs) inner))
-    (line-goes part cs last place p (and-right c.inner (all_inner cs) inner)))
+    (line-goes (passed part) cs last place (passed-c part p) (and-right c.inner (all_inner cs) inner)))
 
 -- a comment begins, and inner C text begins and ends
 comment-goes : (long : Bool) (w : Where) (place : ℕ) (bytes : List ℕ) → is_c w.part ≡ true → all_inner w.comments ≡ true → Goes (levels_in w.comments) (comment_begin long w place bytes)

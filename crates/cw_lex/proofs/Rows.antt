@@ -159,6 +159,21 @@ include-names : of modes.CPart (codes "#include/**/<a>" ++ (10 ∷ []) ++ codes 
     token (kinds.Sign signs.Greater) 36 37 ∷ []
 include-names = refl
 
+-- Behind a comment that a line's end ends, an `include` in its inner text lets no include name follow.
+include-in-comment : of modes.CPart (codes "#//|include\\" ++ (10 ∷ []) ++ codes "<a>") ≡
+    token kinds.HashLine 0 1 ∷ begin kinds.ShortComment 1 3 ∷ begin kinds.InnerText 3 4 ∷ token kinds.Identifier 4 11 ∷
+    finish kinds.InnerText 12 12 ∷ note notes.BarMissing 12 ∷ finish kinds.ShortComment 12 12 ∷
+    token (kinds.Sign signs.Less) 13 14 ∷ token kinds.Identifier 14 15 ∷ token (kinds.Sign signs.Greater) 15 16 ∷ []
+include-in-comment = refl
+
+-- So it is in a long comment around that comment.
+include-in-comments : of modes.CPart (codes "#/*|//|include" ++ (10 ∷ []) ++ codes "<a>|*/") ≡
+    token kinds.HashLine 0 1 ∷ begin kinds.LongComment 1 3 ∷ begin kinds.InnerText 3 4 ∷ begin kinds.ShortComment 4 6 ∷
+    begin kinds.InnerText 6 7 ∷ token kinds.Identifier 7 14 ∷ finish kinds.InnerText 14 14 ∷ note notes.BarMissing 14 ∷
+    finish kinds.ShortComment 14 14 ∷ token (kinds.Sign signs.Less) 15 16 ∷ token kinds.Identifier 16 17 ∷
+    token (kinds.Sign signs.Greater) 17 18 ∷ finish kinds.InnerText 18 19 ∷ finish kinds.LongComment 19 21 ∷ []
+include-in-comments = refl
+
 -- A short comment ends behind a backslash too, and the `#` line around it goes on; so it does over a long comment's line end.
 hash-line-comments : of modes.CPart (codes "#//\\" ++ (10 ∷ []) ++ codes "/*" ++ (10 ∷ []) ++ codes "*/a" ++ (10 ∷ []) ++ codes "b") ≡
     token kinds.HashLine 0 1 ∷ begin kinds.ShortComment 1 3 ∷ token kinds.Text 3 4 ∷ finish kinds.ShortComment 4 4 ∷

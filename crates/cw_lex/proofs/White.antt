@@ -10,7 +10,7 @@ use Rattle.cw_lex.specs.Answers.{Where, before, plain}
 use Rattle.cw_lex.specs.Bytes.{is_in}
 use Rattle.cw_lex.specs.Codes.{begins_section}
 use Rattle.cw_lex.specs.Lexing.{fresh_at, last_at}
-use Rattle.cw_lex.specs.Tokens.{section, in_text, code_text, line_end, is_space, in_hash_line, skipped_byte, comment_end, inner_cut, one}
+use Rattle.cw_lex.specs.Tokens.{section, in_text, code_text, passed, line_end, is_space, in_hash_line, skipped_byte, comment_end, inner_cut, one}
 use Rattle.cw_lex.specs.Coming.{is_code, ends_line, is_white_here, found_at}
 use Rattle.cw_lex.proofs.Lines.{in_text-code, found-newline}
 use Rattle.cw_lex.proofs.Walk.{fresh-here, last-here}
@@ -42,7 +42,7 @@ line_end-white : (part : Part) (comments : List Opened) (last place : ℕ) → e
     → line_end part comments last place ≡ skipped_byte (record { part = part; comments = comments })
 line_end-white part [] last place h = ap (λ t. if t then one true (record { part = parts.Plain false false; comments = [] }) place (10 ∷ []) (plain kinds.HashLineEnd 1) else skipped_byte (record { part = part; comments = [] })) h
 line_end-white part (c ∷ comments) last place h = ap (λ t. if t then skipped_byte (record { part = part; comments = c ∷ comments })
-    else before (inner_cut (in_hash_line part) place place ++ comment_end (in_hash_line part) c place 0 []) (line_end part comments last place)) (by c.long h)
+    else before (inner_cut (in_hash_line part) place place ++ comment_end (in_hash_line part) c place 0 []) (line_end (passed part) comments last place)) (by c.long h)
   where
     by : (b : Bool) → not b ≡ false → b ≡ true
     by true e = refl

@@ -25,13 +25,13 @@ use Rattle.cw_lex.specs.Bodies.{extent, noted, one_note, note_unless}
 use Rattle.cw_lex.specs.Answers.{Answer, Token, Begin, Finish, Note, Where, Cut, Found, before, note_answers, plain}
 use Rattle.cw_lex.specs.Lexing.{still_fresh, answers, fresh_at, last_at, beginning, tokens_of}
 use Rattle.cw_lex.specs.Order.{AreWithin}
-use Rattle.cw_lex.specs.Tokens.{in_hash_line, behind_include, takes_hash_line, is_space, is_deep, ends_at_bar, closes_on_line, moved, one, skipped_byte, comment_end, inner_cut, comment_cut, part_cut, inner_or_none, all_cut, section, line_end, sign_or_other, start_of, effect_in, code_by, in_code, string, code_token, dropped_code, include_name, code_text, piece_start, piece, comment_closed, comment_text, limbo_by, limbo_text, tex_by, tex_text, head_text, behind_white, name_follows, macro_name, is_parameter, parameter_follows, parameter, format_name, behind_head, part_text, in_text, found}
+use Rattle.cw_lex.specs.Tokens.{in_hash_line, behind_include, takes_hash_line, is_space, is_deep, ends_at_bar, closes_on_line, moved, one, skipped_byte, comment_end, inner_cut, comment_cut, part_cut, inner_or_none, all_cut, section, passed, line_end, sign_or_other, start_of, effect_in, code_by, in_code, string, code_token, dropped_code, include_name, code_text, piece_start, piece, comment_closed, comment_text, limbo_by, limbo_text, tex_by, tex_text, head_text, behind_white, name_follows, macro_name, is_parameter, parameter_follows, parameter, format_name, behind_head, part_text, in_text, found}
 use Rattle.cw_lex.proofs.Sizes.{and-right, begins-some, begins_with-le, run-le, constant-le, AllFit, longest-fits, extent-le, identifier-le, string-le, include_name-le, control_or_plain-le, code_token-le, section_code-le}
 
 -- What is found at a place fits in so many bytes.
-record Fits (place left : ℕ) (f : Found) : Type 0 where
-  within : AreWithin place (place + left) f.answers
-  more : f.more < left
+pub record Fits (place left : ℕ) (f : Found) : Type 0 where
+  pub within : AreWithin place (place + left) f.answers
+  pub more : f.more < left
 
 notes-within : (low high : ℕ) (notes : List Noted) → AreWithin low high (note_answers notes)
 notes-within low high [] = tt
@@ -121,9 +121,9 @@ line_end-fits part (c ∷ comments) last place left some =
     let hash_line = in_hash_line part in
     either place left c.long _ _
     (λ h. skipped-fits place left (record { part = part; comments = c ∷ comments }) some)
-    (λ h. before-fits place left (inner_cut hash_line place place ++ comment_end hash_line c place 0 []) (line_end part comments last place)
+    (λ h. before-fits place left (inner_cut hash_line place place ++ comment_end hash_line c place 0 []) (line_end (passed part) comments last place)
     (append-within place (place + left) (inner_cut hash_line place place) (comment_end hash_line c place 0 []) (inner_cut-within hash_line place place left) (comment_end-within hash_line c place 0 [] left (omega arith)))
-    (line_end-fits part comments last place left some))
+    (line_end-fits (passed part) comments last place left some))
 
 -- ## C text
 
@@ -342,7 +342,7 @@ in_text-fits part (c ∷ comments) fresh last place byte bytes =
     either place (suc (length bytes)) c.inner _ _
     (λ h. code_text-fits (record { part = part; comments = c ∷ comments }) fresh last place byte bytes) (λ h. comment_text-fits part c comments last place byte bytes)
 
-found-fits : (w : Where) (fresh : Bool) (last place byte : ℕ) (bytes : List ℕ) → Fits place (suc (length bytes)) (found w fresh last place byte bytes)
+pub found-fits : (w : Where) (fresh : Bool) (last place byte : ℕ) (bytes : List ℕ) → Fits place (suc (length bytes)) (found w fresh last place byte bytes)
 found-fits w fresh last place byte bytes =
     either place (suc (length bytes)) (byte == at_sign && begins_section bytes) _ _ (λ h. section-fits w place bytes) (λ h. in_text-fits w.part w.comments fresh last place byte bytes)
 

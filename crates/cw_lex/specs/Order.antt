@@ -1,23 +1,34 @@
--- The spans of the tokens stand in order and don't overlap, and all spans lie in the bytes that are scanned.
-use Rattle.std.specs.Prelude.{ℕ, ◌≤◌, List, [], ◌∷◌}
+-- Where the tokens of a text stand: on the bytes that are scanned, one behind another, and on all of them but white space.
+use Rattle.std.specs.Prelude.{◌≡◌, ℕ, ◌<◌, ◌≤◌, Bool, true, false, ◌&&◌, ◌||◌, ◌==◌, List, [], ◌∷◌, drop, slice_range}
 use Rattle.cw_base.specs.declared.span.Span.{Span}
-use Rattle.cw_lex.specs.Answers.{Answer, Token, Begin, Finish, Note}
+use Rattle.cw_lex.specs.declared.classes.Class.TheVariants.{White}
+use Rattle.cw_lex.specs.Answers.{Answer, Token, Begin, Finish, Note, Seen}
+use Rattle.cw_lex.specs.Bytes.{newline, backslash, begins, is_in}
 
--- The spans of the `Token` answers begin no earlier than `from`, one behind another.
-abbrev pub InOrder : ℕ → List Answer → Type 0
-InOrder from [] = Unit {0}
-InOrder from (Token t ∷ answers) = (from ≤ t.span.start) × (t.span.start ≤ t.span.end) × InOrder t.span.end answers
-InOrder from (Begin t ∷ answers) = InOrder from answers
-InOrder from (Finish t ∷ answers) = InOrder from answers
-InOrder from (Note kind place ∷ answers) = InOrder from answers
+-- The bytes begin with white space: a blank, a line's end, or a backslash before a line's end.
+abbrev pub begins_space : List ℕ → Bool
+begins_space [] = false
+begins_space (byte ∷ bytes) = is_in White byte || (byte == backslash && begins newline bytes)
 
--- the same, with an end that they don't pass
-abbrev pub Orders : ℕ → ℕ → List Answer → Type 0
-Orders from end [] = from ≤ end
-Orders from end (Token t ∷ answers) = (from ≤ t.span.start) × (t.span.start ≤ t.span.end) × Orders t.span.end end answers
-Orders from end (Begin t ∷ answers) = Orders from end answers
-Orders from end (Finish t ∷ answers) = Orders from end answers
-Orders from end (Note kind place ∷ answers) = Orders from end answers
+-- Nothing but white space stands from one place up to another.
+abbrev pub IsSpace : List ℕ → ℕ → ℕ → Type 0
+IsSpace text from end = (place : ℕ) → from ≤ place → place < end → begins_space (drop place text) ≡ true
+
+-- A token stands in a text behind a place: its bytes are those of its span, and only white space stands before it.
+pub record Stands (text : List ℕ) (from : ℕ) (token : Seen) : Type 0 where
+  pub order : from ≤ token.span.start
+  pub span : token.span.start ≤ token.span.end
+  pub slice : token.text ≡ slice_range text token.span.start token.span.end
+  pub space : IsSpace text from token.span.start
+
+-- The answers cover a text from one place up to another: tokens, and the bytes that begin and end comments and inner
+-- texts, stand one behind another, with only white space between them. Each token has a byte.
+abbrev pub Covers : List ℕ → ℕ → ℕ → List Answer → Type 0
+Covers text from end [] = (from ≤ end) × IsSpace text from end
+Covers text from end (Token t ∷ answers) = Stands text from t × (t.span.start < t.span.end) × Covers text t.span.end end answers
+Covers text from end (Begin t ∷ answers) = Stands text from t × Covers text t.span.end end answers
+Covers text from end (Finish t ∷ answers) = Stands text from t × Covers text t.span.end end answers
+Covers text from end (Note kind place ∷ answers) = Covers text from end answers
 
 -- A span lies between two places.
 abbrev pub LiesWithin : ℕ → ℕ → Span → Type 0

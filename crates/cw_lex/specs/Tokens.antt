@@ -235,7 +235,8 @@ section w place bytes =
     (one false (record { part = parts.Tex; comments = [] }) place (at_sign ∷ bytes) (section_code (at_sign ∷ bytes)))
 
 -- A line's end in C text ends the short comments around it, up to the innermost long one. Where no comment is left it
--- ends a `#` line, unless a backslash stands before it. Else it is white space.
+-- ends a `#` line, unless a backslash stands before it. Else it is white space. A comment is one token of the text around
+-- it, so behind one that ends here the word `include` in it lets nothing follow.
 abbrev pub part_line_end : Part → ℕ → ℕ → Found
 part_line_end part last place =
     if in_hash_line part && not (last == backslash)
@@ -247,7 +248,7 @@ line_end part [] last place = part_line_end part last place
 line_end part (c ∷ comments) last place =
     if c.long then skipped_byte (record { part = part; comments = c ∷ comments })
     else before (inner_cut (in_hash_line part) place place ++ comment_end (in_hash_line part) c place 0 [])
-    (line_end part comments last place)
+    (line_end (passed part) comments last place)
 
 -- ## C text
 

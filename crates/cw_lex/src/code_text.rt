@@ -4,7 +4,7 @@ ghost use Rattle.cw_lex.specs.Answers.{Gives, before};
 ghost use Rattle.cw_lex.specs.Bytes.{run, is_letter};
 ghost use Rattle.cw_lex.specs.Codes.{code_at};
 ghost use Rattle.cw_lex.specs.Lexing.{fresh_at, last_at, answers_at};
-ghost use Rattle.cw_lex.specs.Tokens.{code_text, in_code, start_of, code_by, effect_in, line_end, part_line_end, comment_end, inner_cut, takes_hash_line, behind_include, is_space, in_hash_line, ends_at_bar, one, moved, closes_on_line, is_include, behind_word, with_inner};
+ghost use Rattle.cw_lex.specs.Tokens.{code_text, in_code, start_of, code_by, effect_in, line_end, part_line_end, comment_end, inner_cut, takes_hash_line, behind_include, is_space, in_hash_line, ends_at_bar, one, moved, closes_on_line, is_include, behind_word, with_inner, passed};
 ghost use Rattle.cw_lex.specs.Coming.{where_of, coming, bytes_at, found_at, cut_of, is_code, is_code_part, ends_line, is_white_here, IsClear, IsCut, IsReady, CanStep};
 ghost use Rattle.cw_lex.specs.Starts.{SignFits, CommentFits, CodeIs};
 ghost use Rattle.cw_lex.specs.Constants.{constant};
@@ -215,7 +215,7 @@ fn cut_inner<'a>(text: &'a [u8], state: &mut State, comment: Opened) -> Lexed<'a
     requires newline { slice_index text.now state.old.at ≡ 10 }
     requires top { state.old.comments ≡ comment ∷ drop 1 state.old.comments }
     requires short { comment.long ≡ false }
-    requires found { found_at text.now (where_of state.old) state.old.at ≡ before (inner_cut (in_hash_line state.old.part) state.old.at state.old.at ++ comment_end (in_hash_line state.old.part) comment state.old.at 0 []) (line_end state.old.part (drop 1 state.old.comments) (last_at text.now state.old.at) state.old.at) }
+    requires found { found_at text.now (where_of state.old) state.old.at ≡ before (inner_cut (in_hash_line state.old.part) state.old.at state.old.at ++ comment_end (in_hash_line state.old.part) comment state.old.at 0 []) (line_end (passed state.old.part) (drop 1 state.old.comments) (last_at text.now state.old.at) state.old.at) }
     ensures gives { Gives (coming text.now state.old) result (coming text.now state.new) }
     ensures ready { IsReady text.now state.new }
 {
@@ -232,6 +232,7 @@ fn cut_inner<'a>(text: &'a [u8], state: &mut State, comment: Opened) -> Lexed<'a
         braces: comment.braces,
         inner: false,
     });
+    state.part = state.part.passed();
     state.pending = Pending {
         first: note_unless(false, NoteKind::BarMissing, state.at),
         second: None,

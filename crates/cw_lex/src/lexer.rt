@@ -2,7 +2,7 @@
 ghost use Rattle.std.specs.Prelude.{◌≡◌, ◌≤◌, ◌<◌, ◌+◌, ◌-◌, [], true, false, ◌==◌, ◌&&◌, length, drop, slice_index, IfSome};
 ghost use Rattle.cw_lex.specs.Answers.{Gives};
 ghost use Rattle.cw_lex.specs.Codes.{begins_section};
-ghost use Rattle.cw_lex.specs.Order.{InOrder, AreWithin};
+ghost use Rattle.cw_lex.specs.Order.{Covers, AreWithin};
 ghost use Rattle.cw_lex.specs.Pending.{no_notes};
 ghost use Rattle.cw_lex.specs.Lexing.{tokens_of, fresh_at, last_at, answers_at};
 ghost use Rattle.cw_lex.specs.Tokens.{part_text, is_parameter};
@@ -52,7 +52,7 @@ impl<'a> Lexer<'a> {
         requires order { start ≤ end }
         requires within { end ≤ length text.now }
         ensures tokens { result ≡ tokens_of text.now start end mode }
-        ensures order { InOrder start result }
+        ensures covers { Covers text.now start end result }
         ensures within { AreWithin start end result }
     {
         Lexer::starting(text, start, end, mode)

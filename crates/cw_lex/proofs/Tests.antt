@@ -1,0 +1,25 @@
+-- What follows from tests and their answers.
+use Rattle.std.proofs.Common.{◌≡◌, ℕ, Bool, true, false, ◌&&◌, ◌||◌, ◌==◌, refl, sym, ap, subst}
+use Rattle.std.specs.Prelude.{if◌then◌else◌}
+use Rattle.std.proofs.lemmas.Bool.{eqb-true}
+
+-- a test decides between two values, of both of which something holds
+pub if-both : {A : Type 0} (P : A → Type 0) (b : Bool) (x y : A) → (b ≡ true → P x) → (b ≡ false → P y) → P (if b then x else y)
+if-both P true x y f g = f refl
+if-both P false x y f g = g refl
+
+pub or-left : (a b : Bool) → a ≡ true → (a || b) ≡ true
+or-left true b h = refl
+or-left false b h = absurd cc
+
+pub or-right : (a b : Bool) → b ≡ true → (a || b) ≡ true
+or-right true b h = refl
+or-right false b h = h
+
+pub or-false : (a b : Bool) → a ≡ false → b ≡ false → (a || b) ≡ false
+or-false true b h g = absurd cc
+or-false false b h g = g
+
+-- the byte that a test names
+pub at-byte : (P : ℕ → Type 0) (byte wanted : ℕ) → (byte == wanted) ≡ true → P wanted → P byte
+at-byte P byte wanted h p = subst P (sym (eqb-true byte wanted h)) p
