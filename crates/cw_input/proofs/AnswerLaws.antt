@@ -1,6 +1,7 @@
 -- An error of one call is an error of the call around it.
 use Rattle.std.proofs.Common.{◌≡◌, ℕ, ◌+◌, ◌<◌, ◌≤◌, false, List, [], ◌∷◌, ◌++◌, length, nat_le, Option, Some, None, Err, option_and_then, refl, ap, ◌∙◌, arith, le-leb}
 use Rattle.std.proofs.lemmas.Bool.Decides.{nat_tests}
+use Rattle.cw_base.specs.declared.limits.TheConstants.{INPUT_LIMIT}
 use Rattle.cw_base.specs.Web.{WebState}
 use Rattle.cw_input.specs.Answers.{Fails, Reads, Finds, FindsWeb, Loads, Merges}
 use Rattle.cw_input.specs.Lines.{FileLine, file_lines}
@@ -63,15 +64,15 @@ Merges-fails whole web given Fault keeps fails = fails
 Merges-fails whole web given Memory keeps fails = fails
 
 -- a file that fits is read, another one is too long
-pub read-fits : (name bytes : List ℕ) (m : MergeState) → m.sum + length bytes ≤ 8388608
+pub read-fits : (name bytes : List ℕ) (m : MergeState) → m.sum + length bytes ≤ INPUT_LIMIT
     → read name bytes m ≡ Some (record m { web = record m.web { files = m.web.files ++ name ∷ [] }; sum = m.sum + length bytes })
-read-fits name bytes m fits = ap (λ fits. read_by fits name (m.sum + length bytes) m) (le-leb (m.sum + length bytes) 8388608 fits)
+read-fits name bytes m fits = ap (λ fits. read_by fits name (m.sum + length bytes) m) (le-leb (m.sum + length bytes) INPUT_LIMIT fits)
 
-pub read-over : (name bytes : List ℕ) (m : MergeState) → 8388608 < m.sum + length bytes → read name bytes m ≡ None
-read-over name bytes m over = ap (λ fits. read_by fits name (m.sum + length bytes) m) (lt-leb-false (m.sum + length bytes) 8388608 over)
+pub read-over : (name bytes : List ℕ) (m : MergeState) → INPUT_LIMIT < m.sum + length bytes → read name bytes m ≡ None
+read-over name bytes m over = ap (λ fits. read_by fits name (m.sum + length bytes) m) (lt-leb-false (m.sum + length bytes) INPUT_LIMIT over)
 
 -- a change file that couldn't be read
-pub Loads-change : (named : Lookup) (web : List ℕ) (given : Option Found) (m : MergeState) (room : ℕ) (error : LoadError) → 8388608 ≤ m.sum + room → Finds given room (Err error) → Loads (merge_change named web given m) (Err error)
+pub Loads-change : (named : Lookup) (web : List ℕ) (given : Option Found) (m : MergeState) (room : ℕ) (error : LoadError) → INPUT_LIMIT ≤ m.sum + room → Finds given room (Err error) → Loads (merge_change named web given m) (Err error)
 Loads-change named web given m room NoWeb all fails = absurd fails
 Loads-change named web given m room NoChange all fails = absurd fails
 Loads-change named web given m room TooLong all (file, is, over) =

@@ -1,5 +1,6 @@
 -- The causes of the outcomes of reading, and of the answers of `load`.
 use Rattle.std.proofs.Common.{◌≡◌, ℕ, ◌+◌, Bool, true, false, List, [], ◌∷◌, length, nat_le, leb-true, Option, Some, None, Result, Ok, Err, option_map, inl, inr, refl, ap, subst, ◌∙◌, arith}
+use Rattle.cw_base.specs.declared.limits.TheConstants.{INPUT_LIMIT}
 use Rattle.cw_base.specs.Web.{WebState, empty_web}
 use Rattle.cw_input.specs.Answers.{Loads}
 use Rattle.cw_input.specs.Causes.{FailsWith, ComesWhere, LacksWeb, LacksChange, IsTooLong}
@@ -119,7 +120,7 @@ web-no_change : (named : Lookup) (web : List ℕ) (change : Option (List ℕ)) (
 web-no_change named web change None there is = absurd (let no : ⊥ = cc in no)
 web-no_change named web change (Some file) there is =
     let alone = with-no_change named file.bytes (change_word change) (read file.name file.bytes start_state) is in
-    let fits = leb-true (0 + length file.bytes) 8388608 (read_by-some (nat_le (0 + length file.bytes) 8388608) file.name (0 + length file.bytes) start_state alone.state alone.read_it) in
+    let fits = leb-true (0 + length file.bytes) INPUT_LIMIT (read_by-some (nat_le (0 + length file.bytes) INPUT_LIMIT) file.name (0 + length file.bytes) start_state alone.state alone.read_it) in
     record { file = file; there = there; fits = omega (arith, fits); word = alone.word; wanted = alone.wanted; lacks = alone.lacks }
 
 pub merged-no_change : (named : Lookup) (web : List ℕ) (change : Option (List ℕ)) → merged named web change ≡ outcome.NoChange → LacksChange named web change

@@ -1,5 +1,6 @@
 -- What the answers of the calls say.
 use Rattle.std.specs.Prelude.{◌≡◌, ℕ, ◌+◌, ◌-◌, ◌*◌, ◌<◌, List, length, Option, Some, None, Result, Ok, Err, ⊤}
+use Rattle.cw_base.specs.declared.limits.TheConstants.{INPUT_LIMIT}
 use Rattle.cw_base.specs.Web.{WebState}
 use Rattle.cw_input.specs.Lines.{FileLine, file_lines}
 use Rattle.cw_input.specs.Merge.{MergeState, Onward}
@@ -83,7 +84,7 @@ abbrev pub FindsWeb : Option Found → Result Found LoadError → Type 0
 FindsWeb given (Ok file) = given ≡ Some file
 FindsWeb given (Err NoWeb) = given ≡ None
 FindsWeb given (Err NoChange) = ⊥
-FindsWeb given (Err TooLong) = (file : Found) × (given ≡ Some file) × (8388608 < length file.bytes)
+FindsWeb given (Err TooLong) = (file : Found) × (given ≡ Some file) × (INPUT_LIMIT < length file.bytes)
 FindsWeb given (Err Fault) = ⊤
 FindsWeb given (Err Memory) = ⊤
 

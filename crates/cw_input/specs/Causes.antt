@@ -1,5 +1,6 @@
 -- When each answer of `load` that isn't Ok comes.
 use Rattle.std.specs.Prelude.{◌≡◌, ℕ, ◌≤◌, ◌⊎◌, List, length, Option, Some, None, Result, Ok, Err, IsErrOf}
+use Rattle.cw_base.specs.declared.limits.TheConstants.{INPUT_LIMIT}
 use Rattle.cw_base.specs.Web.{WebState}
 use Rattle.cw_input.specs.Merge.{Lookup}
 use Rattle.cw_input.specs.Merged as outcome
@@ -27,7 +28,7 @@ LacksWeb named web = (named (first_name web) ≡ None) × (named (second_name we
 pub record LacksChange (named : Lookup) (web : List ℕ) (change : Option (List ℕ)) : Type 0 where
   pub file : Found
   pub there : web_file named web ≡ Some file
-  pub fits : length file.bytes ≤ 8388608
+  pub fits : length file.bytes ≤ INPUT_LIMIT
   pub word : List ℕ
   pub wanted : change_word change ≡ Some word
   pub lacks : named (change_name word) ≡ None

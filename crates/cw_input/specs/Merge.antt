@@ -21,6 +21,7 @@
 --   4. `put_by (Some name)`.
 --   5. `put_by None`.
 use Rattle.std.specs.Prelude.{ℕ, zero, suc, ◌+◌, Bool, true, false, nat_lt, nat_le, List, [], ◌∷◌, ◌++◌, length, Option, Some, None, option_and_then, bytes_eq}
+use Rattle.cw_base.specs.declared.limits.TheConstants.{INPUT_LIMIT}
 use Rattle.cw_base.specs.Web.{WebState}
 use Rattle.cw_base.specs.declared.notes.NoteKind.{NoteKind}
 use Rattle.cw_base.specs.declared.notes.NoteKind.TheVariants.{IncludeMissing, IncludeUnnamed, IncludeTooDeep, NoMatchingX, NoMatchingY, NoMatchingZ, NoOldLine, EndedBeforeY, EndedBeforeZ, LinesDiffer, WebEnded, ChangeUnmatched}
@@ -71,7 +72,7 @@ read_by true name sum m = Some (record m { web = record m.web { files = m.web.fi
 read_by false name sum m = None
 
 abbrev pub read : List ℕ → List ℕ → MergeState → Option MergeState
-read name bytes m = read_by (nat_le (m.sum + length bytes) 8388608) name (m.sum + length bytes) m
+read name bytes m = read_by (nat_le (m.sum + length bytes) INPUT_LIMIT) name (m.sum + length bytes) m
 
 -- what is done with the lines of an included file; None where the file would be too deep
 abbrev pub Into : Type 0

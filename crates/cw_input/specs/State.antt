@@ -1,5 +1,6 @@
 -- What the fields of the state mean: offsets into the change file stand for its lines.
 use Rattle.std.specs.Prelude.{◌≡◌, ℕ, zero, suc, ◌+◌, ◌-◌, ◌*◌, ◌<◌, ◌≤◌, Bool, false, List, [], ◌∷◌, ◌++◌, length, drop, slice_range, Option, Some, None, ⊤}
+use Rattle.cw_base.specs.declared.limits.TheConstants.{INPUT_LIMIT, TEXT_LIMIT}
 use Rattle.cw_base.specs.Text.{lines_of}
 use Rattle.cw_base.specs.Web.{text_of}
 use Rattle.cw_base.specs.declared.notes.NoteKind.{NoteKind}
@@ -93,13 +94,13 @@ ahead change (OldLine piece differ rest) = length change - rest.at
 -- There is room for so many bytes of text and so many files beside all that may still be read: a byte that is read is worth two bytes of
 -- text, itself and a byte 10 behind it, and one file.
 pub record HasRoom (text files : ℕ) (m : Merger) : Type 0 where
-  pub for_text : length (text_of m.web.lines) + text + 2 * (8388608 - m.sum) ≤ 16777216
-  pub for_files : length m.web.files + files + (8388608 - m.sum) ≤ 8388610
-  pub for_bytes : m.sum ≤ 8388608
+  pub for_text : length (text_of m.web.lines) + text + 2 * (INPUT_LIMIT - m.sum) ≤ TEXT_LIMIT
+  pub for_files : length m.web.files + files + (INPUT_LIMIT - m.sum) ≤ INPUT_LIMIT + 2
+  pub for_bytes : m.sum ≤ INPUT_LIMIT
 
 -- the room for the first two numbers was enough to leave room for the others
 pub record Moves (text files text_left files_left : ℕ) (old new : Merger) : Type 0 where
-  pub of_text : length (text_of new.web.lines) + text_left + 2 * (8388608 - new.sum) ≤ length (text_of old.web.lines) + text + 2 * (8388608 - old.sum)
-  pub of_files : length new.web.files + files_left + (8388608 - new.sum) ≤ length old.web.files + files + (8388608 - old.sum)
-  pub of_bytes : new.sum ≤ 8388608
+  pub of_text : length (text_of new.web.lines) + text_left + 2 * (INPUT_LIMIT - new.sum) ≤ length (text_of old.web.lines) + text + 2 * (INPUT_LIMIT - old.sum)
+  pub of_files : length new.web.files + files_left + (INPUT_LIMIT - new.sum) ≤ length old.web.files + files + (INPUT_LIMIT - old.sum)
+  pub of_bytes : new.sum ≤ INPUT_LIMIT
   pub more_files : length old.web.files ≤ length new.web.files

@@ -10,7 +10,7 @@ use crate::error::LoadError;
 use crate::lines::Code;
 use crate::merger::Merger;
 use crate::phase::{Cursor, Meets, Phase, Piece};
-use cw_base::{NoteKind, Place};
+use cw_base::{INPUT_LIMIT, NoteKind, Place};
 
 /// A line outside of the groups.
 pub(crate) fn outside_line(
@@ -19,7 +19,7 @@ pub(crate) fn outside_line(
     piece: Piece,
 ) -> Result<Option<Phase>, LoadError>
     requires listed { 1 < length m.old.web.files }
-    requires bytes { m.old.sum ≤ 8388608 }
+    requires bytes { m.old.sum ≤ INPUT_LIMIT }
     ensures steps { (named : Lookup) (change : List ℕ) (rest : List FileLine) (go : Onward) →
         Steps (step named Outside code (line_at change piece) rest go (state_of change m.old)) go (state_of change m.new) result }
     ensures moves { OnOk result (Moves 0 0 0 0 m.old m.new) }
@@ -53,7 +53,7 @@ pub(crate) fn opening_line(
     rest: Cursor,
 ) -> Result<Option<Phase>, LoadError>
     requires listed { 1 < length m.old.web.files }
-    requires bytes { m.old.sum ≤ 8388608 }
+    requires bytes { m.old.sum ≤ INPUT_LIMIT }
     ensures steps { (named : Lookup) (change : List ℕ) (go : Onward) →
         Steps (step named Opening code (line_at change piece) (rest_of change rest) go (state_of change m.old)) go (state_of change m.new) result }
     ensures moves { OnOk result (Moves 0 0 0 0 m.old m.new) }
@@ -105,7 +105,7 @@ pub(crate) fn old_line(
     rest: Cursor,
 ) -> Result<Option<Phase>, LoadError>
     requires listed { 1 < length m.old.web.files }
-    requires bytes { m.old.sum ≤ 8388608 }
+    requires bytes { m.old.sum ≤ INPUT_LIMIT }
     requires differ { differ < rest.line }
     ensures steps { (named : Lookup) (change : List ℕ) (go : Onward) →
         Steps (step named (Old differ) code (line_at change piece) (rest_of change rest) go (state_of change m.old)) go (state_of change m.new) result }
@@ -145,7 +145,7 @@ pub(crate) fn spent_line(
     piece: Piece,
 ) -> Result<Option<Phase>, LoadError>
     requires listed { 1 < length m.old.web.files }
-    requires bytes { m.old.sum ≤ 8388608 }
+    requires bytes { m.old.sum ≤ INPUT_LIMIT }
     ensures steps { (named : Lookup) (change : List ℕ) (rest : List FileLine) (go : Onward) →
         Steps (step named (Spent differ) code (line_at change piece) rest go (state_of change m.old)) go (state_of change m.new) result }
     ensures moves { OnOk result (Moves 0 0 0 0 m.old m.new) }
@@ -185,7 +185,7 @@ fn end_old_lines(m: &mut Merger, differ: u32, piece: Piece) -> Result<(), LoadEr
 /// The end of the change file in a phase, behind so many lines.
 pub(crate) fn end_change(m: &mut Merger, phase: Phase, line: u32) -> Result<(), LoadError>
     requires listed { 1 < length m.old.web.files }
-    requires bytes { m.old.sum ≤ 8388608 }
+    requires bytes { m.old.sum ≤ INPUT_LIMIT }
     ensures gives { (change : List ℕ) → Gives (Some (ended phase (record { file = 1; line = line }) (state_of change m.old))) (state_of change m.new) result }
     ensures moves { OnOk result (Moves 0 0 0 0 m.old m.new) }
     ensures nothing { OnOk result (m.new.meets ≡ Meets.Nothing) }

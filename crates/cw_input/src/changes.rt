@@ -15,7 +15,7 @@ use crate::lines::{Code, cut_line, line_code};
 use crate::merger::Merger;
 use crate::new_lines::{DEPTH, put_new_line};
 use crate::phase::{Cursor, Phase, Piece};
-use cw_base::{NoteKind, Place};
+use cw_base::{INPUT_LIMIT, NoteKind, Place};
 use cw_desk::Desk;
 
 /// The lines of the change file from a place on, in a phase, up to one that has to wait for a line of the
@@ -27,7 +27,7 @@ pub(crate) fn advance_change<D: Desk>(
     from: Phase,
     rest: Cursor,
 ) -> Result<(), LoadError>
-    requires short { length change.now ≤ 8388608 }
+    requires short { length change.now ≤ INPUT_LIMIT }
     requires rest { IsCursor change.now rest }
     requires phase { IsPhase rest.line from }
     requires listed { 1 < length m.old.web.files }

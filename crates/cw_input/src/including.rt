@@ -9,8 +9,8 @@ ghost use Rattle.cw_input.specs.State.{HasRoom, into_at, line_of, state_of};
 use crate::error::LoadError;
 use crate::lines::included_name;
 use crate::merger::{Merger, Source};
-use crate::reading::{LIMIT, find_file};
-use cw_base::{Bytes, NoteKind, Place};
+use crate::reading::find_file;
+use cw_base::{Bytes, INPUT_LIMIT, NoteKind, Place};
 use cw_desk::Desk;
 
 /// A line that no group takes, when so many files deep may still be included: any line is appended,
@@ -68,7 +68,7 @@ fn include_file<D: Desk>(
         return Ok(None);
     }
     let name = Bytes::from_slice(m.alloc, name)?;
-    match find_file(m.alloc, desk, name, LIMIT - m.sum) {
+    match find_file(m.alloc, desk, name, INPUT_LIMIT - m.sum) {
         Ok(Some(file)) => {
             let source = m.add_file(file)?;
             Ok(Some(source))

@@ -17,9 +17,9 @@ use crate::merger::{Merger, Source};
 use crate::names::{change_file_name, first_web_name, second_web_name};
 use crate::new_lines::DEPTH;
 use crate::phase::{Cursor, Meets, Phase};
-use crate::reading::{LIMIT, find_file};
+use crate::reading::find_file;
 use crate::web_lines::{drain, give_lines, note_unmatched};
-use cw_base::Web;
+use cw_base::{INPUT_LIMIT, Web};
 use cw_desk::Desk;
 use std::alloc::Global;
 
@@ -110,12 +110,12 @@ fn load_changed<D: Desk>(
 // The file of a web word: the first name that is there.
 fn open_web<D: Desk>(alloc: Global, desk: &mut D, word: &[u8]) -> Result<Found, LoadError>
     ensures finds { (told : Files) → D.files desk.old ≡ Some told → FindsWeb (web_file (get told) word.now) result }
-    ensures within { IfOk result (λ file. length file.bytes ≤ 8388608) }
+    ensures within { IfOk result (λ file. length file.bytes ≤ INPUT_LIMIT) }
     ensures same { OnlyReads D.opened D.outputs D.files D.rest D.journal D.faults desk.old desk.new }
     ensures fault { IsErrOf result LoadError.Fault → Rose (D.faults desk.old) (D.faults desk.new) }
 {
     let first = first_web_name(alloc, word)?;
-    match find_file(alloc, desk, first, LIMIT) {
+    match find_file(alloc, desk, first, INPUT_LIMIT) {
         Ok(Some(file)) => Ok(file),
         Ok(None) => open_second(alloc, desk, word),
         Err(error) => Err(error),
@@ -125,12 +125,12 @@ fn open_web<D: Desk>(alloc: Global, desk: &mut D, word: &[u8]) -> Result<Found, 
 // The file of a web word under its second name.
 fn open_second<D: Desk>(alloc: Global, desk: &mut D, word: &[u8]) -> Result<Found, LoadError>
     ensures finds { (told : Files) → D.files desk.old ≡ Some told → FindsWeb (found (get told) (second_name word.now)) result }
-    ensures within { IfOk result (λ file. length file.bytes ≤ 8388608) }
+    ensures within { IfOk result (λ file. length file.bytes ≤ INPUT_LIMIT) }
     ensures same { OnlyReads D.opened D.outputs D.files D.rest D.journal D.faults desk.old desk.new }
     ensures fault { IsErrOf result LoadError.Fault → Rose (D.faults desk.old) (D.faults desk.new) }
 {
     let second = second_web_name(alloc, word)?;
-    match find_file(alloc, desk, second, LIMIT) {
+    match find_file(alloc, desk, second, INPUT_LIMIT) {
         Ok(Some(file)) => Ok(file),
         Ok(None) => Err(LoadError::NoWeb),
         Err(error) => Err(error),
@@ -139,7 +139,7 @@ fn open_second<D: Desk>(alloc: Global, desk: &mut D, word: &[u8]) -> Result<Foun
 
 // The web of a file alone.
 fn merge_plain<D: Desk>(alloc: Global, desk: &mut D, file: Found) -> Result<Web, LoadError>
-    requires { length file.bytes ≤ 8388608 }
+    requires { length file.bytes ≤ INPUT_LIMIT }
     ensures loads { (told : Files) → D.files desk.old ≡ Some told →
         Loads (merge_with (get told) file.bytes None (read file.name file.bytes start_state)) result }
     ensures same { OnlyReads D.opened D.outputs D.files D.rest D.journal D.faults desk.old desk.new }
@@ -160,7 +160,7 @@ fn merge_changed<D: Desk>(
     file: Found,
     word: &[u8],
 ) -> Result<Web, LoadError>
-    requires { length file.bytes ≤ 8388608 }
+    requires { length file.bytes ≤ INPUT_LIMIT }
     ensures loads { (told : Files) → D.files desk.old ≡ Some told →
         Loads (merge_with (get told) file.bytes (Some word.now) (read file.name file.bytes start_state)) result }
     ensures same { OnlyReads D.opened D.outputs D.files D.rest D.journal D.faults desk.old desk.new }
@@ -169,7 +169,7 @@ fn merge_changed<D: Desk>(
     let mut m = Merger::new(alloc);
     let source = m.add_file(file)?;
     let name = change_file_name(alloc, word)?;
-    match find_file(alloc, desk, name, LIMIT - m.sum) {
+    match find_file(alloc, desk, name, INPUT_LIMIT - m.sum) {
         Ok(Some(change)) => merge_found(desk, m, &source, change),
         Ok(None) => Err(LoadError::NoChange),
         Err(error) => Err(error),
@@ -188,7 +188,7 @@ fn merge_found<D: Desk>(
     requires lines { m.web.lines ≡ [] }
     requires source { source.now.file ≡ 0 }
     requires sum { m.sum ≡ length source.now.bytes }
-    requires bytes { length source.now.bytes + length change.bytes ≤ 8388608 }
+    requires bytes { length source.now.bytes + length change.bytes ≤ INPUT_LIMIT }
     ensures loads { (told : Files) → D.files desk.old ≡ Some told →
         Loads (taken (get told) source.now.bytes (option_and_then (advance (get told) Outside (record { file = 1; line = 0 }) (file_lines 1 change.bytes)) (read change.name change.bytes (state_of [] m)))) result }
     ensures same { OnlyReads D.opened D.outputs D.files D.rest D.journal D.faults desk.old desk.new }
@@ -215,7 +215,7 @@ fn merge_lines<D: Desk>(
     m: &mut Merger,
     source: &Source,
 ) -> Result<(), LoadError>
-    requires short { length change.now ≤ 8388608 }
+    requires short { length change.now ≤ INPUT_LIMIT }
     requires met { IsMet change.now (length m.old.web.files) m.old.meets }
     requires listed { 0 < length m.old.web.files }
     requires source { source.now.file ≡ 0 }

@@ -4,7 +4,7 @@ ghost use Rattle.cw_base.specs.Web.{text_of};
 use crate::error::LoadError;
 use crate::found::Found;
 use crate::phase::Meets;
-use cw_base::{Bytes, Note, NoteKind, Place, Web};
+use cw_base::{Bytes, INPUT_LIMIT, Note, NoteKind, Place, TEXT_LIMIT, Web};
 use std::alloc::Global;
 
 /// What has been merged so far: the web, how many bytes were read, whether the next line carries a mark
@@ -48,7 +48,7 @@ impl Merger {
     ) -> Result<(), LoadError>
         requires whole { All (λ byte. byte ≢ 10) line.now }
         requires place { place.file < length self.old.web.files }
-        requires room { length (text_of self.old.web.lines) + length line.now + 1 ≤ 16777216 }
+        requires room { length (text_of self.old.web.lines) + length line.now + 1 ≤ TEXT_LIMIT }
         ensures ok { OnOk result (self.new ≡ with_line line.now place changed self.old) }
         ensures only { IsOkUnless result LoadError.Memory }
     {
@@ -76,7 +76,7 @@ impl Merger {
     /// Adds a file that was read, and answers its number and its bytes.
     pub(crate) fn add_file(&mut self, file: Found) -> Result<Source, LoadError>
         requires few { length self.old.web.files < 4294967295 }
-        requires bytes { self.old.sum + length file.bytes ≤ 8388608 }
+        requires bytes { self.old.sum + length file.bytes ≤ INPUT_LIMIT }
         ensures source { IfOk result (λ source. source ≡ record { file = length self.old.web.files; bytes = file.bytes }) }
         ensures ok { OnOk result (self.new ≡ with_file file.name (length file.bytes) self.old) }
         ensures only { IsOkUnless result LoadError.Memory }

@@ -7,12 +7,9 @@ ghost use Rattle.cw_input.specs.Reading.{ReadsOnly};
 
 use crate::error::LoadError;
 use crate::found::Found;
-use cw_base::Bytes;
+use cw_base::{Bytes, INPUT_LIMIT};
 use cw_desk::{Desk, Fetched, FileId, Opened};
 use std::alloc::Global;
-
-/// The greatest number of bytes that are read in all.
-pub(crate) const LIMIT: usize = 8_388_608;
 
 // How many bytes are asked for at a time.
 const PORTION: usize = 16_384;
@@ -24,7 +21,7 @@ pub(crate) fn find_file<D: Desk>(
     name: Bytes,
     room: usize,
 ) -> Result<Option<Found>, LoadError>
-    requires { room ≤ 8388608 }
+    requires { room ≤ INPUT_LIMIT }
     ensures finds { (told : Files) → D.files desk.old ≡ Some told → Finds (found (get told) name) room result }
     ensures within { IfOk result (λ answer. IfSome answer (λ file. length file.bytes ≤ room)) }
     ensures same { OnlyReads D.opened D.outputs D.files D.rest D.journal D.faults desk.old desk.new }
@@ -49,7 +46,7 @@ fn read_file<D: Desk>(
     room: usize,
 ) -> Result<Bytes, LoadError>
     requires given { id.index < D.opened desk.old }
-    requires room { room ≤ 8388608 }
+    requires room { room ≤ INPUT_LIMIT }
     ensures reads { (told : Files) → D.files desk.old ≡ Some told → Reads (D.rest desk.old id.index) room result }
     ensures within { IfOk result (λ bytes. length bytes ≤ room) }
     ensures same { ReadsOnly D.opened D.outputs D.files D.rest D.journal D.faults id.index desk.old desk.new }

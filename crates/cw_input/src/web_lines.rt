@@ -12,7 +12,7 @@ use crate::including::put_line;
 use crate::lines::cut_line;
 use crate::merger::{Merger, Source};
 use crate::phase::{Meets, Phase};
-use cw_base::{NoteKind, Place};
+use cw_base::{INPUT_LIMIT, NoteKind, Place};
 use cw_desk::Desk;
 
 /// A line of the web, when so many files deep may still be included.
@@ -25,7 +25,7 @@ fn give_line<D: Desk>(
     place: Place,
     left: u32,
 ) -> Result<(), LoadError>
-    requires short { length change.now ≤ 8388608 }
+    requires short { length change.now ≤ INPUT_LIMIT }
     requires met { IsMet change.now (length m.old.web.files) m.old.meets }
     requires whole { All (λ byte. byte ≢ 10) line.now }
     requires place { place.file < length m.old.web.files }
@@ -54,7 +54,7 @@ pub(crate) fn give_lines<D: Desk>(
     source: &Source,
     left: u32,
 ) -> Result<(), LoadError>
-    requires short { length change.now ≤ 8388608 }
+    requires short { length change.now ≤ INPUT_LIMIT }
     requires met { IsMet change.now (length m.old.web.files) m.old.meets }
     requires source { source.now.file < length m.old.web.files }
     requires room { HasRoom (2 * length source.now.bytes + 2 * ahead change.now m.old.meets) (length source.now.bytes + ahead change.now m.old.meets) m.old }
@@ -91,7 +91,7 @@ fn take_web_line<D: Desk>(
     place: Place,
     left: u32,
 ) -> Result<Option<Source>, LoadError>
-    requires short { length change.now ≤ 8388608 }
+    requires short { length change.now ≤ INPUT_LIMIT }
     requires met { IsMet change.now (length m.old.web.files) m.old.meets }
     requires whole { All (λ byte. byte ≢ 10) line.now }
     requires place { place.file < length m.old.web.files }
@@ -137,7 +137,7 @@ fn count_differing(old: &[u8], line: &[u8], differ: u32) -> u32
 
 /// The web has no line left: the rest of a group that was met, and the next group.
 pub(crate) fn drain<D: Desk>(desk: &mut D, change: &[u8], m: &mut Merger) -> Result<(), LoadError>
-    requires short { length change.now ≤ 8388608 }
+    requires short { length change.now ≤ INPUT_LIMIT }
     requires met { IsMet change.now (length m.old.web.files) m.old.meets }
     requires room { HasRoom (2 * ahead change.now m.old.meets) (ahead change.now m.old.meets) m.old }
     ensures gives { (told : Files) → D.files desk.old ≡ Some told → Gives (drained (get told) (state_of change.now m.old)) (state_of change.now m.new) result }

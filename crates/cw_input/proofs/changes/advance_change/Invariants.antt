@@ -2,6 +2,7 @@
 -- enough at first is enough for what is left.
 use Rattle.std.proofs.Common.{◌≡◌, ◌+◌, ◌-◌, ◌*◌, ◌<◌, ◌≤◌, Some, length}
 use Rattle.std.specs.FinMap.{get}
+use Rattle.cw_base.specs.declared.limits.TheConstants.{INPUT_LIMIT}
 use Rattle.cw_base.specs.Web.{text_of}
 use Rattle.cw_desk.specs.Meaning.{Files, OnlyReads}
 use Rattle.cw_input.specs.Merge.{advance}
@@ -14,9 +15,9 @@ invariant-lines g l = let d = g.D.Desk in record {
   count : l.line ≤ l.at;
   phase : IsPhase l.line l.phase;
   listed : 1 < length l.m.web.files;
-  text : length (text_of l.m.web.lines) + 2 * (length l.change - l.at) + 2 * (8388608 - l.m.sum) ≤ length (text_of l.fn.m.web.lines) + 2 * (length l.change - l.fn.rest.at) + 2 * (8388608 - l.fn.m.sum);
-  files : length l.m.web.files + (length l.change - l.at) + (8388608 - l.m.sum) ≤ length l.fn.m.web.files + (length l.change - l.fn.rest.at) + (8388608 - l.fn.m.sum);
-  sum : l.m.sum ≤ 8388608;
+  text : length (text_of l.m.web.lines) + 2 * (length l.change - l.at) + 2 * (INPUT_LIMIT - l.m.sum) ≤ length (text_of l.fn.m.web.lines) + 2 * (length l.change - l.fn.rest.at) + 2 * (INPUT_LIMIT - l.fn.m.sum);
+  files : length l.m.web.files + (length l.change - l.at) + (INPUT_LIMIT - l.m.sum) ≤ length l.fn.m.web.files + (length l.change - l.fn.rest.at) + (INPUT_LIMIT - l.fn.m.sum);
+  sum : l.m.sum ≤ INPUT_LIMIT;
   more_files : length l.fn.m.web.files ≤ length l.m.web.files;
   gives : (told : Files) → d.files l.fn.desk ≡ Some told →
       advance (get told) l.fn.from (record { file = 1; line = l.fn.rest.line }) (rest_of l.change l.fn.rest) (state_of l.change l.fn.m)

@@ -1,6 +1,7 @@
 -- An error in the change file or in the lines of the web is one of the whole.
 use Rattle.std.proofs.Common.{◌≡◌, ℕ, ◌+◌, ◌≤◌, List, [], length, Option, Some, Err, option_and_then, ap, sym, subst, ◌∙◌, arith}
 use Rattle.std.specs.FinMap.{get}
+use Rattle.cw_base.specs.declared.limits.TheConstants.{INPUT_LIMIT}
 use Rattle.cw_input.specs.Answers.{Loads, Merges}
 use Rattle.cw_input.specs.Lines.{file_lines}
 use Rattle.cw_input.specs.Merge.{Lookup, MergeState, advance, read}
@@ -21,7 +22,7 @@ handled named bytes = advance named Outside (record { file = 1; line = 0 }) (fil
 abbrev changed : Lookup → List ℕ → List ℕ → List ℕ → Merger → Merged
 changed named web name bytes m = taken named web (option_and_then (handled named bytes) (read name bytes (state_of [] m)))
 
-begun : (name bytes given : List ℕ) (m new : Merger) → m.meets ≡ Nothing → bytes ≡ given → new ≡ with_file name (length given) m → m.sum + length given ≤ 8388608
+begun : (name bytes given : List ℕ) (m new : Merger) → m.meets ≡ Nothing → bytes ≡ given → new ≡ with_file name (length given) m → m.sum + length given ≤ INPUT_LIMIT
     → read name bytes (state_of [] m) ≡ Some (state_of bytes new)
 begun name bytes given m new nothing same ok fits =
     read-second bytes name bytes m nothing (omega (arith, ap length same))

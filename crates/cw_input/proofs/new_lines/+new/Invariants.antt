@@ -2,6 +2,7 @@
 -- from the state so far what all give from the first state; and the room that was enough at first is enough for what is left.
 use Rattle.std.proofs.Common.{◌≡◌, ℕ, ◌+◌, ◌-◌, ◌*◌, ◌≤◌, List, Some, true, length}
 use Rattle.std.specs.FinMap.{get}
+use Rattle.cw_base.specs.declared.limits.TheConstants.{INPUT_LIMIT}
 use Rattle.cw_base.specs.Web.{text_of}
 use Rattle.cw_desk.specs.Meaning.{Files, OnlyReads}
 use Rattle.cw_input.specs.Lines.{file_lines}
@@ -21,9 +22,9 @@ invariant-put_new_lines-lines g l = let d = g.D.Desk in record {
   within : l.at ≤ length l.bytes;
   count : l.line ≤ l.at;
   more_files : length l.fn.m.web.files ≤ length l.m.web.files;
-  text : length (text_of l.m.web.lines) + 2 * (length l.bytes - l.at) + 2 * (8388608 - l.m.sum) ≤ length (text_of l.fn.m.web.lines) + 2 * length l.bytes + 2 * (8388608 - l.fn.m.sum);
-  files : length l.m.web.files + (length l.bytes - l.at) + (8388608 - l.m.sum) ≤ length l.fn.m.web.files + length l.bytes + (8388608 - l.fn.m.sum);
-  sum : l.m.sum ≤ 8388608;
+  text : length (text_of l.m.web.lines) + 2 * (length l.bytes - l.at) + 2 * (INPUT_LIMIT - l.m.sum) ≤ length (text_of l.fn.m.web.lines) + 2 * length l.bytes + 2 * (INPUT_LIMIT - l.fn.m.sum);
+  files : length l.m.web.files + (length l.bytes - l.at) + (INPUT_LIMIT - l.m.sum) ≤ length l.fn.m.web.files + length l.bytes + (INPUT_LIMIT - l.fn.m.sum);
+  sum : l.m.sum ≤ INPUT_LIMIT;
   meets : l.m.meets ≡ l.fn.m.meets;
   gives : (told : Files) → d.files l.fn.desk ≡ Some told → (change : List ℕ) →
       new_lines (get told) l.left (file_lines l.source.file l.bytes) (state_of change l.fn.m)

@@ -2,6 +2,7 @@
 -- from the state so far what all give from the first state; and the room that was enough at first is enough for what is left.
 use Rattle.std.proofs.Common.{◌≡◌, ◌+◌, ◌-◌, ◌*◌, ◌≤◌, Some, length}
 use Rattle.std.specs.FinMap.{get}
+use Rattle.cw_base.specs.declared.limits.TheConstants.{INPUT_LIMIT}
 use Rattle.cw_base.specs.Web.{text_of}
 use Rattle.cw_desk.specs.Meaning.{Files, OnlyReads}
 use Rattle.cw_input.specs.Lines.{file_lines}
@@ -21,11 +22,11 @@ invariant-give_lines-lines g l = let d = g.D.Desk in record {
   within : l.at ≤ length l.bytes;
   count : l.line ≤ l.at;
   more_files : length l.fn.m.web.files ≤ length l.m.web.files;
-  text : length (text_of l.m.web.lines) + 2 * (length l.bytes - l.at) + 2 * ahead l.change l.m.meets + 2 * (8388608 - l.m.sum)
-      ≤ length (text_of l.fn.m.web.lines) + 2 * length l.bytes + 2 * ahead l.change l.fn.m.meets + 2 * (8388608 - l.fn.m.sum);
-  files : length l.m.web.files + (length l.bytes - l.at) + ahead l.change l.m.meets + (8388608 - l.m.sum)
-      ≤ length l.fn.m.web.files + length l.bytes + ahead l.change l.fn.m.meets + (8388608 - l.fn.m.sum);
-  sum : l.m.sum ≤ 8388608;
+  text : length (text_of l.m.web.lines) + 2 * (length l.bytes - l.at) + 2 * ahead l.change l.m.meets + 2 * (INPUT_LIMIT - l.m.sum)
+      ≤ length (text_of l.fn.m.web.lines) + 2 * length l.bytes + 2 * ahead l.change l.fn.m.meets + 2 * (INPUT_LIMIT - l.fn.m.sum);
+  files : length l.m.web.files + (length l.bytes - l.at) + ahead l.change l.m.meets + (INPUT_LIMIT - l.m.sum)
+      ≤ length l.fn.m.web.files + length l.bytes + ahead l.change l.fn.m.meets + (INPUT_LIMIT - l.fn.m.sum);
+  sum : l.m.sum ≤ INPUT_LIMIT;
   met : IsMet l.change (length l.m.web.files) l.m.meets;
   gives : (told : Files) → d.files l.fn.desk ≡ Some told →
       web_lines (get told) l.left (file_lines l.source.file l.bytes) (state_of l.change l.fn.m)
