@@ -23,3 +23,11 @@ or-false false b h g = g
 -- the byte that a test names
 pub at-byte : (P : ℕ → Type 0) (byte wanted : ℕ) → (byte == wanted) ≡ true → P wanted → P byte
 at-byte P byte wanted h p = subst P (sym (eqb-true byte wanted h)) p
+
+pub or-first : (a b : Bool) → (a || b) ≡ false → a ≡ false
+or-first true b h = h
+or-first false b h = refl
+
+pub or-second : (a b : Bool) → (a || b) ≡ false → b ≡ false
+or-second true b h = absurd cc
+or-second false b h = h

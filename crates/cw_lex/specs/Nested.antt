@@ -32,6 +32,11 @@ after_finish (InCode ∷ InComment ∷ levels) = Some (InComment ∷ levels)
 after_finish (InComment ∷ InCode ∷ levels) = Some (InCode ∷ levels)
 after_finish levels = None
 
+-- inner C text
+abbrev pub is_inner_kind : TokKind → Bool
+is_inner_kind kind.InnerText = true
+is_inner_kind _ = false
+
 abbrev pub levels_after : Answer → List Level → Option (List Level)
 levels_after (Token token) levels = after_token token.kind levels
 levels_after (Begin token) levels = after_begin token.kind levels
@@ -61,12 +66,62 @@ is_section_answer _ = false
 abbrev pub begins_section_in : List Answer → Bool
 begins_section_in answers = list_any is_section_answer answers
 
--- the modes of whole C texts
+-- the answers before the first section code
+abbrev pub until_section : List Answer → List Answer
+until_section [] = []
+until_section (answer ∷ answers) = elim (is_section_answer answer) [ true ↦ [] | false ↦ answer ∷ until_section answers ]
+
+-- the modes of C texts
 abbrev pub is_c_mode : Mode → Bool
 is_c_mode modes.CPart = true
 is_c_mode modes.Inner = true
+is_c_mode modes.Definition = true
 is_c_mode _ = false
 
--- The answers over a C part and over inner C text are nested, where no section code cuts them.
+-- TeX text: inner C texts stand in it, each of them nested. It has no level of its own.
+abbrev pub tex_levels_after : Answer → List Level → Option (List Level)
+tex_levels_after (Token token) [] = Some []
+tex_levels_after (Begin token) [] = elim (is_inner_kind token.kind) [ true ↦ Some (InCode ∷ []) | false ↦ None ]
+tex_levels_after (Finish token) (InCode ∷ []) = Some []
+tex_levels_after answer levels = levels_after answer levels
+
+abbrev pub all_tex_levels_after : List Answer → List Level → Option (List Level)
+all_tex_levels_after [] levels = Some levels
+all_tex_levels_after (answer ∷ answers) levels = elim (tex_levels_after answer levels) [
+  | None ↦ None
+  | Some next ↦ all_tex_levels_after answers next
+]
+
+abbrev pub IsTexNested : List Answer → Type 0
+IsTexNested answers = all_tex_levels_after answers [] ≡ Some []
+
+-- The next part of a section, or the next section, begins among the answers: at its code, or at the sign behind a name.
+abbrev pub is_part_kind : TokKind → Bool
+is_part_kind (kind.Code code.Section) = true
+is_part_kind (kind.Code code.StarredSection) = true
+is_part_kind (kind.Code code.Define) = true
+is_part_kind (kind.Code code.Format) = true
+is_part_kind (kind.Code code.SilentFormat) = true
+is_part_kind (kind.Code code.Program) = true
+is_part_kind kind.HeadSign = true
+is_part_kind _ = false
+
+abbrev pub is_part_answer : Answer → Bool
+is_part_answer (Token token) = is_part_kind token.kind
+is_part_answer _ = false
+
+abbrev pub begins_part_in : List Answer → Bool
+begins_part_in answers = list_any is_part_answer answers
+
+-- The answers over a C part, over definitions and over inner C text are nested up to the first section code: what is open
+-- there ends before it.
+abbrev pub CTextsNestUpToSections : Type 0
+CTextsNestUpToSections = (text : List ℕ) (start end : ℕ) (mode : Mode) → is_c_mode mode ≡ true → IsNested (until_section (tokens_of text start end mode))
+
+-- The answers over TeX text are nested, where no other part begins in it.
+abbrev pub TexTextsAreNested : Type 0
+TexTextsAreNested = (text : List ℕ) (start end : ℕ) → begins_part_in (tokens_of text start end modes.TexText) ≡ false → IsTexNested (tokens_of text start end modes.TexText)
+
+-- The same of whole answers, where no section code cuts them.
 abbrev pub CTextsAreNested : Type 0
 CTextsAreNested = (text : List ℕ) (start end : ℕ) (mode : Mode) → is_c_mode mode ≡ true → begins_section_in (tokens_of text start end mode) ≡ false → IsNested (tokens_of text start end mode)
