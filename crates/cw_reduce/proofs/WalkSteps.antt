@@ -15,7 +15,7 @@ use Rattle.cw_table.specs.NormalWalk.{walk_left}
 use Rattle.cw_table.specs.Productions.{productions}
 use Rattle.cw_table.specs.Reaching.{IsAfter}
 use Rattle.cw_table.specs.Rewriting.{State, cats_of, rewrite}
-use Rattle.cw_table.specs.Rows.{row_numbered}
+use Rattle.cw_table.specs.Rows.{no_row, row_numbered, row_of}
 use Rattle.cw_table.specs.Safe.{least}
 use Rattle.cw_table.specs.WalkCounts.{right_of_new, ticks_from, ticks}
 use Rattle.cw_table.proofs.CountLaws.{ticks-end, ticks-past, ticks-taken, none-below-next}
@@ -28,7 +28,7 @@ use Rattle.cw_table.proofs.ScrapFacts.{cats-length}
 use Rattle.cw_table.proofs.StepLaws.{steps-next, is-after}
 use Rattle.cw_table.proofs.WalkLaws.{NoneBelow, Turns, turning, next-nowhere}
 use Rattle.cw_scraps.specs.declared.line.LineEntry.{LineEntry}
-use Rattle.cw_scraps.specs.Applying.{row_of, no_row, retyped}
+use Rattle.cw_scraps.specs.Applying.{retyped}
 use Rattle.cw_scraps.specs.Inserting.{entry_cats}
 use Rattle.cw_reduce.specs.Reduction.{IsFirst, words_of}
 

@@ -8,7 +8,6 @@ use crate::walk_tests::add_all;
 use cw_base::{Cat, Flags, Kept, Memory, Steps};
 use cw_names::Names;
 use cw_scraps::{Marks, ScrapLine};
-use cw_table::table;
 use cw_tokens::TokenStore;
 use std::alloc::Global;
 use std::test::Fail;
@@ -31,7 +30,6 @@ fn produce_at(
     match row_at(line, place, steps) {
         Some(row) => {
             produce(
-                &table(),
                 row,
                 place,
                 &Flags::start(),

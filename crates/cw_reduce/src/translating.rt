@@ -21,12 +21,11 @@ ghost use Rattle.cw_reduce.specs.Translating.{after_answers, after_finish, after
 use crate::gathering::{CommentPart, comment_list, put_together};
 use crate::kinds::makes_leaf;
 use crate::nesting::{CommentText, Nesting, Open};
-use crate::walk::reduce_by;
+use crate::walk::reduce;
 use cw_base::{Cat, Flags, Ledger, MathMode, Memory, Span, Steps};
 use cw_lex::{Lexed, Lexer, Mode, Tok, TokKind};
 use cw_names::Names;
 use cw_scraps::{Leaf, Marks, ScrapLine, scrap_of};
-use cw_table::{Table, table};
 use cw_tokens::{ListId, TokenStore};
 use std::alloc::Global;
 
@@ -44,7 +43,6 @@ pub struct Translated {
 /// Reduces the scraps of a C text and puts together what is left.
 fn translate_line<L: Ledger>(
     mut line: ScrapLine,
-    table: &Table<92>,
     flags: &Flags,
     names: &mut Names,
     store: &mut TokenStore,
@@ -68,7 +66,7 @@ fn translate_line<L: Ledger>(
     ensures retypes { Retypes flags.now (state_of store.old.lists line marks.old names.old) names.old names.new }
 {
     let scraps = line.len() as u64;
-    let reduced = reduce_by(table, &mut line, store, names, marks, flags, steps)?;
+    let reduced = reduce(&mut line, store, names, marks, flags, steps)?;
     let _spare = store.spare();
     let list = put_together(&line, store)?;
     Ok(Translated {
@@ -171,7 +169,6 @@ impl Translator {
     /// The innermost text or comment ends.
     fn finish<L: Ledger>(
         &mut self,
-        table: &Table<92>,
         flags: &Flags,
         names: &mut Names,
         store: &mut TokenStore,
@@ -189,7 +186,7 @@ impl Translator {
         let _spare = store.spare();
         match self.nesting.end() {
             Some(Open::CText(line)) => {
-                let done = translate_line(line, table, flags, names, store, marks, steps)?;
+                let done = translate_line(line, flags, names, store, marks, steps)?;
                 self.count(&done)?;
                 self.nesting.add_part(CommentPart::InnerText(done.list))
             }
@@ -211,7 +208,6 @@ impl Translator {
         &mut self,
         answer: &Lexed,
         alloc: Global,
-        table: &Table<92>,
         flags: &Flags,
         names: &mut Names,
         store: &mut TokenStore,
@@ -230,7 +226,7 @@ impl Translator {
         match answer {
             Lexed::Token(token) => self.token(token, names, store),
             Lexed::Begin(token) => self.begin(token, alloc),
-            Lexed::Finish(_) => self.finish(table, flags, names, store, marks, steps),
+            Lexed::Finish(_) => self.finish(flags, names, store, marks, steps),
             Lexed::Note(..) | Lexed::End => Ok(()),
         }
     }
@@ -240,7 +236,6 @@ impl Translator {
         &mut self,
         lexer: &mut Lexer,
         alloc: Global,
-        table: &Table<92>,
         flags: &Flags,
         names: &mut Names,
         store: &mut TokenStore,
@@ -261,7 +256,7 @@ impl Translator {
             if matches!(answer, Lexed::End) {
                 return Ok(());
             }
-            self.answer(&answer, alloc, table, flags, names, store, marks, steps)?;
+            self.answer(&answer, alloc, flags, names, store, marks, steps)?;
         }
     }
 
@@ -269,7 +264,6 @@ impl Translator {
     fn end<L: Ledger>(
         mut self,
         alloc: Global,
-        table: &Table<92>,
         flags: &Flags,
         names: &mut Names,
         store: &mut TokenStore,
@@ -287,7 +281,7 @@ impl Translator {
         ensures idle { store.new.building ≡ None }
     {
         let line = self.nesting.take_line(alloc);
-        let done = translate_line(line, table, flags, names, store, marks, steps)?;
+        let done = translate_line(line, flags, names, store, marks, steps)?;
         self.count(&done)?;
         Ok(Translated {
             list: done.list,
@@ -337,7 +331,6 @@ pub fn translate<L: Ledger>(
 {
     let mut lexer = Lexer::over(text, span.start, span.end, mode);
     let mut translator = Translator::new_in(alloc)?;
-    let table = table();
-    translator.read(&mut lexer, alloc, &table, flags, names, store, marks, steps)?;
-    translator.end(alloc, &table, flags, names, store, marks, steps)
+    translator.read(&mut lexer, alloc, flags, names, store, marks, steps)?;
+    translator.end(alloc, flags, names, store, marks, steps)
 }

@@ -1,4 +1,4 @@
-ghost use Rattle.std.specs.Prelude.{◌≡◌, ℕ, ◌+◌, ◌*◌, ◌<◌, ◌≤◌, true, drop, length, IfOk, OnOk, MatchOption, MatchResult};
+ghost use Rattle.std.specs.Prelude.{◌≡◌, ℕ, ◌+◌, ◌*◌, ◌<◌, ◌≤◌, true, drop, length, IfOk, OnOk, OnErr, MatchOption, MatchResult};
 ghost use Rattle.cw_table.specs.Fitting.{first_of, row_fits};
 ghost use Rattle.cw_table.specs.Normal.{count, normal, weight};
 ghost use Rattle.cw_table.specs.Productions.{productions};
@@ -7,16 +7,18 @@ ghost use Rattle.cw_table.specs.Rewriting.{cats_of, rewrite};
 ghost use Rattle.cw_table.specs.Safe.{least};
 ghost use Rattle.cw_table.specs.SourceNumbers.{numbers_of};
 ghost use Rattle.cw_table.specs.WalkCounts.{reservings, right_of_new, ticks};
-ghost use Rattle.cw_scraps.specs.Applying.{row_of, state_of};
+ghost use Rattle.cw_table.specs.Rows.{row_of};
+ghost use Rattle.cw_tokens.specs.Counting.{token_count};
+ghost use Rattle.cw_scraps.specs.Applying.{state_of};
 ghost use Rattle.cw_scraps.specs.Changing.{Keeps};
 ghost use Rattle.cw_scraps.specs.Inserting.{entry_cats};
 ghost use Rattle.cw_scraps.specs.Lines.{IsSoundLine, roots_of, scraps_of};
-ghost use Rattle.cw_reduce.specs.Reduction.{IsFirst, words_of};
+ghost use Rattle.cw_reduce.specs.Reduction.{GrowsByProductions, IsFirst, words_of};
 
 use cw_base::{Flags, Ledger, Memory, Steps};
 use cw_names::Names;
-use cw_scraps::{Marks, ScrapLine};
-use cw_table::{RowNo, Table, first_production, step_back, table};
+use cw_scraps::{Marks, PRODUCTION_TOKENS, ScrapLine};
+use cw_table::{ROW_COUNT, RowAtHand, RowNo, first_production, step_back};
 use cw_tokens::TokenStore;
 
 /// What was done to a line of scraps.
@@ -50,34 +52,10 @@ pub fn reduce<L: Ledger>(
     ensures numbers { numbers_of (scraps_of store.new.lists line.new) ≡ numbers_of (scraps_of store.old.lists line.old) }
     ensures sound { IsSoundLine store.new names.new line.new }
     ensures others { Keeps store.old.lists store.new.lists (roots_of line.old) (roots_of line.new) }
-    ensures steps { OnOk result (steps.new ≡ steps.old + ticks productions flags.now (state_of store.old.lists line.old marks.old names.old)) }
-    ensures no_more { steps.new ≤ steps.old + ticks productions flags.now (state_of store.old.lists line.old marks.old names.old) }
-    ensures bound { steps.new ≤ steps.old + (132 * length line.old + length line.old * reservings productions flags.now (state_of store.old.lists line.old marks.old names.old)) }
-{
-    reduce_by(&table(), line, store, names, marks, flags, steps)
-}
-
-/// The same by a table at hand, which is the same for all lines.
-pub(crate) fn reduce_by<L: Ledger>(
-    table: &Table<92>,
-    line: &mut ScrapLine,
-    store: &mut TokenStore,
-    names: &mut Names,
-    marks: &mut Marks,
-    flags: &Flags,
-    steps: &mut Steps<L>,
-) -> Result<Reduced, Memory>
-    requires sound { IsSoundLine store.old names.old line.old }
-    ensures normal { OnOk result (state_of store.new.lists line.new marks.new names.new ≡ normal productions flags.now (state_of store.old.lists line.old marks.old names.old)) }
-    ensures productions { IfOk result (λ done. done.productions ≡ count productions flags.now (state_of store.old.lists line.old marks.old names.old)) }
-    ensures light { IfOk result (λ done. done.productions ≤ weight (scraps_of store.old.lists line.old)) }
-    ensures few { IfOk result (λ done. done.productions ≤ 8 * length line.old) }
-    ensures after { IsAfter productions flags.now (state_of store.old.lists line.old marks.old names.old) (state_of store.new.lists line.new marks.new names.new) }
-    ensures words { words_of names.new ≡ words_of names.old }
-    // Each source token stands in the trees once and in order, as before.
-    ensures numbers { numbers_of (scraps_of store.new.lists line.new) ≡ numbers_of (scraps_of store.old.lists line.old) }
-    ensures sound { IsSoundLine store.new names.new line.new }
-    ensures others { Keeps store.old.lists store.new.lists (roots_of line.old) (roots_of line.new) }
+    // However many tokens the lists of the scraps hold: they are not copied.
+    ensures tokens { GrowsByProductions flags.now
+        (state_of store.old.lists line.old marks.old names.old) store.old.lists
+        (state_of store.new.lists line.new marks.new names.new) store.new.lists }
     ensures steps { OnOk result (steps.new ≡ steps.old + ticks productions flags.now (state_of store.old.lists line.old marks.old names.old)) }
     ensures no_more { steps.new ≤ steps.old + ticks productions flags.now (state_of store.old.lists line.old marks.old names.old) }
     ensures bound { steps.new ≤ steps.old + (132 * length line.old + length line.old * reservings productions flags.now (state_of store.old.lists line.old marks.old names.old)) }
@@ -88,7 +66,7 @@ pub(crate) fn reduce_by<L: Ledger>(
     while place < line.len() {
         match row_at(line, place, steps) {
             Some(row) => {
-                produce(table, row, place, flags, line, names, marks, store, steps)?;
+                produce(row, place, flags, line, names, marks, store, steps)?;
                 productions += 1;
                 place = place.saturating_sub(distance(row));
             }
@@ -120,7 +98,7 @@ pub(crate) fn row_at<L: Ledger>(
 // How far the pointer goes back after a row.
 fn distance(row: RowNo) -> usize
     requires from_one { 1 ≤ row.number }
-    requires to_last { row.number ≤ 92 }
+    requires to_last { row.number ≤ ROW_COUNT }
     ensures { result ≡ least productions (row_of productions row.number) }
 {
     step_back(row)
@@ -128,7 +106,6 @@ fn distance(row: RowNo) -> usize
 
 // One production at a place, where its row fits, with the room that it needs.
 pub(crate) fn produce<L: Ledger>(
-    table: &Table<92>,
     row: RowNo,
     place: usize,
     flags: &Flags,
@@ -139,7 +116,7 @@ pub(crate) fn produce<L: Ledger>(
     steps: &mut Steps<L>,
 ) -> Result<(), Memory>
     requires from_one { 1 ≤ row.number }
-    requires to_last { row.number ≤ 92 }
+    requires to_last { row.number ≤ ROW_COUNT }
     requires fits { row_fits (row_of productions row.number) (drop place (cats_of (scraps_of store.old.lists line.old))) ≡ true }
     requires sound { IsSoundLine store.old names.old line.old }
     ensures state { MatchResult result (λ _. state_of store.new.lists line.new marks.new names.new ≡ rewrite flags.now (row_of productions row.number) place (state_of store.old.lists line.old marks.old names.old)) (λ _. state_of store.new.lists line.new marks.new names.new ≡ state_of store.old.lists line.old marks.old names.old) }
@@ -147,9 +124,12 @@ pub(crate) fn produce<L: Ledger>(
     ensures words { words_of names.new ≡ words_of names.old }
     ensures sound { IsSoundLine store.new names.new line.new }
     ensures others { Keeps store.old.lists store.new.lists (roots_of line.old) (roots_of line.new) }
+    ensures tokens { OnOk result (token_count store.new.lists ≤ token_count store.old.lists + PRODUCTION_TOKENS) }
+    ensures refused { OnErr result (store.new.lists ≡ store.old.lists) }
 {
-    store.reserve(24)?;
+    store.reserve(PRODUCTION_TOKENS)?;
     marks.reserve(1)?;
-    line.apply_row(table.row(row), place, flags, names, marks, store, steps);
+    let row = RowAtHand::of(row);
+    line.apply_row(&row, place, flags, names, marks, store, steps);
     Ok(())
 }

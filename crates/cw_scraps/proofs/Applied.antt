@@ -1,5 +1,5 @@
 -- One production as a whole.
-use Rattle.std.proofs.Common.{◌≡◌, ℕ, zero, suc, ◌+◌, ◌<◌, ◌≤◌, true, List, [], ◌∷◌, ◌++◌, length, map, take, drop, set, Option, Some, None, refl, sym, ap, ◌∙◌, arith}
+use Rattle.std.proofs.Common.{◌≡◌, ℕ, zero, suc, ◌+◌, ◌-◌, ◌<◌, ◌≤◌, true, List, [], ◌∷◌, ◌++◌, length, map, take, drop, set, Option, Some, None, unwrap_or, refl, sym, ap, ◌∙◌, arith}
 use Rattle.std.specs.List.{All, list_all}
 use Rattle.std.specs.Option.{option_to_list}
 use Rattle.std.proofs.lemmas.List.{map-append, drop-map, append_assoc, take_at, drop_at, take-append-drop, length-append, length-take, length-take-le, length-drop}
@@ -17,6 +17,7 @@ use Rattle.cw_table.specs.Rewriting.{cats_of, new_scrap, search_in, reserved_at,
 use Rattle.cw_table.proofs.Falling.{falls, Falls}
 use Rattle.cw_table.proofs.ScrapFacts.{at-length}
 use Rattle.cw_tokens.specs.declared.token.Token.{Token}
+use Rattle.cw_tokens.specs.Counting.{token_count}
 use Rattle.cw_tokens.specs.References.{IsTied}
 use Rattle.cw_tokens.specs.Stored.{StoredLists}
 use Rattle.cw_tokens.specs.Walking.{found_name}
@@ -27,7 +28,10 @@ use Rattle.cw_scraps.specs.Changing.{Changes, Keeps}
 use Rattle.cw_scraps.specs.Replacing.{replaced_from, Replaces}
 use Rattle.cw_scraps.specs.Turning.{named_by}
 use Rattle.cw_scraps.specs.Marking.{MarkList, marked_names}
-use Rattle.cw_scraps.specs.Applying.{categories, state_of, retyped, retyped_by}
+use Rattle.cw_table.specs.Productions.{productions}
+use Rattle.cw_table.specs.Rows.{no_row, row_numbered, row_of}
+use Rattle.cw_scraps.specs.Applying.{categories, looked_at, state_of, retyped, retyped_by}
+use Rattle.cw_scraps.proofs.Buildings.{length-roots}
 use Rattle.cw_scraps.proofs.Changings.{roots-stay, outside-stay, trees-outside}
 use Rattle.cw_scraps.proofs.Fits.{FitsAt, place-inside}
 use Rattle.cw_scraps.proofs.Keeping.{keeps-modes, keeps-named, search-named}
@@ -83,6 +87,7 @@ pub record Applies (flags : Flags) (row : Row) (place : ℕ) (old : List (List T
   pub scraps : scraps_of new after ≡ take place (scraps_of old line) ++ rewrite_from flags row (drop place (scraps_of old line))
   pub roots : AreRoots new (roots_of after)
   pub keeps : Keeps old new (roots_of line) (roots_of after)
+  pub few : token_count new ≤ token_count old + 24
 
 module _ (flags : Flags) (row : Row) (place : ℕ) (l0 l1 l2 l3 : List (List Token)) (line0 line1 line2 : List LineEntry) (reserved : Option NameId) (f : FitsAt flags row (drop place line0)) (tied : IsTied l0) (tied2 : IsTied l2)
     (e1 : scraps_of l1 line0 ≡ take place (scraps_of l0 line0) ++ reserved_at row.action.reserve (drop place (scraps_of l0 line0))) (ch1 : Changes l0 l1 (roots_of line0)) (r : Replaces flags row place l1 line0 l2 line1)
@@ -138,7 +143,22 @@ module _ (flags : Flags) (row : Row) (place : ℕ) (l0 l1 l2 l3 : List (List Tok
     roots = rw same (roots-stay l2 l3 (roots_of line1) (roots_of line1) ch3 r.roots);
     keeps = rw same (keeps-trans l0 l1 l3 (roots_of line0) (roots_of line0) (roots_of line1) (keeps-changed l0 l1 (roots_of line0) tied ch1)
         (keeps-trans l1 l2 l3 (roots_of line0) (roots_of line1) (roots_of line1) r.keeps (keeps-changed l2 l3 (roots_of line1) tied2 ch3)));
+    few =
+        let more : token_count l2 ≤ token_count l1 + 24 = r.few in
+        let before : token_count l1 ≡ token_count l0 = ch1.same_count in
+        let behind : token_count l3 ≡ token_count l2 = ch3.same_count in
+        omega arith;
   }
+
+-- the steps that were counted, where a row reserves
+pub ticked-is : (given reserve : Option ℕ) (line1 line2 : List LineEntry) (start start' steps steps' : ℕ) → given ≡ reserve → start ≡ start' → roots_of line2 ≡ roots_of line1 → steps' ≡ steps + looked_at given (length line1 - start) → steps' ≡ steps + looked_at reserve (length line2 - start')
+ticked-is given reserve line1 line2 start start' steps steps' n s same e =
+    let long : length line1 ≡ length line2 = sym (length-roots line1) ∙ (ap length (sym same) ∙ length-roots line2) in
+    e ∙ (ap (λ r. steps + looked_at r (length line1 - start)) n ∙ (ap (λ m. steps + looked_at reserve (m - start)) long ∙ ap (λ m. steps + looked_at reserve (length line2 - m)) s))
+
+-- the row of a number is the same in a table as among the productions
+pub same-row : (rows : List Row) (n : ℕ) (row : Row) → row_numbered rows n ≡ Some row → row_numbered productions n ≡ Some row → row_of rows n ≡ row_of productions n
+same-row rows n row a b = ap (λ (o : Option Row). unwrap_or o no_row) (a ∙ sym b)
 
 -- names and marks
 some-found : (s : Search) (id : NameId) → found_name s ≡ Some id → s ≡ Found id.index

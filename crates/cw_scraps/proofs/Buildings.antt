@@ -1,13 +1,13 @@
 -- One piece more goes into the list that is being built.
 use Rattle.std.proofs.Common.{◌≡◌, ℕ, zero, suc, ◌+◌, ◌-◌, ◌*◌, ◌<◌, ◌≤◌, List, [], ◌∷◌, ◌++◌, length, map, drop, get_or, Option, Some, None, inl, inr, refl, sym, ap, ◌∙◌, subst, option_map, arith}
-use Rattle.std.proofs.lemmas.List.{append_assoc, append-nil, length-append, length-drop, length_push, drop_more, drop_all, get_or-take, length-take}
+use Rattle.std.proofs.lemmas.List.{append_assoc, append-nil, length-append, length-drop, length_push, drop_more, drop_all}
+use Rattle.std.proofs.lemmas.Option.{get_or_from_slice_get}
+use Rattle.std.specs.Prelude.{slice_get}
 use Rattle.cw_base.specs.declared.mode.MathMode.{MathMode}
 use Rattle.cw_base.specs.declared.mode.MathMode.TheVariants.{Text, Math, Maybe}
 use Rattle.cw_trees.specs.Joining.{after, first_mode}
 use Rattle.cw_table.specs.declared.types.Piece.{Piece}
 use Rattle.cw_table.specs.declared.types.Piece.TheVariants as piece
-use Rattle.cw_table.specs.declared.types.Pieces.{Pieces}
-use Rattle.cw_table.specs.Rows.{translation}
 use Rattle.cw_table.specs.Sound.{scraps_in, numbers_from}
 use Rattle.cw_tokens.specs.declared.token.Token.{Token}
 use Rattle.cw_tokens.specs.declared.token.Token.TheVariants.{«List» as ListOf}
@@ -265,10 +265,8 @@ joins-within lists entries pieces spare i left mode store j p at roots place cou
     (joins-more lists entries pieces spare i left mode store j p at roots place count long toggled pushed refl refl (omega arith) refl refl (omega arith)).within
 
 -- the piece of a number
-pub piece-at : (ps : Pieces) (i : ℕ) (d : Piece) → i < length (translation ps) → drop i (translation ps) ≡ get_or ps.pieces i d ∷ drop (i + 1) (translation ps)
-piece-at ps i d h =
-    let low : i < ps.count = omega (arith, length-take ps.count ps.pieces) in
-    drop_more (translation ps) i d h ∙ ap (λ p. p ∷ drop (i + 1) (translation ps)) (get_or-take ps.count ps.pieces i d low)
+pub piece-at : (ps : List Piece) (i : ℕ) (p : Piece) → i < length ps → slice_get ps i ≡ Some p → drop i ps ≡ p ∷ drop (i + 1) ps
+piece-at ps i p h at = drop_more ps i p h ∙ ap (λ q. q ∷ drop (i + 1) ps) (get_or_from_slice_get ps i p p at)
 
 -- where something is read of a place on, the line is that long
 pub long-drop : (line : List LineEntry) (place : ℕ) → 0 < length (drop place line) → length line ≡ place + length (drop place line)

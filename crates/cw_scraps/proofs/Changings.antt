@@ -57,13 +57,14 @@ pub trees-outside : (old new : List (List Token)) (rs : List ℕ) (k : ℕ) → 
 trees-outside old new rs k tied ch o = sym (unfolded-same old new k tied (tied-same old new ch.same_refs tied) (sym ch.same_length) (λ j r. sym (ch.others j (outside-reach old rs k j tied o r))))
 
 pub changes-none : (ls : List (List Token)) (rs : List ℕ) → Changes ls ls rs
-changes-none ls rs = record { others = λ k o. refl; same_length = refl; same_refs = λ l p. refl }
+changes-none ls rs = record { others = λ k o. refl; same_length = refl; same_refs = λ l p. refl; same_count = refl }
 
 pub changes-trans : (a b d : List (List Token)) (rs : List ℕ) → Changes a b rs → Changes b d rs → Changes a d rs
 changes-trans a b d rs x y = record {
   others = λ k o. y.others k (outside-stay a b rs rs k x o) ∙ x.others k o;
   same_length = y.same_length ∙ x.same_length;
   same_refs = λ l p. y.same_refs l p ∙ x.same_refs l p;
+  same_count = y.same_count ∙ x.same_count;
 }
 
 pub changes-more : (old new : List (List Token)) (rs : List ℕ) (i : ℕ) → i < length rs → Changes old new (get_or rs i 0 ∷ []) → Changes old new rs
@@ -71,6 +72,7 @@ changes-more old new rs i h ch = record {
   others = λ k o. ch.others k (record { there = o.there; above = λ j g r. o.above i h (one j g r); below = λ j g r. o.below i h (two j g r) });
   same_length = ch.same_length;
   same_refs = ch.same_refs;
+  same_count = ch.same_count;
 }
   where
     one : {k : ℕ} (j : ℕ) → j < length (get_or rs i 0 ∷ []) → Reach old k (get_or (get_or rs i 0 ∷ []) j 0) → Reach old k (get_or rs i 0)
@@ -110,6 +112,7 @@ reserves-changes old new root r = record {
   others = λ k o. r.other_lists k (o.above 0 (omega arith)) (o.below 0 (omega arith));
   same_length = r.same_length;
   same_refs = r.same_refs;
+  same_count = r.same_count;
 }
 
 -- what is seen of an entry

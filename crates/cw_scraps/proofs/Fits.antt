@@ -1,6 +1,6 @@
 -- What a sound row that fits reads of a line is there.
 use Rattle.std.proofs.Common.{◌≡◌, ℕ, suc, ◌+◌, ◌<◌, ◌≤◌, Bool, true, false, List, [], ◌∷◌, length, drop, get_or, Some, inl, inr, refl, sym, ap, ◌∙◌, arith}
-use Rattle.std.proofs.lemmas.List.{get_or_past, length-drop, get_or-drop}
+use Rattle.std.proofs.lemmas.List.{get_or_past, length-drop, length-take, get_or-drop}
 use Rattle.std.proofs.lemmas.Bool.{cases_lt}
 use Rattle.cw_base.specs.declared.flags.Flags.{Flags}
 use Rattle.cw_base.specs.declared.category.Cat.{Cat}
@@ -9,12 +9,12 @@ use Rattle.cw_base.specs.Category.{in_set}
 use Rattle.cw_table.specs.declared.types.Row.{Row}
 use Rattle.cw_table.specs.declared.types.RowResult.TheVariants.{SameAs}
 use Rattle.cw_table.specs.Fitting.{row_fits}
-use Rattle.cw_table.specs.Rows.{test, tests_of}
+use Rattle.cw_table.specs.Rows.{pieces_by, test, tests_of}
 use Rattle.cw_table.specs.Sound.{IsSound, row_is_sound, scraps_in, numbers_from}
-use Rattle.cw_table.specs.Rewriting.{alone, row_pieces, takes_other}
+use Rattle.cw_table.specs.Rewriting.{alone, takes_other}
 use Rattle.cw_table.proofs.Soundness.{sound-row}
 use Rattle.cw_table.proofs.FirstLaws.{length-tests_of}
-use Rattle.cw_table.proofs.Falling.{hold-at, room, alone-at}
+use Rattle.cw_table.proofs.Falling.{hold-at, room, alone-at, pieces-whole}
 use Rattle.cw_scraps.specs.declared.line.LineEntry.{LineEntry}
 use Rattle.cw_scraps.specs.Lines.{no_entry}
 use Rattle.cw_scraps.specs.Inserting.{entry_cats, IsRun}
@@ -36,11 +36,17 @@ there row cats k sound fits tested not_end = elim (cases_lt k (length cats)) [
     differ : ◌≡◌ {A = Bool} false true → ⊥
     differ e = cc
 
+-- a row has at most twelve pieces
+pieces-few : (row : Row) → IsSound row → (b : Bool) → length (pieces_by b row) ≤ 12
+pieces-few row s true = let few : row.action.other.count ≤ 12 = s.other_short in omega (arith, length-take row.action.other.count row.action.other.pieces)
+pieces-few row s false = let few : row.action.usual.count ≤ 12 = s.usual_short in omega (arith, length-take row.action.usual.count row.action.usual.pieces)
+
 pub record FitsAt (flags : Flags) (row : Row) (entries : List LineEntry) : Type 0 where
   pub is_sound : IsSound row
   pub some : 1 ≤ row.replaced
   pub inside : row.offset + row.replaced ≤ length entries
   pub run : scraps_in (pieces_at flags row entries) ≡ numbers_from row.offset row.replaced
+  pub few : length (pieces_at flags row entries) ≤ 12
   pub result_there : (k : ℕ) → row.result ≡ SameAs k → k < length entries
   pub underline_there : (k : ℕ) → row.action.underline ≡ Some k → k < length entries
   pub reserve_there : (k : ℕ) → row.action.reserve ≡ Some k → k < length entries
@@ -55,16 +61,13 @@ fits-at flags row entries sound fits =
       is_sound = s;
       some = s.some_replaced;
       inside = omega arith;
-      run = whole (takes_other flags row.action.choice (entry_cats entries)) s refl;
+      run = pieces-whole flags row (entry_cats entries) s;
+      few = pieces-few row s (takes_other flags row.action.choice (entry_cats entries));
       result_there = λ k e. let h : k < length (entry_cats entries) = there row (entry_cats entries) k s fits (s.same_as_tested k e) (s.same_as_not_end k e) in omega arith;
       underline_there = λ k e. let h : k < length (entry_cats entries) = there row (entry_cats entries) k s fits (s.underline_tested k e) (s.underline_not_end k e) in omega arith;
       reserve_there = λ k e. let h : k < row.offset + row.replaced = s.reserve_below k e in omega arith;
       kept_at = λ k e. alone-at flags row (entry_cats entries) k s e;
     }
-  where
-    whole : (b : Bool) → IsSound row → takes_other flags row.action.choice (entry_cats entries) ≡ b → scraps_in (pieces_at flags row entries) ≡ numbers_from row.offset row.replaced
-    whole true s e = rw (e, row_pieces) s.other_whole
-    whole false s e = rw (e, row_pieces) s.usual_whole
 
 pub run-at : (flags : Flags) (row : Row) (entries : List LineEntry) → FitsAt flags row entries → IsRun (pieces_at flags row entries) (length entries)
 run-at flags row entries f = record { first = row.offset; more = row.replaced; run = f.run; within = f.inside }

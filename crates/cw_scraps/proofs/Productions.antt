@@ -1,31 +1,34 @@
 -- One production, up to the scraps to the right.
-use Rattle.std.proofs.Common.{◌≡◌, ℕ, zero, suc, ◌+◌, ◌<◌, ◌≤◌, List, [], ◌∷◌, ◌++◌, length, map, take, drop, get_or, Option, Some, None, refl, sym, ap, ◌∙◌, subst, arith}
+use Rattle.std.proofs.Common.{◌≡◌, ℕ, zero, suc, ◌+◌, ◌*◌, ◌<◌, ◌≤◌, List, [], ◌∷◌, ◌++◌, length, map, take, drop, get_or, Option, Some, None, refl, sym, ap, ◌∙◌, subst, arith}
 use Rattle.std.specs.List.{slice_get}
-use Rattle.std.proofs.lemmas.List.{map-append, take-map, drop-map, append_assoc, length-drop, length-take, length-append, get_or-drop, drop-drop, get_or_append_left}
+use Rattle.std.proofs.lemmas.List.{map-append, take-map, drop-map, append_assoc, length-drop, length-take, length-append, length-map, get_or-drop, drop-drop, get_or_append_left}
+use Rattle.std.proofs.lemmas.List.Sums.{sum_by_push}
 use Rattle.cw_base.specs.declared.category.Cat.{Cat}
 use Rattle.cw_base.specs.declared.flags.Flags.{Flags}
 use Rattle.cw_base.specs.declared.mode.MathMode.TheVariants.{Maybe}
 use Rattle.cw_base.specs.declared.mode.MathMode.{MathMode}
 use Rattle.cw_trees.specs.Tree.{Tree}
-use Rattle.cw_trees.specs.Joining.{Scrap, no_scrap, join}
+use Rattle.cw_trees.specs.Joining.{Scrap, no_scrap, join, after}
 use Rattle.cw_table.specs.declared.types.Piece.{Piece}
 use Rattle.cw_table.specs.declared.types.Row.{Row}
 use Rattle.cw_table.specs.Rows.{result_at}
 use Rattle.cw_table.specs.Rewriting.{cats_of, alone, row_pieces, with_cat, new_from, new_scrap, joined_of}
 use Rattle.cw_tokens.specs.declared.token.Token.{Token}
+use Rattle.cw_tokens.specs.Counting.{token_count}
 use Rattle.cw_tokens.specs.Shapes.{unfolded}
 use Rattle.cw_tokens.specs.References.{token_ref, IsTied, IsUnreferred}
 use Rattle.cw_tokens.specs.Stored.{StoredLists}
 use Rattle.cw_tokens.proofs.Unfolding.{unfolded-old, unfolded-new}
 use Rattle.cw_scraps.specs.declared.line.LineEntry.{LineEntry}
 use Rattle.cw_scraps.specs.Lines.{seen, scraps_of, roots_of, no_entry, AreRoots, IsOutside}
-use Rattle.cw_scraps.specs.Inserting.{entry_cats, inserting, tokens_of}
+use Rattle.cw_scraps.specs.declared.pieces.Insert.{Insert}
+use Rattle.cw_scraps.specs.Inserting.{entry_cats, inserting, toggle, tokens_of}
 use Rattle.cw_scraps.specs.Making.{pieces_at, IsMade, kept, joined}
 use Rattle.cw_scraps.specs.Replacing.{replaced_from, Replaces}
 use Rattle.cw_scraps.proofs.Fits.{FitsAt, kept-there, place-inside}
 use Rattle.cw_scraps.proofs.JoinedTrees.{Joint, joint}
 use Rattle.cw_scraps.proofs.Reservings.{seen-get}
-use Rattle.cw_scraps.proofs.Buildings.{root-entry, length-roots}
+use Rattle.cw_scraps.proofs.Buildings.{root-entry, length-roots, toggle-short}
 use Rattle.cw_scraps.proofs.Changings.{seen-same}
 use Rattle.cw_scraps.proofs.Splices.{spliced, tokens-ref, FromScrap}
 use Rattle.cw_scraps.proofs.Growing.{FromRoot, grown-roots, grown-outside, grown-free, roots-replaced, same-spliced}
@@ -73,6 +76,25 @@ module _ (flags : Flags) (row : Row) (entries : List LineEntry) (f : FitsAt flag
     ap (λ ls. unfolded ls k) grown ∙ unfolded-old old.lists (tokens_of Maybe (map (inserting entries) (pieces_at flags row entries))) k h,
     ap (λ ls. get_or ls k []) grown ∙ get_or_append_left old.lists (tokens_of Maybe (map (inserting entries) (pieces_at flags row entries)) ∷ []) [] k h,
   )
+
+-- each piece puts at most two tokens into a list
+tokens-most : (mode : MathMode) (inserts : List Insert) → length (tokens_of mode inserts) ≤ 2 * length inserts
+tokens-most mode [] = omega arith
+tokens-most mode (i ∷ inserts) =
+    let fewer : length (tokens_of (after mode i.left i.right) inserts) ≤ 2 * length inserts = tokens-most (after mode i.left i.right) inserts in
+    omega (arith, length-append (toggle mode i.left) (i.token ∷ tokens_of (after mode i.left i.right) inserts), toggle-short mode i.left)
+
+-- a new scrap takes at most 24 tokens, since a row has at most twelve pieces
+few-more : (flags : Flags) (row : Row) (entries : List LineEntry) (old new : StoredLists) (made : LineEntry) → FitsAt flags row entries → IsMade flags row entries old new made → token_count new.lists ≤ token_count old.lists + 24
+few-more flags row entries old new made f (kept k a same is) =
+    let e : token_count new.lists ≡ token_count old.lists = ap (λ (s : StoredLists). token_count s.lists) same in
+    omega arith
+few-more flags row entries old new made f (joined a grown idle spent cat list left right) =
+    let twelve : length (pieces_at flags row entries) ≤ 12 = f.few in
+    let long : length (map (inserting entries) (pieces_at flags row entries)) ≡ length (pieces_at flags row entries) = length-map (pieces_at flags row entries) (inserting entries) in
+    let most : length (tokens_of Maybe (map (inserting entries) (pieces_at flags row entries))) ≤ 2 * length (map (inserting entries) (pieces_at flags row entries)) = tokens-most Maybe (map (inserting entries) (pieces_at flags row entries)) in
+    let e : token_count new.lists ≡ token_count old.lists + length (tokens_of Maybe (map (inserting entries) (pieces_at flags row entries))) = ap token_count grown ∙ sum_by_push length old.lists (tokens_of Maybe (map (inserting entries) (pieces_at flags row entries))) in
+    omega arith
 
 pub seen-line : (old new : List (List Token)) (line : List LineEntry) → ((k : ℕ) → k < length old → unfolded new k ≡ unfolded old k) → ((i : ℕ) → i < length line → (get_or line i no_entry).list.index < length old) → scraps_of new line ≡ scraps_of old line
 seen-line old new [] same there = refl
@@ -193,4 +215,5 @@ module _ (flags : Flags) (row : Row) (place : ℕ) (line : List LineEntry) (old 
       free = new-roots.free;
     };
     count = count-is;
+    few = few-more flags row (drop place line) old new made f is_made;
   }

@@ -7,6 +7,7 @@ use Rattle.cw_table.specs.declared.types.Row.{Row}
 use Rattle.cw_table.specs.Rows.{result_at}
 use Rattle.cw_table.specs.Rewriting.{alone, row_pieces}
 use Rattle.cw_tokens.specs.Stored.{StoredLists}
+use Rattle.cw_scraps.specs.declared.TheConstants.{PRODUCTION_TOKENS}
 use Rattle.cw_scraps.specs.declared.line.LineEntry.{LineEntry}
 use Rattle.cw_scraps.specs.Lines.{no_entry}
 use Rattle.cw_scraps.specs.Inserting.{entry_cats, inserting, tokens_of, left_of, right_after}
@@ -19,6 +20,6 @@ pub data IsMade (flags : Flags) (row : Row) (entries : List LineEntry) (old new 
   kept : (k : ℕ) → alone row.replaced (pieces_at flags row entries) ≡ Some k → new ≡ old
       → made ≡ record { cat = result_at row.result (entry_cats entries); list = (get_or entries k no_entry).list; left = (get_or entries k no_entry).left; right = (get_or entries k no_entry).right } → IsMade flags row entries old new made
   joined : alone row.replaced (pieces_at flags row entries) ≡ None → new.lists ≡ old.lists ++ tokens_of Maybe (map (inserting entries) (pieces_at flags row entries)) ∷ []
-      → new.building ≡ None → old.spare ≤ new.spare + 24
+      → new.building ≡ None → old.spare ≤ new.spare + PRODUCTION_TOKENS
       → made.cat ≡ result_at row.result (entry_cats entries) → made.list.index ≡ length old.lists → made.left ≡ left_of (map (inserting entries) (pieces_at flags row entries)) → made.right ≡ right_after Maybe (map (inserting entries) (pieces_at flags row entries))
       → IsMade flags row entries old new made

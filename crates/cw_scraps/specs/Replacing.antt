@@ -1,9 +1,11 @@
 -- Some scraps of a line are replaced by the one that a row makes of them.
-use Rattle.std.specs.Prelude.{◌≡◌, ℕ, ◌+◌, List, ◌∷◌, ◌++◌, length, take, drop}
+use Rattle.std.specs.Prelude.{◌≡◌, ℕ, ◌+◌, ◌≤◌, List, ◌∷◌, ◌++◌, length, take, drop}
 use Rattle.cw_base.specs.declared.flags.Flags.{Flags}
 use Rattle.cw_table.specs.declared.types.Row.{Row}
 use Rattle.cw_table.specs.Rewriting.{new_scrap}
 use Rattle.cw_tokens.specs.declared.token.Token.{Token}
+use Rattle.cw_tokens.specs.Counting.{token_count}
+use Rattle.cw_scraps.specs.declared.TheConstants.{PRODUCTION_TOKENS}
 use Rattle.cw_scraps.specs.declared.line.LineEntry.{LineEntry}
 use Rattle.cw_scraps.specs.Lines.{scraps_of, roots_of, AreRoots}
 use Rattle.cw_scraps.specs.Changing.{Keeps}
@@ -18,3 +20,4 @@ pub record Replaces (flags : Flags) (row : Row) (place : ℕ) (old_lists : List 
   pub roots : AreRoots lists (roots_of line)
   pub keeps : Keeps old_lists lists (roots_of old) (roots_of line)
   pub count : length line + row.replaced ≡ length old + 1
+  pub few : token_count lists ≤ token_count old_lists + PRODUCTION_TOKENS

@@ -2,26 +2,27 @@ ghost use Rattle.std.specs.Prelude.{◌≡◌, ◌≢◌, ℕ, ◌+◌, ◌-◌,
 ghost use Rattle.std.specs.Option.{option_to_list};
 ghost use Rattle.cw_names.specs.declared.NameId.{NameId};
 ghost use Rattle.cw_table.specs.Fitting.{row_fits};
+ghost use Rattle.cw_table.specs.Rows.{row_of};
 ghost use Rattle.cw_table.specs.Sound.{row_is_sound};
-ghost use Rattle.cw_table.specs.Rewriting.{cats_of, search_in, rewrite};
-ghost use Rattle.cw_scraps.specs.Lines.{scraps_of, roots_of, IsSoundLine};
-ghost use Rattle.cw_scraps.specs.Changing.{Keeps};
-ghost use Rattle.cw_scraps.specs.Modes.{JoinsAgree};
-ghost use Rattle.cw_scraps.specs.Applying.{state_of, retyped, retyped_by, looked_at, row_of};
+ghost use Rattle.cw_table.specs.Rewriting.{cats_of};
+ghost use Rattle.cw_scraps.specs.Lines.{scraps_of, IsSoundLine};
+ghost use Rattle.cw_scraps.specs.Applying.{retyped_by, work, IsApplied};
 
+use crate::PRODUCTION_TOKENS;
 use crate::line::ScrapLine;
 use crate::marks::Marks;
 use crate::producing::produce;
 use crate::reserving::{named_ident, reserve_named, turn_right};
 use cw_base::{Cat, Flags, Ledger, Steps};
 use cw_names::{NameId, Names};
-use cw_table::{Row, RowNo, Table};
+use cw_table::{ROW_COUNT, RowAtHand, RowNo, Table};
 use cw_tokens::TokenStore;
 
 impl ScrapLine {
     /// Does the production of a number at a place, with its marks and its reserving, by the flags that
-    /// choose between translations. Where it reserves it counts one step for each scrap to the right of
-    /// the new one. It takes no memory: the store and the marks have the room that was reserved.
+    /// choose between translations. The row is read from the program's own data, which are those of the
+    /// table. Where it reserves it counts one step for each scrap to the right of the new one. It takes
+    /// no memory: the store and the marks have the room that was reserved.
     pub fn apply<L: Ledger>(
         &mut self,
         table: &Table<92>,
@@ -34,28 +35,25 @@ impl ScrapLine {
         steps: &mut Steps<L>,
     )
         requires from_one { 1 ≤ row.number }
-        requires to_last { row.number ≤ 92 }
+        requires to_last { row.number ≤ ROW_COUNT }
         requires fits { row_fits (row_of table.now row.number) (drop place (cats_of (scraps_of store.old.lists self.old))) ≡ true }
         requires sound { IsSoundLine store.old names.old self.old }
-        requires room { 24 ≤ store.old.spare }
+        requires room { PRODUCTION_TOKENS ≤ store.old.spare }
         requires free { 0 < marks.old.spare }
-        ensures state { state_of store.new.lists self.new marks.new names.new ≡ rewrite flags.now (row_of table.now row.number) place (state_of store.old.lists self.old marks.old names.old) }
-        ensures names { names.new ≡ retyped (search_in (row_of table.now row.number).action.reserve (drop place (scraps_of store.old.lists self.old))) names.old }
-        ensures sound { IsSoundLine store.new names.new self.new }
-        ensures others { Keeps store.old.lists store.new.lists (roots_of self.old) (roots_of self.new) }
-        ensures spare { store.old.spare ≤ store.new.spare + 24 }
-        ensures free { marks.old.spare ≤ marks.new.spare + 1 }
-        ensures steps { steps.new ≡ steps.old + looked_at (row_of table.now row.number).action.reserve (length self.new - (place + (row_of table.now row.number).offset + 1)) }
-        ensures joining { JoinsAgree }
+        ensures { IsApplied flags.now (row_of table.now row.number) place
+            (work store.old self.old marks.old names.old steps.old)
+            (work store.new self.new marks.new names.new steps.new) }
     {
-        self.apply_row(table.row(row), place, flags, names, marks, store, steps);
+        let _same = table.row(row);
+        let row = RowAtHand::of(row);
+        self.apply_row(&row, place, flags, names, marks, store, steps);
     }
 
     /// The same for a row at hand.
     #[inline(always)]
     pub fn apply_row<L: Ledger>(
         &mut self,
-        row: &Row,
+        row: &RowAtHand,
         place: usize,
         flags: &Flags,
         names: &mut Names,
@@ -66,17 +64,13 @@ impl ScrapLine {
         requires row { row_is_sound row.now ≡ true }
         requires fits { row_fits row.now (drop place (cats_of (scraps_of store.old.lists self.old))) ≡ true }
         requires sound { IsSoundLine store.old names.old self.old }
-        requires room { 24 ≤ store.old.spare }
+        requires room { PRODUCTION_TOKENS ≤ store.old.spare }
         requires free { 0 < marks.old.spare }
-        ensures state { state_of store.new.lists self.new marks.new names.new ≡ rewrite flags.now row.now place (state_of store.old.lists self.old marks.old names.old) }
-        ensures names { names.new ≡ retyped (search_in row.now.action.reserve (drop place (scraps_of store.old.lists self.old))) names.old }
-        ensures sound { IsSoundLine store.new names.new self.new }
-        ensures others { Keeps store.old.lists store.new.lists (roots_of self.old) (roots_of self.new) }
-        ensures spare { store.old.spare ≤ store.new.spare + 24 }
-        ensures free { marks.old.spare ≤ marks.new.spare + 1 }
-        ensures steps { steps.new ≡ steps.old + looked_at row.now.action.reserve (length self.new - (place + row.now.offset + 1)) }
+        ensures { IsApplied flags.now row.now place
+            (work store.old self.old marks.old names.old steps.old)
+            (work store.new self.new marks.new names.new steps.new) }
     {
-        match (row.action.underline, row.action.reserve) {
+        match (row.underline(), row.reserve()) {
             (None, None) => self.apply_naming(
                 row, place, None, None, flags, names, marks, store, steps,
             ),
@@ -88,7 +82,7 @@ impl ScrapLine {
     #[inline(never)]
     fn apply_marking<L: Ledger>(
         &mut self,
-        row: &Row,
+        row: &RowAtHand,
         place: usize,
         flags: &Flags,
         names: &mut Names,
@@ -99,18 +93,14 @@ impl ScrapLine {
         requires row { row_is_sound row.now ≡ true }
         requires fits { row_fits row.now (drop place (cats_of (scraps_of store.old.lists self.old))) ≡ true }
         requires sound { IsSoundLine store.old names.old self.old }
-        requires room { 24 ≤ store.old.spare }
+        requires room { PRODUCTION_TOKENS ≤ store.old.spare }
         requires free { 0 < marks.old.spare }
-        ensures state { state_of store.new.lists self.new marks.new names.new ≡ rewrite flags.now row.now place (state_of store.old.lists self.old marks.old names.old) }
-        ensures names { names.new ≡ retyped (search_in row.now.action.reserve (drop place (scraps_of store.old.lists self.old))) names.old }
-        ensures sound { IsSoundLine store.new names.new self.new }
-        ensures others { Keeps store.old.lists store.new.lists (roots_of self.old) (roots_of self.new) }
-        ensures spare { store.old.spare ≤ store.new.spare + 24 }
-        ensures free { marks.old.spare ≤ marks.new.spare + 1 }
-        ensures steps { steps.new ≡ steps.old + looked_at row.now.action.reserve (length self.new - (place + row.now.offset + 1)) }
+        ensures { IsApplied flags.now row.now place
+            (work store.old self.old marks.old names.old steps.old)
+            (work store.new self.new marks.new names.new steps.new) }
     {
-        let underline = row.action.underline;
-        let reserve = row.action.reserve;
+        let underline = row.underline();
+        let reserve = row.reserve();
         self.apply_naming(
             row, place, underline, reserve, flags, names, marks, store, steps,
         );
@@ -121,7 +111,7 @@ impl ScrapLine {
     #[inline(always)]
     fn apply_naming<L: Ledger>(
         &mut self,
-        row: &Row,
+        row: &RowAtHand,
         place: usize,
         underline: Option<u8>,
         reserve: Option<u8>,
@@ -136,21 +126,17 @@ impl ScrapLine {
         requires row { row_is_sound row.now ≡ true }
         requires fits { row_fits row.now (drop place (cats_of (scraps_of store.old.lists self.old))) ≡ true }
         requires sound { IsSoundLine store.old names.old self.old }
-        requires room { 24 ≤ store.old.spare }
+        requires room { PRODUCTION_TOKENS ≤ store.old.spare }
         requires free { 0 < marks.old.spare }
-        ensures state { state_of store.new.lists self.new marks.new names.new ≡ rewrite flags.now row.now place (state_of store.old.lists self.old marks.old names.old) }
-        ensures names { names.new ≡ retyped (search_in row.now.action.reserve (drop place (scraps_of store.old.lists self.old))) names.old }
-        ensures sound { IsSoundLine store.new names.new self.new }
-        ensures others { Keeps store.old.lists store.new.lists (roots_of self.old) (roots_of self.new) }
-        ensures spare { store.old.spare ≤ store.new.spare + 24 }
-        ensures free { marks.old.spare ≤ marks.new.spare + 1 }
-        ensures steps { steps.new ≡ steps.old + looked_at row.now.action.reserve (length self.new - (place + row.now.offset + 1)) }
+        ensures { IsApplied flags.now row.now place
+            (work store.old self.old marks.old names.old steps.old)
+            (work store.new self.new marks.new names.new steps.new) }
     {
         let marked = named_ident(self, place, underline, names, store);
         let reserved = reserve_named(self, place, reserve, names, store);
         produce(self, place, row, flags, store);
         let _length = self.len();
-        let right = place + row.offset as usize + 1;
+        let right = place + row.offset() as usize + 1;
         turn_right(self, right, reserve, reserved, names, store, steps);
         mark(marked, marks);
         retype(reserved, names);

@@ -1,39 +1,44 @@
 ghost use Rattle.std.specs.Prelude.{◌≡◌, ℕ, ◌+◌, ◌-◌, ◌<◌, ◌≤◌, ◌++◌, [], ◌∷◌, length, drop, map, IsSome, option_map};
 ghost use Rattle.cw_base.specs.declared.mode.MathMode.TheVariants.{Maybe};
-ghost use Rattle.cw_table.specs.Rows.{translation};
+ghost use Rattle.cw_table.specs.Rows.{pieces_by};
 ghost use Rattle.cw_tokens.specs.Stored.{MayBePushed};
 ghost use Rattle.cw_scraps.specs.Lines.{roots_of, AreRoots};
 ghost use Rattle.cw_scraps.specs.Inserting.{inserting, toggle, toggled, tokens_of, left_of, right_after, IsPieceWithin, IsRun};
 
+use crate::PRODUCTION_TOKENS;
 use crate::line::{Part, ScrapLine};
-use crate::pieces::{
-    Insert, after, count_of, first_mode, insert_of, math_scrap_insert, scrap_insert,
-};
+use crate::pieces::{Insert, after, first_mode, insert_of, math_scrap_insert, scrap_insert};
 use cw_base::MathMode;
-use cw_table::{Piece, Pieces};
+use cw_table::{Piece, RowAtHand};
 use cw_tokens::{Token, TokenStore};
 use cw_trees::Control;
 
-/// Joins the pieces of a production at a place into a new list.
+/// Joins the pieces of a production at a place, the usual ones or the others, into a new list.
 #[inline(always)]
-pub fn join(line: &ScrapLine, place: usize, pieces: &Pieces, store: &mut TokenStore) -> Part
+pub fn join(
+    line: &ScrapLine,
+    place: usize,
+    row: &RowAtHand,
+    other: bool,
+    store: &mut TokenStore,
+) -> Part
     requires idle { store.old.building ≡ None }
-    requires room { 24 ≤ store.old.spare }
+    requires room { PRODUCTION_TOKENS ≤ store.old.spare }
     requires place { place ≤ length line.now }
-    requires run { IsRun (translation pieces.now) (length (drop place line.now)) }
+    requires run { IsRun (pieces_by other row.now) (length (drop place line.now)) }
     requires roots { AreRoots store.old.lists (roots_of (drop place line.now)) }
-    ensures lists { store.new.lists ≡ store.old.lists ++ tokens_of Maybe (map (inserting (drop place line.now)) (translation pieces.now)) ∷ [] }
+    ensures lists { store.new.lists ≡ store.old.lists ++ tokens_of Maybe (map (inserting (drop place line.now)) (pieces_by other row.now)) ∷ [] }
     ensures idle { store.new.building ≡ None }
-    ensures spare { store.old.spare ≤ store.new.spare + 24 }
+    ensures spare { store.old.spare ≤ store.new.spare + PRODUCTION_TOKENS }
     ensures list { result.list.index ≡ length store.old.lists }
-    ensures left { result.left ≡ left_of (map (inserting (drop place line.now)) (translation pieces.now)) }
-    ensures right { result.right ≡ right_after Maybe (map (inserting (drop place line.now)) (translation pieces.now)) }
+    ensures left { result.left ≡ left_of (map (inserting (drop place line.now)) (pieces_by other row.now)) }
+    ensures right { result.right ≡ right_after Maybe (map (inserting (drop place line.now)) (pieces_by other row.now)) }
 {
     store.begin();
     let mut left = MathMode::Maybe;
     let mut mode = MathMode::Maybe;
-    for i in 0..count_of(pieces) {
-        let ends = put_piece(line, place, pieces.pieces[i], mode, store);
+    for i in 0..row.piece_count(other) {
+        let ends = put_piece(line, place, row.piece(other, i), mode, store);
         left = first_mode(left, ends.left);
         mode = after(mode, ends.left, ends.right);
     }

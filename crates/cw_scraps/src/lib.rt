@@ -11,6 +11,9 @@ mod pieces;
 mod producing;
 mod reserving;
 
+/// The most tokens that a production adds to the store of a line, whatever its scraps are.
+pub const PRODUCTION_TOKENS: usize = 24;
+
 pub use leaves::{Leaf, scrap_of};
 pub use line::{LineEntry, Part, ScrapLine};
 pub use marks::Marks;

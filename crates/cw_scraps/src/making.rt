@@ -1,28 +1,25 @@
 ghost use Rattle.std.specs.Prelude.{◌≡◌, ℕ, ◌+◌, ◌<◌, ◌≤◌, true, length, drop};
 ghost use Rattle.cw_table.specs.Fitting.{row_fits};
-ghost use Rattle.cw_table.specs.Rows.{translation};
+ghost use Rattle.cw_table.specs.Rows.{pieces_by};
 ghost use Rattle.cw_table.specs.Sound.{row_is_sound};
 ghost use Rattle.cw_scraps.specs.Lines.{roots_of, AreRoots};
 ghost use Rattle.cw_scraps.specs.Inserting.{entry_cats};
 ghost use Rattle.cw_scraps.specs.Making.{pieces_at, IsMade};
 
+use crate::PRODUCTION_TOKENS;
 use crate::joining::join;
 use crate::line::{LineEntry, ScrapLine};
 use crate::pieces::{alone, result_cat, takes_other};
 use cw_base::Flags;
-use cw_table::{Pieces, Row};
+use cw_table::RowAtHand;
 use cw_tokens::TokenStore;
 
-/// The pieces of a row at a place.
-fn row_pieces<'a>(row: &'a Row, flags: &Flags, line: &ScrapLine, place: usize) -> &'a Pieces
+/// Whether a row takes its other pieces at a place.
+fn takes_others(row: &RowAtHand, flags: &Flags, line: &ScrapLine, place: usize) -> bool
     requires { place < length line.now }
-    ensures { translation result.now ≡ pieces_at flags.now row.now (drop place line.now) }
+    ensures { pieces_by result row.now ≡ pieces_at flags.now row.now (drop place line.now) }
 {
-    if takes_other(flags, row.action.choice, line, place) {
-        &row.action.other
-    } else {
-        &row.action.usual
-    }
+    takes_other(flags, row.choice(), line, place)
 }
 
 /// The entry of the scrap that a row makes at a place.
@@ -30,21 +27,21 @@ fn row_pieces<'a>(row: &'a Row, flags: &Flags, line: &ScrapLine, place: usize) -
 pub fn make(
     line: &ScrapLine,
     place: usize,
-    row: &Row,
+    row: &RowAtHand,
     flags: &Flags,
     store: &mut TokenStore,
 ) -> LineEntry
     requires sound { row_is_sound row.now ≡ true }
     requires fits { row_fits row.now (entry_cats (drop place line.now)) ≡ true }
     requires idle { store.old.building ≡ None }
-    requires room { 24 ≤ store.old.spare }
+    requires room { PRODUCTION_TOKENS ≤ store.old.spare }
     requires roots { AreRoots store.old.lists (roots_of (drop place line.now)) }
     ensures { IsMade flags.now row.now (drop place line.now) store.old store.new result }
 {
     let _length = line.len();
-    let cat = result_cat(row.result, line, place);
-    let pieces = row_pieces(row, flags, line, place);
-    match alone(row.replaced, pieces) {
+    let cat = result_cat(row.outcome(), line, place);
+    let other = takes_others(row, flags, line, place);
+    match alone(row, other) {
         Some(k) => {
             let entry = line.inside(place + k as usize);
             LineEntry {
@@ -55,7 +52,7 @@ pub fn make(
             }
         }
         None => {
-            let part = join(line, place, pieces, store);
+            let part = join(line, place, row, other, store);
             LineEntry {
                 cat,
                 list: part.list,

@@ -2,13 +2,13 @@ ghost use Rattle.std.specs.Prelude.{◌≡◌, ℕ, ◌+◌, ◌<◌, ◌≤◌,
 ghost use Rattle.cw_trees.specs.Joining.{needs, after, first_mode};
 ghost use Rattle.cw_table.specs.declared.types.Piece.TheVariants.{Scrap, MathScrap};
 ghost use Rattle.cw_table.specs.declared.types.RowResult.TheVariants.{SameAs};
-ghost use Rattle.cw_table.specs.Rows.{result_at, translation};
+ghost use Rattle.cw_table.specs.Rows.{pieces_by, result_at};
 ghost use Rattle.cw_table.specs.Rewriting.{alone, takes_other};
 ghost use Rattle.cw_scraps.specs.Inserting.{entry_cats, sign_of, math_insert, control_insert, inserting, IsPieceWithin};
 
 use crate::line::ScrapLine;
 use cw_base::{Cat, Flags, MathMode};
-use cw_table::{Choice, Piece, Pieces, RowResult};
+use cw_table::{Choice, Piece, RowAtHand, RowResult};
 use cw_tokens::Token;
 use cw_trees::Control;
 
@@ -159,23 +159,14 @@ pub fn insert_of(line: &ScrapLine, place: usize, piece: Piece) -> Insert
 }
 
 /// The scrap that stays as it is: where one scrap is replaced and the pieces are that scrap alone.
-pub fn alone(replaced: u8, pieces: &Pieces) -> Option<u8>
-    ensures { result ≡ alone replaced (translation pieces.now) }
+pub fn alone(row: &RowAtHand, other: bool) -> Option<u8>
+    ensures { result ≡ alone row.now.replaced (pieces_by other row.now) }
 {
-    if replaced == 1 && count_of(pieces) == 1 {
-        only_scrap(pieces.pieces[0])
+    if row.replaced() == 1 && row.piece_count(other) == 1 {
+        only_scrap(row.piece(other, 0))
     } else {
         None
     }
-}
-
-/// The number of pieces.
-pub fn count_of(pieces: &Pieces) -> usize
-    ensures count { result ≡ length (translation pieces.now) }
-    ensures twelve { result ≤ 12 }
-{
-    let all: &[Piece] = &pieces.pieces;
-    usize::from(pieces.count).min(all.len())
 }
 
 fn only_scrap(piece: Piece) -> Option<u8>

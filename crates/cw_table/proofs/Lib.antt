@@ -8,6 +8,7 @@ pub mod MaskLaws
 pub mod SafeLaws
 pub mod Soundness
 pub mod Numbers
+pub mod HandLaws
 pub mod RewritingRows
 pub mod ScrapFacts
 pub mod Falling

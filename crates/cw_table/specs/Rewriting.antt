@@ -13,7 +13,7 @@ use Rattle.cw_table.specs.declared.types.Choice.TheVariants.{Always, Indent, Sep
 use Rattle.cw_table.specs.declared.types.Piece.{Piece}
 use Rattle.cw_table.specs.declared.types.Piece.TheVariants as piece
 use Rattle.cw_table.specs.declared.types.Row.{Row}
-use Rattle.cw_table.specs.Rows.{translation, result_at}
+use Rattle.cw_table.specs.Rows.{pieces_by, result_at}
 use Rattle.cw_table.specs.Sound.{is_exp}
 
 abbrev pub cats_of : List Scrap → List Cat
@@ -32,10 +32,7 @@ takes_other flags Separate cats = not flags.separate && is_stmt (get_or cats 1 E
 takes_other flags Force cats = not flags.force
 
 abbrev pub row_pieces : Flags → Row → List Cat → List Piece
-row_pieces flags row cats = elim (takes_other flags row.action.choice cats) [
-  | true ↦ translation row.action.other
-  | false ↦ translation row.action.usual
-]
+row_pieces flags row cats = pieces_by (takes_other flags row.action.choice cats) row
 
 -- a scrap as a piece
 abbrev pub as_piece : Scrap → Joined

@@ -1,7 +1,7 @@
 -- How a production is written down: its tests, what it replaces, and its pieces.
-use Rattle.std.specs.Prelude.{ℕ, zero, suc, true, false, eqb, List, [], ◌∷◌, Option, Some, None, length, get_or, take}
+use Rattle.std.specs.Prelude.{ℕ, zero, suc, Bool, true, false, eqb, List, [], ◌∷◌, Option, Some, None, length, get_or, take, unwrap_or}
 use Rattle.cw_base.specs.declared.category.Cat.{Cat}
-use Rattle.cw_base.specs.declared.category.Cat.TheVariants.{End}
+use Rattle.cw_base.specs.declared.category.Cat.TheVariants.{RawInt, End}
 use Rattle.cw_base.specs.declared.category.CatSet.{CatSet}
 use Rattle.cw_base.specs.Category.{any_but, set_of}
 use Rattle.cw_table.specs.declared.types.RowResult.{RowResult}
@@ -35,6 +35,11 @@ pieces_of pieces = record { pieces = filled Unused pieces 12; count = length pie
 -- the pieces that these are
 abbrev pub translation : Pieces → List Piece
 translation p = take p.count p.pieces
+
+-- the usual pieces of a row, or the other ones
+abbrev pub pieces_by : Bool → Row → List Piece
+pieces_by true row = translation row.action.other
+pieces_by false row = translation row.action.usual
 
 -- the tests of a row, and the one of a number; past the tests nothing is admitted
 abbrev pub tests_of : Row → List CatSet
@@ -108,3 +113,10 @@ row_numbered (row ∷ rows) number = elim (eqb row.number.number number) [
   | true ↦ Some row
   | false ↦ row_numbered rows number
 ]
+
+-- the row of a number among rows, and one that is read where there is none
+abbrev pub no_row : Row
+no_row = replaces_all 0 [] (Is RawInt) (joins [])
+
+abbrev pub row_of : List Row → ℕ → Row
+row_of rows number = unwrap_or (row_numbered rows number) no_row

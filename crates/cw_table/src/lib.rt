@@ -1,6 +1,7 @@
 //! The production table: which scraps are rewritten, into what, and how far a reducer steps back.
 #![tactic(auto)]
 
+mod at_hand;
 mod back;
 mod checks;
 mod distance;
@@ -11,6 +12,7 @@ mod productions;
 mod ranks;
 mod types;
 
+pub use at_hand::RowAtHand;
 pub use back::step_back;
 pub use laws::{rewriting_laws, walk_laws};
 pub use masks::first_production;

@@ -121,17 +121,17 @@ macro_rules! productions {
 
 // What a row has beside its tests and its pieces.
 #[derive(Clone, Copy)]
-struct Head {
-    number: u8,
-    test_count: u8,
-    offset: u8,
-    replaced: u8,
-    result: RowResult,
-    choice: Choice,
-    usual_count: u8,
-    other_count: u8,
-    underline: Option<u8>,
-    reserve: Option<u8>,
+pub(crate) struct Head {
+    pub(crate) number: u8,
+    pub(crate) test_count: u8,
+    pub(crate) offset: u8,
+    pub(crate) replaced: u8,
+    pub(crate) result: RowResult,
+    pub(crate) choice: Choice,
+    pub(crate) usual_count: u8,
+    pub(crate) other_count: u8,
+    pub(crate) underline: Option<u8>,
+    pub(crate) reserve: Option<u8>,
 }
 
 macro_rules! set {
@@ -250,11 +250,11 @@ pub const ROW_COUNT: usize = 92;
 
 static TESTS: [[CatSet; 4]; ROW_COUNT] = productions!(tests_of);
 
-static USUAL: [[Piece; 12]; ROW_COUNT] = productions!(usual_of);
+pub(crate) static USUAL: [[Piece; 12]; ROW_COUNT] = productions!(usual_of);
 
-static OTHER: [[Piece; 12]; ROW_COUNT] = productions!(other_of);
+pub(crate) static OTHER: [[Piece; 12]; ROW_COUNT] = productions!(other_of);
 
-static HEADS: [Head; ROW_COUNT] = productions!(heads_of);
+pub(crate) static HEADS: [Head; ROW_COUNT] = productions!(heads_of);
 
 // The row at a place of the table, from 0 on.
 fn row_at(i: usize) -> Row

@@ -1,6 +1,7 @@
 -- One token is written, and the tree of the root is the one whose first identifier is reserved.
-use Rattle.std.proofs.Common.{◌≡◌, ℕ, zero, suc, ◌<◌, ◌≤◌, List, [], ◌∷◌, length, Some, None, inl, inr, take, set, get_or, refl, sym, ap, ◌∙◌, subst, arith}
-use Rattle.std.specs.List.{slice_get}
+use Rattle.std.proofs.Common.{◌≡◌, ℕ, zero, suc, ◌+◌, ◌<◌, ◌≤◌, List, [], ◌∷◌, length, Some, None, inl, inr, take, set, get_or, refl, sym, ap, ◌∙◌, subst, arith}
+use Rattle.std.specs.List.{slice_get, sum_by}
+use Rattle.std.proofs.lemmas.List.Sums.{sum_by-set}
 use Rattle.std.proofs.lemmas.List.{get_or-set_same, get_or-set_other, length-set}
 use Rattle.std.proofs.lemmas.Bool.{cases_eq}
 use Rattle.cw_base.specs.declared.category.Cat.TheVariants.{RawInt}
@@ -11,6 +12,7 @@ use Rattle.cw_tokens.specs.declared.walk.Spot.{Spot}
 use Rattle.cw_tokens.specs.Shapes.{Shape, Plain, Below, InnerBelow, shape, ref_of, item_of, tree_in, trees_from, unfolded}
 use Rattle.cw_tokens.specs.References.{token_ref, refers, IsTied, Reach, here, next}
 use Rattle.cw_tokens.specs.Walking.{before, Path, top, down, Finds, found_name}
+use Rattle.cw_tokens.specs.Counting.{token_count}
 use Rattle.cw_tokens.specs.Reserving.{Reserves, ReservesToken}
 use Rattle.cw_tokens.proofs.Linking.{refers-within}
 use Rattle.cw_tokens.proofs.Unfolding.{item_of-same, tree_in-same, unfold-is, unfolded-same, reach-le, reach-trans}
@@ -161,6 +163,13 @@ module _ (old : List (List Token)) (l p : ℕ) (t u : Token) (tied : IsTied old)
       not-nothing : Found n ≡ Nothing → ⊥
       not-nothing g = cc
 
+-- a token that is written over another leaves the number of tokens as it is
+count-written : (lists : List (List Token)) (l p : ℕ) (t : Token) → l < length lists → token_count (set lists l (set (get_or lists l []) p t)) ≡ token_count lists
+count-written lists l p t inside =
+    let same : length (set (get_or lists l []) p t) ≡ length (get_or lists l []) = length-set (get_or lists l []) p t in
+    let sums : sum_by length (set lists l (set (get_or lists l []) p t)) + length (get_or lists l []) ≡ sum_by length lists + length (set (get_or lists l []) p t) = sum_by-set length lists l (set (get_or lists l []) p t) [] inside in
+    omega arith
+
 -- the spot of the first identifier is written
 module _ (old : List (List Token)) (root : ℕ) (spot : Spot) (tied : IsTied old) (lt : root < length old) (f : Finds old root spot) where
   abbrev pub written : List (List Token)
@@ -180,6 +189,7 @@ module _ (old : List (List Token)) (root : ℕ) (spot : Spot) (tied : IsTied old
     other_trees = λ k up down. sym (unaffected old spot.list spot.place (Ident spot.name spot.number) word tied f.walks.inside f.token refl refl k (λ r. elim (comparable old tied k root spot.list r (reach-of old root spot.list f.walks.path)) [ inl w ↦ up w | inr w ↦ down w ]));
     same_length = written-length old spot.list spot.place (Ident spot.name spot.number) word tied f.walks.inside f.token refl refl;
     same_refs = written-refs old spot.list spot.place (Ident spot.name spot.number) word tied f.walks.inside f.token refl refl;
+    same_count = count-written old spot.list spot.place word f.walks.inside;
   }
 
   pub finds-token : ReservesToken old written spot.name
@@ -192,4 +202,5 @@ none-reserves old root h = record {
   other_trees = λ k up down. refl;
   same_length = refl;
   same_refs = λ l p. refl;
+  same_count = refl;
 }

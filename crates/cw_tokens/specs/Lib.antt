@@ -1,6 +1,7 @@
 pub mod Shapes
 pub mod References
 pub mod Stored
+pub mod Counting
 pub mod Walking
 pub mod Reserving
 pub mod FlatItems

@@ -5,6 +5,7 @@ use Rattle.cw_names.specs.declared.NameId.{NameId}
 use Rattle.cw_trees.specs.Tree.{reserve_first}
 use Rattle.cw_tokens.specs.declared.token.Token.{Token}
 use Rattle.cw_tokens.specs.declared.token.Token.TheVariants.{Ident, Reserved}
+use Rattle.cw_tokens.specs.Counting.{token_count}
 use Rattle.cw_tokens.specs.Shapes.{unfolded}
 use Rattle.cw_tokens.specs.References.{refers, Reach}
 
@@ -24,3 +25,4 @@ pub record Reserves (old new : List (List Token)) (root : ℕ) : Type 0 where
   pub other_trees : (k : ℕ) → (Reach old k root → ⊥) → (Reach old root k → ⊥) → unfolded new k ≡ unfolded old k
   pub same_length : length new ≡ length old
   pub same_refs : (l p : ℕ) → refers new l p ≡ refers old l p
+  pub same_count : token_count new ≡ token_count old

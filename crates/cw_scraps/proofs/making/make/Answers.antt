@@ -7,17 +7,17 @@ use Rattle.cw_scraps.proofs.making.make.Goals as goal
 pub result_cat-cat-requires : goal.result_cat-cat-requires
 result_cat-cat-requires c =
     let f = fits-at c.args.flags.now c.args.row.now (drop c.args.place c.args.line.now) c.requires.sound c.requires.fits in
-    λ k e. behind _ _ k (f.result_there k e)
+    λ k e. behind _ _ k (f.result_there k (sym c.outcome.ensures ∙ e))
 
-pub row_pieces-pieces-requires : goal.row_pieces-pieces-requires
-row_pieces-pieces-requires c =
+pub takes_others-other-requires : goal.takes_others-other-requires
+takes_others-other-requires c =
     let f = fits-at c.args.flags.now c.args.row.now (drop c.args.place c.args.line.now) c.requires.sound c.requires.fits in
     place-inside _ _ _ _ f
 
 pub overflow_add-place : goal.overflow_add-place
 overflow_add-place c =
     let f = fits-at c.args.flags.now c.args.row.now (drop c.args.place c.args.line.now) c.requires.sound c.requires.fits in
-    let inside : c.args.place + c.in-Some.k < length c.args.line.now = behind _ _ c.in-Some.k (kept-there _ _ _ c.in-Some.k f (ap (alone c.args.row.now.replaced) (sym c.row_pieces-pieces.ensures) ∙ sym c.in-Some.ensures)) in
+    let inside : c.args.place + c.in-Some.k < length c.args.line.now = behind _ _ c.in-Some.k (kept-there _ _ _ c.in-Some.k f (ap (alone c.args.row.now.replaced) (sym c.takes_others-other.ensures) ∙ sym c.in-Some.ensures)) in
     omega (arith, c.len-length.ensures, c.len-length.type_inv)
 
 pub join-part-requires-clause-place : goal.join-part-requires-clause-place
@@ -29,12 +29,12 @@ join-part-requires-clause-place c =
 pub join-part-requires-clause-run : goal.join-part-requires-clause-run
 join-part-requires-clause-run c =
     let f = fits-at c.args.flags.now c.args.row.now (drop c.args.place c.args.line.now) c.requires.sound c.requires.fits in
-    rw c.row_pieces-pieces.ensures (run-at _ _ _ f)
+    rw c.takes_others-other.ensures (run-at _ _ _ f)
 
 pub returns-in-Some : goal.returns-in-Some
-returns-in-Some c = kept c.in-Some.k (ap (alone c.args.row.now.replaced) (sym c.row_pieces-pieces.ensures) ∙ sym c.in-Some.ensures) refl (kept-is c.args.line.now c.args.place c.in-Some.k _ _ _ c.result_cat-cat.ensures c.inside-entry.ensures)
+returns-in-Some c = kept c.in-Some.k (ap (alone c.args.row.now.replaced) (sym c.takes_others-other.ensures) ∙ sym c.in-Some.ensures) refl (kept-is c.args.line.now c.args.place c.in-Some.k _ _ _ (rw c.outcome.ensures at c.result_cat-cat.ensures) c.inside-entry.ensures)
 
 pub inside-entry-requires : goal.inside-entry-requires
 inside-entry-requires c =
     let f = fits-at c.args.flags.now c.args.row.now (drop c.args.place c.args.line.now) c.requires.sound c.requires.fits in
-    behind _ _ c.in-Some.k (kept-there _ _ _ c.in-Some.k f (ap (alone c.args.row.now.replaced) (sym c.row_pieces-pieces.ensures) ∙ sym c.in-Some.ensures))
+    behind _ _ c.in-Some.k (kept-there _ _ _ c.in-Some.k f (ap (alone c.args.row.now.replaced) (sym c.takes_others-other.ensures) ∙ sym c.in-Some.ensures))

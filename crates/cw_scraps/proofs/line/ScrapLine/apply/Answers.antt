@@ -1,5 +1,15 @@
-use Rattle.cw_scraps.proofs.ModeLaw.{join-agrees}
+use Rattle.std.proofs.Common.{◌≡◌, ◌∙◌, sym}
+use Rattle.cw_table.specs.Productions.{productions}
+use Rattle.cw_table.specs.Rows.{row_of}
+use Rattle.cw_scraps.proofs.Applied.{same-row}
 use Rattle.cw_scraps.proofs.line.ScrapLine.apply.Goals as goal
 
-pub returns-clause-joining : goal.returns-clause-joining
-returns-clause-joining g c = join-agrees
+pub apply_row-requires-clause-fits : goal.apply_row-requires-clause-fits
+apply_row-requires-clause-fits g c =
+    let same : row_of c.args.table.now c.args.row.number ≡ row_of productions c.args.row.number = same-row _ _ _ c.row-same.ensures.number c.row-same.ensures.same in
+    rw (c.of-row.ensures.row, ← same) c.requires.fits
+
+pub returns : goal.returns
+returns g c =
+    let same : row_of c.args.table.now c.args.row.number ≡ row_of productions c.args.row.number = same-row _ _ _ c.row-same.ensures.number c.row-same.ensures.same in
+    rw (same, ← c.of-row.ensures.row) c.apply_row.ensures

@@ -1,9 +1,9 @@
-use Rattle.std.proofs.Common.{◌+◌, ◌≤◌, length, drop, sym, ap, ◌∙◌, arith}
+use Rattle.std.proofs.Common.{◌≡◌, ◌+◌, ◌≤◌, length, drop, sym, ap, ◌∙◌, arith}
 use Rattle.cw_table.specs.Rewriting.{search_in}
 use Rattle.cw_scraps.specs.Lines.{scraps_of}
-use Rattle.cw_scraps.specs.Applying.{retyped_by}
+use Rattle.cw_scraps.specs.Applying.{retyped, retyped_by}
 use Rattle.cw_scraps.proofs.Fits.{fits-at, behind}
-use Rattle.cw_scraps.proofs.Applied.{fits-line, right-inside, reserved-there, applies, retyped-is, state-is, sound-after}
+use Rattle.cw_scraps.proofs.Applied.{fits-line, right-inside, reserved-there, applies, retyped-is, state-is, sound-after, ticked-is}
 use Rattle.cw_scraps.proofs.line.ScrapLine.apply_naming.Goals as goal
 
 pub named_ident-marked-requires-clause-named : goal.named_ident-marked-requires-clause-named
@@ -34,25 +34,23 @@ overflow_add-right-2 g c =
 pub turn_right-requires-clause-start : goal.turn_right-requires-clause-start
 turn_right-requires-clause-start g c =
     let f = fits-at c.args.flags.now c.args.row.now (drop c.args.place c.args.self.now) c.requires.row (fits-line c.args.row.now c.args.store.now.lists c.args.self.now c.args.place c.requires.fits) in
-    right-inside c.args.flags.now c.args.row.now c.args.place c.reserve_named-reserved.new.store.lists c.args.self.now c.produce.new.store.lists c.produce.new.line f c.produce.ensures.replaced
+    rw c.offset.ensures (right-inside c.args.flags.now c.args.row.now c.args.place c.reserve_named-reserved.new.store.lists c.args.self.now c.produce.new.store.lists c.produce.new.line f c.produce.ensures.replaced)
 
 pub retype-requires : goal.retype-requires
 retype-requires g c = λ id e. reserved-there c.args.names.now c.args.row.now.action.reserve c.args.place (scraps_of c.args.store.now.lists c.args.self.now) c.reserve_named-reserved.result id c.requires.sound.named (rw c.requires.reserve at c.reserve_named-reserved.ensures.name) e
 
-pub returns-clause-state : goal.returns-clause-state
-returns-clause-state g c =
+pub returns : goal.returns
+returns g c =
     let f = fits-at c.args.flags.now c.args.row.now (drop c.args.place c.args.self.now) c.requires.row (fits-line c.args.row.now c.args.store.now.lists c.args.self.now c.args.place c.requires.fits) in
-    let a = applies c.args.flags.now c.args.row.now c.args.place c.args.store.now.lists c.reserve_named-reserved.new.store.lists c.produce.new.store.lists c.turn_right.new.store.lists c.args.self.now c.produce.new.line c.turn_right.new.line c.reserve_named-reserved.result f c.reserve_named-reserved.ensures.tied c.produce.ensures.tied (rw c.requires.reserve at c.reserve_named-reserved.ensures.scraps) c.reserve_named-reserved.ensures.lists c.produce.ensures.replaced c.turn_right.ensures.scraps c.turn_right.ensures.same_roots c.turn_right.ensures.lists (rw c.requires.reserve at c.reserve_named-reserved.ensures.name) in
-    state-is c.args.flags.now c.args.row.now c.args.place c.args.store.now.lists c.args.self.now c.args.marks.now c.args.names.now c.turn_right.new.store.lists c.turn_right.new.line c.mark.new.marks c.retype.new.names c.named_ident-marked.result a c.mark.ensures.names (rw c.requires.underline at c.named_ident-marked.ensures) (c.retype.ensures ∙ (ap (λ n. retyped_by n c.args.names.now) (rw c.requires.reserve at c.reserve_named-reserved.ensures.name) ∙ retyped-is (search_in c.args.row.now.action.reserve (drop c.args.place (scraps_of c.args.store.now.lists c.args.self.now))) c.args.names.now))
-
-pub returns-clause-sound : goal.returns-clause-sound
-returns-clause-sound g c =
-    let f = fits-at c.args.flags.now c.args.row.now (drop c.args.place c.args.self.now) c.requires.row (fits-line c.args.row.now c.args.store.now.lists c.args.self.now c.args.place c.requires.fits) in
-    let a = applies c.args.flags.now c.args.row.now c.args.place c.args.store.now.lists c.reserve_named-reserved.new.store.lists c.produce.new.store.lists c.turn_right.new.store.lists c.args.self.now c.produce.new.line c.turn_right.new.line c.reserve_named-reserved.result f c.reserve_named-reserved.ensures.tied c.produce.ensures.tied (rw c.requires.reserve at c.reserve_named-reserved.ensures.scraps) c.reserve_named-reserved.ensures.lists c.produce.ensures.replaced c.turn_right.ensures.scraps c.turn_right.ensures.same_roots c.turn_right.ensures.lists (rw c.requires.reserve at c.reserve_named-reserved.ensures.name) in
-    sound-after c.args.flags.now c.args.row.now c.args.place c.args.store.now c.turn_right.new.store c.args.self.now c.turn_right.new.line c.args.names.now c.retype.new.names f c.requires.fits c.requires.sound a c.turn_right.ensures.idle (c.retype.ensures ∙ (ap (λ n. retyped_by n c.args.names.now) (rw c.requires.reserve at c.reserve_named-reserved.ensures.name) ∙ retyped-is (search_in c.args.row.now.action.reserve (drop c.args.place (scraps_of c.args.store.now.lists c.args.self.now))) c.args.names.now))
-
-pub returns-clause-others : goal.returns-clause-others
-returns-clause-others g c =
-    let f = fits-at c.args.flags.now c.args.row.now (drop c.args.place c.args.self.now) c.requires.row (fits-line c.args.row.now c.args.store.now.lists c.args.self.now c.args.place c.requires.fits) in
-    let a = applies c.args.flags.now c.args.row.now c.args.place c.args.store.now.lists c.reserve_named-reserved.new.store.lists c.produce.new.store.lists c.turn_right.new.store.lists c.args.self.now c.produce.new.line c.turn_right.new.line c.reserve_named-reserved.result f c.reserve_named-reserved.ensures.tied c.produce.ensures.tied (rw c.requires.reserve at c.reserve_named-reserved.ensures.scraps) c.reserve_named-reserved.ensures.lists c.produce.ensures.replaced c.turn_right.ensures.scraps c.turn_right.ensures.same_roots c.turn_right.ensures.lists (rw c.requires.reserve at c.reserve_named-reserved.ensures.name) in
-    a.keeps
+    let a = applies c.args.flags.now c.args.row.now c.args.place c.args.store.now.lists c.reserve_named-reserved.new.store.lists c.produce.new.store.lists c.turn_right.new.store.lists c.args.self.now c.produce.new.line c.turn_right.new.line c.reserve_named-reserved.result f c.reserve_named-reserved.ensures.tied c.produce.ensures.tied (rw c.requires.reserve at c.reserve_named-reserved.ensures.scraps) c.reserve_named-reserved.ensures.lists c.produce.ensures.replaced (rw c.offset.ensures at c.turn_right.ensures.scraps) c.turn_right.ensures.same_roots c.turn_right.ensures.lists (rw c.requires.reserve at c.reserve_named-reserved.ensures.name) in
+    let named : c.retype.new.names ≡ retyped (search_in c.args.row.now.action.reserve (drop c.args.place (scraps_of c.args.store.now.lists c.args.self.now))) c.args.names.now = c.retype.ensures ∙ (ap (λ n. retyped_by n c.args.names.now) (rw c.requires.reserve at c.reserve_named-reserved.ensures.name) ∙ retyped-is (search_in c.args.row.now.action.reserve (drop c.args.place (scraps_of c.args.store.now.lists c.args.self.now))) c.args.names.now) in
+    record {
+      state = state-is c.args.flags.now c.args.row.now c.args.place c.args.store.now.lists c.args.self.now c.args.marks.now c.args.names.now c.turn_right.new.store.lists c.turn_right.new.line c.mark.new.marks c.retype.new.names c.named_ident-marked.result a c.mark.ensures.names (rw c.requires.underline at c.named_ident-marked.ensures) named;
+      retypes = named;
+      sound = sound-after c.args.flags.now c.args.row.now c.args.place c.args.store.now c.turn_right.new.store c.args.self.now c.turn_right.new.line c.args.names.now c.retype.new.names f c.requires.fits c.requires.sound a c.turn_right.ensures.idle named;
+      others = a.keeps;
+      few = a.few;
+      spare = omega (arith, c.reserve_named-reserved.ensures.spare, c.produce.ensures.spare, c.turn_right.ensures.spare);
+      free = c.mark.ensures.spare;
+      ticked = ticked-is c.args.reserve c.args.row.now.action.reserve c.produce.new.line c.turn_right.new.line _ _ c.args.steps.now c.turn_right.new.steps c.requires.reserve (ap (λ n. c.args.place + n + 1) c.offset.ensures) c.turn_right.ensures.same_roots c.turn_right.ensures.steps;
+    }

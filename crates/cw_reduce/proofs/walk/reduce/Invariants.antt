@@ -1,7 +1,7 @@
 use Rattle.cw_table.specs.NormalWalk.{walk_left}
 use Rattle.cw_scraps.specs.Applying.{state_of}
 use Rattle.cw_reduce.proofs.WalkLoop.{InLoop}
-use Rattle.cw_reduce.proofs.walk.reduce_by.Given as goal
+use Rattle.cw_reduce.proofs.walk.reduce.Given as goal
 
 abbrev pub invariant-loop-place : goal.invariant-loop-place
 invariant-loop-place g l = InLoop l.flags l.initial.line l.initial.store l.initial.names l.initial.marks l.initial.steps l.line l.store l.names l.marks l.steps l.place l.productions

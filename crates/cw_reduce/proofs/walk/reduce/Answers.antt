@@ -3,7 +3,7 @@ use Rattle.cw_scraps.proofs.Applied.{keeps-trans}
 use Rattle.cw_scraps.specs.Applying.{state_of}
 use Rattle.cw_scraps.specs.Lines.{roots_of}
 use Rattle.cw_reduce.proofs.WalkLoop.{Turn, turn, Stops, stops, passes, ends, light, few}
-use Rattle.cw_reduce.proofs.walk.reduce_by.Goals as goal
+use Rattle.cw_reduce.proofs.walk.reduce.Goals as goal
 
 pub produce-requires-clause-fits : goal.produce-requires-clause-fits
 produce-requires-clause-fits g c =
@@ -13,7 +13,7 @@ produce-requires-clause-fits g c =
 pub returns-in_err-produce-in-Some-clause-after : goal.returns-in_err-produce-in-Some-clause-after
 returns-in_err-produce-in-Some-clause-after g c =
     let t : Turn c.args.flags.now c.args.line.now c.args.store.now c.args.names.now c.args.marks.now c.args.steps.now c.loop-place.line c.loop-place.store c.loop-place.names c.loop-place.marks c.loop-place.steps c.loop-place.place c.loop-place.productions c.in-Some.row.number = turn c.args.flags.now c.args.line.now c.args.store.now c.args.names.now c.args.marks.now c.args.steps.now c.loop-place.line c.loop-place.store c.loop-place.names c.loop-place.marks c.loop-place.steps c.loop-place.place c.loop-place.productions c.loop-place.invariant c.in-Some.row.number (omega (arith, c.len.ensures.length)) c.in-Some.ensures.first in
-    let s : Stops c.args.flags.now c.args.line.now c.args.store.now c.args.names.now c.args.marks.now c.args.steps.now c.produce.new.line c.produce.new.store c.produce.new.names c.produce.new.marks c.produce.new.steps = t.refused c.produce.new.line c.produce.new.store c.produce.new.names c.produce.new.marks c.produce.new.steps c.in_err-produce-in-Some.ensures.state (omega (arith, c.in_err-produce-in-Some.ensures.steps, c.in-Some.ensures.steps)) in
+    let s : Stops c.args.flags.now c.args.line.now c.args.store.now c.args.names.now c.args.marks.now c.args.steps.now c.produce.new.line c.produce.new.store c.produce.new.names c.produce.new.marks c.produce.new.steps = t.refused c.produce.new.line c.produce.new.store c.produce.new.names c.produce.new.marks c.produce.new.steps c.in_err-produce-in-Some.ensures.state c.in_err-produce-in-Some.ensures.refused (omega (arith, c.in_err-produce-in-Some.ensures.steps, c.in-Some.ensures.steps)) in
     s.after
 
 pub returns-in_err-produce-in-Some-clause-others : goal.returns-in_err-produce-in-Some-clause-others
@@ -22,13 +22,13 @@ returns-in_err-produce-in-Some-clause-others g c = keeps-trans c.args.store.now.
 pub returns-in_err-produce-in-Some-clause-no_more : goal.returns-in_err-produce-in-Some-clause-no_more
 returns-in_err-produce-in-Some-clause-no_more g c =
     let t : Turn c.args.flags.now c.args.line.now c.args.store.now c.args.names.now c.args.marks.now c.args.steps.now c.loop-place.line c.loop-place.store c.loop-place.names c.loop-place.marks c.loop-place.steps c.loop-place.place c.loop-place.productions c.in-Some.row.number = turn c.args.flags.now c.args.line.now c.args.store.now c.args.names.now c.args.marks.now c.args.steps.now c.loop-place.line c.loop-place.store c.loop-place.names c.loop-place.marks c.loop-place.steps c.loop-place.place c.loop-place.productions c.loop-place.invariant c.in-Some.row.number (omega (arith, c.len.ensures.length)) c.in-Some.ensures.first in
-    let s : Stops c.args.flags.now c.args.line.now c.args.store.now c.args.names.now c.args.marks.now c.args.steps.now c.produce.new.line c.produce.new.store c.produce.new.names c.produce.new.marks c.produce.new.steps = t.refused c.produce.new.line c.produce.new.store c.produce.new.names c.produce.new.marks c.produce.new.steps c.in_err-produce-in-Some.ensures.state (omega (arith, c.in_err-produce-in-Some.ensures.steps, c.in-Some.ensures.steps)) in
+    let s : Stops c.args.flags.now c.args.line.now c.args.store.now c.args.names.now c.args.marks.now c.args.steps.now c.produce.new.line c.produce.new.store c.produce.new.names c.produce.new.marks c.produce.new.steps = t.refused c.produce.new.line c.produce.new.store c.produce.new.names c.produce.new.marks c.produce.new.steps c.in_err-produce-in-Some.ensures.state c.in_err-produce-in-Some.ensures.refused (omega (arith, c.in_err-produce-in-Some.ensures.steps, c.in-Some.ensures.steps)) in
     s.no_more
 
 pub returns-in_err-produce-in-Some-clause-bound : goal.returns-in_err-produce-in-Some-clause-bound
 returns-in_err-produce-in-Some-clause-bound g c =
     let t : Turn c.args.flags.now c.args.line.now c.args.store.now c.args.names.now c.args.marks.now c.args.steps.now c.loop-place.line c.loop-place.store c.loop-place.names c.loop-place.marks c.loop-place.steps c.loop-place.place c.loop-place.productions c.in-Some.row.number = turn c.args.flags.now c.args.line.now c.args.store.now c.args.names.now c.args.marks.now c.args.steps.now c.loop-place.line c.loop-place.store c.loop-place.names c.loop-place.marks c.loop-place.steps c.loop-place.place c.loop-place.productions c.loop-place.invariant c.in-Some.row.number (omega (arith, c.len.ensures.length)) c.in-Some.ensures.first in
-    let s : Stops c.args.flags.now c.args.line.now c.args.store.now c.args.names.now c.args.marks.now c.args.steps.now c.produce.new.line c.produce.new.store c.produce.new.names c.produce.new.marks c.produce.new.steps = t.refused c.produce.new.line c.produce.new.store c.produce.new.names c.produce.new.marks c.produce.new.steps c.in_err-produce-in-Some.ensures.state (omega (arith, c.in_err-produce-in-Some.ensures.steps, c.in-Some.ensures.steps)) in
+    let s : Stops c.args.flags.now c.args.line.now c.args.store.now c.args.names.now c.args.marks.now c.args.steps.now c.produce.new.line c.produce.new.store c.produce.new.names c.produce.new.marks c.produce.new.steps = t.refused c.produce.new.line c.produce.new.store c.produce.new.names c.produce.new.marks c.produce.new.steps c.in_err-produce-in-Some.ensures.state c.in_err-produce-in-Some.ensures.refused (omega (arith, c.in_err-produce-in-Some.ensures.steps, c.in-Some.ensures.steps)) in
     s.bound
 
 pub overflow_add-productions : goal.overflow_add-productions
@@ -44,7 +44,7 @@ loop-place-smaller-in-Some g c =
 pub loop-place-preserved-in-Some : goal.loop-place-preserved-in-Some
 loop-place-preserved-in-Some g c =
     let t : Turn c.args.flags.now c.args.line.now c.args.store.now c.args.names.now c.args.marks.now c.args.steps.now c.loop-place.line c.loop-place.store c.loop-place.names c.loop-place.marks c.loop-place.steps c.loop-place.place c.loop-place.productions c.in-Some.row.number = turn c.args.flags.now c.args.line.now c.args.store.now c.args.names.now c.args.marks.now c.args.steps.now c.loop-place.line c.loop-place.store c.loop-place.names c.loop-place.marks c.loop-place.steps c.loop-place.place c.loop-place.productions c.loop-place.invariant c.in-Some.row.number (omega (arith, c.len.ensures.length)) c.in-Some.ensures.first in
-    t.next c.distance.result c.saturating_sub-place.result c.distance.ensures c.saturating_sub-place.ensures c.produce.new.line c.produce.new.store c.produce.new.names c.produce.new.marks c.produce.new.steps c.in_ok-produce-in-Some.ensures.state (omega (arith, c.in_ok-produce-in-Some.ensures.steps, c.in-Some.ensures.steps)) c.in_ok-produce-in-Some.ensures.sound c.in_ok-produce-in-Some.ensures.others c.in_ok-produce-in-Some.ensures.words
+    t.next c.distance.result c.saturating_sub-place.result c.distance.ensures c.saturating_sub-place.ensures c.produce.new.line c.produce.new.store c.produce.new.names c.produce.new.marks c.produce.new.steps c.in_ok-produce-in-Some.ensures.state (omega (arith, c.in_ok-produce-in-Some.ensures.steps, c.in-Some.ensures.steps)) c.in_ok-produce-in-Some.ensures.sound c.in_ok-produce-in-Some.ensures.others c.in_ok-produce-in-Some.ensures.words c.in_ok-produce-in-Some.ensures.tokens
 
 pub loop-place-preserved : goal.loop-place-preserved
 loop-place-preserved g c = passes c.args.flags.now c.args.line.now c.args.store.now c.args.names.now c.args.marks.now c.args.steps.now c.loop-place.line c.loop-place.store c.loop-place.names c.loop-place.marks c.loop-place.steps c.loop-place.place c.loop-place.productions c.loop-place.invariant c.row_at.new.steps (omega (arith, c.len.ensures.length)) c.in-None.ensures.first c.in-None.ensures.steps
@@ -73,8 +73,17 @@ returns-clause-bound g c = (stops c.args.flags.now c.args.line.now c.args.store.
 pub returns-in_err-produce-in-Some-clause-numbers : goal.returns-in_err-produce-in-Some-clause-numbers
 returns-in_err-produce-in-Some-clause-numbers g c =
     let t : Turn c.args.flags.now c.args.line.now c.args.store.now c.args.names.now c.args.marks.now c.args.steps.now c.loop-place.line c.loop-place.store c.loop-place.names c.loop-place.marks c.loop-place.steps c.loop-place.place c.loop-place.productions c.in-Some.row.number = turn c.args.flags.now c.args.line.now c.args.store.now c.args.names.now c.args.marks.now c.args.steps.now c.loop-place.line c.loop-place.store c.loop-place.names c.loop-place.marks c.loop-place.steps c.loop-place.place c.loop-place.productions c.loop-place.invariant c.in-Some.row.number (omega (arith, c.len.ensures.length)) c.in-Some.ensures.first in
-    let s : Stops c.args.flags.now c.args.line.now c.args.store.now c.args.names.now c.args.marks.now c.args.steps.now c.produce.new.line c.produce.new.store c.produce.new.names c.produce.new.marks c.produce.new.steps = t.refused c.produce.new.line c.produce.new.store c.produce.new.names c.produce.new.marks c.produce.new.steps c.in_err-produce-in-Some.ensures.state (omega (arith, c.in_err-produce-in-Some.ensures.steps, c.in-Some.ensures.steps)) in
+    let s : Stops c.args.flags.now c.args.line.now c.args.store.now c.args.names.now c.args.marks.now c.args.steps.now c.produce.new.line c.produce.new.store c.produce.new.names c.produce.new.marks c.produce.new.steps = t.refused c.produce.new.line c.produce.new.store c.produce.new.names c.produce.new.marks c.produce.new.steps c.in_err-produce-in-Some.ensures.state c.in_err-produce-in-Some.ensures.refused (omega (arith, c.in_err-produce-in-Some.ensures.steps, c.in-Some.ensures.steps)) in
     s.numbers
 
 pub returns-clause-numbers : goal.returns-clause-numbers
 returns-clause-numbers g c = (stops c.args.flags.now c.args.line.now c.args.store.now c.args.names.now c.args.marks.now c.args.steps.now c.loop-place.line c.loop-place.store c.loop-place.names c.loop-place.marks c.loop-place.steps c.loop-place.place c.loop-place.productions c.loop-place.invariant (omega (arith, c.len.ensures.length))).numbers
+
+pub returns-in_err-produce-in-Some-clause-tokens : goal.returns-in_err-produce-in-Some-clause-tokens
+returns-in_err-produce-in-Some-clause-tokens g c =
+    let t : Turn c.args.flags.now c.args.line.now c.args.store.now c.args.names.now c.args.marks.now c.args.steps.now c.loop-place.line c.loop-place.store c.loop-place.names c.loop-place.marks c.loop-place.steps c.loop-place.place c.loop-place.productions c.in-Some.row.number = turn c.args.flags.now c.args.line.now c.args.store.now c.args.names.now c.args.marks.now c.args.steps.now c.loop-place.line c.loop-place.store c.loop-place.names c.loop-place.marks c.loop-place.steps c.loop-place.place c.loop-place.productions c.loop-place.invariant c.in-Some.row.number (omega (arith, c.len.ensures.length)) c.in-Some.ensures.first in
+    let s : Stops c.args.flags.now c.args.line.now c.args.store.now c.args.names.now c.args.marks.now c.args.steps.now c.produce.new.line c.produce.new.store c.produce.new.names c.produce.new.marks c.produce.new.steps = t.refused c.produce.new.line c.produce.new.store c.produce.new.names c.produce.new.marks c.produce.new.steps c.in_err-produce-in-Some.ensures.state c.in_err-produce-in-Some.ensures.refused (omega (arith, c.in_err-produce-in-Some.ensures.steps, c.in-Some.ensures.steps)) in
+    s.tokens
+
+pub returns-clause-tokens : goal.returns-clause-tokens
+returns-clause-tokens g c = (stops c.args.flags.now c.args.line.now c.args.store.now c.args.names.now c.args.marks.now c.args.steps.now c.loop-place.line c.loop-place.store c.loop-place.names c.loop-place.marks c.loop-place.steps c.loop-place.place c.loop-place.productions c.loop-place.invariant (omega (arith, c.len.ensures.length))).tokens

@@ -1,0 +1,117 @@
+//! Rows at hand: what a reducer reads of a production, from the program's own data, with no table made for it.
+ghost use Rattle.std.specs.Prelude.{◌≡◌, ◌≤◌, ◌<◌, Some, true, length, slice_get};
+ghost use Rattle.cw_table.specs.Productions.{productions};
+ghost use Rattle.cw_table.specs.Rows.{pieces_by, row_of};
+ghost use Rattle.cw_table.specs.Sound.{row_is_sound};
+
+use crate::productions::{HEADS, OTHER, ROW_COUNT, USUAL};
+use crate::types::{Choice, Piece, RowNo, RowResult};
+use std::marker::Model;
+
+/// A production of the table. Its parts are read where they stand in the program's data.
+#[derive(Drop)]
+pub struct RowAtHand {
+    index: usize,
+}
+
+impl Model for RowAtHand {
+    ghost use Rattle.std.specs.Prelude.{◌+◌, ◌<◌};
+    ghost use Rattle.cw_table.specs.declared.types.Row.{Row};
+    ghost use Rattle.cw_table.specs.Productions.{productions};
+    ghost use Rattle.cw_table.specs.Rows.{row_of};
+
+    ghost Value = { Row };
+
+    ghost view = { λ r. row_of productions (r.index + 1) };
+
+    ghost invariant = { λ r. r.index < 92 };
+}
+
+impl RowAtHand {
+    /// The production of this number.
+    #[inline(always)]
+    pub fn of(row: RowNo) -> RowAtHand
+        requires from_one { 1 ≤ row.number }
+        requires to_last { row.number ≤ ROW_COUNT }
+        ensures row { result ≡ row_of productions row.number }
+        ensures sound { row_is_sound result ≡ true }
+    {
+        RowAtHand {
+            index: row.number as usize - 1,
+        }
+    }
+
+    /// The first tested scrap that is replaced.
+    #[inline(always)]
+    pub fn offset(&self) -> u8
+        ensures { result ≡ self.now.offset }
+    {
+        HEADS[self.index].offset
+    }
+
+    /// How many scraps are replaced.
+    #[inline(always)]
+    pub fn replaced(&self) -> u8
+        ensures { result ≡ self.now.replaced }
+    {
+        HEADS[self.index].replaced
+    }
+
+    /// The category of the new scrap.
+    #[inline(always)]
+    pub fn outcome(&self) -> RowResult
+        ensures { result ≡ self.now.result }
+    {
+        HEADS[self.index].result
+    }
+
+    /// Which of its two translations is taken.
+    #[inline(always)]
+    pub fn choice(&self) -> Choice
+        ensures { result ≡ self.now.action.choice }
+    {
+        HEADS[self.index].choice
+    }
+
+    /// The tested scrap whose first identifier is underlined.
+    #[inline(always)]
+    pub fn underline(&self) -> Option<u8>
+        ensures { result ≡ self.now.action.underline }
+    {
+        HEADS[self.index].underline
+    }
+
+    /// The tested scrap whose first identifier becomes a reserved word.
+    #[inline(always)]
+    pub fn reserve(&self) -> Option<u8>
+        ensures { result ≡ self.now.action.reserve }
+    {
+        HEADS[self.index].reserve
+    }
+
+    /// The number of pieces of its usual translation, or of the other one.
+    #[inline(always)]
+    pub fn piece_count(&self, other: bool) -> usize
+        ensures count { result ≡ length (pieces_by other self.now) }
+        ensures twelve { result ≤ 12 }
+    {
+        if other {
+            HEADS[self.index].other_count as usize
+        } else {
+            HEADS[self.index].usual_count as usize
+        }
+    }
+
+    /// A piece of its usual translation, or of the other one.
+    #[inline(always)]
+    pub fn piece(&self, other: bool, i: usize) -> Piece
+        requires { i < length (pieces_by other self.now) }
+        ensures { slice_get (pieces_by other self.now) i ≡ Some result }
+    {
+        if other {
+            OTHER[self.index][i]
+        } else {
+            USUAL[self.index][i]
+        }
+    }
+}
