@@ -19,3 +19,4 @@ pub mod Within
 pub mod Covering
 mod Rows
 pub mod Nesting
+pub mod NoDefinitions

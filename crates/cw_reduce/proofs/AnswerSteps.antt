@@ -1,9 +1,9 @@
 -- One answer of the scanner, and all of them.
-use Rattle.std.proofs.Common.{◌≡◌, ℕ, ◌+◌, ◌^◌, ◌<◌, ◌≤◌, List, [], ◌∷◌, ◌++◌, length, ◌⊎◌, inl, inr, refl, sym, ap, ◌∙◌, subst, arith}
+use Rattle.std.proofs.Common.{◌≡◌, ℕ, ◌+◌, ◌^◌, ◌<◌, ◌≤◌, List, [], ◌∷◌, ◌++◌, length, ◌⊎◌, inl, inr, refl, sym, ap, ◌∙◌, subst, add-zero, arith}
 use Rattle.std.specs.Prelude.{Result, Ok, Err}
 use Rattle.std.specs.Result.{OnErr}
 use Rattle.std.specs.List.{All}
-use Rattle.std.proofs.lemmas.List.{append-nil}
+use Rattle.std.proofs.lemmas.List.{append-nil, append_assoc}
 use Rattle.std.proofs.lemmas.List.Elements.{All-cons}
 use Rattle.cw_base.specs.declared.flags.Flags.{Flags}
 use Rattle.cw_lex.specs.Answers.{Answer, Seen, Token, Begin, Finish, Note, Gives}
@@ -13,21 +13,27 @@ use Rattle.cw_lex.specs.declared.tokens.Lexed.TheVariants as lexed
 use Rattle.cw_lex.specs.declared.tokens.TokKind.{TokKind}
 use Rattle.cw_lex.specs.declared.tokens.TokKind.TheVariants as kind
 use Rattle.cw_names.specs.Names.{Entry}
+use Rattle.cw_table.specs.Normal.{count}
+use Rattle.cw_table.specs.Productions.{productions}
+use Rattle.cw_table.specs.Rewriting.{State}
+use Rattle.cw_table.specs.WalkCounts.{ticks}
 use Rattle.cw_tokens.specs.declared.token.Token.{Token as StoredToken}
 use Rattle.cw_tokens.specs.Stored.{StoredLists}
 use Rattle.cw_scraps.specs.Changing.{Keeps}
 use Rattle.cw_scraps.specs.Leaves.{names_with}
 use Rattle.cw_scraps.specs.Lines.{AreRoots}
-use Rattle.cw_scraps.specs.Marking.{MarkList}
+use Rattle.cw_scraps.specs.Marking.{MarkList, marked_names}
 use Rattle.cw_scraps.proofs.Applied.{keeps-trans}
 use Rattle.cw_reduce.specs.declared.nesting.Open.{Open}
 use Rattle.cw_reduce.specs.declared.translating.Translator.{Translator}
-use Rattle.cw_reduce.specs.Opening.{all_roots, answers_in, begun_by, frames_of, IsSoundFrame, IsTranslating, StartsBelow, progress_of}
-use Rattle.cw_reduce.specs.Retyping.{NamesHere, NamesOnTheWay, NamesAmong, same, here, later}
-use Rattle.cw_reduce.specs.StepLimits.{answer_limit, inner_limit}
-use Rattle.cw_reduce.specs.Translating.{Progress, after_token, after_answer, after_answers}
-use Rattle.cw_reduce.specs.Translating.{CText as CTextFrame, Comment as CommentFrame}
-use Rattle.cw_reduce.proofs.LeafSteps.{Steps, keeps-itself}
+use Rattle.cw_reduce.specs.Counting.{scraps_in, productions_in, ticks_in, text_limit, limit_in}
+use Rattle.cw_reduce.specs.Opening.{all_roots, answers_in, begun_by, frames_of, IsSoundFrame, IsTranslating, StartsBelow, progress_of, HasCome}
+use Rattle.cw_reduce.specs.Retyping.{NamesOnTheWay, NamesAmong, RetypesIn, here, at_finish, at_end, later}
+use Rattle.cw_reduce.specs.Reading.{Frame, Progress, with_item, frames_begun, after_token, after_finish, after_answer, after_answers, last_scraps}
+use Rattle.cw_reduce.specs.Reading.{CText as CTextFrame, Comment as CommentFrame}
+use Rattle.cw_reduce.specs.Translating.{Known, InnerText, state_in, end_from}
+use Rattle.cw_reduce.proofs.LeafSteps.{Steps, Same, keeps-itself}
+use Rattle.cw_reduce.proofs.Sums.{sum-more}
 
 -- what begins
 pub begun-other : (k : TokKind) (number : ℕ) (all : List Open) → (k ≡ kind.InnerText → ⊥) → (k ≡ kind.LongComment → ⊥) → (k ≡ kind.ShortComment → ⊥) → all ≡ begun_by k number all
@@ -59,20 +65,48 @@ begin-steps store names t t' k number is e = subst (Steps store store names name
   keeps = subst (Keeps store.lists store.lists (all_roots t.nesting)) (sym (begun-roots k number t.nesting)) (keeps-itself store.lists (all_roots t.nesting));
 })
 
+-- one answer, from where nothing has ended
+begun-frames : (lists : List (List StoredToken)) (k : TokKind) (number : ℕ) (all : List Open) → frames_of lists (begun_by k number all) ≡ frames_begun k number (frames_of lists all)
+begun-frames lists kind.InnerText number all = refl
+begun-frames lists kind.LongComment number all = refl
+begun-frames lists kind.ShortComment number all = refl
+begun-frames lists _ number all = refl
+
+pub begin-come : (flags : Flags) (store : StoredLists) (names : List Entry) (marks : MarkList) (t t' : Translator) (token : Seen) (steps : ℕ) → t' ≡ record t { nesting = begun_by token.kind token.span.start t.nesting }
+    → HasCome flags t steps store.lists names marks t' steps (after_answers flags (Begin token ∷ []) (progress_of store.lists names marks t []))
+begin-come flags store names marks t t' token steps e = subst (λ x. HasCome flags t steps store.lists names marks x steps (after_answers flags (Begin token ∷ []) (progress_of store.lists names marks t []))) (sym e) (record {
+  is = ap (λ fs. record { frames = fs; known = record { names = names; marks = marked_names marks; ended = [] } }) (begun-frames store.lists token.kind token.span.start t.nesting);
+  scraps = sym (add-zero t.scraps);
+  productions_are = sym (add-zero t.productions);
+  steps_are = sym (add-zero steps);
+})
+
+pub stay-come : (flags : Flags) (store : StoredLists) (names : List Entry) (marks : MarkList) (t : Translator) (steps : ℕ) → HasCome flags t steps store.lists names marks t steps (progress_of store.lists names marks t [])
+stay-come flags store names marks t steps = record { is = refl; scraps = sym (add-zero t.scraps); productions_are = sym (add-zero t.productions); steps_are = sym (add-zero steps) }
+
+token-ends : (k : TokKind) (token : Seen) (p : Progress) → (after_token k token p).known.ended ≡ p.known.ended
+token-ends kind.Text token p = refl
+token-ends _ token p = refl
+
+pub token-come : (flags : Flags) (old new : StoredLists) (names names' : List Entry) (marks : MarkList) (t t' : Translator) (token : Seen) (steps : ℕ) → progress_of new.lists names' marks t' [] ≡ after_token token.kind token (progress_of old.lists names marks t [])
+    → Same t t' → HasCome flags t steps new.lists names' marks t' steps (after_answers flags (Token token ∷ []) (progress_of old.lists names marks t []))
+token-come flags old new names names' marks t t' token steps e counts =
+    let none : (after_token token.kind token (progress_of old.lists names marks t [])).known.ended ≡ [] = token-ends token.kind token (progress_of old.lists names marks t []) in
+    record {
+      is = ap (λ ended. progress_of new.lists names' marks t' ended) none ∙ e;
+      scraps = counts.scraps ∙ (sym (add-zero t.scraps) ∙ ap (λ ended. t.scraps + scraps_in ended) (sym none));
+      productions_are = counts.productions ∙ (sym (add-zero t.productions) ∙ ap (λ ended. t.productions + productions_in flags ended) (sym none));
+      steps_are = sym (add-zero steps) ∙ ap (λ ended. steps + ticks_in flags ended) (sym none);
+    }
+
 -- names on the way
-names-after : (k : TokKind) (token : Seen) (p : Progress) → (after_token k token p).names ≡ names_with k token.text p.names
+names-after : (k : TokKind) (token : Seen) (p : Progress) → (after_token k token p).known.names ≡ names_with k token.text p.known.names
 names-after kind.Text token p = refl
 names-after _ token p = refl
 
-pub token-names : (flags : Flags) (token : Seen) (p : Progress) (new : List Entry) → (new ≡ p.names) ⊎ (new ≡ names_with token.kind token.text p.names) → NamesAmong flags (Token token ∷ []) p new
-token-names flags token p new (inl e) = λ rest. here (Token token ∷ rest) p new (same e)
-token-names flags token p new (inr e) = λ rest. later (Token token) rest p new (here rest (after_token token.kind token p) new (same (e ∙ sym (names-after token.kind token p))))
-
-pub finish-names : (flags : Flags) (token : Seen) (p : Progress) (new : List Entry) → NamesHere flags p new → NamesAmong flags (Finish token ∷ []) p new
-finish-names flags token p new h = λ rest. here (Finish token ∷ rest) p new h
-
-pub same-names : (flags : Flags) (answers : List Answer) (p : Progress) → NamesAmong flags answers p p.names
-same-names flags answers p = λ rest. here (answers ++ rest) p p.names (same refl)
+pub token-names : (flags : Flags) (token : Seen) (p : Progress) (new : List Entry) → (new ≡ p.known.names) ⊎ (new ≡ names_with token.kind token.text p.known.names) → NamesAmong flags (Token token ∷ []) p new
+token-names flags token p new (inl e) = λ rest. subst (NamesOnTheWay flags (Token token ∷ rest) p) (sym e) (here (Token token ∷ rest) p)
+token-names flags token p new (inr e) = λ rest. later (Token token) rest p new (subst (NamesOnTheWay flags rest (after_token token.kind token p)) (names-after token.kind token p ∙ sym e) (here rest (after_token token.kind token p)))
 
 -- the answers of a call before the others
 pub gives-is : (old new : List Answer) (answer : Lexed) → Gives old answer new → old ≡ answers_in answer ++ new
@@ -100,25 +134,77 @@ within-starts limit start end (Begin t ∷ answers) e h = ((let a : t.span.start
 within-starts limit start end (Finish t ∷ answers) e h = within-starts limit start end answers e h.1
 within-starts limit start end (Note n place ∷ answers) e h = within-starts limit start end answers e h
 
-inner-append : (flags : Flags) (xs ys : List Answer) (p : Progress) → inner_limit flags (xs ++ ys) p ≡ inner_limit flags xs p + inner_limit flags ys (after_answers flags xs p)
-inner-append flags [] ys p = omega arith
-inner-append flags (x ∷ xs) ys p = ap (λ m. answer_limit flags x p + m) (inner-append flags xs ys (after_answer flags x p)) ∙ omega arith
+-- what has ended before is not looked at
+abbrev pub behind : List State → Progress → Progress
+behind done p = record { frames = p.frames; known = record { names = p.known.names; marks = p.known.marks; ended = done ++ p.known.ended } }
+
+behind-token : (done : List State) (k : TokKind) (token : Seen) (p : Progress) → after_token k token (behind done p) ≡ behind done (after_token k token p)
+behind-token done kind.Text token p = refl
+behind-token done _ token p = refl
+
+behind-finish : (flags : Flags) (done : List State) (frames : List Frame) (known : Known) → after_finish flags frames (behind done (record { frames = frames; known = known })).known ≡ behind done (after_finish flags frames known)
+behind-finish flags done [] known = refl
+behind-finish flags done (CommentFrame number items ∷ frames) known = refl
+behind-finish flags done (CTextFrame scraps ∷ frames) known =
+    let text = end_from flags (state_in scraps known) known in
+    ap (λ ended. record { frames = with_item (InnerText text.tree) frames; known = record { names = text.known.names; marks = text.known.marks; ended = ended } }) (append_assoc done known.ended (state_in scraps known ∷ []))
+
+behind-answer : (flags : Flags) (done : List State) (answer : Answer) (p : Progress) → after_answer flags answer (behind done p) ≡ behind done (after_answer flags answer p)
+behind-answer flags done (Token token) p = behind-token done token.kind token p
+behind-answer flags done (Begin token) p = refl
+behind-answer flags done (Finish token) p = behind-finish flags done p.frames p.known
+behind-answer flags done (Note note place) p = refl
+
+pub behind-answers : (flags : Flags) (done : List State) (answers : List Answer) (p : Progress) → after_answers flags answers (behind done p) ≡ behind done (after_answers flags answers p)
+behind-answers flags done [] p = refl
+behind-answers flags done (answer ∷ answers) p = ap (after_answers flags answers) (behind-answer flags done answer p) ∙ behind-answers flags done answers (after_answer flags answer p)
+
+-- more comes behind what has ended
+pub limit-more : (flags : Flags) (answers : List Answer) (p : Progress) → limit_in flags p.known.ended ≤ limit_in flags (after_answers flags answers p).known.ended
+limit-more flags answers p =
+    let fresh : Progress = record { frames = p.frames; known = record { names = p.known.names; marks = p.known.marks; ended = [] } } in
+    let is : p ≡ behind p.known.ended fresh = ap (λ ended. record { frames = p.frames; known = record { names = p.known.names; marks = p.known.marks; ended = ended } }) (sym (append-nil p.known.ended)) in
+    let e : (after_answers flags answers p).known.ended ≡ p.known.ended ++ (after_answers flags answers fresh).known.ended = ap (λ (q : Progress). (after_answers flags answers q).known.ended) is ∙ ap (λ (q : Progress). q.known.ended) (behind-answers flags p.known.ended answers fresh) in
+    let l : limit_in flags (after_answers flags answers p).known.ended ≡ limit_in flags (p.known.ended ++ (after_answers flags answers fresh).known.ended) = ap (limit_in flags) e in
+    omega (arith, l, sum-more (λ state. text_limit flags state) p.known.ended (after_answers flags answers fresh).known.ended)
 
 later-all : (flags : Flags) (xs ys : List Answer) (p : Progress) (new : List Entry) → NamesOnTheWay flags ys (after_answers flags xs p) new → NamesOnTheWay flags (xs ++ ys) p new
 later-all flags [] ys p new h = h
 later-all flags (x ∷ xs) ys p new h = later x (xs ++ ys) p new (later-all flags xs ys (after_answer flags x p) new h)
 
--- the loop over the answers
+-- names on the way don't depend on what has ended before
+pub way-behind : (flags : Flags) (done : List State) (answers : List Answer) (q p : Progress) (new : List Entry) → q ≡ behind done p → NamesOnTheWay flags answers p new → NamesOnTheWay flags answers q new
+way-behind flags done answers q p new e (here _ _) = subst (NamesOnTheWay flags answers q) (ap (λ (x : Progress). x.known.names) e) (here answers q)
+way-behind flags done (Finish token ∷ answers) q p new e (at_finish _ _ _ scraps outer _ open_is r) = at_finish token answers q scraps outer new (ap (λ (x : Progress). x.frames) e ∙ open_is) (subst (λ (x : Progress). RetypesIn flags scraps x.known new) (sym e) r)
+way-behind flags done [] q p new e (at_end _ _ r) = at_end q new (subst (λ (x : Progress). RetypesIn flags (last_scraps x.frames) x.known new) (sym e) r)
+way-behind flags done (answer ∷ answers) q p new e (later _ _ _ _ h) = later answer answers q new (way-behind flags done answers (after_answer flags answer q) (after_answer flags answer p) new (ap (after_answer flags answer) e ∙ behind-answer flags done answer p) h)
+
+-- The loop over the answers: these texts have ended since it began.
 pub record Reads (flags : Flags) (all : List Answer) (old : StoredLists) (names : List Entry) (marks : MarkList) (t : Translator) (steps : ℕ) (rest : List Answer) (new : StoredLists) (names' : List Entry) (marks' : MarkList) (t' : Translator) (steps' : ℕ) : Type 0 where
   pub translating : IsTranslating new names' t'
   pub keeps : Keeps old.lists new.lists (all_roots t.nesting) (all_roots t'.nesting)
-  pub progress : after_answers flags rest (progress_of new.lists names' marks' t' steps') ≡ after_answers flags all (progress_of old.lists names marks t steps)
+  pub ended : List State
+  pub progress : after_answers flags rest (progress_of new.lists names' marks' t' ended) ≡ after_answers flags all (progress_of old.lists names marks t [])
+  pub scraps : t'.scraps ≡ t.scraps + scraps_in ended
+  pub productions_are : t'.productions ≡ t.productions + productions_in flags ended
+  pub steps_are : steps' ≡ steps + ticks_in flags ended
+  pub spent : steps' ≤ steps + limit_in flags ended
   pub starts : StartsBelow (2 ^ 32) rest
-  pub spent : steps' + inner_limit flags rest (progress_of new.lists names' marks' t' steps') ≤ steps + inner_limit flags all (progress_of old.lists names marks t steps)
-  pub way : (entries : List Entry) → NamesOnTheWay flags rest (progress_of new.lists names' marks' t' steps') entries → NamesOnTheWay flags all (progress_of old.lists names marks t steps) entries
+  pub way : (entries : List Entry) → NamesOnTheWay flags rest (progress_of new.lists names' marks' t' ended) entries → NamesOnTheWay flags all (progress_of old.lists names marks t []) entries
 
 pub reads-start : (flags : Flags) (all : List Answer) (store : StoredLists) (names : List Entry) (marks : MarkList) (t : Translator) (steps : ℕ) → IsTranslating store names t → StartsBelow (2 ^ 32) all → Reads flags all store names marks t steps all store names marks t steps
-reads-start flags all store names marks t steps is starts = record { translating = is; keeps = keeps-itself store.lists (all_roots t.nesting); progress = refl; starts = starts; spent = omega arith; way = λ entries h. h }
+reads-start flags all store names marks t steps is starts = record {
+  translating = is;
+  keeps = keeps-itself store.lists (all_roots t.nesting);
+  ended = [];
+  progress = refl;
+  scraps = sym (add-zero t.scraps);
+  productions_are = sym (add-zero t.productions);
+  steps_are = sym (add-zero steps);
+  spent = omega arith;
+  starts = starts;
+  way = λ entries h. h;
+}
 
 module _ (flags : Flags) (all : List Answer) (old : StoredLists) (names : List Entry) (marks : MarkList) (t : Translator) (steps : ℕ) (rest : List Answer) (mid : StoredLists) (names1 : List Entry) (marks1 : MarkList) (t1 : Translator) (steps1 : ℕ)
     (r : Reads flags all old names marks t steps rest mid names1 marks1 t1 steps1) (answer : Lexed) (next : List Answer) (gives : Gives rest answer next) where
@@ -128,35 +214,81 @@ module _ (flags : Flags) (all : List Answer) (old : StoredLists) (names : List E
   pub reads-start-now : StartsBelow (2 ^ 32) (answers_in answer)
   reads-start-now = split.0
 
-  pub reads-fails : (entries : List Entry) → NamesAmong flags (answers_in answer) (progress_of mid.lists names1 marks1 t1 steps1) entries → NamesOnTheWay flags all (progress_of old.lists names marks t steps) entries
-  reads-fails entries h = r.way entries (subst (λ list. NamesOnTheWay flags list (progress_of mid.lists names1 marks1 t1 steps1) entries) (sym (gives-is rest next answer gives)) (h next))
+  -- the answer, from where nothing has ended, and from where these have
+  abbrev fresh : Progress
+  fresh = progress_of mid.lists names1 marks1 t1 []
 
-  split-limit : inner_limit flags rest (progress_of mid.lists names1 marks1 t1 steps1)
-      ≡ inner_limit flags (answers_in answer) (progress_of mid.lists names1 marks1 t1 steps1) + inner_limit flags next (after_answers flags (answers_in answer) (progress_of mid.lists names1 marks1 t1 steps1))
-  split-limit = ap (λ list. inner_limit flags list (progress_of mid.lists names1 marks1 t1 steps1)) (gives-is rest next answer gives) ∙ inner-append flags (answers_in answer) next (progress_of mid.lists names1 marks1 t1 steps1)
+  abbrev here_now : Progress
+  here_now = progress_of mid.lists names1 marks1 t1 r.ended
 
-  pub reads-few : (steps2 : ℕ) → steps2 ≤ steps1 + inner_limit flags (answers_in answer) (progress_of mid.lists names1 marks1 t1 steps1) → steps2 ≤ steps + inner_limit flags all (progress_of old.lists names marks t steps)
+  abbrev then_now : Progress
+  then_now = after_answers flags (answers_in answer) fresh
+
+  now-behind : here_now ≡ behind r.ended fresh
+  now-behind = ap (progress_of mid.lists names1 marks1 t1) (sym (append-nil r.ended))
+
+  then-behind : after_answers flags (answers_in answer) here_now ≡ behind r.ended then_now
+  then-behind = ap (after_answers flags (answers_in answer)) now-behind ∙ behind-answers flags r.ended (answers_in answer) fresh
+
+  all-then : after_answers flags next (behind r.ended then_now) ≡ after_answers flags all (progress_of old.lists names marks t [])
+  all-then =
+      ap (after_answers flags next) (sym then-behind)
+      ∙ (sym (after-append flags (answers_in answer) next here_now)
+      ∙ (ap (λ list. after_answers flags list here_now) (sym (gives-is rest next answer gives)) ∙ r.progress))
+
+  pub reads-fails : (entries : List Entry) → NamesAmong flags (answers_in answer) fresh entries → NamesOnTheWay flags all (progress_of old.lists names marks t []) entries
+  reads-fails entries h = r.way entries (subst (λ list. NamesOnTheWay flags list here_now entries) (sym (gives-is rest next answer gives)) (way-behind flags r.ended (answers_in answer ++ next) here_now fresh entries now-behind (h next)))
+
+  pub reads-few : (steps2 : ℕ) → steps2 ≤ steps1 + limit_in flags then_now.known.ended → steps2 ≤ steps + limit_in flags (after_answers flags all (progress_of old.lists names marks t [])).known.ended
   reads-few steps2 few =
-      let before : steps1 + inner_limit flags rest (progress_of mid.lists names1 marks1 t1 steps1) ≤ steps + inner_limit flags all (progress_of old.lists names marks t steps) = r.spent in
-      omega (arith, few, split-limit, before)
+      let before : steps1 ≤ steps + limit_in flags r.ended = r.spent in
+      let both : limit_in flags (r.ended ++ then_now.known.ended) ≡ limit_in flags r.ended + limit_in flags then_now.known.ended = sum-more (λ state. text_limit flags state) r.ended then_now.known.ended in
+      let more : limit_in flags (r.ended ++ then_now.known.ended) ≤ limit_in flags (after_answers flags next (behind r.ended then_now)).known.ended = limit-more flags next (behind r.ended then_now) in
+      let last : limit_in flags (after_answers flags next (behind r.ended then_now)).known.ended ≡ limit_in flags (after_answers flags all (progress_of old.lists names marks t [])).known.ended = ap (λ (p : Progress). limit_in flags p.known.ended) all-then in
+      omega (arith, few, before, both, more, last)
 
   pub reads-more : (new : StoredLists) (names2 : List Entry) (marks2 : MarkList) (t2 : Translator) (steps2 : ℕ) → IsTranslating new names2 t2 → Keeps mid.lists new.lists (all_roots t1.nesting) (all_roots t2.nesting)
-      → progress_of new.lists names2 marks2 t2 steps2 ≡ after_answers flags (answers_in answer) (progress_of mid.lists names1 marks1 t1 steps1) → steps2 ≤ steps1 + inner_limit flags (answers_in answer) (progress_of mid.lists names1 marks1 t1 steps1) → Reads flags all old names marks t steps next new names2 marks2 t2 steps2
-  reads-more new names2 marks2 t2 steps2 is keeps progress few = record {
-    translating = is;
-    keeps = keeps-trans old.lists mid.lists new.lists (all_roots t.nesting) (all_roots t1.nesting) (all_roots t2.nesting) r.keeps keeps;
-    progress =
-        ap (after_answers flags next) progress
-        ∙ (sym (after-append flags (answers_in answer) next (progress_of mid.lists names1 marks1 t1 steps1))
-        ∙ (ap (λ list. after_answers flags list (progress_of mid.lists names1 marks1 t1 steps1)) (sym (gives-is rest next answer gives)) ∙ r.progress));
-    starts = split.1;
-    spent =
-        let behind : inner_limit flags next (progress_of new.lists names2 marks2 t2 steps2) ≡ inner_limit flags next (after_answers flags (answers_in answer) (progress_of mid.lists names1 marks1 t1 steps1)) = ap (inner_limit flags next) progress in
-        let before : steps1 + inner_limit flags rest (progress_of mid.lists names1 marks1 t1 steps1) ≤ steps + inner_limit flags all (progress_of old.lists names marks t steps) = r.spent in
-        omega (arith, few, split-limit, behind, before);
-    way = λ entries h. r.way entries (subst (λ list. NamesOnTheWay flags list (progress_of mid.lists names1 marks1 t1 steps1) entries) (sym (gives-is rest next answer gives))
-        (later-all flags (answers_in answer) next (progress_of mid.lists names1 marks1 t1 steps1) entries (subst (λ p. NamesOnTheWay flags next p entries) progress h)));
+      → HasCome flags t1 steps1 new.lists names2 marks2 t2 steps2 then_now → steps2 ≤ steps1 + limit_in flags then_now.known.ended → Reads flags all old names marks t steps next new names2 marks2 t2 steps2
+  reads-more new names2 marks2 t2 steps2 is keeps come few =
+      let more : List State = then_now.known.ended in
+      let moved : progress_of new.lists names2 marks2 t2 (r.ended ++ more) ≡ behind r.ended then_now = ap (behind r.ended) come.is in
+      let scraps : scraps_in (r.ended ++ more) ≡ scraps_in r.ended + scraps_in more = sum-more (λ state. length state.scraps) r.ended more in
+      let applied : productions_in flags (r.ended ++ more) ≡ productions_in flags r.ended + productions_in flags more = sum-more (λ state. count productions flags state) r.ended more in
+      let ticked : ticks_in flags (r.ended ++ more) ≡ ticks_in flags r.ended + ticks_in flags more = sum-more (λ state. ticks productions flags state) r.ended more in
+      let limits : limit_in flags (r.ended ++ more) ≡ limit_in flags r.ended + limit_in flags more = sum-more (λ state. text_limit flags state) r.ended more in
+      record {
+        translating = is;
+        keeps = keeps-trans old.lists mid.lists new.lists (all_roots t.nesting) (all_roots t1.nesting) (all_roots t2.nesting) r.keeps keeps;
+        ended = r.ended ++ more;
+        progress = ap (after_answers flags next) moved ∙ all-then;
+        scraps = omega (arith, r.scraps, come.scraps, scraps);
+        productions_are = omega (arith, r.productions_are, come.productions_are, applied);
+        steps_are = omega (arith, r.steps_are, come.steps_are, ticked);
+        spent = omega (arith, r.spent, few, limits);
+        starts = split.1;
+        way = λ entries h. r.way entries (subst (λ list. NamesOnTheWay flags list here_now entries) (sym (gives-is rest next answer gives))
+            (later-all flags (answers_in answer) next here_now entries (subst (λ p. NamesOnTheWay flags next p entries) (moved ∙ sym then-behind) h)));
+      }
+
+-- all answers are read
+module _ (flags : Flags) (all : List Answer) (old : StoredLists) (names : List Entry) (marks : MarkList) (t : Translator) (steps : ℕ) (rest : List Answer) (new : StoredLists) (names' : List Entry) (marks' : MarkList) (t' : Translator) (steps' : ℕ)
+    (r : Reads flags all old names marks t steps rest new names' marks' t' steps') (none : rest ≡ []) where
+  done-progress : progress_of new.lists names' marks' t' r.ended ≡ after_answers flags all (progress_of old.lists names marks t [])
+  done-progress = ap (λ list. after_answers flags list (progress_of new.lists names' marks' t' r.ended)) (sym none) ∙ r.progress
+
+  done-ended : r.ended ≡ (after_answers flags all (progress_of old.lists names marks t [])).known.ended
+  done-ended = ap (λ (p : Progress). p.known.ended) done-progress
+
+  pub reads-come : HasCome flags t steps new.lists names' marks' t' steps' (after_answers flags all (progress_of old.lists names marks t []))
+  reads-come = record {
+    is = ap (progress_of new.lists names' marks' t') (sym done-ended) ∙ done-progress;
+    scraps = r.scraps ∙ ap (λ ended. t.scraps + scraps_in ended) done-ended;
+    productions_are = r.productions_are ∙ ap (λ ended. t.productions + productions_in flags ended) done-ended;
+    steps_are = r.steps_are ∙ ap (λ ended. steps + ticks_in flags ended) done-ended;
   }
+
+  pub reads-spent : steps' ≤ steps + limit_in flags (after_answers flags all (progress_of old.lists names marks t [])).known.ended
+  reads-spent = subst (λ ended. steps' ≤ steps + limit_in flags ended) done-ended r.spent
 
 pub on-err : {T E : Type 0} (r : Result T E) (P : Type 0) → P → OnErr r P
 on-err (Ok x) P h = tt

@@ -1,26 +1,30 @@
 -- The whole text ends.
-use Rattle.std.proofs.Common.{◌≡◌, ℕ, ◌+◌, ◌≤◌, List, [], ◌∷◌, refl, ap, ◌∙◌, subst, arith}
+use Rattle.std.proofs.Common.{◌≡◌, ℕ, ◌+◌, ◌≤◌, List, [], ◌∷◌, ◌++◌, length, ap, ◌∙◌, subst, arith}
 use Rattle.cw_base.specs.declared.flags.Flags.{Flags}
-use Rattle.cw_lex.specs.Answers.{Answer, Token, Begin, Finish, Note}
-use Rattle.cw_lex.specs.declared.tokens.TokKind.{TokKind}
-use Rattle.cw_lex.specs.declared.tokens.TokKind.TheVariants as kind
-use Rattle.cw_lex.specs.Answers.{Seen}
+use Rattle.cw_lex.specs.Answers.{Answer}
 use Rattle.cw_names.specs.Names.{Entry}
+use Rattle.cw_table.specs.Normal.{count}
+use Rattle.cw_table.specs.Productions.{productions}
+use Rattle.cw_table.specs.Rewriting.{State}
+use Rattle.cw_table.specs.WalkCounts.{ticks}
 use Rattle.cw_tokens.specs.declared.token.Token.{Token as StoredToken}
+use Rattle.cw_tokens.specs.Shapes.{unfolded}
 use Rattle.cw_tokens.specs.Stored.{StoredLists}
 use Rattle.cw_scraps.specs.Changing.{Keeps}
 use Rattle.cw_scraps.specs.Lines.{roots_of, IsOutside, IsSoundLine}
 use Rattle.cw_scraps.specs.Marking.{MarkList, marked_names}
 use Rattle.cw_reduce.specs.declared.nesting.Open.{Open}
 use Rattle.cw_reduce.specs.declared.nesting.Open.TheVariants.{CText, Comment}
+use Rattle.cw_reduce.specs.declared.translating.Translated.{Translated}
 use Rattle.cw_reduce.specs.declared.translating.Translator.{Translator}
-use Rattle.cw_reduce.specs.Opening.{last_line, all_roots, IsTranslating, progress_of}
-use Rattle.cw_reduce.specs.Retyping.{Retypes, NamesHere, same, retyped, NamesOnTheWay, here, at_end, later}
-use Rattle.cw_reduce.specs.StepLimits.{answer_limit, finish_limit, inner_limit, text_limit, whole_limit}
-use Rattle.cw_reduce.specs.Translating.{Frame, Progress, Translation, state_in, last_scraps, after_token, after_begin, after_finish, after_answer, after_answers, all_ended, begun, translation}
-use Rattle.cw_reduce.specs.Translating.{CText as CTextFrame, Comment as CommentFrame}
+use Rattle.cw_reduce.specs.Counting.{scraps_in, productions_in, ticks_in, text_limit, limit_in}
+use Rattle.cw_reduce.specs.Opening.{last_line, all_roots, IsTranslating, progress_of, HasCome, HasEnded}
+use Rattle.cw_reduce.specs.Retyping.{NamesOnTheWay, later}
+use Rattle.cw_reduce.specs.Reading.{Progress, last_scraps, after_answer, after_answers, all_ended, begun}
+use Rattle.cw_reduce.specs.Translating.{Ended, state_in}
 use Rattle.cw_reduce.proofs.FinishSteps.{open-line}
 use Rattle.cw_reduce.proofs.LeafSteps.{empty-line}
+use Rattle.cw_reduce.proofs.Sums.{sum-end}
 
 -- the text that is open alone
 pub last-sound : (store : StoredLists) (names : List Entry) (t : Translator) (all : List Open) → IsTranslating store names t → t.nesting ≡ all → IsSoundLine store names (last_line all)
@@ -46,90 +50,59 @@ last-keeps old new ss (CText line ∷ []) k = k
 last-keeps old new ss (CText line ∷ (inner ∷ outer)) k = wider old new (all_roots (CText line ∷ (inner ∷ outer))) ss k
 last-keeps old new ss (Comment number parts ∷ outer) k = wider old new (all_roots (Comment number parts ∷ outer)) ss k
 
--- the steps that were counted before are counted on
-abbrev pub behind : ℕ → Progress → Progress
-behind steps p = record p { steps = steps + p.steps }
-
-behind-token : (n : ℕ) (k : TokKind) (token : Seen) (p : Progress) → after_token k token (behind n p) ≡ behind n (after_token k token p)
-behind-token n kind.Text token p = refl
-behind-token n _ token p = refl
-
-behind-begin : (n : ℕ) (k : TokKind) (number : ℕ) (p : Progress) → after_begin k number (behind n p) ≡ behind n (after_begin k number p)
-behind-begin n kind.InnerText number p = refl
-behind-begin n kind.LongComment number p = refl
-behind-begin n kind.ShortComment number p = refl
-behind-begin n _ number p = refl
-
-behind-finish : (flags : Flags) (n : ℕ) (frames : List Frame) (p : Progress) → after_finish flags frames (behind n p) ≡ behind n (after_finish flags frames p)
-behind-finish flags n [] p = refl
-behind-finish flags n (CommentFrame number items ∷ frames) p = refl
-behind-finish flags n (CTextFrame scraps ∷ frames) p = ap (λ s. record (after_finish flags (CTextFrame scraps ∷ frames) p) { steps = s }) (omega arith)
-
-behind-answer : (flags : Flags) (n : ℕ) (answer : Answer) (p : Progress) → after_answer flags answer (behind n p) ≡ behind n (after_answer flags answer p)
-behind-answer flags n (Token token) p = behind-token n token.kind token p
-behind-answer flags n (Begin token) p = behind-begin n token.kind token.span.start p
-behind-answer flags n (Finish token) p = behind-finish flags n p.frames p
-behind-answer flags n (Note note place) p = refl
-
-pub behind-answers : (flags : Flags) (n : ℕ) (answers : List Answer) (p : Progress) → after_answers flags answers (behind n p) ≡ behind n (after_answers flags answers p)
-behind-answers flags n [] p = refl
-behind-answers flags n (answer ∷ answers) p = ap (after_answers flags answers) (behind-answer flags n answer p) ∙ behind-answers flags n answers (after_answer flags answer p)
-
-behind-ended : (flags : Flags) (n : ℕ) (p : Progress) → all_ended flags (behind n p) ≡ record (all_ended flags p) { steps = n + (all_ended flags p).steps }
-behind-ended flags n p = ap (λ s. record (all_ended flags p) { steps = s }) (omega arith)
-
--- from the beginning of a text to its end
-pub translated : (flags : Flags) (n : ℕ) (answers : List Answer) (names : List Entry) (marks : List ℕ) (p : Progress) (t : Translation) → p ≡ after_answers flags answers (behind n (begun names marks)) → t ≡ all_ended flags p
-    → t ≡ record (translation flags answers names marks) { steps = n + (translation flags answers names marks).steps }
-unfolding translation
-translated flags n answers names marks p t progress ended =
-    ended ∙ (ap (all_ended flags) (progress ∙ behind-answers flags n answers (begun names marks)) ∙ behind-ended flags n (after_answers flags answers (begun names marks)))
-
-pub start-progress : (lists : List (List StoredToken)) (names : List Entry) (marks : MarkList) (t : Translator) (steps : ℕ) → t ≡ record { nesting = CText [] ∷ []; scraps = 0; productions = 0 } → progress_of lists names marks t steps ≡ behind steps (begun names (marked_names marks))
-start-progress lists names marks t steps e = ap (λ x. progress_of lists names marks x steps) e ∙ ap (λ n. record (begun names (marked_names marks)) { steps = n }) (omega arith)
-
--- names on the way don't depend on what was counted before
-here-behind : (flags : Flags) (n : ℕ) (p : Progress) (new : List Entry) → NamesHere flags (behind n p) new → NamesHere flags p new
-here-behind flags n p new (same e) = same e
-here-behind flags n p new (retyped scraps outer e r) = retyped scraps outer e r
-
-pub way-behind : (flags : Flags) (n : ℕ) (answers : List Answer) (q p : Progress) (new : List Entry) → q ≡ behind n p → NamesOnTheWay flags answers q new → NamesOnTheWay flags answers p new
-way-behind flags n answers q p new e (here _ _ _ h) = here answers p new (here-behind flags n p new (subst (λ x. NamesHere flags x new) e h))
-way-behind flags n [] q p new e (at_end _ _ r) = at_end p new (subst (λ (x : Progress). Retypes flags (state_in (last_scraps x.frames) x) x.names new) e r)
-way-behind flags n (answer ∷ answers) q p new e (later _ _ _ _ h) = later answer answers p new (way-behind flags n answers (after_answer flags answer q) (after_answer flags answer p) new (ap (after_answer flags answer) e ∙ behind-answer flags n answer p) h)
+-- from the beginning of a text
+pub start-progress : (lists : List (List StoredToken)) (names : List Entry) (marks : MarkList) (t : Translator) → t ≡ record { nesting = CText [] ∷ []; scraps = 0; productions = 0 } → progress_of lists names marks t [] ≡ begun names (marked_names marks)
+start-progress lists names marks t e = ap (λ x. progress_of lists names marks x []) e
 
 pub way-end : (flags : Flags) (answers : List Answer) (p q : Progress) (new : List Entry) → q ≡ after_answers flags answers p → NamesOnTheWay flags [] q new → NamesOnTheWay flags answers p new
 way-end flags [] p q new e h = subst (λ x. NamesOnTheWay flags [] x new) e h
 way-end flags (answer ∷ answers) p q new e h = later answer answers p new (way-end flags answers (after_answer flags answer p) q new e h)
 
-pub here-start : (flags : Flags) (answers : List Answer) (names : List Entry) (marks : List ℕ) → NamesOnTheWay flags answers (begun names marks) names
-here-start flags answers names marks = here answers (begun names marks) names (same refl)
+-- The whole: what is answered is the text that has ended.
+pub record IsText (flags : Flags) (lists : List (List StoredToken)) (names : List Entry) (marks : MarkList) (done : Translated) (steps steps' : ℕ) (text : Ended) : Type 0 where
+  pub tree : unfolded lists done.list.index ≡ text.tree
+  pub names_are : names ≡ text.known.names
+  pub marks_are : marked_names marks ≡ text.known.marks
+  pub scraps : done.scraps ≡ scraps_in text.known.ended
+  pub productions_are : done.productions ≡ productions_in flags text.known.ended
+  pub steps_are : steps' ≡ steps + ticks_in flags text.known.ended
 
--- limits of steps don't depend on what was counted before
-behind-limit : (flags : Flags) (n : ℕ) (answer : Answer) (p : Progress) → answer_limit flags answer (behind n p) ≡ answer_limit flags answer p
-behind-limit flags n (Token token) p = refl
-behind-limit flags n (Begin token) p = refl
-behind-limit flags n (Note note place) p = refl
-behind-limit flags n (Finish token) p = same-finish p.frames
-  where
-    same-finish : (frames : List Frame) → finish_limit flags frames (behind n p) ≡ finish_limit flags frames p
-    same-finish [] = refl
-    same-finish (CTextFrame scraps ∷ frames) = refl
-    same-finish (CommentFrame number items ∷ frames) = refl
+module _ (flags : Flags) (t0 t : Translator) (steps steps1 steps2 : ℕ) (mid : List (List StoredToken)) (names1 : List Entry) (marks1 : MarkList) (p : Progress)
+    (none : t0 ≡ record { nesting = CText [] ∷ []; scraps = 0; productions = 0 }) (come : HasCome flags t0 steps mid names1 marks1 t steps1 p) where
+  abbrev last_state : State
+  last_state = state_in (last_scraps (progress_of mid names1 marks1 t []).frames) (progress_of mid names1 marks1 t []).known
 
-pub behind-inner : (flags : Flags) (n : ℕ) (answers : List Answer) (p : Progress) → inner_limit flags answers (behind n p) ≡ inner_limit flags answers p
-behind-inner flags n [] p = refl
-behind-inner flags n (answer ∷ answers) p =
-    ap (λ m. m + inner_limit flags answers (after_answer flags answer (behind n p))) (behind-limit flags n answer p)
-    ∙ ap (λ m. answer_limit flags answer p + m) (ap (inner_limit flags answers) (behind-answer flags n answer p) ∙ behind-inner flags n answers (after_answer flags answer p))
+  end-now : all_ended flags (progress_of mid names1 marks1 t p.known.ended) ≡ all_ended flags p
+  end-now = ap (all_ended flags) come.is
 
--- the steps of the inner texts, and those of the whole
-pub within-limit : (flags : Flags) (n : ℕ) (answers : List Answer) (p : Progress) (q : Progress) (mid end : ℕ) → q ≡ after_answers flags answers (behind n p) → mid ≤ n + inner_limit flags answers p
-    → end ≤ mid + text_limit flags (last_scraps q.frames) q → end ≤ n + whole_limit flags answers p
-within-limit flags n answers p q mid end is low high =
-    let same : q ≡ behind n (after_answers flags answers p) = is ∙ behind-answers flags n answers p in
-    let last : text_limit flags (last_scraps q.frames) q ≡ text_limit flags (last_scraps (after_answers flags answers p).frames) (after_answers flags answers p) = ap (λ (x : Progress). text_limit flags (last_scraps x.frames) x) same in
-    omega (arith, low, high, last)
+  ended-now : p.known.ended ++ last_state ∷ [] ≡ (all_ended flags p).known.ended
+  ended-now = ap (λ (text : Ended). text.known.ended) end-now
 
-pub inner-start : (flags : Flags) (n : ℕ) (answers list : List Answer) (q p : Progress) (steps : ℕ) → list ≡ answers → q ≡ behind n p → steps ≤ n + inner_limit flags list q → steps ≤ n + inner_limit flags answers p
-inner-start flags n answers list q p steps l e h = subst (λ m. steps ≤ n + m) (ap (λ xs. inner_limit flags xs q) l ∙ (ap (inner_limit flags answers) e ∙ behind-inner flags n answers p)) h
+  pub text-done : (lists : List (List StoredToken)) (names : List Entry) (marks : MarkList) (done : Translated) → HasEnded flags t steps1 lists names marks done steps2 (progress_of mid names1 marks1 t []) → IsText flags lists names marks done steps steps2 (all_ended flags p)
+  text-done lists names marks done e =
+      let zero_scraps : t0.scraps ≡ 0 = ap (λ (x : Translator). x.scraps) none in
+      let zero_productions : t0.productions ≡ 0 = ap (λ (x : Translator). x.productions) none in
+      let scraps : scraps_in p.known.ended + length last_state.scraps ≡ scraps_in (p.known.ended ++ last_state ∷ []) = sum-end (λ state. length state.scraps) p.known.ended last_state in
+      let applied : productions_in flags p.known.ended + count productions flags last_state ≡ productions_in flags (p.known.ended ++ last_state ∷ []) = sum-end (λ state. count productions flags state) p.known.ended last_state in
+      let ticked : ticks_in flags p.known.ended + ticks productions flags last_state ≡ ticks_in flags (p.known.ended ++ last_state ∷ []) = sum-end (λ state. ticks productions flags state) p.known.ended last_state in
+      record {
+        tree = e.tree ∙ ap (λ (text : Ended). text.tree) end-now;
+        names_are = e.names_are ∙ ap (λ (text : Ended). text.known.names) end-now;
+        marks_are = e.marks_are ∙ ap (λ (text : Ended). text.known.marks) end-now;
+        scraps = (let k : done.scraps ≡ scraps_in (p.known.ended ++ last_state ∷ []) = omega (arith, e.scraps, come.scraps, zero_scraps, scraps) in k) ∙ ap scraps_in ended-now;
+        productions_are = (let k : done.productions ≡ productions_in flags (p.known.ended ++ last_state ∷ []) = omega (arith, e.productions_are, come.productions_are, zero_productions, applied) in k) ∙ ap (productions_in flags) ended-now;
+        steps_are = (let k : steps2 ≡ steps + ticks_in flags (p.known.ended ++ last_state ∷ []) = omega (arith, e.steps_are, come.steps_are, ticked) in k) ∙ ap (λ ended. steps + ticks_in flags ended) ended-now;
+      }
+
+  pub spent-done : steps1 ≤ steps + limit_in flags p.known.ended → steps2 ≤ steps1 + text_limit flags last_state → steps2 ≤ steps + limit_in flags (all_ended flags p).known.ended
+  spent-done low high =
+      let limits : limit_in flags p.known.ended + text_limit flags last_state ≡ limit_in flags (p.known.ended ++ last_state ∷ []) = sum-end (λ state. text_limit flags state) p.known.ended last_state in
+      let k : steps2 ≤ steps + limit_in flags (p.known.ended ++ last_state ∷ []) = omega (arith, low, high, limits) in
+      subst (λ ended. steps2 ≤ steps + limit_in flags ended) ended-now k
+
+-- the texts in comments alone
+pub spent-within : (flags : Flags) (p : Progress) (steps steps1 : ℕ) → steps1 ≤ steps + limit_in flags p.known.ended → steps1 ≤ steps + limit_in flags (all_ended flags p).known.ended
+spent-within flags p steps steps1 low =
+    let last = state_in (last_scraps p.frames) p.known in
+    let limits : limit_in flags p.known.ended + text_limit flags last ≡ limit_in flags (p.known.ended ++ last ∷ []) = sum-end (λ state. text_limit flags state) p.known.ended last in
+    omega (arith, low, limits)

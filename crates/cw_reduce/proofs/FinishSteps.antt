@@ -1,5 +1,5 @@
 -- A text or a comment ends, and its list becomes a part of what is open around it.
-use Rattle.std.proofs.Common.{◌≡◌, ℕ, ◌+◌, ◌*◌, ◌≤◌, List, [], ◌∷◌, ◌++◌, length, get_or, map, None, refl, sym, ap, ◌∙◌, subst, arith}
+use Rattle.std.proofs.Common.{◌≡◌, ℕ, ◌+◌, ◌*◌, ◌≤◌, List, [], ◌∷◌, ◌++◌, length, get_or, map, None, refl, sym, ap, ◌∙◌, subst, add-zero, arith}
 use Rattle.std.specs.List.{All}
 use Rattle.std.proofs.lemmas.Grind.{get_or_default_zero}
 use Rattle.std.proofs.lemmas.List.{append-nil, length-map}
@@ -7,6 +7,7 @@ use Rattle.std.proofs.lemmas.List.Elements.{All-head, All-tail, All-cons}
 use Rattle.cw_base.specs.declared.category.Cat.TheVariants.{Insert}
 use Rattle.cw_base.specs.declared.flags.Flags.{Flags}
 use Rattle.cw_base.specs.declared.mode.MathMode.TheVariants.{Text}
+use Rattle.cw_lex.specs.Answers.{Answer, Finish, Seen}
 use Rattle.cw_names.specs.Names.{Entry}
 use Rattle.cw_table.specs.Normal.{normal, count}
 use Rattle.cw_table.specs.Productions.{productions}
@@ -32,15 +33,21 @@ use Rattle.cw_reduce.specs.declared.nesting.Open.TheVariants.{CText, Comment}
 use Rattle.cw_reduce.specs.declared.translating.Translated.{Translated}
 use Rattle.cw_reduce.specs.declared.translating.Translator.{Translator}
 use Rattle.cw_reduce.specs.Gathering.{Gathers, part_seen, inner_lists}
-use Rattle.cw_reduce.specs.Opening.{with_entry, with_part, frame_of, frames_of, open_roots, all_roots, IsNamedItem, AreSoundScraps, IsSoundFrame, IsTranslating, progress_of}
+use Rattle.cw_reduce.specs.Counting.{limit_in, text_limit}
+use Rattle.cw_reduce.specs.Opening.{with_entry, with_part, frame_of, frames_of, open_roots, all_roots, IsNamedItem, AreSoundScraps, IsSoundFrame, IsTranslating, progress_of, HasCome}
 use Rattle.cw_reduce.specs.Reduction.{words_of}
-use Rattle.cw_reduce.specs.Retyping.{Retypes, NamesHere, retyped}
-use Rattle.cw_reduce.specs.StepLimits.{finish_limit}
-use Rattle.cw_reduce.specs.Translating.{Progress, CommentItem, InnerText, with_scrap, with_item, with_categories, comment_tree, comment_scrap, after_finish}
+use Rattle.cw_reduce.specs.Retyping.{Retypes, NamesAmong, here, at_finish}
+use Rattle.cw_reduce.specs.Reading.{Frame, Progress, with_scrap, with_item, after_finish}
+use Rattle.cw_reduce.specs.Translating.{CommentItem, InnerText, Known, with_categories, comment_tree, comment_scrap}
 use Rattle.cw_reduce.proofs.Beside.{outside-group, right-roots, beside-roots, beside-keeps}
 use Rattle.cw_reduce.proofs.GatherLaws.{gathers-roots, gathers-keeps, comment-named, comment-agrees}
 use Rattle.cw_reduce.proofs.LeafSteps.{Steps, Same}
+use Rattle.cw_reduce.proofs.Sums.{sum-one}
 use Rattle.cw_reduce.proofs.OpenLaws.{frames-entry, frames-part, frames-same, entry-roots, part-roots, KeptRoots, more-frames, scrap-sound, item-sound}
+
+-- what is known where nothing has ended
+abbrev pub known_of : List Entry → MarkList → Known
+known_of names marks = record { names = names; marks = marked_names marks; ended = [] }
 
 -- what a text that ends makes: one list in place of its own
 pub record Ends (old new : StoredLists) (roots : List ℕ) (list : ℕ) : Type 0 where
@@ -126,27 +133,23 @@ module _ (flags : Flags) (old new : StoredLists) (names names' : List Entry) (ma
     keeps = now.keeps;
   }
 
-  pub text-progress : unfolded new.lists list.index ≡ whole (normal productions flags start).scraps → names' ≡ with_categories (normal productions flags start).cats names → marked_names marks' ≡ (normal productions flags start).marks
+  pub text-come : unfolded new.lists list.index ≡ whole (normal productions flags start).scraps → names' ≡ with_categories (normal productions flags start).cats names → marked_names marks' ≡ (normal productions flags start).marks
       → t'.scraps ≡ t.scraps + length line → t'.productions ≡ t.productions + count productions flags start → steps' ≡ steps + ticks productions flags start
-      → progress_of new.lists names' marks' t' steps' ≡ after_finish flags (frames_of old.lists t.nesting) (progress_of old.lists names marks t steps)
-  text-progress tree names_are marks_are scraps productions_are steps_are =
+      → HasCome flags t steps new.lists names' marks' t' steps' (after_finish flags (frames_of old.lists t.nesting) (known_of names marks))
+  text-come tree names_are marks_are scraps productions_are steps_are =
       let m : State = normal productions flags (state_of old.lists line marks names) in
       let size : length line ≡ length (scraps_of old.lists line) = sym (length-map line (seen old.lists)) in
-      let q : Progress = record {
-        frames = with_item (InnerText (whole m.scraps)) (frames_of old.lists outer);
-        names = with_categories m.cats names;
-        marks = m.marks;
-        scraps = t.scraps + length (scraps_of old.lists line);
-        productions = t.productions + count productions flags (state_of old.lists line marks names);
-        steps = steps + ticks productions flags (state_of old.lists line marks names);
-      } in
-      ap (λ fs. record { frames = fs; names = names'; marks = marked_names marks'; scraps = t'.scraps; productions = t'.productions; steps = steps' }) (inner-frames ∙ ap (λ tr. with_item (InnerText tr) (frames_of old.lists outer)) tree)
-      ∙ (ap (λ ns. record q { names = ns; marks = marked_names marks'; scraps = t'.scraps; productions = t'.productions; steps = steps' }) names_are
-      ∙ (ap (λ ms. record q { marks = ms; scraps = t'.scraps; productions = t'.productions; steps = steps' }) marks_are
-      ∙ (ap (λ n. record q { scraps = n; productions = t'.productions; steps = steps' }) (scraps ∙ ap (λ n. t.scraps + n) size)
-      ∙ (ap (λ n. record q { productions = n; steps = steps' }) productions_are
-      ∙ (ap (λ n. record q { steps = n }) steps_are
-      ∙ ap (λ all. after_finish flags (frames_of old.lists all) (record { frames = frames_of old.lists t.nesting; names = names; marks = marked_names marks; scraps = t.scraps; productions = t.productions; steps = steps })) (sym open_is))))))
+      let ended : List State = state_of old.lists line marks names ∷ [] in
+      let around : List Frame = with_item (InnerText (whole m.scraps)) (frames_of old.lists outer) in
+      subst (λ all. HasCome flags t steps new.lists names' marks' t' steps' (after_finish flags (frames_of old.lists all) (known_of names marks))) (sym open_is) (record {
+        is =
+            ap (λ fs. record { frames = fs; known = record { names = names'; marks = marked_names marks'; ended = ended } }) (inner-frames ∙ ap (λ tr. with_item (InnerText tr) (frames_of old.lists outer)) tree)
+            ∙ (ap (λ ns. record { frames = around; known = record { names = ns; marks = marked_names marks'; ended = ended } }) names_are
+            ∙ ap (λ ms. record { frames = around; known = record { names = with_categories m.cats names; marks = ms; ended = ended } }) marks_are);
+        scraps = scraps ∙ ap (λ n. t.scraps + n) (size ∙ sum-one (λ state. length state.scraps) start);
+        productions_are = productions_are ∙ ap (λ n. t.productions + n) (sum-one (λ state. count productions flags state) start);
+        steps_are = steps_are ∙ ap (λ n. steps + n) (sum-one (λ state. ticks productions flags state) start);
+      })
 
 -- a comment ends
 module _ (flags : Flags) (old new : StoredLists) (names : List Entry) (t t' : Translator) (number : ℕ) (parts : List CommentPart) (outer : List Open) (leaf : Leaf)
@@ -178,18 +181,19 @@ module _ (flags : Flags) (old new : StoredLists) (names : List Entry) (t t' : Tr
       keeps = kept-now.keeps;
     }
 
-    pub comment-progress : (marks : MarkList) (steps : ℕ) → progress_of new.lists names marks t' steps ≡ after_finish flags (frames_of old.lists t.nesting) (progress_of old.lists names marks t steps)
-    comment-progress marks steps =
-        let p : Progress = progress_of old.lists names marks t steps in
-        ap (λ fs. record p { frames = fs; scraps = t'.scraps; productions = t'.productions }) comment-frames
-        ∙ (ap (λ n. record p { frames = with_scrap (comment_scrap number items) (frames_of old.lists outer); scraps = n; productions = t'.productions }) counts.scraps
-        ∙ (ap (λ n. record p { frames = with_scrap (comment_scrap number items) (frames_of old.lists outer); productions = n }) counts.productions
-        ∙ ap (λ all. after_finish flags (frames_of old.lists all) (record { frames = frames_of old.lists t.nesting; names = names; marks = marked_names marks; scraps = t.scraps; productions = t.productions; steps = steps })) (sym open_is)))
+    pub comment-come : (marks : MarkList) (steps : ℕ) → HasCome flags t steps new.lists names marks t' steps (after_finish flags (frames_of old.lists t.nesting) (known_of names marks))
+    comment-come marks steps =
+        subst (λ all. HasCome flags t steps new.lists names marks t' steps (after_finish flags (frames_of old.lists all) (known_of names marks))) (sym open_is) (record {
+          is = ap (λ fs. record { frames = fs; known = known_of names marks }) comment-frames;
+          scraps = counts.scraps ∙ sym (add-zero t.scraps);
+          productions_are = counts.productions ∙ sym (add-zero t.productions);
+          steps_are = sym (add-zero steps);
+        })
 
 -- the step as a whole
 pub record FinishStep (flags : Flags) (old new : StoredLists) (names names' : List Entry) (marks marks' : MarkList) (t t' : Translator) (steps steps' : ℕ) : Type 0 where
   pub steps_are : Steps old new names names' t t'
-  pub progress : progress_of new.lists names' marks' t' steps' ≡ after_finish flags (frames_of old.lists t.nesting) (progress_of old.lists names marks t steps)
+  pub come : HasCome flags t steps new.lists names' marks' t' steps' (after_finish flags (frames_of old.lists t.nesting) (known_of names marks))
 
 -- what is known of a line that was translated
 pub record LineDone (flags : Flags) (old new : StoredLists) (names names' : List Entry) (marks marks' : MarkList) (line : List LineEntry) (done : Translated) (steps steps' : ℕ) : Type 0 where
@@ -215,7 +219,7 @@ text-step flags old new names names' marks marks' t t' line outer done steps ste
     let few : done.productions ≤ 8 * done.scraps = d.few in
     record {
       steps_are = text-steps flags old new names names' marks marks' t t' line outer done.list steps steps' is tied open_is ends d.named d.words made (omega (arith, before, few, scraps, productions_are));
-      progress = text-progress flags old new names names' marks marks' t t' line outer done.list steps steps' is tied open_is ends d.named d.words made d.tree d.names_are d.marks_are
+      come = text-come flags old new names names' marks marks' t t' line outer done.list steps steps' is tied open_is ends d.named d.words made d.tree d.names_are d.marks_are
           (scraps ∙ ap (λ n. t.scraps + n) d.scraps) (productions_are ∙ ap (λ n. t.productions + n) d.productions_are) d.steps_are;
     }
 
@@ -236,17 +240,22 @@ comment-step flags old new names marks t t' number parts outer list steps tree g
     } in
     record {
       steps_are = comment-steps flags old new names t t' number parts outer leaf is tied open_is ends made counts scrap sound;
-      progress = comment-progress flags old new names t t' number parts outer leaf is tied open_is ends made counts scrap sound marks steps;
+      come = comment-come flags old new names t t' number parts outer leaf is tied open_is ends made counts scrap sound marks steps;
     }
 
 -- the names after a text that ends, whatever it answers
-pub text-names : (flags : Flags) (store : StoredLists) (names names' : List Entry) (marks : MarkList) (t : Translator) (line : List LineEntry) (outer : List Open) (steps : ℕ)
-    → t.nesting ≡ CText line ∷ outer → Retypes flags (state_of store.lists line marks names) names names' → NamesHere flags (progress_of store.lists names marks t steps) names'
-text-names flags store names names' marks t line outer steps open_is r = retyped (scraps_of store.lists line) (frames_of store.lists outer) (ap (frames_of store.lists) open_is) r
+pub text-names : (flags : Flags) (store : StoredLists) (names names' : List Entry) (marks : MarkList) (t : Translator) (line : List LineEntry) (outer : List Open)
+    → t.nesting ≡ CText line ∷ outer → Retypes flags (state_of store.lists line marks names) names names' → (token : Seen) → NamesAmong flags (Finish token ∷ []) (progress_of store.lists names marks t []) names'
+text-names flags store names names' marks t line outer open_is r =
+    λ token rest. at_finish token rest (progress_of store.lists names marks t []) (scraps_of store.lists line) (frames_of store.lists outer) names' (ap (frames_of store.lists) open_is) r
+
+pub same-names : (flags : Flags) (answers : List Answer) (p : Progress) → NamesAmong flags answers p p.known.names
+same-names flags answers p = λ rest. here (answers ++ rest) p
 
 pub text-bound : (flags : Flags) (store : StoredLists) (names : List Entry) (marks : MarkList) (t : Translator) (line : List LineEntry) (outer : List Open) (steps steps' : ℕ)
     → t.nesting ≡ CText line ∷ outer → steps' ≤ steps + (132 * length line + length line * reservings productions flags (state_of store.lists line marks names))
-    → steps' ≤ steps + finish_limit flags (frames_of store.lists t.nesting) (progress_of store.lists names marks t steps)
+    → steps' ≤ steps + limit_in flags (after_finish flags (frames_of store.lists t.nesting) (known_of names marks)).known.ended
 text-bound flags store names marks t line outer steps steps' open_is h =
-    subst (λ all. steps' ≤ steps + finish_limit flags (frames_of store.lists all) (progress_of store.lists names marks t steps)) (sym open_is)
-    (subst (λ n. steps' ≤ steps + (132 * n + n * reservings productions flags (state_of store.lists line marks names))) (sym (length-map line (seen store.lists))) h)
+    subst (λ all. steps' ≤ steps + limit_in flags (after_finish flags (frames_of store.lists all) (known_of names marks)).known.ended) (sym open_is)
+    (subst (λ n. steps' ≤ steps + n) (sum-one (λ state. text_limit flags state) (state_of store.lists line marks names))
+    (subst (λ n. steps' ≤ steps + (132 * n + n * reservings productions flags (state_of store.lists line marks names))) (sym (length-map line (seen store.lists))) h))

@@ -17,12 +17,14 @@ use Rattle.cw_scraps.specs.declared.line.LineEntry.{LineEntry}
 use Rattle.cw_scraps.specs.Changing.{Keeps}
 use Rattle.cw_scraps.specs.Leaves.{LeafForm, HasForm, MakesLeaf, entry_of, token_form, names_with}
 use Rattle.cw_scraps.specs.Lines.{seen, AreRoots, IsSoundLine}
-use Rattle.cw_scraps.specs.Marking.{MarkList}
+use Rattle.cw_scraps.specs.Marking.{MarkList, marked_names}
+use Rattle.cw_table.specs.Rewriting.{State}
 use Rattle.cw_scraps.proofs.LeafForms.{IsGood, token-good, token-some, length-entry}
 use Rattle.cw_reduce.specs.declared.gathering.CommentPart.TheVariants as part
 use Rattle.cw_reduce.specs.declared.translating.Translator.{Translator}
 use Rattle.cw_reduce.specs.Opening.{with_entry, with_part, frames_of, all_roots, AreSoundScraps, IsSoundFrame, IsTranslating, progress_of}
-use Rattle.cw_reduce.specs.Translating.{Progress, Piece, leaf_scrap, with_scrap, with_form, after_token}
+use Rattle.cw_reduce.specs.Reading.{Progress, with_scrap, with_form, after_token}
+use Rattle.cw_reduce.specs.Translating.{Piece, leaf_scrap, with_names}
 use Rattle.cw_reduce.proofs.OpenLaws.{frames-entry, frames-part, frames-same, plain-roots, plain-keeps, entry-roots, piece-roots, KeptRoots, more-frames, scrap-sound, item-sound}
 
 -- the form of a token that makes a scrap
@@ -36,18 +38,24 @@ formed-by None leaf old new some has = cc
 formed-by (Some form) leaf old new some has = record { form = form; is = refl; has = has }
 
 -- what the definition does with it
-pub after-leaf : (k : TokKind) (token : Seen) (p : Progress) (form : LeafForm) → MakesLeaf k → token_form k token.text token.hash_line token.span.start p.names ≡ Some form
-    → after_token k token p ≡ record p { frames = with_scrap (leaf_scrap form) p.frames; names = names_with k token.text p.names }
+abbrev pub leaf_behind : TokKind → Seen → LeafForm → Progress → Progress
+leaf_behind k token form p = record { frames = with_scrap (leaf_scrap form) p.frames; known = with_names (names_with k token.text p.known.names) p.known }
+
+abbrev form_behind : TokKind → Seen → Progress → Option LeafForm → Progress
+form_behind k token p o = record { frames = with_form o p.frames; known = with_names (names_with k token.text p.known.names) p.known }
+
+pub after-leaf : (k : TokKind) (token : Seen) (p : Progress) (form : LeafForm) → MakesLeaf k → token_form k token.text token.hash_line token.span.start p.known.names ≡ Some form
+    → after_token k token p ≡ leaf_behind k token form p
 after-leaf kind.Text token p form makes is = cc
-after-leaf kind.Identifier token p form makes is = ap (λ o. record p { frames = with_form o p.frames; names = names_with kind.Identifier token.text p.names }) is
-after-leaf kind.Constant token p form makes is = ap (λ o. record p { frames = with_form o p.frames }) is
-after-leaf kind.Quoted token p form makes is = ap (λ o. record p { frames = with_form o p.frames }) is
-after-leaf kind.IncludeName token p form makes is = ap (λ o. record p { frames = with_form o p.frames }) is
-after-leaf kind.OtherByte token p form makes is = ap (λ o. record p { frames = with_form o p.frames }) is
-after-leaf (kind.Sign s) token p form makes is = ap (λ o. record p { frames = with_form o p.frames }) is
-after-leaf kind.HashLine token p form makes is = ap (λ o. record p { frames = with_form o p.frames }) is
-after-leaf kind.HashLineEnd token p form makes is = ap (λ o. record p { frames = with_form o p.frames }) is
-after-leaf (kind.Code c) token p form makes is = ap (λ o. record p { frames = with_form o p.frames }) is
+after-leaf kind.Identifier token p form makes is = ap (form_behind kind.Identifier token p) is
+after-leaf kind.Constant token p form makes is = ap (form_behind kind.Constant token p) is
+after-leaf kind.Quoted token p form makes is = ap (form_behind kind.Quoted token p) is
+after-leaf kind.IncludeName token p form makes is = ap (form_behind kind.IncludeName token p) is
+after-leaf kind.OtherByte token p form makes is = ap (form_behind kind.OtherByte token p) is
+after-leaf (kind.Sign s) token p form makes is = ap (form_behind (kind.Sign s) token p) is
+after-leaf kind.HashLine token p form makes is = ap (form_behind kind.HashLine token p) is
+after-leaf kind.HashLineEnd token p form makes is = ap (form_behind kind.HashLineEnd token p) is
+after-leaf (kind.Code c) token p form makes is = ap (form_behind (kind.Code c) token p) is
 after-leaf _ token p form makes is = cc
 
 -- the names do not get fewer
@@ -141,14 +149,11 @@ module _ (k : TokKind) (token : Seen) (old new : StoredLists) (names names' : Li
     keeps = now.keeps;
   }
 
-  pub leaf-progress : (marks : MarkList) (steps : ℕ) → progress_of new.lists names' marks t' steps ≡ after_token k token (progress_of old.lists names marks t steps)
-  leaf-progress marks steps =
-      let q : Progress = progress_of old.lists names marks t steps in
-      ap (λ fs. record q { frames = fs; names = names'; scraps = t'.scraps; productions = t'.productions }) frames
-      ∙ (ap (λ ns. record q { frames = with_scrap (leaf_scrap form) q.frames; names = ns; scraps = t'.scraps; productions = t'.productions }) named
-      ∙ (ap (λ n. record q { frames = with_scrap (leaf_scrap form) q.frames; names = names_with k token.text names; scraps = n; productions = t'.productions }) counts.scraps
-      ∙ (ap (λ n. record q { frames = with_scrap (leaf_scrap form) q.frames; names = names_with k token.text names; productions = n }) counts.productions
-      ∙ sym (after-leaf k token (progress_of old.lists names marks t steps) form makes formed))))
+  pub leaf-progress : (marks : MarkList) (ended : List State) → progress_of new.lists names' marks t' ended ≡ after_token k token (progress_of old.lists names marks t ended)
+  leaf-progress marks ended =
+      ap (λ fs. record { frames = fs; known = record { names = names'; marks = marked_names marks; ended = ended } }) frames
+      ∙ (ap (λ ns. record { frames = with_scrap (leaf_scrap form) (frames_of old.lists t.nesting); known = record { names = ns; marks = marked_names marks; ended = ended } }) named
+      ∙ sym (after-leaf k token (progress_of old.lists names marks t ended) form makes formed))
 
 pub empty-line : (store : StoredLists) (ns : List Entry) → store.building ≡ None → IsSoundLine store ns []
 empty-line store ns e = record {
@@ -161,7 +166,7 @@ empty-line store ns e = record {
 
 pub record LeafStep (k : TokKind) (token : Seen) (old new : StoredLists) (names names' : List Entry) (t t' : Translator) : Type 0 where
   pub steps : Steps old new names names' t t'
-  pub progress : (marks : MarkList) (steps : ℕ) → progress_of new.lists names' marks t' steps ≡ after_token k token (progress_of old.lists names marks t steps)
+  pub progress : (marks : MarkList) (ended : List State) → progress_of new.lists names' marks t' ended ≡ after_token k token (progress_of old.lists names marks t ended)
 
 pub leaf-step : (k : TokKind) (token : Seen) (old new : StoredLists) (names names' : List Entry) (t t' : Translator) (leaf : Leaf) → IsTranslating old names t → IsTied old.lists → MakesLeaf k → new.building ≡ None
     → IfSome (token_form k token.text token.hash_line token.span.start names) (λ form. HasForm form leaf old.lists new.lists) → names' ≡ names_with k token.text names
@@ -172,5 +177,5 @@ leaf-step k token old new names names' t t' leaf is tied makes idle has named so
     let alone : IsSoundLine new names' (entry_of leaf ∷ []) = sound [] (empty-line old names is.idle) in
     record {
       steps = leaf-steps k token old new names names' t t' leaf f.form is tied makes idle f.is f.has named alone made counts;
-      progress = λ marks steps. leaf-progress k token old new names names' t t' leaf f.form is tied makes idle f.is f.has named alone made counts marks steps;
+      progress = λ marks ended. leaf-progress k token old new names names' t t' leaf f.form is tied makes idle f.is f.has named alone made counts marks ended;
     }

@@ -1,8 +1,7 @@
 pub mod Innermost
 pub mod WalkSteps
 pub mod WalkLoop
-pub mod TranslatedRows
-pub mod ShownTokens
+mod TranslatedRows
 pub mod GatherSteps
 pub mod GatherTrees
 pub mod GatherLines
@@ -11,6 +10,13 @@ pub mod Beside
 pub mod OpenLaws
 pub mod LeafSteps
 pub mod Retypings
+pub mod Sums
 pub mod FinishSteps
 pub mod AnswerSteps
 pub mod EndSteps
+pub mod NestSizes
+pub mod Joined
+pub mod ShownLaws
+pub mod WellNests
+pub mod HeadsShown
+pub mod Limits

@@ -23,8 +23,9 @@ use Rattle.cw_reduce.specs.declared.nesting.Open.{Open}
 use Rattle.cw_reduce.specs.declared.nesting.Open.TheVariants.{CText, Comment}
 use Rattle.cw_reduce.specs.Gathering.{part_seen, inner_lists}
 use Rattle.cw_reduce.specs.Opening.{with_entry, with_part, frame_of, frames_of, open_roots, all_roots, IsNamedItem, AreSoundScraps, IsSoundFrame}
-use Rattle.cw_reduce.specs.Translating.{Frame, CommentItem, Piece, InnerText, with_scrap, with_item}
-use Rattle.cw_reduce.specs.Translating.{CText as CTextFrame, Comment as CommentFrame}
+use Rattle.cw_reduce.specs.Reading.{Frame, with_scrap, with_item}
+use Rattle.cw_reduce.specs.Translating.{CommentItem, Piece, InnerText}
+use Rattle.cw_reduce.specs.Reading.{CText as CTextFrame, Comment as CommentFrame}
 use Rattle.cw_reduce.proofs.Beside.{left-roots}
 
 -- a scrap and a part more

@@ -1,8 +1,10 @@
 pub mod Reduction
 pub mod Translating
+pub mod Counting
+pub mod Reading
 pub mod Gathering
 pub mod Visible
 pub mod TranslationLaws
 pub mod Opening
 pub mod Retyping
-pub mod StepLimits
+pub mod NameParts

@@ -1,14 +1,18 @@
 -- What is open while a C text is read, over the store in which its translation is built.
-use Rattle.std.specs.Prelude.{◌≡◌, ℕ, ◌*◌, ◌<◌, ◌≤◌, true, List, [], ◌∷◌, ◌++◌, length, map, All, None}
+use Rattle.std.specs.Prelude.{◌≡◌, ℕ, ◌+◌, ◌*◌, ◌<◌, ◌≤◌, true, List, [], ◌∷◌, ◌++◌, length, map, All, None}
 use Rattle.std.specs.List.{list_all}
 use Rattle.cw_lex.specs.declared.tokens.TokKind.{TokKind}
 use Rattle.cw_lex.specs.declared.tokens.TokKind.TheVariants as kind
 use Rattle.cw_lex.specs.Answers.{Answer, Token, Begin, Finish, Note, seen}
 use Rattle.cw_lex.specs.declared.tokens.Lexed.{Lexed}
 use Rattle.cw_lex.specs.declared.tokens.Lexed.TheVariants as lexed
+use Rattle.cw_base.specs.declared.flags.Flags.{Flags}
 use Rattle.cw_names.specs.Names.{Entry}
 use Rattle.cw_trees.specs.Joining.{Scrap, scrap_agrees}
-use Rattle.cw_table.specs.Normal.{is_fine}
+use Rattle.cw_table.specs.Normal.{count, is_fine}
+use Rattle.cw_table.specs.Productions.{productions}
+use Rattle.cw_table.specs.Rewriting.{State}
+use Rattle.cw_table.specs.WalkCounts.{ticks}
 use Rattle.cw_tokens.specs.declared.token.Token.{Token as StoredToken}
 use Rattle.cw_tokens.specs.Shapes.{unfolded}
 use Rattle.cw_tokens.specs.Stored.{StoredLists}
@@ -21,8 +25,10 @@ use Rattle.cw_reduce.specs.declared.nesting.Open.TheVariants.{CText, Comment}
 use Rattle.cw_reduce.specs.declared.translating.Translated.{Translated}
 use Rattle.cw_reduce.specs.declared.translating.Translator.{Translator}
 use Rattle.cw_reduce.specs.Gathering.{part_seen, inner_lists}
-use Rattle.cw_reduce.specs.Translating.{Frame, CommentItem, Piece, InnerText, Progress, Translation}
-use Rattle.cw_reduce.specs.Translating.{CText as CTextFrame, Comment as CommentFrame}
+use Rattle.cw_reduce.specs.Counting.{scraps_in, productions_in, ticks_in}
+use Rattle.cw_reduce.specs.Reading.{Frame, Progress, last_scraps, all_ended}
+use Rattle.cw_reduce.specs.Reading.{CText as CTextFrame, Comment as CommentFrame}
+use Rattle.cw_reduce.specs.Translating.{CommentItem, Piece, InnerText, state_in}
 
 -- a scrap behind those of the innermost C text, and a part behind those of the innermost comment
 abbrev pub with_entry : LineEntry → List Open → List Open
@@ -99,24 +105,26 @@ StartsBelow limit (Begin token ∷ answers) = (token.span.start < limit) × Star
 StartsBelow limit (Finish token ∷ answers) = StartsBelow limit answers
 StartsBelow limit (Note note place ∷ answers) = StartsBelow limit answers
 
--- how far the translation has come
-abbrev pub progress_of : List (List StoredToken) → List Entry → MarkList → Translator → ℕ → Progress
-progress_of lists names marks t steps = record {
+-- how far a translation has come, where these texts have ended
+abbrev pub progress_of : List (List StoredToken) → List Entry → MarkList → Translator → List State → Progress
+progress_of lists names marks t ended = record {
   frames = frames_of lists t.nesting;
-  names = names;
-  marks = marked_names marks;
-  scraps = t.scraps;
-  productions = t.productions;
-  steps = steps;
+  known = record { names = names; marks = marked_names marks; ended = ended };
 }
 
--- what has become of a text
-abbrev pub translation_of : List (List StoredToken) → List Entry → MarkList → Translated → ℕ → Translation
-translation_of lists names marks done steps = record {
-  tree = unfolded lists done.list.index;
-  names = names;
-  marks = marked_names marks;
-  scraps = done.scraps;
-  productions = done.productions;
-  steps = steps;
-}
+-- A translation has come from where it stood to `p`: this is open and known now, and the texts that ended since were
+-- counted.
+pub record HasCome (flags : Flags) (t : Translator) (steps : ℕ) (lists : List (List StoredToken)) (names : List Entry) (marks : MarkList) (t' : Translator) (steps' : ℕ) (p : Progress) : Type 0 where
+  pub is : progress_of lists names marks t' p.known.ended ≡ p
+  pub scraps : t'.scraps ≡ t.scraps + scraps_in p.known.ended
+  pub productions_are : t'.productions ≡ t.productions + productions_in flags p.known.ended
+  pub steps_are : steps' ≡ steps + ticks_in flags p.known.ended
+
+-- A translation has ended that stood at `p`: the text that was open was reduced, put together and counted.
+pub record HasEnded (flags : Flags) (t : Translator) (steps : ℕ) (lists : List (List StoredToken)) (names : List Entry) (marks : MarkList) (done : Translated) (steps' : ℕ) (p : Progress) : Type 0 where
+  pub tree : unfolded lists done.list.index ≡ (all_ended flags p).tree
+  pub names_are : names ≡ (all_ended flags p).known.names
+  pub marks_are : marked_names marks ≡ (all_ended flags p).known.marks
+  pub scraps : done.scraps ≡ t.scraps + length (last_scraps p.frames)
+  pub productions_are : done.productions ≡ t.productions + count productions flags (state_in (last_scraps p.frames) p.known)
+  pub steps_are : steps' ≡ steps + ticks productions flags (state_in (last_scraps p.frames) p.known)

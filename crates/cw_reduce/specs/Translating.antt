@@ -1,24 +1,31 @@
--- The translation of a C text: its scraps are made of the scanner's answers one after another, and each text, the
--- inner texts of comments among them, is reduced and put together where it ends. Section names make no scraps here.
-use Rattle.std.specs.Prelude.{ℕ, ◌+◌, List, [], ◌∷◌, ◌++◌, length, Option, Some, None}
+-- The translation of a C text, over the nest of its tokens: a token makes a leaf; the inner texts of a comment are
+-- translated when its leaf is made; a text that ends is reduced and put together.
+use Rattle.std.specs.Prelude.{ℕ, List, [], ◌∷◌, ◌++◌, Option, Some, None}
 use Rattle.cw_base.specs.declared.category.Cat.{Cat}
-use Rattle.cw_base.specs.declared.category.Cat.TheVariants.{Insert}
+use Rattle.cw_base.specs.declared.category.Cat.TheVariants as cat
 use Rattle.cw_base.specs.declared.flags.Flags.{Flags}
-use Rattle.cw_base.specs.declared.mode.MathMode.TheVariants.{Text}
-use Rattle.cw_lex.specs.Answers.{Answer, Token, Begin, Finish, Note, Seen}
+use Rattle.cw_base.specs.declared.mode.MathMode.{MathMode}
+use Rattle.cw_base.specs.declared.mode.MathMode.TheVariants.{Text, Maybe}
+use Rattle.cw_lex.specs.Answers.{Answer, Seen}
+use Rattle.cw_lex.specs.declared.codes.Code.TheVariants as code
 use Rattle.cw_lex.specs.declared.tokens.TokKind.{TokKind}
 use Rattle.cw_lex.specs.declared.tokens.TokKind.TheVariants as kind
+use Rattle.cw_lex.specs.Heads.{Head, Headless, Macro, Format, Silent, Named, Headed, headed}
+use Rattle.cw_lex.specs.Nest.{Nest, End, Leaf, Group, nest}
 use Rattle.cw_names.specs.Names.{Entry}
 use Rattle.cw_trees.specs.declared.Control.TheVariants as control
 use Rattle.cw_trees.specs.Tree.{Tree, Empty, Then, Inner, Source, Sign}
 use Rattle.cw_trees.specs.Joining.{Scrap, whole}
-use Rattle.cw_table.specs.Normal.{normal, count}
+use Rattle.cw_table.specs.Normal.{normal}
 use Rattle.cw_table.specs.Productions.{productions}
 use Rattle.cw_table.specs.Rewriting.{State}
-use Rattle.cw_table.specs.WalkCounts.{ticks}
+use Rattle.cw_tokens.specs.declared.token.Token.{Token}
+use Rattle.cw_tokens.specs.declared.token.Token.TheVariants as token
 use Rattle.cw_tokens.specs.Shapes.{tree_in}
 use Rattle.cw_scraps.specs.Applying.{categories}
 use Rattle.cw_scraps.specs.Leaves.{LeafForm, token_form, names_with}
+
+-- ## Scraps
 
 -- the scrap of a token without nested text
 abbrev pub leaf_scrap : LeafForm → Scrap
@@ -38,35 +45,45 @@ abbrev pub comment_tree : ℕ → List CommentItem → Tree
 comment_tree number items = Then (Sign control.Cancel) (Then (Source number Text) (comment_rest items))
 
 abbrev pub comment_scrap : ℕ → List CommentItem → Scrap
-comment_scrap number items = record { cat = Insert; tree = comment_tree number items; left = Text; right = Text }
+comment_scrap number items = record { cat = cat.Insert; tree = comment_tree number items; left = Text; right = Text }
 
--- What is open: C text with its scraps so far, and a comment, which begins at this number, with its items so far.
-pub data Frame : Type 0 where
-  CText : (scraps : List Scrap) → Frame
-  Comment : (number : ℕ) → (items : List CommentItem) → Frame
+-- ## What goes on from token to token
 
--- a scrap behind those of the innermost C text, and an item behind those of the innermost comment
-abbrev pub with_scrap : Scrap → List Frame → List Frame
-with_scrap scrap (CText scraps ∷ frames) = CText (scraps ++ scrap ∷ []) ∷ frames
-with_scrap scrap frames = frames
-
-abbrev pub with_item : CommentItem → List Frame → List Frame
-with_item item (Comment number items ∷ frames) = Comment number (items ++ item ∷ []) ∷ frames
-with_item item frames = frames
-
-abbrev pub with_form : Option LeafForm → List Frame → List Frame
-with_form None frames = frames
-with_form (Some form) frames = with_scrap (leaf_scrap form) frames
-
--- What is open, the innermost first; the names and the marks so far; and how many scraps were reduced, in how many
--- productions and steps.
-pub record Progress : Type 0 where
-  pub frames : List Frame
+-- What is known: the names, the marks, and what was reduced, in the order in which the texts ended.
+pub record Known : Type 0 where
   pub names : List Entry
   pub marks : List ℕ
-  pub scraps : ℕ
-  pub productions : ℕ
-  pub steps : ℕ
+  pub ended : List State
+
+abbrev pub begin : List Entry → List ℕ → Known
+begin names marks = record { names = names; marks = marks; ended = [] }
+
+abbrev pub with_names : List Entry → Known → Known
+with_names names known = record { names = names; marks = known.marks; ended = known.ended }
+
+-- What is made of tokens: scraps of those of C text, and items of those of a comment.
+pub record Made : Type 0 where
+  pub scraps : List Scrap
+  pub items : List CommentItem
+  pub known : Known
+
+abbrev pub nothing : Known → Made
+nothing known = record { scraps = []; items = []; known = known }
+
+abbrev pub one_scrap : Scrap → Known → Made
+one_scrap scrap known = record { scraps = scrap ∷ []; items = []; known = known }
+
+abbrev pub one_item : CommentItem → Known → Made
+one_item item known = record { scraps = []; items = item ∷ []; known = known }
+
+-- one after the other, where the first is known to the second
+abbrev pub beside : Made → Made → Made
+beside first second = record { scraps = first.scraps ++ second.scraps; items = first.items ++ second.items; known = second.known }
+
+abbrev pub before : Made → (Known → Made) → Made
+before first rest = beside first (rest first.known)
+
+-- ## The end of a text
 
 -- names with these categories
 abbrev pub with_categories : List Cat → List Entry → List Entry
@@ -74,82 +91,164 @@ with_categories [] names = names
 with_categories cats [] = []
 with_categories (cat ∷ cats) (name ∷ names) = record name { category = cat } ∷ with_categories cats names
 
--- A C text ends: its scraps are reduced, with the categories that hold there.
-abbrev pub state_in : List Scrap → Progress → State
-state_in scraps p = record { scraps = scraps; marks = p.marks; cats = categories p.names }
-
-abbrev pub put_together : Flags → List Scrap → Progress → Tree
-put_together flags scraps p = whole (normal productions flags (state_in scraps p)).scraps
-
-abbrev pub reduced : Flags → List Scrap → Progress → Progress
-reduced flags scraps p = record {
-  frames = p.frames;
-  names = with_categories (normal productions flags (state_in scraps p)).cats p.names;
-  marks = (normal productions flags (state_in scraps p)).marks;
-  scraps = p.scraps + length scraps;
-  productions = p.productions + count productions flags (state_in scraps p);
-  steps = p.steps + ticks productions flags (state_in scraps p);
-}
-
-abbrev pub with_frames : List Frame → Progress → Progress
-with_frames frames p = record p { frames = frames }
-
--- One answer of the scanner.
-abbrev pub after_token : TokKind → Seen → Progress → Progress
-after_token kind.Text token p = with_frames (with_item (Piece token.span.start) p.frames) p
-after_token k token p = record p {
-  frames = with_form (token_form k token.text token.hash_line token.span.start p.names) p.frames;
-  names = names_with k token.text p.names;
-}
-
-abbrev pub after_begin : TokKind → ℕ → Progress → Progress
-after_begin kind.InnerText number p = with_frames (CText [] ∷ p.frames) p
-after_begin kind.LongComment number p = with_frames (Comment number [] ∷ p.frames) p
-after_begin kind.ShortComment number p = with_frames (Comment number [] ∷ p.frames) p
-after_begin _ number p = p
-
--- the innermost frame ends
-abbrev pub after_finish : Flags → List Frame → Progress → Progress
-after_finish flags (CText scraps ∷ frames) p = with_frames (with_item (InnerText (put_together flags scraps p)) frames) (reduced flags scraps p)
-after_finish flags (Comment number items ∷ frames) p = with_frames (with_scrap (comment_scrap number items) frames) p
-after_finish flags [] p = p
-
-abbrev pub after_answer : Flags → Answer → Progress → Progress
-after_answer flags (Token token) p = after_token token.kind token p
-after_answer flags (Begin token) p = after_begin token.kind token.span.start p
-after_answer flags (Finish token) p = after_finish flags p.frames p
-after_answer flags (Note note place) p = p
-
-abbrev pub after_answers : Flags → List Answer → Progress → Progress
-after_answers flags [] p = p
-after_answers flags (answer ∷ answers) p = after_answers flags answers (after_answer flags answer p)
-
--- the scraps of the C text that is open alone at the end
-abbrev pub last_scraps : List Frame → List Scrap
-last_scraps (CText scraps ∷ []) = scraps
-last_scraps frames = []
-
--- a C text begins, with these names and marks
-abbrev pub begun : List Entry → List ℕ → Progress
-begun names marks = record { frames = CText [] ∷ []; names = names; marks = marks; scraps = 0; productions = 0; steps = 0 }
-
--- The translation of a text: its tree, the names and the marks after it, and what was counted.
-pub record Translation : Type 0 where
+-- A text has ended: its scraps were reduced, with the categories that held there, and put together.
+pub record Ended : Type 0 where
   pub tree : Tree
+  pub known : Known
+
+abbrev pub state_in : List Scrap → Known → State
+state_in scraps known = record { scraps = scraps; marks = known.marks; cats = categories known.names }
+
+abbrev pub ended_as : State → State → Known → Ended
+ended_as begun done known = record {
+  tree = whole done.scraps;
+  known = record { names = with_categories done.cats known.names; marks = done.marks; ended = known.ended ++ begun ∷ [] };
+}
+
+abbrev pub end_from : Flags → State → Known → Ended
+end_from flags begun known = ended_as begun (normal productions flags begun) known
+
+abbrev pub end_of : Flags → Made → Ended
+end_of flags made = end_from flags (state_in made.scraps made.known) made.known
+
+-- ## Tokens, comments and inner texts
+
+-- A token. Of section names it is said elsewhere what they make.
+abbrev pub form_made : Option LeafForm → Known → Made
+form_made None known = nothing known
+form_made (Some form) known = one_scrap (leaf_scrap form) known
+
+abbrev pub token_made : (ℕ → Known → Made) → TokKind → Seen → Known → Made
+token_made name kind.Text token known = one_item (Piece token.span.start) known
+token_made name (kind.Code code.SectionName) token known = name token.span.start known
+token_made name (kind.Code code.FileName) token known = name token.span.start known
+token_made name k token known =
+    form_made (token_form k token.text token.hash_line token.span.start known.names) (with_names (names_with k token.text known.names) known)
+
+-- what begins and ends: an inner text of a comment, and a comment
+abbrev pub as_item : Ended → Made
+as_item text = one_item (InnerText text.tree) text.known
+
+abbrev pub group_made : Flags → TokKind → Seen → Made → Made
+group_made flags kind.InnerText token made = as_item (end_of flags made)
+group_made flags k token made = one_scrap (comment_scrap token.span.start made.items) made.known
+
+abbrev pub made : Flags → (ℕ → Known → Made) → Nest → Known → Made
+made flags name End known = nothing known
+made flags name (Leaf token rest) known = before (token_made name token.kind token known) (made flags name rest)
+made flags name (Group token inner rest) known =
+    before (group_made flags token.kind token (made flags name inner known)) (made flags name rest)
+
+-- A text without a head, in which no section name stands for anything.
+abbrev pub no_name : ℕ → Known → Made
+no_name number known = nothing known
+
+abbrev pub plain_text : Flags → List Answer → Known → Ended
+plain_text flags answers known = end_of flags (made flags no_name (nest answers) known)
+
+-- ## Section names
+
+-- What a section name stands for, by the number of its token: the answers of its inner texts, which are plain texts. A
+-- name that stands for nothing has none, and makes no scrap.
+abbrev pub NameTexts : Type 0
+NameTexts = ℕ → Option (List (List Answer))
+
+-- no name stands for anything
+abbrev pub unnamed : NameTexts
+unnamed number = None
+
+-- Its leaf is its token, and then each inner text with the control for the text behind it.
+abbrev pub inner_before : Tree → Ended → Ended
+inner_before tree rest = record { tree = Inner tree (Then (Sign control.NameText) rest.tree); known = rest.known }
+
+abbrev pub then_texts : Ended → (Known → Ended) → Ended
+then_texts text rest = inner_before text.tree (rest text.known)
+
+abbrev pub texts_made : Flags → List (List Answer) → Tree → Known → Ended
+texts_made flags [] behind known = record { tree = behind; known = known }
+texts_made flags (text ∷ texts) behind known = then_texts (plain_text flags text known) (texts_made flags texts behind)
+
+abbrev pub scrap_of_name : Cat → MathMode → ℕ → Ended → Made
+scrap_of_name c mode number text =
+    one_scrap (record { cat = c; tree = Then (Source number Maybe) text.tree; left = mode; right = mode }) text.known
+
+abbrev pub texts_named : Flags → Option (List (List Answer)) → Cat → MathMode → Tree → ℕ → Known → Made
+texts_named flags None c mode behind number known = nothing known
+texts_named flags (Some texts) c mode behind number known =
+    scrap_of_name c mode number (texts_made flags texts (Then (Sign control.NameEnd) behind) known)
+
+abbrev pub leaf_of_name : Flags → NameTexts → ℕ → Known → Made
+leaf_of_name flags named number known = texts_named flags (named number) cat.SectionScrap Maybe Empty number known
+
+-- ## Heads
+
+-- The words of a head as tokens, and the names with theirs.
+pub record Spelled : Type 0 where
+  pub tokens : List Token
   pub names : List Entry
-  pub marks : List ℕ
-  pub scraps : ℕ
-  pub productions : ℕ
-  pub steps : ℕ
 
-abbrev pub ended : Flags → List Scrap → Progress → Translation
-ended flags scraps p =
-    let r = reduced flags scraps p in
-    record { tree = put_together flags scraps p; names = r.names; marks = r.marks; scraps = r.scraps; productions = r.productions; steps = r.steps }
+abbrev pub spelled_behind : List Token → Spelled → Spelled
+spelled_behind tokens rest = record { tokens = tokens ++ rest.tokens; names = rest.names }
 
-abbrev pub all_ended : Flags → Progress → Translation
-all_ended flags p = ended flags (last_scraps p.frames) p
+abbrev pub form_tokens : Option LeafForm → List Token
+form_tokens None = []
+form_tokens (Some form) = form.tokens
 
--- the translation of a text of which these are the scanner's answers
-unfoldable pub translation : Flags → List Answer → List Entry → List ℕ → Translation
-translation flags answers names marks = all_ended flags (after_answers flags answers (begun names marks))
+abbrev pub word_tokens : Seen → List Entry → List Token
+word_tokens word names = form_tokens (token_form word.kind word.text word.hash_line word.span.start names)
+
+abbrev pub spelled : List Seen → List Entry → Spelled
+spelled [] names = record { tokens = []; names = names }
+spelled (word ∷ words) names = spelled_behind (word_tokens word names) (spelled words (names_with word.kind word.text names))
+
+-- the first of two names, and the second
+abbrev pub first_word : List Seen → List Seen
+first_word [] = []
+first_word (word ∷ words) = word ∷ []
+
+abbrev pub later_words : List Seen → List Seen
+later_words [] = []
+later_words (word ∷ words) = words
+
+-- Heads of definitions are dead scraps, of the code's token and the words.
+abbrev pub dead : ℕ → List Token → LeafForm
+dead number tokens = record {
+  cat = cat.Dead;
+  mode = Text;
+  tokens = token.Control control.Backup ∷ token.Source number Text ∷ tokens;
+}
+
+abbrev pub dollared : List Token → List Token
+dollared [] = []
+dollared (first ∷ tokens) = token.Control control.Dollar ∷ first ∷ tokens ++ token.Control control.Dollar ∷ []
+
+abbrev pub macro_made : ℕ → Spelled → Known → Made
+macro_made number words known =
+    one_scrap (leaf_scrap (dead number (dollared words.tokens ++ token.Control control.OptionalBreak ∷ []))) (with_names words.names known)
+
+abbrev pub format_made : ℕ → Spelled → Spelled → Known → Made
+format_made number first second known =
+    one_scrap (leaf_scrap (dead number (first.tokens ++ token.Control control.OptionalBreak ∷ second.tokens))) (with_names second.names known)
+
+abbrev pub format_from : ℕ → Spelled → List Seen → Known → Made
+format_from number first second known = format_made number first (spelled second first.names) known
+
+-- the sign of a named C part, and the break behind it
+abbrev pub sign_behind : ℕ → Tree
+sign_behind number = Then (Source number Text) (Then (Sign control.Break) Empty)
+
+abbrev pub head_made : Flags → NameTexts → Head → Known → Made
+head_made flags named Headless known = nothing known
+head_made flags named (Macro number words) known = macro_made number (spelled words known.names) known
+head_made flags named (Format number words) known = format_from number (spelled (first_word words) known.names) (later_words words) known
+head_made flags named (Silent words) known = nothing (with_names (spelled words known.names).names known)
+head_made flags named (Named number sign) known = texts_named flags (named number) cat.Dead Text (sign_behind sign) number known
+
+-- ## The translation
+
+abbrev pub headed_made : Flags → NameTexts → Headed → Known → Made
+headed_made flags named h known = before (head_made flags named h.head known) (made flags (leaf_of_name flags named) h.rest)
+
+-- The translation of a text of which these are the scanner's answers.
+unfoldable pub translated : Flags → NameTexts → List Answer → List Entry → List ℕ → Ended
+translated flags named answers names marks = end_of flags (headed_made flags named (headed (nest answers)) (begin names marks))

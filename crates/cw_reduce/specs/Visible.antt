@@ -1,11 +1,13 @@
 -- The tokens of a text that its translation shows: all that make a scrap or stand in a comment, but for the codes
 -- that only lay out and the end of a `#` line.
-use Rattle.std.specs.Prelude.{ℕ, Bool, true, false, List, [], ◌∷◌, ◌++◌}
-use Rattle.cw_lex.specs.Answers.{Answer, Token, Begin, Finish, Note}
+use Rattle.std.specs.Prelude.{ℕ, Bool, true, false, List, [], ◌∷◌, ◌++◌, map}
+use Rattle.cw_lex.specs.Answers.{Answer, Seen}
 use Rattle.cw_lex.specs.declared.codes.Code.{Code}
 use Rattle.cw_lex.specs.declared.codes.Code.TheVariants as code
 use Rattle.cw_lex.specs.declared.tokens.TokKind.{TokKind}
 use Rattle.cw_lex.specs.declared.tokens.TokKind.TheVariants as kind
+use Rattle.cw_lex.specs.Heads.{Head, Headless, Macro, Format, Silent, Named, Headed, headed}
+use Rattle.cw_lex.specs.Nest.{Nest, End, Leaf, Group, nest}
 
 abbrev pub is_shown_code : Code → Bool
 is_shown_code code.TexBox = true
@@ -37,13 +39,36 @@ abbrev pub number_if : Bool → ℕ → List ℕ
 number_if true number = number ∷ []
 number_if false number = []
 
--- the numbers of the visible tokens, in order; the number of a token is the place of its first byte
-abbrev pub visible_of : Answer → List ℕ
-visible_of (Token token) = number_if (is_shown token.kind) token.span.start
-visible_of (Begin token) = number_if (is_comment token.kind) token.span.start
-visible_of (Finish token) = []
-visible_of (Note note place) = []
+-- ## Whole texts
 
-abbrev pub visible : List Answer → List ℕ
-visible [] = []
-visible (answer ∷ answers) = visible_of answer ++ visible answers
+-- A section name is shown where it stands for something.
+abbrev pub shown_token : (ℕ → Bool) → TokKind → ℕ → List ℕ
+shown_token is_named (kind.Code code.SectionName) number = number_if (is_named number) number
+shown_token is_named (kind.Code code.FileName) number = number_if (is_named number) number
+shown_token is_named k number = number_if (is_shown k) number
+
+-- A comment is shown by its number, and then what stands in it.
+abbrev pub shown_in : (ℕ → Bool) → Nest → List ℕ
+shown_in is_named End = []
+shown_in is_named (Leaf token rest) = shown_token is_named token.kind token.span.start ++ shown_in is_named rest
+shown_in is_named (Group token inner rest) =
+    number_if (is_comment token.kind) token.span.start ++ shown_in is_named inner ++ shown_in is_named rest
+
+-- All words of a head are shown, but for those of a definition that prints nothing.
+abbrev pub starts : List Seen → List ℕ
+starts words = map (λ word. word.span.start) words
+
+abbrev pub shown_head : (ℕ → Bool) → Head → List ℕ
+shown_head is_named Headless = []
+shown_head is_named (Macro number words) = number ∷ starts words
+shown_head is_named (Format number words) = number ∷ starts words
+shown_head is_named (Silent words) = []
+shown_head is_named (Named number sign) = number_if (is_named number) number ++ number_if (is_named number) sign
+
+abbrev pub shown_headed : (ℕ → Bool) → Headed → List ℕ
+shown_headed is_named h = shown_head is_named h.head ++ shown_in is_named h.rest
+
+-- The numbers of the visible tokens of a text of which these are the scanner's answers, in order. The number of a token
+-- is the place of its first byte.
+abbrev pub shown : (ℕ → Bool) → List Answer → List ℕ
+shown is_named answers = shown_headed is_named (headed (nest answers))

@@ -1,22 +1,25 @@
-ghost use Rattle.std.specs.Prelude.{◌≡◌, ℕ, ◌+◌, ◌*◌, ◌^◌, ◌<◌, ◌≤◌, ◌⊎◌, [], ◌∷◌, length, IfOk, OnOk, OnErr, None};
+ghost use Rattle.std.specs.Prelude.{◌≡◌, ℕ, ◌+◌, ◌*◌, ◌^◌, ◌<◌, ◌≤◌, ◌⊎◌, List, [], ◌∷◌, length, true, false, IfOk, OnOk, OnErr, None};
 ghost use Rattle.cw_table.specs.Normal.{count, normal};
 ghost use Rattle.cw_table.specs.Productions.{productions};
+ghost use Rattle.cw_table.specs.Rewriting.{State};
 ghost use Rattle.cw_table.specs.WalkCounts.{reservings, ticks};
 ghost use Rattle.cw_trees.specs.Joining.{whole};
 ghost use Rattle.cw_tokens.specs.Shapes.{unfolded};
-ghost use Rattle.cw_lex.specs.Answers.{seen};
+ghost use Rattle.cw_lex.specs.Answers.{Finish, Seen, seen};
 ghost use Rattle.cw_lex.specs.Lexing.{tokens_of};
+ghost use Rattle.cw_lex.specs.Nested.{begins_section_in, is_c_mode};
 ghost use Rattle.cw_scraps.specs.Applying.{state_of};
 ghost use Rattle.cw_scraps.specs.Changing.{Keeps};
 ghost use Rattle.cw_scraps.specs.Leaves.{MakesLeaf, names_with};
 ghost use Rattle.cw_scraps.specs.Lines.{AreRoots, IsNamedBelow, IsSoundLine, roots_of};
 ghost use Rattle.cw_scraps.specs.Marking.{MarkList, marked_names};
 ghost use Rattle.cw_reduce.specs.declared.nesting.Open.TheVariants as CTexts;
-ghost use Rattle.cw_reduce.specs.Opening.{IsTranslating, StartsBelow, all_roots, answers_in, begun_by, frames_of, progress_of, translation_of};
+ghost use Rattle.cw_reduce.specs.Counting.{limit_in, productions_in, scraps_in, text_limit, ticks_in};
+ghost use Rattle.cw_reduce.specs.Opening.{HasCome, HasEnded, IsTranslating, StartsBelow, all_roots, answers_in, begun_by, progress_of};
+ghost use Rattle.cw_reduce.specs.Reading.{after_answers, after_finish, after_token, begun, last_scraps};
 ghost use Rattle.cw_reduce.specs.Reduction.{words_of};
-ghost use Rattle.cw_reduce.specs.Retyping.{NamesAmong, NamesHere, NamesOnTheWay, Retypes};
-ghost use Rattle.cw_reduce.specs.StepLimits.{finish_limit, inner_limit, text_limit, whole_limit};
-ghost use Rattle.cw_reduce.specs.Translating.{after_answers, after_finish, after_token, all_ended, begun, last_scraps, state_in, translation, with_categories};
+ghost use Rattle.cw_reduce.specs.Retyping.{NamesAmong, NamesOnTheWay, Retypes, RetypesIn};
+ghost use Rattle.cw_reduce.specs.Translating.{state_in, translated, unnamed, with_categories};
 
 use crate::gathering::{CommentPart, comment_list, put_together};
 use crate::kinds::makes_leaf;
@@ -108,7 +111,9 @@ impl Translator {
         requires translating { IsTranslating store.old names.old self.old }
         requires start { token.now.span.start < 2 ^ 32 }
         ensures translating { OnOk result (IsTranslating store.new names.new self.new) }
-        ensures progress { OnOk result ((marks : MarkList) (steps : ℕ) → progress_of store.new.lists names.new marks self.new steps ≡ after_token token.now.kind (seen token.now) (progress_of store.old.lists names.old marks self.old steps)) }
+        ensures progress { OnOk result ((marks : MarkList) (ended : List State) → progress_of store.new.lists names.new marks self.new ended ≡ after_token token.now.kind (seen token.now) (progress_of store.old.lists names.old marks self.old ended)) }
+        ensures scraps { self.new.scraps ≡ self.old.scraps }
+        ensures productions { self.new.productions ≡ self.old.productions }
         ensures keeps { OnOk result (Keeps store.old.lists store.new.lists (all_roots self.old.nesting) (all_roots self.new.nesting)) }
         ensures names { (names.new ≡ names.old) ⊎ (names.new ≡ names_with token.now.kind token.now.text.now names.old) }
         ensures idle { store.new.building ≡ None }
@@ -129,7 +134,9 @@ impl Translator {
         requires start { token.now.span.start < 2 ^ 32 }
         requires makes { MakesLeaf token.now.kind }
         ensures translating { OnOk result (IsTranslating store.new names.new self.new) }
-        ensures progress { OnOk result ((marks : MarkList) (steps : ℕ) → progress_of store.new.lists names.new marks self.new steps ≡ after_token token.now.kind (seen token.now) (progress_of store.old.lists names.old marks self.old steps)) }
+        ensures progress { OnOk result ((marks : MarkList) (ended : List State) → progress_of store.new.lists names.new marks self.new ended ≡ after_token token.now.kind (seen token.now) (progress_of store.old.lists names.old marks self.old ended)) }
+        ensures scraps { self.new.scraps ≡ self.old.scraps }
+        ensures productions { self.new.productions ≡ self.old.productions }
         ensures keeps { OnOk result (Keeps store.old.lists store.new.lists (all_roots self.old.nesting) (all_roots self.new.nesting)) }
         ensures names { (names.new ≡ names.old) ⊎ (names.new ≡ names_with token.now.kind token.now.text.now names.old) }
         ensures idle { store.new.building ≡ None }
@@ -177,10 +184,10 @@ impl Translator {
     ) -> Result<(), Memory>
         requires translating { IsTranslating store.old names.old self.old }
         ensures translating { OnOk result (IsTranslating store.new names.new self.new) }
-        ensures progress { OnOk result (progress_of store.new.lists names.new marks.new self.new steps.new ≡ after_finish flags.now (frames_of store.old.lists self.old.nesting) (progress_of store.old.lists names.old marks.old self.old steps.old)) }
+        ensures come { OnOk result (let p = progress_of store.old.lists names.old marks.old self.old [] in HasCome flags.now self.old steps.old store.new.lists names.new marks.new self.new steps.new (after_finish flags.now p.frames p.known)) }
         ensures keeps { OnOk result (Keeps store.old.lists store.new.lists (all_roots self.old.nesting) (all_roots self.new.nesting)) }
-        ensures names { NamesHere flags.now (progress_of store.old.lists names.old marks.old self.old steps.old) names.new }
-        ensures bound { steps.new ≤ steps.old + finish_limit flags.now (frames_of store.old.lists self.old.nesting) (progress_of store.old.lists names.old marks.old self.old steps.old) }
+        ensures names { (token : Seen) → NamesAmong flags.now (Finish token ∷ []) (progress_of store.old.lists names.old marks.old self.old []) names.new }
+        ensures bound { let p = progress_of store.old.lists names.old marks.old self.old [] in steps.new ≤ steps.old + limit_in flags.now (after_finish flags.now p.frames p.known).known.ended }
         ensures idle { store.new.building ≡ None }
     {
         let _spare = store.spare();
@@ -217,10 +224,10 @@ impl Translator {
         requires translating { IsTranslating store.old names.old self.old }
         requires start { StartsBelow (2 ^ 32) (answers_in answer.now) }
         ensures translating { OnOk result (IsTranslating store.new names.new self.new) }
-        ensures progress { OnOk result (progress_of store.new.lists names.new marks.new self.new steps.new ≡ after_answers flags.now (answers_in answer.now) (progress_of store.old.lists names.old marks.old self.old steps.old)) }
+        ensures come { OnOk result (HasCome flags.now self.old steps.old store.new.lists names.new marks.new self.new steps.new (after_answers flags.now (answers_in answer.now) (progress_of store.old.lists names.old marks.old self.old []))) }
         ensures keeps { OnOk result (Keeps store.old.lists store.new.lists (all_roots self.old.nesting) (all_roots self.new.nesting)) }
-        ensures names { NamesAmong flags.now (answers_in answer.now) (progress_of store.old.lists names.old marks.old self.old steps.old) names.new }
-        ensures bound { steps.new ≤ steps.old + inner_limit flags.now (answers_in answer.now) (progress_of store.old.lists names.old marks.old self.old steps.old) }
+        ensures names { NamesAmong flags.now (answers_in answer.now) (progress_of store.old.lists names.old marks.old self.old []) names.new }
+        ensures bound { steps.new ≤ steps.old + limit_in flags.now (after_answers flags.now (answers_in answer.now) (progress_of store.old.lists names.old marks.old self.old [])).known.ended }
         ensures idle { store.new.building ≡ None }
     {
         match answer {
@@ -245,10 +252,10 @@ impl Translator {
         requires translating { IsTranslating store.old names.old self.old }
         requires start { StartsBelow (2 ^ 32) lexer.old }
         ensures translating { OnOk result (IsTranslating store.new names.new self.new) }
-        ensures progress { OnOk result (progress_of store.new.lists names.new marks.new self.new steps.new ≡ after_answers flags.now lexer.old (progress_of store.old.lists names.old marks.old self.old steps.old)) }
+        ensures come { OnOk result (HasCome flags.now self.old steps.old store.new.lists names.new marks.new self.new steps.new (after_answers flags.now lexer.old (progress_of store.old.lists names.old marks.old self.old []))) }
         ensures keeps { OnOk result (Keeps store.old.lists store.new.lists (all_roots self.old.nesting) (all_roots self.new.nesting)) }
-        ensures names { OnErr result (NamesOnTheWay flags.now lexer.old (progress_of store.old.lists names.old marks.old self.old steps.old) names.new) }
-        ensures bound { steps.new ≤ steps.old + inner_limit flags.now lexer.old (progress_of store.old.lists names.old marks.old self.old steps.old) }
+        ensures names { OnErr result (NamesOnTheWay flags.now lexer.old (progress_of store.old.lists names.old marks.old self.old []) names.new) }
+        ensures bound { steps.new ≤ steps.old + limit_in flags.now (after_answers flags.now lexer.old (progress_of store.old.lists names.old marks.old self.old [])).known.ended }
         ensures idle { store.new.building ≡ None }
     {
         loop {
@@ -271,13 +278,13 @@ impl Translator {
         steps: &mut Steps<L>,
     ) -> Result<Translated, Memory>
         requires translating { IsTranslating store.old names.old self }
-        ensures ended { IfOk result (λ done. translation_of store.new.lists names.new marks.new done steps.new ≡ all_ended flags.now (progress_of store.old.lists names.old marks.old self steps.old)) }
+        ensures ended { IfOk result (λ done. HasEnded flags.now self steps.old store.new.lists names.new marks.new done steps.new (progress_of store.old.lists names.old marks.old self [])) }
         ensures few { IfOk result (λ done. done.productions ≤ 8 * done.scraps) }
         ensures named { IfOk result (λ done. IsNamedBelow (length names.new) (unfolded store.new.lists done.list.index)) }
         ensures root { IfOk result (λ done. AreRoots store.new.lists (done.list.index ∷ [])) }
         ensures keeps { IfOk result (λ done. Keeps store.old.lists store.new.lists (all_roots self.nesting) (done.list.index ∷ [])) }
-        ensures retypes { let p = progress_of store.old.lists names.old marks.old self steps.old in Retypes flags.now (state_in (last_scraps p.frames) p) names.old names.new }
-        ensures bound { let p = progress_of store.old.lists names.old marks.old self steps.old in steps.new ≤ steps.old + text_limit flags.now (last_scraps p.frames) p }
+        ensures retypes { let p = progress_of store.old.lists names.old marks.old self [] in RetypesIn flags.now (last_scraps p.frames) p.known names.new }
+        ensures bound { let p = progress_of store.old.lists names.old marks.old self [] in steps.new ≤ steps.old + text_limit flags.now (state_in (last_scraps p.frames) p.known) }
         ensures idle { store.new.building ≡ None }
     {
         let line = self.nesting.take_line(alloc);
@@ -293,9 +300,9 @@ impl Translator {
 
 /// Translates a C text, whose first byte stands at `span.start`: its tokens become scraps, the inner texts of its
 /// comments are translated in the same store where they end, the scraps are reduced, and what no production joins
-/// stands side by side. Tokens have the place of their first byte as their number. Codes and section names that make no
-/// scrap are passed over. `Memory` is the only refusal; the names then have the categories after the productions that
-/// were done, and lists may have been added to the store.
+/// stands side by side. Tokens have the place of their first byte as their number. Codes that make no scrap are passed
+/// over, and so are section names, which stand for nothing. `Memory` is the only refusal; no production was done then in
+/// a text that had not ended, and lists may have been added to the store.
 pub fn translate<L: Ledger>(
     alloc: Global,
     text: &[u8],
@@ -310,23 +317,26 @@ pub fn translate<L: Ledger>(
     requires order { span.start ≤ span.end }
     requires within { span.end ≤ length text.now }
     requires short { length text.now ≤ 2 ^ 24 }
+    requires c_text { is_c_mode mode ≡ true }
+    requires uncut { begins_section_in (tokens_of text.now span.start span.end mode) ≡ false }
     requires idle { store.old.building ≡ None }
     // The tree, the names with their categories, the marks and the counts are those of the definition.
-    ensures tree { IfOk result (λ done. unfolded store.new.lists done.list.index ≡ (translation flags.now (tokens_of text.now span.start span.end mode) names.old (marked_names marks.old)).tree) }
-    ensures names { OnOk result (names.new ≡ (translation flags.now (tokens_of text.now span.start span.end mode) names.old (marked_names marks.old)).names) }
-    ensures marks { OnOk result (marked_names marks.new ≡ (translation flags.now (tokens_of text.now span.start span.end mode) names.old (marked_names marks.old)).marks) }
-    ensures scraps { IfOk result (λ done. done.scraps ≡ (translation flags.now (tokens_of text.now span.start span.end mode) names.old (marked_names marks.old)).scraps) }
-    ensures productions { IfOk result (λ done. done.productions ≡ (translation flags.now (tokens_of text.now span.start span.end mode) names.old (marked_names marks.old)).productions) }
+    ensures tree { IfOk result (λ done. unfolded store.new.lists done.list.index ≡ (translated flags.now unnamed (tokens_of text.now span.start span.end mode) names.old (marked_names marks.old)).tree) }
+    ensures names { OnOk result (names.new ≡ (translated flags.now unnamed (tokens_of text.now span.start span.end mode) names.old (marked_names marks.old)).known.names) }
+    ensures marks { OnOk result (marked_names marks.new ≡ (translated flags.now unnamed (tokens_of text.now span.start span.end mode) names.old (marked_names marks.old)).known.marks) }
+    ensures scraps { IfOk result (λ done. done.scraps ≡ scraps_in (translated flags.now unnamed (tokens_of text.now span.start span.end mode) names.old (marked_names marks.old)).known.ended) }
+    ensures productions { IfOk result (λ done. done.productions ≡ productions_in flags.now (translated flags.now unnamed (tokens_of text.now span.start span.end mode) names.old (marked_names marks.old)).known.ended) }
     ensures few { IfOk result (λ done. done.productions ≤ 8 * done.scraps) }
-    ensures steps { OnOk result (steps.new ≡ steps.old + (translation flags.now (tokens_of text.now span.start span.end mode) names.old (marked_names marks.old)).steps) }
+    ensures steps { OnOk result (steps.new ≡ steps.old + ticks_in flags.now (translated flags.now unnamed (tokens_of text.now span.start span.end mode) names.old (marked_names marks.old)).known.ended) }
     // Whatever it answers: of each text of n scraps 132 n steps, and n for each production by a row that reserves.
-    ensures bound { steps.new ≤ steps.old + whole_limit flags.now (tokens_of text.now span.start span.end mode) (begun names.old (marked_names marks.old)) }
+    ensures bound { steps.new ≤ steps.old + limit_in flags.now (translated flags.now unnamed (tokens_of text.now span.start span.end mode) names.old (marked_names marks.old)).known.ended }
     // The list is one of the store to which no list refers, and the names in its tree are names.
     ensures root { IfOk result (λ done. AreRoots store.new.lists (done.list.index ∷ [])) }
     ensures named { IfOk result (λ done. IsNamedBelow (length names.new) (unfolded store.new.lists done.list.index)) }
     // The lists that the store held stay, and no new list refers to them.
     ensures others { IfOk result (λ done. Keeps store.old.lists store.new.lists [] (done.list.index ∷ [])) }
     ensures idle { store.new.building ≡ None }
+    // The names are those at an answer, or those after some productions of a text that has ended.
     ensures refused { OnErr result (NamesOnTheWay flags.now (tokens_of text.now span.start span.end mode) (begun names.old (marked_names marks.old)) names.new) }
 {
     let mut lexer = Lexer::over(text, span.start, span.end, mode);

@@ -1,0 +1,322 @@
+-- Over a C part and inner C text no definition begins.
+use Rattle.std.proofs.Common.{◌≡◌, ℕ, zero, suc, ◌+◌, ◌-◌, Bool, true, false, not, ◌&&◌, ◌||◌, Option, Some, None, List, [], ◌∷◌, ◌++◌, take, drop, length, refl, sym, ◌∙◌, ap}
+use Rattle.std.specs.Prelude.{if◌then◌else◌, ◌==◌, nat_lt}
+use Rattle.std.specs.List.{list_any}
+use Rattle.cw_lex.specs.Answers.{Answer, Token, Begin, Finish, Note, Seen, Where, Cut, Found, before, note_answers, plain}
+use Rattle.cw_lex.specs.Bodies.{one_note, note_unless, noted}
+use Rattle.cw_lex.specs.Bytes.{newline, backslash, bar, at_sign, begins, is_letter, is_in, quote, apostrophe, slash, star, hash, less, equals}
+use Rattle.cw_lex.specs.Codes.{has_control_text, begins_section, effect_in_c, effect_at_begin}
+use Rattle.cw_lex.specs.Constants.{constant}
+use Rattle.cw_lex.specs.Lexing.{answers, tokens_of, still_fresh, fresh_at, last_at}
+use Rattle.cw_lex.specs.Nest.{Nest, End, Leaf, Group, leaf, group, nests, nest, first_nest}
+use Rattle.cw_lex.specs.Nested.{is_section_kind, is_section_answer, begins_section_in, is_c_mode}
+use Rattle.cw_lex.specs.Signs.{all_signs, longest, spelling}
+use Rattle.cw_lex.specs.Tokens.{one, skipped_byte, dropped_code, identifier, string, include_name, sign_or_other, piece_start, piece, passed, moved, in_hash_line, ends_at_bar, line_end, comment_begin, comment_end, inner_cut, comment_cut, part_cut, inner_or_none, all_cut, inner_end, inner_begin, effect_in, code_by, code_token, control_or_plain, in_code, start_of, code_text, comment_text, head_text, part_text, in_text, section, section_code, found, is_name, is_quote, behind_word, is_include, may_head, is_head, is_space, takes_hash_line, behind_include, closes_on_line, is_deep}
+use Rattle.cw_lex.specs.declared.bodies.Noted.{Noted}
+use Rattle.cw_lex.specs.declared.classes.Class.TheVariants as classes
+use Rattle.cw_lex.specs.declared.codes.Code.{Code}
+use Rattle.cw_lex.specs.declared.codes.Code.TheVariants as code
+use Rattle.cw_lex.specs.declared.codes.Effect.{Effect}
+use Rattle.cw_lex.specs.declared.codes.Effect.TheVariants as effects
+use Rattle.cw_lex.specs.declared.parts.Opened.{Opened}
+use Rattle.cw_lex.specs.declared.parts.Part.{Part}
+use Rattle.cw_lex.specs.declared.parts.Part.TheVariants as parts
+use Rattle.cw_lex.specs.declared.parts.Start.{Start}
+use Rattle.cw_lex.specs.declared.parts.Start.TheVariants as start
+use Rattle.cw_lex.specs.declared.signs.Sign.{Sign}
+use Rattle.cw_lex.specs.declared.tokens.Mode.{Mode}
+use Rattle.cw_lex.specs.declared.tokens.Mode.TheVariants as modes
+use Rattle.cw_lex.specs.declared.tokens.TokKind.{TokKind}
+use Rattle.cw_lex.specs.declared.tokens.TokKind.TheVariants as kind
+
+abbrev pub is_definition_code : Code → Bool
+is_definition_code code.Define = true
+is_definition_code code.Format = true
+is_definition_code code.SilentFormat = true
+is_definition_code _ = false
+
+abbrev pub is_definition : TokKind → Bool
+is_definition (kind.Code c) = is_definition_code c
+is_definition _ = false
+
+abbrev pub begins_definition : Nest → Bool
+begins_definition (Leaf token rest) = is_definition token.kind
+begins_definition n = false
+
+abbrev is_defining : Answer → Bool
+is_defining (Token token) = is_definition token.kind
+is_defining _ = false
+
+abbrev defines_in : List Answer → Bool
+defines_in answers = list_any is_defining answers
+
+-- the first token of a nest is one of the answers
+or-left : (a b : Bool) → (a || b) ≡ false → a ≡ false
+or-left false b h = refl
+or-left true b h = absurd cc
+
+or-right : (a b : Bool) → (a || b) ≡ false → b ≡ false
+or-right false b h = h
+or-right true b h = absurd cc
+
+or-both : (a b : Bool) → a ≡ false → b ≡ false → (a || b) ≡ false
+or-both false b e h = h
+or-both true b e h = absurd cc
+
+none-leaf : (token : Seen) (ns : List Nest) → is_definition token.kind ≡ false → begins_definition (first_nest (leaf token ns)) ≡ false
+none-leaf token [] h = refl
+none-leaf token (n ∷ ns) h = h
+
+none-group : (token : Seen) (ns : List Nest) → begins_definition (first_nest (group token ns)) ≡ false
+none-group token [] = refl
+none-group token (n ∷ []) = refl
+none-group token (n ∷ m ∷ ns) = refl
+
+pub none-first : (answers : List Answer) → defines_in answers ≡ false → begins_definition (nest answers) ≡ false
+none-first [] h = refl
+none-first (Token token ∷ answers) h = none-leaf token (nests answers) (or-left (is_definition token.kind) (defines_in answers) h)
+none-first (Begin token ∷ answers) h = none-group token (nests answers)
+none-first (Finish token ∷ answers) h = refl
+none-first (Note note place ∷ answers) h = none-first answers h
+
+-- lists of answers
+none-append : (xs ys : List Answer) → defines_in xs ≡ false → defines_in ys ≡ false → defines_in (xs ++ ys) ≡ false
+none-append [] ys a b = b
+none-append (x ∷ xs) ys a b = or-both (is_defining x) (defines_in (xs ++ ys)) (or-left (is_defining x) (defines_in xs) a) (none-append xs ys (or-right (is_defining x) (defines_in xs) a) b)
+
+none-notes : (ns : List Noted) → defines_in (note_answers ns) ≡ false
+none-notes [] = refl
+none-notes (n ∷ ns) = none-notes ns
+
+if-both : {A : Type 0} (P : A → Type 0) (b : Bool) (x y : A) → (b ≡ true → P x) → (b ≡ false → P y) → P (if b then x else y)
+if-both P true x y f g = f refl
+if-both P false x y f g = g refl
+
+-- the parts of C text
+abbrev is_c : Part → Bool
+is_c parts.Begin = true
+is_c (parts.Plain h i) = true
+is_c parts.Inner = true
+is_c parts.Head = true
+is_c _ = false
+
+passed-c : (p : Part) → is_c p ≡ true → is_c (passed p) ≡ true
+passed-c parts.Begin h = refl
+passed-c (parts.Plain a b) h = refl
+passed-c p h = h
+
+word-c : (p : Part) (bytes : List ℕ) → is_c p ≡ true → is_c (behind_word p bytes) ≡ true
+word-c p bytes h = if-both (λ (q : Part). is_c q ≡ true) (in_hash_line p && is_include bytes) (parts.Plain true true) (passed p) (λ e. refl) (λ e. passed-c p h)
+
+-- what begins at a place defines nothing, and C text goes on behind it
+record StaysC (f : Found) : Type 0 where
+  pub part : is_c f.next.part ≡ true
+  pub none : defines_in f.answers ≡ false
+
+one-c : (in_hash : Bool) (next : Where) (place : ℕ) (bytes : List ℕ) (cut : Cut) → is_definition cut.kind ≡ false → is_c next.part ≡ true → StaysC (one in_hash next place bytes cut)
+one-c in_hash next place bytes cut k p = record { part = p; none = or-both (is_definition cut.kind) (defines_in (note_answers cut.notes)) k (none-notes cut.notes) }
+
+before-c : (xs : List Answer) (f : Found) → defines_in xs ≡ false → StaysC f → StaysC (before xs f)
+before-c xs f n s = record { part = s.part; none = none-append xs f.answers n s.none }
+
+end-none : (in_hash : Bool) (c : Opened) (place size : ℕ) (bytes : List ℕ) → defines_in (comment_end in_hash c place size bytes) ≡ false
+end-none in_hash c place size bytes = none-notes (one_note (note_unless (c.braces == 0) Rattle.cw_base.specs.declared.notes.NoteKind.TheVariants.MissingBrace place))
+
+line-c : (part : Part) (cs : List Opened) (last place : ℕ) → is_c part ≡ true → StaysC (line_end part cs last place)
+line-c part [] last place p = if-both StaysC (in_hash_line part && not (last == backslash)) _ _ (λ e. one-c true (record { part = parts.Plain false false; comments = [] }) place (newline ∷ []) (plain kind.HashLineEnd 1) refl refl) (λ e. record { part = p; none = refl })
+line-c part (c ∷ cs) last place p =
+    if-both StaysC c.long _ _ (λ e. record { part = p; none = refl })
+    (λ e. before-c (inner_cut (in_hash_line part) place place ++ comment_end (in_hash_line part) c place 0 []) (line_end (passed part) cs last place) (end-none (in_hash_line part) c place 0 []) (line-c (passed part) cs last place (passed-c part p)))
+
+-- codes
+abbrev allows : Effect → Code → Bool
+allows effects.Stands c = not (is_definition_code c)
+allows effects.BeginsC c = not (is_definition_code c)
+allows (effects.Drops note) c = true
+allows _ c = false
+
+allows-in-c : (c : Code) → allows (effect_in_c c) c ≡ true
+allows-in-c code.Define = refl
+allows-in-c _ = refl
+
+allows-at-begin : (c : Code) → allows (effect_at_begin c) c ≡ true
+allows-at-begin code.Program = refl
+allows-at-begin _ = refl
+
+allowed : (part : Part) (cs : List Opened) (c : Code) → is_c part ≡ true → allows (effect_in part cs c) c ≡ true
+allowed parts.Begin [] c h = allows-at-begin c
+allowed parts.Definition [] c h = absurd cc
+allowed part cs c h = allows-in-c c
+
+undefined : (b : Bool) → not b ≡ true → b ≡ false
+undefined true h = absurd cc
+undefined false h = refl
+
+record HasKind (b : Bool) (x : Cut) : Type 0 where
+  pub is : is_definition x.kind ≡ b
+
+code-kind : (c : Code) (place : ℕ) (bytes : List ℕ) → HasKind (is_definition_code c) (code_token c place bytes)
+code-kind c place bytes =
+    if-both (HasKind (is_definition_code c)) (is_name c) _ _ (λ e. record { is = refl })
+    (λ e. if-both (HasKind (is_definition_code c)) (is_quote c) _ _ (λ f. record { is = refl })
+    (λ f. if-both (HasKind (is_definition_code c)) (has_control_text c) _ _ (λ g. record { is = refl }) (λ g. record { is = refl })))
+
+code-c : (effect : Effect) (c : Code) (w : Where) (place : ℕ) (bytes : List ℕ) → allows effect c ≡ true → is_c w.part ≡ true → StaysC (code_by effect c w place bytes)
+code-c effects.Stands c w place bytes k p =
+    let none = (code-kind c place bytes).is ∙ undefined (is_definition_code c) k in
+    if-both (λ (next : Where). StaysC (one (in_hash_line w.part) next place bytes (code_token c place bytes))) (is_name c && (may_head w.part w.comments && is_head place bytes)) (moved w parts.Head) (moved w (passed w.part))
+    (λ e. one-c (in_hash_line w.part) (moved w parts.Head) place bytes (code_token c place bytes) none refl)
+    (λ e. one-c (in_hash_line w.part) (moved w (passed w.part)) place bytes (code_token c place bytes) none (passed-c w.part p))
+code-c (effects.Drops note) c w place bytes k p = one-c (in_hash_line w.part) (moved w (passed w.part)) place bytes (dropped_code note c place bytes) refl (passed-c w.part p)
+code-c effects.BeginsC c w place bytes k p = one-c false (moved w (parts.Plain false false)) place bytes (plain (kind.Code c) 2) (undefined (is_definition_code c) k) refl
+code-c _ c w place bytes k p = absurd cc
+
+-- inner C text ends in a comment
+inner-c : (w : Where) (part : Part) (cs : List Opened) (place : ℕ) (bytes : List ℕ) → w.part ≡ part → w.comments ≡ cs → is_c part ≡ true → ends_at_bar part cs ≡ true → StaysC (inner_end w place bytes)
+inner-c w part [] place bytes ep ec p ends = absurd (no-bar part p ends)
+  where
+    no-bar : (q : Part) → is_c q ≡ true → ends_at_bar q [] ≡ true → ⊥
+    no-bar parts.TexInner a b = absurd cc
+    no-bar _ a b = absurd cc
+inner-c w part (c ∷ cs) place bytes ep ec p ends = rw (ep, ec) (record { part = passed-c part p; none = refl })
+
+abbrev not_end : Start → Bool
+not_end start.EndOfInner = false
+not_end _ = true
+
+sign-not-end : (o : Option Sign) → not_end (sign_or_other o) ≡ true
+sign-not-end None = refl
+sign-not-end (Some s) = refl
+
+record NotEnd (s : Start) : Type 0 where
+  pub is : not_end s ≡ true
+
+and-right : (a b : Bool) → (a && b) ≡ true → b ≡ true
+and-right true b h = h
+and-right false b h = absurd cc
+
+no-end : (byte : ℕ) (bytes : List ℕ) → NotEnd (start_of false byte bytes)
+no-end byte bytes =
+    if-both NotEnd (is_letter byte) _ _ (λ e. record { is = refl })
+    (λ e. if-both NotEnd (nat_lt 0 (constant (byte ∷ bytes))) _ _ (λ e. record { is = refl })
+    (λ e. if-both NotEnd (byte == quote || byte == apostrophe) _ _ (λ e. record { is = refl })
+    (λ e. if-both NotEnd (byte == slash && begins star bytes) _ _ (λ e. record { is = refl })
+    (λ e. if-both NotEnd (byte == slash && begins slash bytes) _ _ (λ e. record { is = refl })
+    (λ e. if-both NotEnd (byte == at_sign) _ _ (λ e. record { is = refl })
+    (λ e. if-both NotEnd (byte == bar && (false && not (begins bar bytes))) start.EndOfInner (sign_or_other (longest all_signs (byte ∷ bytes))) (λ e. let k : false ≡ true = and-right (byte == bar) (false && not (begins bar bytes)) e in record { is = cc })
+    (λ e. record { is = sign-not-end (longest all_signs (byte ∷ bytes)) })))))))
+
+bar-needed : (ends : Bool) (byte : ℕ) (bytes : List ℕ) → start_of ends byte bytes ≡ start.EndOfInner → ends ≡ true
+bar-needed true byte bytes e = refl
+bar-needed false byte bytes e = absurd (let k : true ≡ false = sym (no-end byte bytes).is ∙ ap not_end e in cc)
+
+-- C text
+in-code-c : (s : Start) (w : Where) (place : ℕ) (bytes : List ℕ) → is_c w.part ≡ true → (s ≡ start.EndOfInner → ends_at_bar w.part w.comments ≡ true) → StaysC (in_code s w place bytes)
+in-code-c start.Identifier w place bytes p ends = one-c (in_hash_line w.part) (moved w (behind_word w.part bytes)) place bytes (identifier bytes) refl (word-c w.part bytes p)
+in-code-c start.LongComment w place bytes p ends = record { part = passed-c w.part p; none = refl }
+in-code-c start.ShortComment w place bytes p ends = record { part = passed-c w.part p; none = refl }
+in-code-c (start.Code c) w place bytes p ends = code-c (effect_in w.part w.comments c) c w place bytes (allowed w.part w.comments c p) p
+in-code-c start.EndOfInner w place bytes p ends = inner-c w w.part w.comments place bytes refl refl p (ends refl)
+in-code-c start.Constant w place bytes p ends = one-c (in_hash_line w.part) (moved w (passed w.part)) place bytes (plain kind.Constant (constant bytes)) refl (passed-c w.part p)
+in-code-c (start.Quoted q) w place bytes p ends = one-c (in_hash_line w.part) (moved w (passed w.part)) place bytes (string kind.Quoted 1 q place bytes) refl (passed-c w.part p)
+in-code-c (start.Sign s) w place bytes p ends = one-c (in_hash_line w.part) (moved w (passed w.part)) place bytes (plain (kind.Sign s) (length (spelling s))) refl (passed-c w.part p)
+in-code-c start.OtherByte w place bytes p ends = one-c (in_hash_line w.part) (moved w (passed w.part)) place bytes (plain kind.OtherByte 1) refl (passed-c w.part p)
+
+text-c : (w : Where) (fresh : Bool) (last place byte : ℕ) (bytes : List ℕ) → is_c w.part ≡ true → StaysC (code_text w fresh last place byte bytes)
+text-c w fresh last place byte bytes p =
+    if-both StaysC (byte == newline) _ _ (λ e. line-c w.part w.comments last place p)
+    (λ e. if-both StaysC (is_space w.part byte bytes) _ _ (λ e. record { part = p; none = refl })
+    (λ e. if-both StaysC (byte == hash && (takes_hash_line w.part w.comments && fresh)) _ _ (λ e. one-c true (moved w (parts.Plain true false)) place (byte ∷ bytes) (plain kind.HashLine 1) refl refl)
+    (λ e. if-both StaysC (byte == less && (behind_include w.part && closes_on_line bytes)) _ _ (λ e. one-c (in_hash_line w.part) (moved w (passed w.part)) place (byte ∷ bytes) (include_name place (byte ∷ bytes)) refl (passed-c w.part p))
+    (λ e. in-code-c (start_of (ends_at_bar w.part w.comments) byte bytes) w place (byte ∷ bytes) p (bar-needed (ends_at_bar w.part w.comments) byte bytes)))))
+
+comment-c : (part : Part) (c : Opened) (cs : List Opened) (last place byte : ℕ) (bytes : List ℕ) → is_c part ≡ true → StaysC (comment_text part c cs last place byte bytes)
+comment-c part c cs last place byte bytes p =
+    if-both StaysC (c.long && (byte == star && begins slash bytes)) _ _ (λ e. record { part = p; none = end-none (in_hash_line part) c place 2 (byte ∷ bytes) })
+    (λ e. if-both StaysC (not c.long && byte == newline) _ _ (λ e. before-c (comment_end (in_hash_line part) c place 0 []) (line_end part cs last place) (end-none (in_hash_line part) c place 0 []) (line-c part cs last place p))
+    (λ e. if-both StaysC (byte == bar && not (is_deep part (c ∷ cs))) _ _ (λ e. record { part = p; none = refl })
+    (λ e. record { part = p; none = none-notes (noted (piece_start part cs c place) (byte ∷ bytes)) })))
+
+head-c : (part : Part) (place byte : ℕ) (bytes : List ℕ) → is_c part ≡ true → StaysC (head_text (record { part = part; comments = [] }) place byte bytes)
+head-c part place byte bytes p =
+    if-both StaysC (is_in classes.Blank byte) _ _ (λ e. record { part = p; none = refl })
+    (λ e. one-c false (record { part = parts.Plain false false; comments = [] }) place (byte ∷ bytes) (plain kind.HeadSign (if begins equals bytes then 2 else 1)) refl refl)
+
+part-c : (part : Part) (fresh : Bool) (last place byte : ℕ) (bytes : List ℕ) → is_c part ≡ true → StaysC (part_text part (record { part = part; comments = [] }) fresh last place byte bytes)
+part-c parts.Begin fresh last place byte bytes p = text-c (record { part = parts.Begin; comments = [] }) fresh last place byte bytes refl
+part-c (parts.Plain a b) fresh last place byte bytes p = text-c (record { part = parts.Plain a b; comments = [] }) fresh last place byte bytes refl
+part-c parts.Inner fresh last place byte bytes p = text-c (record { part = parts.Inner; comments = [] }) fresh last place byte bytes refl
+part-c parts.Head fresh last place byte bytes p = head-c parts.Head place byte bytes refl
+part-c _ fresh last place byte bytes p = absurd cc
+
+in-text-c : (part : Part) (cs : List Opened) (fresh : Bool) (last place byte : ℕ) (bytes : List ℕ) → is_c part ≡ true → StaysC (in_text part cs fresh last place byte bytes)
+in-text-c part [] fresh last place byte bytes p = part-c part fresh last place byte bytes p
+in-text-c part (c ∷ cs) fresh last place byte bytes p =
+    if-both StaysC c.inner _ _ (λ e. text-c (record { part = part; comments = c ∷ cs }) fresh last place byte bytes p) (λ e. comment-c part c cs last place byte bytes p)
+
+-- a section code
+any-later : (xs ys : List Answer) → begins_section_in ys ≡ true → begins_section_in (xs ++ ys) ≡ true
+any-later [] ys h = h
+any-later (x ∷ xs) ys h = go (is_section_answer x) (any-later xs ys h)
+  where
+    go : (b : Bool) → begins_section_in (xs ++ ys) ≡ true → (b || begins_section_in (xs ++ ys)) ≡ true
+    go true k = refl
+    go false k = k
+
+uncut-left : (xs ys : List Answer) → begins_section_in (xs ++ ys) ≡ false → begins_section_in xs ≡ false
+uncut-left [] ys h = refl
+uncut-left (x ∷ xs) ys h = or-both (is_section_answer x) (begins_section_in xs) (or-left (is_section_answer x) (begins_section_in (xs ++ ys)) h) (uncut-left xs ys (or-right (is_section_answer x) (begins_section_in (xs ++ ys)) h))
+
+uncut-right : (xs ys : List Answer) → begins_section_in (xs ++ ys) ≡ false → begins_section_in ys ≡ false
+uncut-right [] ys h = h
+uncut-right (x ∷ xs) ys h = uncut-right xs ys (or-right (is_section_answer x) (begins_section_in (xs ++ ys)) h)
+
+record IsSection (x : Cut) : Type 0 where
+  pub is : is_section_kind x.kind ≡ true
+
+section-kind : (bytes : List ℕ) → IsSection (section_code bytes)
+section-kind bytes = if-both IsSection (begins star (drop 1 bytes)) _ _ (λ e. record { is = refl }) (λ e. record { is = refl })
+
+section-there : (w : Where) (place : ℕ) (bytes : List ℕ) → begins_section_in (section w place bytes).answers ≡ true
+section-there w place bytes = any-later (all_cut w.part w.comments place place) _ (ap (λ b. b || begins_section_in (note_answers (section_code (at_sign ∷ bytes)).notes)) (section-kind (at_sign ∷ bytes)).is)
+
+record StaysUncut (f : Found) : Type 0 where
+  pub stays : begins_section_in f.answers ≡ false → StaysC f
+
+found-c : (w : Where) (fresh : Bool) (last place byte : ℕ) (bytes : List ℕ) → is_c w.part ≡ true → StaysUncut (found w fresh last place byte bytes)
+found-c w fresh last place byte bytes p =
+    if-both StaysUncut (byte == at_sign && begins_section bytes) _ _
+    (λ e. record { stays = λ h. absurd (let k : true ≡ false = sym (section-there w place bytes) ∙ h in cc) })
+    (λ e. record { stays = λ h. in-text-c w.part w.comments fresh last place byte bytes p })
+
+-- all answers
+cut-none : (part : Part) (place about : ℕ) → is_c part ≡ true → part_cut part place about ≡ []
+cut-none parts.Begin place about p = refl
+cut-none (parts.Plain a b) place about p = refl
+cut-none parts.Inner place about p = refl
+cut-none parts.Head place about p = refl
+cut-none _ place about p = absurd cc
+
+open-none : (b in_hash : Bool) (place about : ℕ) → defines_in (inner_or_none b in_hash place about) ≡ false
+open-none true in_hash place about = refl
+open-none false in_hash place about = refl
+
+all-none : (part : Part) (cs : List Opened) (place about : ℕ) → is_c part ≡ true → defines_in (all_cut part cs place about) ≡ false
+all-none part [] place about p = ap defines_in (cut-none part place about p)
+all-none part (c ∷ cs) place about p =
+    none-append (inner_or_none c.inner (in_hash_line part) place about) (comment_cut (in_hash_line part) c place about ++ all_cut part cs place about) (open-none c.inner (in_hash_line part) place about)
+    (none-append (comment_cut (in_hash_line part) c place about) (all_cut part cs place about) (end-none (in_hash_line part) c about 0 []) (all-none part cs place about p))
+
+answers-none : (bytes : List ℕ) (w : Where) (fresh : Bool) (last place taken : ℕ) → is_c w.part ≡ true → begins_section_in (answers bytes w fresh last place taken) ≡ false → defines_in (answers bytes w fresh last place taken) ≡ false
+answers-none [] w fresh last place taken p h = all-none w.part w.comments place (place - 1) p
+answers-none (byte ∷ bytes) w fresh last place zero p h =
+    let f = found w fresh last place byte bytes in
+    let rest = answers bytes f.next (still_fresh fresh byte) byte (place + 1) f.more in
+    let s = (found-c w fresh last place byte bytes p).stays (uncut-left f.answers rest h) in
+    none-append f.answers rest s.none (answers-none bytes f.next (still_fresh fresh byte) byte (place + 1) f.more s.part (uncut-right f.answers rest h))
+answers-none (byte ∷ bytes) w fresh last place (suc taken) p h = answers-none bytes w (still_fresh fresh byte) byte (place + 1) taken p h
+
+pub c-texts-undefined : (text : List ℕ) (start end : ℕ) (mode : Mode) → is_c_mode mode ≡ true → begins_section_in (tokens_of text start end mode) ≡ false → begins_definition (nest (tokens_of text start end mode)) ≡ false
+c-texts-undefined text first end modes.CPart m h = none-first (tokens_of text first end modes.CPart) (answers-none (drop first (take end text)) (record { part = parts.Begin; comments = [] }) (fresh_at (take end text) first) (last_at (take end text) first) first 0 refl h)
+c-texts-undefined text first end modes.Inner m h = none-first (tokens_of text first end modes.Inner) (answers-none (drop first (take end text)) (record { part = parts.Inner; comments = [] }) (fresh_at (take end text) first) (last_at (take end text) first) first 0 refl h)
+c-texts-undefined text first end _ m h = absurd cc
