@@ -9,9 +9,10 @@ use Rattle.cw_lex.specs.Codes.{has_control_text, begins_section, effect_in_c, ef
 use Rattle.cw_lex.specs.Constants.{constant}
 use Rattle.cw_lex.specs.Lexing.{answers, tokens_of, still_fresh, fresh_at, last_at}
 use Rattle.cw_lex.specs.Nest.{Nest, End, Leaf, Group, leaf, group, nests, nest, first_nest}
-use Rattle.cw_lex.specs.Nested.{is_section_kind, is_section_answer, begins_section_in, is_c_mode}
+use Rattle.cw_lex.specs.Nested.{is_section_kind, is_section_answer, begins_section_in, is_c_mode, is_plain_c_mode, IsNested}
 use Rattle.cw_lex.specs.Signs.{all_signs, longest, spelling}
 use Rattle.cw_lex.specs.Tokens.{one, skipped_byte, dropped_code, identifier, string, include_name, sign_or_other, piece_start, piece, passed, moved, in_hash_line, ends_at_bar, line_end, comment_begin, comment_end, inner_cut, comment_cut, part_cut, inner_or_none, all_cut, inner_end, inner_begin, effect_in, code_by, code_token, control_or_plain, in_code, start_of, code_text, comment_text, head_text, part_text, in_text, section, section_code, found, is_name, is_quote, behind_word, is_include, may_head, is_head, is_space, takes_hash_line, behind_include, closes_on_line, is_deep}
+use Rattle.cw_lex.proofs.Nesting.{c-texts-nested}
 use Rattle.cw_lex.specs.declared.bodies.Noted.{Noted}
 use Rattle.cw_lex.specs.declared.classes.Class.TheVariants as classes
 use Rattle.cw_lex.specs.declared.codes.Code.{Code}
@@ -316,7 +317,17 @@ answers-none (byte ∷ bytes) w fresh last place zero p h =
     none-append f.answers rest s.none (answers-none bytes f.next (still_fresh fresh byte) byte (place + 1) f.more s.part (uncut-right f.answers rest h))
 answers-none (byte ∷ bytes) w fresh last place (suc taken) p h = answers-none bytes w (still_fresh fresh byte) byte (place + 1) taken p h
 
-pub c-texts-undefined : (text : List ℕ) (start end : ℕ) (mode : Mode) → is_c_mode mode ≡ true → begins_section_in (tokens_of text start end mode) ≡ false → begins_definition (nest (tokens_of text start end mode)) ≡ false
+pub c-texts-undefined : (text : List ℕ) (start end : ℕ) (mode : Mode) → is_plain_c_mode mode ≡ true → begins_section_in (tokens_of text start end mode) ≡ false → begins_definition (nest (tokens_of text start end mode)) ≡ false
 c-texts-undefined text first end modes.CPart m h = none-first (tokens_of text first end modes.CPart) (answers-none (drop first (take end text)) (record { part = parts.Begin; comments = [] }) (fresh_at (take end text) first) (last_at (take end text) first) first 0 refl h)
 c-texts-undefined text first end modes.Inner m h = none-first (tokens_of text first end modes.Inner) (answers-none (drop first (take end text)) (record { part = parts.Inner; comments = [] }) (fresh_at (take end text) first) (last_at (take end text) first) first 0 refl h)
 c-texts-undefined text first end _ m h = absurd cc
+
+pub plain-is-c : (mode : Mode) → is_plain_c_mode mode ≡ true → is_c_mode mode ≡ true
+plain-is-c modes.CPart m = refl
+plain-is-c modes.Inner m = refl
+plain-is-c modes.Limbo m = m
+plain-is-c modes.TexText m = m
+plain-is-c modes.Definition m = refl
+
+pub plain-texts-nested : (text : List ℕ) (start end : ℕ) (mode : Mode) → is_plain_c_mode mode ≡ true → begins_section_in (tokens_of text start end mode) ≡ false → IsNested (tokens_of text start end mode)
+plain-texts-nested text start end mode m h = c-texts-nested text start end mode (plain-is-c mode m) h

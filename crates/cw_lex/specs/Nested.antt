@@ -78,6 +78,12 @@ is_c_mode modes.Inner = true
 is_c_mode modes.Definition = true
 is_c_mode _ = false
 
+-- the modes of C texts in which no definition begins
+abbrev pub is_plain_c_mode : Mode → Bool
+is_plain_c_mode modes.CPart = true
+is_plain_c_mode modes.Inner = true
+is_plain_c_mode _ = false
+
 -- TeX text: inner C texts stand in it, each of them nested. It has no level of its own.
 abbrev pub tex_levels_after : Answer → List Level → Option (List Level)
 tex_levels_after (Token token) [] = Some []

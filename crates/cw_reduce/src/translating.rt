@@ -7,7 +7,7 @@ ghost use Rattle.cw_trees.specs.Joining.{whole};
 ghost use Rattle.cw_tokens.specs.Shapes.{unfolded};
 ghost use Rattle.cw_lex.specs.Answers.{Finish, Seen, seen};
 ghost use Rattle.cw_lex.specs.Lexing.{tokens_of};
-ghost use Rattle.cw_lex.specs.Nested.{begins_section_in, is_c_mode};
+ghost use Rattle.cw_lex.specs.Nested.{begins_section_in, is_plain_c_mode};
 ghost use Rattle.cw_scraps.specs.Applying.{state_of};
 ghost use Rattle.cw_scraps.specs.Changing.{Keeps};
 ghost use Rattle.cw_scraps.specs.Leaves.{MakesLeaf, names_with};
@@ -317,7 +317,7 @@ pub fn translate<L: Ledger>(
     requires order { span.start ≤ span.end }
     requires within { span.end ≤ length text.now }
     requires short { length text.now ≤ 2 ^ 24 }
-    requires c_text { is_c_mode mode ≡ true }
+    requires c_text { is_plain_c_mode mode ≡ true }
     requires uncut { begins_section_in (tokens_of text.now span.start span.end mode) ≡ false }
     requires idle { store.old.building ≡ None }
     // The tree, the names with their categories, the marks and the counts are those of the definition.
