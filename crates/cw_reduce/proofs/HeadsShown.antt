@@ -31,15 +31,15 @@ use Rattle.cw_reduce.proofs.ShownLaws.{append-none, IsWell, Shows, shows-beside,
 use Rattle.cw_reduce.proofs.WellNests.{nest-well}
 
 -- The words of a head are identifiers and signs, and what follows it is well.
-is_word_kind : TokKind → Bool
+pub is_word_kind : TokKind → Bool
 is_word_kind kind.Identifier = true
 is_word_kind (kind.Sign s) = true
 is_word_kind _ = false
 
-is_word : Seen → Bool
+pub is_word : Seen → Bool
 is_word t = is_word_kind t.kind
 
-record AreWords (w : Words) : Type 0 where
+pub record AreWords (w : Words) : Type 0 where
   pub words : list_all is_word w.words ≡ true
   pub rest : IsWell false w.rest
 
@@ -60,14 +60,14 @@ words-next : (o : Option Wanted) (t : Seen) (rest : Nest) → ((next : Wanted) �
 words-next None t rest e more w = words-none (Leaf t rest) w
 words-next (Some next) t rest e more w = words-before t (head_words next rest) (e next refl) (more next)
 
-words-of : (wanted : Wanted) (n : Nest) → IsWell false n → AreWords (head_words wanted n)
+pub words-of : (wanted : Wanted) (n : Nest) → IsWell false n → AreWords (head_words wanted n)
 unfolding is_word
 words-of wanted End w = words-none End w
 words-of wanted (Group t inner rest) w = words-none (Group t inner rest) w
 words-of wanted (Leaf t rest) w = words-next (head_behind wanted t.kind t.span) t rest (head-word wanted t.kind t.span) (λ next. words-of next rest w.1) w
 
 -- Their tokens.
-is_plain : Token → Bool
+pub is_plain : Token → Bool
 is_plain (token.Source number mode) = true
 is_plain (token.Ident name number) = true
 is_plain (token.Reserved name number c) = true
@@ -83,7 +83,7 @@ struck-tokens (token.Reserved name number c ∷ xs) ys h = ap (λ ns. number ∷
 struck-tokens (token.Control c ∷ xs) ys h = struck-tokens xs ys h
 struck-tokens (x ∷ xs) ys h = absurd cc
 
-record PlainFor (ts : List Token) (ns : List ℕ) : Type 0 where
+pub record PlainFor (ts : List Token) (ns : List ℕ) : Type 0 where
   pub plain : list_all is_plain ts ≡ true
   pub numbers_are : struck (tree_in [] ts) ≡ ns
 
@@ -105,12 +105,12 @@ plain-append xs ys ns ms p q = record { plain = list-append xs ys p.plain q.plai
     list-append [] ys a b = b
     list-append (x ∷ xs) ys a b = and-both (is_plain x) (list_all is_plain (xs ++ ys)) (and-left (is_plain x) (list_all is_plain xs) a) (list-append xs ys (and-right (is_plain x) (list_all is_plain xs) a) b)
 
-spelled-plain : (words : List Seen) (names : List Entry) → list_all is_word words ≡ true → PlainFor (spelled words names).tokens (starts words)
+pub spelled-plain : (words : List Seen) (names : List Entry) → list_all is_word words ≡ true → PlainFor (spelled words names).tokens (starts words)
 unfolding is_plain is_word
 spelled-plain [] names h = record { plain = refl; numbers_are = refl }
 spelled-plain (t ∷ words) names h = plain-append _ _ (t.span.start ∷ []) (starts words) (kind-plain t.kind t.text t.hash_line t.span.start names (and-left (is_word t) (list_all is_word words) h)) (spelled-plain words _ (and-right (is_word t) (list_all is_word words) h))
 
-dollared-plain : (ts : List Token) (ns : List ℕ) → PlainFor ts ns → PlainFor (dollared ts) ns
+pub dollared-plain : (ts : List Token) (ns : List ℕ) → PlainFor ts ns → PlainFor (dollared ts) ns
 unfolding is_plain
 dollared-plain [] ns p = p
 dollared-plain (t ∷ ts) ns p =
@@ -118,12 +118,12 @@ dollared-plain (t ∷ ts) ns p =
     record { plain = q.plain; numbers_are = q.numbers_are ∙ append-none ns }
 
 -- The heads.
-AreHeadWords : Head → Type 0
+pub AreHeadWords : Head → Type 0
 AreHeadWords (Macro number words) = list_all is_word words ≡ true
 AreHeadWords (Format number words) = list_all is_word words ≡ true
 AreHeadWords h = Unit {0}
 
-record IsWellHeaded (h : Headed) : Type 0 where
+pub record IsWellHeaded (h : Headed) : Type 0 where
   pub words : AreHeadWords h.head
   pub rest : IsWell false h.rest
 

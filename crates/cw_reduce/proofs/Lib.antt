@@ -20,3 +20,6 @@ pub mod ShownLaws
 pub mod WellNests
 pub mod HeadsShown
 pub mod Limits
+pub mod InnersKept
+pub mod ReadLaws
+pub mod HeadReads

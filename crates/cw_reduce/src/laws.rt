@@ -1,7 +1,9 @@
-ghost use Rattle.cw_reduce.specs.TranslationLaws.{ShowsEachToken};
+ghost use Rattle.cw_reduce.specs.TranslationLaws.{ShowsEachToken, StandsInText};
 
-/// The law of translations, for every C text that no section code cuts: each visible token stands in the tree once and in
-/// order. It does nothing: what it ensures is for proofs.
+/// The laws of translations, with section names and heads. Each token that is shown stands in the tree once and in order,
+/// and no other does; and read from text, the tree ends in text, and so does each inner text in it. It does nothing: what
+/// it ensures is for proofs.
 pub fn translation_laws()
     ensures shown { ShowsEachToken }
+    ensures modes { StandsInText }
 {}

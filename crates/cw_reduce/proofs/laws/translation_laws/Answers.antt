@@ -1,5 +1,6 @@
+use Rattle.cw_reduce.proofs.HeadReads.{stands-in-text}
 use Rattle.cw_reduce.proofs.HeadsShown.{translated-shown}
 use Rattle.cw_reduce.proofs.laws.translation_laws.Goals as goal
 
 pub returns : goal.returns
-returns c = record { shown = translated-shown }
+returns c = record { shown = translated-shown; modes = stands-in-text }
