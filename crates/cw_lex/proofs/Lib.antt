@@ -20,3 +20,5 @@ pub mod Covering
 mod Rows
 pub mod Nesting
 pub mod NoDefinitions
+pub mod TexNesting
+pub mod Nests

@@ -42,28 +42,28 @@ levels-append (a ∷ xs) bs ls ms h = go (levels_after a ls) refl (λ next. leve
         ap (λ (o : Option (List Level)). elim o [ None ↦ None | Some next ↦ all_levels_after (xs ++ bs) next ]) e
         ∙ rec next (sym (ap (λ (o : Option (List Level)). elim o [ None ↦ None | Some next ↦ all_levels_after xs next ]) e) ∙ h)
 
-notes-stay : (ns : List Noted) (ls : List Level) → all_levels_after (note_answers ns) ls ≡ Some ls
+pub notes-stay : (ns : List Noted) (ls : List Level) → all_levels_after (note_answers ns) ls ≡ Some ls
 notes-stay [] ls = refl
 notes-stay (n ∷ ns) ls = notes-stay ns ls
 
 -- the levels of a place
-abbrev with_code : Bool → List Level → List Level
+abbrev pub with_code : Bool → List Level → List Level
 with_code true ls = InCode ∷ ls
 with_code false ls = ls
 
-abbrev levels_in : List Opened → List Level
+abbrev pub levels_in : List Opened → List Level
 levels_in [] = InCode ∷ []
 levels_in (c ∷ cs) = with_code c.inner (InComment ∷ levels_in cs)
 
-abbrev all_inner : List Opened → Bool
+abbrev pub all_inner : List Opened → Bool
 all_inner [] = true
 all_inner (c ∷ cs) = c.inner && all_inner cs
 
-abbrev nested_in : List Opened → Bool
+abbrev pub nested_in : List Opened → Bool
 nested_in [] = true
 nested_in (c ∷ cs) = all_inner cs
 
-abbrev is_c : Part → Bool
+abbrev pub is_c : Part → Bool
 is_c parts.Begin = true
 is_c (parts.Plain h i) = true
 is_c parts.Inner = true
@@ -77,16 +77,16 @@ is_c (parts.FormatName place second limbo) = not limbo
 is_c _ = false
 
 -- Inner C text of TeX text stays what it is, and no other part becomes it.
-abbrev in_tex : Part → Bool
+abbrev pub in_tex : Part → Bool
 in_tex parts.TexInner = true
 in_tex _ = false
 
-inner-nested : (cs : List Opened) → all_inner cs ≡ true → nested_in cs ≡ true
+pub inner-nested : (cs : List Opened) → all_inner cs ≡ true → nested_in cs ≡ true
 inner-nested [] h = refl
 inner-nested (c ∷ cs) h = and-right c.inner (all_inner cs) h
 
 -- C text goes on in code
-code-first : (cs : List Opened) → all_inner cs ≡ true → (ls : List Level) × (levels_in cs ≡ InCode ∷ ls)
+pub code-first : (cs : List Opened) → all_inner cs ≡ true → (ls : List Level) × (levels_in cs ≡ InCode ∷ ls)
 code-first [] h = ([], refl)
 code-first (c ∷ cs) h = (InComment ∷ levels_in cs, ap (λ b. with_code b (InComment ∷ levels_in cs)) (and-left c.inner (all_inner cs) h))
 
@@ -113,7 +113,7 @@ head-tex parts.TexInner cs h = absurd cc
 head-tex _ cs h = refl
 
 -- what holds of what begins at a place
-record Goes (tex : Bool) (ls : List Level) (f : Found) : Type 0 where
+pub record Goes (tex : Bool) (ls : List Level) (f : Found) : Type 0 where
   pub part : is_c f.next.part ≡ true
   pub same : in_tex f.next.part ≡ tex
   pub nested : nested_in f.next.comments ≡ true
@@ -160,7 +160,7 @@ one-goes tex hash_line next place bytes cut same k part inner =
       uncut = or-false (is_section_kind cut.kind) (begins_section_in (note_answers cut.notes)) (token-uncut cut.kind k) (notes-uncut cut.notes);
     }
 
-skip-goes : (w : Where) → is_c w.part ≡ true → all_inner w.comments ≡ true → Goes (in_tex w.part) (levels_in w.comments) (skipped_byte w)
+pub skip-goes : (w : Where) → is_c w.part ≡ true → all_inner w.comments ≡ true → Goes (in_tex w.part) (levels_in w.comments) (skipped_byte w)
 skip-goes w part inner = record { part = part; same = refl; nested = inner-nested w.comments inner; levels = refl; uncut = refl }
 
 before-goes : (tex : Bool) (xs : List Answer) (ls ms : List Level) (f : Found) → all_levels_after xs ls ≡ Some ms → begins_section_in xs ≡ false → Goes tex ms f → Goes tex ls (before xs f)
@@ -181,7 +181,7 @@ end-levels hash_line c place size bytes cs inner =
 end-uncut : (hash_line : Bool) (c : Opened) (place size : ℕ) (bytes : List ℕ) → begins_section_in (comment_end hash_line c place size bytes) ≡ false
 end-uncut hash_line c place size bytes = notes-uncut (one_note (note_unless (c.braces == 0) notes.MissingBrace place))
 
-line-goes : (part : Part) (cs : List Opened) (last place : ℕ) → is_c part ≡ true → all_inner cs ≡ true → Goes (in_tex part) (levels_in cs) (line_end part cs last place)
+pub line-goes : (part : Part) (cs : List Opened) (last place : ℕ) → is_c part ≡ true → all_inner cs ≡ true → Goes (in_tex part) (levels_in cs) (line_end part cs last place)
 line-goes part [] last place p inner =
     if-both (Goes (in_tex part) (InCode ∷ [])) (in_hash_line part && not (last == backslash)) _ _
     (λ e. one-goes (in_tex part) true (record { part = parts.Plain false false; comments = [] }) place (newline ∷ []) (plain kind.HashLineEnd 1) (hash-tex part (and-left (in_hash_line part) (not (last == backslash)) e)) refl refl refl)
@@ -203,7 +203,7 @@ comment-goes false w place bytes p inner =
     let top = code-first w.comments inner in
     record { part = passed-c w.part p; same = passed-tex w.part; nested = inner; levels = rw top.1 refl; uncut = refl }
 
-abbrev is_open : List Opened → Bool
+abbrev pub is_open : List Opened → Bool
 is_open [] = false
 is_open (c ∷ cs) = true
 
@@ -269,19 +269,19 @@ not_end start.EndOfInner = false
 not_end _ = true
 
 -- a bar ends only what a bar may end, and a section code is none of C text
-abbrev Begun : Bool → Start → Type 0
+abbrev pub Begun : Bool → Start → Type 0
 Begun ends start.EndOfInner = ends ≡ true
 Begun ends (start.Code c) = is_section c ≡ false
 Begun ends _ = Unit {0}
 
-record Begins (ends : Bool) (s : Start) : Type 0 where
+pub record Begins (ends : Bool) (s : Start) : Type 0 where
   pub is : Begun ends s
 
 sign-begins : (ends : Bool) (o : Option Sign) → Begun ends (sign_or_other o)
 sign-begins ends None = tt
 sign-begins ends (Some s) = tt
 
-begins-so : (ends : Bool) (byte : ℕ) (bytes : List ℕ) → (byte == at_sign && begins_section bytes) ≡ false → Begins ends (start_of ends byte bytes)
+pub begins-so : (ends : Bool) (byte : ℕ) (bytes : List ℕ) → (byte == at_sign && begins_section bytes) ≡ false → Begins ends (start_of ends byte bytes)
 begins-so ends byte bytes section =
     if-both (Begins ends) (is_letter byte) _ _ (λ e. record { is = tt })
     (λ e. if-both (Begins ends) (nat_lt 0 (constant (byte ∷ bytes))) _ _ (λ e. record { is = tt })
@@ -299,7 +299,7 @@ word-c p bytes h = if-both (λ (q : Part). is_c q ≡ true) (in_hash_line p && i
 word-tex : (p : Part) (bytes : List ℕ) → in_tex (behind_word p bytes) ≡ in_tex p
 word-tex p bytes = if-both (λ (q : Part). in_tex q ≡ in_tex p) (in_hash_line p && is_include bytes) (parts.Plain true true) (passed p) (λ e. hash-tex p (and-left (in_hash_line p) (is_include bytes) e)) (λ e. passed-tex p)
 
-in-code-goes : (s : Start) (part : Part) (cs : List Opened) (place : ℕ) (bytes : List ℕ) → is_c part ≡ true → all_inner cs ≡ true → (s ≡ start.EndOfInner → is_open cs ≡ true) → Begun (ends_at_bar part cs) s → Goes (in_tex part) (levels_in cs) (in_code s (record { part = part; comments = cs }) place bytes)
+pub in-code-goes : (s : Start) (part : Part) (cs : List Opened) (place : ℕ) (bytes : List ℕ) → is_c part ≡ true → all_inner cs ≡ true → (s ≡ start.EndOfInner → is_open cs ≡ true) → Begun (ends_at_bar part cs) s → Goes (in_tex part) (levels_in cs) (in_code s (record { part = part; comments = cs }) place bytes)
 in-code-goes start.Identifier part cs place bytes p inner bar_ends b = one-goes (in_tex part) (in_hash_line part) (record { part = behind_word part bytes; comments = cs }) place bytes (identifier bytes) (word-tex part bytes) refl (word-c part bytes p) inner
 in-code-goes start.LongComment part cs place bytes p inner bar_ends b = comment-goes true (record { part = part; comments = cs }) place bytes p inner
 in-code-goes start.ShortComment part cs place bytes p inner bar_ends b = comment-goes false (record { part = part; comments = cs }) place bytes p inner
@@ -311,7 +311,7 @@ in-code-goes (start.Sign s) part cs place bytes p inner bar_ends b = one-goes (i
 in-code-goes start.OtherByte part cs place bytes p inner bar_ends b = one-goes (in_tex part) (in_hash_line part) (record { part = passed part; comments = cs }) place bytes (plain kind.OtherByte 1) (passed-tex part) refl (passed-c part p) inner
 
 -- C text, but for what begins as a token of code
-before-code : (P : Found → Type 0) (part : Part) (cs : List Opened) (fresh : Bool) (last place byte : ℕ) (bytes : List ℕ) → is_c part ≡ true → all_inner cs ≡ true
+pub before-code : (P : Found → Type 0) (part : Part) (cs : List Opened) (fresh : Bool) (last place byte : ℕ) (bytes : List ℕ) → is_c part ≡ true → all_inner cs ≡ true
     → ((f : Found) → Goes (in_tex part) (levels_in cs) f → P f) → P (in_code (start_of (ends_at_bar part cs) byte bytes) (record { part = part; comments = cs }) place (byte ∷ bytes))
     → P (code_text (record { part = part; comments = cs }) fresh last place byte bytes)
 before-code P part cs fresh last place byte bytes p inner goes code =
@@ -407,7 +407,7 @@ part-goes (parts.FormatName at second false) fresh last place byte bytes section
     if-both (Goes false (InCode ∷ [])) (name_follows (byte ∷ bytes)) _ _ (λ e. format-goes at second place byte bytes) (λ e. improper-goes notes.ImproperFormat at (parts.FormatName at second false) fresh last place byte bytes section)
 part-goes _ fresh last place byte bytes section p t = absurd cc
 
-open-goes : (part : Part) (c : Opened) (cs : List Opened) (fresh : Bool) (last place byte : ℕ) (bytes : List ℕ) → (byte == at_sign && begins_section bytes) ≡ false → is_c part ≡ true → all_inner cs ≡ true
+pub open-goes : (part : Part) (c : Opened) (cs : List Opened) (fresh : Bool) (last place byte : ℕ) (bytes : List ℕ) → (byte == at_sign && begins_section bytes) ≡ false → is_c part ≡ true → all_inner cs ≡ true
     → Goes (in_tex part) (levels_in (c ∷ cs)) (in_text part (c ∷ cs) fresh last place byte bytes)
 open-goes part c cs fresh last place byte bytes section p n =
     if-both (Goes (in_tex part) (levels_in (c ∷ cs))) c.inner _ _
@@ -422,11 +422,11 @@ in-text-goes part (c ∷ cs) fresh last place byte bytes section p t n =
 
 -- ## What is open ends
 
-open-levels : (b hash_line : Bool) (place about : ℕ) (ls : List Level) → all_levels_after (inner_or_none b hash_line place about) (with_code b (InComment ∷ ls)) ≡ Some (InComment ∷ ls)
+pub open-levels : (b hash_line : Bool) (place about : ℕ) (ls : List Level) → all_levels_after (inner_or_none b hash_line place about) (with_code b (InComment ∷ ls)) ≡ Some (InComment ∷ ls)
 open-levels true hash_line place about ls = refl
 open-levels false hash_line place about ls = refl
 
-cut-one : (hash_line : Bool) (c : Opened) (place about : ℕ) (cs : List Opened) → all_inner cs ≡ true → all_levels_after (comment_cut hash_line c place about) (InComment ∷ levels_in cs) ≡ Some (levels_in cs)
+pub cut-one : (hash_line : Bool) (c : Opened) (place about : ℕ) (cs : List Opened) → all_inner cs ≡ true → all_levels_after (comment_cut hash_line c place about) (InComment ∷ levels_in cs) ≡ Some (levels_in cs)
 cut-one hash_line c place about cs inner =
     let top = code-first cs inner in
     ap (λ ls. all_levels_after (comment_cut hash_line c place about) (InComment ∷ ls)) top.1 ∙ notes-stay (one_note (note_unless (c.braces == 0) notes.MissingBrace about)) (InCode ∷ top.0) ∙ ap Some (sym top.1)
@@ -468,10 +468,10 @@ until-append (x ∷ xs) ys h =
 pub until-none : (xs : List Answer) → begins_section_in xs ≡ false → until_section xs ≡ xs
 until-none xs h = ap until_section (sym (append-nil xs)) ∙ until-append xs [] h ∙ append-nil xs
 
-record IsSection (x : Cut) : Type 0 where
+pub record IsSection (x : Cut) : Type 0 where
   pub is : is_section_kind x.kind ≡ true
 
-section-kind : (bytes : List ℕ) → IsSection (section_code bytes)
+pub section-kind : (bytes : List ℕ) → IsSection (section_code bytes)
 section-kind bytes = if-both IsSection (begins star (drop 1 bytes)) _ _ (λ e. record { is = refl }) (λ e. record { is = refl })
 
 -- a section code, before which all that is open ends

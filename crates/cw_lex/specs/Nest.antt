@@ -1,6 +1,8 @@
 -- The answers of the scanner as a nest: the tokens of a text in order, where a comment and an inner text hold a nest
 -- of their own.
-use Rattle.std.specs.Prelude.{List, [], ◌∷◌}
+use Rattle.std.specs.Prelude.{◌≡◌, Bool, true, false, not, List, [], ◌∷◌}
+use Rattle.cw_lex.specs.declared.tokens.TokKind.{TokKind}
+use Rattle.cw_lex.specs.declared.tokens.TokKind.TheVariants as kind
 use Rattle.cw_lex.specs.Answers.{Answer, Token, Begin, Finish, Note, Seen}
 
 pub data Nest : Type 0 where
@@ -33,3 +35,23 @@ first_nest (nest ∷ outer) = nest
 -- the nest of a text of which these are the answers
 abbrev pub nest : List Answer → Nest
 nest answers = first_nest (nests answers)
+
+-- ## A nest in which all stands where it may
+
+abbrev pub is_text_kind : TokKind → Bool
+is_text_kind kind.Text = true
+is_text_kind k = false
+
+-- Inner texts begin in the text of comments, and comments in C text.
+abbrev pub IsGroupOf : (in_comment : Bool) → TokKind → Type 0
+IsGroupOf true kind.InnerText = Unit {0}
+IsGroupOf false kind.LongComment = Unit {0}
+IsGroupOf false kind.ShortComment = Unit {0}
+IsGroupOf in_comment k = ⊥
+
+-- Pieces of text stand in the text of a comment, and nothing else does but inner texts. In C text stand the other tokens
+-- and comments.
+abbrev pub IsWell : (in_comment : Bool) → Nest → Type 0
+IsWell in_comment End = Unit {0}
+IsWell in_comment (Leaf token rest) = (is_text_kind token.kind ≡ in_comment) × IsWell in_comment rest
+IsWell in_comment (Group token inner rest) = IsGroupOf in_comment token.kind × IsWell (not in_comment) inner × IsWell in_comment rest
