@@ -22,3 +22,4 @@ pub mod Nesting
 pub mod NoDefinitions
 pub mod TexNesting
 pub mod Nests
+pub mod HeadNests

@@ -64,6 +64,14 @@ has_sign (Begin token ∷ answers) = false
 has_sign (Finish token ∷ answers) = false
 has_sign (Note note place ∷ answers) = has_sign answers
 
+-- The answers behind that sign, where it stands.
+abbrev pub behind_sign : List Answer → Option (List Answer)
+behind_sign [] = None
+behind_sign (Token token ∷ answers) = elim (is_head_sign token.kind) [ true ↦ Some answers | false ↦ None ]
+behind_sign (Begin token ∷ answers) = None
+behind_sign (Finish token ∷ answers) = None
+behind_sign (Note note place ∷ answers) = behind_sign answers
+
 -- ## The head of a text
 
 -- A head: that of a macro or of a format definition, with the code's number and its words as far as they go; that of a
@@ -131,3 +139,35 @@ headed_by k token rest = headless (Leaf token rest)
 abbrev pub headed : Nest → Headed
 headed (Leaf token rest) = headed_by token.kind token rest
 headed rest = headless rest
+
+-- ## The answers behind a head
+
+-- the answers behind the words of a head that wants this
+abbrev pub without_words : Wanted → List Answer → List Answer
+without_words wanted [] = []
+without_words wanted (Token token ∷ answers) = elim (head_behind wanted token.kind token.span) [
+  | Some next ↦ without_words next answers
+  | None ↦ Token token ∷ answers
+]
+without_words wanted (Begin token ∷ answers) = Begin token ∷ answers
+without_words wanted (Finish token ∷ answers) = Finish token ∷ answers
+without_words wanted (Note note place ∷ answers) = without_words wanted answers
+
+abbrev pub without_name : Seen → List Answer → List Answer
+without_name name answers = elim (behind_sign answers) [ Some rest ↦ rest | None ↦ Token name ∷ answers ]
+
+abbrev pub without_head_of : TokKind → Seen → List Answer → List Answer
+without_head_of (kind.Code code.Define) token answers = without_words wants.Macro answers
+without_head_of (kind.Code code.Format) token answers = without_words (wants.First false) answers
+without_head_of (kind.Code code.SilentFormat) token answers = without_words (wants.First true) answers
+without_head_of (kind.Code code.SectionName) token answers = without_name token answers
+without_head_of (kind.Code code.FileName) token answers = without_name token answers
+without_head_of k token answers = Token token ∷ answers
+
+-- the answers behind the head with which they begin
+abbrev pub without_head : List Answer → List Answer
+without_head [] = []
+without_head (Token token ∷ answers) = without_head_of token.kind token answers
+without_head (Begin token ∷ answers) = Begin token ∷ answers
+without_head (Finish token ∷ answers) = Finish token ∷ answers
+without_head (Note note place ∷ answers) = without_head answers

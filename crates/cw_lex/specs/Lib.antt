@@ -17,3 +17,4 @@ pub mod Order
 pub mod Nested
 pub mod Nest
 pub mod Heads
+pub mod NestLaws

@@ -1,4 +1,5 @@
 //! Laws of the scanner's answers.
+ghost use Rattle.cw_lex.specs.NestLaws.{NestedAnswersMakeOneNest, NestsAreWell, HeadsLeaveNests};
 ghost use Rattle.cw_lex.specs.Nested.{CTextsAreNested, CTextsNestUpToSections, TexTextsAreNested};
 
 /// The law of nesting: over C text the answers are nested, up to a section code that cuts it, and over TeX text inner C
@@ -7,4 +8,12 @@ pub fn nesting_law()
     ensures c_texts { CTextsAreNested }
     ensures up_to_sections { CTextsNestUpToSections }
     ensures tex_texts { TexTextsAreNested }
+{}
+
+/// The law of nests: nested answers are those of one nest, in which all stands where it may, and so are the answers behind
+/// a head. It does nothing: what it ensures is for proofs.
+pub fn nest_law()
+    ensures one { NestedAnswersMakeOneNest }
+    ensures well { NestsAreWell }
+    ensures heads { HeadsLeaveNests }
 {}
