@@ -1,8 +1,8 @@
 -- Laws of growing journals: nothing is gained by no events, growth in two steps is growth by both, and what is a part of the first events
 -- is a part of all of them.
-use Rattle.std.specs.Prelude.{◌≡◌, ℕ, ◌+◌, ◌≤◌, List, [], ◌++◌, Option, Some, None, take, length}
-use Rattle.std.proofs.Common.{refl, sym, ap, ◌∙◌, append_assoc, arith, length-append}
-use Rattle.std.proofs.lemmas.List.{append-nil, map-append, take-append-le, take_all}
+use Rattle.std.specs.Prelude.{◌≡◌, ℕ, ◌+◌, ◌≤◌, List, [], ◌++◌, Option, Some, None, take, drop, length, ◌-◌}
+use Rattle.std.proofs.Common.{refl, sym, ap, ◌∙◌, subst, append_assoc, arith, length-append, take-add}
+use Rattle.std.proofs.lemmas.List.{append-nil, map-append, take-append-drop, take-append-le, take_all, take_rest}
 use Rattle.std.proofs.Math.Seq.{take-append-add}
 use Rattle.cw_base.specs.declared.event.Event.{Event}
 use Rattle.cw_base.specs.declared.event.Event.TheVariants.{Byte}
@@ -50,3 +50,30 @@ part-second old first {second = second} begun part = record {
 
 -- what proves that journals grow call by call
 pub ruleset growing = (part-same, part-all, part-first, part-second, grown-after)
+
+-- after the first bytes come the next ones, as they are sliced
+pub grown-next : (old : Option (List Event)) {mid new : Option (List Event)} (out : Out) (bytes : List ℕ) (done count : ℕ)
+    → mid ≡ grown old (byte_events out (take done bytes)) → new ≡ grown mid (byte_events out (take count (take (length bytes - done) (drop done bytes))))
+    → new ≡ grown old (byte_events out (take (done + count) bytes))
+grown-next old {mid = mid} out bytes done count begun ended =
+    grown-after old (byte_events out (take done bytes)) (byte_events out (take count (drop done bytes))) begun
+    (ended ∙ ap (λ (rest : List ℕ). grown mid (byte_events out (take count rest))) (take_rest bytes done))
+    ∙ ap (grown old) (sym (byte_events-append out (take done bytes) (take count (drop done bytes))))
+    ∙ ap (λ (taken : List ℕ). grown old (byte_events out taken)) (sym (take-add done count bytes))
+
+-- what was put, and behind it what still waits, is what waited
+pub grown-rest : (old : Option (List Event)) {new : Option (List Event)} (out : Out) (bytes : List ℕ) (count : ℕ)
+    → new ≡ grown old (byte_events out (take count bytes)) → grown new (byte_events out (drop count bytes)) ≡ grown old (byte_events out bytes)
+grown-rest old out bytes count put =
+    ap (λ (journal : Option (List Event)). grown journal (byte_events out (drop count bytes))) put
+    ∙ grown-twice old (byte_events out (take count bytes)) (byte_events out (drop count bytes))
+    ∙ ap (grown old) (sym (byte_events-append out (take count bytes) (drop count bytes)))
+    ∙ ap (λ (all : List ℕ). grown old (byte_events out all)) (take-append-drop count bytes)
+
+-- the first bytes are a part of all
+pub part-bytes : (old : Option (List Event)) {new : Option (List Event)} (out : Out) (bytes : List ℕ) (count : ℕ)
+    → new ≡ grown old (byte_events out (take count bytes)) → GrownByPart old new (byte_events out bytes)
+part-bytes old {new = new} out bytes count put =
+    subst (λ (events : List Event). GrownByPart old new events)
+    (sym (byte_events-append out (take count bytes) (drop count bytes)) ∙ ap (λ (all : List ℕ). byte_events out all) (take-append-drop count bytes))
+    (part-first (byte_events out (drop count bytes)) (part-all old (byte_events out (take count bytes)) put))

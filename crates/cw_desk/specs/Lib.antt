@@ -1,3 +1,5 @@
+pub mod Batch
+pub mod BatchLaws
 pub mod File
 pub mod Journal
 pub mod JournalLaws

@@ -1,3 +1,4 @@
+//! What a desk is: its four calls, and what each answer says.
 ghost use Rattle.std.specs.Prelude.{◌<◌, IsTrue, length};
 ghost use Rattle.cw_desk.specs.Meaning.{is_open};
 ghost use Rattle.cw_desk.specs.Told.{Told, Opens, Reads, Makes, Takes, lent};

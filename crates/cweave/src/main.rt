@@ -1,8 +1,10 @@
 //! The program: `cweave [options] webfile[.w] [{changefile[.ch]|-} [outfile[.tex]]]`.
 #![tactic(auto)]
 
-use cw_base::{Memory, Silent, Steps, Words};
-use cw_desk::FileDesk;
+ghost use Rattle.std.specs.Prelude.{◌≡◌, ◌≢◌};
+
+use cw_base::{Exit, Memory, Silent, Steps, Words};
+use cw_desk::{Batch, FileDesk, Flushed};
 use cw_weave::weave_command;
 use std::env;
 use std::io::ErrorKind;
@@ -26,13 +28,31 @@ fn read_words(rt: &HostRuntime) -> Result<Words, Memory> {
     }
 }
 
+/// Hands on what still waits at the end of a run, and answers how the program exits. After a fault or want of memory nothing more
+/// is handed on.
+fn end(exit: Exit, desk: Batch<FileDesk>) -> Exit
+    ensures fault { exit ≡ Exit.Fault → result ≡ Exit.Fault }
+    ensures memory { exit ≡ Exit.Memory → result ≡ Exit.Memory }
+    ensures others { result ≢ Exit.Fault → result ≢ Exit.Memory → result ≡ exit }
+{
+    if matches!(exit, Exit::Fault | Exit::Memory) {
+        return exit;
+    }
+    let (flushed, _) = desk.finish();
+    match flushed {
+        Flushed::Done => exit,
+        Flushed::Failed => Exit::Fault,
+        Flushed::Memory => Exit::Memory,
+    }
+}
+
 fn main(rt: HostRuntime) -> ExitCode {
     let Ok(words) = read_words(&rt) else {
         return ExitCode::from(OUT_OF_MEMORY);
     };
     let alloc = rt.alloc();
-    let mut desk = FileDesk::new_in(rt, alloc);
+    let mut desk = Batch::new_in(alloc, FileDesk::new_in(rt, alloc));
     let mut steps = Steps::<Silent>::new();
     let exit = weave_command(alloc, &words, &mut desk, &mut steps);
-    ExitCode::from(exit.code())
+    ExitCode::from(end(exit, desk).code())
 }
