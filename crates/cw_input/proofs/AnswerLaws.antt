@@ -5,9 +5,10 @@ use Rattle.cw_base.specs.declared.limits.TheConstants.{INPUT_LIMIT}
 use Rattle.cw_base.specs.Web.{WebState}
 use Rattle.cw_input.specs.Answers.{Fails, Reads, Finds, FindsWeb, Loads, Merges}
 use Rattle.cw_input.specs.Lines.{FileLine, file_lines}
-use Rattle.cw_input.specs.Merge.{Lookup, MergeState, advance, read, read_by, walk}
+use Rattle.cw_input.specs.Fold.{MergeState, advance, read, read_by, walk}
+use Rattle.cw_input.specs.Merge.{Lookup}
 use Rattle.cw_input.specs.Merged as outcome
-use Rattle.cw_input.specs.Merged.{merge_change, merge_web, merge_with, start_state, taken}
+use Rattle.cw_input.specs.Folded.{merge_change, merge_web, merge_with, start_state, taken}
 use Rattle.cw_input.specs.declared.error.LoadError.{LoadError}
 use Rattle.cw_input.specs.declared.error.LoadError.TheVariants.{NoWeb, NoChange, TooLong, Fault, Memory}
 use Rattle.cw_input.specs.declared.found.Found.{Found}

@@ -8,7 +8,8 @@ use Rattle.cw_input.specs.Lines.{FileLine, code_of, numbered}
 use Rattle.cw_input.specs.declared.phase.Phase.{Phase}
 use Rattle.cw_base.specs.declared.notes.NoteKind.TheVariants.{WebEnded}
 use Rattle.cw_input.specs.declared.phase.Phase.TheVariants.{Old, Spent}
-use Rattle.cw_input.specs.Merge.{Lookup, Into, MergeState, Over, Pending, Waiting, Onward, advance, compared, counted, drained, drained_by, ended, noted, step, put, take_by, take_line, walk, new_lines, web_lines}
+use Rattle.cw_input.specs.Fold.{Into, MergeState, Over, Pending, Waiting, Onward, advance, compared, drained, drained_by, ended, noted, step, put, take_by, take_line, walk, new_lines, web_lines}
+use Rattle.cw_input.specs.Merge.{Lookup, counted}
 use Rattle.cw_input.specs.State.{into_at, line_of, lines_from}
 use Rattle.cw_input.proofs.AnswerLaws.{walk-none}
 

@@ -2,8 +2,8 @@
 use Rattle.std.proofs.Common.{◌≡◌, ℕ, ◌+◌, ◌≤◌, List, [], false, length, Some, arith}
 use Rattle.cw_base.specs.declared.limits.TheConstants.{INPUT_LIMIT}
 use Rattle.cw_base.specs.Web.{empty_web}
-use Rattle.cw_input.specs.Merge.{read}
-use Rattle.cw_input.specs.Merged.{start_state}
+use Rattle.cw_input.specs.Fold.{read}
+use Rattle.cw_input.specs.Folded.{start_state}
 use Rattle.cw_input.specs.State.{state_of, with_file}
 use Rattle.cw_input.specs.declared.merger.Merger.{Merger}
 use Rattle.cw_input.specs.declared.phase.Meets.TheVariants.{Nothing}

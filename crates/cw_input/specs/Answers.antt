@@ -3,7 +3,7 @@ use Rattle.std.specs.Prelude.{◌≡◌, ℕ, ◌+◌, ◌-◌, ◌*◌, ◌<◌
 use Rattle.cw_base.specs.declared.limits.TheConstants.{INPUT_LIMIT}
 use Rattle.cw_base.specs.Web.{WebState}
 use Rattle.cw_input.specs.Lines.{FileLine, file_lines}
-use Rattle.cw_input.specs.Merge.{MergeState, Onward}
+use Rattle.cw_input.specs.Fold.{MergeState, Onward}
 use Rattle.cw_input.specs.Merged as outcome
 use Rattle.cw_input.specs.State.{Moves, IsMet, IsPhase, ahead}
 use Rattle.cw_input.specs.declared.error.LoadError.{LoadError}

@@ -1,10 +1,9 @@
 -- When each answer of `load` that isn't Ok comes.
-use Rattle.std.specs.Prelude.{◌≡◌, ℕ, ◌≤◌, ◌⊎◌, List, length, Option, Some, None, Result, Ok, Err, IsErrOf}
+use Rattle.std.specs.Prelude.{◌≡◌, ℕ, ◌<◌, ◌≤◌, ◌⊎◌, List, length, Option, Some, None, Result, Ok, Err, IsErrOf}
 use Rattle.cw_base.specs.declared.limits.TheConstants.{INPUT_LIMIT}
 use Rattle.cw_base.specs.Web.{WebState}
 use Rattle.cw_input.specs.Merge.{Lookup}
-use Rattle.cw_input.specs.Merged as outcome
-use Rattle.cw_input.specs.Merged.{change_word, merged, web_file}
+use Rattle.cw_input.specs.Merged.{bytes_read, change_word, reading, web_file}
 use Rattle.cw_input.specs.Names.{first_name, second_name, change_name}
 use Rattle.cw_input.specs.declared.error.LoadError.{LoadError}
 use Rattle.cw_input.specs.declared.error.LoadError.TheVariants.{Fault, Memory}
@@ -35,4 +34,4 @@ pub record LacksChange (named : Lookup) (web : List ℕ) (change : Option (List 
 
 -- more bytes are read than may be
 abbrev pub IsTooLong : Lookup → List ℕ → Option (List ℕ) → Type 0
-IsTooLong named web change = merged named web change ≡ outcome.TooLong
+IsTooLong named web change = INPUT_LIMIT < bytes_read named (reading named web change)

@@ -1,5 +1,8 @@
 pub mod Answers
 pub mod Causes
+pub mod Changes
+pub mod Fold
+pub mod Folded
 pub mod Lines
 pub mod Merge
 pub mod Merged

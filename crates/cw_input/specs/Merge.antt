@@ -1,211 +1,176 @@
--- How the lines of a web, of the files that it includes and of a change file become the merged lines.
+-- How the lines of a web, of the files that it includes and of the changes of a change file become the merged lines.
 --
--- One may think of a stack of the lines that are still to be taken, of the lines of the change file that are left, and of a group of the
--- change file that waits to be met. The first of these cases that holds is taken, over and over:
---
---   1. No group waits, and lines of the change file are left: the next group is looked for.
---   2. The stack has no line: a group that waits is noted, and the result is complete.
---   3. The next line equals the match line of the group that waits: it is dropped; then each further old line takes and drops one line of
---      the stack, then the new lines are appended as changed, and no group waits. If the group appended nothing, a mark waits.
---   4. The next line is an include line: the lines of its file are put on the stack, or a note says why not.
---   5. Any other line is appended. It is changed if a mark waits, and the mark is gone.
---
--- Here the stack is the recursion itself: the lines of a file are given to a state one by one, and where one of them is an include line,
--- the lines of its file are given before the next one. So an included file that ends is followed by the rest of the file that includes it.
--- And an old line doesn't take a line from the stack, but waits until the next one is given, wherever it comes from. The cases are:
---
---   1. `advance` in the phases Outside, Opening and Skipping. It is called at the start, and goes on by itself when a group is done, so all
---      lines of the change file that need no line of the web are handled before the next line is given: case 1 never waits.
---   2. `drained` (when an old line still waits) and then `unmatched`.
---   3. `compared true`; `advance` in the phases Old, then New, with `Waiting` between one old line and the next.
---   4. `put_by (Some name)`.
---   5. `put_by None`.
-use Rattle.std.specs.Prelude.{ℕ, zero, suc, ◌+◌, Bool, true, false, nat_lt, nat_le, List, [], ◌∷◌, ◌++◌, length, Option, Some, None, option_and_then, bytes_eq}
-use Rattle.cw_base.specs.declared.limits.TheConstants.{INPUT_LIMIT}
+-- The lines of the web are taken one after another; an include line puts the lines of its file in its place. Each change waits in its turn
+-- for a line that equals its match line. That line and, with no include done for them, as many lines behind it as the change has further old
+-- lines are dropped, wherever they come from: an included file that ends is followed by the rest of the file that includes it. Then the
+-- change's new lines, and the lines of files that they include, are appended as changed. All other lines are appended as they are.
+use Rattle.std.specs.Prelude.{ℕ, zero, suc, ◌+◌, Bool, true, false, nat_lt, List, [], ◌∷◌, ◌++◌, length, Option, Some, None, bytes_eq}
 use Rattle.cw_base.specs.Web.{WebState}
-use Rattle.cw_base.specs.declared.notes.NoteKind.{NoteKind}
-use Rattle.cw_base.specs.declared.notes.NoteKind.TheVariants.{IncludeMissing, IncludeUnnamed, IncludeTooDeep, NoMatchingX, NoMatchingY, NoMatchingZ, NoOldLine, EndedBeforeY, EndedBeforeZ, LinesDiffer, WebEnded, ChangeUnmatched}
+use Rattle.cw_base.specs.declared.notes.Note.{Note}
+use Rattle.cw_base.specs.declared.notes.NoteKind.TheVariants.{IncludeMissing, IncludeUnnamed, IncludeTooDeep, NoMatchingY, NoMatchingZ, LinesDiffer, WebEnded, ChangeUnmatched}
 use Rattle.cw_base.specs.declared.notes.Place.{Place}
-use Rattle.cw_input.specs.Lines.{FileLine, file_lines, code_of, include_name}
-use Rattle.cw_input.specs.declared.lines.Code.{Code}
-use Rattle.cw_input.specs.declared.lines.Code.TheVariants.{X, Y, Z, Empty, Other}
-use Rattle.cw_input.specs.declared.phase.Phase.{Phase}
-use Rattle.cw_input.specs.declared.phase.Phase.TheVariants.{Outside, Opening, Skipping, Old, Spent, New}
+use Rattle.cw_input.specs.Changes.{Change, Entry, Line, Misplaced, note_at}
+use Rattle.cw_input.specs.Lines.{FileLine, file_lines, include_name}
 
 -- the files that are there, by their names
 abbrev pub Lookup : Type 0
 Lookup = List ℕ → Option (List ℕ)
 
--- What the next line of the web meets. All lines of the change file that need no line of the web are handled at once, so the case
--- 'no group waits and lines of the change file are left' never lasts:
---     Over                no line of the change file is left
---     Pending match rest  a group waits to be met at its match line; rest is what follows that line in the change file
---     Waiting old differ rest  a group has been met; this old line takes the next line of the web, and this many lines before it differ
-pub data Group : Type 0 where
-  Over : Group
-  Pending : FileLine → List FileLine → Group
-  Waiting : FileLine → ℕ → List FileLine → Group
+-- whether a change has been met, and which lines of the web it has dropped behind its match line
+pub data Course : Type 0 where
+  Free : Course
+  Taking : Change → List (List ℕ) → Course
 
--- The web so far, how many bytes were read, whether the next line carries a mark because a group before it gave no line, and what that
--- line meets. The mark is set when a group is met; each line that is appended takes it away.
-pub record MergeState : Type 0 where
+-- The web so far; whether the next line carries a mark because a change before it gave no line; the changes that are left, of which the first
+-- waits to be met; and the change that takes the next line.
+pub record Merging : Type 0 where
   pub web : WebState
-  pub sum : ℕ
   pub mark : Bool
-  pub group : Group
+  pub changes : List Change
+  pub course : Course
 
--- None below stands for input that is too long: nothing else is then known.
+abbrev pub noted : Note → Merging → Merging
+noted note m = record m { web = record m.web { notes = m.web.notes ++ note ∷ [] } }
 
-abbrev pub noted : NoteKind → ℕ → Place → MergeState → MergeState
-noted kind value place m = record m { web = record m.web { notes = m.web.notes ++ record { kind = kind; value = value; place = place } ∷ [] } }
+abbrev pub all_noted : List Note → Merging → Merging
+all_noted [] m = m
+all_noted (note ∷ notes) m = all_noted notes (noted note m)
 
-abbrev pub grouped : Group → MergeState → MergeState
-grouped group m = record m { group = group }
-
-abbrev pub appended : Bool → FileLine → MergeState → MergeState
+-- a line is appended, and takes the mark
+abbrev pub appended : Bool → FileLine → Merging → Merging
 appended changed line m =
     record m { web = record m.web { lines = m.web.lines ++ record { text = line.text; place = line.place; changed = changed } ∷ [] }; mark = false }
 
--- a file is read to its end: its bytes count, and its name is the next file's
-abbrev pub read_by : Bool → List ℕ → ℕ → MergeState → Option MergeState
-read_by true name sum m = Some (record m { web = record m.web { files = m.web.files ++ name ∷ [] }; sum = sum })
-read_by false name sum m = None
-
-abbrev pub read : List ℕ → List ℕ → MergeState → Option MergeState
-read name bytes m = read_by (nat_le (m.sum + length bytes) INPUT_LIMIT) name (m.sum + length bytes) m
+-- a file is read: its name is that of the next file
+abbrev pub opened : List ℕ → Merging → Merging
+opened name m = record m { web = record m.web { files = m.web.files ++ name ∷ [] } }
 
 -- what is done with the lines of an included file; None where the file would be too deep
 abbrev pub Into : Type 0
-Into = Option (List FileLine → MergeState → Option MergeState)
+Into = Option (List FileLine → Merging → Merging)
 
--- an include line: an empty name, then too deep a file, then a missing file are noted; else the file is read and its lines follow
-abbrev pub include_found : (List FileLine → MergeState → Option MergeState) → List ℕ → Option (List ℕ) → Place → MergeState → Option MergeState
-include_found into name None place m = Some (noted IncludeMissing 0 place m)
-include_found into name (Some bytes) place m = option_and_then (into (file_lines (length m.web.files) bytes)) (read name bytes m)
+-- an include line: an empty name, then too deep a file, then a missing file are noted; else the file's lines follow
+abbrev pub include_found : (List FileLine → Merging → Merging) → List ℕ → Option (List ℕ) → Place → Merging → Merging
+include_found into name None place m = noted (note_at IncludeMissing 0 place) m
+include_found into name (Some bytes) place m = into (file_lines (length m.web.files) bytes) (opened name m)
 
-abbrev pub include : Lookup → Into → List ℕ → Place → MergeState → Option MergeState
-include named into [] place m = Some (noted IncludeUnnamed 0 place m)
-include named None (byte ∷ bytes) place m = Some (noted IncludeTooDeep 0 place m)
+abbrev pub include : Lookup → Into → List ℕ → Place → Merging → Merging
+include named into [] place m = noted (note_at IncludeUnnamed 0 place) m
+include named None (byte ∷ bytes) place m = noted (note_at IncludeTooDeep 0 place) m
 include named (Some into) (byte ∷ bytes) place m = include_found into (byte ∷ bytes) (named (byte ∷ bytes)) place m
 
--- a line that no group takes: an include line includes, any other is appended
-abbrev pub put_by : Option (List ℕ) → Lookup → Bool → Into → FileLine → MergeState → Option MergeState
-put_by None named changed into line m = Some (appended changed line m)
+-- a line that no change drops: an include line includes, any other is appended
+abbrev pub put_by : Option (List ℕ) → Lookup → Bool → Into → FileLine → Merging → Merging
+put_by None named changed into line m = appended changed line m
 put_by (Some name) named changed into line m = include named into name line.place m
 
-abbrev pub put : Lookup → Bool → Into → FileLine → MergeState → Option MergeState
+abbrev pub put : Lookup → Bool → Into → FileLine → Merging → Merging
 put named changed into line m = put_by (include_name line.text) named changed into line m
 
--- lines given one after another
-abbrev pub walk : (FileLine → MergeState → Option MergeState) → List FileLine → Option MergeState → Option MergeState
+-- lines taken one after another
+abbrev pub walk : (FileLine → Merging → Merging) → List FileLine → Merging → Merging
 walk each [] m = m
-walk each (line ∷ lines) m = walk each lines (option_and_then (each line) m)
+walk each (line ∷ lines) m = walk each lines (each line m)
 
--- New lines of a group, and the lines of files that they include: each is appended as changed. The number says how many files deep may
+-- New lines of a change, and the lines of files that they include: each is appended as changed. The number says how many files deep may
 -- still be included.
-unfoldable pub new_lines : Lookup → ℕ → List FileLine → MergeState → Option MergeState
-new_lines named zero lines m = walk (put named true None) lines (Some m)
-new_lines named (suc left) lines m = walk (put named true (Some (new_lines named left))) lines (Some m)
+unfoldable pub new_lines : Lookup → ℕ → List FileLine → Merging → Merging
+new_lines named zero lines m = walk (put named true None) lines m
+new_lines named (suc left) lines m = walk (put named true (Some (new_lines named left))) lines m
 
-abbrev pub noted_if : Bool → NoteKind → ℕ → Place → MergeState → MergeState
-noted_if true kind value place m = noted kind value place m
-noted_if false kind value place m = m
+-- the new lines of a change, with a note on each code line among them
+abbrev pub replaced : Lookup → List Entry → Merging → Merging
+replaced named [] m = m
+replaced named (Line line ∷ entries) m = replaced named entries (new_lines named 10 (line ∷ []) m)
+replaced named (Misplaced place ∷ entries) m = replaced named entries (noted (note_at NoMatchingZ 0 place) m)
 
--- One line of the change file, by the phase in which it stands and its code. It ends the handling until the next line of the web is
--- taken, or goes on in a phase. The phases are
---     Outside       before the next group: lines up to an `@x` line are dropped
---     Opening       behind the `@x` of a group, before its match line
---     Skipping      in a group without old lines, up to its `@z`
---     Old differ    among the old lines of a group that has been met; this many lines of the web differed
---     Spent differ  the same, when the web has no line left
---     New           among the new lines
-abbrev pub Onward : Type 0
-Onward = Phase → MergeState → Option MergeState
+-- the notes on code lines among old lines
+abbrev pub misplaced : List Entry → List Note
+misplaced [] = []
+misplaced (Line line ∷ entries) = misplaced entries
+misplaced (Misplaced place ∷ entries) = note_at NoMatchingY 0 place ∷ misplaced entries
 
-abbrev pub step : Lookup → Phase → Code → FileLine → List FileLine → Onward → MergeState → Option MergeState
-step named Outside X line rest go m = go Opening m
-step named Outside Y line rest go m = go Outside (noted NoMatchingX 0 line.place m)
-step named Outside Z line rest go m = go Outside (noted NoMatchingX 0 line.place m)
-step named Outside Empty line rest go m = go Outside m
-step named Outside Other line rest go m = go Outside m
-step named Opening X line rest go m = go Opening (noted NoMatchingY 0 line.place m)
-step named Opening Y line rest go m = go Skipping (noted NoOldLine 0 line.place m)
-step named Opening Z line rest go m = go Opening (noted NoMatchingY 0 line.place m)
-step named Opening Empty line rest go m = go Opening m
-step named Opening Other line rest go m = Some (grouped (Pending line rest) m)
-step named Skipping X line rest go m = go Skipping m
-step named Skipping Y line rest go m = go Skipping m
-step named Skipping Z line rest go m = go Outside m
-step named Skipping Empty line rest go m = go Skipping m
-step named Skipping Other line rest go m = go Skipping m
-step named (Old differ) X line rest go m = go (Old differ) (noted NoMatchingY 0 line.place m)
-step named (Old differ) Y line rest go m = go New (noted_if (nat_lt 0 differ) LinesDiffer differ line.place m)
-step named (Old differ) Z line rest go m = go (Old differ) (noted NoMatchingY 0 line.place m)
-step named (Old differ) Empty line rest go m = Some (grouped (Waiting line differ rest) m)
-step named (Old differ) Other line rest go m = Some (grouped (Waiting line differ rest) m)
-step named (Spent differ) X line rest go m = go (Spent differ) (noted NoMatchingY 0 line.place m)
-step named (Spent differ) Y line rest go m = go New (noted_if (nat_lt 0 differ) LinesDiffer differ line.place m)
-step named (Spent differ) Z line rest go m = go (Spent differ) (noted NoMatchingY 0 line.place m)
-step named (Spent differ) Empty line rest go m = go (Spent differ) m
-step named (Spent differ) Other line rest go m = go (Spent differ) m
-step named New X line rest go m = go New (noted NoMatchingZ 0 line.place m)
-step named New Y line rest go m = go New (noted NoMatchingZ 0 line.place m)
-step named New Z line rest go m = go Outside m
-step named New Empty line rest go m = option_and_then (go New) (new_lines named 10 (line ∷ []) m)
-step named New Other line rest go m = option_and_then (go New) (new_lines named 10 (line ∷ []) m)
+-- the same where the old lines have dropped these lines of the web: the first old line that has none is noted, since the web has ended
+abbrev pub old_notes : List Entry → List (List ℕ) → List Note
+old_notes [] dropped = []
+old_notes (Line line ∷ entries) [] = note_at WebEnded 0 line.place ∷ misplaced entries
+old_notes (Line line ∷ entries) (text ∷ dropped) = old_notes entries dropped
+old_notes (Misplaced place ∷ entries) dropped = note_at NoMatchingY 0 place ∷ old_notes entries dropped
 
--- the end of the change file in a phase; a note has the place of its last line
-abbrev pub ended : Phase → Place → MergeState → MergeState
-ended Outside last m = grouped Over m
-ended Opening last m = grouped Over (noted EndedBeforeY 0 last m)
-ended Skipping last m = grouped Over m
-ended (Old differ) last m = grouped Over (noted EndedBeforeY 0 last m)
-ended (Spent differ) last m = grouped Over (noted EndedBeforeY 0 last m)
-ended New last m = grouped Over (noted EndedBeforeZ 0 last m)
+-- how many old lines there are
+abbrev pub line_count : List Entry → ℕ
+line_count [] = 0
+line_count (Line line ∷ entries) = line_count entries + 1
+line_count (Misplaced place ∷ entries) = line_count entries
 
--- the lines of the change file that need no line of the web, from a phase on; last is the place of the line before them
-abbrev pub advance : Lookup → Phase → Place → List FileLine → MergeState → Option MergeState
-advance named phase last [] m = Some (ended phase last m)
-advance named phase last (line ∷ rest) m = step named phase (code_of line.text) line rest (λ next state. advance named next line.place rest state) m
-
--- the first line that a pending group is compared with decides whether the group has been met
-abbrev pub compared : Bool → Lookup → FileLine → List FileLine → Into → FileLine → MergeState → Option MergeState
-compared true named match rest into line m = advance named (Old 0) match.place rest (record m { mark = true })
-compared false named match rest into line m = put named m.mark into line m
-
--- how many lines differ, with one more line of the web compared with an old line
+-- how many lines of the web differ from the old lines that drop them, beside so many before
 abbrev pub counted : Bool → ℕ → ℕ
 counted true differ = differ
 counted false differ = differ + 1
 
--- a line of the web is taken: by a group that has been met, by the match line of a pending one that it equals, or else by the result
-abbrev pub take_by : Group → Lookup → Into → FileLine → MergeState → Option MergeState
-take_by Over named into line m = put named m.mark into line m
-take_by (Pending match rest) named into line m = compared (bytes_eq match.text line.text) named match rest into line m
-take_by (Waiting old differ rest) named into line m = advance named (Old (counted (bytes_eq old.text line.text) differ)) old.place rest m
+abbrev pub differing : ℕ → List Entry → List (List ℕ) → ℕ
+differing before [] dropped = before
+differing before (Line line ∷ entries) [] = before
+differing before (Line line ∷ entries) (text ∷ dropped) = differing (counted (bytes_eq line.text text) before) entries dropped
+differing before (Misplaced place ∷ entries) dropped = differing before entries dropped
 
-abbrev pub take_line : Lookup → Into → FileLine → MergeState → Option MergeState
-take_line named into line m = take_by m.group named into line m
+-- at the `@y`, where there is one, lines that differ are noted
+abbrev pub turn_notes_by : Bool → ℕ → Place → List Note
+turn_notes_by true differ place = note_at LinesDiffer differ place ∷ []
+turn_notes_by false differ place = []
+
+abbrev pub turn_notes : Option Place → ℕ → List Note
+turn_notes None differ = []
+turn_notes (Some place) differ = turn_notes_by (nat_lt 0 differ) differ place
+
+-- A change that has been met and has dropped these lines: a mark waits for the first line behind, and the new lines stand in place of the old.
+abbrev pub applied : Lookup → Change → List (List ℕ) → Merging → Merging
+applied named change dropped m =
+    all_noted change.behind (replaced named change.new (all_noted (turn_notes change.turn (differing 0 change.old dropped))
+    (all_noted (old_notes change.old dropped) (record m { mark = true; course = Free }))))
+
+-- a change that has been met drops lines of the web until it has one for each old line
+abbrev pub taking_by : Bool → Lookup → Change → List (List ℕ) → Merging → Merging
+taking_by true named change dropped m = record m { course = Taking change dropped }
+taking_by false named change dropped m = applied named change dropped m
+
+abbrev pub taking : Lookup → Change → List (List ℕ) → Merging → Merging
+taking named change dropped m = taking_by (nat_lt (length dropped) (line_count change.old)) named change dropped m
+
+-- whether the first change that is left is met
+abbrev pub met_by : Bool → Lookup → Change → List Change → Into → FileLine → Merging → Merging
+met_by true named change changes into line m = taking named change [] (record m { changes = changes })
+met_by false named change changes into line m = put named m.mark into line m
+
+abbrev pub met : List Change → Lookup → Into → FileLine → Merging → Merging
+met [] named into line m = put named m.mark into line m
+met (change ∷ changes) named into line m = met_by (bytes_eq change.match.text line.text) named change changes into line m
+
+-- a line of the web: a change that has been met drops it, or it meets the first change that is left, or it is put
+abbrev pub take_by : Course → Lookup → Into → FileLine → Merging → Merging
+take_by Free named into line m = met m.changes named into line m
+take_by (Taking change dropped) named into line m = taking named change (dropped ++ line.text ∷ []) m
+
+abbrev pub take_line : Lookup → Into → FileLine → Merging → Merging
+take_line named into line m = take_by m.course named into line m
 
 -- Lines of the web, and of the files that it includes. The number says how many files deep may still be included.
-unfoldable pub web_lines : Lookup → ℕ → List FileLine → MergeState → Option MergeState
-web_lines named zero lines m = walk (take_line named None) lines (Some m)
-web_lines named (suc left) lines m = walk (take_line named (Some (web_lines named left))) lines (Some m)
+unfoldable pub web_lines : Lookup → ℕ → List FileLine → Merging → Merging
+web_lines named zero lines m = walk (take_line named None) lines m
+web_lines named (suc left) lines m = walk (take_line named (Some (web_lines named left))) lines m
 
--- The web has no line left: an old line that waits for one is noted, and the rest of its group and the next group are handled.
-abbrev pub drained_by : Group → Lookup → MergeState → Option MergeState
-drained_by Over named m = Some m
-drained_by (Pending match rest) named m = Some m
-drained_by (Waiting old differ rest) named m = advance named (Spent differ) old.place rest (noted WebEnded 0 old.place m)
+-- The web has ended: a change that has been met is applied with the lines that it has.
+abbrev pub drained_by : Course → Lookup → Merging → Merging
+drained_by Free named m = m
+drained_by (Taking change dropped) named m = applied named change dropped m
 
-abbrev pub drained : Lookup → MergeState → Option MergeState
-drained named m = drained_by m.group named m
+abbrev pub drained : Lookup → Merging → Merging
+drained named m = drained_by m.course named m
 
--- Then a group that is still pending is noted, and the result is complete.
-abbrev pub unmatched_by : Group → MergeState → MergeState
-unmatched_by Over m = m
-unmatched_by (Pending match rest) m = noted ChangeUnmatched 0 match.place m
-unmatched_by (Waiting old differ rest) m = m
+-- Then the first change that is left is noted.
+abbrev pub unmatched_by : List Change → Merging → Merging
+unmatched_by [] m = m
+unmatched_by (change ∷ changes) m = noted (note_at ChangeUnmatched 0 change.match.place) m
 
-abbrev pub unmatched : MergeState → MergeState
-unmatched m = unmatched_by m.group m
+abbrev pub unmatched : Merging → Merging
+unmatched m = unmatched_by m.changes m

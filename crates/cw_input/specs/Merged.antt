@@ -1,18 +1,12 @@
 -- The merged web of a web word and a change word, over files that are there by name.
-use Rattle.std.specs.Prelude.{ℕ, Bool, true, false, List, Option, Some, None, option_and_then, option_map, bytes_eq, codes}
+use Rattle.std.specs.Prelude.{ℕ, Bool, true, false, nat_le, List, [], ◌∷◌, length, sum_by, Option, Some, None, option_map, bytes_eq, codes}
+use Rattle.cw_base.specs.declared.limits.TheConstants.{INPUT_LIMIT}
 use Rattle.cw_base.specs.Web.{WebState, empty_web}
+use Rattle.cw_input.specs.Changes.{Held, changes_of}
 use Rattle.cw_input.specs.Lines.{file_lines}
-use Rattle.cw_input.specs.Merge.{Lookup, Over, MergeState, read, advance, web_lines, drained, unmatched}
+use Rattle.cw_input.specs.Merge.{Lookup, Free, Merging, all_noted, drained, opened, unmatched, web_lines}
 use Rattle.cw_input.specs.Names.{first_name, second_name, change_name}
 use Rattle.cw_input.specs.declared.found.Found.{Found}
-use Rattle.cw_input.specs.declared.phase.Phase.TheVariants.{Outside}
-
--- the outcome of reading
-pub data Merged : Type 0 where
-  NoWeb : Merged
-  NoChange : Merged
-  TooLong : Merged
-  Whole : WebState → Merged
 
 -- a file that is there by its name
 abbrev pub found : Lookup → List ℕ → Option Found
@@ -35,32 +29,69 @@ abbrev pub change_word : Option (List ℕ) → Option (List ℕ)
 change_word None = None
 change_word (Some word) = change_by (bytes_eq word (codes "-")) word
 
-abbrev pub start_state : MergeState
-start_state = record { web = empty_web; sum = 0; mark = false; group = Over }
+-- what is read, however long it is: no web; the file of the web alone, since the change file is missing; or the whole
+pub data Reading : Type 0 where
+  NoFile : Reading
+  Alone : Found → Reading
+  Complete : WebState → Reading
 
-abbrev pub whole : Option MergeState → Merged
-whole None = TooLong
-whole (Some m) = Whole (unmatched m).web
+-- before a line of the web is taken: the web is file 0, and the changes are those of the change file, which is file 1
+abbrev pub begun : Found → Merging
+begun web = record { web = record empty_web { files = web.name ∷ [] }; mark = false; changes = []; course = Free }
 
--- The lines of the web are taken, whatever the change file waits for; then what waits is handled. The web is file 0.
-abbrev pub taken : Lookup → List ℕ → Option MergeState → Merged
-taken named web m = whole (option_and_then (drained named) (option_and_then (web_lines named 10 (file_lines 0 web)) m))
+abbrev pub with_changes : Held → Merging → Merging
+with_changes held m = all_noted held.notes (record m { changes = held.changes })
 
--- The change file is file 1. It is handled up to its first match line before a line of the web is taken.
-abbrev pub merge_change : Lookup → List ℕ → Option Found → MergeState → Merged
-merge_change named web None m = NoChange
-merge_change named web (Some change) m =
-    taken named web (option_and_then (advance named Outside (record { file = 1; line = 0 }) (file_lines 1 change.bytes)) (read change.name change.bytes m))
+-- the lines of the web are taken, whatever the changes wait for; then what waits is handled
+abbrev pub completed : Lookup → List ℕ → Merging → Reading
+completed named web m = Complete (unmatched (drained named (web_lines named 10 (file_lines 0 web) m))).web
 
-abbrev pub merge_with : Lookup → List ℕ → Option (List ℕ) → Option MergeState → Merged
-merge_with named web change None = TooLong
-merge_with named web None (Some m) = taken named web (Some m)
-merge_with named web (Some word) (Some m) = merge_change named web (found named (change_name word)) m
+abbrev pub read_change : Lookup → Found → Option Found → Reading
+read_change named web None = Alone web
+read_change named web (Some change) = completed named web.bytes (with_changes (changes_of change.bytes) (opened change.name (begun web)))
 
-abbrev pub merge_web : Lookup → Option Found → Option (List ℕ) → Merged
-merge_web named None change = NoWeb
-merge_web named (Some file) change = merge_with named file.bytes change (read file.name file.bytes start_state)
+abbrev pub read_web : Lookup → Option Found → Option (List ℕ) → Reading
+read_web named None change = NoFile
+read_web named (Some web) None = completed named web.bytes (begun web)
+read_web named (Some web) (Some word) = read_change named web (found named (change_name word))
 
--- The web word and the change word stand as on the command line.
+-- the web word and the change word stand as on the command line
+abbrev pub reading : Lookup → List ℕ → Option (List ℕ) → Reading
+reading named web change = read_web named (web_file named web) (change_word change)
+
+-- how many bytes the files of these names have, one that is named twice twice
+abbrev pub size_of : Option (List ℕ) → ℕ
+size_of None = 0
+size_of (Some bytes) = length bytes
+
+abbrev pub size : Lookup → List (List ℕ) → ℕ
+size named names = sum_by (λ name. size_of (named name)) names
+
+-- how many bytes are read in all
+abbrev pub bytes_read : Lookup → Reading → ℕ
+bytes_read named NoFile = 0
+bytes_read named (Alone web) = length web.bytes
+bytes_read named (Complete web) = size named web.files
+
+-- the outcome of reading
+pub data Merged : Type 0 where
+  NoWeb : Merged
+  NoChange : Merged
+  TooLong : Merged
+  Whole : WebState → Merged
+
+abbrev pub outcome : Reading → Merged
+outcome NoFile = NoWeb
+outcome (Alone web) = NoChange
+outcome (Complete web) = Whole web
+
+-- input that has more bytes than may be read gives nothing else
+abbrev pub limited_by : Bool → Reading → Merged
+limited_by true reading = outcome reading
+limited_by false reading = TooLong
+
+abbrev pub limited : Lookup → Reading → Merged
+limited named reading = limited_by (nat_le (bytes_read named reading) INPUT_LIMIT) reading
+
 abbrev pub merged : Lookup → List ℕ → Option (List ℕ) → Merged
-merged named web change = merge_web named (web_file named web) (change_word change)
+merged named web change = limited named (reading named web change)

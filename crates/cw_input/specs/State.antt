@@ -6,7 +6,7 @@ use Rattle.cw_base.specs.Web.{text_of}
 use Rattle.cw_base.specs.declared.notes.NoteKind.{NoteKind}
 use Rattle.cw_base.specs.declared.notes.Place.{Place}
 use Rattle.cw_input.specs.Lines.{FileLine, numbered}
-use Rattle.cw_input.specs.Merge.{Into, MergeState, Group, Over, Pending, Waiting}
+use Rattle.cw_input.specs.Fold.{Into, MergeState, Group, Over, Pending, Waiting}
 use Rattle.cw_input.specs.declared.merger.Merger.{Merger}
 use Rattle.cw_input.specs.declared.phase.Cursor.{Cursor}
 use Rattle.cw_input.specs.declared.phase.Meets.{Meets}

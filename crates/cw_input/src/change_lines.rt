@@ -2,7 +2,8 @@ ghost use Rattle.std.specs.Prelude.{◌≡◌, ◌<◌, ◌≤◌, ◌-◌, ◌+
 ghost use Rattle.cw_base.specs.declared.notes.NoteKind.TheVariants.{LinesDiffer};
 ghost use Rattle.cw_input.specs.Answers.{Gives, Steps, Waits};
 ghost use Rattle.cw_input.specs.Lines.{FileLine};
-ghost use Rattle.cw_input.specs.Merge.{Lookup, MergeState, Onward, ended, step};
+ghost use Rattle.cw_input.specs.Fold.{MergeState, Onward, ended, step};
+ghost use Rattle.cw_input.specs.Merge.{Lookup};
 ghost use Rattle.cw_input.specs.State.{IsCursor, IsPhase, IsPiece, Moves, line_at, rest_of, state_of, with_note};
 ghost use Rattle.cw_input.specs.declared.phase.Phase.TheVariants.{Old, Opening, Outside, Skipping, Spent};
 

@@ -3,7 +3,7 @@ ghost use Rattle.std.specs.FinMap.{get};
 ghost use Rattle.cw_desk.specs.Meaning.{Files, OnlyReads, Rose};
 ghost use Rattle.cw_input.specs.Answers.{Gives, Steps, Waits};
 ghost use Rattle.cw_input.specs.Lines.{FileLine, code_of};
-ghost use Rattle.cw_input.specs.Merge.{Onward, advance, new_lines, step};
+ghost use Rattle.cw_input.specs.Fold.{Onward, advance, new_lines, step};
 ghost use Rattle.cw_input.specs.State.{HasRoom, IsCursor, IsMet, IsPhase, IsPiece, Moves, ahead, line_at, line_of, rest_of, state_of};
 ghost use Rattle.cw_input.specs.declared.phase.Phase.TheVariants.{New};
 

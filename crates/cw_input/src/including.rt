@@ -3,7 +3,7 @@ ghost use Rattle.std.specs.FinMap.{get};
 ghost use Rattle.cw_desk.specs.Meaning.{Files, OnlyReads, Rose};
 ghost use Rattle.cw_input.specs.Answers.{Leads, Leaves};
 ghost use Rattle.cw_input.specs.Lines.{FileLine};
-ghost use Rattle.cw_input.specs.Merge.{MergeState, include, put};
+ghost use Rattle.cw_input.specs.Fold.{MergeState, include, put};
 ghost use Rattle.cw_input.specs.State.{HasRoom, into_at, line_of, state_of};
 
 use crate::error::LoadError;

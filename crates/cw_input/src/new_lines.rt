@@ -3,7 +3,7 @@ ghost use Rattle.std.specs.FinMap.{get};
 ghost use Rattle.cw_desk.specs.Meaning.{Files, OnlyReads, Rose};
 ghost use Rattle.cw_input.specs.Answers.{Gives};
 ghost use Rattle.cw_input.specs.Lines.{file_lines};
-ghost use Rattle.cw_input.specs.Merge.{new_lines, put};
+ghost use Rattle.cw_input.specs.Fold.{new_lines, put};
 ghost use Rattle.cw_input.specs.State.{HasRoom, Moves, into_at, line_of, state_of};
 
 use crate::error::LoadError;

@@ -3,7 +3,8 @@ ghost use Rattle.std.specs.FinMap.{get};
 ghost use Rattle.cw_desk.specs.Meaning.{Files, OnlyReads, Rose};
 ghost use Rattle.cw_input.specs.Answers.{Gives, Leads, Leaves};
 ghost use Rattle.cw_input.specs.Lines.{FileLine, file_lines};
-ghost use Rattle.cw_input.specs.Merge.{MergeState, counted, drained, take_line, unmatched, web_lines};
+ghost use Rattle.cw_input.specs.Fold.{MergeState, drained, take_line, unmatched, web_lines};
+ghost use Rattle.cw_input.specs.Merge.{counted};
 ghost use Rattle.cw_input.specs.State.{HasRoom, IsListed, IsMet, Moves, ahead, into_at, line_of, state_of};
 
 use crate::changes::advance_change;

@@ -3,7 +3,7 @@ use Rattle.std.proofs.Common.{◌+◌, Option, slice_range, subst, sym, ◌∙�
 use Rattle.std.specs.FinMap.{get}
 use Rattle.cw_input.specs.Answers.{Gives}
 use Rattle.cw_input.specs.Lines.{code_of}
-use Rattle.cw_input.specs.Merge.{MergeState, advance, step, Onward}
+use Rattle.cw_input.specs.Fold.{MergeState, advance, step, Onward}
 use Rattle.cw_input.specs.State.{line_of, lines_from, rest_of, state_of}
 use Rattle.cw_input.proofs.AnswerLaws.{fails_as}
 use Rattle.cw_input.proofs.MergeLaws.{onward, advance-first, advance-end}

@@ -5,7 +5,7 @@ use Rattle.std.specs.FinMap.{get}
 use Rattle.cw_base.specs.declared.limits.TheConstants.{INPUT_LIMIT}
 use Rattle.cw_base.specs.Web.{text_of}
 use Rattle.cw_desk.specs.Meaning.{Files, OnlyReads}
-use Rattle.cw_input.specs.Merge.{advance}
+use Rattle.cw_input.specs.Fold.{advance}
 use Rattle.cw_input.specs.State.{IsPhase, lines_from, rest_of, state_of}
 use Rattle.cw_input.proofs.changes.advance_change.Given as goal
 

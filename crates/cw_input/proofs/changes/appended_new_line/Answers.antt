@@ -1,7 +1,7 @@
 -- A new line is a list of one line.
 use Rattle.std.proofs.Common.{true, [], ◌∷◌, option_and_then, ap, ◌∙◌}
 use Rattle.std.specs.FinMap.{get}
-use Rattle.cw_input.specs.Merge.{new_lines, put}
+use Rattle.cw_input.specs.Fold.{new_lines, put}
 use Rattle.cw_input.specs.State.{into_at, line_of, state_of}
 use Rattle.cw_input.specs.declared.phase.Phase.TheVariants.{New}
 use Rattle.cw_input.proofs.AnswerLaws.{fails_as}

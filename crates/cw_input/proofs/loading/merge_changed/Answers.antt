@@ -2,8 +2,9 @@
 use Rattle.std.proofs.Common.{◌≡◌, ℕ, List, [], Option, Some, ap, sym, subst, ◌∙◌}
 use Rattle.std.specs.FinMap.{get}
 use Rattle.cw_input.specs.Answers.{Loads}
-use Rattle.cw_input.specs.Merge.{read}
-use Rattle.cw_input.specs.Merged.{Merged, found, merge_change, merge_with, start_state}
+use Rattle.cw_input.specs.Fold.{read}
+use Rattle.cw_input.specs.Folded.{merge_change, merge_with, start_state}
+use Rattle.cw_input.specs.Merged.{Merged, found}
 use Rattle.cw_input.specs.Names.{change_name}
 use Rattle.cw_input.specs.State.{state_of}
 use Rattle.cw_input.specs.declared.found.Found.{Found}

@@ -4,8 +4,10 @@ use Rattle.std.specs.FinMap.{get}
 use Rattle.cw_base.specs.declared.limits.TheConstants.{INPUT_LIMIT}
 use Rattle.cw_input.specs.Answers.{Loads, Merges}
 use Rattle.cw_input.specs.Lines.{file_lines}
-use Rattle.cw_input.specs.Merge.{Lookup, MergeState, advance, read}
-use Rattle.cw_input.specs.Merged.{Merged, taken}
+use Rattle.cw_input.specs.Fold.{MergeState, advance, read}
+use Rattle.cw_input.specs.Merge.{Lookup}
+use Rattle.cw_input.specs.Folded.{taken}
+use Rattle.cw_input.specs.Merged.{Merged}
 use Rattle.cw_input.specs.State.{state_of, with_file}
 use Rattle.cw_input.specs.declared.merger.Merger.{Merger}
 use Rattle.cw_input.specs.declared.merger.Source.{Source}

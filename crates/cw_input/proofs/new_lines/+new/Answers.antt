@@ -3,7 +3,7 @@ use Rattle.std.proofs.Common.{ℕ, ◌-◌, ◌+◌, List, Option, true, refl, s
 use Rattle.std.proofs.lemmas.Result.{err_from_is_err_and}
 use Rattle.std.specs.FinMap.{get}
 use Rattle.cw_input.specs.Lines.{FileLine, file_lines}
-use Rattle.cw_input.specs.Merge.{MergeState, new_lines, put}
+use Rattle.cw_input.specs.Fold.{MergeState, new_lines, put}
 use Rattle.cw_input.specs.State.{into_at, line_of, state_of}
 use Rattle.cw_input.proofs.AnswerLaws.{fails_as}
 use Rattle.cw_input.proofs.MergeLaws.{new_lines-walk, walk-fails}

@@ -3,7 +3,7 @@ use Rattle.std.proofs.Common.{ℕ, ◌-◌, ◌+◌, List, Option, sym, ap, ◌�
 use Rattle.std.proofs.lemmas.Result.{err_from_is_err_and}
 use Rattle.std.specs.FinMap.{get}
 use Rattle.cw_input.specs.Lines.{FileLine, file_lines}
-use Rattle.cw_input.specs.Merge.{MergeState, take_line, web_lines}
+use Rattle.cw_input.specs.Fold.{MergeState, take_line, web_lines}
 use Rattle.cw_input.specs.State.{into_at, line_of, state_of}
 use Rattle.cw_input.proofs.AnswerLaws.{fails_as}
 use Rattle.cw_input.proofs.MergeLaws.{web_lines-walk, walk-fails}

@@ -6,7 +6,7 @@ use Rattle.cw_base.specs.declared.limits.TheConstants.{INPUT_LIMIT}
 use Rattle.cw_base.specs.Web.{text_of}
 use Rattle.cw_desk.specs.Meaning.{Files, OnlyReads}
 use Rattle.cw_input.specs.Lines.{file_lines}
-use Rattle.cw_input.specs.Merge.{take_line, walk, web_lines}
+use Rattle.cw_input.specs.Fold.{take_line, walk, web_lines}
 use Rattle.cw_input.specs.State.{IsMet, ahead, into_at, lines_from, state_of}
 use Rattle.cw_input.proofs.web_lines.+web.Given as goal
 

@@ -3,7 +3,7 @@ use Rattle.std.proofs.Common.{ℕ, Option, subst, sym, ap, ◌∙◌}
 use Rattle.std.specs.FinMap.{get}
 use Rattle.cw_base.specs.declared.notes.NoteKind.TheVariants.{WebEnded}
 use Rattle.cw_input.specs.Answers.{Gives}
-use Rattle.cw_input.specs.Merge.{MergeState, advance, noted}
+use Rattle.cw_input.specs.Fold.{MergeState, advance, noted}
 use Rattle.cw_input.specs.State.{group_of, line_at, rest_of, state_of}
 use Rattle.cw_input.specs.declared.merger.Merger.{Merger}
 use Rattle.cw_input.specs.declared.phase.Phase.TheVariants.{Spent}

@@ -2,7 +2,7 @@
 use Rattle.std.proofs.Common.{◌≡◌, ℕ, Bool, true, false, not, Option, bytes_eq, refl, subst, sym, ap, ◌∙◌}
 use Rattle.std.specs.FinMap.{get}
 use Rattle.cw_input.specs.Answers.{Leads}
-use Rattle.cw_input.specs.Merge.{MergeState, advance, take_line}
+use Rattle.cw_input.specs.Fold.{MergeState, advance, take_line}
 use Rattle.cw_input.specs.State.{group_of, into_at, line_at, line_of, rest_of, state_of}
 use Rattle.cw_input.specs.declared.phase.Phase.TheVariants.{Old}
 use Rattle.cw_input.proofs.AnswerLaws.{fails_as}
