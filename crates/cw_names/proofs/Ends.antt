@@ -1,10 +1,11 @@
 -- No entry has the category of tests, and no change brings one.
-use Rattle.std.proofs.Common.{◌≡◌, ◌≢◌, ℕ, zero, suc, Bool, true, false, ◌&&◌, not, List, [], ◌∷◌, Some, refl, sym, ap, ◌∙◌, slice_get, if◌then◌else◌}
+use Rattle.std.proofs.Common.{◌≡◌, ◌≢◌, ℕ, zero, suc, Bool, true, false, ◌&&◌, not, List, [], ◌∷◌, Some, refl, sym, ap, ◌∙◌, slice_get, map, if◌then◌else◌}
 use Rattle.indexmap.specs.IndexMap.{insert_entry, set_value_at}
 use Rattle.cw_base.specs.declared.category.Cat.{Cat}
 use Rattle.cw_base.specs.declared.category.Cat.TheVariants.{Exp, End}
 use Rattle.cw_names.specs.declared.entry.Key.{Key}
-use Rattle.cw_names.specs.Inside.{is_end, has_no_end_entry}
+use Rattle.std.specs.List.{list_all}
+use Rattle.cw_names.specs.Inside.{is_end, entry_of, has_no_end_entry}
 
 pub real : (cat : Cat) → cat ≢ End → is_end cat ≡ false
 real End differs = absurd (differs refl)
@@ -20,6 +21,11 @@ second false b e = absurd (let no : false ≡ true = e in cc)
 
 both : (a b : Bool) → a ≡ true → b ≡ true → (a && b) ≡ true
 both a b is also = ap (λ x. x && b) is ∙ also
+
+-- it is seen of the entries themselves
+pub of-view : (entries : List (Key × Cat)) → has_no_end_entry entries ≡ list_all (λ entry. not (is_end entry.category)) (map entry_of entries)
+of-view [] = refl
+of-view (e ∷ entries) = ap (λ b. not (is_end e.1) && b) (of-view entries)
 
 inserted-by : (b : Bool) (eq : Key → Key → Bool) (e : Key × Cat) (entries : List (Key × Cat)) (key : Key) → has_no_end_entry (e ∷ entries) ≡ true
     → has_no_end_entry (insert_entry eq entries key Exp) ≡ true → has_no_end_entry (if b then (e.0, Exp) ∷ entries else e ∷ insert_entry eq entries key Exp) ≡ true

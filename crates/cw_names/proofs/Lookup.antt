@@ -38,7 +38,7 @@ key_eq-by User Roman k l c = refl
 key_eq-by User Typewriter k l c = refl
 key_eq-by User User k l c = refl
 
-key_eq-is : (k : Key) (e : Key × Cat) → key_eq k e.0 ≡ is_entry k.kind k.text.items (entry_of e)
+pub key_eq-is : (k : Key) (e : Key × Cat) → key_eq k e.0 ≡ is_entry k.kind k.text.items (entry_of e)
 key_eq-is k e = key_eq-by k.kind e.0.kind k e.0 e.1
 
 -- the position of a key is that of its entry

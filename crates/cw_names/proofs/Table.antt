@@ -1,18 +1,21 @@
 -- The names that come of a table of words, each of which is added with its category.
-use Rattle.std.proofs.Common.{◌≡◌, ℕ, zero, suc, ◌+◌, ◌<◌, ◌≤◌, Bool, true, false, ◌&&◌, not, true≢false, List, [], ◌∷◌, ◌++◌, Bor, get_or, length, take, drop, map, refl, sym, ap, ◌∙◌, arith, add-one, drop-cons}
+use Rattle.std.proofs.Common.{◌≡◌, ℕ, ◌+◌, ◌<◌, ◌≤◌, Bool, true, false, List, [], ◌∷◌, ◌++◌, Bor, Vec, Global, get_or, length, take, drop, map, refl, sym, ap, ◌∙◌, add-one, drop-cons, if◌then◌else◌}
 use Rattle.std.proofs.lemmas.List.{drop_all}
-use Rattle.cw_base.specs.declared.category.Cat.TheVariants.{End}
+use Rattle.indexmap.specs.IndexMap.{insert_entry}
 use Rattle.cw_base.specs.declared.category.Cat.{Cat}
+use Rattle.cw_names.specs.declared.entry.Key.{Key}
+use Rattle.cw_names.specs.declared.entry.EntryKind.TheVariants.{Ident}
 use Rattle.cw_names.specs.Names.{Entry}
-use Rattle.cw_names.specs.Inside.{is_end}
-use Rattle.cw_names.specs.Table.{with_word, with_table, row, has_no_end}
+use Rattle.cw_names.specs.Inside.{entry_of}
+use Rattle.cw_names.specs.Table.{with_word, with_table, row}
 use Rattle.cw_names.specs.Words.{built_in_words}
+use Rattle.cw_names.proofs.Lookup.{key_eq, key_eq-is}
 
-pub with_table-nil : (names : List Entry) → with_table [] names ≡ names
+with_table-nil : (names : List Entry) → with_table [] names ≡ names
 unfolding with_table
 with_table-nil names = refl
 
-pub with_table-cons : (w : List ℕ × Cat) (words : List (List ℕ × Cat)) (names : List Entry) → with_table (w ∷ words) names ≡ with_table words (with_word w names)
+with_table-cons : (w : List ℕ × Cat) (words : List (List ℕ × Cat)) (names : List Entry) → with_table (w ∷ words) names ≡ with_table words (with_word w names)
 unfolding with_table
 with_table-cons w words names = refl
 
@@ -57,6 +60,19 @@ table-all =
     ∙ with_table-append (nine 27) (drop 36 table) (take 27 built_in_words) ∙ ap (with_table (drop 36 table)) nine-27
     ∙ nine-36
 
+-- a word that is inserted into the hash table
+inserted-by : (b : Bool) (e : Key × Cat) (es : List (Key × Cat)) (c : Cat) (rest : List (Key × Cat))
+    → map entry_of (if b then (e.0, c) ∷ es else e ∷ rest) ≡ (if b then record (entry_of e) { category = c } ∷ map entry_of es else entry_of e ∷ map entry_of rest)
+inserted-by true e es c rest = refl
+inserted-by false e es c rest = refl
+
+pub inserted-word : (text : Vec ℕ Global) (c : Cat) (es : List (Key × Cat)) → map entry_of (insert_entry key_eq es (record { kind = Ident; text = text }) c) ≡ with_word (text.items, c) (map entry_of es)
+inserted-word text c [] = refl
+inserted-word text c (e ∷ es) =
+    let key : Key = record { kind = Ident; text = text } in
+    inserted-by (key_eq key e.0) e es c (insert_entry key_eq es key c)
+    ∙ (λ i. if key_eq-is key e i then record (entry_of e) { category = c } ∷ map entry_of es else entry_of e ∷ inserted-word text c es i)
+
 -- one word further in the table
 pub with_table-step : (items : List (Bor (List ℕ) × Cat)) (i : ℕ) (d : Bor (List ℕ) × Cat) (names new all : List Entry) → i < length items
     → new ≡ with_word (row (get_or items i d)) names → with_table (map row (drop i items)) names ≡ all → with_table (map row (drop (i + 1) items)) new ≡ all
@@ -71,19 +87,3 @@ with_table-step items i d names new all h e t =
 pub with_table-end : (items : List (Bor (List ℕ) × Cat)) (i : ℕ) (names all : List Entry) → length items ≤ i → with_table (map row (drop i items)) names ≡ all → names ≡ all
 with_table-end items i names all h t =
     sym (with_table-nil names) ∙ sym (ap (λ l. with_table (map row l) names) (drop_all i items h)) ∙ t
-
-both : (a b : Bool) → (a && b) ≡ true → (a ≡ true) × (b ≡ true)
-both true true e = (refl, refl)
-both true false e = cc
-both false b e = cc
-
-no_end : (w : Bor (List ℕ) × Cat) → not (is_end w.1) ≡ true → w.1 ≡ End → ⊥
-no_end w t e =
-    let u : not (is_end w.1) ≡ false = ap (λ c. not (is_end c)) e in
-    true≢false (sym t ∙ u)
-
--- no word of such a table has the category End
-pub no_end-at : (words : List (Bor (List ℕ) × Cat)) (i : ℕ) (d : Bor (List ℕ) × Cat) → has_no_end words ≡ true → i < length words → (get_or words i d).1 ≡ End → ⊥
-no_end-at [] i d all h e = omega arith
-no_end-at (w ∷ words) zero d all h e = no_end w (both (not (is_end w.1)) (has_no_end words) all).0 e
-no_end-at (w ∷ words) (suc i) d all h e = no_end-at words i d (both (not (is_end w.1)) (has_no_end words) all).1 (omega arith) e

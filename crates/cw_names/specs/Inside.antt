@@ -1,5 +1,5 @@
 -- How the entries lie in the hash table.
-use Rattle.std.specs.Prelude.{Bool, true, false, not, ◌&&◌, nat_eq, List}
+use Rattle.std.specs.Prelude.{◌≡◌, Bool, true, false, not, ◌&&◌, nat_eq, List, map}
 use Rattle.std.specs.List.{list_all}
 use Rattle.std.specs.Cmp.Lexicographic.{pointwise}
 use Rattle.cw_base.specs.declared.category.Cat.TheVariants.{End}
@@ -7,6 +7,7 @@ use Rattle.cw_base.specs.declared.category.Cat.{Cat}
 use Rattle.cw_names.specs.declared.entry.Key.{Key}
 use Rattle.cw_names.specs.declared.entry.Wanted.{Wanted}
 use Rattle.cw_names.specs.Names.{Entry, same_kind}
+use Rattle.cw_names.specs.Words.{BeginsWithWords}
 
 abbrev pub entry_of : Key × Cat → Entry
 entry_of p = record { kind = p.0.kind; text = p.0.text.items; category = p.1 }
@@ -18,6 +19,11 @@ is_end _ = false
 
 abbrev pub has_no_end_entry : List (Key × Cat) → Bool
 has_no_end_entry entries = list_all (λ entry. not (is_end entry.1)) entries
+
+-- What is true of every hash table of names.
+pub record AreSound (entries : List (Key × Cat)) : Type 0 where
+  pub real : has_no_end_entry entries ≡ true
+  pub words : BeginsWithWords (map entry_of entries)
 
 -- Whether a key is the one that is looked for.
 abbrev pub is_wanted : Wanted → Key → Bool

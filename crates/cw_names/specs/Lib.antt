@@ -3,3 +3,4 @@ pub mod Wanting
 pub mod Words
 pub mod Inside
 pub mod Table
+pub mod Mentions

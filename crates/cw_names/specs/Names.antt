@@ -1,6 +1,6 @@
 -- What contracts see of the names: a list of entries, in order of first appearance.
 use Rattle.std.specs.Prelude.{ℕ, zero, suc, Bool, true, false, ◌&&◌, nat_eq, nat_lt, List, [], ◌∷◌, ◌++◌, length, if◌then◌else◌}
-use Rattle.std.specs.List.{position_or_len}
+use Rattle.std.specs.List.{position_or_len, IsDistinct}
 use Rattle.std.specs.Cmp.Lexicographic.{pointwise}
 use Rattle.cw_base.specs.declared.category.Cat.{Cat}
 use Rattle.cw_base.specs.declared.category.Cat.TheVariants.{Exp}
@@ -21,6 +21,10 @@ same_kind _ _ = false
 
 abbrev pub is_entry : EntryKind → List ℕ → Entry → Bool
 is_entry kind text entry = same_kind kind entry.kind && pointwise nat_eq text entry.text
+
+-- No two entries have the same kind and text.
+abbrev pub AreDistinct : List Entry → Type 0
+AreDistinct entries = IsDistinct (λ entry other. is_entry entry.kind entry.text other) entries
 
 -- The position of the entry of this kind and text, or the length where there is none.
 abbrev pub place_of : EntryKind → List ℕ → List Entry → ℕ

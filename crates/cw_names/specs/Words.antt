@@ -1,7 +1,8 @@
 -- The words that are known from the start.
-use Rattle.std.specs.Prelude.{ℕ, nat_eq, List, [], ◌∷◌, ◌++◌, codes, map, Option, Some, None, if◌then◌else◌}
+use Rattle.std.specs.Prelude.{◌≡◌, ℕ, nat_eq, List, [], ◌∷◌, ◌++◌, codes, map, Option, Some, None, if◌then◌else◌}
 use Rattle.cw_base.specs.declared.category.Cat.{Cat}
 use Rattle.cw_base.specs.declared.category.Cat.TheVariants.{RawInt, IntLike, ConstLike, StructLike, CaseLike, ForLike, DoLike, IfLike, ElseLike, DefineLike, SizeofLike, TypedefLike, Exp}
+use Rattle.cw_names.specs.declared.entry.EntryKind.{EntryKind}
 use Rattle.cw_names.specs.declared.entry.EntryKind.TheVariants.{Ident}
 use Rattle.cw_names.specs.Names.{Entry}
 use Rattle.std.specs.Cmp.Lexicographic.{pointwise}
@@ -36,6 +37,14 @@ hash_line_words =
 -- The built-in words, with which the names begin. Those of `#` lines are ordinary identifiers elsewhere.
 abbrev pub built_in_words : List Entry
 built_in_words = c_words ++ map (λ (entry : Entry). record entry { category = Exp }) hash_line_words
+
+-- What entries are found by, without their categories.
+abbrev pub words_of : List Entry → List (EntryKind × List ℕ)
+words_of entries = map (λ entry. (entry.kind, entry.text)) entries
+
+-- The built-in words stand first, in their order, whatever categories they have now.
+unfoldable pub BeginsWithWords : List Entry → Type 0
+BeginsWithWords entries = (later : List (EntryKind × List ℕ)) × (words_of entries ≡ words_of built_in_words ++ later)
 
 -- The category that a word has in a `#` line whatever it has elsewhere.
 abbrev pub category_among : List Entry → List ℕ → Option Cat

@@ -1,12 +1,14 @@
-//! The names of a web, numbered in order of first appearance, with their categories.
+//! The names of a web, numbered in order of first appearance, with their categories and the sections in which they occur.
 #![tactic(auto)]
 
 mod entry;
 mod names;
 mod words;
+mod xrefs;
 
 pub use entry::{EntryKind, NameId};
 pub use names::Names;
+pub use xrefs::{Occurrence, SectionRef, Xrefs};
 
 #[cfg(test)]
 mod tests;

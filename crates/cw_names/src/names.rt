@@ -1,18 +1,19 @@
-ghost use Rattle.std.specs.Prelude.{◌≡◌, ◌≢◌, ◌<◌, ◌↔◌, length, Some, true, map, slice_get, IsTrue, IfOk, OnOk, OnErr};
+//! The list of names: what is found by its kind and text, and the category that it has now.
+ghost use Rattle.std.specs.Prelude.{◌≡◌, ◌≢◌, ◌<◌, ◌↔◌, [], length, Some, map, slice_get, IsOk, IsTrue, IfOk, OnOk, OnErr};
 ghost use Rattle.std.specs.Option.{option_map};
-ghost use Rattle.cw_names.specs.Names.{Entry, place_of, with_entry, with_category};
-ghost use Rattle.cw_names.specs.Table.{row, with_table, has_no_end};
-ghost use Rattle.cw_names.specs.Words.{built_in_words};
+ghost use Rattle.cw_names.specs.Names.{Entry, AreDistinct, place_of, with_entry, with_category};
+ghost use Rattle.cw_names.specs.Words.{BeginsWithWords, built_in_words};
 
 use crate::entry::{Key, Wanted};
-use crate::words::WORDS;
+use crate::words::{WORDS, table_of};
 use crate::{EntryKind, NameId};
 use cw_base::{Cat, Memory};
 use indexmap::IndexMap;
 use std::alloc::Global;
 use std::marker::Model;
 
-/// Names in order of first appearance. An entry is found by its kind and text through a hash table.
+/// Names in order of first appearance, the built-in words first. No two have the same kind and text. An entry is
+/// found by its kind and text through a hash table.
 #[derive(Drop)]
 pub struct Names {
     categories: IndexMap<Key, Cat>,
@@ -25,12 +26,11 @@ impl Model for Names {
 
     ghost Value = { List Entry };
 
-    ghost use Rattle.std.specs.Prelude.{◌≡◌, true};
-    ghost use Rattle.cw_names.specs.Inside.{entry_of, has_no_end_entry};
+    ghost use Rattle.cw_names.specs.Inside.{entry_of, AreSound};
 
     ghost view = { λ n. map entry_of n.categories.entries };
 
-    ghost invariant = { λ n. has_no_end_entry n.categories.entries ≡ true };
+    ghost invariant = { λ n. AreSound n.categories.entries };
 }
 
 impl Names {
@@ -38,31 +38,16 @@ impl Names {
     pub fn with_words(alloc: Global) -> Result<Names, Memory>
         ensures { IfOk result (λ names. names ≡ built_in_words) }
     {
-        let mut names = Names {
-            categories: IndexMap::new(alloc),
-            alloc,
-        };
-        names.add_words(&WORDS)?;
-        Ok(names)
-    }
-
-    // Adds each word of a table with its category.
-    fn add_words(&mut self, words: &[(&[u8], Cat)]) -> Result<(), Memory>
-        requires { has_no_end words.now ≡ true }
-        ensures { OnOk result (self.new ≡ with_table (map row words.now) self.old) }
-    {
-        for (word, category) in words {
-            let id = self.find_or_add(EntryKind::Ident, word)?;
-            self.set_category(id, *category);
-        }
-        Ok(())
+        let categories = table_of(alloc, &WORDS)?;
+        Ok(Names { categories, alloc })
     }
 
     /// The entry of this kind and text. A new one is last and has the category exp; a present one keeps
-    /// its place. After `Memory` the names are as before.
+    /// its place and takes no memory. After `Memory` the names are as before.
     pub fn find_or_add(&mut self, kind: EntryKind, text: &[u8]) -> Result<NameId, Memory>
         ensures id { IfOk result (λ id. id.index ≡ place_of kind text.now self.old) }
         ensures within { IfOk result (λ id. id.index < length self.new) }
+        ensures present { place_of kind text.now self.old < length self.old → IsOk result }
         ensures ok { OnOk result (self.new ≡ with_entry kind text.now self.old) }
         ensures err { OnErr result (self.new ≡ self.old) }
     {
@@ -131,9 +116,11 @@ impl Names {
         id.index < WORDS.len()
     }
 
-    /// How many entries there are.
+    /// How many entries there are. Whoever asks learns what is true of every list of names.
     pub fn len(&self) -> usize
-        ensures { result ≡ length self.now }
+        ensures value { result ≡ length self.now }
+        ensures words { BeginsWithWords self.now }
+        ensures distinct { AreDistinct self.now }
     {
         self.categories.len()
     }

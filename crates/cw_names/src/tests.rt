@@ -1,4 +1,4 @@
-use crate::{EntryKind, Names};
+use crate::{EntryKind, Names, Xrefs};
 use cw_base::Cat;
 use std::test::Fail;
 
@@ -30,5 +30,32 @@ fn words_are_there_from_the_start(rt: HostRuntime) -> Result<(), Fail> {
     let word = names.find_or_add(EntryKind::Ident, b"endif")?;
     assert!(rt; names.is_built_in(word));
     assert_eq!(rt; names.category(word), Cat::Exp);
+    Ok(())
+}
+
+#[test]
+fn sections_stand_in_ascending_order(rt: HostRuntime) -> Result<(), Fail> {
+    let mut names = Names::with_words(rt.alloc())?;
+    let x = names.find_or_add(EntryKind::Ident, b"x")?;
+    let y = names.find_or_add(EntryKind::Ident, b"y")?;
+    let mut xrefs = Xrefs::new_in(rt.alloc());
+    xrefs.note(x, 3, false)?;
+    xrefs.note(y, 2, true)?;
+    xrefs.note(x, 7, false)?;
+    xrefs.note(x, 3, true)?;
+    xrefs.note(x, 1, false)?;
+    xrefs.note(x, 3, false)?;
+    let sections = xrefs.sections_of(x);
+    assert_eq!(rt; sections.len(), 3);
+    assert_eq!(rt; sections[0].section, 1);
+    assert!(rt; !sections[0].underlined);
+    assert_eq!(rt; sections[1].section, 3);
+    assert!(rt; sections[1].underlined);
+    assert_eq!(rt; sections[2].section, 7);
+    assert!(rt; !sections[2].underlined);
+    assert_eq!(rt; xrefs.sections_of(y).len(), 1);
+    let word = names.find_or_add(EntryKind::Ident, b"int")?;
+    assert!(rt; xrefs.sections_of(word).is_empty());
+    assert_eq!(rt; xrefs.occurrences().len(), 6);
     Ok(())
 }

@@ -1,4 +1,13 @@
-use cw_base::Cat;
+//! The words that are known from the start.
+ghost use Rattle.std.specs.Prelude.{◌≡◌, [], map, IfOk};
+ghost use Rattle.cw_names.specs.Inside.{entry_of};
+ghost use Rattle.cw_names.specs.Table.{row, with_table};
+
+use crate::EntryKind;
+use crate::entry::Key;
+use cw_base::{Cat, Memory};
+use indexmap::IndexMap;
+use std::alloc::Global;
 
 /// The reserved words of C with their categories, and then the words that are reserved in `#` lines
 /// only, which are ordinary identifiers elsewhere.
@@ -49,3 +58,17 @@ pub(crate) const WORDS: [(&[u8], Cat); 45] = [
     (b"define", Cat::Exp),
     (b"defined", Cat::Exp),
 ];
+
+/// The words of a table with their categories. A word that stands in it twice keeps its first place and has its last
+/// category.
+pub(crate) fn table_of(alloc: Global, words: &[(&[u8], Cat)]) -> Result<IndexMap<Key, Cat>, Memory>
+    ensures { IfOk result (λ table. map entry_of table.entries ≡ with_table (map row words.now) []) }
+{
+    let mut table = IndexMap::new(alloc);
+    for (word, category) in words {
+        let text = Vec::from_slice(alloc, word)?;
+        let kind = EntryKind::Ident;
+        table.insert(Key { kind, text }, *category)?;
+    }
+    Ok(table)
+}

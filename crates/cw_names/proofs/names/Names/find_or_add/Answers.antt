@@ -1,8 +1,13 @@
-use Rattle.std.proofs.Common.{◌≡◌, length, sym, ap, ◌∙◌, refl, arith, map}
+use Rattle.std.proofs.Common.{◌≡◌, length, sym, ap, subst, ◌∙◌, refl, arith, map}
 use Rattle.std.proofs.lemmas.List.{length-map}
-use Rattle.cw_names.specs.Names.{place_of}
+use Rattle.indexmap.specs.IndexMap.{insert_entry}
+use Rattle.cw_base.specs.declared.category.Cat.TheVariants.{Exp}
+use Rattle.cw_names.specs.declared.entry.Key.{Key}
+use Rattle.cw_names.specs.Names.{place_of, with_entry}
+use Rattle.cw_names.specs.Words.{BeginsWithWords}
 use Rattle.cw_names.specs.Inside.{entry_of, has_no_end_entry}
 use Rattle.cw_names.proofs.Ends.{inserted}
+use Rattle.cw_names.proofs.First.{words-entered}
 use Rattle.cw_names.proofs.Lookup.{key_eq, found-place, new-place, with_entry-present, with_entry-new, length-new}
 use Rattle.cw_names.proofs.names.Names.find_or_add.Goals as goal
 
@@ -47,5 +52,24 @@ returns-in_ok-insert-in-None-clause-within c =
 
 pub invariant_of-self-in-None : goal.invariant_of-self-in-None
 invariant_of-self-in-None c =
-    ap has_no_end_entry c.in_ok-insert-in-None.ensures.entries
-    ∙ inserted key_eq c.self.inside.categories.entries (record { kind = c.args.kind; text = c.in_ok-text-in-None.text }) c.self.invariant
+    let entries = c.self.inside.categories.entries in
+    let key : Key = record { kind = c.args.kind; text = c.in_ok-text-in-None.text } in
+    let new : map entry_of (insert_entry key_eq entries key Exp) ≡ with_entry c.args.kind c.args.text.now c.args.self.now =
+    with_entry-new entries c.args.self.now c.self.view_is c.args.kind c.args.text.now
+    (new-place entries c.args.self.now c.self.view_is c.args.kind c.args.text.now (record { kind = c.args.kind; text = c.args.text }) refl refl (sym c.in-None.ensures.index))
+    key refl c.in_ok-text-in-None.ensures.items in
+    record {
+      real = ap has_no_end_entry c.in_ok-insert-in-None.ensures.entries ∙ inserted key_eq entries key c.self.invariant.real;
+      words = subst BeginsWithWords (sym (ap (map entry_of) c.in_ok-insert-in-None.ensures.entries ∙ new))
+          (words-entered c.args.kind c.args.text.now c.args.self.now (subst BeginsWithWords c.self.view_is c.self.invariant.words));
+    }
+
+pub returns-in_err-text-in-None-clause-present : goal.returns-in_err-text-in-None-clause-present
+returns-in_err-text-in-None-clause-present c =
+    λ here. absurd (let place = new-place c.self.inside.categories.entries c.args.self.now c.self.view_is c.args.kind c.args.text.now (record { kind = c.args.kind; text = c.args.text }) refl refl (sym c.in-None.ensures.index) in
+    omega (arith, place, ap length c.self.view_is, length-map c.self.inside.categories.entries entry_of, here))
+
+pub returns-in_err-insert-in-None-clause-present : goal.returns-in_err-insert-in-None-clause-present
+returns-in_err-insert-in-None-clause-present c =
+    λ here. absurd (let place = new-place c.self.inside.categories.entries c.args.self.now c.self.view_is c.args.kind c.args.text.now (record { kind = c.args.kind; text = c.args.text }) refl refl (sym c.in-None.ensures.index) in
+    omega (arith, place, ap length c.self.view_is, length-map c.self.inside.categories.entries entry_of, here))

@@ -1,8 +1,21 @@
-use Rattle.std.proofs.Common.{ap, ◌∙◌, map}
-use Rattle.cw_names.specs.Inside.{entry_of}
-use Rattle.cw_names.specs.Table.{with_table}
-use Rattle.cw_names.proofs.Table.{table, table-all}
+use Rattle.std.proofs.Common.{◌≡◌, not, map, sym, ap, subst, ◌∙◌}
+use Rattle.std.specs.List.{list_all}
+use Rattle.cw_names.specs.Names.{Entry}
+use Rattle.cw_names.specs.Inside.{entry_of, is_end}
+use Rattle.cw_names.specs.Words.{built_in_words, BeginsWithWords}
+use Rattle.cw_names.proofs.Ends.{of-view}
+use Rattle.cw_names.proofs.First.{words-first}
+use Rattle.cw_names.proofs.Table.{table-all}
 use Rattle.cw_names.proofs.names.Names.with_words.Goals as goal
 
 pub returns : goal.returns
-returns c = c.in_ok-add_words.ensures ∙ ap (λ es. with_table table (map entry_of es)) c.new.ensures.empty ∙ table-all
+returns c = c.in_ok-categories.ensures ∙ table-all
+
+pub invariant_of-result : goal.invariant_of-result
+invariant_of-result c =
+    let entries = c.in_ok-categories.categories.entries in
+    let view : map entry_of entries ≡ built_in_words = c.in_ok-categories.ensures ∙ table-all in
+    record {
+      real = of-view entries ∙ ap (list_all (λ (entry : Entry). not (is_end entry.category))) view;
+      words = subst BeginsWithWords (sym view) words-first;
+    }

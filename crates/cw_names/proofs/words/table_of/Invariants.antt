@@ -1,0 +1,7 @@
+use Rattle.std.proofs.Common.{◌≡◌, [], drop, map}
+use Rattle.cw_names.specs.Inside.{entry_of}
+use Rattle.cw_names.specs.Table.{row, with_table}
+use Rattle.cw_names.proofs.words.table_of.Given as goal
+
+abbrev pub invariant-loop-word : goal.invariant-loop-word
+invariant-loop-word l = with_table (map row (drop l.word-index l.words)) (map entry_of l.table.entries) ≡ with_table (map row l.words) []

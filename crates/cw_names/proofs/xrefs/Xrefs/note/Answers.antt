@@ -1,0 +1,8 @@
+use Rattle.std.proofs.Common.{sym, subst, ◌∙◌}
+use Rattle.cw_names.specs.Mentions.{AreAscending}
+use Rattle.cw_names.proofs.Mentions.{mentions-ascending}
+use Rattle.cw_names.proofs.xrefs.Xrefs.note.Goals as goal
+
+pub mention-requires-clause-ascending : goal.mention-requires-clause-ascending
+mention-requires-clause-ascending c =
+    subst AreAscending (sym (c.grow.ensures.same c.args.id.index ∙ c.self.invariant c.args.id.index)) (mentions-ascending c.args.id.index c.self.inside.noted.items)

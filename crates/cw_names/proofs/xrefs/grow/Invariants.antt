@@ -1,0 +1,9 @@
+use Rattle.std.proofs.Common.{◌≡◌, ℕ, ◌+◌, ◌-◌, length}
+use Rattle.cw_names.specs.Mentions.{sections_at}
+use Rattle.cw_names.proofs.xrefs.grow.Given as goal
+
+abbrev pub invariant-names : goal.invariant-names
+invariant-names l = (other : ℕ) → sections_at other l.lists.items ≡ sections_at other l.fn.lists.items
+
+abbrev pub decreases-names : goal.decreases-names
+decreases-names l = l.name + 1 - length l.lists.items
