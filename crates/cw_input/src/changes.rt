@@ -1,6 +1,7 @@
 ghost use Rattle.std.specs.Prelude.{◌≡◌, ◌≢◌, ◌+◌, ◌-◌, ◌*◌, ◌<◌, ◌≤◌, ℕ, All, IsErrOf, List, OnOk, Some, ◌∷◌, [], length, option_and_then, slice_range};
 ghost use Rattle.std.specs.FinMap.{get};
-ghost use Rattle.cw_desk.specs.Meaning.{Files, OnlyReads, Rose};
+ghost use Rattle.cw_desk.specs.Meaning.{Files, Rose};
+ghost use Rattle.cw_desk.specs.Told.{OnlyReads};
 ghost use Rattle.cw_input.specs.Answers.{Gives, Steps, Waits};
 ghost use Rattle.cw_input.specs.Lines.{FileLine, code_of};
 ghost use Rattle.cw_input.specs.Fold.{Onward, advance, new_lines, step};
@@ -32,13 +33,13 @@ pub(crate) fn advance_change<D: Desk>(
     requires phase { IsPhase rest.line from }
     requires listed { 1 < length m.old.web.files }
     requires room { HasRoom (2 * (length change.now - rest.at)) (length change.now - rest.at) m.old }
-    ensures gives { (told : Files) → D.files desk.old ≡ Some told →
-        Gives (advance (get told) from (record { file = 1; line = rest.line }) (rest_of change.now rest) (state_of change.now m.old)) (state_of change.now m.new) result }
+    ensures gives { (files : Files) → (D.told desk.old).files ≡ Some files →
+        Gives (advance (get files) from (record { file = 1; line = rest.line }) (rest_of change.now rest) (state_of change.now m.old)) (state_of change.now m.new) result }
     ensures moves { OnOk result (Moves (2 * (length change.now - rest.at)) (length change.now - rest.at)
         (2 * ahead change.now m.new.meets) (ahead change.now m.new.meets) m.old m.new) }
     ensures met { OnOk result (IsMet change.now (length m.new.web.files) m.new.meets) }
-    ensures same { OnlyReads D.opened D.outputs D.files D.rest D.journal D.faults desk.old desk.new }
-    ensures fault { IsErrOf result LoadError.Fault → Rose (D.faults desk.old) (D.faults desk.new) }
+    ensures same { OnlyReads (D.told desk.old) (D.told desk.new) }
+    ensures fault { IsErrOf result LoadError.Fault → Rose (D.told desk.old).faults (D.told desk.new).faults }
 {
     let mut phase = from;
     let mut at = rest.at;
@@ -78,12 +79,12 @@ fn change_line<D: Desk>(
     requires phase { IsPhase (rest.line - 1) phase }
     requires listed { 1 < length m.old.web.files }
     requires room { HasRoom ((piece.«end» - piece.start) + 1) 1 m.old }
-    ensures steps { (told : Files) → D.files desk.old ≡ Some told → (go : Onward) →
-        Steps (step (get told) phase (code_of (slice_range change.now piece.start piece.«end»)) (line_at change.now piece) (rest_of change.now rest) go (state_of change.now m.old)) go (state_of change.now m.new) result }
+    ensures steps { (files : Files) → (D.told desk.old).files ≡ Some files → (go : Onward) →
+        Steps (step (get files) phase (code_of (slice_range change.now piece.start piece.«end»)) (line_at change.now piece) (rest_of change.now rest) go (state_of change.now m.old)) go (state_of change.now m.new) result }
     ensures moves { OnOk result (Moves ((piece.«end» - piece.start) + 1) 1 0 0 m.old m.new) }
     ensures waits { Waits change.now rest m.new result }
-    ensures same { OnlyReads D.opened D.outputs D.files D.rest D.journal D.faults desk.old desk.new }
-    ensures fault { IsErrOf result LoadError.Fault → Rose (D.faults desk.old) (D.faults desk.new) }
+    ensures same { OnlyReads (D.told desk.old) (D.told desk.new) }
+    ensures fault { IsErrOf result LoadError.Fault → Rose (D.told desk.old).faults (D.told desk.new).faults }
 {
     let line = &change[piece.start..piece.end];
     let code = line_code(line);
@@ -114,12 +115,12 @@ fn new_line<D: Desk>(
     requires whole { All (λ byte. byte ≢ 10) line.now }
     requires listed { place.file < length m.old.web.files }
     requires room { HasRoom (length line.now + 1) 1 m.old }
-    ensures steps { (told : Files) → D.files desk.old ≡ Some told → (change : List ℕ) (rest : List FileLine) (go : Onward) →
-        Steps (step (get told) New code (line_of line.now place) rest go (state_of change m.old)) go (state_of change m.new) result }
+    ensures steps { (files : Files) → (D.told desk.old).files ≡ Some files → (change : List ℕ) (rest : List FileLine) (go : Onward) →
+        Steps (step (get files) New code (line_of line.now place) rest go (state_of change m.old)) go (state_of change m.new) result }
     ensures moves { OnOk result (Moves (length line.now + 1) 1 0 0 m.old m.new) }
     ensures waits { (change : List ℕ) (behind : Cursor) → Waits change behind m.new result }
-    ensures same { OnlyReads D.opened D.outputs D.files D.rest D.journal D.faults desk.old desk.new }
-    ensures fault { IsErrOf result LoadError.Fault → Rose (D.faults desk.old) (D.faults desk.new) }
+    ensures same { OnlyReads (D.told desk.old) (D.told desk.new) }
+    ensures fault { IsErrOf result LoadError.Fault → Rose (D.told desk.old).faults (D.told desk.new).faults }
 {
     match code {
         Code::X => {
@@ -146,12 +147,12 @@ fn appended_new_line<D: Desk>(
     requires whole { All (λ byte. byte ≢ 10) line.now }
     requires listed { place.file < length m.old.web.files }
     requires room { HasRoom (length line.now + 1) 1 m.old }
-    ensures steps { (told : Files) → D.files desk.old ≡ Some told → (change : List ℕ) (go : Onward) →
-        Steps (option_and_then (go New) (new_lines (get told) 10 (line_of line.now place ∷ []) (state_of change m.old))) go (state_of change m.new) result }
+    ensures steps { (files : Files) → (D.told desk.old).files ≡ Some files → (change : List ℕ) (go : Onward) →
+        Steps (option_and_then (go New) (new_lines (get files) 10 (line_of line.now place ∷ []) (state_of change m.old))) go (state_of change m.new) result }
     ensures moves { OnOk result (Moves (length line.now + 1) 1 0 0 m.old m.new) }
     ensures waits { (change : List ℕ) (behind : Cursor) → Waits change behind m.new result }
-    ensures same { OnlyReads D.opened D.outputs D.files D.rest D.journal D.faults desk.old desk.new }
-    ensures fault { IsErrOf result LoadError.Fault → Rose (D.faults desk.old) (D.faults desk.new) }
+    ensures same { OnlyReads (D.told desk.old) (D.told desk.new) }
+    ensures fault { IsErrOf result LoadError.Fault → Rose (D.told desk.old).faults (D.told desk.new).faults }
 {
     match put_new_line(desk, m, line, place, DEPTH) {
         Ok(()) => Ok(Some(Phase::New)),

@@ -1,6 +1,7 @@
 ghost use Rattle.std.specs.Prelude.{◌≡◌, ◌≢◌, ◌+◌, ◌<◌, ◌≤◌, ℕ, All, IsErrOf, List, OnOk, Option, Some, length};
 ghost use Rattle.std.specs.FinMap.{get};
-ghost use Rattle.cw_desk.specs.Meaning.{Files, OnlyReads, Rose};
+ghost use Rattle.cw_desk.specs.Meaning.{Files, Rose};
+ghost use Rattle.cw_desk.specs.Told.{OnlyReads};
 ghost use Rattle.cw_input.specs.Answers.{Leads, Leaves};
 ghost use Rattle.cw_input.specs.Lines.{FileLine};
 ghost use Rattle.cw_input.specs.Fold.{MergeState, include, put};
@@ -26,12 +27,12 @@ pub(crate) fn put_line<D: Desk>(
     requires whole { All (λ byte. byte ≢ 10) line.now }
     requires place { place.file < length m.old.web.files }
     requires room { HasRoom (length line.now + 1) 1 m.old }
-    ensures leads { (told : Files) → D.files desk.old ≡ Some told → (change : List ℕ) (next : List FileLine → MergeState → Option MergeState) →
-        Leads (put (get told) changed (into_at left next) (line_of line.now place) (state_of change m.old)) next (state_of change m.new) result }
+    ensures leads { (files : Files) → (D.told desk.old).files ≡ Some files → (change : List ℕ) (next : List FileLine → MergeState → Option MergeState) →
+        Leads (put (get files) changed (into_at left next) (line_of line.now place) (state_of change m.old)) next (state_of change m.new) result }
     ensures leaves { Leaves (length line.now + 1) 1 0 0 left m.old m.new result }
     ensures meets { OnOk result (m.new.meets ≡ m.old.meets) }
-    ensures same { OnlyReads D.opened D.outputs D.files D.rest D.journal D.faults desk.old desk.new }
-    ensures fault { IsErrOf result LoadError.Fault → Rose (D.faults desk.old) (D.faults desk.new) }
+    ensures same { OnlyReads (D.told desk.old) (D.told desk.new) }
+    ensures fault { IsErrOf result LoadError.Fault → Rose (D.told desk.old).faults (D.told desk.new).faults }
 {
     match included_name(line) {
         Some(name) => include_file(desk, m, name, place, left),
@@ -52,12 +53,12 @@ fn include_file<D: Desk>(
 ) -> Result<Option<Source>, LoadError>
     requires place { place.file < length m.old.web.files }
     requires room { HasRoom 1 1 m.old }
-    ensures leads { (told : Files) → D.files desk.old ≡ Some told → (change : List ℕ) (next : List FileLine → MergeState → Option MergeState) →
-        Leads (include (get told) (into_at left next) name.now place (state_of change m.old)) next (state_of change m.new) result }
+    ensures leads { (files : Files) → (D.told desk.old).files ≡ Some files → (change : List ℕ) (next : List FileLine → MergeState → Option MergeState) →
+        Leads (include (get files) (into_at left next) name.now place (state_of change m.old)) next (state_of change m.new) result }
     ensures leaves { Leaves 1 1 0 0 left m.old m.new result }
     ensures meets { OnOk result (m.new.meets ≡ m.old.meets) }
-    ensures same { OnlyReads D.opened D.outputs D.files D.rest D.journal D.faults desk.old desk.new }
-    ensures fault { IsErrOf result LoadError.Fault → Rose (D.faults desk.old) (D.faults desk.new) }
+    ensures same { OnlyReads (D.told desk.old) (D.told desk.new) }
+    ensures fault { IsErrOf result LoadError.Fault → Rose (D.told desk.old).faults (D.told desk.new).faults }
 {
     if name.is_empty() {
         m.note(NoteKind::IncludeUnnamed, 0, place)?;

@@ -1,6 +1,7 @@
 ghost use Rattle.std.specs.Prelude.{◌≡◌, ◌*◌, ◌+◌, ◌-◌, ◌<◌, ◌≤◌, [], IsErrOf, None, Some, IfOk, length, option_and_then, option_copied};
 ghost use Rattle.std.specs.FinMap.{get};
-ghost use Rattle.cw_desk.specs.Meaning.{Files, OnlyReads, Rose};
+ghost use Rattle.cw_desk.specs.Meaning.{Files, Rose};
+ghost use Rattle.cw_desk.specs.Told.{OnlyReads};
 ghost use Rattle.cw_input.specs.Answers.{FindsWeb, Loads, Merges};
 ghost use Rattle.cw_input.specs.Causes.{ComesWhere, IsTooLong, LacksChange, LacksWeb};
 ghost use Rattle.cw_input.specs.Lines.{file_lines};
@@ -35,18 +36,18 @@ pub fn load<D: Desk>(
     change: Option<&[u8]>,
 ) -> Result<Web, LoadError>
     requires { 0 < length web.now }
-    ensures loads { (told : Files) → D.files desk.old ≡ Some told → Loads (merged (get told) web.now (option_copied change.entry)) result }
+    ensures loads { (files : Files) → (D.told desk.old).files ≡ Some files → Loads (merged (get files) web.now (option_copied change.entry)) result }
 
     // When each error comes.
-    ensures no_web { (told : Files) → D.files desk.old ≡ Some told → ComesWhere (LacksWeb (get told) web.now) LoadError.NoWeb result }
-    ensures no_change { (told : Files) → D.files desk.old ≡ Some told →
-        ComesWhere (LacksChange (get told) web.now (option_copied change.entry)) LoadError.NoChange result }
-    ensures too_long { (told : Files) → D.files desk.old ≡ Some told →
-        ComesWhere (IsTooLong (get told) web.now (option_copied change.entry)) LoadError.TooLong result }
-    ensures fault { IsErrOf result LoadError.Fault → Rose (D.faults desk.old) (D.faults desk.new) }
+    ensures no_web { (files : Files) → (D.told desk.old).files ≡ Some files → ComesWhere (LacksWeb (get files) web.now) LoadError.NoWeb result }
+    ensures no_change { (files : Files) → (D.told desk.old).files ≡ Some files →
+        ComesWhere (LacksChange (get files) web.now (option_copied change.entry)) LoadError.NoChange result }
+    ensures too_long { (files : Files) → (D.told desk.old).files ≡ Some files →
+        ComesWhere (IsTooLong (get files) web.now (option_copied change.entry)) LoadError.TooLong result }
+    ensures fault { IsErrOf result LoadError.Fault → Rose (D.told desk.old).faults (D.told desk.new).faults }
 
     // What it leaves, whatever it answers.
-    ensures same { OnlyReads D.opened D.outputs D.files D.rest D.journal D.faults desk.old desk.new }
+    ensures same { OnlyReads (D.told desk.old) (D.told desk.new) }
 {
     load_words(alloc, desk, web, wanted_change(change))
 }
@@ -69,9 +70,9 @@ fn load_words<D: Desk>(
     web: &[u8],
     change: Option<&[u8]>,
 ) -> Result<Web, LoadError>
-    ensures loads { (told : Files) → D.files desk.old ≡ Some told → Loads (merge_web (get told) (web_file (get told) web.now) (option_copied change.entry)) result }
-    ensures same { OnlyReads D.opened D.outputs D.files D.rest D.journal D.faults desk.old desk.new }
-    ensures fault { IsErrOf result LoadError.Fault → Rose (D.faults desk.old) (D.faults desk.new) }
+    ensures loads { (files : Files) → (D.told desk.old).files ≡ Some files → Loads (merge_web (get files) (web_file (get files) web.now) (option_copied change.entry)) result }
+    ensures same { OnlyReads (D.told desk.old) (D.told desk.new) }
+    ensures fault { IsErrOf result LoadError.Fault → Rose (D.told desk.old).faults (D.told desk.new).faults }
 {
     match change {
         Some(word) => load_changed(alloc, desk, web, word),
@@ -81,9 +82,9 @@ fn load_words<D: Desk>(
 
 // Without a change file.
 fn load_plain<D: Desk>(alloc: Global, desk: &mut D, web: &[u8]) -> Result<Web, LoadError>
-    ensures loads { (told : Files) → D.files desk.old ≡ Some told → Loads (merge_web (get told) (web_file (get told) web.now) None) result }
-    ensures same { OnlyReads D.opened D.outputs D.files D.rest D.journal D.faults desk.old desk.new }
-    ensures fault { IsErrOf result LoadError.Fault → Rose (D.faults desk.old) (D.faults desk.new) }
+    ensures loads { (files : Files) → (D.told desk.old).files ≡ Some files → Loads (merge_web (get files) (web_file (get files) web.now) None) result }
+    ensures same { OnlyReads (D.told desk.old) (D.told desk.new) }
+    ensures fault { IsErrOf result LoadError.Fault → Rose (D.told desk.old).faults (D.told desk.new).faults }
 {
     match open_web(alloc, desk, web) {
         Ok(file) => merge_plain(alloc, desk, file),
@@ -98,9 +99,9 @@ fn load_changed<D: Desk>(
     web: &[u8],
     word: &[u8],
 ) -> Result<Web, LoadError>
-    ensures loads { (told : Files) → D.files desk.old ≡ Some told → Loads (merge_web (get told) (web_file (get told) web.now) (Some word.now)) result }
-    ensures same { OnlyReads D.opened D.outputs D.files D.rest D.journal D.faults desk.old desk.new }
-    ensures fault { IsErrOf result LoadError.Fault → Rose (D.faults desk.old) (D.faults desk.new) }
+    ensures loads { (files : Files) → (D.told desk.old).files ≡ Some files → Loads (merge_web (get files) (web_file (get files) web.now) (Some word.now)) result }
+    ensures same { OnlyReads (D.told desk.old) (D.told desk.new) }
+    ensures fault { IsErrOf result LoadError.Fault → Rose (D.told desk.old).faults (D.told desk.new).faults }
 {
     match open_web(alloc, desk, web) {
         Ok(file) => merge_changed(alloc, desk, file, word),
@@ -110,10 +111,10 @@ fn load_changed<D: Desk>(
 
 // The file of a web word: the first name that is there.
 fn open_web<D: Desk>(alloc: Global, desk: &mut D, word: &[u8]) -> Result<Found, LoadError>
-    ensures finds { (told : Files) → D.files desk.old ≡ Some told → FindsWeb (web_file (get told) word.now) result }
+    ensures finds { (files : Files) → (D.told desk.old).files ≡ Some files → FindsWeb (web_file (get files) word.now) result }
     ensures within { IfOk result (λ file. length file.bytes ≤ INPUT_LIMIT) }
-    ensures same { OnlyReads D.opened D.outputs D.files D.rest D.journal D.faults desk.old desk.new }
-    ensures fault { IsErrOf result LoadError.Fault → Rose (D.faults desk.old) (D.faults desk.new) }
+    ensures same { OnlyReads (D.told desk.old) (D.told desk.new) }
+    ensures fault { IsErrOf result LoadError.Fault → Rose (D.told desk.old).faults (D.told desk.new).faults }
 {
     let first = first_web_name(alloc, word)?;
     match find_file(alloc, desk, first, INPUT_LIMIT) {
@@ -125,10 +126,10 @@ fn open_web<D: Desk>(alloc: Global, desk: &mut D, word: &[u8]) -> Result<Found, 
 
 // The file of a web word under its second name.
 fn open_second<D: Desk>(alloc: Global, desk: &mut D, word: &[u8]) -> Result<Found, LoadError>
-    ensures finds { (told : Files) → D.files desk.old ≡ Some told → FindsWeb (found (get told) (second_name word.now)) result }
+    ensures finds { (files : Files) → (D.told desk.old).files ≡ Some files → FindsWeb (found (get files) (second_name word.now)) result }
     ensures within { IfOk result (λ file. length file.bytes ≤ INPUT_LIMIT) }
-    ensures same { OnlyReads D.opened D.outputs D.files D.rest D.journal D.faults desk.old desk.new }
-    ensures fault { IsErrOf result LoadError.Fault → Rose (D.faults desk.old) (D.faults desk.new) }
+    ensures same { OnlyReads (D.told desk.old) (D.told desk.new) }
+    ensures fault { IsErrOf result LoadError.Fault → Rose (D.told desk.old).faults (D.told desk.new).faults }
 {
     let second = second_web_name(alloc, word)?;
     match find_file(alloc, desk, second, INPUT_LIMIT) {
@@ -141,10 +142,10 @@ fn open_second<D: Desk>(alloc: Global, desk: &mut D, word: &[u8]) -> Result<Foun
 // The web of a file alone.
 fn merge_plain<D: Desk>(alloc: Global, desk: &mut D, file: Found) -> Result<Web, LoadError>
     requires { length file.bytes ≤ INPUT_LIMIT }
-    ensures loads { (told : Files) → D.files desk.old ≡ Some told →
-        Loads (merge_with (get told) file.bytes None (read file.name file.bytes start_state)) result }
-    ensures same { OnlyReads D.opened D.outputs D.files D.rest D.journal D.faults desk.old desk.new }
-    ensures fault { IsErrOf result LoadError.Fault → Rose (D.faults desk.old) (D.faults desk.new) }
+    ensures loads { (files : Files) → (D.told desk.old).files ≡ Some files →
+        Loads (merge_with (get files) file.bytes None (read file.name file.bytes start_state)) result }
+    ensures same { OnlyReads (D.told desk.old) (D.told desk.new) }
+    ensures fault { IsErrOf result LoadError.Fault → Rose (D.told desk.old).faults (D.told desk.new).faults }
 {
     let mut m = Merger::new(alloc);
     let source = m.add_file(file)?;
@@ -162,10 +163,10 @@ fn merge_changed<D: Desk>(
     word: &[u8],
 ) -> Result<Web, LoadError>
     requires { length file.bytes ≤ INPUT_LIMIT }
-    ensures loads { (told : Files) → D.files desk.old ≡ Some told →
-        Loads (merge_with (get told) file.bytes (Some word.now) (read file.name file.bytes start_state)) result }
-    ensures same { OnlyReads D.opened D.outputs D.files D.rest D.journal D.faults desk.old desk.new }
-    ensures fault { IsErrOf result LoadError.Fault → Rose (D.faults desk.old) (D.faults desk.new) }
+    ensures loads { (files : Files) → (D.told desk.old).files ≡ Some files →
+        Loads (merge_with (get files) file.bytes (Some word.now) (read file.name file.bytes start_state)) result }
+    ensures same { OnlyReads (D.told desk.old) (D.told desk.new) }
+    ensures fault { IsErrOf result LoadError.Fault → Rose (D.told desk.old).faults (D.told desk.new).faults }
 {
     let mut m = Merger::new(alloc);
     let source = m.add_file(file)?;
@@ -190,10 +191,10 @@ fn merge_found<D: Desk>(
     requires source { source.now.file ≡ 0 }
     requires sum { m.sum ≡ length source.now.bytes }
     requires bytes { length source.now.bytes + length change.bytes ≤ INPUT_LIMIT }
-    ensures loads { (told : Files) → D.files desk.old ≡ Some told →
-        Loads (taken (get told) source.now.bytes (option_and_then (advance (get told) Outside (record { file = 1; line = 0 }) (file_lines 1 change.bytes)) (read change.name change.bytes (state_of [] m)))) result }
-    ensures same { OnlyReads D.opened D.outputs D.files D.rest D.journal D.faults desk.old desk.new }
-    ensures fault { IsErrOf result LoadError.Fault → Rose (D.faults desk.old) (D.faults desk.new) }
+    ensures loads { (files : Files) → (D.told desk.old).files ≡ Some files →
+        Loads (taken (get files) source.now.bytes (option_and_then (advance (get files) Outside (record { file = 1; line = 0 }) (file_lines 1 change.bytes)) (read change.name change.bytes (state_of [] m)))) result }
+    ensures same { OnlyReads (D.told desk.old) (D.told desk.new) }
+    ensures fault { IsErrOf result LoadError.Fault → Rose (D.told desk.old).faults (D.told desk.new).faults }
 {
     let mut m = m;
     let change = m.add_file(change)?;
@@ -221,9 +222,9 @@ fn merge_lines<D: Desk>(
     requires listed { 0 < length m.old.web.files }
     requires source { source.now.file ≡ 0 }
     requires room { HasRoom (2 * length source.now.bytes + 2 * ahead change.now m.old.meets) (length source.now.bytes + ahead change.now m.old.meets) m.old }
-    ensures merges { (told : Files) → D.files desk.old ≡ Some told → Merges (taken (get told) source.now.bytes (Some (state_of change.now m.old))) m.new.web result }
-    ensures same { OnlyReads D.opened D.outputs D.files D.rest D.journal D.faults desk.old desk.new }
-    ensures fault { IsErrOf result LoadError.Fault → Rose (D.faults desk.old) (D.faults desk.new) }
+    ensures merges { (files : Files) → (D.told desk.old).files ≡ Some files → Merges (taken (get files) source.now.bytes (Some (state_of change.now m.old))) m.new.web result }
+    ensures same { OnlyReads (D.told desk.old) (D.told desk.new) }
+    ensures fault { IsErrOf result LoadError.Fault → Rose (D.told desk.old).faults (D.told desk.new).faults }
 {
     match give_lines(desk, change, m, source, DEPTH) {
         Ok(()) => (),

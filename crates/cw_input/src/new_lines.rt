@@ -1,6 +1,7 @@
 ghost use Rattle.std.specs.Prelude.{◌≡◌, ◌≢◌, ◌+◌, ◌-◌, ◌*◌, ◌<◌, ◌≤◌, ℕ, All, IsErrOf, List, OnOk, Some, length, true};
 ghost use Rattle.std.specs.FinMap.{get};
-ghost use Rattle.cw_desk.specs.Meaning.{Files, OnlyReads, Rose};
+ghost use Rattle.cw_desk.specs.Meaning.{Files, Rose};
+ghost use Rattle.cw_desk.specs.Told.{OnlyReads};
 ghost use Rattle.cw_input.specs.Answers.{Gives};
 ghost use Rattle.cw_input.specs.Lines.{file_lines};
 ghost use Rattle.cw_input.specs.Fold.{new_lines, put};
@@ -28,12 +29,12 @@ pub(crate) fn put_new_line<D: Desk>(
     requires whole { All (λ byte. byte ≢ 10) line.now }
     requires place { place.file < length m.old.web.files }
     requires room { HasRoom (length line.now + 1) 1 m.old }
-    ensures gives { (told : Files) → D.files desk.old ≡ Some told → (change : List ℕ) →
-        Gives (put (get told) true (into_at left (new_lines (get told) (left - 1))) (line_of line.now place) (state_of change m.old)) (state_of change m.new) result }
+    ensures gives { (files : Files) → (D.told desk.old).files ≡ Some files → (change : List ℕ) →
+        Gives (put (get files) true (into_at left (new_lines (get files) (left - 1))) (line_of line.now place) (state_of change m.old)) (state_of change m.new) result }
     ensures moves { OnOk result (Moves (length line.now + 1) 1 0 0 m.old m.new) }
     ensures meets { OnOk result (m.new.meets ≡ m.old.meets) }
-    ensures same { OnlyReads D.opened D.outputs D.files D.rest D.journal D.faults desk.old desk.new }
-    ensures fault { IsErrOf result LoadError.Fault → Rose (D.faults desk.old) (D.faults desk.new) }
+    ensures same { OnlyReads (D.told desk.old) (D.told desk.new) }
+    ensures fault { IsErrOf result LoadError.Fault → Rose (D.told desk.old).faults (D.told desk.new).faults }
 {
     match put_line(desk, m, line, place, true, left) {
         Ok(None) => Ok(()),
@@ -52,12 +53,12 @@ fn put_new_lines<D: Desk>(
 ) -> Result<(), LoadError>
     requires source { source.now.file < length m.old.web.files }
     requires room { HasRoom (2 * length source.now.bytes) (length source.now.bytes) m.old }
-    ensures gives { (told : Files) → D.files desk.old ≡ Some told → (change : List ℕ) →
-        Gives (new_lines (get told) left (file_lines source.now.file source.now.bytes) (state_of change m.old)) (state_of change m.new) result }
+    ensures gives { (files : Files) → (D.told desk.old).files ≡ Some files → (change : List ℕ) →
+        Gives (new_lines (get files) left (file_lines source.now.file source.now.bytes) (state_of change m.old)) (state_of change m.new) result }
     ensures moves { OnOk result (Moves (2 * length source.now.bytes) (length source.now.bytes) 0 0 m.old m.new) }
     ensures meets { OnOk result (m.new.meets ≡ m.old.meets) }
-    ensures same { OnlyReads D.opened D.outputs D.files D.rest D.journal D.faults desk.old desk.new }
-    ensures fault { IsErrOf result LoadError.Fault → Rose (D.faults desk.old) (D.faults desk.new) }
+    ensures same { OnlyReads (D.told desk.old) (D.told desk.new) }
+    ensures fault { IsErrOf result LoadError.Fault → Rose (D.told desk.old).faults (D.told desk.new).faults }
 {
     let bytes = source.bytes.as_slice();
     let mut at = 0;

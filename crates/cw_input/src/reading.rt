@@ -1,6 +1,7 @@
 ghost use Rattle.std.specs.Prelude.{◌≡◌, ◌<◌, ◌≤◌, IfOk, IfSome, IsErrOf, Some, length};
 ghost use Rattle.std.specs.FinMap.{get};
-ghost use Rattle.cw_desk.specs.Meaning.{Files, OnlyReads, Rose};
+ghost use Rattle.cw_desk.specs.Meaning.{Files, Rose};
+ghost use Rattle.cw_desk.specs.Told.{OnlyReads};
 ghost use Rattle.cw_input.specs.Answers.{Finds, Reads};
 ghost use Rattle.cw_input.specs.Merged.{found};
 ghost use Rattle.cw_input.specs.Reading.{ReadsOnly};
@@ -22,10 +23,10 @@ pub(crate) fn find_file<D: Desk>(
     room: usize,
 ) -> Result<Option<Found>, LoadError>
     requires { room ≤ INPUT_LIMIT }
-    ensures finds { (told : Files) → D.files desk.old ≡ Some told → Finds (found (get told) name) room result }
+    ensures finds { (files : Files) → (D.told desk.old).files ≡ Some files → Finds (found (get files) name) room result }
     ensures within { IfOk result (λ answer. IfSome answer (λ file. length file.bytes ≤ room)) }
-    ensures same { OnlyReads D.opened D.outputs D.files D.rest D.journal D.faults desk.old desk.new }
-    ensures fault { IsErrOf result LoadError.Fault → Rose (D.faults desk.old) (D.faults desk.new) }
+    ensures same { OnlyReads (D.told desk.old) (D.told desk.new) }
+    ensures fault { IsErrOf result LoadError.Fault → Rose (D.told desk.old).faults (D.told desk.new).faults }
 {
     match desk.open(name.as_slice()) {
         Opened::File(id) => match read_file(alloc, desk, id, room) {
@@ -45,12 +46,12 @@ fn read_file<D: Desk>(
     id: FileId,
     room: usize,
 ) -> Result<Bytes, LoadError>
-    requires given { id.index < D.opened desk.old }
+    requires given { id.index < (D.told desk.old).opened }
     requires room { room ≤ INPUT_LIMIT }
-    ensures reads { (told : Files) → D.files desk.old ≡ Some told → Reads (D.rest desk.old id.index) room result }
+    ensures reads { (files : Files) → (D.told desk.old).files ≡ Some files → Reads ((D.told desk.old).rest id.index) room result }
     ensures within { IfOk result (λ bytes. length bytes ≤ room) }
-    ensures same { ReadsOnly D.opened D.outputs D.files D.rest D.journal D.faults id.index desk.old desk.new }
-    ensures fault { IsErrOf result LoadError.Fault → Rose (D.faults desk.old) (D.faults desk.new) }
+    ensures same { ReadsOnly id.index (D.told desk.old) (D.told desk.new) }
+    ensures fault { IsErrOf result LoadError.Fault → Rose (D.told desk.old).faults (D.told desk.new).faults }
 {
     let mut bytes = Bytes::new_in(alloc);
     let mut portion = [0; PORTION];

@@ -1,6 +1,7 @@
 ghost use Rattle.std.specs.Prelude.{◌≡◌, ◌≢◌, ◌+◌, ◌-◌, ◌*◌, ◌<◌, ◌≤◌, ℕ, All, IsErrOf, IsOkUnless, List, OnOk, Option, Some, bytes_eq, length};
 ghost use Rattle.std.specs.FinMap.{get};
-ghost use Rattle.cw_desk.specs.Meaning.{Files, OnlyReads, Rose};
+ghost use Rattle.cw_desk.specs.Meaning.{Files, Rose};
+ghost use Rattle.cw_desk.specs.Told.{OnlyReads};
 ghost use Rattle.cw_input.specs.Answers.{Gives, Leads, Leaves};
 ghost use Rattle.cw_input.specs.Lines.{FileLine, file_lines};
 ghost use Rattle.cw_input.specs.Fold.{MergeState, drained, take_line, unmatched, web_lines};
@@ -31,13 +32,13 @@ fn give_line<D: Desk>(
     requires whole { All (λ byte. byte ≢ 10) line.now }
     requires place { place.file < length m.old.web.files }
     requires room { HasRoom ((length line.now + 1) + 2 * ahead change.now m.old.meets) (1 + ahead change.now m.old.meets) m.old }
-    ensures gives { (told : Files) → D.files desk.old ≡ Some told →
-        Gives (take_line (get told) (into_at left (web_lines (get told) (left - 1))) (line_of line.now place) (state_of change.now m.old)) (state_of change.now m.new) result }
+    ensures gives { (files : Files) → (D.told desk.old).files ≡ Some files →
+        Gives (take_line (get files) (into_at left (web_lines (get files) (left - 1))) (line_of line.now place) (state_of change.now m.old)) (state_of change.now m.new) result }
     ensures moves { OnOk result (Moves ((length line.now + 1) + 2 * ahead change.now m.old.meets) (1 + ahead change.now m.old.meets)
         (2 * ahead change.now m.new.meets) (ahead change.now m.new.meets) m.old m.new) }
     ensures met { OnOk result (IsMet change.now (length m.new.web.files) m.new.meets) }
-    ensures same { OnlyReads D.opened D.outputs D.files D.rest D.journal D.faults desk.old desk.new }
-    ensures fault { IsErrOf result LoadError.Fault → Rose (D.faults desk.old) (D.faults desk.new) }
+    ensures same { OnlyReads (D.told desk.old) (D.told desk.new) }
+    ensures fault { IsErrOf result LoadError.Fault → Rose (D.told desk.old).faults (D.told desk.new).faults }
 {
     match take_web_line(desk, change, m, line, place, left) {
         Ok(None) => Ok(()),
@@ -59,13 +60,13 @@ pub(crate) fn give_lines<D: Desk>(
     requires met { IsMet change.now (length m.old.web.files) m.old.meets }
     requires source { source.now.file < length m.old.web.files }
     requires room { HasRoom (2 * length source.now.bytes + 2 * ahead change.now m.old.meets) (length source.now.bytes + ahead change.now m.old.meets) m.old }
-    ensures gives { (told : Files) → D.files desk.old ≡ Some told →
-        Gives (web_lines (get told) left (file_lines source.now.file source.now.bytes) (state_of change.now m.old)) (state_of change.now m.new) result }
+    ensures gives { (files : Files) → (D.told desk.old).files ≡ Some files →
+        Gives (web_lines (get files) left (file_lines source.now.file source.now.bytes) (state_of change.now m.old)) (state_of change.now m.new) result }
     ensures moves { OnOk result (Moves (2 * length source.now.bytes + 2 * ahead change.now m.old.meets) (length source.now.bytes + ahead change.now m.old.meets)
         (2 * ahead change.now m.new.meets) (ahead change.now m.new.meets) m.old m.new) }
     ensures met { OnOk result (IsMet change.now (length m.new.web.files) m.new.meets) }
-    ensures same { OnlyReads D.opened D.outputs D.files D.rest D.journal D.faults desk.old desk.new }
-    ensures fault { IsErrOf result LoadError.Fault → Rose (D.faults desk.old) (D.faults desk.new) }
+    ensures same { OnlyReads (D.told desk.old) (D.told desk.new) }
+    ensures fault { IsErrOf result LoadError.Fault → Rose (D.told desk.old).faults (D.told desk.new).faults }
 {
     let bytes = source.bytes.as_slice();
     let mut at = 0;
@@ -97,13 +98,13 @@ fn take_web_line<D: Desk>(
     requires whole { All (λ byte. byte ≢ 10) line.now }
     requires place { place.file < length m.old.web.files }
     requires room { HasRoom ((length line.now + 1) + 2 * ahead change.now m.old.meets) (1 + ahead change.now m.old.meets) m.old }
-    ensures leads { (told : Files) → D.files desk.old ≡ Some told → (next : List FileLine → MergeState → Option MergeState) →
-        Leads (take_line (get told) (into_at left next) (line_of line.now place) (state_of change.now m.old)) next (state_of change.now m.new) result }
+    ensures leads { (files : Files) → (D.told desk.old).files ≡ Some files → (next : List FileLine → MergeState → Option MergeState) →
+        Leads (take_line (get files) (into_at left next) (line_of line.now place) (state_of change.now m.old)) next (state_of change.now m.new) result }
     ensures leaves { Leaves ((length line.now + 1) + 2 * ahead change.now m.old.meets) (1 + ahead change.now m.old.meets)
         (2 * ahead change.now m.new.meets) (ahead change.now m.new.meets) left m.old m.new result }
     ensures met { OnOk result (IsMet change.now (length m.new.web.files) m.new.meets) }
-    ensures same { OnlyReads D.opened D.outputs D.files D.rest D.journal D.faults desk.old desk.new }
-    ensures fault { IsErrOf result LoadError.Fault → Rose (D.faults desk.old) (D.faults desk.new) }
+    ensures same { OnlyReads (D.told desk.old) (D.told desk.new) }
+    ensures fault { IsErrOf result LoadError.Fault → Rose (D.told desk.old).faults (D.told desk.new).faults }
 {
     let mark = m.mark;
     match m.meets {
@@ -141,10 +142,10 @@ pub(crate) fn drain<D: Desk>(desk: &mut D, change: &[u8], m: &mut Merger) -> Res
     requires short { length change.now ≤ INPUT_LIMIT }
     requires met { IsMet change.now (length m.old.web.files) m.old.meets }
     requires room { HasRoom (2 * ahead change.now m.old.meets) (ahead change.now m.old.meets) m.old }
-    ensures gives { (told : Files) → D.files desk.old ≡ Some told → Gives (drained (get told) (state_of change.now m.old)) (state_of change.now m.new) result }
+    ensures gives { (files : Files) → (D.told desk.old).files ≡ Some files → Gives (drained (get files) (state_of change.now m.old)) (state_of change.now m.new) result }
     ensures met { OnOk result (IsMet change.now (length m.new.web.files) m.new.meets) }
-    ensures same { OnlyReads D.opened D.outputs D.files D.rest D.journal D.faults desk.old desk.new }
-    ensures fault { IsErrOf result LoadError.Fault → Rose (D.faults desk.old) (D.faults desk.new) }
+    ensures same { OnlyReads (D.told desk.old) (D.told desk.new) }
+    ensures fault { IsErrOf result LoadError.Fault → Rose (D.told desk.old).faults (D.told desk.new).faults }
 {
     match m.meets {
         Meets::Nothing => Ok(()),

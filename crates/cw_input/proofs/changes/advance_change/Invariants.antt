@@ -4,13 +4,14 @@ use Rattle.std.proofs.Common.{◌≡◌, ◌+◌, ◌-◌, ◌*◌, ◌<◌, ◌
 use Rattle.std.specs.FinMap.{get}
 use Rattle.cw_base.specs.declared.limits.TheConstants.{INPUT_LIMIT}
 use Rattle.cw_base.specs.Web.{text_of}
-use Rattle.cw_desk.specs.Meaning.{Files, OnlyReads}
+use Rattle.cw_desk.specs.Meaning.{Files}
+use Rattle.cw_desk.specs.Told.{OnlyReads}
 use Rattle.cw_input.specs.Fold.{advance}
 use Rattle.cw_input.specs.State.{IsPhase, lines_from, rest_of, state_of}
 use Rattle.cw_input.proofs.changes.advance_change.Given as goal
 
 abbrev pub invariant-lines : goal.invariant-lines
-invariant-lines g l = let d = g.D.Desk in record {
+invariant-lines g l = let told = g.D.Desk.told in record {
   within : l.at ≤ length l.change;
   count : l.line ≤ l.at;
   phase : IsPhase l.line l.phase;
@@ -19,10 +20,10 @@ invariant-lines g l = let d = g.D.Desk in record {
   files : length l.m.web.files + (length l.change - l.at) + (INPUT_LIMIT - l.m.sum) ≤ length l.fn.m.web.files + (length l.change - l.fn.rest.at) + (INPUT_LIMIT - l.fn.m.sum);
   sum : l.m.sum ≤ INPUT_LIMIT;
   more_files : length l.fn.m.web.files ≤ length l.m.web.files;
-  gives : (told : Files) → d.files l.fn.desk ≡ Some told →
-      advance (get told) l.fn.from (record { file = 1; line = l.fn.rest.line }) (rest_of l.change l.fn.rest) (state_of l.change l.fn.m)
-      ≡ advance (get told) l.phase (record { file = 1; line = l.line }) (lines_from 1 l.line l.at l.change) (state_of l.change l.m);
-  same : OnlyReads d.opened d.outputs d.files d.rest d.journal d.faults l.fn.desk l.desk;
+  gives : (files : Files) → (told l.fn.desk).files ≡ Some files →
+      advance (get files) l.fn.from (record { file = 1; line = l.fn.rest.line }) (rest_of l.change l.fn.rest) (state_of l.change l.fn.m)
+      ≡ advance (get files) l.phase (record { file = 1; line = l.line }) (lines_from 1 l.line l.at l.change) (state_of l.change l.m);
+  same : OnlyReads (told l.fn.desk) (told l.desk);
 }
 
 abbrev pub decreases-lines : goal.decreases-lines

@@ -4,7 +4,7 @@ use Rattle.cw_base.specs.WebLaws.{length-text_of-more}
 use Rattle.cw_input.proofs.including.put_line.Goals as goal
 
 pub returns-in-Some-clause-leads : goal.returns-in-Some-clause-leads
-returns-in-Some-clause-leads g c = λ told is change next. rw c.in-Some.ensures (c.include_file.ensures.leads told is change next)
+returns-in-Some-clause-leads g c = λ files is change next. rw c.in-Some.ensures (c.include_file.ensures.leads files is change next)
 
 pub returns-in_ok-append-in-None-clause-leaves : goal.returns-in_ok-append-in-None-clause-leaves
 returns-in_ok-append-in-None-clause-leaves g c =

@@ -14,19 +14,19 @@ use Rattle.cw_input.proofs.StartLaws.{read-first}
 use Rattle.cw_input.proofs.loading.merge_changed.Goals as goal
 
 pub returns-in-Ok-Some-clause-loads : goal.returns-in-Ok-Some-clause-loads
-returns-in-Ok-Some-clause-loads g c = λ told is.
+returns-in-Ok-Some-clause-loads g c = λ files is.
     let file = c.args.file in
     let word = c.args.word.now in
     let state = state_of [] c.add_file.new.self in
     let m = c.new-m.ensures in
     let first : read file.name file.bytes start_state ≡ Some state =
     read-first [] file.name file.bytes c.new-m.result m.web m.sum m.mark m.nothing c.requires ∙ ap (λ (m : Merger). Some (state_of [] m)) (sym c.in_ok-source.ensures.ok) in
-    let finds = rw c.in-Ok-Some.field-0-is at (c.in-Ok-Some.ensures.finds told is) in
-    let change : found (get told) (change_name word) ≡ Some c.in-Ok-Some.change = ap (found (get told)) (sym c.in_ok-name.ensures) ∙ finds in
+    let finds = rw c.in-Ok-Some.field-0-is at (c.in-Ok-Some.ensures.finds files is) in
+    let change : found (get files) (change_name word) ≡ Some c.in-Ok-Some.change = ap (found (get files)) (sym c.in_ok-name.ensures) ∙ finds in
     let bytes = ap (λ (source : Source). source.bytes) c.in_ok-source.ensures.source in
     let P : Merged → Type 0 = λ given. Loads given c.merge_found.result in
     subst P
-    (sym (ap (merge_with (get told) file.bytes (Some word)) first
-    ∙ ap (λ (given : Option Found). merge_change (get told) file.bytes given state) change
-    ∙ ap (λ (web : List ℕ). merge_change (get told) web (Some c.in-Ok-Some.change) state) (sym bytes)))
-    (c.merge_found.ensures.loads told (c.find_file.ensures.same.same_files ∙ is))
+    (sym (ap (merge_with (get files) file.bytes (Some word)) first
+    ∙ ap (λ (given : Option Found). merge_change (get files) file.bytes given state) change
+    ∙ ap (λ (web : List ℕ). merge_change (get files) web (Some c.in-Ok-Some.change) state) (sym bytes)))
+    (c.merge_found.ensures.loads files (c.find_file.ensures.same.same_files ∙ is))

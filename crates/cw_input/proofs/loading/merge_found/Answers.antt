@@ -32,27 +32,27 @@ begun name bytes given m new nothing same ok fits =
     ∙ ap (λ (m : Merger). Some (state_of bytes m)) (sym ok)
 
 pub returns-in-Err-clause-loads : goal.returns-in-Err-clause-loads
-returns-in-Err-clause-loads g c = λ told is.
+returns-in-Err-clause-loads g c = λ files is.
     let bytes = c.as_slice-bytes.result.now in
     let web = c.args.source.now.bytes in
     let name = c.args.change.name in
     let same : bytes ≡ c.args.change.bytes = c.as_slice-bytes.ensures ∙ ap (λ (source : Source). source.bytes) c.in_ok-change.ensures.source in
     let first = begun name bytes c.args.change.bytes c.args.m c.add_file.new.self c.requires.nothing same c.in_ok-change.ensures.ok (omega arith) in
-    let P : List ℕ → Type 0 = λ all. Loads (changed (get told) web name all c.args.m) (Err c.in-Err.error) in
-    subst P same (Loads-fails (changed (get told) web name bytes c.args.m) (handled (get told) bytes (state_of bytes c.add_file.new.self)) c.in-Err.error
-    (λ none. ap (λ state. taken (get told) web (option_and_then (handled (get told) bytes) state)) first ∙ ap (taken (get told) web) none)
-    (c.in-Err.ensures.gives told is))
+    let P : List ℕ → Type 0 = λ all. Loads (changed (get files) web name all c.args.m) (Err c.in-Err.error) in
+    subst P same (Loads-fails (changed (get files) web name bytes c.args.m) (handled (get files) bytes (state_of bytes c.add_file.new.self)) c.in-Err.error
+    (λ none. ap (λ state. taken (get files) web (option_and_then (handled (get files) bytes) state)) first ∙ ap (taken (get files) web) none)
+    (c.in-Err.ensures.gives files is))
 
 pub returns-in-Err-merge_lines-clause-loads : goal.returns-in-Err-merge_lines-clause-loads
-returns-in-Err-merge_lines-clause-loads g c = λ told is.
+returns-in-Err-merge_lines-clause-loads g c = λ files is.
     let bytes = c.as_slice-bytes.result.now in
     let web = c.args.source.now.bytes in
     let name = c.args.change.name in
     let error = c.in-Err-merge_lines.error in
     let same : bytes ≡ c.args.change.bytes = c.as_slice-bytes.ensures ∙ ap (λ (source : Source). source.bytes) c.in_ok-change.ensures.source in
     let first = begun name bytes c.args.change.bytes c.args.m c.add_file.new.self c.requires.nothing same c.in_ok-change.ensures.ok (omega arith) in
-    let whole = ap (λ state. taken (get told) web (option_and_then (handled (get told) bytes) state)) first ∙ ap (taken (get told) web) (c.in-Ok.ensures.gives told is) in
-    let P : List ℕ → Type 0 = λ all. Loads (changed (get told) web name all c.args.m) (Err error) in
+    let whole = ap (λ state. taken (get files) web (option_and_then (handled (get files) bytes) state)) first ∙ ap (taken (get files) web) (c.in-Ok.ensures.gives files is) in
+    let P : List ℕ → Type 0 = λ all. Loads (changed (get files) web name all c.args.m) (Err error) in
     let Q : Merged → Type 0 = λ given. Merges given c.merge_lines.new.m.web (Err error) in
-    subst P same (Loads-merges (changed (get told) web name bytes c.args.m) c.merge_lines.new.m.web error
-    (subst Q (sym whole) (c.in-Err-merge_lines.ensures.merges told (c.advance_change.ensures.same.same_files ∙ is))))
+    subst P same (Loads-merges (changed (get files) web name bytes c.args.m) c.merge_lines.new.m.web error
+    (subst Q (sym whole) (c.in-Err-merge_lines.ensures.merges files (c.advance_change.ensures.same.same_files ∙ is))))

@@ -5,11 +5,11 @@ use Rattle.cw_input.specs.Reading.{ReadsOnly}
 use Rattle.cw_input.proofs.reading.read_file.Given as goal
 
 abbrev pub invariant-reading : goal.invariant-reading
-invariant-reading g l = let d = g.D.Desk in record {
-  given : l.id.index < d.opened l.desk;
-  told : (told : Files) → d.files l.fn.desk ≡ Some told → d.rest l.fn.desk l.id.index ≡ l.bytes ++ d.rest l.desk l.id.index;
+invariant-reading g l = let told = g.D.Desk.told in record {
+  given : l.id.index < (told l.desk).opened;
+  rest : (files : Files) → (told l.fn.desk).files ≡ Some files → (told l.fn.desk).rest l.id.index ≡ l.bytes ++ (told l.desk).rest l.id.index;
   room : length l.portion ≡ 16384;
-  same : ReadsOnly d.opened d.outputs d.files d.rest d.journal d.faults l.id.index l.fn.desk l.desk;
+  same : ReadsOnly l.id.index (told l.fn.desk) (told l.desk);
 }
 
 abbrev pub decreases-reading : goal.decreases-reading

@@ -10,17 +10,17 @@ use Rattle.cw_input.proofs.MergeLaws.{web_lines-walk, walk-fails}
 use Rattle.cw_input.proofs.web_lines.+web.Goals as goal
 
 pub give_line-returns-in-Ok-None-clause-gives : goal.give_line-returns-in-Ok-None-clause-gives
-give_line-returns-in-Ok-None-clause-gives g t c = λ told is.
-    rw c.in-Ok-None.field-0-is at (c.in-Ok-None.ensures.leads told is (web_lines (get told) (c.args.left - 1)))
+give_line-returns-in-Ok-None-clause-gives g t c = λ files is.
+    rw c.in-Ok-None.field-0-is at (c.in-Ok-None.ensures.leads files is (web_lines (get files) (c.args.left - 1)))
 
 pub give_line-returns-in-Ok-Some-clause-gives : goal.give_line-returns-in-Ok-Some-clause-gives
-give_line-returns-in-Ok-Some-clause-gives g t c = λ told is.
-    let next : List FileLine → MergeState → Option MergeState = web_lines (get told) (c.args.left - 1) in
-    let leads = rw c.in-Ok-Some.field-0-is at (c.in-Ok-Some.ensures.leads told is next) in
-    rw leads (c.give_lines.ensures.gives told (c.take_web_line.ensures.same.same_files ∙ is))
+give_line-returns-in-Ok-Some-clause-gives g t c = λ files is.
+    let next : List FileLine → MergeState → Option MergeState = web_lines (get files) (c.args.left - 1) in
+    let leads = rw c.in-Ok-Some.field-0-is at (c.in-Ok-Some.ensures.leads files is next) in
+    rw leads (c.give_lines.ensures.gives files (c.take_web_line.ensures.same.same_files ∙ is))
 
 pub give_line-returns-in-Err-clause-gives : goal.give_line-returns-in-Err-clause-gives
-give_line-returns-in-Err-clause-gives g t c = λ told is. c.in-Err.ensures.leads told is (web_lines (get told) (c.args.left - 1))
+give_line-returns-in-Err-clause-gives g t c = λ files is. c.in-Err.ensures.leads files is (web_lines (get files) (c.args.left - 1))
 
 pub give_lines-lines-init : goal.give_lines-lines-init
 give_lines-lines-init g t c = record {
@@ -32,20 +32,20 @@ give_lines-lines-init g t c = record {
   files = omega arith;
   sum = c.requires.room.for_bytes;
   met = c.requires.met;
-  gives = λ told is. web_lines-walk (get told) c.args.left (file_lines c.args.source.now.file c.as_slice-bytes.result.now) (state_of c.args.change.now c.args.m.now);
+  gives = λ files is. web_lines-walk (get files) c.args.left (file_lines c.args.source.now.file c.as_slice-bytes.result.now) (state_of c.args.change.now c.args.m.now);
   same = search rules;
 }
 
 pub give_lines-returns-in_err-give_line-clause-gives : goal.give_lines-returns-in_err-give_line-clause-gives
-give_lines-returns-in_err-give_line-clause-gives g t c = λ told is.
+give_lines-returns-in_err-give_line-clause-gives g t c = λ files is.
     let inv = c.lines.invariant in
     let file = c.args.source.now.file in
     let bytes = c.as_slice-bytes.result.now in
-    let each : FileLine → MergeState → Option MergeState = take_line (get told) (into_at c.args.left (web_lines (get told) (c.args.left - 1))) in
-    let whole = ap (λ (all : List ℕ). web_lines (get told) c.args.left (file_lines file all) (state_of c.args.change.now c.args.m.now)) (sym inv.all) ∙ inv.gives told is in
+    let each : FileLine → MergeState → Option MergeState = take_line (get files) (into_at c.args.left (web_lines (get files) (c.args.left - 1))) in
+    let whole = ap (λ (all : List ℕ). web_lines (get files) c.args.left (file_lines file all) (state_of c.args.change.now c.args.m.now)) (sym inv.all) ∙ inv.gives files is in
     let p = err_from_is_err_and c.from_residual.result c.from_residual.ensures.1 in
     rw (p.1, p.2) (fails_as
     (each (line_of (slice_range bytes c.lines.at c.cut_line-cut.result.«end») (record { file = file; line = c.lines.line + 1 })) (state_of c.args.change.now c.lines.m))
-    (web_lines (get told) c.args.left (file_lines file c.args.source.now.bytes) (state_of c.args.change.now c.args.m.now)) _
+    (web_lines (get files) c.args.left (file_lines file c.args.source.now.bytes) (state_of c.args.change.now c.args.m.now)) _
     (λ none. whole ∙ walk-fails each file c.lines.line c.lines.at c.cut_line-cut.result.next _ bytes (state_of c.args.change.now c.lines.m) c.cut_line-cut.ensures.lines none)
-    (c.in_err-give_line.ensures.gives told (inv.same.same_files ∙ is)))
+    (c.in_err-give_line.ensures.gives files (inv.same.same_files ∙ is)))

@@ -4,7 +4,8 @@ use Rattle.std.proofs.Common.{◌≡◌, ◌+◌, ◌-◌, ◌*◌, ◌≤◌, S
 use Rattle.std.specs.FinMap.{get}
 use Rattle.cw_base.specs.declared.limits.TheConstants.{INPUT_LIMIT}
 use Rattle.cw_base.specs.Web.{text_of}
-use Rattle.cw_desk.specs.Meaning.{Files, OnlyReads}
+use Rattle.cw_desk.specs.Meaning.{Files}
+use Rattle.cw_desk.specs.Told.{OnlyReads}
 use Rattle.cw_input.specs.Lines.{file_lines}
 use Rattle.cw_input.specs.Fold.{take_line, walk, web_lines}
 use Rattle.cw_input.specs.State.{IsMet, ahead, into_at, lines_from, state_of}
@@ -17,7 +18,7 @@ abbrev pub decreases-give_lines : goal.decreases-give_lines
 decreases-give_lines g l = 2 * l.left + 1
 
 abbrev pub invariant-give_lines-lines : goal.invariant-give_lines-lines
-invariant-give_lines-lines g l = let d = g.D.Desk in record {
+invariant-give_lines-lines g l = let told = g.D.Desk.told in record {
   all : l.bytes ≡ l.source.bytes;
   within : l.at ≤ length l.bytes;
   count : l.line ≤ l.at;
@@ -28,10 +29,10 @@ invariant-give_lines-lines g l = let d = g.D.Desk in record {
       ≤ length l.fn.m.web.files + length l.bytes + ahead l.change l.fn.m.meets + (INPUT_LIMIT - l.fn.m.sum);
   sum : l.m.sum ≤ INPUT_LIMIT;
   met : IsMet l.change (length l.m.web.files) l.m.meets;
-  gives : (told : Files) → d.files l.fn.desk ≡ Some told →
-      web_lines (get told) l.left (file_lines l.source.file l.bytes) (state_of l.change l.fn.m)
-      ≡ walk (take_line (get told) (into_at l.left (web_lines (get told) (l.left - 1)))) (lines_from l.source.file l.line l.at l.bytes) (Some (state_of l.change l.m));
-  same : OnlyReads d.opened d.outputs d.files d.rest d.journal d.faults l.fn.desk l.desk;
+  gives : (files : Files) → (told l.fn.desk).files ≡ Some files →
+      web_lines (get files) l.left (file_lines l.source.file l.bytes) (state_of l.change l.fn.m)
+      ≡ walk (take_line (get files) (into_at l.left (web_lines (get files) (l.left - 1)))) (lines_from l.source.file l.line l.at l.bytes) (Some (state_of l.change l.m));
+  same : OnlyReads (told l.fn.desk) (told l.desk);
 }
 
 abbrev pub decreases-give_lines-lines : goal.decreases-give_lines-lines

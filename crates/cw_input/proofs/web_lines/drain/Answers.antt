@@ -11,7 +11,7 @@ use Rattle.cw_input.proofs.MergeLaws.{drained-old}
 use Rattle.cw_input.proofs.web_lines.drain.Goals as goal
 
 pub returns-in_ok-note-in-OldLine-clause-gives : goal.returns-in_ok-note-in-OldLine-clause-gives
-returns-in_ok-note-in-OldLine-clause-gives g c = λ told is.
+returns-in_ok-note-in-OldLine-clause-gives g c = λ files is.
     let change = c.args.change.now in
     let state = state_of change c.args.m.now in
     let old = line_at change c.in-OldLine.old in
@@ -20,7 +20,7 @@ returns-in_ok-note-in-OldLine-clause-gives g c = λ told is.
     let met = rw c.in-OldLine.is at c.requires.met in
     let P : Option MergeState → Type 0 = λ given. Gives given (state_of change c.advance_change.new.m) c.advance_change.result in
     subst P
-    (sym (drained-old (get told) old differ rest state (ap (group_of change) c.in-OldLine.is)
-    ∙ ap (λ (n : ℕ). advance (get told) (Spent differ) (record { file = 1; line = n }) rest (noted WebEnded 0 old.place state)) met.0.numbered
-    ∙ ap (λ (m : Merger). advance (get told) (Spent differ) (record { file = 1; line = c.in-OldLine.rest.line }) rest (state_of change m)) (sym c.in_ok-note-in-OldLine.ensures.ok)))
-    (c.advance_change.ensures.gives told is)
+    (sym (drained-old (get files) old differ rest state (ap (group_of change) c.in-OldLine.is)
+    ∙ ap (λ (n : ℕ). advance (get files) (Spent differ) (record { file = 1; line = n }) rest (noted WebEnded 0 old.place state)) met.0.numbered
+    ∙ ap (λ (m : Merger). advance (get files) (Spent differ) (record { file = 1; line = c.in-OldLine.rest.line }) rest (state_of change m)) (sym c.in_ok-note-in-OldLine.ensures.ok)))
+    (c.advance_change.ensures.gives files is)
