@@ -11,27 +11,27 @@ pub record File : Type 0 where
   pub name : List ℕ
   pub bytes : List ℕ
 
-abbrev text : List (List ℕ) → List ℕ
+abbrev pub text : List (List ℕ) → List ℕ
 text [] = []
 text (line ∷ lines) = line ++ 10 ∷ text lines
 
-abbrev file : List ℕ → List (List ℕ) → File
+abbrev pub file : List ℕ → List (List ℕ) → File
 file name lines = record { name = name; bytes = text lines }
 
-abbrev among : List File → Lookup
+abbrev pub among : List File → Lookup
 among [] name = None
 among (first ∷ files) name = cond (bytes_eq first.name name) (Some first.bytes) (among files name)
 
-abbrev line : List ℕ → ℕ → ℕ → Bool → MergedLine
+abbrev pub line : List ℕ → ℕ → ℕ → Bool → MergedLine
 line text file number changed = record { text = text; place = record { file = file; line = number }; changed = changed }
 
-abbrev note : NoteKind → ℕ → ℕ → ℕ → Note
+abbrev pub note : NoteKind → ℕ → ℕ → ℕ → Note
 note kind value file number = record { kind = kind; value = value; place = record { file = file; line = number } }
 
-abbrev three_lines : File
+abbrev pub three_lines : File
 three_lines = file (codes "foo.w") (codes "@ One." ∷ codes "@c a;" ∷ codes "b;" ∷ [])
 
-abbrev changed_by : List (List ℕ) → Merged
+abbrev pub changed_by : List (List ℕ) → Merged
 changed_by lines = merged (among (three_lines ∷ file (codes "foo.ch") lines ∷ [])) (codes "foo") (Some (codes "foo"))
 
 abbrev both : List (List ℕ)

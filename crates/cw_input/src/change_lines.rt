@@ -1,3 +1,5 @@
+//! One line of a change file, in each of its phases.
+
 ghost use Rattle.std.specs.Prelude.{◌≡◌, ◌<◌, ◌≤◌, ◌-◌, ◌+◌, ℕ, IsErrOf, IsOkUnless, List, OnOk, Some, cond, length, nat_lt};
 ghost use Rattle.cw_base.specs.declared.notes.NoteKind.TheVariants.{LinesDiffer};
 ghost use Rattle.cw_input.specs.Answers.{Gives, Steps, Waits};

@@ -1,3 +1,5 @@
+//! The lines of a change file that need no line of the web.
+
 ghost use Rattle.std.specs.Prelude.{◌≡◌, ◌≢◌, ◌+◌, ◌-◌, ◌*◌, ◌<◌, ◌≤◌, ℕ, All, IsErrOf, List, OnOk, Some, ◌∷◌, [], length, option_and_then, slice_range};
 ghost use Rattle.std.specs.FinMap.{get};
 ghost use Rattle.cw_desk.specs.Meaning.{Files, Rose};

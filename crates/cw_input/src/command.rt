@@ -1,3 +1,5 @@
+//! What the words of a command line ask for.
+
 ghost use Rattle.std.specs.Prelude.{◌≡◌, ◌<◌, ◌≤◌, [], ◌∷◌, ◌==◌, not, filter, length, IfOk, drop, true, Some};
 ghost use Rattle.cw_input.specs.Names.{outputs_of_web, outputs_of_word};
 ghost use Rattle.cw_input.specs.Words.{is_option, turned, with_option, flags_of, plain_words, can_be_output, can_be_web, weave_by, command_with, sample_of, command_of, sample_number};

@@ -1,3 +1,5 @@
+//! Why there is no merged web.
+
 ghost use Rattle.std.specs.Prelude.{◌≡◌};
 ghost use Rattle.cw_input.specs.declared.error.LoadError.TheVariants.{Memory as out_of_memory};
 

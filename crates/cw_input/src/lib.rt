@@ -21,5 +21,7 @@ mod words;
 
 pub use command::read_command;
 pub use error::LoadError;
+pub use found::Found;
+pub use lines::Code;
 pub use loading::load;
 pub use words::{Command, CommandLine, OutputNames};

@@ -1,3 +1,5 @@
+//! The lines of a file, and what a line says by its first bytes.
+
 ghost use Rattle.std.specs.Prelude.{◌≡◌, ◌≢◌, ◌+◌, ◌<◌, ◌≤◌, ◌∷◌, ◌==◌, All, None, Some, true, MatchOption, drop, take, length, slice_range};
 ghost use Rattle.cw_base.specs.Text.{is_blank, trimmed, lines_of};
 ghost use Rattle.cw_input.specs.Lines.{begins, code_of, include_name, name_of, skip_blanks, until};
@@ -5,7 +7,7 @@ ghost use Rattle.cw_input.specs.Lines.{begins, code_of, include_name, name_of, s
 /// What a line of a change file says by its first two bytes: `@x`, `@y` or `@z` in either case, that
 /// it is empty, or none of these.
 #[derive(Clone, Copy, Debug, PartialEq, Eq)]
-pub(crate) enum Code {
+pub enum Code {
     X,
     Y,
     Z,

@@ -1,3 +1,5 @@
+//! Reading a web with its change file: the files are found and read, and their lines merged.
+
 ghost use Rattle.std.specs.Prelude.{◌≡◌, ◌*◌, ◌+◌, ◌-◌, ◌<◌, ◌≤◌, [], IsErrOf, None, Some, IfOk, length, option_and_then, option_copied};
 ghost use Rattle.std.specs.FinMap.{get};
 ghost use Rattle.cw_desk.specs.Meaning.{Files, Rose};

@@ -1,3 +1,5 @@
+//! What has been merged so far.
+
 ghost use Rattle.std.specs.Prelude.{◌≡◌, ◌≢◌, ◌+◌, ◌<◌, ◌≤◌, All, IfOk, IsOkUnless, OnOk, false, length};
 ghost use Rattle.cw_base.specs.Web.{text_of};
 

@@ -1,3 +1,5 @@
+//! The names of files that words of the command line give.
+
 ghost use Rattle.std.specs.Prelude.{◌≡◌, ◌<◌, ◌==◌, ◌++◌, length, IfOk, IfSome};
 ghost use Rattle.cw_base.specs.Text.{last_place};
 ghost use Rattle.cw_input.specs.Names.{extension, extended, stem, last_part, first_name, second_name, change_name, outputs_of_web, outputs_of_word};

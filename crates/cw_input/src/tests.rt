@@ -1,3 +1,5 @@
+//! Reading over files in memory.
+
 use crate::{Command, LoadError, load, read_command};
 use cw_base::{Bytes, Note, Web, Words};
 use cw_desk::MemDesk;

@@ -1,3 +1,5 @@
+//! The lines of the web and of the files that it includes.
+
 ghost use Rattle.std.specs.Prelude.{◌≡◌, ◌≢◌, ◌+◌, ◌-◌, ◌*◌, ◌<◌, ◌≤◌, ℕ, All, IsErrOf, IsOkUnless, List, OnOk, Option, Some, bytes_eq, length};
 ghost use Rattle.std.specs.FinMap.{get};
 ghost use Rattle.cw_desk.specs.Meaning.{Files, Rose};
