@@ -1,5 +1,5 @@
 -- The walk of the reducer.
-use Rattle.std.proofs.Common.{◌≡◌, ℕ, zero, suc, ◌+◌, ◌-◌, ◌<◌, ◌≤◌, true, Option, Some, None, List, [], ◌∷◌, length, drop, unwrap_or, IfSome, MatchOption, refl, sym, ◌∙◌, ap, arith}
+use Rattle.std.proofs.Common.{◌≡◌, ℕ, zero, suc, ◌+◌, ◌-◌, ◌<◌, ◌≤◌, true, Option, Some, None, List, [], ◌∷◌, length, drop, get_or, unwrap_or, IfSome, MatchOption, refl, sym, ◌∙◌, ap, arith}
 use Rattle.std.specs.List.{list_all}
 use Rattle.std.specs.Option.{option_map}
 use Rattle.cw_base.specs.declared.category.Cat.{Cat}
@@ -30,6 +30,8 @@ use Rattle.cw_table.proofs.WalkLaws.{NoneBelow, Turns, turning, next-nowhere}
 use Rattle.cw_scraps.specs.declared.line.LineEntry.{LineEntry}
 use Rattle.cw_scraps.specs.Applying.{retyped}
 use Rattle.cw_scraps.specs.Inserting.{entry_cats}
+use Rattle.cw_scraps.specs.Lines.{no_entry}
+use Rattle.cw_scraps.proofs.FirstRows.{window-line}
 use Rattle.cw_reduce.specs.Reduction.{IsFirst, words_of}
 
 -- the number that the window gives is that of the first row that fits
@@ -51,6 +53,15 @@ first-is cats (Some n) (Some row) found is one last =
 
 pub first-line : (line : List LineEntry) (place : ℕ) (window : List Cat) (o : Option RowNo) → window ≡ window_of (drop place (entry_cats line)) → o ≡ number_of (first_of productions window) → IfSome o (λ row. 1 ≤ row.number) → IfSome o (λ row. row.number ≤ 92) → first_fits (drop place (entry_cats line)) o
 first-line line place window o w is one last = first-is (drop place (entry_cats line)) o (first_of productions (drop place (entry_cats line))) refl (is ∙ ap number_of (ap (first_of productions) w ∙ first-window productions (drop place (entry_cats line)) productions-sound)) one last
+
+-- no row fits where no window that begins with the two categories there has one
+pub none-line : (line : List LineEntry) (place : ℕ) (first second : Cat) → first ≡ (get_or line place no_entry).cat → second ≡ (get_or line (place + 1) no_entry).cat → ((third fourth : Cat) → first_of productions (first ∷ second ∷ third ∷ fourth ∷ []) ≡ None) → first_of productions (drop place (entry_cats line)) ≡ None
+none-line line place first second a b none =
+    sym (first-window productions (drop place (entry_cats line)) productions-sound)
+    ∙ (ap (first_of productions) (sym (window-line line place))
+    ∙ (ap (λ x. first_of productions (x ∷ (get_or line (place + 1) no_entry).cat ∷ (get_or line (place + 2) no_entry).cat ∷ (get_or line (place + 3) no_entry).cat ∷ [])) (sym a)
+    ∙ (ap (λ x. first_of productions (first ∷ x ∷ (get_or line (place + 2) no_entry).cat ∷ (get_or line (place + 3) no_entry).cat ∷ [])) (sym b)
+    ∙ none (get_or line (place + 2) no_entry).cat (get_or line (place + 3) no_entry).cat)))
 
 -- the least safe distance of a number is that of its row
 pub least-row : (n distance : ℕ) → 1 ≤ n → n ≤ 92 → IfSome (row_numbered productions n) (λ row. distance ≡ least productions row) → distance ≡ least productions (row_of productions n)

@@ -18,7 +18,7 @@ ghost use Rattle.cw_reduce.specs.Reduction.{GrowsByProductions, IsFirst, words_o
 use cw_base::{Flags, Ledger, Memory, Steps};
 use cw_names::Names;
 use cw_scraps::{Marks, PRODUCTION_TOKENS, ScrapLine};
-use cw_table::{ROW_COUNT, RowAtHand, RowNo, first_production, step_back};
+use cw_table::{ROW_COUNT, RowAtHand, RowNo, first_production, may_fit, step_back};
 use cw_tokens::TokenStore;
 
 /// What was done to a line of scraps.
@@ -76,7 +76,7 @@ pub fn reduce<L: Ledger>(
     Ok(Reduced { productions })
 }
 
-// The first row that fits at a place.
+// The first row that fits at a place. It counts four steps, also where two categories tell that none fits.
 pub(crate) fn row_at<L: Ledger>(
     line: &ScrapLine,
     place: usize,
@@ -87,12 +87,16 @@ pub(crate) fn row_at<L: Ledger>(
     ensures steps { steps.new ≡ steps.old + 4 }
 {
     let _length = line.len();
-    first_production([
-        line.cat_at(place, steps),
-        line.cat_at(place + 1, steps),
-        line.cat_at(place + 2, steps),
-        line.cat_at(place + 3, steps),
-    ])
+    let first = line.cat_at(place, steps);
+    let second = line.cat_at(place + 1, steps);
+    if !may_fit(first, second) {
+        steps.tick();
+        steps.tick();
+        return None;
+    }
+    let third = line.cat_at(place + 2, steps);
+    let fourth = line.cat_at(place + 3, steps);
+    first_production([first, second, third, fourth])
 }
 
 // How far the pointer goes back after a row.

@@ -3,6 +3,7 @@
 
 mod applying;
 mod joining;
+mod laws;
 mod leaves;
 mod line;
 mod making;
@@ -14,6 +15,7 @@ mod reserving;
 /// The most tokens that a production adds to the store of a line, whatever its scraps are.
 pub const PRODUCTION_TOKENS: usize = 24;
 
+pub use laws::mode_law;
 pub use leaves::{Leaf, scrap_of};
 pub use line::{LineEntry, Part, ScrapLine};
 pub use marks::Marks;

@@ -12,7 +12,7 @@ use Rattle.cw_table.specs.declared.types.Piece.{Piece}
 use Rattle.cw_table.specs.declared.types.Piece.TheVariants.{Scrap, MathScrap}
 use Rattle.cw_table.specs.declared.types.Row.{Row}
 use Rattle.cw_table.specs.Rows.{test}
-use Rattle.cw_table.specs.Sound.{IsSound, lowers, lowers_all, marks_parts, numbers_from, pieces_parts, result_parts, row_is_sound, same_numbers, scrap_in, scraps_in, tests_parts, without_end}
+use Rattle.cw_table.specs.Sound.{IsSound, counts_parts, lowers, lowers_all, marks_parts, numbers_from, pieces_parts, result_parts, row_is_sound, same_numbers, scrap_in, scraps_in, tests_parts, without_end}
 use Rattle.cw_table.proofs.HazardLaws.{not-all-numbers}
 use Rattle.cw_table.proofs.SafeLaws.{all-numbers}
 use Rattle.cw_table.proofs.Soundness.{sound-row}
@@ -100,12 +100,13 @@ order-end pieces i next end past within = ap (λ ps. same_numbers (scraps_in ps)
     left zero e = sym (eq-eqb next end (omega arith))
     left (suc n) e = sym (ne_eqb next end (λ h. absurd (omega arith)))
 
--- the four parts together are the whole test
-pub parts-joined : (row : Row) (a b c d : Bool) → a ≡ list_all (λ x. x) (tests_parts row) → b ≡ list_all (λ x. x) (pieces_parts row) → c ≡ list_all (λ x. x) (result_parts row) → d ≡ list_all (λ x. x) (marks_parts row) → (((a && b) && c) && d) ≡ row_is_sound row
+-- the five parts together are the whole test
+pub parts-joined : (row : Row) (a b c d e : Bool) → a ≡ list_all (λ x. x) (tests_parts row) → b ≡ list_all (λ x. x) (pieces_parts row) → c ≡ list_all (λ x. x) (result_parts row) → d ≡ list_all (λ x. x) (marks_parts row) → e ≡ list_all (λ x. x) (counts_parts row) → ((((a && b) && c) && d) && e) ≡ row_is_sound row
 unfolding row_is_sound
-parts-joined row a b c d ea eb ec ed =
-    let parts : (((a && b) && c) && d) ≡ (((list_all (λ x. x) (tests_parts row) && list_all (λ x. x) (pieces_parts row)) && list_all (λ x. x) (result_parts row)) && list_all (λ x. x) (marks_parts row)) = cc in
+parts-joined row a b c d e ea eb ec ed ee =
+    let parts : ((((a && b) && c) && d) && e) ≡ ((((list_all (λ x. x) (tests_parts row) && list_all (λ x. x) (pieces_parts row)) && list_all (λ x. x) (result_parts row)) && list_all (λ x. x) (marks_parts row)) && list_all (λ x. x) (counts_parts row)) = cc in
     parts
-    ∙ ap (λ x. (x && list_all (λ y. y) (result_parts row)) && list_all (λ y. y) (marks_parts row)) (sym (list_all-append (λ x. x) (tests_parts row) (pieces_parts row)))
-    ∙ ap (λ x. x && list_all (λ y. y) (marks_parts row)) (sym (list_all-append (λ x. x) (tests_parts row ++ pieces_parts row) (result_parts row)))
-    ∙ sym (list_all-append (λ x. x) ((tests_parts row ++ pieces_parts row) ++ result_parts row) (marks_parts row))
+    ∙ ap (λ x. ((x && list_all (λ y. y) (result_parts row)) && list_all (λ y. y) (marks_parts row)) && list_all (λ y. y) (counts_parts row)) (sym (list_all-append (λ x. x) (tests_parts row) (pieces_parts row)))
+    ∙ ap (λ x. (x && list_all (λ y. y) (marks_parts row)) && list_all (λ y. y) (counts_parts row)) (sym (list_all-append (λ x. x) (tests_parts row ++ pieces_parts row) (result_parts row)))
+    ∙ ap (λ x. x && list_all (λ y. y) (counts_parts row)) (sym (list_all-append (λ x. x) ((tests_parts row ++ pieces_parts row) ++ result_parts row) (marks_parts row)))
+    ∙ sym (list_all-append (λ x. x) (((tests_parts row ++ pieces_parts row) ++ result_parts row) ++ marks_parts row) (counts_parts row))

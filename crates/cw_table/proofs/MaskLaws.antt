@@ -1,11 +1,12 @@
 -- The masks of the code are those of the productions, and their meeting is the first row that fits.
-use Rattle.std.proofs.Common.{◌≡◌, ◌<◌, ◌≤◌, ◌+◌, ◌*◌, ◌^◌, ◌∙◌, sym, ap, subst, ℕ, zero, suc, Bool, true, false, not, cond, List, [], ◌∷◌, length, map, get_or, Some, None, refl, arith, add-zero, ◌&&◌, ◌||◌, leb}
+use Rattle.std.proofs.Common.{◌≡◌, ◌<◌, ◌≤◌, ◌+◌, ◌*◌, ◌^◌, ◌∙◌, sym, ap, subst, ℕ, zero, suc, Bool, true, false, not, cond, eqb, eq-eqb, List, [], ◌∷◌, length, map, get_or, Some, None, refl, arith, add-zero, ◌&&◌, ◌||◌, leb}
+use Rattle.std.specs.Int.Bits.{and_zero_l}
 use Rattle.std.specs.Int.Count.{count_trailing_zeros}
-use Rattle.std.specs.List.{list_all, prefix_len}
+use Rattle.std.specs.List.{list_all, list_any, prefix_len}
 use Rattle.std.specs.Option.{option_map}
 use Rattle.std.specs.Prelude.{bit_and}
 use Rattle.std.specs.Simd.Lanes.{mask_l}
-use Rattle.std.proofs.lemmas.Bool.{eqb-true}
+use Rattle.std.proofs.lemmas.Bool.{eqb-false, eqb-true, ne_eqb}
 use Rattle.std.proofs.lemmas.List.{get_or-map}
 use Rattle.std.proofs.lemmas.Nat.{and_block}
 use Rattle.std.proofs.lemmas.Option.{get_or_from_slice_get, slice_get_within}
@@ -14,7 +15,7 @@ use Rattle.cw_base.specs.declared.category.Cat.TheVariants.{End}
 use Rattle.cw_base.specs.declared.category.CatSet.{CatSet}
 use Rattle.cw_base.specs.Category.{all_cats, in_set, number_of}
 use Rattle.cw_base.proofs.CategoryLaws.{place-of}
-use Rattle.cw_base.proofs.TestLaws.{both-left, both-right}
+use Rattle.cw_base.proofs.TestLaws.{both-left, both-right, not-false}
 use Rattle.cw_table.specs.declared.masks.TheConstants.{MASKS}
 use Rattle.cw_table.specs.declared.types.Row.{Row}
 use Rattle.cw_table.specs.Fitting.{all_hold, first_of, row_fits}
@@ -190,6 +191,41 @@ first-met w d m0 m1 m2 m3 len e0 e1 e2 e3 some =
     ap (count_trailing_zeros 128) mask
     ∙ trailing_mask_l (λ row. row_fits row w) 128 productions (omega (arith, productions-length)) positive in
     sym (lowest-mask productions 1 w productions-numbered positive ∙ ap (λ n. Some (record { number = n })) (omega arith))
+
+-- some bit of the masks of two places: some row admits the two categories there
+any-mask : (p : Row → Bool) (rows : List Row) → not (eqb (mask_l (map p rows)) 0) ≡ list_any p rows
+any-mask p [] = refl
+any-mask p (row ∷ rows) = go (p row) (eqb (mask_l (map p rows)) 0) refl (any-mask p rows)
+  where
+    go : (b z : Bool) → eqb (mask_l (map p rows)) 0 ≡ z → not (eqb (mask_l (map p rows)) 0) ≡ list_any p rows → not (eqb (cond b 1 0 + 2 * mask_l (map p rows)) 0) ≡ (b || list_any p rows)
+    go true z e rest = ap not (ne_eqb _ _ (omega arith))
+    go false true e rest =
+        let none : mask_l (map p rows) ≡ 0 = eqb-true _ _ e in
+        let all : cond false 1 0 + 2 * mask_l (map p rows) ≡ 0 = omega arith in
+        ap not (eq-eqb _ _ all ∙ sym e) ∙ rest
+    go false false e rest =
+        let some : mask_l (map p rows) ≡ 0 → ⊥ = eqb-false _ _ e in
+        let all : cond false 1 0 + 2 * mask_l (map p rows) ≡ 0 → ⊥ = λ h. some (omega arith) in
+        ap not (ne_eqb _ _ all ∙ sym e) ∙ rest
+
+abbrev pub two_admit : Cat → Cat → Row → Bool
+two_admit a b row = admits 0 a row && admits 1 b row
+
+pub two-met : (a b : Cat) (m0 m1 : ℕ) → m0 ≡ mask_of productions 0 a → m1 ≡ mask_of productions 1 b → not (eqb (bit_and m0 m1) 0) ≡ list_any (two_admit a b) productions
+two-met a b m0 m1 e0 e1 =
+    let is : bit_and m0 m1 ≡ bit_and (mask_of productions 0 a) (mask_of productions 1 b) = cc in
+    ap (λ m. not (eqb m 0)) (is ∙ and-masks (admits 0 a) (admits 1 b) productions) ∙ any-mask (two_admit a b) productions
+
+-- no row admits the two: none fits
+pub two-none : (a b : Cat) → list_any (two_admit a b) productions ≡ false → (c e : Cat) → first_of productions (a ∷ b ∷ c ∷ e ∷ []) ≡ None
+two-none a b none c e = no-mask productions (a ∷ b ∷ c ∷ e ∷ []) (sym (masks-fit productions a b c e productions-sound) ∙ ap (λ m. bit_and (bit_and m (mask_of productions 2 c)) (mask_of productions 3 e)) zero-two
+    ∙ ap (λ m. bit_and m (mask_of productions 3 e)) (and_zero_l (mask_of productions 2 c))
+    ∙ and_zero_l (mask_of productions 3 e))
+  where
+    zero-two : bit_and (mask_of productions 0 a) (mask_of productions 1 b) ≡ 0
+    zero-two =
+        let is : bit_and (mask_of productions 0 a) (mask_of productions 1 b) ≡ mask_l (map (two_admit a b) productions) = and-masks (admits 0 a) (admits 1 b) productions in
+        is ∙ eqb-true _ _ (not-false _ (any-mask (two_admit a b) productions ∙ none))
 
 -- the number of the first row that fits is that of a row
 misfits-below : (rows : List Row) (cats : List Cat) → 0 < fit_mask rows cats → misfits rows cats < length rows

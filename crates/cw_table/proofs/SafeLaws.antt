@@ -391,8 +391,3 @@ least-at-most rows r = go (safe rows r 0) (safe rows r 1) (safe rows r 2) refl r
     go false true c ea eb ec = let is : least rows r ≡ 1 = rw (ea, eb, least) refl in omega arith
     go false false true ea eb ec = let is : least rows r ≡ 2 = rw (ea, eb, ec, least) refl in omega arith
     go false false false ea eb ec = let is : least rows r ≡ 3 = rw (ea, eb, ec, least) refl in omega arith
-
--- the law for each row of the table
-pub law-of : (rows now : List Row) (found : Option Row) → rows ≡ now → rows ≡ productions → IfSome found (SafeIsSound now)
-law-of rows now None view is = tt
-law-of rows now (Some row) view is = safe-sound now row (ap (list_all row_is_sound) (sym view ∙ is) ∙ productions-sound)

@@ -4,14 +4,17 @@ use Rattle.std.proofs.lemmas.Bool.Decides.{eqb_tells}
 use Rattle.cw_base.proofs.CategoryLaws.{each-of, every-cat}
 use Rattle.cw_base.proofs.TestLaws.{both-left, both-right, not-true, other-one, unless}
 use Rattle.std.specs.Prelude.{slice_get}
+use Rattle.std.specs.List.{All, list_all}
+use Rattle.std.proofs.lemmas.List.Sums.{AllPass-from_list_all}
 use Rattle.std.proofs.lemmas.Bool.{leb-true, ltb-true, eqb-true}
 use Rattle.cw_base.specs.declared.category.Cat.{Cat}
 use Rattle.cw_base.specs.declared.category.Cat.TheVariants.{End}
+use Rattle.cw_base.specs.declared.category.CatSet.{CatSet}
 use Rattle.cw_base.specs.Category.{in_set}
 use Rattle.cw_table.specs.declared.types.RowResult.TheVariants.{Is, SameAs}
 use Rattle.cw_table.specs.declared.types.Row.{Row}
-use Rattle.cw_table.specs.Rows.{test}
-use Rattle.cw_table.specs.Sound.{IsLowering, IsSound, is_exp, lowers, lowers_all, reserve_is_good, result_is_good, row_is_sound, same_numbers, sound_parts, underline_is_good, without_end}
+use Rattle.cw_table.specs.Rows.{empty, test}
+use Rattle.cw_table.specs.Sound.{IsLowering, IsSound, is_blank, is_exp, is_used, lowers, lowers_all, reserve_is_good, result_is_good, row_is_sound, same_numbers, sound_parts, underline_is_good, without_end}
 
 pub same-numbers : (ms ns : List ℕ) → same_numbers ms ns ≡ true → ms ≡ ns
 same-numbers [] [] h = refl
@@ -31,6 +34,14 @@ never-end row first (suc count) k h above below = elim (eqb_tells first k) [
 lowers-each : (row : Row) → lowers_all row ≡ true → (old : Cat) → lowers row old ≡ true
 unfolding lowers_all
 lowers-each row all old = every-cat (lowers row) all old
+
+-- a list of which each element passes
+each-passes : {X : Type 0} (p : X → Bool) (xs : List X) → list_all p xs ≡ true → All (λ x. p x ≡ true) xs
+each-passes p xs h k d lt = AllPass-from_list_all p xs h k d lt
+
+-- a set whose bits are none is the empty one
+each-empty : (sets : List CatSet) → list_all is_blank sets ≡ true → All (λ set. set ≡ empty) sets
+each-empty sets h k d lt = ap (λ bits. record { bits = bits }) (eqb-true _ _ (AllPass-from_list_all is_blank sets h k d lt))
 
 module _ (row : Row) (sound : row_is_sound row ≡ true) where
   part : (i : ℕ) (b : Bool) → slice_get (sound_parts row) i ≡ Some b → b ≡ true
@@ -81,4 +92,7 @@ module _ (row : Row) (sound : row_is_sound row ≡ true) where
     underline_not_end = λ k e. not-true _ (both-right _ _ (underline-good k e));
     reserve_from = λ k e. leb-true _ _ (both-left _ _ (reserve-good k e));
     reserve_below = λ k e. ltb-true _ _ (both-right _ _ (reserve-good k e));
+    usual_used = each-passes is_used _ (part 15 _ refl);
+    other_used = each-passes is_used _ (part 16 _ refl);
+    no_more_tests = each-empty _ (part 17 _ refl);
   }

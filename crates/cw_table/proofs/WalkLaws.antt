@@ -8,6 +8,7 @@ use Rattle.cw_table.specs.Fitting.{first_of}
 use Rattle.cw_table.specs.Safe.{least}
 use Rattle.cw_table.specs.Sound.{row_is_sound}
 use Rattle.cw_table.specs.Rewriting.{cats_of, State, rewrite}
+use Rattle.cw_table.specs.NormalLaws.{SafeReachesFar}
 use Rattle.cw_table.specs.Normal.{Nowhere, At, least_place, next_place, is_fine, normal, Production, log}
 use Rattle.cw_table.specs.NormalWalk.{walk_left, walk_of, walk_log, walked_of, walked}
 use Rattle.cw_table.proofs.Normals.{Takes, takes, normal-none, normal-step, log-none, log-step}
@@ -33,6 +34,12 @@ next-nowhere rows first [] below = refl
 next-nowhere rows first (c ∷ cs) below =
     ap (λ (o : Option Row). elim o [ Some q ↦ At first q | None ↦ least_place rows (suc first) cs ]) (below 0 (omega arith))
     ∙ next-nowhere rows (suc first) cs (λ k less. below (suc k) (omega arith))
+
+-- a safe distance is safe for scraps, with what a row reserves to the right
+pub safe-far : SafeReachesFar
+safe-far rows f st place r distance lower all is_least is_safe lt =
+    ap (λ cs. first_of rows (drop lower cs)) (rewritten-cats f r place st)
+    ∙ safe-sound rows r all distance place lower (cats_of st.scraps) (cats_of (right_after r (drop place st.scraps))) is_safe is_least (right-kept r place st) lt
 
 -- A turn that rewrites: all that it needs before, and all that holds after it.
 pub record Turns (rows : List Row) (f : Flags) (st : State) (place : ℕ) (r : Row) : Type 0 where

@@ -9,7 +9,7 @@ use Rattle.cw_table.specs.Normal.{Nowhere, At, next_place, weight, is_fine, step
 use Rattle.cw_table.specs.NormalWalk.{walk_log, walked, Position, positions, turns}
 use Rattle.cw_table.specs.Reaching.{IsAfter}
 use Rattle.cw_table.specs.WalkCounts.{reservings, ticks}
-use Rattle.cw_table.specs.Safe.{least}
+use Rattle.cw_table.specs.Safe.{IsLeast, least, safe}
 use Rattle.cw_table.specs.Sound.{row_is_sound}
 
 -- each production at the least place lowers the weight
@@ -34,6 +34,14 @@ CountAtMostWeight = (rows : List Row) (flags : Flags) (state : State) → count 
 
 abbrev pub CountAtMostEight : Type 0
 CountAtMostEight = (rows : List Row) (flags : Flags) (state : State) → count rows flags state ≤ 8 * length state.scraps
+
+-- After a production at the least place where some row fits, no row fits further before that place than a safe distance,
+-- whatever the scraps are; and the least safe distance is safe.
+abbrev pub SafeReachesFar : Type 0
+SafeReachesFar = (rows : List Row) (flags : Flags) (state : State) (place : ℕ) (row : Row) (distance lower : ℕ) → list_all row_is_sound rows ≡ true → IsLeast rows (cats_of state.scraps) place row → safe rows row distance ≡ true → lower + distance < place → first_of rows (drop lower (cats_of (rewrite flags row place state).scraps)) ≡ None
+
+abbrev pub LeastIsSafe : Type 0
+LeastIsSafe = (rows : List Row) (row : Row) → safe rows row (least rows row) ≡ true
 
 -- the walk that goes back by the least safe distance makes the leftmost-first productions, and ends where they end
 abbrev pub WalkHasLog : Type 0

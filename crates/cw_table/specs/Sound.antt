@@ -1,16 +1,17 @@
 -- What holds of each production by itself: first the test that computes it, then the rule that it stands for.
-use Rattle.std.specs.Prelude.{ℕ, zero, suc, ◌+◌, ◌≡◌, ◌≤◌, ◌<◌, Bool, true, false, not, ◌&&◌, ◌||◌, ltb, leb, eqb, List, [], ◌∷◌, ◌++◌, length, Option, Some, None}
-use Rattle.std.specs.List.{list_all}
+use Rattle.std.specs.Prelude.{ℕ, zero, suc, ◌+◌, ◌≡◌, ◌≤◌, ◌<◌, Bool, true, false, not, ◌&&◌, ◌||◌, ltb, leb, eqb, List, [], ◌∷◌, ◌++◌, length, drop, Option, Some, None}
+use Rattle.std.specs.List.{All, list_all}
 use Rattle.cw_base.specs.declared.category.Cat.{Cat}
 use Rattle.cw_base.specs.declared.category.Cat.TheVariants.{Exp, End}
+use Rattle.cw_base.specs.declared.category.CatSet.{CatSet}
 use Rattle.cw_base.specs.Category.{all_cats, in_set, may_be_bare, rank}
 use Rattle.cw_table.specs.declared.types.Piece.{Piece}
-use Rattle.cw_table.specs.declared.types.Piece.TheVariants.{Scrap, MathScrap}
+use Rattle.cw_table.specs.declared.types.Piece.TheVariants.{Scrap, MathScrap, Unused}
 use Rattle.cw_table.specs.declared.types.RowResult.{RowResult}
 use Rattle.cw_table.specs.declared.types.RowResult.TheVariants.{Is, SameAs}
 use Rattle.cw_table.specs.declared.types.Pieces.{Pieces}
 use Rattle.cw_table.specs.declared.types.Row.{Row}
-use Rattle.cw_table.specs.Rows.{test, translation}
+use Rattle.cw_table.specs.Rows.{empty, test, translation}
 
 -- the number of the scrap that a piece is, where it is one
 abbrev pub scrap_in : Piece → Option ℕ
@@ -115,8 +116,23 @@ marks_parts row =
     ∷ reserve_is_good row row.action.reserve
     ∷ []
 
+-- behind the counted tests stand empty sets, and no counted piece is one that isn't used
+abbrev pub is_used : Piece → Bool
+is_used Unused = false
+is_used _ = true
+
+abbrev pub is_blank : CatSet → Bool
+is_blank set = eqb set.bits 0
+
+abbrev pub counts_parts : Row → List Bool
+counts_parts row =
+    list_all is_used (translation row.action.usual)
+    ∷ list_all is_used (translation row.action.other)
+    ∷ list_all is_blank (drop row.test_count row.tests)
+    ∷ []
+
 abbrev pub sound_parts : Row → List Bool
-sound_parts row = tests_parts row ++ pieces_parts row ++ result_parts row ++ marks_parts row
+sound_parts row = tests_parts row ++ pieces_parts row ++ result_parts row ++ marks_parts row ++ counts_parts row
 
 unfoldable pub row_is_sound : Row → Bool
 row_is_sound row = list_all (λ b. b) (sound_parts row)
@@ -153,3 +169,6 @@ pub record IsSound (row : Row) : Type 0 where
   pub underline_not_end : (k : ℕ) → row.action.underline ≡ Some k → in_set (test row k) End ≡ false
   pub reserve_from : (k : ℕ) → row.action.reserve ≡ Some k → row.offset ≤ k
   pub reserve_below : (k : ℕ) → row.action.reserve ≡ Some k → k < row.offset + row.replaced
+  pub usual_used : All (λ piece. is_used piece ≡ true) (translation row.action.usual)
+  pub other_used : All (λ piece. is_used piece ≡ true) (translation row.action.other)
+  pub no_more_tests : All (λ set. set ≡ empty) (drop row.test_count row.tests)

@@ -24,7 +24,13 @@ impl<const N: usize> Table<N> {
 }
 
 impl Piece {
-    ghost use Rattle.cw_table.specs.Sound.{scrap_in};
+    ghost use Rattle.cw_table.specs.Sound.{is_used, scrap_in};
+
+    fn is_used(self) -> bool
+        ensures { result ≡ is_used self }
+    {
+        !matches!(self, Piece::Unused)
+    }
 
     // The number of the scrap that the piece is, where it is one.
     fn scrap(self) -> Option<u8>
@@ -38,11 +44,12 @@ impl Piece {
 }
 
 impl Row {
-    ghost use Rattle.cw_table.specs.Sound.{IsSound, holds_replaced, lowers, lowers_all, marks_parts, pieces_parts, result_is_good, result_parts, row_is_sound, tests_parts, without_end};
+    ghost use Rattle.std.specs.Prelude.{drop};
+    ghost use Rattle.cw_table.specs.Sound.{IsSound, counts_parts, holds_replaced, is_blank, lowers, lowers_all, marks_parts, pieces_parts, result_is_good, result_parts, row_is_sound, tests_parts, without_end};
 
     /// Whether the row is a good one by itself: it has from one to four tests, the replaced scraps are
-    /// tested ones, its pieces hold each of these once and in order, and a new category lowers the rank
-    /// where one scrap is replaced.
+    /// tested ones, its pieces hold each of these once and in order, a new category lowers the rank where
+    /// one scrap is replaced, each counted piece is used, and the tests behind the count are empty.
     pub fn is_sound(&self) -> bool
         ensures test { result ≡ row_is_sound self.now }
         ensures rule { result ≡ true → IsSound self.now }
@@ -51,6 +58,7 @@ impl Row {
             & self.has_sound_pieces()
             & self.has_sound_result()
             & self.has_sound_marks()
+            & self.has_sound_counts()
     }
 
     fn has_sound_tests(&self) -> bool
@@ -160,6 +168,37 @@ impl Row {
                 && (k as usize) < self.offset as usize + self.replaced as usize,
         };
         underline && reserve
+    }
+
+    fn has_sound_counts(&self) -> bool
+        ensures { result ≡ list_all (λ b. b) (counts_parts self.now) }
+    {
+        self.action.usual.are_used() && self.action.other.are_used() && self.has_no_more_tests()
+    }
+
+    // Whether the tests behind those that are counted are empty.
+    fn has_no_more_tests(&self) -> bool
+        ensures { result ≡ list_all is_blank (drop self.now.test_count self.now.tests) }
+    {
+        self.tests
+            .iter()
+            .skip(self.test_count as usize)
+            .all(|test| test.bits == 0)
+    }
+}
+
+impl Pieces {
+    ghost use Rattle.cw_table.specs.Rows.{translation};
+    ghost use Rattle.cw_table.specs.Sound.{is_used};
+
+    // Whether each piece that is counted is used.
+    fn are_used(&self) -> bool
+        ensures { result ≡ list_all is_used (translation self.now) }
+    {
+        self.pieces
+            .iter()
+            .take(self.count as usize)
+            .all(|piece| piece.is_used())
     }
 }
 

@@ -1,6 +1,6 @@
 ghost use Rattle.std.specs.Prelude.{◌≡◌, ◌≤◌, IfSome, true};
 ghost use Rattle.cw_table.specs.Rows.{row_numbered};
-ghost use Rattle.cw_table.specs.Safe.{SafeIsSound, endangers, least, safe};
+ghost use Rattle.cw_table.specs.Safe.{endangers, least, safe};
 
 use crate::types::{Row, RowNo, Table};
 
@@ -12,7 +12,6 @@ impl<const N: usize> Table<N> {
         requires to_last { row.number ≤ N }
         ensures least { IfSome (row_numbered self.now row.number) (λ r. result ≡ least self.now r) }
         ensures safe { IfSome (row_numbered self.now row.number) (λ r. safe self.now r result ≡ true) }
-        ensures safe_is_sound { IfSome (row_numbered self.now row.number) (SafeIsSound self.now) }
     {
         let _productions = &self.rows;
         let row = self.row(row);

@@ -1,5 +1,5 @@
 ghost use Rattle.cw_table.specs.SourceNumbers.{NormalKeepsNumbers, StepsKeepNumbers};
-ghost use Rattle.cw_table.specs.NormalLaws.{CountAtMostEight, CountAtMostWeight, NormalIsDone, NormalStays, StaysFine, TicksAtMost, TurnsAtMost, WalkEndsNormal, WalkHasLog, WalkIsLeftmost, WeightFalls, WeightTellsNumber};
+ghost use Rattle.cw_table.specs.NormalLaws.{CountAtMostEight, CountAtMostWeight, LeastIsSafe, NormalIsDone, NormalStays, SafeReachesFar, StaysFine, TicksAtMost, TurnsAtMost, WalkEndsNormal, WalkHasLog, WalkIsLeftmost, WeightFalls, WeightTellsNumber};
 
 /// The laws of leftmost-first rewriting, for every table of sound rows. It does nothing: what it ensures is for
 /// proofs.
@@ -13,6 +13,13 @@ pub fn rewriting_laws()
     ensures number { WeightTellsNumber }
     ensures numbers { StepsKeepNumbers }
     ensures all_numbers { NormalKeepsNumbers }
+{}
+
+/// The law of the safe distance, for every table of sound rows and every list of scraps. It does nothing: what it
+/// ensures is for proofs.
+pub fn distance_laws()
+    ensures safe { SafeReachesFar }
+    ensures least { LeastIsSafe }
 {}
 
 /// The law of the walk with a pointer, for every table of sound rows. It does nothing: what it ensures is for

@@ -1,7 +1,9 @@
-ghost use Rattle.std.specs.Prelude.{◌≡◌, ◌≤◌, ◌<◌, IfSome};
+ghost use Rattle.std.specs.Prelude.{◌≡◌, ◌≤◌, ◌<◌, ◌&&◌, [], ◌∷◌, false, IfSome, None};
+ghost use Rattle.std.specs.List.{list_any};
+ghost use Rattle.cw_base.specs.declared.category.Cat.{Cat};
 ghost use Rattle.std.specs.Option.{option_map};
 ghost use Rattle.cw_table.specs.Fitting.{first_of};
-ghost use Rattle.cw_table.specs.Masks.{mask_of};
+ghost use Rattle.cw_table.specs.Masks.{admits, mask_of};
 ghost use Rattle.cw_table.specs.Productions.{productions};
 
 use crate::productions::ROW_COUNT;
@@ -25,6 +27,16 @@ pub fn first_production(window: [Cat; 4]) -> Option<RowNo>
             number: fitting.trailing_zeros() as u8 + 1,
         })
     }
+}
+
+/// Whether some production admits these two categories at the first two places of its window. Where none does, no
+/// production fits, whatever stands behind.
+#[inline(always)]
+pub fn may_fit(first: Cat, second: Cat) -> bool
+    ensures some { result ≡ list_any (λ row. admits 0 first row && admits 1 second row) productions }
+    ensures none { result ≡ false → (third fourth : Cat) → first_of productions (first ∷ second ∷ third ∷ fourth ∷ []) ≡ None }
+{
+    mask(first, 0) & mask(second, 1) != 0
 }
 
 // The productions that admit this category at this place of the window.

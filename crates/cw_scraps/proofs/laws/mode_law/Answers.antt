@@ -1,0 +1,5 @@
+use Rattle.cw_scraps.proofs.ModeLaw.{join-agrees}
+use Rattle.cw_scraps.proofs.laws.mode_law.Goals as goal
+
+pub returns : goal.returns
+returns c = join-agrees

@@ -1,0 +1,6 @@
+ghost use Rattle.cw_scraps.specs.Modes.{JoinsAgree};
+
+/// The law of modes, for all pieces that agree with their modes. It does nothing: what it ensures is for proofs.
+pub fn mode_law()
+    ensures { JoinsAgree }
+{}

@@ -1,0 +1,9 @@
+use Rattle.std.proofs.Common.{sym, ◌∙◌}
+use Rattle.cw_table.proofs.MaskLaws.{two-met, two-none}
+use Rattle.cw_table.proofs.masks.may_fit.Goals as goal
+
+pub returns-clause-some : goal.returns-clause-some
+returns-clause-some c = two-met c.args.first c.args.second _ _ c.mask.ensures c.mask-2.ensures
+
+pub returns-clause-none : goal.returns-clause-none
+returns-clause-none c = λ no. two-none c.args.first c.args.second (sym (two-met c.args.first c.args.second _ _ c.mask.ensures c.mask-2.ensures) ∙ no)
