@@ -1,5 +1,5 @@
 -- How the code makes the merged lines: each line of the web, and of the files that it includes, is given to a state; and all lines of the
--- change file that need no line of the web are handled at once. The law of proofs/Same says that this gives what merging by changes gives.
+-- change file that need no line of the web are handled at once. The law of proofs/SameLaws says that this gives what merging by changes gives.
 --
 -- The stack of open files is the recursion itself: the lines of a file are given to a state one by one, and where one of them is an include
 -- line, the lines of its file are given before the next one. An old line doesn't take a line, but waits until the next one is given, wherever
