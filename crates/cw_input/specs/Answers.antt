@@ -28,7 +28,8 @@ Gives given new (Ok u) = given ≡ Some new
 Gives given new (Err error) = Fails given error
 
 -- the same, or it is what the lines of an included file make of the state afterwards
-abbrev pub Leads : Option MergeState → (List FileLine → MergeState → Option MergeState) → MergeState → Result (Option Source) LoadError → Type 0
+abbrev pub Leads : Option MergeState → (List FileLine → MergeState → Option MergeState) → MergeState
+    → Result (Option Source) LoadError → Type 0
 Leads given next new (Ok None) = given ≡ Some new
 Leads given next new (Ok (Some source)) = given ≡ next (file_lines source.file source.bytes) new
 Leads given next new (Err error) = Fails given error
@@ -41,7 +42,8 @@ Steps given go new (Err error) = Fails given error
 
 -- a line of the change file either lets a group wait or leads to a phase
 abbrev pub Waits : List ℕ → Cursor → Merger → Result (Option Phase) LoadError → Type 0
-Waits change rest new (Ok None) = IsMet change (length new.web.files) new.meets × (ahead change new.meets ≡ length change - rest.at)
+Waits change rest new (Ok None) =
+    IsMet change (length new.web.files) new.meets × (ahead change new.meets ≡ length change - rest.at)
 Waits change rest new (Ok (Some phase)) = IsPhase rest.line phase
 Waits change rest new (Err error) = ⊤
 
@@ -49,7 +51,8 @@ Waits change rest new (Err error) = ⊤
 abbrev pub Leaves : ℕ → ℕ → ℕ → ℕ → ℕ → Merger → Merger → Result (Option Source) LoadError → Type 0
 Leaves text files text_left files_left left old new (Ok None) = Moves text files text_left files_left old new
 Leaves text files text_left files_left left old new (Ok (Some source)) =
-    Moves text files (text_left + 2 * length source.bytes) (files_left + length source.bytes) old new × (source.file < length new.web.files) × (0 < left)
+    Moves text files (text_left + 2 * length source.bytes) (files_left + length source.bytes) old new
+    × (source.file < length new.web.files) × (0 < left)
 Leaves text files text_left files_left left old new (Err error) = ⊤
 
 -- an opened file was read: all of it, or it has too many bytes

@@ -13,9 +13,9 @@ pub data Entry : Type 0 where
   Line : FileLine → Entry
   Misplaced : Place → Entry
 
--- A change: its match line, the old lines behind it up to `@y`, the place of that `@y` (None where the change file ends before it), the new
--- lines up to `@z`; and the notes on what stands behind it, up to the match line of the next change. Where the change file ends within the
--- change, the first of these says so.
+-- A change: its match line, the old lines behind it up to `@y`, the place of that `@y` (None where the change file ends
+-- before it), the new lines up to `@z`; and the notes on what stands behind it, up to the match line of the next
+-- change. Where the change file ends within the change, the first of these says so.
 pub record Change : Type 0 where
   pub match : FileLine
   pub old : List Entry
@@ -23,7 +23,8 @@ pub record Change : Type 0 where
   pub new : List Entry
   pub behind : List Note
 
--- What lines of a change file hold: first what belongs to the change among whose lines they begin, then notes, then changes.
+-- What lines of a change file hold: first what belongs to the change among whose lines they begin, then notes, then
+-- changes.
 pub record Held : Type 0 where
   pub old : List Entry
   pub turn : Option Place
@@ -42,7 +43,8 @@ with_old entry held = record held { old = entry ∷ held.old }
 
 -- at `@y` the old lines end
 abbrev pub with_turn : Place → Held → Held
-with_turn place held = record { old = []; turn = Some place; new = held.new; notes = held.notes; changes = held.changes }
+with_turn place held =
+    record { old = []; turn = Some place; new = held.new; notes = held.notes; changes = held.changes }
 
 abbrev pub with_new : Entry → Held → Held
 with_new entry held = record held { new = entry ∷ held.new }
@@ -57,7 +59,10 @@ with_end held = record { old = []; turn = None; new = []; notes = held.notes; ch
 -- a change begins with its match line
 abbrev pub with_match : FileLine → Held → Held
 with_match match held =
-    record nothing { changes = record { match = match; old = held.old; turn = held.turn; new = held.new; behind = held.notes } ∷ held.changes }
+    record nothing {
+      changes =
+          record { match = match; old = held.old; turn = held.turn; new = held.new; behind = held.notes } ∷ held.changes;
+    }
 
 -- The parts of a change file, each up to a line that leads to the next one:
 --     Outside   between the changes, up to `@x`; all its other lines are dropped

@@ -1,9 +1,11 @@
--- How the code makes the merged lines: each line of the web, and of the files that it includes, is given to a state; and all lines of the
--- change file that need no line of the web are handled at once. The law of proofs/SameLaws says that this gives what merging by changes gives.
+-- How the code makes the merged lines: each line of the web, and of the files that it includes, is given to a state;
+-- and all lines of the change file that need no line of the web are handled at once. The law of proofs/SameLaws says
+-- that this gives what merging by changes gives.
 --
--- The stack of open files is the recursion itself: the lines of a file are given to a state one by one, and where one of them is an include
--- line, the lines of its file are given before the next one. An old line doesn't take a line, but waits until the next one is given, wherever
--- it comes from. Lines of the change file are handled from the start up to the first match line, and whenever a group is done up to the next.
+-- The stack of open files is the recursion itself: the lines of a file are given to a state one by one, and where one
+-- of them is an include line, the lines of its file are given before the next one. An old line doesn't take a line, but
+-- waits until the next one is given, wherever it comes from. Lines of the change file are handled from the start up to
+-- the first match line, and whenever a group is done up to the next.
 use Rattle.std.specs.Prelude.{ℕ, zero, suc, ◌+◌, Bool, true, false, nat_lt, nat_le, List, [], ◌∷◌, ◌++◌, length, Option, Some, None, option_and_then, bytes_eq}
 use Rattle.cw_base.specs.declared.limits.TheConstants.{INPUT_LIMIT}
 use Rattle.cw_base.specs.Web.{WebState}
@@ -17,8 +19,8 @@ use Rattle.cw_input.specs.declared.lines.Code.TheVariants.{X, Y, Z, Empty, Other
 use Rattle.cw_input.specs.declared.phase.Phase.{Phase}
 use Rattle.cw_input.specs.declared.phase.Phase.TheVariants.{Outside, Opening, Skipping, Old, Spent, New}
 
--- What the next line of the web meets. All lines of the change file that need no line of the web are handled at once, so the case
--- 'no group waits and lines of the change file are left' never lasts:
+-- What the next line of the web meets. All lines of the change file that need no line of the web are handled at once,
+-- so the case 'no group waits and lines of the change file are left' never lasts:
 --     Over                no line of the change file is left
 --     Pending match rest  a group waits to be met at its match line; rest is what follows that line in the change file
 --     Waiting old differ rest  a group has been met; this old line takes the next line of the web, and this many lines before it differ
@@ -27,8 +29,8 @@ pub data Group : Type 0 where
   Pending : FileLine → List FileLine → Group
   Waiting : FileLine → ℕ → List FileLine → Group
 
--- The web so far, how many bytes were read, whether the next line carries a mark because a group before it gave no line, and what that
--- line meets. The mark is set when a group is met; each line that is appended takes it away.
+-- The web so far, how many bytes were read, whether the next line carries a mark because a group before it gave no
+-- line, and what that line meets. The mark is set when a group is met; each line that is appended takes it away.
 pub record MergeState : Type 0 where
   pub web : WebState
   pub sum : ℕ
@@ -38,14 +40,21 @@ pub record MergeState : Type 0 where
 -- None below stands for input that is too long: nothing else is then known.
 
 abbrev pub noted : NoteKind → ℕ → Place → MergeState → MergeState
-noted kind value place m = record m { web = record m.web { notes = m.web.notes ++ record { kind = kind; value = value; place = place } ∷ [] } }
+noted kind value place m =
+    record m { web = record m.web { notes = m.web.notes ++ record { kind = kind; value = value; place = place } ∷ [] } }
 
 abbrev pub grouped : Group → MergeState → MergeState
 grouped group m = record m { group = group }
 
 abbrev pub appended : Bool → FileLine → MergeState → MergeState
 appended changed line m =
-    record m { web = record m.web { lines = m.web.lines ++ record { text = line.text; place = line.place; changed = changed } ∷ [] }; mark = false }
+    record m {
+      web = record m.web {
+        lines =
+            m.web.lines ++ record { text = line.text; place = line.place; changed = changed } ∷ [];
+      };
+      mark = false;
+    }
 
 -- a file is read to its end: its bytes count, and its name is the next file's
 abbrev pub read_by : Bool → List ℕ → ℕ → MergeState → Option MergeState
@@ -59,10 +68,13 @@ read name bytes m = read_by (nat_le (m.sum + length bytes) INPUT_LIMIT) name (m.
 abbrev pub Into : Type 0
 Into = Option (List FileLine → MergeState → Option MergeState)
 
--- an include line: an empty name, then too deep a file, then a missing file are noted; else the file is read and its lines follow
-abbrev pub include_found : (List FileLine → MergeState → Option MergeState) → List ℕ → Option (List ℕ) → Place → MergeState → Option MergeState
+-- an include line: an empty name, then too deep a file, then a missing file are noted; else the file is read and its
+-- lines follow
+abbrev pub include_found : (List FileLine → MergeState → Option MergeState) → List ℕ → Option (List ℕ)
+    → Place → MergeState → Option MergeState
 include_found into name None place m = Some (noted IncludeMissing 0 place m)
-include_found into name (Some bytes) place m = option_and_then (into (file_lines (length m.web.files) bytes)) (read name bytes m)
+include_found into name (Some bytes) place m =
+    option_and_then (into (file_lines (length m.web.files) bytes)) (read name bytes m)
 
 abbrev pub include : Lookup → Into → List ℕ → Place → MergeState → Option MergeState
 include named into [] place m = Some (noted IncludeUnnamed 0 place m)
@@ -82,8 +94,8 @@ abbrev pub walk : (FileLine → MergeState → Option MergeState) → List FileL
 walk each [] m = m
 walk each (line ∷ lines) m = walk each lines (option_and_then (each line) m)
 
--- New lines of a group, and the lines of files that they include: each is appended as changed. The number says how many files deep may
--- still be included.
+-- New lines of a group, and the lines of files that they include: each is appended as changed. The number says how many
+-- files deep may still be included.
 unfoldable pub new_lines : Lookup → ℕ → List FileLine → MergeState → Option MergeState
 new_lines named zero lines m = walk (put named true None) lines (Some m)
 new_lines named (suc left) lines m = walk (put named true (Some (new_lines named left))) lines (Some m)
@@ -92,8 +104,8 @@ abbrev pub noted_if : Bool → NoteKind → ℕ → Place → MergeState → Mer
 noted_if true kind value place m = noted kind value place m
 noted_if false kind value place m = m
 
--- One line of the change file, by the phase in which it stands and its code. It ends the handling until the next line of the web is
--- taken, or goes on in a phase. The phases are
+-- One line of the change file, by the phase in which it stands and its code. It ends the handling until the next line
+-- of the web is taken, or goes on in a phase. The phases are
 --     Outside       before the next group: lines up to an `@x` line are dropped
 --     Opening       behind the `@x` of a group, before its match line
 --     Skipping      in a group without old lines, up to its `@z`
@@ -147,18 +159,21 @@ ended New last m = grouped Over (noted EndedBeforeZ 0 last m)
 -- the lines of the change file that need no line of the web, from a phase on; last is the place of the line before them
 abbrev pub advance : Lookup → Phase → Place → List FileLine → MergeState → Option MergeState
 advance named phase last [] m = Some (ended phase last m)
-advance named phase last (line ∷ rest) m = step named phase (code_of line.text) line rest (λ next state. advance named next line.place rest state) m
+advance named phase last (line ∷ rest) m =
+    step named phase (code_of line.text) line rest (λ next state. advance named next line.place rest state) m
 
 -- the first line that a pending group is compared with decides whether the group has been met
 abbrev pub compared : Bool → Lookup → FileLine → List FileLine → Into → FileLine → MergeState → Option MergeState
 compared true named match rest into line m = advance named (Old 0) match.place rest (record m { mark = true })
 compared false named match rest into line m = put named m.mark into line m
 
--- a line of the web is taken: by a group that has been met, by the match line of a pending one that it equals, or else by the result
+-- a line of the web is taken: by a group that has been met, by the match line of a pending one that it equals, or else
+-- by the result
 abbrev pub take_by : Group → Lookup → Into → FileLine → MergeState → Option MergeState
 take_by Over named into line m = put named m.mark into line m
 take_by (Pending match rest) named into line m = compared (bytes_eq match.text line.text) named match rest into line m
-take_by (Waiting old differ rest) named into line m = advance named (Old (counted (bytes_eq old.text line.text) differ)) old.place rest m
+take_by (Waiting old differ rest) named into line m =
+    advance named (Old (counted (bytes_eq old.text line.text) differ)) old.place rest m
 
 abbrev pub take_line : Lookup → Into → FileLine → MergeState → Option MergeState
 take_line named into line m = take_by m.group named into line m
@@ -168,11 +183,13 @@ unfoldable pub web_lines : Lookup → ℕ → List FileLine → MergeState → O
 web_lines named zero lines m = walk (take_line named None) lines (Some m)
 web_lines named (suc left) lines m = walk (take_line named (Some (web_lines named left))) lines (Some m)
 
--- The web has no line left: an old line that waits for one is noted, and the rest of its group and the next group are handled.
+-- The web has no line left: an old line that waits for one is noted, and the rest of its group and the next group are
+-- handled.
 abbrev pub drained_by : Group → Lookup → MergeState → Option MergeState
 drained_by Over named m = Some m
 drained_by (Pending match rest) named m = Some m
-drained_by (Waiting old differ rest) named m = advance named (Spent differ) old.place rest (noted WebEnded 0 old.place m)
+drained_by (Waiting old differ rest) named m =
+    advance named (Spent differ) old.place rest (noted WebEnded 0 old.place m)
 
 abbrev pub drained : Lookup → MergeState → Option MergeState
 drained named m = drained_by m.group named m

@@ -24,7 +24,9 @@ taken named web m = whole (option_and_then (drained named) (option_and_then (web
 abbrev pub merge_change : Lookup → List ℕ → Option Found → MergeState → Merged
 merge_change named web None m = NoChange
 merge_change named web (Some change) m =
-    taken named web (option_and_then (advance named Outside (record { file = 1; line = 0 }) (file_lines 1 change.bytes)) (read change.name change.bytes m))
+    taken named web (option_and_then
+    (advance named Outside (record { file = 1; line = 0 }) (file_lines 1 change.bytes))
+    (read change.name change.bytes m))
 
 abbrev pub merge_with : Lookup → List ℕ → Option (List ℕ) → Option MergeState → Merged
 merge_with named web change None = TooLong

@@ -1,9 +1,10 @@
 -- How the lines of a web, of the files that it includes and of the changes of a change file become the merged lines.
 --
--- The lines of the web are taken one after another; an include line puts the lines of its file in its place. Each change waits in its turn
--- for a line that equals its match line. That line and, with no include done for them, as many lines behind it as the change has further old
--- lines are dropped, wherever they come from: an included file that ends is followed by the rest of the file that includes it. Then the
--- change's new lines, and the lines of files that they include, are appended as changed. All other lines are appended as they are.
+-- The lines of the web are taken one after another; an include line puts the lines of its file in its place. Each
+-- change waits in its turn for a line that equals its match line. That line and, with no include done for them, as many
+-- lines behind it as the change has further old lines are dropped, wherever they come from: an included file that ends
+-- is followed by the rest of the file that includes it. Then the change's new lines, and the lines of files that they
+-- include, are appended as changed. All other lines are appended as they are.
 use Rattle.std.specs.Prelude.{ℕ, zero, suc, ◌+◌, Bool, true, false, nat_lt, List, [], ◌∷◌, ◌++◌, length, Option, Some, None, bytes_eq}
 use Rattle.cw_base.specs.Web.{WebState}
 use Rattle.cw_base.specs.declared.notes.Note.{Note}
@@ -21,8 +22,8 @@ pub data Course : Type 0 where
   Free : Course
   Taking : Change → List (List ℕ) → Course
 
--- The web so far; whether the next line carries a mark because a change before it gave no line; the changes that are left, of which the first
--- waits to be met; and the change that takes the next line.
+-- The web so far; whether the next line carries a mark because a change before it gave no line; the changes that are
+-- left, of which the first waits to be met; and the change that takes the next line.
 pub record Merging : Type 0 where
   pub web : WebState
   pub mark : Bool
@@ -39,7 +40,13 @@ all_noted (note ∷ notes) m = all_noted notes (noted note m)
 -- a line is appended, and takes the mark
 abbrev pub appended : Bool → FileLine → Merging → Merging
 appended changed line m =
-    record m { web = record m.web { lines = m.web.lines ++ record { text = line.text; place = line.place; changed = changed } ∷ [] }; mark = false }
+    record m {
+      web = record m.web {
+        lines =
+            m.web.lines ++ record { text = line.text; place = line.place; changed = changed } ∷ [];
+      };
+      mark = false;
+    }
 
 -- a file is read: its name is that of the next file
 abbrev pub opened : List ℕ → Merging → Merging
@@ -72,8 +79,8 @@ abbrev pub walk : (FileLine → Merging → Merging) → List FileLine → Mergi
 walk each [] m = m
 walk each (line ∷ lines) m = walk each lines (each line m)
 
--- New lines of a change, and the lines of files that they include: each is appended as changed. The number says how many files deep may
--- still be included.
+-- New lines of a change, and the lines of files that they include: each is appended as changed. The number says how
+-- many files deep may still be included.
 unfoldable pub new_lines : Lookup → ℕ → List FileLine → Merging → Merging
 new_lines named zero lines m = walk (put named true None) lines m
 new_lines named (suc left) lines m = walk (put named true (Some (new_lines named left))) lines m
@@ -90,7 +97,8 @@ misplaced [] = []
 misplaced (Line line ∷ entries) = misplaced entries
 misplaced (Misplaced place ∷ entries) = note_at NoMatchingY 0 place ∷ misplaced entries
 
--- the same where the old lines have dropped these lines of the web: the first old line that has none is noted, since the web has ended
+-- the same where the old lines have dropped these lines of the web: the first old line that has none is noted, since
+-- the web has ended
 abbrev pub old_notes : List Entry → List (List ℕ) → List Note
 old_notes [] dropped = []
 old_notes (Line line ∷ entries) [] = note_at WebEnded 0 line.place ∷ misplaced entries
@@ -111,7 +119,8 @@ counted false differ = differ + 1
 abbrev pub differing : ℕ → List Entry → List (List ℕ) → ℕ
 differing before [] dropped = before
 differing before (Line line ∷ entries) [] = before
-differing before (Line line ∷ entries) (text ∷ dropped) = differing (counted (bytes_eq line.text text) before) entries dropped
+differing before (Line line ∷ entries) (text ∷ dropped) =
+    differing (counted (bytes_eq line.text text) before) entries dropped
 differing before (Misplaced place ∷ entries) dropped = differing before entries dropped
 
 -- at the `@y`, where there is one, lines that differ are noted
@@ -123,10 +132,12 @@ abbrev pub turn_notes : Option Place → ℕ → List Note
 turn_notes None differ = []
 turn_notes (Some place) differ = turn_notes_by (nat_lt 0 differ) differ place
 
--- A change that has been met and has dropped these lines: a mark waits for the first line behind, and the new lines stand in place of the old.
+-- A change that has been met and has dropped these lines: a mark waits for the first line behind, and the new lines
+-- stand in place of the old.
 abbrev pub applied : Lookup → Change → List (List ℕ) → Merging → Merging
 applied named change dropped m =
-    all_noted change.behind (replaced named change.new (all_noted (turn_notes change.turn (differing 0 change.old dropped))
+    all_noted change.behind (replaced named change.new
+    (all_noted (turn_notes change.turn (differing 0 change.old dropped))
     (all_noted (old_notes change.old dropped) (record m { mark = true; course = Free }))))
 
 -- a change that has been met drops lines of the web until it has one for each old line
@@ -144,7 +155,8 @@ met_by false named change changes into line m = put named m.mark into line m
 
 abbrev pub met : List Change → Lookup → Into → FileLine → Merging → Merging
 met [] named into line m = put named m.mark into line m
-met (change ∷ changes) named into line m = met_by (bytes_eq change.match.text line.text) named change changes into line m
+met (change ∷ changes) named into line m =
+    met_by (bytes_eq change.match.text line.text) named change changes into line m
 
 -- a line of the web: a change that has been met drops it, or it meets the first change that is left, or it is put
 abbrev pub take_by : Course → Lookup → Into → FileLine → Merging → Merging

@@ -48,7 +48,8 @@ completed named web m = Complete (unmatched (drained named (web_lines named 10 (
 
 abbrev pub read_change : Lookup → Found → Option Found → Reading
 read_change named web None = Alone web
-read_change named web (Some change) = completed named web.bytes (with_changes (changes_of change.bytes) (opened change.name (begun web)))
+read_change named web (Some change) =
+    completed named web.bytes (with_changes (changes_of change.bytes) (opened change.name (begun web)))
 
 abbrev pub read_web : Lookup → Option Found → Option (List ℕ) → Reading
 read_web named None change = NoFile

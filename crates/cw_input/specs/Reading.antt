@@ -1,4 +1,5 @@
--- What the reading of one opened file changes on a desk: of what the desk tells only the unread rest of this file and the count of faults.
+-- What the reading of one opened file changes on a desk: of what the desk tells only the unread rest of this file and
+-- the count of faults.
 use Rattle.std.specs.Prelude.{◌≡◌, ◌≢◌, ℕ, ◌≤◌}
 use Rattle.cw_desk.specs.Told.{Told}
 

@@ -25,7 +25,8 @@ lines_from file line at bytes = numbered file line (lines_of (drop at bytes))
 
 -- a line of the change file, and the lines that follow a place in it
 abbrev pub line_at : List ℕ → Piece → FileLine
-line_at change piece = record { text = slice_range change piece.start piece.«end»; place = record { file = 1; line = piece.line } }
+line_at change piece =
+    record { text = slice_range change piece.start piece.«end»; place = record { file = 1; line = piece.line } }
 
 abbrev pub rest_of : List ℕ → Cursor → List FileLine
 rest_of change rest = lines_from 1 rest.line rest.at change
@@ -45,11 +46,18 @@ into_at (suc left) next = Some next
 
 -- the state with a note, a line or a file more
 abbrev pub with_note : NoteKind → ℕ → Place → Merger → Merger
-with_note kind value place m = record m { web = record m.web { notes = m.web.notes ++ record { kind = kind; value = value; place = place } ∷ [] } }
+with_note kind value place m =
+    record m { web = record m.web { notes = m.web.notes ++ record { kind = kind; value = value; place = place } ∷ [] } }
 
 abbrev pub with_line : List ℕ → Place → Bool → Merger → Merger
 with_line text place changed m =
-    record m { web = record m.web { lines = m.web.lines ++ record { text = text; place = place; changed = changed } ∷ [] }; mark = false }
+    record m {
+      web = record m.web {
+        lines =
+            m.web.lines ++ record { text = text; place = place; changed = changed } ∷ [];
+      };
+      mark = false;
+    }
 
 abbrev pub with_file : List ℕ → ℕ → Merger → Merger
 with_file name size m = record m { web = record m.web { files = m.web.files ++ name ∷ [] }; sum = m.sum + size }
@@ -68,7 +76,8 @@ pub record IsCursor (change : List ℕ) (rest : Cursor) : Type 0 where
 abbrev pub IsMet : List ℕ → ℕ → Meets → Type 0
 IsMet change files Nothing = ⊤
 IsMet change files (MatchLine piece rest) = IsPiece change piece rest × IsCursor change rest × (1 < files)
-IsMet change files (OldLine piece differ rest) = IsPiece change piece rest × IsCursor change rest × (1 < files) × (differ < rest.line)
+IsMet change files (OldLine piece differ rest) = IsPiece change piece rest × IsCursor change rest × (1 < files)
+    × (differ < rest.line)
 
 -- of that only the second: a group that waits is one of the second file
 abbrev pub IsListed : ℕ → Meets → Type 0
@@ -91,8 +100,8 @@ ahead change Nothing = 0
 ahead change (MatchLine piece rest) = length change - rest.at
 ahead change (OldLine piece differ rest) = length change - rest.at
 
--- There is room for so many bytes of text and so many files beside all that may still be read: a byte that is read is worth two bytes of
--- text, itself and a byte 10 behind it, and one file.
+-- There is room for so many bytes of text and so many files beside all that may still be read: a byte that is read is
+-- worth two bytes of text, itself and a byte 10 behind it, and one file.
 pub record HasRoom (text files : ℕ) (m : Merger) : Type 0 where
   pub for_text : length (text_of m.web.lines) + text + 2 * (INPUT_LIMIT - m.sum) ≤ TEXT_LIMIT
   pub for_files : length m.web.files + files + (INPUT_LIMIT - m.sum) ≤ INPUT_LIMIT + 2
@@ -100,7 +109,9 @@ pub record HasRoom (text files : ℕ) (m : Merger) : Type 0 where
 
 -- the room for the first two numbers was enough to leave room for the others
 pub record Moves (text files text_left files_left : ℕ) (old new : Merger) : Type 0 where
-  pub of_text : length (text_of new.web.lines) + text_left + 2 * (INPUT_LIMIT - new.sum) ≤ length (text_of old.web.lines) + text + 2 * (INPUT_LIMIT - old.sum)
-  pub of_files : length new.web.files + files_left + (INPUT_LIMIT - new.sum) ≤ length old.web.files + files + (INPUT_LIMIT - old.sum)
+  pub of_text : length (text_of new.web.lines) + text_left + 2 * (INPUT_LIMIT - new.sum)
+      ≤ length (text_of old.web.lines) + text + 2 * (INPUT_LIMIT - old.sum)
+  pub of_files : length new.web.files + files_left + (INPUT_LIMIT - new.sum)
+      ≤ length old.web.files + files + (INPUT_LIMIT - old.sum)
   pub of_bytes : new.sum ≤ INPUT_LIMIT
   pub more_files : length old.web.files ≤ length new.web.files

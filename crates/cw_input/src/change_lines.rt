@@ -24,7 +24,8 @@ pub(crate) fn outside_line(
     requires listed { 1 < length m.old.web.files }
     requires bytes { m.old.sum ≤ INPUT_LIMIT }
     ensures steps { (named : Lookup) (change : List ℕ) (rest : List FileLine) (go : Onward) →
-        Steps (step named Outside code (line_at change piece) rest go (state_of change m.old)) go (state_of change m.new) result }
+        Steps (step named Outside code (line_at change piece) rest go (state_of change m.old)) go
+        (state_of change m.new) result }
     ensures moves { OnOk result (Moves 0 0 0 0 m.old m.new) }
     ensures waits { (change : List ℕ) (rest : Cursor) → Waits change rest m.new result }
     ensures fault { ¬ IsErrOf result LoadError.Fault }
@@ -58,9 +59,11 @@ pub(crate) fn opening_line(
     requires listed { 1 < length m.old.web.files }
     requires bytes { m.old.sum ≤ INPUT_LIMIT }
     ensures steps { (named : Lookup) (change : List ℕ) (go : Onward) →
-        Steps (step named Opening code (line_at change piece) (rest_of change rest) go (state_of change m.old)) go (state_of change m.new) result }
+        Steps (step named Opening code (line_at change piece) (rest_of change rest) go (state_of change m.old)) go
+        (state_of change m.new) result }
     ensures moves { OnOk result (Moves 0 0 0 0 m.old m.new) }
-    ensures waits { (change : List ℕ) → IsPiece change piece rest → IsCursor change rest → Waits change rest m.new result }
+    ensures waits { (change : List ℕ) → IsPiece change piece rest → IsCursor change rest →
+        Waits change rest m.new result }
     ensures fault { ¬ IsErrOf result LoadError.Fault }
 {
     match code {
@@ -111,9 +114,11 @@ pub(crate) fn old_line(
     requires bytes { m.old.sum ≤ INPUT_LIMIT }
     requires differ { differ < rest.line }
     ensures steps { (named : Lookup) (change : List ℕ) (go : Onward) →
-        Steps (step named (Old differ) code (line_at change piece) (rest_of change rest) go (state_of change m.old)) go (state_of change m.new) result }
+        Steps (step named (Old differ) code (line_at change piece) (rest_of change rest) go
+        (state_of change m.old)) go (state_of change m.new) result }
     ensures moves { OnOk result (Moves 0 0 0 0 m.old m.new) }
-    ensures waits { (change : List ℕ) → IsPiece change piece rest → IsCursor change rest → Waits change rest m.new result }
+    ensures waits { (change : List ℕ) → IsPiece change piece rest → IsCursor change rest →
+        Waits change rest m.new result }
     ensures fault { ¬ IsErrOf result LoadError.Fault }
 {
     match code {
@@ -150,7 +155,8 @@ pub(crate) fn spent_line(
     requires listed { 1 < length m.old.web.files }
     requires bytes { m.old.sum ≤ INPUT_LIMIT }
     ensures steps { (named : Lookup) (change : List ℕ) (rest : List FileLine) (go : Onward) →
-        Steps (step named (Spent differ) code (line_at change piece) rest go (state_of change m.old)) go (state_of change m.new) result }
+        Steps (step named (Spent differ) code (line_at change piece) rest go (state_of change m.old)) go
+        (state_of change m.new) result }
     ensures moves { OnOk result (Moves 0 0 0 0 m.old m.new) }
     ensures waits { (change : List ℕ) (rest : Cursor) → differ ≤ rest.line → Waits change rest m.new result }
     ensures fault { ¬ IsErrOf result LoadError.Fault }
@@ -176,7 +182,9 @@ pub(crate) fn spent_line(
 // The `@y` of a group that has been met: a note where lines differ.
 fn end_old_lines(m: &mut Merger, differ: u32, piece: Piece) -> Result<(), LoadError>
     requires listed { 1 < length m.old.web.files }
-    ensures ok { OnOk result (m.new ≡ cond (nat_lt 0 differ) (with_note LinesDiffer differ (record { file = 1; line = piece.line }) m.old) m.old) }
+    ensures ok { OnOk result
+        (m.new ≡ cond (nat_lt 0 differ)
+        (with_note LinesDiffer differ (record { file = 1; line = piece.line }) m.old) m.old) }
     ensures only { IsOkUnless result LoadError.Memory }
 {
     if differ > 0 {
@@ -189,7 +197,8 @@ fn end_old_lines(m: &mut Merger, differ: u32, piece: Piece) -> Result<(), LoadEr
 pub(crate) fn end_change(m: &mut Merger, phase: Phase, line: u32) -> Result<(), LoadError>
     requires listed { 1 < length m.old.web.files }
     requires bytes { m.old.sum ≤ INPUT_LIMIT }
-    ensures gives { (change : List ℕ) → Gives (Some (ended phase (record { file = 1; line = line }) (state_of change m.old))) (state_of change m.new) result }
+    ensures gives { (change : List ℕ) →
+        Gives (Some (ended phase (record { file = 1; line = line }) (state_of change m.old))) (state_of change m.new) result }
     ensures moves { OnOk result (Moves 0 0 0 0 m.old m.new) }
     ensures nothing { OnOk result (m.new.meets ≡ Meets.Nothing) }
     ensures fault { ¬ IsErrOf result LoadError.Fault }

@@ -36,7 +36,8 @@ pub(crate) fn advance_change<D: Desk>(
     requires listed { 1 < length m.old.web.files }
     requires room { HasRoom (2 * (length change.now - rest.at)) (length change.now - rest.at) m.old }
     ensures gives { (files : Files) → (D.told desk.old).files ≡ Some files →
-        Gives (advance (get files) from (record { file = 1; line = rest.line }) (rest_of change.now rest) (state_of change.now m.old)) (state_of change.now m.new) result }
+        Gives (advance (get files) from (record { file = 1; line = rest.line }) (rest_of change.now rest)
+        (state_of change.now m.old)) (state_of change.now m.new) result }
     ensures moves { OnOk result (Moves (2 * (length change.now - rest.at)) (length change.now - rest.at)
         (2 * ahead change.now m.new.meets) (ahead change.now m.new.meets) m.old m.new) }
     ensures met { OnOk result (IsMet change.now (length m.new.web.files) m.new.meets) }
@@ -82,7 +83,9 @@ fn change_line<D: Desk>(
     requires listed { 1 < length m.old.web.files }
     requires room { HasRoom ((piece.«end» - piece.start) + 1) 1 m.old }
     ensures steps { (files : Files) → (D.told desk.old).files ≡ Some files → (go : Onward) →
-        Steps (step (get files) phase (code_of (slice_range change.now piece.start piece.«end»)) (line_at change.now piece) (rest_of change.now rest) go (state_of change.now m.old)) go (state_of change.now m.new) result }
+        Steps (step (get files) phase (code_of (slice_range change.now piece.start piece.«end»))
+        (line_at change.now piece) (rest_of change.now rest) go (state_of change.now m.old)) go
+        (state_of change.now m.new) result }
     ensures moves { OnOk result (Moves ((piece.«end» - piece.start) + 1) 1 0 0 m.old m.new) }
     ensures waits { Waits change.now rest m.new result }
     ensures same { OnlyReads (D.told desk.old) (D.told desk.new) }
@@ -117,8 +120,10 @@ fn new_line<D: Desk>(
     requires whole { All (λ byte. byte ≢ 10) line.now }
     requires listed { place.file < length m.old.web.files }
     requires room { HasRoom (length line.now + 1) 1 m.old }
-    ensures steps { (files : Files) → (D.told desk.old).files ≡ Some files → (change : List ℕ) (rest : List FileLine) (go : Onward) →
-        Steps (step (get files) New code (line_of line.now place) rest go (state_of change m.old)) go (state_of change m.new) result }
+    ensures steps { (files : Files) → (D.told desk.old).files ≡ Some files → (change : List ℕ) (rest : List FileLine)
+        (go : Onward) →
+        Steps (step (get files) New code (line_of line.now place) rest go (state_of change m.old)) go
+        (state_of change m.new) result }
     ensures moves { OnOk result (Moves (length line.now + 1) 1 0 0 m.old m.new) }
     ensures waits { (change : List ℕ) (behind : Cursor) → Waits change behind m.new result }
     ensures same { OnlyReads (D.told desk.old) (D.told desk.new) }
@@ -150,7 +155,9 @@ fn appended_new_line<D: Desk>(
     requires listed { place.file < length m.old.web.files }
     requires room { HasRoom (length line.now + 1) 1 m.old }
     ensures steps { (files : Files) → (D.told desk.old).files ≡ Some files → (change : List ℕ) (go : Onward) →
-        Steps (option_and_then (go New) (new_lines (get files) 10 (line_of line.now place ∷ []) (state_of change m.old))) go (state_of change m.new) result }
+        Steps (option_and_then (go New)
+        (new_lines (get files) 10 (line_of line.now place ∷ []) (state_of change m.old))) go
+        (state_of change m.new) result }
     ensures moves { OnOk result (Moves (length line.now + 1) 1 0 0 m.old m.new) }
     ensures waits { (change : List ℕ) (behind : Cursor) → Waits change behind m.new result }
     ensures same { OnlyReads (D.told desk.old) (D.told desk.new) }

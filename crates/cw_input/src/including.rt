@@ -29,8 +29,10 @@ pub(crate) fn put_line<D: Desk>(
     requires whole { All (λ byte. byte ≢ 10) line.now }
     requires place { place.file < length m.old.web.files }
     requires room { HasRoom (length line.now + 1) 1 m.old }
-    ensures leads { (files : Files) → (D.told desk.old).files ≡ Some files → (change : List ℕ) (next : List FileLine → MergeState → Option MergeState) →
-        Leads (put (get files) changed (into_at left next) (line_of line.now place) (state_of change m.old)) next (state_of change m.new) result }
+    ensures leads { (files : Files) → (D.told desk.old).files ≡ Some files → (change : List ℕ)
+        (next : List FileLine → MergeState → Option MergeState) →
+        Leads (put (get files) changed (into_at left next) (line_of line.now place) (state_of change m.old)) next
+        (state_of change m.new) result }
     ensures leaves { Leaves (length line.now + 1) 1 0 0 left m.old m.new result }
     ensures meets { OnOk result (m.new.meets ≡ m.old.meets) }
     ensures same { OnlyReads (D.told desk.old) (D.told desk.new) }
@@ -55,8 +57,10 @@ fn include_file<D: Desk>(
 ) -> Result<Option<Source>, LoadError>
     requires place { place.file < length m.old.web.files }
     requires room { HasRoom 1 1 m.old }
-    ensures leads { (files : Files) → (D.told desk.old).files ≡ Some files → (change : List ℕ) (next : List FileLine → MergeState → Option MergeState) →
-        Leads (include (get files) (into_at left next) name.now place (state_of change m.old)) next (state_of change m.new) result }
+    ensures leads { (files : Files) → (D.told desk.old).files ≡ Some files → (change : List ℕ)
+        (next : List FileLine → MergeState → Option MergeState) →
+        Leads (include (get files) (into_at left next) name.now place (state_of change m.old)) next
+        (state_of change m.new) result }
     ensures leaves { Leaves 1 1 0 0 left m.old m.new result }
     ensures meets { OnOk result (m.new.meets ≡ m.old.meets) }
     ensures same { OnlyReads (D.told desk.old) (D.told desk.new) }

@@ -27,7 +27,8 @@ pub(crate) fn cut_line(bytes: &[u8], at: usize) -> Cut
     requires { at < length bytes.now }
     ensures ends { (at ≤ result.«end») × (result.«end» ≤ result.next) }
     ensures next { (at < result.next) × (result.next ≤ length bytes.now) }
-    ensures lines { lines_of (drop at bytes.now) ≡ slice_range bytes.now at result.«end» ∷ lines_of (drop result.next bytes.now) }
+    ensures lines { lines_of (drop at bytes.now) ≡ slice_range bytes.now at result.«end» ∷ lines_of
+        (drop result.next bytes.now) }
     ensures whole { All (λ byte. byte ≢ 10) (slice_range bytes.now at result.«end») }
 {
     let end = find_byte(bytes, at, b'\n');

@@ -38,10 +38,12 @@ pub fn load<D: Desk>(
     change: Option<&[u8]>,
 ) -> Result<Web, LoadError>
     requires { 0 < length web.now }
-    ensures loads { (files : Files) → (D.told desk.old).files ≡ Some files → Loads (merged (get files) web.now (option_copied change.entry)) result }
+    ensures loads { (files : Files) → (D.told desk.old).files ≡ Some files →
+        Loads (merged (get files) web.now (option_copied change.entry)) result }
 
     // When each error comes.
-    ensures no_web { (files : Files) → (D.told desk.old).files ≡ Some files → ComesWhere (LacksWeb (get files) web.now) LoadError.NoWeb result }
+    ensures no_web { (files : Files) → (D.told desk.old).files ≡ Some files →
+        ComesWhere (LacksWeb (get files) web.now) LoadError.NoWeb result }
     ensures no_change { (files : Files) → (D.told desk.old).files ≡ Some files →
         ComesWhere (LacksChange (get files) web.now (option_copied change.entry)) LoadError.NoChange result }
     ensures too_long { (files : Files) → (D.told desk.old).files ≡ Some files →
@@ -72,7 +74,8 @@ fn load_words<D: Desk>(
     web: &[u8],
     change: Option<&[u8]>,
 ) -> Result<Web, LoadError>
-    ensures loads { (files : Files) → (D.told desk.old).files ≡ Some files → Loads (merge_web (get files) (web_file (get files) web.now) (option_copied change.entry)) result }
+    ensures loads { (files : Files) → (D.told desk.old).files ≡ Some files →
+        Loads (merge_web (get files) (web_file (get files) web.now) (option_copied change.entry)) result }
     ensures same { OnlyReads (D.told desk.old) (D.told desk.new) }
     ensures fault { IsErrOf result LoadError.Fault → Rose (D.told desk.old).faults (D.told desk.new).faults }
 {
@@ -84,7 +87,8 @@ fn load_words<D: Desk>(
 
 // Without a change file.
 fn load_plain<D: Desk>(alloc: Global, desk: &mut D, web: &[u8]) -> Result<Web, LoadError>
-    ensures loads { (files : Files) → (D.told desk.old).files ≡ Some files → Loads (merge_web (get files) (web_file (get files) web.now) None) result }
+    ensures loads { (files : Files) → (D.told desk.old).files ≡ Some files →
+        Loads (merge_web (get files) (web_file (get files) web.now) None) result }
     ensures same { OnlyReads (D.told desk.old) (D.told desk.new) }
     ensures fault { IsErrOf result LoadError.Fault → Rose (D.told desk.old).faults (D.told desk.new).faults }
 {
@@ -101,7 +105,8 @@ fn load_changed<D: Desk>(
     web: &[u8],
     word: &[u8],
 ) -> Result<Web, LoadError>
-    ensures loads { (files : Files) → (D.told desk.old).files ≡ Some files → Loads (merge_web (get files) (web_file (get files) web.now) (Some word.now)) result }
+    ensures loads { (files : Files) → (D.told desk.old).files ≡ Some files →
+        Loads (merge_web (get files) (web_file (get files) web.now) (Some word.now)) result }
     ensures same { OnlyReads (D.told desk.old) (D.told desk.new) }
     ensures fault { IsErrOf result LoadError.Fault → Rose (D.told desk.old).faults (D.told desk.new).faults }
 {
@@ -113,7 +118,8 @@ fn load_changed<D: Desk>(
 
 // The file of a web word: the first name that is there.
 fn open_web<D: Desk>(alloc: Global, desk: &mut D, word: &[u8]) -> Result<Found, LoadError>
-    ensures finds { (files : Files) → (D.told desk.old).files ≡ Some files → FindsWeb (web_file (get files) word.now) result }
+    ensures finds { (files : Files) → (D.told desk.old).files ≡ Some files →
+        FindsWeb (web_file (get files) word.now) result }
     ensures within { IfOk result (λ file. length file.bytes ≤ INPUT_LIMIT) }
     ensures same { OnlyReads (D.told desk.old) (D.told desk.new) }
     ensures fault { IsErrOf result LoadError.Fault → Rose (D.told desk.old).faults (D.told desk.new).faults }
@@ -128,7 +134,8 @@ fn open_web<D: Desk>(alloc: Global, desk: &mut D, word: &[u8]) -> Result<Found, 
 
 // The file of a web word under its second name.
 fn open_second<D: Desk>(alloc: Global, desk: &mut D, word: &[u8]) -> Result<Found, LoadError>
-    ensures finds { (files : Files) → (D.told desk.old).files ≡ Some files → FindsWeb (found (get files) (second_name word.now)) result }
+    ensures finds { (files : Files) → (D.told desk.old).files ≡ Some files →
+        FindsWeb (found (get files) (second_name word.now)) result }
     ensures within { IfOk result (λ file. length file.bytes ≤ INPUT_LIMIT) }
     ensures same { OnlyReads (D.told desk.old) (D.told desk.new) }
     ensures fault { IsErrOf result LoadError.Fault → Rose (D.told desk.old).faults (D.told desk.new).faults }
@@ -194,7 +201,9 @@ fn merge_found<D: Desk>(
     requires sum { m.sum ≡ length source.now.bytes }
     requires bytes { length source.now.bytes + length change.bytes ≤ INPUT_LIMIT }
     ensures loads { (files : Files) → (D.told desk.old).files ≡ Some files →
-        Loads (taken (get files) source.now.bytes (option_and_then (advance (get files) Outside (record { file = 1; line = 0 }) (file_lines 1 change.bytes)) (read change.name change.bytes (state_of [] m)))) result }
+        Loads (taken (get files) source.now.bytes
+        (option_and_then (advance (get files) Outside (record { file = 1; line = 0 }) (file_lines 1 change.bytes))
+        (read change.name change.bytes (state_of [] m)))) result }
     ensures same { OnlyReads (D.told desk.old) (D.told desk.new) }
     ensures fault { IsErrOf result LoadError.Fault → Rose (D.told desk.old).faults (D.told desk.new).faults }
 {
@@ -223,8 +232,10 @@ fn merge_lines<D: Desk>(
     requires met { IsMet change.now (length m.old.web.files) m.old.meets }
     requires listed { 0 < length m.old.web.files }
     requires source { source.now.file ≡ 0 }
-    requires room { HasRoom (2 * length source.now.bytes + 2 * ahead change.now m.old.meets) (length source.now.bytes + ahead change.now m.old.meets) m.old }
-    ensures merges { (files : Files) → (D.told desk.old).files ≡ Some files → Merges (taken (get files) source.now.bytes (Some (state_of change.now m.old))) m.new.web result }
+    requires room { HasRoom (2 * length source.now.bytes + 2 * ahead change.now m.old.meets)
+        (length source.now.bytes + ahead change.now m.old.meets) m.old }
+    ensures merges { (files : Files) → (D.told desk.old).files ≡ Some files →
+        Merges (taken (get files) source.now.bytes (Some (state_of change.now m.old))) m.new.web result }
     ensures same { OnlyReads (D.told desk.old) (D.told desk.new) }
     ensures fault { IsErrOf result LoadError.Fault → Rose (D.told desk.old).faults (D.told desk.new).faults }
 {

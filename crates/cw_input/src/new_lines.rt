@@ -32,7 +32,8 @@ pub(crate) fn put_new_line<D: Desk>(
     requires place { place.file < length m.old.web.files }
     requires room { HasRoom (length line.now + 1) 1 m.old }
     ensures gives { (files : Files) → (D.told desk.old).files ≡ Some files → (change : List ℕ) →
-        Gives (put (get files) true (into_at left (new_lines (get files) (left - 1))) (line_of line.now place) (state_of change m.old)) (state_of change m.new) result }
+        Gives (put (get files) true (into_at left (new_lines (get files) (left - 1))) (line_of line.now place)
+        (state_of change m.old)) (state_of change m.new) result }
     ensures moves { OnOk result (Moves (length line.now + 1) 1 0 0 m.old m.new) }
     ensures meets { OnOk result (m.new.meets ≡ m.old.meets) }
     ensures same { OnlyReads (D.told desk.old) (D.told desk.new) }
@@ -56,7 +57,8 @@ fn put_new_lines<D: Desk>(
     requires source { source.now.file < length m.old.web.files }
     requires room { HasRoom (2 * length source.now.bytes) (length source.now.bytes) m.old }
     ensures gives { (files : Files) → (D.told desk.old).files ≡ Some files → (change : List ℕ) →
-        Gives (new_lines (get files) left (file_lines source.now.file source.now.bytes) (state_of change m.old)) (state_of change m.new) result }
+        Gives (new_lines (get files) left (file_lines source.now.file source.now.bytes) (state_of change m.old))
+        (state_of change m.new) result }
     ensures moves { OnOk result (Moves (2 * length source.now.bytes) (length source.now.bytes) 0 0 m.old m.new) }
     ensures meets { OnOk result (m.new.meets ≡ m.old.meets) }
     ensures same { OnlyReads (D.told desk.old) (D.told desk.new) }

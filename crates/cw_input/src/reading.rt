@@ -25,7 +25,8 @@ pub(crate) fn find_file<D: Desk>(
     room: usize,
 ) -> Result<Option<Found>, LoadError>
     requires { room ≤ INPUT_LIMIT }
-    ensures finds { (files : Files) → (D.told desk.old).files ≡ Some files → Finds (found (get files) name) room result }
+    ensures finds { (files : Files) → (D.told desk.old).files ≡ Some files →
+        Finds (found (get files) name) room result }
     ensures within { IfOk result (λ answer. IfSome answer (λ file. length file.bytes ≤ room)) }
     ensures same { OnlyReads (D.told desk.old) (D.told desk.new) }
     ensures fault { IsErrOf result LoadError.Fault → Rose (D.told desk.old).faults (D.told desk.new).faults }
@@ -50,7 +51,8 @@ fn read_file<D: Desk>(
 ) -> Result<Bytes, LoadError>
     requires given { id.index < (D.told desk.old).opened }
     requires room { room ≤ INPUT_LIMIT }
-    ensures reads { (files : Files) → (D.told desk.old).files ≡ Some files → Reads ((D.told desk.old).rest id.index) room result }
+    ensures reads { (files : Files) → (D.told desk.old).files ≡ Some files →
+        Reads ((D.told desk.old).rest id.index) room result }
     ensures within { IfOk result (λ bytes. length bytes ≤ room) }
     ensures same { ReadsOnly id.index (D.told desk.old) (D.told desk.new) }
     ensures fault { IsErrOf result LoadError.Fault → Rose (D.told desk.old).faults (D.told desk.new).faults }

@@ -33,10 +33,13 @@ fn give_line<D: Desk>(
     requires met { IsMet change.now (length m.old.web.files) m.old.meets }
     requires whole { All (λ byte. byte ≢ 10) line.now }
     requires place { place.file < length m.old.web.files }
-    requires room { HasRoom ((length line.now + 1) + 2 * ahead change.now m.old.meets) (1 + ahead change.now m.old.meets) m.old }
+    requires room { HasRoom ((length line.now + 1) + 2 * ahead change.now m.old.meets)
+        (1 + ahead change.now m.old.meets) m.old }
     ensures gives { (files : Files) → (D.told desk.old).files ≡ Some files →
-        Gives (take_line (get files) (into_at left (web_lines (get files) (left - 1))) (line_of line.now place) (state_of change.now m.old)) (state_of change.now m.new) result }
-    ensures moves { OnOk result (Moves ((length line.now + 1) + 2 * ahead change.now m.old.meets) (1 + ahead change.now m.old.meets)
+        Gives (take_line (get files) (into_at left (web_lines (get files) (left - 1))) (line_of line.now place)
+        (state_of change.now m.old)) (state_of change.now m.new) result }
+    ensures moves { OnOk result
+        (Moves ((length line.now + 1) + 2 * ahead change.now m.old.meets) (1 + ahead change.now m.old.meets)
         (2 * ahead change.now m.new.meets) (ahead change.now m.new.meets) m.old m.new) }
     ensures met { OnOk result (IsMet change.now (length m.new.web.files) m.new.meets) }
     ensures same { OnlyReads (D.told desk.old) (D.told desk.new) }
@@ -61,10 +64,14 @@ pub(crate) fn give_lines<D: Desk>(
     requires short { length change.now ≤ INPUT_LIMIT }
     requires met { IsMet change.now (length m.old.web.files) m.old.meets }
     requires source { source.now.file < length m.old.web.files }
-    requires room { HasRoom (2 * length source.now.bytes + 2 * ahead change.now m.old.meets) (length source.now.bytes + ahead change.now m.old.meets) m.old }
+    requires room { HasRoom (2 * length source.now.bytes + 2 * ahead change.now m.old.meets)
+        (length source.now.bytes + ahead change.now m.old.meets) m.old }
     ensures gives { (files : Files) → (D.told desk.old).files ≡ Some files →
-        Gives (web_lines (get files) left (file_lines source.now.file source.now.bytes) (state_of change.now m.old)) (state_of change.now m.new) result }
-    ensures moves { OnOk result (Moves (2 * length source.now.bytes + 2 * ahead change.now m.old.meets) (length source.now.bytes + ahead change.now m.old.meets)
+        Gives (web_lines (get files) left (file_lines source.now.file source.now.bytes) (state_of change.now m.old))
+        (state_of change.now m.new) result }
+    ensures moves { OnOk result
+        (Moves (2 * length source.now.bytes + 2 * ahead change.now m.old.meets)
+        (length source.now.bytes + ahead change.now m.old.meets)
         (2 * ahead change.now m.new.meets) (ahead change.now m.new.meets) m.old m.new) }
     ensures met { OnOk result (IsMet change.now (length m.new.web.files) m.new.meets) }
     ensures same { OnlyReads (D.told desk.old) (D.told desk.new) }
@@ -99,10 +106,14 @@ fn take_web_line<D: Desk>(
     requires met { IsMet change.now (length m.old.web.files) m.old.meets }
     requires whole { All (λ byte. byte ≢ 10) line.now }
     requires place { place.file < length m.old.web.files }
-    requires room { HasRoom ((length line.now + 1) + 2 * ahead change.now m.old.meets) (1 + ahead change.now m.old.meets) m.old }
-    ensures leads { (files : Files) → (D.told desk.old).files ≡ Some files → (next : List FileLine → MergeState → Option MergeState) →
-        Leads (take_line (get files) (into_at left next) (line_of line.now place) (state_of change.now m.old)) next (state_of change.now m.new) result }
-    ensures leaves { Leaves ((length line.now + 1) + 2 * ahead change.now m.old.meets) (1 + ahead change.now m.old.meets)
+    requires room { HasRoom ((length line.now + 1) + 2 * ahead change.now m.old.meets)
+        (1 + ahead change.now m.old.meets) m.old }
+    ensures leads { (files : Files) → (D.told desk.old).files ≡ Some files →
+        (next : List FileLine → MergeState → Option MergeState) →
+        Leads (take_line (get files) (into_at left next) (line_of line.now place) (state_of change.now m.old)) next
+        (state_of change.now m.new) result }
+    ensures leaves { Leaves ((length line.now + 1) + 2 * ahead change.now m.old.meets)
+        (1 + ahead change.now m.old.meets)
         (2 * ahead change.now m.new.meets) (ahead change.now m.new.meets) left m.old m.new result }
     ensures met { OnOk result (IsMet change.now (length m.new.web.files) m.new.meets) }
     ensures same { OnlyReads (D.told desk.old) (D.told desk.new) }
@@ -144,7 +155,8 @@ pub(crate) fn drain<D: Desk>(desk: &mut D, change: &[u8], m: &mut Merger) -> Res
     requires short { length change.now ≤ INPUT_LIMIT }
     requires met { IsMet change.now (length m.old.web.files) m.old.meets }
     requires room { HasRoom (2 * ahead change.now m.old.meets) (ahead change.now m.old.meets) m.old }
-    ensures gives { (files : Files) → (D.told desk.old).files ≡ Some files → Gives (drained (get files) (state_of change.now m.old)) (state_of change.now m.new) result }
+    ensures gives { (files : Files) → (D.told desk.old).files ≡ Some files →
+        Gives (drained (get files) (state_of change.now m.old)) (state_of change.now m.new) result }
     ensures met { OnOk result (IsMet change.now (length m.new.web.files) m.new.meets) }
     ensures same { OnlyReads (D.told desk.old) (D.told desk.new) }
     ensures fault { IsErrOf result LoadError.Fault → Rose (D.told desk.old).faults (D.told desk.new).faults }
