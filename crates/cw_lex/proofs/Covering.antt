@@ -36,13 +36,15 @@ bare-covers : (text : List ℕ) (from place end : ℕ) (xs ys : List Answer) →
 bare-covers text from place end [] ys h low space rest = rest from low space
 bare-covers text from place end (Token t ∷ xs) ys h low space rest = absurd h
 bare-covers text from place end (Begin t ∷ xs) ys h low space rest = absurd h
-bare-covers text from place end (Finish t ∷ xs) ys h low space rest =
-    (record {
-      order = omega (arith, h.0);
-      span = omega (arith, h.0, h.1);
-      slice = h.2 ∙ sym (none t.span.start t.span.end (drop t.span.start text) (h.0 ∙ sym h.1));
-      space = more-space text from place t.span.start (sym h.0) space;
-    }, bare-covers text t.span.end place end xs ys h.3 (omega (arith, h.1)) (no-space text place t.span.end h.1) rest)
+bare-covers text from place end (Finish t ∷ xs) ys h low space rest = (
+  record {
+    order = omega (arith, h.0);
+    span = omega (arith, h.0, h.1);
+    slice = h.2 ∙ sym (none t.span.start t.span.end (drop t.span.start text) (h.0 ∙ sym h.1));
+    space = more-space text from place t.span.start (sym h.0) space;
+  },
+  bare-covers text t.span.end place end xs ys h.3 (omega (arith, h.1)) (no-space text place t.span.end h.1) rest,
+)
   where
     none : (a b : ℕ) (l : List ℕ) → a ≡ b → take (b - a) l ≡ []
     none a b l e = let k : b - a ≡ 0 = omega arith in ap (λ n. take n l) k
@@ -70,15 +72,19 @@ whole-covers : (text : List ℕ) (from place more end : ℕ) (bytes : List ℕ) 
 whole-covers text from place more end bytes [] ys h here low space rest =
     let e : place + 1 ≡ (place + 1) + more = omega (arith, h.0) in
     rest from (omega arith) (more-space text from (place + 1) ((place + 1) + more) e (space-on text from place space (ap begins_space here ∙ h.1)))
-whole-covers text from place more end bytes (Token t ∷ xs) ys h here low space rest =
-    (whole-stands text from place more bytes t here low space h.0, omega (arith, h.0.from, h.0.to),
-    notes-cover text t.span.end end xs ys h.1 (rest t.span.end (omega (arith, h.0.to)) (no-space text ((place + 1) + more) t.span.end h.0.to)))
-whole-covers text from place more end bytes (Begin t ∷ xs) ys h here low space rest =
-    (whole-stands text from place more bytes t here low space h.0,
-    notes-cover text t.span.end end xs ys h.1 (rest t.span.end (omega (arith, h.0.to)) (no-space text ((place + 1) + more) t.span.end h.0.to)))
-whole-covers text from place more end bytes (Finish t ∷ xs) ys h here low space rest =
-    (whole-stands text from place more bytes t here low space h.0,
-    notes-cover text t.span.end end xs ys h.1 (rest t.span.end (omega (arith, h.0.to)) (no-space text ((place + 1) + more) t.span.end h.0.to)))
+whole-covers text from place more end bytes (Token t ∷ xs) ys h here low space rest = (
+  whole-stands text from place more bytes t here low space h.0,
+  omega (arith, h.0.from, h.0.to),
+  notes-cover text t.span.end end xs ys h.1 (rest t.span.end (omega (arith, h.0.to)) (no-space text ((place + 1) + more) t.span.end h.0.to)),
+)
+whole-covers text from place more end bytes (Begin t ∷ xs) ys h here low space rest = (
+  whole-stands text from place more bytes t here low space h.0,
+  notes-cover text t.span.end end xs ys h.1 (rest t.span.end (omega (arith, h.0.to)) (no-space text ((place + 1) + more) t.span.end h.0.to)),
+)
+whole-covers text from place more end bytes (Finish t ∷ xs) ys h here low space rest = (
+  whole-stands text from place more bytes t here low space h.0,
+  notes-cover text t.span.end end xs ys h.1 (rest t.span.end (omega (arith, h.0.to)) (no-space text ((place + 1) + more) t.span.end h.0.to)),
+)
 whole-covers text from place more end bytes (Note kind about ∷ xs) ys h here low space rest = absurd h
 
 found-covers : (text : List ℕ) (from place end : ℕ) (bytes : List ℕ) (f : Found) (ys : List Answer) → Takes place bytes f → drop place text ≡ bytes → from ≤ place → IsSpace text from place
@@ -137,7 +143,7 @@ space-take (suc n) (b ∷ bytes) h = by (is_in classes.White b) (b == backslash)
     by false true line all h g = g h
     by false false line all h g = absurd cc
 
-drop-part : (text : List ℕ) (end p : ℕ) → p ≤ end → drop p (take end text) ≡ take (end - p) (drop p text)
+pub drop-part : (text : List ℕ) (end p : ℕ) → p ≤ end → drop p (take end text) ≡ take (end - p) (drop p text)
 drop-part text end p h = let e : end ≡ p + (end - p) = omega arith in ap (λ k. drop p (take k text)) e ∙ drop-take p (end - p) text
 
 part-space : (text : List ℕ) (end from to : ℕ) → to ≤ end → IsSpace (take end text) from to → IsSpace text from to

@@ -21,7 +21,7 @@ noted-at text i next here h e n =
     ∙ ap (λ p. with_note here i.place (noted next (drop p text))) (sym (ap (λ (s : Inside). s.place) n))
 
 -- a body ends no earlier than it begins, and later where it goes on
-ended-le : (i : Inside) (bytes : List ℕ) → i.place ≤ (ended i bytes).place
+pub ended-le : (i : Inside) (bytes : List ℕ) → i.place ≤ (ended i bytes).place
 ended-le i [] = omega arith
 ended-le i (b ∷ bs) = by (goes_on i (b ∷ bs)) refl (ended-le (stepped i b bs) bs)
   where

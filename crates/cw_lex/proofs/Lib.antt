@@ -23,3 +23,7 @@ pub mod NoDefinitions
 pub mod TexNesting
 pub mod Nests
 pub mod HeadNests
+pub mod Ahead
+pub mod BodiesAhead
+pub mod RulesAhead
+pub mod PartScans

@@ -78,7 +78,7 @@ exponent-le bytes =
     (λ h. omega (arith, run-drop-le classes.Digit opening bytes, ltb-true 0 digits (and-right (begins_by (is_letter_of 101) bytes) (nat_lt 0 digits) h)))
     (λ h. omega arith)
 
-mantissa-le : (bytes : List ℕ) → mantissa bytes ≤ length bytes
+pub mantissa-le : (bytes : List ℕ) → mantissa bytes ≤ length bytes
 mantissa-le bytes =
     let digits = run classes.Digit bytes in
     omega (arith, run-le classes.Digit bytes, fraction-le (nat_lt 0 digits) (drop digits bytes), length-drop digits bytes)
@@ -90,7 +90,7 @@ decimal-le bytes =
     (λ h. omega (arith, mantissa-le bytes, exponent-le (drop size bytes), length-drop size bytes))
     (λ h. omega arith)
 
-number-le : (bytes : List ℕ) → number bytes ≤ length bytes
+pub number-le : (bytes : List ℕ) → number bytes ≤ length bytes
 number-le bytes =
     either-size (nat_lt 0 (hexadecimal bytes)) (hexadecimal bytes) (decimal bytes) (length bytes) (λ h. hexadecimal-le bytes) (λ h. decimal-le bytes)
 
@@ -122,7 +122,7 @@ longest-fits (sign ∷ signs) bytes = by (begins_with (spelling sign) bytes) (lo
 
 -- ## Bodies
 
-ended-most : (i : Inside) (bytes : List ℕ) → (ended i bytes).place ≤ i.place + length bytes
+pub ended-most : (i : Inside) (bytes : List ℕ) → (ended i bytes).place ≤ i.place + length bytes
 ended-most i [] = omega arith
 ended-most i (b ∷ bs) = by (goes_on i (b ∷ bs)) (ended-most (stepped i b bs) bs)
   where
@@ -178,7 +178,7 @@ code_token-le code place byte next bytes =
     (λ h. string-le (kinds.Code code) 2 apostrophe place all (omega arith))
     (λ h. control_or_plain-le code place byte next bytes))
 
-depth-le : (bytes : List ℕ) → depth_size bytes ≤ length bytes
+pub depth-le : (bytes : List ℕ) → depth_size bytes ≤ length bytes
 depth-le bytes = either-size (begins star bytes) 1 (run classes.Digit bytes) (length bytes) (λ h. begins-some star bytes h) (λ h. run-le classes.Digit bytes)
 
 pub section_code-le : (byte : ℕ) (bytes : List ℕ) → (section_code (byte ∷ bytes)).size ≤ length (byte ∷ bytes)

@@ -1,5 +1,5 @@
 -- What follows from tests and their answers.
-use Rattle.std.proofs.Common.{◌≡◌, ℕ, Bool, true, false, ◌&&◌, ◌||◌, ◌==◌, refl, sym, ap, subst}
+use Rattle.std.proofs.Common.{◌≡◌, ℕ, Bool, true, false, ◌&&◌, ◌||◌, ◌==◌, refl, sym, ap, subst, ◌∙◌}
 use Rattle.std.specs.Prelude.{if◌then◌else◌}
 use Rattle.std.proofs.lemmas.Bool.{eqb-true}
 
@@ -31,3 +31,12 @@ or-first false b h = refl
 pub or-second : (a b : Bool) → (a || b) ≡ false → b ≡ false
 or-second true b h = absurd cc
 or-second false b h = h
+
+-- two tests that answer the same, and what each answer chooses
+pub if-same : {A : Type 0} (t u : Bool) (a b c d : A) → t ≡ u → (u ≡ true → a ≡ b) → (u ≡ false → c ≡ d) → (if t then a else c) ≡ (if u then b else d)
+if-same t true a b c d e f g = ap (λ t. if t then a else c) e ∙ f refl
+if-same t false a b c d e f g = ap (λ t. if t then a else c) e ∙ g refl
+
+pub and-none : (a : Bool) → (a && false) ≡ false
+and-none true = refl
+and-none false = refl

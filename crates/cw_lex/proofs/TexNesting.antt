@@ -105,10 +105,12 @@ inner-levels parts.TexInner cs h = refl
 inner-levels _ cs h = absurd cc
 
 inner-goes : (ls : List Level) (f : Found) → Goes true ls f → Unless ls f
-inner-goes ls f g = record { goes = λ h. record {
-  stays = inner-stands f.next.part f.next.comments g.same ∙ g.nested;
-  levels = all-same f.answers ls (levels_in f.next.comments) g.levels ∙ ap Some (inner-levels f.next.part f.next.comments g.same);
-} }
+inner-goes ls f g = record {
+  goes = λ h. record {
+    stays = inner-stands f.next.part f.next.comments g.same ∙ g.nested;
+    levels = all-same f.answers ls (levels_in f.next.comments) g.levels ∙ ap Some (inner-levels f.next.part f.next.comments g.same);
+  };
+}
 
 token-goes : (hash_line : Bool) (next : Where) (place : ℕ) (bytes : List ℕ) (cut : Cut) → stands next.part next.comments ≡ true → tex_levels next.part next.comments ≡ [] → Unless [] (one hash_line next place bytes cut)
 token-goes hash_line next place bytes cut s l = record { goes = λ h. record { stays = s; levels = notes-tex cut.notes [] ∙ ap Some (sym l) } }
@@ -185,11 +187,13 @@ section-part (kind.Code code.StarredSection) h = refl
 section-part _ h = absurd cc
 
 section-begins : (w : Where) (place : ℕ) (bytes : List ℕ) (ls : List Level) → Unless ls (section w place bytes)
-section-begins w place bytes ls = record { goes = λ h.
-  let c = section_code (at_sign ∷ bytes) in
-  let rest = any-split (all_cut w.part w.comments place place) (one false (record { part = parts.Tex; comments = [] }) place (at_sign ∷ bytes) c).answers h in
-  absurd (let e : is_part_kind c.kind ≡ false = or-first (is_part_kind c.kind) (begins_part_in (note_answers c.notes)) rest.1 in
-  let k : is_part_kind c.kind ≡ true = section-part c.kind (section-kind (at_sign ∷ bytes)).is in cc) }
+section-begins w place bytes ls = record {
+  goes = λ h.
+      let c = section_code (at_sign ∷ bytes) in
+      let rest = any-split (all_cut w.part w.comments place place) (one false (record { part = parts.Tex; comments = [] }) place (at_sign ∷ bytes) c).answers h in
+      absurd (let e : is_part_kind c.kind ≡ false = or-first (is_part_kind c.kind) (begins_part_in (note_answers c.notes)) rest.1 in
+      let k : is_part_kind c.kind ≡ true = section-part c.kind (section-kind (at_sign ∷ bytes)).is in cc);
+}
 
 found-goes : (w : Where) (fresh : Bool) (last place byte : ℕ) (bytes : List ℕ) → stands w.part w.comments ≡ true → Unless (tex_levels w.part w.comments) (found w fresh last place byte bytes)
 found-goes w fresh last place byte bytes s =

@@ -17,14 +17,14 @@ taken (b ∷ bs) w fresh last place (suc n) h =
     taken bs w (still_fresh fresh b) b (place + 1) n (omega arith)
     ∙ ap (λ p. answers (drop n bs) w (fresh_after (still_fresh fresh b) (take n bs)) (last_after b (take n bs)) p 0) p
 
-fresh-more : (fresh : Bool) (text : List ℕ) (m n : ℕ) → fresh_after (fresh_after fresh (take m text)) (take n (drop m text)) ≡ fresh_after fresh (take (m + n) text)
+pub fresh-more : (fresh : Bool) (text : List ℕ) (m n : ℕ) → fresh_after (fresh_after fresh (take m text)) (take n (drop m text)) ≡ fresh_after fresh (take (m + n) text)
 fresh-more fresh text zero n = ap (λ k. fresh_after fresh (take k text)) (sym (zero-add n))
 fresh-more fresh [] (suc m) n = ap (fresh_after fresh) (take-nil n ∙ sym (take-nil (suc m + n)))
 fresh-more fresh (b ∷ text) (suc m) n =
     let e : suc m + n ≡ suc (m + n) = omega arith in
     fresh-more (still_fresh fresh b) text m n ∙ ap (λ k. fresh_after fresh (take k (b ∷ text))) (sym e)
 
-last-more : (last : ℕ) (text : List ℕ) (m n : ℕ) → last_after (last_after last (take m text)) (take n (drop m text)) ≡ last_after last (take (m + n) text)
+pub last-more : (last : ℕ) (text : List ℕ) (m n : ℕ) → last_after (last_after last (take m text)) (take n (drop m text)) ≡ last_after last (take (m + n) text)
 last-more last text zero n = ap (λ k. last_after last (take k text)) (sym (zero-add n))
 last-more last [] (suc m) n = ap (last_after last) (take-nil n ∙ sym (take-nil (suc m + n)))
 last-more last (b ∷ text) (suc m) n =

@@ -18,3 +18,4 @@ pub mod Nested
 pub mod Nest
 pub mod Heads
 pub mod NestLaws
+pub mod Parts

@@ -1,5 +1,5 @@
 //! The scanner.
-ghost use Rattle.std.specs.Prelude.{◌≡◌, ◌≤◌, ◌<◌, ◌+◌, ◌-◌, [], true, false, ◌==◌, ◌&&◌, length, drop, slice_index};
+ghost use Rattle.std.specs.Prelude.{◌≡◌, ◌≤◌, ◌<◌, ◌+◌, ◌-◌, [], true, false, ◌==◌, ◌&&◌, length, drop, slice_index, IfSome};
 ghost use Rattle.cw_lex.specs.Answers.{Gives};
 ghost use Rattle.cw_lex.specs.Codes.{begins_section};
 ghost use Rattle.cw_lex.specs.Order.{Covers, AreWithin};
@@ -7,6 +7,7 @@ ghost use Rattle.cw_lex.specs.Pending.{no_notes};
 ghost use Rattle.cw_lex.specs.Lexing.{tokens_of, fresh_at, last_at, answers_at};
 ghost use Rattle.cw_lex.specs.Tokens.{part_text, is_parameter};
 ghost use Rattle.cw_lex.specs.Bytes.{run, is_letter, begins_by};
+ghost use Rattle.cw_lex.specs.Short.{IsShort};
 ghost use Rattle.cw_lex.specs.Coming.{where_of, coming, bytes_at, found_at, is_code, is_code_part, beginning_part, IsSkipped, IsReady, CanStep};
 
 use crate::classes::{Class, begins_with, from, is_letter, run};
@@ -19,7 +20,7 @@ use crate::giving::{give, give_note};
 use crate::parts::Part;
 use crate::pending::Pending;
 use crate::plain::{format_name, head_text, limbo_text, macro_name, parameter, tex_text};
-use crate::short::{give_short, short_at};
+use crate::short::{Short, give_short, short_at};
 use crate::state::{Clear, State};
 use crate::{Lexed, Mode, Sign, TokKind};
 use cw_base::NoteKind;
@@ -98,38 +99,36 @@ fn beginning(mode: Mode) -> Part
     }
 }
 
-// The next answer.
+// The next answer. Most are short tokens; any other has a name here, so that only such a one is copied.
 #[inline(always)]
 fn advance<'a>(text: &'a [u8], state: &mut State) -> Lexed<'a>
     requires ready { IsReady text.now state.old }
     ensures gives { Gives (coming text.now state.old) result (coming text.now state.new) }
     ensures ready { IsReady text.now state.new }
 {
-    if state.pending.is_quiet() && state.is_code() {
-        return code_answer(text, state);
-    }
-    let answer = any_answer(text, state);
-    answer
-}
-
-// What begins behind the white space of C text. Most are short tokens; any other has a name here, so that only such a one
-// is copied.
-#[inline(always)]
-fn code_answer<'a>(text: &'a [u8], state: &mut State) -> Lexed<'a>
-    requires ready { IsReady text.now state.old }
-    requires quiet { state.old.pending ≡ no_notes }
-    requires code { is_code state.old.part state.old.comments ≡ true }
-    ensures gives { Gives (coming text.now state.old) result (coming text.now state.new) }
-    ensures ready { IsReady text.now state.new }
-{
-    skip_in_code(text, state);
-    match short_at(text, state) {
+    match next_short(text, state) {
         Some(short) => give_short(text, state, short),
         None => {
-            let answer = after_white(text, state);
+            let answer = any_answer(text, state);
             answer
         }
     }
+}
+
+// The short token that comes next, where one does and no note is left. The white space before it is skipped.
+#[inline(always)]
+fn next_short(text: &[u8], state: &mut State) -> Option<Short>
+    requires ready { IsReady text.now state.old }
+    ensures short { IfSome result (λ s. IsShort text.now (where_of state.new) state.new.at s) }
+    ensures quiet { IfSome result (λ _. state.new.pending ≡ no_notes) }
+    ensures same { coming text.now state.new ≡ coming text.now state.old }
+    ensures ready { IsReady text.now state.new }
+{
+    if state.pending.is_quiet() && state.is_code() {
+        skip_in_code(text, state);
+        return short_at(text, state);
+    }
+    None
 }
 
 // Goes behind the white space of C text.
@@ -187,7 +186,6 @@ fn skip(text: &[u8], state: &mut State)
     }
 }
 
-#[inline(never)]
 fn after_white<'a>(text: &'a [u8], state: &mut State) -> Lexed<'a>
     requires ready { IsReady text.now state.old }
     requires quiet { state.old.pending ≡ no_notes }
