@@ -89,14 +89,14 @@ pub(crate) fn row_at<L: Ledger>(
     let _length = line.len();
     let first = line.cat_at(place, steps);
     let second = line.cat_at(place + 1, steps);
-    if !may_fit(first, second) {
-        steps.tick();
-        steps.tick();
-        return None;
+    if may_fit(first, second) {
+        let third = line.cat_at(place + 2, steps);
+        let fourth = line.cat_at(place + 3, steps);
+        return first_production([first, second, third, fourth]);
     }
-    let third = line.cat_at(place + 2, steps);
-    let fourth = line.cat_at(place + 3, steps);
-    first_production([first, second, third, fourth])
+    steps.tick();
+    steps.tick();
+    None
 }
 
 // How far the pointer goes back after a row.
