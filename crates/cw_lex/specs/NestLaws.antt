@@ -15,4 +15,5 @@ NestsAreWell = (answers : List Answer) → IsNested answers → IsWell false (ne
 
 -- The answers behind the head of a text are nested too, and their nest is what stands behind the head.
 abbrev pub HeadsLeaveNests : Type 0
-HeadsLeaveNests = (answers : List Answer) → IsNested answers → IsNested (without_head answers) × (nest (without_head answers) ≡ (headed (nest answers)).rest)
+HeadsLeaveNests = (answers : List Answer) → IsNested answers
+    → IsNested (without_head answers) × (nest (without_head answers) ≡ (headed (nest answers)).rest)

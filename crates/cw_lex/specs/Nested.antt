@@ -122,12 +122,15 @@ begins_part_in answers = list_any is_part_answer answers
 -- The answers over a C part, over definitions and over inner C text are nested up to the first section code: what is open
 -- there ends before it.
 abbrev pub CTextsNestUpToSections : Type 0
-CTextsNestUpToSections = (text : List ℕ) (start end : ℕ) (mode : Mode) → is_c_mode mode ≡ true → IsNested (until_section (tokens_of text start end mode))
+CTextsNestUpToSections = (text : List ℕ) (start end : ℕ) (mode : Mode) → is_c_mode mode ≡ true
+    → IsNested (until_section (tokens_of text start end mode))
 
 -- The answers over TeX text are nested, where no other part begins in it.
 abbrev pub TexTextsAreNested : Type 0
-TexTextsAreNested = (text : List ℕ) (start end : ℕ) → begins_part_in (tokens_of text start end modes.TexText) ≡ false → IsTexNested (tokens_of text start end modes.TexText)
+TexTextsAreNested = (text : List ℕ) (start end : ℕ) → begins_part_in (tokens_of text start end modes.TexText) ≡ false
+    → IsTexNested (tokens_of text start end modes.TexText)
 
 -- The same of whole answers, where no section code cuts them.
 abbrev pub CTextsAreNested : Type 0
-CTextsAreNested = (text : List ℕ) (start end : ℕ) (mode : Mode) → is_c_mode mode ≡ true → begins_section_in (tokens_of text start end mode) ≡ false → IsNested (tokens_of text start end mode)
+CTextsAreNested = (text : List ℕ) (start end : ℕ) (mode : Mode) → is_c_mode mode ≡ true
+    → begins_section_in (tokens_of text start end mode) ≡ false → IsNested (tokens_of text start end mode)

@@ -25,7 +25,8 @@ pub record Stands (text : List ℕ) (from : ℕ) (token : Seen) : Type 0 where
 -- texts, stand one behind another, with only white space between them. Each token has a byte.
 abbrev pub Covers : List ℕ → ℕ → ℕ → List Answer → Type 0
 Covers text from end [] = (from ≤ end) × IsSpace text from end
-Covers text from end (Token t ∷ answers) = Stands text from t × (t.span.start < t.span.end) × Covers text t.span.end end answers
+Covers text from end (Token t ∷ answers) =
+    Stands text from t × (t.span.start < t.span.end) × Covers text t.span.end end answers
 Covers text from end (Begin t ∷ answers) = Stands text from t × Covers text t.span.end end answers
 Covers text from end (Finish t ∷ answers) = Stands text from t × Covers text t.span.end end answers
 Covers text from end (Note kind place ∷ answers) = Covers text from end answers

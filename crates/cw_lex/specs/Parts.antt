@@ -30,13 +30,15 @@ abbrev pub answers_to : ℕ → List ℕ → Where → Bool → ℕ → ℕ → 
 answers_to about [] w fresh last place taken = all_cut w.part w.comments place about
 answers_to about (byte ∷ bytes) w fresh last place zero =
     joined (found w fresh last place byte bytes) (λ next more. answers_to about bytes next (still_fresh fresh byte) byte (place + 1) more)
-answers_to about (byte ∷ bytes) w fresh last place (suc taken) = answers_to about bytes w (still_fresh fresh byte) byte (place + 1) taken
+answers_to about (byte ∷ bytes) w fresh last place (suc taken) =
+    answers_to about bytes w (still_fresh fresh byte) byte (place + 1) taken
 
 -- The answers for the bytes of a text from `start` up to `end`, in this mode, with the notes on what is cut at the end about
 -- the byte at `about`.
 abbrev pub part_answers : List ℕ → ℕ → ℕ → Mode → ℕ → List Answer
 part_answers text start end mode about =
-    answers_to about (drop start (take end text)) (beginning mode) (fresh_at (take end text) start) (last_at (take end text) start) start 0
+    let part = take end text in
+    answers_to about (drop start part) (beginning mode) (fresh_at part start) (last_at part start) start 0
 
 -- A section code stands at a place, or another code but `@>`.
 abbrev pub is_section_at : List ℕ → ℕ → Bool
@@ -49,19 +51,23 @@ IsCodeAt text place = (begins at_sign (drop place text) ≡ true) × (begins gre
 -- mode begins, and meets a section code at its end, its answers from the beginning on are those of the part, with notes
 -- about that code on what it cuts, and then those from the code on.
 abbrev pub PartsEndAtSections : Type 0
-PartsEndAtSections = (text : List ℕ) (start end : ℕ) (mode : Mode) (w : Where) → start ≤ end → stands_at text (beginning mode) start end ≡ Some w → is_section_at text end ≡ true
+PartsEndAtSections = (text : List ℕ) (start end : ℕ) (mode : Mode) (w : Where) → start ≤ end
+    → stands_at text (beginning mode) start end ≡ Some w → is_section_at text end ≡ true
     → answers_at text (beginning mode) start ≡ part_answers text start end mode end ++ answers_at text (beginning modes.TexText) end
 
 -- The same where a code stands at the part's end and nothing is open there, so that nothing is cut: there the next part of
 -- a section begins.
 abbrev pub PartsEndAtCodes : Type 0
-PartsEndAtCodes = (text : List ℕ) (start end : ℕ) (mode : Mode) (w : Where) → start ≤ end → stands_at text (beginning mode) start end ≡ Some w → IsCodeAt text end
-    → all_cut w.part w.comments end end ≡ [] → answers_at text (beginning mode) start ≡ part_answers text start end mode end ++ answers_at text w end
+PartsEndAtCodes = (text : List ℕ) (start end : ℕ) (mode : Mode) (w : Where) → start ≤ end
+    → stands_at text (beginning mode) start end ≡ Some w → IsCodeAt text end → all_cut w.part w.comments end end ≡ []
+    → answers_at text (beginning mode) start ≡ part_answers text start end mode end ++ answers_at text w end
 
 -- The last part ends with the text.
 abbrev pub LastPartsEndWithTheText : Type 0
-LastPartsEndWithTheText = (text : List ℕ) (start : ℕ) (mode : Mode) → answers_at text (beginning mode) start ≡ tokens_of text start (length text) mode
+LastPartsEndWithTheText = (text : List ℕ) (start : ℕ) (mode : Mode)
+    → answers_at text (beginning mode) start ≡ tokens_of text start (length text) mode
 
 -- What is answered of a part has notes about its last byte on what is cut at its end.
 abbrev pub PartsAreAnswered : Type 0
-PartsAreAnswered = (text : List ℕ) (start end : ℕ) (mode : Mode) → start ≤ end → end ≤ length text → tokens_of text start end mode ≡ part_answers text start end mode (end - 1)
+PartsAreAnswered = (text : List ℕ) (start end : ℕ) (mode : Mode) → start ≤ end → end ≤ length text
+    → tokens_of text start end mode ≡ part_answers text start end mode (end - 1)
