@@ -10,3 +10,4 @@ pub mod Flattening
 pub mod Places
 pub mod Rewriting
 pub mod Bare
+pub mod Trimming

@@ -5,3 +5,4 @@ pub mod Counting
 pub mod Walking
 pub mod Reserving
 pub mod FlatItems
+pub mod Trimming

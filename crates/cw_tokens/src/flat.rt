@@ -1,11 +1,12 @@
 ghost use Rattle.std.specs.Prelude.{◌≡◌, ℕ, ◌+◌, ◌-◌, ◌<◌, ◌≤◌, ◌++◌, [], length, get_or, OnOk, Some, IsTrue, ◌↔◌, slice_get};
-ghost use Rattle.cw_trees.specs.Flat.{flat};
+ghost use Rattle.cw_trees.specs.Flat.{flat, trimmed};
 ghost use Rattle.cw_tokens.specs.Shapes.{shape, unfolded};
 ghost use Rattle.cw_tokens.specs.Stored.{cut, last_end, IsAscending, IsLinked};
 ghost use Rattle.cw_tokens.specs.FlatItems.{items_are, closing};
 
 use crate::store::Link;
 use crate::token::Token;
+use crate::trim::trim_items;
 use crate::walk::{Part, link_at, list_at, part_of, token_before};
 use cw_base::Memory;
 use cw_names::NameId;
@@ -71,6 +72,14 @@ impl FlatTokens {
         ensures { slice_get self.now i ≡ Some result }
     {
         self.items[i]
+    }
+
+    /// Leaves out the marks that print nothing, and the breaks and blanks with which the text and its inner texts begin
+    /// or end. It takes no memory.
+    pub fn trim(&mut self)
+        ensures { items_are self.new ≡ trimmed (items_are self.old) }
+    {
+        trim_items(&mut self.items);
     }
 }
 

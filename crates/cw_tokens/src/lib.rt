@@ -4,6 +4,7 @@
 mod flat;
 mod store;
 mod token;
+mod trim;
 mod walk;
 
 pub use flat::{FlatItem, FlatTokens};

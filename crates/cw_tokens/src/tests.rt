@@ -163,3 +163,20 @@ fn a_store_that_was_refused_room_is_as_before_and_can_ask_again(
     assert_eq!(rt; room - store.spare(), 3);
     Ok(())
 }
+
+#[test]
+fn an_inner_text_is_trimmed_by_itself(rt: HostRuntime) -> Result<(), Fail> {
+    let alloc = rt.alloc();
+    let mut store = TokenStore::new_in(alloc);
+    store.reserve(6)?;
+    let inside = word(&mut store, NameId { index: 50 });
+    let outside = around(&mut store, Token::Inner(inside));
+    let mut flat = store.flat(alloc, outside)?;
+    flat.trim();
+    assert_eq!(rt; flat.len(), 4);
+    assert!(rt; flat.item(0) == FlatItem::Open);
+    assert!(rt; flat.item(1) == FlatItem::Ident(NameId { index: 50 }, 7));
+    assert!(rt; flat.item(2) == FlatItem::Close);
+    assert!(rt; flat.item(3) == FlatItem::Source(9));
+    Ok(())
+}
