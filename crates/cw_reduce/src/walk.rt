@@ -1,4 +1,4 @@
-ghost use Rattle.std.specs.Prelude.{◌≡◌, ℕ, ◌+◌, ◌*◌, ◌<◌, ◌≤◌, true, drop, length, IfOk, OnOk, OnErr, MatchOption, MatchResult};
+ghost use Rattle.std.specs.Prelude.{◌≡◌, ◌+◌, ◌*◌, ◌<◌, ◌≤◌, true, drop, length, IfOk, OnOk, OnErr, MatchOption, MatchResult};
 ghost use Rattle.cw_table.specs.Fitting.{first_of, row_fits};
 ghost use Rattle.cw_table.specs.Normal.{count, normal, weight};
 ghost use Rattle.cw_table.specs.Productions.{productions};

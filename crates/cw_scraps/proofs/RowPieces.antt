@@ -1,8 +1,6 @@
 -- What the pieces of a row read of a line.
-use Rattle.std.proofs.Common.{◌≡◌, ℕ, zero, suc, ◌+◌, List, [], ◌∷◌, length, drop, get_or, Some, None, refl, sym, ap, ◌∙◌, arith}
+use Rattle.std.proofs.Common.{◌≡◌, ℕ, zero, suc, ◌+◌, List, [], ◌∷◌, length, drop, get_or, None, refl, sym, ap, ◌∙◌, arith}
 use Rattle.std.proofs.lemmas.List.{get_or-drop}
-use Rattle.std.proofs.lemmas.Option.{get_or_from_slice_get}
-use Rattle.std.specs.Prelude.{slice_get}
 use Rattle.cw_base.specs.declared.category.Cat.TheVariants.{End}
 use Rattle.cw_table.specs.declared.types.Piece.{Piece}
 use Rattle.cw_table.specs.declared.types.Piece.TheVariants as piece
@@ -28,11 +26,6 @@ one-of : (ps : List Piece) (d : Piece) → length ps ≡ 1 → ps ≡ get_or ps 
 one-of [] d h = absurd (let e : 0 ≡ 1 = h in omega arith)
 one-of (p ∷ []) d h = refl
 one-of (p ∷ q ∷ ps) d h = absurd (let e : suc (suc (length ps)) ≡ 1 = h in omega arith)
-
--- a row that replaces one scrap and has one piece
-pub alone-one : (replaced : ℕ) (ps : List Piece) (p : Piece) → replaced ≡ 1 → length ps ≡ 1 → slice_get ps 0 ≡ Some p → alone replaced ps ≡ alone 1 (p ∷ [])
-alone-one replaced ps p one len at =
-    ap (λ n. alone n ps) one ∙ ap (alone 1) (one-of ps p len ∙ ap (λ q. q ∷ []) (get_or_from_slice_get ps 0 p p at))
 
 -- a row that doesn't replace one scrap, or has more or less than one piece, keeps none
 pub alone-none : (replaced : ℕ) (ps : List Piece) → (replaced ≡ 1 → length ps ≡ 1 → ⊥) → alone replaced ps ≡ None

@@ -1,4 +1,4 @@
-ghost use Rattle.std.specs.Prelude.{◌≡◌, ◌≢◌, ℕ, ◌+◌, ◌-◌, ◌<◌, ◌≤◌, ◌++◌, true, length, take, drop};
+ghost use Rattle.std.specs.Prelude.{◌≡◌, ◌+◌, ◌<◌, ◌≤◌, ◌++◌, true, length, drop};
 ghost use Rattle.std.specs.Option.{option_to_list};
 ghost use Rattle.cw_names.specs.declared.NameId.{NameId};
 ghost use Rattle.cw_table.specs.Fitting.{row_fits};

@@ -1,4 +1,4 @@
-ghost use Rattle.std.specs.Prelude.{◌≡◌, ℕ, ◌+◌, ◌-◌, ◌<◌, ◌≤◌, ◌++◌, [], ◌∷◌, length, drop, map, IsSome, option_map};
+ghost use Rattle.std.specs.Prelude.{◌≡◌, ◌+◌, ◌-◌, ◌<◌, ◌≤◌, ◌++◌, [], ◌∷◌, length, drop, map, IsSome, option_map};
 ghost use Rattle.cw_base.specs.declared.mode.MathMode.TheVariants.{Maybe};
 ghost use Rattle.cw_table.specs.Rows.{pieces_by};
 ghost use Rattle.cw_tokens.specs.Stored.{MayBePushed};

@@ -1,4 +1,4 @@
-ghost use Rattle.std.specs.Prelude.{◌≡◌, ℕ, ◌+◌, ◌<◌, ◌≤◌, true, length, drop};
+ghost use Rattle.std.specs.Prelude.{◌≡◌, ◌+◌, ◌<◌, ◌≤◌, true, length, drop};
 ghost use Rattle.cw_table.specs.Fitting.{row_fits};
 ghost use Rattle.cw_table.specs.Rows.{pieces_by};
 ghost use Rattle.cw_table.specs.Sound.{row_is_sound};

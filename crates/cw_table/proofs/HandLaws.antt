@@ -1,5 +1,5 @@
 -- What the program's data has of a production is what its row has.
-use Rattle.std.proofs.Common.{◌≡◌, ◌<◌, ◌≤◌, ◌+◌, ◌-◌, ◌∙◌, sym, ap, subst, ℕ, List, [], ◌∷◌, length, get_or, take, unwrap_or, Option, Some, None, Bool, true, false, eqb, refl, arith, eqb-true}
+use Rattle.std.proofs.Common.{◌≡◌, ◌<◌, ◌≤◌, ◌+◌, ◌-◌, ◌∙◌, sym, ap, ℕ, List, [], length, get_or, take, unwrap_or, Option, Some, None, Bool, true, false, eqb, refl, arith, eqb-true}
 use Rattle.std.specs.Prelude.{slice_get}
 use Rattle.std.proofs.lemmas.List.{get_or-take, length-take, length-take-le}
 use Rattle.std.proofs.lemmas.Option.{slice_get-get_or}

@@ -1,7 +1,7 @@
 -- A safe distance is safe.
-use Rattle.std.proofs.Common.{◌≡◌, ◌<◌, ◌≤◌, ◌+◌, ◌-◌, ◌∙◌, sym, ap, ℕ, zero, suc, Bool, true, false, not, List, [], ◌∷◌, ◌++◌, length, map, get_or, take, drop, Option, Some, None, refl, arith, ◌&&◌, ◌||◌, inl, inr, eqb, leb, ltb, length-take-le, length-drop, take-append-drop, add-zero}
+use Rattle.std.proofs.Common.{◌≡◌, ◌<◌, ◌≤◌, ◌+◌, ◌-◌, ◌∙◌, sym, ap, ℕ, zero, suc, Bool, true, false, not, List, [], ◌∷◌, ◌++◌, length, map, get_or, take, drop, Some, None, refl, arith, ◌&&◌, ◌||◌, inl, inr, eqb, leb, ltb, length-take-le, length-drop, take-append-drop, add-zero}
 use Rattle.std.specs.List.{flat_map, list_all, list_any}
-use Rattle.std.specs.Prelude.{IfSome, filter}
+use Rattle.std.specs.Prelude.{filter}
 use Rattle.std.proofs.lemmas.Bool.{eqb-true, ltb-true, lt-ltb}
 use Rattle.std.proofs.lemmas.Bool.Decides.{eqb_tells, leb_tells}
 use Rattle.std.proofs.lemmas.List.{drop-append-le, get_or_past, get_or-append-add, get_or-append_right, get_or-drop, get_or-take, get_or_append_left}
@@ -20,8 +20,6 @@ use Rattle.cw_table.specs.Fitting.{all_hold, first_of, row_fits}
 use Rattle.cw_table.specs.Rows.{empty, result_at, test, tests_of}
 use Rattle.cw_table.specs.Safe.{Pair, SafeIsSound, brings, endangers, is_hazard, least, members, pairs_by, pairs_of, reserves, safe, sees_moved, suits_after, suits_before}
 use Rattle.cw_table.specs.Sound.{IsSound, numbers_from, row_is_sound}
-use Rattle.cw_table.specs.Productions.{productions}
-use Rattle.cw_table.proofs.Examples.{productions-sound}
 use Rattle.cw_table.proofs.FirstLaws.{first-behind, first-here, length-tests_of}
 use Rattle.cw_table.proofs.Soundness.{sound-row}
 

@@ -1,5 +1,4 @@
 use Rattle.std.proofs.Common.{ap, ◌∙◌}
-use Rattle.cw_table.specs.WalkCounts.{right_of_new}
 use Rattle.cw_reduce.specs.Reduction.{words_of}
 use Rattle.cw_reduce.proofs.WalkSteps.{words-retyped}
 use Rattle.cw_reduce.proofs.walk.produce.Goals as goal

@@ -1,5 +1,5 @@
-use Rattle.std.proofs.Common.{sym, ◌∙◌, arith}
-use Rattle.cw_scraps.proofs.RowPieces.{alone-none, alone-one}
+use Rattle.std.proofs.Common.{sym, ◌∙◌}
+use Rattle.cw_scraps.proofs.RowPieces.{alone-none}
 use Rattle.cw_scraps.proofs.pieces.alone.Goals as goal
 use Rattle.cw_scraps.proofs.pieces.alone.Goals.{else-replaced-eq1-via-then-replaced-eq1+else-piece_count-eq1, else-replaced-eq1-via-else-replaced-eq1}
 

@@ -1,4 +1,4 @@
-use Rattle.std.proofs.Common.{◌≡◌, ◌∙◌, sym}
+use Rattle.std.proofs.Common.{◌≡◌}
 use Rattle.cw_table.specs.Productions.{productions}
 use Rattle.cw_table.specs.Rows.{row_of}
 use Rattle.cw_scraps.proofs.Applied.{same-row}
