@@ -70,7 +70,7 @@ fn translate_line<L: Ledger>(
 {
     let scraps = line.len() as u64;
     let reduced = reduce(&mut line, store, names, marks, flags, steps)?;
-    let _spare = store.spare();
+    store.tied_law();
     let list = put_together(&line, store)?;
     Ok(Translated {
         list,
@@ -141,7 +141,7 @@ impl Translator {
         ensures names { (names.new ≡ names.old) ⊎ (names.new ≡ names_with token.now.kind token.now.text.now names.old) }
         ensures idle { store.new.building ≡ None }
     {
-        let _spare = store.spare();
+        store.tied_law();
         let leaf = scrap_of(token, names, store)?;
         self.nesting.add_scrap(leaf)
     }
@@ -190,7 +190,7 @@ impl Translator {
         ensures bound { let p = progress_of store.old.lists names.old marks.old self.old [] in steps.new ≤ steps.old + limit_in flags.now (after_finish flags.now p.frames p.known).known.ended }
         ensures idle { store.new.building ≡ None }
     {
-        let _spare = store.spare();
+        store.tied_law();
         match self.nesting.end() {
             Some(Open::CText(line)) => {
                 let done = translate_line(line, flags, names, store, marks, steps)?;

@@ -44,7 +44,7 @@ pub fn scrap_of(token: &Tok, names: &mut Names, store: &mut TokenStore) -> Resul
     ensures no_lists { OnErr result (store.new.lists ≡ store.old.lists) }
 {
     store.reserve(6)?;
-    let _spare = store.spare();
+    store.tied_law();
     let number = token.span.start as u32;
     match token.kind {
         TokKind::Identifier => {

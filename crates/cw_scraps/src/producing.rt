@@ -32,7 +32,7 @@ pub fn produce(
     ensures idle { store.new.building ≡ None }
     ensures spare { store.old.spare ≤ store.new.spare + PRODUCTION_TOKENS }
 {
-    let _spare = store.spare();
+    store.tied_law();
     let _length = line.len();
     let entry = make(line, place, row, flags, store);
     line.replace(
@@ -40,5 +40,5 @@ pub fn produce(
         row.replaced() as usize,
         entry,
     );
-    let _spare = store.spare();
+    store.tied_law();
 }

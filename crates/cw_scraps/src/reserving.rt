@@ -50,7 +50,7 @@ pub fn reserve_named(
     ensures spare { store.new.spare ≡ store.old.spare }
 {
     let _length = line.len();
-    let _spare = store.spare();
+    store.tied_law();
     match named {
         Some(k) => store.reserve_ident(line.entry(place + k as usize).list, names),
         None => None,
@@ -115,7 +115,7 @@ pub fn reserve_right<L: Ledger>(
     ensures spare { store.new.spare ≡ store.old.spare }
     ensures steps { steps.new ≡ steps.old + (length line.old - start) }
 {
-    let _spare = store.spare();
+    store.tied_law();
     for i in start..line.len() {
         steps.tick();
         let entry = reserve_bare(line.entry(i), name, names, store);

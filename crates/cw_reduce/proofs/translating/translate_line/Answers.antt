@@ -24,8 +24,8 @@ pub returns-clause-named : goal.returns-clause-named
 returns-clause-named g c = subst (IsNamedBelow (length c.reduce.new.names)) (sym c.in_ok-list.ensures.tree) (whole-named (length c.reduce.new.names) (scraps_of c.reduce.new.store.lists c.reduce.new.line) c.in_ok-reduced.ensures.sound.named)
 
 pub returns-clause-root : goal.returns-clause-root
-returns-clause-root g c = gathers-root c.reduce.new.store.lists c.put_together.new.store.lists (roots_of c.reduce.new.line) c.in_ok-list.list.index c.in_ok-list.ensures.gathers (tied-idle c.reduce.new.store c.in_ok-reduced.ensures.sound.idle c.spare-spare.ensures.tied) c.in_ok-reduced.ensures.sound.roots
+returns-clause-root g c = gathers-root c.reduce.new.store.lists c.put_together.new.store.lists (roots_of c.reduce.new.line) c.in_ok-list.list.index c.in_ok-list.ensures.gathers (tied-idle c.reduce.new.store c.in_ok-reduced.ensures.sound.idle c.tied_law.ensures) c.in_ok-reduced.ensures.sound.roots
 
 pub returns-clause-keeps : goal.returns-clause-keeps
 returns-clause-keeps g c = keeps-trans c.args.store.now.lists c.reduce.new.store.lists c.put_together.new.store.lists (roots_of c.args.line) (roots_of c.reduce.new.line) (c.in_ok-list.list.index ∷ []) c.in_ok-reduced.ensures.others
-    (gathers-keeps c.reduce.new.store.lists c.put_together.new.store.lists (roots_of c.reduce.new.line) c.in_ok-list.list.index c.in_ok-list.ensures.gathers (tied-idle c.reduce.new.store c.in_ok-reduced.ensures.sound.idle c.spare-spare.ensures.tied) c.in_ok-reduced.ensures.sound.roots)
+    (gathers-keeps c.reduce.new.store.lists c.put_together.new.store.lists (roots_of c.reduce.new.line) c.in_ok-list.list.index c.in_ok-list.ensures.gathers (tied-idle c.reduce.new.store c.in_ok-reduced.ensures.sound.idle c.tied_law.ensures) c.in_ok-reduced.ensures.sound.roots)

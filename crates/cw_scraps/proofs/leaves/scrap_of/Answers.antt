@@ -13,7 +13,7 @@ returns-in_ok-name-in-Identifier-clause-form c =
 
 pub returns-in_ok-name-in-Identifier-clause-sound : goal.returns-in_ok-name-in-Identifier-clause-sound
 returns-in_ok-name-in-Identifier-clause-sound c = λ line sound.
-    let tied : IsTied c.args.store.now.lists = rw c.in_ok-reserve.ensures.lists at (tied-idle c.reserve.new.self (c.in_ok-reserve.ensures.building ∙ c.requires.idle) c.spare-spare.ensures.tied) in
+    let tied : IsTied c.args.store.now.lists = rw c.in_ok-reserve.ensures.lists at (tied-idle c.reserve.new.self (c.in_ok-reserve.ensures.building ∙ c.requires.idle) c.tied_law.ensures) in
     let more : length c.args.names.now ≤ length c.find_or_add.new.self = subst (λ es. length c.args.names.now ≤ length es) (sym c.in_ok-name-in-Identifier.ensures.ok) (length-entry Ident c.args.token.now.text.now c.args.names.now) in
     leaf-sound (word_form c.word_cat-cat.result c.in_ok-name-in-Identifier.name c.args.token.now.span.start) c.word_leaf.result c.args.store.now c.word_leaf.new.store c.args.names.now c.find_or_add.new.self line
     (word-good (length c.find_or_add.new.self) c.word_cat-cat.result c.in_ok-name-in-Identifier.name c.args.token.now.span.start c.in_ok-name-in-Identifier.ensures.within)
@@ -21,6 +21,6 @@ returns-in_ok-name-in-Identifier-clause-sound c = λ line sound.
 
 pub returns-in_default-clause-sound : goal.returns-in_default-clause-sound
 returns-in_default-clause-sound c = λ line sound.
-    let tied : IsTied c.args.store.now.lists = rw c.in_ok-reserve.ensures.lists at (tied-idle c.reserve.new.self (c.in_ok-reserve.ensures.building ∙ c.requires.idle) c.spare-spare.ensures.tied) in
+    let tied : IsTied c.args.store.now.lists = rw c.in_ok-reserve.ensures.lists at (tied-idle c.reserve.new.self (c.in_ok-reserve.ensures.building ∙ c.requires.idle) c.tied_law.ensures) in
     token-sound c.args.token.now.kind c.args.token.now.span.start c.token_leaf.result c.args.store.now c.token_leaf.new.store c.args.names.now line c.in_default.not-Identifier c.requires.kind
     (rw c.in_ok-reserve.ensures.lists at c.token_leaf.ensures.form) tied c.token_leaf.ensures.idle sound

@@ -30,4 +30,4 @@ replace-requires-clause-within c =
 pub returns-clause-replaced : goal.returns-clause-replaced
 returns-clause-replaced c =
     let f = fits-at c.args.flags.now c.args.row.now (drop c.args.place c.args.line.now) c.requires.sound c.requires.fits in
-    rw (c.replace.ensures, c.offset.ensures, c.replaced.ensures) (replaces _ _ _ _ _ _ _ f c.make-entry.ensures (tied-idle c.args.store.now c.requires.idle c.spare-spare.ensures.tied) c.requires.roots)
+    rw (c.replace.ensures, c.offset.ensures, c.replaced.ensures) (replaces _ _ _ _ _ _ _ f c.make-entry.ensures (tied-idle c.args.store.now c.requires.idle c.tied_law.ensures) c.requires.roots)

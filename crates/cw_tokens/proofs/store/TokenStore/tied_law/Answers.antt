@@ -1,0 +1,5 @@
+use Rattle.cw_tokens.proofs.Storing.{tied-view}
+use Rattle.cw_tokens.proofs.store.TokenStore.tied_law.Goals as goal
+
+pub returns : goal.returns
+returns c = tied-view _ _ _ _ _ _ _ _ _ _ c.self.invariant c.self.view_is
