@@ -1,13 +1,13 @@
 -- Worked change files, read by themselves, and how many bytes are read in all.
-use Rattle.std.proofs.Common.{◌≡◌, ℕ, Bool, true, false, List, [], ◌∷◌, Some, None, codes, refl}
+use Rattle.std.proofs.Common.{◌≡◌, ℕ, true, false, List, [], ◌∷◌, Some, None, codes, refl}
 use Rattle.cw_base.specs.declared.notes.Note.{Note}
 use Rattle.cw_base.specs.declared.notes.NoteKind.TheVariants.{NoMatchingX, NoMatchingY, NoOldLine, EndedBeforeY, EndedBeforeZ, LinesDiffer, WebEnded}
 use Rattle.cw_base.specs.declared.notes.Place.{Place}
-use Rattle.cw_input.specs.Changes.{Change, Entry, Line, Misplaced, Held, changes_of, note_at}
+use Rattle.cw_input.specs.Changes.{Change, Line, Misplaced, Held, changes_of, note_at}
 use Rattle.cw_input.specs.Lines.{FileLine}
 use Rattle.cw_input.specs.Merge.{Lookup, new_lines, web_lines}
-use Rattle.cw_input.specs.Merged.{Merged, NoChange, TooLong, Alone, NoFile, Whole, bytes_read, limited, merged, reading}
-use Rattle.cw_input.proofs.Rows.{File, among, changed_by, file, line, note, text, three_lines}
+use Rattle.cw_input.specs.Merged.{Whole, bytes_read, reading}
+use Rattle.cw_input.proofs.Rows.{among, changed_by, file, line, note, text}
 
 abbrev at : ℕ → Place
 at number = record { file = 1; line = number }
