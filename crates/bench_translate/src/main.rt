@@ -5,7 +5,7 @@
 use cw_base::{Flags, Memory, Silent, Span, Steps};
 use cw_lex::Mode;
 use cw_names::Names;
-use cw_reduce::{Translated, translate};
+use cw_reduce::{Translated, is_uncut, translate};
 use cw_scraps::Marks;
 use cw_tokens::TokenStore;
 use std::alloc::{AllocError, Global};
@@ -79,6 +79,9 @@ fn measured(alloc: Global, text: &[u8]) -> Result<Translated, Memory> {
         start: 0,
         end: text.len(),
     };
+    if !is_uncut(text, span, Mode::CPart) {
+        return Err(Memory);
+    }
     let mut names = Names::with_words(alloc)?;
     let mut store = TokenStore::new_in(alloc);
     let mut marks = Marks::new_in(alloc);

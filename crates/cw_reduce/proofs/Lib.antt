@@ -23,3 +23,4 @@ pub mod Limits
 pub mod InnersKept
 pub mod ReadLaws
 pub mod HeadReads
+pub mod CutLaws

@@ -6,10 +6,12 @@ mod kinds;
 mod laws;
 mod nesting;
 mod translating;
+mod uncut;
 mod walk;
 
 pub use laws::translation_laws;
 pub use translating::{Translated, translate};
+pub use uncut::{is_plain_c, is_uncut};
 pub use walk::{Reduced, reduce};
 
 #[cfg(test)]

@@ -1,5 +1,5 @@
 use crate::test_printing::{put_run, put_sign, run_control, trimmed};
-use crate::{Translated, translate};
+use crate::{Translated, is_plain_c, is_uncut, translate};
 use cw_base::{Bytes, Flags, Kept, Memory, Span, Steps};
 use cw_lex::Mode;
 use cw_names::{NameId, Names};
@@ -27,6 +27,9 @@ fn translated(alloc: Global, text: &[u8], mode: Mode) -> Result<Outcome, Memory>
         start: 0,
         end: text.len(),
     };
+    if !is_plain_c(mode) || !is_uncut(text, span, mode) {
+        return Err(Memory);
+    }
     let mut names = Names::with_words(alloc)?;
     let mut store = TokenStore::new_in(alloc);
     let mut marks = Marks::new_in(alloc);
