@@ -519,3 +519,36 @@ parts-nested text first end _ m = absurd cc
 
 pub c-texts-nested : (text : List ℕ) (start end : ℕ) (mode : Mode) → is_c_mode mode ≡ true → begins_section_in (tokens_of text start end mode) ≡ false → IsNested (tokens_of text start end mode)
 c-texts-nested text first end mode m h = let P : List Answer → Type 0 = IsNested in subst P (until-none (tokens_of text first end mode) h) (parts-nested text first end mode m)
+
+-- ## Texts without section codes
+
+-- an `@` that begins a section stands among the bytes
+abbrev pub has_section_code : List ℕ → Bool
+has_section_code [] = false
+has_section_code (byte ∷ bytes) = (byte == at_sign && begins_section bytes) || has_section_code bytes
+
+answers-uncut : (bytes : List ℕ) (w : Where) (fresh : Bool) (last place taken : ℕ)
+    → is_c w.part ≡ true → in_tex w.part ≡ false → nested_in w.comments ≡ true → has_section_code bytes ≡ false
+    → begins_section_in (answers bytes w fresh last place taken) ≡ false
+answers-uncut [] w fresh last place taken p t n h = cut-uncut w.part w.comments place (place - 1)
+answers-uncut (byte ∷ bytes) w fresh last place zero p t n h =
+    let at = byte == at_sign && begins_section bytes in
+    let here : at ≡ false = or-first at (has_section_code bytes) h in
+    let later : has_section_code bytes ≡ false = or-second at (has_section_code bytes) h in
+    let f = in_text w.part w.comments fresh last place byte bytes in
+    let g = in-text-goes w.part w.comments fresh last place byte bytes here p t n in
+    let rest : Where → ℕ → List Answer = λ next more. answers bytes next (still_fresh fresh byte) byte (place + 1) more in
+    ap (λ s. begins_section_in (joined (if s then section w place bytes else f) rest)) here
+    ∙ append-uncut f.answers (rest f.next f.more) g.uncut
+    (answers-uncut bytes f.next (still_fresh fresh byte) byte (place + 1) f.more g.part g.same g.nested later)
+answers-uncut (byte ∷ bytes) w fresh last place (suc taken) p t n h =
+    answers-uncut bytes w (still_fresh fresh byte) byte (place + 1) taken p t n
+    (or-second (byte == at_sign && begins_section bytes) (has_section_code bytes) h)
+
+-- So there is no section code among the answers over such a C part.
+pub part-uncut-without : (text : List ℕ) (start end : ℕ) → has_section_code (drop start (take end text)) ≡ false
+    → begins_section_in (tokens_of text start end modes.CPart) ≡ false
+part-uncut-without text first end h =
+    let bytes : List ℕ = take end text in
+    answers-uncut (drop first bytes) (record { part = parts.Begin; comments = [] }) (fresh_at bytes first) (last_at bytes first)
+    first 0 refl refl refl h

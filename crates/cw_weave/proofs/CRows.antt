@@ -4,28 +4,28 @@ use Rattle.cw_table.specs.Productions.{productions}
 use Rattle.cw_table.specs.Normal.{normal, log, count}
 use Rattle.cw_table.specs.NormalWalk.{positions}
 use Rattle.cw_table.specs.WalkCounts.{looks}
-use Rattle.cw_reduce.specs.Translating.{translation}
+use Rattle.cw_reduce.specs.Translating.{translated}
 use Rattle.cw_weave.specs.CParts.{c_part, has_scraps}
 use Rattle.cw_weave.specs.Plain.{is_plain_part}
 
 increment : c_part (codes "@c i=i+1;\n") ≡ codes "$\\|i\\K\\|i+\\T{1};$"
-unfolding c_part translation normal log count positions looks productions
+unfolding c_part translated normal log count positions looks productions
 increment = refl
 
 two_statements : c_part (codes "@c a=(b); c;") ≡ codes "$\\|a\\K(\\|b);{}$\\6\n\\|c;"
-unfolding c_part translation normal log count positions looks productions
+unfolding c_part translated normal log count positions looks productions
 two_statements = refl
 
 constants : c_part (codes "@C x=0+120-(7);") ≡ codes "$\\|x\\K\\T{0}+\\T{120}-(\\T{7});$"
-unfolding c_part translation normal log count positions looks productions
+unfolding c_part translated normal log count positions looks productions
 constants = refl
 
 left_over : c_part (codes "@c ) = ; (") ≡ codes ") $\\K$ ; ("
-unfolding c_part translation normal log count positions looks productions
+unfolding c_part translated normal log count positions looks productions
 left_over = refl
 
 empty_part : has_scraps (codes "@c\n \n") ≡ false
-unfolding has_scraps translation normal log count positions looks productions
+unfolding has_scraps translated normal log count positions looks productions
 empty_part = refl
 
 plain : is_plain_part (codes "@c i=i+1;\n x = (10-a) ;") ≡ true

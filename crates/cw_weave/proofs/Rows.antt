@@ -7,7 +7,7 @@ use Rattle.cw_base.specs.declared.event.Out.TheVariants.{Tex, Idx, Scn}
 use Rattle.cw_desk.specs.Journal.{byte_events}
 use Rattle.cw_input.specs.Merge.{Lookup, new_lines, web_lines}
 use Rattle.cw_lines.specs.Cut.{cut_behind, divide}
-use Rattle.cw_reduce.specs.Translating.{translation}
+use Rattle.cw_reduce.specs.Translating.{translated}
 use Rattle.cw_table.specs.Normal.{normal, log, count}
 use Rattle.cw_table.specs.NormalWalk.{positions}
 use Rattle.cw_table.specs.Productions.{productions}
@@ -78,7 +78,7 @@ a_change : events (woven (codes "foo" ∷ codes "foo" ∷ [])
     run_with (codes "! 1 of the preceding lines did not match (l. 4 of foo.ch)" ∷ [])
     (codes "\\input cwebmac" ∷ codes "\\M{1\\*}One." ∷ codes "\\Y\\B\\|z;\\par" ∷ codes "\\fi" ∷ [] ∷ codes "\\inx" ∷ codes "\\fin" ∷ codes "\\end" ∷ [])
     (codes "(Pardon me, but I think I spotted something wrong.)")
-unfolding digits cut_behind divide new_lines web_lines says has_scraps c_part translation normal log count positions looks productions
+unfolding digits cut_behind divide new_lines web_lines says has_scraps c_part translated normal log count positions looks productions
 a_change = refl
 
 -- a change file that ends before the new lines
@@ -93,12 +93,12 @@ an_ended_change = refl
 
 one_plain_line : events (woven foo (foo_w (codes "@ @c i=i+1;" ∷ []))) ≡
     clean_run (codes "\\input cwebmac" ∷ codes "\\M{1}" ∷ codes "\\Y\\B$\\|i\\K\\|i+\\T{1};$\\par" ∷ codes "\\fi" ∷ [] ∷ codes "\\inx" ∷ codes "\\fin" ∷ codes "\\end" ∷ [])
-unfolding digits cut_behind divide new_lines web_lines says has_scraps c_part translation normal log count positions looks productions
+unfolding digits cut_behind divide new_lines web_lines says has_scraps c_part translated normal log count positions looks productions
 one_plain_line = refl
 
 two_statements : events (woven foo (foo_w (codes "@ @c a=(b); c;" ∷ []))) ≡
     clean_run (codes "\\input cwebmac" ∷ codes "\\M{1}" ∷ codes "\\Y\\B$\\|a\\K(\\|b);{}$\\6" ∷ codes "\\|c;\\par" ∷ codes "\\fi" ∷ [] ∷ codes "\\inx" ∷ codes "\\fin" ∷ codes "\\end" ∷ [])
-unfolding digits cut_behind divide new_lines web_lines says has_scraps c_part translation normal log count positions looks productions
+unfolding digits cut_behind divide new_lines web_lines says has_scraps c_part translated normal log count positions looks productions
 two_statements = refl
 
 long_names_are_not_built : events (woven foo (foo_w (codes "@ @c ab;" ∷ []))) ≡ all_say (codes "This is CWEAVE (profile 1)" ∷

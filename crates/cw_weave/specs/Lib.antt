@@ -7,6 +7,7 @@ pub mod Scanned
 pub mod Places
 pub mod Sections
 pub mod Inks
+pub mod Emits
 pub mod Formats
 pub mod Built
 pub mod Book

@@ -1,6 +1,6 @@
 -- The woven book: what is printed and written for the words of a command line, over files that are there by their names, and the
 -- status of the run.
-use Rattle.std.specs.Prelude.{◌≡◌, ℕ, ◌&&◌, Bool, true, false, not, List, [], ◌∷◌, ◌++◌, Option, Some, None, nat_le, length}
+use Rattle.std.specs.Prelude.{◌≡◌, ℕ, ◌&&◌, Bool, true, false, not, List, [], ◌∷◌, ◌++◌, Option, Some, None, nat_le, length, map}
 use Rattle.cw_base.specs.Flags.{start_flags}
 use Rattle.std.specs.List.{list_all}
 use Rattle.cw_base.specs.Text.{pieces_of}
@@ -13,6 +13,7 @@ use Rattle.cw_base.specs.declared.exit.Exit.TheVariants.{Clean, Errors, Fault, M
 use Rattle.cw_base.specs.declared.flags.Flags.{Flags}
 use Rattle.cw_base.specs.declared.notes.Note.{Note}
 use Rattle.cw_desk.specs.Journal.{grown, GrownByPart}
+use Rattle.cw_desk.specs.Told.{Told}
 use Rattle.cw_input.specs.Merge.{Lookup}
 use Rattle.cw_input.specs.Merged.{Merged, NoWeb, NoChange, TooLong, Whole, merged}
 use Rattle.cw_input.specs.Words.{command_of}
@@ -20,17 +21,13 @@ use Rattle.cw_input.specs.declared.words.Command.{Command}
 use Rattle.cw_input.specs.declared.words.Command.TheVariants.{Weave, Sample, Usage}
 use Rattle.cw_input.specs.declared.words.CommandLine.{CommandLine}
 use Rattle.cw_input.specs.declared.words.OutputNames.{OutputNames}
-use Rattle.cw_lines.specs.Cut.{cut}
-use Rattle.cw_lines.specs.Line.{line_events, broken_after}
+use Rattle.cw_lines.specs.Cut.{broken_numbers, cut}
+use Rattle.cw_lines.specs.Line.{as_count, line_events}
 use Rattle.cw_weave.specs.Book.{answers_of, is_built, tex_file}
+use Rattle.cw_weave.specs.Emits.{Run}
 use Rattle.cw_weave.specs.Notes.{says, says_if, note_events, broken_events, broken_notes, closing, exit_of}
 use Rattle.cw_weave.specs.Terminal.{banner, usage_text, not_built_text, no_web_text, no_change_text, too_long_text, fatal_text, output_text, index_text, done_text}
 use Rattle.cw_weave.specs.Scanned.{scanned_notes}
-
--- what a run does behind the banner, and its status
-pub record Run : Type 0 where
-  pub rest : List Event
-  pub exit : Exit
 
 -- a run with the flags that decide on the banner
 pub record Woven : Type 0 where
@@ -39,6 +36,10 @@ pub record Woven : Type 0 where
 
 abbrev pub events : Woven → List Event
 events w = banner w.flags ++ w.run.rest
+
+-- the whole run, its banner included
+abbrev pub whole_run : Woven → Run
+whole_run w = record { rest = events w; exit = w.run.exit }
 
 -- a run that ends before anything is written
 abbrev pub stopped : List ℕ → Run
@@ -58,12 +59,21 @@ index_events false flags names = []
 
 -- the lines of an output file with these bytes that had no good place to be cut
 abbrev pub broken_lines : List ℕ → List ℕ
-broken_lines tex = broken_after 0 (cut tex).lines
+broken_lines tex = map as_count (broken_numbers 0 (cut tex).lines)
 
--- the end of the run: the notes on broken lines, and the closing message
+-- the end of the run: the notes on broken lines, and the closing message, by which the run ends
 abbrev pub ending_events : Flags → OutputNames → List Note → List ℕ → List Event
 ending_events flags names notes broken =
     says_if flags.progress done_text ++ (broken_events names.tex broken ++ closing flags (notes ++ broken_notes broken))
+
+abbrev pub closing_run : Flags → List Note → Run
+closing_run flags notes = record { rest = closing flags notes; exit = exit_of notes }
+
+abbrev pub ending_run : Flags → OutputNames → List Note → List ℕ → Run
+ending_run flags names notes broken = record {
+  rest = ending_events flags names notes broken;
+  exit = exit_of (notes ++ broken_notes broken);
+}
 
 -- The notes, the output file, the index and the list of section names, and the end of the run.
 abbrev pub weave_tex : CommandLine → List (List ℕ) → List Note → List ℕ → Run
@@ -117,8 +127,8 @@ woven words named = weave_command_of (command_of words) named
 
 -- What a run has done: it emitted exactly the events and answers exactly the status; or a first part of the events, after a fault of
 -- the desk or for want of memory.
-abbrev pub Outcome : Woven → Option (List Event) → Option (List Event) → Exit → Type 0
-Outcome w before now Clean = (now ≡ grown before (events w)) × (w.run.exit ≡ Clean)
-Outcome w before now Errors = (now ≡ grown before (events w)) × (w.run.exit ≡ Errors)
-Outcome w before now Fault = GrownByPart before now (events w)
-Outcome w before now Memory = GrownByPart before now (events w)
+abbrev pub Outcome : Woven → Told → Told → Exit → Type 0
+Outcome w before now Clean = (now.journal ≡ grown before.journal (events w)) × (w.run.exit ≡ Clean)
+Outcome w before now Errors = (now.journal ≡ grown before.journal (events w)) × (w.run.exit ≡ Errors)
+Outcome w before now Fault = GrownByPart before.journal now.journal (events w)
+Outcome w before now Memory = GrownByPart before.journal now.journal (events w)

@@ -1,8 +1,8 @@
-ghost use Rattle.std.specs.Prelude.{◌≡◌, IfOk, MatchOption, false, true};
-ghost use Rattle.cw_weave.specs.CParts.{c_part, has_scraps};
+ghost use Rattle.std.specs.Prelude.{◌≡◌, ◌≤◌, IfOk, MatchOption, false, length, true};
+ghost use Rattle.cw_weave.specs.CParts.{c_part, has_scraps, IsUncut};
 
 use crate::c_print::print_c_text;
-use cw_base::{Bytes, Flags, Memory, Silent, Span, Steps};
+use cw_base::{Bytes, Flags, Memory, Silent, Span, Steps, TEXT_LIMIT};
 use cw_lex::Mode;
 use cw_names::Names;
 use cw_reduce::translate;
@@ -10,16 +10,13 @@ use cw_scraps::Marks;
 use cw_tokens::TokenStore;
 use std::alloc::Global;
 
-/// The most bytes of a C part; a web, which is not longer than half of it, holds the part.
-const LONGEST: usize = 16_777_216;
-
 /// The bytes that a C part prints, from its code on, or none where it has no scrap.
 pub(crate) fn c_part_bytes(alloc: Global, part: &[u8]) -> Result<Option<Bytes>, Memory>
-    ensures { IfOk result (λ bytes. MatchOption bytes (has_scraps part.now ≡ false) (λ bytes. (has_scraps part.now ≡ true) × (bytes ≡ c_part part.now))) }
+    requires limit { length part.now ≤ TEXT_LIMIT }
+    requires uncut { IsUncut part.now }
+    ensures { IfOk result (λ bytes. MatchOption bytes (has_scraps part.now ≡ false)
+        (λ bytes. (has_scraps part.now ≡ true) × (bytes ≡ c_part part.now))) }
 {
-    if part.len() > LONGEST {
-        return Err(Memory);
-    }
     let span = Span {
         start: 0,
         end: part.len(),

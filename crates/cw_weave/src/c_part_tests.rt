@@ -1,9 +1,16 @@
+ghost use Rattle.std.specs.Prelude.{◌≤◌, length};
+ghost use Rattle.cw_weave.specs.CParts.{IsUncut};
+
 use crate::c_part::c_part_bytes;
+use cw_base::TEXT_LIMIT;
 use std::alloc::Global;
 use std::process::Abort;
 use std::test::Fail;
 
-fn check(rt: &impl Abort, alloc: Global, part: &[u8], wanted: &[u8]) -> Result<(), Fail> {
+fn check(rt: &impl Abort, alloc: Global, part: &[u8], wanted: &[u8]) -> Result<(), Fail>
+    requires limit { length part.now ≤ TEXT_LIMIT }
+    requires uncut { IsUncut part.now }
+{
     match c_part_bytes(alloc, part)? {
         Some(bytes) => assert_eq!(rt; bytes.as_slice(), wanted),
         None => assert_eq!(rt; b"".as_slice(), wanted),

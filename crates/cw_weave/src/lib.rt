@@ -6,6 +6,8 @@ mod c_part;
 mod c_part_tests;
 mod c_print;
 mod c_trim;
+#[cfg(test)]
+mod failing_tests;
 mod formats;
 #[cfg(test)]
 mod merging_tests;

@@ -1,6 +1,5 @@
-ghost use Rattle.std.specs.Prelude.{◌≡◌, ◌++◌, [], IfOk, IsErrOf, OnErr, OnOk, decimal, slice_index_or};
-ghost use Rattle.cw_desk.specs.Journal.{grown, GrownByPart};
-ghost use Rattle.cw_desk.specs.Meaning.{OnlyPuts, Rose};
+ghost use Rattle.std.specs.Prelude.{◌≡◌, ◌++◌, [], IfOk, OnOk, decimal, slice_index_or};
+ghost use Rattle.cw_lines.specs.Writes.{Adds};
 ghost use Rattle.cw_weave.specs.Notes.{says, words_of, note_line, note_events, broken_line, broken_events, broken_notes, has_error, has_note};
 
 use crate::terminal::say_text;
@@ -56,16 +55,11 @@ fn note_text(alloc: Global, web: &Web, note: Note) -> Result<Bytes, Memory>
 }
 
 /// Prints a note of reading or scanning.
-#[tactic(auto, using(cw_desk::specs::JournalLaws::growing))]
 fn print_note<D: Desk>(alloc: Global, web: &Web, note: Note, desk: &mut D) -> Result<(), PutError>
-    ensures ok { OnOk result (D.journal desk.new ≡ grown (D.journal desk.old) (says (note_line web.now.files note))) }
-    ensures err { OnErr result (GrownByPart (D.journal desk.old) (D.journal desk.new) (says (note_line web.now.files note))) }
-    ensures same { OnlyPuts D.opened D.outputs D.files D.rest D.faults desk.old desk.new }
-    ensures fault { IsErrOf result PutError.Fault → Rose (D.faults desk.old) (D.faults desk.new) }
+    ensures { Adds (says (note_line web.now.files note)) (D.told desk.old) (D.told desk.new) result }
 {
     let text = note_text(alloc, web, note)?;
-    say_text(desk, text)?;
-    Ok(())
+    say_text(desk, text)
 }
 
 /// Prints notes of reading or scanning.
@@ -75,10 +69,7 @@ pub(crate) fn print_notes<D: Desk>(
     notes: &[Note],
     desk: &mut D,
 ) -> Result<(), PutError>
-    ensures ok { OnOk result (D.journal desk.new ≡ grown (D.journal desk.old) (note_events web.now.files notes.now)) }
-    ensures err { OnErr result (GrownByPart (D.journal desk.old) (D.journal desk.new) (note_events web.now.files notes.now)) }
-    ensures same { OnlyPuts D.opened D.outputs D.files D.rest D.faults desk.old desk.new }
-    ensures fault { IsErrOf result PutError.Fault → Rose (D.faults desk.old) (D.faults desk.new) }
+    ensures { Adds (note_events web.now.files notes.now) (D.told desk.old) (D.told desk.new) result }
 {
     for note in notes {
         print_note(alloc, web, *note, desk)?;
@@ -99,21 +90,16 @@ fn broken_text(alloc: Global, name: &[u8], number: u64) -> Result<Bytes, Memory>
 }
 
 /// Prints the note on one such line.
-#[tactic(auto, using(cw_desk::specs::JournalLaws::growing))]
 fn print_broken_line<D: Desk>(
     alloc: Global,
     name: &[u8],
     number: u64,
     desk: &mut D,
 ) -> Result<(), PutError>
-    ensures ok { OnOk result (D.journal desk.new ≡ grown (D.journal desk.old) (says (broken_line name.now number))) }
-    ensures err { OnErr result (GrownByPart (D.journal desk.old) (D.journal desk.new) (says (broken_line name.now number))) }
-    ensures same { OnlyPuts D.opened D.outputs D.files D.rest D.faults desk.old desk.new }
-    ensures fault { IsErrOf result PutError.Fault → Rose (D.faults desk.old) (D.faults desk.new) }
+    ensures { Adds (says (broken_line name.now number)) (D.told desk.old) (D.told desk.new) result }
 {
     let text = broken_text(alloc, name, number)?;
-    say_text(desk, text)?;
-    Ok(())
+    say_text(desk, text)
 }
 
 /// Prints the notes on such lines.
@@ -123,10 +109,7 @@ pub(crate) fn print_broken<D: Desk>(
     numbers: &[u64],
     desk: &mut D,
 ) -> Result<(), PutError>
-    ensures ok { OnOk result (D.journal desk.new ≡ grown (D.journal desk.old) (broken_events name.now numbers.now)) }
-    ensures err { OnErr result (GrownByPart (D.journal desk.old) (D.journal desk.new) (broken_events name.now numbers.now)) }
-    ensures same { OnlyPuts D.opened D.outputs D.files D.rest D.faults desk.old desk.new }
-    ensures fault { IsErrOf result PutError.Fault → Rose (D.faults desk.old) (D.faults desk.new) }
+    ensures { Adds (broken_events name.now numbers.now) (D.told desk.old) (D.told desk.new) result }
 {
     for number in numbers {
         print_broken_line(alloc, name, *number, desk)?;

@@ -1,11 +1,11 @@
-ghost use Rattle.std.specs.Prelude.{◌≡◌, ◌≤◌, [], ◌∷◌, ◌++◌, IfOk, IsErrOf, IsTrue, OnErr, OnOk, length};
+ghost use Rattle.std.specs.Prelude.{◌≡◌, [], ◌∷◌, ◌++◌, IfOk, IsTrue, OnOk};
 ghost use Rattle.cw_base.specs.declared.event.Event.TheVariants.{Made};
 ghost use Rattle.cw_base.specs.declared.event.Out.TheVariants.{Idx, Scn};
-ghost use Rattle.cw_desk.specs.Journal.{grown, GrownByPart};
-ghost use Rattle.cw_desk.specs.Meaning.{is_open, Rose};
-ghost use Rattle.cw_weave.specs.Notes.{says_if, broken_notes, closing, exit_of};
+ghost use Rattle.cw_desk.specs.Meaning.{is_open};
+ghost use Rattle.cw_weave.specs.Emits.{Counts, Emits, Runs};
+ghost use Rattle.cw_weave.specs.Notes.{says_if, broken_notes};
 ghost use Rattle.cw_weave.specs.Terminal.{output_text};
-ghost use Rattle.cw_weave.specs.Woven.{broken_lines, ending_events, index_events, tex_events};
+ghost use Rattle.cw_weave.specs.Woven.{broken_lines, closing_run, ending_run, index_events, tex_events};
 
 use crate::message::Message;
 use crate::notes::{has_note, is_faulty, print_broken};
@@ -18,11 +18,9 @@ use std::alloc::Global;
 
 /// Begins an output file.
 fn make<D: Desk>(desk: &mut D, out: Out, name: &[u8]) -> Result<(), PutError>
-    ensures ok { OnOk result (D.journal desk.new ≡ grown (D.journal desk.old) (Made out name.now ∷ [])) }
-    ensures err { OnErr result (GrownByPart (D.journal desk.old) (D.journal desk.new) (Made out name.now ∷ [])) }
-    ensures opens { OnOk result (IsTrue (is_open (D.outputs desk.new) out)) }
-    ensures faults { D.faults desk.old ≤ D.faults desk.new }
-    ensures fault { IsErrOf result PutError.Fault → Rose (D.faults desk.old) (D.faults desk.new) }
+    ensures emits { Emits (Made out name.now ∷ []) (D.told desk.old) (D.told desk.new) result }
+    ensures opens { OnOk result (IsTrue (is_open (D.told desk.new).outputs out)) }
+    ensures counts { Counts (D.told desk.old) (D.told desk.new) result }
 {
     match desk.make(out, name) {
         MadeOut::Done => Ok(()),
@@ -32,18 +30,15 @@ fn make<D: Desk>(desk: &mut D, out: Out, name: &[u8]) -> Result<(), PutError>
 }
 
 /// Writes the TeX file. The answer holds which of its lines had no good place to be cut.
-#[tactic(auto, using(cw_desk::specs::JournalLaws::growing))]
 fn copy_tex<D: Desk>(
     alloc: Global,
     desk: &mut D,
     names: &OutputNames,
     tex: &[u8],
 ) -> Result<LineOut, PutError>
-    ensures ok { OnOk result (D.journal desk.new ≡ grown (D.journal desk.old) (tex_events names.now tex.now)) }
-    ensures broken { IfOk result (λ line. line.broken ≡ broken_lines tex.now) }
-    ensures err { OnErr result (GrownByPart (D.journal desk.old) (D.journal desk.new) (tex_events names.now tex.now)) }
-    ensures faults { D.faults desk.old ≤ D.faults desk.new }
-    ensures fault { IsErrOf result PutError.Fault → Rose (D.faults desk.old) (D.faults desk.new) }
+    ensures emits { Emits (tex_events names.now tex.now) (D.told desk.old) (D.told desk.new) result }
+    ensures broken { IfOk result (λ out. out.line.broken ≡ broken_lines tex.now) }
+    ensures counts { Counts (D.told desk.old) (D.told desk.new) result }
 {
     make(desk, Out::Tex, names.tex.as_slice())?;
     let mut line = LineOut::new_in(alloc, Out::Tex);
@@ -52,7 +47,6 @@ fn copy_tex<D: Desk>(
 }
 
 /// Writes the TeX file, and says so.
-#[tactic(auto, using(cw_desk::specs::JournalLaws::growing))]
 pub(crate) fn write_tex<D: Desk>(
     alloc: Global,
     desk: &mut D,
@@ -60,47 +54,39 @@ pub(crate) fn write_tex<D: Desk>(
     names: &OutputNames,
     tex: &[u8],
 ) -> Result<LineOut, PutError>
-    ensures ok { OnOk result (D.journal desk.new ≡ grown (D.journal desk.old) (says_if flags.now.progress output_text ++ tex_events names.now tex.now)) }
-    ensures broken { IfOk result (λ line. line.broken ≡ broken_lines tex.now) }
-    ensures err { OnErr result (GrownByPart (D.journal desk.old) (D.journal desk.new) (says_if flags.now.progress output_text ++ tex_events names.now tex.now)) }
-    ensures faults { D.faults desk.old ≤ D.faults desk.new }
-    ensures fault { IsErrOf result PutError.Fault → Rose (D.faults desk.old) (D.faults desk.new) }
+    ensures emits { Emits (says_if flags.now.progress output_text ++ tex_events names.now tex.now)
+        (D.told desk.old) (D.told desk.new) result }
+    ensures broken { IfOk result (λ out. out.line.broken ≡ broken_lines tex.now) }
+    ensures counts { Counts (D.told desk.old) (D.told desk.new) result }
 {
     say_if(desk, flags.progress, Message::WritingOutput)?;
-    let line = copy_tex(alloc, desk, names, tex)?;
-    Ok(line)
+    copy_tex(alloc, desk, names, tex)
 }
 
 /// Writes the index and the list of section names, which are empty so far, where the flag asks for them.
-#[tactic(auto, using(cw_desk::specs::JournalLaws::growing))]
 pub(crate) fn write_index<D: Desk>(
     desk: &mut D,
     flags: &Flags,
     names: &OutputNames,
 ) -> Result<(), PutError>
-    ensures ok { OnOk result (D.journal desk.new ≡ grown (D.journal desk.old) (index_events flags.now.index flags.now names.now)) }
-    ensures err { OnErr result (GrownByPart (D.journal desk.old) (D.journal desk.new) (index_events flags.now.index flags.now names.now)) }
-    ensures faults { D.faults desk.old ≤ D.faults desk.new }
-    ensures fault { IsErrOf result PutError.Fault → Rose (D.faults desk.old) (D.faults desk.new) }
+    ensures emits { Emits (index_events flags.now.index flags.now names.now)
+        (D.told desk.old) (D.told desk.new) result }
+    ensures counts { Counts (D.told desk.old) (D.told desk.new) result }
 {
     if !flags.index {
         return Ok(());
     }
     say_if(desk, flags.progress, Message::WritingIndex)?;
-    make_index(desk, names)?;
-    Ok(())
+    make_index(desk, names)
 }
 
-#[tactic(auto, using(cw_desk::specs::JournalLaws::growing))]
 fn make_index<D: Desk>(desk: &mut D, names: &OutputNames) -> Result<(), PutError>
-    ensures ok { OnOk result (D.journal desk.new ≡ grown (D.journal desk.old) (Made Idx names.now.idx ∷ Made Scn names.now.scn ∷ [])) }
-    ensures err { OnErr result (GrownByPart (D.journal desk.old) (D.journal desk.new) (Made Idx names.now.idx ∷ Made Scn names.now.scn ∷ [])) }
-    ensures faults { D.faults desk.old ≤ D.faults desk.new }
-    ensures fault { IsErrOf result PutError.Fault → Rose (D.faults desk.old) (D.faults desk.new) }
+    ensures emits { Emits (Made Idx names.now.idx ∷ Made Scn names.now.scn ∷ [])
+        (D.told desk.old) (D.told desk.new) result }
+    ensures counts { Counts (D.told desk.old) (D.told desk.new) result }
 {
     make(desk, Out::Idx, names.idx.as_slice())?;
-    make(desk, Out::Scn, names.scn.as_slice())?;
-    Ok(())
+    make(desk, Out::Scn, names.scn.as_slice())
 }
 
 /// Prints the closing line, and tells how the run ends.
@@ -110,11 +96,9 @@ fn close<D: Desk>(
     notes: &[Note],
     broken: &[u64],
 ) -> Result<Exit, PutError>
-    ensures ok { OnOk result (D.journal desk.new ≡ grown (D.journal desk.old) (closing flags.now (notes.now ++ broken_notes broken.now))) }
-    ensures exit { IfOk result (λ exit. exit ≡ exit_of (notes.now ++ broken_notes broken.now)) }
-    ensures err { OnErr result (GrownByPart (D.journal desk.old) (D.journal desk.new) (closing flags.now (notes.now ++ broken_notes broken.now))) }
-    ensures faults { D.faults desk.old ≤ D.faults desk.new }
-    ensures fault { IsErrOf result PutError.Fault → Rose (D.faults desk.old) (D.faults desk.new) }
+    ensures runs { Runs (closing_run flags.now (notes.now ++ broken_notes broken.now))
+        (D.told desk.old) (D.told desk.new) result }
+    ensures counts { Counts (D.told desk.old) (D.told desk.new) result }
 {
     if is_faulty(notes, broken) {
         say(desk, Message::SomethingWrong)?;
@@ -129,7 +113,6 @@ fn close<D: Desk>(
 }
 
 /// Ends a run that has written its files.
-#[tactic(auto, using(cw_desk::specs::JournalLaws::growing))]
 pub(crate) fn end_run<D: Desk>(
     alloc: Global,
     desk: &mut D,
@@ -138,14 +121,11 @@ pub(crate) fn end_run<D: Desk>(
     notes: &[Note],
     broken: &[u64],
 ) -> Result<Exit, PutError>
-    ensures ok { OnOk result (D.journal desk.new ≡ grown (D.journal desk.old) (ending_events flags.now names.now notes.now broken.now)) }
-    ensures exit { IfOk result (λ exit. exit ≡ exit_of (notes.now ++ broken_notes broken.now)) }
-    ensures err { OnErr result (GrownByPart (D.journal desk.old) (D.journal desk.new) (ending_events flags.now names.now notes.now broken.now)) }
-    ensures faults { D.faults desk.old ≤ D.faults desk.new }
-    ensures fault { IsErrOf result PutError.Fault → Rose (D.faults desk.old) (D.faults desk.new) }
+    ensures runs { Runs (ending_run flags.now names.now notes.now broken.now)
+        (D.told desk.old) (D.told desk.new) result }
+    ensures counts { Counts (D.told desk.old) (D.told desk.new) result }
 {
     say_if(desk, flags.progress, Message::Done)?;
     print_broken(alloc, names.tex.as_slice(), broken, desk)?;
-    let exit = close(desk, flags, notes, broken)?;
-    Ok(exit)
+    close(desk, flags, notes, broken)
 }

@@ -1,4 +1,4 @@
-ghost use Rattle.std.specs.Prelude.{◌≡◌, ◌<◌, ◌++◌, List, [], ◌∷◌, true, false, IfOk, OnOk, length};
+ghost use Rattle.std.specs.Prelude.{◌≡◌, ◌<◌, ◌≤◌, ◌++◌, List, [], ◌∷◌, true, false, IfOk, OnOk, length};
 ghost use Rattle.cw_base.specs.Web.{MergedLine, text_of};
 ghost use Rattle.cw_lex.specs.Answers.{Answer, Note as NoteAnswer, Token, seen};
 ghost use Rattle.cw_base.specs.declared.notes.Note.{Note as NoteRecord};
@@ -15,7 +15,7 @@ use crate::formats::{Formats, Letters};
 use crate::page::Page;
 use crate::places::place_of;
 use crate::sheet::{Part, Sheet, print_token};
-use cw_base::{Memory, Note, NoteKind, Web};
+use cw_base::{Memory, Note, NoteKind, TEXT_LIMIT, Web};
 use cw_lex::{Code, Lexed, Lexer, Mode, Tok, TokKind};
 use std::alloc::Global;
 
@@ -93,6 +93,7 @@ fn take_token(
     token: &Tok,
 ) -> Result<bool, Memory>
     requires text { text.now ≡ text_of web.now.lines }
+    requires limit { length text.now ≤ TEXT_LIMIT }
     requires place { IsOnPage sheet.old }
     ensures goes { (formats : Formatting) → Knows formats.names letters.now → (answers rest : List Answer) (old : SectionPlace) (notes : List NoteRecord) →
         SectionsGo web.now.lines formats answers (Token (seen token.now) ∷ rest) old (section_place sheet.old notes) →
@@ -126,6 +127,7 @@ fn read_sections<'a>(
     notes: &mut Vec<Note>,
 ) -> Result<bool, Memory>
     requires text { text.now ≡ text_of web.now.lines }
+    requires limit { length text.now ≤ TEXT_LIMIT }
     requires place { IsOnPage sheet.old }
     ensures { (formats : Formatting) → Knows formats.names letters.now → IfOk result (SectionsRead web.now.lines formats lexer.old
         (section_place sheet.old notes.old.items) (section_place sheet.new notes.new.items)) }
@@ -164,6 +166,7 @@ fn read_from<'a>(
     token: &Tok<'a>,
 ) -> Result<Option<Book>, Memory>
     requires text { text.now ≡ text_of web.now.lines }
+    requires limit { length text.now ≤ TEXT_LIMIT }
     requires head { begins_section token.now.kind ≡ true }
     ensures { (answers : List Answer) (old : LimboPlace) →
         LimboGoes web.now.lines answers (Token (seen token.now) ∷ lexer.old) old (limbo_place limbo.entry.page limbo.entry.formats limbo.entry.notes.items) →

@@ -2,6 +2,7 @@ ghost use Rattle.std.specs.Prelude.{◌≡◌, ◌≤◌, ◌+◌, ◌++◌, ◌
 ghost use Rattle.cw_base.specs.Web.{text_of};
 ghost use Rattle.cw_lex.specs.Answers.{Token, seen};
 ghost use Rattle.cw_names.specs.Names.{Entry};
+ghost use Rattle.cw_weave.specs.CParts.{IsUncut};
 ghost use Rattle.cw_weave.specs.Book.{head_by, section_number, part_text};
 ghost use Rattle.cw_weave.specs.Built.{is_plain_tex, part_is_built};
 ghost use Rattle.cw_weave.specs.Inks.{answer_inks};
@@ -18,7 +19,7 @@ use crate::page::Page;
 use crate::places::holds_changed;
 use crate::plain::is_plain_c_part;
 use crate::slices::part_of;
-use cw_base::{Memory, Web};
+use cw_base::{Memory, TEXT_LIMIT, Web};
 use cw_lex::{Code, Tok, TokKind};
 use itoa::Buffer;
 use std::alloc::Global;
@@ -152,6 +153,7 @@ fn behind_code(code: &[u8]) -> &[u8]
 /// Whether bytes are a C part that is built so far, or none.
 fn is_built_part(letters: &Letters, part: &[u8]) -> bool
     ensures built { (names : List Entry) → Knows names letters.now → result ≡ part_is_built names part.now }
+    ensures uncut { result ≡ true → IsUncut part.now }
 {
     if part.is_empty() {
         return true;
@@ -164,6 +166,8 @@ fn is_built_part(letters: &Letters, part: &[u8]) -> bool
 
 /// Prints a C part, where it has a scrap.
 fn print_part(alloc: Global, page: &mut Page, part: &[u8]) -> Result<(), Memory>
+    requires limit { length part.now ≤ TEXT_LIMIT }
+    requires uncut { IsUncut part.now }
     ensures { OnOk result (page.new.bytes.items ≡ page.old.bytes.items ++ part_text part.now) }
 {
     if part.is_empty() {
@@ -267,7 +271,8 @@ impl Sheet {
         letters: &Letters,
         end: usize,
     ) -> Result<bool, Memory>
-        requires { IsOnPage self.old }
+        requires place { IsOnPage self.old }
+        requires limit { length text.now ≤ TEXT_LIMIT }
         ensures right { (names : List Entry) → Knows names letters.now →
             IfOk result (λ right. right ≡ part_is_right text.now end (stand_of self.old.part self.old.page.holds) names) }
         ensures bytes { IfOk result (λ right. right ≡ true → self.new.page.bytes.items
@@ -294,6 +299,7 @@ impl Sheet {
         letters: &Letters,
         end: usize,
     ) -> Result<bool, Memory>
+        requires { length text.now ≤ TEXT_LIMIT }
         ensures right { (names : List Entry) → Knows names letters.now →
             IfOk result (λ right. right ≡ part_is_right text.now end (stand_of self.old.part self.old.page.holds) names) }
         ensures bytes { IfOk result (λ right. right ≡ true →

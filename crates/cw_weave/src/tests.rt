@@ -5,7 +5,7 @@ use std::alloc::Global;
 use std::test::Fail;
 
 /// The journal as a text: each run of bytes on one output begins with its name in brackets.
-fn read_journal(alloc: Global, journal: &[Event]) -> Result<Bytes, Memory> {
+pub(crate) fn read_journal(alloc: Global, journal: &[Event]) -> Result<Bytes, Memory> {
     let mut text = Bytes::new_in(alloc);
     let mut last = None;
     for event in journal {
@@ -52,7 +52,7 @@ pub(crate) fn desk_with(
     Ok(desk)
 }
 
-fn weave(alloc: Global, words: &[&[u8]], desk: &mut MemDesk) -> Result<Exit, Memory> {
+pub(crate) fn weave(alloc: Global, words: &[&[u8]], desk: &mut MemDesk) -> Result<Exit, Memory> {
     let mut list = Words::new_in(alloc);
     for word in words {
         list.push(word)?;

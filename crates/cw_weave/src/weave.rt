@@ -1,12 +1,11 @@
-ghost use Rattle.std.specs.Prelude.{◌≡◌, ◌≤◌, ◌<◌, ◌≢◌, ◌++◌, Some, length, option_copied, IfOk, IsErrOf, OnErr, OnOk};
+ghost use Rattle.std.specs.Prelude.{◌≡◌, ◌<◌, ◌≢◌, ◌++◌, Some, length, option_copied, IfOk};
 ghost use Rattle.std.specs.FinMap.{get};
-ghost use Rattle.cw_desk.specs.Journal.{grown, GrownByPart};
 ghost use Rattle.cw_desk.specs.Meaning.{Files, Rose};
 ghost use Rattle.cw_input.specs.Merged.{merged};
-ghost use Rattle.cw_weave.specs.Notes.{says};
-ghost use Rattle.cw_weave.specs.Terminal.{fatal_text};
+ghost use Rattle.cw_weave.specs.Emits.{Counts, Runs};
 ghost use Rattle.cw_weave.specs.WebWord.{HasWebWord};
-ghost use Rattle.cw_weave.specs.Woven.{Outcome, change_text, events, flags_are_built, has_short_lines, is_woven, notes_of, weave_command_of, weave_line, weave_tex, weave_text, weave_web, woven};
+ghost use Rattle.cw_weave.specs.Woven.{Outcome, change_text, flags_are_built, has_short_lines, is_woven, weave_command_of};
+ghost use Rattle.cw_weave.specs.Woven.{stopped, weave_line, weave_tex, weave_text, weave_web, whole_run, woven};
 ghost use Rattle.cw_weave.specs.Passes.{BookIsRead};
 
 use crate::message::Message;
@@ -50,7 +49,6 @@ fn notes_of(alloc: Global, web: &Web, scanned: &[Note]) -> Result<Vec<Note>, Mem
 }
 
 /// Prints the notes, writes the files, and ends the run.
-#[tactic(auto, using(cw_desk::specs::JournalLaws::growing))]
 fn write_book<D: Desk>(
     alloc: Global,
     desk: &mut D,
@@ -59,21 +57,17 @@ fn write_book<D: Desk>(
     notes: &[Note],
     tex: &[u8],
 ) -> Result<Exit, PutError>
-    ensures ok { OnOk result (D.journal desk.new ≡ grown (D.journal desk.old) (weave_tex line.now web.now.files notes.now tex.now).rest) }
-    ensures exit { IfOk result (λ exit. exit ≡ (weave_tex line.now web.now.files notes.now tex.now).exit) }
-    ensures err { OnErr result (GrownByPart (D.journal desk.old) (D.journal desk.new) (weave_tex line.now web.now.files notes.now tex.now).rest) }
-    ensures faults { D.faults desk.old ≤ D.faults desk.new }
-    ensures fault { IsErrOf result PutError.Fault → Rose (D.faults desk.old) (D.faults desk.new) }
+    ensures runs { Runs (weave_tex line.now web.now.files notes.now tex.now)
+        (D.told desk.old) (D.told desk.new) result }
+    ensures counts { Counts (D.told desk.old) (D.told desk.new) result }
 {
     print_notes(alloc, web, notes, desk)?;
     let out = write_tex(alloc, desk, &line.flags, &line.outputs, tex)?;
     write_index(desk, &line.flags, &line.outputs)?;
-    let exit = end_run(alloc, desk, &line.flags, &line.outputs, notes, out.broken())?;
-    Ok(exit)
+    end_run(alloc, desk, &line.flags, &line.outputs, notes, out.broken())
 }
 
 /// Writes the book of a web that was read, if no line of it is too long.
-#[tactic(auto, using(cw_desk::specs::JournalLaws::growing))]
 fn weave_read<D: Desk>(
     alloc: Global,
     desk: &mut D,
@@ -82,42 +76,33 @@ fn weave_read<D: Desk>(
     book: &Book,
 ) -> Result<Exit, PutError>
     requires { BookIsRead line.now.flags.index web.now.lines (Some book.now) }
-    ensures ok { OnOk result (D.journal desk.new ≡ grown (D.journal desk.old) (weave_text (is_woven line.now web.now) line.now web.now).rest) }
-    ensures exit { IfOk result (λ exit. exit ≡ (weave_text (is_woven line.now web.now) line.now web.now).exit) }
-    ensures err { OnErr result (GrownByPart (D.journal desk.old) (D.journal desk.new) (weave_text (is_woven line.now web.now) line.now web.now).rest) }
-    ensures faults { D.faults desk.old ≤ D.faults desk.new }
-    ensures fault { IsErrOf result PutError.Fault → Rose (D.faults desk.old) (D.faults desk.new) }
+    ensures runs { Runs (weave_text (is_woven line.now web.now) line.now web.now)
+        (D.told desk.old) (D.told desk.new) result }
+    ensures counts { Counts (D.told desk.old) (D.told desk.new) result }
 {
     if !has_short_lines(&book.tex) {
         stop(desk, Message::NotBuilt)?;
         return Ok(Exit::Errors);
     }
     let notes = notes_of(alloc, web, &book.notes)?;
-    let exit = write_book(alloc, desk, line, web, &notes, &book.tex)?;
-    Ok(exit)
+    write_book(alloc, desk, line, web, &notes, &book.tex)
 }
 
 /// Weaves a web that was read.
-#[tactic(auto, using(cw_desk::specs::JournalLaws::growing))]
 fn weave_web<D: Desk>(
     alloc: Global,
     desk: &mut D,
     line: &CommandLine,
     web: &Web,
 ) -> Result<Exit, PutError>
-    ensures ok { OnOk result (D.journal desk.new ≡ grown (D.journal desk.old) (weave_text (is_woven line.now web.now) line.now web.now).rest) }
-    ensures exit { IfOk result (λ exit. exit ≡ (weave_text (is_woven line.now web.now) line.now web.now).exit) }
-    ensures err { OnErr result (GrownByPart (D.journal desk.old) (D.journal desk.new) (weave_text (is_woven line.now web.now) line.now web.now).rest) }
-    ensures faults { D.faults desk.old ≤ D.faults desk.new }
-    ensures fault { IsErrOf result PutError.Fault → Rose (D.faults desk.old) (D.faults desk.new) }
+    ensures runs { Runs (weave_text (is_woven line.now web.now) line.now web.now)
+        (D.told desk.old) (D.told desk.new) result }
+    ensures counts { Counts (D.told desk.old) (D.told desk.new) result }
     ensures real { IfOk result (λ exit. exit ≢ Exit.Fault) }
 {
     let found = read_book(alloc, web, line.flags.index)?;
     match found {
-        Some(book) => {
-            let exit = weave_read(alloc, desk, line, web, &book)?;
-            Ok(exit)
-        }
+        Some(book) => weave_read(alloc, desk, line, web, &book),
         None => {
             stop(desk, Message::NotBuilt)?;
             Ok(Exit::Errors)
@@ -126,18 +111,14 @@ fn weave_web<D: Desk>(
 }
 
 /// Ends the run with a message about a word of the command line.
-#[tactic(auto, using(cw_desk::specs::JournalLaws::growing))]
 fn stop_at<D: Desk>(
     alloc: Global,
     desk: &mut D,
     message: &[u8],
     word: &[u8],
 ) -> Result<Exit, PutError>
-    ensures ok { OnOk result (D.journal desk.new ≡ grown (D.journal desk.old) (says (message.now ++ word.now) ++ says fatal_text)) }
-    ensures exit { IfOk result (λ exit. exit ≡ Exit.Errors) }
-    ensures err { OnErr result (GrownByPart (D.journal desk.old) (D.journal desk.new) (says (message.now ++ word.now) ++ says fatal_text)) }
-    ensures faults { D.faults desk.old ≤ D.faults desk.new }
-    ensures fault { IsErrOf result PutError.Fault → Rose (D.faults desk.old) (D.faults desk.new) }
+    ensures runs { Runs (stopped (message.now ++ word.now)) (D.told desk.old) (D.told desk.new) result }
+    ensures counts { Counts (D.told desk.old) (D.told desk.new) result }
 {
     let mut text = Bytes::from_slice(alloc, message)?;
     text.append(word)?;
@@ -173,17 +154,12 @@ fn change_text(line: &CommandLine) -> &[u8]
 }
 
 /// Reads a web and weaves it.
-#[tactic(auto, using(cw_desk::specs::JournalLaws::growing))]
 fn weave_named<D: Desk>(alloc: Global, desk: &mut D, line: &CommandLine) -> Result<Exit, PutError>
     requires { 0 < length line.now.web }
-    ensures ok { (told : Files) → D.files desk.old ≡ Some told →
-        OnOk result (D.journal desk.new ≡ grown (D.journal desk.old) (weave_web line.now (merged (get told) line.now.web line.now.change)).rest) }
-    ensures exit { (told : Files) → D.files desk.old ≡ Some told →
-        IfOk result (λ exit. exit ≡ (weave_web line.now (merged (get told) line.now.web line.now.change)).exit) }
-    ensures err { (told : Files) → D.files desk.old ≡ Some told →
-        OnErr result (GrownByPart (D.journal desk.old) (D.journal desk.new) (weave_web line.now (merged (get told) line.now.web line.now.change)).rest) }
-    ensures faults { D.faults desk.old ≤ D.faults desk.new }
-    ensures fault { IsErrOf result PutError.Fault → Rose (D.faults desk.old) (D.faults desk.new) }
+    ensures runs { (files : Files) → (D.told desk.old).files ≡ Some files →
+        Runs (weave_web line.now (merged (get files) line.now.web line.now.change))
+        (D.told desk.old) (D.told desk.new) result }
+    ensures counts { Counts (D.told desk.old) (D.told desk.new) result }
     ensures real { IfOk result (λ exit. exit ≢ Exit.Fault) }
 {
     match load(alloc, desk, line.web.as_slice(), change_word(line)) {
@@ -210,17 +186,12 @@ fn weave_named<D: Desk>(alloc: Global, desk: &mut D, line: &CommandLine) -> Resu
 }
 
 /// Does what a command line asks for.
-#[tactic(auto, using(cw_desk::specs::JournalLaws::growing))]
 fn weave_line<D: Desk>(alloc: Global, desk: &mut D, line: &CommandLine) -> Result<Exit, PutError>
     requires { 0 < length line.now.web }
-    ensures ok { (told : Files) → D.files desk.old ≡ Some told →
-        OnOk result (D.journal desk.new ≡ grown (D.journal desk.old) (weave_line (flags_are_built line.now.flags) line.now (get told)).rest) }
-    ensures exit { (told : Files) → D.files desk.old ≡ Some told →
-        IfOk result (λ exit. exit ≡ (weave_line (flags_are_built line.now.flags) line.now (get told)).exit) }
-    ensures err { (told : Files) → D.files desk.old ≡ Some told →
-        OnErr result (GrownByPart (D.journal desk.old) (D.journal desk.new) (weave_line (flags_are_built line.now.flags) line.now (get told)).rest) }
-    ensures faults { D.faults desk.old ≤ D.faults desk.new }
-    ensures fault { IsErrOf result PutError.Fault → Rose (D.faults desk.old) (D.faults desk.new) }
+    ensures runs { (files : Files) → (D.told desk.old).files ≡ Some files →
+        Runs (weave_line (flags_are_built line.now.flags) line.now (get files))
+        (D.told desk.old) (D.told desk.new) result }
+    ensures counts { Counts (D.told desk.old) (D.told desk.new) result }
     ensures real { IfOk result (λ exit. exit ≢ Exit.Fault) }
 {
     if !flags_are_built(&line.flags) {
@@ -231,17 +202,12 @@ fn weave_line<D: Desk>(alloc: Global, desk: &mut D, line: &CommandLine) -> Resul
 }
 
 /// Prints the banner, and does what a command asks for.
-#[tactic(auto, using(cw_desk::specs::JournalLaws::growing))]
 fn run<D: Desk>(alloc: Global, desk: &mut D, command: &Command) -> Result<Exit, PutError>
     requires { HasWebWord command.now }
-    ensures ok { (told : Files) → D.files desk.old ≡ Some told →
-        OnOk result (D.journal desk.new ≡ grown (D.journal desk.old) (events (weave_command_of command.now (get told)))) }
-    ensures exit { (told : Files) → D.files desk.old ≡ Some told →
-        IfOk result (λ exit. exit ≡ (weave_command_of command.now (get told)).run.exit) }
-    ensures err { (told : Files) → D.files desk.old ≡ Some told →
-        OnErr result (GrownByPart (D.journal desk.old) (D.journal desk.new) (events (weave_command_of command.now (get told)))) }
-    ensures faults { D.faults desk.old ≤ D.faults desk.new }
-    ensures fault { IsErrOf result PutError.Fault → Rose (D.faults desk.old) (D.faults desk.new) }
+    ensures runs { (files : Files) → (D.told desk.old).files ≡ Some files →
+        Runs (whole_run (weave_command_of command.now (get files)))
+        (D.told desk.old) (D.told desk.new) result }
+    ensures counts { Counts (D.told desk.old) (D.told desk.new) result }
     ensures real { IfOk result (λ exit. exit ≢ Exit.Fault) }
 {
     match command {
@@ -257,8 +223,7 @@ fn run<D: Desk>(alloc: Global, desk: &mut D, command: &Command) -> Result<Exit, 
         }
         Command::Weave(line) => {
             say_if(desk, line.flags.banner, Message::Banner)?;
-            let exit = weave_line(alloc, desk, line)?;
-            Ok(exit)
+            weave_line(alloc, desk, line)
         }
     }
 }
@@ -271,9 +236,9 @@ pub fn weave_command<D: Desk, L: Ledger>(
     desk: &mut D,
     steps: &mut Steps<L>,
 ) -> Exit
-    ensures woven { (told : Files) → D.files desk.old ≡ Some told →
-        Outcome (woven words.now (get told)) (D.journal desk.old) (D.journal desk.new) result }
-    ensures fault { result ≡ Exit.Fault → Rose (D.faults desk.old) (D.faults desk.new) }
+    ensures woven { (files : Files) → (D.told desk.old).files ≡ Some files →
+        Outcome (woven words.now (get files)) (D.told desk.old) (D.told desk.new) result }
+    ensures fault { result ≡ Exit.Fault → Rose (D.told desk.old).faults (D.told desk.new).faults }
     ensures steps { steps.new ≡ steps.old }
 {
     let _ = steps;

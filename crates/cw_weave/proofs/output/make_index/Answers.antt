@@ -1,13 +1,9 @@
--- The index was made before.
-use Rattle.std.proofs.Common.{[], ◌∷◌}
-use Rattle.cw_base.specs.declared.event.Event.TheVariants.{Made}
-use Rattle.cw_base.specs.declared.event.Out.TheVariants.{Idx}
-use Rattle.cw_desk.specs.JournalLaws.{part-second}
-use Rattle.cw_desk.specs.Results.{on_err}
+-- The index is made before the list of section names.
+use Rattle.cw_weave.proofs.EmitsLaws.{emits-stop, emits-then}
 use Rattle.cw_weave.proofs.output.make_index.Goals as goal
 
-pub returns-in_err-make-2-clause-err : goal.returns-in_err-make-2-clause-err
-returns-in_err-make-2-clause-err g c =
-    on_err c.from_residual-in_err-make-2.result
-    (part-second (g.D.Desk.journal c.args.desk.now) (Made Idx c.args.names.now.idx ∷ [])
-    (rw c.as_slice.ensures at c.in_ok-make.ensures.ok) (rw c.as_slice-2.ensures at c.in_err-make-2.ensures.err))
+pub returns-in_err-make-clause-emits : goal.returns-in_err-make-clause-emits
+returns-in_err-make-clause-emits g c = emits-stop _ (rw c.as_slice.ensures at c.in_err-make.ensures.emits) c.from_residual.ensures.1
+
+pub returns-clause-emits : goal.returns-clause-emits
+returns-clause-emits g c = emits-then (rw c.as_slice.ensures at c.in_ok-make.ensures.emits) (rw c.as_slice-2.ensures at c.make-2.ensures.emits)

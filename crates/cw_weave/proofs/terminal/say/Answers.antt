@@ -1,12 +1,11 @@
 -- What is printed is the message and its end.
-use Rattle.cw_desk.specs.Results.{on_err}
+use Rattle.std.proofs.Common.{ap}
+use Rattle.cw_base.specs.declared.event.Out.TheVariants.{Term}
+use Rattle.cw_desk.specs.Journal.{byte_events}
+use Rattle.cw_lines.specs.WritesLaws.{adds-events}
 use Rattle.cw_weave.specs.Notes.{says}
 use Rattle.cw_weave.proofs.terminal.say.Goals as goal
 
-pub returns-in_err-print-clause-err : goal.returns-in_err-print-clause-err
+pub returns : goal.returns
 unfolding says
-returns-in_err-print-clause-err g c = on_err c.from_residual.result (rw c.line.ensures at c.in_err-print.ensures.err)
-
-pub returns-clause-ok : goal.returns-clause-ok
-unfolding says
-returns-clause-ok g c = rw c.line.ensures at c.in_ok-print.ensures.ok
+returns g c = adds-events (ap (byte_events Term) c.line.ensures) c.print.ensures

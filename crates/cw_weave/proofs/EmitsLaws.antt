@@ -1,0 +1,87 @@
+-- Laws of calls that emit events: nothing, more after some, and a failure that ends the rest.
+use Rattle.std.specs.Prelude.{IsErrAnd, IfOk, OnErr, OnOk}
+use Rattle.std.proofs.Common.{◌≡◌, List, [], ◌++◌, Option, Result, Ok, Err, refl, sym, ap, ◌∙◌, subst}
+use Rattle.std.proofs.lemmas.List.{append-nil}
+use Rattle.std.proofs.lemmas.Result.{on_ok_weaker, on_err_weaker, err_from_is_err_and}
+use Rattle.cw_base.specs.declared.event.Event.{Event}
+use Rattle.cw_base.specs.declared.exit.Exit.{Exit}
+use Rattle.cw_desk.specs.Journal.{grown, GrownByPart}
+use Rattle.cw_desk.specs.JournalLaws.{grown-none, grown-after, part-first, part-second}
+use Rattle.cw_desk.specs.Told.{Told}
+use Rattle.cw_lines.specs.Writes.{Adds}
+use Rattle.cw_lines.specs.declared.put_error.PutError.{PutError}
+use Rattle.cw_weave.specs.Emits.{Emits, Run, Runs}
+
+is_err : {T E : Type 0} (result : Result T E) (error : E) → IsErrAnd result (λ found. found ≡ error) → result ≡ Err error
+is_err result error is = let p = err_from_is_err_and result is in p.1 ∙ ap Err p.2
+
+-- a call that only prints
+pub adds-emits : {T : Type 0} {events : List Event} {a b : Told} {result : Result T PutError} → Adds events a b result → Emits events a b result
+adds-emits adds = record { ok = adds.ok; err = adds.err }
+
+pub emits-none : {T : Type 0} (told : Told) (value : T) → Emits [] told told (Ok value)
+emits-none told value = record { ok = sym (grown-none told.journal); err = tt }
+
+-- another answer after the same events
+pub emits-value : {T U : Type 0} {events : List Event} {a b : Told} {value : T} (other : U) → Emits {T = T} events a b (Ok value) → Emits {T = U} events a b (Ok other)
+emits-value other done = record { ok = done.ok; err = tt }
+
+pub emits-then : {T U : Type 0} {first second : List Event} {a b c : Told} {value : T} {result : Result U PutError}
+    → Emits {T = T} first a b (Ok value) → Emits second b c result → Emits (first ++ second) a c result
+emits-then {first = first} {second = second} {a = a} {result = result} begun ended = record {
+  ok = on_ok_weaker result (λ grew. grown-after a.journal first second begun.ok grew) ended.ok;
+  err = on_err_weaker result (λ part. part-second a.journal first begun.ok part) ended.err;
+}
+
+pub emits-stop : {T U : Type 0} {first : List Event} (second : List Event) {a b : Told} {error : PutError} {result : Result U PutError}
+    → Emits {T = T} first a b (Err error) → IsErrAnd result (λ found. found ≡ error) → Emits (first ++ second) a b result
+emits-stop {U = U} {first = first} second {a = a} {b = b} {error = error} {result = result} begun is =
+    let stopped : Emits {T = U} (first ++ second) a b (Err error) = record { ok = tt; err = part-first second begun.err } in
+    subst (λ (r : Result U PutError). Emits (first ++ second) a b r) (sym (is_err result error is)) stopped
+
+pub emits-events : {T : Type 0} {first second : List Event} {a b : Told} {result : Result T PutError} → first ≡ second → Emits first a b result → Emits second a b result
+emits-events {a = a} {b = b} {result = result} same emits = subst (λ (events : List Event). Emits events a b result) same emits
+
+-- the same failure of a call around it
+pub emits-fail : {T U : Type 0} {events : List Event} {a b : Told} {error : PutError} {result : Result U PutError}
+    → Emits {T = T} events a b (Err error) → IsErrAnd result (λ found. found ≡ error) → Emits events a b result
+emits-fail {events = events} begun is = emits-events (append-nil events) (emits-stop [] begun is)
+
+-- The same of runs.
+pub runs-then : {T : Type 0} {first rest : List Event} {exit : Exit} {a b c : Told} {value : T} {result : Result Exit PutError}
+    → Emits {T = T} first a b (Ok value) → Runs (record { rest = rest; exit = exit }) b c result → Runs (record { rest = first ++ rest; exit = exit }) a c result
+runs-then begun ended = record { emits = emits-then begun ended.emits; exit = ended.exit }
+
+pub runs-stop : {T : Type 0} {first : List Event} (rest : List Event) (exit : Exit) {a b : Told} {error : PutError} {result : Result Exit PutError}
+    → Emits {T = T} first a b (Err error) → IsErrAnd result (λ found. found ≡ error) → Runs (record { rest = first ++ rest; exit = exit }) a b result
+runs-stop rest exit {error = error} {result = result} begun is = record {
+  emits = emits-stop rest begun is;
+  exit = subst (λ (r : Result Exit PutError). IfOk r (λ e. e ≡ exit)) (sym (is_err result error is)) tt;
+}
+
+-- the same failure of a call around it
+pub runs-fail : {T : Type 0} {events : List Event} (exit : Exit) {a b : Told} {error : PutError} {result : Result Exit PutError}
+    → Emits {T = T} events a b (Err error) → IsErrAnd result (λ found. found ≡ error) → Runs (record { rest = events; exit = exit }) a b result
+runs-fail exit {error = error} {result = result} begun is = record {
+  emits = emits-fail begun is;
+  exit = subst (λ (r : Result Exit PutError). IfOk r (λ e. e ≡ exit)) (sym (is_err result error is)) tt;
+}
+
+-- the events of a run, and its status
+pub runs-end : {T : Type 0} {events : List Event} {a b : Told} {value : T} (exit : Exit) → Emits {T = T} events a b (Ok value)
+    → Runs (record { rest = events; exit = exit }) a b (Ok exit)
+runs-end exit done = record { emits = emits-value exit done; exit = refl }
+
+-- the run that is known
+pub runs-known : {known run : Run} {a b : Told} {result : Result Exit PutError} → known ≡ run → Runs known a b result → Runs run a b result
+runs-known {a = a} {b = b} {result = result} same runs = subst (λ (run : Run). Runs run a b result) same runs
+
+-- after a call that left the journal as it was
+pub runs-after : {run : Run} {a b c : Told} {result : Result Exit PutError} → b.journal ≡ a.journal → Runs run b c result → Runs run a c result
+runs-after {run = run} {c = c} {result = result} same runs = record {
+  emits = record {
+    ok = subst (λ (journal : Option (List Event)). OnOk result (c.journal ≡ grown journal run.rest)) same runs.emits.ok;
+    err = subst (λ (journal : Option (List Event)). OnErr result (GrownByPart journal c.journal run.rest)) same runs.emits.err;
+  };
+  exit = runs.exit;
+}

@@ -1,0 +1,30 @@
+-- What a call of a run has done, from what the desk told before to what it tells now: calls that only print say `Adds`; those that may
+-- read and make files too say `Emits`, for the events, and `Counts`, for the count of faults.
+use Rattle.std.specs.Prelude.{◌≡◌, ◌≤◌, List, Result, IfOk, IsErrOf, OnErr, OnOk}
+use Rattle.cw_base.specs.declared.event.Event.{Event}
+use Rattle.cw_base.specs.declared.exit.Exit.{Exit}
+use Rattle.cw_desk.specs.Journal.{grown, GrownByPart}
+use Rattle.cw_desk.specs.Meaning.{Rose}
+use Rattle.cw_desk.specs.Told.{Told}
+use Rattle.cw_lines.specs.declared.put_error.PutError.{PutError}
+use Rattle.cw_lines.specs.declared.put_error.PutError.TheVariants.{Fault}
+
+-- what a run does behind the banner, and its status
+pub record Run : Type 0 where
+  pub rest : List Event
+  pub exit : Exit
+
+-- The journal has grown by these events; where the call was refused, by a first part of them.
+pub record Emits {T : Type 0} (events : List Event) (before now : Told) (result : Result T PutError) : Type 0 where
+  pub ok : OnOk result (now.journal ≡ grown before.journal events)
+  pub err : OnErr result (GrownByPart before.journal now.journal events)
+
+-- The count of faults did not fall, and it rose before Fault.
+pub record Counts {T : Type 0} (before now : Told) (result : Result T PutError) : Type 0 where
+  pub kept : before.faults ≤ now.faults
+  pub fault : IsErrOf result Fault → Rose before.faults now.faults
+
+-- The call has done what a run does, and answers its status.
+pub record Runs (run : Run) (before now : Told) (result : Result Exit PutError) : Type 0 where
+  pub emits : Emits run.rest before now result
+  pub exit : IfOk result (λ exit. exit ≡ run.exit)
