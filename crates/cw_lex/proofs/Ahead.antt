@@ -1,20 +1,19 @@
 -- What the rules for tokens see of the bytes ahead, where an `@` stands that no token takes.
-use Rattle.std.proofs.Common.{◌≡◌, ℕ, zero, suc, ◌+◌, ◌-◌, ◌<◌, ◌≤◌, Bool, true, false, ◌&&◌, ◌||◌, not, ◌==◌, nat_lt, List, [], ◌∷◌, ◌++◌, Option, Some, None, codes, length, take, drop, refl, sym, ap, ◌∙◌, arith, length-append}
+use Rattle.std.proofs.Common.{◌≡◌, ℕ, zero, suc, ◌+◌, ◌≤◌, Bool, true, false, ◌&&◌, ◌||◌, not, ◌==◌, nat_lt, List, [], ◌∷◌, ◌++◌, codes, length, take, drop, refl, sym, ap, ◌∙◌, arith}
 use Rattle.std.specs.Prelude.{if◌then◌else◌}
 use Rattle.std.specs.List.{list_any}
 use Rattle.cw_lex.specs.declared.classes.Class.{Class}
 use Rattle.cw_lex.specs.declared.classes.Class.TheVariants as classes
 use Rattle.cw_lex.specs.declared.signs.Sign.{Sign}
 use Rattle.cw_lex.specs.declared.signs.Sign.TheVariants as signs
-use Rattle.cw_lex.specs.declared.parts.Start.{Start}
 use Rattle.cw_lex.specs.declared.parts.Start.TheVariants as start
 use Rattle.cw_lex.specs.Bytes.{quote, apostrophe, star, plus, minus, slash, dot, digit_0, equals, at_sign, bar, left_paren, right_paren, comma, run, is_in, is_letter, is_letter_of, begins, begins_by, begins_with}
 use Rattle.cw_lex.specs.Signs.{all_signs, spelling, longer, longest}
 use Rattle.cw_lex.specs.Constants.{hexadecimal, fraction, exponent_sign, exponent, mantissa, decimal, number, constant}
 use Rattle.cw_lex.specs.Codes.{code_at, begins_section}
-use Rattle.cw_lex.specs.Tokens.{start_of, sign_or_other, head_sign_size, is_signed, behind_white, name_follows, is_parameter, parameter_follows, depth_size, section_code, alone_size, closes_on_line, is_include}
-use Rattle.cw_lex.proofs.Sizes.{run-le, mantissa-le, number-le, depth-le}
-use Rattle.cw_lex.proofs.Tests.{if-same, and-none, or-first, or-second}
+use Rattle.cw_lex.specs.Tokens.{start_of, sign_or_other, head_sign_size, is_signed, behind_white, name_follows, is_parameter, parameter_follows, depth_size, is_include}
+use Rattle.cw_lex.proofs.Sizes.{run-le, mantissa-le, number-le}
+use Rattle.cw_lex.proofs.Choices.{if-same, and-none, or-first, or-second}
 
 pub drop-same : (n : ℕ) (bs more : List ℕ) → n ≤ length bs → drop n (bs ++ more) ≡ drop n bs ++ more
 drop-same zero bs more h = refl

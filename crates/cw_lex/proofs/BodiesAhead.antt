@@ -1,5 +1,5 @@
 -- A body that ends before an `@` which it doesn't take is the same where the text ends there.
-use Rattle.std.proofs.Common.{◌≡◌, ℕ, zero, suc, ◌+◌, ◌-◌, ◌<◌, ◌≤◌, Bool, true, false, ◌&&◌, ◌||◌, not, ◌==◌, List, [], ◌∷◌, ◌++◌, Option, Some, None, codes, length, take, drop, refl, sym, ap, subst, ◌∙◌, arith, length-append, length-drop}
+use Rattle.std.proofs.Common.{◌≡◌, ℕ, suc, ◌+◌, ◌-◌, ◌<◌, ◌≤◌, Bool, true, false, ◌&&◌, ◌||◌, not, ◌==◌, List, [], ◌∷◌, ◌++◌, Some, None, codes, length, drop, refl, sym, ap, ◌∙◌, arith, length-append, length-drop}
 use Rattle.std.specs.Prelude.{if◌then◌else◌}
 use Rattle.std.proofs.lemmas.Bool.{eqb-true}
 use Rattle.cw_base.specs.declared.notes.NoteKind.{NoteKind}
@@ -8,12 +8,11 @@ use Rattle.cw_lex.specs.declared.bodies.Body.{Body}
 use Rattle.cw_lex.specs.declared.bodies.Body.TheVariants as bodies
 use Rattle.cw_lex.specs.declared.bodies.Inside.{Inside}
 use Rattle.cw_lex.specs.declared.bodies.Noted.{Noted}
-use Rattle.cw_lex.specs.Bytes.{newline, star, slash, greater, at_sign, backslash, bar, begins, begins_with}
-use Rattle.cw_lex.specs.Codes.{begins_section}
-use Rattle.cw_lex.specs.Bodies.{stops, takes_next, note_on, is_single, braces_after, stepped, goes_on, ended, note_here, with_note, noted, closing_bytes, stop_at, extent, all_notes, and_last, note_unless}
+use Rattle.cw_lex.specs.Bytes.{newline, star, slash, greater, at_sign, bar, begins, begins_with}
+use Rattle.cw_lex.specs.Bodies.{stops, takes_next, note_on, braces_after, stepped, goes_on, ended, note_here, with_note, noted, closing_bytes, stop_at, extent, all_notes, and_last, note_unless}
 use Rattle.cw_lex.proofs.Inside.{ended-some, ended-le}
 use Rattle.cw_lex.proofs.Sizes.{ended-most}
-use Rattle.cw_lex.proofs.Tests.{if-both}
+use Rattle.cw_lex.proofs.Choices.{if-both}
 use Rattle.cw_lex.proofs.Ahead.{drop-same, begins-same, section-same, with-same}
 
 -- the byte ahead is all that is looked at

@@ -11,7 +11,7 @@ use Rattle.cw_lex.specs.Lexing.{still_fresh, answers, fresh_at, last_at, beginni
 use Rattle.cw_lex.specs.Tokens.{all_cut, found}
 use Rattle.cw_lex.specs.Order.{begins_space, IsSpace, Stands, Covers}
 use Rattle.cw_lex.proofs.Taking.{AreBare, AreNotes, IsWhole, TakesAll, Takes, bare-all-cut, found-takes}
-use Rattle.cw_lex.proofs.Within.{Fits, found-fits}
+use Rattle.cw_lex.proofs.Within.{found-fits}
 
 -- white space up to a place that a token without bytes has
 no-space : (text : List ℕ) (place from : ℕ) → from ≡ place → IsSpace text from place

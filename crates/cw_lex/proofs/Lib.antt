@@ -12,7 +12,7 @@ pub mod White
 pub mod ShortTokens
 pub mod Runs
 pub mod HeadSpaces
-pub mod Tests
+pub mod Choices
 pub mod Taking
 pub mod Sizes
 pub mod Within

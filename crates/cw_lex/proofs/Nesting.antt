@@ -15,7 +15,7 @@ use Rattle.cw_lex.specs.declared.tokens.Mode.{Mode}
 use Rattle.cw_lex.specs.declared.tokens.Mode.TheVariants as modes
 use Rattle.cw_lex.specs.declared.tokens.TokKind.{TokKind}
 use Rattle.cw_lex.specs.declared.tokens.TokKind.TheVariants as kind
-use Rattle.cw_lex.specs.Answers.{Answer, Token, Begin, Note, Finish, Where, Cut, Found, before, note_answers, token_of, plain}
+use Rattle.cw_lex.specs.Answers.{Answer, Token, Note, Finish, Where, Cut, Found, before, note_answers, token_of, plain}
 use Rattle.cw_lex.specs.declared.classes.Class.TheVariants as classes
 use Rattle.cw_lex.specs.Bytes.{newline, backslash, bar, at_sign, equals, comma, left_paren, right_paren, run, begins, is_letter, is_in, quote, apostrophe, slash, star, hash, less}
 use Rattle.cw_lex.specs.Bodies.{one_note, note_unless, noted}
@@ -30,7 +30,7 @@ use Rattle.cw_lex.specs.Tokens.{one, skipped_byte, dropped_code, identifier, str
 use Rattle.cw_lex.specs.Lexing.{answers, joined, tokens_of, still_fresh, fresh_at, last_at}
 use Rattle.cw_lex.specs.Nested.{Level, InCode, InComment, after_token, levels_after, all_levels_after, IsNested, is_section_kind, is_section_answer, begins_section_in, until_section, is_c_mode}
 use Rattle.cw_lex.proofs.Sizes.{and-left, and-right}
-use Rattle.cw_lex.proofs.Tests.{if-both, or-false, or-first, or-second}
+use Rattle.cw_lex.proofs.Choices.{if-both, or-false, or-first, or-second}
 
 levels-append : (xs bs : List Answer) (ls ms : List Level) → all_levels_after xs ls ≡ Some ms → all_levels_after (xs ++ bs) ls ≡ all_levels_after bs ms
 levels-append [] bs ls ms h = ap (all_levels_after bs) (let e : ls ≡ ms = cc in e)

@@ -1,14 +1,14 @@
 -- The scan of a part is the scan of the whole there.
-use Rattle.std.proofs.Common.{◌≡◌, ℕ, zero, suc, ◌+◌, ◌-◌, ◌<◌, ◌≤◌, Bool, true, false, ◌&&◌, ◌==◌, List, [], ◌∷◌, ◌++◌, Option, Some, None, length, take, drop, refl, sym, ap, subst, ◌∙◌, arith, append_assoc, length-append, length-drop}
+use Rattle.std.proofs.Common.{◌≡◌, ℕ, zero, suc, ◌+◌, ◌-◌, ◌<◌, ◌≤◌, Bool, true, false, ◌==◌, List, [], ◌∷◌, ◌++◌, Option, Some, length, take, drop, refl, sym, ap, subst, ◌∙◌, arith, append_assoc, length-drop}
 use Rattle.std.specs.Prelude.{if◌then◌else◌}
 use Rattle.std.proofs.lemmas.Bool.{eqb-true}
-use Rattle.std.proofs.lemmas.List.{drop-drop, length-take, take-take, take-append-drop, drop_all, take_all}
+use Rattle.std.proofs.lemmas.List.{drop-drop, length-take, take-take, take-append-drop, take_all}
 use Rattle.cw_lex.specs.declared.parts.Part.TheVariants as parts
 use Rattle.cw_lex.specs.declared.tokens.Mode.{Mode}
 use Rattle.cw_lex.specs.declared.tokens.Mode.TheVariants as modes
 use Rattle.cw_lex.specs.Bytes.{at_sign, greater, begins}
 use Rattle.cw_lex.specs.Codes.{code_of, is_section, begins_section}
-use Rattle.cw_lex.specs.Answers.{Answer, Where, Found}
+use Rattle.cw_lex.specs.Answers.{Answer, Where}
 use Rattle.cw_lex.specs.Lexing.{still_fresh, joined, answers, fresh_after, last_after, fresh_at, last_at, answers_at, beginning, tokens_of}
 use Rattle.cw_lex.specs.Tokens.{all_cut, section, in_text, found}
 use Rattle.cw_lex.specs.Parts.{stand, stands_at, answers_to, part_answers, is_section_at, IsCodeAt}

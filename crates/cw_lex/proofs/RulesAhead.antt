@@ -1,5 +1,5 @@
 -- What begins at a place is the same where the text ends before an `@` that it doesn't take.
-use Rattle.std.proofs.Common.{◌≡◌, ℕ, zero, suc, ◌+◌, ◌-◌, ◌<◌, ◌≤◌, Bool, true, false, ◌&&◌, ◌||◌, not, ◌==◌, nat_lt, List, [], ◌∷◌, ◌++◌, Option, Some, None, codes, length, take, drop, refl, sym, ap, subst, ◌∙◌, arith, length-append, length-drop, ◌⊎◌, inl, inr}
+use Rattle.std.proofs.Common.{◌≡◌, ℕ, zero, suc, ◌+◌, ◌-◌, ◌<◌, ◌≤◌, Bool, true, false, ◌&&◌, ◌||◌, not, ◌==◌, nat_lt, List, [], ◌∷◌, ◌++◌, Option, Some, None, length, take, drop, refl, sym, ap, subst, ◌∙◌, arith, ◌⊎◌, inl, inr}
 use Rattle.std.specs.Prelude.{if◌then◌else◌}
 use Rattle.std.proofs.lemmas.Bool.{eqb-true}
 use Rattle.std.proofs.lemmas.List.{drop_all}
@@ -20,19 +20,19 @@ use Rattle.cw_lex.specs.declared.parts.Start.TheVariants as start
 use Rattle.cw_lex.specs.declared.signs.Sign.TheVariants as signs
 use Rattle.cw_lex.specs.declared.tokens.TokKind.{TokKind}
 use Rattle.cw_lex.specs.declared.tokens.TokKind.TheVariants as kinds
-use Rattle.cw_lex.specs.Bytes.{newline, quote, apostrophe, hash, star, slash, less, greater, comma, right_paren, left_paren, equals, at_sign, backslash, bar, run, is_in, is_letter, begins, begins_with}
+use Rattle.cw_lex.specs.Bytes.{newline, quote, apostrophe, hash, star, slash, less, greater, comma, right_paren, equals, at_sign, backslash, bar, run, is_in, is_letter, begins}
 use Rattle.cw_lex.specs.Constants.{constant}
 use Rattle.cw_lex.specs.declared.signs.Sign.{Sign}
 use Rattle.cw_lex.specs.Signs.{all_signs, longest, spelling}
 use Rattle.cw_lex.specs.Codes.{code_at, begins_section, has_control_text, effect_in_limbo, effect_in_tex}
 use Rattle.cw_lex.specs.Names.{is_void}
 use Rattle.cw_lex.specs.Bodies.{at_start, stops, takes_next, goes_on, stepped, extent, ended, noted, one_note, note_unless}
-use Rattle.cw_lex.specs.Answers.{Answer, Token, Begin, Finish, Note, Where, Cut, Found, before, note_answers, token_of, plain, dropped}
-use Rattle.cw_lex.specs.Tokens.{comment_kind, missing_brace, sign_or_other, identifier, string, string_of, closes_on_line, include_name, control_text, section_name, alone_size, is_name, is_quote, control_or_plain, code_token, dropped_code, depth_size, section_code, is_signed, is_head, in_hash_line, behind_include, passed, moved, one, skipped_byte, all_cut, section, line_end, comment_end, comment_begin, inner_begin, inner_end, comment_closed, is_deep, piece_start, piece, comment_text, effect_in, may_head, code_by, in_code, start_of, behind_word, is_include, is_space, takes_hash_line, ends_at_bar, code_text, limbo_by, limbo_text, tex_by, tex_text, head_text, name_follows, macro_name, parameter_follows, parameter, behind_format, format_name, behind_head, part_text, in_text, found, with_inner}
-use Rattle.cw_lex.proofs.Tests.{if-both, if-same}
+use Rattle.cw_lex.specs.Answers.{Answer, Token, Begin, Finish, Note, Where, Cut, Found, before, note_answers, plain, dropped}
+use Rattle.cw_lex.specs.Tokens.{comment_kind, missing_brace, sign_or_other, identifier, string, string_of, closes_on_line, include_name, section_name, is_name, is_quote, control_or_plain, code_token, dropped_code, depth_size, section_code, is_signed, is_head, in_hash_line, behind_include, passed, moved, one, all_cut, section, comment_begin, comment_closed, is_deep, piece_start, piece, comment_text, effect_in, may_head, code_by, in_code, start_of, is_space, takes_hash_line, ends_at_bar, code_text, limbo_by, limbo_text, tex_by, tex_text, head_text, name_follows, macro_name, parameter_follows, parameter, format_name, behind_head, part_text, in_text, found}
+use Rattle.cw_lex.proofs.Choices.{if-both}
 use Rattle.cw_lex.proofs.Sizes.{and-right, run-le, depth-le}
-use Rattle.cw_lex.proofs.Ahead.{drop-same, take-same, begins-same, with-same, run-same, section-same, constant-same, start_of-same, signed-same, name-same, parameter-same, paren-same, include-same, depth-same}
-use Rattle.cw_lex.proofs.BodiesAhead.{NoAt, SameExtent, SameBody, body-same, extent-same, all_notes-same}
+use Rattle.cw_lex.proofs.Ahead.{drop-same, take-same, begins-same, run-same, section-same, constant-same, start_of-same, signed-same, name-same, parameter-same, paren-same, include-same, depth-same}
+use Rattle.cw_lex.proofs.BodiesAhead.{NoAt, body-same, extent-same, all_notes-same}
 
 -- two cuts that are the same where the first has no more than so many bytes
 record CutLocal (left : ℕ) (c d : Cut) : Type 0 where

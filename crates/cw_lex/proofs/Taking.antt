@@ -1,12 +1,10 @@
 -- What begins at a place takes the bytes there: answers without bytes come first, and then what has them all.
-use Rattle.std.proofs.Common.{◌≡◌, ℕ, zero, suc, ◌+◌, ◌-◌, ◌<◌, ◌≤◌, Bool, true, false, true≢false, ◌&&◌, ◌||◌, not, ◌==◌, nat_lt, List, [], ◌∷◌, ◌++◌, length, take, drop, refl, sym, ap, subst, ◌∙◌, arith, Option, Some, None, codes, append_assoc}
+use Rattle.std.proofs.Common.{◌≡◌, ℕ, suc, ◌+◌, ◌-◌, ◌<◌, Bool, true, false, ◌&&◌, ◌||◌, not, ◌==◌, nat_lt, List, [], ◌∷◌, ◌++◌, length, take, drop, refl, sym, ap, ◌∙◌, arith, Option, Some, None, append_assoc}
 use Rattle.std.specs.Prelude.{if◌then◌else◌}
-use Rattle.std.proofs.lemmas.Bool.{eqb-true, ltb-true}
+use Rattle.std.proofs.lemmas.Bool.{ltb-true}
 use Rattle.cw_base.specs.declared.notes.NoteKind.{NoteKind}
 use Rattle.cw_base.specs.declared.notes.NoteKind.TheVariants.{MissingBrace, ImproperMacro, ImproperFormat}
 use Rattle.cw_lex.specs.declared.bodies.Noted.{Noted}
-use Rattle.cw_lex.specs.declared.bodies.Body.TheVariants as bodies
-use Rattle.cw_lex.specs.declared.bodies.Inside.{Inside}
 use Rattle.cw_lex.specs.declared.classes.Class.{Class}
 use Rattle.cw_lex.specs.declared.classes.Class.TheVariants as classes
 use Rattle.cw_lex.specs.declared.codes.Code.{Code}
@@ -21,17 +19,17 @@ use Rattle.cw_lex.specs.declared.parts.Start.TheVariants as start
 use Rattle.cw_lex.specs.declared.signs.Sign.{Sign}
 use Rattle.cw_lex.specs.declared.signs.Sign.TheVariants as signs
 use Rattle.cw_lex.specs.declared.tokens.TokKind.TheVariants as kinds
-use Rattle.cw_lex.specs.Bytes.{newline, quote, hash, apostrophe, star, comma, slash, less, equals, left_paren, right_paren, at_sign, bar, backslash, run, is_in, is_letter, is_digit, begins, begins_with, begins_by}
+use Rattle.cw_lex.specs.Bytes.{newline, quote, hash, apostrophe, star, comma, slash, less, equals, right_paren, at_sign, bar, backslash, run, is_in, is_letter, is_digit, begins, begins_by}
 use Rattle.cw_lex.specs.Signs.{all_signs, longest, spelling}
 use Rattle.cw_lex.specs.Constants.{constant}
 use Rattle.cw_lex.specs.Codes.{code_at, begins_section, has_control_text, effect_in_limbo}
 use Rattle.cw_lex.specs.Bodies.{stops, goes_on, extent, ended, noted, one_note, note_unless}
 use Rattle.cw_lex.specs.Answers.{Answer, Token, Begin, Finish, Note, Seen, Where, Cut, Found, before, note_answers, plain, dropped}
 use Rattle.cw_lex.specs.Order.{begins_space}
-use Rattle.cw_lex.specs.Tokens.{in_hash_line, behind_include, takes_hash_line, is_space, is_deep, ends_at_bar, closes_on_line, moved, passed, one, skipped_byte, missing_brace, comment_end, inner_cut, comment_cut, part_cut, inner_or_none, all_cut, section, section_code, line_end, sign_or_other, start_of, identifier, is_name, is_quote, alone_size, control_or_plain, effect_in, code_by, in_code, string, code_token, dropped_code, include_name, comment_begin, inner_begin, inner_end, code_text, piece_start, piece, comment_closed, comment_text, limbo_by, limbo_text, tex_by, tex_text, head_text, behind_white, name_follows, macro_name, is_parameter, parameter_follows, parameter, format_name, behind_head, part_text, in_text, found}
+use Rattle.cw_lex.specs.Tokens.{in_hash_line, behind_include, takes_hash_line, is_space, is_deep, ends_at_bar, closes_on_line, moved, passed, one, skipped_byte, comment_end, inner_cut, comment_cut, part_cut, inner_or_none, all_cut, section, section_code, line_end, sign_or_other, start_of, identifier, is_name, is_quote, alone_size, control_or_plain, effect_in, code_by, in_code, string, code_token, dropped_code, include_name, comment_begin, inner_begin, inner_end, code_text, piece_start, piece, comment_closed, comment_text, limbo_by, limbo_text, tex_by, tex_text, head_text, behind_white, name_follows, macro_name, parameter_follows, parameter, format_name, behind_head, part_text, in_text, found}
 use Rattle.cw_lex.specs.Codes.{effect_in_tex}
 use Rattle.cw_lex.proofs.Inside.{ended-some}
-use Rattle.cw_lex.proofs.Tests.{if-both, or-left, or-right, or-false, at-byte}
+use Rattle.cw_lex.proofs.Choices.{if-both, or-left, or-right, or-false, at-byte}
 
 -- answers without bytes at a place
 abbrev pub AreBare : ℕ → List Answer → Type 0

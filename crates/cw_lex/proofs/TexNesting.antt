@@ -1,8 +1,6 @@
 -- The scanner's answers over TeX text are nested.
-use Rattle.std.proofs.Common.{◌≡◌, ℕ, zero, suc, ◌+◌, ◌-◌, Bool, true, false, not, ◌&&◌, ◌||◌, Option, Some, None, List, [], ◌∷◌, ◌++◌, take, drop, refl, sym, ◌∙◌, ap, subst, append_assoc}
+use Rattle.std.proofs.Common.{◌≡◌, ℕ, zero, suc, ◌+◌, ◌-◌, Bool, true, false, ◌&&◌, ◌||◌, Option, Some, None, List, [], ◌∷◌, ◌++◌, take, drop, refl, sym, ◌∙◌, ap}
 use Rattle.std.specs.Prelude.{if◌then◌else◌, ◌==◌}
-use Rattle.std.specs.List.{list_any}
-use Rattle.cw_base.specs.declared.notes.NoteKind.TheVariants as notes
 use Rattle.cw_lex.specs.declared.bodies.Noted.{Noted}
 use Rattle.cw_lex.specs.declared.classes.Class.TheVariants as classes
 use Rattle.cw_lex.specs.declared.codes.Code.{Code}
@@ -17,15 +15,14 @@ use Rattle.cw_lex.specs.declared.parts.Start.TheVariants as start
 use Rattle.cw_lex.specs.declared.tokens.Mode.TheVariants as modes
 use Rattle.cw_lex.specs.declared.tokens.TokKind.{TokKind}
 use Rattle.cw_lex.specs.declared.tokens.TokKind.TheVariants as kind
-use Rattle.cw_lex.specs.Bytes.{at_sign, bar, star, equals, begins, is_in, run}
-use Rattle.cw_lex.specs.Bodies.{one_note, note_unless}
+use Rattle.cw_lex.specs.Bytes.{at_sign, bar, equals, begins, is_in, run}
 use Rattle.cw_lex.specs.Codes.{code_at, begins_section, effect_in_tex}
 use Rattle.cw_lex.specs.Answers.{Answer, Token, Begin, Finish, Note, Where, Cut, Found, note_answers, plain}
-use Rattle.cw_lex.specs.Lexing.{answers, joined, tokens_of, still_fresh, fresh_at, last_at}
-use Rattle.cw_lex.specs.Tokens.{one, skipped_byte, dropped_code, moved, is_name, is_head, code_token, in_hash_line, ends_at_bar, inner_begin, inner_cut, comment_cut, inner_or_none, all_cut, start_of, in_code, code_text, tex_by, tex_text, head_text, in_text, section, section_code, found}
+use Rattle.cw_lex.specs.Lexing.{answers, tokens_of, still_fresh, fresh_at, last_at}
+use Rattle.cw_lex.specs.Tokens.{one, dropped_code, moved, is_name, is_head, code_token, comment_cut, inner_or_none, all_cut, start_of, in_code, tex_by, tex_text, head_text, in_text, section, section_code, found}
 use Rattle.cw_lex.specs.Nested.{Level, InCode, InComment, after_token, after_begin, levels_after, all_levels_after, tex_levels_after, all_tex_levels_after, IsTexNested, is_section_kind, is_part_kind, begins_part_in, is_part_answer}
-use Rattle.cw_lex.proofs.Tests.{if-both, or-first, or-second, or-right}
-use Rattle.cw_lex.proofs.Nesting.{Goes, with_code, levels_in, all_inner, nested_in, in_tex, is_open, Begun, begins-so, in-code-goes, before-code, open-goes, inner-nested, open-levels, cut-one, IsSection, section-kind}
+use Rattle.cw_lex.proofs.Choices.{if-both, or-first, or-second}
+use Rattle.cw_lex.proofs.Nesting.{Goes, levels_in, nested_in, in_tex, Begun, begins-so, in-code-goes, before-code, open-goes, inner-nested, open-levels, cut-one, section-kind}
 
 -- ## Levels
 

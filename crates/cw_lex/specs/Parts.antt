@@ -1,5 +1,5 @@
 -- The scan of a part of a text, and the scan of the whole.
-use Rattle.std.specs.Prelude.{◌≡◌, ℕ, zero, suc, ◌+◌, ◌-◌, ◌<◌, ◌≤◌, Bool, true, false, ◌&&◌, List, [], ◌∷◌, ◌++◌, Option, Some, None, length, drop, take}
+use Rattle.std.specs.Prelude.{◌≡◌, ℕ, zero, suc, ◌+◌, ◌-◌, ◌≤◌, Bool, true, false, ◌&&◌, List, [], ◌∷◌, ◌++◌, Option, Some, None, length, drop, take}
 use Rattle.cw_lex.specs.declared.tokens.Mode.{Mode}
 use Rattle.cw_lex.specs.declared.tokens.Mode.TheVariants as modes
 use Rattle.cw_lex.specs.Bytes.{at_sign, greater, begins}
@@ -8,11 +8,11 @@ use Rattle.cw_lex.specs.Answers.{Answer, Where, Found}
 use Rattle.cw_lex.specs.Tokens.{found, all_cut}
 use Rattle.cw_lex.specs.Lexing.{still_fresh, joined, fresh_at, last_at, answers_at, beginning, tokens_of}
 
--- Where the scan of these bytes stands behind the first `n` of them; None inside a token. The first `taken` belong to what
--- was answered before.
 abbrev pub followed : Found → (Where → ℕ → Option Where) → Option Where
 followed f rest = rest f.next f.more
 
+-- Where the scan of these bytes stands behind the first `n` of them; None inside a token. The first `taken` belong to what
+-- was answered before.
 abbrev pub stand : ℕ → List ℕ → Where → Bool → ℕ → ℕ → ℕ → Option Where
 stand zero bytes w fresh last place zero = Some w
 stand zero bytes w fresh last place (suc taken) = None
