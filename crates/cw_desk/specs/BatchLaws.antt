@@ -13,7 +13,8 @@ pub hands-rest : {out : Out} {bytes left : List ℕ} {count : ℕ} {answer : Flu
     → PutsFirst out bytes count answer old new → left ≡ drop count bytes → HandsOn out answer bytes left old new
 hands-rest {out = out} {bytes = bytes} {count = count} {old = old} {new = new} puts is_left = record {
   part = part-bytes old.journal out bytes count puts.journal;
-  rest = ap (λ (waiting : List ℕ). grown new.journal (byte_events out waiting)) is_left ∙ grown-rest old.journal out bytes count puts.journal;
+  rest = ap (λ (waiting : List ℕ). grown new.journal (byte_events out waiting)) is_left
+      ∙ grown-rest old.journal out bytes count puts.journal;
   same = puts.same;
   done = λ answer. is_left ∙ drop_all count bytes (let all : count ≡ length bytes = puts.done answer in omega arith);
   less = omega (arith, ap length is_left, length-drop count bytes);

@@ -53,7 +53,8 @@ pub ruleset growing = (part-same, part-all, part-first, part-second, grown-after
 
 -- after the first bytes come the next ones, as they are sliced
 pub grown-next : (old : Option (List Event)) {mid new : Option (List Event)} (out : Out) (bytes : List ℕ) (done count : ℕ)
-    → mid ≡ grown old (byte_events out (take done bytes)) → new ≡ grown mid (byte_events out (take count (take (length bytes - done) (drop done bytes))))
+    → mid ≡ grown old (byte_events out (take done bytes))
+    → new ≡ grown mid (byte_events out (take count (take (length bytes - done) (drop done bytes))))
     → new ≡ grown old (byte_events out (take (done + count) bytes))
 grown-next old {mid = mid} out bytes done count begun ended =
     grown-after old (byte_events out (take done bytes)) (byte_events out (take count (drop done bytes))) begun
@@ -63,7 +64,8 @@ grown-next old {mid = mid} out bytes done count begun ended =
 
 -- what was put, and behind it what still waits, is what waited
 pub grown-rest : (old : Option (List Event)) {new : Option (List Event)} (out : Out) (bytes : List ℕ) (count : ℕ)
-    → new ≡ grown old (byte_events out (take count bytes)) → grown new (byte_events out (drop count bytes)) ≡ grown old (byte_events out bytes)
+    → new ≡ grown old (byte_events out (take count bytes))
+    → grown new (byte_events out (drop count bytes)) ≡ grown old (byte_events out bytes)
 grown-rest old out bytes count put =
     ap (λ (journal : Option (List Event)). grown journal (byte_events out (drop count bytes))) put
     ∙ grown-twice old (byte_events out (take count bytes)) (byte_events out (drop count bytes))
@@ -75,5 +77,6 @@ pub part-bytes : (old : Option (List Event)) {new : Option (List Event)} (out : 
     → new ≡ grown old (byte_events out (take count bytes)) → GrownByPart old new (byte_events out bytes)
 part-bytes old {new = new} out bytes count put =
     subst (λ (events : List Event). GrownByPart old new events)
-    (sym (byte_events-append out (take count bytes) (drop count bytes)) ∙ ap (λ (all : List ℕ). byte_events out all) (take-append-drop count bytes))
+    (sym (byte_events-append out (take count bytes) (drop count bytes))
+    ∙ ap (λ (all : List ℕ). byte_events out all) (take-append-drop count bytes))
     (part-first (byte_events out (drop count bytes)) (part-all old (byte_events out (take count bytes)) put))

@@ -37,7 +37,8 @@ pub record OnlyPuts (old new : Told) : Type 0 where
   pub same_rests : new.rest ≡ old.rest
   pub faults_kept : old.faults ≤ new.faults
 
--- Calls that open and read files: outputs, files and journal stay, and so does what is unread of the files that were open before.
+-- Calls that open and read files: outputs, files and journal stay, and so does what is unread of the files that were
+-- open before.
 pub record OnlyReads (old new : Told) : Type 0 where
   pub same_names : new.names ≡ old.names
   pub opened_kept : old.opened ≤ new.opened

@@ -15,11 +15,11 @@ use std::marker::Model;
 /// How many bytes are gathered at most.
 const ROOM: usize = 32768;
 
-/// A desk that gathers the bytes which consecutive calls put to one file, and hands them on to the desk below in few calls.
+/// A desk that gathers the bytes which consecutive calls put to one file, and hands them on in few calls.
 ///
-/// They are handed on before any other call, before bytes of another output, where the buffer is full, and by `finish`.
-/// The terminal's bytes are not gathered. Where handing on fails, so does the call that asked for it, and the bytes that were
-/// not taken go on waiting.
+/// They are handed on to the desk below before any other call, before bytes of another output, where the buffer is full,
+/// and by `finish`. The terminal's bytes are not gathered. Where handing on fails, so does the call that asked for it, and
+/// the bytes that were not taken go on waiting.
 #[derive(Drop)]
 pub struct Batch<D: Desk + Drop> {
     desk: D,
@@ -75,7 +75,8 @@ impl<D: Desk + Drop> Batch<D> {
 
     /// Hands on all bytes that wait. Those that were not taken go on waiting.
     fn flush(&mut self) -> Flushed
-        ensures hands { HandsOn self.old.out result self.old.waiting self.new.waiting (D.told self.old.below) (D.told self.new.below) }
+        ensures hands { HandsOn self.old.out result self.old.waiting self.new.waiting
+            (D.told self.old.below) (D.told self.new.below) }
         ensures done { result ≡ Flushed.Done → self.new.out ≡ Term }
         ensures other { result ≢ Flushed.Done → self.new.out ≡ self.old.out }
     {
@@ -95,7 +96,8 @@ impl<D: Desk + Drop> Batch<D> {
         ensures out { result ≡ Flushed.Done → self.new.out ≡ out }
         ensures room { result ≡ Flushed.Done → length self.new.waiting < ROOM }
         ensures within { length self.new.waiting ≤ ROOM }
-        ensures stays { out ≡ self.old.out → length self.old.waiting < ROOM → (result ≡ Flushed.Done) × (self.new ≡ self.old) }
+        ensures stays { out ≡ self.old.out → length self.old.waiting < ROOM →
+            (result ≡ Flushed.Done) × (self.new ≡ self.old) }
         ensures anew { result ≡ Flushed.Done → out ≢ self.old.out → self.new.waiting ≡ [] }
     {
         if self.out == out && self.buffer.len() < ROOM {
@@ -168,8 +170,8 @@ impl<D: Desk + Drop> Desk for Batch<D> {
     }
 }
 
-/// Lays a first part of the bytes into the buffer: all of them, or as many as there is room for. The first time it takes the
-/// whole buffer.
+/// Lays a first part of the bytes into the buffer: all of them, or as many as there is room for. The first time it takes
+/// the whole buffer.
 fn gather(buffer: &mut Vec<u8>, bytes: &[u8]) -> Result<usize, Memory>
     requires { length buffer.old.items ≤ ROOM }
     ensures taken { IfOk result (λ count. count ≡ min (length bytes.now) (ROOM - length buffer.old.items)) }

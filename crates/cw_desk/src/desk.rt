@@ -47,8 +47,8 @@ pub enum Taken {
 
 /// What the program reads and writes, and all that it can do outside its own memory.
 ///
-/// Contracts see what the desk tells: how many files were opened, which outputs are made, the files, the unread rest of each opened
-/// file, the journal of all that was written, and the count of faults. Memory may be answered at any time.
+/// Contracts see what the desk tells: how many files were opened, which outputs are made, the files, the unread rest of
+/// each opened file, the journal of all that was written, and the count of faults. Memory may be answered at any time.
 pub trait Desk {
     ghost told: { Self → Told };
 
@@ -56,7 +56,7 @@ pub trait Desk {
     fn open(&mut self, name: &[u8]) -> Opened
         ensures { Opens name.now result (told self.old) (told self.new) };
 
-    /// Reads the next bytes of an opened file into the front of the buffer. What is behind them in the buffer means nothing.
+    /// Reads the next bytes of an opened file into the front of the buffer. What is behind them in it means nothing.
     fn read(&mut self, id: FileId, buffer: &mut [u8]) -> Fetched
         requires given { id.index < (told self.old).opened }
         requires room { 0 < length buffer.old }

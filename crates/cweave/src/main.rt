@@ -28,8 +28,8 @@ fn read_words(rt: &HostRuntime) -> Result<Words, Memory> {
     }
 }
 
-/// Hands on what still waits at the end of a run, and answers how the program exits. After a fault or want of memory nothing more
-/// is handed on.
+/// Hands on what still waits at the end of a run, and answers how the program exits. After a fault or want of memory
+/// nothing more is handed on.
 fn end(exit: Exit, desk: Batch<FileDesk>) -> Exit
     ensures fault { exit ≡ Exit.Fault → result ≡ Exit.Fault }
     ensures memory { exit ≡ Exit.Memory → result ≡ Exit.Memory }
