@@ -1,4 +1,4 @@
-//! Runs in which each call fails in turn, over a desk and over a batch: no failed call is tried again, and no call follows.
+//! Runs in which each call fails in turn, over a desk and over a batch: none is tried again, and no call follows.
 use crate::tests::{FOO, desk_with, read_journal, weave};
 use crate::weave_command;
 use cw_base::{Exit, Memory, Silent, Steps, Words};
