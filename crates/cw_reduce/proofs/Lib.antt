@@ -23,4 +23,3 @@ pub mod Limits
 pub mod InnersKept
 pub mod ReadLaws
 pub mod HeadReads
-pub mod CutLaws

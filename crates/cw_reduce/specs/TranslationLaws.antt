@@ -1,5 +1,5 @@
 -- What holds of every translation.
-use Rattle.std.specs.Prelude.{◌≡◌, ℕ, List, Some, is_some}
+use Rattle.std.specs.Prelude.{◌≡◌, ◌≤◌, ℕ, List, Some, is_some}
 use Rattle.cw_base.specs.declared.flags.Flags.{Flags}
 use Rattle.cw_base.specs.declared.mode.MathMode.TheVariants.{Text}
 use Rattle.cw_lex.specs.Answers.{Answer}
@@ -8,6 +8,7 @@ use Rattle.cw_names.specs.Names.{Entry}
 use Rattle.cw_trees.specs.Flat.{struck}
 use Rattle.cw_trees.specs.Joining.{reads}
 use Rattle.cw_trees.specs.Tree.{Tree, Empty, Then, Sub, Inner}
+use Rattle.cw_reduce.specs.Counting.{limit_in, ticks_in}
 use Rattle.cw_reduce.specs.Translating.{NameTexts, translated}
 use Rattle.cw_reduce.specs.Visible.{shown}
 
@@ -29,3 +30,7 @@ pub record ReadsInText (tree : Tree) : Type 0 where
 
 abbrev pub StandsInText : Type 0
 StandsInText = (flags : Flags) (named : NameTexts) (answers : List Answer) (names : List Entry) (marks : List ℕ) → ReadsInText (translated flags named answers names marks).tree
+
+-- The steps of a translation are at most the limit of its texts.
+abbrev pub StaysWithinLimit : Type 0
+StaysWithinLimit = (flags : Flags) (named : NameTexts) (answers : List Answer) (names : List Entry) (marks : List ℕ) → ticks_in flags (translated flags named answers names marks).known.ended ≤ limit_in flags (translated flags named answers names marks).known.ended

@@ -1,6 +1,7 @@
 use Rattle.cw_reduce.proofs.HeadReads.{stands-in-text}
 use Rattle.cw_reduce.proofs.HeadsShown.{translated-shown}
+use Rattle.cw_reduce.proofs.Limits.{ticks-within}
 use Rattle.cw_reduce.proofs.laws.translation_laws.Goals as goal
 
 pub returns : goal.returns
-returns c = record { shown = translated-shown; modes = stands-in-text }
+returns c = record { shown = translated-shown; modes = stands-in-text; limit = ticks-within }

@@ -1,6 +1,5 @@
 use Rattle.std.proofs.Common.{◌≡◌, ◌+◌, ◌≤◌, [], ◌∷◌, refl, ap, ◌∙◌, subst, arith}
 use Rattle.std.proofs.lemmas.Result.{IfOk-weaker}
-
 use Rattle.cw_lex.specs.Lexing.{tokens_of}
 use Rattle.cw_tokens.specs.Shapes.{unfolded}
 use Rattle.cw_scraps.specs.Changing.{Keeps}
