@@ -1,0 +1,7 @@
+use Rattle.std.proofs.Common.{◌≡◌, ◌+◌, drop}
+use Rattle.std.specs.List.{position_or_len}
+use Rattle.cw_join.specs.Tokens.{is_marked}
+use Rattle.cw_join.proofs.naming.plain_size.Given as goal
+
+abbrev pub invariant-loop-i : goal.invariant-loop-i
+invariant-loop-i l = l.i + position_or_len is_marked (drop l.i l.bytes) ≡ position_or_len is_marked l.bytes

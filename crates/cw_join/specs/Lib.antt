@@ -1,0 +1,5 @@
+pub mod Stretches
+pub mod Early
+pub mod Runs
+pub mod Tokens
+pub mod Standing

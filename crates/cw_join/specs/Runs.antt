@@ -1,0 +1,52 @@
+-- What is kept of a run.
+use Rattle.std.specs.Prelude.{ℕ, ◌++◌, ◌||◌, Bool, true, false, List, [], ltb, max, codes}
+use Rattle.std.specs.List.{list_any}
+use Rattle.cw_trees.specs.declared.Control.{Control}
+use Rattle.cw_trees.specs.Printing.{break_bytes, is_backup, is_cancel, strength, strongest}
+use Rattle.cw_join.specs.declared.run.Pause.{Pause}
+use Rattle.cw_join.specs.declared.run.Pause.TheVariants.{Nothing, Blank, OptionalBreak, Break, BigBreak}
+use Rattle.cw_join.specs.declared.run.Run.{Run}
+
+-- the strength of its strongest break or blank, and whether it has a Cancel and a Backup
+pub record RunState : Type 0 where
+  pub strength : ℕ
+  pub cancelled : Bool
+  pub backed : Bool
+
+abbrev pub run_state : List Control → RunState
+run_state run = record { strength = strongest run; cancelled = list_any is_cancel run; backed = list_any is_backup run }
+
+-- one control more
+abbrev pub run_more : RunState → Control → RunState
+run_more run control = record {
+  strength = max run.strength (strength control);
+  cancelled = run.cancelled || is_cancel control;
+  backed = run.backed || is_backup control;
+}
+
+-- what a run prints when it has ended
+abbrev pub pause_bytes : Bool → RunState → List ℕ
+pause_bytes true run = elim run.cancelled [ true ↦ [] | false ↦ elim (ltb 0 run.strength) [ true ↦ codes " " | false ↦ [] ] ]
+pause_bytes false run = elim run.cancelled [ true ↦ [] | false ↦ break_bytes run.strength ]
+
+abbrev pub backs : Bool → RunState → Bool
+backs true run = false
+backs false run = elim run.cancelled [ true ↦ false | false ↦ run.backed ]
+
+abbrev pub step_bytes : Bool → List ℕ
+step_bytes true = codes "\\4"
+step_bytes false = []
+
+abbrev pub state_back : Bool → RunState → List ℕ
+state_back inner run = pause_bytes inner run ++ step_bytes (backs inner run)
+
+-- the strength of a pause
+abbrev pub strength_of : Pause → ℕ
+strength_of Nothing = 0
+strength_of Blank = 1
+strength_of OptionalBreak = 2
+strength_of Break = 3
+strength_of BigBreak = 4
+
+abbrev pub state_of : Run → RunState
+state_of run = record { strength = strength_of run.pause; cancelled = run.cancelled; backed = run.backed }

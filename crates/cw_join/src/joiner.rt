@@ -1,0 +1,190 @@
+//! The joining of the items of one C text.
+ghost use Rattle.std.specs.Prelude.{◌≡◌, ◌∷◌, ◌++◌, [], List, OnOk, length};
+ghost use Rattle.cw_trees.specs.Printing.{Printable, opened};
+ghost use Rattle.cw_tokens.specs.FlatItems.{item_is};
+ghost use Rattle.cw_lines.specs.Writes.{CanWrite, Puts};
+ghost use Rattle.cw_join.specs.Early.{added, late, run_front};
+ghost use Rattle.cw_join.specs.Runs.{run_more, run_state, state_back, state_of, step_bytes};
+ghost use Rattle.cw_join.specs.Standing.{Stands};
+ghost use Rattle.cw_join.specs.Stretches.{is_inner};
+ghost use Rattle.cw_join.specs.Tokens.{CanCome, HasRoom, IsNamed, item_bytes, printable};
+
+use crate::naming::{put_ident, put_reserved, text_of};
+use crate::pieces::{put_some, sign};
+use crate::run::{Run, indent, run_control};
+use crate::token::FlatToken;
+use cw_desk::Desk;
+use cw_lines::{LineOut, PutError};
+use cw_names::Names;
+use cw_tokens::FlatItem;
+use cw_trees::Control;
+use std::marker::Model;
+
+/// What is kept while the items of a C text are printed one after another: of the run that may go on only the strongest
+/// break, and whether it has a Cancel and a Backup. It takes no memory.
+#[derive(Drop)]
+pub struct Joiner {
+    inner: bool,
+    depth: u64,
+    run: Run,
+}
+
+impl Model for Joiner {
+    ghost use Rattle.cw_join.specs.Standing.{JoinerState};
+
+    ghost Value = { JoinerState };
+
+    ghost use Rattle.cw_join.specs.Runs.{state_of};
+
+    ghost view = { λ j. record { inner = j.inner; depth = j.depth; run = state_of j.run } };
+}
+
+impl Joiner {
+    /// A joiner to which nothing was pushed, of inner C text or of the C text of a part or a definition.
+    pub fn new(inner: bool) -> Joiner
+        ensures inner { result.inner ≡ inner }
+        ensures stands { Stands result [] }
+    {
+        Joiner {
+            inner,
+            depth: 0,
+            run: Run::new(),
+        }
+    }
+
+    /// Prints one item more. The break or blank of a run is printed when the run has ended, its indents at once. After an
+    /// `Err` the joiner is not to be used again.
+    pub fn push<D: Desk>(
+        &mut self,
+        token: FlatToken,
+        names: &Names,
+        out: &mut LineOut,
+        desk: &mut D,
+    ) -> Result<(), PutError>
+        requires can { CanWrite (D.told desk.old) out.old }
+        requires come { CanCome (length names.now) self.old.depth token.item }
+        ensures puts { (ps : List Printable) → Stands self.old ps
+            → Puts (added self.old.inner ps (printable names.now token.entry)) out.old out.new (D.told desk.old) (D.told desk.new) result }
+        ensures stands { (ps : List Printable) → Stands self.old ps
+            → OnOk result (Stands self.new (ps ++ printable names.now token.entry ∷ [])) }
+        ensures inner { OnOk result (self.new.inner ≡ self.old.inner) }
+    {
+        match run_control(token.item) {
+            Some(control) => self.push_control(control, out, desk),
+            None => self.push_other(token, names, out, desk),
+        }
+    }
+
+    /// Prints what a run at the end has still to print. The joiner is then as new.
+    pub fn finish<D: Desk>(&mut self, out: &mut LineOut, desk: &mut D) -> Result<(), PutError>
+        requires can { CanWrite (D.told desk.old) out.old }
+        requires closed { self.old.depth ≡ 0 }
+        ensures puts { (ps : List Printable) → Stands self.old ps
+            → Puts (late self.old.inner ps) out.old out.new (D.told desk.old) (D.told desk.new) result }
+        ensures stands { OnOk result (Stands self.new []) }
+        ensures inner { OnOk result (self.new.inner ≡ self.old.inner) }
+    {
+        end_run(self.run, self.is_inner(), out, desk)?;
+        self.run = Run::new();
+        Ok(())
+    }
+
+    // Whether runs are now those of inner C text.
+    fn is_inner(&self) -> bool
+        ensures { result ≡ is_inner self.now.inner self.now.depth }
+    {
+        self.inner || self.depth > 0
+    }
+
+    // A control goes into the run.
+    fn push_control<D: Desk>(
+        &mut self,
+        control: Control,
+        out: &mut LineOut,
+        desk: &mut D,
+    ) -> Result<(), PutError>
+        requires can { CanWrite (D.told desk.old) out.old }
+        ensures puts { Puts (run_front (is_inner self.old.inner self.old.depth) (control ∷ [])) out.old out.new (D.told desk.old) (D.told desk.new) result }
+        ensures state { OnOk result (self.new ≡ record self.old { run = run_more self.old.run control }) }
+    {
+        let front: &[u8] = if self.is_inner() {
+            b""
+        } else {
+            indent(control)
+        };
+        put_some(front, out, desk)?;
+        self.run = self.run.with(control);
+        Ok(())
+    }
+
+    // Any other item ends the run and prints its own bytes.
+    fn push_other<D: Desk>(
+        &mut self,
+        token: FlatToken,
+        names: &Names,
+        out: &mut LineOut,
+        desk: &mut D,
+    ) -> Result<(), PutError>
+        requires can { CanWrite (D.told desk.old) out.old }
+        requires come { CanCome (length names.now) self.old.depth token.item }
+        ensures puts { Puts (state_back (is_inner self.old.inner self.old.depth) self.old.run ++ item_bytes names.now token.entry.item token.entry.bytes.now)
+            out.old out.new (D.told desk.old) (D.told desk.new) result }
+        ensures state { OnOk result (self.new ≡ record self.old {
+          depth = opened self.old.depth (item_is token.entry.item);
+          run = run_state [];
+        }) }
+    {
+        end_run(self.run, self.is_inner(), out, desk)?;
+        put_item(token, names, out, desk)?;
+        self.depth = depth_behind(self.depth, token.item);
+        self.run = Run::new();
+        Ok(())
+    }
+}
+
+// Puts what a run prints when it has ended.
+fn end_run<D: Desk>(run: Run, inner: bool, out: &mut LineOut, desk: &mut D) -> Result<(), PutError>
+    requires can { CanWrite (D.told desk.old) out.old }
+    ensures { Puts (state_back inner (state_of run)) out.old out.new (D.told desk.old) (D.told desk.new) result }
+{
+    put_some(run.pause(inner), out, desk)?;
+    put_some(step(run.backs(inner)), out, desk)
+}
+
+// The step to the left of a run that has one.
+fn step(backs: bool) -> &'static [u8]
+    ensures { result.now ≡ step_bytes backs }
+{
+    if backs { b"\\4" } else { b"" }
+}
+
+// Puts the bytes of an item that is in no run.
+fn put_item<D: Desk>(
+    token: FlatToken,
+    names: &Names,
+    out: &mut LineOut,
+    desk: &mut D,
+) -> Result<(), PutError>
+    requires can { CanWrite (D.told desk.old) out.old }
+    requires named { IsNamed (length names.now) token.item }
+    ensures { Puts (item_bytes names.now token.entry.item token.entry.bytes.now) out.old out.new (D.told desk.old) (D.told desk.new) result }
+{
+    match token.item {
+        FlatItem::Ident(name, _) => put_ident(text_of(names, name), out, desk),
+        FlatItem::Reserved(name, _) => put_reserved(text_of(names, name), out, desk),
+        FlatItem::Control(control) => put_some(sign(control, token.bytes), out, desk),
+        FlatItem::Source(_) | FlatItem::Open | FlatItem::Close => put_some(token.bytes, out, desk),
+    }
+}
+
+// How many inner texts are open behind an item.
+fn depth_behind(depth: u64, item: FlatItem) -> u64
+    requires { HasRoom depth item }
+    ensures { result ≡ opened depth (item_is item) }
+{
+    match item {
+        FlatItem::Open => depth + 1,
+        FlatItem::Close => depth - 1,
+        _ => depth,
+    }
+}

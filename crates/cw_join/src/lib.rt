@@ -1,0 +1,14 @@
+//! The items of a flat translation, joined and printed: breaks, blanks and indents that follow one another print as one
+//! run, and every other item prints its own bytes.
+#![tactic(auto)]
+
+mod joiner;
+mod naming;
+mod pieces;
+mod run;
+#[cfg(test)]
+mod tests;
+mod token;
+
+pub use joiner::Joiner;
+pub use token::FlatToken;

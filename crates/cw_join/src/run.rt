@@ -1,0 +1,167 @@
+//! What is kept of a run of breaks, blanks, indents and the like.
+ghost use Rattle.std.specs.Prelude.{◌≡◌, false, max};
+ghost use Rattle.cw_trees.specs.Printing.{break_bytes, indent_bytes, is_backup as is_backup_sign, is_cancel as is_cancel_sign, run_sign, strength};
+ghost use Rattle.cw_tokens.specs.FlatItems.{item_is};
+ghost use Rattle.cw_join.specs.Runs.{backs, pause_bytes, run_more, state_of, strength_of};
+
+use cw_tokens::FlatItem;
+use cw_trees::Control;
+
+/// A break or a blank, the weaker before the stronger.
+#[derive(Clone, Copy)]
+pub(crate) enum Pause {
+    Nothing,
+    Blank,
+    OptionalBreak,
+    Break,
+    BigBreak,
+}
+
+/// The strongest break or blank of a run, and whether it has a Cancel and a Backup.
+#[derive(Clone, Copy)]
+pub(crate) struct Run {
+    pause: Pause,
+    cancelled: bool,
+    backed: bool,
+}
+
+impl Pause {
+    fn of(control: Control) -> Pause
+        ensures { strength_of result ≡ strength control }
+    {
+        match control {
+            Control::BigBreak => Pause::BigBreak,
+            Control::Break => Pause::Break,
+            Control::OptionalBreak => Pause::OptionalBreak,
+            Control::Blank => Pause::Blank,
+            _ => Pause::Nothing,
+        }
+    }
+
+    fn strength(self) -> u8
+        ensures { result ≡ strength_of self }
+    {
+        match self {
+            Pause::Nothing => 0,
+            Pause::Blank => 1,
+            Pause::OptionalBreak => 2,
+            Pause::Break => 3,
+            Pause::BigBreak => 4,
+        }
+    }
+
+    fn stronger(self, other: Pause) -> Pause
+        ensures { strength_of result ≡ max (strength_of self) (strength_of other) }
+    {
+        if self.strength() < other.strength() {
+            other
+        } else {
+            self
+        }
+    }
+
+    fn bytes(self) -> &'static [u8]
+        ensures { result.now ≡ break_bytes (strength_of self) }
+    {
+        match self {
+            Pause::Nothing => b"",
+            Pause::Blank => b" ",
+            Pause::OptionalBreak => b"\\5",
+            Pause::Break => b"\\6\n",
+            Pause::BigBreak => b"\\7\n",
+        }
+    }
+}
+
+impl Run {
+    /// A run of no controls.
+    pub(crate) fn new() -> Run
+        ensures { state_of result ≡ record { strength = 0; cancelled = false; backed = false } }
+    {
+        Run {
+            pause: Pause::Nothing,
+            cancelled: false,
+            backed: false,
+        }
+    }
+
+    /// The run with one control more.
+    pub(crate) fn with(self, control: Control) -> Run
+        ensures { state_of result ≡ run_more (state_of self) control }
+    {
+        Run {
+            pause: self.pause.stronger(Pause::of(control)),
+            cancelled: self.cancelled || is_cancel(control),
+            backed: self.backed || is_backup(control),
+        }
+    }
+
+    /// The break or blank that it prints when it has ended.
+    pub(crate) fn pause(self, inner: bool) -> &'static [u8]
+        ensures { result.now ≡ pause_bytes inner (state_of self) }
+    {
+        if self.cancelled {
+            return b"";
+        }
+        if !inner {
+            return self.pause.bytes();
+        }
+        if self.pause.strength() > 0 { b" " } else { b"" }
+    }
+
+    /// Whether it then moves the line to the left.
+    pub(crate) fn backs(self, inner: bool) -> bool
+        ensures { result ≡ backs inner (state_of self) }
+    {
+        !inner && !self.cancelled && self.backed
+    }
+}
+
+fn is_cancel(control: Control) -> bool
+    ensures { result ≡ is_cancel_sign control }
+{
+    match control {
+        Control::Cancel => true,
+        _ => false,
+    }
+}
+
+fn is_backup(control: Control) -> bool
+    ensures { result ≡ is_backup_sign control }
+{
+    match control {
+        Control::Backup => true,
+        _ => false,
+    }
+}
+
+/// What an indent or an outdent prints.
+pub(crate) fn indent(control: Control) -> &'static [u8]
+    ensures { result.now ≡ indent_bytes control }
+{
+    match control {
+        Control::Indent => b"\\1",
+        Control::Outdent => b"\\2",
+        _ => b"",
+    }
+}
+
+/// The control of an item that goes into a run.
+pub(crate) fn run_control(item: FlatItem) -> Option<Control>
+    ensures { result ≡ run_sign (item_is item) }
+{
+    match item {
+        FlatItem::Control(control) => match control {
+            Control::Blank
+            | Control::OptionalBreak
+            | Control::Break
+            | Control::BigBreak
+            | Control::Cancel
+            | Control::Backup
+            | Control::Indent
+            | Control::Outdent => Some(control),
+            _ => None,
+        },
+        _ => None,
+    }
+}
