@@ -1,0 +1,9 @@
+use Rattle.std.proofs.Common.{◌≡◌, ◌++◌}
+use Rattle.cw_print.specs.Comments.{closing_braces}
+use Rattle.cw_print.proofs.comments.put_closing_braces.Given as goal
+
+abbrev pub invariant-loop-open : goal.invariant-loop-open
+invariant-loop-open l = l.out ++ closing_braces l.open ≡ l.initial.out ++ closing_braces l.braces
+
+abbrev pub decreases-loop-open : goal.decreases-loop-open
+decreases-loop-open l = l.open

@@ -1,0 +1,9 @@
+use Rattle.std.proofs.Common.{length}
+use Rattle.cw_print.proofs.PieceLaws.{Prints}
+use Rattle.cw_print.proofs.comments.put_piece.Given as goal
+
+abbrev pub invariant-loop-two : goal.invariant-loop-two
+invariant-loop-two l = Prints l.initial.out l.text l.braces l.out l.rest l.open
+
+abbrev pub decreases-loop-two : goal.decreases-loop-two
+decreases-loop-two l = length l.rest

@@ -1,0 +1,9 @@
+use Rattle.std.proofs.Common.{◌≡◌, ◌++◌, length}
+use Rattle.cw_print.specs.Constants.{hex_digits}
+use Rattle.cw_print.proofs.constants.put_hex_digits.Given as goal
+
+abbrev pub invariant-loop-rest : goal.invariant-loop-rest
+invariant-loop-rest l = l.out ++ hex_digits l.rest ≡ l.initial.out ++ hex_digits l.bytes
+
+abbrev pub decreases-loop-rest : goal.decreases-loop-rest
+decreases-loop-rest l = length l.rest

@@ -1,0 +1,6 @@
+use Rattle.std.proofs.Common.{◌≡◌, ◌++◌, drop}
+use Rattle.cw_print.specs.Constants.{suffix}
+use Rattle.cw_print.proofs.constants.put_suffix.Given as goal
+
+abbrev pub invariant-loop-byte : goal.invariant-loop-byte
+invariant-loop-byte l = l.out ++ suffix (drop l.byte-index l.bytes) ≡ l.initial.out ++ suffix l.bytes

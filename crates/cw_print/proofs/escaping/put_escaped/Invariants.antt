@@ -1,0 +1,6 @@
+use Rattle.std.proofs.Common.{◌≡◌, ◌++◌, drop}
+use Rattle.cw_print.specs.Escaping.{escaped}
+use Rattle.cw_print.proofs.escaping.put_escaped.Given as goal
+
+abbrev pub invariant-loop-byte : goal.invariant-loop-byte
+invariant-loop-byte l = l.out ++ escaped (drop l.byte-index l.text) ≡ l.initial.out ++ escaped l.text

@@ -1,0 +1,47 @@
+-- What a constant prints.
+use Rattle.std.specs.Prelude.{ℕ, ◌-◌, ◌||◌, ◌==◌, nat_le, Bool, true, false, List, [], ◌∷◌}
+use Rattle.cw_lex.specs.Bytes.{is_digit, is_hex_digit}
+
+-- `\$` and its upper case letter for each letter behind the number
+abbrev pub upper : ℕ → ℕ
+upper byte = elim (nat_le 97 byte) [ true ↦ byte - 32 | false ↦ byte ]
+
+abbrev pub suffix : List ℕ → List ℕ
+suffix [] = []
+suffix (byte ∷ bytes) = 92 ∷ 36 ∷ upper byte ∷ suffix bytes
+
+-- digits and a sign up to the suffix
+abbrev pub is_exponent_byte : ℕ → Bool
+is_exponent_byte byte = is_digit byte || byte == 43 || byte == 45
+
+abbrev pub exponent : List ℕ → List ℕ
+exponent [] = []
+exponent (byte ∷ bytes) = elim (is_exponent_byte byte) [ true ↦ byte ∷ exponent bytes | false ↦ suffix (byte ∷ bytes) ]
+
+-- `\_` for the letter of an exponent
+abbrev pub behind_mantissa : ℕ → List ℕ → List ℕ
+behind_mantissa byte bytes =
+    elim (byte == 69 || byte == 101) [ true ↦ 92 ∷ 95 ∷ exponent bytes | false ↦ suffix (byte ∷ bytes) ]
+
+abbrev pub is_mantissa_byte : ℕ → Bool
+is_mantissa_byte byte = is_digit byte || byte == 46
+
+abbrev pub mantissa : List ℕ → List ℕ
+mantissa [] = []
+mantissa (byte ∷ bytes) = elim (is_mantissa_byte byte) [ true ↦ byte ∷ mantissa bytes | false ↦ behind_mantissa byte bytes ]
+
+abbrev pub hex_digits : List ℕ → List ℕ
+hex_digits [] = []
+hex_digits (byte ∷ bytes) = elim (is_hex_digit byte) [ true ↦ byte ∷ hex_digits bytes | false ↦ suffix (byte ∷ bytes) ]
+
+-- `\^` for `0x`, and `\~` for a `0` before a digit
+abbrev pub behind_zero : ℕ → List ℕ → List ℕ
+behind_zero byte bytes = elim (byte == 88 || byte == 120) [
+  | true ↦ 92 ∷ 94 ∷ hex_digits bytes
+  | false ↦ elim (is_digit byte) [ true ↦ 92 ∷ 126 ∷ mantissa (byte ∷ bytes) | false ↦ 48 ∷ mantissa (byte ∷ bytes) ]
+]
+
+abbrev pub constant : List ℕ → List ℕ
+constant [] = []
+constant (byte ∷ []) = mantissa (byte ∷ [])
+constant (byte ∷ next ∷ bytes) = elim (byte == 48) [ true ↦ behind_zero next bytes | false ↦ mantissa (byte ∷ next ∷ bytes) ]

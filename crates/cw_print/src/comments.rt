@@ -1,0 +1,137 @@
+//! The text of a comment.
+ghost use Rattle.std.specs.Prelude.{◌≡◌, [], ◌∷◌, ◌++◌, ◌<◌, ◌≤◌, ◌+◌, ◌^◌, length, OnOk, IfOk, IfSome, IfNone};
+ghost use Rattle.cw_print.specs.Comments.{blank_for, byte_piece, takes_next, piece, closing_braces};
+
+use crate::texts::is_at_pair;
+use cw_base::{Bytes, Memory};
+
+fn blank_for(byte: u8) -> u8
+    ensures { result ≡ blank_for byte }
+{
+    if byte == b'\n' { b' ' } else { byte }
+}
+
+fn takes_next(byte: u8, next: u8) -> bool
+    ensures { result ≡ takes_next byte next }
+{
+    byte == b'\\' && !(next == b'@')
+}
+
+// One byte of a comment in which so many braces are open. Answers how many are open behind it.
+fn put_byte(out: &mut Bytes, byte: u8, braces: usize) -> Result<usize, Memory>
+    requires { braces + 1 < 2 ^ 64 }
+    ensures bytes { OnOk result (out.new ≡ out.old ++ (byte_piece byte braces).bytes) }
+    ensures braces { IfOk result (λ after. after ≡ (byte_piece byte braces).braces) }
+    ensures few { IfOk result (λ after. after ≤ braces + 1) }
+{
+    match byte {
+        b'@' => Ok(braces),
+        b'{' => {
+            out.push(byte)?;
+            Ok(braces + 1)
+        }
+        b'}' => put_closed(out, braces),
+        _ => {
+            out.push(blank_for(byte))?;
+            Ok(braces)
+        }
+    }
+}
+
+// A brace that closes.
+fn put_closed(out: &mut Bytes, braces: usize) -> Result<usize, Memory>
+    ensures bytes { OnOk result (out.new ≡ out.old ++ (byte_piece 125 braces).bytes) }
+    ensures braces { IfOk result (λ after. after ≡ (byte_piece 125 braces).braces) }
+    ensures few { IfOk result (λ after. after ≤ braces) }
+{
+    if braces == 0 {
+        return Ok(0);
+    }
+    out.push(b'}')?;
+    Ok(braces - 1)
+}
+
+// The first two bytes of a text, and what stands behind each.
+#[derive(Clone, Copy)]
+struct Two<'a> {
+    first: u8,
+    second: u8,
+    others: &'a [u8],
+    behind: &'a [u8],
+}
+
+fn two_at(text: &[u8]) -> Option<Two>
+    ensures both { IfSome result (λ two. text.now ≡ two.first ∷ two.second ∷ two.behind.now) }
+    ensures others { IfSome result (λ two. two.others.now ≡ two.second ∷ two.behind.now) }
+    ensures none { IfNone result (length text.now ≤ 1) }
+{
+    let [first, others @ ..] = text else {
+        return None;
+    };
+    let [second, behind @ ..] = others else {
+        return None;
+    };
+    Some(Two {
+        first: *first,
+        second: *second,
+        others,
+        behind,
+    })
+}
+
+// The last byte, if there is one.
+fn put_last(out: &mut Bytes, text: &[u8], braces: usize) -> Result<usize, Memory>
+    requires short { length text.now ≤ 1 }
+    requires room { braces + length text.now < 2 ^ 64 }
+    ensures bytes { OnOk result (out.new ≡ out.old ++ (piece text.now braces).bytes) }
+    ensures braces { IfOk result (λ after. after ≡ (piece text.now braces).braces) }
+    ensures few { IfOk result (λ after. after ≤ braces + length text.now) }
+{
+    match text {
+        [] => Ok(braces),
+        [byte, ..] => put_byte(out, *byte, braces),
+    }
+}
+
+fn put_pair(out: &mut Bytes, first: u8, second: u8) -> Result<(), Memory>
+    ensures { OnOk result (out.new ≡ out.old ++ (first ∷ blank_for second ∷ [])) }
+{
+    out.push(first)?;
+    out.push(blank_for(second))
+}
+
+/// Appends a piece of a comment's text in which so many braces are open, and answers how many are open behind it.
+pub fn put_piece(out: &mut Bytes, text: &[u8], braces: usize) -> Result<usize, Memory>
+    requires { braces + length text.now < 2 ^ 64 }
+    ensures bytes { OnOk result (out.new ≡ out.old ++ (piece text.now braces).bytes) }
+    ensures braces { IfOk result (λ after. after ≡ (piece text.now braces).braces) }
+    ensures few { IfOk result (λ after. after ≤ braces + length text.now) }
+{
+    let mut rest = text;
+    let mut open = braces;
+    while let Some(two) = two_at(rest) {
+        if takes_next(two.first, two.second) {
+            put_pair(out, two.first, two.second)?;
+            rest = two.behind;
+        } else if is_at_pair(two.first, two.second) {
+            out.push(two.first)?;
+            rest = two.behind;
+        } else {
+            open = put_byte(out, two.first, open)?;
+            rest = two.others;
+        }
+    }
+    put_last(out, rest, open)
+}
+
+/// Appends the braces that a comment lacks at its end, and the one that ends it.
+pub fn put_closing_braces(out: &mut Bytes, braces: usize) -> Result<(), Memory>
+    ensures { OnOk result (out.new ≡ out.old ++ closing_braces braces) }
+{
+    let mut open = braces;
+    while open > 0 {
+        out.push(b'}')?;
+        open -= 1;
+    }
+    out.push(b'}')
+}

@@ -1,0 +1,34 @@
+//! Escaped bytes, and texts in typewriter type.
+ghost use Rattle.std.specs.Prelude.{◌≡◌, ◌++◌, OnOk};
+ghost use Rattle.cw_print.specs.Escaping.{is_escaped, escaped_byte, escaped};
+
+use cw_base::{Bytes, Memory};
+
+fn is_escaped(byte: u8) -> bool
+    ensures { result ≡ is_escaped byte }
+{
+    match byte {
+        b' ' | 9 | 11 | 12 | 13 => true,
+        b'\\' | b'#' | b'%' | b'$' | b'^' | b'{' | b'}' | b'~' | b'&' | b'_' => true,
+        _ => false,
+    }
+}
+
+pub(crate) fn put_escaped_byte(out: &mut Bytes, byte: u8) -> Result<(), Memory>
+    ensures { OnOk result (out.new ≡ out.old ++ escaped_byte byte) }
+{
+    if is_escaped(byte) {
+        out.push(b'\\')?;
+    }
+    out.push(byte)
+}
+
+/// Appends a text with a backslash before each byte that TeX would take for its own.
+pub fn put_escaped(out: &mut Bytes, text: &[u8]) -> Result<(), Memory>
+    ensures { OnOk result (out.new ≡ out.old ++ escaped text.now) }
+{
+    for byte in text {
+        put_escaped_byte(out, *byte)?;
+    }
+    Ok(())
+}

@@ -1,0 +1,89 @@
+//! The second scan of a C text, in which tokens are found by their numbers.
+ghost use Rattle.std.specs.Prelude.{◌≡◌, ◌≤◌, ◌<◌, ◌^◌, List, length, option_map};
+ghost use Rattle.cw_lex.specs.Answers.{Answer, seen};
+ghost use Rattle.cw_lex.specs.Lexing.{tokens_of};
+ghost use Rattle.cw_print.specs.Found.{numbered, IsAhead};
+
+use cw_base::Span;
+use cw_lex::{Lexed, Lexer, Mode, Tok};
+use std::marker::Model;
+
+/// A scan that is walked in step with the items of a translation. It is seen as all its answers: from the tokens whose
+/// numbers rise each is found a little ahead, and for a number that does not lie ahead the scan begins anew.
+#[derive(Drop)]
+pub struct Scan<'a> {
+    text: &'a [u8],
+    span: Span,
+    mode: Mode,
+    lexer: Lexer<'a>,
+    // Each number from this one on has its token ahead.
+    from: usize,
+}
+
+impl<'a> Model for Scan<'a> {
+    ghost use Rattle.std.specs.Prelude.{List};
+    ghost use Rattle.cw_lex.specs.Answers.{Answer};
+    ghost use Rattle.cw_lex.specs.Lexing.{tokens_of};
+    ghost use Rattle.cw_print.specs.Found.{IsAhead};
+    ghost use Rattle.cw_print.specs.Scanning.{IsScan};
+
+    ghost Value = { List Answer };
+
+    ghost view = { λ s. tokens_of s.text.now s.span.start s.span.end s.mode };
+
+    ghost invariant = { λ s. IsScan s.text.now s.span s.mode s.from s.lexer };
+}
+
+impl<'a> Scan<'a> {
+    /// A scan of this span of a text.
+    pub fn over(text: &'a [u8], span: Span, mode: Mode) -> Scan<'a>
+        requires order { span.start ≤ span.end }
+        requires within { span.end ≤ length text.now }
+        ensures { result ≡ tokens_of text.now span.start span.end mode }
+    {
+        Scan {
+            text,
+            span,
+            mode,
+            lexer: Lexer::over(text, span.start, span.end, mode),
+            from: 0,
+        }
+    }
+
+    /// The token that has this number, if there is one.
+    pub fn find(&mut self, number: u32) -> Option<Tok<'a>>
+        ensures found { option_map seen result ≡ numbered number self.old }
+        ensures same { self.new ≡ self.old }
+    {
+        let number = number as usize;
+        if number < self.from {
+            self.lexer = Lexer::over(self.text, self.span.start, self.span.end, self.mode);
+            self.from = 0;
+        }
+        let (found, from) = find_ahead(&mut self.lexer, self.from, number);
+        self.from = from;
+        found
+    }
+}
+
+// Goes on to the token of a number, and answers it and from which number on all lie ahead behind it.
+fn find_ahead<'a>(lexer: &mut Lexer<'a>, from: usize, number: usize) -> (Option<Tok<'a>>, usize)
+    requires order { from ≤ number }
+    requires number { number < 2 ^ 32 }
+    ensures found { option_map seen result.0 ≡ numbered number lexer.old }
+    ensures ahead { (all : List Answer) → IsAhead all from lexer.old → IsAhead all result.1 lexer.new }
+{
+    let mut passed = from;
+    loop {
+        match lexer.next() {
+            Lexed::Token(token) | Lexed::Begin(token) => {
+                passed = passed.max(token.span.start.saturating_add(1));
+                if token.span.start == number {
+                    return (Some(token), passed);
+                }
+            }
+            Lexed::Finish(_) | Lexed::Note(..) => {}
+            Lexed::End => return (None, passed),
+        }
+    }
+}

@@ -1,0 +1,50 @@
+//! The macros of signs.
+ghost use Rattle.std.specs.Prelude.{◌≡◌};
+ghost use Rattle.cw_print.specs.Tokens.{sign_macro};
+
+use cw_lex::Sign;
+
+/// What a sign prints: a macro, or itself.
+pub fn sign_macro(sign: Sign) -> &'static [u8]
+    ensures { result.now ≡ sign_macro sign }
+{
+    match sign {
+        Sign::Slash => b"/",
+        Sign::Dot => b".",
+        Sign::Less => b"<",
+        Sign::Greater => b">",
+        Sign::Bar => b"\\OR",
+        Sign::Assign => b"\\K",
+        Sign::Caret => b"\\XOR",
+        Sign::Percent => b"\\MOD",
+        Sign::Arrow => b"\\MG",
+        Sign::ShiftLeft => b"\\LL",
+        Sign::ShiftRight => b"\\GG",
+        Sign::Equal => b"\\E",
+        Sign::NotEqual => b"\\I",
+        Sign::AtMost => b"\\Z",
+        Sign::AtLeast => b"\\G",
+        Sign::AndAnd => b"\\W",
+        Sign::OrOr => b"\\V",
+        Sign::Not => b"\\R",
+        Sign::Tilde => b"\\CM",
+        Sign::PlusPlus => b"\\PP",
+        Sign::MinusMinus => b"\\MM",
+        Sign::Plus => b"+",
+        Sign::Minus => b"-",
+        Sign::Hash => b"\\#",
+        Sign::Star => b"*",
+        Sign::Ampersand => b"\\AND",
+        Sign::Question => b"\\?",
+        Sign::LeftParen => b"(",
+        Sign::LeftBracket => b"[",
+        Sign::RightParen => b")",
+        Sign::RightBracket => b"]",
+        Sign::LeftBrace => b"\\{",
+        Sign::RightBrace => b"\\}",
+        Sign::Comma => b",",
+        Sign::Semicolon => b";",
+        Sign::Colon => b":",
+        Sign::Ellipsis => b"\\,\\ldots\\,",
+    }
+}
