@@ -16,7 +16,7 @@ use Rattle.cw_lex.specs.Signs.{all_signs, longest, spelling}
 use Rattle.cw_lex.specs.Lexing.{fresh_at, last_at}
 use Rattle.cw_lex.specs.Tokens.{section, in_text, code_text, in_code, start_of, sign_or_other, is_space, is_include, behind_word, ends_at_bar, in_hash_line, passed, one, moved}
 use Rattle.cw_lex.specs.Coming.{is_code, found_at, bytes_at}
-use Rattle.cw_lex.specs.Short.{is_lone, IsShort}
+use Rattle.cw_lex.specs.Short.{is_lone, is_quote, IsShort, BeginsString}
 use Rattle.cw_lex.proofs.Lines.{in_text-code}
 use Rattle.cw_lex.proofs.White.{other-byte}
 use Rattle.cw_lex.proofs.Steps.{bytes-here}
@@ -128,6 +128,22 @@ letter-is bars b bs h = rw h refl
 number-is : (bars : Bool) (b : ℕ) (bs : List ℕ) → is_letter b ≡ false → nat_lt 0 (constant (b ∷ bs)) ≡ true → start_of bars b bs ≡ start.Constant
 number-is bars b bs h n = rw (h, n) refl
 
+quote-starts : (b : ℕ) → is_quote b ≡ true → IsStart b
+quote-starts b h = record {
+  newline = other-byte is_quote b 10 h refl;
+  blank = no-blank b (other-byte is_quote b 32 h refl) (other-byte is_quote b 9 h refl) (other-byte is_quote b 11 h refl) (other-byte is_quote b 12 h refl) (other-byte is_quote b 13 h refl);
+  backslash = other-byte is_quote b 92 h refl;
+  at_sign = other-byte is_quote b 64 h refl;
+  hash = other-byte is_quote b 35 h refl;
+  less = other-byte is_quote b 60 h refl;
+}
+
+string-is : (bars : Bool) (b : ℕ) (bs : List ℕ) → is_letter b ≡ false → is_in classes.Digit b ≡ false → is_quote b ≡ true
+    → start_of bars b bs ≡ start.Quoted b
+string-is bars b bs letter digit quoted =
+    let none = no-constant b bs digit (other-byte is_quote b 48 quoted refl) (other-byte is_quote b 46 quoted refl) in
+    rw (letter, none, quoted) refl
+
 -- behind no `include` of a `#` line the part is the next
 word-passed : (part : Part) (bytes : List ℕ) → (in_hash_line part && is_include bytes) ≡ false → behind_word part bytes ≡ passed part
 word-passed part bytes h = ap (λ t. if t then parts.Plain true true else passed part) h
@@ -184,3 +200,11 @@ sign-short text part comments place size sign code within letter digit lone e so
           start-found text part comments place (start.Sign sign) code (sign-starts b bs sign lone e) (sign-is (ends_at_bar part comments) b bs sign letter digit lone e)
           ∙ (λ i. one (in_hash_line part) (moved w (passed part)) place (b ∷ bs) (plain (kinds.Sign sign) (sym same i)));
     }
+
+pub string-begins : (text : List ℕ) (part : Part) (comments : List Opened) (place : ℕ) → is_code part comments ≡ true → place < length text
+    → is_letter (slice_index text place) ≡ false → is_in classes.Digit (slice_index text place) ≡ false → is_quote (slice_index text place) ≡ true
+    → BeginsString text (record { part = part; comments = comments }) place (slice_index text place)
+string-begins text part comments place code within letter digit quoted =
+    let b = slice_index text place in
+    let bs = drop (place + 1) text in
+    (within, start-found text part comments place (start.Quoted b) code (quote-starts b quoted) (string-is (ends_at_bar part comments) b bs letter digit quoted))

@@ -1,9 +1,12 @@
--- The short tokens of C text.
+-- The quick tokens of C text.
 use Rattle.std.specs.Prelude.{◌≡◌, ℕ, ◌+◌, ◌<◌, ◌≤◌, Bool, not, ◌||◌, ◌==◌, List, length}
+use Rattle.cw_lex.specs.declared.parts.Start.TheVariants as start
 use Rattle.cw_lex.specs.declared.short.Short.{Short}
-use Rattle.cw_lex.specs.Bytes.{hash, dot, slash, less, bar}
+use Rattle.cw_lex.specs.declared.short.Quick.{Quick}
+use Rattle.cw_lex.specs.declared.short.Quick.TheVariants as quick
+use Rattle.cw_lex.specs.Bytes.{quote, hash, apostrophe, dot, slash, less, bar}
 use Rattle.cw_lex.specs.Answers.{Where, plain}
-use Rattle.cw_lex.specs.Tokens.{one, moved, passed, in_hash_line}
+use Rattle.cw_lex.specs.Tokens.{one, moved, passed, in_hash_line, in_code}
 use Rattle.cw_lex.specs.Coming.{found_at, bytes_at}
 
 -- A token without notes begins at a place, behind which the C text goes on as it does.
@@ -15,3 +18,17 @@ pub record IsShort (text : List ℕ) (w : Where) (place : ℕ) (short : Short) :
 -- a byte that begins no token but signs, where it begins a sign
 abbrev pub is_lone : ℕ → Bool
 is_lone byte = not (byte == slash || byte == dot || byte == less || byte == bar || byte == hash)
+
+-- a string with this quote begins
+abbrev pub BeginsString : List ℕ → Where → ℕ → ℕ → Type 0
+BeginsString text w place quote =
+    (place < length text) × (found_at text w place ≡ in_code (start.Quoted quote) w place (bytes_at text place))
+
+-- A look tells so of the token that begins at a place.
+abbrev pub IsQuick : List ℕ → Where → ℕ → Quick → Type 0
+IsQuick text w place (quick.Short short) = IsShort text w place short
+IsQuick text w place (quick.Quoted quote) = BeginsString text w place quote
+
+-- a byte that begins a string
+abbrev pub is_quote : ℕ → Bool
+is_quote byte = byte == quote || byte == apostrophe

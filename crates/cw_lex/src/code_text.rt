@@ -13,13 +13,12 @@ use crate::classes::{Class, begins, begins_with, from, is_blank, is_digit, is_le
 use crate::codes::Effect;
 use crate::comment_text::{begin_comment, end_inner};
 use crate::constants::constant;
-use crate::cuttings::{
-    Cutting, code_token, dropped_code, include_name, note_unless, plain, string,
-};
-use crate::giving::{give, token};
+use crate::cuttings::{Cutting, code_token, dropped_code, include_name, note_unless, plain};
+use crate::giving::{give, give_string, token};
 use crate::parts::{Opened, Part, Start};
 use crate::pending::Pending;
 use crate::plain::begins_c;
+use crate::short::is_quote;
 use crate::signs::sign_at;
 use crate::state::{Clear, State};
 use crate::{Code, Lexed, TokKind};
@@ -259,11 +258,7 @@ fn in_code<'a>(text: &'a [u8], state: &mut State) -> Lexed<'a>
             let cut = plain(TokKind::Constant, constant(from(text, at)));
             give_code(text, state, next, cut)
         }
-        Start::Quoted(quote) => {
-            let next = state.part.passed();
-            let cut = string(text, at, TokKind::Quoted, 1, quote);
-            give_code(text, state, next, cut)
-        }
+        Start::Quoted(quote) => give_string(text, state, quote),
         Start::LongComment => begin_comment(text, state, true),
         Start::ShortComment => begin_comment(text, state, false),
         Start::Code(code) => code_in_code(text, state, code),
@@ -298,7 +293,7 @@ fn start_at(bar_ends: bool, text: &[u8], at: usize) -> Start
     if is_constant(byte, from(text, at)) {
         return Start::Constant;
     }
-    if byte == b'"' || byte == 39 {
+    if is_quote(byte) {
         return Start::Quoted(byte);
     }
     if byte == b'/' && begins(b'*', rest) {

@@ -58,6 +58,7 @@ pub(crate) fn plain(kind: TokKind, size: usize) -> Cutting
 }
 
 /// A string, whose quote is the last of its first `opening` bytes.
+#[inline(always)]
 pub(crate) fn string(text: &[u8], at: usize, kind: TokKind, opening: usize, quote: u8) -> Cutting
     requires some { 0 < opening }
     requires within { at + opening ≤ length text.now }

@@ -1,9 +1,11 @@
 ghost use Rattle.std.specs.Prelude.{◌≡◌, ◌+◌, ◌≤◌, false, [], ◌∷◌, length, drop};
 ghost use Rattle.cw_lex.specs.Answers.{Gives, Note, before, seen, token_of};
 ghost use Rattle.cw_lex.specs.Tokens.{one, moved, inner_begin};
+ghost use Rattle.cw_lex.specs.Short.{BeginsString};
+ghost use Rattle.cw_lex.specs.Pending.{no_notes};
 ghost use Rattle.cw_lex.specs.Coming.{where_of, coming, bytes_at, found_at, cut_of, IsNested, IsCut, IsReady, CanStep};
 
-use crate::cuttings::Cutting;
+use crate::cuttings::{Cutting, string};
 use crate::parts::Part;
 use crate::state::State;
 use crate::{Lexed, Tok, TokKind};
@@ -49,6 +51,29 @@ pub(crate) fn give<'a>(
     let token = token(text, state.at, cut.size, cut.kind, hash_line);
     state.at += cut.size;
     state.part = part;
+    state.pending = cut.pending;
+    Lexed::Token(token)
+}
+
+/// Answers the string that begins at the scanner's place in C text.
+#[inline(never)]
+pub(crate) fn give_string<'a>(text: &'a [u8], state: &mut State, quote: u8) -> Lexed<'a>
+    requires ready { IsReady text.now state.old }
+    requires quiet { state.old.pending ≡ no_notes }
+    requires string { BeginsString text.now (where_of state.old) state.old.at quote }
+    ensures gives { Gives (coming text.now state.old) result (coming text.now state.new) }
+    ensures ready { IsReady text.now state.new }
+{
+    let cut = string(text, state.at, TokKind::Quoted, 1, quote);
+    let token = token(
+        text,
+        state.at,
+        cut.size,
+        cut.kind,
+        state.part.in_hash_line(),
+    );
+    state.at += cut.size;
+    state.part.pass();
     state.pending = cut.pending;
     Lexed::Token(token)
 }

@@ -7,7 +7,7 @@ ghost use Rattle.cw_lex.specs.Pending.{no_notes};
 ghost use Rattle.cw_lex.specs.Lexing.{tokens_of, fresh_at, last_at, answers_at};
 ghost use Rattle.cw_lex.specs.Tokens.{part_text, is_parameter};
 ghost use Rattle.cw_lex.specs.Bytes.{run, is_letter, begins_by};
-ghost use Rattle.cw_lex.specs.Short.{IsShort};
+ghost use Rattle.cw_lex.specs.Short.{IsQuick, BeginsString};
 ghost use Rattle.cw_lex.specs.Coming.{where_of, coming, bytes_at, found_at, is_code, is_code_part, beginning_part, IsSkipped, IsReady, CanStep};
 
 use crate::classes::{Class, begins_with, from, is_letter, run};
@@ -16,11 +16,11 @@ use crate::comment_text::comment_text;
 use crate::comments::Comments;
 use crate::cuttings::{plain, section_code};
 use crate::ends::{cut_off, is_section_at};
-use crate::giving::{give, give_note};
+use crate::giving::{give, give_note, give_string};
 use crate::parts::Part;
 use crate::pending::Pending;
 use crate::plain::{format_name, head_text, limbo_text, macro_name, parameter, tex_text};
-use crate::short::{Short, give_short, short_at};
+use crate::short::{Quick, give_short, quick_at};
 use crate::state::{Clear, State};
 use crate::{Lexed, Mode, Sign, TokKind};
 use cw_base::NoteKind;
@@ -99,34 +99,56 @@ fn beginning(mode: Mode) -> Part
     }
 }
 
-// The next answer. Most are short tokens; any other has a name here, so that only such a one is copied.
+// The next answer. Most are short tokens.
 #[inline(always)]
 fn advance<'a>(text: &'a [u8], state: &mut State) -> Lexed<'a>
     requires ready { IsReady text.now state.old }
     ensures gives { Gives (coming text.now state.old) result (coming text.now state.new) }
     ensures ready { IsReady text.now state.new }
 {
-    match next_short(text, state) {
-        Some(short) => give_short(text, state, short),
-        None => {
-            let answer = any_answer(text, state);
-            answer
-        }
+    match next_quick(text, state) {
+        Some(Quick::Short(short)) => give_short(text, state, short),
+        Some(Quick::Quoted(quote)) => string_answer(text, state, quote),
+        None => other_answer(text, state),
     }
 }
 
-// The short token that comes next, where one does and no note is left. The white space before it is skipped.
+// A string has a name here, so that a short token needs no place in memory.
 #[inline(always)]
-fn next_short(text: &[u8], state: &mut State) -> Option<Short>
+fn string_answer<'a>(text: &'a [u8], state: &mut State, quote: u8) -> Lexed<'a>
     requires ready { IsReady text.now state.old }
-    ensures short { IfSome result (λ s. IsShort text.now (where_of state.new) state.new.at s) }
+    requires quiet { state.old.pending ≡ no_notes }
+    requires string { BeginsString text.now (where_of state.old) state.old.at quote }
+    ensures gives { Gives (coming text.now state.old) result (coming text.now state.new) }
+    ensures ready { IsReady text.now state.new }
+{
+    let answer = give_string(text, state, quote);
+    answer
+}
+
+// The same for any other answer.
+#[inline(always)]
+fn other_answer<'a>(text: &'a [u8], state: &mut State) -> Lexed<'a>
+    requires ready { IsReady text.now state.old }
+    ensures gives { Gives (coming text.now state.old) result (coming text.now state.new) }
+    ensures ready { IsReady text.now state.new }
+{
+    let answer = any_answer(text, state);
+    answer
+}
+
+// The quick token that comes next, where one does and no note is left. The white space before it is skipped.
+#[inline(always)]
+fn next_quick(text: &[u8], state: &mut State) -> Option<Quick>
+    requires ready { IsReady text.now state.old }
+    ensures quick { IfSome result (λ q. IsQuick text.now (where_of state.new) state.new.at q) }
     ensures quiet { IfSome result (λ _. state.new.pending ≡ no_notes) }
     ensures same { coming text.now state.new ≡ coming text.now state.old }
     ensures ready { IsReady text.now state.new }
 {
     if state.pending.is_quiet() && state.is_code() {
         skip_in_code(text, state);
-        return short_at(text, state);
+        return quick_at(text, state);
     }
     None
 }

@@ -1,10 +1,10 @@
-//! The short tokens of C text, of which most of it consists.
+//! The quick tokens of C text, of which most of it consists.
 ghost use Rattle.std.specs.Prelude.{◌≡◌, ◌<◌, true, false, length, slice_index, IfSome};
 ghost use Rattle.cw_lex.specs.Answers.{Gives};
 ghost use Rattle.cw_lex.specs.Bytes.{is_in, is_letter};
 ghost use Rattle.cw_lex.specs.Pending.{no_notes};
 ghost use Rattle.cw_lex.specs.Coming.{where_of, coming, is_code, IsReady};
-ghost use Rattle.cw_lex.specs.Short.{IsShort, is_lone};
+ghost use Rattle.cw_lex.specs.Short.{IsShort, IsQuick, is_lone, is_quote};
 
 use crate::classes::{Class, from, is_digit, is_letter, run};
 use crate::code_text::is_include_word;
@@ -21,23 +21,34 @@ pub(crate) struct Short {
     pub size: usize,
 }
 
-/// The short token that begins here. None is said of tokens for which more has to be looked at.
+/// What a look at the scanner's place tells of the token that begins there.
+#[derive(Clone, Copy)]
+pub(crate) enum Quick {
+    Short(Short),
+    /// A string with this quote.
+    Quoted(u8),
+}
+
+/// The quick token that begins here. None is said of tokens for which more has to be looked at.
 #[inline(always)]
-pub(crate) fn short_at(text: &[u8], state: &State) -> Option<Short>
+pub(crate) fn quick_at(text: &[u8], state: &State) -> Option<Quick>
     requires code { is_code state.now.part state.now.comments ≡ true }
-    ensures { IfSome result (IsShort text.now (where_of state.now) state.now.at) }
+    ensures { IfSome result (IsQuick text.now (where_of state.now) state.now.at) }
 {
     if state.at >= text.len() {
         return None;
     }
     let byte = text[state.at];
     if is_letter(byte) {
-        return identifier(text, state);
+        return identifier(text, state).map(Quick::Short);
     }
     if is_digit(byte) {
-        return number(text, state);
+        return number(text, state).map(Quick::Short);
     }
-    sign(text, state)
+    match sign(text, state) {
+        Some(short) => Some(Quick::Short(short)),
+        None => string(text, state),
+    }
 }
 
 #[inline(always)]
@@ -95,6 +106,29 @@ fn sign(text: &[u8], state: &State) -> Option<Short>
         }),
         None => None,
     }
+}
+
+#[inline(always)]
+fn string(text: &[u8], state: &State) -> Option<Quick>
+    requires code { is_code state.now.part state.now.comments ≡ true }
+    requires place { state.now.at < length text.now }
+    requires letter { is_letter (slice_index text.now state.now.at) ≡ false }
+    requires digit { is_in Class.Digit (slice_index text.now state.now.at) ≡ false }
+    ensures { IfSome result (IsQuick text.now (where_of state.now) state.now.at) }
+{
+    let byte = text[state.at];
+    if is_quote(byte) {
+        return Some(Quick::Quoted(byte));
+    }
+    None
+}
+
+/// Whether the byte begins a string.
+#[inline(always)]
+pub(crate) fn is_quote(byte: u8) -> bool
+    ensures { result ≡ is_quote byte }
+{
+    byte == b'"' || byte == 39
 }
 
 // Whether the byte begins no token but signs, where it begins a sign.
