@@ -67,23 +67,23 @@ pub record SameBody (more : List ℕ) (i : Inside) (bs : List ℕ) : Type 0 wher
   pub notes : noted i (bs ++ 64 ∷ more) ≡ noted i bs
 
 -- a body that goes no further than it is stops there
-still : (i : Inside) (bs : List ℕ) → (ended i bs).place ≤ i.place → goes_on i bs ≡ false
+pub still : (i : Inside) (bs : List ℕ) → (ended i bs).place ≤ i.place → goes_on i bs ≡ false
 still i bs h = by (goes_on i bs) refl
   where
     by : (t : Bool) → goes_on i bs ≡ t → goes_on i bs ≡ false
     by true e = absurd (omega (arith, ended-some i bs e))
     by false e = e
 
-ended-here : (i : Inside) (b : ℕ) (bs : List ℕ) → goes_on i (b ∷ bs) ≡ false → ended i (b ∷ bs) ≡ i
+pub ended-here : (i : Inside) (b : ℕ) (bs : List ℕ) → goes_on i (b ∷ bs) ≡ false → ended i (b ∷ bs) ≡ i
 ended-here i b bs h = ap (λ t. elim t as (λ t. Inside) [ true ↦ ended (stepped i b bs) bs | false ↦ i ]) h
 
-ended-on : (i : Inside) (b : ℕ) (bs : List ℕ) → goes_on i (b ∷ bs) ≡ true → ended i (b ∷ bs) ≡ ended (stepped i b bs) bs
+pub ended-on : (i : Inside) (b : ℕ) (bs : List ℕ) → goes_on i (b ∷ bs) ≡ true → ended i (b ∷ bs) ≡ ended (stepped i b bs) bs
 ended-on i b bs h = ap (λ t. elim t as (λ t. Inside) [ true ↦ ended (stepped i b bs) bs | false ↦ i ]) h
 
-noted-here : (i : Inside) (b : ℕ) (bs : List ℕ) → goes_on i (b ∷ bs) ≡ false → noted i (b ∷ bs) ≡ []
+pub noted-here : (i : Inside) (b : ℕ) (bs : List ℕ) → goes_on i (b ∷ bs) ≡ false → noted i (b ∷ bs) ≡ []
 noted-here i b bs h = ap (λ t. elim t as (λ t. List Noted) [ true ↦ with_note (note_here i b bs) i.place (noted (stepped i b bs) bs) | false ↦ [] ]) h
 
-noted-on : (i : Inside) (b : ℕ) (bs : List ℕ) → goes_on i (b ∷ bs) ≡ true → noted i (b ∷ bs) ≡ with_note (note_here i b bs) i.place (noted (stepped i b bs) bs)
+pub noted-on : (i : Inside) (b : ℕ) (bs : List ℕ) → goes_on i (b ∷ bs) ≡ true → noted i (b ∷ bs) ≡ with_note (note_here i b bs) i.place (noted (stepped i b bs) bs)
 noted-on i b bs h = ap (λ t. elim t as (λ t. List Noted) [ true ↦ with_note (note_here i b bs) i.place (noted (stepped i b bs) bs) | false ↦ [] ]) h
 
 goes-same : (more : List ℕ) (i : Inside) (b : ℕ) (bs : List ℕ) → goes_on i (b ∷ (bs ++ 64 ∷ more)) ≡ goes_on i (b ∷ bs)
@@ -211,7 +211,7 @@ pub record SameExtent (more : List ℕ) (i : Inside) (bs : List ℕ) : Type 0 wh
   pub notes : noted i (bs ++ 64 ∷ more) ≡ noted i bs
   pub short : (extent i bs).inner_size ≤ length bs
 
-inner-le : (i : Inside) (bs : List ℕ) → (extent i bs).inner_size ≤ (extent i bs).size
+pub inner-le : (i : Inside) (bs : List ℕ) → (extent i bs).inner_size ≤ (extent i bs).size
 inner-le i bs =
     let n = (ended i bs).place - i.place in
     if-both (λ k. n ≤ k) (begins_with (closing_bytes i.body) (drop n bs)) (n + length (closing_bytes i.body)) n (λ h. omega arith) (λ h. omega arith)
@@ -234,7 +234,7 @@ extent-same more i bs g n fits =
       short = most;
     }
 
-stop-some : (place : ℕ) (bs : List ℕ) → 0 < length bs → stop_at place bs ≡ place
+pub stop-some : (place : ℕ) (bs : List ℕ) → 0 < length bs → stop_at place bs ≡ place
 stop-some place [] h = absurd (omega arith)
 stop-some place (b ∷ bs) h = refl
 

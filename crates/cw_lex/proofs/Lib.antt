@@ -27,3 +27,8 @@ pub mod Ahead
 pub mod BodiesAhead
 pub mod RulesAhead
 pub mod PartScans
+pub mod BarsAhead
+pub mod BarBodies
+pub mod BarRules
+pub mod InnerTwins
+pub mod InnerScans

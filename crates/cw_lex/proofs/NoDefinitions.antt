@@ -8,10 +8,10 @@ use Rattle.cw_lex.specs.Bytes.{newline, backslash, bar, at_sign, begins, is_lett
 use Rattle.cw_lex.specs.Codes.{has_control_text, begins_section, effect_in_c, effect_at_begin}
 use Rattle.cw_lex.specs.Constants.{constant}
 use Rattle.cw_lex.specs.Lexing.{answers, tokens_of, still_fresh, fresh_at, last_at}
-use Rattle.cw_lex.specs.Nest.{Nest, End, Leaf, Group, leaf, group, nests, nest, first_nest}
+use Rattle.cw_lex.specs.Nest.{Nest, Leaf, leaf, group, nests, nest, first_nest}
 use Rattle.cw_lex.specs.Nested.{is_section_kind, is_section_answer, begins_section_in, is_c_mode, is_plain_c_mode, IsNested}
 use Rattle.cw_lex.specs.Signs.{all_signs, longest, spelling}
-use Rattle.cw_lex.specs.Tokens.{one, skipped_byte, dropped_code, identifier, string, include_name, sign_or_other, piece_start, piece, passed, moved, in_hash_line, ends_at_bar, line_end, comment_begin, comment_end, inner_cut, comment_cut, part_cut, inner_or_none, all_cut, inner_end, inner_begin, effect_in, code_by, code_token, control_or_plain, in_code, start_of, code_text, comment_text, head_text, part_text, in_text, section, section_code, found, is_name, is_quote, behind_word, is_include, may_head, is_head, is_space, takes_hash_line, behind_include, closes_on_line, is_deep}
+use Rattle.cw_lex.specs.Tokens.{one, dropped_code, identifier, string, include_name, sign_or_other, piece_start, passed, moved, in_hash_line, ends_at_bar, line_end, comment_end, inner_cut, comment_cut, part_cut, inner_or_none, all_cut, inner_end, effect_in, code_by, code_token, in_code, start_of, code_text, comment_text, head_text, part_text, in_text, section, section_code, found, is_name, is_quote, behind_word, is_include, may_head, is_head, is_space, takes_hash_line, behind_include, closes_on_line, is_deep}
 use Rattle.cw_lex.proofs.Nesting.{c-texts-nested}
 use Rattle.cw_lex.specs.declared.bodies.Noted.{Noted}
 use Rattle.cw_lex.specs.declared.classes.Class.TheVariants as classes

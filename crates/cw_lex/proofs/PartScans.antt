@@ -58,7 +58,7 @@ scans about more code ys (byte ∷ bs) w fresh last place (suc taken) next h b =
 
 -- ## What stands at an end
 
-begins-byte : (wanted : ℕ) (text : List ℕ) (place : ℕ) → begins wanted (drop place text) ≡ true → drop place text ≡ wanted ∷ drop (place + 1) text
+pub begins-byte : (wanted : ℕ) (text : List ℕ) (place : ℕ) → begins wanted (drop place text) ≡ true → drop place text ≡ wanted ∷ drop (place + 1) text
 begins-byte wanted text place h = by (drop place text) refl
   where
     by : (l : List ℕ) → drop place text ≡ l → drop place text ≡ wanted ∷ drop (place + 1) text

@@ -1,5 +1,5 @@
 -- Worked texts: what the scanner's definition gives for them.
-use Rattle.std.proofs.Common.{◌≡◌, ℕ, zero, suc, List, [], ◌∷◌, ◌++◌, codes, length, take, drop, refl}
+use Rattle.std.proofs.Common.{◌≡◌, ℕ, zero, suc, List, [], ◌∷◌, ◌++◌, Some, None, codes, length, take, drop, refl}
 use Rattle.cw_base.specs.declared.notes.NoteKind.{NoteKind}
 use Rattle.cw_base.specs.declared.notes.NoteKind.TheVariants as notes
 use Rattle.cw_lex.specs.declared.codes.Code.TheVariants as at
@@ -10,6 +10,7 @@ use Rattle.cw_lex.specs.declared.tokens.TokKind.{TokKind}
 use Rattle.cw_lex.specs.declared.tokens.TokKind.TheVariants as kinds
 use Rattle.cw_lex.specs.Answers.{Answer, Token, Begin, Finish, Note}
 use Rattle.cw_lex.specs.Lexing.{tokens_of}
+use Rattle.cw_lex.specs.Parts.{closing_bar_from}
 
 -- an answer: a token, beginning or end with its kind and span, or a note with its place
 data Shown : Type 0 where
@@ -233,3 +234,23 @@ no-parameters : of modes.TexText (codes "@d m (a)") ≡
     token (kinds.Code at.Define) 0 2 ∷ token kinds.Identifier 3 4 ∷ token (kinds.Sign signs.LeftParen) 5 6 ∷
     token kinds.Identifier 6 7 ∷ token (kinds.Sign signs.RightParen) 7 8 ∷ []
 no-parameters = refl
+
+-- Inner C text of TeX text ends at the first bar that stands alone, outside strings and comments with their inner texts.
+closed-first : closing_bar_from (codes "|a||b|c|d|") 1 ≡ Some 5
+closed-first = refl
+
+closed-outside : closing_bar_from (codes "|\"|\"@=|@>/*|a|{*/b|c") 1 ≡ Some 18
+closed-outside = refl
+
+closed-at-once : closing_bar_from (codes "||a|") 1 ≡ Some 1
+closed-at-once = refl
+
+-- It may go over lines, which end the short comments in it; a section code ends it, and so does the text's end.
+closed-behind-line : closing_bar_from (codes "|a//|b" ++ (10 ∷ []) ++ codes "#x|") 1 ≡ Some 9
+closed-behind-line = refl
+
+closed-by-section : closing_bar_from (codes "|a@ |b|") 1 ≡ None
+closed-by-section = refl
+
+closed-by-end : closing_bar_from (codes "|a||") 1 ≡ None
+closed-by-end = refl

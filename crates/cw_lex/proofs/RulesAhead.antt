@@ -35,25 +35,25 @@ use Rattle.cw_lex.proofs.Ahead.{drop-same, take-same, begins-same, run-same, sec
 use Rattle.cw_lex.proofs.BodiesAhead.{NoAt, body-same, extent-same, all_notes-same}
 
 -- two cuts that are the same where the first has no more than so many bytes
-record CutLocal (left : ℕ) (c d : Cut) : Type 0 where
+pub record CutLocal (left : ℕ) (c d : Cut) : Type 0 where
   pub same : c.size ≤ left → c ≡ d
 
 -- and two findings
 pub record Local (left : ℕ) (f g : Found) : Type 0 where
   pub same : f.more ≤ left → f ≡ g
 
-if-cut : (left : ℕ) (t : Bool) (a b c d : Cut) → (t ≡ true → CutLocal left a b) → (t ≡ false → CutLocal left c d) → CutLocal left (if t then a else c) (if t then b else d)
+pub if-cut : (left : ℕ) (t : Bool) (a b c d : Cut) → (t ≡ true → CutLocal left a b) → (t ≡ false → CutLocal left c d) → CutLocal left (if t then a else c) (if t then b else d)
 if-cut left true a b c d f g = f refl
 if-cut left false a b c d f g = g refl
 
-if-local : (left : ℕ) (t u : Bool) (a b c d : Found) → t ≡ u → (u ≡ true → Local left a b) → (u ≡ false → Local left c d) → Local left (if t then a else c) (if u then b else d)
+pub if-local : (left : ℕ) (t u : Bool) (a b c d : Found) → t ≡ u → (u ≡ true → Local left a b) → (u ≡ false → Local left c d) → Local left (if t then a else c) (if u then b else d)
 if-local left t true a b c d e f g = subst (λ t. Local left (if t then a else c) b) (sym e) (f refl)
 if-local left t false a b c d e f g = subst (λ t. Local left (if t then a else c) d) (sym e) (g refl)
 
-same-local : (left : ℕ) (f g : Found) → f ≡ g → Local left f g
+pub same-local : (left : ℕ) (f g : Found) → f ≡ g → Local left f g
 same-local left f g e = record { same = λ h. e }
 
-before-local : (left : ℕ) (xs : List Answer) (f g : Found) → Local left f g → Local left (before xs f) (before xs g)
+pub before-local : (left : ℕ) (xs : List Answer) (f g : Found) → Local left f g → Local left (before xs f) (before xs g)
 before-local left xs f g l = record { same = λ h. ap (before xs) (l.same h) }
 
 -- a quote is no `@`

@@ -1,10 +1,13 @@
 -- The scan of a part of a text, and the scan of the whole.
-use Rattle.std.specs.Prelude.{◌≡◌, ℕ, zero, suc, ◌+◌, ◌-◌, ◌≤◌, Bool, true, false, ◌&&◌, List, [], ◌∷◌, ◌++◌, Option, Some, None, length, drop, take}
+use Rattle.std.specs.Prelude.{◌≡◌, ℕ, zero, suc, ◌+◌, ◌-◌, ◌≤◌, Bool, true, false, ◌&&◌, ◌==◌, List, [], ◌∷◌, ◌++◌, Option, Some, None, length, drop, take, if◌then◌else◌}
+use Rattle.cw_lex.specs.declared.parts.Part.{Part}
+use Rattle.cw_lex.specs.declared.parts.Part.TheVariants as parts
 use Rattle.cw_lex.specs.declared.tokens.Mode.{Mode}
 use Rattle.cw_lex.specs.declared.tokens.Mode.TheVariants as modes
-use Rattle.cw_lex.specs.Bytes.{at_sign, greater, begins}
+use Rattle.cw_lex.specs.declared.tokens.TokKind.TheVariants as kinds
+use Rattle.cw_lex.specs.Bytes.{at_sign, greater, bar, begins}
 use Rattle.cw_lex.specs.Codes.{begins_section}
-use Rattle.cw_lex.specs.Answers.{Answer, Where, Found}
+use Rattle.cw_lex.specs.Answers.{Answer, Begin, Finish, Where, Found, token_of}
 use Rattle.cw_lex.specs.Tokens.{found, all_cut}
 use Rattle.cw_lex.specs.Lexing.{still_fresh, joined, fresh_at, last_at, answers_at, beginning, tokens_of}
 
@@ -71,3 +74,34 @@ LastPartsEndWithTheText = (text : List ℕ) (start : ℕ) (mode : Mode)
 abbrev pub PartsAreAnswered : Type 0
 PartsAreAnswered = (text : List ℕ) (start end : ℕ) (mode : Mode) → start ≤ end → end ≤ length text
     → tokens_of text start end mode ≡ part_answers text start end mode (end - 1)
+
+-- ## Inner C text of TeX text
+
+abbrev pub is_tex_inner : Part → Bool
+is_tex_inner parts.TexInner = true
+is_tex_inner part = false
+
+-- Where the bar stands that closes inner C text of TeX text, in which the scan of these bytes stands. It is the first token
+-- behind which the scan stands in inner text no more. None where a section code or the end of the bytes comes first.
+abbrev pub closing_bar : List ℕ → Where → Bool → ℕ → ℕ → ℕ → Option ℕ
+closing_bar [] w fresh last place taken = None
+closing_bar (byte ∷ bytes) w fresh last place zero =
+    let f = found w fresh last place byte bytes in
+    if is_tex_inner f.next.part then closing_bar bytes f.next (still_fresh fresh byte) byte (place + 1) f.more
+    else (if byte == bar then Some place else None)
+closing_bar (byte ∷ bytes) w fresh last place (suc taken) =
+    closing_bar bytes w (still_fresh fresh byte) byte (place + 1) taken
+
+-- the bar that closes the inner C text of TeX text that begins at a place of a text
+abbrev pub closing_bar_from : List ℕ → ℕ → Option ℕ
+closing_bar_from text start =
+    let inner : Where = record { part = parts.TexInner; comments = [] } in
+    closing_bar (drop start text) inner (fresh_at text start) (last_at text start) start 0
+
+-- Inner C text between two bars of TeX text is scanned by itself: its answers are those of the bytes between the bars.
+abbrev pub InnerTextsEndAtBars : Type 0
+InnerTextsEndAtBars = (text : List ℕ) (start end : ℕ) → begins bar (drop start text) ≡ true
+    → closing_bar_from text (start + 1) ≡ Some end
+    → answers_at text (beginning modes.TexText) start ≡
+    Begin (token_of false kinds.InnerText start 1 (drop start text)) ∷ (tokens_of text (start + 1) end modes.Inner ++
+    Finish (token_of false kinds.InnerText end 1 (drop end text)) ∷ answers_at text (beginning modes.TexText) (end + 1))

@@ -1,6 +1,7 @@
 //! Laws of the scanner's answers.
 ghost use Rattle.cw_lex.specs.NestLaws.{NestedAnswersMakeOneNest, NestsAreWell, HeadsLeaveNests};
 ghost use Rattle.cw_lex.specs.Parts.{PartsEndAtSections, PartsEndAtCodes, LastPartsEndWithTheText, PartsAreAnswered};
+ghost use Rattle.cw_lex.specs.Parts.{InnerTextsEndAtBars};
 ghost use Rattle.cw_lex.specs.Nested.{CTextsAreNested, CTextsNestUpToSections, TexTextsAreNested};
 
 /// The law of parts: the scan of a part of a text is the scan of the whole there. It does nothing: what it ensures is for
@@ -10,6 +11,7 @@ pub fn parts_law()
     ensures codes { PartsEndAtCodes }
     ensures last { LastPartsEndWithTheText }
     ensures answered { PartsAreAnswered }
+    ensures inner { InnerTextsEndAtBars }
 {}
 
 /// The law of nesting: over C text the answers are nested, up to a section code that cuts it, and over TeX text inner C

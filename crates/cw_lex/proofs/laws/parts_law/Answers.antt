@@ -1,4 +1,5 @@
 use Rattle.cw_lex.proofs.PartScans.{ends-at-section, ends-at-code, ends-with-text, answered}
+use Rattle.cw_lex.proofs.InnerScans.{inner-ends-at-bar}
 use Rattle.cw_lex.proofs.laws.parts_law.Goals as goal
 
 pub returns-clause-sections : goal.returns-clause-sections
@@ -12,3 +13,6 @@ returns-clause-last c = ends-with-text
 
 pub returns-clause-answered : goal.returns-clause-answered
 returns-clause-answered c = answered
+
+pub returns-clause-inner : goal.returns-clause-inner
+returns-clause-inner c = inner-ends-at-bar
