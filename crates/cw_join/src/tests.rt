@@ -1,11 +1,12 @@
-ghost use Rattle.std.specs.Prelude.{◌≡◌, ◌×◌, false, IfOk, IsTrue, List, OnOk};
+ghost use Rattle.std.specs.Prelude.{ℕ, IfOk, IsTrue, List, OnOk};
+ghost use Rattle.std.specs.Bool.{OnTrue};
 ghost use Rattle.cw_base.specs.declared.event.Out.TheVariants.{Tex};
 ghost use Rattle.cw_desk.specs.Meaning.{is_open};
 ghost use Rattle.cw_desk.specs.Mem.{tell};
 ghost use Rattle.cw_lines.specs.Writes.{CanWrite};
-ghost use Rattle.cw_trees.specs.Flat.{is_inserted_sign};
 ghost use Rattle.cw_trees.specs.Printing.{Printable};
 ghost use Rattle.cw_join.specs.Standing.{Stands};
+ghost use Rattle.cw_join.specs.Tokens.{CanCome};
 
 use crate::{FlatToken, Joiner};
 use cw_base::{Bytes, Event, Memory, Out};
@@ -39,10 +40,23 @@ fn written(alloc: Global, journal: &[Event]) -> Result<Bytes, Memory> {
     Ok(text)
 }
 
-/// Pushes a token of the text.
-fn put_token(
+/// Whether an item may come wherever it stands.
+fn is_plain(item: FlatItem, names: usize) -> bool
+    ensures { OnTrue result ((depth : ℕ) → CanCome names depth item) }
+{
+    match item {
+        FlatItem::Source(_) => true,
+        FlatItem::Ident(name, _) | FlatItem::Reserved(name, _) => name.index < names,
+        FlatItem::Control(Control::Inserted) => false,
+        FlatItem::Control(_) => true,
+        FlatItem::Open | FlatItem::Close => false,
+    }
+}
+
+/// Pushes an item, if it may come.
+fn push_one(
     joiner: &mut Joiner,
-    bytes: &[u8],
+    token: FlatToken,
     names: &Names,
     out: &mut LineOut,
     desk: &mut MemDesk,
@@ -52,48 +66,54 @@ fn put_token(
     ensures can { OnOk result (CanWrite (tell desk.new) out.new) }
     ensures stands { OnOk result ((ps : List Printable) × Stands joiner.new ps) }
 {
-    let item = FlatItem::Source(0);
-    joiner.push(FlatToken { item, bytes }, names, out, desk)?;
+    if !is_plain(token.item, names.len()) {
+        return Ok(());
+    }
+    joiner.push(token, names, out, desk)?;
     Ok(())
 }
 
-/// Pushes a name, as an identifier or as a reserved word.
-fn put_name(
-    joiner: &mut Joiner,
-    name: NameId,
+/// Pushes items.
+fn push_each(
+    inner: bool,
+    tokens: &[FlatToken],
     names: &Names,
     out: &mut LineOut,
     desk: &mut MemDesk,
 ) -> Result<(), PutError>
     requires can { CanWrite (tell desk.old) out.old }
-    requires stands { (ps : List Printable) × Stands joiner.old ps }
     ensures can { OnOk result (CanWrite (tell desk.new) out.new) }
-    ensures stands { OnOk result ((ps : List Printable) × Stands joiner.new ps) }
 {
-    if name.index < names.len() {
-        let item = FlatItem::Ident(name, 0);
-        joiner.push(FlatToken { item, bytes: b"" }, names, out, desk)?;
+    let mut joiner = Joiner::new(inner);
+    for token in tokens {
+        push_one(&mut joiner, *token, names, out, desk)?;
     }
     Ok(())
 }
 
-/// Pushes a control.
-fn put_control(
-    joiner: &mut Joiner,
-    control: Control,
-    names: &Names,
-    out: &mut LineOut,
-    desk: &mut MemDesk,
-) -> Result<(), PutError>
+/// Finishes a text without items.
+fn finish_none(out: &mut LineOut, desk: &mut MemDesk) -> Result<(), PutError>
     requires can { CanWrite (tell desk.old) out.old }
-    requires stands { (ps : List Printable) × Stands joiner.old ps }
-    requires prints { is_inserted_sign control ≡ false }
     ensures can { OnOk result (CanWrite (tell desk.new) out.new) }
-    ensures stands { OnOk result ((ps : List Printable) × Stands joiner.new ps) }
 {
-    let item = FlatItem::Control(control);
-    joiner.push(FlatToken { item, bytes: b"" }, names, out, desk)?;
+    let mut joiner = Joiner::new(false);
+    joiner.finish(out, desk)?;
     Ok(())
+}
+
+fn source(bytes: &[u8]) -> FlatToken {
+    let item = FlatItem::Source(0);
+    FlatToken { item, bytes }
+}
+
+fn name(name: NameId) -> FlatToken<'static> {
+    let item = FlatItem::Ident(name, 0);
+    FlatToken { item, bytes: b"" }
+}
+
+fn sign(control: Control) -> FlatToken<'static> {
+    let item = FlatItem::Control(control);
+    FlatToken { item, bytes: b"" }
 }
 
 #[test]
@@ -104,23 +124,28 @@ fn names_signs_and_runs_are_printed(rt: HostRuntime) -> Result<(), Fail> {
     let long = names.find_or_add(EntryKind::Ident, b"_next_of$")?;
     let short = names.find_or_add(EntryKind::Ident, b"x")?;
     let capital = names.find_or_add(EntryKind::Ident, b"EOF")?;
-    let mut joiner = Joiner::new(false);
-    put_name(&mut joiner, long, &names, &mut out, &mut desk)?;
-    put_control(&mut joiner, Control::Blank, &names, &mut out, &mut desk)?;
-    put_control(&mut joiner, Control::Indent, &names, &mut out, &mut desk)?;
-    put_control(&mut joiner, Control::Break, &names, &mut out, &mut desk)?;
-    put_control(&mut joiner, Control::Backup, &names, &mut out, &mut desk)?;
-    put_control(&mut joiner, Control::ToMath, &names, &mut out, &mut desk)?;
-    put_name(&mut joiner, short, &names, &mut out, &mut desk)?;
-    put_token(&mut joiner, b"\\K", &names, &mut out, &mut desk)?;
-    put_name(&mut joiner, capital, &names, &mut out, &mut desk)?;
-    put_control(&mut joiner, Control::ToText, &names, &mut out, &mut desk)?;
-    put_control(&mut joiner, Control::BigBreak, &names, &mut out, &mut desk)?;
-    put_control(&mut joiner, Control::Cancel, &names, &mut out, &mut desk)?;
-    put_token(&mut joiner, b";", &names, &mut out, &mut desk)?;
+    let tokens = [
+        name(long),
+        sign(Control::Blank),
+        sign(Control::Indent),
+        sign(Control::Break),
+        sign(Control::Backup),
+        sign(Control::ToMath),
+        name(short),
+        source(b"\\K"),
+        name(capital),
+        sign(Control::ToText),
+        sign(Control::BigBreak),
+        sign(Control::Cancel),
+        source(b";"),
+    ];
+    push_each(false, &tokens, &names, &mut out, &mut desk)?;
     out.end_line(&mut desk)?;
     let text = written(rt.alloc(), desk.journal())?;
-    assert_eq!(rt; text.as_slice(), b"\\\\{\\_next\\_of\\$}\\1\\6\n\\4${}\\|x\\K\\.{EOF}{}$;\n".as_slice());
+    assert_eq!(rt;
+        text.as_slice(),
+        b"\\\\{\\_next\\_of\\$}\\1\\6\n\\4${}\\|x\\K\\.{EOF}{}$;\n".as_slice()
+    );
     Ok(())
 }
 
@@ -129,24 +154,16 @@ fn inner_text_prints_a_blank_for_a_run(rt: HostRuntime) -> Result<(), Fail> {
     let mut desk = desk_with_tex(rt.alloc())?;
     let mut out = LineOut::new_in(rt.alloc(), Out::Tex);
     let names = Names::with_words(rt.alloc())?;
-    let mut joiner = Joiner::new(true);
-    put_token(&mut joiner, b"a", &names, &mut out, &mut desk)?;
-    put_control(&mut joiner, Control::BigBreak, &names, &mut out, &mut desk)?;
-    put_control(&mut joiner, Control::Outdent, &names, &mut out, &mut desk)?;
-    put_token(&mut joiner, b"b", &names, &mut out, &mut desk)?;
+    let tokens = [
+        source(b"a"),
+        sign(Control::BigBreak),
+        sign(Control::Outdent),
+        source(b"b"),
+    ];
+    push_each(true, &tokens, &names, &mut out, &mut desk)?;
+    finish_none(&mut out, &mut desk)?;
     out.end_line(&mut desk)?;
     let text = written(rt.alloc(), desk.journal())?;
     assert_eq!(rt; text.as_slice(), b"a b\n".as_slice());
-    Ok(())
-}
-
-#[test]
-fn a_run_at_the_end_is_finished(rt: HostRuntime) -> Result<(), Fail> {
-    let mut desk = desk_with_tex(rt.alloc())?;
-    let mut out = LineOut::new_in(rt.alloc(), Out::Tex);
-    let mut joiner = Joiner::new(false);
-    joiner.finish(&mut out, &mut desk)?;
-    let names = Names::with_words(rt.alloc())?;
-    put_token(&mut joiner, b"a", &names, &mut out, &mut desk)?;
     Ok(())
 }

@@ -1,0 +1,12 @@
+use Rattle.std.proofs.Common.{List}
+use Rattle.cw_desk.specs.Mem.{tell}
+use Rattle.cw_lines.specs.Writes.{CanWrite}
+use Rattle.cw_trees.specs.Printing.{Printable}
+use Rattle.cw_join.specs.Standing.{Stands}
+use Rattle.cw_join.proofs.tests.push_each.Given as goal
+
+abbrev pub invariant-loop-token : goal.invariant-loop-token
+invariant-loop-token l = record {
+  can : CanWrite (tell l.desk) l.out;
+  stands : (ps : List Printable) × Stands l.joiner ps;
+}
