@@ -1,6 +1,7 @@
 -- The gap moves, and what stands around it stays.
-use Rattle.std.proofs.Common.{◌≡◌, ℕ, zero, suc, ◌+◌, ◌-◌, ◌<◌, ◌≤◌, List, [], ◌∷◌, ◌++◌, length, take, drop, set, refl, sym, ap, ◌∙◌, arith}
-use Rattle.std.proofs.lemmas.List.{take-set-le, drop-set-lt, set-append_left, set-append_right, length-take-le, length-take, drop-set-add}
+use Rattle.std.proofs.Common.{◌≡◌, ℕ, zero, suc, ◌+◌, ◌-◌, ◌<◌, ◌≤◌, List, [], ◌∷◌, ◌++◌, length, take, drop, set, refl, sym, ap, ◌∙◌, arith, append_assoc}
+use Rattle.std.proofs.Math.Seq.{drop-append-add}
+use Rattle.std.proofs.lemmas.List.{take-set-le, drop-set-lt, set-append_left, set-append_right, length-take-le, length-take, length-append, length-drop, drop-set-add, take-take, take-append-le, drop-drop, take-append-drop, take_more_set}
 use Rattle.cw_scraps.specs.declared.line.LineEntry.{LineEntry}
 use Rattle.cw_scraps.specs.Gap.{around, IsGap}
 
@@ -37,3 +38,43 @@ put-left-at items l r i at e v g q lt is = ap (λ k. around l r (set items k e))
 
 pub put-right-at : (items : List LineEntry) (l r i at : ℕ) (e : LineEntry) (v : List LineEntry) → IsGap l r items → around l r items ≡ v → l ≤ i → at ≡ i + (r - l) → around l r (set items at e) ≡ set v i e
 put-right-at items l r i at e v g q ge is = ap (λ k. around l r (set items k e)) is ∙ (put-right items l r i e g ge ∙ ap (λ us. set us i e) q)
+
+-- what stands before a place that the gap does not lie before, and behind one that it does not lie behind
+pub gap-before : (items : List LineEntry) (l r from : ℕ) (v : List LineEntry) → IsGap l r items → around l r items ≡ v → from ≤ l → take from items ≡ take from v
+gap-before items l r from v g q le =
+    let a : l ≤ r = g.order in
+    let b : r ≤ length items = g.within in
+    let size : length (take l items) ≡ l = length-take-le l items (omega arith) in
+    sym (take-take from l items le)
+    ∙ (sym (take-append-le from (take l items) (drop r items) (omega arith)) ∙ ap (take from) q)
+
+pub gap-behind : (items : List LineEntry) (l r to gap : ℕ) (v : List LineEntry) → IsGap l r items → around l r items ≡ v → l ≤ to → gap ≡ r + (to - l) → drop gap items ≡ drop to v
+gap-behind items l r to gap v g q le is =
+    let a : l ≤ r = g.order in
+    let b : r ≤ length items = g.within in
+    let size : length (take l items) ≡ l = length-take-le l items (omega arith) in
+    let split : length (take l items) + (to - l) ≡ to = omega arith in
+    ap (λ k. drop k items) is
+    ∙ (sym (drop-drop (to - l) r items)
+    ∙ (sym (drop-append-add (take l items) (drop r items) (to - l))
+    ∙ (ap (λ k. drop k (around l r items)) split ∙ ap (drop to) q)))
+
+pub gap-empty : (items : List LineEntry) (l r : ℕ) → l ≡ r → items ≡ around l r items
+gap-empty items l r is = sym (take-append-drop l items) ∙ ap (λ k. take l items ++ drop k items) is
+
+-- an entry in the place of what the gap lies over
+pub replaced-in : (items : List LineEntry) (at gap to : ℕ) (e : LineEntry) (v : List LineEntry) → at < gap → gap ≤ length items → take at items ≡ take at v → drop gap items ≡ drop to v → around (at + 1) gap (set items at e) ≡ take at v ++ e ∷ drop to v
+replaced-in items at gap to e v lt within before behind =
+    ap (λ us. us ++ drop gap (set items at e)) (take_more_set items at e (omega arith) ∙ ap (λ us. us ++ e ∷ []) before)
+    ∙ (ap (λ us. (take at v ++ e ∷ []) ++ us) (drop-set-lt gap items at e lt ∙ behind)
+    ∙ append_assoc (take at v) (e ∷ []) (drop to v))
+
+-- over scraps that stand there, the gap ends within the vector
+pub over-within : (items : List LineEntry) (new : List LineEntry) (l r to gap : ℕ) (v : List LineEntry) → IsGap l r items → around l r items ≡ v → to ≤ length v → gap ≡ to + (r - l) → length new ≡ length items → gap ≤ length new
+over-within items new l r to gap v g q le is same =
+    let a : l ≤ r = g.order in
+    let b : r ≤ length items = g.within in
+    let size : length v ≡ length (take l items) + length (drop r items) = ap length (sym q) ∙ length-append (take l items) (drop r items) in
+    let first : length (take l items) ≡ l = length-take-le l items (omega arith) in
+    let second : length (drop r items) ≡ length items - r = length-drop r items in
+    omega arith

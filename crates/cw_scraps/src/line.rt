@@ -155,7 +155,7 @@ impl ScrapLine {
         requires within { at + count ≤ length self.old }
         ensures { self.new ≡ take at self.old ++ entry ∷ drop (at + count) self.old }
     {
-        let gap = move_gap(&mut self.items, self.left, self.right, at + count);
+        let gap = open_gap(&mut self.items, self.left, self.right, at, at + count);
         self.items[at] = entry;
         self.left = at + 1;
         self.right = gap;
@@ -215,22 +215,26 @@ fn read_inside(items: &[LineEntry], left: usize, right: usize, i: usize) -> Line
     }
 }
 
-/// Moves the gap so that it begins at a place, and answers where it then ends. Where it is empty no
-/// scrap is moved.
-fn move_gap(items: &mut [LineEntry], left: usize, right: usize, to: usize) -> usize
+/// Opens the gap over the scraps from one place up to another, which go, and answers where it then ends. Only
+/// scraps between the gap and them are moved, and none where it is empty.
+fn open_gap(items: &mut [LineEntry], left: usize, right: usize, from: usize, to: usize) -> usize
     requires gap { IsGap left right items.old }
+    requires order { from ≤ to }
     requires within { to + (right - left) ≤ length items.old }
-    ensures around { around to result items.new ≡ around left right items.old }
+    ensures before { take from items.new ≡ take from (around left right items.old) }
+    ensures behind { drop result items.new ≡ drop to (around left right items.old) }
     ensures size { result ≡ to + (right - left) }
 {
     if left == right {
         return to;
     }
-    if to < left {
-        move_left(items, left, right, to)
-    } else {
-        move_right(items, left, right, to)
+    if left < from {
+        return move_right(items, left, right, from) + (to - from);
     }
+    if to < left {
+        return move_left(items, left, right, to);
+    }
+    right + (to - left)
 }
 
 fn move_left(items: &mut [LineEntry], left: usize, right: usize, to: usize) -> usize
