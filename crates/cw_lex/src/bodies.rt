@@ -1,3 +1,4 @@
+//! What goes on byte by byte: strings, control texts, section names and pieces of comments, with their notes.
 ghost use Rattle.std.specs.Prelude.{◌≡◌, ◌≤◌, ◌<◌, ◌+◌, ◌-◌, ◌^◌, ◌∷◌, [], true, length, drop, slice_index, MatchOption, IsTrue};
 ghost use Rattle.cw_lex.specs.Bodies.{stops, takes_next, note_on, braces_after, stepped, goes_on, note_here, is_plain, is_idle, ended, noted, closing_bytes, extent};
 ghost use Rattle.cw_lex.specs.Bytes.{begins_with};

@@ -1,3 +1,4 @@
+//! Classes of bytes, and runs of bytes of one class.
 ghost use Rattle.std.specs.Prelude.{◌≡◌, ◌≤◌, ◌+◌, ℕ, List, length, drop};
 ghost use Rattle.cw_lex.specs.Bytes.{is_in, is_letter, is_letter_of, run, begins, begins_with};
 

@@ -1,3 +1,4 @@
+//! The open comments, as deep as inner C text may stand.
 ghost use Rattle.std.specs.Prelude.{◌≡◌, ◌<◌, ◌≤◌, [], ◌∷◌, length, drop, MatchOption};
 
 use crate::parts::Opened;

@@ -1,3 +1,4 @@
+//! How far a constant of C goes.
 ghost use Rattle.std.specs.Prelude.{◌≡◌, ◌≤◌, length};
 ghost use Rattle.cw_lex.specs.Constants.{hexadecimal, fraction, exponent_sign, exponent, mantissa, decimal, number, constant};
 

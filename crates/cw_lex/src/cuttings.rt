@@ -1,3 +1,4 @@
+//! Tokens as they are cut where they begin, each with the notes that it may have.
 ghost use Rattle.std.specs.Prelude.{◌≡◌, ◌<◌, ◌≤◌, ◌+◌, None, Some, length, drop, take, not};
 ghost use Rattle.cw_lex.specs.Bytes.{run};
 ghost use Rattle.cw_lex.specs.Bodies.{at_start, extent, note_unless};

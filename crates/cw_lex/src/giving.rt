@@ -1,3 +1,4 @@
+//! The answers that the scanner gives, and where it stands behind them.
 ghost use Rattle.std.specs.Prelude.{◌≡◌, ◌+◌, ◌≤◌, false, [], ◌∷◌, length, drop};
 ghost use Rattle.cw_lex.specs.Answers.{Gives, Note, before, seen, token_of};
 ghost use Rattle.cw_lex.specs.Tokens.{one, moved, inner_begin};

@@ -1,3 +1,4 @@
+//! How far a section name goes.
 ghost use Rattle.std.specs.Prelude.{◌≡◌, ◌<◌, ◌≤◌, false, length, drop, MatchOption};
 ghost use Rattle.cw_lex.specs.Names.{uncoded, void_behind, is_void};
 

@@ -1,3 +1,4 @@
+//! Tests of the notes of scanning: each with its place, in its order.
 use crate::Mode;
 use crate::tests::notes_only;
 use cw_base::NoteKind;

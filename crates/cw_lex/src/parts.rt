@@ -1,3 +1,4 @@
+//! The parts of a text in which the scanner may stand.
 ghost use Rattle.std.specs.Prelude.{◌≡◌, true};
 ghost use Rattle.cw_lex.specs.Tokens.{in_hash_line, behind_include, passed, first_depth};
 ghost use Rattle.cw_lex.specs.Coming.{is_code_part};

@@ -1,3 +1,4 @@
+//! The notes of a token that are still to be answered.
 ghost use Rattle.std.specs.Prelude.{◌≡◌, ◌∷◌, [], true, length, MatchOption};
 ghost use Rattle.cw_lex.specs.Pending.{pending_notes, IsInside, no_notes};
 

@@ -1,3 +1,4 @@
+//! The signs of C, and which one begins at a place.
 ghost use Rattle.std.specs.Prelude.{◌≡◌, ◌≤◌, ◌<◌, ◌+◌, ◌∷◌, length, IfSome};
 ghost use Rattle.cw_lex.specs.Signs.{all_signs, spelling, longest};
 

@@ -1,3 +1,4 @@
+//! Tests of the scanner on whole texts.
 use crate::{Code, Lexed, Lexer, Mode, TokKind};
 use cw_base::NoteKind;
 

@@ -1,3 +1,4 @@
+//! Tests of limbo, TeX text, definitions and comments.
 use crate::tests::{Shown, gives, is_one};
 use crate::{Code, Mode, Sign, TokKind};
 use cw_base::NoteKind;

@@ -1,3 +1,4 @@
+//! Tokens, the answers of the scanner, and the modes in which it begins.
 use crate::{Code, Sign};
 use cw_base::{NoteKind, Span};
 
