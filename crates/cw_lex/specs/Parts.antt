@@ -14,15 +14,17 @@ use Rattle.cw_lex.specs.Lexing.{still_fresh, joined, fresh_at, last_at, answers_
 abbrev pub followed : Found → (Where → ℕ → Option Where) → Option Where
 followed f rest = rest f.next f.more
 
--- Where the scan of these bytes stands behind the first `n` of them; None inside a token. The first `taken` belong to what
--- was answered before.
+-- Where the scan of these bytes stands behind the first `n` of them; None inside a token. The first `taken` belong to
+-- what was answered before.
 abbrev pub stand : ℕ → List ℕ → Where → Bool → ℕ → ℕ → ℕ → Option Where
 stand zero bytes w fresh last place zero = Some w
 stand zero bytes w fresh last place (suc taken) = None
 stand (suc n) [] w fresh last place taken = None
 stand (suc n) (byte ∷ bytes) w fresh last place zero =
-    followed (found w fresh last place byte bytes) (λ next more. stand n bytes next (still_fresh fresh byte) byte (place + 1) more)
-stand (suc n) (byte ∷ bytes) w fresh last place (suc taken) = stand n bytes w (still_fresh fresh byte) byte (place + 1) taken
+    followed (found w fresh last place byte bytes)
+    (λ next more. stand n bytes next (still_fresh fresh byte) byte (place + 1) more)
+stand (suc n) (byte ∷ bytes) w fresh last place (suc taken) =
+    stand n bytes w (still_fresh fresh byte) byte (place + 1) taken
 
 -- where the scan of a text that stands so at one place stands at another
 abbrev pub stands_at : List ℕ → Where → ℕ → ℕ → Option Where
@@ -32,12 +34,13 @@ stands_at text w start end = stand (end - start) (drop start text) w (fresh_at t
 abbrev pub answers_to : ℕ → List ℕ → Where → Bool → ℕ → ℕ → ℕ → List Answer
 answers_to about [] w fresh last place taken = all_cut w.part w.comments place about
 answers_to about (byte ∷ bytes) w fresh last place zero =
-    joined (found w fresh last place byte bytes) (λ next more. answers_to about bytes next (still_fresh fresh byte) byte (place + 1) more)
+    joined (found w fresh last place byte bytes)
+    (λ next more. answers_to about bytes next (still_fresh fresh byte) byte (place + 1) more)
 answers_to about (byte ∷ bytes) w fresh last place (suc taken) =
     answers_to about bytes w (still_fresh fresh byte) byte (place + 1) taken
 
--- The answers for the bytes of a text from `start` up to `end`, in this mode, with the notes on what is cut at the end about
--- the byte at `about`.
+-- The answers for the bytes of a text from `start` up to `end`, in this mode, with the notes on what is cut at the end
+-- about the byte at `about`.
 abbrev pub part_answers : List ℕ → ℕ → ℕ → Mode → ℕ → List Answer
 part_answers text start end mode about =
     let part = take end text in
@@ -50,16 +53,17 @@ is_section_at text place = begins at_sign (drop place text) && begins_section (d
 abbrev pub IsCodeAt : List ℕ → ℕ → Type 0
 IsCodeAt text place = (begins at_sign (drop place text) ≡ true) × (begins greater (drop (place + 1) text) ≡ false)
 
--- The scan of a part is the scan of the whole there. Where the scan of the whole stands at a part's beginning as the part's
--- mode begins, and meets a section code at its end, its answers from the beginning on are those of the part, with notes
--- about that code on what it cuts, and then those from the code on.
+-- The scan of a part is the scan of the whole there. Where the scan of the whole stands at a part's beginning as the
+-- part's mode begins, and meets a section code at its end, its answers from the beginning on are those of the part,
+-- with notes about that code on what it cuts, and then those from the code on.
 abbrev pub PartsEndAtSections : Type 0
 PartsEndAtSections = (text : List ℕ) (start end : ℕ) (mode : Mode) (w : Where) → start ≤ end
     → stands_at text (beginning mode) start end ≡ Some w → is_section_at text end ≡ true
-    → answers_at text (beginning mode) start ≡ part_answers text start end mode end ++ answers_at text (beginning modes.TexText) end
+    → answers_at text (beginning mode) start ≡
+    part_answers text start end mode end ++ answers_at text (beginning modes.TexText) end
 
--- The same where a code stands at the part's end and nothing is open there, so that nothing is cut: there the next part of
--- a section begins.
+-- The same where a code stands at the part's end and nothing is open there, so that nothing is cut: there the next part
+-- of a section begins.
 abbrev pub PartsEndAtCodes : Type 0
 PartsEndAtCodes = (text : List ℕ) (start end : ℕ) (mode : Mode) (w : Where) → start ≤ end
     → stands_at text (beginning mode) start end ≡ Some w → IsCodeAt text end → all_cut w.part w.comments end end ≡ []
@@ -81,8 +85,9 @@ abbrev pub is_tex_inner : Part → Bool
 is_tex_inner parts.TexInner = true
 is_tex_inner part = false
 
--- Where the bar stands that closes inner C text of TeX text, in which the scan of these bytes stands. It is the first token
--- behind which the scan stands in inner text no more. None where a section code or the end of the bytes comes first.
+-- Where the bar stands that closes inner C text of TeX text, in which the scan of these bytes stands. It is the first
+-- token behind which the scan stands in inner text no more. None where a section code or the end of the bytes comes
+-- first.
 abbrev pub closing_bar : List ℕ → Where → Bool → ℕ → ℕ → ℕ → Option ℕ
 closing_bar [] w fresh last place taken = None
 closing_bar (byte ∷ bytes) w fresh last place zero =

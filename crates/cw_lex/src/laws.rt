@@ -4,8 +4,8 @@ ghost use Rattle.cw_lex.specs.Parts.{PartsEndAtSections, PartsEndAtCodes, LastPa
 ghost use Rattle.cw_lex.specs.Parts.{InnerTextsEndAtBars};
 ghost use Rattle.cw_lex.specs.Nested.{CTextsAreNested, CTextsNestUpToSections, TexTextsAreNested};
 
-/// The law of parts: the scan of a part of a text is the scan of the whole there. It does nothing: what it ensures is for
-/// proofs.
+/// The law of parts: the scan of a part of a text is the scan of the whole there, and so is the scan of the bytes
+/// between the two bars of inner C text. It does nothing: what it ensures is for proofs.
 pub fn parts_law()
     ensures sections { PartsEndAtSections }
     ensures codes { PartsEndAtCodes }
@@ -22,8 +22,8 @@ pub fn nesting_law()
     ensures tex_texts { TexTextsAreNested }
 {}
 
-/// The law of nests: nested answers are those of one nest, in which all stands where it may, and so are the answers behind
-/// a head. It does nothing: what it ensures is for proofs.
+/// The law of nests: nested answers are those of one nest, in which all stands where it may, and so are the answers
+/// behind a head. It does nothing: what it ensures is for proofs.
 pub fn nest_law()
     ensures one { NestedAnswersMakeOneNest }
     ensures well { NestsAreWell }
