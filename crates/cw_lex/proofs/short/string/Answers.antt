@@ -1,4 +1,4 @@
-use Rattle.std.proofs.Common.{sym, ◌∙◌}
+use Rattle.std.proofs.Common.{sym}
 use Rattle.cw_lex.proofs.ShortTokens.{string-begins}
 use Rattle.cw_lex.proofs.short.string.Goals as goal
 
