@@ -1,4 +1,3 @@
-pub mod Innermost
 pub mod WalkSteps
 pub mod WalkLoop
 mod TranslatedRows

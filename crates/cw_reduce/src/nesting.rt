@@ -81,20 +81,25 @@ impl Open {
     }
 }
 
-/// All that is open, seen as a list with the innermost first.
+/// All that is open, seen as a list with the innermost first. The innermost stands apart from the vector of the
+/// others, so that a text without comments takes no memory for what is open.
 #[derive(Drop)]
 pub(crate) struct Nesting {
-    all: Vec<Open>,
+    innermost: Option<Open>,
+    outer: Vec<Open>,
 }
 
 impl Model for Nesting {
-    ghost use Rattle.std.specs.Prelude.{List};
+    ghost use Rattle.std.specs.Prelude.{List, ◌≡◌, ◌++◌, [], None};
     ghost use Rattle.std.specs.Prelude.{reverse};
+    ghost use Rattle.std.specs.Option.{option_to_list};
     ghost use Rattle.cw_reduce.specs.declared.nesting.Open.{Open};
 
     ghost Value = { List Open };
 
-    ghost view = { λ n. reverse n.all.items };
+    ghost view = { λ n. option_to_list n.innermost ++ reverse n.outer.items };
+
+    ghost invariant = { λ n. n.innermost ≡ None → n.outer.items ≡ [] };
 }
 
 impl Nesting {
@@ -103,7 +108,8 @@ impl Nesting {
         ensures { result ≡ [] }
     {
         Nesting {
-            all: Vec::new(alloc),
+            innermost: None,
+            outer: Vec::new(alloc),
         }
     }
 
@@ -111,7 +117,9 @@ impl Nesting {
     pub(crate) fn begin(&mut self, inner: Open) -> Result<(), Memory>
         ensures { OnOk result (self.new ≡ inner ∷ self.old) }
     {
-        self.all.push(inner)?;
+        if let Some(open) = self.innermost.replace(inner) {
+            self.outer.push(open)?;
+        }
         Ok(())
     }
 
@@ -119,14 +127,16 @@ impl Nesting {
     pub(crate) fn end(&mut self) -> Option<Open>
         ensures { MatchOption result ((self.old ≡ []) × (self.new ≡ [])) (λ inner. self.old ≡ inner ∷ self.new) }
     {
-        self.all.pop()
+        let ended = self.innermost.take();
+        self.innermost = self.outer.pop();
+        ended
     }
 
     /// Whether nothing is open.
     pub(crate) fn is_empty(&self) -> bool
         ensures { IsTrue result ↔ (self.now ≡ []) }
     {
-        self.all.is_empty()
+        self.innermost.is_none()
     }
 
     /// The scraps of the C text that is open alone, and none where more is open, or less.
@@ -146,21 +156,19 @@ impl Nesting {
         requires { leaf.cat ≢ End }
         ensures { OnOk result (self.new ≡ with_entry (entry_of leaf) self.old) }
     {
-        let count = self.all.len();
-        if count == 0 {
-            return Ok(());
+        match &mut self.innermost {
+            Some(inner) => inner.add_scrap(leaf),
+            None => Ok(()),
         }
-        self.all[count - 1].add_scrap(leaf)
     }
 
     /// A piece or an inner text comes behind those of the innermost comment.
     pub(crate) fn add_part(&mut self, part: CommentPart) -> Result<(), Memory>
         ensures { OnOk result (self.new ≡ with_part part self.old) }
     {
-        let count = self.all.len();
-        if count == 0 {
-            return Ok(());
+        match &mut self.innermost {
+            Some(inner) => inner.add_part(part),
+            None => Ok(()),
         }
-        self.all[count - 1].add_part(part)
     }
 }
