@@ -43,16 +43,19 @@ pub fn scrap_of(token: &Tok, names: &mut Names, store: &mut TokenStore) -> Resul
     ensures no_names { OnErr result (names.new ≡ names.old) }
     ensures no_lists { OnErr result (store.new.lists ≡ store.old.lists) }
 {
-    store.reserve(6)?;
     store.tied_law();
     let number = token.span.start as u32;
     match token.kind {
         TokKind::Identifier => {
+            store.reserve(6)?;
             let name = names.find_or_add(EntryKind::Ident, token.text)?;
             let cat = word_cat(token.hash_line, token.text, names.category(name));
             Ok(word_leaf(cat, name, number, store))
         }
-        kind => Ok(token_leaf(kind, number, store)),
+        kind => {
+            store.reserve(6)?;
+            Ok(token_leaf(kind, number, store))
+        }
     }
 }
 
