@@ -1,3 +1,4 @@
+//! Laws of translations.
 ghost use Rattle.cw_reduce.specs.TranslationLaws.{ShowsEachToken, StandsInText, StaysWithinLimit};
 
 /// The laws of translations, with section names and heads. Each token that is shown stands in the tree once and in order,

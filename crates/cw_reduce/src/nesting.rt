@@ -1,3 +1,4 @@
+//! What is open while a text is translated: C texts with their scraps, comments with their parts.
 ghost use Rattle.std.specs.Prelude.{List, ◌≡◌, ◌≢◌, [], ◌∷◌, ◌++◌, OnOk, MatchOption, IsTrue, ◌↔◌};
 ghost use Rattle.cw_base.specs.declared.category.Cat.TheVariants.{End};
 ghost use Rattle.cw_reduce.specs.declared.nesting.Open.{Open};

@@ -1,3 +1,4 @@
+//! Worked C texts, translated by calls.
 use crate::test_printing::{put_run, put_sign, run_control, trimmed};
 use crate::{Translated, is_plain_c, is_uncut, translate};
 use cw_base::{Bytes, Flags, Kept, Memory, Span, Steps};

@@ -1,3 +1,4 @@
+//! The translation of a C text.
 ghost use Rattle.std.specs.Prelude.{◌≡◌, ℕ, ◌+◌, ◌*◌, ◌^◌, ◌<◌, ◌≤◌, ◌⊎◌, List, [], ◌∷◌, length, true, false, IfOk, OnOk, OnErr, None};
 ghost use Rattle.cw_table.specs.Normal.{count, normal};
 ghost use Rattle.cw_table.specs.Productions.{productions};

@@ -1,3 +1,4 @@
+//! The reducer: a pointer goes along a line of scraps, and back after each production.
 ghost use Rattle.std.specs.Prelude.{◌≡◌, ◌+◌, ◌*◌, ◌<◌, ◌≤◌, true, drop, length, IfOk, OnOk, OnErr, MatchOption, MatchResult};
 ghost use Rattle.cw_table.specs.Fitting.{first_of, row_fits};
 ghost use Rattle.cw_table.specs.Normal.{count, normal, weight};

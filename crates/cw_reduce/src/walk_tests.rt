@@ -1,3 +1,4 @@
+//! Worked lines of scraps, reduced by calls.
 ghost use Rattle.std.specs.Prelude.{◌≡◌, [], OnOk};
 ghost use Rattle.cw_scraps.specs.Leaves.{MakesLeaf};
 ghost use Rattle.cw_scraps.specs.Lines.{IsSoundLine};

@@ -1,3 +1,4 @@
+//! One production on a line of scraps, with its marks and its reserving.
 ghost use Rattle.std.specs.Prelude.{◌≡◌, ◌+◌, ◌<◌, ◌≤◌, ◌++◌, true, length, drop};
 ghost use Rattle.std.specs.Option.{option_to_list};
 ghost use Rattle.cw_names.specs.declared.NameId.{NameId};

@@ -1,3 +1,4 @@
+//! The list that a production joins of its pieces.
 ghost use Rattle.std.specs.Prelude.{◌≡◌, ◌+◌, ◌-◌, ◌<◌, ◌≤◌, ◌++◌, [], ◌∷◌, length, drop, map, IsSome, option_map};
 ghost use Rattle.cw_base.specs.declared.mode.MathMode.TheVariants.{Maybe};
 ghost use Rattle.cw_table.specs.Rows.{pieces_by};

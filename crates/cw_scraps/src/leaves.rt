@@ -1,3 +1,4 @@
+//! The scrap of a token without nested text.
 ghost use Rattle.std.specs.Prelude.{◌≡◌, ◌≢◌, ℕ, ◌+◌, ◌^◌, ◌<◌, ◌≤◌, ◌++◌, ◌∷◌, [], List, length, IsSome, IfSome, IfOk, OnOk, OnErr, option_map, unwrap_or, nat_eq};
 ghost use Rattle.std.specs.Cmp.Lexicographic.{pointwise};
 ghost use Rattle.std.specs.Option.{option_to_list};

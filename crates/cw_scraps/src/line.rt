@@ -1,3 +1,4 @@
+//! A line of scraps: the two ends of one vector, with a gap between them.
 ghost use Rattle.std.specs.Prelude.{◌≡◌, ◌≢◌, ℕ, ◌+◌, ◌-◌, ◌^◌, ◌<◌, ◌≤◌, ◌↔◌, [], ◌∷◌, ◌++◌, length, take, drop, set, get_or, IsTrue, OnOk, OnErr, Some, slice_get, slice_index_or};
 ghost use Rattle.cw_base.specs.declared.category.Cat.TheVariants.{End};
 ghost use Rattle.cw_scraps.specs.Gap.{around, IsGap};

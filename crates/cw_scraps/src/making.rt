@@ -1,3 +1,4 @@
+//! The scrap that stands in place of those that a production replaces.
 ghost use Rattle.std.specs.Prelude.{◌≡◌, ◌+◌, ◌<◌, ◌≤◌, true, length, drop};
 ghost use Rattle.cw_table.specs.Fitting.{row_fits};
 ghost use Rattle.cw_table.specs.Rows.{pieces_by};

@@ -1,3 +1,4 @@
+//! The names that productions underlined.
 ghost use Rattle.std.specs.Prelude.{◌≡◌, ◌+◌, ◌-◌, ◌<◌, ◌≤◌, ◌↔◌, [], ◌∷◌, ◌++◌, length, IsTrue, OnOk, OnErr, Some, slice_get};
 ghost use Rattle.cw_scraps.specs.Marking.{MarkList};
 

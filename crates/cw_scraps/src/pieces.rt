@@ -1,3 +1,4 @@
+//! What a piece of a production puts into a list.
 ghost use Rattle.std.specs.Prelude.{◌≡◌, ℕ, ◌+◌, ◌<◌, [], ◌∷◌, length, drop};
 ghost use Rattle.cw_trees.specs.Joining.{needs, after, first_mode};
 ghost use Rattle.cw_table.specs.declared.types.Piece.TheVariants.{Scrap, MathScrap};

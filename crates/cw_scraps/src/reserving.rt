@@ -1,3 +1,4 @@
+//! Reserving: identifiers of one name become reserved words.
 ghost use Rattle.std.specs.Prelude.{◌≡◌, ℕ, ◌+◌, ◌-◌, ◌<◌, ◌≤◌, ◌++◌, [], ◌∷◌, ◌&&◌, length, take, drop, map, option_map};
 ghost use Rattle.cw_table.specs.Rewriting.{search_in, reserved_at, is_name};
 ghost use Rattle.cw_tokens.specs.References.{IsTied};

@@ -1,3 +1,4 @@
+//! Tests that apply each production once.
 ghost use Rattle.std.specs.Prelude.{◌≡◌, ◌<◌, ◌≤◌, true, length, drop, IfSome, OnOk};
 ghost use Rattle.cw_table.specs.Fitting.{row_fits};
 ghost use Rattle.cw_table.specs.Productions.{productions};

@@ -1,3 +1,4 @@
+//! Tests of lines, marks and productions.
 use crate::{Marks, ScrapLine};
 use cw_base::{Cat, Kept, MathMode, Memory, Steps};
 use cw_tokens::ListId;
