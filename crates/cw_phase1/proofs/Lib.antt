@@ -1,0 +1,9 @@
+mod Rows
+pub mod PlaceLaws
+pub mod TextLaws
+pub mod NameLaws
+pub mod Passing
+pub mod Outlines
+pub mod WordLaws
+pub mod Underway
+pub mod Referred

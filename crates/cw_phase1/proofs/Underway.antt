@@ -1,0 +1,424 @@
+-- What holds while the answers come.
+use Rattle.std.proofs.Common.{◌≡◌, ℕ, ◌+◌, ◌<◌, ◌≤◌, ◌^◌, Bool, true, false, List, [], ◌∷◌, ◌++◌, Option, Some, None, All, IfSome, length, refl, ap, sym, subst, ◌∙◌, arith, length-append, ◌-◌, drop}
+use Rattle.std.specs.Prelude.{slice_range}
+use Rattle.std.proofs.lemmas.List.{append-nil, length-take}
+use Rattle.std.proofs.lemmas.List.Elements.{All-append, All-nil, All-cons, All-weaker}
+use Rattle.cw_base.specs.Web.{MergedLine}
+use Rattle.cw_lex.specs.declared.codes.Code.{Code}
+use Rattle.cw_lex.specs.declared.codes.Code.TheVariants as at
+use Rattle.cw_lex.specs.declared.heads.Wanted.{Wanted}
+use Rattle.cw_lex.specs.declared.heads.Wanted.TheVariants as wants
+use Rattle.cw_lex.specs.declared.tokens.TokKind.{TokKind}
+use Rattle.cw_lex.specs.declared.tokens.TokKind.TheVariants as kinds
+use Rattle.cw_lex.specs.Answers.{Seen, Answer, Token, Begin, Finish, Note}
+use Rattle.cw_lex.specs.Heads.{head_behind, is_head_sign}
+use Rattle.cw_names.specs.Names as names
+use Rattle.cw_names.specs.declared.entry.EntryKind.{EntryKind}
+use Rattle.cw_names.specs.declared.entry.EntryKind.TheVariants.{Ident}
+use Rattle.cw_names.specs.declared.entry.NameId.{NameId}
+use Rattle.cw_secnames.specs.declared.kinds.SecId.{SecId}
+use Rattle.cw_secnames.specs.References.{Reference}
+use Rattle.cw_secnames.specs.Uses.{NameUse}
+use Rattle.cw_phase1.specs.declared.roles.Role.{Role}
+use Rattle.cw_phase1.specs.declared.roles.Role.TheVariants as roles
+use Rattle.cw_phase1.specs.declared.roles.Standing.{Standing}
+use Rattle.cw_phase1.specs.declared.sections.Open.{Open}
+use Rattle.cw_phase1.specs.declared.sections.Section.{Section}
+use Rattle.cw_phase1.specs.declared.sections.Sections.{Sections}
+use Rattle.cw_phase1.specs.declared.words.Words.{Words}
+use Rattle.cw_phase1.specs.Roles.{Placed, Step, name_step, token_step, token_step_by, code_step, free_step, section_step, word_role, head_role, behind_begin, placed_by, placed}
+use Rattle.cw_phase1.specs.Sections.{is_section_code}
+use Rattle.cw_phase1.specs.Texts.{entry_text}
+use Rattle.cw_phase1.specs.Uses.{use_by, reference_by}
+use Rattle.cw_phase1.specs.Outlining.{closing_by, closed_at, open_with, section_told_by}
+use Rattle.cw_phase1.specs.Words.{Known, known_behind, with_format}
+use Rattle.cw_phase1.specs.Telling.{IsKnown, word_told, known_of, told_step, told_all, told_start}
+use Rattle.cw_phase1.specs.declared.told.Told.{Told}
+use Rattle.cw_phase1.specs.declared.held.Waiting.{Waiting as WaitingToken}
+use Rattle.cw_phase1.specs.Notes.{scanned_note, scanned_notes}
+use Rattle.cw_phase1.specs.Entering.{kept_after, noted, with_note}
+use Rattle.cw_phase1.specs.Ending.{IsScanned, open_count, section_total}
+use Rattle.cw_phase1.specs.Book.{answers_of}
+use Rattle.cw_base.specs.Web.{text_of}
+use Rattle.cw_base.specs.declared.notes.NoteKind.{NoteKind}
+use Rattle.cw_lex.specs.Order.{Covers}
+use Rattle.cw_lex.specs.Lexing.{tokens_of}
+use Rattle.cw_lex.specs.declared.tokens.Mode.TheVariants as modes
+use Rattle.cw_phase1.proofs.Passing.{told_at_end, kept_at_end, notes_at_end, told-passes, kept-passes, notes-pass, settle-told}
+use Rattle.cw_phase1.specs.Holding.{Waiting, HeldState, waiting_of, settled_placed, settled_standing, settled, remark_notes, remark_put, is_name, token_held_by, begun_held, ended_held, noted_held, held_step}
+use Rattle.cw_phase1.specs.Ready.{IsToken, AreBefore, WaitsBehind, CanSettle, WaitingIsKept, held_start}
+use Rattle.cw_phase1.proofs.NameLaws.{category-length}
+use Rattle.cw_phase1.proofs.WordLaws.{entered-below, entry-grows}
+
+-- ## The first name of a format definition
+
+known-more : (o : Option NameId) (m n : ℕ) → m ≤ n → IfSome o (λ id. id.index < m) → IfSome o (λ id. id.index < n)
+known-more None m n h k = k
+known-more (Some id) m n h k = omega arith
+
+format-length : (o : Option NameId) (second : NameId) (entries : List names.Entry) → length (with_format o second entries) ≡ length entries
+format-length None second entries = refl
+format-length (Some first) second entries = category-length first.index _ entries
+
+word-known : (other : EntryKind) (text : List ℕ) (k : Known) → IfSome k.first (λ id. id.index < length k.names)
+    → IfSome k.first (λ id. id.index < length (names.with_entry other text k.names))
+word-known other text k h = known-more k.first _ _ (entry-grows other text k.names) h
+
+role-known : (role : Role) (text : List ℕ) (k : Known) → IfSome k.first (λ id. id.index < length k.names)
+    → IfSome (known_behind role text k).first (λ id. id.index < length (known_behind role text k).names)
+role-known roles.MacroName text k h = word-known Ident text k h
+role-known roles.Parameter text k h = word-known Ident text k h
+role-known roles.Word text k h = word-known Ident text k h
+role-known (roles.FirstName silent) text k h = entered-below Ident text k.names
+role-known (roles.SecondName silent) text k h =
+    subst (λ n. IfSome k.first (λ id. id.index < n)) (sym (format-length k.first _ (names.with_entry Ident text k.names))) (word-known Ident text k h)
+role-known (roles.Entry kind) text k h = word-known kind (entry_text text) k h
+role-known roles.SectionCode text k h = h
+role-known roles.Underline text k h = h
+role-known (roles.Name how) text k h = h
+role-known roles.Plain text k h = h
+
+told-known : (p : Placed) (w : Words) → IsKnown w → IsKnown (word_told p w)
+told-known p w h = role-known p.role p.token.text (known_of w) h
+
+-- ## Names in the web
+
+before-use : (name : Option SecId) (place n : ℕ) (uses : List NameUse) → place < n → AreBefore n uses → AreBefore n (uses ++ use_by name place)
+before-use None place n uses h b = All-append (λ (u : NameUse). u.place < n) uses [] b (All-nil (λ (u : NameUse). u.place < n))
+before-use (Some id) place n uses h b =
+    All-append (λ (u : NameUse). u.place < n) uses _ b (All-cons (λ (u : NameUse). u.place < n) _ [] h (All-nil (λ (u : NameUse). u.place < n)))
+
+before-more : (m n : ℕ) (uses : List NameUse) → m ≤ n → AreBefore m uses → AreBefore n uses
+before-more m n uses h b = All-weaker (λ (u : NameUse). u.place < m) (λ (u : NameUse). u.place < n) (λ u l. omega arith) uses b
+
+abbrev AreOf : ℕ → List Reference → Type 0
+AreOf n references = All (λ (r : Reference). r.name < n) references
+
+of-none : (n : ℕ) (references : List Reference) → AreOf n references → AreOf n (references ++ [])
+of-none n references a = All-append (λ (r : Reference). r.name < n) references [] a (All-nil (λ (r : Reference). r.name < n))
+
+of-nothing : (role : Role) (n section : ℕ) (references : List Reference) → AreOf n references → AreOf n (references ++ reference_by role None section)
+of-nothing (roles.Name how) n section references a = of-none n references a
+of-nothing role n section references a = of-none n references a
+
+of-some : (role : Role) (id : SecId) (n section : ℕ) (references : List Reference) → id.index < n → AreOf n references → AreOf n (references ++ reference_by role (Some id) section)
+of-some (roles.Name how) id n section references h a =
+    All-append (λ (r : Reference). r.name < n) references _ a (All-cons (λ (r : Reference). r.name < n) _ [] h (All-nil (λ (r : Reference). r.name < n)))
+of-some role id n section references h a = of-none n references a
+
+of-more : (role : Role) (name : Option SecId) (n section : ℕ) (references : List Reference) → IfSome name (λ id. id.index < n) → AreOf n references
+    → AreOf n (references ++ reference_by role name section)
+of-more role None n section references h a = of-nothing role n section references a
+of-more role (Some id) n section references h a = of-some role id n section references h a
+
+of-grows : (m n : ℕ) (references : List Reference) → m ≤ n → AreOf m references → AreOf n references
+of-grows m n references h a = All-weaker (λ (r : Reference). r.name < m) (λ (r : Reference). r.name < n) (λ r l. omega arith) references a
+
+-- ## Sections
+
+closing-length : (o : Option Open) (lines : List MergedLine) (end : ℕ) (closed : List Section)
+    → length (closing_by o lines end closed) ≡ open_count o + length closed
+closing-length None lines end closed = sym (omega arith)
+closing-length (Some o) lines end closed = length-append closed (closed_at lines end o ∷ []) ∙ omega arith
+
+with-count : (o : Option Open) (p : Placed) → open_count (open_with o p) ≡ open_count o
+with-count None p = refl
+with-count (Some o) p = refl
+
+total-by : (b : Bool) (lines : List MergedLine) (p : Placed) (s : Sections) (m n : ℕ) → section_total s ≤ m → (b ≡ true → m + 1 ≤ n) → m ≤ n
+    → section_total (section_told_by b lines p s) ≤ n
+total-by true lines p s m n h more same = omega (arith, closing-length s.open_one lines p.token.span.start s.closed, more refl)
+total-by false lines p s m n h more same = omega (arith, with-count s.open_one p)
+
+-- a section code begins the next section, and any other token stays in its section
+record Counts (s : Step) (m : ℕ) : Type 0 where
+  more : is_section_code s.role ≡ true → m + 1 ≤ s.next.section
+  same : m ≤ s.next.section
+  near : s.next.section ≤ m + 1
+
+counts-stay : (s : Step) (m : ℕ) → s.next.section ≡ m → (is_section_code s.role ≡ true → ⊥) → Counts s m
+counts-stay s m e n = record { more = λ h. absurd (n h); same = omega arith; near = omega arith }
+
+not-code-word : (wanted : Wanted) → is_section_code (word_role wanted) ≡ true → ⊥
+not-code-word wants.Nothing h = let wrong : false ≡ true = h in cc
+not-code-word wants.Macro h = let wrong : false ≡ true = h in cc
+not-code-word (wants.Parenthesis place) h = let wrong : false ≡ true = h in cc
+not-code-word wants.Parameters h = let wrong : false ≡ true = h in cc
+not-code-word (wants.First silent) h = let wrong : false ≡ true = h in cc
+not-code-word (wants.Second silent) h = let wrong : false ≡ true = h in cc
+
+not-code-head : (wanted : Wanted) (kind : TokKind) → is_section_code (head_role wanted kind) ≡ true → ⊥
+not-code-head wanted kinds.Identifier h = not-code-word wanted h
+not-code-head wanted kind h = let wrong : false ≡ true = h in cc
+
+counts-begin : (s : Standing) → Counts (section_step s) s.section
+counts-begin s = record { more = λ h. omega arith; same = omega arith; near = omega arith }
+
+plain-no-code : false ≡ true → ⊥
+plain-no-code h = cc
+
+code-counts : (code : Code) (s : Standing) → Counts (code_step code false s) s.section
+code-counts at.Section s = counts-begin s
+code-counts at.StarredSection s = counts-begin s
+code-counts at.Define s = counts-stay _ s.section refl plain-no-code
+code-counts at.Format s = counts-stay _ s.section refl plain-no-code
+code-counts at.SilentFormat s = counts-stay _ s.section refl plain-no-code
+code-counts at.Program s = counts-stay _ s.section refl plain-no-code
+code-counts at.SectionName s = counts-stay _ s.section refl plain-no-code
+code-counts at.FileName s = counts-stay _ s.section refl plain-no-code
+code-counts at.Roman s = counts-stay _ s.section refl plain-no-code
+code-counts at.Typewriter s = counts-stay _ s.section refl plain-no-code
+code-counts at.UserEntry s = counts-stay _ s.section refl plain-no-code
+code-counts at.Underline s = counts-stay _ s.section refl plain-no-code
+code-counts code s = counts-stay _ s.section refl plain-no-code
+
+free-counts : (kind : TokKind) (s : Standing) → Counts (free_step kind false s) s.section
+free-counts kinds.Identifier s = counts-stay _ s.section refl plain-no-code
+free-counts (kinds.Code code) s = code-counts code s
+free-counts kind s = counts-stay _ s.section refl plain-no-code
+
+step-counts : (o : Option Wanted) (kind : TokKind) (s : Standing) → Counts (token_step_by o kind false s) s.section
+step-counts None kind s = free-counts kind (behind_begin s)
+step-counts (Some next) kind s = counts-stay _ s.section refl (not-code-head s.wanted kind)
+
+name-counts : (headed : Bool) (s : Standing) → Counts (name_step headed s) s.section
+name-counts true s = counts-stay _ s.section refl plain-no-code
+name-counts false s = counts-stay _ s.section refl plain-no-code
+
+-- ## What is held
+
+-- Where no name waits: all that was told stands before a place.
+record IsQuiet (from count : ℕ) (s : Standing) (t : Told) : Type 0 where
+  section : s.section ≤ from
+  known : IsKnown t.words
+  before : AreBefore from t.named.uses
+  ids : AreOf count t.named.references
+  total : section_total t.sections ≤ s.section
+
+told-quiet : (lines : List MergedLine) (step : Step) (token : Seen) (name : Option SecId) (from count m : ℕ) (t : Told)
+    → Counts step m → step.next.section ≤ from → IsKnown t.words → token.span.start < from → AreBefore from t.named.uses
+    → IfSome name (λ id. id.index < count) → AreOf count t.named.references → section_total t.sections ≤ m
+    → IsQuiet from count step.next (told_step lines (placed_by token name step) t)
+told-quiet lines step token name from count m t counts within known start before id ids total = record {
+  section = within;
+  known = told-known (placed_by token name step) t.words known;
+  before = before-use name token.span.start from t.named.uses start before;
+  ids = of-more step.role name count step.next.section t.named.references id ids;
+  total = total-by (is_section_code step.role) lines (placed_by token name step) t.sections m step.next.section total counts.more counts.same;
+}
+
+abbrev WaitsHere : Option Waiting → ℕ → List NameUse → Type 0
+WaitsHere None from uses = AreBefore from uses
+WaitsHere (Some w) from uses = (w.token.span.start < from) × WaitsBehind (Some w) uses
+
+abbrev WaitingKept : Option Waiting → ℕ → Type 0
+WaitingKept None count = Unit {0}
+WaitingKept (Some w) count = IfSome w.name (λ id. id.index < count)
+
+pub record IsReady (from : ℕ) (h : HeldState) : Type 0 where
+  section : h.pass.standing.section ≤ from
+  known : IsKnown h.told.words
+  waits : WaitsHere h.pass.waiting from h.told.named.uses
+  ids : AreOf (length h.kept) h.told.named.references
+  total : section_total h.told.sections ≤ h.pass.standing.section
+  id : WaitingKept h.pass.waiting (length h.kept)
+  few : length h.kept ≤ from
+
+name-section : (headed : Bool) (s : Standing) → (name_step headed s).next.section ≡ s.section
+name-section true s = refl
+name-section false s = refl
+
+settle-quiet : (w : Option Waiting) (lines : List MergedLine) (headed : Bool) (from count : ℕ) (s : Standing) (t : Told)
+    → s.section ≤ from → IsKnown t.words → WaitsHere w from t.named.uses → AreOf count t.named.references
+    → section_total t.sections ≤ s.section → WaitingKept w count
+    → IsQuiet from count (settled_standing headed w s) (told_all lines (settled_placed headed w s) t)
+settle-quiet None lines headed from count s t section known waits ids total id =
+    record { section = section; known = known; before = waits; ids = ids; total = total }
+settle-quiet (Some w) lines headed from count s t section known waits ids total id =
+    let counts : Counts (name_step headed s) s.section = name-counts headed s in
+    let same : (name_step headed s).next.section ≡ s.section = name-section headed s in
+    told-quiet lines (name_step headed s) w.token w.name from count s.section t counts (omega (arith, same)) known waits.0
+    (before-more w.token.span.start from t.named.uses (omega (arith, waits.0)) waits.1.1) id ids total
+
+ready-settled : (lines : List MergedLine) (headed : Bool) (from : ℕ) (h : HeldState) → IsReady from h
+    → IsQuiet from (length h.kept) (settled_standing headed h.pass.waiting h.pass.standing) (told_all lines (settled_placed headed h.pass.waiting h.pass.standing) h.told)
+ready-settled lines headed from h r =
+    settle-quiet h.pass.waiting lines headed from (length h.kept) h.pass.standing h.told r.section r.known r.waits r.ids r.total r.id
+
+quiet-ready : (from to count : ℕ) (s : Standing) (t : Told) → from ≤ to → IsQuiet from count s t
+    → (s.section ≤ to) × AreBefore to t.named.uses
+quiet-ready from to count s t le q = (omega (arith, q.section), before-more from to t.named.uses le q.before)
+
+ready-begin : (lines : List MergedLine) (from to : ℕ) (h : HeldState) → from ≤ to → IsReady from h → IsReady to (begun_held (ended_held lines h))
+ready-begin lines from to h le r =
+    let q = ready-settled lines false from h r in
+    record { section = omega (arith, q.section); known = q.known; waits = before-more from to _ le q.before; ids = q.ids; total = q.total; id = tt; few = omega (arith, r.few) }
+
+ready-finish : (lines : List MergedLine) (from to : ℕ) (h : HeldState) → from ≤ to → IsReady from h → IsReady to (ended_held lines h)
+ready-finish lines from to h le r =
+    let q = ready-settled lines false from h r in
+    record { section = omega (arith, q.section); known = q.known; waits = before-more from to _ le q.before; ids = q.ids; total = q.total; id = tt; few = omega (arith, r.few) }
+
+ready-note : (lines : List MergedLine) (kind : NoteKind) (place from : ℕ) (h : HeldState) → IsReady from h → IsReady from (noted_held lines kind place h)
+ready-note lines kind place from h r = record { section = r.section; known = r.known; waits = r.waits; ids = r.ids; total = r.total; id = r.id; few = r.few }
+
+token-ready : (b : Bool) (lines : List MergedLine) (t : Seen) (from : ℕ) (h : HeldState) → IsToken t → from ≤ t.span.start
+    → IsQuiet from (length h.kept) h.pass.standing h.told
+    → WaitingKept (token_held_by b lines t h).pass.waiting (length (token_held_by b lines t h).kept) → length h.kept ≤ length (token_held_by b lines t h).kept
+    → length (token_held_by b lines t h).kept ≤ length h.kept + 1 → length h.kept ≤ from
+    → IsReady t.span.end (token_held_by b lines t h)
+token-ready true lines t from h token le q id grows one few = record {
+  section = omega (arith, q.section, token.some);
+  known = q.known;
+  waits = (token.some, (token, before-more from t.span.start h.told.named.uses le q.before));
+  ids = of-grows (length h.kept) _ h.told.named.references grows q.ids;
+  total = q.total;
+  id = id;
+  few = omega (arith, one, few, token.some);
+}
+token-ready false lines t from h token le q id grows one few =
+    let counts : Counts (token_step t.kind false h.pass.standing t.span) h.pass.standing.section = step-counts (head_behind h.pass.standing.wanted t.kind t.span) t.kind h.pass.standing in
+    let end : from < t.span.end = omega (arith, token.some) in
+    let p = told-quiet lines (token_step t.kind false h.pass.standing t.span) t None t.span.end (length h.kept) h.pass.standing.section h.told counts
+    (omega (arith, counts.near, q.section)) q.known token.some (before-more from t.span.end h.told.named.uses (omega arith) q.before) tt q.ids q.total in
+    record { section = p.section; known = p.known; waits = p.before; ids = p.ids; total = p.total; id = tt; few = omega (arith, few) }
+
+ready-token : (lines : List MergedLine) (t : Seen) (from : ℕ) (h : HeldState) → IsToken t → from ≤ t.span.start → IsReady from h
+    → WaitingKept (held_step lines (Token t) h).pass.waiting (length (held_step lines (Token t) h).kept) → length h.kept ≤ length (held_step lines (Token t) h).kept
+    → length (held_step lines (Token t) h).kept ≤ length h.kept + 1 → IsReady t.span.end (held_step lines (Token t) h)
+ready-token lines t from h token le r id grows one =
+    token-ready (is_name t.kind) lines t from (settled lines (is_head_sign t.kind) (remark_put lines h)) token le
+    (ready-settled lines (is_head_sign t.kind) from h r) id grows one r.few
+
+can-settle-by : (w : Option Waiting) (from : ℕ) (uses : List NameUse) → WaitsHere w from uses → WaitsBehind w uses
+can-settle-by None from uses h = tt
+can-settle-by (Some w) from uses h = h.1
+
+pub ready-settles : (from : ℕ) (h : HeldState) → IsReady from h → CanSettle h
+ready-settles from h r = record { known = r.known; waits = can-settle-by h.pass.waiting from h.told.named.uses r.waits }
+
+-- ## While the answers come
+
+covers-end : (text : List ℕ) (from end : ℕ) (answers : List Answer) → Covers text from end answers → from ≤ end
+covers-end text from end [] c = c.0
+covers-end text from end (Token t ∷ answers) c = omega (arith, c.0.order, c.1, covers-end text t.span.end end answers c.2)
+covers-end text from end (Begin t ∷ answers) c = omega (arith, c.0.order, c.0.span, covers-end text t.span.end end answers c.1)
+covers-end text from end (Finish t ∷ answers) c = omega (arith, c.0.order, c.0.span, covers-end text t.span.end end answers c.1)
+covers-end text from end (Note kind place ∷ answers) c = covers-end text from end answers c
+
+pub record Underway (lines : List MergedLine) (text : List ℕ) (all : List Answer) (h : HeldState) (rest : List Answer) : Type 0 where
+  pub from : ℕ
+  pub told : told_at_end lines h rest ≡ told_at_end lines held_start all
+  pub kept : kept_at_end h rest ≡ kept_at_end held_start all
+  pub notes : notes_at_end lines h rest ≡ notes_at_end lines held_start all
+  pub covers : Covers text from (length text) rest
+  pub limit : length text ≤ 16777216
+  pub ready : IsReady from h
+
+pub start : (lines : List MergedLine) (text : List ℕ) (all : List Answer) (h : HeldState) → h ≡ held_start → Covers text 0 (length text) all → length text ≤ 16777216
+    → Underway lines text all h all
+start lines text all h e c l = record {
+  from = 0;
+  told = ap (λ h. told_at_end lines h all) e;
+  kept = ap (λ h. kept_at_end h all) e;
+  notes = ap (λ h. notes_at_end lines h all) e;
+  covers = c;
+  limit = l;
+  ready = subst (IsReady 0) (sym e) (record { section = omega arith; known = tt; waits = All-nil (λ (u : NameUse). u.place < 0); ids = All-nil (λ (r : Reference). r.name < 0); total = omega arith; id = tt; few = omega arith });
+}
+
+text-length : (text : List ℕ) (a b : ℕ) → length (slice_range text a b) ≤ b - a
+text-length text a b = omega (arith, length-take (b - a) (drop a text))
+
+pub is-token : (lines : List MergedLine) (text : List ℕ) (all : List Answer) (h : HeldState) (t : Seen) (rest : List Answer)
+    → Underway lines text all h (Token t ∷ rest) → IsToken t
+is-token lines text all h t rest u =
+    let end : t.span.end ≤ length text = covers-end text t.span.end (length text) rest u.covers.2 in
+    let small : t.span.end < 2 ^ 32 = omega (arith, u.limit) in
+    record {
+      some = u.covers.1;
+      within = small;
+      text = subst (λ (bytes : List ℕ). length bytes < 2 ^ 32) (sym u.covers.0.slice) (omega (arith, text-length text t.span.start t.span.end));
+    }
+
+pub section-fits : (lines : List MergedLine) (text : List ℕ) (all : List Answer) (h : HeldState) (t : Seen) (rest : List Answer)
+    → Underway lines text all h (Token t ∷ rest) → h.pass.standing.section < 4294967295
+section-fits lines text all h t rest u =
+    let from : u.from ≤ length text = covers-end text u.from (length text) (Token t ∷ rest) u.covers in
+    omega (arith, u.limit, u.ready.section)
+
+pub token-step : (lines : List MergedLine) (text : List ℕ) (all : List Answer) (h new : HeldState) (t : Seen) (rest : List Answer)
+    → Underway lines text all h (Token t ∷ rest) → new ≡ held_step lines (Token t) h
+    → WaitingKept new.pass.waiting (length new.kept) → length h.kept ≤ length new.kept → length new.kept ≤ length h.kept + 1
+    → Underway lines text all new rest
+token-step lines text all h new t rest u e id grows one = record {
+  from = t.span.end;
+  told = ap (λ h. told_at_end lines h rest) e ∙ (sym (told-passes lines (Token t) h rest) ∙ u.told);
+  kept = ap (λ h. kept_at_end h rest) e ∙ (sym (kept-passes lines (Token t) h rest) ∙ u.kept);
+  notes = ap (λ h. notes_at_end lines h rest) e ∙ (sym (notes-pass lines (Token t) h rest) ∙ u.notes);
+  covers = u.covers.2;
+  limit = u.limit;
+  ready = subst (IsReady t.span.end) (sym e) (ready-token lines t u.from h (is-token lines text all h t rest u) u.covers.0.order u.ready
+      (subst (λ (h : HeldState). WaitingKept h.pass.waiting (length h.kept)) e id) (subst (λ (g : HeldState). length h.kept ≤ length g.kept) e grows) (subst (λ (g : HeldState). length g.kept ≤ length h.kept + 1) e one));
+}
+
+pub begin-step : (lines : List MergedLine) (text : List ℕ) (all : List Answer) (h new : HeldState) (t : Seen) (rest : List Answer)
+    → Underway lines text all h (Begin t ∷ rest) → new ≡ held_step lines (Begin t) h → Underway lines text all new rest
+begin-step lines text all h new t rest u e = record {
+  from = t.span.end;
+  told = ap (λ h. told_at_end lines h rest) e ∙ (sym (told-passes lines (Begin t) h rest) ∙ u.told);
+  kept = ap (λ h. kept_at_end h rest) e ∙ (sym (kept-passes lines (Begin t) h rest) ∙ u.kept);
+  notes = ap (λ h. notes_at_end lines h rest) e ∙ (sym (notes-pass lines (Begin t) h rest) ∙ u.notes);
+  covers = u.covers.1;
+  limit = u.limit;
+  ready = subst (IsReady t.span.end) (sym e) (ready-begin lines u.from t.span.end h (omega (arith, u.covers.0.order, u.covers.0.span)) u.ready);
+}
+
+pub finish-step : (lines : List MergedLine) (text : List ℕ) (all : List Answer) (h new : HeldState) (t : Seen) (rest : List Answer)
+    → Underway lines text all h (Finish t ∷ rest) → new ≡ held_step lines (Finish t) h → Underway lines text all new rest
+finish-step lines text all h new t rest u e = record {
+  from = t.span.end;
+  told = ap (λ h. told_at_end lines h rest) e ∙ (sym (told-passes lines (Finish t) h rest) ∙ u.told);
+  kept = ap (λ h. kept_at_end h rest) e ∙ (sym (kept-passes lines (Finish t) h rest) ∙ u.kept);
+  notes = ap (λ h. notes_at_end lines h rest) e ∙ (sym (notes-pass lines (Finish t) h rest) ∙ u.notes);
+  covers = u.covers.1;
+  limit = u.limit;
+  ready = subst (IsReady t.span.end) (sym e) (ready-finish lines u.from t.span.end h (omega (arith, u.covers.0.order, u.covers.0.span)) u.ready);
+}
+
+pub note-step : (lines : List MergedLine) (text : List ℕ) (all : List Answer) (h new : HeldState) (kind : NoteKind) (place : ℕ) (rest : List Answer)
+    → Underway lines text all h (Note kind place ∷ rest) → new ≡ held_step lines (Note kind place) h → Underway lines text all new rest
+note-step lines text all h new kind place rest u e = record {
+  from = u.from;
+  told = ap (λ h. told_at_end lines h rest) e ∙ (sym (told-passes lines (Note kind place) h rest) ∙ u.told);
+  kept = ap (λ h. kept_at_end h rest) e ∙ (sym (kept-passes lines (Note kind place) h rest) ∙ u.kept);
+  notes = ap (λ h. notes_at_end lines h rest) e ∙ (sym (notes-pass lines (Note kind place) h rest) ∙ u.notes);
+  covers = u.covers;
+  limit = u.limit;
+  ready = subst (IsReady u.from) (sym e) (ready-note lines kind place u.from h u.ready);
+}
+
+-- ## When all came
+
+last-remark : (lines : List MergedLine) (r : Option Answer) → scanned_notes lines (with_note r []) ≡ remark_notes lines r
+last-remark lines None = refl
+last-remark lines (Some note) = append-nil (scanned_note lines note)
+
+pub scanned : (lines : List MergedLine) (text : List ℕ) (all : List Answer) (h new : HeldState) → Underway lines text all h [] → new ≡ ended_held lines h
+    → text ≡ text_of lines → all ≡ tokens_of text 0 (length text) modes.Limbo → IsScanned lines new
+scanned lines text all h new u e same tokens =
+    let whole : all ≡ answers_of lines = tokens ∙ ap (λ (bytes : List ℕ). tokens_of bytes 0 (length bytes) modes.Limbo) same in
+    let q = ready-settled lines false u.from h u.ready in
+    let from : u.from ≤ length text = covers-end text u.from (length text) [] u.covers in
+    subst (IsScanned lines) (sym e) (record {
+      told = sym (settle-told lines h []) ∙ (u.told ∙ ap (λ answers. told_all lines (placed answers) told_start) whole);
+      kept = u.kept ∙ ap (λ answers. kept_after [] answers) whole;
+      notes = ap (λ ns. h.notes ++ ns) (sym (last-remark lines h.remark)) ∙ (u.notes ∙ ap (λ answers. scanned_notes lines (noted answers)) whole);
+      ids = q.ids;
+      total = omega (arith, q.total, q.section, u.limit);
+      few = omega (arith, u.ready.few, u.limit);
+    })
+
+pub waiting-kept : (w : Option WaitingToken) (count : ℕ) → WaitingIsKept w count → WaitingKept (waiting_of w) count
+waiting-kept None count h = tt
+waiting-kept (Some w) count h = h

@@ -1,0 +1,6 @@
+use Rattle.std.proofs.Common.{◌≡◌, ◌++◌, drop}
+use Rattle.cw_phase1.specs.Notes.{name_notes, name_notes_from}
+use Rattle.cw_phase1.proofs.phase.note_names.Given as goal
+
+abbrev pub invariant-loop-k : goal.invariant-loop-k
+invariant-loop-k l = l.notes ++ name_notes_from l.k (drop l.k l.names) ≡ l.fn.notes ++ name_notes l.names

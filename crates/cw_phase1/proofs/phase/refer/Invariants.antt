@@ -1,0 +1,10 @@
+use Rattle.std.proofs.Common.{◌≡◌, length, drop, map}
+use Rattle.cw_phase1.specs.Ending.{with_references}
+use Rattle.cw_phase1.specs.Referring.{referring_of}
+use Rattle.cw_phase1.proofs.phase.refer.Given as goal
+
+abbrev pub invariant-loop-reference : goal.invariant-loop-reference
+invariant-loop-reference l = record {
+  rest : with_references (map referring_of (drop l.reference-index l.reference-items)) l.names ≡ with_references (map referring_of l.reference-items) l.fn.names;
+  len : length l.names ≡ length l.fn.names;
+}

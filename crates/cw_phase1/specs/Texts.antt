@@ -1,0 +1,99 @@
+-- The texts of index entries and of section names, as their tokens have them.
+use Rattle.std.specs.Prelude.{ℕ, ◌-◌, Bool, true, false, ◌==◌, ◌||◌, List, [], ◌∷◌, Option, Some, None, length, drop, take, codes, nat_eq}
+use Rattle.std.specs.List.{ends_with}
+use Rattle.std.specs.Cmp.Lexicographic.{pointwise}
+use Rattle.cw_base.specs.Text.{is_blank}
+use Rattle.cw_lex.specs.declared.codes.Code.{Code}
+use Rattle.cw_lex.specs.declared.codes.Code.TheVariants as at
+use Rattle.cw_lex.specs.declared.tokens.TokKind.{TokKind}
+use Rattle.cw_lex.specs.declared.tokens.TokKind.TheVariants as kinds
+use Rattle.cw_lex.specs.Names.{uncoded}
+use Rattle.cw_secnames.specs.declared.kinds.SecKind.{SecKind}
+use Rattle.cw_secnames.specs.declared.kinds.SecKind.TheVariants.{Named, File}
+
+-- The control text of an entry, behind its code: up to the first `@>`, where `@@` is one `@`, and another `@` is kept.
+abbrev pub control_text : List ℕ → List ℕ
+control_text [] = []
+control_text (byte ∷ []) = byte ∷ []
+control_text (byte ∷ next ∷ bytes) =
+    elim (byte == 64) [
+      | true ↦ elim (next == 62) [
+        | true ↦ []
+        | false ↦ elim (next == 64) [ true ↦ 64 ∷ control_text bytes | false ↦ 64 ∷ control_text (next ∷ bytes) ]
+      ]
+      | false ↦ byte ∷ control_text (next ∷ bytes)
+    ]
+
+abbrev pub entry_text : List ℕ → List ℕ
+entry_text token = control_text (drop 2 token)
+
+-- White space is reduced to single blanks and dropped at both ends.
+abbrev pub is_white : ℕ → Bool
+is_white byte = byte == 10 || is_blank byte
+
+abbrev pub blank_before : List ℕ → List ℕ
+blank_before [] = []
+blank_before (byte ∷ bytes) = elim (byte == 32) [ true ↦ byte ∷ bytes | false ↦ 32 ∷ byte ∷ bytes ]
+
+abbrev pub single_blanks : List ℕ → List ℕ
+single_blanks [] = []
+single_blanks (byte ∷ bytes) =
+    elim (is_white byte) [ true ↦ blank_before (single_blanks bytes) | false ↦ byte ∷ single_blanks bytes ]
+
+abbrev pub without_first_blank : List ℕ → List ℕ
+without_first_blank [] = []
+without_first_blank (byte ∷ bytes) = elim (byte == 32) [ true ↦ bytes | false ↦ byte ∷ bytes ]
+
+abbrev pub reduced : List ℕ → List ℕ
+reduced bytes = without_first_blank (single_blanks bytes)
+
+-- What a section name says: nothing, as an empty name and `...`, which are ignored; a full name; or a prefix.
+pub data Naming : Type 0 where
+  Void : Naming
+  Full : (kind : SecKind) → (text : List ℕ) → Naming
+  Prefix : (text : List ℕ) → Naming
+
+abbrev pub dots : List ℕ
+dots = codes "..."
+
+abbrev pub ends_in_dots : List ℕ → Bool
+ends_in_dots text = ends_with nat_eq text dots
+
+abbrev pub is_ignored : List ℕ → Bool
+is_ignored text = length text == 0 || pointwise nat_eq text dots
+
+abbrev pub named_text : List ℕ → Naming
+named_text text = elim (ends_in_dots text) [ true ↦ Prefix (take (length text - 3) text) | false ↦ Full Named text ]
+
+abbrev pub naming_of : Code → List ℕ → Naming
+naming_of at.FileName text = elim (is_ignored text) [ true ↦ Void | false ↦ Full File text ]
+naming_of code text = elim (is_ignored text) [ true ↦ Void | false ↦ named_text text ]
+
+-- The name of a token of this kind with this text; any other token names nothing.
+abbrev pub naming_by : TokKind → List ℕ → Naming
+naming_by (kinds.Code at.SectionName) text = naming_of at.SectionName text
+naming_by (kinds.Code at.FileName) text = naming_of at.FileName text
+naming_by kind text = Void
+
+abbrev pub name_text : List ℕ → List ℕ
+name_text token = reduced (uncoded (drop 2 token))
+
+abbrev pub naming : TokKind → List ℕ → Naming
+naming kind token = naming_by kind (name_text token)
+
+-- ## A byte more of a name
+
+-- What the rest of a name adds to its reduced text, where bytes of it came, and white space behind them.
+abbrev pub rest_of : Bool → Bool → List ℕ → List ℕ
+rest_of false blank bytes = reduced bytes
+rest_of true false bytes = single_blanks bytes
+rest_of true true bytes = blank_before (single_blanks bytes)
+
+abbrev pub is_begun : List ℕ → Bool
+is_begun [] = false
+is_begun (byte ∷ bytes) = true
+
+-- the byte that a piece of a name is, unless it is dropped
+abbrev pub byte_of : Option ℕ → List ℕ
+byte_of None = []
+byte_of (Some byte) = byte ∷ []

@@ -1,0 +1,24 @@
+//! The first phase: the sections of a web, its names, its section names and its notes.
+#![tactic(auto)]
+
+mod book;
+mod entering;
+mod held;
+mod named;
+mod note_list;
+mod phase;
+mod places;
+mod placing;
+mod roles;
+mod sections;
+mod texts;
+mod told;
+mod words;
+
+pub use book::{Book, Outline};
+pub use phase::phase_one;
+pub use roles::{Part, Role, Standing};
+pub use sections::{Depth, Section};
+
+#[cfg(test)]
+mod tests;

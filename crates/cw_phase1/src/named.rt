@@ -1,0 +1,97 @@
+//! For which names the section names in a web stand, and how their sections refer to them.
+ghost use Rattle.std.specs.Prelude.{◌≡◌, ◌<◌, ◌^◌, [], ◌∷◌, ◌++◌, All, IfSome, OnOk, length, map};
+ghost use Rattle.cw_secnames.specs.References.{Reference};
+ghost use Rattle.cw_phase1.specs.Placing.{placed_of};
+ghost use Rattle.cw_phase1.specs.Referring.{referring_of};
+ghost use Rattle.cw_phase1.specs.Telling.{named_told};
+
+use crate::Role;
+use crate::placing::Placed;
+use cw_base::Memory;
+use cw_secnames::{NameUses, RefKind, SecId};
+use std::alloc::Global;
+use std::marker::Model;
+
+/// A section refers to a name.
+#[derive(Clone, Copy)]
+pub(crate) struct Referring {
+    pub id: SecId,
+    pub how: RefKind,
+    pub section: u32,
+}
+
+/// References in the order of the web.
+#[derive(Drop)]
+pub(crate) struct References {
+    items: Vec<Referring>,
+}
+
+impl Model for References {
+    ghost use Rattle.std.specs.Prelude.{List, map};
+    ghost use Rattle.cw_secnames.specs.References.{Reference};
+    ghost use Rattle.cw_phase1.specs.Referring.{referring_of};
+
+    ghost Value = { List Reference };
+
+    ghost view = { λ r. map referring_of r.items.items };
+}
+
+/// The names that section names stand for, and the references to them.
+#[derive(Drop)]
+pub(crate) struct Named {
+    pub uses: NameUses,
+    pub references: References,
+}
+
+impl References {
+    fn new_in(alloc: Global) -> References
+        ensures { result ≡ [] }
+    {
+        References {
+            items: Vec::new(alloc),
+        }
+    }
+
+    pub(crate) fn as_slice(&self) -> &[Referring]
+        ensures { map referring_of result.now ≡ self.now }
+    {
+        self.items.as_slice()
+    }
+
+    fn add(&mut self, reference: Referring) -> Result<(), Memory>
+        ensures { OnOk result (self.new ≡ self.old ++ referring_of reference ∷ []) }
+    {
+        self.items.push(reference)?;
+        Ok(())
+    }
+}
+
+impl Named {
+    pub(crate) fn new_in(alloc: Global) -> Named
+        ensures { result ≡ record { uses = []; references = [] } }
+    {
+        Named {
+            uses: NameUses::new_in(alloc),
+            references: References::new_in(alloc),
+        }
+    }
+
+    /// One token more.
+    pub(crate) fn tell(&mut self, p: &Placed) -> Result<(), Memory>
+        requires place { p.now.token.span.start < 2 ^ 32 }
+        requires order { IfSome p.now.name (λ _. All (λ u. u.place < p.now.token.span.start) self.old.uses) }
+        ensures { OnOk result (self.new ≡ named_told (placed_of p.now) self.old) }
+    {
+        if let Some(id) = p.name {
+            self.uses.add(p.token.span.start as u32, id)?;
+            if let Role::Name(how) = p.role {
+                self.references.add(Referring {
+                    id,
+                    how,
+                    section: p.section,
+                })?;
+            }
+        }
+        Ok(())
+    }
+}

@@ -1,0 +1,178 @@
+//! The first phase.
+ghost use Rattle.std.specs.Prelude.{◌≡◌, ◌<◌, ◌≤◌, ◌++◌, length, IfOk, OnOk};
+ghost use Rattle.cw_base.specs.Web.{text_of};
+ghost use Rattle.cw_phase1.specs.Book.{book};
+ghost use Rattle.cw_phase1.specs.Ending.{AreOfKept, IsScanned, notes_at, section_total, with_references};
+ghost use Rattle.cw_phase1.specs.Holding.{held_of};
+ghost use Rattle.cw_phase1.specs.Notes.{name_note as noted_name, name_notes};
+ghost use Rattle.cw_phase1.specs.Outlining.{closing, or_else};
+ghost use Rattle.cw_phase1.specs.Sections.{span};
+
+use crate::book::{Book, Outline};
+use crate::held::Held;
+use crate::named::{Named, References};
+use crate::note_list::NoteList;
+use crate::sections::or_else;
+use crate::told::Told;
+use crate::words::Words;
+use cw_base::{Memory, Note, NoteKind, Place, Span, Web};
+use cw_lex::{Lexed, Lexer, Mode};
+use cw_secnames::{SecId, SecKind, SecNames};
+use std::alloc::Global;
+
+/// Reads the scanner's answers for a web once, from the left, and makes its book.
+pub fn phase_one(alloc: Global, web: &Web) -> Result<Book, Memory>
+    ensures names { IfOk result (λ b. b.names ≡ (book web.now.lines).names) }
+    ensures xrefs { IfOk result (λ b. b.xrefs ≡ (book web.now.lines).occurrences) }
+    ensures sec_names { IfOk result (λ b. b.sec_names ≡ (book web.now.lines).section_names) }
+    ensures name_uses { IfOk result (λ b. b.name_uses ≡ (book web.now.lines).name_uses) }
+    ensures limbo { IfOk result (λ b. b.outline.limbo ≡ (book web.now.lines).limbo) }
+    ensures sections { IfOk result (λ b. b.outline.sections ≡ (book web.now.lines).sections) }
+    ensures notes { IfOk result (λ b. b.outline.notes ≡ (book web.now.lines).notes) }
+{
+    let held = scan(alloc, web)?;
+    let book = make_book(web, held)?;
+    Ok(book)
+}
+
+// Takes all answers of the scanner.
+fn scan<'a>(alloc: Global, web: &'a Web) -> Result<Held<'a>, Memory>
+    ensures { IfOk result (λ h. IsScanned web.now.lines (held_of h)) }
+{
+    let text = web.text();
+    let mut lexer = Lexer::over(text, 0, text.len(), Mode::Limbo);
+    let mut held = Held::new_in(alloc)?;
+    'answers: loop {
+        match lexer.next() {
+            Lexed::Token(token) => {
+                held.token(web, token)?;
+            }
+            Lexed::Begin(_begin) => {
+                held.begin(web)?;
+            }
+            Lexed::Finish(_finish) => {
+                held.finish(web)?;
+            }
+            Lexed::Note(kind, place) => {
+                held.note(web, kind, place)?;
+            }
+            Lexed::End => break,
+        }
+    }
+    held.finish(web)?;
+    Ok(held)
+}
+
+// Adds each reference to its name.
+fn refer(names: &mut SecNames, references: &References) -> Result<(), Memory>
+    requires { AreOfKept names.old references.now }
+    ensures referred { OnOk result (names.new ≡ with_references references.now names.old) }
+    ensures len { OnOk result (length names.new ≡ length names.old) }
+{
+    for reference in references.as_slice() {
+        names.add_ref(reference.id, reference.how, reference.section)?;
+    }
+    Ok(())
+}
+
+// The notes on a kept name.
+fn note_name(names: &SecNames, k: usize, notes: &mut NoteList) -> Result<(), Memory>
+    requires within { k < length names.now }
+    requires few { length names.now ≤ 16777216 }
+    ensures { OnOk result (notes.new ≡ notes.old ++ notes_at k names.now) }
+{
+    let id = SecId { index: k };
+    if !names.complete(id) {
+        return notes.push(name_note(NoteKind::NameIncomplete, k as u32));
+    }
+    if names.defined_in(id).is_empty() {
+        notes.push(name_note(NoteKind::NeverDefined, k as u32))?;
+    }
+    if names.kind(id).is(SecKind::Named) && names.used_in(id).is_empty() {
+        notes.push(name_note(NoteKind::NeverUsed, k as u32))?;
+    }
+    Ok(())
+}
+
+fn name_note(kind: NoteKind, value: u32) -> Note
+    ensures { result ≡ noted_name kind value }
+{
+    Note {
+        kind,
+        value,
+        place: Place { file: 0, line: 0 },
+    }
+}
+
+// The notes on all kept names, in order of entry.
+fn note_names(names: &SecNames, notes: &mut NoteList) -> Result<(), Memory>
+    requires { length names.now ≤ 16777216 }
+    ensures { OnOk result (notes.new ≡ notes.old ++ name_notes names.now) }
+{
+    for k in 0..names.len() {
+        note_name(names, k, notes)?;
+    }
+    Ok(())
+}
+
+// The book of what is held when all answers came.
+fn make_book(web: &Web, held: Held) -> Result<Book, Memory>
+    requires ids { AreOfKept held.kept held.told.named.references }
+    requires total { section_total held.told.sections ≤ 16777216 }
+    requires few { length held.kept ≤ 16777216 }
+    ensures names { IfOk result (λ b. b.names ≡ held.entry.told.words.names) }
+    ensures xrefs { IfOk result (λ b. b.xrefs ≡ held.entry.told.words.xrefs) }
+    ensures sec_names { IfOk result
+        (λ b. b.sec_names ≡ with_references held.entry.told.named.references held.entry.kept) }
+    ensures name_uses { IfOk result (λ b. b.name_uses ≡ held.entry.told.named.uses) }
+    ensures limbo { IfOk result
+        (λ b. b.outline.limbo ≡ span 0 (or_else held.entry.told.sections.limbo_end (length (text_of web.now.lines)))) }
+    ensures sections { IfOk result (λ b. b.outline.sections ≡
+        closing web.now.lines (length (text_of web.now.lines)) held.entry.told.sections) }
+    ensures notes { IfOk result (λ b. b.outline.notes ≡
+        held.entry.notes ++ name_notes (with_references held.entry.told.named.references held.entry.kept)) }
+{
+    let Held {
+        standing: _,
+        waiting: _,
+        kept,
+        told,
+        remark: _,
+        notes,
+        buffer: _,
+    } = held;
+    let Told {
+        words,
+        named,
+        sections,
+    } = told;
+    let Words {
+        names,
+        first: _,
+        waits: _,
+        xrefs,
+    } = words;
+    let Named { uses, references } = named;
+    let size = web.text().len();
+    let mut sections = sections;
+    sections.close(web, size)?;
+    let limbo = Span {
+        start: 0,
+        end: or_else(sections.limbo_end, size),
+    };
+    let mut sec_names = kept;
+    refer(&mut sec_names, &references)?;
+    let mut notes = notes;
+    note_names(&sec_names, &mut notes)?;
+    Ok(Book {
+        names,
+        xrefs,
+        sec_names,
+        name_uses: uses,
+        outline: Outline {
+            limbo,
+            sections: sections.closed,
+            notes,
+        },
+    })
+}

@@ -1,0 +1,284 @@
+//! The sections of a web: their heads, and the spans of their parts.
+ghost use Rattle.std.specs.Prelude.{◌≡◌, ◌+◌, ◌^◌, ◌<◌, ◌≤◌, [], ◌∷◌, ◌++◌, List, None, length, drop, take_while, OnOk};
+ghost use Rattle.cw_lex.specs.Answers.{seen};
+ghost use Rattle.cw_lex.specs.Bytes.{is_digit};
+ghost use Rattle.cw_phase1.specs.Placing.{placed_of};
+ghost use Rattle.cw_phase1.specs.Sections.{depth_at, ends_definitions, ends_tex, is_section_code, is_starred};
+ghost use Rattle.cw_phase1.specs.Outlining.{closed_at, closing, opened, or_else, or_here, section_told, with_token};
+
+use crate::places::holds_changed;
+use crate::placing::Placed;
+use crate::{Part, Role};
+use cw_base::{Memory, Span, Web};
+use cw_lex::{Code, Tok, TokKind};
+use cw_secnames::SecId;
+use std::alloc::Global;
+use std::marker::Model;
+
+/// How deep a starred section stands. A section that isn't starred has depth 0.
+#[derive(Clone, Copy, PartialEq, Eq, Debug)]
+pub enum Depth {
+    /// Depth -1.
+    Minus,
+    /// Depth 0, without digits.
+    Zero,
+    /// The span of the digits, whose number has no limit.
+    Digits(Span),
+}
+
+/// A section of a web.
+#[derive(Clone, Copy, PartialEq, Eq, Debug)]
+pub struct Section {
+    pub starred: bool,
+    pub depth: Depth,
+    pub tex: Span,
+    pub definitions: Span,
+    pub c_part: Span,
+    /// The name that the C part defines.
+    pub name: Option<SecId>,
+    /// Whether a line of the section is a changed one.
+    pub changed: bool,
+}
+
+/// A section whose end has not come, with the ends of those of its parts that ended.
+#[derive(Clone, Copy)]
+pub(crate) struct Open {
+    starred: bool,
+    depth: Depth,
+    // Where its code begins, and where it ends.
+    start: usize,
+    behind: usize,
+    tex_end: Option<usize>,
+    definitions_end: Option<usize>,
+    name: Option<SecId>,
+}
+
+/// Sections in a row.
+#[derive(Drop)]
+pub(crate) struct SectionList {
+    items: Vec<Section>,
+}
+
+impl Model for SectionList {
+    ghost use Rattle.std.specs.Prelude.{List};
+    ghost use Rattle.cw_phase1.specs.declared.sections.Section.{Section};
+
+    ghost Value = { List Section };
+
+    ghost view = { λ s. s.items.items };
+}
+
+/// The sections that came: those that ended, the one that is open, and where limbo ended.
+#[derive(Drop)]
+pub(crate) struct Sections {
+    pub closed: SectionList,
+    pub open_one: Option<Open>,
+    pub limbo_end: Option<usize>,
+}
+
+impl SectionList {
+    pub(crate) fn new_in(alloc: Global) -> SectionList
+        ensures { result ≡ [] }
+    {
+        SectionList {
+            items: Vec::new(alloc),
+        }
+    }
+
+    pub(crate) fn push(&mut self, section: Section) -> Result<(), Memory>
+        ensures { OnOk result (self.new ≡ self.old ++ section ∷ []) }
+    {
+        self.items.push(section)?;
+        Ok(())
+    }
+
+    pub(crate) fn as_slice(&self) -> &[Section]
+        ensures { result.now ≡ self.now }
+    {
+        self.items.as_slice()
+    }
+}
+
+fn is_digit(byte: u8) -> bool
+    ensures { result ≡ is_digit byte }
+{
+    byte.is_ascii_digit()
+}
+
+/// How many digits bytes begin with.
+fn digits(bytes: &[u8]) -> usize
+    ensures value { result ≡ length (take_while is_digit bytes.now) }
+    ensures within { result ≤ length bytes.now }
+{
+    bytes.iter().take_while(|byte| is_digit(**byte)).count()
+}
+
+// The depth that stands at a place.
+fn depth_at(place: usize, bytes: &[u8]) -> Depth
+    requires { place + length bytes.now < 2 ^ 64 }
+    ensures { result ≡ depth_at place bytes.now }
+{
+    if !bytes.is_empty() && bytes[0] == b'*' {
+        return Depth::Minus;
+    }
+    let count = digits(bytes);
+    if count == 0 {
+        return Depth::Zero;
+    }
+    Depth::Digits(Span {
+        start: place,
+        end: place + count,
+    })
+}
+
+// What stands behind the two bytes of a code.
+fn behind_code(code: &[u8]) -> &[u8]
+    ensures { result.now ≡ drop 2 code.now }
+{
+    if code.len() < 2 {
+        return &[];
+    }
+    &code[2..]
+}
+
+fn is_starred(kind: TokKind) -> bool
+    ensures { result ≡ is_starred kind }
+{
+    matches!(kind, TokKind::Code(Code::StarredSection))
+}
+
+fn is_section_code(role: Role) -> bool
+    ensures { result ≡ is_section_code role }
+{
+    matches!(role, Role::SectionCode)
+}
+
+// The first place that passes a test, where it didn't come before.
+fn or_here(first: Option<usize>, passes: bool, place: usize) -> Option<usize>
+    ensures { result ≡ or_here first passes place }
+{
+    match first {
+        Some(first) => Some(first),
+        None => { if passes { Some(place) } else { None } }
+    }
+}
+
+pub(crate) fn or_else(first: Option<usize>, place: usize) -> usize
+    ensures { result ≡ or_else first place }
+{
+    match first {
+        Some(first) => first,
+        None => place,
+    }
+}
+
+impl<'a> Placed<'a> {
+    fn ends_tex(&self) -> bool
+        ensures { result ≡ ends_tex (placed_of self.now) }
+    {
+        is_section_code(self.role) || !matches!(self.part, Part::Tex)
+    }
+
+    fn ends_definitions(&self) -> bool
+        ensures { result ≡ ends_definitions (placed_of self.now) }
+    {
+        is_section_code(self.role) || matches!(self.part, Part::Program)
+    }
+}
+
+impl Open {
+    // A section begins with its code.
+    fn at(token: &Tok) -> Open
+        requires { token.now.span.start + length token.now.text.now + 2 < 2 ^ 64 }
+        ensures { result ≡ opened (seen token.now) }
+    {
+        Open {
+            starred: is_starred(token.kind),
+            depth: depth_at(token.span.start + 2, behind_code(token.text)),
+            start: token.span.start,
+            behind: token.span.end,
+            tex_end: None,
+            definitions_end: None,
+            name: None,
+        }
+    }
+
+    // A token of the section.
+    fn meet(&mut self, p: &Placed)
+        ensures { self.new ≡ with_token (placed_of p.now) self.old }
+    {
+        let start = p.token.span.start;
+        self.tex_end = or_here(self.tex_end, p.ends_tex(), start);
+        let ends = p.ends_definitions();
+        if ends && self.definitions_end.is_none() {
+            self.name = p.name;
+        }
+        self.definitions_end = or_here(self.definitions_end, ends, start);
+    }
+
+    // The section, which ends at a place.
+    fn closed_at(&self, web: &Web, end: usize) -> Section
+        ensures { result ≡ closed_at web.now.lines end self.now }
+    {
+        let tex_end = or_else(self.tex_end, end);
+        let definitions_end = or_else(self.definitions_end, end);
+        Section {
+            starred: self.starred,
+            depth: self.depth,
+            tex: Span {
+                start: self.behind,
+                end: tex_end,
+            },
+            definitions: Span {
+                start: tex_end,
+                end: definitions_end,
+            },
+            c_part: Span {
+                start: definitions_end,
+                end,
+            },
+            name: self.name,
+            changed: holds_changed(web, self.start, end),
+        }
+    }
+}
+
+impl Sections {
+    pub(crate) fn new_in(alloc: Global) -> Sections
+        ensures { result ≡ record { closed = []; open_one = None; limbo_end = None } }
+    {
+        Sections {
+            closed: SectionList::new_in(alloc),
+            open_one: None,
+            limbo_end: None,
+        }
+    }
+
+    // The open section ends at a place.
+    pub(crate) fn close(&mut self, web: &Web, end: usize) -> Result<(), Memory>
+        ensures { OnOk result (self.new ≡ record self.old { closed = closing web.now.lines end self.old }) }
+    {
+        if let Some(open) = self.open_one {
+            self.closed.push(open.closed_at(web, end))?;
+        }
+        Ok(())
+    }
+
+    // One token more.
+    pub(crate) fn tell(&mut self, web: &Web, p: &Placed) -> Result<(), Memory>
+        requires { p.now.token.span.start + length p.now.token.text.now + 2 < 2 ^ 64 }
+        ensures { OnOk result (self.new ≡ section_told web.now.lines (placed_of p.now) self.old) }
+    {
+        let start = p.token.span.start;
+        if is_section_code(p.role) {
+            self.close(web, start)?;
+            self.open_one = Some(Open::at(&p.token));
+            self.limbo_end = or_here(self.limbo_end, true, start);
+            return Ok(());
+        }
+        if let Some(open) = &mut self.open_one {
+            open.meet(p);
+        }
+        Ok(())
+    }
+}

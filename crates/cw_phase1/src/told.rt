@@ -1,0 +1,47 @@
+//! What is told of the tokens that came.
+ghost use Rattle.std.specs.Prelude.{◌≡◌, ◌+◌, ◌<◌, ◌^◌, [], All, IfOk, IfSome, OnOk, None, false, length};
+ghost use Rattle.cw_names.specs.Words.{built_in_words};
+ghost use Rattle.cw_phase1.specs.Placing.{placed_of};
+ghost use Rattle.cw_phase1.specs.Telling.{IsKnown, told_step, told_start};
+
+use crate::named::Named;
+use crate::placing::Placed;
+use crate::sections::Sections;
+use crate::words::Words;
+use cw_base::{Memory, Web};
+use std::alloc::Global;
+
+/// The words, the section names and the sections of the tokens that came.
+#[derive(Drop)]
+pub(crate) struct Told {
+    pub words: Words,
+    pub named: Named,
+    pub sections: Sections,
+}
+
+impl Told {
+    pub(crate) fn new_in(alloc: Global) -> Result<Told, Memory>
+        ensures { IfOk result (λ t. t ≡ told_start) }
+    {
+        Ok(Told {
+            words: Words::new_in(alloc)?,
+            named: Named::new_in(alloc),
+            sections: Sections::new_in(alloc),
+        })
+    }
+
+    /// One token more.
+    pub(crate) fn tell(&mut self, web: &Web, p: &Placed, buffer: &mut Vec<u8>) -> Result<(), Memory>
+        requires known { IsKnown self.old.words }
+        requires place { p.now.token.span.start < 2 ^ 32 }
+        requires text { length p.now.token.text.now < 2 ^ 32 }
+        requires order { IfSome p.now.name (λ _. All (λ u. u.place < p.now.token.span.start) self.old.named.uses) }
+        ensures told { OnOk result (self.new ≡ told_step web.now.lines (placed_of p.now) self.old) }
+        ensures known { OnOk result (IsKnown self.new.words) }
+    {
+        self.words.tell(p, buffer)?;
+        self.named.tell(p)?;
+        self.sections.tell(web, p)?;
+        Ok(())
+    }
+}

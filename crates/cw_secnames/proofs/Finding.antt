@@ -1,0 +1,225 @@
+-- Names in memory, and the first that pass a test.
+use Rattle.std.proofs.Common.{◌≡◌, ℕ, zero, suc, ◌+◌, ◌<◌, ◌≤◌, ◌&&◌, Bool, true, false, not, nat_lt, List, [], ◌∷◌, Option, Some, None, map, length, drop, take, ◌-◌, length-drop, cond, refl, ap, ◌∙◌, sym, subst, get_or, add-zero, zero-add, arith}
+use borrow.Author.Tests.{lt-ltb, ltb-true}
+use Rattle.cw_secnames.specs.declared.kinds.Earliest.TheVariants.{Nobody, One, Several}
+use Rattle.cw_secnames.specs.declared.kinds.RefKind.{RefKind}
+use Rattle.cw_secnames.specs.References.{with_section, with_reference}
+use Rattle.std.specs.List.{position, position_or_len}
+use Rattle.std.specs.Option.{option_map}
+use Rattle.std.proofs.lemmas.List.{take_all}
+use Rattle.cw_secnames.specs.declared.sec_names.Kept.{Kept}
+use Rattle.cw_secnames.specs.Kept.{SecName, with_text, positions_from, grown, is_shorter, earliest}
+use Rattle.cw_secnames.specs.Inside.{name_of}
+use Rattle.std.specs.Prelude.{slice_set}
+use Rattle.std.specs.Global.{Vec}
+
+place-map : (test : SecName → Bool) (xs : List Kept) → position_or_len test (map name_of xs) ≡ position_or_len (λ x. test (name_of x)) xs
+place-map test [] = refl
+place-map test (x ∷ xs) = ap (λ n. cond (not (test (name_of x))) (1 + n) 0) (place-map test xs)
+
+length-named : (xs : List Kept) → length (map name_of xs) ≡ length xs
+length-named [] = refl
+length-named (x ∷ xs) = ap suc (length-named xs)
+
+pub position-map : (test : SecName → Bool) (xs : List Kept) → position test (map name_of xs) ≡ position (λ x. test (name_of x)) xs
+position-map test xs = rw (place-map test xs, length-named xs) refl
+
+pub with_text-map : (xs : List Kept) (i : ℕ) (d old : Kept) (t : Vec ℕ) (text : List ℕ) (complete : Bool)
+    → old ≡ get_or xs i d → t.items ≡ text
+    → map name_of (slice_set xs i (record old { text = t; complete = complete })) ≡ with_text i text complete (map name_of xs)
+with_text-map [] i d old t text complete same h = refl
+with_text-map (x ∷ xs) zero d old t text complete same h = rw (same, h) refl
+with_text-map (x ∷ xs) (suc i) d old t text complete same h = ap (λ rest. name_of x ∷ rest) (with_text-map xs i d old t text complete same h)
+
+pub drop-named : (i : ℕ) (xs : List Kept) → drop i (map name_of xs) ≡ map name_of (drop i xs)
+drop-named zero xs = refl
+drop-named (suc i) [] = refl
+drop-named (suc i) (x ∷ xs) = drop-named i xs
+
+-- ## A name changed in memory
+
+pub length-with_text : (i : ℕ) (text : List ℕ) (complete : Bool) (names : List SecName) → length (with_text i text complete names) ≡ length names
+length-with_text i text complete [] = refl
+length-with_text zero text complete (n ∷ names) = refl
+length-with_text (suc i) text complete (n ∷ names) = ap suc (length-with_text i text complete names)
+
+length-by : (t : Bool) (prefix : List ℕ) (n : SecName) (names : List SecName)
+    → length (elim t as (λ _. List SecName) [ true ↦ record n { text = prefix } ∷ names | false ↦ n ∷ names ]) ≡ suc (length names)
+length-by true prefix n names = refl
+length-by false prefix n names = refl
+
+pub length-grown : (prefix : List ℕ) (i : ℕ) (names : List SecName) → length (grown prefix i names) ≡ length names
+length-grown prefix i [] = refl
+length-grown prefix zero (n ∷ names) = length-by (is_shorter prefix n) prefix n names
+length-grown prefix (suc i) (n ∷ names) = ap suc (length-grown prefix i names)
+
+pub length-with_reference : (i : ℕ) (how : RefKind) (section : ℕ) (names : List SecName) → length (with_reference i how section names) ≡ length names
+length-with_reference i how section [] = refl
+length-with_reference zero how section (n ∷ names) = refl
+length-with_reference (suc i) how section (n ∷ names) = ap suc (length-with_reference i how section names)
+
+pub same-map : (xs : List Kept) (i : ℕ) (d new : Kept) → name_of new ≡ name_of (get_or xs i d)
+    → map name_of (slice_set xs i new) ≡ map name_of xs
+same-map [] i d new h = refl
+same-map (x ∷ xs) zero d new h = ap (λ n. n ∷ map name_of xs) h
+same-map (x ∷ xs) (suc i) d new h = ap (λ rest. name_of x ∷ rest) (same-map xs i d new h)
+
+pub reference-map : (xs : List Kept) (i : ℕ) (d new : Kept) (how : RefKind) (section : ℕ)
+    → name_of new ≡ with_section how section (name_of (get_or xs i d))
+    → map name_of (slice_set xs i new) ≡ with_reference i how section (map name_of xs)
+reference-map [] i d new how section h = refl
+reference-map (x ∷ xs) zero d new how section h = ap (λ n. n ∷ map name_of xs) h
+reference-map (x ∷ xs) (suc i) d new how section h =
+    ap (λ rest. name_of x ∷ rest) (reference-map xs i d new how section h)
+
+shorter-by : (b : Bool) (x : Kept) (prefix : List ℕ) (rest : List SecName) → b ≡ false → x.complete ≡ b
+    → length x.text.items < length prefix
+    → (record (name_of x) { text = prefix; complete = false } ∷ rest) ≡ grown prefix zero (name_of x ∷ rest)
+shorter-by true x prefix rest f e h = absurd (cc)
+shorter-by false x prefix rest f e h =
+    ap (λ (c : Bool). record (name_of x) { text = prefix; complete = c } ∷ rest) (sym e) ∙
+    sym (let test : is_shorter prefix (name_of x) ≡ true = rw (e, lt-ltb (length x.text.items) (length prefix) h) refl in
+    ap (λ (t : Bool). elim t as (λ _. List SecName) [ true ↦ record (name_of x) { text = prefix } ∷ rest | false ↦ name_of x ∷ rest ]) test)
+
+pub grown-shorter : (prefix : List ℕ) (xs : List Kept) (i : ℕ) (d : Kept)
+    → (get_or xs i d).complete ≡ false → length (get_or xs i d).text.items < length prefix
+    → with_text i prefix false (map name_of xs) ≡ grown prefix i (map name_of xs)
+grown-shorter prefix [] i d h k = refl
+grown-shorter prefix (x ∷ xs) zero d h k = shorter-by x.complete x prefix (map name_of xs) h refl k
+grown-shorter prefix (x ∷ xs) (suc i) d h k = ap (λ rest. name_of x ∷ rest) (grown-shorter prefix xs i d h k)
+
+pub grown-complete : (prefix : List ℕ) (xs : List Kept) (i : ℕ) (d : Kept) → (get_or xs i d).complete ≡ true
+    → map name_of xs ≡ grown prefix i (map name_of xs)
+grown-complete prefix [] i d h = refl
+grown-complete prefix (x ∷ xs) zero d h = rw h refl
+grown-complete prefix (x ∷ xs) (suc i) d h = ap (λ rest. name_of x ∷ rest) (grown-complete prefix xs i d h)
+
+not-below : (a b : ℕ) → b ≤ a → nat_lt a b ≡ false
+not-below a b h = grind arith
+
+still : (complete : Bool) → (not complete && false) ≡ false
+still true = refl
+still false = refl
+
+pub grown-longer : (prefix : List ℕ) (xs : List Kept) (i : ℕ) (d : Kept) → length prefix ≤ length (get_or xs i d).text.items
+    → map name_of xs ≡ grown prefix i (map name_of xs)
+grown-longer prefix [] i d h = refl
+grown-longer prefix (x ∷ xs) zero d h = rw (not-below _ _ h, still x.complete, grown) refl
+grown-longer prefix (x ∷ xs) (suc i) d h = ap (λ rest. name_of x ∷ rest) (grown-longer prefix xs i d h)
+
+-- ## The earliest that pass a test
+
+-- Where a name is found, it passes; the names before it don't, and it stands among the names.
+pub record IsFirst (test : SecName → Bool) (names : List SecName) (k j : ℕ) : Type 0 where
+  pub positions : positions_from k test names ≡ (k + j) ∷ positions_from (k + j + 1) test (drop (j + 1) names)
+  pub below : j < length names
+
+dropped : (n : SecName) (names : List SecName) (j : ℕ) → drop ((1 + j) + 1) (n ∷ names) ≡ drop (j + 1) names
+dropped n names j = let one : (1 + j) + 1 ≡ suc (j + 1) = omega arith in ap (λ m. drop m (n ∷ names)) one
+
+first-by : (t : Bool) (test : SecName → Bool) (n : SecName) (names : List SecName) (k j : ℕ) → test n ≡ t
+    → cond (not t) (1 + j) 0 < suc (length names) → (j < length names → IsFirst test names (k + 1) j)
+    → IsFirst test (n ∷ names) k (cond (not t) (1 + j) 0)
+first-by true test n names k j h below rest =
+    record { positions = rw (h, positions_from, add-zero k) refl; below = below }
+first-by false test n names k j h below rest =
+    let f : IsFirst test names (k + 1) j = rest (omega arith) in
+    let one : (k + 1) + j ≡ k + (1 + j) = omega arith in
+    record {
+      positions =
+          (let open_one : positions_from k test (n ∷ names) ≡ positions_from (k + 1) test names = rw (h, positions_from) refl in open_one) ∙
+          (f.positions ∙ (ap (λ m. m ∷ positions_from (m + 1) test (drop (j + 1) names)) one ∙
+          ap (λ rest. (k + (1 + j)) ∷ positions_from ((k + (1 + j)) + 1) test rest) (sym (dropped n names j))));
+      below = below;
+    }
+
+is_first : (test : SecName → Bool) (names : List SecName) (k : ℕ) → position_or_len test names < length names
+    → IsFirst test names k (position_or_len test names)
+is_first test [] k h = absurd (omega arith)
+is_first test (n ∷ names) k h = first-by (test n) test n names k (position_or_len test names) refl h (is_first test names (k + 1))
+
+nobody-by : (t : Bool) (test : SecName → Bool) (n : SecName) (names : List SecName) (k j : ℕ) → test n ≡ t
+    → (cond (not t) (1 + j) 0 < suc (length names) → ⊥) → ((j < length names → ⊥) → positions_from (k + 1) test names ≡ [])
+    → positions_from k test (n ∷ names) ≡ []
+nobody-by true test n names k j h none rest = absurd (none (omega arith))
+nobody-by false test n names k j h none rest =
+    rw (h, positions_from) (rest (λ below. none (omega arith)))
+
+nobody : (test : SecName → Bool) (names : List SecName) (k : ℕ) → (position_or_len test names < length names → ⊥)
+    → positions_from k test names ≡ []
+nobody test [] k h = refl
+nobody test (n ∷ names) k h = nobody-by (test n) test n names k (position_or_len test names) refl h (nobody test names (k + 1))
+
+some-by : (b : Bool) (p n i : ℕ) → nat_lt p n ≡ b → cond b (Some p) None ≡ Some i → (p ≡ i) × (p < n)
+some-by true p n i h e = (cc, ltb-true p n h)
+some-by false p n i h e = absurd (cc)
+
+none-by : (b : Bool) (p n : ℕ) → nat_lt p n ≡ b → cond b (Some p) None ≡ None → p < n → ⊥
+none-by true p n h e below = cc
+none-by false p n h e below = let wrong : nat_lt p n ≡ true = lt-ltb p n below in cc
+
+pub found-first : (test : SecName → Bool) (names : List SecName) (k i : ℕ) → position test names ≡ Some i → IsFirst test names k i
+found-first test names k i h =
+    let s : (position_or_len test names ≡ i) × (position_or_len test names < length names) =
+    some-by (nat_lt (position_or_len test names) (length names)) (position_or_len test names) (length names) i refl h in
+    subst (IsFirst test names k) s.0 (is_first test names k s.1)
+
+pub found-nobody : (test : SecName → Bool) (names : List SecName) (k : ℕ) → position test names ≡ None → positions_from k test names ≡ []
+found-nobody test names k h =
+    nobody test names k (none-by (nat_lt (position_or_len test names) (length names)) (position_or_len test names) (length names) refl h)
+
+pub earliest-nobody : (test : SecName → Bool) (names : List SecName) → position test names ≡ None
+    → Nobody ≡ earliest (positions_from 0 test names)
+earliest-nobody test names h = sym (ap earliest (found-nobody test names 0 h))
+
+pub earliest-one : (test : SecName → Bool) (names : List SecName) (i : ℕ) → position test names ≡ Some i
+    → position test (drop (i + 1) names) ≡ None → One i ≡ earliest (positions_from 0 test names)
+earliest-one test names i h none =
+    sym (ap earliest ((found-first test names 0 i h).positions ∙
+    (ap (λ m. m ∷ positions_from (m + 1) test (drop (i + 1) names)) (zero-add i) ∙
+    ap (λ rest. i ∷ rest) (found-nobody test (drop (i + 1) names) (i + 1) none))))
+
+pub earliest-several : (test : SecName → Bool) (names : List SecName) (i j : ℕ) → position test names ≡ Some i
+    → position test (drop (i + 1) names) ≡ Some j → Several i ((i + 1) + j) ≡ earliest (positions_from 0 test names)
+earliest-several test names i j h more =
+    sym (ap earliest ((found-first test names 0 i h).positions ∙
+    (ap (λ m. m ∷ positions_from (m + 1) test (drop (i + 1) names)) (zero-add i) ∙
+    ap (λ rest. i ∷ rest) (found-first test (drop (i + 1) names) (i + 1) j more).positions)))
+
+pub found-below : (test : SecName → Bool) (names : List SecName) (i : ℕ) → position test names ≡ Some i → i < length names
+found-below test names i h = (found-first test names 0 i h).below
+
+-- ## The next one from a position on
+
+pub all-behind : {A : Type 0} → (i : ℕ) (xs : List A) → take (length xs - i) (drop i xs) ≡ drop i xs
+all-behind i xs = take_all (length xs - i) (drop i xs) (rw length-drop (omega arith))
+
+moved-none : (i : ℕ) (o : Option ℕ) → option_map (λ more. i + more) o ≡ None → o ≡ None
+moved-none i None h = refl
+moved-none i (Some more) h = absurd (cc)
+
+moved-some : (i k : ℕ) (o : Option ℕ) → option_map (λ more. i + more) o ≡ Some k → (more : ℕ) × (o ≡ Some more) × (i + more ≡ k)
+moved-some i k None h = absurd (cc)
+moved-some i k (Some more) h = (more, refl, cc)
+
+pub from-nobody : (test : SecName → Bool) (names : List SecName) → option_map (λ more. 0 + more) (position test (drop 0 names)) ≡ None
+    → Nobody ≡ earliest (positions_from 0 test names)
+from-nobody test names h = earliest-nobody test names (moved-none 0 (position test names) h)
+
+first-from : (test : SecName → Bool) (names : List SecName) (i : ℕ) → option_map (λ more. 0 + more) (position test (drop 0 names)) ≡ Some i
+    → position test names ≡ Some i
+first-from test names i h =
+    let m = moved-some 0 i (position test names) h in
+    m.1 ∙ ap (λ k. Some k) (sym (zero-add m.0) ∙ m.2)
+
+pub from-one : (test : SecName → Bool) (names : List SecName) (i : ℕ) → option_map (λ more. 0 + more) (position test (drop 0 names)) ≡ Some i
+    → option_map (λ more. (i + 1) + more) (position test (drop (i + 1) names)) ≡ None
+    → One i ≡ earliest (positions_from 0 test names)
+from-one test names i h none = earliest-one test names i (first-from test names i h) (moved-none (i + 1) (position test (drop (i + 1) names)) none)
+
+pub from-several : (test : SecName → Bool) (names : List SecName) (i next : ℕ) → option_map (λ more. 0 + more) (position test (drop 0 names)) ≡ Some i
+    → option_map (λ more. (i + 1) + more) (position test (drop (i + 1) names)) ≡ Some next
+    → Several i next ≡ earliest (positions_from 0 test names)
+from-several test names i next h more =
+    let m = moved-some (i + 1) next (position test (drop (i + 1) names)) more in
+    ap (λ k. Several i k) (sym m.2) ∙ earliest-several test names i m.0 (first-from test names i h) m.1

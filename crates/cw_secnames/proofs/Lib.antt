@@ -1,0 +1,5 @@
+mod Rows
+pub mod Entering
+pub mod Finding
+pub mod References
+pub mod Using

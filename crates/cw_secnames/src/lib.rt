@@ -1,0 +1,13 @@
+//! The names of sections: which names are kept, and where each is defined, used and cited.
+#![tactic(auto)]
+
+mod kinds;
+mod name_uses;
+mod sec_names;
+
+pub use kinds::{Earliest, Entered, RefKind, SecId, SecKind};
+pub use name_uses::NameUses;
+pub use sec_names::SecNames;
+
+#[cfg(test)]
+mod tests;

@@ -1,0 +1,349 @@
+//! The section names that are kept, and what refers to them.
+ghost use Rattle.std.specs.Prelude.{◌≡◌, ◌+◌, ◌^◌, ◌<◌, ◌≤◌, [], ◌∷◌, ◌++◌, drop, false, length, map, Some, IfSome, IfOk, OnOk, OnErr};
+ghost use Rattle.std.specs.List.{position};
+ghost use Rattle.std.specs.Option.{option_map};
+ghost use Rattle.cw_secnames.specs.Kept.{
+  AreKept,
+  begins,
+  begins_properly,
+  conflicts_with,
+  earliest,
+  enter,
+  enter_prefix,
+  grown,
+  grows_to,
+  has_text,
+  id,
+  is_candidate,
+  positions_from,
+  shown,
+  unreferred,
+  with_text,
+};
+ghost use Rattle.cw_secnames.specs.References.{with_number, with_reference, with_section};
+ghost use Rattle.cw_secnames.specs.Inside.{IsWithin, name_of};
+
+use crate::{Earliest, Entered, RefKind, SecId, SecKind};
+use cw_base::Memory;
+use std::alloc::Global;
+use std::marker::Model;
+
+/// A name with its references.
+#[derive(Drop)]
+pub(crate) struct Kept {
+    kind: SecKind,
+    text: Vec<u8>,
+    complete: bool,
+    defined: Vec<u32>,
+    used: Vec<u32>,
+    cited: Vec<u32>,
+}
+
+/// The kept names, in order of entry.
+#[derive(Drop)]
+pub struct SecNames {
+    names: Vec<Kept>,
+    alloc: Global,
+}
+
+impl Model for SecNames {
+    ghost use Rattle.std.specs.Prelude.{List, map};
+    ghost use Rattle.cw_secnames.specs.Kept.{SecName};
+    ghost use Rattle.cw_secnames.specs.Inside.{name_of};
+
+    ghost Value = { List SecName };
+
+    ghost view = { λ n. map name_of n.names.items };
+}
+
+fn begins(first: &[u8], text: &[u8]) -> bool
+    ensures { result ≡ begins first.now text.now }
+{
+    text.starts_with(first)
+}
+
+fn begins_properly(first: &[u8], text: &[u8]) -> bool
+    ensures { result ≡ begins_properly first.now text.now }
+{
+    first.len() < text.len() && begins(first, text)
+}
+
+// Adds a section behind others, unless it is the last of them already.
+fn add_section(sections: &mut Vec<u32>, section: u32) -> Result<(), Memory>
+    ensures ok { OnOk result (sections.new.items ≡ with_number section sections.old.items) }
+    ensures err { OnErr result (sections.new.items ≡ sections.old.items) }
+{
+    if !sections.is_empty() && sections[sections.len() - 1] == section {
+        return Ok(());
+    }
+    sections.push(section)?;
+    Ok(())
+}
+
+impl Kept {
+    fn has_text(&self, kind: SecKind, text: &[u8]) -> bool
+        ensures { result ≡ has_text kind text.now (name_of self.now) }
+    {
+        self.complete && kind.is(self.kind) && text == self.text.as_slice()
+    }
+
+    fn grows_to(&self, kind: SecKind, text: &[u8]) -> bool
+        ensures { result ≡ grows_to kind text.now (name_of self.now) }
+    {
+        !self.complete && kind.is(self.kind) && begins(&self.text, text)
+    }
+
+    fn conflicts_with(&self, kind: SecKind, text: &[u8]) -> bool
+        ensures { result ≡ conflicts_with kind text.now (name_of self.now) }
+    {
+        kind.is(self.kind)
+            && (begins_properly(&self.text, text) || begins_properly(text, &self.text))
+    }
+
+    // A section more that refers to the name.
+    fn add_ref(&mut self, how: RefKind, section: u32) -> Result<(), Memory>
+        ensures ok { OnOk result (name_of self.new ≡ with_section how section (name_of self.old)) }
+        ensures err { OnErr result (name_of self.new ≡ name_of self.old) }
+    {
+        match how {
+            RefKind::Defined => add_section(&mut self.defined, section)?,
+            RefKind::Used => add_section(&mut self.used, section)?,
+            RefKind::Cited => add_section(&mut self.cited, section)?,
+        }
+        Ok(())
+    }
+
+    fn is_candidate(&self, prefix: &[u8]) -> bool
+        ensures { result ≡ is_candidate prefix.now (name_of self.now) }
+    {
+        SecKind::Named.is(self.kind)
+            && (begins(prefix, &self.text) || (!self.complete && begins(&self.text, prefix)))
+    }
+}
+
+impl SecNames {
+    /// No names. It takes no memory.
+    pub fn new_in(alloc: Global) -> SecNames
+        ensures { result ≡ [] }
+    {
+        SecNames {
+            names: Vec::new(alloc),
+            alloc,
+        }
+    }
+
+    fn with_text(&self, kind: SecKind, text: &[u8]) -> Option<usize>
+        ensures value { result ≡ position (has_text kind text.now) self.now }
+        ensures within { IfSome result (λ k. k < length self.now) }
+    {
+        self.names.iter().position(|n| n.has_text(kind, text))
+    }
+
+    fn growing(&self, kind: SecKind, text: &[u8]) -> Option<usize>
+        ensures value { result ≡ position (grows_to kind text.now) self.now }
+        ensures within { IfSome result (λ k. k < length self.now) }
+    {
+        self.names.iter().position(|n| n.grows_to(kind, text))
+    }
+
+    fn conflicting(&self, kind: SecKind, text: &[u8]) -> Option<usize>
+        ensures value { result ≡ position (conflicts_with kind text.now) self.now }
+        ensures within { IfSome result (λ k. k < length self.now) }
+    {
+        self.names.iter().position(|n| n.conflicts_with(kind, text))
+    }
+
+    fn candidates(&self, prefix: &[u8]) -> Earliest
+        ensures value { result ≡ earliest (positions_from 0 (is_candidate prefix.now) self.now) }
+        ensures within { IsWithin result (length self.now) }
+    {
+        match self.candidate_from(prefix, 0) {
+            None => Earliest::Nobody,
+            Some(first) => match self.candidate_from(prefix, first + 1) {
+                None => Earliest::One(first),
+                Some(next) => Earliest::Several(first, next),
+            },
+        }
+    }
+
+    // The next candidate from a position on.
+    fn candidate_from(&self, prefix: &[u8], from: usize) -> Option<usize>
+        requires { from ≤ length self.now }
+        ensures value { result ≡
+            option_map (λ more. from + more) (position (is_candidate prefix.now) (drop from self.now)) }
+        ensures within { IfSome result (λ next. next < length self.now) }
+        ensures fits { length self.now < 2 ^ 64 }
+    {
+        let behind = &self.names[from..];
+        match behind.iter().position(|n| n.is_candidate(prefix)) {
+            None => None,
+            Some(more) => Some(from + more),
+        }
+    }
+
+    // A name more, to which nothing refers.
+    fn add(&mut self, kind: SecKind, text: &[u8], complete: bool) -> Result<SecId, Memory>
+        ensures id { IfOk result (λ added. added ≡ id (length self.old)) }
+        ensures ok { OnOk result (self.new ≡ self.old ++ unreferred kind text.now complete ∷ []) }
+        ensures within { IfOk result (λ added. added.index < length self.new) }
+        ensures grows { OnOk result (length self.old ≤ length self.new) }
+        ensures one { OnOk result (length self.new ≤ length self.old + 1) }
+        ensures err { OnErr result (self.new ≡ self.old) }
+    {
+        let index = self.names.len();
+        let text = Vec::from_slice(self.alloc, text)?;
+        self.names.push(Kept {
+            kind,
+            text,
+            complete,
+            defined: Vec::new(self.alloc),
+            used: Vec::new(self.alloc),
+            cited: Vec::new(self.alloc),
+        })?;
+        Ok(SecId { index })
+    }
+
+    // Gives a name another text.
+    fn set_text(&mut self, index: usize, text: &[u8], complete: bool) -> Result<(), Memory>
+        requires { index < length self.old }
+        ensures ok { OnOk result (self.new ≡ with_text index text.now complete self.old) }
+        ensures len { OnOk result (length self.new ≡ length self.old) }
+        ensures err { OnErr result (self.new ≡ self.old) }
+    {
+        let text = Vec::from_slice(self.alloc, text)?;
+        let name = &mut self.names[index];
+        name.text = text;
+        name.complete = complete;
+        Ok(())
+    }
+
+    // An incomplete name that is shorter than a prefix gets its text.
+    fn grow(&mut self, index: usize, prefix: &[u8]) -> Result<(), Memory>
+        requires { index < length self.old }
+        ensures ok { OnOk result (self.new ≡ grown prefix.now index self.old) }
+        ensures len { OnOk result (length self.new ≡ length self.old) }
+        ensures err { OnErr result (self.new ≡ self.old) }
+    {
+        let name = &self.names[index];
+        if name.complete || name.text.len() >= prefix.len() {
+            return Ok(());
+        }
+        self.set_text(index, prefix, false)?;
+        Ok(())
+    }
+
+    /// Enters a full name. After `Memory` the names are as before.
+    pub fn enter(&mut self, kind: SecKind, full: &[u8]) -> Result<Entered, Memory>
+        requires { 0 < length full.now }
+        ensures answer { IfOk result (λ answer. answer ≡ (enter kind full.now self.old).answer) }
+        ensures kept { OnOk result (self.new ≡ (enter kind full.now self.old).kept) }
+        ensures within { IfOk result (λ answer. AreKept answer (length self.new)) }
+        ensures grows { OnOk result (length self.old ≤ length self.new) }
+        ensures one { OnOk result (length self.new ≤ length self.old + 1) }
+        ensures err { OnErr result (self.new ≡ self.old) }
+    {
+        if let Some(index) = self.with_text(kind, full) {
+            return Ok(Entered::Known(SecId { index }));
+        }
+        if let Some(index) = self.growing(kind, full) {
+            self.set_text(index, full, true)?;
+            return Ok(Entered::Known(SecId { index }));
+        }
+        if let Some(index) = self.conflicting(kind, full) {
+            return Ok(Entered::Conflict(SecId { index }));
+        }
+        let id = self.add(kind, full, true)?;
+        Ok(Entered::New(id))
+    }
+
+    /// Enters a prefix of a name of `@<`. After `Memory` the names are as before.
+    pub fn enter_prefix(&mut self, prefix: &[u8]) -> Result<Entered, Memory>
+        requires { 0 < length prefix.now }
+        ensures answer { IfOk result (λ answer. answer ≡ (enter_prefix prefix.now self.old).answer) }
+        ensures kept { OnOk result (self.new ≡ (enter_prefix prefix.now self.old).kept) }
+        ensures within { IfOk result (λ answer. AreKept answer (length self.new)) }
+        ensures grows { OnOk result (length self.old ≤ length self.new) }
+        ensures one { OnOk result (length self.new ≤ length self.old + 1) }
+        ensures err { OnErr result (self.new ≡ self.old) }
+    {
+        match self.candidates(prefix) {
+            Earliest::Nobody => {
+                let id = self.add(SecKind::Named, prefix, false)?;
+                Ok(Entered::New(id))
+            }
+            Earliest::One(index) => {
+                self.grow(index, prefix)?;
+                Ok(Entered::Known(SecId { index }))
+            }
+            Earliest::Several(first, next) => {
+                Ok(Entered::Ambiguous(SecId { index: first }, SecId { index: next }))
+            }
+        }
+    }
+
+    /// Adds a section that refers to a name, behind those that refer to it in this way already; a repeat of the last
+    /// one is kept once. After `Memory` the names are as before.
+    pub fn add_ref(&mut self, id: SecId, how: RefKind, section: u32) -> Result<(), Memory>
+        requires { id.index < length self.old }
+        ensures ok { OnOk result (self.new ≡ with_reference id.index how section self.old) }
+        ensures len { OnOk result (length self.new ≡ length self.old) }
+        ensures err { OnErr result (self.new ≡ self.old) }
+    {
+        self.names[id.index].add_ref(how, section)?;
+        Ok(())
+    }
+
+    /// How many names are kept.
+    pub fn len(&self) -> usize
+        ensures { result ≡ length self.now }
+    {
+        self.names.len()
+    }
+
+    /// The text of a name: its whole name where it is complete, else the longest prefix of it that came.
+    pub fn text(&self, id: SecId) -> &[u8]
+        requires { id.index < length self.now }
+        ensures { shown (λ n. n.text) id.index self.now ≡ Some result.now }
+    {
+        self.names[id.index].text.as_slice()
+    }
+
+    /// Whether the whole name came.
+    pub fn complete(&self, id: SecId) -> bool
+        requires { id.index < length self.now }
+        ensures { shown (λ n. n.complete) id.index self.now ≡ Some result }
+    {
+        self.names[id.index].complete
+    }
+
+    pub fn kind(&self, id: SecId) -> SecKind
+        requires { id.index < length self.now }
+        ensures { shown (λ n. n.kind) id.index self.now ≡ Some result }
+    {
+        self.names[id.index].kind
+    }
+
+    /// The sections that define a name, ascending.
+    pub fn defined_in(&self, id: SecId) -> &[u32]
+        requires { id.index < length self.now }
+        ensures { shown (λ n. n.defined) id.index self.now ≡ Some result.now }
+    {
+        self.names[id.index].defined.as_slice()
+    }
+
+    /// The sections that use a name, ascending.
+    pub fn used_in(&self, id: SecId) -> &[u32]
+        requires { id.index < length self.now }
+        ensures { shown (λ n. n.used) id.index self.now ≡ Some result.now }
+    {
+        self.names[id.index].used.as_slice()
+    }
+
+    /// The sections that cite a name in their TeX parts, ascending.
+    pub fn cited_in(&self, id: SecId) -> &[u32]
+        requires { id.index < length self.now }
+        ensures { shown (λ n. n.cited) id.index self.now ≡ Some result.now }
+    {
+        self.names[id.index].cited.as_slice()
+    }
+}

@@ -1,0 +1,67 @@
+//! Worked names, by calls.
+use crate::{Entered, NameUses, RefKind, SecId, SecKind, SecNames};
+use std::test::Fail;
+
+#[test]
+fn a_prefix_grows_to_its_name(rt: HostRuntime) -> Result<(), Fail> {
+    let mut names = SecNames::new_in(rt.alloc());
+    let first = SecId { index: 0 };
+    assert_eq!(rt; names.enter_prefix(b"Re")?, Entered::New(first));
+    assert_eq!(rt; names.enter_prefix(b"Rea")?, Entered::Known(first));
+    assert!(rt; !names.complete(first));
+    assert_eq!(rt;
+        names.enter(SecKind::Named, b"Read")?,
+        Entered::Known(first)
+    );
+    assert!(rt; names.complete(first));
+    assert_eq!(rt; names.text(first), b"Read".as_slice());
+    assert_eq!(rt;
+        names.enter(SecKind::Named, b"Rea")?,
+        Entered::Conflict(first)
+    );
+    assert_eq!(rt;
+        names.enter(SecKind::File, b"Rea")?,
+        Entered::New(SecId { index: 1 })
+    );
+    assert_eq!(rt; names.kind(SecId { index: 1 }), SecKind::File);
+    assert_eq!(rt; names.len(), 2);
+    Ok(())
+}
+
+#[test]
+fn a_prefix_of_two_names_is_ambiguous(rt: HostRuntime) -> Result<(), Fail> {
+    let mut names = SecNames::new_in(rt.alloc());
+    let (first, next) = (SecId { index: 0 }, SecId { index: 1 });
+    assert_eq!(rt;
+        names.enter(SecKind::Named, b"Read a")?,
+        Entered::New(first)
+    );
+    assert_eq!(rt; names.enter(SecKind::Named, b"Read b")?, Entered::New(next));
+    assert_eq!(rt;
+        names.enter_prefix(b"Read")?,
+        Entered::Ambiguous(first, next)
+    );
+    names.add_ref(first, RefKind::Defined, 1)?;
+    names.add_ref(next, RefKind::Defined, 2)?;
+    names.add_ref(first, RefKind::Used, 3)?;
+    names.add_ref(first, RefKind::Used, 3)?;
+    names.add_ref(next, RefKind::Cited, 3)?;
+    assert_eq!(rt; names.used_in(first), [3].as_slice());
+    assert_eq!(rt; names.defined_in(first), [1].as_slice());
+    assert_eq!(rt; names.cited_in(next), [3].as_slice());
+    assert!(rt; names.used_in(next).is_empty());
+    Ok(())
+}
+
+#[test]
+fn a_name_is_found_at_its_place(rt: HostRuntime) -> Result<(), Fail> {
+    let mut uses = NameUses::new_in(rt.alloc());
+    let (first, next) = (SecId { index: 0 }, SecId { index: 1 });
+    uses.add(2, next)?;
+    uses.add(19, first)?;
+    assert_eq!(rt; uses.at(2), Some(next));
+    assert_eq!(rt; uses.at(19), Some(first));
+    assert_eq!(rt; uses.at(18), None);
+    assert_eq!(rt; uses.at(20), None);
+    Ok(())
+}
