@@ -1,25 +1,20 @@
--- One more entry changes neither where the others stand nor what they are.
-use Rattle.std.proofs.Common.{◌≡◌, ℕ, zero, suc, ◌+◌, ◌<◌, ◌≤◌, Bool, true, false, not, refl, sym, ap, ◌∙◌, List, [], ◌∷◌, ◌++◌, length, Option, Some, None, slice_get, cond, arith, nat_lt, length-append, if◌then◌else◌}
+-- A name more before others changes what is found for the word that it is.
+use Rattle.std.proofs.Common.{◌≡◌, ◌≢◌, ℕ, zero, suc, ◌+◌, ◌<◌, ◌≤◌, replicate, ◌&&◌, Bool, true, false, not, refl, sym, ap, ◌∙◌, List, [], ◌∷◌, length, Option, Some, None, slice_get, cond, arith, drop, get_or, set, subst, nat_eq}
+use Rattle.std.proofs.lemmas.List.{drop_all, get_or-replicate, get_or-set_other, get_or-set_same}
 use Rattle.std.specs.List.{position_or_len}
 use Rattle.std.specs.Option.{option_map}
-use Rattle.std.proofs.lemmas.Option.{slice_get_past}
-use Rattle.std.proofs.Common.{◌≢◌, get_or, set, get_or-set_other, get_or-set_same, below_more}
+use Rattle.std.specs.Cmp.Lexicographic.{pointwise}
+use Rattle.std.proofs.lemmas.List.{drop_more}
+use Rattle.std.proofs.lemmas.Option.{slice_get-get_or}
+use Rattle.std.proofs.lemmas.Bool.Decides.{nat_tests}
 use Rattle.cw_base.specs.declared.category.Cat.{Cat}
-use Rattle.std.proofs.lemmas.Bool.{ltb-false}
 use Rattle.cw_base.specs.declared.category.Cat.TheVariants.{Exp}
 use Rattle.cw_names.specs.declared.entry.EntryKind.{EntryKind}
-use Rattle.cw_names.specs.declared.entry.EntryKind.TheVariants.{Ident}
-use Rattle.cw_names.specs.Names.{Entry, is_entry, place_of, with_entry}
+use Rattle.cw_names.specs.declared.entry.EntryKind.TheVariants.{Ident, Roman, Typewriter, User}
+use Rattle.cw_names.specs.Names.{Entry, is_entry, place_of, same_kind}
 use Rattle.cw_weave.specs.Built.{is_exp, entry_is_exp, is_expression}
+use Rattle.cw_weave.specs.Letters.{letter_of}
 
-longer-by : (b : Bool) (names : List Entry) (entry : Entry) → length names ≤ length (if b then names else names ++ entry ∷ [])
-longer-by true names entry = omega arith
-longer-by false names entry = omega (arith, length-append names (entry ∷ []))
-
-pub with_entry-longer : (kind : EntryKind) (text : List ℕ) (names : List Entry) → length names ≤ length (with_entry kind text names)
-with_entry-longer kind text names = longer-by (nat_lt (place_of kind text names) (length names)) names (record { kind = kind; text = text; category = Exp })
-
--- what is found for a text at the end of the list is an expression, or nothing
 abbrev pub found_at : (Entry → Bool) → List Entry → Option Entry
 found_at test names = slice_get names (position_or_len test names)
 
@@ -30,65 +25,103 @@ found-by false entry names n = ap (slice_get (entry ∷ names)) (let e : 1 + n �
 found-cons : (test : Entry → Bool) (entry : Entry) (names : List Entry) → found_at test (entry ∷ names) ≡ cond (test entry) (Some entry) (found_at test names)
 found-cons test entry names = found-by (test entry) entry names (position_or_len test names)
 
-found-last : (test : Entry → Bool) (names : List Entry) (last : Entry) → entry_is_exp (Some last) ≡ true
-    → entry_is_exp (found_at test (names ++ last ∷ [])) ≡ entry_is_exp (found_at test names)
-found-last test [] last plain = ap entry_is_exp (found-cons test last []) ∙ by (test last) where
-  by : (b : Bool) → entry_is_exp (cond b (Some last) None) ≡ true
-  by true = plain
-  by false = refl
-found-last test (entry ∷ names) last plain =
-    ap entry_is_exp (found-cons test entry (names ++ last ∷ [])) ∙ more (test entry) (found-last test names last plain) ∙ ap entry_is_exp (sym (found-cons test entry names)) where
-      more : (b : Bool) → entry_is_exp (found_at test (names ++ last ∷ [])) ≡ entry_is_exp (found_at test names)
-          → entry_is_exp (cond b (Some entry) (found_at test (names ++ last ∷ []))) ≡ entry_is_exp (cond b (Some entry) (found_at test names))
-      more true same = refl
-      more false same = same
+found-is : (b : Bool) (entry : Entry) (rest : List Entry) (word : List ℕ) → is_entry Ident word entry ≡ b
+    → is_expression (entry ∷ rest) word ≡ cond b (is_exp entry.category) (is_expression rest word)
+found-is b entry rest word is =
+    ap entry_is_exp (found-cons (is_entry Ident word) entry rest) ∙
+    ap (λ (t : Bool). entry_is_exp (cond t (Some entry) (found_at (is_entry Ident word) rest))) is ∙ by b where
+      by : (t : Bool) → entry_is_exp (cond t (Some entry) (found_at (is_entry Ident word) rest)) ≡ cond t (is_exp entry.category) (is_expression rest word)
+      by true = refl
+      by false = refl
 
-expression-by : (b : Bool) (word : List ℕ) (names : List Entry) (entry : Entry) → entry_is_exp (Some entry) ≡ true
-    → is_expression (if b then names else names ++ entry ∷ []) word ≡ is_expression names word
-expression-by true word names entry plain = refl
-expression-by false word names entry plain = found-last (is_entry Ident word) names entry plain
+-- whether a byte is the letter
+abbrev is_letter_by : Option ℕ → ℕ → Bool
+is_letter_by None byte = false
+is_letter_by (Some letter) byte = nat_eq byte letter
 
--- An entry that is added is an expression, and changes nothing for other words.
-pub expression-with_entry : (text word : List ℕ) (names : List Entry) → is_expression (with_entry Ident text names) word ≡ is_expression names word
-expression-with_entry text word names =
-    expression-by (nat_lt (place_of Ident text names) (length names)) word names (record { kind = Ident; text = text; category = Exp }) refl
+and-true : (a : Bool) → (a && true) ≡ a
+and-true true = refl
+and-true false = refl
 
-tail-exp : (names : List Entry) (entry : Entry) (i : ℕ) → entry_is_exp (Some entry) ≡ true → length names ≤ i → entry_is_exp (slice_get (names ++ entry ∷ []) i) ≡ true
-tail-exp [] entry zero plain past = plain
-tail-exp [] entry (suc i) plain past = refl
-tail-exp (name ∷ names) entry zero plain past = absurd (let wrong : suc (length names) ≤ 0 = past in omega arith)
-tail-exp (name ∷ names) entry (suc i) plain past = tail-exp names entry i plain (omega arith)
+and-false : (a : Bool) → (a && false) ≡ false
+and-false true = refl
+and-false false = refl
 
-added-by : (b : Bool) (names : List Entry) (entry : Entry) (i : ℕ) → nat_lt i (length names) ≡ b → entry_is_exp (Some entry) ≡ true
-    → entry_is_exp (slice_get (if b then names else names ++ entry ∷ []) i) ≡ entry_is_exp (slice_get names i)
-added-by true names entry i test plain = refl
-added-by false names entry i test plain =
-    let past : length names ≤ i = ltb-false i (length names) test in
-    tail-exp names entry i plain past ∙ ap entry_is_exp (sym (slice_get_past names i past))
+entry-letter : (kind : EntryKind) (text : List ℕ) (byte : ℕ)
+    → (same_kind Ident kind && pointwise nat_eq (byte ∷ []) text) ≡ is_letter_by (letter_of kind text) byte
+entry-letter Ident [] byte = refl
+entry-letter Ident (x ∷ []) byte = and-true (nat_eq byte x)
+entry-letter Ident (x ∷ y ∷ text) byte = and-false (nat_eq byte x)
+entry-letter Roman text byte = refl
+entry-letter Typewriter text byte = refl
+entry-letter User text byte = refl
 
--- Where a word is found or added stands an expression where it was one, or nothing, before.
-pub added-is : (text : List ℕ) (names : List Entry) → entry_is_exp (slice_get (with_entry Ident text names) (place_of Ident text names)) ≡ is_expression names text
-added-is text names =
-    added-by (nat_lt (place_of Ident text names) (length names)) names (record { kind = Ident; text = text; category = Exp }) (place_of Ident text names) refl refl
+-- where the names begin with this entry
+cons-is : (entry : Entry) (rest : List Entry) (kind : EntryKind) (text : List ℕ) (letter : Option ℕ) (byte : ℕ)
+    → entry.kind ≡ kind → entry.text ≡ text → letter_of kind text ≡ letter
+    → is_expression (entry ∷ rest) (byte ∷ []) ≡ cond (is_letter_by letter byte) (is_exp entry.category) (is_expression rest (byte ∷ []))
+cons-is entry rest kind text letter byte k t l =
+    found-is (is_letter_by letter byte) entry rest (byte ∷ [])
+    (entry-letter entry.kind entry.text byte ∙ ap (λ (x : EntryKind). is_letter_by (letter_of x entry.text) byte) k ∙
+    ap (λ (x : List ℕ). is_letter_by (letter_of kind x) byte) t ∙ ap (λ (x : Option ℕ). is_letter_by x byte) l)
 
-exp-of : (entry : Option Entry) (cat : Cat) → option_map (λ (e : Entry). e.category) entry ≡ Some cat → entry_is_exp entry ≡ is_exp cat
-exp-of None cat is = cc
-exp-of (Some entry) cat is = ap (λ (c : Option Cat). exp_or c) is where
-  exp_or : Option Cat → Bool
-  exp_or None = true
-  exp_or (Some c) = is_exp c
+abbrev none : Entry
+none = record { kind = Ident; text = []; category = Exp }
 
-pub letter-is : (text : List ℕ) (names new : List Entry) (id : ℕ) (cat : Cat) → id ≡ place_of Ident text names → new ≡ with_entry Ident text names
-    → option_map (λ (e : Entry). e.category) (slice_get new id) ≡ Some cat → is_exp cat ≡ is_expression names text
-letter-is text names new id cat place added category =
-    sym (exp-of (slice_get new id) cat category) ∙ ap (λ (n : ℕ). entry_is_exp (slice_get new n)) place ∙
-    ap (λ (es : List Entry). entry_is_exp (slice_get es (place_of Ident text names))) added ∙ added-is text names
+some-eq : {A : Type 0} (x y : A) → Some x ≡ Some y → x ≡ y
+some-eq x y e = cc
 
--- one letter more is known
-pub known-more : (table : List Bool) (i : ℕ) (here : Bool) (names old : List Entry) → i < length table → ((word : List ℕ) → is_expression names word ≡ is_expression old word)
-    → here ≡ is_expression names (i ∷ []) → ((k : ℕ) → k < i → get_or table k false ≡ is_expression old (k ∷ []))
-    → (k : ℕ) → k < i + 1 → get_or (set table i here) k false ≡ is_expression old (k ∷ [])
-known-more table i here names old within same is before =
-    below_more _ _
-    (λ k below. let other : k ≢ i = omega arith in rw get_or-set_other (before k below))
-    (rw get_or-set_same (is ∙ same (i ∷ [])))
+names-at : (names : List Entry) (i : ℕ) (kind : EntryKind) (text : List ℕ) (letter : Option ℕ) (byte : ℕ) → i < length names
+    → option_map (λ (e : Entry). e.kind) (slice_get names i) ≡ Some kind → option_map (λ (e : Entry). e.text) (slice_get names i) ≡ Some text
+    → letter_of kind text ≡ letter
+    → is_expression (drop i names) (byte ∷ []) ≡ cond (is_letter_by letter byte) (is_exp (get_or names i none).category) (is_expression (drop (i + 1) names) (byte ∷ []))
+names-at names i kind text letter byte inside k t l =
+    let here : slice_get names i ≡ Some (get_or names i none) = slice_get-get_or names i none inside in
+    ap (λ (ns : List Entry). is_expression ns (byte ∷ [])) (drop_more names i none inside) ∙
+    cons-is (get_or names i none) (drop (i + 1) names) kind text letter byte
+    (some-eq (get_or names i none).kind kind (sym (ap (option_map (λ (e : Entry). e.kind)) here) ∙ k))
+    (some-eq (get_or names i none).text text (sym (ap (option_map (λ (e : Entry). e.text)) here) ∙ t)) l
+
+-- a name that is no letter
+pub looked-past : (names : List Entry) (i : ℕ) (kind : EntryKind) (text : List ℕ) (table : List Bool) → i < length names
+    → option_map (λ (e : Entry). e.kind) (slice_get names i) ≡ Some kind → option_map (λ (e : Entry). e.text) (slice_get names i) ≡ Some text
+    → letter_of kind text ≡ None
+    → ((byte : ℕ) → byte < 256 → get_or table byte false ≡ is_expression (drop (i + 1) names) (byte ∷ []))
+    → (byte : ℕ) → byte < 256 → get_or table byte false ≡ is_expression (drop i names) (byte ∷ [])
+looked-past names i kind text table inside k t l before byte below =
+    before byte below ∙ sym (names-at names i kind text None byte inside k t l)
+
+-- a letter
+pub looked-at : (names : List Entry) (i : ℕ) (kind : EntryKind) (text : List ℕ) (letter : ℕ) (cat : Cat) (here : Bool) (table : List Bool) → i < length names
+    → option_map (λ (e : Entry). e.kind) (slice_get names i) ≡ Some kind → option_map (λ (e : Entry). e.text) (slice_get names i) ≡ Some text
+    → option_map (λ (e : Entry). e.category) (slice_get names i) ≡ Some cat → here ≡ is_exp cat
+    → letter_of kind text ≡ Some letter → length table ≡ 256 → letter < 256
+    → ((byte : ℕ) → byte < 256 → get_or table byte false ≡ is_expression (drop (i + 1) names) (byte ∷ []))
+    → (byte : ℕ) → byte < 256 → get_or (set table letter here) byte false ≡ is_expression (drop i names) (byte ∷ [])
+looked-at names i kind text letter cat here table inside k t q h l size small before byte below =
+    by (nat_eq byte letter) refl ∙ sym (names-at names i kind text (Some letter) byte inside k t l)
+  where
+    within : letter < length table
+    within = omega arith
+
+    slot : slice_get names i ≡ Some (get_or names i none)
+    slot = slice_get-get_or names i none inside
+
+    same : here ≡ is_exp (get_or names i none).category
+    same = h ∙ sym (ap is_exp (some-eq (get_or names i none).category cat (sym (ap (option_map (λ (e : Entry). e.category)) slot) ∙ q)))
+
+    by : (b : Bool) → nat_eq byte letter ≡ b
+        → get_or (set table letter here) byte false ≡ cond b (is_exp (get_or names i none).category) (is_expression (drop (i + 1) names) (byte ∷ []))
+    by true is =
+        let e : byte ≡ letter = grind (arith, nat_tests) in
+        ap (λ (n : ℕ). get_or (set table letter here) n false) e ∙ get_or-set_same table letter here false within ∙ same
+    by false is =
+        let other : byte ≢ letter = grind (arith, nat_tests) in
+        get_or-set_other table letter byte here false other ∙ before byte below
+
+-- before any name is looked at, each byte is an expression
+pub looked-at-none : (names : List Entry) (n : ℕ) → n ≡ length names
+    → (byte : ℕ) → byte < 256 → get_or (replicate 256 true) byte false ≡ is_expression (drop n names) (byte ∷ [])
+looked-at-none names n is byte below =
+    get_or-replicate 256 byte true false below ∙
+    sym (ap (λ (ns : List Entry). is_expression ns (byte ∷ [])) (drop_all n names (let e : length names ≤ n = omega arith in e)))

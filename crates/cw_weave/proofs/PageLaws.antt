@@ -6,7 +6,7 @@ use Rattle.std.proofs.Math.Seq.{take-add}
 use Rattle.std.proofs.lemmas.List.{drop_more, append-nil, length-take-le}
 use Rattle.std.proofs.Common.{length-drop, subst}
 use Rattle.cw_weave.specs.Inks.{ink_by, copied, end_if, ends_empty_line}
-use Rattle.cw_weave.specs.Scan.{inked, held, holds_behind}
+use Rattle.cw_weave.specs.Laying.{inked, held, holds_behind}
 
 holds_behind-true : (bytes : List ℕ) → holds_behind true bytes ≡ true
 holds_behind-true [] = refl

@@ -23,11 +23,12 @@ use Rattle.cw_input.specs.declared.words.CommandLine.{CommandLine}
 use Rattle.cw_input.specs.declared.words.OutputNames.{OutputNames}
 use Rattle.cw_lines.specs.Cut.{broken_numbers, cut}
 use Rattle.cw_lines.specs.Line.{as_count, line_events}
-use Rattle.cw_weave.specs.Book.{answers_of, is_built, tex_file}
+use Rattle.cw_phase1.specs.Book.{book}
+use Rattle.cw_weave.specs.Book.{tex_file}
+use Rattle.cw_weave.specs.Built.{is_built}
 use Rattle.cw_weave.specs.Emits.{Run}
 use Rattle.cw_weave.specs.Notes.{says, says_if, note_events, broken_events, broken_notes, closing, exit_of}
 use Rattle.cw_weave.specs.Terminal.{banner, usage_text, not_built_text, no_web_text, no_change_text, too_long_text, fatal_text, output_text, index_text, done_text}
-use Rattle.cw_weave.specs.Scanned.{scanned_notes}
 
 -- a run with the flags that decide on the banner
 pub record Woven : Type 0 where
@@ -84,9 +85,9 @@ weave_tex line files notes tex = record {
   exit = exit_of (notes ++ broken_notes (broken_lines tex));
 }
 
--- the notes of reading, and those of scanning
+-- the notes of reading, and those of the first phase
 abbrev pub notes_of : WebState → List Note
-notes_of web = web.notes ++ scanned_notes web.lines (answers_of web.lines)
+notes_of web = web.notes ++ (book web.lines).notes
 
 abbrev pub weave_text : Bool → CommandLine → WebState → Run
 weave_text true line web = weave_tex line web.files (notes_of web) (tex_file line.flags.index web.lines)

@@ -1,6 +1,7 @@
 //! The top call: a web is read, woven and written.
 #![tactic(auto)]
 
+mod book;
 mod c_part;
 #[cfg(test)]
 mod c_part_tests;
@@ -8,23 +9,23 @@ mod c_print;
 mod c_trim;
 #[cfg(test)]
 mod failing_tests;
-mod formats;
+mod heads;
+mod letters;
 #[cfg(test)]
 mod merging_tests;
 mod message;
 mod notes;
 mod output;
 mod page;
-mod places;
 mod plain;
-mod reading;
 #[cfg(test)]
 mod scanning_tests;
-mod sheet;
-mod slices;
+mod sections;
+mod spans;
 mod terminal;
 #[cfg(test)]
 mod tests;
+mod texts;
 mod weave;
 
 pub use weave::weave_command;

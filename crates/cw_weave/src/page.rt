@@ -1,7 +1,6 @@
 ghost use Rattle.std.specs.Prelude.{◌≡◌, ◌<◌, ◌≤◌, ◌++◌, ◌||◌, true, false, codes, length, IfOk, OnOk, slice_index, slice_range, All, ◌≢◌};
 ghost use Rattle.cw_weave.specs.Inks.{copied, end_if, ends_empty_line};
-ghost use Rattle.cw_weave.specs.Scan.{inked, held, holds_behind};
-ghost use Rattle.cw_weave.specs.Marked.{marked};
+ghost use Rattle.cw_weave.specs.Laying.{inked, held, holds_behind};
 
 use cw_base::{Memory, Span};
 use std::alloc::Global;
@@ -35,21 +34,6 @@ impl Page {
     {
         self.bytes.extend_from_slice(bytes)?;
         self.holds = true;
-        Ok(())
-    }
-
-    /// Puts the mark of a changed section at a place, where it is changed.
-    pub(crate) fn mark(&mut self, changed: bool, place: usize) -> Result<(), Memory>
-        requires { place ≤ length self.old.bytes.items }
-        ensures bytes { OnOk result (self.new.bytes.items ≡ marked changed place self.old.bytes.items) }
-        ensures longer { length self.old.bytes.items ≤ length self.new.bytes.items }
-        ensures holds { self.new.holds ≡ self.old.holds }
-    {
-        if !changed {
-            return Ok(());
-        }
-        self.bytes.insert(place, b'*')?;
-        self.bytes.insert(place, b'\\')?;
         Ok(())
     }
 

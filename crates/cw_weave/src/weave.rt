@@ -1,4 +1,4 @@
-ghost use Rattle.std.specs.Prelude.{◌≡◌, ◌<◌, ◌≢◌, ◌++◌, Some, length, option_copied, IfOk};
+ghost use Rattle.std.specs.Prelude.{◌≡◌, ◌<◌, ◌≢◌, ◌++◌, Some, true, length, option_copied, IfOk};
 ghost use Rattle.std.specs.FinMap.{get};
 ghost use Rattle.cw_desk.specs.Meaning.{Files, Rose};
 ghost use Rattle.cw_input.specs.Merged.{merged};
@@ -6,17 +6,20 @@ ghost use Rattle.cw_weave.specs.Emits.{Counts, Runs};
 ghost use Rattle.cw_weave.specs.WebWord.{HasWebWord};
 ghost use Rattle.cw_weave.specs.Woven.{Outcome, change_text, flags_are_built, has_short_lines, is_woven, weave_command_of};
 ghost use Rattle.cw_weave.specs.Woven.{stopped, weave_line, weave_tex, weave_text, weave_web, whole_run, woven};
-ghost use Rattle.cw_weave.specs.Passes.{BookIsRead};
+ghost use Rattle.cw_phase1.specs.Book.{book};
+ghost use Rattle.cw_weave.specs.Book.{tex_file};
+ghost use Rattle.cw_weave.specs.Built.{is_built};
 
+use crate::book::print_book;
 use crate::message::Message;
 use crate::notes::print_notes;
 use crate::output::{end_run, write_index, write_tex};
-use crate::reading::{Book, read_book};
 use crate::terminal::{say, say_if, stop, stop_with};
 use cw_base::{Bytes, Exit, Flags, Ledger, Memory, Note, Steps, Web, Words};
 use cw_desk::Desk;
 use cw_input::{Command, CommandLine, LoadError, load, read_command};
 use cw_lines::PutError;
+use cw_phase1::phase_one;
 use std::alloc::Global;
 
 /// Whether no line of these bytes is longer than the 80 bytes of an output line.
@@ -37,14 +40,14 @@ fn has_short_lines(bytes: &[u8]) -> bool
     true
 }
 
-/// The notes of reading a web, and behind them those of scanning it.
-fn notes_of(alloc: Global, web: &Web, scanned: &[Note]) -> Result<Vec<Note>, Memory>
-    ensures { IfOk result (λ notes. notes.items ≡ web.now.notes ++ scanned.now) }
+/// The notes of reading a web, and behind them those of the first phase.
+fn notes_of(alloc: Global, web: &Web, noted: &[Note]) -> Result<Vec<Note>, Memory>
+    ensures { IfOk result (λ notes. notes.items ≡ web.now.notes ++ noted.now) }
 {
     let reading = web.notes();
     let mut notes = Vec::with_capacity(alloc, reading.len())?;
     notes.extend_from_slice(reading)?;
-    notes.extend_from_slice(scanned)?;
+    notes.extend_from_slice(noted)?;
     Ok(notes)
 }
 
@@ -67,25 +70,28 @@ fn write_book<D: Desk>(
     end_run(alloc, desk, &line.flags, &line.outputs, notes, out.broken())
 }
 
-/// Writes the book of a web that was read, if no line of it is too long.
-fn weave_read<D: Desk>(
+/// Writes the book of a web that is built, if no line of it is too long.
+fn weave_built<D: Desk>(
     alloc: Global,
     desk: &mut D,
     line: &CommandLine,
     web: &Web,
-    book: &Book,
+    noted: &[Note],
+    tex: &[u8],
 ) -> Result<Exit, PutError>
-    requires { BookIsRead line.now.flags.index web.now.lines (Some book.now) }
+    requires built { is_built web.now.lines ≡ true }
+    requires notes { noted.now ≡ (book web.now.lines).notes }
+    requires tex { tex.now ≡ tex_file line.now.flags.index web.now.lines }
     ensures runs { Runs (weave_text (is_woven line.now web.now) line.now web.now)
         (D.told desk.old) (D.told desk.new) result }
     ensures counts { Counts (D.told desk.old) (D.told desk.new) result }
 {
-    if !has_short_lines(&book.tex) {
+    if !has_short_lines(tex) {
         stop(desk, Message::NotBuilt)?;
         return Ok(Exit::Errors);
     }
-    let notes = notes_of(alloc, web, &book.notes)?;
-    write_book(alloc, desk, line, web, &notes, &book.tex)
+    let notes = notes_of(alloc, web, noted)?;
+    write_book(alloc, desk, line, web, &notes, tex)
 }
 
 /// Weaves a web that was read.
@@ -100,9 +106,9 @@ fn weave_web<D: Desk>(
     ensures counts { Counts (D.told desk.old) (D.told desk.new) result }
     ensures real { IfOk result (λ exit. exit ≢ Exit.Fault) }
 {
-    let found = read_book(alloc, web, line.flags.index)?;
-    match found {
-        Some(book) => weave_read(alloc, desk, line, web, &book),
+    let book = phase_one(alloc, web)?;
+    match print_book(alloc, web.text(), &book, line.flags.index)? {
+        Some(page) => weave_built(alloc, desk, line, web, book.notes(), &page.bytes),
         None => {
             stop(desk, Message::NotBuilt)?;
             Ok(Exit::Errors)

@@ -1,7 +1,7 @@
 use Rattle.std.proofs.Common.{◌<◌, ◌+◌, ◌++◌, Bool, ◌∙◌, ap, sym, arith}
 use Rattle.std.specs.Prelude.{slice_range}
 use Rattle.cw_weave.specs.Inks.{copied}
-use Rattle.cw_weave.specs.Scan.{inked, held}
+use Rattle.cw_weave.specs.Laying.{inked, held}
 use Rattle.cw_weave.proofs.PageLaws.{page-last, holds-last, page-more, held-more}
 use Rattle.cw_weave.proofs.page.Page.copy.Goals as goal
 

@@ -1,7 +1,7 @@
 use Rattle.std.proofs.Common.{◌≡◌, ◌-◌, ◌≤◌, ◌++◌}
 use Rattle.std.specs.Prelude.{slice_range}
 use Rattle.cw_weave.specs.Inks.{copied}
-use Rattle.cw_weave.specs.Scan.{inked, held}
+use Rattle.cw_weave.specs.Laying.{inked, held}
 use Rattle.cw_weave.proofs.page.Page.copy.Given as goal
 
 abbrev pub invariant-loop-at : goal.invariant-loop-at
