@@ -76,7 +76,7 @@ fn push_one(
 /// Pushes items.
 fn push_each(
     inner: bool,
-    tokens: &[FlatToken],
+    items: &[(FlatItem, &[u8])],
     names: &Names,
     out: &mut LineOut,
     desk: &mut MemDesk,
@@ -85,8 +85,9 @@ fn push_each(
     ensures can { OnOk result (CanWrite (tell desk.new) out.new) }
 {
     let mut joiner = Joiner::new(inner);
-    for token in tokens {
-        push_one(&mut joiner, *token, names, out, desk)?;
+    for (item, bytes) in items {
+        let token = FlatToken { item: *item, bytes };
+        push_one(&mut joiner, token, names, out, desk)?;
     }
     Ok(())
 }
@@ -101,45 +102,39 @@ fn finish_none(out: &mut LineOut, desk: &mut MemDesk) -> Result<(), PutError>
     Ok(())
 }
 
-fn source(bytes: &[u8]) -> FlatToken {
-    let item = FlatItem::Source(0);
-    FlatToken { item, bytes }
-}
+/// Names, signs and runs; the names are the first three behind the built-in words.
+const TEXT: [(FlatItem, &[u8]); 13] = [
+    (FlatItem::Ident(NameId { index: 45 }, 0), b""),
+    (FlatItem::Control(Control::Blank), b""),
+    (FlatItem::Control(Control::Indent), b""),
+    (FlatItem::Control(Control::Break), b""),
+    (FlatItem::Control(Control::Backup), b""),
+    (FlatItem::Control(Control::ToMath), b""),
+    (FlatItem::Ident(NameId { index: 46 }, 0), b""),
+    (FlatItem::Source(9), b"\\K"),
+    (FlatItem::Ident(NameId { index: 47 }, 0), b""),
+    (FlatItem::Control(Control::ToText), b""),
+    (FlatItem::Control(Control::BigBreak), b""),
+    (FlatItem::Control(Control::Cancel), b""),
+    (FlatItem::Source(19), b";"),
+];
 
-fn name(name: NameId) -> FlatToken<'static> {
-    let item = FlatItem::Ident(name, 0);
-    FlatToken { item, bytes: b"" }
-}
-
-fn sign(control: Control) -> FlatToken<'static> {
-    let item = FlatItem::Control(control);
-    FlatToken { item, bytes: b"" }
-}
+const INNER_TEXT: [(FlatItem, &[u8]); 4] = [
+    (FlatItem::Source(0), b"a"),
+    (FlatItem::Control(Control::BigBreak), b""),
+    (FlatItem::Control(Control::Outdent), b""),
+    (FlatItem::Source(1), b"b"),
+];
 
 #[test]
 fn names_signs_and_runs_are_printed(rt: HostRuntime) -> Result<(), Fail> {
     let mut desk = desk_with_tex(rt.alloc())?;
     let mut out = LineOut::new_in(rt.alloc(), Out::Tex);
     let mut names = Names::with_words(rt.alloc())?;
-    let long = names.find_or_add(EntryKind::Ident, b"_next_of$")?;
-    let short = names.find_or_add(EntryKind::Ident, b"x")?;
-    let capital = names.find_or_add(EntryKind::Ident, b"EOF")?;
-    let tokens = [
-        name(long),
-        sign(Control::Blank),
-        sign(Control::Indent),
-        sign(Control::Break),
-        sign(Control::Backup),
-        sign(Control::ToMath),
-        name(short),
-        source(b"\\K"),
-        name(capital),
-        sign(Control::ToText),
-        sign(Control::BigBreak),
-        sign(Control::Cancel),
-        source(b";"),
-    ];
-    push_each(false, &tokens, &names, &mut out, &mut desk)?;
+    names.find_or_add(EntryKind::Ident, b"_next_of$")?;
+    names.find_or_add(EntryKind::Ident, b"x")?;
+    names.find_or_add(EntryKind::Ident, b"EOF")?;
+    push_each(false, &TEXT, &names, &mut out, &mut desk)?;
     out.end_line(&mut desk)?;
     let text = written(rt.alloc(), desk.journal())?;
     assert_eq!(rt;
@@ -154,13 +149,7 @@ fn inner_text_prints_a_blank_for_a_run(rt: HostRuntime) -> Result<(), Fail> {
     let mut desk = desk_with_tex(rt.alloc())?;
     let mut out = LineOut::new_in(rt.alloc(), Out::Tex);
     let names = Names::with_words(rt.alloc())?;
-    let tokens = [
-        source(b"a"),
-        sign(Control::BigBreak),
-        sign(Control::Outdent),
-        source(b"b"),
-    ];
-    push_each(true, &tokens, &names, &mut out, &mut desk)?;
+    push_each(true, &INNER_TEXT, &names, &mut out, &mut desk)?;
     finish_none(&mut out, &mut desk)?;
     out.end_line(&mut desk)?;
     let text = written(rt.alloc(), desk.journal())?;

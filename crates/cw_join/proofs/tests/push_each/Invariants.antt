@@ -5,8 +5,8 @@ use Rattle.cw_trees.specs.Printing.{Printable}
 use Rattle.cw_join.specs.Standing.{Stands}
 use Rattle.cw_join.proofs.tests.push_each.Given as goal
 
-abbrev pub invariant-loop-token : goal.invariant-loop-token
-invariant-loop-token l = record {
+abbrev pub invariant-loop-item : goal.invariant-loop-item
+invariant-loop-item l = record {
   can : CanWrite (tell l.desk) l.out;
   stands : (ps : List Printable) × Stands l.joiner ps;
 }
