@@ -1,10 +1,10 @@
 -- What is printed early, item by item, and what is left for the end.
-use Rattle.std.proofs.Common.{◌≡◌, ℕ, Bool, true, false, refl, ap, sym, ◌∙◌, List, [], ◌∷◌, ◌++◌, Option, Some, None, fold, drop, length}
+use Rattle.std.proofs.Common.{◌≡◌, ℕ, Bool, refl, ap, sym, ◌∙◌, List, [], ◌∷◌, ◌++◌, Option, Some, None, fold, drop, length}
 use Rattle.std.proofs.lemmas.List.{append-nil, append_assoc}
 use Rattle.cw_trees.specs.declared.Control.{Control}
 use Rattle.cw_trees.specs.Flat.{Item, SourceItem, IdentItem, ReservedItem, SignItem, Open, Close}
-use Rattle.cw_trees.specs.Printing.{Printable, printed, printed_from, run_sign, run_bytes, opened}
-use Rattle.cw_join.specs.Stretches.{Stretch, Run, Other, with_control, stretches, stretch_bytes, printed_list, is_inner}
+use Rattle.cw_trees.specs.Printing.{Printable, run_sign, run_bytes, opened}
+use Rattle.cw_join.specs.Stretches.{Stretch, Other, with_control, stretches, stretch_bytes, printed_list, is_inner}
 use Rattle.cw_join.specs.Early.{early_bytes, early, late, added, run_back, run_front, run_with, depth_behind, last_run}
 use Rattle.cw_join.proofs.RunLaws.{run_before, one-more, run-parts, front-append, early-ends, early-goes_on, all-ends, all-goes_on, front-none}
 

@@ -2,7 +2,7 @@
 use Rattle.std.proofs.Common.{◌≡◌, ℕ, Bool, ap, sym, ◌∙◌, List, [], ◌∷◌, ◌++◌, Option, Some, None}
 use Rattle.cw_trees.specs.declared.Control.{Control}
 use Rattle.cw_trees.specs.Printing.{Printable, printed, printed_from, run_sign, run_bytes, opened}
-use Rattle.cw_join.specs.Stretches.{Stretch, Other, with_control, stretches, stretch_bytes, printed_list, is_inner}
+use Rattle.cw_join.specs.Stretches.{Other, with_control, stretches, stretch_bytes, printed_list, is_inner}
 use Rattle.cw_join.proofs.RunLaws.{run_before, one-more, all-ends, all-goes_on}
 
 module _ (inner : Bool) where

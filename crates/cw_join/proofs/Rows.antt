@@ -1,8 +1,8 @@
 -- Worked rows: small lists, cut into runs and printed, early and late.
-use Rattle.std.proofs.Common.{◌≡◌, ℕ, Bool, true, false, [], ◌∷◌, ◌++◌, List, map, codes, refl}
+use Rattle.std.proofs.Common.{◌≡◌, true, false, [], ◌∷◌, List, map, codes, refl}
 use Rattle.cw_trees.specs.declared.Control.{Control}
 use Rattle.cw_trees.specs.declared.Control.TheVariants.{Blank, OptionalBreak, Break, BigBreak, Cancel, Backup, Wall, Indent, Outdent, ToMath, ToText}
-use Rattle.cw_trees.specs.Flat.{Item, SourceItem, IdentItem, SignItem, Open, Close}
+use Rattle.cw_trees.specs.Flat.{Item, IdentItem, SignItem, Open, Close}
 use Rattle.cw_trees.specs.Printing.{Printable, sign_bytes, ident_bytes}
 use Rattle.cw_join.specs.Stretches.{Run, Other, stretches, printed_list}
 use Rattle.cw_join.specs.Early.{early, late, added, last_run}

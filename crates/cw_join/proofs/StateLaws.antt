@@ -1,14 +1,13 @@
 -- What a joiner keeps is what its list leaves, and what it prints is what its list prints.
-use Rattle.std.proofs.Common.{◌≡◌, ℕ, Bool, true, false, ◌||◌, ltb, max, codes, refl, ap, sym, ◌∙◌, List, [], ◌∷◌, ◌++◌, Option, Some, None, fold, arith}
+use Rattle.std.proofs.Common.{◌≡◌, ℕ, Bool, true, false, ◌||◌, max, codes, refl, ap, sym, ◌∙◌, List, [], ◌∷◌, ◌++◌, Option, Some, None, arith}
 use Rattle.std.specs.List.{list_any}
 use Rattle.std.proofs.lemmas.List.{append-nil}
 use Rattle.std.proofs.lemmas.List.Sums.{fold_push}
 use Rattle.cw_trees.specs.declared.Control.{Control}
-use Rattle.cw_trees.specs.Flat.{Item}
-use Rattle.cw_trees.specs.Printing.{Printable, backup_bytes, break_bytes, is_backup, is_cancel, opened, run_sign, strength, strongest}
+use Rattle.cw_trees.specs.Printing.{Printable, break_bytes, is_backup, is_cancel, opened, run_sign, strength, strongest}
 use Rattle.cw_join.specs.Stretches.{is_inner}
 use Rattle.cw_join.specs.Early.{added, late, run_back, run_front, run_with, depth_behind, last_run}
-use Rattle.cw_join.specs.Runs.{RunState, run_more, run_state, state_back, pause_bytes, step_bytes, backs}
+use Rattle.cw_join.specs.Runs.{RunState, run_more, run_state, state_back, pause_bytes, step_bytes}
 use Rattle.cw_join.specs.Standing.{JoinerState, Stands}
 use Rattle.cw_join.proofs.EarlyLaws.{added-is, same-depth, step_of}
 

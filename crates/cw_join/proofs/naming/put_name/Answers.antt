@@ -1,4 +1,3 @@
-use Rattle.std.proofs.Common.{◌≡◌}
 use Rattle.cw_trees.specs.Printing.{name_bytes}
 use Rattle.cw_lines.specs.WritesLaws.{puts-failing, puts-longer, puts-then, puts-bytes}
 use Rattle.cw_join.proofs.NameLaws.{name-parts, name-begins}
