@@ -13,13 +13,17 @@ run_front false run = indents run
 -- what it prints when it has ended: its break or blank and its backup, which a Cancel takes away
 abbrev pub run_back : Bool → List Control → List ℕ
 run_back true run = inner_run run
-run_back false run = elim (list_any is_cancel run) [ true ↦ [] | false ↦ break_bytes (strongest run) ++ backup_bytes run ]
+run_back false run = elim (list_any is_cancel run) [
+  | true ↦ []
+  | false ↦ break_bytes (strongest run) ++ backup_bytes run
+]
 
 -- The bytes of stretches, but for what the run with which they end, if they end with one, prints when it has ended.
 abbrev pub early_bytes : Bool → ℕ → List Stretch → List ℕ
 early_bytes inner depth [] = []
 early_bytes inner depth (Run run ∷ []) = run_front (is_inner inner depth) run
-early_bytes inner depth (Run run ∷ next ∷ rest) = run_bytes (is_inner inner depth) run ++ early_bytes inner depth (next ∷ rest)
+early_bytes inner depth (Run run ∷ next ∷ rest) =
+    run_bytes (is_inner inner depth) run ++ early_bytes inner depth (next ∷ rest)
 early_bytes inner depth (Other p ∷ rest) = p.bytes ++ early_bytes inner (opened depth p.item) rest
 
 abbrev pub early : Bool → List Printable → List ℕ

@@ -26,7 +26,10 @@ run_more run control = record {
 
 -- what a run prints when it has ended
 abbrev pub pause_bytes : Bool → RunState → List ℕ
-pause_bytes true run = elim run.cancelled [ true ↦ [] | false ↦ elim (ltb 0 run.strength) [ true ↦ codes " " | false ↦ [] ] ]
+pause_bytes true run = elim run.cancelled [
+  | true ↦ []
+  | false ↦ elim (ltb 0 run.strength) [ true ↦ codes " " | false ↦ [] ]
+]
 pause_bytes false run = elim run.cancelled [ true ↦ [] | false ↦ break_bytes run.strength ]
 
 abbrev pub backs : Bool → RunState → Bool

@@ -15,7 +15,10 @@ with_control control (Other p ∷ stretches) = Run (control ∷ []) ∷ Other p 
 
 abbrev pub stretches : List Printable → List Stretch
 stretches [] = []
-stretches (p ∷ ps) = elim (run_sign p.item) [ Some control ↦ with_control control (stretches ps) | None ↦ Other p ∷ stretches ps ]
+stretches (p ∷ ps) = elim (run_sign p.item) [
+  | Some control ↦ with_control control (stretches ps)
+  | None ↦ Other p ∷ stretches ps
+]
 
 -- whether a run is one of inner C text: all of the list is, or it stands between brackets
 abbrev pub is_inner : Bool → ℕ → Bool

@@ -52,8 +52,8 @@ impl Joiner {
         }
     }
 
-    /// Prints one item more. The break or blank of a run is printed when the run has ended, its indents at once. After an
-    /// `Err` the joiner is not to be used again.
+    /// Prints one item more. The break or blank of a run is printed when the run has ended, its indents at once. After
+    /// an `Err` the joiner is not to be used again.
     pub fn push<D: Desk>(
         &mut self,
         token: FlatToken,
@@ -64,7 +64,8 @@ impl Joiner {
         requires can { CanWrite (D.told desk.old) out.old }
         requires come { CanCome (length names.now) self.old.depth token.item }
         ensures puts { (ps : List Printable) → Stands self.old ps
-            → Puts (added self.old.inner ps (printable names.now token.entry)) out.old out.new (D.told desk.old) (D.told desk.new) result }
+            → Puts (added self.old.inner ps (printable names.now token.entry)) out.old out.new
+            (D.told desk.old) (D.told desk.new) result }
         ensures stands { (ps : List Printable) → Stands self.old ps
             → OnOk result (Stands self.new (ps ++ printable names.now token.entry ∷ [])) }
         ensures inner { OnOk result (self.new.inner ≡ self.old.inner) }
@@ -104,7 +105,8 @@ impl Joiner {
         desk: &mut D,
     ) -> Result<(), PutError>
         requires can { CanWrite (D.told desk.old) out.old }
-        ensures puts { Puts (run_front (is_inner self.old.inner self.old.depth) (control ∷ [])) out.old out.new (D.told desk.old) (D.told desk.new) result }
+        ensures puts { Puts (run_front (is_inner self.old.inner self.old.depth) (control ∷ [])) out.old out.new
+            (D.told desk.old) (D.told desk.new) result }
         ensures state { OnOk result (self.new ≡ record self.old { run = run_more self.old.run control }) }
     {
         let front: &[u8] = if self.is_inner() {
@@ -127,7 +129,8 @@ impl Joiner {
     ) -> Result<(), PutError>
         requires can { CanWrite (D.told desk.old) out.old }
         requires come { CanCome (length names.now) self.old.depth token.item }
-        ensures puts { Puts (state_back (is_inner self.old.inner self.old.depth) self.old.run ++ item_bytes names.now token.entry.item token.entry.bytes.now)
+        ensures puts { Puts (state_back (is_inner self.old.inner self.old.depth) self.old.run
+            ++ item_bytes names.now token.entry.item token.entry.bytes.now)
             out.old out.new (D.told desk.old) (D.told desk.new) result }
         ensures state { OnOk result (self.new ≡ record self.old {
           depth = opened self.old.depth (item_is token.entry.item);
@@ -167,7 +170,8 @@ fn put_item<D: Desk>(
 ) -> Result<(), PutError>
     requires can { CanWrite (D.told desk.old) out.old }
     requires named { IsNamed (length names.now) token.item }
-    ensures { Puts (item_bytes names.now token.entry.item token.entry.bytes.now) out.old out.new (D.told desk.old) (D.told desk.new) result }
+    ensures { Puts (item_bytes names.now token.entry.item token.entry.bytes.now) out.old out.new
+        (D.told desk.old) (D.told desk.new) result }
 {
     match token.item {
         FlatItem::Ident(name, _) => put_ident(text_of(names, name), out, desk),

@@ -53,7 +53,8 @@ fn put_word<D: Desk>(
     desk: &mut D,
 ) -> Result<(), PutError>
     requires can { CanWrite (D.told desk.old) out.old }
-    ensures { Puts (font.now ++ name_bytes name.now ++ codes "}") out.old out.new (D.told desk.old) (D.told desk.new) result }
+    ensures { Puts (font.now ++ name_bytes name.now ++ codes "}") out.old out.new
+        (D.told desk.old) (D.told desk.new) result }
 {
     out.put_all(font, desk)?;
     put_name(name, out, desk)?;
