@@ -5,3 +5,6 @@ pub mod Comments
 pub mod Tokens
 pub mod Found
 pub mod Scanning
+pub mod Showing
+pub mod Walk
+pub mod Titles

@@ -1,5 +1,5 @@
 //! The text of a comment.
-ghost use Rattle.std.specs.Prelude.{◌≡◌, [], ◌∷◌, ◌++◌, ◌<◌, ◌≤◌, ◌+◌, ◌^◌, length, OnOk, IfOk, IfSome, IfNone};
+ghost use Rattle.std.specs.Prelude.{◌≡◌, [], ◌∷◌, ◌++◌, ◌≤◌, ◌+◌, length, OnOk, IfOk, IfSome, IfNone};
 ghost use Rattle.cw_print.specs.Comments.{blank_for, byte_piece, takes_next, piece, closing_braces};
 
 use crate::texts::is_at_pair;
@@ -19,16 +19,14 @@ fn takes_next(byte: u8, next: u8) -> bool
 
 // One byte of a comment in which so many braces are open. Answers how many are open behind it.
 fn put_byte(out: &mut Bytes, byte: u8, braces: usize) -> Result<usize, Memory>
-    requires { braces + 1 < 2 ^ 64 }
     ensures bytes { OnOk result (out.new ≡ out.old ++ (byte_piece byte braces).bytes) }
     ensures braces { IfOk result (λ after. after ≡ (byte_piece byte braces).braces) }
-    ensures few { IfOk result (λ after. after ≤ braces + 1) }
 {
     match byte {
         b'@' => Ok(braces),
         b'{' => {
             out.push(byte)?;
-            Ok(braces + 1)
+            one_more(braces)
         }
         b'}' => put_closed(out, braces),
         _ => {
@@ -38,11 +36,20 @@ fn put_byte(out: &mut Bytes, byte: u8, braces: usize) -> Result<usize, Memory>
     }
 }
 
+// Memory cannot hold as many braces as are not counted.
+fn one_more(braces: usize) -> Result<usize, Memory>
+    ensures { IfOk result (λ more. more ≡ braces + 1) }
+{
+    match braces.checked_add(1) {
+        Some(more) => Ok(more),
+        None => Err(Memory),
+    }
+}
+
 // A brace that closes.
 fn put_closed(out: &mut Bytes, braces: usize) -> Result<usize, Memory>
     ensures bytes { OnOk result (out.new ≡ out.old ++ (byte_piece 125 braces).bytes) }
     ensures braces { IfOk result (λ after. after ≡ (byte_piece 125 braces).braces) }
-    ensures few { IfOk result (λ after. after ≤ braces) }
 {
     if braces == 0 {
         return Ok(0);
@@ -81,11 +88,9 @@ fn two_at(text: &[u8]) -> Option<Two>
 
 // The last byte, if there is one.
 fn put_last(out: &mut Bytes, text: &[u8], braces: usize) -> Result<usize, Memory>
-    requires short { length text.now ≤ 1 }
-    requires room { braces + length text.now < 2 ^ 64 }
+    requires { length text.now ≤ 1 }
     ensures bytes { OnOk result (out.new ≡ out.old ++ (piece text.now braces).bytes) }
     ensures braces { IfOk result (λ after. after ≡ (piece text.now braces).braces) }
-    ensures few { IfOk result (λ after. after ≤ braces + length text.now) }
 {
     match text {
         [] => Ok(braces),
@@ -102,10 +107,8 @@ fn put_pair(out: &mut Bytes, first: u8, second: u8) -> Result<(), Memory>
 
 /// Appends a piece of a comment's text in which so many braces are open, and answers how many are open behind it.
 pub fn put_piece(out: &mut Bytes, text: &[u8], braces: usize) -> Result<usize, Memory>
-    requires { braces + length text.now < 2 ^ 64 }
     ensures bytes { OnOk result (out.new ≡ out.old ++ (piece text.now braces).bytes) }
     ensures braces { IfOk result (λ after. after ≡ (piece text.now braces).braces) }
-    ensures few { IfOk result (λ after. after ≤ braces + length text.now) }
 {
     let mut rest = text;
     let mut open = braces;

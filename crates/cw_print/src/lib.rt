@@ -1,15 +1,21 @@
 //! The bytes that a C text prints: those of each token, of comments and of section names.
 #![tactic(auto)]
 
+mod braces;
 mod comments;
 mod constants;
 mod escaping;
 mod scan;
+mod showing;
 mod signs;
 mod texts;
+mod title;
 mod tokens;
 
+pub use braces::OpenBraces;
 pub use comments::{put_closing_braces, put_piece};
 pub use escaping::put_escaped;
 pub use scan::Scan;
+pub use showing::put_found;
+pub use title::{SectionTitle, put_section_number};
 pub use tokens::put_token;

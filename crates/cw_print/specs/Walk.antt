@@ -1,0 +1,176 @@
+-- The bytes that the items of a flat list print, each by itself, in their order; and those of the whole list.
+use Rattle.std.specs.Prelude.{ℕ, zero, suc, ◌+◌, ◌-◌, Bool, true, false, List, [], ◌∷◌, ◌++◌, Option, Some, None, codes, decimal, drop, unwrap_or, slice_get, slice_range, option_map}
+use Rattle.cw_base.specs.declared.span.Span.{Span}
+use Rattle.cw_names.specs.Names.{Entry}
+use Rattle.cw_lex.specs.Answers.{Answer, Seen}
+use Rattle.cw_lex.specs.Lexing.{tokens_of}
+use Rattle.cw_lex.specs.Nested.{until_section}
+use Rattle.cw_lex.specs.declared.tokens.Mode.TheVariants.{Inner}
+use Rattle.cw_trees.specs.declared.Control.{Control}
+use Rattle.cw_trees.specs.declared.Control.TheVariants.{CommentEnd, NameText, NameEnd}
+use Rattle.cw_trees.specs.Tree.{Tree}
+use Rattle.cw_trees.specs.Flat.{Item, SourceItem, IdentItem, ReservedItem, SignItem, Open, Close, flat, trimmed}
+use Rattle.cw_trees.specs.Printing.{Printable, sign_bytes, ident_bytes, reserved_bytes, printed}
+use Rattle.cw_reduce.specs.NameParts.{parts_from}
+use Rattle.cw_print.specs.Escaping.{typewriter}
+use Rattle.cw_print.specs.Comments.{closing_braces}
+use Rattle.cw_print.specs.Showing.{TokenShown, found, innermost, others}
+use Rattle.cw_print.specs.Found.{numbered}
+
+-- ## Section names
+
+-- A section name as it is printed: its text, whether it is a file's, and the number of its first defining section, or 0,
+-- and whether that section is changed.
+pub record Title : Type 0 where
+  pub text : List ℕ
+  pub is_file : Bool
+  pub number : ℕ
+  pub is_changed : Bool
+
+-- a section number, with `\*` where its section is changed
+abbrev pub changed_mark : Bool → List ℕ
+changed_mark true = codes "\\*"
+changed_mark false = []
+
+abbrev pub section_number : ℕ → Bool → List ℕ
+section_number number is_changed = decimal number ++ changed_mark is_changed
+
+abbrev pub front : Title → List ℕ
+front title = codes "\\X" ++ (section_number title.number title.is_changed ++ codes ":")
+
+-- What a name prints up to an inner text or to its end, and the scanner's answers for that inner text, whose numbers are
+-- places in the name's own text. A section code ends it.
+pub record NamePiece : Type 0 where
+  pub bytes : List ℕ
+  pub answers : List Answer
+
+abbrev pub last_piece : List ℕ → List NamePiece
+last_piece bytes = record { bytes = bytes; answers = [] } ∷ []
+
+-- the pieces of a text from a place on, in which inner texts stand at these spans, without their bars
+abbrev pub pieces_between : List ℕ → ℕ → List Span → List NamePiece
+pieces_between text place [] = last_piece (drop place text)
+pieces_between text place (span ∷ spans) =
+    record {
+      bytes = slice_range text place (span.start - 1);
+      answers = until_section (tokens_of text span.start span.«end» Inner);
+    } ∷ pieces_between text (span.«end» + 1) spans
+
+-- The text of a file's name has no inner texts, and is escaped.
+abbrev pub text_pieces : Bool → List ℕ → List NamePiece
+text_pieces true text = last_piece (typewriter text)
+text_pieces false text = pieces_between text 0 (parts_from text 0 0)
+
+abbrev pub name_pieces : Title → List NamePiece
+name_pieces title = text_pieces title.is_file title.text
+
+-- ## Where the printing stands
+
+-- In a section name: the answers of the inner text at hand, and the pieces that are still to come.
+pub record InName : Type 0 where
+  pub answers : List Answer
+  pub pieces : List NamePiece
+
+-- In a name or in none; and how many braces are open in each open comment, the innermost first.
+pub record Stand : Type 0 where
+  pub name : Option InName
+  pub braces : List ℕ
+
+abbrev pub outside : Stand
+outside = record { name = None; braces = [] }
+
+-- what an item prints, and where the printing stands behind it
+pub record Shown : Type 0 where
+  pub bytes : List ℕ
+  pub stand : Stand
+
+abbrev pub prints : List ℕ → Stand → Shown
+prints bytes stand = record { bytes = bytes; stand = stand }
+
+abbrev pub with_braces : List ℕ → Stand → Stand
+with_braces braces stand = record { name = stand.name; braces = braces }
+
+abbrev pub with_name : Option InName → Stand → Stand
+with_name name stand = record { name = name; braces = stand.braces }
+
+-- the next piece of a name
+abbrev pub piece_shown : List ℕ → List NamePiece → Stand → Shown
+piece_shown before [] stand = prints before (with_name (Some (record { answers = []; pieces = [] })) stand)
+piece_shown before (p ∷ pieces) stand =
+    prints (before ++ p.bytes) (with_name (Some (record { answers = p.answers; pieces = pieces })) stand)
+
+abbrev pub name_begins : Title → Stand → Shown
+name_begins title stand = piece_shown (front title) (name_pieces title) stand
+
+abbrev pub name_goes_on : Option InName → Stand → Shown
+name_goes_on None stand = prints [] stand
+name_goes_on (Some name) stand = piece_shown [] name.pieces stand
+
+-- ## Comments and tokens
+
+abbrev pub in_stand : Stand → TokenShown → Shown
+in_stand stand shown = prints shown.bytes (with_braces shown.braces stand)
+
+abbrev pub found_shown : Bool → Option Seen → Stand → Shown
+found_shown first token stand = in_stand stand (found first token stand.braces)
+
+abbrev pub comment_ends : Stand → Shown
+comment_ends stand = prints (closing_braces (innermost stand.braces)) (with_braces (others stand.braces) stand)
+
+-- ## Items
+
+-- What the items of one C text are printed from: the scanner's answers for its span, the section names by their numbers,
+-- the names, whether inner texts are wrapped, and whether the present section is the first that defines its name.
+pub record Source : Type 0 where
+  pub answers : List Answer
+  pub titles : ℕ → Option Title
+  pub names : List Entry
+  pub wraps : Bool
+  pub first : Bool
+
+abbrev pub outer_shown : Source → Option Title → ℕ → Stand → Shown
+outer_shown s (Some title) number stand = name_begins title stand
+outer_shown s None number stand = found_shown s.first (numbered number s.answers) stand
+
+-- A number stands for a token of the text, or, in a section name, for one of its inner text at hand.
+abbrev pub source_shown : Source → Option InName → ℕ → Stand → Shown
+source_shown s None number stand = outer_shown s (s.titles number) number stand
+source_shown s (Some name) number stand = found_shown s.first (numbered number name.answers) stand
+
+abbrev pub control_shown : Control → Stand → Shown
+control_shown CommentEnd stand = comment_ends stand
+control_shown NameText stand = name_goes_on stand.name stand
+control_shown NameEnd stand = prints (codes "\\X") (with_name None stand)
+control_shown control stand = prints (sign_bytes control) stand
+
+abbrev pub bracket : Bool → List ℕ → List ℕ
+bracket true bytes = bytes
+bracket false bytes = []
+
+-- the text of a name
+abbrev pub text_at : List Entry → ℕ → List ℕ
+text_at names name = unwrap_or (option_map (λ entry. entry.text) (slice_get names name)) []
+
+abbrev pub item_shown : Source → Item → Stand → Shown
+item_shown s (SourceItem number) stand = source_shown s stand.name number stand
+item_shown s (IdentItem name number) stand = prints (ident_bytes (text_at s.names name)) stand
+item_shown s (ReservedItem name number) stand = prints (reserved_bytes (text_at s.names name)) stand
+item_shown s (SignItem control) stand = control_shown control stand
+item_shown s Open stand = prints (bracket s.wraps (codes "\\PB{")) stand
+item_shown s Close stand = prints (bracket s.wraps (codes "}")) stand
+
+abbrev pub before : Item → Shown → (Stand → List Printable) → List Printable
+before item shown rest = record { item = item; bytes = shown.bytes } ∷ rest shown.stand
+
+abbrev pub items_shown : Source → List Item → Stand → List Printable
+items_shown s [] stand = []
+items_shown s (item ∷ items) stand = before item (item_shown s item stand) (items_shown s items)
+
+-- ## The whole list
+
+-- a flat list, as the C text of a part or a definition, or as inner C text
+abbrev pub flat_bytes : Bool → Source → List Item → List ℕ
+flat_bytes inner s items = printed inner (items_shown s (trimmed items) outside)
+
+abbrev pub tree_bytes : Bool → Source → Tree → List ℕ
+tree_bytes inner s tree = flat_bytes inner s (flat tree)
