@@ -1,3 +1,4 @@
 pub mod PieceLaws
 pub mod ScanLaws
 mod TokenRows
+pub mod PartLaws

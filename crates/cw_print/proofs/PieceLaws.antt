@@ -1,5 +1,5 @@
 -- Of the pieces of a comment: what was printed, with what is to come.
-use Rattle.std.proofs.Common.{◌≡◌, ℕ, true, false, List, [], ◌∷◌, ◌++◌, ◌+◌, ◌≤◌, length, ap, sym, ◌∙◌, refl, arith}
+use Rattle.std.proofs.Common.{◌≡◌, ℕ, true, false, List, [], ◌∷◌, ◌++◌, ap, sym, ◌∙◌, refl}
 use Rattle.std.proofs.lemmas.List.{append_assoc}
 use Rattle.cw_print.specs.Texts.{is_at_pair}
 use Rattle.cw_print.specs.Comments.{Piece, prints, then, blank_for, byte_piece, takes_next, piece}

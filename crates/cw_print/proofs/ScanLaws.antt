@@ -1,6 +1,7 @@
 -- Of the tokens that a scan finds by their numbers.
-use Rattle.std.proofs.Common.{◌≡◌, ◌≢◌, ℕ, ◌+◌, ◌-◌, ◌^◌, min, ◌≤◌, ◌==◌, false, List, ◌∷◌, sym, ◌∙◌, refl, arith}
+use Rattle.std.proofs.Common.{◌≡◌, ◌≢◌, ℕ, ◌+◌, ◌-◌, ◌^◌, min, ◌≤◌, ◌==◌, true, false, List, [], ◌∷◌, sym, ◌∙◌, refl, arith}
 use Rattle.cw_lex.specs.Answers.{Answer, Token, Begin, Seen}
+use Rattle.cw_lex.specs.Nested.{is_section_kind, until_section}
 use Rattle.cw_print.specs.Found.{numbered, IsAhead}
 
 other : (n number : ℕ) → n ≢ number → (n == number) ≡ false
@@ -30,7 +31,15 @@ ahead-begin all first now token answers later before ahead = record {
       sym (numbered-begin number token answers (other token.span.start number (omega arith))) ∙ ahead.same number (omega arith) small;
 }
 
+-- The answers up to a section code: behind a token that is none they go on, and behind what begins.
+pub until-token : (token : Seen) (answers : List Answer) → is_section_kind token.kind ≡ false
+    → until_section (Token token ∷ answers) ≡ Token token ∷ until_section answers
+until-token token answers e = rw (e, until_section) refl
+
+pub until-code : (token : Seen) (answers : List Answer) → is_section_kind token.kind ≡ true → until_section (Token token ∷ answers) ≡ []
+until-code token answers e = rw (e, until_section) refl
+
 -- What a walk to the token of a number has left: the token, and the numbers that lie ahead.
 pub record Passes (number first : ℕ) (old : List Answer) (now : ℕ) (new : List Answer) : Type 0 where
-  pub found : numbered number new ≡ numbered number old
-  pub ahead : (all : List Answer) → IsAhead all first old → IsAhead all now new
+  pub found : numbered number (until_section new) ≡ numbered number (until_section old)
+  pub ahead : (all : List Answer) → IsAhead all first (until_section old) → IsAhead all now (until_section new)

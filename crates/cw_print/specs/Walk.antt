@@ -1,5 +1,5 @@
 -- The bytes that the items of a flat list print, each by itself, in their order; and those of the whole list.
-use Rattle.std.specs.Prelude.{ℕ, zero, suc, ◌+◌, ◌-◌, Bool, true, false, List, [], ◌∷◌, ◌++◌, Option, Some, None, codes, decimal, drop, unwrap_or, slice_get, slice_range, option_map}
+use Rattle.std.specs.Prelude.{ℕ, ◌+◌, ◌-◌, Bool, true, false, List, [], ◌∷◌, ◌++◌, Option, Some, None, codes, decimal, drop, unwrap_or, slice_get, slice_range, option_map}
 use Rattle.cw_base.specs.declared.span.Span.{Span}
 use Rattle.cw_names.specs.Names.{Entry}
 use Rattle.cw_lex.specs.Answers.{Answer, Seen}
@@ -93,11 +93,17 @@ with_braces braces stand = record { name = stand.name; braces = braces }
 abbrev pub with_name : Option InName → Stand → Stand
 with_name name stand = record { name = name; braces = stand.braces }
 
--- the next piece of a name
+-- the next piece of a name is printed
+abbrev pub next_bytes : List NamePiece → List ℕ
+next_bytes [] = []
+next_bytes (p ∷ pieces) = p.bytes
+
+abbrev pub behind_next : List NamePiece → InName
+behind_next [] = record { answers = []; pieces = [] }
+behind_next (p ∷ pieces) = record { answers = p.answers; pieces = pieces }
+
 abbrev pub piece_shown : List ℕ → List NamePiece → Stand → Shown
-piece_shown before [] stand = prints before (with_name (Some (record { answers = []; pieces = [] })) stand)
-piece_shown before (p ∷ pieces) stand =
-    prints (before ++ p.bytes) (with_name (Some (record { answers = p.answers; pieces = pieces })) stand)
+piece_shown before pieces stand = prints (before ++ next_bytes pieces) (with_name (Some (behind_next pieces)) stand)
 
 abbrev pub name_begins : Title → Stand → Shown
 name_begins title stand = piece_shown (front title) (name_pieces title) stand

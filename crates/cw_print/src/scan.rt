@@ -2,14 +2,16 @@
 ghost use Rattle.std.specs.Prelude.{◌≡◌, ◌≤◌, ◌<◌, ◌^◌, List, length, option_map};
 ghost use Rattle.cw_lex.specs.Answers.{Answer, seen};
 ghost use Rattle.cw_lex.specs.Lexing.{tokens_of};
+ghost use Rattle.cw_lex.specs.Nested.{is_section_kind, until_section};
 ghost use Rattle.cw_print.specs.Found.{numbered, IsAhead};
 
 use cw_base::Span;
-use cw_lex::{Lexed, Lexer, Mode, Tok};
+use cw_lex::{Code, Lexed, Lexer, Mode, Tok, TokKind};
 use std::marker::Model;
 
 /// A scan that is walked in step with the items of a translation. It is seen as all its answers: from the tokens whose
-/// numbers rise each is found a little ahead, and for a number that does not lie ahead the scan begins anew.
+/// numbers rise each is found a little ahead, and for a number that does not lie ahead the scan begins anew. A section
+/// code ends it.
 #[derive(Drop)]
 pub struct Scan<'a> {
     text: &'a [u8],
@@ -24,22 +26,23 @@ impl<'a> Model for Scan<'a> {
     ghost use Rattle.std.specs.Prelude.{List};
     ghost use Rattle.cw_lex.specs.Answers.{Answer};
     ghost use Rattle.cw_lex.specs.Lexing.{tokens_of};
+    ghost use Rattle.cw_lex.specs.Nested.{until_section};
     ghost use Rattle.cw_print.specs.Found.{IsAhead};
     ghost use Rattle.cw_print.specs.Scanning.{IsScan};
 
     ghost Value = { List Answer };
 
-    ghost view = { λ s. tokens_of s.text.now s.span.start s.span.end s.mode };
+    ghost view = { λ s. until_section (tokens_of s.text.now s.span.start s.span.end s.mode) };
 
-    ghost invariant = { λ s. IsScan s.text.now s.span s.mode s.from s.lexer };
+    ghost invariant = { λ s. IsScan s.text.now s.span s.mode s.from (until_section s.lexer) };
 }
 
 impl<'a> Scan<'a> {
-    /// A scan of this span of a text.
+    /// A scan of this span of a text, up to a section code in it.
     pub fn over(text: &'a [u8], span: Span, mode: Mode) -> Scan<'a>
         requires order { span.start ≤ span.end }
         requires within { span.end ≤ length text.now }
-        ensures { result ≡ tokens_of text.now span.start span.end mode }
+        ensures { result ≡ until_section (tokens_of text.now span.start span.end mode) }
     {
         Scan {
             text,
@@ -66,17 +69,33 @@ impl<'a> Scan<'a> {
     }
 }
 
+fn is_section(kind: TokKind) -> bool
+    ensures { result ≡ is_section_kind kind }
+{
+    matches!(kind, TokKind::Code(Code::Section | Code::StarredSection))
+}
+
 // Goes on to the token of a number, and answers it and from which number on all lie ahead behind it.
 fn find_ahead<'a>(lexer: &mut Lexer<'a>, from: usize, number: usize) -> (Option<Tok<'a>>, usize)
     requires order { from ≤ number }
     requires number { number < 2 ^ 32 }
-    ensures found { option_map seen result.0 ≡ numbered number lexer.old }
-    ensures ahead { (all : List Answer) → IsAhead all from lexer.old → IsAhead all result.1 lexer.new }
+    ensures found { option_map seen result.0 ≡ numbered number (until_section lexer.old) }
+    ensures ahead { (all : List Answer) → IsAhead all from (until_section lexer.old)
+        → IsAhead all result.1 (until_section lexer.new) }
 {
     let mut passed = from;
     loop {
         match lexer.next() {
-            Lexed::Token(token) | Lexed::Begin(token) => {
+            Lexed::Token(token) => {
+                if is_section(token.kind) {
+                    return (None, usize::MAX);
+                }
+                passed = passed.max(token.span.start.saturating_add(1));
+                if token.span.start == number {
+                    return (Some(token), passed);
+                }
+            }
+            Lexed::Begin(token) => {
                 passed = passed.max(token.span.start.saturating_add(1));
                 if token.span.start == number {
                     return (Some(token), passed);

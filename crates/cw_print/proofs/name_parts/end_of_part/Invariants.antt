@@ -1,0 +1,10 @@
+use Rattle.std.proofs.Common.{◌≡◌, ◌≤◌, ◌-◌, length}
+use Rattle.cw_print.specs.PartsAhead.{end_of_part}
+use Rattle.cw_print.proofs.name_parts.end_of_part.Given as goal
+
+abbrev pub invariant-loop-place : goal.invariant-loop-place
+invariant-loop-place l =
+    (end_of_part l.text l.place ≡ end_of_part l.text l.from) × (l.from ≤ l.place) × (l.place ≤ length l.text)
+
+abbrev pub decreases-loop-place : goal.decreases-loop-place
+decreases-loop-place l = length l.text - l.place

@@ -1,0 +1,100 @@
+//! The text of a section name, piece by piece, and the tokens of its inner texts.
+ghost use Rattle.std.specs.Prelude.{◌≡◌, ◌++◌, IfOk, OnOk, option_map};
+ghost use Rattle.cw_lex.specs.Answers.{seen};
+ghost use Rattle.cw_print.specs.Found.{numbered};
+ghost use Rattle.cw_print.specs.Titles.{title_of};
+ghost use Rattle.cw_print.specs.Walk.{behind_next, front, name_pieces, next_bytes};
+
+use crate::escaping::put_escaped;
+use crate::name_parts::next_part;
+use crate::scan::Scan;
+use crate::title::{SectionTitle, put_front};
+use cw_base::{Bytes, Memory};
+use cw_lex::{Mode, Tok};
+use std::marker::Model;
+
+/// Where the printing stands in a section name. It is seen as the answers of the inner text at hand, and the pieces that
+/// are still to come.
+#[derive(Drop)]
+pub struct NameWalk<'a> {
+    text: &'a [u8],
+    // Where the text goes on, if more of it is to come.
+    rest: Option<usize>,
+    // The inner text at hand, if there is one.
+    inner: Option<Scan<'a>>,
+}
+
+impl<'a> Model for NameWalk<'a> {
+    ghost use Rattle.std.specs.Prelude.{◌≤◌, length};
+    ghost use Rattle.std.specs.Option.{ForSome};
+    ghost use Rattle.cw_print.specs.Walk.{InName};
+    ghost use Rattle.cw_print.specs.NamesAhead.{in_name};
+
+    ghost Value = { InName };
+
+    ghost view = { λ n. in_name n.text.now n.rest n.inner };
+
+    ghost invariant = { λ n. ForSome n.rest (λ place. place ≤ length n.text.now) };
+}
+
+impl<'a> NameWalk<'a> {
+    /// Appends what a name prints before its text, and its text up to its first inner text or to its end.
+    pub fn begin(out: &mut Bytes, title: &SectionTitle<'a>) -> Result<NameWalk<'a>, Memory>
+        ensures bytes { OnOk result (out.new ≡ out.old ++ (front (title_of title.now) ++ next_bytes (name_pieces (title_of title.now)))) }
+        ensures behind { IfOk result (λ walk. walk ≡ behind_next (name_pieces (title_of title.now))) }
+    {
+        put_front(out, title)?;
+        if title.is_file {
+            out.append(b"\\.{")?;
+            put_escaped(out, title.text)?;
+            out.push(b'}')?;
+            return Ok(NameWalk {
+                text: title.text,
+                rest: None,
+                inner: None,
+            });
+        }
+        let mut walk = NameWalk {
+            text: title.text,
+            rest: Some(0),
+            inner: None,
+        };
+        walk.next(out)?;
+        Ok(walk)
+    }
+
+    /// Appends the next piece of the name's text.
+    pub fn next(&mut self, out: &mut Bytes) -> Result<(), Memory>
+        ensures bytes { OnOk result (out.new ≡ out.old ++ next_bytes self.old.pieces) }
+        ensures behind { OnOk result (self.new ≡ behind_next self.old.pieces) }
+    {
+        let Some(place) = self.rest else {
+            self.inner = None;
+            return Ok(());
+        };
+        match next_part(self.text, place) {
+            Some(span) => {
+                out.append(&self.text[place..span.start - 1])?;
+                self.inner = Some(Scan::over(self.text, span, Mode::Inner));
+                self.rest = Some(span.end + 1);
+            }
+            None => {
+                out.append(&self.text[place..])?;
+                self.inner = None;
+                self.rest = None;
+            }
+        }
+        Ok(())
+    }
+
+    /// The token that has this number in the inner text at hand, if there is one.
+    pub fn find(&mut self, number: u32) -> Option<Tok<'a>>
+        ensures found { option_map seen result ≡ numbered number self.old.answers }
+        ensures same { self.new ≡ self.old }
+    {
+        match &mut self.inner {
+            Some(scan) => scan.find(number),
+            None => None,
+        }
+    }
+}
