@@ -10,3 +10,4 @@ pub mod Walk
 pub mod Titles
 pub mod PartsAhead
 pub mod NamesAhead
+pub mod Walked

@@ -125,45 +125,69 @@ comment_ends stand = prints (closing_braces (innermost stand.braces)) (with_brac
 
 -- ## Items
 
--- What the items of one C text are printed from: the scanner's answers for its span, the section names by their numbers,
--- the names, whether inner texts are wrapped, and whether the present section is the first that defines its name.
-pub record Source : Type 0 where
+-- What is fixed while one C text is printed: the scanner's answers for it, whether inner texts are wrapped, and whether the
+-- present section is the first that defines its name.
+pub record Fixed : Type 0 where
   pub answers : List Answer
-  pub titles : ℕ → Option Title
-  pub names : List Entry
   pub wraps : Bool
   pub first : Bool
 
-abbrev pub outer_shown : Source → Option Title → ℕ → Stand → Shown
-outer_shown s (Some title) number stand = name_begins title stand
-outer_shown s None number stand = found_shown s.first (numbered number s.answers) stand
+abbrev pub outer_shown : Fixed → Option Title → ℕ → Stand → Shown
+outer_shown f (Some title) number stand = name_begins title stand
+outer_shown f None number stand = found_shown f.first (numbered number f.answers) stand
 
--- A number stands for a token of the text, or, in a section name, for one of its inner text at hand.
-abbrev pub source_shown : Source → Option InName → ℕ → Stand → Shown
-source_shown s None number stand = outer_shown s (s.titles number) number stand
-source_shown s (Some name) number stand = found_shown s.first (numbered number name.answers) stand
-
-abbrev pub control_shown : Control → Stand → Shown
-control_shown CommentEnd stand = comment_ends stand
-control_shown NameText stand = name_goes_on stand.name stand
-control_shown NameEnd stand = prints (codes "\\X") (with_name None stand)
-control_shown control stand = prints (sign_bytes control) stand
+-- A number stands for a token of the text, perhaps a section name; or, in a section name, for a token of its inner text.
+abbrev pub source_shown : Fixed → Option Title → Option InName → ℕ → Stand → Shown
+source_shown f title None number stand = outer_shown f title number stand
+source_shown f title (Some name) number stand = found_shown f.first (numbered number name.answers) stand
 
 abbrev pub bracket : Bool → List ℕ → List ℕ
 bracket true bytes = bytes
 bracket false bytes = []
 
--- the text of a name
+abbrev pub control_shown : Control → Stand → Shown
+control_shown CommentEnd stand = comment_ends stand
+control_shown NameText stand = name_goes_on stand.name stand
+control_shown NameEnd stand = prints (codes "\\X") (with_name None stand)
+control_shown control stand = prints [] stand
+
+-- What an item prints by where it stands, where this is the title of its number.
+abbrev pub placed_shown : Fixed → Option Title → Item → Stand → Shown
+placed_shown f title (SourceItem number) stand = source_shown f title stand.name number stand
+placed_shown f title (SignItem control) stand = control_shown control stand
+placed_shown f title Open stand = prints (bracket f.wraps (codes "\\PB{")) stand
+placed_shown f title Close stand = prints (bracket f.wraps (codes "}")) stand
+placed_shown f title item stand = prints [] stand
+
+-- What an item prints wherever it stands: names, and all other signs.
 abbrev pub text_at : List Entry → ℕ → List ℕ
 text_at names name = unwrap_or (option_map (λ entry. entry.text) (slice_get names name)) []
 
+abbrev pub own_sign : Control → List ℕ
+own_sign CommentEnd = []
+own_sign control = sign_bytes control
+
+abbrev pub own_bytes : List Entry → Item → List ℕ
+own_bytes names (IdentItem name number) = ident_bytes (text_at names name)
+own_bytes names (ReservedItem name number) = reserved_bytes (text_at names name)
+own_bytes names (SignItem control) = own_sign control
+own_bytes names item = []
+
+-- What a flat list is printed from: what is fixed, the titles of section names by their numbers, and the names.
+pub record Source : Type 0 where
+  pub fixed : Fixed
+  pub titles : ℕ → Option Title
+  pub names : List Entry
+
+abbrev pub title_at : Source → Item → Option Title
+title_at s (SourceItem number) = s.titles number
+title_at s item = None
+
+abbrev pub behind_own : List ℕ → Shown → Shown
+behind_own bytes shown = prints (bytes ++ shown.bytes) shown.stand
+
 abbrev pub item_shown : Source → Item → Stand → Shown
-item_shown s (SourceItem number) stand = source_shown s stand.name number stand
-item_shown s (IdentItem name number) stand = prints (ident_bytes (text_at s.names name)) stand
-item_shown s (ReservedItem name number) stand = prints (reserved_bytes (text_at s.names name)) stand
-item_shown s (SignItem control) stand = control_shown control stand
-item_shown s Open stand = prints (bracket s.wraps (codes "\\PB{")) stand
-item_shown s Close stand = prints (bracket s.wraps (codes "}")) stand
+item_shown s item stand = behind_own (own_bytes s.names item) (placed_shown s.fixed (title_at s item) item stand)
 
 abbrev pub before : Item → Shown → (Stand → List Printable) → List Printable
 before item shown rest = record { item = item; bytes = shown.bytes } ∷ rest shown.stand

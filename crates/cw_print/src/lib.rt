@@ -13,6 +13,7 @@ mod signs;
 mod texts;
 mod title;
 mod tokens;
+mod walk;
 
 pub use braces::OpenBraces;
 pub use comments::{put_closing_braces, put_piece};
@@ -22,3 +23,4 @@ pub use scan::Scan;
 pub use showing::put_found;
 pub use title::{SectionTitle, put_section_number};
 pub use tokens::put_token;
+pub use walk::{Manner, TextWalk};
