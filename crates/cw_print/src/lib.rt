@@ -24,3 +24,6 @@ pub use showing::put_found;
 pub use title::{SectionTitle, put_section_number};
 pub use tokens::put_token;
 pub use walk::{Manner, TextWalk};
+
+#[cfg(test)]
+mod tests;
