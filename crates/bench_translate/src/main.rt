@@ -2,6 +2,11 @@
 //! usage: bench_translate [SIZE [NAME]]
 #![tactic(auto)]
 
+ghost use Rattle.std.specs.Prelude.{◌≡◌, ◌≤◌, ◌^◌, false, length};
+ghost use Rattle.cw_lex.specs.declared.tokens.Mode.TheVariants.{CPart};
+ghost use Rattle.cw_lex.specs.Lexing.{tokens_of};
+ghost use Rattle.cw_lex.specs.Nested.{begins_section_in};
+
 use cw_base::{Flags, Memory, Silent, Span, Steps};
 use cw_lex::Mode;
 use cw_names::Names;
@@ -70,18 +75,14 @@ fn repeated(alloc: Global, size: usize, sample: &Sample) -> Result<Vec<u8>, Allo
     Ok(text)
 }
 
+// The translation alone, whose instructions are counted.
 #[inline(never)]
-fn measured(alloc: Global, text: &[u8]) -> Result<Translated, Memory> {
-    if text.len() > LARGEST {
-        return Err(Memory);
-    }
-    let span = Span {
-        start: 0,
-        end: text.len(),
-    };
-    if !is_uncut(text, span, Mode::CPart) {
-        return Err(Memory);
-    }
+fn measured(alloc: Global, text: &[u8], span: Span) -> Result<Translated, Memory>
+    requires order { span.start ≤ span.end }
+    requires within { span.end ≤ length text.now }
+    requires short { length text.now ≤ 2 ^ 24 }
+    requires uncut { begins_section_in (tokens_of text.now span.start span.end CPart) ≡ false }
+{
     let mut names = Names::with_words(alloc)?;
     let mut store = TokenStore::new_in(alloc);
     let mut marks = Marks::new_in(alloc);
@@ -99,6 +100,21 @@ fn measured(alloc: Global, text: &[u8]) -> Result<Translated, Memory> {
     )
 }
 
+// The same of a text of which nothing is known.
+fn tested(alloc: Global, text: &[u8]) -> Result<Translated, Memory> {
+    if text.len() > LARGEST {
+        return Err(Memory);
+    }
+    let span = Span {
+        start: 0,
+        end: text.len(),
+    };
+    if !is_uncut(text, span, Mode::CPart) {
+        return Err(Memory);
+    }
+    measured(alloc, text, span)
+}
+
 fn main(rt: HostRuntime) -> io::Result<()> {
     let alloc = rt.alloc();
     let mut words = env::args(&rt)?.skip(1);
@@ -114,7 +130,7 @@ fn main(rt: HostRuntime) -> io::Result<()> {
         };
         if wanted {
             let text = repeated(alloc, size, sample)?;
-            match measured(alloc, &text) {
+            match tested(alloc, &text) {
                 Ok(done) => println!(rt;
                     "{}: {} scraps, {} productions",
                     sample.name, done.scraps, done.productions
