@@ -1,4 +1,3 @@
 pub mod PieceLaws
 pub mod ScanLaws
 mod TokenRows
-pub mod PartLaws

@@ -8,6 +8,5 @@ pub mod Scanning
 pub mod Showing
 pub mod Walk
 pub mod Titles
-pub mod PartsAhead
 pub mod NamesAhead
 pub mod Walked

@@ -1,7 +1,7 @@
 -- The pieces of a section name that are still to come.
 use Rattle.std.specs.Prelude.{ℕ, List, [], Option, Some, None}
 use Rattle.cw_lex.specs.Answers.{Answer}
-use Rattle.cw_print.specs.PartsAhead.{parts_at}
+use Rattle.cw_secnames.specs.Parts.{parts_at}
 use Rattle.cw_print.specs.Walk.{InName, NamePiece, pieces_between}
 
 -- those of a text from a place on, or none

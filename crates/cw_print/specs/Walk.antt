@@ -11,7 +11,7 @@ use Rattle.cw_trees.specs.declared.Control.TheVariants.{CommentEnd, NameText, Na
 use Rattle.cw_trees.specs.Tree.{Tree}
 use Rattle.cw_trees.specs.Flat.{Item, SourceItem, IdentItem, ReservedItem, SignItem, Open, Close, flat, trimmed}
 use Rattle.cw_trees.specs.Printing.{Printable, sign_bytes, ident_bytes, reserved_bytes, printed}
-use Rattle.cw_reduce.specs.NameParts.{parts_from}
+use Rattle.cw_secnames.specs.Parts.{inner_parts}
 use Rattle.cw_print.specs.Escaping.{typewriter}
 use Rattle.cw_print.specs.Comments.{closing_braces}
 use Rattle.cw_print.specs.Showing.{TokenShown, found, innermost, others}
@@ -59,7 +59,7 @@ pieces_between text place (span ∷ spans) =
 -- The text of a file's name has no inner texts, and is escaped.
 abbrev pub text_pieces : Bool → List ℕ → List NamePiece
 text_pieces true text = last_piece (typewriter text)
-text_pieces false text = pieces_between text 0 (parts_from text 0 0)
+text_pieces false text = pieces_between text 0 (inner_parts text)
 
 abbrev pub name_pieces : Title → List NamePiece
 name_pieces title = text_pieces title.is_file title.text

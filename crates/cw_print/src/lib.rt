@@ -5,7 +5,6 @@ mod braces;
 mod comments;
 mod constants;
 mod escaping;
-mod name_parts;
 mod name_walk;
 mod scan;
 mod showing;

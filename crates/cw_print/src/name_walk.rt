@@ -6,11 +6,11 @@ ghost use Rattle.cw_print.specs.Titles.{title_of};
 ghost use Rattle.cw_print.specs.Walk.{behind_next, front, name_pieces, next_bytes};
 
 use crate::escaping::put_escaped;
-use crate::name_parts::next_part;
 use crate::scan::Scan;
 use crate::title::{SectionTitle, put_front};
 use cw_base::{Bytes, Memory};
 use cw_lex::{Mode, Tok};
+use cw_secnames::next_part;
 use std::marker::Model;
 
 /// Where the printing stands in a section name. It is seen as the answers of the inner text at hand, and the pieces that

@@ -16,7 +16,7 @@ use Rattle.cw_table.specs.NormalWalk.{positions}
 use Rattle.cw_table.specs.WalkCounts.{looks}
 use Rattle.cw_table.specs.Productions.{productions}
 use Rattle.cw_reduce.specs.Counting.{scraps_in, productions_in, logs_in}
-use Rattle.cw_reduce.specs.NameParts.{parts_from, parts_of_name}
+use Rattle.cw_reduce.specs.NameParts.{parts_of_name}
 use Rattle.cw_reduce.specs.Translating.{Ended, translated, unnamed}
 use Rattle.cw_reduce.specs.Visible.{shown as shown_numbers}
 
@@ -190,15 +190,6 @@ unfolding translated normal log count positions looks productions
 head_struck = refl
 
 -- The parts of names.
-operator_parts : parts_from (codes "a|b||c|d|e") 0 0 ≡ record { start = 2; end = 6 } ∷ []
-operator_parts = refl
-
-empty_part : parts_from (codes "a||b") 0 0 ≡ record { start = 2; end = 2 } ∷ []
-empty_part = refl
-
-open_part : parts_from (codes "a|b|c|||d") 0 0 ≡ record { start = 2; end = 3 } ∷ []
-open_part = refl
-
 abbrev by_text : ℕ → Option (List (List Answer))
 by_text number = elim (eqb number 3) [ true ↦ Some (parts_of_name (codes "A |x| b |y=1| c")) | false ↦ None ]
 

@@ -1,35 +1,52 @@
--- The parts of a name's text that stand between bars.
-use Rattle.std.specs.Prelude.{ℕ, zero, suc, ◌+◌, Bool, true, false, ◌==◌, List, [], ◌∷◌, Option, Some, None}
+-- The parts of a name's text that stand between bars: its inner texts.
+use Rattle.std.specs.Prelude.{◌≡◌, ℕ, zero, suc, ◌+◌, ◌<◌, ◌≤◌, Bool, true, false, ◌==◌, List, [], ◌∷◌, Option, Some, None, drop, length, option_map, if◌then◌else◌}
 use Rattle.cw_base.specs.declared.span.Span.{Span}
 
-abbrev pub more : ℕ → Option ℕ → Option ℕ
-more n None = None
-more n (Some size) = Some (n + size)
+abbrev pub bar : ℕ
+bar = 124
 
--- How many bytes a part has that begins here: up to the next single bar. Two bars together are an operator in it.
-abbrev pub part_size : List ℕ → Option ℕ
-part_size [] = None
-part_size (byte ∷ []) = elim (byte == 124) [ true ↦ Some 0 | false ↦ None ]
-part_size (byte ∷ next ∷ bytes) =
-    elim (byte == 124) [
-      | true ↦ elim (next == 124) [ true ↦ more 2 (part_size bytes) | false ↦ Some 0 ]
-      | false ↦ more 1 (part_size (next ∷ bytes))
-    ]
+abbrev pub begins_with_bar : List ℕ → Bool
+begins_with_bar [] = false
+begins_with_bar (byte ∷ bytes) = byte == bar
 
--- The spans of all parts, without their bars, where the first bytes belong to the part before. A bar opens a part; one
--- that opens a part without an end is a byte, and so is all behind it.
-abbrev pub part_at : Option ℕ → ℕ → (ℕ → List Span) → List Span
-part_at None place rest = []
-part_at (Some size) place rest = record { start = place; «end» = place + size } ∷ rest (size + 1)
+-- How many bytes stand before the bar that ends a part. Two bars together are an operator in it.
+abbrev pub one_more : Option ℕ → Option ℕ
+one_more size = option_map (λ n. n + 1) size
+
+abbrev pub size_to_bar : Bool → List ℕ → Option ℕ
+size_to_bar second [] = None
+size_to_bar true (byte ∷ bytes) = one_more (size_to_bar false bytes)
+size_to_bar false (byte ∷ bytes) =
+    if byte == bar then (if begins_with_bar bytes then one_more (size_to_bar true bytes) else Some 0)
+    else one_more (size_to_bar false bytes)
+
+-- The spans of the parts, without their bars, where the first bytes belong to the part before. A bar opens a part; one
+-- that no bar answers is a byte, and so is all behind it.
+abbrev pub part_here : Option ℕ → ℕ → (ℕ → List Span) → List Span
+part_here None place rest = []
+part_here (Some size) place rest = record { start = place; «end» = place + size } ∷ rest (size + 1)
 
 abbrev pub parts_from : List ℕ → ℕ → ℕ → List Span
 parts_from [] place taken = []
 parts_from (byte ∷ bytes) place (suc taken) = parts_from bytes (place + 1) taken
 parts_from (byte ∷ bytes) place zero =
-    elim (byte == 124) [
-      | true ↦ part_at (part_size bytes) (place + 1) (λ taken. parts_from bytes (place + 1) taken)
-      | false ↦ parts_from bytes (place + 1) 0
-    ]
+    if byte == bar then part_here (size_to_bar false bytes) (place + 1) (parts_from bytes (place + 1)) else parts_from bytes (place + 1) 0
 
 abbrev pub inner_parts : List ℕ → List Span
 inner_parts text = parts_from text 0 0
+
+-- ## One part after another
+
+-- the place of the bar that ends a part which begins here
+abbrev pub end_of_part : List ℕ → ℕ → Option ℕ
+end_of_part text place = option_map (λ size. place + size) (size_to_bar false (drop place text))
+
+abbrev pub parts_at : List ℕ → ℕ → List Span
+parts_at text place = parts_from (drop place text) place 0
+
+-- The parts from a place on: this one and those behind its bar.
+pub record IsNextPart (text : List ℕ) (place : ℕ) (span : Span) : Type 0 where
+  pub parts : parts_at text place ≡ span ∷ parts_at text (span.«end» + 1)
+  pub begins : place < span.start
+  pub order : span.start ≤ span.«end»
+  pub within : span.«end» < length text

@@ -3,10 +3,12 @@
 
 mod kinds;
 mod name_uses;
+mod parts;
 mod sec_names;
 
 pub use kinds::{Earliest, Entered, RefKind, SecId, SecKind};
 pub use name_uses::NameUses;
+pub use parts::next_part;
 pub use sec_names::SecNames;
 
 #[cfg(test)]

@@ -1,5 +1,6 @@
 //! Worked names, by calls.
-use crate::{Entered, NameUses, RefKind, SecId, SecKind, SecNames};
+use crate::{Entered, NameUses, RefKind, SecId, SecKind, SecNames, next_part};
+use cw_base::Span;
 use std::test::Fail;
 
 #[test]
@@ -63,5 +64,14 @@ fn a_name_is_found_at_its_place(rt: HostRuntime) -> Result<(), Fail> {
     assert_eq!(rt; uses.at(19), Some(first));
     assert_eq!(rt; uses.at(18), None);
     assert_eq!(rt; uses.at(20), None);
+    Ok(())
+}
+
+#[test]
+fn parts_stand_between_bars(rt: HostRuntime) -> Result<(), Fail> {
+    let text = b"Do |x+|y||z| it";
+    assert_eq!(rt; next_part(text, 0), Some(Span { start: 4, end: 6 }));
+    assert_eq!(rt; next_part(text, 7), Some(Span { start: 9, end: 9 }));
+    assert_eq!(rt; next_part(text, 10), None);
     Ok(())
 }

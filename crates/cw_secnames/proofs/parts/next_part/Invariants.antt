@@ -1,6 +1,6 @@
 use Rattle.std.proofs.Common.{◌≡◌, ◌≤◌, ◌-◌, length}
-use Rattle.cw_print.specs.PartsAhead.{parts_at}
-use Rattle.cw_print.proofs.name_parts.next_part.Given as goal
+use Rattle.cw_secnames.specs.Parts.{parts_at}
+use Rattle.cw_secnames.proofs.parts.next_part.Given as goal
 
 abbrev pub invariant-loop-place : goal.invariant-loop-place
 invariant-loop-place l = (parts_at l.text l.place ≡ parts_at l.text l.from) × (l.from ≤ l.place) × (l.place ≤ length l.text)

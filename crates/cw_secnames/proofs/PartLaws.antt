@@ -2,8 +2,7 @@
 use Rattle.std.proofs.Common.{◌≡◌, ℕ, zero, suc, ◌+◌, ◌<◌, ◌≤◌, false, List, [], ◌∷◌, Option, Some, None, ap, sym, ◌∙◌, refl, arith, drop, length, get_or, option_map, drop-cons, add-one, add-zero}
 use Rattle.std.proofs.lemmas.List.{drop-drop}
 use Rattle.cw_base.specs.declared.span.Span.{Span}
-use Rattle.cw_reduce.specs.NameParts.{parts_from, part_here, size_to_bar}
-use Rattle.cw_print.specs.PartsAhead.{end_of_part, parts_at, IsNextPart}
+use Rattle.cw_secnames.specs.Parts.{end_of_part, part_here, parts_at, parts_from, size_to_bar, IsNextPart}
 
 -- Bytes that belong to the part before are passed.
 parts_from-taken : (bytes : List ℕ) (place taken : ℕ) → parts_from bytes place taken ≡ parts_from (drop taken bytes) (place + taken) 0

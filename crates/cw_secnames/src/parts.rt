@@ -1,6 +1,6 @@
-//! The parts of a section name that stand between bars.
+//! The parts of a section name that stand between bars: its inner texts.
 ghost use Rattle.std.specs.Prelude.{◌≡◌, [], ◌≤◌, ◌<◌, ◌+◌, length, slice_index, IfSome, IfNone};
-ghost use Rattle.cw_print.specs.PartsAhead.{end_of_part, parts_at, IsNextPart};
+ghost use Rattle.cw_secnames.specs.Parts.{end_of_part, parts_at, IsNextPart};
 
 use cw_base::Span;
 
@@ -24,8 +24,9 @@ fn end_of_part(text: &[u8], from: usize) -> Option<usize>
     None
 }
 
-/// The next part of a name's text from a place on, without its bars.
-pub(crate) fn next_part(text: &[u8], from: usize) -> Option<Span>
+/// The next part of a name's text from a place on, without its bars: a bar opens it, and the next single bar ends it.
+/// Behind that bar the text goes on. None comes where no part is left.
+pub fn next_part(text: &[u8], from: usize) -> Option<Span>
     requires { from ≤ length text.now }
     ensures some { IfSome result (λ span. IsNextPart text.now from span) }
     ensures none { IfNone result (parts_at text.now from ≡ []) }

@@ -1,6 +1,6 @@
 use Rattle.std.proofs.Common.{◌≡◌, ◌≤◌, ◌-◌, length}
-use Rattle.cw_print.specs.PartsAhead.{end_of_part}
-use Rattle.cw_print.proofs.name_parts.end_of_part.Given as goal
+use Rattle.cw_secnames.specs.Parts.{end_of_part}
+use Rattle.cw_secnames.proofs.parts.end_of_part.Given as goal
 
 abbrev pub invariant-loop-place : goal.invariant-loop-place
 invariant-loop-place l =

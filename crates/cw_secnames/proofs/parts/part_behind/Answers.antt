@@ -1,5 +1,5 @@
-use Rattle.cw_print.proofs.PartLaws.{next-part}
-use Rattle.cw_print.proofs.name_parts.part_behind.Goals as goal
+use Rattle.cw_secnames.proofs.PartLaws.{next-part}
+use Rattle.cw_secnames.proofs.parts.part_behind.Goals as goal
 
 pub returns-in-Some-clause-some : goal.returns-in-Some-clause-some
 returns-in-Some-clause-some c =
