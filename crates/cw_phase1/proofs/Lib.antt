@@ -7,3 +7,6 @@ pub mod Outlines
 pub mod WordLaws
 pub mod Underway
 pub mod Referred
+pub mod RoleLaws
+pub mod SpanLaws
+pub mod NameSizes

@@ -42,7 +42,7 @@ free-step (kinds.Code at.FileName) None headed s h = absurd (let wrong : true �
 free-step (kinds.Code code) None headed s h = refl
 free-step kind None headed s h = refl
 
-name-free : (kind : TokKind) (headed : Bool) (s : Standing) (span : Span) → is_name kind ≡ true
+pub name-free : (kind : TokKind) (headed : Bool) (s : Standing) (span : Span) → is_name kind ≡ true
     → token_step kind headed s span ≡ name_step headed (behind_begin s)
 name-free (kinds.Code at.SectionName) headed s span h = refl
 name-free (kinds.Code at.FileName) headed s span h = refl
@@ -56,7 +56,7 @@ void-by (kinds.Code at.FileName) text h = absurd (let wrong : true ≡ false = h
 void-by (kinds.Code code) text h = refl
 void-by kind text h = refl
 
-enters-nothing : (t : Seen) (kept : List SecName) → is_name t.kind ≡ false → enters t kept ≡ None
+pub enters-nothing : (t : Seen) (kept : List SecName) → is_name t.kind ≡ false → enters t kept ≡ None
 enters-nothing t kept h = ap (λ n. entering n kept) (void-by t.kind (name_text t.text) h)
 
 told-append : (lines : List MergedLine) (ps qs : List Placed) (t : Told) → told_all lines (ps ++ qs) t ≡ told_all lines qs (told_all lines ps t)

@@ -162,3 +162,61 @@ the_order_of_notes : shown (web ((codes "@ @<Read@>=") ∷ (codes "@c @<Read @^b
   notes = note notes.CodeInCText 0 0 2 ∷ note notes.NameUnended 0 0 2 ∷ note notes.NameConflict 0 0 2 ∷ note notes.CodeInName 0 0 2 ∷ note notes.NameEmpty 0 0 3 ∷ note notes.NameIncomplete 1 0 0 ∷ note notes.NeverDefined 2 0 0 ∷ [];
 }
 the_order_of_notes = refl
+
+-- ## An ignored name, an underline that waits, and the order of format definitions
+
+an_ignored_name_at_the_head : shown (web ((codes "@ @<") ∷ (codes "...@>=x;") ∷ [])) ≡ record {
+  limbo = span 0 0;
+  sections = section false Zero (span 2 2) (span 2 2) (span 2 14) None false ∷ [];
+  names = entry Ident (codes "x") Exp ∷ [];
+  occurrences = occ 45 1 false ∷ [];
+  section_names = [];
+  name_uses = [];
+  notes = note notes.NameEmpty 0 0 1 ∷ [];
+}
+an_ignored_name_at_the_head = refl
+
+an_underline_waits : (book (web ((codes "@ @!@<Read@>") ∷ (codes "@ @c x;x;") ∷ []))).occurrences ≡ occ 45 2 true ∷ occ 45 2 false ∷ []
+an_underline_waits = refl
+
+formats_in_order : (shown (web ((codes "@ @f a b") ∷ (codes "@f b int") ∷ (codes "@f c b") ∷ (codes "@f d 1 int") ∷ []))).names
+    ≡ entry Ident (codes "a") Exp ∷ entry Ident (codes "b") RawInt ∷ entry Ident (codes "c") RawInt ∷ entry Ident (codes "d") Exp ∷ []
+formats_in_order = refl
+
+-- ## Notes one by one, with their places
+
+abbrev notes_in : List (List ℕ) → List Note
+notes_in texts = (book (web texts)).notes
+
+a_code_in_a_name : notes_in ((codes "@ @<Read") ∷ (codes "all @^of it@>= x;") ∷ (codes "@ @c @<Read all of it@>;") ∷ [])
+    ≡ note notes.CodeInName 0 0 2 ∷ []
+a_code_in_a_name = refl
+
+a_code_in_an_ambiguous_name :
+    notes_in ((codes "@ @<Read a@>= x;") ∷ (codes "@ @<Read b@>= y;") ∷ (codes "@ @c @<Read a@>; @<Read b@>; @<Read") ∷ (codes "@^ ...@>;") ∷ [])
+    ≡ note notes.AmbiguousPrefix 0 0 3 ∷ note notes.CodeInName 0 0 4 ∷ []
+a_code_in_an_ambiguous_name = refl
+
+a_name_that_a_section_ends :
+    notes_in ((codes "@ @<Read a@>= x;") ∷ (codes "@ @<Read b@>= y;") ∷ (codes "@ @c @<Read a@>; @<Read b@>;") ∷ (codes "@<Re@^ad...") ∷ (codes "@ @<Read a@>.") ∷ [])
+    ≡ note notes.NameUnended 0 0 4 ∷ note notes.AmbiguousPrefix 0 0 4 ∷ note notes.CodeInName 0 0 4 ∷ []
+a_name_that_a_section_ends = refl
+
+improper_heads : notes_in ((codes "@ @d") ∷ (codes "1") ∷ (codes "@f a") ∷ (codes "1") ∷ (codes "@s") ∷ (codes "b 2") ∷ [])
+    ≡ note notes.ImproperMacro 0 0 1 ∷ note notes.ImproperFormat 0 0 3 ∷ note notes.ImproperFormat 0 0 5 ∷ []
+improper_heads = refl
+
+an_incomplete_name : notes_in ((codes "@ @c @<Re...@>;") ∷ []) ≡ note notes.NameIncomplete 0 0 0 ∷ []
+an_incomplete_name = refl
+
+an_undefined_name : notes_in ((codes "@ @c @<Read@>;") ∷ []) ≡ note notes.NeverDefined 0 0 0 ∷ []
+an_undefined_name = refl
+
+an_unused_name : notes_in ((codes "@ @<Read@>= x;") ∷ []) ≡ note notes.NeverUsed 0 0 0 ∷ []
+an_unused_name = refl
+
+a_cited_name : notes_in ((codes "@ See @<Read@>.") ∷ []) ≡ note notes.NeverDefined 0 0 0 ∷ note notes.NeverUsed 0 0 0 ∷ []
+a_cited_name = refl
+
+a_file : notes_in ((codes "@ @(a.c@>= x;") ∷ []) ≡ []
+a_file = refl

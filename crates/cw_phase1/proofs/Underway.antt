@@ -83,12 +83,12 @@ told-known p w h = role-known p.role p.token.text (known_of w) h
 
 -- ## Names in the web
 
-before-use : (name : Option SecId) (place n : ℕ) (uses : List NameUse) → place < n → AreBefore n uses → AreBefore n (uses ++ use_by name place)
+pub before-use : (name : Option SecId) (place n : ℕ) (uses : List NameUse) → place < n → AreBefore n uses → AreBefore n (uses ++ use_by name place)
 before-use None place n uses h b = All-append (λ (u : NameUse). u.place < n) uses [] b (All-nil (λ (u : NameUse). u.place < n))
 before-use (Some id) place n uses h b =
     All-append (λ (u : NameUse). u.place < n) uses _ b (All-cons (λ (u : NameUse). u.place < n) _ [] h (All-nil (λ (u : NameUse). u.place < n)))
 
-before-more : (m n : ℕ) (uses : List NameUse) → m ≤ n → AreBefore m uses → AreBefore n uses
+pub before-more : (m n : ℕ) (uses : List NameUse) → m ≤ n → AreBefore m uses → AreBefore n uses
 before-more m n uses h b = All-weaker (λ (u : NameUse). u.place < m) (λ (u : NameUse). u.place < n) (λ u l. omega arith) uses b
 
 abbrev AreOf : ℕ → List Reference → Type 0
@@ -299,7 +299,7 @@ ready-settles from h r = record { known = r.known; waits = can-settle-by h.pass.
 
 -- ## While the answers come
 
-covers-end : (text : List ℕ) (from end : ℕ) (answers : List Answer) → Covers text from end answers → from ≤ end
+pub covers-end : (text : List ℕ) (from end : ℕ) (answers : List Answer) → Covers text from end answers → from ≤ end
 covers-end text from end [] c = c.0
 covers-end text from end (Token t ∷ answers) c = omega (arith, c.0.order, c.1, covers-end text t.span.end end answers c.2)
 covers-end text from end (Begin t ∷ answers) c = omega (arith, c.0.order, c.0.span, covers-end text t.span.end end answers c.1)
@@ -327,7 +327,7 @@ start lines text all h e c l = record {
   ready = subst (IsReady 0) (sym e) (record { section = omega arith; known = tt; waits = All-nil (λ (u : NameUse). u.place < 0); ids = All-nil (λ (r : Reference). r.name < 0); total = omega arith; id = tt; few = omega arith });
 }
 
-text-length : (text : List ℕ) (a b : ℕ) → length (slice_range text a b) ≤ b - a
+pub text-length : (text : List ℕ) (a b : ℕ) → length (slice_range text a b) ≤ b - a
 text-length text a b = omega (arith, length-take (b - a) (drop a text))
 
 pub is-token : (lines : List MergedLine) (text : List ℕ) (all : List Answer) (h : HeldState) (t : Seen) (rest : List Answer)
@@ -405,8 +405,8 @@ last-remark lines None = refl
 last-remark lines (Some note) = append-nil (scanned_note lines note)
 
 pub scanned : (lines : List MergedLine) (text : List ℕ) (all : List Answer) (h new : HeldState) → Underway lines text all h [] → new ≡ ended_held lines h
-    → text ≡ text_of lines → all ≡ tokens_of text 0 (length text) modes.Limbo → IsScanned lines new
-scanned lines text all h new u e same tokens =
+    → text ≡ text_of lines → all ≡ tokens_of text 0 (length text) modes.Limbo → Covers text 0 (length text) all → IsScanned lines new
+scanned lines text all h new u e same tokens covers =
     let whole : all ≡ answers_of lines = tokens ∙ ap (λ (bytes : List ℕ). tokens_of bytes 0 (length bytes) modes.Limbo) same in
     let q = ready-settled lines false u.from h u.ready in
     let from : u.from ≤ length text = covers-end text u.from (length text) [] u.covers in
@@ -417,6 +417,7 @@ scanned lines text all h new u e same tokens =
       ids = q.ids;
       total = omega (arith, q.total, q.section, u.limit);
       few = omega (arith, u.ready.few, u.limit);
+      covers = subst (Covers (text_of lines) 0 (length (text_of lines))) whole (subst (λ (bytes : List ℕ). Covers bytes 0 (length bytes) all) same covers);
     })
 
 pub waiting-kept : (w : Option WaitingToken) (count : ℕ) → WaitingIsKept w count → WaitingKept (waiting_of w) count

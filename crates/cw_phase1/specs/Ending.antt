@@ -1,6 +1,7 @@
 -- What the answers of a whole web leave.
 use Rattle.std.specs.Prelude.{◌≡◌, ℕ, ◌+◌, ◌<◌, ◌≤◌, List, [], ◌∷◌, Option, Some, None, All, length, slice_get}
-use Rattle.cw_base.specs.Web.{MergedLine}
+use Rattle.cw_base.specs.Web.{MergedLine, text_of}
+use Rattle.cw_lex.specs.Order.{Covers}
 use Rattle.cw_secnames.specs.Kept.{SecName}
 use Rattle.cw_secnames.specs.References.{Reference, with_reference}
 use Rattle.cw_phase1.specs.declared.sections.Open.{Open}
@@ -33,6 +34,7 @@ pub record IsScanned (lines : List MergedLine) (h : HeldState) : Type 0 where
   pub ids : AreOfKept h.kept h.told.named.references
   pub total : section_total h.told.sections ≤ 16777216
   pub few : length h.kept ≤ 16777216
+  pub covers : Covers (text_of lines) 0 (length (text_of lines)) (answers_of lines)
 
 -- The kept names with references, added one by one.
 abbrev pub with_references : List Reference → List SecName → List SecName

@@ -16,3 +16,4 @@ pub mod Holding
 pub mod Ready
 pub mod Ending
 pub mod Outline
+pub mod Sound

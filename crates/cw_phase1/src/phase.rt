@@ -1,5 +1,5 @@
 //! The first phase.
-ghost use Rattle.std.specs.Prelude.{◌≡◌, ◌<◌, ◌≤◌, ◌++◌, length, IfOk, OnOk};
+ghost use Rattle.std.specs.Prelude.{◌≡◌, ◌<◌, ◌≤◌, ◌++◌, All, length, IfOk, IfSome, OnOk};
 ghost use Rattle.cw_base.specs.Web.{text_of};
 ghost use Rattle.cw_phase1.specs.Book.{book};
 ghost use Rattle.cw_phase1.specs.Ending.{AreOfKept, IsScanned, notes_at, section_total, with_references};
@@ -7,6 +7,7 @@ ghost use Rattle.cw_phase1.specs.Holding.{held_of};
 ghost use Rattle.cw_phase1.specs.Notes.{name_note as noted_name, name_notes};
 ghost use Rattle.cw_phase1.specs.Outlining.{closing, or_else};
 ghost use Rattle.cw_phase1.specs.Sections.{span};
+ghost use Rattle.cw_phase1.specs.Sound.{IsNamedBy, LiesIn, RefersUpTo};
 
 use crate::book::{Book, Outline};
 use crate::held::Held;
@@ -29,6 +30,14 @@ pub fn phase_one(alloc: Global, web: &Web) -> Result<Book, Memory>
     ensures limbo { IfOk result (λ b. b.outline.limbo ≡ (book web.now.lines).limbo) }
     ensures sections { IfOk result (λ b. b.outline.sections ≡ (book web.now.lines).sections) }
     ensures notes { IfOk result (λ b. b.outline.notes ≡ (book web.now.lines).notes) }
+    ensures references { IfOk result (λ b. All (RefersUpTo (length b.outline.sections)) b.sec_names) }
+    ensures texts { IfOk result (λ b. All (λ n. length n.text ≤ length (text_of web.now.lines)) b.sec_names) }
+    ensures use_ids { IfOk result (λ b. All (λ u. u.name < length b.sec_names) b.name_uses) }
+    ensures section_names { IfOk result (λ b. All (IsNamedBy b.name_uses) b.outline.sections) }
+    ensures section_ids { IfOk result
+        (λ b. All (λ s. IfSome s.name (λ id. id.index < length b.sec_names)) b.outline.sections) }
+    ensures spans { IfOk result (λ b. All (LiesIn (length (text_of web.now.lines))) b.outline.sections) }
+    ensures limbo_span { IfOk result (λ b. b.outline.limbo.«end» ≤ length (text_of web.now.lines)) }
 {
     let held = scan(alloc, web)?;
     let book = make_book(web, held)?;
@@ -124,6 +133,7 @@ fn make_book(web: &Web, held: Held) -> Result<Book, Memory>
     ensures xrefs { IfOk result (λ b. b.xrefs ≡ held.entry.told.words.xrefs) }
     ensures sec_names { IfOk result
         (λ b. b.sec_names ≡ with_references held.entry.told.named.references held.entry.kept) }
+    ensures count { IfOk result (λ b. length b.sec_names ≡ length held.entry.kept) }
     ensures name_uses { IfOk result (λ b. b.name_uses ≡ held.entry.told.named.uses) }
     ensures limbo { IfOk result
         (λ b. b.outline.limbo ≡ span 0 (or_else held.entry.told.sections.limbo_end (length (text_of web.now.lines)))) }

@@ -1,6 +1,6 @@
 //! The first phase of worked webs, by calls.
 use crate::phase_one;
-use cw_base::{Memory, NoteKind, Place, Web};
+use cw_base::{Memory, NoteKind, Place, Span, Web};
 use cw_secnames::SecId;
 use std::alloc::Global;
 use std::test::Fail;
@@ -44,6 +44,12 @@ fn a_prefix_of_two_names(rt: HostRuntime) -> Result<(), Fail> {
     let book = phase_one(rt.alloc(), &web)?;
     let (first, next) = (SecId { index: 0 }, SecId { index: 1 });
     assert_eq!(rt; book.section_count(), 3);
+    assert_eq!(rt; book.limbo().end, 0);
+    if book.section_count() > 1 {
+        let second = book.section(2);
+        assert_eq!(rt; second.name, Some(next));
+        assert_eq!(rt; second.c_part, Span { start: 19, end: 34 });
+    }
     assert_eq!(rt; book.sec_names.len(), 2);
     assert_eq!(rt; book.name_uses.at(2), Some(first));
     assert_eq!(rt; book.name_uses.at(19), Some(next));

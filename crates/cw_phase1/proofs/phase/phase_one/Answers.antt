@@ -1,18 +1,28 @@
 -- The book of what is held when all answers came is that of the whole list of answers.
-use Rattle.std.proofs.Common.{◌≡◌, ◌∙◌, ap, ◌++◌, [], length}
+use Rattle.std.proofs.Common.{◌≡◌, ◌<◌, ◌≤◌, ◌∙◌, ap, sym, subst, ◌++◌, List, [], All, length, refl}
 use Rattle.cw_base.specs.Web.{text_of}
+use Rattle.cw_base.specs.declared.span.Span.{Span}
+use Rattle.std.proofs.lemmas.List.Elements.{All-nil}
+use Rattle.cw_secnames.specs.Kept.{SecName}
+use Rattle.cw_secnames.specs.References.{Reference}
+use Rattle.cw_secnames.specs.Uses.{NameUse}
+use Rattle.cw_phase1.specs.declared.sections.Section.{Section}
 use Rattle.cw_phase1.specs.Book.{answers_of}
 use Rattle.cw_phase1.specs.Notes.{name_notes}
 use Rattle.cw_phase1.specs.Entering.{kept_after}
-use Rattle.cw_phase1.specs.Roles.{placed}
-use Rattle.cw_phase1.specs.Sections.{span}
+use Rattle.cw_phase1.specs.Roles.{Placed, at_limbo, placed}
+use Rattle.cw_phase1.specs.Sections.{span, sections_of}
+use Rattle.cw_phase1.specs.Sound.{IsNamedBy, LiesIn, RefersUpTo}
 use Rattle.cw_phase1.specs.Outlining.{closing, or_else}
 use Rattle.cw_phase1.specs.Ending.{with_references}
-use Rattle.cw_phase1.specs.Uses.{references_of, section_names}
+use Rattle.cw_phase1.specs.Uses.{references_of, section_names, uses_of}
 use Rattle.cw_phase1.specs.declared.told.Told.{Told}
 use Rattle.cw_phase1.proofs.Outlines.{all-sections, all-limbo}
 use Rattle.cw_phase1.proofs.WordLaws.{all-names, all-occurrences, all-uses, all-references}
 use Rattle.cw_phase1.proofs.Referred.{all-referred}
+use Rattle.cw_phase1.proofs.RoleLaws.{fits, numbered, all-refer, uses-below}
+use Rattle.cw_phase1.proofs.SpanLaws.{Follow, follows, all-lie, all-named, limbo-lies, named-below}
+use Rattle.cw_phase1.proofs.NameSizes.{all-short}
 use Rattle.cw_phase1.proofs.phase.phase_one.Goals as goal
 
 pub returns-clause-names : goal.returns-clause-names
@@ -48,3 +58,58 @@ returns-clause-sections c =
 
 pub returns-clause-notes : goal.returns-clause-notes
 returns-clause-notes c = c.in_ok-book.ensures.notes ∙ (λ i. c.in_ok-held.ensures.notes i ++ name_notes (kept c i))
+
+-- ## What holds of every book
+
+abbrev tokens : goal.In_ok-book → List Placed
+tokens c = placed (answers_of c.args.web.now.lines)
+
+follow : (c : goal.In_ok-book) → Follow 0 (length (text_of c.args.web.now.lines)) (tokens c)
+follow c = follows (text_of c.args.web.now.lines) 0 (length (text_of c.args.web.now.lines)) at_limbo [] (answers_of c.args.web.now.lines) c.in_ok-held.ensures.covers
+
+pub returns-clause-references : goal.returns-clause-references
+returns-clause-references c =
+    subst (λ (sections : List Section). All (RefersUpTo (length sections)) c.in_ok-book.book.sec_names) (sym (returns-clause-sections c))
+    (subst (All (RefersUpTo (length (sections_of c.args.web.now.lines (length (text_of c.args.web.now.lines)) (tokens c))))) (sym (returns-clause-sec_names c))
+    (all-refer c.args.web.now.lines (length (text_of c.args.web.now.lines)) (kept_after [] (answers_of c.args.web.now.lines)) (tokens c)
+    (numbered at_limbo [] (answers_of c.args.web.now.lines))))
+
+uses : (c : goal.In_ok-book) → All (λ (u : NameUse). u.name < length c.in_ok-held.held.kept) (uses_of (tokens c))
+uses c =
+    uses-below (length c.in_ok-held.held.kept) (tokens c) (fits at_limbo [] (answers_of c.args.web.now.lines))
+    (subst (λ (references : List Reference). All (λ r. r.name < length c.in_ok-held.held.kept) references)
+    (ap (λ (t : Told). t.named.references) c.in_ok-held.ensures.told ∙ all-references c.args.web.now.lines (tokens c)) c.in_ok-held.ensures.ids)
+
+pub returns-clause-use_ids : goal.returns-clause-use_ids
+returns-clause-use_ids c =
+    subst (λ n. All (λ (u : NameUse). u.name < n) c.in_ok-book.book.name_uses) (sym c.in_ok-book.ensures.count)
+    (subst (λ (us : List NameUse). All (λ (u : NameUse). u.name < length c.in_ok-held.held.kept) us) (sym (returns-clause-name_uses c)) (uses c))
+
+pub returns-clause-section_names : goal.returns-clause-section_names
+returns-clause-section_names c =
+    subst (λ (sections : List Section). All (IsNamedBy c.in_ok-book.book.name_uses) sections) (sym (returns-clause-sections c))
+    (subst (λ (us : List NameUse). All (IsNamedBy us) (sections_of c.args.web.now.lines (length (text_of c.args.web.now.lines)) (tokens c)))
+    (sym (returns-clause-name_uses c))
+    (all-named c.args.web.now.lines [] 0 (length (text_of c.args.web.now.lines)) (tokens c) (All-nil (λ (u : NameUse). u.place < 0)) (follow c)
+    (fits at_limbo [] (answers_of c.args.web.now.lines))))
+
+pub returns-clause-section_ids : goal.returns-clause-section_ids
+returns-clause-section_ids c =
+    named-below (length c.in_ok-book.book.sec_names) c.in_ok-book.book.name_uses c.in_ok-book.book.outline.sections
+    (returns-clause-use_ids c) (returns-clause-section_names c)
+
+pub returns-clause-spans : goal.returns-clause-spans
+returns-clause-spans c =
+    subst (λ (sections : List Section). All (LiesIn (length (text_of c.args.web.now.lines))) sections) (sym (returns-clause-sections c))
+    (all-lie c.args.web.now.lines 0 (length (text_of c.args.web.now.lines)) (tokens c) (follow c))
+
+pub returns-clause-limbo_span : goal.returns-clause-limbo_span
+returns-clause-limbo_span c =
+    subst (λ (limbo : Span). limbo.«end» ≤ length (text_of c.args.web.now.lines)) (sym (returns-clause-limbo c))
+    (limbo-lies 0 (length (text_of c.args.web.now.lines)) (tokens c) (follow c))
+
+pub returns-clause-texts : goal.returns-clause-texts
+returns-clause-texts c =
+    subst (λ (names : List SecName). All (λ (n : SecName). length n.text ≤ length (text_of c.args.web.now.lines)) names) (sym (returns-clause-sec_names c))
+    (all-short (text_of c.args.web.now.lines) (answers_of c.args.web.now.lines) (references_of (tokens c))
+    c.in_ok-held.ensures.covers)

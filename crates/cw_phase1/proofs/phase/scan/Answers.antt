@@ -64,3 +64,4 @@ returns c =
     scanned c.args.web.now.lines (text_of c.args.web.now.lines) c.over-lexer.result (held_of c.answers.held) (held_of c.finish-2.new.self)
     (subst (Underway c.args.web.now.lines _ _ (held_of c.answers.held)) c.in-End.ensures.0 c.answers.invariant) c.in_ok-finish.ensures refl
     (c.over-lexer.ensures.tokens ∙ ap (λ (text : List ℕ). tokens_of text 0 (length text) modes.Limbo) c.text-text.ensures.lines)
+    (subst (λ (text : List ℕ). Covers text 0 (length text) c.over-lexer.result) c.text-text.ensures.lines c.over-lexer.ensures.covers)

@@ -1,0 +1,248 @@
+-- Which tokens have names, and which section each stands in.
+use Rattle.std.proofs.Common.{◌≡◌, ℕ, zero, suc, ◌+◌, ◌<◌, ◌≤◌, ◌==◌, ◌&&◌, Bool, true, false, List, [], ◌∷◌, ◌++◌, Option, Some, None, All, map, length, refl, ap, sym, subst, ◌∙◌, add-zero, zero-add, arith}
+use Rattle.std.specs.List.{filter}
+use Rattle.std.proofs.lemmas.List.Elements.{All-nil, All-cons}
+use Rattle.cw_base.specs.Web.{MergedLine}
+use Rattle.cw_base.specs.declared.span.Span.{Span}
+use Rattle.cw_lex.specs.declared.codes.Code.{Code}
+use Rattle.cw_lex.specs.declared.codes.Code.TheVariants as at
+use Rattle.cw_lex.specs.declared.heads.Wanted.{Wanted}
+use Rattle.cw_lex.specs.declared.heads.Wanted.TheVariants as wants
+use Rattle.cw_lex.specs.declared.tokens.TokKind.{TokKind}
+use Rattle.cw_lex.specs.declared.tokens.TokKind.TheVariants as kinds
+use Rattle.cw_lex.specs.Answers.{Seen, Answer, Token, Begin, Finish, Note}
+use Rattle.cw_lex.specs.Heads.{has_sign, head_behind}
+use Rattle.cw_secnames.specs.declared.kinds.RefKind.{RefKind}
+use Rattle.cw_secnames.specs.declared.kinds.RefKind.TheVariants.{Defined, Used, Cited}
+use Rattle.cw_secnames.specs.declared.kinds.SecId.{SecId}
+use Rattle.cw_secnames.specs.Kept.{SecName}
+use Rattle.cw_secnames.specs.References.{Reference, once, is_of, referred}
+use Rattle.cw_secnames.specs.Uses.{NameUse}
+use Rattle.cw_phase1.specs.declared.roles.Role.{Role}
+use Rattle.cw_phase1.specs.declared.roles.Role.TheVariants as roles
+use Rattle.cw_phase1.specs.declared.roles.Standing.{Standing}
+use Rattle.cw_phase1.specs.declared.sections.Section.{Section}
+use Rattle.cw_phase1.specs.Entering.{entered_name, kept_behind, name_of_entering}
+use Rattle.cw_phase1.specs.Holding.{is_name}
+use Rattle.cw_phase1.specs.Roles.{Placed, Step, name_step, code_step, free_step, token_step, token_step_by, word_role, head_role, behind_begin, placed_by, placed_from}
+use Rattle.cw_phase1.specs.Sections.{is_section_code, section_at, sections_of}
+use Rattle.cw_phase1.specs.Sound.{Ascend, RefersUpTo}
+use Rattle.cw_phase1.specs.Uses.{use_by, uses_of, reference_by, references_of}
+use Rattle.cw_phase1.proofs.Passing.{name-free, enters-nothing}
+
+-- ## Names
+
+abbrev pub is_name_role : Role → Bool
+is_name_role (roles.Name how) = true
+is_name_role role = false
+
+-- Only section names have a name.
+pub record IsFit (p : Placed) : Type 0 where
+  pub code : is_section_code p.role ≡ true → p.name ≡ None
+  pub plain : is_name_role p.role ≡ false → p.name ≡ None
+
+abbrev pub AreFit : List Placed → Type 0
+AreFit [] = Unit {0}
+AreFit (p ∷ ps) = IsFit p × AreFit ps
+
+name-fits : (headed : Bool) (t : Seen) (name : Option SecId) (s : Standing) → IsFit (placed_by t name (name_step headed s))
+name-fits true t name s = record {
+  code = λ h. absurd (let wrong : false ≡ true = h in cc);
+  plain = λ h. absurd (let wrong : true ≡ false = h in cc);
+}
+name-fits false t name s = record {
+  code = λ h. absurd (let wrong : false ≡ true = h in cc);
+  plain = λ h. absurd (let wrong : true ≡ false = h in cc);
+}
+
+fits-by : (b : Bool) (t : Seen) (kept : List SecName) (headed : Bool) (s : Standing) → is_name t.kind ≡ b
+    → IsFit (placed_by t (entered_name t kept) (token_step t.kind headed s t.span))
+fits-by true t kept headed s e =
+    subst (λ (step : Step). IsFit (placed_by t (entered_name t kept) step)) (sym (name-free t.kind headed s t.span e))
+    (name-fits headed t (entered_name t kept) (behind_begin s))
+fits-by false t kept headed s e = record {
+  code = λ h. ap name_of_entering (enters-nothing t kept e);
+  plain = λ h. ap name_of_entering (enters-nothing t kept e);
+}
+
+pub fits : (s : Standing) (kept : List SecName) (answers : List Answer) → AreFit (placed_from s kept answers)
+fits s kept [] = tt
+fits s kept (Token t ∷ answers) =
+    (fits-by (is_name t.kind) t kept (has_sign answers) s refl, fits (token_step t.kind (has_sign answers) s t.span).next (kept_behind t kept) answers)
+fits s kept (Begin t ∷ answers) = fits (behind_begin s) kept answers
+fits s kept (Finish t ∷ answers) = fits s kept answers
+fits s kept (Note kind place ∷ answers) = fits s kept answers
+
+-- All names in the web are kept, since all references are to kept names.
+abbrev IsUse : ℕ → NameUse → Type 0
+IsUse n u = u.name < n
+
+abbrev IsReference : ℕ → Reference → Type 0
+IsReference n r = r.name < n
+
+use-below : (role : Role) (name : Option SecId) (place section n : ℕ) (uses : List NameUse) (references : List Reference)
+    → (is_name_role role ≡ false → name ≡ None) → All (IsReference n) (reference_by role name section ++ references)
+    → (All (IsReference n) references → All (IsUse n) uses) → All (IsUse n) (use_by name place ++ uses)
+use-below (roles.Name how) None place section n uses references h a k = k a
+use-below (roles.Name how) (Some id) place section n uses references h a k =
+    All-cons (IsUse n) _ uses (a zero (record { name = id.index; how = how; section = section }) (omega arith)) (k (λ j d l. a (suc j) d (omega arith)))
+use-below role name place section n uses references h a k =
+    subst (λ (m : Option SecId). All (IsUse n) (use_by m place ++ uses)) (sym (h refl)) (k a)
+
+pub uses-below : (n : ℕ) (ps : List Placed) → AreFit ps → All (λ (r : Reference). r.name < n) (references_of ps) → All (λ (u : NameUse). u.name < n) (uses_of ps)
+uses-below n [] f a = All-nil (IsUse n)
+uses-below n (p ∷ ps) f a =
+    use-below p.role p.name p.token.span.start p.section n (uses_of ps) (references_of ps) f.0.plain a (uses-below n ps f.1)
+
+-- ## Sections
+
+abbrev count_by : Bool → ℕ
+count_by true = 1
+count_by false = 0
+
+-- The section of each token is that of the one before, or the next one where it is a section code.
+abbrev pub Numbered : ℕ → List Placed → Type 0
+Numbered m [] = Unit {0}
+Numbered m (p ∷ ps) = (p.section ≡ m + count_by (is_section_code p.role)) × Numbered p.section ps
+
+abbrev IsNumbered : ℕ → Step → Type 0
+IsNumbered m step = step.next.section ≡ m + count_by (is_section_code step.role)
+
+no-code-word : (wanted : Wanted) → is_section_code (word_role wanted) ≡ false
+no-code-word wants.Nothing = refl
+no-code-word wants.Macro = refl
+no-code-word (wants.Parenthesis place) = refl
+no-code-word wants.Parameters = refl
+no-code-word (wants.First silent) = refl
+no-code-word (wants.Second silent) = refl
+
+no-code-head : (wanted : Wanted) (kind : TokKind) → is_section_code (head_role wanted kind) ≡ false
+no-code-head wanted kinds.Identifier = no-code-word wanted
+no-code-head wanted kind = refl
+
+name-number : (headed : Bool) (s : Standing) → IsNumbered s.section (name_step headed s)
+name-number true s = sym (add-zero s.section)
+name-number false s = sym (add-zero s.section)
+
+code-number : (code : Code) (headed : Bool) (s : Standing) → IsNumbered s.section (code_step code headed s)
+code-number at.Section headed s = refl
+code-number at.StarredSection headed s = refl
+code-number at.Define headed s = sym (add-zero s.section)
+code-number at.Format headed s = sym (add-zero s.section)
+code-number at.SilentFormat headed s = sym (add-zero s.section)
+code-number at.Program headed s = sym (add-zero s.section)
+code-number at.SectionName headed s = name-number headed s
+code-number at.FileName headed s = name-number headed s
+code-number at.Roman headed s = sym (add-zero s.section)
+code-number at.Typewriter headed s = sym (add-zero s.section)
+code-number at.UserEntry headed s = sym (add-zero s.section)
+code-number at.Underline headed s = sym (add-zero s.section)
+code-number code headed s = sym (add-zero s.section)
+
+free-number : (kind : TokKind) (headed : Bool) (s : Standing) → IsNumbered s.section (free_step kind headed s)
+free-number kinds.Identifier headed s = sym (add-zero s.section)
+free-number (kinds.Code code) headed s = code-number code headed s
+free-number kind headed s = sym (add-zero s.section)
+
+step-number : (o : Option Wanted) (kind : TokKind) (headed : Bool) (s : Standing) → IsNumbered s.section (token_step_by o kind headed s)
+step-number None kind headed s = free-number kind headed (behind_begin s)
+step-number (Some next) kind headed s = sym (ap (λ (b : Bool). s.section + count_by b) (no-code-head s.wanted kind) ∙ add-zero s.section)
+
+pub numbered : (s : Standing) (kept : List SecName) (answers : List Answer) → Numbered s.section (placed_from s kept answers)
+numbered s kept [] = tt
+numbered s kept (Token t ∷ answers) = (
+  step-number (head_behind s.wanted t.kind t.span) t.kind (has_sign answers) s,
+  numbered (token_step t.kind (has_sign answers) s t.span).next (kept_behind t kept) answers,
+)
+numbered s kept (Begin t ∷ answers) = numbered (behind_begin s) kept answers
+numbered s kept (Finish t ∷ answers) = numbered s kept answers
+numbered s kept (Note kind place ∷ answers) = numbered s kept answers
+
+-- how many section codes there are
+abbrev codes : List Placed → ℕ
+codes [] = 0
+codes (p ∷ ps) = count_by (is_section_code p.role) + codes ps
+
+count-section : (b : Bool) (s : Section) (rest : List Section)
+    → length (elim b as (λ _. List Section) [ true ↦ s ∷ rest | false ↦ rest ]) ≡ count_by b + length rest
+count-section true s rest = omega arith
+count-section false s rest = sym (zero-add (length rest))
+
+section-count : (lines : List MergedLine) (size : ℕ) (ps : List Placed) → length (sections_of lines size ps) ≡ codes ps
+section-count lines size [] = refl
+section-count lines size (p ∷ ps) =
+    count-section (is_section_code p.role) (section_at lines size p.token ps) (sections_of lines size ps) ∙
+    ap (λ n. count_by (is_section_code p.role) + n) (section-count lines size ps)
+
+-- ## References
+
+-- The numbers rise, perhaps with repeats, from one number up to another.
+abbrev Rise : ℕ → ℕ → List ℕ → Type 0
+Rise low high [] = Unit {0}
+Rise low high (n ∷ ns) = (low ≤ n) × (n ≤ high) × Rise n high ns
+
+rise-more : (m n high : ℕ) (ns : List ℕ) → m ≤ n → Rise n high ns → Rise m high ns
+rise-more m n high [] h r = tt
+rise-more m n high (k ∷ ns) h r = (omega (arith, r.0), r.1, r.2)
+
+abbrev sections_in : List Reference → List ℕ
+sections_in references = map (λ (r : Reference). r.section) references
+
+rise-reference : (role : Role) (name : Option SecId) (section low high : ℕ) (references : List Reference) → low ≤ section → section ≤ high
+    → Rise section high (sections_in references) → Rise low high (sections_in (reference_by role name section ++ references))
+rise-reference (roles.Name how) None section low high references l h r = rise-more low section high (sections_in references) l r
+rise-reference (roles.Name how) (Some id) section low high references l h r = (l, h, r)
+rise-reference role name section low high references l h r = rise-more low section high (sections_in references) l r
+
+rise : (m high : ℕ) (ps : List Placed) → Numbered m ps → m + codes ps ≤ high → Rise m high (sections_in (references_of ps))
+rise m high [] n h = tt
+rise m high (p ∷ ps) n h =
+    rise-reference p.role p.name p.section m high (references_of ps) (omega (arith, n.0)) (omega (arith, n.0, h))
+    (rise p.section high ps n.1 (omega (arith, n.0, h)))
+
+rise-filter-by : (t : Bool) (test : Reference → Bool) (low high : ℕ) (r : Reference) (references : List Reference) → test r ≡ t
+    → Rise low high (sections_in (r ∷ references)) → Rise r.section high (sections_in (filter test references))
+    → Rise low high (sections_in (filter test (r ∷ references)))
+rise-filter-by true test low high r references e a k = rw e (a.0, a.1, k)
+rise-filter-by false test low high r references e a k = rw e (rise-more low r.section high (sections_in (filter test references)) a.0 k)
+
+rise-filter : (test : Reference → Bool) (low high : ℕ) (references : List Reference) → Rise low high (sections_in references)
+    → Rise low high (sections_in (filter test references))
+rise-filter test low high [] r = tt
+rise-filter test low high (reference ∷ references) r =
+    rise-filter-by (test reference) test low high reference references refl r (rise-filter test reference.section high references r.2)
+
+not-same : (a b : ℕ) → (a == b) ≡ false → a ≤ b → a + 1 ≤ b
+not-same a b e h = grind arith
+
+once-by : (t : Bool) (n next low high : ℕ) (ns : List ℕ) → (n == next) ≡ t → Rise low high (n ∷ next ∷ ns)
+    → ((k : ℕ) → k ≤ next → Ascend k high (once (next ∷ ns)))
+    → Ascend low high (elim t as (λ _. List ℕ) [ true ↦ once (next ∷ ns) | false ↦ n ∷ once (next ∷ ns) ])
+once-by true n next low high ns e r k = k low (omega (arith, r.0, r.2.0))
+once-by false n next low high ns e r k = (r.0, r.1, k (n + 1) (not-same n next e r.2.0))
+
+once-ascends : (low high : ℕ) (ns : List ℕ) → Rise low high ns → Ascend low high (once ns)
+once-ascends low high [] r = tt
+once-ascends low high (n ∷ []) r = (r.0, r.1, tt)
+once-ascends low high (n ∷ next ∷ ns) r =
+    once-by (n == next) n next low high ns refl r (λ k h. once-ascends k high (next ∷ ns) (h, r.2.1, r.2.2))
+
+ascend : (name : ℕ) (how : RefKind) (high : ℕ) (references : List Reference) → Rise 0 high (sections_in references)
+    → Ascend 0 high (once (sections_in (filter (is_of name how) references)))
+ascend name how high references r =
+    once-ascends 0 high (sections_in (filter (is_of name how) references)) (rise-filter (is_of name how) 0 high references r)
+
+refers : (high : ℕ) (references : List Reference) (k : ℕ) (names : List SecName) → Rise 0 high (sections_in references)
+    → All (RefersUpTo high) (referred references k names)
+refers high references k [] r = All-nil (RefersUpTo high)
+refers high references k (n ∷ names) r =
+    All-cons (RefersUpTo high) _ (referred references (k + 1) names)
+    (record { defined = ascend k Defined high references r; used = ascend k Used high references r; cited = ascend k Cited high references r })
+    (refers high references (k + 1) names r)
+
+pub all-refer : (lines : List MergedLine) (size : ℕ) (names : List SecName) (ps : List Placed) → Numbered 0 ps
+    → All (RefersUpTo (length (sections_of lines size ps))) (referred (references_of ps) 0 names)
+all-refer lines size names ps n =
+    let same : length (sections_of lines size ps) ≡ codes ps = section-count lines size ps in
+    refers (length (sections_of lines size ps)) (references_of ps) 0 names
+    (rise 0 (length (sections_of lines size ps)) ps n (omega (arith, same)))
