@@ -9,6 +9,7 @@ pub mod Lines
 pub mod Notes
 pub mod Pieces
 pub mod White
+pub mod WordBytes
 pub mod ShortTokens
 pub mod Runs
 pub mod HeadSpaces

@@ -30,7 +30,7 @@ impl Class {
         match self {
             Class::Blank => is_blank(byte),
             Class::White => byte == b'\n' || is_blank(byte),
-            Class::Word => is_letter(byte) || is_digit(byte),
+            Class::Word => is_word(byte),
             Class::Digit => is_digit(byte),
             Class::HexDigit => {
                 is_digit(byte) || (97 <= byte && byte <= 102) || (65 <= byte && byte <= 70)
@@ -43,6 +43,35 @@ impl Class {
             Class::IncludeName => !(byte == b'>' || byte == b'\n'),
         }
     }
+}
+
+// Whether a byte is a letter or a digit, for each byte: one look takes the place of five tests.
+static WORD_BYTES: [bool; 256] = [
+    false, false, false, false, false, false, false, false, false, false, false, false, false,
+    false, false, false, false, false, false, false, false, false, false, false, false, false,
+    false, false, false, false, false, false, false, false, false, false, true, false, false,
+    false, false, false, false, false, false, false, false, false, true, true, true, true, true,
+    true, true, true, true, true, false, false, false, false, false, false, false, true, true,
+    true, true, true, true, true, true, true, true, true, true, true, true, true, true, true, true,
+    true, true, true, true, true, true, true, true, false, false, false, false, true, false, true,
+    true, true, true, true, true, true, true, true, true, true, true, true, true, true, true, true,
+    true, true, true, true, true, true, true, true, true, false, false, false, false, false, true,
+    true, true, true, true, true, true, true, true, true, true, true, true, true, true, true, true,
+    true, true, true, true, true, true, true, true, true, true, true, true, true, true, true, true,
+    true, true, true, true, true, true, true, true, true, true, true, true, true, true, true, true,
+    true, true, true, true, true, true, true, true, true, true, true, true, true, true, true, true,
+    true, true, true, true, true, true, true, true, true, true, true, true, true, true, true, true,
+    true, true, true, true, true, true, true, true, true, true, true, true, true, true, true, true,
+    true, true, true, true, true, true, true, true, true, true, true, true, true, true, true, true,
+    true, true, true, true, true, true, true, true, true, true, true, true, true, true, true,
+];
+
+/// Whether an identifier may go on with the byte.
+#[inline(always)]
+pub(crate) fn is_word(byte: u8) -> bool
+    ensures { result ≡ is_in Class.Word byte }
+{
+    WORD_BYTES[byte as usize]
 }
 
 pub(crate) fn is_blank(byte: u8) -> bool

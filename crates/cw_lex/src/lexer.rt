@@ -80,6 +80,7 @@ impl<'a> Lexer<'a> {
     }
 
     /// The next answer. It takes no memory.
+    #[inline(always)]
     pub fn next(&mut self) -> Lexed<'a>
         ensures { Gives self.old result self.new }
     {

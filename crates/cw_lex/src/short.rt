@@ -6,7 +6,7 @@ ghost use Rattle.cw_lex.specs.Pending.{no_notes};
 ghost use Rattle.cw_lex.specs.Coming.{where_of, coming, is_code, IsReady};
 ghost use Rattle.cw_lex.specs.Short.{IsShort, IsQuick, is_lone, is_quote};
 
-use crate::classes::{Class, from, is_digit, is_letter, run};
+use crate::classes::{Class, from, is_digit, is_word, run};
 use crate::code_text::is_include_word;
 use crate::constants::constant;
 use crate::giving::token;
@@ -39,11 +39,11 @@ pub(crate) fn quick_at(text: &[u8], state: &State) -> Option<Quick>
         return None;
     }
     let byte = text[state.at];
-    if is_letter(byte) {
-        return identifier(text, state).map(Quick::Short);
-    }
     if is_digit(byte) {
         return number(text, state).map(Quick::Short);
+    }
+    if is_word(byte) {
+        return identifier(text, state).map(Quick::Short);
     }
     match sign(text, state) {
         Some(short) => Some(Quick::Short(short)),

@@ -1,0 +1,6 @@
+use Rattle.std.proofs.Common.{false, arith}
+use Rattle.cw_lex.proofs.WordBytes.{word-at}
+use Rattle.cw_lex.proofs.classes.is_word.Goals as goal
+
+pub returns : goal.returns
+returns c = word-at c.args.byte false (omega (arith, c.ranges.byte.fits))
