@@ -1,13 +1,15 @@
 -- One answer of the scanner, and all of them.
-use Rattle.std.proofs.Common.{◌≡◌, ℕ, ◌+◌, ◌^◌, ◌<◌, ◌≤◌, List, [], ◌∷◌, ◌++◌, length, ◌⊎◌, inl, inr, refl, sym, ap, ◌∙◌, subst, add-zero, arith}
+use Rattle.std.proofs.Common.{◌≡◌, ℕ, Bool, true, false, ◌+◌, ◌^◌, ◌<◌, ◌≤◌, List, [], ◌∷◌, ◌++◌, length, ◌⊎◌, inl, inr, refl, sym, ap, ◌∙◌, subst, add-zero, arith}
 use Rattle.std.specs.Prelude.{Result, Ok, Err}
-use Rattle.std.specs.Result.{OnErr}
+use Rattle.std.specs.Result.{OnErr, OnOk}
 use Rattle.std.specs.List.{All}
 use Rattle.std.proofs.lemmas.List.{append-nil, append_assoc}
 use Rattle.std.proofs.lemmas.List.Elements.{All-cons}
 use Rattle.cw_base.specs.declared.flags.Flags.{Flags}
-use Rattle.cw_lex.specs.Answers.{Answer, Seen, Token, Begin, Finish, Note, Gives}
+use Rattle.cw_lex.specs.Answers.{Answer, Seen, Token, Begin, Finish, Note, Gives, seen}
+use Rattle.cw_lex.specs.Nested.{is_section_kind, is_section_answer, until_section}
 use Rattle.cw_lex.specs.Order.{AreWithin}
+use Rattle.cw_lex.specs.declared.codes.Code.{Code}
 use Rattle.cw_lex.specs.declared.tokens.Lexed.{Lexed}
 use Rattle.cw_lex.specs.declared.tokens.Lexed.TheVariants as lexed
 use Rattle.cw_lex.specs.declared.tokens.TokKind.{TokKind}
@@ -24,9 +26,11 @@ use Rattle.cw_scraps.specs.Leaves.{names_with}
 use Rattle.cw_scraps.specs.Lines.{AreRoots}
 use Rattle.cw_scraps.specs.Marking.{MarkList, marked_names}
 use Rattle.cw_scraps.proofs.Applied.{keeps-trans}
+use Rattle.cw_reduce.specs.declared.holders.Holder.TheVariants as holder
 use Rattle.cw_reduce.specs.declared.nesting.Open.{Open}
 use Rattle.cw_reduce.specs.declared.translating.Translator.{Translator}
 use Rattle.cw_reduce.specs.Counting.{scraps_in, productions_in, ticks_in, text_limit, limit_in}
+use Rattle.cw_reduce.specs.Naming.{ends_text}
 use Rattle.cw_reduce.specs.Opening.{all_roots, answers_in, begun_by, frames_of, IsSoundFrame, IsTranslating, StartsBelow, progress_of, HasCome}
 use Rattle.cw_reduce.specs.Retyping.{NamesOnTheWay, NamesAmong, RetypesIn, here, at_finish, at_end, later}
 use Rattle.cw_reduce.specs.Reading.{Frame, Progress, with_item, frames_begun, after_token, after_finish, after_answer, after_answers, last_scraps}
@@ -36,22 +40,25 @@ use Rattle.cw_reduce.proofs.LeafSteps.{Steps, Same, keeps-itself}
 use Rattle.cw_reduce.proofs.Sums.{sum-more}
 
 -- what begins
-pub begun-other : (k : TokKind) (number : ℕ) (all : List Open) → (k ≡ kind.InnerText → ⊥) → (k ≡ kind.LongComment → ⊥) → (k ≡ kind.ShortComment → ⊥) → all ≡ begun_by k number all
-begun-other kind.InnerText number all a b d = absurd (a refl)
-begun-other kind.LongComment number all a b d = absurd (b refl)
-begun-other kind.ShortComment number all a b d = absurd (d refl)
-begun-other _ number all a b d = refl
+pub begun-other : (k : TokKind) (number : ℕ) (all : List Open) → (k ≡ kind.InnerText → ⊥) → (k ≡ kind.LongComment → ⊥) → (k ≡ kind.ShortComment → ⊥) → ((c : Code) → k ≡ kind.Code c → ⊥) → all ≡ begun_by k number all
+begun-other kind.InnerText number all a b d f = absurd (a refl)
+begun-other kind.LongComment number all a b d f = absurd (b refl)
+begun-other kind.ShortComment number all a b d f = absurd (d refl)
+begun-other (kind.Code c) number all a b d f = absurd (f c refl)
+begun-other _ number all a b d f = refl
 
 begun-roots : (k : TokKind) (number : ℕ) (all : List Open) → all_roots (begun_by k number all) ≡ all_roots all
 begun-roots kind.InnerText number all = append-nil (all_roots all)
 begun-roots kind.LongComment number all = append-nil (all_roots all)
 begun-roots kind.ShortComment number all = append-nil (all_roots all)
+begun-roots (kind.Code c) number all = append-nil (all_roots all)
 begun-roots _ number all = refl
 
 begun-sound : (count : ℕ) (lists : List (List StoredToken)) (k : TokKind) (number : ℕ) (all : List Open) → All (IsSoundFrame count) (frames_of lists all) → All (IsSoundFrame count) (frames_of lists (begun_by k number all))
 begun-sound count lists kind.InnerText number all h = All-cons (IsSoundFrame count) (CTextFrame []) (frames_of lists all) (record { named = λ i d b. absurd (omega arith); modes = λ i d b. absurd (omega arith); fine = refl }) h
-begun-sound count lists kind.LongComment number all h = All-cons (IsSoundFrame count) (CommentFrame number []) (frames_of lists all) (λ i d b. absurd (omega arith)) h
-begun-sound count lists kind.ShortComment number all h = All-cons (IsSoundFrame count) (CommentFrame number []) (frames_of lists all) (λ i d b. absurd (omega arith)) h
+begun-sound count lists kind.LongComment number all h = All-cons (IsSoundFrame count) (CommentFrame (holder.Comment number) []) (frames_of lists all) (λ i d b. absurd (omega arith)) h
+begun-sound count lists kind.ShortComment number all h = All-cons (IsSoundFrame count) (CommentFrame (holder.Comment number) []) (frames_of lists all) (λ i d b. absurd (omega arith)) h
+begun-sound count lists (kind.Code c) number all h = All-cons (IsSoundFrame count) (CommentFrame (holder.Name number) []) (frames_of lists all) (λ i d b. absurd (omega arith)) h
 begun-sound count lists _ number all h = h
 
 pub begin-steps : (store : StoredLists) (names : List Entry) (t t' : Translator) (k : TokKind) (number : ℕ) → IsTranslating store names t → t' ≡ record t { nesting = begun_by k number t.nesting } → Steps store store names names t t'
@@ -70,6 +77,7 @@ begun-frames : (lists : List (List StoredToken)) (k : TokKind) (number : ℕ) (a
 begun-frames lists kind.InnerText number all = refl
 begun-frames lists kind.LongComment number all = refl
 begun-frames lists kind.ShortComment number all = refl
+begun-frames lists (kind.Code c) number all = refl
 begun-frames lists _ number all = refl
 
 pub begin-come : (flags : Flags) (store : StoredLists) (names : List Entry) (marks : MarkList) (t t' : Translator) (token : Seen) (steps : ℕ) → t' ≡ record t { nesting = begun_by token.kind token.span.start t.nesting }
@@ -116,11 +124,11 @@ gives-is old new (lexed.Finish t) g = g
 gives-is old new (lexed.Note n place) g = g
 gives-is old new lexed.End g = g.0 ∙ sym g.1
 
-after-append : (flags : Flags) (xs ys : List Answer) (p : Progress) → after_answers flags (xs ++ ys) p ≡ after_answers flags ys (after_answers flags xs p)
+pub after-append : (flags : Flags) (xs ys : List Answer) (p : Progress) → after_answers flags (xs ++ ys) p ≡ after_answers flags ys (after_answers flags xs p)
 after-append flags [] ys p = refl
 after-append flags (x ∷ xs) ys p = after-append flags xs ys (after_answer flags x p)
 
-starts-split : (limit : ℕ) (xs ys : List Answer) → StartsBelow limit (xs ++ ys) → StartsBelow limit xs × StartsBelow limit ys
+pub starts-split : (limit : ℕ) (xs ys : List Answer) → StartsBelow limit (xs ++ ys) → StartsBelow limit xs × StartsBelow limit ys
 starts-split limit [] ys h = (tt, h)
 starts-split limit (Token t ∷ xs) ys h = ((h.0, (starts-split limit xs ys h.1).0), (starts-split limit xs ys h.1).1)
 starts-split limit (Begin t ∷ xs) ys h = ((h.0, (starts-split limit xs ys h.1).0), (starts-split limit xs ys h.1).1)
@@ -144,7 +152,7 @@ behind-token done _ token p = refl
 
 behind-finish : (flags : Flags) (done : List State) (frames : List Frame) (known : Known) → after_finish flags frames (behind done (record { frames = frames; known = known })).known ≡ behind done (after_finish flags frames known)
 behind-finish flags done [] known = refl
-behind-finish flags done (CommentFrame number items ∷ frames) known = refl
+behind-finish flags done (CommentFrame held_by items ∷ frames) known = refl
 behind-finish flags done (CTextFrame scraps ∷ frames) known =
     let text = end_from flags (state_in scraps known) known in
     ap (λ ended. record { frames = with_item (InnerText text.tree) frames; known = record { names = text.known.names; marks = text.known.marks; ended = ended } }) (append_assoc done known.ended (state_in scraps known ∷ []))
@@ -179,6 +187,25 @@ way-behind flags done (Finish token ∷ answers) q p new e (at_finish _ _ _ scra
 way-behind flags done [] q p new e (at_end _ _ r) = at_end q new (subst (λ (x : Progress). RetypesIn flags (last_scraps x.frames) x.known new) (sym e) r)
 way-behind flags done (answer ∷ answers) q p new e (later _ _ _ _ h) = later answer answers q new (way-behind flags done answers (after_answer flags answer q) (after_answer flags answer p) new (ap (after_answer flags answer) e ∙ behind-answer flags done answer p) h)
 
+-- a text goes on up to its end or a section code
+pub until-ends : (old new : List Answer) (answer : Lexed) → Gives old answer new → ends_text answer ≡ true → until_section old ≡ []
+until-ends old new (lexed.Token t) g e = ap until_section g ∙ ap (λ b. elim b [ true ↦ [] | false ↦ Token (seen t) ∷ until_section new ]) e
+until-ends old new (lexed.Begin t) g e = absurd cc
+until-ends old new (lexed.Finish t) g e = absurd cc
+until-ends old new (lexed.Note n place) g e = absurd cc
+until-ends old new lexed.End g e = ap until_section g.0
+
+pub until-goes : (old new : List Answer) (answer : Lexed) → Gives old answer new → ends_text answer ≡ false → until_section old ≡ answers_in answer ++ until_section new
+until-goes old new (lexed.Token t) g e = ap until_section g ∙ ap (λ b. elim b [ true ↦ [] | false ↦ Token (seen t) ∷ until_section new ]) e
+until-goes old new (lexed.Begin t) g e = ap until_section g
+until-goes old new (lexed.Finish t) g e = ap until_section g
+until-goes old new (lexed.Note n place) g e = ap until_section g
+until-goes old new lexed.End g e = absurd cc
+
+-- the next answer begins below, and so do those behind it
+pub starts-next : (limit : ℕ) (old new : List Answer) (answer : Lexed) → Gives old answer new → StartsBelow limit old → StartsBelow limit (answers_in answer) × StartsBelow limit new
+starts-next limit old new answer g h = starts-split limit (answers_in answer) new (subst (StartsBelow limit) (gives-is old new answer g) h)
+
 -- The loop over the answers: these texts have ended since it began.
 pub record Reads (flags : Flags) (all : List Answer) (old : StoredLists) (names : List Entry) (marks : MarkList) (t : Translator) (steps : ℕ) (rest : List Answer) (new : StoredLists) (names' : List Entry) (marks' : MarkList) (t' : Translator) (steps' : ℕ) : Type 0 where
   pub translating : IsTranslating new names' t'
@@ -189,11 +216,10 @@ pub record Reads (flags : Flags) (all : List Answer) (old : StoredLists) (names 
   pub productions_are : t'.productions ≡ t.productions + productions_in flags ended
   pub steps_are : steps' ≡ steps + ticks_in flags ended
   pub spent : steps' ≤ steps + limit_in flags ended
-  pub starts : StartsBelow (2 ^ 32) rest
-  pub way : (entries : List Entry) → NamesOnTheWay flags rest (progress_of new.lists names' marks' t' ended) entries → NamesOnTheWay flags all (progress_of old.lists names marks t []) entries
+  pub way : (coming : List Answer) (entries : List Entry) → NamesOnTheWay flags (rest ++ coming) (progress_of new.lists names' marks' t' ended) entries → NamesOnTheWay flags (all ++ coming) (progress_of old.lists names marks t []) entries
 
-pub reads-start : (flags : Flags) (all : List Answer) (store : StoredLists) (names : List Entry) (marks : MarkList) (t : Translator) (steps : ℕ) → IsTranslating store names t → StartsBelow (2 ^ 32) all → Reads flags all store names marks t steps all store names marks t steps
-reads-start flags all store names marks t steps is starts = record {
+pub reads-start : (flags : Flags) (all : List Answer) (store : StoredLists) (names : List Entry) (marks : MarkList) (t : Translator) (steps : ℕ) → IsTranslating store names t → Reads flags all store names marks t steps all store names marks t steps
+reads-start flags all store names marks t steps is = record {
   translating = is;
   keeps = keeps-itself store.lists (all_roots t.nesting);
   ended = [];
@@ -202,18 +228,11 @@ reads-start flags all store names marks t steps is starts = record {
   productions_are = sym (add-zero t.productions);
   steps_are = sym (add-zero steps);
   spent = omega arith;
-  starts = starts;
-  way = λ entries h. h;
+  way = λ coming entries h. h;
 }
 
 module _ (flags : Flags) (all : List Answer) (old : StoredLists) (names : List Entry) (marks : MarkList) (t : Translator) (steps : ℕ) (rest : List Answer) (mid : StoredLists) (names1 : List Entry) (marks1 : MarkList) (t1 : Translator) (steps1 : ℕ)
-    (r : Reads flags all old names marks t steps rest mid names1 marks1 t1 steps1) (answer : Lexed) (next : List Answer) (gives : Gives rest answer next) where
-  split : StartsBelow (2 ^ 32) (answers_in answer) × StartsBelow (2 ^ 32) next
-  split = starts-split (2 ^ 32) (answers_in answer) next (subst (StartsBelow (2 ^ 32)) (gives-is rest next answer gives) r.starts)
-
-  pub reads-start-now : StartsBelow (2 ^ 32) (answers_in answer)
-  reads-start-now = split.0
-
+    (r : Reads flags all old names marks t steps rest mid names1 marks1 t1 steps1) (xs next : List Answer) (cut : rest ≡ xs ++ next) where
   -- the answer, from where nothing has ended, and from where these have
   abbrev fresh : Progress
   fresh = progress_of mid.lists names1 marks1 t1 []
@@ -222,22 +241,23 @@ module _ (flags : Flags) (all : List Answer) (old : StoredLists) (names : List E
   here_now = progress_of mid.lists names1 marks1 t1 r.ended
 
   abbrev then_now : Progress
-  then_now = after_answers flags (answers_in answer) fresh
+  then_now = after_answers flags xs fresh
 
   now-behind : here_now ≡ behind r.ended fresh
   now-behind = ap (progress_of mid.lists names1 marks1 t1) (sym (append-nil r.ended))
 
-  then-behind : after_answers flags (answers_in answer) here_now ≡ behind r.ended then_now
-  then-behind = ap (after_answers flags (answers_in answer)) now-behind ∙ behind-answers flags r.ended (answers_in answer) fresh
+  then-behind : after_answers flags xs here_now ≡ behind r.ended then_now
+  then-behind = ap (after_answers flags xs) now-behind ∙ behind-answers flags r.ended xs fresh
 
   all-then : after_answers flags next (behind r.ended then_now) ≡ after_answers flags all (progress_of old.lists names marks t [])
   all-then =
       ap (after_answers flags next) (sym then-behind)
-      ∙ (sym (after-append flags (answers_in answer) next here_now)
-      ∙ (ap (λ list. after_answers flags list here_now) (sym (gives-is rest next answer gives)) ∙ r.progress))
+      ∙ (sym (after-append flags xs next here_now)
+      ∙ (ap (λ list. after_answers flags list here_now) (sym cut) ∙ r.progress))
 
-  pub reads-fails : (entries : List Entry) → NamesAmong flags (answers_in answer) fresh entries → NamesOnTheWay flags all (progress_of old.lists names marks t []) entries
-  reads-fails entries h = r.way entries (subst (λ list. NamesOnTheWay flags list here_now entries) (sym (gives-is rest next answer gives)) (way-behind flags r.ended (answers_in answer ++ next) here_now fresh entries now-behind (h next)))
+  pub reads-fails : (entries : List Entry) → NamesAmong flags xs fresh entries → NamesAmong flags all (progress_of old.lists names marks t []) entries
+  reads-fails entries h = λ coming. r.way coming entries (subst (λ list. NamesOnTheWay flags (list ++ coming) here_now entries) (sym cut)
+      (subst (λ list. NamesOnTheWay flags list here_now entries) (sym (append_assoc xs next coming)) (way-behind flags r.ended (xs ++ (next ++ coming)) here_now fresh entries now-behind (h (next ++ coming)))))
 
   pub reads-few : (steps2 : ℕ) → steps2 ≤ steps1 + limit_in flags then_now.known.ended → steps2 ≤ steps + limit_in flags (after_answers flags all (progress_of old.lists names marks t [])).known.ended
   reads-few steps2 few =
@@ -265,9 +285,9 @@ module _ (flags : Flags) (all : List Answer) (old : StoredLists) (names : List E
         productions_are = omega (arith, r.productions_are, come.productions_are, applied);
         steps_are = omega (arith, r.steps_are, come.steps_are, ticked);
         spent = omega (arith, r.spent, few, limits);
-        starts = split.1;
-        way = λ entries h. r.way entries (subst (λ list. NamesOnTheWay flags list here_now entries) (sym (gives-is rest next answer gives))
-            (later-all flags (answers_in answer) next here_now entries (subst (λ p. NamesOnTheWay flags next p entries) (moved ∙ sym then-behind) h)));
+        way = λ coming entries h. r.way coming entries (subst (λ list. NamesOnTheWay flags (list ++ coming) here_now entries) (sym cut)
+            (subst (λ list. NamesOnTheWay flags list here_now entries) (sym (append_assoc xs next coming))
+            (later-all flags xs (next ++ coming) here_now entries (subst (λ p. NamesOnTheWay flags (next ++ coming) p entries) (moved ∙ sym then-behind) h))));
       }
 
 -- all answers are read
@@ -290,6 +310,37 @@ module _ (flags : Flags) (all : List Answer) (old : StoredLists) (names : List E
   pub reads-spent : steps' ≤ steps + limit_in flags (after_answers flags all (progress_of old.lists names marks t [])).known.ended
   reads-spent = subst (λ ended. steps' ≤ steps + limit_in flags ended) done-ended r.spent
 
+-- the last of several calls goes over all that is left
+module _ (flags : Flags) (all : List Answer) (old : StoredLists) (names : List Entry) (marks : MarkList) (t : Translator) (steps : ℕ) (xs : List Answer) (mid : StoredLists) (names1 : List Entry) (marks1 : MarkList) (t1 : Translator) (steps1 : ℕ)
+    (r : Reads flags all old names marks t steps xs mid names1 marks1 t1 steps1) where
+  abbrev left_now : Progress
+  left_now = progress_of mid.lists names1 marks1 t1 []
+
+  pub last-come : (new : StoredLists) (names2 : List Entry) (marks2 : MarkList) (t2 : Translator) (steps2 : ℕ) → IsTranslating new names2 t2 → Keeps mid.lists new.lists (all_roots t1.nesting) (all_roots t2.nesting)
+      → HasCome flags t1 steps1 new.lists names2 marks2 t2 steps2 (after_answers flags xs left_now) → steps2 ≤ steps1 + limit_in flags (after_answers flags xs left_now).known.ended
+      → HasCome flags t steps new.lists names2 marks2 t2 steps2 (after_answers flags all (progress_of old.lists names marks t []))
+  last-come new names2 marks2 t2 steps2 is keeps come few =
+      reads-come flags all old names marks t steps [] new names2 marks2 t2 steps2
+      (reads-more flags all old names marks t steps xs mid names1 marks1 t1 steps1 r xs [] (sym (append-nil xs)) new names2 marks2 t2 steps2 is keeps come few) refl
+
+  pub last-fails : (entries : List Entry) → NamesAmong flags xs left_now entries → NamesAmong flags all (progress_of old.lists names marks t []) entries
+  last-fails entries h = reads-fails flags all old names marks t steps xs mid names1 marks1 t1 steps1 r xs [] (sym (append-nil xs)) entries h
+
+  pub last-few : (steps2 : ℕ) → steps2 ≤ steps1 + limit_in flags (after_answers flags xs left_now).known.ended → steps2 ≤ steps + limit_in flags (after_answers flags all (progress_of old.lists names marks t [])).known.ended
+  last-few steps2 few = reads-few flags all old names marks t steps xs mid names1 marks1 t1 steps1 r xs [] (sym (append-nil xs)) steps2 few
+
+pub on-ok3 : {T E : Type 0} (r : Result T E) (A B C D : Type 0) → (A → B → C → D) → OnOk r A → OnOk r B → OnOk r C → OnOk r D
+on-ok3 (Ok x) A B C D f a b d = f a b d
+on-ok3 (Err e) A B C D f a b d = tt
+
+pub on-err-weaker : {T E : Type 0} (r : Result T E) (P Q : Type 0) → (P → Q) → OnErr r P → OnErr r Q
+on-err-weaker (Ok x) P Q f h = tt
+on-err-weaker (Err e) P Q f h = f h
+
 pub on-err : {T E : Type 0} (r : Result T E) (P : Type 0) → P → OnErr r P
 on-err (Ok x) P h = tt
 on-err (Err e) P h = h
+
+pub on-ok1 : {T E : Type 0} (r : Result T E) (A B : Type 0) → (A → B) → OnOk r A → OnOk r B
+on-ok1 (Ok x) A B f a = f a
+on-ok1 (Err e) A B f a = tt

@@ -1,15 +1,14 @@
 -- A text or a comment ends, and its list becomes a part of what is open around it.
-use Rattle.std.proofs.Common.{◌≡◌, ℕ, ◌+◌, ◌*◌, ◌≤◌, List, [], ◌∷◌, ◌++◌, length, get_or, map, None, refl, sym, ap, ◌∙◌, subst, add-zero, arith}
+use Rattle.std.proofs.Common.{◌≡◌, ℕ, ◌+◌, ◌*◌, ◌≤◌, true, List, [], ◌∷◌, ◌++◌, length, get_or, map, None, refl, sym, ap, ◌∙◌, subst, add-zero, arith}
 use Rattle.std.specs.List.{All}
 use Rattle.std.proofs.lemmas.Grind.{get_or_default_zero}
 use Rattle.std.proofs.lemmas.List.{append-nil, length-map}
 use Rattle.std.proofs.lemmas.List.Elements.{All-head, All-tail, All-cons}
-use Rattle.cw_base.specs.declared.category.Cat.TheVariants.{Insert}
 use Rattle.cw_base.specs.declared.flags.Flags.{Flags}
-use Rattle.cw_base.specs.declared.mode.MathMode.TheVariants.{Text}
 use Rattle.cw_lex.specs.Answers.{Answer, Finish, Seen}
 use Rattle.cw_names.specs.Names.{Entry}
-use Rattle.cw_table.specs.Normal.{normal, count}
+use Rattle.cw_table.specs.Normal.{normal, count, is_fine}
+use Rattle.cw_table.proofs.ScrapFacts.{and-both}
 use Rattle.cw_table.specs.Productions.{productions}
 use Rattle.cw_table.specs.Rewriting.{State}
 use Rattle.cw_table.specs.WalkCounts.{reservings, ticks}
@@ -32,15 +31,18 @@ use Rattle.cw_reduce.specs.declared.nesting.Open.{Open}
 use Rattle.cw_reduce.specs.declared.nesting.Open.TheVariants.{CText, Comment}
 use Rattle.cw_reduce.specs.declared.translating.Translated.{Translated}
 use Rattle.cw_reduce.specs.declared.translating.Translator.{Translator}
+use Rattle.cw_reduce.specs.declared.holders.Holder.{Holder}
+use Rattle.cw_reduce.specs.Holders.{held_cat, held_leaf, held_mode, held_scrap, held_tree}
 use Rattle.cw_reduce.specs.Gathering.{Gathers, part_seen, inner_lists}
 use Rattle.cw_reduce.specs.Counting.{limit_in, text_limit}
 use Rattle.cw_reduce.specs.Opening.{with_entry, with_part, frame_of, frames_of, open_roots, all_roots, IsNamedItem, AreSoundScraps, IsSoundFrame, IsTranslating, progress_of, HasCome}
 use Rattle.cw_reduce.specs.Reduction.{words_of}
 use Rattle.cw_reduce.specs.Retyping.{Retypes, NamesAmong, here, at_finish}
 use Rattle.cw_reduce.specs.Reading.{Frame, Progress, with_scrap, with_item, after_finish}
-use Rattle.cw_reduce.specs.Translating.{CommentItem, InnerText, Known, with_categories, comment_tree, comment_scrap}
+use Rattle.cw_reduce.specs.Translating.{CommentItem, InnerText, Known, with_categories}
 use Rattle.cw_reduce.proofs.Beside.{outside-group, right-roots, beside-roots, beside-keeps}
-use Rattle.cw_reduce.proofs.GatherLaws.{gathers-roots, gathers-keeps, comment-named, comment-agrees}
+use Rattle.cw_reduce.proofs.GatherLaws.{gathers-roots, gathers-keeps}
+use Rattle.cw_reduce.proofs.HoldLaws.{held-named, held-agrees, held-fine}
 use Rattle.cw_reduce.proofs.LeafSteps.{Steps, Same}
 use Rattle.cw_reduce.proofs.Sums.{sum-one}
 use Rattle.cw_reduce.proofs.OpenLaws.{frames-entry, frames-part, frames-same, entry-roots, part-roots, KeptRoots, more-frames, scrap-sound, item-sound}
@@ -92,8 +94,8 @@ open-line store names t line outer is e =
       fine = sound.fine;
     }
 
-pub open-lists : (store : StoredLists) (names : List Entry) (t : Translator) (number : ℕ) (parts : List CommentPart) (outer : List Open) → IsTranslating store names t → t.nesting ≡ Comment number parts ∷ outer → AreRoots store.lists (inner_lists parts)
-open-lists store names t number parts outer is e = right-roots store.lists (all_roots outer) (inner_lists parts) (subst (λ all. AreRoots store.lists (all_roots all)) e is.roots)
+pub open-lists : (store : StoredLists) (names : List Entry) (t : Translator) (held_by : Holder) (parts : List CommentPart) (outer : List Open) → IsTranslating store names t → t.nesting ≡ Comment held_by parts ∷ outer → AreRoots store.lists (inner_lists parts)
+open-lists store names t held_by parts outer is e = right-roots store.lists (all_roots outer) (inner_lists parts) (subst (λ all. AreRoots store.lists (all_roots all)) e is.roots)
 
 words-length : (new old : List Entry) → words_of new ≡ words_of old → length old ≤ length new
 words-length new old e =
@@ -152,30 +154,30 @@ module _ (flags : Flags) (old new : StoredLists) (names names' : List Entry) (ma
       })
 
 -- a comment ends
-module _ (flags : Flags) (old new : StoredLists) (names : List Entry) (t t' : Translator) (number : ℕ) (parts : List CommentPart) (outer : List Open) (leaf : Leaf)
-    (is : IsTranslating old names t) (tied : IsTied old.lists) (open_is : t.nesting ≡ Comment number parts ∷ outer) (ends : Ends old new (inner_lists parts) leaf.list.index)
+module _ (flags : Flags) (old new : StoredLists) (names : List Entry) (t t' : Translator) (held_by : Holder) (parts : List CommentPart) (outer : List Open) (leaf : Leaf)
+    (is : IsTranslating old names t) (tied : IsTied old.lists) (open_is : t.nesting ≡ Comment held_by parts ∷ outer) (ends : Ends old new (inner_lists parts) leaf.list.index)
     (made : t'.nesting ≡ with_entry (entry_of leaf) outer) (counts : Same t t') where
   abbrev items : List CommentItem
   items = map (part_seen old.lists) parts
 
-  module _ (scrap : seen new.lists (entry_of leaf) ≡ comment_scrap number items) (sound : AreSoundScraps (length names) (comment_scrap number items ∷ [])) where
-    comment-frames : frames_of new.lists t'.nesting ≡ with_scrap (comment_scrap number items) (frames_of old.lists outer)
+  module _ (scrap : seen new.lists (entry_of leaf) ≡ held_scrap held_by items) (sound : AreSoundScraps (length names) (held_scrap held_by items ∷ [])) where
+    comment-frames : frames_of new.lists t'.nesting ≡ with_scrap (held_scrap held_by items) (frames_of old.lists outer)
     comment-frames =
         ap (frames_of new.lists) made
         ∙ (frames-entry new.lists (entry_of leaf) outer
-        ∙ (ap (λ s. with_scrap s (frames_of new.lists outer)) scrap ∙ ap (with_scrap (comment_scrap number items)) (ends-frames old new names t (Comment number parts) outer leaf.list.index is tied open_is ends)))
+        ∙ (ap (λ s. with_scrap s (frames_of new.lists outer)) scrap ∙ ap (with_scrap (held_scrap held_by items)) (ends-frames old new names t (Comment held_by parts) outer leaf.list.index is tied open_is ends)))
 
     kept-now : KeptRoots old.lists new.lists (all_roots t.nesting) (all_roots t'.nesting)
     kept-now =
         subst (λ ls. KeptRoots old.lists new.lists (all_roots t.nesting) (all_roots ls)) (sym made)
-        (entry-roots old.lists new.lists (all_roots t.nesting) (entry_of leaf) outer (ends-kept old new names t (Comment number parts) outer leaf.list.index is tied open_is ends))
+        (entry-roots old.lists new.lists (all_roots t.nesting) (entry_of leaf) outer (ends-kept old new names t (Comment held_by parts) outer leaf.list.index is tied open_is ends))
 
     pub comment-steps : Steps old new names names t t'
     comment-steps = record {
       translating = record {
         idle = ends.idle;
         roots = kept-now.roots;
-        sound = subst (All (IsSoundFrame (length names))) (sym comment-frames) (scrap-sound (length names) (comment_scrap number items) (frames_of old.lists outer) sound (outer-sound old new names t (Comment number parts) outer leaf.list.index is tied open_is ends));
+        sound = subst (All (IsSoundFrame (length names))) (sym comment-frames) (scrap-sound (length names) (held_scrap held_by items) (frames_of old.lists outer) sound (outer-sound old new names t (Comment held_by parts) outer leaf.list.index is tied open_is ends));
         light = rw (counts.scraps, counts.productions) is.light;
       };
       keeps = kept-now.keeps;
@@ -223,24 +225,24 @@ text-step flags old new names names' marks marks' t t' line outer done steps ste
           (scraps ∙ ap (λ n. t.scraps + n) d.scraps) (productions_are ∙ ap (λ n. t.productions + n) d.productions_are) d.steps_are;
     }
 
-pub comment-step : (flags : Flags) (old new : StoredLists) (names : List Entry) (marks : MarkList) (t t' : Translator) (number : ℕ) (parts : List CommentPart) (outer : List Open) (list : ListId) (steps : ℕ)
-    → unfolded new.lists list.index ≡ comment_tree number (map (part_seen old.lists) parts) → Gathers old.lists new.lists (inner_lists parts) list.index → new.building ≡ None
-    → IsTranslating old names t → IsTied old.lists → t.nesting ≡ Comment number parts ∷ outer
-    → t'.nesting ≡ with_entry (record { cat = Insert; list = list; left = Text; right = Text }) outer → Same t t' → FinishStep flags old new names names marks marks t t' steps steps
-comment-step flags old new names marks t t' number parts outer list steps tree gathers idle is tied open_is made counts =
-    let lists : AreRoots old.lists (inner_lists parts) = open-lists old names t number parts outer is open_is in
+pub comment-step : (flags : Flags) (old new : StoredLists) (names : List Entry) (marks : MarkList) (t t' : Translator) (held_by : Holder) (parts : List CommentPart) (outer : List Open) (list : ListId) (steps : ℕ)
+    → unfolded new.lists list.index ≡ held_tree held_by (map (part_seen old.lists) parts) → Gathers old.lists new.lists (inner_lists parts) list.index → new.building ≡ None
+    → IsTranslating old names t → IsTied old.lists → t.nesting ≡ Comment held_by parts ∷ outer
+    → t'.nesting ≡ with_entry (entry_of (held_leaf held_by list)) outer → Same t t' → FinishStep flags old new names names marks marks t t' steps steps
+comment-step flags old new names marks t t' held_by parts outer list steps tree gathers idle is tied open_is made counts =
+    let lists : AreRoots old.lists (inner_lists parts) = open-lists old names t held_by parts outer is open_is in
     let ends : Ends old new (inner_lists parts) list.index = record { root = gathers-root old.lists new.lists (inner_lists parts) list.index gathers tied lists; keeps = gathers-keeps old.lists new.lists (inner_lists parts) list.index gathers tied lists; idle = idle } in
-    let leaf : Leaf = record { cat = Insert; list = list; left = Text; right = Text } in
-    let scrap : seen new.lists (entry_of leaf) ≡ comment_scrap number (map (part_seen old.lists) parts) = ap (λ tr. record { cat = Insert; tree = tr; left = Text; right = Text }) tree in
-    let named : All (IsNamedItem (length names)) (map (part_seen old.lists) parts) = inner-sound old new names t (Comment number parts) outer list.index is tied open_is ends in
-    let sound : AreSoundScraps (length names) (comment_scrap number (map (part_seen old.lists) parts) ∷ []) = record {
-      named = All-cons (λ s. IsNamedBelow (length names) s.tree) (comment_scrap number (map (part_seen old.lists) parts)) [] (comment-named (length names) number (map (part_seen old.lists) parts) named) (λ k d h. absurd (omega arith));
-      modes = All-cons scrap_agrees (comment_scrap number (map (part_seen old.lists) parts)) [] (comment-agrees number (map (part_seen old.lists) parts)) (λ k d h. absurd (omega arith));
-      fine = refl;
+    let leaf : Leaf = held_leaf held_by list in
+    let scrap : seen new.lists (entry_of leaf) ≡ held_scrap held_by (map (part_seen old.lists) parts) = ap (λ tr. record { cat = held_cat held_by; tree = tr; left = held_mode held_by; right = held_mode held_by }) tree in
+    let named : All (IsNamedItem (length names)) (map (part_seen old.lists) parts) = inner-sound old new names t (Comment held_by parts) outer list.index is tied open_is ends in
+    let sound : AreSoundScraps (length names) (held_scrap held_by (map (part_seen old.lists) parts) ∷ []) = record {
+      named = All-cons (λ s. IsNamedBelow (length names) s.tree) (held_scrap held_by (map (part_seen old.lists) parts)) [] (held-named (length names) held_by (map (part_seen old.lists) parts) named) (λ k d h. absurd (omega arith));
+      modes = All-cons scrap_agrees (held_scrap held_by (map (part_seen old.lists) parts)) [] (held-agrees held_by (map (part_seen old.lists) parts)) (λ k d h. absurd (omega arith));
+      fine = and-both (is_fine (held_scrap held_by (map (part_seen old.lists) parts))) true (held-fine held_by (map (part_seen old.lists) parts)) refl;
     } in
     record {
-      steps_are = comment-steps flags old new names t t' number parts outer leaf is tied open_is ends made counts scrap sound;
-      come = comment-come flags old new names t t' number parts outer leaf is tied open_is ends made counts scrap sound marks steps;
+      steps_are = comment-steps flags old new names t t' held_by parts outer leaf is tied open_is ends made counts scrap sound;
+      come = comment-come flags old new names t t' held_by parts outer leaf is tied open_is ends made counts scrap sound marks steps;
     }
 
 -- the names after a text that ends, whatever it answers

@@ -22,3 +22,7 @@ pub mod Limits
 pub mod InnersKept
 pub mod ReadLaws
 pub mod HeadReads
+pub mod HoldLaws
+pub mod NameLists
+pub mod NameSteps
+pub mod NamedJoined

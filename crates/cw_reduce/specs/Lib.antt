@@ -8,3 +8,5 @@ pub mod TranslationLaws
 pub mod Opening
 pub mod Retyping
 pub mod NameParts
+pub mod Holders
+pub mod Naming

@@ -20,6 +20,7 @@ use Rattle.cw_scraps.specs.declared.line.LineEntry.{LineEntry}
 use Rattle.cw_scraps.specs.Lines.{scraps_of, roots_of, AreRoots, IsNamedBelow}
 use Rattle.cw_scraps.specs.Marking.{MarkList, marked_names}
 use Rattle.cw_reduce.specs.declared.gathering.CommentPart.{CommentPart}
+use Rattle.cw_reduce.specs.declared.holders.Holder.TheVariants as holder
 use Rattle.cw_reduce.specs.declared.nesting.Open.{Open}
 use Rattle.cw_reduce.specs.declared.nesting.Open.TheVariants.{CText, Comment}
 use Rattle.cw_reduce.specs.declared.translating.Translated.{Translated}
@@ -36,7 +37,7 @@ with_entry entry (CText line ∷ rest) = CText (line ++ entry ∷ []) ∷ rest
 with_entry entry all = all
 
 abbrev pub with_part : CommentPart → List Open → List Open
-with_part part (Comment number parts ∷ rest) = Comment number (parts ++ part ∷ []) ∷ rest
+with_part part (Comment held_by parts ∷ rest) = Comment held_by (parts ++ part ∷ []) ∷ rest
 with_part part all = all
 
 -- the scraps of the C text that is open alone
@@ -47,14 +48,15 @@ last_line all = []
 -- what begins becomes the innermost
 abbrev pub begun_by : TokKind → ℕ → List Open → List Open
 begun_by kind.InnerText number all = CText [] ∷ all
-begun_by kind.LongComment number all = Comment number [] ∷ all
-begun_by kind.ShortComment number all = Comment number [] ∷ all
+begun_by kind.LongComment number all = Comment (holder.Comment number) [] ∷ all
+begun_by kind.ShortComment number all = Comment (holder.Comment number) [] ∷ all
+begun_by (kind.Code c) number all = Comment (holder.Name number) [] ∷ all
 begun_by _ number all = all
 
 -- what is open, with the trees of its lists
 abbrev pub frame_of : List (List StoredToken) → Open → Frame
 frame_of lists (CText line) = CTextFrame (scraps_of lists line)
-frame_of lists (Comment number parts) = CommentFrame number (map (part_seen lists) parts)
+frame_of lists (Comment held_by parts) = CommentFrame held_by (map (part_seen lists) parts)
 
 abbrev pub frames_of : List (List StoredToken) → List Open → List Frame
 frames_of lists all = map (frame_of lists) all
@@ -62,7 +64,7 @@ frames_of lists all = map (frame_of lists) all
 -- its lists, the outermost first
 abbrev pub open_roots : Open → List ℕ
 open_roots (CText line) = roots_of line
-open_roots (Comment number parts) = inner_lists parts
+open_roots (Comment held_by parts) = inner_lists parts
 
 abbrev pub all_roots : List Open → List ℕ
 all_roots [] = []
@@ -80,7 +82,7 @@ pub record AreSoundScraps (count : ℕ) (scraps : List Scrap) : Type 0 where
 
 abbrev pub IsSoundFrame : ℕ → Frame → Type 0
 IsSoundFrame count (CTextFrame scraps) = AreSoundScraps count scraps
-IsSoundFrame count (CommentFrame number items) = All (IsNamedItem count) items
+IsSoundFrame count (CommentFrame held_by items) = All (IsNamedItem count) items
 
 -- The lists of all that is open are distinct lists of the store, to which no list refers, and no list is being built.
 pub record IsTranslating (store : StoredLists) (names : List Entry) (t : Translator) : Type 0 where

@@ -7,12 +7,15 @@ use Rattle.cw_lex.specs.declared.tokens.TokKind.TheVariants as kind
 use Rattle.cw_names.specs.Names.{Entry}
 use Rattle.cw_trees.specs.Joining.{Scrap}
 use Rattle.cw_scraps.specs.Leaves.{LeafForm, token_form, names_with}
-use Rattle.cw_reduce.specs.Translating.{leaf_scrap, CommentItem, Piece, InnerText, comment_scrap, Known, begin, with_names, Ended, state_in, end_from}
+use Rattle.cw_reduce.specs.declared.holders.Holder.{Holder}
+use Rattle.cw_reduce.specs.declared.holders.Holder.TheVariants as holder
+use Rattle.cw_reduce.specs.Holders.{held_scrap}
+use Rattle.cw_reduce.specs.Translating.{leaf_scrap, CommentItem, Piece, InnerText, Known, Made, begin, with_names, Ended, state_in, end_from}
 
--- What is open: C text with its scraps so far, and a comment, which begins at this number, with its items so far.
+-- What is open: C text with its scraps so far, and a comment or a section name, which holds the items so far.
 pub data Frame : Type 0 where
   CText : (scraps : List Scrap) → Frame
-  Comment : (number : ℕ) → (items : List CommentItem) → Frame
+  Comment : (held_by : Holder) → (items : List CommentItem) → Frame
 
 -- a scrap behind those of the innermost C text, and an item behind those of the innermost comment
 abbrev pub with_scrap : Scrap → List Frame → List Frame
@@ -20,7 +23,7 @@ with_scrap scrap (CText scraps ∷ frames) = CText (scraps ++ scrap ∷ []) ∷ 
 with_scrap scrap frames = frames
 
 abbrev pub with_item : CommentItem → List Frame → List Frame
-with_item item (Comment number items ∷ frames) = Comment number (items ++ item ∷ []) ∷ frames
+with_item item (Comment held_by items ∷ frames) = Comment held_by (items ++ item ∷ []) ∷ frames
 with_item item frames = frames
 
 abbrev pub with_form : Option LeafForm → List Frame → List Frame
@@ -31,6 +34,15 @@ with_form (Some form) frames = with_scrap (leaf_scrap form) frames
 pub record Progress : Type 0 where
   pub frames : List Frame
   pub known : Known
+
+-- what is made stands behind what is open
+abbrev pub extended : Made → List Frame → List Frame
+extended m (CText scraps ∷ frames) = CText (scraps ++ m.scraps) ∷ frames
+extended m (Comment held_by items ∷ frames) = Comment held_by (items ++ m.items) ∷ frames
+extended m [] = []
+
+abbrev pub with_made : List Frame → Made → Progress
+with_made frames m = record { frames = extended m frames; known = m.known }
 
 -- One answer of the scanner. A section name stands for nothing.
 abbrev pub after_token : TokKind → Seen → Progress → Progress
@@ -43,12 +55,17 @@ after_token k token p = record {
 -- what begins becomes the innermost
 abbrev pub frames_begun : TokKind → ℕ → List Frame → List Frame
 frames_begun kind.InnerText number frames = CText [] ∷ frames
-frames_begun kind.LongComment number frames = Comment number [] ∷ frames
-frames_begun kind.ShortComment number frames = Comment number [] ∷ frames
+frames_begun kind.LongComment number frames = Comment (holder.Comment number) [] ∷ frames
+frames_begun kind.ShortComment number frames = Comment (holder.Comment number) [] ∷ frames
+frames_begun (kind.Code c) number frames = Comment (holder.Name number) [] ∷ frames
 frames_begun _ number frames = frames
 
 abbrev pub after_begin : TokKind → ℕ → Progress → Progress
 after_begin k number p = record { frames = frames_begun k number p.frames; known = p.known }
+
+-- what holds inner texts begins
+abbrev pub with_held : Holder → Progress → Progress
+with_held held_by p = record { frames = Comment held_by [] ∷ p.frames; known = p.known }
 
 -- the innermost ends
 abbrev pub ended_in : List Frame → Ended → Progress
@@ -56,8 +73,8 @@ ended_in frames text = record { frames = with_item (InnerText text.tree) frames;
 
 abbrev pub after_finish : Flags → List Frame → Known → Progress
 after_finish flags (CText scraps ∷ frames) known = ended_in frames (end_from flags (state_in scraps known) known)
-after_finish flags (Comment number items ∷ frames) known =
-    record { frames = with_scrap (comment_scrap number items) frames; known = known }
+after_finish flags (Comment held_by items ∷ frames) known =
+    record { frames = with_scrap (held_scrap held_by items) frames; known = known }
 after_finish flags [] known = record { frames = []; known = known }
 
 abbrev pub after_answer : Flags → Answer → Progress → Progress

@@ -2,8 +2,10 @@
 #![tactic(auto)]
 
 mod gathering;
+mod holders;
 mod kinds;
 mod laws;
+mod naming;
 mod nesting;
 mod translating;
 mod uncut;

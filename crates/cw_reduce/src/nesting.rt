@@ -6,6 +6,7 @@ ghost use Rattle.cw_reduce.specs.Opening.{last_line, with_entry, with_part};
 ghost use Rattle.cw_scraps.specs.Leaves.{entry_of};
 
 use crate::gathering::CommentPart;
+use crate::holders::Holder;
 use cw_base::Memory;
 use cw_scraps::{Leaf, ScrapLine};
 use std::alloc::Global;
@@ -52,11 +53,12 @@ impl CommentText {
     }
 }
 
-/// What is open while a C text is read: C text with its scraps so far, or a comment, which begins at this number.
+/// What is open while a C text is read: C text with its scraps so far, or a comment or a section name, which holds inner
+/// texts.
 #[derive(Drop)]
 pub(crate) enum Open {
     CText(ScrapLine),
-    Comment(u32, CommentText),
+    Comment(Holder, CommentText),
 }
 
 impl Open {

@@ -8,7 +8,7 @@ ghost use Rattle.cw_trees.specs.Joining.{whole};
 ghost use Rattle.cw_tokens.specs.Shapes.{unfolded};
 ghost use Rattle.cw_lex.specs.Answers.{Finish, Seen, seen};
 ghost use Rattle.cw_lex.specs.Lexing.{tokens_of};
-ghost use Rattle.cw_lex.specs.Nested.{begins_section_in, is_plain_c_mode};
+ghost use Rattle.cw_lex.specs.Nested.{begins_section_in, is_plain_c_mode, until_section};
 ghost use Rattle.cw_scraps.specs.Applying.{state_of};
 ghost use Rattle.cw_scraps.specs.Changing.{Keeps};
 ghost use Rattle.cw_scraps.specs.Leaves.{MakesLeaf, names_with};
@@ -22,14 +22,16 @@ ghost use Rattle.cw_reduce.specs.Reduction.{words_of};
 ghost use Rattle.cw_reduce.specs.Retyping.{NamesAmong, NamesOnTheWay, Retypes, RetypesIn};
 ghost use Rattle.cw_reduce.specs.Translating.{state_in, translated, unnamed, with_categories};
 
-use crate::gathering::{CommentPart, comment_list, put_together};
+use crate::gathering::{CommentPart, put_together};
+use crate::holders::{Holder, held_list};
 use crate::kinds::makes_leaf;
 use crate::nesting::{CommentText, Nesting, Open};
+use crate::uncut::ends_text;
 use crate::walk::reduce;
-use cw_base::{Cat, Flags, Ledger, MathMode, Memory, Span, Steps};
+use cw_base::{Flags, Ledger, Memory, Span, Steps};
 use cw_lex::{Lexed, Lexer, Mode, Tok, TokKind};
 use cw_names::Names;
-use cw_scraps::{Leaf, Marks, ScrapLine, scrap_of};
+use cw_scraps::{Marks, ScrapLine, scrap_of};
 use cw_tokens::{ListId, TokenStore};
 use std::alloc::Global;
 
@@ -147,19 +149,35 @@ impl Translator {
         self.nesting.add_scrap(leaf)
     }
 
-    /// A comment or an inner text begins.
+    /// A comment, a section name or an inner text begins.
     fn begin(&mut self, token: &Tok, alloc: Global) -> Result<(), Memory>
         requires start { token.now.span.start < 2 ^ 32 }
         ensures begins { OnOk result (self.new ≡ record self.old { nesting = begun_by token.now.kind token.now.span.start self.old.nesting }) }
     {
         let number = token.span.start as u32;
         match token.kind {
-            TokKind::InnerText => self.nesting.begin(Open::CText(ScrapLine::new_in(alloc))),
-            TokKind::LongComment | TokKind::ShortComment => self
-                .nesting
-                .begin(Open::Comment(number, CommentText::new_in(alloc))),
+            TokKind::InnerText => self.open_text(alloc),
+            TokKind::LongComment | TokKind::ShortComment => {
+                self.hold(Holder::Comment(number), alloc)
+            }
+            TokKind::Code(_) => self.hold(Holder::Name(number), alloc),
             _ => Ok(()),
         }
+    }
+
+    /// An inner text begins.
+    pub(crate) fn open_text(&mut self, alloc: Global) -> Result<(), Memory>
+        ensures { OnOk result (self.new ≡ record self.old { nesting = CTexts.CText [] ∷ self.old.nesting }) }
+    {
+        self.nesting.begin(Open::CText(ScrapLine::new_in(alloc)))
+    }
+
+    /// What holds inner texts begins.
+    pub(crate) fn hold(&mut self, holder: Holder, alloc: Global) -> Result<(), Memory>
+        ensures { OnOk result (self.new ≡ record self.old { nesting = CTexts.Comment holder [] ∷ self.old.nesting }) }
+    {
+        self.nesting
+            .begin(Open::Comment(holder, CommentText::new_in(alloc)))
     }
 
     /// Counts what was done for one text; `Memory` where no memory could hold so many scraps.
@@ -174,8 +192,8 @@ impl Translator {
         Ok(())
     }
 
-    /// The innermost text or comment ends.
-    fn finish<L: Ledger>(
+    /// The innermost text, comment or section name ends.
+    pub(crate) fn finish<L: Ledger>(
         &mut self,
         flags: &Flags,
         names: &mut Names,
@@ -198,21 +216,16 @@ impl Translator {
                 self.count(&done)?;
                 self.nesting.add_part(CommentPart::InnerText(done.list))
             }
-            Some(Open::Comment(number, text)) => {
-                let list = comment_list(number, text.parts(), store)?;
-                self.nesting.add_scrap(Leaf {
-                    cat: Cat::Insert,
-                    list,
-                    left: MathMode::Text,
-                    right: MathMode::Text,
-                })
+            Some(Open::Comment(holder, text)) => {
+                let list = held_list(holder, text.parts(), store)?;
+                self.nesting.add_scrap(holder.leaf(list))
             }
             None => Ok(()),
         }
     }
 
-    /// One answer of the scanner.
-    fn answer<L: Ledger>(
+    /// One answer of the scanner, in which section names stand for nothing.
+    pub(crate) fn answer<L: Ledger>(
         &mut self,
         answer: &Lexed,
         alloc: Global,
@@ -239,8 +252,8 @@ impl Translator {
         }
     }
 
-    /// All answers of a scanner.
-    fn read<L: Ledger>(
+    /// All answers of a scanner up to a section code.
+    pub(crate) fn read<L: Ledger>(
         &mut self,
         lexer: &mut Lexer,
         alloc: Global,
@@ -253,15 +266,15 @@ impl Translator {
         requires translating { IsTranslating store.old names.old self.old }
         requires start { StartsBelow (2 ^ 32) lexer.old }
         ensures translating { OnOk result (IsTranslating store.new names.new self.new) }
-        ensures come { OnOk result (HasCome flags.now self.old steps.old store.new.lists names.new marks.new self.new steps.new (after_answers flags.now lexer.old (progress_of store.old.lists names.old marks.old self.old []))) }
+        ensures come { OnOk result (HasCome flags.now self.old steps.old store.new.lists names.new marks.new self.new steps.new (after_answers flags.now (until_section lexer.old) (progress_of store.old.lists names.old marks.old self.old []))) }
         ensures keeps { OnOk result (Keeps store.old.lists store.new.lists (all_roots self.old.nesting) (all_roots self.new.nesting)) }
-        ensures names { OnErr result (NamesOnTheWay flags.now lexer.old (progress_of store.old.lists names.old marks.old self.old []) names.new) }
-        ensures bound { steps.new ≤ steps.old + limit_in flags.now (after_answers flags.now lexer.old (progress_of store.old.lists names.old marks.old self.old [])).known.ended }
+        ensures names { OnErr result (NamesAmong flags.now (until_section lexer.old) (progress_of store.old.lists names.old marks.old self.old []) names.new) }
+        ensures bound { steps.new ≤ steps.old + limit_in flags.now (after_answers flags.now (until_section lexer.old) (progress_of store.old.lists names.old marks.old self.old [])).known.ended }
         ensures idle { store.new.building ≡ None }
     {
         loop {
             let answer = lexer.next();
-            if matches!(answer, Lexed::End) {
+            if ends_text(&answer) {
                 return Ok(());
             }
             self.answer(&answer, alloc, flags, names, store, marks, steps)?;

@@ -2,6 +2,7 @@
 ghost use Rattle.std.specs.Prelude.{◌≡◌, ◌≤◌, length, true, false};
 ghost use Rattle.cw_lex.specs.Lexing.{tokens_of};
 ghost use Rattle.cw_lex.specs.Nested.{begins_section_in, is_plain_c_mode, is_section_kind};
+ghost use Rattle.cw_reduce.specs.Naming.{ends_text};
 
 use cw_base::Span;
 use cw_lex::{Code, Lexed, Lexer, Mode, TokKind};
@@ -38,4 +39,15 @@ fn is_section(kind: TokKind) -> bool
     ensures { result ≡ is_section_kind kind }
 {
     matches!(kind, TokKind::Code(Code::Section | Code::StarredSection))
+}
+
+/// Whether an answer ends a C text: none is left, or it is a section code.
+pub(crate) fn ends_text(answer: &Lexed) -> bool
+    ensures { result ≡ ends_text answer.now }
+{
+    match answer {
+        Lexed::End => true,
+        Lexed::Token(token) => is_section(token.kind),
+        Lexed::Begin(_) | Lexed::Finish(_) | Lexed::Note(..) => false,
+    }
 }

@@ -1,0 +1,1 @@
+use Rattle.cw_reduce.proofs.translating.Translator.named_answer.Goals as goal
