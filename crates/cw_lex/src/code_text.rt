@@ -64,6 +64,19 @@ impl State {
         ensures { result ≡ is_white_here self.now.part self.now.comments (last_at text.now at) (slice_index text.now at) (drop (at + 1) text.now) }
     {
         let byte = text[at];
+        if byte == b'\n' || byte == b'\\' {
+            return self.is_white_line_end(text, at);
+        }
+        is_blank(byte)
+    }
+
+    // The same where a line's end or a backslash stands, which is seldom.
+    #[inline(never)]
+    fn is_white_line_end(&self, text: &[u8], at: usize) -> bool
+        requires { at < length text.now }
+        ensures { result ≡ is_white_here self.now.part self.now.comments (last_at text.now at) (slice_index text.now at) (drop (at + 1) text.now) }
+    {
+        let byte = text[at];
         if byte == b'\n' {
             return !self.ends_line(last_at(text, at));
         }
