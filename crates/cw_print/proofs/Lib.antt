@@ -1,3 +1,7 @@
 pub mod PieceLaws
 pub mod ScanLaws
+pub mod ComingLaws
+pub mod ShownLaws
+pub mod PrintingLaws
+pub mod TitleLaws
 mod TokenRows

@@ -10,3 +10,6 @@ pub mod Walk
 pub mod Titles
 pub mod NamesAhead
 pub mod Walked
+pub mod Sources
+pub mod Coming
+pub mod Printing

@@ -1,5 +1,5 @@
 -- The bytes that the items of a flat list print, each by itself, in their order; and those of the whole list.
-use Rattle.std.specs.Prelude.{ℕ, ◌+◌, ◌-◌, Bool, true, false, List, [], ◌∷◌, ◌++◌, Option, Some, None, codes, decimal, drop, unwrap_or, slice_get, slice_range, option_map}
+use Rattle.std.specs.Prelude.{ℕ, ◌+◌, ◌-◌, ◌&&◌, Bool, true, false, List, [], ◌∷◌, ◌++◌, Option, Some, None, codes, decimal, drop, unwrap_or, slice_get, slice_range, option_map}
 use Rattle.cw_base.specs.declared.span.Span.{Span}
 use Rattle.cw_names.specs.Names.{Entry}
 use Rattle.cw_lex.specs.Answers.{Answer, Seen}
@@ -12,6 +12,7 @@ use Rattle.cw_trees.specs.Tree.{Tree}
 use Rattle.cw_trees.specs.Flat.{Item, SourceItem, IdentItem, ReservedItem, SignItem, Open, Close, flat, trimmed}
 use Rattle.cw_trees.specs.Printing.{Printable, sign_bytes, ident_bytes, reserved_bytes, printed}
 use Rattle.cw_secnames.specs.Parts.{inner_parts}
+use Rattle.cw_join.specs.Tokens.{text_at}
 use Rattle.cw_print.specs.Escaping.{typewriter}
 use Rattle.cw_print.specs.Comments.{closing_braces}
 use Rattle.cw_print.specs.Showing.{TokenShown, found, innermost, others}
@@ -160,9 +161,6 @@ placed_shown f title Close stand = prints (bracket f.wraps (codes "}")) stand
 placed_shown f title item stand = prints [] stand
 
 -- What an item prints wherever it stands: names, and all other signs.
-abbrev pub text_at : List Entry → ℕ → List ℕ
-text_at names name = unwrap_or (option_map (λ entry. entry.text) (slice_get names name)) []
-
 abbrev pub own_sign : Control → List ℕ
 own_sign CommentEnd = []
 own_sign control = sign_bytes control
@@ -179,15 +177,15 @@ pub record Source : Type 0 where
   pub titles : ℕ → Option Title
   pub names : List Entry
 
-abbrev pub title_at : Source → Item → Option Title
-title_at s (SourceItem number) = s.titles number
-title_at s item = None
+abbrev pub title_in : (ℕ → Option Title) → Item → Option Title
+title_in titles (SourceItem number) = titles number
+title_in titles item = None
 
 abbrev pub behind_own : List ℕ → Shown → Shown
 behind_own bytes shown = prints (bytes ++ shown.bytes) shown.stand
 
 abbrev pub item_shown : Source → Item → Stand → Shown
-item_shown s item stand = behind_own (own_bytes s.names item) (placed_shown s.fixed (title_at s item) item stand)
+item_shown s item stand = behind_own (own_bytes s.names item) (placed_shown s.fixed (title_in s.titles item) item stand)
 
 abbrev pub before : Item → Shown → (Stand → List Printable) → List Printable
 before item shown rest = record { item = item; bytes = shown.bytes } ∷ rest shown.stand
@@ -196,11 +194,20 @@ abbrev pub items_shown : Source → List Item → Stand → List Printable
 items_shown s [] stand = []
 items_shown s (item ∷ items) stand = before item (item_shown s item stand) (items_shown s items)
 
+-- where the printing stands behind a list
+abbrev pub stand_after : Source → List Item → Stand → Stand
+stand_after s [] stand = stand
+stand_after s (item ∷ items) stand = stand_after s items (item_shown s item stand).stand
+
 -- ## The whole list
 
 -- a flat list, as the C text of a part or a definition, or as inner C text
 abbrev pub flat_bytes : Bool → Source → List Item → List ℕ
 flat_bytes inner s items = printed inner (items_shown s (trimmed items) outside)
 
+-- Inner C text is wrapped, also where it is the text itself.
+abbrev pub wrapped : Bool → List ℕ → List ℕ
+wrapped wraps bytes = bracket wraps (codes "\\PB{") ++ (bytes ++ bracket wraps (codes "}"))
+
 abbrev pub tree_bytes : Bool → Source → Tree → List ℕ
-tree_bytes inner s tree = flat_bytes inner s (flat tree)
+tree_bytes inner s tree = wrapped (inner && s.fixed.wraps) (flat_bytes inner s (flat tree))

@@ -1,0 +1,202 @@
+-- The printing of a list, item by item: what was printed, and what may still come.
+use Rattle.std.proofs.Common.{◌≡◌, ℕ, suc, ◌+◌, ◌<◌, ◌≤◌, Bool, Option, Some, Err, Ok, List, [], ◌∷◌, ◌++◌, length, take, drop, slice_get, refl, ap, sym, ◌∙◌, subst, arith}
+use Rattle.std.specs.Prelude.{Result, IsErrAnd, option_map}
+use Rattle.std.proofs.lemmas.List.{append-nil, append_assoc, drop_all, drop_more, length-map, take-append-drop, take_all, take_more}
+use Rattle.std.proofs.lemmas.List.Sums.{fold_push}
+use Rattle.std.proofs.lemmas.Option.{get_or_from_slice_get, slice_get-map, slice_get_within}
+use Rattle.cw_desk.specs.Told.{Told}
+use Rattle.cw_trees.specs.Flat.{Item}
+use Rattle.cw_trees.specs.Printing.{Printable, opened, printed}
+use Rattle.cw_tokens.specs.declared.flat.FlatItem.{FlatItem}
+use Rattle.cw_tokens.specs.FlatItems.{item_is, items_are}
+use Rattle.cw_lines.specs.Line.{LineState, fill}
+use Rattle.cw_lines.specs.Writes.{HasPut, Puts}
+use Rattle.cw_lines.specs.WritesLaws.{adds-nothing, puts-bytes, puts-failed, puts-none, puts-stop, puts-then}
+use Rattle.cw_lines.specs.declared.put_error.PutError.{PutError}
+use Rattle.cw_lines.specs.declared.put_error.PutError.TheVariants.{Memory}
+use Rattle.cw_join.specs.Early.{added, depth_behind, early, late}
+use Rattle.cw_join.specs.Standing.{JoinerState, Stands}
+use Rattle.cw_join.specs.Tokens.{CanCome, item_bytes}
+use Rattle.cw_join.proofs.EarlyLaws.{early-added, printed-is}
+use Rattle.cw_join.proofs.PrintedLaws.{printed-list}
+use Rattle.cw_print.specs.declared.printing.Printer.{Printer}
+use Rattle.cw_print.specs.Coming.{AllMay, MayCome}
+use Rattle.cw_print.specs.Printing.{IsBehind, shown, shown_next}
+use Rattle.cw_print.specs.Sources.{titles}
+use Rattle.cw_print.specs.Walk.{Source, Stand, Title, items_shown, outside, own_bytes, placed_shown, stand_after, title_in}
+use Rattle.cw_print.proofs.ComingLaws.{can-come, opened-most}
+use Rattle.cw_print.proofs.ShownLaws.{own-shown, shown-append, stand-more}
+
+-- Memory was refused before anything was written.
+pub puts-nothing : {U : Type 0} (bytes : List ℕ) (line : LineState) (told : Told) {result : Result U PutError}
+    → IsErrAnd result (λ found. found ≡ Memory) → Puts bytes line line told told result
+puts-nothing bytes line told is = puts-failed Memory (fill line.line bytes) refl refl is (adds-nothing _ told is (λ e. absurd (cc)))
+
+-- ## What is printed
+
+-- one item more
+pub shown-more : (s : Source) (items : List Item) (item : Item) → shown s (items ++ item ∷ []) ≡ shown s items ++ shown_next s items item ∷ []
+shown-more s items item = shown-append s items (item ∷ []) outside
+
+early-more : (inner : Bool) (s : Source) (items : List Item) (item : Item)
+    → early inner (shown s items) ++ added inner (shown s items) (shown_next s items item) ≡ early inner (shown s (items ++ item ∷ []))
+early-more inner s items item =
+    sym (early-added inner (shown s items) (shown_next s items item)) ∙ ap (early inner) (sym (shown-more s items item))
+
+-- ## One item
+
+module _ (s : Source) (inner : Bool) (items : List Item) (printer : Printer) (b : IsBehind s inner items printer) (item : FlatItem)
+    (title : Option Title) (titled : title ≡ title_in (titles printer.book.now) (item_is item)) where
+  same-title : title ≡ title_in s.titles (item_is item)
+  same-title = titled ∙ ap (λ (t : ℕ → Option Title). title_in t (item_is item)) b.titles
+
+  -- what the joiner prints of the next item
+  pub next-bytes : (given : List ℕ) → given ≡ (placed_shown printer.walk.fixed title (item_is item) printer.walk.stand).bytes
+      → item_bytes printer.book.now.names item given ≡ (shown_next s items (item_is item)).bytes
+  next-bytes given is =
+      own-shown printer.book.now.names printer.walk.fixed title item printer.walk.stand given is
+      ∙ (λ i. own_bytes (b.names i) (item_is item) ++ (placed_shown (b.fixed i) (same-title i) (item_is item) (b.stand i)).bytes)
+
+  -- where the printing stands behind it
+  pub next-stand : (placed_shown printer.walk.fixed title (item_is item) printer.walk.stand).stand ≡ stand_after s (items ++ item_is item ∷ []) outside
+  next-stand =
+      (λ i. (placed_shown (b.fixed i) (same-title i) (item_is item) (b.stand i)).stand) ∙ sym (stand-more s items (item_is item) outside)
+
+  pub next-shown : (given : List ℕ) → given ≡ (placed_shown printer.walk.fixed title (item_is item) printer.walk.stand).bytes
+      → shown s items ++ record { item = item_is item; bytes = item_bytes printer.book.now.names item given } ∷ [] ≡ shown s (items ++ item_is item ∷ [])
+  next-shown given is =
+      ap (λ (bytes : List ℕ). shown s items ++ record { item = item_is item; bytes = bytes } ∷ []) (next-bytes given is)
+      ∙ sym (shown-more s items (item_is item))
+
+-- ## First parts
+
+-- What a first part of a list prints early comes first.
+record BeginsEarly (inner : Bool) (ps all : List Printable) : Type 0 where
+  pub rest : List ℕ
+  pub is : early inner all ≡ early inner ps ++ rest
+
+begins-early : (inner : Bool) (ps qs : List Printable) → BeginsEarly inner ps (ps ++ qs)
+begins-early inner ps [] = record { rest = []; is = ap (early inner) (append-nil ps) ∙ sym (append-nil (early inner ps)) }
+begins-early inner ps (q ∷ qs) =
+    let more : BeginsEarly inner (ps ++ q ∷ []) ((ps ++ q ∷ []) ++ qs) = begins-early inner (ps ++ q ∷ []) qs in
+    record {
+      rest = added inner ps q ++ more.rest;
+      is =
+          ap (early inner) (sym (append_assoc ps (q ∷ []) qs)) ∙ more.is
+          ∙ ap (λ (l : List ℕ). l ++ more.rest) (early-added inner ps q) ∙ append_assoc (early inner ps) (added inner ps q) more.rest;
+    }
+
+pub printed-by : (inner : Bool) (ps : List Printable) → early inner ps ++ late inner ps ≡ printed inner ps
+printed-by inner ps = sym (printed-list inner ps ∙ printed-is inner ps)
+
+-- a failure in the first n items is one in the list
+pub puts-part : {T U : Type 0} (inner : Bool) (s : Source) (items : List Item) (n : ℕ) {old new : LineState} {before now : Told} {error : PutError}
+    {result : Result U PutError} → Puts {T = T} (early inner (shown s (take n items))) old new before now (Err error)
+    → IsErrAnd result (λ found. found ≡ error) → Puts (printed inner (shown s items)) old new before now result
+puts-part inner s items n begun is =
+    let parts : shown s items ≡ shown s (take n items) ++ items_shown s (drop n items) (stand_after s (take n items) outside) =
+    ap (shown s) (sym (take-append-drop n items)) ∙ shown-append s (take n items) (drop n items) outside in
+    let first : BeginsEarly inner (shown s (take n items)) (shown s items) =
+    subst (λ (all : List Printable). BeginsEarly inner (shown s (take n items)) all) (sym parts)
+    (begins-early inner (shown s (take n items)) (items_shown s (drop n items) (stand_after s (take n items) outside))) in
+    puts-bytes
+    (sym (append_assoc (early inner (shown s (take n items))) first.rest (late inner (shown s items)))
+    ∙ ap (λ (l : List ℕ). l ++ late inner (shown s items)) (sym first.is)
+    ∙ printed-by inner (shown s items))
+    (puts-stop (first.rest ++ late inner (shown s items)) begun is)
+
+-- ## Midway
+
+-- The printer stands behind the first i items, and the others may come.
+pub record Midway (s : Source) (inner : Bool) (items : List Item) (i : ℕ) (printer : Printer) : Type 0 where
+  pub behind : IsBehind s inner (take i items) printer
+  pub come : AllMay (MayCome (length s.names)) (depth_behind (shown s (take i items))) (drop i items)
+  pub shallow : depth_behind (shown s (take i items)) ≤ i
+
+module _ (items : List FlatItem) (i : ℕ) (item : FlatItem) (is : slice_get items i ≡ Some item) where
+  there : slice_get (items_are items) i ≡ Some (item_is item)
+  there = slice_get-map item_is items i ∙ ap (λ (o : Option FlatItem). option_map item_is o) is
+
+  inside : i < length (items_are items)
+  inside = slice_get_within (items_are items) i (item_is item) there
+
+  pub taken : take (i + 1) (items_are items) ≡ take i (items_are items) ++ item_is item ∷ []
+  taken = take_more (items_are items) i (item_is item) inside
+      ∙ ap (λ (x : Item). take i (items_are items) ++ x ∷ []) (get_or_from_slice_get (items_are items) i (item_is item) (item_is item) there)
+
+  dropped : drop i (items_are items) ≡ item_is item ∷ drop (i + 1) (items_are items)
+  dropped = drop_more (items_are items) i (item_is item) inside
+      ∙ ap (λ (x : Item). x ∷ drop (i + 1) (items_are items)) (get_or_from_slice_get (items_are items) i (item_is item) (item_is item) there)
+
+  module _ (s : Source) (inner : Bool) (printer : Printer) (midway : Midway s inner (items_are items) i printer) where
+    abbrev depth : ℕ
+    depth = depth_behind (shown s (take i (items_are items)))
+
+    coming : AllMay (MayCome (length s.names)) depth (item_is item ∷ drop (i + 1) (items_are items))
+    coming = subst (λ (rest : List Item). AllMay (MayCome (length s.names)) depth rest) dropped midway.come
+
+    -- the next item may come
+    pub next-comes : i < 18446744073709551615 → CanCome (length printer.book.now.names) printer.joiner.depth item
+    next-comes small =
+        let shallow : depth ≤ i = midway.shallow in
+        let may : CanCome (length s.names) depth item = can-come (length s.names) depth item coming.0 (omega arith) in
+        rw (midway.behind.names, midway.behind.stands.depth) may
+
+    -- and the printer stands behind it then
+    pub midway-next : (next : Printer) → IsBehind s inner (take i (items_are items) ++ item_is item ∷ []) next
+        → Midway s inner (items_are items) (i + 1) next
+    midway-next next behind =
+        let deeper : depth_behind (shown s (take (i + 1) (items_are items))) ≡ opened depth (item_is item) =
+        ap (λ (l : List Item). depth_behind (shown s l)) taken
+        ∙ ap depth_behind (shown-more s (take i (items_are items)) (item_is item))
+        ∙ fold_push (λ (d : ℕ) (p : Printable). opened d p.item) 0 (shown s (take i (items_are items)))
+        (shown_next s (take i (items_are items)) (item_is item)) in
+        let most : opened depth (item_is item) ≤ suc depth = opened-most depth (item_is item) in
+        let shallow : depth ≤ i = midway.shallow in
+        record {
+          behind = subst (λ (l : List Item). IsBehind s inner l next) (sym taken) behind;
+          come = subst (λ (d : ℕ). AllMay (MayCome (length s.names)) d (drop (i + 1) (items_are items))) (sym deeper) coming.1;
+          shallow = subst (λ (d : ℕ). d ≤ i + 1) (sym deeper) (omega arith);
+        }
+
+  -- the bytes of one item more
+  pub puts-next : {T U : Type 0} (inner : Bool) (s : Source) {old mid new : LineState} {a b c : Told} {value : T} {result : Result U PutError}
+      → Puts {T = T} (early inner (shown s (take i (items_are items)))) old mid a b (Ok value)
+      → Puts (added inner (shown s (take i (items_are items))) (shown_next s (take i (items_are items)) (item_is item))) mid new b c result
+      → Puts (early inner (shown s (take (i + 1) (items_are items)))) old new a c result
+  puts-next inner s begun more =
+      puts-bytes (early-more inner s (take i (items_are items)) (item_is item) ∙ ap (λ (l : List Item). early inner (shown s l)) (sym taken))
+      (puts-then begun more)
+
+-- ## The beginning and the end
+
+pub midway-begun : (s : Source) (inner : Bool) (items : List Item) (printer : Printer) → IsBehind s inner [] printer
+    → AllMay (MayCome (length s.names)) 0 items → Midway s inner items 0 printer
+midway-begun s inner items printer behind come = record { behind = behind; come = come; shallow = omega arith }
+
+module _ (items : List FlatItem) (n : ℕ) (all : length items ≤ n) where
+  short : length (items_are items) ≤ n
+  short = let same = length-map items item_is in omega arith
+
+  -- no inner text is open at the end
+  pub midway-ended : (s : Source) (inner : Bool) (printer : Printer) → Midway s inner (items_are items) n printer → printer.joiner.depth ≡ 0
+  midway-ended s inner printer midway =
+      midway.behind.stands.depth
+      ∙ subst (λ (rest : List Item). AllMay (MayCome (length s.names)) (depth_behind (shown s (take n (items_are items)))) rest)
+      (drop_all n (items_are items) short) midway.come
+
+  -- what was printed early, and what is left
+  pub puts-all : {T U : Type 0} (inner : Bool) (s : Source) {old mid new : LineState} {a b c : Told} {value : T} {result : Result U PutError}
+      → Puts {T = T} (early inner (shown s (take n (items_are items)))) old mid a b (Ok value)
+      → Puts (late inner (shown s (take n (items_are items)))) mid new b c result
+      → Puts (printed inner (shown s (items_are items))) old new a c result
+  puts-all inner s begun rest =
+      puts-bytes
+      (printed-by inner (shown s (take n (items_are items)))
+      ∙ ap (λ (l : List Item). printed inner (shown s l)) (take_all n (items_are items) short))
+      (puts-then begun rest)
+
+-- the bytes were put, whatever the call answered
+pub has-put : {T : Type 0} {bytes : List ℕ} {old new : LineState} {before now : Told} {value : T}
+    → Puts {T = T} bytes old new before now (Ok value) → HasPut bytes old new before now
+has-put {bytes = bytes} {new = new} {now = now} puts = puts-bytes (append-nil bytes) (puts-then puts (puts-none new now (tt {0})))

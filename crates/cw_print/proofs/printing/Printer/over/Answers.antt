@@ -1,0 +1,20 @@
+-- No section code ends the scan.
+use Rattle.std.proofs.Common.{refl, ◌∙◌}
+use Rattle.cw_lex.specs.Lexing.{tokens_of}
+use Rattle.cw_lex.proofs.Nesting.{until-none}
+use Rattle.cw_print.proofs.printing.Printer.over.Goals as goal
+
+pub returns : goal.returns
+returns c = record {
+  titles = refl;
+  names = refl;
+  fixed = λ i. record {
+    answers = (c.over.ensures.answers
+        ∙ until-none (tokens_of c.args.c.text.now c.args.c.span.start c.args.c.span.«end» c.args.c.mode) c.requires.uncut) i;
+    wraps = c.over.ensures.wraps i;
+    first = (c.over.ensures.first ∙ c.is_first.ensures) i;
+  };
+  stand = c.over.ensures.outside;
+  same_inner = c.new.ensures.inner;
+  stands = c.new.ensures.stands;
+}

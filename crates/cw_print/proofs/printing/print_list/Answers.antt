@@ -1,0 +1,56 @@
+-- The brackets and the items, one behind another.
+use Rattle.std.proofs.Common.{◌≡◌, ℕ, Bool, ◌&&◌, List, ◌++◌, ap, ◌∙◌, sym, subst, length, codes}
+use Rattle.std.proofs.lemmas.List.{append_assoc}
+use Rattle.cw_trees.specs.Flat.{Item, flat, trimmed}
+use Rattle.cw_trees.specs.Printing.{printed}
+use Rattle.cw_trees.specs.Tree.{Tree}
+use Rattle.cw_tokens.specs.Shapes.{unfolded}
+use Rattle.cw_lines.specs.WritesLaws.{puts-bytes, puts-failing, puts-longer, puts-then}
+use Rattle.cw_print.specs.Coming.{AllMay, MayCome}
+use Rattle.cw_print.specs.Printing.{shown}
+use Rattle.cw_print.specs.Sources.{source}
+use Rattle.cw_print.specs.Walk.{Source, bracket}
+use Rattle.cw_print.proofs.ComingLaws.{trimmed-may}
+use Rattle.cw_print.proofs.PrintingLaws.{puts-nothing}
+use Rattle.cw_print.proofs.printing.print_list.Goals as goal
+
+pub returns-in_err-items : goal.returns-in_err-items
+returns-in_err-items g c = record { puts = puts-nothing _ _ _ c.from_residual.ensures.1 }
+
+pub print_items-requires-clause-come : goal.print_items-requires-clause-come
+print_items-requires-clause-come g c =
+    subst (λ (items : List Item). AllMay (MayCome (length c.args.book.now.names)) 0 items) (sym c.in_ok-items.ensures)
+    (trimmed-may (length c.args.book.now.names) (unfolded c.args.store.now.lists c.args.id.index) c.requires.named)
+
+pub returns-in_err-put_bracket : goal.returns-in_err-put_bracket
+returns-in_err-put_bracket g c =
+    let s : Source = source c.args.text.now c.args.span c.args.mode c.args.book.now c.args.section c.args.flags.now.wrap in
+    let tree : Tree = unfolded c.args.store.now.lists c.args.id.index in
+    let later : List ℕ = printed c.args.inner (shown s (trimmed (flat tree))) ++ bracket (c.args.inner && c.args.flags.now.wrap) (codes "}") in
+    record {
+      puts = puts-failing (ap (λ (b : Bool). bracket b (codes "\\PB{") ++ later) c.is_wrapped-wraps.ensures)
+          (puts-longer later c.in_err-put_bracket.ensures) c.from_residual-in_err-put_bracket.ensures.1;
+    }
+
+pub returns-in_err-print_items : goal.returns-in_err-print_items
+returns-in_err-print_items g c =
+    let s : Source = source c.args.text.now c.args.span c.args.mode c.args.book.now c.args.section c.args.flags.now.wrap in
+    let tree : Tree = unfolded c.args.store.now.lists c.args.id.index in
+    let wraps : Bool = c.args.inner && c.args.flags.now.wrap in
+    record {
+      puts = puts-failing
+          ((λ i. (bracket (c.is_wrapped-wraps.ensures i) (codes "\\PB{") ++ printed c.args.inner (shown s (c.in_ok-items.ensures i))) ++ bracket wraps (codes "}"))
+          ∙ append_assoc (bracket wraps (codes "\\PB{")) (printed c.args.inner (shown s (trimmed (flat tree)))) (bracket wraps (codes "}")))
+          (puts-longer (bracket wraps (codes "}")) (puts-then c.in_ok-put_bracket.ensures c.in_err-print_items.ensures))
+          c.from_residual-in_err-print_items.ensures.1;
+    }
+
+pub returns : goal.returns
+returns g c =
+    let s : Source = source c.args.text.now c.args.span c.args.mode c.args.book.now c.args.section c.args.flags.now.wrap in
+    record {
+      puts = puts-bytes
+          (λ i. bracket (c.is_wrapped-wraps.ensures i) (codes "\\PB{")
+          ++ (printed c.args.inner (shown s (c.in_ok-items.ensures i)) ++ bracket (c.is_wrapped-wraps.ensures i) (codes "}")))
+          (puts-then c.in_ok-put_bracket.ensures (puts-then c.in_ok-print_items.ensures c.put_bracket-2.ensures));
+    }

@@ -1,0 +1,28 @@
+-- The printing of a C text, item by item.
+use Rattle.std.specs.Prelude.{◌≡◌, ℕ, ◌++◌, Bool, List, [], ◌∷◌}
+use Rattle.cw_trees.specs.Flat.{Item}
+use Rattle.cw_trees.specs.Printing.{Printable}
+use Rattle.cw_join.specs.Standing.{Stands}
+use Rattle.cw_print.specs.declared.printing.CText.{CText}
+use Rattle.cw_print.specs.declared.printing.Printer.{Printer}
+use Rattle.cw_print.specs.Sources.{source, titles}
+use Rattle.cw_print.specs.Walk.{Source, item_shown, items_shown, outside, stand_after}
+
+abbrev pub source_of : CText → Source
+source_of c = source c.text.now c.span c.mode c.book.now c.section c.wraps
+
+-- what these items print, and what the next one does behind them
+abbrev pub shown : Source → List Item → List Printable
+shown s items = items_shown s items outside
+
+abbrev pub shown_next : Source → List Item → Item → Printable
+shown_next s items item = record { item = item; bytes = (item_shown s item (stand_after s items outside)).bytes }
+
+-- The printer stands behind these items of a C text.
+pub record IsBehind (s : Source) (inner : Bool) (items : List Item) (printer : Printer) : Type 0 where
+  pub titles : titles printer.book.now ≡ s.titles
+  pub names : printer.book.now.names ≡ s.names
+  pub fixed : printer.walk.fixed ≡ s.fixed
+  pub stand : printer.walk.stand ≡ stand_after s items outside
+  pub same_inner : printer.joiner.inner ≡ inner
+  pub stands : Stands printer.joiner (shown s items)

@@ -1,0 +1,77 @@
+-- What a C text of a book is printed from.
+use Rattle.std.specs.Prelude.{ℕ, ◌-◌, ◌==◌, Bool, true, false, List, [], ◌∷◌, Option, Some, None, option_map, slice_get, unwrap_or}
+use Rattle.cw_base.specs.declared.span.Span.{Span}
+use Rattle.cw_lex.specs.Lexing.{tokens_of}
+use Rattle.cw_lex.specs.declared.tokens.Mode.{Mode}
+use Rattle.cw_phase1.specs.declared.book.Book.{Book}
+use Rattle.cw_phase1.specs.declared.sections.Section.{Section}
+use Rattle.cw_secnames.specs.Kept.{SecName}
+use Rattle.cw_secnames.specs.Uses.{name_at}
+use Rattle.cw_secnames.specs.declared.kinds.SecId.{SecId}
+use Rattle.cw_secnames.specs.declared.kinds.SecKind.{SecKind}
+use Rattle.cw_secnames.specs.declared.kinds.SecKind.TheVariants.{Named, File}
+use Rattle.cw_print.specs.Walk.{Source, Title}
+
+-- the section of a number; they are counted from 1
+abbrev pub section_of : List Section → ℕ → Option Section
+section_of sections number = elim (number == 0) [ true ↦ None | false ↦ slice_get sections (number - 1) ]
+
+abbrev pub is_changed : List Section → ℕ → Bool
+is_changed sections number = unwrap_or (option_map (λ s. s.changed) (section_of sections number)) false
+
+-- ## Section names
+
+-- the first section that defines a name, or 0
+abbrev pub first_of : List ℕ → ℕ
+first_of [] = 0
+first_of (number ∷ numbers) = number
+
+abbrev pub is_file : SecKind → Bool
+is_file Named = false
+is_file File = true
+
+-- a name that is kept, as it is printed
+abbrev pub title_of_name : List Section → SecName → Title
+title_of_name sections name = record {
+  text = name.text;
+  is_file = is_file name.kind;
+  number = first_of name.defined;
+  is_changed = is_changed sections (first_of name.defined);
+}
+
+abbrev pub title_of_kept : List Section → List SecName → Option ℕ → Option Title
+title_of_kept sections kept None = None
+title_of_kept sections kept (Some k) = option_map (title_of_name sections) (slice_get kept k)
+
+-- The title of the section name at a number: that of the name for which it stands in the book.
+abbrev pub titles : Book → ℕ → Option Title
+titles book number = title_of_kept book.outline.sections book.sec_names (name_at number book.name_uses)
+
+-- ## The present section
+
+-- whether a section is the first that defines this name
+abbrev pub defines_first : List SecName → Option SecId → ℕ → Bool
+defines_first kept None number = false
+defines_first kept (Some id) number =
+    unwrap_or (option_map (λ name. first_of name.defined == number) (slice_get kept id.index)) false
+
+abbrev pub defines_its_name : List SecName → Option Section → ℕ → Bool
+defines_its_name kept None number = false
+defines_its_name kept (Some section) number = defines_first kept section.name number
+
+-- Whether the present section is the first that defines its name. The section list has none.
+abbrev pub is_first : Book → ℕ → Bool
+is_first book number = defines_its_name book.sec_names (section_of book.outline.sections number) number
+
+-- ## The source
+
+abbrev pub source : List ℕ → Span → Mode → Book → ℕ → Bool → Source
+source text span mode book section wraps = record {
+  fixed = record {
+    answers = tokens_of text span.start span.«end» mode;
+    wraps = wraps;
+    first = is_first book section;
+  };
+  titles = titles book;
+  names = book.names;
+}

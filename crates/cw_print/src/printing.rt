@@ -1,0 +1,200 @@
+//! The printing of a C text from its translation.
+ghost use Rattle.std.specs.Prelude.{◌≡◌, ◌&&◌, ℕ, ◌≤◌, ◌<◌, ◌++◌, Bool, List, [], ◌∷◌, IfOk, OnOk, false, length};
+ghost use Rattle.cw_lex.specs.Lexing.{tokens_of};
+ghost use Rattle.cw_lex.specs.Nested.{begins_section_in};
+ghost use Rattle.cw_trees.specs.Flat.{Item, flat, trimmed};
+ghost use Rattle.cw_trees.specs.Printing.{printed};
+ghost use Rattle.cw_tokens.specs.FlatItems.{item_is, items_are};
+ghost use Rattle.cw_tokens.specs.Shapes.{unfolded};
+ghost use Rattle.cw_scraps.specs.Lines.{IsNamedBelow};
+ghost use Rattle.cw_lines.specs.Writes.{CanWrite, Puts};
+ghost use Rattle.cw_join.specs.Early.{added};
+ghost use Rattle.cw_join.specs.Tokens.{CanCome};
+ghost use Rattle.cw_print.specs.Coming.{AllMay, MayCome};
+ghost use Rattle.cw_print.specs.Printing.{IsBehind, shown, shown_next, source_of};
+ghost use Rattle.cw_print.specs.Sources.{source};
+ghost use Rattle.cw_print.specs.Walk.{Source, bracket, tree_bytes};
+
+use crate::book_titles::{is_first, title_of_item};
+use crate::walk::{Manner, TextWalk};
+use cw_base::{Bytes, Flags, Memory, Span};
+use cw_desk::Desk;
+use cw_join::{FlatToken, Joiner};
+use cw_lex::Mode;
+use cw_lines::{LineOut, PutError};
+use cw_phase1::Book;
+use cw_tokens::{FlatItem, FlatTokens, ListId, TokenStore};
+use std::alloc::Global;
+
+// A C text: where it stands, and the book and the section in which it is printed.
+#[derive(Clone, Copy)]
+struct CText<'a> {
+    text: &'a [u8],
+    span: Span,
+    mode: Mode,
+    book: &'a Book,
+    section: u32,
+    // Inner texts stand in `\PB{` and `}`.
+    wraps: bool,
+}
+
+// Where the printing of a C text stands.
+#[derive(Drop)]
+struct Printer<'a> {
+    book: &'a Book,
+    walk: TextWalk<'a>,
+    joiner: Joiner,
+}
+
+impl<'a> Printer<'a> {
+    // A printer that stands before the first item.
+    fn over(alloc: Global, c: CText<'a>, inner: bool) -> Printer<'a>
+        requires order { c.span.start ≤ c.span.end }
+        requires within { c.span.end ≤ length c.text.now }
+        requires uncut { begins_section_in (tokens_of c.text.now c.span.start c.span.end c.mode) ≡ false }
+        ensures { IsBehind (source_of c.entry) inner [] result }
+    {
+        let manner = Manner {
+            wraps: c.wraps,
+            first: is_first(c.book, c.section),
+        };
+        Printer {
+            book: c.book,
+            walk: TextWalk::over(alloc, c.text, c.span, c.mode, manner),
+            joiner: Joiner::new(inner),
+        }
+    }
+
+    // Prints the next item. The buffer is given back, empty.
+    fn print<D: Desk>(
+        &mut self,
+        item: FlatItem,
+        mut buffer: Bytes,
+        out: &mut LineOut,
+        desk: &mut D,
+    ) -> Result<Bytes, PutError>
+        requires can { CanWrite (D.told desk.old) out.old }
+        requires come { CanCome (length self.old.book.now.names) self.old.joiner.depth item }
+        requires empty { buffer ≡ [] }
+        ensures puts { (s : Source) (inner : Bool) (items : List Item) → IsBehind s inner items self.old
+            → Puts (added inner (shown s items) (shown_next s items (item_is item))) out.old out.new
+            (D.told desk.old) (D.told desk.new) result }
+        ensures behind { (s : Source) (inner : Bool) (items : List Item) → IsBehind s inner items self.old
+            → OnOk result (IsBehind s inner (items ++ item_is item ∷ []) self.new) }
+        ensures empty { IfOk result (λ after. after ≡ []) }
+    {
+        let title = title_of_item(self.book, item);
+        self.walk.show(&mut buffer, item, title)?;
+        let token = FlatToken {
+            item,
+            bytes: buffer.as_slice(),
+        };
+        self.joiner.push(token, &self.book.names, out, desk)?;
+        Ok(cleared(buffer))
+    }
+}
+
+fn cleared(buffer: Bytes) -> Bytes
+    ensures { result ≡ [] }
+{
+    let mut bytes = buffer.into_vec();
+    bytes.clear();
+    Bytes::from_vec(bytes)
+}
+
+fn print_items<D: Desk>(
+    alloc: Global,
+    c: CText,
+    inner: bool,
+    items: &FlatTokens,
+    out: &mut LineOut,
+    desk: &mut D,
+) -> Result<(), PutError>
+    requires can { CanWrite (D.told desk.old) out.old }
+    requires order { c.span.start ≤ c.span.end }
+    requires within { c.span.end ≤ length c.text.now }
+    requires uncut { begins_section_in (tokens_of c.text.now c.span.start c.span.end c.mode) ≡ false }
+    requires come { AllMay (MayCome (length c.book.now.names)) 0 (items_are items.now) }
+    ensures { Puts (printed inner (shown (source_of c.entry) (items_are items.now))) out.old out.new
+        (D.told desk.old) (D.told desk.new) result }
+{
+    let mut printer = Printer::over(alloc, c, inner);
+    let mut buffer = Bytes::new_in(alloc);
+    for i in 0..items.len() {
+        buffer = printer.print(items.item(i), buffer, out, desk)?;
+    }
+    printer.joiner.finish(out, desk)
+}
+
+// The items of a list, trimmed.
+fn trimmed_items(alloc: Global, store: &TokenStore, id: ListId) -> Result<FlatTokens, Memory>
+    requires { id.index < length store.now.lists }
+    ensures { IfOk result (λ items. items_are items ≡ trimmed (flat (unfolded store.now.lists id.index))) }
+{
+    let mut items = store.flat(alloc, id)?;
+    items.trim();
+    Ok(items)
+}
+
+// Whether a text stands in `\PB{` and `}`.
+fn is_wrapped(inner: bool, flags: &Flags) -> bool
+    ensures { result ≡ (inner && flags.now.wrap) }
+{
+    inner && flags.wrap
+}
+
+fn put_bracket<D: Desk>(
+    wraps: bool,
+    bytes: &[u8],
+    out: &mut LineOut,
+    desk: &mut D,
+) -> Result<(), PutError>
+    requires can { CanWrite (D.told desk.old) out.old }
+    ensures { Puts (bracket wraps bytes.now) out.old out.new (D.told desk.old) (D.told desk.new) result }
+{
+    if wraps {
+        return out.put_all(bytes, desk);
+    }
+    Ok(())
+}
+
+/// Prints a C text from its translation, a list of the store. It scans the span once more to find the tokens of the list,
+/// and prints section names as the book keeps them. `section` is the present section, or 0 in the section list; with
+/// `inner` the text is itself inner C text.
+pub fn print_list<D: Desk>(
+    alloc: Global,
+    text: &[u8],
+    span: Span,
+    mode: Mode,
+    book: &Book,
+    section: u32,
+    flags: &Flags,
+    store: &TokenStore,
+    id: ListId,
+    inner: bool,
+    out: &mut LineOut,
+    desk: &mut D,
+) -> Result<(), PutError>
+    requires can { CanWrite (D.told desk.old) out.old }
+    requires order { span.start ≤ span.end }
+    requires within { span.end ≤ length text.now }
+    requires uncut { begins_section_in (tokens_of text.now span.start span.end mode) ≡ false }
+    requires list { id.index < length store.now.lists }
+    requires named { IsNamedBelow (length book.now.names) (unfolded store.now.lists id.index) }
+    ensures puts { Puts (tree_bytes inner (source text.now span mode book.now section flags.now.wrap) (unfolded store.now.lists id.index))
+        out.old out.new (D.told desk.old) (D.told desk.new) result }
+{
+    let c = CText {
+        text,
+        span,
+        mode,
+        book,
+        section,
+        wraps: flags.wrap,
+    };
+    let wraps = is_wrapped(inner, flags);
+    let items = trimmed_items(alloc, store, id)?;
+    put_bracket(wraps, b"\\PB{", out, desk)?;
+    print_items(alloc, c, inner, &items, out, desk)?;
+    put_bracket(wraps, b"}", out, desk)
+}
