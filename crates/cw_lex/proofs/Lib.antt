@@ -33,3 +33,4 @@ pub mod BarBodies
 pub mod BarRules
 pub mod InnerTwins
 pub mod InnerScans
+pub mod LimboNames

@@ -19,3 +19,4 @@ pub mod Nest
 pub mod Heads
 pub mod NestLaws
 pub mod Parts
+pub mod Limbo

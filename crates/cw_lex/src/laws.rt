@@ -1,4 +1,5 @@
 //! Laws of the scanner's answers.
+ghost use Rattle.cw_lex.specs.Limbo.{LimboHasNoNames};
 ghost use Rattle.cw_lex.specs.NestLaws.{NestedAnswersMakeOneNest, NestsAreWell, HeadsLeaveNests};
 ghost use Rattle.cw_lex.specs.Parts.{PartsEndAtSections, PartsEndAtCodes, LastPartsEndWithTheText, PartsAreAnswered};
 ghost use Rattle.cw_lex.specs.Parts.{InnerTextsEndAtBars};
@@ -28,4 +29,9 @@ pub fn nest_law()
     ensures one { NestedAnswersMakeOneNest }
     ensures well { NestsAreWell }
     ensures heads { HeadsLeaveNests }
+{}
+
+/// The law of limbo: no section name stands in it. It does nothing: what it ensures is for proofs.
+pub fn limbo_law()
+    ensures { LimboHasNoNames }
 {}

@@ -10,3 +10,4 @@ pub mod Referred
 pub mod RoleLaws
 pub mod SpanLaws
 pub mod NameSizes
+pub mod LimboRoles

@@ -96,7 +96,7 @@ uses-below n (p ∷ ps) f a =
 
 -- ## Sections
 
-abbrev count_by : Bool → ℕ
+abbrev pub count_by : Bool → ℕ
 count_by true = 1
 count_by false = 0
 
@@ -159,7 +159,7 @@ numbered s kept (Finish t ∷ answers) = numbered s kept answers
 numbered s kept (Note kind place ∷ answers) = numbered s kept answers
 
 -- how many section codes there are
-abbrev codes : List Placed → ℕ
+abbrev pub codes : List Placed → ℕ
 codes [] = 0
 codes (p ∷ ps) = count_by (is_section_code p.role) + codes ps
 
@@ -168,7 +168,7 @@ count-section : (b : Bool) (s : Section) (rest : List Section)
 count-section true s rest = omega arith
 count-section false s rest = sym (zero-add (length rest))
 
-section-count : (lines : List MergedLine) (size : ℕ) (ps : List Placed) → length (sections_of lines size ps) ≡ codes ps
+pub section-count : (lines : List MergedLine) (size : ℕ) (ps : List Placed) → length (sections_of lines size ps) ≡ codes ps
 section-count lines size [] = refl
 section-count lines size (p ∷ ps) =
     count-section (is_section_code p.role) (section_at lines size p.token ps) (sections_of lines size ps) ∙
@@ -177,24 +177,24 @@ section-count lines size (p ∷ ps) =
 -- ## References
 
 -- The numbers rise, perhaps with repeats, from one number up to another.
-abbrev Rise : ℕ → ℕ → List ℕ → Type 0
+abbrev pub Rise : ℕ → ℕ → List ℕ → Type 0
 Rise low high [] = Unit {0}
 Rise low high (n ∷ ns) = (low ≤ n) × (n ≤ high) × Rise n high ns
 
-rise-more : (m n high : ℕ) (ns : List ℕ) → m ≤ n → Rise n high ns → Rise m high ns
+pub rise-more : (m n high : ℕ) (ns : List ℕ) → m ≤ n → Rise n high ns → Rise m high ns
 rise-more m n high [] h r = tt
 rise-more m n high (k ∷ ns) h r = (omega (arith, r.0), r.1, r.2)
 
-abbrev sections_in : List Reference → List ℕ
+abbrev pub sections_in : List Reference → List ℕ
 sections_in references = map (λ (r : Reference). r.section) references
 
-rise-reference : (role : Role) (name : Option SecId) (section low high : ℕ) (references : List Reference) → low ≤ section → section ≤ high
+pub rise-reference : (role : Role) (name : Option SecId) (section low high : ℕ) (references : List Reference) → low ≤ section → section ≤ high
     → Rise section high (sections_in references) → Rise low high (sections_in (reference_by role name section ++ references))
 rise-reference (roles.Name how) None section low high references l h r = rise-more low section high (sections_in references) l r
 rise-reference (roles.Name how) (Some id) section low high references l h r = (l, h, r)
 rise-reference role name section low high references l h r = rise-more low section high (sections_in references) l r
 
-rise : (m high : ℕ) (ps : List Placed) → Numbered m ps → m + codes ps ≤ high → Rise m high (sections_in (references_of ps))
+pub rise : (m high : ℕ) (ps : List Placed) → Numbered m ps → m + codes ps ≤ high → Rise m high (sections_in (references_of ps))
 rise m high [] n h = tt
 rise m high (p ∷ ps) n h =
     rise-reference p.role p.name p.section m high (references_of ps) (omega (arith, n.0)) (omega (arith, n.0, h))
@@ -227,12 +227,12 @@ once-ascends low high (n ∷ []) r = (r.0, r.1, tt)
 once-ascends low high (n ∷ next ∷ ns) r =
     once-by (n == next) n next low high ns refl r (λ k h. once-ascends k high (next ∷ ns) (h, r.2.1, r.2.2))
 
-ascend : (name : ℕ) (how : RefKind) (high : ℕ) (references : List Reference) → Rise 0 high (sections_in references)
-    → Ascend 0 high (once (sections_in (filter (is_of name how) references)))
+ascend : (name : ℕ) (how : RefKind) (high : ℕ) (references : List Reference) → Rise 1 high (sections_in references)
+    → Ascend 1 high (once (sections_in (filter (is_of name how) references)))
 ascend name how high references r =
-    once-ascends 0 high (sections_in (filter (is_of name how) references)) (rise-filter (is_of name how) 0 high references r)
+    once-ascends 1 high (sections_in (filter (is_of name how) references)) (rise-filter (is_of name how) 1 high references r)
 
-refers : (high : ℕ) (references : List Reference) (k : ℕ) (names : List SecName) → Rise 0 high (sections_in references)
+refers : (high : ℕ) (references : List Reference) (k : ℕ) (names : List SecName) → Rise 1 high (sections_in references)
     → All (RefersUpTo high) (referred references k names)
 refers high references k [] r = All-nil (RefersUpTo high)
 refers high references k (n ∷ names) r =
@@ -240,9 +240,7 @@ refers high references k (n ∷ names) r =
     (record { defined = ascend k Defined high references r; used = ascend k Used high references r; cited = ascend k Cited high references r })
     (refers high references (k + 1) names r)
 
-pub all-refer : (lines : List MergedLine) (size : ℕ) (names : List SecName) (ps : List Placed) → Numbered 0 ps
+pub all-refer : (lines : List MergedLine) (size : ℕ) (names : List SecName) (ps : List Placed)
+    → Rise 1 (length (sections_of lines size ps)) (sections_in (references_of ps))
     → All (RefersUpTo (length (sections_of lines size ps))) (referred (references_of ps) 0 names)
-all-refer lines size names ps n =
-    let same : length (sections_of lines size ps) ≡ codes ps = section-count lines size ps in
-    refers (length (sections_of lines size ps)) (references_of ps) 0 names
-    (rise 0 (length (sections_of lines size ps)) ps n (omega (arith, same)))
+all-refer lines size names ps r = refers (length (sections_of lines size ps)) (references_of ps) 0 names r

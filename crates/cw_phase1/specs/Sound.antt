@@ -10,11 +10,11 @@ abbrev pub Ascend : ℕ → ℕ → List ℕ → Type 0
 Ascend first last [] = Unit {0}
 Ascend first last (n ∷ numbers) = (first ≤ n) × (n ≤ last) × Ascend (n + 1) last numbers
 
--- The sections that refer to a name ascend in each of the three ways, up to the last section.
+-- The sections that refer to a name ascend in each of the three ways, from section 1 up to the last one.
 pub record RefersUpTo (last : ℕ) (n : SecName) : Type 0 where
-  pub defined : Ascend 0 last n.defined
-  pub used : Ascend 0 last n.used
-  pub cited : Ascend 0 last n.cited
+  pub defined : Ascend 1 last n.defined
+  pub used : Ascend 1 last n.used
+  pub cited : Ascend 1 last n.cited
 
 -- The parts of a section stand one behind another in a text of this size.
 pub record LiesIn (size : ℕ) (s : Section) : Type 0 where

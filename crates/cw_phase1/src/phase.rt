@@ -17,7 +17,7 @@ use crate::sections::or_else;
 use crate::told::Told;
 use crate::words::Words;
 use cw_base::{Memory, Note, NoteKind, Place, Span, Web};
-use cw_lex::{Lexed, Lexer, Mode};
+use cw_lex::{Lexed, Lexer, Mode, limbo_law};
 use cw_secnames::{SecId, SecKind, SecNames};
 use std::alloc::Global;
 
@@ -39,6 +39,7 @@ pub fn phase_one(alloc: Global, web: &Web) -> Result<Book, Memory>
     ensures spans { IfOk result (λ b. All (LiesIn (length (text_of web.now.lines))) b.outline.sections) }
     ensures limbo_span { IfOk result (λ b. b.outline.limbo.«end» ≤ length (text_of web.now.lines)) }
 {
+    limbo_law();
     let held = scan(alloc, web)?;
     let book = make_book(web, held)?;
     Ok(book)

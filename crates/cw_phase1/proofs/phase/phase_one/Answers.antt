@@ -21,6 +21,7 @@ use Rattle.cw_phase1.proofs.Outlines.{all-sections, all-limbo}
 use Rattle.cw_phase1.proofs.WordLaws.{all-names, all-occurrences, all-uses, all-references}
 use Rattle.cw_phase1.proofs.Referred.{all-referred}
 use Rattle.cw_phase1.proofs.RoleLaws.{fits, numbered, all-refer, uses-below}
+use Rattle.cw_phase1.proofs.LimboRoles.{all-rise, unnamed}
 use Rattle.cw_phase1.proofs.SpanLaws.{Follow, follows, all-lie, all-named, limbo-lies, named-below}
 use Rattle.cw_phase1.proofs.NameSizes.{all-short}
 use Rattle.cw_phase1.proofs.phase.phase_one.Goals as goal
@@ -72,7 +73,9 @@ returns-clause-references c =
     subst (λ (sections : List Section). All (RefersUpTo (length sections)) c.in_ok-book.book.sec_names) (sym (returns-clause-sections c))
     (subst (All (RefersUpTo (length (sections_of c.args.web.now.lines (length (text_of c.args.web.now.lines)) (tokens c))))) (sym (returns-clause-sec_names c))
     (all-refer c.args.web.now.lines (length (text_of c.args.web.now.lines)) (kept_after [] (answers_of c.args.web.now.lines)) (tokens c)
-    (numbered at_limbo [] (answers_of c.args.web.now.lines))))
+    (all-rise c.args.web.now.lines (length (text_of c.args.web.now.lines)) (tokens c) (numbered at_limbo [] (answers_of c.args.web.now.lines))
+    (unnamed at_limbo [] (answers_of c.args.web.now.lines)
+    (c.limbo_law.ensures (text_of c.args.web.now.lines) 0 (length (text_of c.args.web.now.lines)))))))
 
 uses : (c : goal.In_ok-book) → All (λ (u : NameUse). u.name < length c.in_ok-held.held.kept) (uses_of (tokens c))
 uses c =

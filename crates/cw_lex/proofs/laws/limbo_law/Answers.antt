@@ -1,0 +1,5 @@
+use Rattle.cw_lex.proofs.LimboNames.{limbo-has-no-names}
+use Rattle.cw_lex.proofs.laws.limbo_law.Goals as goal
+
+pub returns : goal.returns
+returns c = limbo-has-no-names
