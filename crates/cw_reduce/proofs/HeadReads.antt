@@ -160,7 +160,7 @@ words-text wanted (Leaf t rest) w = go (head_behind wanted t.kind t.span) refl (
         ap (λ o. list_all (word_fits Text) (words_by t rest o).words) e
         ∙ and-both (word_fits Text t) (list_all (word_fits Text) (head_words next rest).words) f.0 (more next f.1)
 
-abbrev HeadFits : Head → Type 0
+abbrev pub HeadFits : Head → Type 0
 HeadFits (Macro number words) = list_all (word_fits Math) words ≡ true
 HeadFits (Format number words) = list_all (word_fits Text) words ≡ true
 HeadFits h = Unit {0}
@@ -177,7 +177,7 @@ named-fits t End = tt
 named-fits t (Group u inner more) = tt
 named-fits t (Leaf s rest) = named-fits-if (is_head_sign s.kind) t s rest
 
-fits-by : (k : TokKind) (t : Seen) (rest : Nest) → HeadFits (headed_by k t rest).head
+pub fits-by : (k : TokKind) (t : Seen) (rest : Nest) → HeadFits (headed_by k t rest).head
 fits-by (kind.Code code.Define) t rest = words-math wants.Macro rest
 fits-by (kind.Code code.Format) t rest = words-text (wants.First false) rest refl
 fits-by (kind.Code code.SilentFormat) t rest = tt
@@ -185,7 +185,7 @@ fits-by (kind.Code code.SectionName) t rest = named-fits t rest
 fits-by (kind.Code code.FileName) t rest = named-fits t rest
 fits-by k t rest = tt
 
-head-fits : (n : Nest) → HeadFits (headed n).head
+pub head-fits : (n : Nest) → HeadFits (headed n).head
 head-fits End = tt
 head-fits (Group t inner rest) = tt
 head-fits (Leaf t rest) = fits-by t.kind t rest
@@ -198,7 +198,7 @@ later-fits : (mode : MathMode) (words : List Seen) → list_all (word_fits mode)
 later-fits mode [] h = refl
 later-fits mode (word ∷ words) h = and-right (word_fits mode word) (list_all (word_fits mode) words) h
 
-reads-head : (flags : Flags) (named : ℕ → Option (List (List Answer))) (h : Head) (known : Known) → HeadFits h → MadeReads (head_made flags named h known)
+pub reads-head : (flags : Flags) (named : ℕ → Option (List (List Answer))) (h : Head) (known : Known) → HeadFits h → MadeReads (head_made flags named h known)
 reads-head flags named Headless known f = reads-nothing known
 reads-head flags named (Silent words) known f = reads-nothing _
 reads-head flags named (Macro number words) known f =

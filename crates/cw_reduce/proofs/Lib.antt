@@ -26,3 +26,8 @@ pub mod HoldLaws
 pub mod NameLists
 pub mod NameSteps
 pub mod NamedJoined
+pub mod HeadAnswers
+pub mod HeadTokens
+pub mod HeadMakes
+pub mod HeadFinds
+pub mod HeadLists

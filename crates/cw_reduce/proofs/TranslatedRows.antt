@@ -140,6 +140,15 @@ format_bytes : bytes_of ((0, codes "\\F") ∷ []) (in_definition (codes "@f foo 
 unfolding translated normal log count positions looks productions
 format_bytes = refl
 
+-- A parenthesis behind a blank begins no parameters, and a number is no second name.
+spaced_bytes : bytes_of ((0, codes "\\D") ∷ (5, codes "(") ∷ (7, codes ")") ∷ []) (in_definition (codes "@d f (a)")) ≡ codes "\\4\\D$\\|f$\\5(\\|a)"
+unfolding translated normal log count positions looks productions
+spaced_bytes = refl
+
+improper_format_bytes : bytes_of ((0, codes "\\F") ∷ (5, codes "\\T{5}") ∷ []) (in_definition (codes "@f x 5")) ≡ codes "\\4\\F\\|x\\5\\T{5}"
+unfolding translated normal log count positions looks productions
+improper_format_bytes = refl
+
 silent_bytes : bytes_of [] (in_definition (codes "@s foo int")) ≡ []
 unfolding translated normal log count positions looks productions
 silent_bytes = refl

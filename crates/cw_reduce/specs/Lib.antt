@@ -10,3 +10,4 @@ pub mod Retyping
 pub mod NameParts
 pub mod Holders
 pub mod Naming
+pub mod HeadReading

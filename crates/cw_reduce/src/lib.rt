@@ -3,6 +3,7 @@
 
 mod gathering;
 mod holders;
+mod heads;
 mod kinds;
 mod laws;
 mod naming;
@@ -16,6 +17,8 @@ pub use translating::{Translated, translate};
 pub use uncut::{is_plain_c, is_uncut};
 pub use walk::{Reduced, reduce};
 
+#[cfg(test)]
+mod head_tests;
 #[cfg(test)]
 mod slow_tests;
 #[cfg(test)]

@@ -10,3 +10,4 @@ pub mod Marking
 pub mod Applying
 pub mod Modes
 pub mod Leaves
+pub mod Words

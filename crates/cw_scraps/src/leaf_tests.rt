@@ -3,11 +3,11 @@ ghost use Rattle.std.specs.Prelude.{◌≡◌, ◌^◌, ◌<◌, length};
 ghost use Rattle.cw_lex.specs.declared.tokens.TokKind.TheVariants as TokKind;
 ghost use Rattle.cw_scraps.specs.Leaves.{MakesLeaf};
 
-use crate::scrap_of;
+use crate::{scrap_of, word_token};
 use cw_base::{Cat, MathMode, Memory, Span};
 use cw_lex::{Code, Sign, Tok, TokKind};
 use cw_names::Names;
-use cw_tokens::{FlatItem, ListId, TokenStore};
+use cw_tokens::{FlatItem, ListId, Token, TokenStore};
 use cw_trees::Control;
 use std::alloc::Global;
 use std::test::Fail;
@@ -258,5 +258,28 @@ fn a_word_is_reserved_in_its_place_only(rt: HostRuntime) -> Result<(), Fail> {
         let found = leaf(rt.alloc(), TokKind::Identifier, word, true)?;
         assert!(rt; found.0 == inside && found.1 == MathMode::Maybe);
     }
+    Ok(())
+}
+
+#[test]
+fn words_are_tokens_by_themselves(rt: HostRuntime) -> Result<(), Fail> {
+    let mut names = Names::with_words(rt.alloc())?;
+    let comma = Tok {
+        kind: TokKind::Sign(Sign::Comma),
+        text: b",",
+        span: Span { start: 3, end: 4 },
+        hash_line: false,
+    };
+    let token = word_token(&comma, &mut names)?;
+    assert_eq!(rt; token, Token::Source(3, MathMode::Math));
+    let word = Tok {
+        kind: TokKind::Identifier,
+        text: b"int",
+        span: Span { start: 5, end: 8 },
+        hash_line: false,
+    };
+    let token = word_token(&word, &mut names)?;
+    let is_reserved = matches!(token, Token::Reserved(_, 5, Cat::RawInt));
+    assert!(rt; is_reserved);
     Ok(())
 }

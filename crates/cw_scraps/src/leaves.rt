@@ -61,7 +61,7 @@ pub fn scrap_of(token: &Tok, names: &mut Names, store: &mut TokenStore) -> Resul
 }
 
 /// The category of an identifier that has a category of its own.
-fn word_cat(hash_line: bool, text: &[u8], own: Cat) -> Cat
+pub(crate) fn word_cat(hash_line: bool, text: &[u8], own: Cat) -> Cat
     ensures cat { result ≡ word_cat hash_line text.now own }
     ensures real { own ≢ Cats.End → result ≢ Cats.End }
 {
@@ -311,7 +311,7 @@ fn sign_cat(sign: Sign) -> Cat
 }
 
 /// Brackets, the semicolon and the colon need no mode; every other sign is in math.
-fn sign_mode(sign: Sign) -> MathMode
+pub(crate) fn sign_mode(sign: Sign) -> MathMode
     ensures { result ≡ sign_mode sign }
 {
     match sign {

@@ -11,6 +11,7 @@ mod marks;
 mod pieces;
 mod producing;
 mod reserving;
+mod words;
 
 /// The most tokens that a production adds to the store of a line, whatever its scraps are.
 pub const PRODUCTION_TOKENS: usize = 24;
@@ -19,6 +20,7 @@ pub use laws::mode_law;
 pub use leaves::{Leaf, scrap_of};
 pub use line::{LineEntry, Part, ScrapLine};
 pub use marks::Marks;
+pub use words::word_token;
 
 #[cfg(test)]
 mod leaf_tests;

@@ -1,0 +1,340 @@
+//! The head with which a definition or a named C part begins, as it is read.
+ghost use Rattle.std.specs.Prelude.{◌≡◌, ℕ, ◌+◌, ◌^◌, ◌<◌, ◌≤◌, [], ◌∷◌, ◌++◌, length, true, option_map, IsSome, None, Some, IfOk, OnOk, OnErr};
+ghost use Rattle.cw_base.specs.declared.flags.Flags.{Flags};
+ghost use Rattle.cw_lex.specs.Answers.{Gives, Token as TokenAnswer, seen};
+ghost use Rattle.cw_lex.specs.Heads.{headed, headed_by, is_head_sign, named_headed, wanted_by, without_words};
+ghost use Rattle.cw_lex.specs.Nest.{nest};
+ghost use Rattle.cw_lex.specs.Nested.{IsNested};
+ghost use Rattle.cw_scraps.specs.Changing.{Keeps};
+ghost use Rattle.cw_scraps.specs.Lines.{IsSoundLine, roots_of};
+ghost use Rattle.cw_base.specs.declared.mode.MathMode.TheVariants as Modes;
+ghost use Rattle.cw_trees.specs.declared.Control.TheVariants as Controls;
+ghost use Rattle.cw_tokens.specs.declared.token.Token.TheVariants as Tokens;
+ghost use Rattle.cw_reduce.specs.declared.heads.HeadRead.TheVariants as Heads;
+ghost use Rattle.cw_reduce.specs.Gathering.{refs_in};
+ghost use Rattle.cw_reduce.specs.HeadReading.{HasTokens, IsLast, NamesWithin, answer_words, answers_ahead, format_tokens, head_line, head_named, is_definition, is_name, macro_tokens, read_made, without_notes, words_in, words_tokens};
+ghost use Rattle.cw_reduce.specs.Opening.{StartsBelow, answers_in};
+ghost use Rattle.cw_reduce.specs.Translating.{Known, NameTexts, dollared, head_made, spelled, with_names};
+
+use cw_base::{MathMode, Memory};
+use cw_lex::{Code, Lexed, Lexer, Tok, TokKind, Wanted};
+use cw_names::Names;
+use cw_scraps::word_token;
+use cw_tokens::{ListId, Token, TokenStore};
+use cw_trees::Control;
+use std::alloc::Global;
+
+/// The head of a text.
+#[derive(Clone, Copy, Debug, PartialEq, Eq)]
+pub(crate) enum HeadRead {
+    /// None, or one that makes no scrap.
+    None,
+    /// That of a definition, which is a dead scrap in text.
+    Dead(ListId),
+    /// That of a named C part, whose name and sign begin at these places.
+    Named(u32, u32),
+}
+
+/// What a text begins with.
+#[derive(Clone, Copy)]
+pub(crate) struct Beginning<'a> {
+    pub(crate) head: HeadRead,
+    /// The section name with which the text begins, where it heads no C part.
+    pub(crate) name: Option<Tok<'a>>,
+    /// The first answer behind the head, or behind that name.
+    pub(crate) next: Lexed<'a>,
+}
+
+/// Reads the head with which a text begins, where it has one, and passes over the notes in it.
+pub(crate) fn read_head<'a>(
+    lexer: &mut Lexer<'a>,
+    alloc: Global,
+    names: &mut Names,
+    store: &mut TokenStore,
+) -> Result<Beginning<'a>, Memory>
+    requires nested { IsNested lexer.old }
+    requires start { StartsBelow (2 ^ 32) lexer.old }
+    requires idle { store.old.building ≡ None }
+    // What the head makes is that of the definition, and the names are those behind its words.
+    ensures made { IfOk result (λ begun. (flags : Flags) (named : NameTexts) (known : Known) → head_made flags named (headed (nest lexer.old)).head (with_names names.old known) ≡ read_made flags named store.new.lists begun.head (with_names names.new known)) }
+    ensures names { OnOk result (names.new ≡ (spelled (words_in (headed (nest lexer.old)).head) names.old).names) }
+    // The answers behind it are those of what the definition leaves.
+    ensures rest { IfOk result (λ begun. nest (answers_ahead begun ++ lexer.new) ≡ (headed (nest lexer.old)).rest) }
+    ensures nested { IfOk result (λ begun. IsNested (answers_ahead begun ++ lexer.new)) }
+    ensures start { IfOk result (λ begun. StartsBelow (2 ^ 32) (answers_ahead begun ++ lexer.new)) }
+    // Its scrap is sound, and the lists that the store held stay.
+    ensures sound { IfOk result (λ begun. IsSoundLine store.new names.new (head_line begun.head)) }
+    ensures keeps { IfOk result (λ begun. Keeps store.old.lists store.new.lists [] (roots_of (head_line begun.head))) }
+    ensures idle { store.new.building ≡ None }
+    ensures no_names { OnErr result (NamesWithin (words_in (headed (nest lexer.old)).head) names.old names.new) }
+    ensures no_lists { OnErr result (store.new.lists ≡ store.old.lists) }
+{
+    let first = next_answer(lexer);
+    let Lexed::Token(token) = first else {
+        return Ok(headless(first));
+    };
+    if is_definition(token.kind) {
+        return definition_head(token, lexer, alloc, names, store);
+    }
+    if is_name(token.kind) {
+        return Ok(read_sign(token, lexer));
+    }
+    Ok(headless(first))
+}
+
+/// Whether a token is the code of a definition.
+fn is_definition(kind: TokKind) -> bool
+    ensures { result ≡ is_definition kind }
+{
+    matches!(
+        kind,
+        TokKind::Code(Code::Define | Code::Format | Code::SilentFormat)
+    )
+}
+
+/// Whether a token is a section name.
+fn is_name(kind: TokKind) -> bool
+    ensures { result ≡ is_name kind }
+{
+    matches!(kind, TokKind::Code(Code::SectionName | Code::FileName))
+}
+
+/// What the head of a definition wants behind its code.
+fn wanted_by(kind: TokKind) -> Wanted
+    ensures { result ≡ wanted_by kind }
+{
+    match kind {
+        TokKind::Code(Code::Define) => Wanted::Macro,
+        TokKind::Code(Code::Format) => Wanted::First(false),
+        TokKind::Code(Code::SilentFormat) => Wanted::First(true),
+        _ => Wanted::Nothing,
+    }
+}
+
+/// No head, before this answer.
+fn headless<'a>(next: Lexed<'a>) -> Beginning<'a>
+    ensures head { result.head ≡ Heads.None }
+    ensures name { result.name ≡ None }
+    ensures next { result.next ≡ next.entry }
+{
+    Beginning {
+        head: HeadRead::None,
+        name: None,
+        next,
+    }
+}
+
+/// The next answer that is no note.
+fn next_answer<'a>(lexer: &mut Lexer<'a>) -> Lexed<'a>
+    ensures { Gives (without_notes lexer.old) result lexer.new }
+{
+    loop {
+        let answer = lexer.next();
+        if !matches!(answer, Lexed::Note(..)) {
+            return answer;
+        }
+    }
+}
+
+/// Reads the sign behind a section name, where it stands there.
+fn read_sign<'a>(name: Tok<'a>, lexer: &mut Lexer<'a>) -> Beginning<'a>
+    requires nested { IsNested (TokenAnswer (seen name) ∷ lexer.old) }
+    requires start { StartsBelow (2 ^ 32) (TokenAnswer (seen name) ∷ lexer.old) }
+    ensures head { (named_headed (seen name.entry) (nest lexer.old)).head ≡ head_named result.head }
+    ensures line { head_line result.head ≡ [] }
+    ensures rest { nest (answers_ahead result ++ lexer.new) ≡ (named_headed (seen name.entry) (nest lexer.old)).rest }
+    ensures nested { IsNested (answers_ahead result ++ lexer.new) }
+    ensures start { StartsBelow (2 ^ 32) (answers_ahead result ++ lexer.new) }
+{
+    let next = next_answer(lexer);
+    let Lexed::Token(sign) = next else {
+        return unsigned(name, next);
+    };
+    if !is_head_sign(sign.kind) {
+        return unsigned(name, next);
+    }
+    Beginning {
+        head: HeadRead::Named(name.span.start as u32, sign.span.start as u32),
+        name: None,
+        next: next_answer(lexer),
+    }
+}
+
+/// Whether a token is the sign of a named C part.
+fn is_head_sign(kind: TokKind) -> bool
+    ensures { result ≡ is_head_sign kind }
+{
+    matches!(kind, TokKind::HeadSign)
+}
+
+/// A section name that heads no C part, before this answer.
+fn unsigned<'a>(name: Tok<'a>, next: Lexed<'a>) -> Beginning<'a>
+    ensures head { result.head ≡ Heads.None }
+    ensures name { result.name ≡ Some name.entry }
+    ensures next { result.next ≡ next.entry }
+{
+    Beginning {
+        head: HeadRead::None,
+        name: Some(name),
+        next,
+    }
+}
+
+/// Reads the head of a definition behind its code.
+fn definition_head<'a>(
+    code: Tok<'a>,
+    lexer: &mut Lexer<'a>,
+    alloc: Global,
+    names: &mut Names,
+    store: &mut TokenStore,
+) -> Result<Beginning<'a>, Memory>
+    requires code { is_definition code.kind ≡ true }
+    requires nested { IsNested (TokenAnswer (seen code) ∷ lexer.old) }
+    requires start { StartsBelow (2 ^ 32) (TokenAnswer (seen code) ∷ lexer.old) }
+    requires idle { store.old.building ≡ None }
+    ensures made { IfOk result (λ begun. (flags : Flags) (named : NameTexts) (known : Known) → head_made flags named (headed_by code.entry.kind (seen code.entry) (nest lexer.old)).head (with_names names.old known) ≡ read_made flags named store.new.lists begun.head (with_names names.new known)) }
+    ensures names { OnOk result (names.new ≡ (spelled (words_in (headed_by code.entry.kind (seen code.entry) (nest lexer.old)).head) names.old).names) }
+    ensures rest { IfOk result (λ begun. nest (answers_ahead begun ++ lexer.new) ≡ (headed_by code.entry.kind (seen code.entry) (nest lexer.old)).rest) }
+    ensures nested { IfOk result (λ begun. IsNested (answers_ahead begun ++ lexer.new)) }
+    ensures start { IfOk result (λ begun. StartsBelow (2 ^ 32) (answers_ahead begun ++ lexer.new)) }
+    ensures sound { IfOk result (λ begun. IsSoundLine store.new names.new (head_line begun.head)) }
+    ensures keeps { IfOk result (λ begun. Keeps store.old.lists store.new.lists [] (roots_of (head_line begun.head))) }
+    ensures idle { store.new.building ≡ None }
+    ensures no_names { OnErr result (NamesWithin (words_in (headed_by code.entry.kind (seen code.entry) (nest lexer.old)).head) names.old names.new) }
+    ensures no_lists { OnErr result (store.new.lists ≡ store.old.lists) }
+{
+    store.tied_law();
+    let wanted = wanted_by(code.kind);
+    let mut words = Vec::new(alloc);
+    let next = read_words(wanted, lexer, &mut words, names)?;
+    let head = words_head(wanted, code.span.start as u32, &words, store)?;
+    Ok(Beginning {
+        head,
+        name: None,
+        next,
+    })
+}
+
+/// Reads the words of a head that wants this, up to the first answer behind them.
+fn read_words<'a>(
+    wanted: Wanted,
+    lexer: &mut Lexer<'a>,
+    words: &mut Vec<Token>,
+    names: &mut Names,
+) -> Result<Lexed<'a>, Memory>
+    requires start { StartsBelow (2 ^ 32) lexer.old }
+    ensures words { OnOk result (words.new.items ≡ words.old.items ++ (spelled (answer_words wanted lexer.old) names.old).tokens) }
+    ensures names { OnOk result (names.new ≡ (spelled (answer_words wanted lexer.old) names.old).names) }
+    ensures rest { IfOk result (λ next. answers_in next ++ lexer.new ≡ without_words wanted lexer.old) }
+    ensures start { IfOk result (λ next. StartsBelow (2 ^ 32) (answers_in next ++ lexer.new)) }
+    ensures no_names { OnErr result (NamesWithin (answer_words wanted lexer.old) names.old names.new) }
+{
+    let mut wanted = wanted;
+    loop {
+        let answer = next_answer(lexer);
+        let Lexed::Token(word) = answer else {
+            return Ok(answer);
+        };
+        let Some(next) = wanted.behind(word.kind, word.span) else {
+            return Ok(answer);
+        };
+        wanted = next;
+        words.push(word_token(&word, names)?)?;
+    }
+}
+
+/// Makes the head of a definition with these words.
+fn words_head(
+    wanted: Wanted,
+    number: u32,
+    words: &[Token],
+    store: &mut TokenStore,
+) -> Result<HeadRead, Memory>
+    requires plain { refs_in words.now ≡ [] }
+    requires idle { store.old.building ≡ None }
+    ensures lists { IfOk result (λ head. HasTokens (words_tokens wanted number words.now) head store.old.lists store.new.lists) }
+    ensures idle { store.new.building ≡ None }
+    ensures no_lists { OnErr result (store.new.lists ≡ store.old.lists) }
+{
+    match wanted {
+        Wanted::Macro => Ok(HeadRead::Dead(macro_list(number, words, store)?)),
+        Wanted::First(false) => Ok(HeadRead::Dead(format_list(number, words, store)?)),
+        _ => Ok(HeadRead::None),
+    }
+}
+
+/// Puts the head of a macro into a new list: its words stand between dollars.
+fn macro_list(number: u32, words: &[Token], store: &mut TokenStore) -> Result<ListId, Memory>
+    requires plain { refs_in words.now ≡ [] }
+    requires idle { store.old.building ≡ None }
+    ensures last { IfOk result (λ list. IsLast (macro_tokens number words.now) list.index store.old.lists store.new.lists) }
+    ensures idle { store.new.building ≡ None }
+    ensures no_lists { OnErr result (store.new.lists ≡ store.old.lists) }
+{
+    begin_head(number, words, store)?;
+    push_dollared(words, store);
+    store.push(Token::Control(Control::OptionalBreak));
+    Ok(store.finish())
+}
+
+/// Puts the head of a format definition into a new list: a break stands behind its first word.
+fn format_list(number: u32, words: &[Token], store: &mut TokenStore) -> Result<ListId, Memory>
+    requires plain { refs_in words.now ≡ [] }
+    requires idle { store.old.building ≡ None }
+    ensures last { IfOk result (λ list. IsLast (format_tokens number words.now) list.index store.old.lists store.new.lists) }
+    ensures idle { store.new.building ≡ None }
+    ensures no_lists { OnErr result (store.new.lists ≡ store.old.lists) }
+{
+    begin_head(number, words, store)?;
+    let first = words.len().min(1);
+    push_words(&words[..first], store);
+    store.push(Token::Control(Control::OptionalBreak));
+    push_words(&words[first..], store);
+    Ok(store.finish())
+}
+
+/// Begins the list of a definition's head with these words.
+fn begin_head(number: u32, words: &[Token], store: &mut TokenStore) -> Result<(), Memory>
+    requires idle { store.old.building ≡ None }
+    ensures building { OnOk result (store.new.building ≡ Some (Tokens.Control Controls.Backup ∷ Tokens.Source number Modes.Text ∷ [])) }
+    ensures room { OnOk result (length words.now + 3 ≤ store.new.spare) }
+    ensures lists { store.new.lists ≡ store.old.lists }
+    ensures idle { OnErr result (store.new.building ≡ None) }
+{
+    store.reserve(words.len() + 6)?;
+    store.begin();
+    store.push(Token::Control(Control::Backup));
+    store.push(Token::Source(number, MathMode::Text));
+    Ok(())
+}
+
+/// Puts words between dollars into the list that is being built, where there are any.
+fn push_dollared(words: &[Token], store: &mut TokenStore)
+    requires plain { refs_in words.now ≡ [] }
+    requires building { IsSome store.old.building }
+    requires room { length words.now + 3 ≤ store.old.spare }
+    ensures building { store.new.building ≡ option_map (λ tokens. tokens ++ dollared words.now) store.old.building }
+    ensures lists { store.new.lists ≡ store.old.lists }
+    ensures room { 0 < store.new.spare }
+{
+    if words.is_empty() {
+        return;
+    }
+    store.push(Token::Control(Control::Dollar));
+    push_words(words, store);
+    store.push(Token::Control(Control::Dollar));
+}
+
+/// Puts words into the list that is being built.
+fn push_words(words: &[Token], store: &mut TokenStore)
+    requires plain { refs_in words.now ≡ [] }
+    requires building { IsSome store.old.building }
+    requires room { length words.now ≤ store.old.spare }
+    ensures building { store.new.building ≡ option_map (λ tokens. tokens ++ words.now) store.old.building }
+    ensures lists { store.new.lists ≡ store.old.lists }
+    ensures spare { store.new.spare + length words.now ≡ store.old.spare }
+{
+    for word in words {
+        store.push(*word);
+    }
+}
