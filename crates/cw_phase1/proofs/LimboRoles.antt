@@ -7,7 +7,7 @@ use Rattle.cw_lex.specs.declared.heads.Wanted.{Wanted}
 use Rattle.cw_lex.specs.declared.heads.Wanted.TheVariants as wants
 use Rattle.cw_lex.specs.declared.tokens.TokKind.{TokKind}
 use Rattle.cw_lex.specs.declared.tokens.TokKind.TheVariants as kinds
-use Rattle.cw_lex.specs.Answers.{Seen, Answer, Token, Begin, Finish, Note}
+use Rattle.cw_lex.specs.Answers.{Answer, Token, Begin, Finish, Note}
 use Rattle.cw_lex.specs.Heads.{has_sign, head_behind}
 use Rattle.cw_lex.specs.Limbo.{is_name_kind, HasNoNames}
 use Rattle.cw_lex.specs.Nested.{is_section_kind}
@@ -21,7 +21,7 @@ use Rattle.cw_phase1.specs.Entering.{kept_behind}
 use Rattle.cw_phase1.specs.Roles.{Placed, word_role, head_role, token_step, token_step_by, behind_begin, placed_from}
 use Rattle.cw_phase1.specs.Sections.{is_section_code, sections_of}
 use Rattle.cw_phase1.specs.Uses.{reference_by, references_of}
-use Rattle.cw_phase1.proofs.RoleLaws.{is_name_role, count_by, codes, Numbered, Rise, rise-more, sections_in, rise-reference, rise, section-count}
+use Rattle.cw_phase1.proofs.RoleLaws.{is_name_role, count_by, codes, Numbered, Rise, sections_in, rise-reference, rise, section-count}
 
 -- No section name stands before the first section code.
 abbrev pub Unnamed : List Placed → Type 0

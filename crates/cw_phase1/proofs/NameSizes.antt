@@ -1,5 +1,5 @@
 -- No kept name is longer than the text of the web.
-use Rattle.std.proofs.Common.{◌≡◌, ℕ, zero, suc, ◌+◌, ◌-◌, ◌≤◌, ◌==◌, Bool, true, false, List, [], ◌∷◌, ◌++◌, Option, Some, None, All, drop, take, length, length-drop, refl, sym, subst, arith, if◌then◌else◌}
+use Rattle.std.proofs.Common.{ℕ, zero, suc, ◌+◌, ◌-◌, ◌≤◌, ◌==◌, Bool, true, false, List, [], ◌∷◌, ◌++◌, Option, Some, None, All, drop, take, length, length-drop, sym, subst, arith, if◌then◌else◌}
 use Rattle.std.specs.List.{position}
 use Rattle.std.proofs.lemmas.List.{length-take}
 use Rattle.std.proofs.lemmas.List.Elements.{All-nil, All-cons}
@@ -17,7 +17,7 @@ use Rattle.cw_secnames.specs.declared.kinds.SecKind.{SecKind}
 use Rattle.cw_secnames.specs.declared.kinds.SecKind.TheVariants.{Named, File}
 use Rattle.cw_secnames.specs.Kept.{SecName, unreferred, with_text, has_text, grows_to, conflicts_with, enter_by, positions_from, is_candidate, is_shorter, grown, earliest, enter_prefix_by}
 use Rattle.cw_secnames.specs.References.{Reference, referred}
-use Rattle.cw_phase1.specs.Texts.{is_white, blank_before, single_blanks, without_first_blank, Naming, Void, Full, Prefix, is_ignored, ends_in_dots, naming_of, naming_by, naming, named_text, name_text}
+use Rattle.cw_phase1.specs.Texts.{is_white, blank_before, single_blanks, without_first_blank, Naming, Void, Full, Prefix, is_ignored, ends_in_dots, naming_by, naming, named_text, name_text}
 use Rattle.cw_phase1.specs.Entering.{entering, kept_by, kept_behind, kept_after}
 use Rattle.cw_phase1.proofs.Underway.{covers-end, text-length}
 

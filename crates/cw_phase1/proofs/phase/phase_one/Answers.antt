@@ -1,5 +1,5 @@
 -- The book of what is held when all answers came is that of the whole list of answers.
-use Rattle.std.proofs.Common.{◌≡◌, ◌<◌, ◌≤◌, ◌∙◌, ap, sym, subst, ◌++◌, List, [], All, length, refl}
+use Rattle.std.proofs.Common.{◌≡◌, ◌<◌, ◌≤◌, ◌∙◌, ap, sym, subst, ◌++◌, List, [], All, length}
 use Rattle.cw_base.specs.Web.{text_of}
 use Rattle.cw_base.specs.declared.span.Span.{Span}
 use Rattle.std.proofs.lemmas.List.Elements.{All-nil}
