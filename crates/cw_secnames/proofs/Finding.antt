@@ -17,7 +17,7 @@ place-map : (test : SecName → Bool) (xs : List Kept) → position_or_len test 
 place-map test [] = refl
 place-map test (x ∷ xs) = ap (λ n. cond (not (test (name_of x))) (1 + n) 0) (place-map test xs)
 
-length-named : (xs : List Kept) → length (map name_of xs) ≡ length xs
+pub length-named : (xs : List Kept) → length (map name_of xs) ≡ length xs
 length-named [] = refl
 length-named (x ∷ xs) = ap suc (length-named xs)
 

@@ -3,5 +3,7 @@ pub mod References
 pub mod Parts
 pub mod Inside
 pub mod Uses
+pub mod Marks
+pub mod Asked
 pub mod InsideUses
 pub mod ReferenceLaws

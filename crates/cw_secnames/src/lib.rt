@@ -2,6 +2,7 @@
 #![tactic(auto)]
 
 mod kinds;
+mod marks;
 mod name_uses;
 mod parts;
 mod sec_names;

@@ -22,7 +22,11 @@ ghost use Rattle.cw_secnames.specs.Kept.{
 };
 ghost use Rattle.cw_secnames.specs.References.{with_number, with_reference, with_section};
 ghost use Rattle.cw_secnames.specs.Inside.{IsWithin, name_of};
+ghost use Rattle.cw_secnames.specs.Asked.{chosen, is_below, is_lesser, kind_asked, passes, passes_at};
+ghost use Rattle.cw_secnames.specs.Marks.{HoldNear};
+ghost use Rattle.cw_secnames.specs.declared.kinds.SecKind.TheVariants.{Named};
 
+use crate::marks::Marks;
 use crate::{Earliest, Entered, RefKind, SecId, SecKind};
 use cw_base::Memory;
 use std::alloc::Global;
@@ -40,9 +44,12 @@ pub(crate) struct Kept {
 }
 
 /// The kept names, in order of entry.
+///
+/// A name is looked for among those that its text begins or that begin it, and not among all names.
 #[derive(Drop)]
 pub struct SecNames {
     names: Vec<Kept>,
+    marks: Marks,
     alloc: Global,
 }
 
@@ -50,10 +57,41 @@ impl Model for SecNames {
     ghost use Rattle.std.specs.Prelude.{List, map};
     ghost use Rattle.cw_secnames.specs.Kept.{SecName};
     ghost use Rattle.cw_secnames.specs.Inside.{name_of};
+    ghost use Rattle.cw_secnames.specs.Marks.{AreMarked};
 
     ghost Value = { List SecName };
 
     ghost view = { λ n. map name_of n.names.items };
+
+    ghost invariant = { λ n. AreMarked n.marks 0 (map name_of n.names.items) };
+}
+
+// What is asked of a name.
+#[derive(Clone, Copy)]
+pub(crate) enum Asked {
+    // Whether the text is its whole name.
+    Whole(SecKind),
+    // Whether the text is to complete it.
+    Growing(SecKind),
+    // Whether the text conflicts with it.
+    Conflicting(SecKind),
+    // Whether the text is a prefix of it.
+    Candidate,
+}
+
+fn is_below(index: usize, least: Option<usize>) -> bool
+    ensures { result ≡ is_below index least }
+{
+    match least {
+        None => true,
+        Some(least) => index < least,
+    }
+}
+
+fn chosen(lesser: bool, index: usize, least: Option<usize>) -> Option<usize>
+    ensures { result ≡ chosen lesser index least }
+{
+    if lesser { Some(index) } else { least }
 }
 
 fn begins(first: &[u8], text: &[u8]) -> bool
@@ -81,6 +119,17 @@ fn add_section(sections: &mut Vec<u32>, section: u32) -> Result<(), Memory>
 }
 
 impl Kept {
+    fn passes(&self, asked: Asked, text: &[u8]) -> bool
+        ensures { result ≡ passes asked text.now (name_of self.now) }
+    {
+        match asked {
+            Asked::Whole(kind) => self.has_text(kind, text),
+            Asked::Growing(kind) => self.grows_to(kind, text),
+            Asked::Conflicting(kind) => self.conflicts_with(kind, text),
+            Asked::Candidate => self.is_candidate(text),
+        }
+    }
+
     fn has_text(&self, kind: SecKind, text: &[u8]) -> bool
         ensures { result ≡ has_text kind text.now (name_of self.now) }
     {
@@ -128,56 +177,104 @@ impl SecNames {
     {
         SecNames {
             names: Vec::new(alloc),
+            marks: Marks::new_in(alloc),
             alloc,
         }
     }
 
-    fn with_text(&self, kind: SecKind, text: &[u8]) -> Option<usize>
-        ensures value { result ≡ position (has_text kind text.now) self.now }
-        ensures within { IfSome result (λ k. k < length self.now) }
+    // The positions of the names near a text, and maybe others.
+    fn near(&self, kind: SecKind, text: &[u8]) -> Result<Vec<usize>, Memory>
+        ensures { IfOk result (λ near. HoldNear near.items kind text.now 0 self.now) }
     {
-        self.names.iter().position(|n| n.has_text(kind, text))
+        let near = self.marks.near(kind, text)?;
+        Ok(near)
     }
 
-    fn growing(&self, kind: SecKind, text: &[u8]) -> Option<usize>
-        ensures value { result ≡ position (grows_to kind text.now) self.now }
-        ensures within { IfSome result (λ k. k < length self.now) }
+    fn passes_at(&self, asked: Asked, text: &[u8], index: usize) -> bool
+        ensures { result ≡ passes_at (passes asked text.now) self.now index }
     {
-        self.names.iter().position(|n| n.grows_to(kind, text))
-    }
-
-    fn conflicting(&self, kind: SecKind, text: &[u8]) -> Option<usize>
-        ensures value { result ≡ position (conflicts_with kind text.now) self.now }
-        ensures within { IfSome result (λ k. k < length self.now) }
-    {
-        self.names.iter().position(|n| n.conflicts_with(kind, text))
-    }
-
-    fn candidates(&self, prefix: &[u8]) -> Earliest
-        ensures value { result ≡ earliest (positions_from 0 (is_candidate prefix.now) self.now) }
-        ensures within { IsWithin result (length self.now) }
-    {
-        match self.candidate_from(prefix, 0) {
-            None => Earliest::Nobody,
-            Some(first) => match self.candidate_from(prefix, first + 1) {
-                None => Earliest::One(first),
-                Some(next) => Earliest::Several(first, next),
-            },
+        if index >= self.names.len() {
+            return false;
         }
+        self.names[index].passes(asked, text)
     }
 
-    // The next candidate from a position on.
-    fn candidate_from(&self, prefix: &[u8], from: usize) -> Option<usize>
-        requires { from ≤ length self.now }
+    // Whether a position is the least so far, from one on, of a name that passes.
+    fn is_lesser(
+        &self,
+        asked: Asked,
+        text: &[u8],
+        from: usize,
+        least: Option<usize>,
+        index: usize,
+    ) -> bool
+        ensures { result ≡ is_lesser (passes asked text.now) self.now from least index }
+    {
+        from <= index && is_below(index, least) && self.passes_at(asked, text, index)
+    }
+
+    // The earliest name from a position on that passes, among those near a text.
+    fn earliest_from(&self, asked: Asked, text: &[u8], near: &[usize], from: usize) -> Option<usize>
+        requires near { HoldNear near.now (kind_asked asked) text.now 0 self.now }
+        requires from { from ≤ length self.now }
         ensures value { result ≡
-            option_map (λ more. from + more) (position (is_candidate prefix.now) (drop from self.now)) }
+            option_map (λ more. from + more) (position (passes asked text.now) (drop from self.now)) }
         ensures within { IfSome result (λ next. next < length self.now) }
         ensures fits { length self.now < 2 ^ 64 }
     {
-        let behind = &self.names[from..];
-        match behind.iter().position(|n| n.is_candidate(prefix)) {
-            None => None,
-            Some(more) => Some(from + more),
+        let mut least = None;
+        for index in near {
+            let lesser = self.is_lesser(asked, text, from, least, *index);
+            least = chosen(lesser, *index, least);
+        }
+        // By its type the list holds fewer than 2^64 names.
+        let _ = &self.names;
+        least
+    }
+
+    fn earliest(&self, asked: Asked, text: &[u8], near: &[usize]) -> Option<usize>
+        requires { HoldNear near.now (kind_asked asked) text.now 0 self.now }
+        ensures value { result ≡ position (passes asked text.now) self.now }
+        ensures within { IfSome result (λ k. k < length self.now) }
+    {
+        self.earliest_from(asked, text, near, 0)
+    }
+
+    fn with_text(&self, kind: SecKind, text: &[u8], near: &[usize]) -> Option<usize>
+        requires { HoldNear near.now kind text.now 0 self.now }
+        ensures value { result ≡ position (has_text kind text.now) self.now }
+        ensures within { IfSome result (λ k. k < length self.now) }
+    {
+        self.earliest(Asked::Whole(kind), text, near)
+    }
+
+    fn growing(&self, kind: SecKind, text: &[u8], near: &[usize]) -> Option<usize>
+        requires { HoldNear near.now kind text.now 0 self.now }
+        ensures value { result ≡ position (grows_to kind text.now) self.now }
+        ensures within { IfSome result (λ k. k < length self.now) }
+    {
+        self.earliest(Asked::Growing(kind), text, near)
+    }
+
+    fn conflicting(&self, kind: SecKind, text: &[u8], near: &[usize]) -> Option<usize>
+        requires { HoldNear near.now kind text.now 0 self.now }
+        ensures value { result ≡ position (conflicts_with kind text.now) self.now }
+        ensures within { IfSome result (λ k. k < length self.now) }
+    {
+        self.earliest(Asked::Conflicting(kind), text, near)
+    }
+
+    fn candidates(&self, prefix: &[u8], near: &[usize]) -> Earliest
+        requires { HoldNear near.now Named prefix.now 0 self.now }
+        ensures value { result ≡ earliest (positions_from 0 (is_candidate prefix.now) self.now) }
+        ensures within { IsWithin result (length self.now) }
+    {
+        match self.earliest_from(Asked::Candidate, prefix, near, 0) {
+            None => Earliest::Nobody,
+            Some(first) => match self.earliest_from(Asked::Candidate, prefix, near, first + 1) {
+                None => Earliest::One(first),
+                Some(next) => Earliest::Several(first, next),
+            },
         }
     }
 
@@ -191,6 +288,7 @@ impl SecNames {
         ensures err { OnErr result (self.new ≡ self.old) }
     {
         let index = self.names.len();
+        self.marks.enter(kind, text, index)?;
         let text = Vec::from_slice(self.alloc, text)?;
         self.names.push(Kept {
             kind,
@@ -210,6 +308,8 @@ impl SecNames {
         ensures len { OnOk result (length self.new ≡ length self.old) }
         ensures err { OnErr result (self.new ≡ self.old) }
     {
+        let kind = self.names[index].kind;
+        self.marks.enter(kind, text, index)?;
         let text = Vec::from_slice(self.alloc, text)?;
         let name = &mut self.names[index];
         name.text = text;
@@ -242,14 +342,15 @@ impl SecNames {
         ensures one { OnOk result (length self.new ≤ length self.old + 1) }
         ensures err { OnErr result (self.new ≡ self.old) }
     {
-        if let Some(index) = self.with_text(kind, full) {
+        let near = self.near(kind, full)?;
+        if let Some(index) = self.with_text(kind, full, &near) {
             return Ok(Entered::Known(SecId { index }));
         }
-        if let Some(index) = self.growing(kind, full) {
+        if let Some(index) = self.growing(kind, full, &near) {
             self.set_text(index, full, true)?;
             return Ok(Entered::Known(SecId { index }));
         }
-        if let Some(index) = self.conflicting(kind, full) {
+        if let Some(index) = self.conflicting(kind, full, &near) {
             return Ok(Entered::Conflict(SecId { index }));
         }
         let id = self.add(kind, full, true)?;
@@ -266,7 +367,8 @@ impl SecNames {
         ensures one { OnOk result (length self.new ≤ length self.old + 1) }
         ensures err { OnErr result (self.new ≡ self.old) }
     {
-        match self.candidates(prefix) {
+        let near = self.near(SecKind::Named, prefix)?;
+        match self.candidates(prefix, &near) {
             Earliest::Nobody => {
                 let id = self.add(SecKind::Named, prefix, false)?;
                 Ok(Entered::New(id))

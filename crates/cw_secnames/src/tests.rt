@@ -55,6 +55,53 @@ fn a_prefix_of_two_names_is_ambiguous(rt: HostRuntime) -> Result<(), Fail> {
 }
 
 #[test]
+fn names_are_found_behind_many_others(rt: HostRuntime) -> Result<(), Fail> {
+    let mut names = SecNames::new_in(rt.alloc());
+    let mut text = *b"Read 000 of them";
+    for count in 0..300u16 {
+        text[5] = b'0' + (count / 100) as u8;
+        text[6] = b'0' + (count / 10 % 10) as u8;
+        text[7] = b'0' + (count % 10) as u8;
+        assert_eq!(rt;
+            names.enter(SecKind::Named, &text)?,
+            Entered::New(SecId {
+                index: usize::from(count)
+            })
+        );
+    }
+    assert_eq!(rt;
+        names.enter(SecKind::Named, b"Read 217 of them")?,
+        Entered::Known(SecId { index: 217 })
+    );
+    assert_eq!(rt;
+        names.enter_prefix(b"Read 217")?,
+        Entered::Known(SecId { index: 217 })
+    );
+    assert_eq!(rt;
+        names.enter_prefix(b"Read 21")?,
+        Entered::Ambiguous(SecId { index: 210 }, SecId { index: 211 })
+    );
+    assert_eq!(rt;
+        names.enter(SecKind::Named, b"Read 299 of them all")?,
+        Entered::Conflict(SecId { index: 299 })
+    );
+    assert_eq!(rt;
+        names.enter_prefix(b"Read 3")?,
+        Entered::New(SecId { index: 300 })
+    );
+    assert_eq!(rt;
+        names.enter_prefix(b"Read 333")?,
+        Entered::Known(SecId { index: 300 })
+    );
+    assert_eq!(rt; names.text(SecId { index: 300 }), b"Read 333".as_slice());
+    assert_eq!(rt;
+        names.enter(SecKind::Named, b"Read 333 of them")?,
+        Entered::Known(SecId { index: 300 })
+    );
+    Ok(())
+}
+
+#[test]
 fn a_name_is_found_at_its_place(rt: HostRuntime) -> Result<(), Fail> {
     let mut uses = NameUses::new_in(rt.alloc());
     let (first, next) = (SecId { index: 0 }, SecId { index: 1 });

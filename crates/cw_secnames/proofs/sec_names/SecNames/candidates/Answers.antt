@@ -7,14 +7,14 @@ use Rattle.cw_secnames.proofs.sec_names.SecNames.candidates.Goals as goal
 
 pub returns-in-None-clause-value : goal.returns-in-None-clause-value
 returns-in-None-clause-value c =
-    from-nobody (is_candidate c.args.prefix.now) c.args.self.now (sym c.candidate_from.ensures.value ∙ c.in-None.is)
+    from-nobody (is_candidate c.args.prefix.now) c.args.self.now (sym c.earliest_from.ensures.value ∙ c.in-None.is)
 
-pub returns-in-None-candidate_from-clause-value : goal.returns-in-None-candidate_from-clause-value
-returns-in-None-candidate_from-clause-value c =
-    from-one (is_candidate c.args.prefix.now) c.args.self.now c.in-Some.first (sym c.candidate_from.ensures.value ∙ c.in-Some.is)
-    (sym c.candidate_from-in-Some.ensures.value ∙ c.in-None-candidate_from.is)
+pub returns-in-None-earliest_from-clause-value : goal.returns-in-None-earliest_from-clause-value
+returns-in-None-earliest_from-clause-value c =
+    from-one (is_candidate c.args.prefix.now) c.args.self.now c.in-Some.first (sym c.earliest_from.ensures.value ∙ c.in-Some.is)
+    (sym c.earliest_from-in-Some.ensures.value ∙ c.in-None-earliest_from.is)
 
-pub returns-in-Some-candidate_from-clause-value : goal.returns-in-Some-candidate_from-clause-value
-returns-in-Some-candidate_from-clause-value c =
-    from-several (is_candidate c.args.prefix.now) c.args.self.now c.in-Some.first c.in-Some-candidate_from.next (sym c.candidate_from.ensures.value ∙ c.in-Some.is)
-    (sym c.candidate_from-in-Some.ensures.value ∙ c.in-Some-candidate_from.is)
+pub returns-in-Some-earliest_from-clause-value : goal.returns-in-Some-earliest_from-clause-value
+returns-in-Some-earliest_from-clause-value c =
+    from-several (is_candidate c.args.prefix.now) c.args.self.now c.in-Some.first c.in-Some-earliest_from.next (sym c.earliest_from.ensures.value ∙ c.in-Some.is)
+    (sym c.earliest_from-in-Some.ensures.value ∙ c.in-Some-earliest_from.is)

@@ -1,7 +1,9 @@
 -- A name in memory gets the text as the name in the list.
-use Rattle.std.proofs.Common.{◌≡◌, ◌∙◌, ap, length}
+use Rattle.std.proofs.Common.{◌≡◌, ◌∙◌, ap, sym, refl, length, arith}
 use Rattle.cw_secnames.specs.Kept.{with_text}
-use Rattle.cw_secnames.proofs.Finding.{with_text-map, length-with_text}
+use Rattle.cw_secnames.specs.declared.sec_names.Kept.{Kept}
+use Rattle.cw_secnames.proofs.Nearest.{marked-more, marked-set, marked-as, same-kind}
+use Rattle.cw_secnames.proofs.Finding.{with_text-map, length-with_text, length-named}
 use Rattle.cw_secnames.proofs.sec_names.SecNames.set_text.Goals as goal
 
 pub returns-clause-ok : goal.returns-clause-ok
@@ -11,3 +13,17 @@ returns-clause-ok c =
 
 pub returns-clause-len : goal.returns-clause-len
 returns-clause-len c = ap length (returns-clause-ok c) ∙ length-with_text c.args.index c.args.text.now c.args.complete c.args.self.now
+
+pub invariant_of-self : goal.invariant_of-self
+invariant_of-self c = marked-more _ _ 0 _ c.enter.ensures.keeps c.self.invariant
+
+pub invariant_of-self-in_err-text : goal.invariant_of-self-in_err-text
+invariant_of-self-in_err-text c = marked-more _ _ 0 _ c.enter.ensures.keeps c.self.invariant
+
+pub invariant_of-self-2 : goal.invariant_of-self-2
+invariant_of-self-2 c =
+    marked-set _ 0 c.self.inside.names.items c.args.index _ (marked-more _ _ 0 _ c.enter.ensures.keeps c.self.invariant)
+    (marked-as _ _ _ _ _ _ _
+    (ap (λ (x : Kept). x.kind) c.index.ensures ∙ (same-kind c.self.inside.names.items c.args.index _ _
+    (omega (arith, length-named c.self.inside.names.items, ap length c.self.view_is, c.requires)) ∙ sym (ap (λ (x : Kept). x.kind) c.index_mut-name.ensures.value)))
+    c.in_ok-text.ensures.items refl c.in_ok-enter.ensures.ok)

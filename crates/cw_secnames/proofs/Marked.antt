@@ -1,0 +1,307 @@
+-- The positions that are found by marks hold those of all names near a text.
+use Rattle.std.proofs.Common.{◌≡◌, ℕ, zero, suc, ◌+◌, ◌-◌, ◌^◌, ◌<◌, ◌≤◌, ◌&&◌, ◌||◌, ◌==◌, ◌⊎◌, inl, inr, Bool, true, false, not, nat_eq, List, [], ◌∷◌, ◌++◌, map, length, take, get_or, cond, refl, ap, ◌∙◌, sym, subst, arith, min, length-take, take_all, take-take, eq-eqb, nat_cmp, is_eq, is_lt, is_le, Ordering, Less, Equal, Greater}
+use Rattle.std.specs.Ordering.{ordering_then, MatchOrdering}
+use Rattle.std.specs.List.{list_any}
+use Rattle.std.specs.Cmp.{tied_then}
+use Rattle.std.specs.Cmp.Lexicographic.{same_text, pointwise}
+use Rattle.std.proofs.lemmas.Cmp.{ranked, tied_itself, nat_cmp_total, nat_list_eq_equiv}
+use Rattle.std.proofs.lemmas.Map.Views.{any-filter_same}
+use Rattle.std.proofs.lemmas.List.Folds.{list_any-append}
+use Rattle.std.specs.BTreeMap.{is_at}
+use Rattle.std.specs.BTreeMap.Range.{range_contains}
+use Rattle.std.specs.declared.ops.Bound.TheVariants.{Included}
+use Rattle.std.specs.BTreeSet.{BTreeSet, contains}
+use Rattle.cw_secnames.specs.declared.kinds.SecKind.{SecKind}
+use Rattle.cw_secnames.specs.declared.marks.Marks.{Marks}
+use Rattle.cw_secnames.specs.Kept.{begins}
+use Rattle.cw_secnames.specs.Marks.{first_mark, next_mark, mark_from, mark_of, is_kept_length, last_kept, pair_cmp, Has, HasAll, positions_at, is_in, IsMarked, KeepsMarks, IsNear}
+
+-- ## What a set has under a mark
+
+same-by : (o : Ordering) (a b : ℕ) → is_eq o ≡ true → MatchOrdering o (a < b) (a ≡ b) (b < a) → a ≡ b
+same-by Less a b h m = absurd (cc)
+same-by Equal a b h m = m
+same-by Greater a b h m = absurd (cc)
+
+pub both : (a b : Bool) → (a && b) ≡ true → (a ≡ true) × (b ≡ true)
+both true b h = (refl, h)
+both false b h = absurd (cc)
+
+-- a pair that is equal to another has its parts
+parts : (mark k : ℕ) (pair : ℕ × ℕ) → is_at (pair_cmp (mark, k)) pair ≡ true → (mark ≡ pair.0) × (k ≡ pair.1)
+parts mark k pair h =
+    let each : (is_eq (nat_cmp mark pair.0) ≡ true) × (is_eq (nat_cmp k pair.1) ≡ true) =
+    both (is_eq (nat_cmp mark pair.0)) (is_eq (nat_cmp k pair.1)) (tied_then (nat_cmp mark pair.0) (nat_cmp k pair.1) ∙ h) in (
+      same-by (nat_cmp mark pair.0) mark pair.0 each.0 (ranked mark pair.0 (nat_cmp mark pair.0) refl),
+      same-by (nat_cmp k pair.1) k pair.1 each.1 (ranked k pair.1 (nat_cmp k pair.1) refl),
+    )
+
+low-by : (o : Ordering) (a b : ℕ) → a ≤ b → MatchOrdering o (a < b) (a ≡ b) (b < a) → is_le o ≡ true
+low-by Less a b h m = refl
+low-by Equal a b h m = refl
+low-by Greater a b h m = absurd (omega arith)
+
+high-by : (o : Ordering) (a b : ℕ) → b ≤ a → MatchOrdering o (a < b) (a ≡ b) (b < a) → not (is_lt o) ≡ true
+high-by Less a b h m = absurd (omega arith)
+high-by Equal a b h m = refl
+high-by Greater a b h m = refl
+
+pub and-yes : (a b : Bool) → a ≡ true → b ≡ true → (a && b) ≡ true
+and-yes true b h k = k
+and-yes false b h k = absurd (cc)
+
+ranges : (mark k : ℕ) → k < 2 ^ 64 → range_contains pair_cmp (Included (mark, 0)) (Included (mark, 2 ^ 64 - 1)) (mark, k) ≡ true
+ranges mark k h =
+    let tied : nat_cmp mark mark ≡ Equal = tied_itself nat_cmp_total mark in
+    and-yes (is_le (pair_cmp (mark, 0) (mark, k))) (not (is_lt (pair_cmp (mark, 2 ^ 64 - 1) (mark, k))))
+    (ap (λ o. is_le (ordering_then o (nat_cmp 0 k))) tied ∙ low-by (nat_cmp 0 k) 0 k (omega arith) (ranked 0 k (nat_cmp 0 k) refl))
+    (ap (λ o. not (is_lt (ordering_then o (nat_cmp (2 ^ 64 - 1) k)))) tied
+    ∙ high-by (nat_cmp (2 ^ 64 - 1) k) (2 ^ 64 - 1) k (omega arith) (ranked (2 ^ 64 - 1) k (nat_cmp (2 ^ 64 - 1) k) refl))
+
+in-range : (mark k : ℕ) → k < 2 ^ 64 → (pair : ℕ × ℕ) → is_at (pair_cmp (mark, k)) pair ≡ true
+    → range_contains pair_cmp (Included (mark, 0)) (Included (mark, 2 ^ 64 - 1)) pair ≡ true
+in-range mark k h pair at =
+    let each : (mark ≡ pair.0) × (k ≡ pair.1) = parts mark k pair at in
+    let same : (mark, k) ≡ pair = ap (λ (a : ℕ). (a, k)) each.0 ∙ ap (λ (b : ℕ). (pair.0, b)) each.1 in
+    subst (λ p. range_contains pair_cmp (Included (mark, 0)) (Included (mark, 2 ^ 64 - 1)) p ≡ true) same (ranges mark k h)
+
+pub or-yes : (a b : Bool) → (a || b) ≡ true → (a ≡ true) ⊎ (b ≡ true)
+or-yes true b h = inl refl
+or-yes false b h = inr h
+
+pub or-left : (a b : Bool) → a ≡ true → (a || b) ≡ true
+or-left true b h = refl
+or-left false b h = absurd (cc)
+
+pub or-right : (a b : Bool) → b ≡ true → (a || b) ≡ true
+or-right true b h = refl
+or-right false b h = h
+
+in-map : (mark k : ℕ) (pairs : List (ℕ × ℕ)) → list_any (is_at (pair_cmp (mark, k))) pairs ≡ true → is_in k (map (λ pair. pair.1) pairs) ≡ true
+in-map mark k [] h = absurd (cc)
+in-map mark k (pair ∷ pairs) h = elim (or-yes (is_at (pair_cmp (mark, k)) pair) (list_any (is_at (pair_cmp (mark, k))) pairs) h) [
+  | inl at ↦
+      let e : (mark ≡ pair.0) × (k ≡ pair.1) = parts mark k pair at in
+      or-left (pair.1 == k) (is_in k (map (λ p. p.1) pairs)) (eq-eqb pair.1 k (sym e.1))
+  | inr later ↦ or-right (pair.1 == k) (is_in k (map (λ p. p.1) pairs)) (in-map mark k pairs later)
+]
+
+pub is-at : (set : BTreeSet (ℕ × ℕ)) (mark k : ℕ) → k < 2 ^ 64 → Has set mark k → is_in k (positions_at mark set) ≡ true
+is-at set mark k small h =
+    in-map mark k _
+    (any-filter_same (is_at (pair_cmp (mark, k))) (range_contains pair_cmp (Included (mark, 0)) (Included (mark, 2 ^ 64 - 1))) true (in-range mark k small) set.keys ∙ h)
+
+pub in-left : (k : ℕ) (xs ys : List ℕ) → is_in k xs ≡ true → is_in k (xs ++ ys) ≡ true
+in-left k xs ys h = list_any-append (λ other. other == k) xs ys ∙ or-left (is_in k xs) (is_in k ys) h
+
+pub in-right : (k : ℕ) (xs ys : List ℕ) → is_in k ys ≡ true → is_in k (xs ++ ys) ≡ true
+in-right k xs ys h = list_any-append (λ other. other == k) xs ys ∙ or-right (is_in k xs) (is_in k ys) h
+
+cond-yes : (b c : Bool) → c ≡ true → cond b true c ≡ true
+cond-yes true c h = refl
+cond-yes false c h = h
+
+pub keeps-old : (old new : BTreeSet (ℕ × ℕ)) (pair : ℕ × ℕ)
+    → ((q : ℕ × ℕ) → contains pair_cmp new q ≡ cond (is_at (pair_cmp pair) q) true (contains pair_cmp old q)) → HasAll old new
+keeps-old old new pair h mark k has = h (mark, k) ∙ cond-yes (is_at (pair_cmp pair) (mark, k)) (contains pair_cmp old (mark, k)) has
+
+pub keeps-same : (old new : BTreeSet (ℕ × ℕ)) → new.keys ≡ old.keys → HasAll old new
+keeps-same old new h mark k has = ap (list_any (is_at (pair_cmp (mark, k)))) h ∙ has
+
+-- ## A byte more
+
+pub mark-more : (mark : ℕ) (text : List ℕ) (k d : ℕ) → k < length text
+    → mark_from mark (take (k + 1) text) ≡ next_mark (mark_from mark (take k text)) (get_or text k d)
+mark-more mark [] k d h = absurd (omega arith)
+mark-more mark (byte ∷ text) zero d h = refl
+mark-more mark (byte ∷ text) (suc k) d h =
+    let one : suc k + 1 ≡ suc (k + 1) = omega arith in
+    ap (λ n. mark_from mark (take n (byte ∷ text))) one ∙ mark-more (next_mark mark byte) text k d (omega arith)
+
+-- ## What is found so far
+
+pub record Found (marks : Marks) (kind : SecKind) (text : List ℕ) (count mark start : ℕ) (near : List ℕ) : Type 0 where
+  pub mark_is : mark ≡ mark_of kind (take count text)
+  pub at : ℕ
+  pub at_most : at ≤ count
+  pub within : count ≤ length text
+  pub kept : is_kept_length at ≡ true
+  pub start_is : start ≡ mark_of kind (take at text)
+  pub shorter : (before k : ℕ) → before < count → k < 2 ^ 64 → Has marks.wholes (mark_of kind (take before text)) k → is_in k near ≡ true
+
+pub found-first : (marks : Marks) (kind : SecKind) (text : List ℕ) (mark start : ℕ) (near : List ℕ) → mark ≡ first_mark kind → start ≡ first_mark kind
+    → Found marks kind text 0 mark start near
+unfolding is_kept_length
+found-first marks kind text mark start near is same = record {
+  mark_is = is;
+  at = 0;
+  at_most = omega arith;
+  within = omega arith;
+  kept = refl;
+  start_is = same;
+  shorter = λ before k h small has. absurd (omega arith);
+}
+
+below-or : (a b : ℕ) → a < b + 1 → (a < b) ⊎ (a ≡ b)
+below-or a b h = grind arith
+
+shorter-more : (marks : Marks) (kind : SecKind) (text : List ℕ) (count mark : ℕ) (near : List ℕ)
+    → mark ≡ mark_of kind (take count text)
+    → ((before k : ℕ) → before < count → k < 2 ^ 64 → Has marks.wholes (mark_of kind (take before text)) k → is_in k near ≡ true)
+    → (before k : ℕ) → before < count + 1 → k < 2 ^ 64 → Has marks.wholes (mark_of kind (take before text)) k
+    → is_in k (near ++ positions_at mark marks.wholes) ≡ true
+shorter-more marks kind text count mark near is f before k h small has = elim (below-or before count h) [
+  | inl below ↦ in-left k near (positions_at mark marks.wholes) (f before k below small has)
+  | inr same ↦
+      let here : mark_of kind (take before text) ≡ mark = ap (λ n. mark_of kind (take n text)) same ∙ sym is in
+      in-right k near (positions_at mark marks.wholes) (is-at marks.wholes mark k small (subst (λ m. Has marks.wholes m k) here has))
+]
+
+pub found-more : (marks : Marks) (kind : SecKind) (text : List ℕ) (count mark start d : ℕ) (near : List ℕ)
+    → Found marks kind text count mark start near → count < length text
+    → Found marks kind text (count + 1) (next_mark mark (get_or text count d)) start (near ++ positions_at mark marks.wholes)
+found-more marks kind text count mark start d near f h = record {
+  mark_is = ap (λ m. next_mark m (get_or text count d)) f.mark_is ∙ sym (mark-more (first_mark kind) text count d h);
+  at = f.at;
+  at_most = let most : f.at ≤ count = f.at_most in omega arith;
+  within = omega arith;
+  kept = f.kept;
+  start_is = f.start_is;
+  shorter = shorter-more marks kind text count mark near f.mark_is f.shorter;
+}
+
+kept-by : (b : Bool) (marks : Marks) (kind : SecKind) (text : List ℕ) (count mark start : ℕ) (near : List ℕ) → is_kept_length count ≡ b
+    → Found marks kind text count mark start near
+    → Found marks kind text count mark (elim b as (λ _. ℕ) [ true ↦ mark | false ↦ start ]) near
+kept-by true marks kind text count mark start near kept f = record {
+  mark_is = f.mark_is;
+  at = count;
+  at_most = omega arith;
+  within = f.within;
+  kept = kept;
+  start_is = f.mark_is;
+  shorter = f.shorter;
+}
+kept-by false marks kind text count mark start near kept f = f
+
+-- a byte more, behind which the mark is kept or not
+pub found-next : (marks : Marks) (kind : SecKind) (text : List ℕ) (count mark start new next d : ℕ) (near more : List ℕ)
+    → Found marks kind text count mark start near → count < length text → new ≡ next_mark mark (get_or text count d)
+    → next ≡ last_kept (count + 1) new start → more ≡ near ++ positions_at mark marks.wholes
+    → Found marks kind text (count + 1) new next more
+found-next marks kind text count mark start new next d near more f h is last all =
+    rw (all, last, is)
+    (kept-by (is_kept_length (count + 1)) marks kind text (count + 1) (next_mark mark (get_or text count d)) start (near ++ positions_at mark marks.wholes) refl
+    (found-more marks kind text count mark start d near f h))
+
+-- ## What is found in the end
+
+begins-take : (first text : List ℕ) → begins first text ≡ true → first ≡ take (length first) text
+begins-take first text h = same_text first (take (length first) text) (sym h)
+
+not-longer : (first text : List ℕ) → begins first text ≡ true → length first ≤ length text
+not-longer first text h =
+    let e : length first ≡ min (length first) (length text) = ap length (begins-take first text h) ∙ length-take (length first) text in
+    omega arith
+
+longer : (marks : Marks) (kind : SecKind) (text other : List ℕ) (k at : ℕ) → IsMarked marks kind other k
+    → begins text other ≡ true → at ≤ length text → is_kept_length at ≡ true
+    → is_in k (positions_at (mark_of kind (take at text)) marks.starts) ≡ true
+longer marks kind text other k at m h most kept =
+    let below : length text ≤ length other = not-longer text other h in
+    let same : take at other ≡ take at text =
+    sym (ap (take at) (begins-take text other h) ∙ take-take at (length text) other most) in
+    is-at marks.starts (mark_of kind (take at text)) k m.small
+    (subst (λ t. Has marks.starts (mark_of kind t) k) same (m.starts at (omega arith) kept))
+
+decide : (a b : ℕ) → a ≤ b → (a < b) ⊎ (a ≡ b)
+decide a b h = grind arith
+
+pub begins-self : (text other : List ℕ) → other ≡ text → begins text other ≡ true
+begins-self text other h = subst (λ t. begins text t ≡ true) (sym h) (ap (pointwise nat_eq text) (take_all (length text) text (omega arith)) ∙ nat_list_eq_equiv.refl text)
+
+found-all : (marks : Marks) (kind : SecKind) (text other : List ℕ) (mark start k : ℕ) (near : List ℕ)
+    → Found marks kind text (length text) mark start near → IsMarked marks kind other k → IsNear other text
+    → is_in k (near ++ positions_at start marks.starts) ≡ true
+found-all marks kind text other mark start k near f m h =
+    let more = λ (begun : begins text other ≡ true). in-right k near (positions_at start marks.starts)
+    (subst (λ s. is_in k (positions_at s marks.starts) ≡ true) (sym f.start_is) (longer marks kind text other k f.at m begun f.at_most f.kept)) in
+    elim (or-yes (begins other text) (begins text other) h) [
+      | inl first ↦ elim (decide (length other) (length text) (not-longer other text first)) [
+        | inl below ↦
+            in-left k near (positions_at start marks.starts)
+            (f.shorter (length other) k below m.small (subst (λ t. Has marks.wholes (mark_of kind t) k) (begins-take other text first) m.whole))
+        | inr same ↦
+            more (begins-self text other (begins-take other text first ∙ (ap (λ n. take n text) same ∙ take_all (length text) text (omega arith))))
+      ]
+      | inr begun ↦ more begun
+    ]
+
+pub found-end : (marks : Marks) (kind : SecKind) (text other : List ℕ) (count mark start k : ℕ) (near : List ℕ)
+    → Found marks kind text count mark start near → length text ≤ count → IsMarked marks kind other k → IsNear other text
+    → is_in k (near ++ positions_at start marks.starts) ≡ true
+found-end marks kind text other count mark start k near f end m h =
+    let within : count ≤ length text = f.within in
+    let same : count ≡ length text = omega arith in
+    found-all marks kind text other mark start k near (subst (λ n. Found marks kind text n mark start near) same f) m h
+
+-- ## What a name is marked by
+
+pub keeps-all : (marks more : Marks) → HasAll marks.wholes more.wholes → HasAll marks.starts more.starts → KeepsMarks marks more
+keeps-all marks more wholes starts kind text k m = record {
+  small = m.small;
+  whole = wholes (mark_of kind text) k m.whole;
+  starts = λ count h kept. starts (mark_of kind (take count text)) k (m.starts count h kept);
+}
+
+-- the marks of a name that are kept so far
+pub record Marking (old marks : Marks) (kind : SecKind) (text : List ℕ) (k count mark : ℕ) : Type 0 where
+  pub mark_is : mark ≡ mark_of kind (take count text)
+  pub wholes : HasAll old.wholes marks.wholes
+  pub keeps : HasAll old.starts marks.starts
+  pub starts : (at : ℕ) → at ≤ count → is_kept_length at ≡ true → Has marks.starts (mark_of kind (take at text)) k
+
+pub enter-first : (old marks : Marks) (kind : SecKind) (text : List ℕ) (k mark : ℕ) → mark ≡ first_mark kind → HasAll old.wholes marks.wholes
+    → HasAll old.starts marks.starts → (is_kept_length 0 ≡ true → Has marks.starts mark k) → Marking old marks kind text k 0 mark
+enter-first old marks kind text k mark is wholes keeps has = record {
+  mark_is = is;
+  wholes = wholes;
+  keeps = keeps;
+  starts = λ at h kept.
+      let none : at ≡ 0 = omega arith in
+      subst (λ n. Has marks.starts (mark_of kind (take n text)) k) (sym none)
+      (subst (λ m. Has marks.starts m k) is (has (subst (λ n. is_kept_length n ≡ true) none kept)));
+}
+
+starts-more : (marks more : Marks) (kind : SecKind) (text : List ℕ) (k count mark : ℕ)
+    → HasAll marks.starts more.starts
+    → ((at : ℕ) → at ≤ count → is_kept_length at ≡ true → Has marks.starts (mark_of kind (take at text)) k)
+    → (is_kept_length (count + 1) ≡ true → Has more.starts (mark_of kind (take (count + 1) text)) k)
+    → (at : ℕ) → at ≤ count + 1 → is_kept_length at ≡ true → Has more.starts (mark_of kind (take at text)) k
+starts-more marks more kind text k count mark grows starts has at h kept = elim (decide at (count + 1) h) [
+  | inl below ↦ grows (mark_of kind (take at text)) k (starts at (omega arith) kept)
+  | inr same ↦
+      let here : is_kept_length (count + 1) ≡ true = subst (λ n. is_kept_length n ≡ true) same kept in
+      subst (λ n. Has more.starts (mark_of kind (take n text)) k) (sym same) (has here)
+]
+
+pub enter-more : (old marks more : Marks) (kind : SecKind) (text : List ℕ) (k count mark new d : ℕ) → Marking old marks kind text k count mark
+    → count < length text → new ≡ next_mark mark (get_or text count d) → HasAll marks.wholes more.wholes → HasAll marks.starts more.starts
+    → (is_kept_length (count + 1) ≡ true → Has more.starts new k) → Marking old more kind text k (count + 1) new
+enter-more old marks more kind text k count mark new d e h byte wholes grows has =
+    let is : new ≡ mark_of kind (take (count + 1) text) =
+    byte ∙ (ap (λ m. next_mark m (get_or text count d)) e.mark_is ∙ sym (mark-more (first_mark kind) text count d h)) in
+    record {
+      mark_is = is;
+      wholes = λ m j h. wholes m j (e.wholes m j h);
+      keeps = λ m j h. grows m j (e.keeps m j h);
+      starts = starts-more marks more kind text k count mark grows e.starts (λ kept. subst (λ m. Has more.starts m k) is (has kept));
+    }
+
+pub enter-last : (old marks more : Marks) (kind : SecKind) (text : List ℕ) (k count mark : ℕ) → k < 2 ^ 64 → Marking old marks kind text k count mark
+    → length text ≤ count → HasAll marks.starts more.starts → Has more.wholes mark k → IsMarked more kind text k
+enter-last old marks more kind text k count mark small e end grows has = record {
+  small = small;
+  whole = subst (λ m. Has more.wholes m k) (e.mark_is ∙ ap (mark_of kind) (take_all count text end)) has;
+  starts = λ at h kept. grows (mark_of kind (take at text)) k (e.starts at (omega arith) kept);
+}

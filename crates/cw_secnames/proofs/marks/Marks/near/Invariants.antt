@@ -1,0 +1,5 @@
+use Rattle.cw_secnames.proofs.Marked.{Found}
+use Rattle.cw_secnames.proofs.marks.Marks.near.Given as goal
+
+abbrev pub invariant-loop-count : goal.invariant-loop-count
+invariant-loop-count l = Found l.self l.fn.kind l.text l.count l.mark l.start l.near.items

@@ -1,0 +1,147 @@
+//! Marks: numbers by which the names near a text are found.
+ghost use Rattle.std.specs.Prelude.{◌≡◌, ℕ, true, List, ◌++◌, IfOk, OnOk};
+ghost use Rattle.cw_secnames.specs.Marks.{
+  first_mark,
+  Has,
+  HasAll,
+  is_in,
+  is_kept_length,
+  IsMarked,
+  IsNear,
+  KeepsMarks,
+  last_kept,
+  next_mark,
+  positions_at,
+};
+
+use crate::SecKind;
+use cw_base::Memory;
+use std::alloc::Global;
+use std::collections::BTreeSet;
+
+/// The positions of names, by marks. A mark is made of a kind and some bytes. Equal bytes have one mark; other bytes
+/// rarely have it too, so that a name found by a mark has still to be looked at.
+///
+/// A name costs as many steps as its text has bytes, but marks at the first 256 lengths and at each 256th one alone.
+#[derive(Drop)]
+pub(crate) struct Marks {
+    // The mark of each name's whole text.
+    wholes: BTreeSet<(u64, usize)>,
+    // The marks of what each name's text begins with.
+    starts: BTreeSet<(u64, usize)>,
+    alloc: Global,
+}
+
+fn first_mark(kind: SecKind) -> u64
+    ensures { result ≡ first_mark kind }
+{
+    match kind {
+        SecKind::Named => 0,
+        SecKind::File => 1,
+    }
+}
+
+// A factor that spreads the marks: an odd number near 2^64 divided by the golden ratio.
+#[tactic(auto, unfolding(crate::specs::Marks::next_mark))]
+fn next_mark(mark: u64, byte: u8) -> u64
+    ensures { result ≡ next_mark mark byte }
+{
+    mark.wrapping_add(u64::from(byte) + 1)
+        .wrapping_mul(11400714819323198485)
+}
+
+#[tactic(auto, unfolding(crate::specs::Marks::is_kept_length))]
+fn is_kept_length(count: usize) -> bool
+    ensures { result ≡ is_kept_length count }
+{
+    count < 256 || count % 256 == 0
+}
+
+// A set keeps what it has, also where memory is wanted.
+fn put(set: &mut BTreeSet<(u64, usize)>, mark: u64, index: usize) -> Result<(), Memory>
+    ensures keeps { HasAll set.old set.new }
+    ensures ok { OnOk result (Has set.new mark index) }
+{
+    set.insert((mark, index))?;
+    Ok(())
+}
+
+// Puts a mark of what a name begins with, if its length is one of those that are kept.
+fn put_start(
+    set: &mut BTreeSet<(u64, usize)>,
+    count: usize,
+    mark: u64,
+    index: usize,
+) -> Result<(), Memory>
+    ensures keeps { HasAll set.old set.new }
+    ensures ok { OnOk result (is_kept_length count ≡ true → Has set.new mark index) }
+{
+    if !is_kept_length(count) {
+        return Ok(());
+    }
+    put(set, mark, index)?;
+    Ok(())
+}
+
+// The last kept mark, after the mark of so many bytes.
+fn last_kept(count: usize, mark: u64, start: u64) -> u64
+    ensures { result ≡ last_kept count mark start }
+{
+    if is_kept_length(count) { mark } else { start }
+}
+
+// Adds the positions under a mark behind others.
+fn add_marked(
+    positions: &mut Vec<usize>,
+    set: &BTreeSet<(u64, usize)>,
+    mark: u64,
+) -> Result<(), Memory>
+    ensures { OnOk result (positions.new.items ≡ positions.old.items ++ positions_at mark set.now) }
+{
+    for pair in set.range((mark, 0)..=(mark, usize::MAX)) {
+        positions.push(pair.1)?;
+    }
+    Ok(())
+}
+
+impl Marks {
+    pub(crate) fn new_in(alloc: Global) -> Marks {
+        Marks {
+            wholes: BTreeSet::new(alloc),
+            starts: BTreeSet::new(alloc),
+            alloc,
+        }
+    }
+
+    // Marks a name. What is marked stays so, also where memory is wanted.
+    pub(crate) fn enter(&mut self, kind: SecKind, text: &[u8], index: usize) -> Result<(), Memory>
+        ensures keeps { KeepsMarks self.old self.new }
+        ensures ok { OnOk result (IsMarked self.new kind text.now index) }
+    {
+        let mut mark = first_mark(kind);
+        put_start(&mut self.starts, 0, mark, index)?;
+        for count in 0..text.len() {
+            mark = next_mark(mark, text[count]);
+            put_start(&mut self.starts, count + 1, mark, index)?;
+        }
+        put(&mut self.wholes, mark, index)?;
+        Ok(())
+    }
+
+    // The positions of the names of a kind that begin a text or that it begins, and maybe others.
+    pub(crate) fn near(&self, kind: SecKind, text: &[u8]) -> Result<Vec<usize>, Memory>
+        ensures { IfOk result (λ near. (other : List ℕ) (k : ℕ) → IsMarked self.now kind other k
+            → IsNear other text.now → is_in k near.items ≡ true) }
+    {
+        let mut near = Vec::new(self.alloc);
+        let mut mark = first_mark(kind);
+        let mut start = mark;
+        for count in 0..text.len() {
+            add_marked(&mut near, &self.wholes, mark)?;
+            mark = next_mark(mark, text[count]);
+            start = last_kept(count + 1, mark, start);
+        }
+        add_marked(&mut near, &self.starts, start)?;
+        Ok(near)
+    }
+}
