@@ -3,5 +3,4 @@ pub mod ScanLaws
 pub mod ComingLaws
 pub mod ShownLaws
 pub mod PrintingLaws
-pub mod TitleLaws
 mod TokenRows
