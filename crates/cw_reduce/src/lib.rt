@@ -18,8 +18,6 @@ pub use uncut::{is_plain_c, is_uncut};
 pub use walk::{Reduced, reduce};
 
 #[cfg(test)]
-mod head_tests;
-#[cfg(test)]
 mod slow_tests;
 #[cfg(test)]
 mod test_printing;
