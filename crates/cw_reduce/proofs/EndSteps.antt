@@ -18,7 +18,7 @@ use Rattle.cw_reduce.specs.declared.nesting.Open.TheVariants.{CText, Comment}
 use Rattle.cw_reduce.specs.declared.translating.Translated.{Translated}
 use Rattle.cw_reduce.specs.declared.translating.Translator.{Translator}
 use Rattle.cw_reduce.specs.Counting.{scraps_in, productions_in, ticks_in, text_limit, limit_in}
-use Rattle.cw_reduce.specs.Opening.{last_line, all_roots, IsTranslating, progress_of, HasCome, HasEnded}
+use Rattle.cw_reduce.specs.Opening.{last_line, all_roots, IsTranslating, progress_of, HasCome, HasEnded, IsTranslated}
 use Rattle.cw_reduce.specs.Retyping.{NamesOnTheWay, later}
 use Rattle.cw_reduce.specs.Reading.{Progress, last_scraps, after_answer, after_answers, all_ended, begun}
 use Rattle.cw_reduce.specs.Translating.{Ended, state_in}
@@ -50,25 +50,12 @@ last-keeps old new ss (CText line ∷ []) k = k
 last-keeps old new ss (CText line ∷ (inner ∷ outer)) k = wider old new (all_roots (CText line ∷ (inner ∷ outer))) ss k
 last-keeps old new ss (Comment number parts ∷ outer) k = wider old new (all_roots (Comment number parts ∷ outer)) ss k
 
--- from the beginning of a text
-pub start-progress : (lists : List (List StoredToken)) (names : List Entry) (marks : MarkList) (t : Translator) → t ≡ record { nesting = CText [] ∷ []; scraps = 0; productions = 0 } → progress_of lists names marks t [] ≡ begun names (marked_names marks)
-start-progress lists names marks t e = ap (λ x. progress_of lists names marks x []) e
-
 pub way-end : (flags : Flags) (answers : List Answer) (p q : Progress) (new : List Entry) → q ≡ after_answers flags answers p → NamesOnTheWay flags [] q new → NamesOnTheWay flags answers p new
 way-end flags [] p q new e h = subst (λ x. NamesOnTheWay flags [] x new) e h
 way-end flags (answer ∷ answers) p q new e h = later answer answers p new (way-end flags answers (after_answer flags answer p) q new e h)
 
--- The whole: what is answered is the text that has ended.
-pub record IsText (flags : Flags) (lists : List (List StoredToken)) (names : List Entry) (marks : MarkList) (done : Translated) (steps steps' : ℕ) (text : Ended) : Type 0 where
-  pub tree : unfolded lists done.list.index ≡ text.tree
-  pub names_are : names ≡ text.known.names
-  pub marks_are : marked_names marks ≡ text.known.marks
-  pub scraps : done.scraps ≡ scraps_in text.known.ended
-  pub productions_are : done.productions ≡ productions_in flags text.known.ended
-  pub steps_are : steps' ≡ steps + ticks_in flags text.known.ended
-
 module _ (flags : Flags) (t0 t : Translator) (steps steps1 steps2 : ℕ) (mid : List (List StoredToken)) (names1 : List Entry) (marks1 : MarkList) (p : Progress)
-    (none : t0 ≡ record { nesting = CText [] ∷ []; scraps = 0; productions = 0 }) (come : HasCome flags t0 steps mid names1 marks1 t steps1 p) where
+    (no_scraps : t0.scraps ≡ 0) (no_productions : t0.productions ≡ 0) (come : HasCome flags t0 steps mid names1 marks1 t steps1 p) where
   abbrev last_state : State
   last_state = state_in (last_scraps (progress_of mid names1 marks1 t []).frames) (progress_of mid names1 marks1 t []).known
 
@@ -78,10 +65,8 @@ module _ (flags : Flags) (t0 t : Translator) (steps steps1 steps2 : ℕ) (mid : 
   ended-now : p.known.ended ++ last_state ∷ [] ≡ (all_ended flags p).known.ended
   ended-now = ap (λ (text : Ended). text.known.ended) end-now
 
-  pub text-done : (lists : List (List StoredToken)) (names : List Entry) (marks : MarkList) (done : Translated) → HasEnded flags t steps1 lists names marks done steps2 (progress_of mid names1 marks1 t []) → IsText flags lists names marks done steps steps2 (all_ended flags p)
+  pub text-done : (lists : List (List StoredToken)) (names : List Entry) (marks : MarkList) (done : Translated) → HasEnded flags t steps1 lists names marks done steps2 (progress_of mid names1 marks1 t []) → IsTranslated flags lists names marks done steps steps2 (all_ended flags p)
   text-done lists names marks done e =
-      let zero_scraps : t0.scraps ≡ 0 = ap (λ (x : Translator). x.scraps) none in
-      let zero_productions : t0.productions ≡ 0 = ap (λ (x : Translator). x.productions) none in
       let scraps : scraps_in p.known.ended + length last_state.scraps ≡ scraps_in (p.known.ended ++ last_state ∷ []) = sum-end (λ state. length state.scraps) p.known.ended last_state in
       let applied : productions_in flags p.known.ended + count productions flags last_state ≡ productions_in flags (p.known.ended ++ last_state ∷ []) = sum-end (λ state. count productions flags state) p.known.ended last_state in
       let ticked : ticks_in flags p.known.ended + ticks productions flags last_state ≡ ticks_in flags (p.known.ended ++ last_state ∷ []) = sum-end (λ state. ticks productions flags state) p.known.ended last_state in
@@ -89,8 +74,8 @@ module _ (flags : Flags) (t0 t : Translator) (steps steps1 steps2 : ℕ) (mid : 
         tree = e.tree ∙ ap (λ (text : Ended). text.tree) end-now;
         names_are = e.names_are ∙ ap (λ (text : Ended). text.known.names) end-now;
         marks_are = e.marks_are ∙ ap (λ (text : Ended). text.known.marks) end-now;
-        scraps = (let k : done.scraps ≡ scraps_in (p.known.ended ++ last_state ∷ []) = omega (arith, e.scraps, come.scraps, zero_scraps, scraps) in k) ∙ ap scraps_in ended-now;
-        productions_are = (let k : done.productions ≡ productions_in flags (p.known.ended ++ last_state ∷ []) = omega (arith, e.productions_are, come.productions_are, zero_productions, applied) in k) ∙ ap (productions_in flags) ended-now;
+        scraps = (let k : done.scraps ≡ scraps_in (p.known.ended ++ last_state ∷ []) = omega (arith, e.scraps, come.scraps, no_scraps, scraps) in k) ∙ ap scraps_in ended-now;
+        productions_are = (let k : done.productions ≡ productions_in flags (p.known.ended ++ last_state ∷ []) = omega (arith, e.productions_are, come.productions_are, no_productions, applied) in k) ∙ ap (productions_in flags) ended-now;
         steps_are = (let k : steps2 ≡ steps + ticks_in flags (p.known.ended ++ last_state ∷ []) = omega (arith, e.steps_are, come.steps_are, ticked) in k) ∙ ap (λ ended. steps + ticks_in flags ended) ended-now;
       }
 

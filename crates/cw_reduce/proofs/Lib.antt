@@ -31,3 +31,4 @@ pub mod HeadTokens
 pub mod HeadMakes
 pub mod HeadFinds
 pub mod HeadLists
+pub mod HeadSteps

@@ -250,3 +250,9 @@ with-texts-append named (Note note place ∷ xs) ys = ap (λ zs. Note note place
 
 pub with-texts-next : (named : NameTexts) (old new : List Answer) (answer : Lexed) → Gives old answer new → with_texts named old ≡ with_texts named (answers_in answer) ++ with_texts named new
 with-texts-next named old new answer g = ap (with_texts named) (gives-is old new answer g) ∙ with-texts-append named (answers_in answer) new
+
+-- Where no name stands in a text, none needs to be kept.
+pub none-kept : (kept : List SecName) (uses : List NameUse) → kept ≡ [] → uses ≡ [] → AreNamesOf kept uses
+none-kept [] [] a b = record { among = λ i d h. absurd (omega arith); short = λ i d h. absurd (omega arith) }
+none-kept (name ∷ kept) uses a b = absurd cc
+none-kept [] (u ∷ uses) a b = absurd cc

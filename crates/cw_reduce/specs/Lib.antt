@@ -11,3 +11,4 @@ pub mod NameParts
 pub mod Holders
 pub mod Naming
 pub mod HeadReading
+pub mod Heading

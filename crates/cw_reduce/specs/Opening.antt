@@ -29,7 +29,7 @@ use Rattle.cw_reduce.specs.Gathering.{part_seen, inner_lists}
 use Rattle.cw_reduce.specs.Counting.{scraps_in, productions_in, ticks_in}
 use Rattle.cw_reduce.specs.Reading.{Frame, Progress, last_scraps, all_ended}
 use Rattle.cw_reduce.specs.Reading.{CText as CTextFrame, Comment as CommentFrame}
-use Rattle.cw_reduce.specs.Translating.{CommentItem, Piece, InnerText, state_in}
+use Rattle.cw_reduce.specs.Translating.{CommentItem, Piece, InnerText, Ended, state_in}
 
 -- a scrap behind those of the innermost C text, and a part behind those of the innermost comment
 abbrev pub with_entry : LineEntry → List Open → List Open
@@ -130,3 +130,12 @@ pub record HasEnded (flags : Flags) (t : Translator) (steps : ℕ) (lists : List
   pub scraps : done.scraps ≡ t.scraps + length (last_scraps p.frames)
   pub productions_are : done.productions ≡ t.productions + count productions flags (state_in (last_scraps p.frames) p.known)
   pub steps_are : steps' ≡ steps + ticks productions flags (state_in (last_scraps p.frames) p.known)
+
+-- A translation has ended with this text: what it answers is what the text counts.
+pub record IsTranslated (flags : Flags) (lists : List (List StoredToken)) (names : List Entry) (marks : MarkList) (done : Translated) (steps steps' : ℕ) (text : Ended) : Type 0 where
+  pub tree : unfolded lists done.list.index ≡ text.tree
+  pub names_are : names ≡ text.known.names
+  pub marks_are : marked_names marks ≡ text.known.marks
+  pub scraps : done.scraps ≡ scraps_in text.known.ended
+  pub productions_are : done.productions ≡ productions_in flags text.known.ended
+  pub steps_are : steps' ≡ steps + ticks_in flags text.known.ended

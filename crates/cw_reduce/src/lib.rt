@@ -2,6 +2,8 @@
 #![tactic(auto)]
 
 mod gathering;
+mod headed;
+mod heads;
 mod holders;
 mod heads;
 mod kinds;

@@ -197,7 +197,7 @@ impl Translator {
     }
 
     /// One answer of the scanner, in which section names stand for their texts.
-    fn named_answer<L: Ledger>(
+    pub(crate) fn named_answer<L: Ledger>(
         &mut self,
         answer: &Lexed,
         sec_names: &SecNames,

@@ -5,6 +5,7 @@ use cw_base::{Bytes, Flags, Kept, Memory, Span, Steps};
 use cw_lex::Mode;
 use cw_names::{NameId, Names};
 use cw_scraps::Marks;
+use cw_secnames::{NameUses, SecNames};
 use cw_tokens::{FlatItem, FlatTokens, TokenStore};
 use cw_trees::Control;
 use std::alloc::{AllocError, Global};
@@ -41,6 +42,8 @@ fn translated(alloc: Global, text: &[u8], mode: Mode) -> Result<Outcome, Memory>
         span,
         mode,
         &mut names,
+        &SecNames::new_in(alloc),
+        &NameUses::new_in(alloc),
         &mut store,
         &mut marks,
         &Flags::start(),

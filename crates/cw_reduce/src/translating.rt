@@ -8,7 +8,7 @@ ghost use Rattle.cw_trees.specs.Joining.{whole};
 ghost use Rattle.cw_tokens.specs.Shapes.{unfolded};
 ghost use Rattle.cw_lex.specs.Answers.{Finish, Seen, seen};
 ghost use Rattle.cw_lex.specs.Lexing.{tokens_of};
-ghost use Rattle.cw_lex.specs.Nested.{begins_section_in, is_plain_c_mode, until_section};
+ghost use Rattle.cw_lex.specs.Nested.{begins_section_in, is_c_mode, until_section};
 ghost use Rattle.cw_scraps.specs.Applying.{state_of};
 ghost use Rattle.cw_scraps.specs.Changing.{Keeps};
 ghost use Rattle.cw_scraps.specs.Leaves.{MakesLeaf, names_with};
@@ -16,13 +16,17 @@ ghost use Rattle.cw_scraps.specs.Lines.{AreRoots, IsNamedBelow, IsSoundLine, roo
 ghost use Rattle.cw_scraps.specs.Marking.{MarkList, marked_names};
 ghost use Rattle.cw_reduce.specs.declared.nesting.Open.TheVariants as CTexts;
 ghost use Rattle.cw_reduce.specs.Counting.{limit_in, productions_in, scraps_in, text_limit, ticks_in};
+ghost use Rattle.cw_reduce.specs.Heading.{NamesOfText};
+ghost use Rattle.cw_reduce.specs.NameParts.{AreNamesOf, name_texts};
 ghost use Rattle.cw_reduce.specs.Opening.{HasCome, HasEnded, IsTranslating, StartsBelow, all_roots, answers_in, begun_by, progress_of};
 ghost use Rattle.cw_reduce.specs.Reading.{after_answers, after_finish, after_token, begun, last_scraps};
 ghost use Rattle.cw_reduce.specs.Reduction.{words_of};
 ghost use Rattle.cw_reduce.specs.Retyping.{NamesAmong, NamesOnTheWay, Retypes, RetypesIn};
-ghost use Rattle.cw_reduce.specs.Translating.{state_in, translated, unnamed, with_categories};
+ghost use Rattle.cw_reduce.specs.Translating.{state_in, translated, with_categories};
 
 use crate::gathering::{CommentPart, put_together};
+use crate::headed::translate_headed;
+use crate::heads::read_head;
 use crate::holders::{Holder, held_list};
 use crate::kinds::makes_leaf;
 use crate::nesting::{CommentText, Nesting, Open};
@@ -32,6 +36,7 @@ use cw_base::{Flags, Ledger, Memory, Span, Steps};
 use cw_lex::{Lexed, Lexer, Mode, Tok, TokKind};
 use cw_names::Names;
 use cw_scraps::{Marks, ScrapLine, scrap_of};
+use cw_secnames::{NameUses, SecNames};
 use cw_tokens::{ListId, TokenStore};
 use std::alloc::Global;
 
@@ -91,12 +96,12 @@ pub struct Translator {
 }
 
 impl Translator {
-    /// A C text begins, and nothing is counted yet.
-    fn new_in(alloc: Global) -> Result<Translator, Memory>
-        ensures { IfOk result (λ t. t ≡ record { nesting = CTexts.CText [] ∷ []; scraps = 0; productions = 0 }) }
+    /// A C text begins with these scraps, and nothing is counted yet.
+    pub(crate) fn over(line: ScrapLine, alloc: Global) -> Result<Translator, Memory>
+        ensures { IfOk result (λ t. t ≡ record { nesting = CTexts.CText line ∷ []; scraps = 0; productions = 0 }) }
     {
         let mut nesting = Nesting::new_in(alloc);
-        nesting.begin(Open::CText(ScrapLine::new_in(alloc)))?;
+        nesting.begin(Open::CText(line))?;
         Ok(Translator {
             nesting,
             scraps: 0,
@@ -282,7 +287,7 @@ impl Translator {
     }
 
     /// The text ends: its scraps are reduced, and what is left is put together.
-    fn end<L: Ledger>(
+    pub(crate) fn end<L: Ledger>(
         mut self,
         alloc: Global,
         flags: &Flags,
@@ -312,17 +317,20 @@ impl Translator {
     }
 }
 
-/// Translates a C text, whose first byte stands at `span.start`: its tokens become scraps, the inner texts of its
-/// comments are translated in the same store where they end, the scraps are reduced, and what no production joins
-/// stands side by side. Tokens have the place of their first byte as their number. Codes that make no scrap are passed
-/// over, and so are section names, which stand for nothing. `Memory` is the only refusal; no production was done then in
-/// a text that had not ended, and lists may have been added to the store.
+/// Translates a C text, whose first byte stands at `span.start`: its head is read, its tokens become scraps, the inner
+/// texts of its comments are translated in the same store where they end, and those of its section names where the names
+/// stand, the scraps are reduced, and what no production joins stands side by side. Tokens have the place of their first
+/// byte as their number, in a section name that of the name's own text. Codes that make no scrap are passed over, and so
+/// are section names without a pair. `Memory` is the only refusal; no production was done then in a text that had not
+/// ended, and lists may have been added to the store.
 pub fn translate<L: Ledger>(
     alloc: Global,
     text: &[u8],
     span: Span,
     mode: Mode,
     names: &mut Names,
+    sec_names: &SecNames,
+    uses: &NameUses,
     store: &mut TokenStore,
     marks: &mut Marks,
     flags: &Flags,
@@ -331,30 +339,31 @@ pub fn translate<L: Ledger>(
     requires order { span.start ≤ span.end }
     requires within { span.end ≤ length text.now }
     requires short { length text.now ≤ 2 ^ 24 }
-    requires c_text { is_plain_c_mode mode ≡ true }
+    requires c_text { is_c_mode mode ≡ true }
     requires uncut { begins_section_in (tokens_of text.now span.start span.end mode) ≡ false }
+    requires kept { AreNamesOf sec_names.now uses.now }
     requires idle { store.old.building ≡ None }
     // The tree, the names with their categories, the marks and the counts are those of the definition.
-    ensures tree { IfOk result (λ done. unfolded store.new.lists done.list.index ≡ (translated flags.now unnamed (tokens_of text.now span.start span.end mode) names.old (marked_names marks.old)).tree) }
-    ensures names { OnOk result (names.new ≡ (translated flags.now unnamed (tokens_of text.now span.start span.end mode) names.old (marked_names marks.old)).known.names) }
-    ensures marks { OnOk result (marked_names marks.new ≡ (translated flags.now unnamed (tokens_of text.now span.start span.end mode) names.old (marked_names marks.old)).known.marks) }
-    ensures scraps { IfOk result (λ done. done.scraps ≡ scraps_in (translated flags.now unnamed (tokens_of text.now span.start span.end mode) names.old (marked_names marks.old)).known.ended) }
-    ensures productions { IfOk result (λ done. done.productions ≡ productions_in flags.now (translated flags.now unnamed (tokens_of text.now span.start span.end mode) names.old (marked_names marks.old)).known.ended) }
+    ensures tree { IfOk result (λ done. unfolded store.new.lists done.list.index ≡ (translated flags.now (name_texts sec_names.now uses.now) (tokens_of text.now span.start span.end mode) names.old (marked_names marks.old)).tree) }
+    ensures names { OnOk result (names.new ≡ (translated flags.now (name_texts sec_names.now uses.now) (tokens_of text.now span.start span.end mode) names.old (marked_names marks.old)).known.names) }
+    ensures marks { OnOk result (marked_names marks.new ≡ (translated flags.now (name_texts sec_names.now uses.now) (tokens_of text.now span.start span.end mode) names.old (marked_names marks.old)).known.marks) }
+    ensures scraps { IfOk result (λ done. done.scraps ≡ scraps_in (translated flags.now (name_texts sec_names.now uses.now) (tokens_of text.now span.start span.end mode) names.old (marked_names marks.old)).known.ended) }
+    ensures productions { IfOk result (λ done. done.productions ≡ productions_in flags.now (translated flags.now (name_texts sec_names.now uses.now) (tokens_of text.now span.start span.end mode) names.old (marked_names marks.old)).known.ended) }
     ensures few { IfOk result (λ done. done.productions ≤ 8 * done.scraps) }
-    ensures steps { OnOk result (steps.new ≡ steps.old + ticks_in flags.now (translated flags.now unnamed (tokens_of text.now span.start span.end mode) names.old (marked_names marks.old)).known.ended) }
+    ensures steps { OnOk result (steps.new ≡ steps.old + ticks_in flags.now (translated flags.now (name_texts sec_names.now uses.now) (tokens_of text.now span.start span.end mode) names.old (marked_names marks.old)).known.ended) }
     // Whatever it answers: of each text of n scraps 132 n steps, and n for each production by a row that reserves.
-    ensures bound { steps.new ≤ steps.old + limit_in flags.now (translated flags.now unnamed (tokens_of text.now span.start span.end mode) names.old (marked_names marks.old)).known.ended }
+    ensures bound { steps.new ≤ steps.old + limit_in flags.now (translated flags.now (name_texts sec_names.now uses.now) (tokens_of text.now span.start span.end mode) names.old (marked_names marks.old)).known.ended }
     // The list is one of the store to which no list refers, and the names in its tree are names.
     ensures root { IfOk result (λ done. AreRoots store.new.lists (done.list.index ∷ [])) }
     ensures named { IfOk result (λ done. IsNamedBelow (length names.new) (unfolded store.new.lists done.list.index)) }
     // The lists that the store held stay, and no new list refers to them.
     ensures others { IfOk result (λ done. Keeps store.old.lists store.new.lists [] (done.list.index ∷ [])) }
     ensures idle { store.new.building ≡ None }
-    // The names are those at an answer, or those after some productions of a text that has ended.
-    ensures refused { OnErr result (NamesOnTheWay flags.now (tokens_of text.now span.start span.end mode) (begun names.old (marked_names marks.old)) names.new) }
+    // The names are those at a word of the head or at an answer, or those after some productions of a text that has
+    // ended.
+    ensures refused { OnErr result (NamesOfText flags.now (name_texts sec_names.now uses.now) (tokens_of text.now span.start span.end mode) names.old (marked_names marks.old) names.new) }
 {
     let mut lexer = Lexer::over(text, span.start, span.end, mode);
-    let mut translator = Translator::new_in(alloc)?;
-    translator.read(&mut lexer, alloc, flags, names, store, marks, steps)?;
-    translator.end(alloc, flags, names, store, marks, steps)
+    let begun = read_head(&mut lexer, alloc, names, store)?;
+    translate_headed(&begun, &mut lexer, sec_names, uses, alloc, flags, names, store, marks, steps)
 }
