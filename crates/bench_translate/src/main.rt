@@ -12,6 +12,7 @@ use cw_lex::Mode;
 use cw_names::Names;
 use cw_reduce::{Translated, is_uncut, translate};
 use cw_scraps::Marks;
+use cw_secnames::{NameUses, SecNames};
 use cw_tokens::TokenStore;
 use std::alloc::{AllocError, Global};
 use std::{env, io};
@@ -87,12 +88,16 @@ fn measured(alloc: Global, text: &[u8], span: Span) -> Result<Translated, Memory
     let mut store = TokenStore::new_in(alloc);
     let mut marks = Marks::new_in(alloc);
     let mut steps: Steps<Silent> = Steps::new();
+    let sec_names = SecNames::new_in(alloc);
+    let uses = NameUses::new_in(alloc);
     translate(
         alloc,
         text,
         span,
         Mode::CPart,
         &mut names,
+        &sec_names,
+        &uses,
         &mut store,
         &mut marks,
         &Flags::start(),

@@ -9,15 +9,16 @@ use Rattle.cw_names.specs.Words.{built_in_words}
 use Rattle.cw_trees.specs.Flat.{Item, flat}
 use Rattle.cw_trees.specs.Tree.{Tree}
 use Rattle.cw_reduce.specs.Counting.{scraps_in}
-use Rattle.cw_reduce.specs.Translating.{Ended, translated, unnamed}
+use Rattle.cw_reduce.specs.Translating.{Ended, NameTexts, translated, unnamed}
 use Rattle.cw_weave.specs.CParts.{part_translation, is_some, has_scraps, c_part}
 use Rattle.cw_weave.specs.CText.{c_text_bytes}
 
-pub is-part : (part : List ℕ) (flags : Flags) (names : List Entry) (marks : List ℕ) → flags ≡ start_flags → names ≡ built_in_words → marks ≡ [] → translated flags unnamed (tokens_of part 0 (length part) CPart) names marks ≡ part_translation part
-is-part part flags names marks f n m =
-    ap (λ x. translated x unnamed (tokens_of part 0 (length part) CPart) names marks) f
+pub is-part : (named : NameTexts) → named ≡ unnamed → (part : List ℕ) (flags : Flags) (names : List Entry) (marks : List ℕ) → flags ≡ start_flags → names ≡ built_in_words → marks ≡ [] → translated flags named (tokens_of part 0 (length part) CPart) names marks ≡ part_translation part
+is-part named none part flags names marks f n m =
+    ap (λ x. translated flags x (tokens_of part 0 (length part) CPart) names marks) none
+    ∙ (ap (λ x. translated x unnamed (tokens_of part 0 (length part) CPart) names marks) f
     ∙ (ap (λ x. translated start_flags unnamed (tokens_of part 0 (length part) CPart) x marks) n
-    ∙ ap (translated start_flags unnamed (tokens_of part 0 (length part) CPart) built_in_words) m)
+    ∙ ap (translated start_flags unnamed (tokens_of part 0 (length part) CPart) built_in_words) m))
 
 some : (n : ℕ) → (n ≡ 0 → ⊥) → is_some n ≡ true
 some zero h = absurd (h refl)

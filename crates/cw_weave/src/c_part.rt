@@ -7,6 +7,7 @@ use cw_lex::Mode;
 use cw_names::Names;
 use cw_reduce::translate;
 use cw_scraps::Marks;
+use cw_secnames::{NameUses, SecNames};
 use cw_tokens::TokenStore;
 use std::alloc::Global;
 
@@ -25,12 +26,16 @@ pub(crate) fn c_part_bytes(alloc: Global, part: &[u8]) -> Result<Option<Bytes>, 
     let mut store = TokenStore::new_in(alloc);
     let mut marks = Marks::new_in(alloc);
     let mut steps = Steps::<Silent>::new();
+    let sec_names = SecNames::new_in(alloc);
+    let uses = NameUses::new_in(alloc);
     let done = translate(
         alloc,
         part,
         span,
         Mode::CPart,
         &mut names,
+        &sec_names,
+        &uses,
         &mut store,
         &mut marks,
         &Flags::start(),
