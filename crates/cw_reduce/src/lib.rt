@@ -5,7 +5,6 @@ mod gathering;
 mod headed;
 mod heads;
 mod holders;
-mod heads;
 mod kinds;
 mod laws;
 mod naming;
