@@ -184,11 +184,7 @@ fn main(rt: HostRuntime) -> io::Result<()> {
             match told(alloc, size, sample) {
                 Ok(counts) => println!(rt;
                     "{}: {} bytes, {} sections, {} section names, {} notes",
-                    sample.name,
-                    counts.bytes,
-                    counts.sections,
-                    counts.names,
-                    counts.notes
+                    sample.name, counts.bytes, counts.sections, counts.names, counts.notes
                 )?,
                 Err(Memory) => println!(rt; "{}: no memory", sample.name)?,
             }

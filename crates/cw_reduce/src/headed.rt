@@ -80,7 +80,17 @@ impl Translator {
             Some(id) => {
                 let kind = sec_names.kind(id);
                 let text = sec_names.text(id);
-                self.held(Holder::Head(number, sign), kind, text, alloc, flags, names, store, marks, steps)
+                self.held(
+                    Holder::Head(number, sign),
+                    kind,
+                    text,
+                    alloc,
+                    flags,
+                    names,
+                    store,
+                    marks,
+                    steps,
+                )
             }
         }
     }
@@ -109,7 +119,9 @@ impl Translator {
     {
         match head {
             HeadRead::Named(number, sign) => {
-                self.name_with_sign(number, sign, sec_names, uses, alloc, flags, names, store, marks, steps)
+                self.name_with_sign(
+                    number, sign, sec_names, uses, alloc, flags, names, store, marks, steps,
+                )
             }
             HeadRead::Dead(_) | HeadRead::None => Ok(()),
         }
@@ -140,7 +152,17 @@ impl Translator {
     {
         match begun.name {
             None => Ok(()),
-            Some(token) => self.named_answer(&Lexed::Token(token), sec_names, uses, alloc, flags, names, store, marks, steps),
+            Some(token) => self.named_answer(
+                &Lexed::Token(token),
+                sec_names,
+                uses,
+                alloc,
+                flags,
+                names,
+                store,
+                marks,
+                steps,
+            ),
         }
     }
 
@@ -168,9 +190,23 @@ impl Translator {
         ensures bound { steps.new ≤ steps.old + limit_in flags.now (after_answers flags.now (with_texts (name_texts sec_names.now uses.now) (answers_ahead begun.now ++ lexer.old)) (progress_of store.old.lists names.old marks.old self.old [])).known.ended }
         ensures idle { store.new.building ≡ None }
     {
-        self.name_ahead(begun, sec_names, uses, alloc, flags, names, store, marks, steps)?;
-        self.named_answer(&begun.next, sec_names, uses, alloc, flags, names, store, marks, steps)?;
-        self.read_named(lexer, sec_names, uses, alloc, flags, names, store, marks, steps)
+        self.name_ahead(
+            begun, sec_names, uses, alloc, flags, names, store, marks, steps,
+        )?;
+        self.named_answer(
+            &begun.next,
+            sec_names,
+            uses,
+            alloc,
+            flags,
+            names,
+            store,
+            marks,
+            steps,
+        )?;
+        self.read_named(
+            lexer, sec_names, uses, alloc, flags, names, store, marks, steps,
+        )
     }
 
     /// A text with its head.
@@ -197,8 +233,12 @@ impl Translator {
         ensures bound { steps.new ≤ steps.old + limit_in flags.now (after_answers flags.now (with_texts (name_texts sec_names.now uses.now) (answers_ahead begun.now ++ lexer.old)) (after_head flags.now (name_texts sec_names.now uses.now) begun.now.head (progress_of store.old.lists names.old marks.old self.old []))).known.ended }
         ensures idle { store.new.building ≡ None }
     {
-        self.head_name(begun.head, sec_names, uses, alloc, flags, names, store, marks, steps)?;
-        self.read_behind(begun, lexer, sec_names, uses, alloc, flags, names, store, marks, steps)
+        self.head_name(
+            begun.head, sec_names, uses, alloc, flags, names, store, marks, steps,
+        )?;
+        self.read_behind(
+            begun, lexer, sec_names, uses, alloc, flags, names, store, marks, steps,
+        )
     }
 }
 
@@ -229,6 +269,8 @@ pub(crate) fn translate_headed<L: Ledger>(
     ensures idle { store.new.building ≡ None }
 {
     let mut translator = Translator::with_head(begun.head, alloc)?;
-    translator.read_headed(begun, lexer, sec_names, uses, alloc, flags, names, store, marks, steps)?;
+    translator.read_headed(
+        begun, lexer, sec_names, uses, alloc, flags, names, store, marks, steps,
+    )?;
     translator.end(alloc, flags, names, store, marks, steps)
 }

@@ -365,5 +365,7 @@ pub fn translate<L: Ledger>(
 {
     let mut lexer = Lexer::over(text, span.start, span.end, mode);
     let begun = read_head(&mut lexer, alloc, names, store)?;
-    translate_headed(&begun, &mut lexer, sec_names, uses, alloc, flags, names, store, marks, steps)
+    translate_headed(
+        &begun, &mut lexer, sec_names, uses, alloc, flags, names, store, marks, steps,
+    )
 }
