@@ -1,15 +1,15 @@
 -- Entering a name looks at no references, and changes none.
-use Rattle.std.proofs.Common.{◌≡◌, ℕ, zero, suc, ◌+◌, ◌<◌, ◌≤◌, ◌==◌, Bool, true, false, not, List, [], ◌∷◌, ◌++◌, Option, Some, None, length, nat_lt, cond, refl, ap, ◌∙◌, sym, arith, add-zero, subst}
+use Rattle.std.proofs.Common.{◌≡◌, ℕ, zero, suc, ◌+◌, ◌<◌, ◌==◌, Bool, true, false, not, List, [], ◌∷◌, ◌++◌, Option, Some, None, length, cond, refl, ap, sym, arith, add-zero, subst}
 use Rattle.std.proofs.Math.Nat.{zero-add}
 use Rattle.std.specs.List.{filter, position, position_or_len}
 use Rattle.cw_secnames.specs.declared.kinds.SecKind.{SecKind}
 use Rattle.cw_secnames.specs.declared.kinds.RefKind.{RefKind}
 use Rattle.cw_secnames.specs.declared.kinds.RefKind.TheVariants.{Defined, Used, Cited}
-use Rattle.cw_secnames.specs.Kept.{SecName, Entering, id, unreferred, with_text, has_text, grows_to, conflicts_with, enter_by, enter, positions_from, is_candidate, is_shorter, grown, enter_prefix_by, enter_prefix, earliest}
+use Rattle.cw_secnames.specs.Kept.{SecName, Entering, unreferred, with_text, has_text, grows_to, conflicts_with, enter_by, enter, positions_from, is_candidate, is_shorter, grown, enter_prefix_by, enter_prefix, earliest}
 use Rattle.cw_secnames.specs.declared.kinds.Earliest.{Earliest}
 use Rattle.cw_secnames.specs.declared.kinds.Earliest.TheVariants as earlies
 use Rattle.cw_secnames.specs.declared.kinds.SecKind.TheVariants.{Named}
-use Rattle.cw_secnames.specs.References.{Reference, once, is_of, sections_of, referred}
+use Rattle.cw_secnames.specs.References.{Reference, is_of, sections_of, referred}
 
 -- a test that looks at no references
 Blind : (SecName → Bool) → Type 0

@@ -1,5 +1,5 @@
 -- Which sections define, use and cite each section name.
-use Rattle.std.specs.Prelude.{ℕ, zero, suc, ◌+◌, Bool, true, false, ◌&&◌, ◌==◌, List, [], ◌∷◌, ◌++◌, map}
+use Rattle.std.specs.Prelude.{ℕ, zero, suc, ◌+◌, Bool, true, false, ◌&&◌, ◌==◌, List, [], ◌∷◌, map}
 use Rattle.std.specs.List.{filter}
 use Rattle.cw_secnames.specs.declared.kinds.RefKind.{RefKind}
 use Rattle.cw_secnames.specs.declared.kinds.RefKind.TheVariants.{Defined, Used, Cited}

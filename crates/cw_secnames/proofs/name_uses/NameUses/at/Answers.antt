@@ -1,5 +1,5 @@
 -- The first pair that doesn't stand before a place has it, or none has.
-use Rattle.std.proofs.Common.{◌≡◌, ◌≢◌, ◌<◌, ◌∙◌, sym, ap, subst, rules, arith, Some, None, length, get_or, map}
+use Rattle.std.proofs.Common.{◌≡◌, ◌<◌, ◌∙◌, sym, ap, subst, rules, arith, Some, length, get_or, map}
 use Rattle.std.proofs.Math.Dec.{ltb}
 use Rattle.std.specs.Option.{option_map}
 use Rattle.std.proofs.lemmas.List.Sorted.{IsPartitionPoint-from_clause}

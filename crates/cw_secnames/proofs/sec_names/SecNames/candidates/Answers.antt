@@ -1,6 +1,5 @@
 -- The earliest candidates, from the first one and the next one behind it.
-use Rattle.std.proofs.Common.{◌≡◌, ◌∙◌, sym, ap, Some, None, drop, ◌+◌}
-use Rattle.std.specs.List.{position}
+use Rattle.std.proofs.Common.{◌∙◌, sym}
 use Rattle.cw_secnames.specs.Kept.{is_candidate}
 use Rattle.cw_secnames.proofs.Finding.{from-nobody, from-one, from-several}
 use Rattle.cw_secnames.proofs.sec_names.SecNames.candidates.Goals as goal

@@ -1,5 +1,5 @@
 -- A name grows where it is incomplete and shorter, and stays as it is otherwise.
-use Rattle.std.proofs.Common.{◌≡◌, ◌≤◌, ◌<◌, ◌∙◌, sym, ap, length, true, false, get_or, subst, arith}
+use Rattle.std.proofs.Common.{◌≤◌, ◌<◌, ◌∙◌, sym, ap, length, false, subst, arith}
 use Rattle.cw_secnames.specs.Kept.{grown, with_text}
 use Rattle.cw_secnames.specs.declared.sec_names.Kept.{Kept}
 use Rattle.cw_secnames.proofs.Finding.{grown-shorter, grown-longer, grown-complete}

@@ -1,5 +1,5 @@
 -- A name in memory gets the text as the name in the list.
-use Rattle.std.proofs.Common.{◌≡◌, ◌∙◌, ap, sym, refl, length, arith}
+use Rattle.std.proofs.Common.{◌∙◌, ap, sym, refl, length, arith}
 use Rattle.cw_secnames.specs.Kept.{with_text}
 use Rattle.cw_secnames.specs.declared.sec_names.Kept.{Kept}
 use Rattle.cw_secnames.proofs.Nearest.{marked-more, marked-set, marked-as, same-kind}
