@@ -11,3 +11,4 @@ pub mod RoleLaws
 pub mod SpanLaws
 pub mod NameSizes
 pub mod LimboRoles
+pub mod Closings
