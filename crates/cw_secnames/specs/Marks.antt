@@ -25,9 +25,13 @@ mark_from mark (byte ∷ text) = mark_from (next_mark mark byte) text
 abbrev pub mark_of : SecKind → List ℕ → ℕ
 mark_of kind text = mark_from (first_mark kind) text
 
--- The lengths at which the marks of what a text begins with are kept.
+-- The lengths at which the marks of what a text begins with are kept: each fourth one below 16, each second one below
+-- 256, and each 256th one.
+abbrev pub step_at : ℕ → ℕ
+step_at count = elim (nat_lt count 16) [ true ↦ 4 | false ↦ elim (nat_lt count 256) [ true ↦ 2 | false ↦ 256 ] ]
+
 unfoldable pub is_kept_length : ℕ → Bool
-is_kept_length count = nat_lt count 256 || count % 256 == 0
+is_kept_length count = count % step_at count == 0
 
 -- The last kept mark, after the mark of so many bytes.
 abbrev pub last_kept : ℕ → ℕ → ℕ → ℕ

@@ -22,7 +22,8 @@ use std::collections::BTreeSet;
 /// The positions of names, by marks. A mark is made of a kind and some bytes. Equal bytes have one mark; other bytes
 /// rarely have it too, so that a name found by a mark has still to be looked at.
 ///
-/// A name costs as many steps as its text has bytes, but marks at the first 256 lengths and at each 256th one alone.
+/// A name costs as many steps as its text has bytes, but marks at each fourth length below 16, at each second below 256,
+/// and at each 256th one alone.
 #[derive(Drop)]
 pub(crate) struct Marks {
     // The mark of each name's whole text.
@@ -54,7 +55,14 @@ fn next_mark(mark: u64, byte: u8) -> u64
 fn is_kept_length(count: usize) -> bool
     ensures { result ≡ is_kept_length count }
 {
-    count < 256 || count % 256 == 0
+    let step = if count < 16 {
+        4
+    } else if count < 256 {
+        2
+    } else {
+        256
+    };
+    count % step == 0
 }
 
 // A set keeps what it has, also where memory is wanted.
