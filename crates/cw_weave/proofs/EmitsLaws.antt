@@ -9,7 +9,9 @@ use Rattle.cw_desk.specs.Journal.{grown, GrownByPart}
 use Rattle.cw_desk.specs.JournalLaws.{grown-none, grown-after, part-first, part-second}
 use Rattle.cw_desk.specs.Told.{Told}
 use Rattle.cw_lines.specs.Writes.{Adds}
+use Rattle.cw_lines.specs.WritesLaws.{adds-nothing}
 use Rattle.cw_lines.specs.declared.put_error.PutError.{PutError}
+use Rattle.cw_lines.specs.declared.put_error.PutError.TheVariants.{Memory}
 use Rattle.cw_weave.specs.Emits.{Emits, Run, Runs}
 
 is_err : {T E : Type 0} (result : Result T E) (error : E) → IsErrAnd result (λ found. found ≡ error) → result ≡ Err error
@@ -65,6 +67,13 @@ pub runs-fail : {T : Type 0} {events : List Event} (exit : Exit) {a b : Told} {e
 runs-fail exit {error = error} {result = result} begun is = record {
   emits = emits-fail begun is;
   exit = subst (λ (r : Result Exit PutError). IfOk r (λ e. e ≡ exit)) (sym (is_err result error is)) tt;
+}
+
+-- memory was refused before anything was emitted
+pub runs-nothing : (run : Run) (told : Told) {result : Result Exit PutError} → IsErrAnd result (λ found. found ≡ Memory) → Runs run told told result
+runs-nothing run told {result = result} is = record {
+  emits = adds-emits (adds-nothing run.rest told is (λ e. absurd cc));
+  exit = subst (λ (r : Result Exit PutError). IfOk r (λ e. e ≡ run.exit)) (sym (is_err result Memory is)) tt;
 }
 
 -- the events of a run, and its status

@@ -12,3 +12,4 @@ pub mod SectionLaws
 pub mod CRows
 pub mod CTextLaws
 pub mod CPartLaws
+pub mod BookLaws
