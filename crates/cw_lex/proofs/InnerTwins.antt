@@ -121,7 +121,7 @@ comment_text-twin c cs last place byte bs =
     (λ h. if-twin (byte == bar && not (is_deep parts.TexInner (c ∷ cs))) _ _ _ _ (λ h. record { same = λ h. (refl, refl) })
     (λ h. record { same = λ h. (refl, refl) })))
 
-in_text-twin : (cs : List Opened) (fresh : Bool) (last place byte : ℕ) (bs : List ℕ) → Twin (in_text parts.TexInner cs fresh last place byte bs) (in_text parts.Inner cs fresh last place byte bs)
+pub in_text-twin : (cs : List Opened) (fresh : Bool) (last place byte : ℕ) (bs : List ℕ) → Twin (in_text parts.TexInner cs fresh last place byte bs) (in_text parts.Inner cs fresh last place byte bs)
 in_text-twin [] fresh last place byte bs = code_text-twin [] fresh last place byte bs
 in_text-twin (c ∷ cs) fresh last place byte bs =
     if-twin c.inner _ _ _ _ (λ h. code_text-twin (c ∷ cs) fresh last place byte bs) (λ h. comment_text-twin c cs last place byte bs)

@@ -34,3 +34,9 @@ pub mod BarRules
 pub mod InnerTwins
 pub mod InnerScans
 pub mod LimboNames
+pub mod CodeStarts
+pub mod CodeTwins
+pub mod Openings
+pub mod InnerEnds
+pub mod NameEnds
+pub mod TexTexts

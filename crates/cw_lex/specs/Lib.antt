@@ -20,3 +20,5 @@ pub mod Heads
 pub mod NestLaws
 pub mod Parts
 pub mod Limbo
+pub mod Openings
+pub mod TexTexts

@@ -3,6 +3,8 @@ ghost use Rattle.cw_lex.specs.Limbo.{LimboHasNoNames};
 ghost use Rattle.cw_lex.specs.NestLaws.{NestedAnswersMakeOneNest, NestsAreWell, HeadsLeaveNests};
 ghost use Rattle.cw_lex.specs.Parts.{PartsEndAtSections, PartsEndAtCodes, LastPartsEndWithTheText, PartsAreAnswered};
 ghost use Rattle.cw_lex.specs.Parts.{InnerTextsEndAtBars};
+ghost use Rattle.cw_lex.specs.Openings.{TextsEndAtOpenings, TextsEndAtSections};
+ghost use Rattle.cw_lex.specs.TexTexts.{TexTextsGoOn};
 ghost use Rattle.cw_lex.specs.Nested.{CTextsAreNested, CTextsNestUpToSections, TexTextsAreNested};
 
 /// The law of parts: the scan of a part of a text is the scan of the whole there, and so is the scan of the bytes
@@ -34,4 +36,17 @@ pub fn nest_law()
 /// The law of limbo: no section name stands in it. It does nothing: what it ensures is for proofs.
 pub fn limbo_law()
     ensures { LimboHasNoNames }
+{}
+
+/// The law of openings: a text ends before the code with which a section or another part begins, and goes on from there
+/// as that part. It does nothing: what it ensures is for proofs.
+pub fn openings_law()
+    ensures sections { TextsEndAtSections }
+    ensures openings { TextsEndAtOpenings }
+{}
+
+/// The law of TeX text: where no other part begins in it, it goes on token by token, and each inner C text and each
+/// name in it is whole by itself. It does nothing: what it ensures is for proofs.
+pub fn tex_texts_law()
+    ensures { TexTextsGoOn }
 {}

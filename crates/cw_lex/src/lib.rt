@@ -25,7 +25,7 @@ mod tokens;
 
 pub use codes::Code;
 pub use heads::Wanted;
-pub use laws::{limbo_law, nest_law, nesting_law, parts_law};
+pub use laws::{limbo_law, nest_law, nesting_law, openings_law, parts_law, tex_texts_law};
 pub use lexer::Lexer;
 pub use signs::Sign;
 pub use tokens::{Lexed, Mode, Tok, TokKind};

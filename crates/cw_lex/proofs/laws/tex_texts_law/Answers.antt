@@ -1,0 +1,5 @@
+use Rattle.cw_lex.proofs.TexTexts.{tex-texts-go-on}
+use Rattle.cw_lex.proofs.laws.tex_texts_law.Goals as goal
+
+pub returns : goal.returns
+returns c = tex-texts-go-on
