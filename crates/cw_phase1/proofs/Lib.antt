@@ -12,3 +12,5 @@ pub mod SpanLaws
 pub mod NameSizes
 pub mod LimboRoles
 pub mod Closings
+pub mod PartEnds
+pub mod WholeSections

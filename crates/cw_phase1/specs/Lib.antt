@@ -17,3 +17,4 @@ pub mod Ready
 pub mod Ending
 pub mod Outline
 pub mod Sound
+pub mod Whole

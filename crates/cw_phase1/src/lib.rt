@@ -4,6 +4,7 @@
 mod book;
 mod entering;
 mod held;
+mod laws;
 mod named;
 mod note_list;
 mod phase;
@@ -16,6 +17,7 @@ mod told;
 mod words;
 
 pub use book::{Book, Outline};
+pub use laws::whole_law;
 pub use phase::phase_one;
 pub use roles::{Part, Role, Standing};
 pub use sections::{Depth, Section};

@@ -1,0 +1,5 @@
+use Rattle.cw_phase1.proofs.WholeSections.{sections-whole}
+use Rattle.cw_phase1.proofs.laws.whole_law.Goals as goal
+
+pub returns : goal.returns
+returns c = sections-whole c.openings_law.ensures.sections c.openings_law.ensures.openings
