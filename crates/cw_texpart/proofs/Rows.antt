@@ -1,0 +1,135 @@
+-- Worked rows: the limbo and the first section's head and TeX part of small webs.
+use Rattle.std.proofs.Common.{◌≡◌, ℕ, Bool, false, true, List, [], ◌∷◌, codes, refl}
+use Rattle.std.specs.Fmt.{digits}
+use Rattle.cw_base.specs.Flags.{start_flags}
+use Rattle.cw_base.specs.Web.{MergedLine, text_of}
+use Rattle.cw_names.specs.Names.{Entry}
+use Rattle.cw_phase1.specs.Book.{BookState, book}
+use Rattle.cw_phase1.specs.declared.sections.Section.{Section}
+use Rattle.cw_reduce.specs.Translating.{translated}
+use Rattle.cw_table.specs.Normal.{count, log, normal}
+use Rattle.cw_table.specs.NormalWalk.{positions}
+use Rattle.cw_table.specs.Productions.{productions}
+use Rattle.cw_table.specs.WalkCounts.{looks}
+use Rattle.cw_texpart.specs.Limbo.{limbo_bytes}
+use Rattle.cw_texpart.specs.TexParts.{tex_done}
+use Rattle.cw_texpart.specs.Texts.{Setting}
+
+abbrev line : Bool → List ℕ → MergedLine
+line changed text = record { text = text; place = record { file = 0; line = 1 }; changed = changed }
+
+abbrev web : List (List ℕ) → List MergedLine
+web [] = []
+web (text ∷ texts) = line false text ∷ web texts
+
+abbrev setting : List MergedLine → BookState → Setting
+setting lines b = record {
+  text = text_of lines;
+  flags = start_flags;
+  book = record {
+    outline = record { limbo = b.limbo; sections = b.sections; notes = b.notes };
+    sec_names = b.section_names;
+    name_uses = b.name_uses;
+  };
+  section = 1;
+}
+
+abbrev first_tex : Setting → List Section → List Entry → List ℕ
+first_tex s [] names = []
+first_tex s (section ∷ sections) names = (tex_done s section names).out
+
+abbrev tex_from : List MergedLine → BookState → List ℕ
+tex_from lines b = first_tex (setting lines b) b.sections b.names
+
+abbrev tex : List MergedLine → List ℕ
+tex lines = tex_from lines (book lines)
+
+abbrev limbo : List MergedLine → List ℕ
+limbo lines = limbo_bytes (text_of lines) (book lines).limbo
+
+-- ## Limbo
+
+-- Empty lines are copied; a line that holds only a code that prints nothing leaves none.
+limbo_row : limbo (web (codes "% a@@b" ∷ codes "@l" ∷ codes "@q c@>" ∷ codes "" ∷ codes "@ A" ∷ []))
+    ≡ codes "\\input cwebmac\n% a@b\n\\ATL\n\n"
+limbo_row = refl
+
+-- A format definition prints nothing, a bar is copied, and other codes drop their two bytes.
+dropped_row : limbo (web (codes "a @s b int" ∷ codes "|c@<d@>@0" ∷ codes "@s e f" ∷ codes "g@ A" ∷ []))
+    ≡ codes "\\input cwebmac\na \n|cd\ng\n"
+dropped_row = refl
+
+no_limbo_row : limbo (web (codes "@ A" ∷ [])) ≡ codes "\\input cwebmac\n"
+no_limbo_row = refl
+
+-- ## Heads
+
+depth_row : tex (line true (codes "@*07 Deep.") ∷ []) ≡ codes "\\N{7}{1\\*}Deep.\n"
+unfolding digits
+depth_row = refl
+
+no_depth_row : tex (web (codes "@*Top." ∷ [])) ≡ codes "\\N{0}{1}Top.\n"
+unfolding digits
+no_depth_row = refl
+
+noughts_row : tex (web (codes "@*000 Top." ∷ [])) ≡ codes "\\N{0}{1}Top.\n"
+unfolding digits
+noughts_row = refl
+
+-- Only one star is the depth.
+star_row : tex (web (codes "@*** Part." ∷ [])) ≡ codes "\\N{-1}{1}* Part.\n"
+unfolding digits
+star_row = refl
+
+changed_row : tex (line false (codes "@ A") ∷ line true (codes "b") ∷ []) ≡ codes "\\M{1\\*}A\nb\n"
+unfolding digits
+changed_row = refl
+
+-- ## TeX text
+
+text_row : tex (web (codes "@ One." ∷ codes "" ∷ codes "Two @@." ∷ [])) ≡ codes "\\M{1}One.\n\nTwo @.\n"
+unfolding digits
+text_row = refl
+
+-- The line's end behind a section code is that of a line that holds bytes.
+bare_row : tex (web (codes "@" ∷ codes "" ∷ codes "A" ∷ [])) ≡ codes "\\M{1}\n\nA\n"
+unfolding digits
+bare_row = refl
+
+entry_row : tex (web (codes "@ One" ∷ codes "@^two@>" ∷ codes "three." ∷ [])) ≡ codes "\\M{1}One\nthree.\n"
+unfolding digits
+entry_row = refl
+
+-- No other code prints anything, whether it may stand there or not.
+codes_row : tex (web (codes "@ A@^b@>@.c@>@:d@>@!@q e@>@0" ∷ codes "B@t f@>@=g@>@,@h@&@'@%@l" ∷ []))
+    ≡ codes "\\M{1}A\nB\n"
+unfolding digits
+codes_row = refl
+
+-- ## C texts in it
+
+inner_row : tex (web (codes "@ See |n|." ∷ [])) ≡ codes "\\M{1}See \\PB{\\|n}.\n"
+unfolding digits translated normal log count positions looks productions
+inner_row = refl
+
+empty_inner_row : tex (web (codes "@ A||b" ∷ [])) ≡ codes "\\M{1}A\\PB{}b\n"
+unfolding digits translated normal log count positions looks productions
+empty_inner_row = refl
+
+cited_row : tex (web (codes "@ See @<A@>." ∷ [])) ≡ codes "\\M{1}See \\PB{\\X0:A\\X}.\n"
+unfolding digits translated normal log count positions looks productions
+cited_row = refl
+
+file_row : tex (web (codes "@ See @(a_b@>." ∷ [])) ≡ codes "\\M{1}See \\PB{\\X0:\\.{a\\_b}\\X}.\n"
+unfolding digits translated normal log count positions looks productions
+file_row = refl
+
+-- A name that is ignored prints nothing.
+ignored_row : tex (web (codes "@ See @<...@>." ∷ [])) ≡ codes "\\M{1}See .\n"
+unfolding digits translated normal log count positions looks productions
+ignored_row = refl
+
+-- A C text that ends the TeX part, and one over two lines.
+last_row : tex (web (codes "@ |a" ∷ codes "+b|" ∷ codes "@ B" ∷ [])) ≡ codes "\\M{1}\\PB{$\\|a+\\|b$}\n"
+unfolding digits translated normal log count positions looks productions
+last_row = refl

@@ -1,0 +1,394 @@
+-- Pieces of a book are woven one after another.
+use Rattle.std.proofs.Common.{◌≡◌, ℕ, ◌+◌, ◌≤◌, ◌==◌, Bool, true, false, refl, sym, ap, ◌∙◌, subst, List, [], ◌∷◌, ◌++◌, append_assoc, length, codes, arith}
+use Rattle.std.specs.Prelude.{Result, Ok, Err, IfOk, IsErrAnd, Option, Some, None}
+use Rattle.std.specs.Option.{option_map}
+use Rattle.std.proofs.lemmas.List.{append-nil, map-append}
+use Rattle.std.proofs.lemmas.List.Sums.{sum_by-append}
+use Rattle.std.proofs.lemmas.Result.{err_from_is_err_and}
+use Rattle.cw_base.specs.declared.flags.Flags.{Flags}
+use Rattle.cw_base.specs.declared.span.Span.{Span}
+use Rattle.cw_desk.specs.Told.{Told}
+use Rattle.cw_lex.specs.declared.tokens.Mode.TheVariants.{Inner}
+use Rattle.cw_lines.specs.Line.{LineState, fill}
+use Rattle.cw_lines.specs.Writes.{HasPut, Puts}
+use Rattle.cw_lines.specs.WritesLaws.{adds-nothing, puts-bytes, puts-failed, puts-none, puts-stop, puts-then}
+use Rattle.cw_lines.specs.declared.put_error.PutError.{PutError}
+use Rattle.cw_lines.specs.declared.put_error.PutError.TheVariants.{Memory}
+use Rattle.cw_names.specs.Names.{Entry}
+use Rattle.cw_names.specs.declared.xrefs.Occurrence.{Occurrence}
+use Rattle.cw_phase1.specs.declared.sections.Section.{Section}
+use Rattle.cw_reduce.specs.Counting.{limit_in, productions_in, scraps_in, text_limit, ticks_in}
+use Rattle.cw_table.specs.Normal.{count}
+use Rattle.cw_table.specs.Productions.{productions}
+use Rattle.cw_table.specs.Rewriting.{State}
+use Rattle.cw_table.specs.WalkCounts.{ticks}
+use Rattle.cw_texpart.specs.declared.counts.Counts.{Counts}
+use Rattle.cw_texpart.specs.declared.pieces.Piece.{Piece}
+use Rattle.cw_texpart.specs.Done.{Done, behind, joined, plain, reprinted}
+use Rattle.cw_texpart.specs.Heads.{depth_bytes, head, head_by, section_number}
+use Rattle.cw_texpart.specs.Inks.{Ink, end_if, laid, prints}
+use Rattle.cw_texpart.specs.Laying.{held, held_behind, holds_bytes, inked}
+use Rattle.cw_texpart.specs.PieceForms.{piece_is}
+use Rattle.cw_texpart.specs.TexParts.{TexPiece, piece_done, pieces_done}
+use Rattle.cw_texpart.specs.Texts.{Setting, lasting, name_done_by, text_done}
+use Rattle.cw_texpart.specs.Weaving.{Press, Weaves, mark_at, underlined}
+use Rattle.cw_texpart.proofs.LayingLaws.{Inking, as-put, held_behind-append, inks-then, inked-prints, laid-append, lays-ended, lays-stopped}
+
+-- ## One call
+
+pub puts-nothing : {U : Type 0} (bytes : List ℕ) (line : LineState) (told : Told) {result : Result U PutError}
+    → IsErrAnd result (λ found. found ≡ Memory) → Puts bytes line line told told result
+puts-nothing bytes line told is = puts-failed Memory (fill line.line bytes) refl refl is
+    (adds-nothing _ told is (λ e. absurd (cc)))
+
+pub is_err : {T E : Type 0} (result : Result T E) (error : E) → IsErrAnd result (λ found. found ≡ error) → result
+    ≡ Err error
+is_err result error is = let p = err_from_is_err_and result is in p.1 ∙ ap Err p.2
+
+-- a call that is refused
+pub weaves-refused : {s : Setting} {d : Done ℕ} {old new : Press} (error : PutError) {result : Result Counts PutError}
+    → Puts d.out old.line new.line old.told new.told result → lasting new.book ≡ lasting old.book
+    → new.steps ≤ old.steps + limit_in s.flags d.ended → IsErrAnd result (λ found. found ≡ error)
+    → Weaves s d old new result
+weaves-refused {s = s} {d = d} {old = old} {new = new} error {result = result} puts same bound is =
+    let e : result ≡ Err error = is_err result error is in
+    let refused : Weaves s d old new (Err error) = record {
+      puts = subst (λ (r : Result Counts PutError). Puts d.out old.line new.line old.told new.told r) e puts;
+      names = tt;
+      occurrences = tt;
+      same = same;
+      scraps = tt;
+      productions = tt;
+      steps_are = tt;
+      bound = bound;
+    } in
+    subst (λ (r : Result Counts PutError). Weaves s d old new r) (sym e) refused
+
+-- the same piece
+pub weaves-as : {s : Setting} {d e : Done ℕ} {old new : Press} {result : Result Counts PutError} → d ≡ e
+    → Weaves s d old new result → Weaves s e old new result
+weaves-as {s = s} {old = old} {new = new} {result = result} is woven =
+    subst (λ (d : Done ℕ). Weaves s d old new result) is woven
+
+-- a piece behind bytes that were put
+pub weaves-behind : {T : Type 0} {s : Setting} {front : List ℕ} {d : Done ℕ} {old new : Press} {line : LineState}
+    {told : Told} {value : T} {result : Result Counts PutError}
+    → Puts {T = T} front old.line line old.told told (Ok value)
+    → Weaves s d (record { book = old.book; line = line; told = told; steps = old.steps }) new result
+    → Weaves s (behind front d) old new result
+weaves-behind put woven = record {
+  puts = puts-then put woven.puts;
+  names = woven.names;
+  occurrences = woven.occurrences;
+  same = woven.same;
+  scraps = woven.scraps;
+  productions = woven.productions;
+  steps_are = woven.steps_are;
+  bound = woven.bound;
+}
+
+-- ## Marks and inks
+
+underlined-by : (none : Bool) (section : ℕ) (xs ys : List ℕ) → (section == 0) ≡ none
+    → underlined section (xs ++ ys) ≡ underlined section xs ++ underlined section ys
+underlined-by true section xs ys is = rw (is, underlined) refl
+underlined-by false section xs ys is = rw (is, underlined) (map-append (mark_at section) xs ys)
+
+pub underlined-append : (section : ℕ) (xs ys : List ℕ) → underlined section (xs ++ ys)
+    ≡ underlined section xs ++ underlined section ys
+underlined-append section xs ys = underlined-by (section == 0) section xs ys refl
+
+none-by : (none : Bool) (section : ℕ) → (section == 0) ≡ none → underlined section [] ≡ []
+none-by true section is = rw (is, underlined) refl
+none-by false section is = rw (is, underlined) refl
+
+pub underlined-none : (section : ℕ) → underlined section [] ≡ []
+underlined-none section = none-by (section == 0) section refl
+
+-- bytes of a C text, as inks
+pub weaves-printed : {s : Setting} {d : Done ℕ} {old new : Press} {result : Result Counts PutError} (holds : Bool)
+    → Weaves s d old new result → Weaves s (reprinted (inked holds) (reprinted prints d)) old new result
+weaves-printed {d = d} holds woven =
+    weaves-as (ap (λ (out : List ℕ). reprinted (λ (old : List ℕ). out) d) (sym (inked-prints holds d.out))) woven
+
+-- ## Pieces of a TeX part
+
+-- the same piece
+pub weaves-piece : {s : Setting} {old new : Press} {result : Result Counts PutError} {piece piece' : Piece}
+    (holds : Bool) (names : List Entry) → piece ≡ piece'
+    → Weaves s (reprinted (inked holds) (piece_done s (piece_is piece') names)) old new result
+    → Weaves s (reprinted (inked holds) (piece_done s (piece_is piece) names)) old new result
+weaves-piece {s = s} holds names is =
+    weaves-as (ap (λ (p : Piece). reprinted (inked holds) (piece_done s (piece_is p) names)) (sym is))
+
+joined-joined : {X : Type 0} (a b c : Done X) → joined (joined a b) c ≡ joined a (joined b c)
+joined-joined a b c =
+    rw (append_assoc a.out b.out c.out, append_assoc a.marks b.marks c.marks, append_assoc a.ended b.ended c.ended) refl
+
+-- Pieces were woven, and with those that are still to be woven they are all. So many scraps and productions were
+-- counted.
+pub record Weaving (s : Setting) (rest : List TexPiece) (all : Done Ink) (old new : Press)
+    (scraps prods : ℕ) : Type 0 where
+  pub done : Done Ink
+  pub put : HasPut (inked (holds_bytes old.line) done.out) old.line new.line old.told new.told
+  pub names : new.book.names ≡ done.names
+  pub occurrences : new.book.xrefs ≡ old.book.xrefs ++ underlined s.section done.marks
+  pub same : lasting new.book ≡ lasting old.book
+  pub scraps_are : scraps ≡ scraps_in done.ended
+  pub productions_are : prods ≡ productions_in s.flags done.ended
+  pub steps_are : new.steps ≡ old.steps + ticks_in s.flags done.ended
+  pub bound : new.steps ≤ old.steps + limit_in s.flags done.ended
+  pub goes : joined done (pieces_done s rest done.names) ≡ all
+
+pub weaving-begun : (s : Setting) (pieces : List TexPiece) (press : Press)
+    → Weaving s pieces (pieces_done s pieces press.book.names) press press 0 0
+weaving-begun s pieces press = record {
+  done = plain [] press.book.names;
+  put = puts-none press.line press.told (tt {0});
+  names = refl;
+  occurrences = sym (append-nil press.book.xrefs)
+      ∙ ap (λ (os : List Occurrence). press.book.xrefs ++ os) (sym (underlined-none s.section));
+  same = refl;
+  scraps_are = refl;
+  productions_are = refl;
+  steps_are = omega arith;
+  bound = omega arith;
+  goes = refl;
+}
+
+-- the same pieces, still to be woven
+pub weaving-as : {s : Setting} {rest rest' : List TexPiece} {all : Done Ink} {old new : Press} {scraps prods : ℕ}
+    → rest ≡ rest'
+    → Weaving s rest all old new scraps prods → Weaving s rest' all old new scraps prods
+weaving-as {s = s} {all = all} {old = old} {new = new} {scraps = scraps} {prods = prods} is w =
+    subst (λ (pieces : List TexPiece). Weaving s pieces all old new scraps prods) is w
+
+scraps-append : (xs ys : List State) → scraps_in (xs ++ ys) ≡ scraps_in xs + scraps_in ys
+scraps-append xs ys = sum_by-append (λ state. length state.scraps) xs ys
+
+productions-append : (flags : Flags) (xs ys : List State) → productions_in flags (xs ++ ys)
+    ≡ productions_in flags xs + productions_in flags ys
+productions-append flags xs ys = sum_by-append (λ state. count productions flags state) xs ys
+
+ticks-append : (flags : Flags) (xs ys : List State) → ticks_in flags (xs ++ ys) ≡ ticks_in flags xs + ticks_in flags ys
+ticks-append flags xs ys = sum_by-append (λ state. ticks productions flags state) xs ys
+
+limit-append : (flags : Flags) (xs ys : List State) → limit_in flags (xs ++ ys) ≡ limit_in flags xs + limit_in flags ys
+limit-append flags xs ys = sum_by-append (λ state. text_limit flags state) xs ys
+
+-- the next piece, from the names that the pieces before it leave
+abbrev next_piece : Setting → TexPiece → Press → Done Ink
+next_piece s piece now = piece_done s piece now.book.names
+
+piece-is : {s : Setting} {piece : TexPiece} {rest : List TexPiece} {all : Done Ink} {old mid : Press} {scraps prods : ℕ}
+    (w : Weaving s (piece ∷ rest) all old mid scraps prods) → next_piece s piece mid ≡ piece_done s piece w.done.names
+piece-is {s = s} {piece = piece} w = ap (piece_done s piece) w.names
+
+goes-on : {s : Setting} {piece : TexPiece} {rest : List TexPiece} {all : Done Ink} {old mid : Press} {scraps prods : ℕ}
+    (w : Weaving s (piece ∷ rest) all old mid scraps prods)
+    → joined w.done (joined (next_piece s piece mid) (pieces_done s rest (next_piece s piece mid).names)) ≡ all
+goes-on {s = s} {piece = piece} {rest = rest} w =
+    ap (λ (d : Done Ink). joined w.done (joined d (pieces_done s rest d.names))) (piece-is w) ∙ w.goes
+
+pub weaving-next : {s : Setting} {piece : TexPiece} {rest : List TexPiece} {all : Done Ink} {old mid new : Press}
+    {scraps prods : ℕ} {more : Counts}
+    → Weaving s (piece ∷ rest) all old mid scraps prods
+    → Weaves s (reprinted (inked (holds_bytes mid.line)) (piece_done s piece mid.book.names)) mid new (Ok more)
+    → Weaving s rest all old new (scraps + more.scraps) (prods + more.productions)
+weaving-next {s = s} {piece = piece} {rest = rest} {all = all} {old = old} {mid = mid} {new = new} {scraps = scraps}
+    {prods = prods} {more = more} w woven =
+    let d : Done Ink = next_piece s piece mid in
+    record {
+      done = joined w.done d;
+      put = as-put (inks-then w.done.out d.out w.put woven.puts);
+      names = woven.names;
+      occurrences = woven.occurrences ∙ ap (λ (os : List Occurrence). os ++ underlined s.section d.marks) w.occurrences
+          ∙ append_assoc old.book.xrefs (underlined s.section w.done.marks) (underlined s.section d.marks)
+          ∙ ap (λ (os : List Occurrence). old.book.xrefs ++ os)
+          (sym (underlined-append s.section w.done.marks d.marks));
+      same = woven.same ∙ w.same;
+      scraps_are = let a : scraps ≡ scraps_in w.done.ended = w.scraps_are in let b : more.scraps ≡ scraps_in d.ended =
+          woven.scraps in
+          let c : scraps_in (w.done.ended ++ d.ended) ≡ scraps_in w.done.ended + scraps_in d.ended =
+          scraps-append w.done.ended d.ended in omega (arith, a, b, c);
+      productions_are = let a : prods ≡ productions_in s.flags w.done.ended = w.productions_are in
+          let b : more.productions ≡ productions_in s.flags d.ended = woven.productions in
+          let c : productions_in s.flags (w.done.ended ++ d.ended)
+          ≡ productions_in s.flags w.done.ended + productions_in s.flags d.ended =
+          productions-append s.flags w.done.ended d.ended in omega (arith, a, b, c);
+      steps_are = let a : mid.steps ≡ old.steps + ticks_in s.flags w.done.ended = w.steps_are in
+          let b : new.steps ≡ mid.steps + ticks_in s.flags d.ended = woven.steps_are in
+          let c : ticks_in s.flags (w.done.ended ++ d.ended)
+          ≡ ticks_in s.flags w.done.ended + ticks_in s.flags d.ended =
+          ticks-append s.flags w.done.ended d.ended in omega (arith, a, b, c);
+      bound = let a : mid.steps ≤ old.steps + limit_in s.flags w.done.ended = w.bound in
+          let b : new.steps ≤ mid.steps + limit_in s.flags d.ended = woven.bound in
+          let c : limit_in s.flags (w.done.ended ++ d.ended)
+          ≡ limit_in s.flags w.done.ended + limit_in s.flags d.ended =
+          limit-append s.flags w.done.ended d.ended in omega (arith, a, b, c);
+      goes = joined-joined w.done d (pieces_done s rest d.names) ∙ goes-on w;
+    }
+
+-- A piece is refused.
+pub weaving-stopped : {s : Setting} {piece : TexPiece} {rest : List TexPiece} {all : Done Ink} {old mid new : Press}
+    {scraps prods : ℕ} {error : PutError} {result : Result Counts PutError}
+    → Weaving s (piece ∷ rest) all old mid scraps prods
+    → Weaves s (reprinted (inked (holds_bytes mid.line)) (piece_done s piece mid.book.names)) mid new (Err error)
+    → IsErrAnd result (λ found. found ≡ error) → Weaves s (reprinted (laid (holds_bytes old.line)) all) old new result
+weaving-stopped {s = s} {piece = piece} {rest = rest} {all = all} {old = old} {mid = mid} {new = new} w woven is =
+    let d : Done Ink = next_piece s piece mid in
+    let later : Done Ink = pieces_done s rest d.names in
+    let inking : Inking (d.out ++ later.out) all.out old.line mid.line old.told mid.told =
+    record { done = w.done.out; put = w.put; goes = ap (λ (a : Done Ink). a.out) (goes-on w) } in
+    let ended : w.done.ended ++ (d.ended ++ later.ended) ≡ all.ended = ap (λ (a : Done Ink). a.ended) (goes-on w) in
+    weaves-refused _ (lays-stopped d.out later.out inking woven.puts is) (woven.same ∙ w.same)
+    (let a : mid.steps ≤ old.steps + limit_in s.flags w.done.ended = w.bound in
+    let b : new.steps ≤ mid.steps + limit_in s.flags d.ended = woven.bound in
+    let c : limit_in s.flags (w.done.ended ++ (d.ended ++ later.ended))
+    ≡ limit_in s.flags w.done.ended + limit_in s.flags (d.ended ++ later.ended) =
+    limit-append s.flags w.done.ended (d.ended ++ later.ended) in
+    let f : limit_in s.flags (d.ended ++ later.ended) ≡ limit_in s.flags d.ended + limit_in s.flags later.ended =
+    limit-append s.flags d.ended later.ended in
+    let e : limit_in s.flags (w.done.ended ++ (d.ended ++ later.ended)) ≡ limit_in s.flags all.ended =
+    ap (limit_in s.flags) ended in
+    omega (arith, a, b, c, e, f))
+    is
+
+-- Memory is wanted between two pieces.
+pub weaving-refused : {s : Setting} {rest : List TexPiece} {all : Done Ink} {old now : Press} {scraps prods : ℕ}
+    {result : Result Counts PutError}
+    → Weaving s rest all old now scraps prods → IsErrAnd result (λ found. found ≡ Memory)
+    → Weaves s (reprinted (laid (holds_bytes old.line)) all) old now result
+weaving-refused {s = s} {rest = rest} {all = all} {old = old} {now = now} w is =
+    let later : Done Ink = pieces_done s rest w.done.names in
+    let holds : Bool = holds_bytes old.line in
+    let ended : w.done.ended ++ later.ended ≡ all.ended = ap (λ (a : Done Ink). a.ended) w.goes in
+    weaves-refused Memory
+    (puts-bytes (sym (laid-append holds w.done.out later.out) ∙ ap (λ (a : Done Ink). laid holds a.out) w.goes)
+    (puts-then w.put (puts-nothing (laid (held holds w.done.out) later.out) now.line now.told is)))
+    w.same
+    (let a : now.steps ≤ old.steps + limit_in s.flags w.done.ended = w.bound in
+    let c : limit_in s.flags (w.done.ended ++ later.ended)
+    ≡ limit_in s.flags w.done.ended + limit_in s.flags later.ended =
+    limit-append s.flags w.done.ended later.ended in
+    let e : limit_in s.flags (w.done.ended ++ later.ended) ≡ limit_in s.flags all.ended =
+    ap (limit_in s.flags) ended in
+    omega (arith, a, c, e))
+    is
+
+-- All are woven, and their last line is ended where it holds bytes.
+all-done : {s : Setting} {all : Done Ink} {old now : Press} {scraps prods : ℕ}
+    (w : Weaving s [] all old now scraps prods) → w.done ≡ all
+all-done w =
+    (λ i. record {
+      out = sym (append-nil w.done.out) i;
+      names = w.done.names;
+      marks = sym (append-nil w.done.marks) i;
+      ended = sym (append-nil w.done.ended) i;
+    }) ∙ w.goes
+
+inking-all : {s : Setting} {all : Done Ink} {old now : Press} {scraps prods : ℕ}
+    → Weaving s [] all old now scraps prods → Inking [] all.out old.line now.line old.told now.told
+inking-all w = record
+    { done = w.done.out; put = w.put; goes = append-nil w.done.out ∙ ap (λ (a : Done Ink). a.out) (all-done w) }
+
+pub weaving-ended : {T : Type 0} {s : Setting} {all : Done Ink} {old now : Press} {line : LineState} {told : Told}
+    {counts : Counts} {value : T}
+    → Weaving s [] all old now counts.scraps counts.productions
+    → Puts {T = T} (end_if (holds_bytes now.line)) now.line line now.told told (Ok value)
+    → Weaves s (reprinted (laid (holds_bytes old.line)) all) old
+    (record { book = now.book; line = line; told = told; steps = now.steps }) (Ok counts)
+weaving-ended {s = s} {all = all} {old = old} {now = now} {line = line} {told = told} {counts = counts} w put =
+    let d : w.done ≡ all = all-done w in
+    record {
+      puts = puts-bytes (append-nil _) (puts-then (lays-ended (inking-all w) put) (puts-none line told counts));
+      names = w.names ∙ ap (λ (a : Done Ink). a.names) d;
+      occurrences = w.occurrences ∙ ap (λ (a : Done Ink). old.book.xrefs ++ underlined s.section a.marks) d;
+      same = w.same;
+      scraps = w.scraps_are ∙ ap (λ (a : Done Ink). scraps_in a.ended) d;
+      productions = w.productions_are ∙ ap (λ (a : Done Ink). productions_in s.flags a.ended) d;
+      steps_are = w.steps_are ∙ ap (λ (a : Done Ink). old.steps + ticks_in s.flags a.ended) d;
+      bound = subst (λ (a : Done Ink). now.steps ≤ old.steps + limit_in s.flags a.ended) d w.bound;
+    }
+
+pub weaving-end-refused : {T : Type 0} {s : Setting} {all : Done Ink} {old now : Press} {scraps prods : ℕ}
+    {line : LineState} {told : Told} {error : PutError} {result : Result Counts PutError}
+    → Weaving s [] all old now scraps prods
+    → Puts {T = T} (end_if (holds_bytes now.line)) now.line line now.told told (Err error)
+    → IsErrAnd result (λ found. found ≡ error)
+    → Weaves s (reprinted (laid (holds_bytes old.line)) all) old
+    (record { book = now.book; line = line; told = told; steps = now.steps }) result
+weaving-end-refused {s = s} {all = all} {old = old} {now = now} w put is =
+    weaves-refused _ (puts-bytes (append-nil _) (puts-stop [] (lays-ended (inking-all w) put) is)) w.same
+    (subst (λ (a : Done Ink). now.steps ≤ old.steps + limit_in s.flags a.ended) (all-done w) w.bound) is
+
+-- the same, with numbers that are equal
+pub weaving-counts : {s : Setting} {rest : List TexPiece} {all : Done Ink} {old now : Press}
+    {scraps prods scraps' prods' : ℕ} → scraps' ≡ scraps → prods' ≡ prods
+    → Weaving s rest all old now scraps prods → Weaving s rest all old now scraps' prods'
+weaving-counts {s = s} {rest = rest} {all = all} {old = old} {now = now} {scraps = scraps} {prods' = prods'} a b w =
+    subst (λ (n : ℕ). Weaving s rest all old now n prods') (sym a)
+    (subst (λ (n : ℕ). Weaving s rest all old now scraps n) (sym b) w)
+
+-- what is copied
+pub weaves-plain : {s : Setting} (xs : List Ink) {old : Press} {line : LineState} {told : Told}
+    (result : Result Counts PutError)
+    → Puts (inked (holds_bytes old.line) xs) old.line line old.told told result
+    → IfOk result (λ counts. counts.scraps ≡ 0) → IfOk result (λ counts. counts.productions ≡ 0)
+    → Weaves s (reprinted (inked (holds_bytes old.line)) (plain xs old.book.names)) old
+    (record { book = old.book; line = line; told = told; steps = old.steps }) result
+weaves-plain {s = s} xs {old = old} (Ok counts) puts scraps prods = record {
+  puts = puts;
+  names = refl;
+  occurrences = sym (append-nil old.book.xrefs)
+      ∙ ap (λ (os : List Occurrence). old.book.xrefs ++ os) (sym (underlined-none s.section));
+  same = refl;
+  scraps = scraps;
+  productions = prods;
+  steps_are = omega arith;
+  bound = omega arith;
+}
+weaves-plain xs (Err error) puts scraps prods = record {
+  puts = puts;
+  names = tt;
+  occurrences = tt;
+  same = refl;
+  scraps = tt;
+  productions = tt;
+  steps_are = tt;
+  bound = omega arith;
+}
+
+-- nothing
+pub weaves-nothing : {s : Setting} {old : Press} {counts : Counts} → counts.scraps ≡ 0 → counts.productions ≡ 0
+    → Weaves s (plain [] old.book.names) old old (Ok counts)
+weaves-nothing {s = s} {old = old} {counts = counts} scraps prods =
+    weaves-plain [] (Ok counts) (puts-none old.line old.told counts) scraps prods
+
+-- a section name that is ignored, and one that isn't
+pub ignored : {X : Type 0} (f : ℕ → X) (s : Setting) (inner : Bool) (part : Span) (names : List Entry)
+    (name : Option ℕ) → None ≡ option_map f name
+    → name_done_by s inner part name names ≡ plain [] names
+ignored f s inner part names None is = refl
+ignored f s inner part names (Some name) is = absurd (cc)
+
+pub cited : {X : Type 0} (f : ℕ → X) (id : X) (s : Setting) (inner : Bool) (part : Span) (names : List Entry)
+    (name : Option ℕ) → Some id ≡ option_map f name
+    → text_done s Inner inner part names ≡ name_done_by s inner part name names
+cited f id s inner part names None is = absurd (cc)
+cited f id s inner part names (Some name) is = refl
+
+-- ## Heads
+
+brace-last : (holds : Bool) (bytes : List ℕ) → held_behind holds (bytes ++ codes "}") ≡ true
+brace-last holds bytes = held_behind-append holds bytes (codes "}")
+
+head-by-holds : (starred holds : Bool) (depth number : List ℕ) → held_behind holds (head_by starred depth number) ≡ true
+head-by-holds true holds depth number = brace-last holds (((codes "\\N{" ++ depth) ++ codes "}{") ++ number)
+head-by-holds false holds depth number = brace-last holds (codes "\\M{" ++ number)
+
+-- behind a head the line holds bytes
+pub head-holds : (holds : Bool) (text : List ℕ) (n : ℕ) (section : Section) → held_behind holds (head text n section)
+    ≡ true
+head-holds holds text n section = head-by-holds section.starred holds (depth_bytes text section.depth)
+    (section_number n section.changed)

@@ -1,0 +1,8 @@
+use Rattle.std.proofs.Common.{ap, sym}
+use Rattle.cw_lines.specs.WritesLaws.{puts-bytes, puts-none}
+use Rattle.cw_texpart.specs.Inks.{end_if}
+use Rattle.cw_texpart.proofs.copying.end_line_if.Goals as goal
+
+pub returns : goal.returns
+returns g c = puts-bytes (ap end_if (sym c.if-ends.false))
+    (puts-none c.args.out.now (g.D.Desk.told c.args.desk.now) (tt {0}))

@@ -1,0 +1,12 @@
+use Rattle.std.proofs.Common.{◌≡◌, ◌-◌, ◌<◌, length, drop}
+use Rattle.cw_texpart.specs.Heads.{drop_zeros}
+use Rattle.cw_texpart.proofs.heads.without_zeros.Given as goal
+
+abbrev pub invariant-loop-at : goal.invariant-loop-at
+invariant-loop-at l = record {
+  within : l.at < length l.digits;
+  rest : drop_zeros (drop l.at l.digits) ≡ drop_zeros l.digits;
+}
+
+abbrev pub decreases-loop-at : goal.decreases-loop-at
+decreases-loop-at l = length l.digits - l.at

@@ -1,0 +1,1 @@
+-- An answer makes a piece, or none.

@@ -1,0 +1,21 @@
+-- A name that the book keeps is a C text of its own.
+use Rattle.std.proofs.Common.{true, sym}
+use Rattle.cw_secnames.specs.Kept.{id}
+use Rattle.cw_secnames.specs.Uses.{name_at}
+use Rattle.cw_texpart.specs.PartForms.{setting_in}
+use Rattle.cw_texpart.specs.Texts.{lasting}
+use Rattle.cw_texpart.proofs.WeavingLaws.{cited, ignored, weaves-as, weaves-nothing}
+use Rattle.cw_texpart.proofs.tex_parts.put_cited.Goals as goal
+
+pub returns-in-None : goal.returns-in-None
+returns-in-None g c =
+    weaves-as (sym (ignored id (setting_in c.args.t (lasting c.args.book.now)) true c.args.part c.args.book.now.names
+    (name_at c.args.part.start c.args.book.now.name_uses) c.in-None.ensures))
+    (weaves-nothing c.none.ensures.scraps c.none.ensures.productions)
+
+pub returns-in-Some : goal.returns-in-Some
+returns-in-Some g c =
+    weaves-as (cited id c.in-Some._id
+    (setting_in c.args.t (lasting c.args.book.now)) true c.args.part c.args.book.now.names
+    (name_at c.args.part.start c.args.book.now.name_uses) c.in-Some.ensures)
+    c.put_inner.ensures

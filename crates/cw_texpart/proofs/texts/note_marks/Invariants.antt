@@ -1,0 +1,7 @@
+-- The marks so far are noted.
+use Rattle.std.proofs.Common.{◌≡◌, ◌++◌, map, take}
+use Rattle.cw_texpart.specs.Weaving.{mark}
+use Rattle.cw_texpart.proofs.texts.note_marks.Given as goal
+
+abbrev pub invariant-loop-i : goal.invariant-loop-i
+invariant-loop-i l = l.xrefs ≡ l.fn.xrefs ++ map (mark l.section) (take l.i l.marks.names)

@@ -1,0 +1,13 @@
+pub mod Inks
+pub mod Laying
+pub mod Heads
+pub mod Limbo
+pub mod Done
+pub mod Texts
+pub mod TexParts
+pub mod Weaving
+pub mod Translation
+pub mod Printing
+pub mod PieceForms
+pub mod PartForms
+pub mod WholePieces

@@ -1,0 +1,21 @@
+-- Pieces of TeX parts, as they are handed on.
+use Rattle.std.specs.Prelude.{◌≡◌, List, [], ◌∷◌, Option, Some, None}
+use Rattle.cw_lex.specs.Answers.{seen}
+use Rattle.cw_texpart.specs.declared.pieces.Piece.{Piece}
+use Rattle.cw_texpart.specs.declared.pieces.Piece.TheVariants as forms
+use Rattle.cw_texpart.specs.declared.pieces.Pieces.{Pieces}
+use Rattle.cw_texpart.specs.TexParts.{TexPiece, Copied, InnerText, Cited, tex_pieces}
+
+abbrev pub piece_is : Piece → TexPiece
+piece_is (forms.Copied token) = Copied (seen token)
+piece_is (forms.InnerText span) = InnerText span
+piece_is (forms.Cited span) = Cited span
+
+-- The first of the old pieces is this one, and the new ones are the rest; at the end there are none.
+abbrev pub GivesPiece : List TexPiece → Option Piece → List TexPiece → Type 0
+GivesPiece old (Some piece) new = old ≡ piece_is piece ∷ new
+GivesPiece old None new = (old ≡ []) × (new ≡ [])
+
+-- the pieces that are still to come
+abbrev pub pieces_in : Pieces → List TexPiece
+pieces_in p = tex_pieces p.open.depth p.open.start p.lexer

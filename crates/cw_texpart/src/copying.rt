@@ -1,0 +1,89 @@
+//! The copying of a web's text: byte by byte, but not each line's end.
+ghost use Rattle.std.specs.Prelude.{◌≡◌, ◌==◌, ◌<◌, ◌||◌, [], ◌∷◌, length, slice_index};
+ghost use Rattle.cw_lines.specs.Writes.{CanWrite, Puts};
+ghost use Rattle.cw_texpart.specs.Inks.{bytes_of, copied, end_if, ends_empty_line, ink_by};
+ghost use Rattle.cw_texpart.specs.Laying.{holds_bytes, inked};
+
+use cw_base::Span;
+use cw_desk::Desk;
+use cw_lines::{LineOut, PutError};
+
+/// Copies the bytes of a span of the web's text, as far as they are there.
+pub(crate) fn copy<D: Desk>(
+    text: &[u8],
+    span: Span,
+    out: &mut LineOut,
+    desk: &mut D,
+) -> Result<(), PutError>
+    requires can { CanWrite (D.told desk.old) out.old }
+    ensures { Puts (inked (holds_bytes out.old) (copied text.now span.start (bytes_of text.now span))) out.old out.new
+        (D.told desk.old) (D.told desk.new) result }
+{
+    let end = span.end.min(text.len());
+    let mut at = span.start;
+    while at < end {
+        copy_byte(text, at, out, desk)?;
+        at += 1;
+    }
+    Ok(())
+}
+
+// Copies one byte. A line's end is printed where the line of the book holds bytes, or where its line of the web is
+// empty.
+fn copy_byte<D: Desk>(
+    text: &[u8],
+    place: usize,
+    out: &mut LineOut,
+    desk: &mut D,
+) -> Result<(), PutError>
+    requires within { place < length text.now }
+    requires can { CanWrite (D.told desk.old) out.old }
+    ensures { Puts (inked (holds_bytes out.old)
+        (ink_by (slice_index text.now place == 10) text.now place (slice_index text.now place) ∷ []))
+        out.old out.new (D.told desk.old) (D.told desk.new) result }
+{
+    let byte = text[place];
+    if byte == b'\n' {
+        let ends = ends_line(text, place, out);
+        return end_line_if(ends, out, desk);
+    }
+    out.put(byte, desk)
+}
+
+// Whether the line's end at a place of the web's text is printed.
+fn ends_line(text: &[u8], place: usize, out: &LineOut) -> bool
+    requires { place < length text.now }
+    ensures { result ≡ (holds_bytes out.now || ends_empty_line text.now place) }
+{
+    holds_bytes(out) || ends_empty_line(text, place)
+}
+
+// Whether the line of the book holds bytes.
+pub(crate) fn holds_bytes(out: &LineOut) -> bool
+    ensures { result ≡ holds_bytes out.now }
+{
+    !out.is_empty()
+}
+
+/// Ends the line of the book, or leaves it as it is.
+pub(crate) fn end_line_if<D: Desk>(
+    ends: bool,
+    out: &mut LineOut,
+    desk: &mut D,
+) -> Result<(), PutError>
+    requires can { CanWrite (D.told desk.old) out.old }
+    ensures { Puts (end_if ends) out.old out.new (D.told desk.old) (D.told desk.new) result }
+{
+    if ends {
+        return out.end_line(desk);
+    }
+    Ok(())
+}
+
+// Whether the line of the web that ends at this place is empty.
+fn ends_empty_line(text: &[u8], place: usize) -> bool
+    requires { place < length text.now }
+    ensures { result ≡ ends_empty_line text.now place }
+{
+    place == 0 || text[place - 1] == b'\n'
+}

@@ -1,0 +1,228 @@
+//! The head and the TeX part of a section.
+ghost use Rattle.std.specs.Prelude.{◌≡◌, ◌^◌, ◌-◌, ◌<◌, ◌≤◌, true, All, IfOk, Some, length, slice_get};
+ghost use Rattle.cw_base.specs.Web.{text_of};
+ghost use Rattle.cw_lex.specs.Answers.{seen};
+ghost use Rattle.cw_lex.specs.declared.tokens.Mode.TheVariants.{Inner};
+ghost use Rattle.cw_lines.specs.Writes.{CanWrite, Puts};
+ghost use Rattle.cw_phase1.specs.declared.sections.Section.{Section};
+ghost use Rattle.cw_reduce.specs.NameParts.{AreNamesOf};
+ghost use Rattle.cw_texpart.specs.Done.{reprinted};
+ghost use Rattle.cw_texpart.specs.Inks.{laid, token_inks};
+ghost use Rattle.cw_texpart.specs.Laying.{holds_bytes, inked};
+ghost use Rattle.cw_texpart.specs.PartForms.{setting_in};
+ghost use Rattle.cw_texpart.specs.PieceForms.{piece_is};
+ghost use Rattle.cw_texpart.specs.TexParts.{IsWhole, IsWholePiece, piece_done, pieces_done, pieces_of, tex_done};
+ghost use Rattle.cw_texpart.specs.Texts.{lasting, name_done, setting, text_done};
+ghost use Rattle.cw_texpart.specs.Weaving.{Weaves};
+
+use crate::copying::{end_line_if, holds_bytes};
+use crate::heads::put_head;
+use crate::inks::put_token;
+use crate::pieces::{Piece, Pieces};
+use crate::texts::print_text;
+use crate::{CText, Counts};
+use cw_base::{Flags, Ledger, Span, Steps, Web};
+use cw_desk::Desk;
+use cw_lex::{Mode, Tok};
+use cw_lines::{LineOut, PutError};
+use cw_phase1::{Book, Section};
+use std::alloc::Global;
+
+// What a TeX part is printed with: the web's text, the number of its section, and the flags.
+#[derive(Clone, Copy)]
+pub(crate) struct TexPart<'a> {
+    text: &'a [u8],
+    section: u32,
+    flags: &'a Flags,
+    alloc: Global,
+}
+
+// Puts a token that is copied.
+fn put_copied<D: Desk>(
+    text: &[u8],
+    token: &Tok,
+    out: &mut LineOut,
+    desk: &mut D,
+) -> Result<Counts, PutError>
+    requires can { CanWrite (D.told desk.old) out.old }
+    ensures puts { Puts (inked (holds_bytes out.old) (token_inks text.now token.now.kind (seen token.now)))
+        out.old out.new (D.told desk.old) (D.told desk.new) result }
+    ensures scraps { IfOk result (λ counts. counts.scraps ≡ 0) }
+    ensures productions { IfOk result (λ counts. counts.productions ≡ 0) }
+{
+    put_token(text, token, out, desk)?;
+    Ok(Counts::none())
+}
+
+// Puts the inner C text at a span.
+fn put_inner<D: Desk, L: Ledger>(
+    t: TexPart,
+    part: Span,
+    book: &mut Book,
+    out: &mut LineOut,
+    desk: &mut D,
+    steps: &mut Steps<L>,
+) -> Result<Counts, PutError>
+    requires can { CanWrite (D.told desk.old) out.old }
+    requires short { length t.text.now ≤ 2 ^ 24 }
+    requires whole { IsWhole t.text.now part }
+    requires kept { AreNamesOf book.old.sec_names book.old.name_uses }
+    ensures { Weaves (setting_in t.entry (lasting book.old))
+        (text_done (setting_in t.entry (lasting book.old)) Inner true part book.old.names)
+        (record { book = book.old; line = out.old; told = D.told desk.old; steps = steps.old })
+        (record { book = book.new; line = out.new; told = D.told desk.new; steps = steps.new }) result }
+{
+    let c = CText {
+        text: t.text,
+        span: part,
+        mode: Mode::Inner,
+        inner: true,
+        section: t.section,
+        flags: t.flags,
+    };
+    print_text(t.alloc, c, book, out, desk, steps)
+}
+
+// Puts the section name at a span, as inner C text. One that is ignored prints nothing.
+fn put_cited<D: Desk, L: Ledger>(
+    t: TexPart,
+    part: Span,
+    book: &mut Book,
+    out: &mut LineOut,
+    desk: &mut D,
+    steps: &mut Steps<L>,
+) -> Result<Counts, PutError>
+    requires can { CanWrite (D.told desk.old) out.old }
+    requires short { length t.text.now ≤ 2 ^ 24 }
+    requires whole { IsWhole t.text.now part }
+    requires kept { AreNamesOf book.old.sec_names book.old.name_uses }
+    ensures { Weaves (setting_in t.entry (lasting book.old))
+        (name_done (setting_in t.entry (lasting book.old)) true part book.old.names)
+        (record { book = book.old; line = out.old; told = D.told desk.old; steps = steps.old })
+        (record { book = book.new; line = out.new; told = D.told desk.new; steps = steps.new }) result }
+{
+    match book.name_uses.at(part.start as u32) {
+        None => Ok(Counts::none()),
+        Some(_id) => put_inner(t, part, book, out, desk, steps),
+    }
+}
+
+// Puts a piece.
+fn put_piece<D: Desk, L: Ledger>(
+    t: TexPart,
+    piece: Piece,
+    book: &mut Book,
+    out: &mut LineOut,
+    desk: &mut D,
+    steps: &mut Steps<L>,
+) -> Result<Counts, PutError>
+    requires can { CanWrite (D.told desk.old) out.old }
+    requires short { length t.text.now ≤ 2 ^ 24 }
+    requires whole { IsWholePiece t.text.now (piece_is piece) }
+    requires kept { AreNamesOf book.old.sec_names book.old.name_uses }
+    ensures { Weaves (setting_in t.entry (lasting book.old))
+        (reprinted (inked (holds_bytes out.old))
+        (piece_done (setting_in t.entry (lasting book.old)) (piece_is piece.entry) book.old.names))
+        (record { book = book.old; line = out.old; told = D.told desk.old; steps = steps.old })
+        (record { book = book.new; line = out.new; told = D.told desk.new; steps = steps.new }) result }
+{
+    match piece {
+        Piece::Copied(token) => put_copied(t.text, &token, out, desk),
+        Piece::InnerText(part) => put_inner(t, part, book, out, desk, steps),
+        Piece::Cited(part) => put_cited(t, part, book, out, desk, steps),
+    }
+}
+
+// Puts the TeX part that stands at a span, and ends its last line where that holds bytes.
+fn put_pieces<D: Desk, L: Ledger>(
+    t: TexPart,
+    part: Span,
+    book: &mut Book,
+    out: &mut LineOut,
+    desk: &mut D,
+    steps: &mut Steps<L>,
+) -> Result<Counts, PutError>
+    requires can { CanWrite (D.told desk.old) out.old }
+    requires short { length t.text.now ≤ 2 ^ 24 }
+    requires whole { All (IsWholePiece t.text.now) (pieces_of t.text.now part) }
+    requires kept { AreNamesOf book.old.sec_names book.old.name_uses }
+    ensures { Weaves (setting_in t.entry (lasting book.old))
+        (reprinted (laid (holds_bytes out.old))
+        (pieces_done (setting_in t.entry (lasting book.old)) (pieces_of t.entry.text.now part) book.old.names))
+        (record { book = book.old; line = out.old; told = D.told desk.old; steps = steps.old })
+        (record { book = book.new; line = out.new; told = D.told desk.new; steps = steps.new }) result }
+{
+    let mut pieces = Pieces::over(t.text, part);
+    let mut counts = Counts::none();
+    'all: loop {
+        let next = pieces.next()?;
+        match next {
+            Some(piece) => {
+                let more = put_piece(t, piece, book, out, desk, steps)?;
+                counts = counts.plus(more)?;
+            }
+            None => {
+                let holds = holds_bytes(out);
+                end_line_if(holds, out, desk)?;
+                return Ok(counts);
+            }
+        }
+    }
+}
+
+// Puts the head of a section, and directly behind it its TeX part.
+fn put_section<D: Desk, L: Ledger>(
+    t: TexPart,
+    section: Section,
+    book: &mut Book,
+    out: &mut LineOut,
+    desk: &mut D,
+    steps: &mut Steps<L>,
+) -> Result<Counts, PutError>
+    requires can { CanWrite (D.told desk.old) out.old }
+    requires short { length t.text.now ≤ 2 ^ 24 }
+    requires whole { All (IsWholePiece t.text.now) (pieces_of t.text.now section.tex) }
+    requires kept { AreNamesOf book.old.sec_names book.old.name_uses }
+    ensures { Weaves (setting_in t.entry (lasting book.old))
+        (tex_done (setting_in t.entry (lasting book.old)) section book.old.names)
+        (record { book = book.old; line = out.old; told = D.told desk.old; steps = steps.old })
+        (record { book = book.new; line = out.new; told = D.told desk.new; steps = steps.new }) result }
+{
+    put_head(t.text, &section, t.section, out, desk)?;
+    put_pieces(t, section.tex, book, out, desk, steps)
+}
+
+/// Prints the head of the section of this number, and directly behind it its TeX part. The marks of the C texts in it
+/// go to the book's occurrences, and the book's names get the categories behind them.
+pub fn copy_tex<D: Desk, L: Ledger>(
+    alloc: Global,
+    web: &Web,
+    book: &mut Book,
+    section: u32,
+    flags: &Flags,
+    out: &mut LineOut,
+    desk: &mut D,
+    steps: &mut Steps<L>,
+) -> Result<Counts, PutError>
+    requires can { CanWrite (D.told desk.old) out.old }
+    requires first { 0 < section }
+    requires last { section ≤ length book.old.outline.sections }
+    requires kept { AreNamesOf book.old.sec_names book.old.name_uses }
+    requires whole { (s : Section) → slice_get book.old.outline.sections (section - 1) ≡ Some s
+        → All (IsWholePiece (text_of web.now.lines)) (pieces_of (text_of web.now.lines) s.tex) }
+    ensures { (s : Section) → slice_get book.old.outline.sections (section - 1) ≡ Some s
+        → Weaves (setting (text_of web.now.lines) flags.now section book.old)
+        (tex_done (setting (text_of web.now.lines) flags.now section book.old) s book.old.names)
+        (record { book = book.old; line = out.old; told = D.told desk.old; steps = steps.old })
+        (record { book = book.new; line = out.new; told = D.told desk.new; steps = steps.new }) result }
+{
+    let text = web.text();
+    let head = book.section(section);
+    let t = TexPart {
+        text,
+        section,
+        flags,
+        alloc,
+    };
+    put_section(t, head, book, out, desk, steps)
+}

@@ -1,0 +1,185 @@
+//! The C texts of a book, which are translated and printed one by one.
+ghost use Rattle.std.specs.Prelude.{◌≡◌, ◌^◌, ◌≤◌, ◌++◌, false, length, true, IfOk, OnOk};
+ghost use Rattle.cw_lex.specs.Lexing.{tokens_of};
+ghost use Rattle.cw_lex.specs.Nested.{begins_section_in, is_c_mode};
+ghost use Rattle.cw_lines.specs.Writes.{CanWrite, Puts};
+ghost use Rattle.cw_reduce.specs.NameParts.{AreNamesOf};
+ghost use Rattle.cw_scraps.specs.Marking.{marked_names};
+ghost use Rattle.cw_scraps.specs.Lines.{IsNamedBelow};
+ghost use Rattle.cw_texpart.specs.Printing.{setting_of, text_bytes, text_printed};
+ghost use Rattle.cw_texpart.specs.Texts.{lasting};
+ghost use Rattle.cw_texpart.specs.Translation.{Translates, tree_of};
+ghost use Rattle.cw_texpart.specs.Weaving.{Weaves, underlined};
+
+use crate::Counts;
+use cw_base::{Flags, Ledger, Memory, Span, Steps};
+use cw_desk::Desk;
+use cw_lex::Mode;
+use cw_lines::{LineOut, PutError};
+use cw_names::Xrefs;
+use cw_phase1::Book;
+use cw_print::print_list;
+use cw_reduce::translate;
+use cw_scraps::Marks;
+use cw_tokens::{ListId, TokenStore};
+use std::alloc::Global;
+use std::marker::Model;
+
+/// A C text of a web's text: where it stands, how it is scanned, and how it is printed.
+#[derive(Clone, Copy)]
+pub struct CText<'a> {
+    pub text: &'a [u8],
+    pub span: Span,
+    pub mode: Mode,
+    /// Whether it is inner C text.
+    pub inner: bool,
+    /// The present section, or 0 in the section list.
+    pub section: u32,
+    pub flags: &'a Flags,
+}
+
+/// A C text that is translated and not yet printed: its tree, and what was counted.
+#[derive(Drop)]
+pub struct TranslatedText {
+    store: TokenStore,
+    list: ListId,
+    counts: Counts,
+}
+
+impl Model for TranslatedText {
+    ghost use Rattle.std.specs.Prelude.{◌<◌, length};
+    ghost use Rattle.cw_texpart.specs.Translation.{TranslatedState};
+
+    ghost Value = { TranslatedState };
+
+    ghost view = { λ t. record { lists = t.store.lists; root = t.list.index; counts = t.counts } };
+
+    ghost invariant = { λ t. t.list.index < length t.store.lists };
+}
+
+impl TranslatedText {
+    /// The scraps and the productions of the text, those of inner texts included.
+    pub fn counts(&self) -> Counts
+        ensures { result ≡ self.now.counts }
+    {
+        self.counts
+    }
+
+    /// Prints this translation of a C text, with the book that it has left.
+    pub fn print<D: Desk>(
+        &self,
+        alloc: Global,
+        c: CText,
+        book: &Book,
+        out: &mut LineOut,
+        desk: &mut D,
+    ) -> Result<(), PutError>
+        requires can { CanWrite (D.told desk.old) out.old }
+        requires order { c.span.start ≤ c.span.end }
+        requires within { c.span.end ≤ length c.text.now }
+        requires uncut { begins_section_in (tokens_of c.text.now c.span.start c.span.end c.mode) ≡ false }
+        requires named { IsNamedBelow (length book.now.names) (tree_of self.now) }
+        ensures { Puts (text_bytes c.entry book.now (tree_of self.now)) out.old out.new
+            (D.told desk.old) (D.told desk.new) result }
+    {
+        print_list(
+            alloc,
+            c.text,
+            c.span,
+            c.mode,
+            book,
+            c.section,
+            c.flags,
+            &self.store,
+            self.list,
+            c.inner,
+            out,
+            desk,
+        )
+    }
+}
+
+/// Translates a C text without printing it. Its marks go to the book's occurrences, and the book's names get the
+/// categories behind it.
+pub fn translate_text<L: Ledger>(
+    alloc: Global,
+    c: CText,
+    book: &mut Book,
+    steps: &mut Steps<L>,
+) -> Result<TranslatedText, Memory>
+    requires order { c.span.start ≤ c.span.end }
+    requires within { c.span.end ≤ length c.text.now }
+    requires short { length c.text.now ≤ 2 ^ 24 }
+    requires c_text { is_c_mode c.mode ≡ true }
+    requires uncut { begins_section_in (tokens_of c.text.now c.span.start c.span.end c.mode) ≡ false }
+    requires kept { AreNamesOf book.old.sec_names book.old.name_uses }
+    ensures translates { Translates (setting_of c.entry (lasting book.old))
+        (text_printed c.entry (lasting book.old) book.old.names) book.old book.new steps.old steps.new result }
+    // Printed with the book that is left, the tree is what the text prints.
+    ensures printed { IfOk result (λ text. text_bytes c.entry book.new (tree_of text)
+        ≡ (text_printed c.entry (lasting book.old) book.old.names).out) }
+    ensures named { IfOk result (λ text. IsNamedBelow (length book.new.names) (tree_of text)) }
+{
+    let mut store = TokenStore::new_in(alloc);
+    let mut marks = Marks::new_in(alloc);
+    let done = translate(
+        alloc,
+        c.text,
+        c.span,
+        c.mode,
+        &mut book.names,
+        &book.sec_names,
+        &book.name_uses,
+        &mut store,
+        &mut marks,
+        c.flags,
+        steps,
+    )?;
+    note_marks(&marks, c.section, &mut book.xrefs)?;
+    Ok(TranslatedText {
+        store,
+        list: done.list,
+        counts: Counts {
+            scraps: done.scraps,
+            productions: done.productions,
+        },
+    })
+}
+
+/// Translates a C text and prints it.
+pub fn print_text<D: Desk, L: Ledger>(
+    alloc: Global,
+    c: CText,
+    book: &mut Book,
+    out: &mut LineOut,
+    desk: &mut D,
+    steps: &mut Steps<L>,
+) -> Result<Counts, PutError>
+    requires can { CanWrite (D.told desk.old) out.old }
+    requires order { c.span.start ≤ c.span.end }
+    requires within { c.span.end ≤ length c.text.now }
+    requires short { length c.text.now ≤ 2 ^ 24 }
+    requires c_text { is_c_mode c.mode ≡ true }
+    requires uncut { begins_section_in (tokens_of c.text.now c.span.start c.span.end c.mode) ≡ false }
+    requires kept { AreNamesOf book.old.sec_names book.old.name_uses }
+    ensures { Weaves (setting_of c.entry (lasting book.old)) (text_printed c.entry (lasting book.old) book.old.names)
+        (record { book = book.old; line = out.old; told = D.told desk.old; steps = steps.old })
+        (record { book = book.new; line = out.new; told = D.told desk.new; steps = steps.new }) result }
+{
+    let translated = translate_text(alloc, c, book, steps)?;
+    translated.print(alloc, c, book, out, desk)?;
+    Ok(translated.counts())
+}
+
+// Adds each mark to the occurrences, underlined in this section. The section list has number 0, and none.
+fn note_marks(marks: &Marks, section: u32, xrefs: &mut Xrefs) -> Result<(), Memory>
+    ensures { OnOk result (xrefs.new ≡ xrefs.old ++ underlined section (marked_names marks.now)) }
+{
+    if section == 0 {
+        return Ok(());
+    }
+    for i in 0..marks.len() {
+        xrefs.note(marks.name(i), section, true)?;
+    }
+    Ok(())
+}

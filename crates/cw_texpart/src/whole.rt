@@ -1,0 +1,46 @@
+//! Whether the C texts of a TeX part are whole: no section code cuts them.
+ghost use Rattle.std.specs.Prelude.{◌≡◌, true, All, IfOk};
+ghost use Rattle.cw_texpart.specs.PieceForms.{piece_is};
+ghost use Rattle.cw_texpart.specs.TexParts.{IsWhole, IsWholePiece, pieces_of};
+
+use crate::pieces::{Piece, Pieces};
+use cw_base::{Memory, Span};
+use cw_lex::Mode;
+use cw_reduce::is_uncut;
+
+/// Whether each C text of the TeX part at a span is whole. It scans them; who knows it from elsewhere needs no look.
+pub fn is_whole(text: &[u8], part: Span) -> Result<bool, Memory>
+    ensures { IfOk result (λ whole. whole ≡ true → All (IsWholePiece text.now) (pieces_of text.now part)) }
+{
+    let mut pieces = Pieces::over(text, part);
+    'all: loop {
+        let next = pieces.next()?;
+        match next {
+            Some(piece) => {
+                if !is_whole_piece(text, piece) {
+                    return Ok(false);
+                }
+            }
+            None => return Ok(true),
+        }
+    }
+}
+
+fn is_whole_piece(text: &[u8], piece: Piece) -> bool
+    ensures { result ≡ true → IsWholePiece text.now (piece_is piece.entry) }
+{
+    match piece {
+        Piece::Copied(_) => true,
+        Piece::InnerText(part) => is_whole_text(text, part),
+        Piece::Cited(part) => is_whole_text(text, part),
+    }
+}
+
+fn is_whole_text(text: &[u8], part: Span) -> bool
+    ensures { result ≡ true → IsWhole text.now part }
+{
+    if part.start > part.end || part.end > text.len() {
+        return false;
+    }
+    is_uncut(text, part, Mode::Inner)
+}
