@@ -1,0 +1,7 @@
+pub mod WovenLaws
+mod ParagraphLaws
+mod SectionLaws
+mod PutLaws
+mod FootnoteLaws
+mod Rows
+mod WholeDefinitions

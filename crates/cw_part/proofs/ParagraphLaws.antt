@@ -1,0 +1,99 @@
+-- A paragraph is translated, and then printed or not.
+use Rattle.std.proofs.Common.{◌≡◌, ℕ, ◌||◌, Bool, true, false, sym, ap, ◌∙◌, subst, List, ◌++◌, codes}
+use Rattle.std.specs.Prelude.{Result, Ok, Err, IsErrAnd, nat_lt}
+use Rattle.std.proofs.lemmas.List.{append-nil}
+use Rattle.cw_base.specs.declared.memory.Memory.{Memory}
+use Rattle.cw_desk.specs.Told.{Told}
+use Rattle.cw_lines.specs.Line.{LineState}
+use Rattle.cw_lines.specs.Writes.{Puts}
+use Rattle.cw_lines.specs.WritesLaws.{puts-bytes, puts-none, puts-stop, puts-then}
+use Rattle.cw_lines.specs.declared.put_error.PutError.{PutError}
+use Rattle.cw_lines.specs.declared.put_error.PutError.TheVariants as puts
+use Rattle.cw_part.specs.Parts.{paragraph_if}
+use Rattle.cw_phase1.specs.declared.book.Book.{Book}
+use Rattle.cw_texpart.specs.declared.counts.Counts.{Counts}
+use Rattle.cw_texpart.specs.Done.{Done, reprinted}
+use Rattle.cw_texpart.specs.Texts.{Setting}
+use Rattle.cw_texpart.specs.Translation.{TranslatedState, Translates}
+use Rattle.cw_texpart.specs.Weaving.{Press, Weaves}
+use Rattle.cw_part.proofs.WovenLaws.{puts-nothing, weaves-refused}
+
+abbrev reprint : List ℕ → Done ℕ → Done ℕ
+reprint out d = reprinted (λ bytes. out) d
+
+-- the call was refused before it printed anything
+refused : {s : Setting} {d : Done ℕ} (front : List ℕ) (printed : Bool) {old new : Book} {before after : ℕ}
+    {error : Memory} (line : LineState) (told : Told) {result : Result Counts PutError}
+    → Translates s d old new before after (Err error) → IsErrAnd result (λ found. found ≡ puts.Memory)
+    → Weaves s (paragraph_if printed front d) (record { book = old; line = line; told = told; steps = before })
+    (record { book = new; line = line; told = told; steps = after }) result
+refused front true line told t is = weaves-refused puts.Memory (puts-nothing _ line told is) t.same t.bound is
+refused front false line told t is = weaves-refused puts.Memory (puts-nothing _ line told is) t.same t.bound is
+
+pub paragraph-refused : {s : Setting} {d : Done ℕ} (front : List ℕ) (printed : Bool) {old new : Book}
+    {before after : ℕ} {error : Memory} (line : LineState) (told : Told) {result : Result Counts PutError}
+    → Translates s d old new before after (Err error) → IsErrAnd result (λ found. found ≡ puts.Memory)
+    → Weaves s (paragraph_if printed front d) (record { book = old; line = line; told = told; steps = before })
+    (record { book = new; line = line; told = told; steps = after }) result
+paragraph-refused front printed line told t is = refused front printed line told t is
+
+-- these bytes were printed of a piece that was translated
+woven : {T : Type 0} {s : Setting} {d : Done ℕ} {out : List ℕ} {old new : Book} {before after : ℕ}
+    {text : TranslatedState} {line line' : LineState} {told told' : Told} {value : T}
+    → Translates s d old new before after (Ok text) → Puts {T = T} out line line' told told' (Ok value)
+    → Weaves s (reprint out d) (record { book = old; line = line; told = told; steps = before })
+    (record { book = new; line = line'; told = told'; steps = after }) (Ok text.counts)
+woven {text = text} {line' = line'} {told' = told'} t put = record {
+  puts = puts-bytes (append-nil _) (puts-then put (puts-none line' told' text.counts));
+  names = t.names;
+  occurrences = t.occurrences;
+  same = t.same;
+  scraps = t.scraps;
+  productions = t.productions;
+  steps_are = t.steps_are;
+  bound = t.bound;
+}
+
+-- the same of a paragraph
+abbrev shown : List ℕ → Done ℕ → List ℕ
+shown front d = front ++ d.out ++ codes "\\par\n"
+
+pub paragraph-put : {T : Type 0} {s : Setting} {d : Done ℕ} (front : List ℕ) (printed : Bool) {old new : Book}
+    {before after : ℕ} {text : TranslatedState} {line line' : LineState} {told told' : Told} {value : T}
+    → printed ≡ true → Translates s d old new before after (Ok text)
+    → Puts {T = T} (front ++ d.out ++ codes "\\par\n") line line' told told' (Ok value)
+    → Weaves s (paragraph_if printed front d) (record { book = old; line = line; told = told; steps = before })
+    (record { book = new; line = line'; told = told'; steps = after }) (Ok text.counts)
+paragraph-put {s = s} {d = d} front true is t put = woven {s = s} {d = d} {out = shown front d} t put
+paragraph-put front false is t put = absurd (cc)
+
+pub paragraph-cut : {T : Type 0} {s : Setting} {d : Done ℕ} (front : List ℕ) (printed : Bool) {old new : Book}
+    {before after : ℕ} {text : TranslatedState} {line line' : LineState} {told told' : Told} {error : PutError}
+    {result : Result Counts PutError}
+    → printed ≡ true → Translates s d old new before after (Ok text)
+    → Puts {T = T} (front ++ d.out ++ codes "\\par\n") line line' told told' (Err error)
+    → IsErrAnd result (λ found. found ≡ error)
+    → Weaves s (paragraph_if printed front d) (record { book = old; line = line; told = told; steps = before })
+    (record { book = new; line = line'; told = told'; steps = after }) result
+paragraph-cut front true {error = error} is t put e =
+    weaves-refused error (puts-bytes (append-nil _) (puts-stop _ put e)) t.same t.bound e
+paragraph-cut front false is t put e = absurd (cc)
+
+pub paragraph-kept : {s : Setting} {d : Done ℕ} (front : List ℕ) (printed : Bool) {old new : Book} {before after : ℕ}
+    {text : TranslatedState} (line : LineState) (told : Told)
+    → printed ≡ false → Translates s d old new before after (Ok text)
+    → Weaves s (paragraph_if printed front d) (record { book = old; line = line; told = told; steps = before })
+    (record { book = new; line = line; told = told; steps = after }) (Ok text.counts)
+paragraph-kept front true line told is t = absurd (cc)
+paragraph-kept {s = s} {d = d} front false line told is t = woven {s = s} {d = d} t (puts-none line told (tt {0}))
+
+-- whether it is printed, by its counts and by its scraps
+pub printed-is : (always printed : Bool) (n m : ℕ) → printed ≡ (always || nat_lt 0 n) → n ≡ m
+    → (always || nat_lt 0 m) ≡ printed
+printed-is always printed n m is same = ap (λ (k : ℕ). always || nat_lt 0 k) (sym same) ∙ sym is
+
+-- the same counts
+pub counted : {s : Setting} {d : Done ℕ} {old new : Press} {a b : Counts} → a ≡ b → Weaves s d old new (Ok b)
+    → Weaves s d old new (Ok a)
+counted {s = s} {d = d} {old = old} {new = new} same woven =
+    subst (λ (c : Counts). Weaves s d old new (Ok c)) (sym same) woven

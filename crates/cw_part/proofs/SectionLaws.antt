@@ -1,0 +1,68 @@
+-- Pieces of a section, in the setting of the section.
+use Rattle.std.proofs.Common.{◌≡◌, ℕ, ◌+◌, refl, ap, subst, List}
+use Rattle.std.specs.Prelude.{Option, Some, Result}
+use Rattle.cw_base.specs.declared.flags.Flags.{Flags}
+use Rattle.cw_lines.specs.declared.put_error.PutError.{PutError}
+use Rattle.cw_names.specs.Names.{Entry}
+use Rattle.cw_part.specs.declared.paragraphs.Present.{Present}
+use Rattle.cw_part.specs.Parts.{paragraph}
+use Rattle.cw_part.specs.PresentForms.{setting_in}
+use Rattle.cw_part.specs.Sections.{rest_done}
+use Rattle.cw_part.specs.WholeTexts.{IsWholeRest}
+use Rattle.cw_phase1.specs.declared.book.Book.{Book}
+use Rattle.cw_phase1.specs.declared.sections.Section.{Section}
+use Rattle.cw_texpart.specs.declared.counts.Counts.{Counts}
+use Rattle.cw_texpart.specs.Done.{Done}
+use Rattle.cw_texpart.specs.Texts.{Lasting, Setting, setting}
+use Rattle.cw_texpart.specs.Weaving.{Press, Weaves}
+use Rattle.cw_part.proofs.WovenLaws.{AreSums, Weaving, weaves-as}
+
+-- the same of what stays of a book
+pub moved : (p : Present) (d : Setting → Done ℕ) {l l' : Lasting} {old new : Press} {result : Result Counts PutError}
+    → l ≡ l'
+    → Weaves (setting_in p l) (d (setting_in p l)) old new result
+    → Weaves (setting_in p l') (d (setting_in p l')) old new result
+moved p d {old = old} {new = new} {result = result} same woven =
+    subst (λ (l : Lasting). Weaves (setting_in p l) (d (setting_in p l)) old new result) same woven
+
+-- the same front
+pub fronted : {s : Setting} (d : Done ℕ) {front front' : List ℕ} {old new : Press} {result : Result Counts PutError}
+    → front ≡ front'
+    → Weaves s (paragraph front d) old new result → Weaves s (paragraph front' d) old new result
+fronted d same woven = weaves-as (ap (λ (front : List ℕ). paragraph front d) same) woven
+
+-- the same rest
+pub weaving-as : {s : Setting} {rest rest' : List Entry → Done ℕ} {all : Done ℕ} {old now : Press} {counts : Counts}
+    → rest ≡ rest'
+    → Weaving s rest all old now counts → Weaving s rest' all old now counts
+weaving-as {s = s} {all = all} {old = old} {now = now} {counts = counts} same w =
+    subst (λ (rest : List Entry → Done ℕ). Weaving s rest all old now counts) same w
+
+-- ## The section of a number, and the text of a web
+
+pub one-section : (found : Option Section) (s s' : Section) → found ≡ Some s → found ≡ Some s' → s ≡ s'
+one-section found s s' is is' = cc
+
+pub whole-as : {text text' : List ℕ} {s s' : Section} → text ≡ text' → s ≡ s' → IsWholeRest text s
+    → IsWholeRest text' s'
+whole-as {text' = text'} {s = s} same is whole =
+    subst (λ (x : Section). IsWholeRest text' x) is (subst (λ (x : List ℕ). IsWholeRest x s) same whole)
+
+pub woven-as : (flags : Flags) (n : ℕ) (b : Book) {text text' : List ℕ} {s s' : Section} {old new : Press}
+    {result : Result Counts PutError} → text ≡ text' → s ≡ s'
+    → Weaves (setting text flags n b) (rest_done (setting text flags n b) s b.names) old new result
+    → Weaves (setting text' flags n b) (rest_done (setting text' flags n b) s' b.names) old new result
+woven-as flags n b {text' = text'} {s = s} {old = old} {new = new} {result = result} same is woven =
+    subst (λ (x : Section). Weaves (setting text' flags n b)
+    (rest_done (setting text' flags n b) x b.names) old new result) is
+    (subst (λ (x : List ℕ). Weaves (setting x flags n b)
+    (rest_done (setting x flags n b) s b.names) old new result) same woven)
+
+-- ## Counts
+
+-- the sums of counts
+abbrev pub sum_of : Counts → Counts → Counts
+sum_of a b = record { scraps = a.scraps + b.scraps; productions = a.productions + b.productions }
+
+pub sums-are : (a b : Counts) → AreSums (sum_of a b) a b
+sums-are a b = record { scraps = refl; productions = refl }

@@ -1,0 +1,305 @@
+-- Pieces of a book are woven one after another.
+use Rattle.std.proofs.Common.{
+  ◌≡◌,
+  ℕ,
+  ◌+◌,
+  ◌≤◌,
+  ◌==◌,
+  Bool,
+  true,
+  false,
+  refl,
+  sym,
+  ap,
+  ◌∙◌,
+  subst,
+  List,
+  [],
+  ◌++◌,
+  append_assoc,
+  length,
+  arith,
+}
+use Rattle.std.specs.Prelude.{Result, Ok, Err, IsErrAnd}
+use Rattle.std.proofs.lemmas.List.{append-nil, map-append}
+use Rattle.std.proofs.lemmas.List.Sums.{sum_by-append}
+use Rattle.std.proofs.lemmas.Result.{err_from_is_err_and}
+use Rattle.cw_base.specs.declared.flags.Flags.{Flags}
+use Rattle.cw_desk.specs.Told.{Told}
+use Rattle.cw_lines.specs.Line.{LineState, fill}
+use Rattle.cw_lines.specs.Writes.{Puts}
+use Rattle.cw_lines.specs.WritesLaws.{adds-nothing, puts-bytes, puts-failed, puts-none, puts-stop, puts-then}
+use Rattle.cw_lines.specs.declared.put_error.PutError.{PutError}
+use Rattle.cw_lines.specs.declared.put_error.PutError.TheVariants.{Memory}
+use Rattle.cw_names.specs.Names.{Entry}
+use Rattle.cw_names.specs.declared.xrefs.Occurrence.{Occurrence}
+use Rattle.cw_reduce.specs.Counting.{limit_in, productions_in, scraps_in, text_limit, ticks_in}
+use Rattle.cw_table.specs.Normal.{count}
+use Rattle.cw_table.specs.Productions.{productions}
+use Rattle.cw_table.specs.Rewriting.{State}
+use Rattle.cw_table.specs.WalkCounts.{ticks}
+use Rattle.cw_texpart.specs.declared.counts.Counts.{Counts}
+use Rattle.cw_texpart.specs.Done.{Done, joined, plain, then}
+use Rattle.cw_texpart.specs.Texts.{Setting, lasting}
+use Rattle.cw_texpart.specs.Weaving.{Press, Weaves, mark_at, underlined}
+
+-- ## Sums
+
+scraps-append : (xs ys : List State) → scraps_in (xs ++ ys) ≡ scraps_in xs + scraps_in ys
+scraps-append xs ys = sum_by-append (λ state. length state.scraps) xs ys
+
+productions-append : (flags : Flags) (xs ys : List State)
+    → productions_in flags (xs ++ ys) ≡ productions_in flags xs + productions_in flags ys
+productions-append flags xs ys = sum_by-append (λ state. count productions flags state) xs ys
+
+ticks-append : (flags : Flags) (xs ys : List State) → ticks_in flags (xs ++ ys) ≡ ticks_in flags xs + ticks_in flags ys
+ticks-append flags xs ys = sum_by-append (λ state. ticks productions flags state) xs ys
+
+limit-append : (flags : Flags) (xs ys : List State) → limit_in flags (xs ++ ys) ≡ limit_in flags xs + limit_in flags ys
+limit-append flags xs ys = sum_by-append (λ state. text_limit flags state) xs ys
+
+-- ## Marks
+
+underlined-by : (none : Bool) (section : ℕ) (xs ys : List ℕ) → (section == 0) ≡ none
+    → underlined section (xs ++ ys) ≡ underlined section xs ++ underlined section ys
+underlined-by true section xs ys is = rw (is, underlined) refl
+underlined-by false section xs ys is = rw (is, underlined) (map-append (mark_at section) xs ys)
+
+underlined-append : (section : ℕ) (xs ys : List ℕ)
+    → underlined section (xs ++ ys) ≡ underlined section xs ++ underlined section ys
+underlined-append section xs ys = underlined-by (section == 0) section xs ys refl
+
+none-by : (none : Bool) (section : ℕ) → (section == 0) ≡ none → underlined section [] ≡ []
+none-by true section is = rw (is, underlined) refl
+none-by false section is = rw (is, underlined) refl
+
+underlined-none : (section : ℕ) → underlined section [] ≡ []
+underlined-none section = none-by (section == 0) section refl
+
+-- ## One piece
+
+pub puts-nothing : {U : Type 0} (bytes : List ℕ) (line : LineState) (told : Told) {result : Result U PutError}
+    → IsErrAnd result (λ found. found ≡ Memory) → Puts bytes line line told told result
+puts-nothing bytes line told is =
+    puts-failed Memory (fill line.line bytes) refl refl is (adds-nothing _ told is (λ e. absurd (cc)))
+
+is_err : {T E : Type 0} (result : Result T E) (error : E) → IsErrAnd result (λ found. found ≡ error)
+    → result ≡ Err error
+is_err result error is = let p = err_from_is_err_and result is in p.1 ∙ ap Err p.2
+
+-- a call that is refused
+pub weaves-refused : {s : Setting} {d : Done ℕ} {old new : Press} (error : PutError) {result : Result Counts PutError}
+    → Puts d.out old.line new.line old.told new.told result → lasting new.book ≡ lasting old.book
+    → new.steps ≤ old.steps + limit_in s.flags d.ended → IsErrAnd result (λ found. found ≡ error)
+    → Weaves s d old new result
+weaves-refused {s = s} {d = d} {old = old} {new = new} error {result = result} puts same bound is =
+    let e : result ≡ Err error = is_err result error is in
+    let refused : Weaves s d old new (Err error) = record {
+      puts = subst (λ (r : Result Counts PutError). Puts d.out old.line new.line old.told new.told r) e puts;
+      names = tt;
+      occurrences = tt;
+      same = same;
+      scraps = tt;
+      productions = tt;
+      steps_are = tt;
+      bound = bound;
+    } in
+    subst (λ (r : Result Counts PutError). Weaves s d old new r) (sym e) refused
+
+-- the same piece
+pub weaves-as : {s : Setting} {d e : Done ℕ} {old new : Press} {result : Result Counts PutError} → d ≡ e
+    → Weaves s d old new result → Weaves s e old new result
+weaves-as {s = s} {old = old} {new = new} {result = result} is woven =
+    subst (λ (d : Done ℕ). Weaves s d old new result) is woven
+
+-- counts of no text, and sums of counts
+abbrev pub no_counts : Counts
+no_counts = record { scraps = 0; productions = 0 }
+
+pub record AreSums (sum first more : Counts) : Type 0 where
+  pub scraps : sum.scraps ≡ first.scraps + more.scraps
+  pub productions : sum.productions ≡ first.productions + more.productions
+
+pub nothing-more : (counts : Counts) → AreSums counts counts no_counts
+nothing-more counts = record { scraps = omega arith; productions = omega arith }
+
+-- bytes that no text prints
+pub weaves-bytes : {T : Type 0} {s : Setting} {bytes : List ℕ} {old : Press} {line : LineState} {told : Told}
+    {value : T}
+    → Puts {T = T} bytes old.line line old.told told (Ok value)
+    → Weaves s (plain bytes old.book.names) old
+    (record { book = old.book; line = line; told = told; steps = old.steps }) (Ok no_counts)
+weaves-bytes {s = s} {old = old} {line = line} {told = told} put = record {
+  puts = puts-bytes (append-nil _) (puts-then put (puts-none line told no_counts));
+  names = refl;
+  occurrences = sym (append-nil old.book.xrefs)
+      ∙ ap (λ (os : List Occurrence). old.book.xrefs ++ os) (sym (underlined-none s.section));
+  same = refl;
+  scraps = refl;
+  productions = refl;
+  steps_are = omega arith;
+  bound = omega arith;
+}
+
+pub weaves-nothing : (s : Setting) (old : Press) → Weaves s (plain [] old.book.names) old old (Ok no_counts)
+weaves-nothing s old = weaves-bytes (puts-none old.line old.told (tt {0}))
+
+pub bytes-refused : {T : Type 0} {s : Setting} {bytes : List ℕ} {old : Press} {line : LineState} {told : Told}
+    {error : PutError} {result : Result Counts PutError}
+    → Puts {T = T} bytes old.line line old.told told (Err error) → IsErrAnd result (λ found. found ≡ error)
+    → Weaves s (plain bytes old.book.names) old
+    (record { book = old.book; line = line; told = told; steps = old.steps }) result
+bytes-refused {error = error} put is =
+    weaves-refused error (puts-bytes (append-nil _) (puts-stop [] put is)) refl (omega arith) is
+
+-- ## A piece and then another
+
+pub weaves-joined : {s : Setting} {a b : Done ℕ} {old mid new : Press} {first more sum : Counts}
+    → Weaves s a old mid (Ok first) → Weaves s b mid new (Ok more) → AreSums sum first more
+    → Weaves s (joined a b) old new (Ok sum)
+weaves-joined {s = s} {a = a} {b = b} {old = old} {mid = mid} {new = new} {first = first} {more = more}
+    {sum = sum} begun ended sums = record {
+      puts = puts-bytes (append-nil _) (puts-then (puts-then begun.puts ended.puts) (puts-none new.line new.told sum));
+      names = ended.names;
+      occurrences = ended.occurrences
+          ∙ ap (λ (os : List Occurrence). os ++ underlined s.section b.marks) begun.occurrences
+          ∙ append_assoc old.book.xrefs (underlined s.section a.marks) (underlined s.section b.marks)
+          ∙ ap (λ (os : List Occurrence). old.book.xrefs ++ os) (sym (underlined-append s.section a.marks b.marks));
+      same = ended.same ∙ begun.same;
+      scraps = let x : first.scraps ≡ scraps_in a.ended = begun.scraps in let y : more.scraps ≡ scraps_in b.ended =
+          ended.scraps in
+          let z : scraps_in (a.ended ++ b.ended) ≡ scraps_in a.ended + scraps_in b.ended =
+          scraps-append a.ended b.ended in
+          let t : sum.scraps ≡ first.scraps + more.scraps = sums.scraps in omega (arith, x, y, z, t);
+      productions = let x : first.productions ≡ productions_in s.flags a.ended = begun.productions in
+          let y : more.productions ≡ productions_in s.flags b.ended = ended.productions in
+          let z : productions_in s.flags (a.ended ++ b.ended)
+          ≡ productions_in s.flags a.ended + productions_in s.flags b.ended =
+          productions-append s.flags a.ended b.ended in
+          let t : sum.productions ≡ first.productions + more.productions = sums.productions in
+          omega (arith, x, y, z, t);
+      steps_are = let x : mid.steps ≡ old.steps + ticks_in s.flags a.ended = begun.steps_are in
+          let y : new.steps ≡ mid.steps + ticks_in s.flags b.ended = ended.steps_are in
+          let z : ticks_in s.flags (a.ended ++ b.ended) ≡ ticks_in s.flags a.ended + ticks_in s.flags b.ended =
+          ticks-append s.flags a.ended b.ended in omega (arith, x, y, z);
+      bound = let x : mid.steps ≤ old.steps + limit_in s.flags a.ended = begun.bound in
+          let y : new.steps ≤ mid.steps + limit_in s.flags b.ended = ended.bound in
+          let z : limit_in s.flags (a.ended ++ b.ended) ≡ limit_in s.flags a.ended + limit_in s.flags b.ended =
+          limit-append s.flags a.ended b.ended in omega (arith, x, y, z);
+    }
+
+-- the first is refused
+pub weaves-stopped : {s : Setting} {a : Done ℕ} (b : Done ℕ) {old new : Press} {error : PutError}
+    {result : Result Counts PutError}
+    → Weaves s a old new (Err error) → IsErrAnd result (λ found. found ≡ error) → Weaves s (joined a b) old new result
+weaves-stopped {s = s} {a = a} b {old = old} {new = new} {error = error} begun is =
+    weaves-refused error (puts-stop b.out begun.puts is) begun.same
+    (let x : new.steps ≤ old.steps + limit_in s.flags a.ended = begun.bound in
+    let z : limit_in s.flags (a.ended ++ b.ended) ≡ limit_in s.flags a.ended + limit_in s.flags b.ended =
+    limit-append s.flags a.ended b.ended in omega (arith, x, z))
+    is
+
+-- the second is refused
+pub weaves-joined-refused : {s : Setting} {a b : Done ℕ} {old mid new : Press} {first : Counts} {error : PutError}
+    {result : Result Counts PutError}
+    → Weaves s a old mid (Ok first) → Weaves s b mid new (Err error) → IsErrAnd result (λ found. found ≡ error)
+    → Weaves s (joined a b) old new result
+weaves-joined-refused {s = s} {a = a} {b = b} {old = old} {mid = mid} {new = new} {error = error} begun ended is =
+    weaves-refused error (puts-bytes (append-nil _) (puts-stop [] (puts-then begun.puts ended.puts) is))
+    (ended.same ∙ begun.same)
+    (let x : mid.steps ≤ old.steps + limit_in s.flags a.ended = begun.bound in
+    let y : new.steps ≤ mid.steps + limit_in s.flags b.ended = ended.bound in
+    let z : limit_in s.flags (a.ended ++ b.ended) ≡ limit_in s.flags a.ended + limit_in s.flags b.ended =
+    limit-append s.flags a.ended b.ended in omega (arith, x, y, z))
+    is
+
+-- memory is wanted behind the first
+pub weaves-wanting : {s : Setting} {a : Done ℕ} (b : Done ℕ) {old now : Press} {first : Counts}
+    {result : Result Counts PutError}
+    → Weaves s a old now (Ok first) → IsErrAnd result (λ found. found ≡ Memory) → Weaves s (joined a b) old now result
+weaves-wanting {s = s} {a = a} b {old = old} {now = now} begun is =
+    weaves-refused Memory (puts-then begun.puts (puts-nothing b.out now.line now.told is)) begun.same
+    (let x : now.steps ≤ old.steps + limit_in s.flags a.ended = begun.bound in
+    let z : limit_in s.flags (a.ended ++ b.ended) ≡ limit_in s.flags a.ended + limit_in s.flags b.ended =
+    limit-append s.flags a.ended b.ended in omega (arith, x, z))
+    is
+
+-- ## Several pieces
+
+pub joined-joined : {X : Type 0} (a b c : Done X) → joined (joined a b) c ≡ joined a (joined b c)
+joined-joined a b c =
+    rw (append_assoc a.out b.out c.out, append_assoc a.marks b.marks c.marks, append_assoc a.ended b.ended c.ended) refl
+
+-- A piece was woven, from what `old` was to what `now` is; with what is to come behind it, it is the whole.
+pub record Weaving (s : Setting) (rest : List Entry → Done ℕ) (all : Done ℕ) (old now : Press)
+    (counts : Counts) : Type 0 where
+  pub done : Done ℕ
+  pub woven : Weaves s done old now (Ok counts)
+  pub goes : joined done (rest done.names) ≡ all
+
+pub weaving-begun : (s : Setting) (rest : List Entry → Done ℕ) (press : Press) {counts : Counts}
+    → AreSums counts no_counts no_counts
+    → Weaving s rest (rest press.book.names) press press counts
+weaving-begun s rest press none = record {
+  done = plain [] press.book.names;
+  woven = weaves-joined (weaves-nothing s press) (weaves-nothing s press) none;
+  goes = refl;
+}
+
+-- what is to come behind a piece that is woven next
+goes-next : {s : Setting} (d rest : List Entry → Done ℕ) {all : Done ℕ} {old mid : Press} {counts : Counts}
+    (w : Weaving s (λ names. then (d names) rest) all old mid counts)
+    → joined w.done (joined (d mid.book.names) (rest (d mid.book.names).names)) ≡ all
+goes-next d rest {mid = mid} w =
+    ap (λ (names : List Entry). joined w.done (joined (d names) (rest (d names).names))) w.woven.names ∙ w.goes
+
+pub weaving-next : {s : Setting} (d rest : List Entry → Done ℕ) {all : Done ℕ} {old mid new : Press}
+    {counts more sum : Counts}
+    → Weaving s (λ names. then (d names) rest) all old mid counts → Weaves s (d mid.book.names) mid new (Ok more)
+    → AreSums sum counts more
+    → Weaving s rest all old new sum
+weaving-next {s = s} d rest {all = all} {old = old} {mid = mid} w woven sums = record {
+  done = joined w.done (d mid.book.names);
+  woven = weaves-joined w.woven woven sums;
+  goes = joined-joined w.done (d mid.book.names) (rest (d mid.book.names).names) ∙ goes-next d rest w;
+}
+
+pub weaving-stopped : {s : Setting} (d rest : List Entry → Done ℕ) {all : Done ℕ} {old mid new : Press}
+    {counts : Counts} {error : PutError} {result : Result Counts PutError}
+    → Weaving s (λ names. then (d names) rest) all old mid counts → Weaves s (d mid.book.names) mid new (Err error)
+    → IsErrAnd result (λ found. found ≡ error) → Weaves s all old new result
+weaving-stopped {s = s} d rest {all = all} {old = old} {mid = mid} w woven is =
+    weaves-as (goes-next d rest w)
+    (weaves-joined-refused w.woven (weaves-stopped (rest (d mid.book.names).names) woven refl) is)
+
+pub weaving-wanting : {s : Setting} {rest : List Entry → Done ℕ} {all : Done ℕ} {old now : Press} {counts : Counts}
+    {result : Result Counts PutError}
+    → Weaving s rest all old now counts → IsErrAnd result (λ found. found ≡ Memory) → Weaves s all old now result
+weaving-wanting {rest = rest} w is = weaves-as w.goes (weaves-wanting (rest w.done.names) w.woven is)
+
+-- nothing more is to come
+pub weaving-ended : {s : Setting} {rest : List Entry → Done ℕ} {all : Done ℕ} {old now : Press} {counts : Counts}
+    → Weaving s rest all old now counts → ((names : List Entry) → rest names ≡ plain [] names)
+    → Weaves s all old now (Ok counts)
+weaving-ended {s = s} {rest = rest} {all = all} {old = old} {now = now} {counts = counts} w none =
+    weaves-as (ap (λ (names : List Entry). joined w.done (plain [] names)) w.woven.names
+    ∙ ap (joined w.done) (sym (none w.done.names)) ∙ w.goes)
+    (weaves-joined w.woven (weaves-nothing s now) (nothing-more counts))
+
+-- The last piece.
+pub weaving-last : {s : Setting} {d : List Entry → Done ℕ} {all : Done ℕ} {old mid new : Press}
+    {counts more sum : Counts}
+    → Weaving s d all old mid counts → Weaves s (d mid.book.names) mid new (Ok more) → AreSums sum counts more
+    → Weaves s all old new (Ok sum)
+weaving-last {d = d} w woven sums =
+    weaves-as (ap (λ (names : List Entry). joined w.done (d names)) w.woven.names ∙ w.goes)
+    (weaves-joined w.woven woven sums)
+
+pub weaving-last-stopped : {s : Setting} {d : List Entry → Done ℕ} {all : Done ℕ} {old mid new : Press}
+    {counts : Counts} {error : PutError} {result : Result Counts PutError}
+    → Weaving s d all old mid counts → Weaves s (d mid.book.names) mid new (Err error)
+    → IsErrAnd result (λ found. found ≡ error)
+    → Weaves s all old new result
+weaving-last-stopped {d = d} w woven is =
+    weaves-as (ap (λ (names : List Entry). joined w.done (d names)) w.woven.names ∙ w.goes)
+    (weaves-joined-refused w.woven woven is)

@@ -1,0 +1,46 @@
+-- One number goes behind another.
+use Rattle.std.proofs.Common.{ℕ, ◌-◌, ◌≤◌, List, ◌++◌, drop, get_or, length, map, take, arith}
+use Rattle.cw_part.specs.Footnotes.{later_numbers, number_in}
+use Rattle.cw_part.proofs.FootnoteLaws.{later-next}
+use Rattle.cw_part.proofs.PutLaws.{putting-as, putting-begun, putting-next, putting-stopped}
+use Rattle.cw_part.proofs.footnotes.put_later.Goals as goal
+
+pub loop-rest-init : goal.loop-rest-init
+loop-rest-init g c = putting-begun _ _ _
+
+pub returns-in_err-put_all : goal.returns-in_err-put_all
+returns-in_err-put_all g c =
+    let numbers : List ℕ = c.loop-rest.rest.now in
+    let shown : ℕ → List ℕ = number_in c.args.book.now.outline.sections in
+    let some : 1 ≤ length numbers = omega arith in
+    let later : List ℕ = later_numbers (map shown (take (length numbers - 1) (drop 1 numbers))) in
+    putting-stopped (shown (get_or numbers 0 0) ++ later)
+    (putting-as (later-next shown numbers c.separator.result.now some (c.separator.ensures shown))
+    c.loop-rest.invariant)
+    c.in_err-put_all.ensures.puts c.from_residual.ensures.1
+
+pub returns-in_err-put_section : goal.returns-in_err-put_section
+returns-in_err-put_section g c =
+    let numbers : List ℕ = c.loop-rest.rest.now in
+    let shown : ℕ → List ℕ = number_in c.args.book.now.outline.sections in
+    let some : 1 ≤ length numbers = omega arith in
+    let later : List ℕ = later_numbers (map shown (take (length numbers - 1) (drop 1 numbers))) in
+    putting-stopped later
+    (putting-next {rest = shown (get_or numbers 0 0) ++ later}
+    (putting-as (later-next shown numbers c.separator.result.now some (c.separator.ensures shown))
+    c.loop-rest.invariant)
+    c.in_ok-put_all.ensures.puts)
+    c.in_err-put_section.ensures c.from_residual-in_err-put_section.ensures.1
+
+pub loop-rest-preserved : goal.loop-rest-preserved
+loop-rest-preserved g c =
+    let numbers : List ℕ = c.loop-rest.rest.now in
+    let shown : ℕ → List ℕ = number_in c.args.book.now.outline.sections in
+    let some : 1 ≤ length numbers = omega arith in
+    let later : List ℕ = later_numbers (map shown (take (length numbers - 1) (drop 1 numbers))) in
+    putting-next {rest = later}
+    (putting-next {rest = shown (get_or numbers 0 0) ++ later}
+    (putting-as (later-next shown numbers c.separator.result.now some (c.separator.ensures shown))
+    c.loop-rest.invariant)
+    c.in_ok-put_all.ensures.puts)
+    c.in_ok-put_section.ensures

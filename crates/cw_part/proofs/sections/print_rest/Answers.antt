@@ -1,0 +1,115 @@
+-- Definitions, then the C part, and then what ends the section.
+use Rattle.std.proofs.Common.{ℕ, true, refl, sym, ap, ◌∙◌, subst, List, arith}
+use Rattle.cw_lines.specs.WritesLaws.{can-after, puts-bytes}
+use Rattle.cw_names.specs.Names.{Entry}
+use Rattle.cw_part.specs.declared.definitions.Definition.{Definition}
+use Rattle.cw_part.specs.Definitions.{printed_definitions}
+use Rattle.cw_part.specs.Parts.{definitions_done, part_done}
+use Rattle.cw_part.specs.PresentForms.{setting_in}
+use Rattle.cw_part.specs.Sections.{ending, rest_done}
+use Rattle.cw_reduce.specs.NameParts.{AreNamesOf}
+use Rattle.cw_texpart.specs.declared.counts.Counts.{Counts}
+use Rattle.cw_texpart.specs.Done.{Done, plain, then}
+use Rattle.cw_texpart.specs.Texts.{Lasting, Setting, lasting}
+use Rattle.cw_part.proofs.SectionLaws.{moved, sums-are}
+use Rattle.cw_part.proofs.WovenLaws.{
+  AreSums,
+  bytes-refused,
+  no_counts,
+  nothing-more,
+  weaves-bytes,
+  weaves-stopped,
+  weaving-begun,
+  weaving-last,
+  weaving-last-stopped,
+  weaving-next,
+  weaving-stopped,
+  weaving-wanting,
+}
+use Rattle.cw_part.proofs.sections.print_rest.Goals as goal
+
+none-before : (counts : Counts) → AreSums counts no_counts counts
+none-before counts = record { scraps = omega arith; productions = omega arith }
+
+pub returns-in_err-counts : goal.returns-in_err-counts
+returns-in_err-counts g c = weaves-stopped _ c.in_err-counts.ensures c.from_residual.ensures.1
+
+pub print_c_part-requires : goal.print_c_part-requires
+print_c_part-requires g c = record {
+  can = can-after c.requires.can c.in_ok-counts.ensures.puts;
+  short = c.requires.short;
+  whole = c.requires.whole.c_part;
+  kept = subst (λ (l : Lasting). AreNamesOf l.sec_names l.name_uses) (sym c.in_ok-counts.ensures.same) c.requires.kept;
+}
+
+pub returns-in_err-more : goal.returns-in_err-more
+returns-in_err-more g c =
+    let s : Setting = setting_in c.args.p (lasting c.args.book.now) in
+    let ds : List Definition = printed_definitions c.args.p.text.now c.args.section.definitions in
+    let part : List Entry → Done ℕ = part_done s c.args.section in
+    let end : List Entry → Done ℕ = plain (ending s c.args.section) in
+    weaving-stopped part end
+    (weaving-next (definitions_done s true ds) (λ names. then (part names) end)
+    (weaving-begun s (rest_done s c.args.section) _ {counts = no_counts}
+    (record { scraps = refl; productions = refl })) c.in_ok-counts.ensures (none-before c.in_ok-counts.counts))
+    (moved c.args.p (λ (t : Setting). part_done t c.args.section c.print_definitions.new.book.names)
+    c.in_ok-counts.ensures.same c.in_err-more.ensures)
+    c.from_residual-in_err-more.ensures.1
+
+pub returns-in_err-counts-2 : goal.returns-in_err-counts-2
+returns-in_err-counts-2 g c =
+    let s : Setting = setting_in c.args.p (lasting c.args.book.now) in
+    let ds : List Definition = printed_definitions c.args.p.text.now c.args.section.definitions in
+    let part : List Entry → Done ℕ = part_done s c.args.section in
+    let end : List Entry → Done ℕ = plain (ending s c.args.section) in
+    weaving-wanting
+    (weaving-next part end
+    (weaving-next (definitions_done s true ds) (λ names. then (part names) end)
+    (weaving-begun s (rest_done s c.args.section) _ {counts = no_counts}
+    (record { scraps = refl; productions = refl })) c.in_ok-counts.ensures (none-before c.in_ok-counts.counts))
+    (moved c.args.p (λ (t : Setting). part_done t c.args.section c.print_definitions.new.book.names)
+    c.in_ok-counts.ensures.same c.in_ok-more.ensures)
+    (sums-are c.in_ok-counts.counts c.in_ok-more.more))
+    c.from_residual-in_err-counts-2.ensures.1
+
+pub put_ending-requires : goal.put_ending-requires
+put_ending-requires g c =
+    record { can = can-after (can-after c.requires.can c.in_ok-counts.ensures.puts) c.in_ok-more.ensures.puts }
+
+pub returns-in_err-put_ending : goal.returns-in_err-put_ending
+returns-in_err-put_ending g c =
+    let s : Setting = setting_in c.args.p (lasting c.args.book.now) in
+    let ds : List Definition = printed_definitions c.args.p.text.now c.args.section.definitions in
+    let part : List Entry → Done ℕ = part_done s c.args.section in
+    let end : List Entry → Done ℕ = plain (ending s c.args.section) in
+    weaving-last-stopped
+    (weaving-next part end
+    (weaving-next (definitions_done s true ds) (λ names. then (part names) end)
+    (weaving-begun s (rest_done s c.args.section) _ {counts = no_counts}
+    (record { scraps = refl; productions = refl })) c.in_ok-counts.ensures (none-before c.in_ok-counts.counts))
+    (moved c.args.p (λ (t : Setting). part_done t c.args.section c.print_definitions.new.book.names)
+    c.in_ok-counts.ensures.same c.in_ok-more.ensures)
+    (record { scraps = c.in_ok-counts-2.ensures.scraps; productions = c.in_ok-counts-2.ensures.productions }))
+    (bytes-refused (puts-bytes
+    (ap (λ (l : Lasting). ending (setting_in c.args.p l) c.args.section)
+    (c.in_ok-more.ensures.same ∙ c.in_ok-counts.ensures.same)) c.in_err-put_ending.ensures) refl)
+    c.from_residual-in_err-put_ending.ensures.1
+
+pub returns : goal.returns
+returns g c =
+    let s : Setting = setting_in c.args.p (lasting c.args.book.now) in
+    let ds : List Definition = printed_definitions c.args.p.text.now c.args.section.definitions in
+    let part : List Entry → Done ℕ = part_done s c.args.section in
+    let end : List Entry → Done ℕ = plain (ending s c.args.section) in
+    weaving-last
+    (weaving-next part end
+    (weaving-next (definitions_done s true ds) (λ names. then (part names) end)
+    (weaving-begun s (rest_done s c.args.section) _ {counts = no_counts}
+    (record { scraps = refl; productions = refl })) c.in_ok-counts.ensures (none-before c.in_ok-counts.counts))
+    (moved c.args.p (λ (t : Setting). part_done t c.args.section c.print_definitions.new.book.names)
+    c.in_ok-counts.ensures.same c.in_ok-more.ensures)
+    (record { scraps = c.in_ok-counts-2.ensures.scraps; productions = c.in_ok-counts-2.ensures.productions }))
+    (weaves-bytes (puts-bytes
+    (ap (λ (l : Lasting). ending (setting_in c.args.p l) c.args.section)
+    (c.in_ok-more.ensures.same ∙ c.in_ok-counts.ensures.same)) c.in_ok-put_ending.ensures))
+    (nothing-more _)

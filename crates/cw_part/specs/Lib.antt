@@ -1,0 +1,8 @@
+pub mod Definitions
+pub mod Parts
+pub mod Footnotes
+pub mod Sections
+pub mod WholeTexts
+pub mod DefinitionForms
+pub mod PresentForms
+pub mod WholeDefinitions

@@ -1,0 +1,33 @@
+-- Whole sections.
+use Rattle.std.specs.Prelude.{ℕ, suc, true, List, [], ◌∷◌, ◌++◌, codes}
+use Rattle.cw_names.specs.Names.{Entry}
+use Rattle.cw_part.specs.Definitions.{printed_definitions}
+use Rattle.cw_part.specs.Footnotes.{footnotes}
+use Rattle.cw_part.specs.Parts.{definitions_done, part_done}
+use Rattle.cw_phase1.specs.declared.sections.Section.{Section}
+use Rattle.cw_texpart.specs.Done.{Done, plain, then}
+use Rattle.cw_texpart.specs.TexParts.{tex_done}
+use Rattle.cw_texpart.specs.Texts.{Setting}
+
+-- The footnotes, a line `\fi` and an empty line end a section.
+abbrev pub ending : Setting → Section → List ℕ
+ending s section = footnotes s section ++ codes "\\fi\n\n"
+
+-- what stands behind the TeX part of a section
+abbrev pub rest_done : Setting → Section → List Entry → Done ℕ
+rest_done s section names =
+    then (definitions_done s true (printed_definitions s.text section.definitions) names) (λ names.
+    then (part_done s section names) (plain (ending s section)))
+
+abbrev pub section_done : Setting → Section → List Entry → Done ℕ
+section_done s section names = then (tex_done s section names) (rest_done s section)
+
+-- the setting of the section of this number
+abbrev pub at_section : Setting → ℕ → Setting
+at_section s n = record { text = s.text; flags = s.flags; book = s.book; section = n }
+
+-- Sections one after another, the first of which has this number.
+abbrev pub sections_done : Setting → ℕ → List Section → List Entry → Done ℕ
+sections_done s n [] names = plain [] names
+sections_done s n (section ∷ sections) names =
+    then (section_done (at_section s n) section names) (sections_done s (suc n) sections)

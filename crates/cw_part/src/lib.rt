@@ -1,0 +1,17 @@
+//! Sections behind their TeX parts: definitions, C parts and footnotes, as they are printed.
+#![tactic(auto)]
+
+mod definitions;
+mod footnotes;
+mod laws;
+mod paragraphs;
+mod sections;
+mod whole;
+
+pub use footnotes::put_use_footnotes;
+pub use laws::whole_rest_law;
+pub use sections::weave_section;
+pub use whole::is_whole_rest;
+
+#[cfg(test)]
+mod tests;

@@ -1,0 +1,89 @@
+//! C texts that are paragraphs of a section.
+ghost use Rattle.std.specs.Prelude.{◌≡◌, ◌^◌, ◌||◌, ◌≤◌, false, length, nat_lt, true};
+ghost use Rattle.cw_lex.specs.Lexing.{tokens_of};
+ghost use Rattle.cw_lex.specs.Nested.{begins_section_in, is_c_mode};
+ghost use Rattle.cw_lines.specs.Writes.{CanWrite};
+ghost use Rattle.cw_part.specs.Parts.{paragraph_if};
+ghost use Rattle.cw_part.specs.PresentForms.{setting_in, text_of};
+ghost use Rattle.cw_reduce.specs.Counting.{scraps_in};
+ghost use Rattle.cw_reduce.specs.NameParts.{AreNamesOf};
+ghost use Rattle.cw_texpart.specs.Texts.{lasting};
+ghost use Rattle.cw_texpart.specs.Weaving.{Weaves};
+
+use cw_base::{Flags, Ledger, Span, Steps};
+use cw_desk::Desk;
+use cw_lex::Mode;
+use cw_lines::{LineOut, PutError};
+use cw_phase1::Book;
+use cw_texpart::{CText, Counts, translate_text};
+use std::alloc::Global;
+
+/// What the present section is printed with: the web's text, the section's number, and the flags.
+#[derive(Clone, Copy)]
+pub(crate) struct Present<'a> {
+    pub(crate) text: &'a [u8],
+    pub(crate) section: u32,
+    pub(crate) flags: &'a Flags,
+    pub(crate) alloc: Global,
+}
+
+/// A C text that is a paragraph.
+#[derive(Clone, Copy)]
+pub(crate) struct Paragraph {
+    /// The bytes before it.
+    pub(crate) front: &'static [u8],
+    pub(crate) mode: Mode,
+    pub(crate) span: Span,
+    /// Whether it is printed even where it has no scrap.
+    pub(crate) always: bool,
+}
+
+// Whether a paragraph of so many scraps is printed.
+fn is_printed(always: bool, scraps: u64) -> bool
+    ensures { result ≡ (always || nat_lt 0 scraps) }
+{
+    always || scraps > 0
+}
+
+/// Translates a paragraph, and prints it where it is to be printed.
+pub(crate) fn print_paragraph<D: Desk, L: Ledger>(
+    p: Present,
+    paragraph: Paragraph,
+    book: &mut Book,
+    out: &mut LineOut,
+    desk: &mut D,
+    steps: &mut Steps<L>,
+) -> Result<Counts, PutError>
+    requires can { CanWrite (D.told desk.old) out.old }
+    requires order { paragraph.span.start ≤ paragraph.span.end }
+    requires within { paragraph.span.end ≤ length p.text.now }
+    requires short { length p.text.now ≤ 2 ^ 24 }
+    requires c_text { is_c_mode paragraph.mode ≡ true }
+    requires uncut { begins_section_in
+        (tokens_of p.text.now paragraph.span.start paragraph.span.end paragraph.mode) ≡ false }
+    requires kept { AreNamesOf book.old.sec_names book.old.name_uses }
+    ensures { let d = text_of p.entry paragraph (lasting book.old) book.old.names in
+        Weaves (setting_in p.entry (lasting book.old))
+        (paragraph_if (paragraph.always || nat_lt 0 (scraps_in d.ended)) paragraph.front.now d)
+        (record { book = book.old; line = out.old; told = D.told desk.old; steps = steps.old })
+        (record { book = book.new; line = out.new; told = D.told desk.new; steps = steps.new }) result }
+{
+    let c = CText {
+        text: p.text,
+        span: paragraph.span,
+        mode: paragraph.mode,
+        inner: false,
+        section: p.section,
+        flags: p.flags,
+    };
+    let translated = translate_text(p.alloc, c, book, steps)?;
+    let counts = translated.counts();
+    let printed = is_printed(paragraph.always, counts.scraps);
+    if !printed {
+        return Ok(counts);
+    }
+    out.put_all(paragraph.front, desk)?;
+    translated.print(p.alloc, c, book, out, desk)?;
+    out.put_all(b"\\par\n", desk)?;
+    Ok(counts)
+}

@@ -1,0 +1,175 @@
+//! What stands behind the TeX part of a section.
+ghost use Rattle.std.specs.Prelude.{◌≡◌, ◌^◌, ◌-◌, ◌<◌, ◌≤◌, All, Some, length, slice_get, true};
+ghost use Rattle.cw_base.specs.Web.{text_of};
+ghost use Rattle.cw_lines.specs.Writes.{CanWrite, Puts};
+ghost use Rattle.cw_part.specs.Definitions.{definitions_in, printed_definitions};
+ghost use Rattle.cw_part.specs.Parts.{definitions_done, opening, part_done};
+ghost use Rattle.cw_part.specs.PresentForms.{setting_in};
+ghost use Rattle.cw_part.specs.Sections.{ending, rest_done};
+ghost use Rattle.cw_part.specs.WholeTexts.{IsWholeDefinition, IsWholeIn, IsWholeRest};
+ghost use Rattle.cw_phase1.specs.declared.sections.Section.{Section};
+ghost use Rattle.cw_lex.specs.declared.tokens.Mode.TheVariants.{CPart, Definition};
+ghost use Rattle.cw_reduce.specs.NameParts.{AreNamesOf};
+ghost use Rattle.cw_texpart.specs.Texts.{lasting, setting};
+ghost use Rattle.cw_texpart.specs.Weaving.{Weaves};
+
+use crate::definitions::Definitions;
+use crate::footnotes::put_footnotes;
+use crate::paragraphs::{Paragraph, Present, print_paragraph};
+use cw_base::{Flags, Ledger, Span, Steps, Web};
+use cw_desk::Desk;
+use cw_lex::Mode;
+use cw_lines::{LineOut, PutError};
+use cw_phase1::{Book, Section};
+use cw_texpart::Counts;
+use std::alloc::Global;
+
+// The bytes before a definition.
+fn opening(first: bool) -> &'static [u8]
+    ensures { result.now ≡ opening first }
+{
+    if first { b"\\Y\\B" } else { b"\\B" }
+}
+
+// Prints the definitions that stand at a span, but for the silent ones.
+fn print_definitions<D: Desk, L: Ledger>(
+    p: Present,
+    part: Span,
+    book: &mut Book,
+    out: &mut LineOut,
+    desk: &mut D,
+    steps: &mut Steps<L>,
+) -> Result<Counts, PutError>
+    requires can { CanWrite (D.told desk.old) out.old }
+    requires short { length p.text.now ≤ 2 ^ 24 }
+    requires whole { IsWholeIn Definition p.text.now part }
+    requires each { All (IsWholeDefinition p.text.now) (definitions_in p.text.now part) }
+    requires kept { AreNamesOf book.old.sec_names book.old.name_uses }
+    ensures { Weaves (setting_in p.entry (lasting book.old))
+        (definitions_done (setting_in p.entry (lasting book.old)) true
+        (printed_definitions p.entry.text.now part) book.old.names)
+        (record { book = book.old; line = out.old; told = D.told desk.old; steps = steps.old })
+        (record { book = book.new; line = out.new; told = D.told desk.new; steps = steps.new }) result }
+{
+    let mut definitions = Definitions::over(p.text, part);
+    let mut counts = Counts::none();
+    let mut first = true;
+    'printed: loop {
+        match definitions.next_printed() {
+            Some(span) => {
+                let paragraph = Paragraph {
+                    front: opening(first),
+                    mode: Mode::Definition,
+                    span,
+                    always: true,
+                };
+                let more = print_paragraph(p, paragraph, book, out, desk, steps)?;
+                counts = counts.plus(more)?;
+                first = false;
+            }
+            None => return Ok(counts),
+        }
+    }
+}
+
+// Prints the C part of a section.
+fn print_c_part<D: Desk, L: Ledger>(
+    p: Present,
+    section: Section,
+    book: &mut Book,
+    out: &mut LineOut,
+    desk: &mut D,
+    steps: &mut Steps<L>,
+) -> Result<Counts, PutError>
+    requires can { CanWrite (D.told desk.old) out.old }
+    requires short { length p.text.now ≤ 2 ^ 24 }
+    requires whole { IsWholeIn CPart p.text.now section.c_part }
+    requires kept { AreNamesOf book.old.sec_names book.old.name_uses }
+    ensures { Weaves (setting_in p.entry (lasting book.old))
+        (part_done (setting_in p.entry (lasting book.old)) section book.old.names)
+        (record { book = book.old; line = out.old; told = D.told desk.old; steps = steps.old })
+        (record { book = book.new; line = out.new; told = D.told desk.new; steps = steps.new }) result }
+{
+    let paragraph = Paragraph {
+        front: b"\\Y\\B",
+        mode: Mode::CPart,
+        span: section.c_part,
+        always: section.name.is_some(),
+    };
+    print_paragraph(p, paragraph, book, out, desk, steps)
+}
+
+// Puts what ends a section: its footnotes, a line `\fi` and an empty line.
+fn put_ending<D: Desk>(
+    p: Present,
+    section: Section,
+    book: &Book,
+    out: &mut LineOut,
+    desk: &mut D,
+) -> Result<(), PutError>
+    requires can { CanWrite (D.told desk.old) out.old }
+    ensures { Puts (ending (setting_in p.entry (lasting book.now)) section) out.old out.new
+        (D.told desk.old) (D.told desk.new) result }
+{
+    put_footnotes(book, section.name, p.section, out, desk)?;
+    out.put_all(b"\\fi\n\n", desk)
+}
+
+// Prints a section behind its TeX part.
+fn print_rest<D: Desk, L: Ledger>(
+    p: Present,
+    section: Section,
+    book: &mut Book,
+    out: &mut LineOut,
+    desk: &mut D,
+    steps: &mut Steps<L>,
+) -> Result<Counts, PutError>
+    requires can { CanWrite (D.told desk.old) out.old }
+    requires short { length p.text.now ≤ 2 ^ 24 }
+    requires whole { IsWholeRest p.text.now section }
+    requires kept { AreNamesOf book.old.sec_names book.old.name_uses }
+    ensures { Weaves (setting_in p.entry (lasting book.old))
+        (rest_done (setting_in p.entry (lasting book.old)) section book.old.names)
+        (record { book = book.old; line = out.old; told = D.told desk.old; steps = steps.old })
+        (record { book = book.new; line = out.new; told = D.told desk.new; steps = steps.new }) result }
+{
+    let counts = print_definitions(p, section.definitions, book, out, desk, steps)?;
+    let more = print_c_part(p, section, book, out, desk, steps)?;
+    let counts = counts.plus(more)?;
+    put_ending(p, section, book, out, desk)?;
+    Ok(counts)
+}
+
+/// Prints the section of this number behind its TeX part: its definitions, its C part and its footnotes. The marks of
+/// its C texts go to the book's occurrences, and the book's names get the categories behind them.
+pub fn weave_section<D: Desk, L: Ledger>(
+    alloc: Global,
+    web: &Web,
+    book: &mut Book,
+    section: u32,
+    flags: &Flags,
+    out: &mut LineOut,
+    desk: &mut D,
+    steps: &mut Steps<L>,
+) -> Result<Counts, PutError>
+    requires can { CanWrite (D.told desk.old) out.old }
+    requires first { 0 < section }
+    requires last { section ≤ length book.old.outline.sections }
+    requires kept { AreNamesOf book.old.sec_names book.old.name_uses }
+    requires whole { (s : Section) → slice_get book.old.outline.sections (section - 1) ≡ Some s
+        → IsWholeRest (text_of web.now.lines) s }
+    ensures { (s : Section) → slice_get book.old.outline.sections (section - 1) ≡ Some s
+        → Weaves (setting (text_of web.now.lines) flags.now section book.old)
+        (rest_done (setting (text_of web.now.lines) flags.now section book.old) s book.old.names)
+        (record { book = book.old; line = out.old; told = D.told desk.old; steps = steps.old })
+        (record { book = book.new; line = out.new; told = D.told desk.new; steps = steps.new }) result }
+{
+    let present = Present {
+        text: web.text(),
+        section,
+        flags,
+        alloc,
+    };
+    let section = book.section(section);
+    print_rest(present, section, book, out, desk, steps)
+}
