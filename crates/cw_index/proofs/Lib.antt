@@ -1,0 +1,16 @@
+mod ClassLaws
+mod OrderLaws
+mod OrderRows
+mod RowLaws
+mod StandLaws
+mod PuttingLaws
+mod AloneLaws
+mod SectionLaws
+mod ClosingLaws
+mod Rows
+mod ListedLaws
+mod PlaceLaws
+mod ListingLaws
+mod NameTokens
+mod NameSpans
+mod WholeNames

@@ -1,0 +1,46 @@
+-- Listed names are woven one after another.
+use Rattle.std.proofs.Common.{◌≡◌, ℕ, ◌+◌, ◌<◌, ◌≤◌, refl, subst, List, drop, length}
+use Rattle.std.specs.Prelude.{Ok, Result, slice_index_or}
+use Rattle.std.proofs.lemmas.List.{drop_all, drop_more}
+use Rattle.cw_lines.specs.declared.put_error.PutError.{PutError}
+use Rattle.cw_names.specs.Names.{Entry}
+use Rattle.cw_part.proofs.WovenLaws.{AreSums, Weaving, weaving-ended}
+use Rattle.cw_texpart.specs.declared.counts.Counts.{Counts}
+use Rattle.cw_texpart.specs.Done.{Done, then}
+use Rattle.cw_texpart.specs.Texts.{Lasting, Setting}
+use Rattle.cw_texpart.specs.Weaving.{Press, Weaves}
+use Rattle.cw_index.specs.declared.names.ListText.{ListText}
+use Rattle.cw_index.specs.declared.standing.Listed.{Listed}
+use Rattle.cw_index.specs.ListForms.{setting_in}
+use Rattle.cw_index.specs.NameList.{all_listed, listed_done}
+
+-- the next name, and those behind it
+pub listed-next : {s : Setting} {all : Done ℕ} {old now : Press} {counts : Counts} (ls : List Listed) (i : ℕ)
+    (d : Listed) → i < length ls
+    → Weaving s (all_listed s (drop i ls)) all old now counts
+    → Weaving s
+    (λ names. then (listed_done s (slice_index_or ls i d) names) (all_listed s (drop (i + 1) ls))) all old now counts
+listed-next {s = s} {all = all} {old = old} {now = now} {counts = counts} ls i d within w =
+    subst (λ (rest : List Listed). Weaving s (all_listed s rest) all old now counts) (drop_more ls i d within) w
+
+pub listed-end : {s : Setting} {all : Done ℕ} {old now : Press} {counts : Counts} (ls : List Listed) (i : ℕ)
+    → length ls ≤ i
+    → Weaving s (all_listed s (drop i ls)) all old now counts → Weaves s all old now (Ok counts)
+listed-end {s = s} {all = all} {old = old} {now = now} {counts = counts} ls i ended w =
+    weaving-ended
+    (subst (λ (rest : List Listed). Weaving s (all_listed s rest) all old now counts) (drop_all i ls ended) w)
+    (λ names. refl)
+
+-- What stays of the book is the same before each name.
+pub moved : (t : ListText) (l : Listed) (names : List Entry) {before now : Lasting} {old new : Press}
+    {result : Result Counts PutError} → now ≡ before
+    → Weaves (setting_in t now) (listed_done (setting_in t now) l names) old new result
+    → Weaves (setting_in t before) (listed_done (setting_in t before) l names) old new result
+moved t l names {old = old} {new = new} {result = result} same woven =
+    subst (λ (b : Lasting). Weaves (setting_in t b) (listed_done (setting_in t b) l names) old new result) same woven
+
+abbrev pub sum : Counts → Counts → Counts
+sum first more = record { scraps = first.scraps + more.scraps; productions = first.productions + more.productions }
+
+pub sums : (first more : Counts) → AreSums (sum first more) first more
+sums first more = record { scraps = refl; productions = refl }

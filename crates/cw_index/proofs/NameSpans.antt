@@ -1,0 +1,129 @@
+-- A section name that begins at a place is whole by itself.
+use Rattle.std.proofs.Common.{◌≡◌, ℕ, suc, ◌+◌, ◌-◌, ◌≤◌, Bool, true, false, ◌||◌, List, [], ◌∷◌, ◌++◌, length, take, drop, refl, sym, ap, subst, ◌∙◌, arith, length-drop}
+use Rattle.std.specs.Prelude.{if◌then◌else◌}
+use Rattle.std.proofs.lemmas.List.{length-take, take_all}
+use Rattle.cw_lex.specs.declared.bodies.Body.TheVariants as bodies
+use Rattle.cw_lex.specs.declared.bodies.Noted.{Noted}
+use Rattle.cw_lex.specs.declared.codes.Code.{Code}
+use Rattle.cw_lex.specs.declared.codes.Code.TheVariants as at
+use Rattle.cw_lex.specs.declared.parts.Part.TheVariants as parts
+use Rattle.cw_lex.specs.declared.tokens.Mode.TheVariants as modes
+use Rattle.cw_lex.specs.declared.tokens.TokKind.TheVariants as kinds
+use Rattle.cw_lex.specs.Answers.{Answer, Where, Found, note_answers}
+use Rattle.cw_lex.specs.Bodies.{at_start, extent}
+use Rattle.cw_lex.specs.Codes.{code_of}
+use Rattle.cw_lex.specs.Lexing.{still_fresh, joined, answers, fresh_at, last_at, answers_at, tokens_of}
+use Rattle.cw_lex.specs.Nested.{is_section_kind, begins_section_in}
+use Rattle.cw_lex.specs.Tokens.{one, effect_in, section_name, is_name, section, found, code_by, code_text, all_cut}
+use Rattle.cw_lex.proofs.CodeTwins.{at-code}
+use Rattle.cw_lex.proofs.Covering.{drop-part}
+use Rattle.cw_lex.proofs.NameEnds.{name-take}
+use Rattle.cw_lex.proofs.Openings.{bare-uncut}
+use Rattle.cw_lex.proofs.Sizes.{extent-le}
+use Rattle.cw_lex.proofs.Taking.{bare-all-cut}
+use Rattle.cw_texpart.specs.TexParts.{IsWhole, span}
+use Rattle.cw_index.specs.NameList.{first_span, name_span}
+use Rattle.cw_index.proofs.NameTokens.{BeginsName, name-plain}
+
+abbrev inner : Where
+inner = record { part = parts.Inner; comments = [] }
+
+-- how many bytes a name at a place has behind its code
+abbrev name_size : ℕ → List ℕ → ℕ
+name_size place bytes = (extent (at_start bodies.SectionName (place + 2)) bytes).size
+
+-- ## A name in C text
+
+name-kind : (c : Code) → is_name c ≡ true → is_section_kind (kinds.Code c) ≡ false
+name-kind at.SectionName h = refl
+name-kind at.FileName h = refl
+name-kind _ h = absurd cc
+
+-- the name with this code, as a token
+abbrev named : Code → ℕ → List ℕ → Found
+named c place shown = one false inner place shown (section_name c place shown)
+
+name-stands : (c : Code) (place : ℕ) (shown : List ℕ) → is_name c ≡ true
+    → code_by (effect_in parts.Inner [] c) c inner place shown ≡ named c place shown
+name-stands at.SectionName place shown h = refl
+name-stands at.FileName place shown h = refl
+name-stands _ place shown h = absurd cc
+
+name-found : (d : ℕ) (bs : List ℕ) (fresh : Bool) (last place : ℕ) → is_name (code_of d) ≡ true
+    → found inner fresh last place 64 (d ∷ bs) ≡ named (code_of d) place (64 ∷ d ∷ bs)
+name-found d bs fresh last place n =
+    ap (λ t. if t then section inner place (d ∷ bs) else code_text inner fresh last place 64 (d ∷ bs))
+    (name-plain (code_of d) n)
+    ∙ at-code inner fresh last place (d ∷ bs)
+    ∙ name-stands (code_of d) place (64 ∷ d ∷ bs) n
+
+-- the answers behind the first byte of a code
+abbrev behind_at : List ℕ → Bool → ℕ → Where → ℕ → List Answer
+behind_at bytes fresh place next more = answers bytes next (still_fresh fresh 64) 64 (place + 1) more
+
+-- ## Its span
+
+name-spans : (text : List ℕ) (place : ℕ) (b : BeginsName text place)
+    → name_span text place ≡ span place (place + (2 + name_size place b.behind))
+name-spans text place b =
+    let fresh = fresh_at text place in
+    let last = last_at text place in
+    ap (λ l. first_span place (answers_at l inner place)) (take_all (length text) text (omega arith))
+    ∙ ap (λ l. first_span place (answers l inner fresh last place 0)) b.here
+    ∙ ap (λ (f : Found). first_span place (joined f (behind_at (b.next ∷ b.behind) fresh place)))
+    (name-found b.next b.behind fresh last place b.name)
+
+-- ## It has no section code
+
+-- what is left when a token has all bytes
+all-taken : (bytes : List ℕ) (w : Where) (fresh : Bool) (last place : ℕ)
+    → begins_section_in (answers bytes w fresh last place (length bytes)) ≡ false
+all-taken [] w fresh last place =
+    bare-uncut place (all_cut w.part w.comments place (place - 1)) (bare-all-cut w.part w.comments place (place - 1))
+all-taken (b ∷ bytes) w fresh last place = all-taken bytes w (still_fresh fresh b) b (place + 1)
+
+or-notes : (ns : List Noted) (ys : List Answer) → begins_section_in ys ≡ false
+    → begins_section_in (note_answers ns ++ ys) ≡ false
+or-notes [] ys h = h
+or-notes (n ∷ ns) ys h = or-notes ns ys h
+
+-- a name, where the text ends behind it
+name-uncut : (d : ℕ) (bs : List ℕ) (fresh : Bool) (last place : ℕ) → is_name (code_of d) ≡ true
+    → begins_section_in (answers (64 ∷ d ∷ take (name_size place bs) bs) inner fresh last place 0) ≡ false
+name-uncut d bs fresh last place n =
+    let i = at_start bodies.SectionName (place + 2) in
+    let ls = take (name_size place bs) bs in
+    let notes = (section_name (code_of d) place (64 ∷ d ∷ ls)).notes in
+    let rest = behind_at (d ∷ ls) fresh place in
+    let last_bytes = rest inner ((2 + name_size place ls) - 1) in
+    let size : (2 + name_size place ls) - 1 ≡ length (d ∷ ls) =
+    omega (arith, name-take i bs refl, length-take (name_size place bs) bs, extent-le i bs) in
+    let behind : begins_section_in last_bytes ≡ false =
+    ap (λ m. begins_section_in (rest inner m)) size ∙ all-taken (d ∷ ls) inner (still_fresh fresh 64) 64 (place + 1) in
+    ap (λ (f : Found). begins_section_in (joined f rest)) (name-found d ls fresh last place n)
+    ∙ ap (λ b. b || begins_section_in (note_answers notes ++ last_bytes)) (name-kind (code_of d) n)
+    ∙ or-notes notes last_bytes behind
+
+-- a name in its text
+name-alone : (text : List ℕ) (start end : ℕ) (b : BeginsName text start)
+    → end ≡ start + (2 + name_size start b.behind) → begins_section_in (tokens_of text start end modes.Inner) ≡ false
+name-alone text start end b e =
+    let here = b.here in
+    let cut = take end text in
+    let size : end - start ≡ suc (suc (name_size start b.behind)) = omega (arith, e) in
+    let part : drop start cut ≡ 64 ∷ b.next ∷ take (name_size start b.behind) b.behind =
+    drop-part text end start (omega (arith, e)) ∙ (λ i. take (size i) (here i)) in
+    ap (λ l. begins_section_in (answers l inner (fresh_at cut start) (last_at cut start) start 0)) part
+    ∙ name-uncut b.next b.behind (fresh_at cut start) (last_at cut start) start b.name
+
+pub begun-whole : (text : List ℕ) (place : ℕ) → BeginsName text place → IsWhole text (name_span text place)
+begun-whole text place b =
+    let k = name_size place b.behind in
+    let fits : k ≤ length b.behind = extent-le (at_start bodies.SectionName (place + 2)) b.behind in
+    let size : length text - place ≡ suc (suc (length b.behind)) = sym (length-drop place text) ∙ ap length b.here in
+    subst (IsWhole text) (sym (name-spans text place b))
+    (record {
+      order = omega arith;
+      within = omega (arith, fits, size);
+      uncut = name-alone text place (place + (2 + k)) b refl;
+    })

@@ -1,0 +1,92 @@
+-- Worked rows: lines of the index, and the closing lines.
+use Rattle.std.proofs.Common.{◌≡◌, ℕ, Bool, true, false, List, [], ◌∷◌, ◌++◌, None, codes, refl}
+use Rattle.std.specs.Fmt.{digits}
+use Rattle.cw_base.specs.declared.category.Cat.TheVariants.{Exp, RawInt}
+use Rattle.cw_names.specs.declared.entry.EntryKind.{EntryKind}
+use Rattle.cw_names.specs.declared.entry.EntryKind.TheVariants.{Ident, Roman, Typewriter, User}
+use Rattle.cw_names.specs.declared.xrefs.Occurrence.{Occurrence}
+use Rattle.cw_names.specs.Names.{Entry}
+use Rattle.cw_names.specs.Words.{built_in_words}
+use Rattle.cw_phase1.specs.declared.sections.Depth.TheVariants.{Zero}
+use Rattle.cw_phase1.specs.declared.sections.Section.{Section}
+use Rattle.cw_index.specs.Index.{entry_bytes, index_bytes}
+use Rattle.cw_index.specs.Closing.{closing_lines}
+
+abbrev entry : EntryKind → List ℕ → Entry
+entry kind text = record { kind = kind; text = text; category = Exp }
+
+-- ## The index
+
+reserved_row : entry_bytes (record { kind = Ident; text = codes "i_o"; category = RawInt }) ≡ codes "\\&{i\\_o}"
+reserved_row = refl
+
+capitals_row : entry_bytes (entry Ident (codes "EOF")) ≡ codes "\\.{EOF}"
+capitals_row = refl
+
+-- Texts of index codes are TeX's: they stay as they are.
+codes_row : entry_bytes (entry Roman (codes "$x_1$"))
+    ++ (entry_bytes (entry Typewriter (codes "a_b")) ++ entry_bytes (entry User (codes "z")))
+    ≡ codes "{$x_1$}\\.{a_b}\\9{z}"
+codes_row = refl
+
+abbrev at : ℕ → ℕ → Occurrence
+at name section = record { name = record { index = name }; section = section; underlined = false }
+
+abbrev defined_at : ℕ → ℕ → Occurrence
+defined_at name section = record { name = record { index = name }; section = section; underlined = true }
+
+abbrev section : Bool → Bool → Section
+section starred changed = record {
+  starred = starred;
+  depth = Zero;
+  tex = record { start = 0; «end» = 0 };
+  definitions = record { start = 0; «end» = 0 };
+  c_part = record { start = 0; «end» = 0 };
+  name = None;
+  changed = changed;
+}
+
+abbrev three : List Section
+three = section true false ∷ section false true ∷ section false false ∷ []
+
+-- the names from position 45 on
+abbrev index : List Entry → List Occurrence → List ℕ
+index entries occurrences = index_bytes three (built_in_words ++ entries) occurrences
+
+-- Sections ascend, each once, whatever the order of the occurrences; a changed one has its mark.
+sections_row : index (entry Ident (codes "main") ∷ []) (at 45 3 ∷ at 45 1 ∷ at 45 3 ∷ defined_at 45 2 ∷ at 45 2 ∷ [])
+    ≡ codes "\\I\\\\{main}, 1, \\[2\\*], 3.\n"
+unfolding digits
+sections_row = refl
+
+-- An identifier of one byte has only the sections in which it is underlined; so has a built-in word, here `int`.
+one_byte_row : index (entry Ident (codes "i") ∷ [])
+    (at 45 1 ∷ defined_at 45 2 ∷ at 45 3 ∷ at 3 1 ∷ defined_at 3 3 ∷ [])
+    ≡ codes "\\I\\|i, \\[2\\*].\n\\I\\&{int}, \\[3].\n"
+unfolding digits
+one_byte_row = refl
+
+-- A text of an index code that has one byte has all its sections.
+one_byte_code_row : index (entry Roman (codes "i") ∷ []) (at 45 1 ∷ []) ≡ codes "\\I{i}, 1.\n"
+unfolding digits
+one_byte_code_row = refl
+
+-- Entries stand in their order, and one without sections is left out.
+entries_row : index
+    (entry Ident (codes "x1") ∷ entry Ident (codes "xa") ∷ entry Typewriter (codes "Xa") ∷ entry Ident
+    (codes "q") ∷ entry Roman (codes "xa") ∷ [])
+    (at 45 1 ∷ at 46 1 ∷ at 47 1 ∷ at 48 1 ∷ at 49 1 ∷ [])
+    ≡ codes "\\I\\.{Xa}, 1.\n\\I\\\\{xa}, 1.\n\\I{xa}, 1.\n\\I\\\\{x1}, 1.\n"
+unfolding digits
+entries_row = refl
+
+-- ## The closing lines
+
+contents_row : closing_lines true three ≡ codes "\\inx\n\\fin\n\\con\n"
+contents_row = refl
+
+end_row : closing_lines true (section false false ∷ []) ≡ codes "\\inx\n\\fin\n\\end\n"
+end_row = refl
+
+no_index_row : closing_lines false three ≡ codes "\\end\n"
+no_index_row = refl

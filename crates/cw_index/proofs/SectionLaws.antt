@@ -1,0 +1,32 @@
+-- The sections that are listed are printed one after another.
+use Rattle.std.proofs.Common.{◌≡◌, ℕ, ◌+◌, ◌<◌, Bool, true, false, refl, ap, ◌∙◌, List, [], ◌∷◌, ◌++◌, drop, length}
+use Rattle.std.specs.Prelude.{slice_index_or}
+use Rattle.std.specs.List.{flat_map, filter}
+use Rattle.std.proofs.lemmas.Grind.{flat_map-append}
+use Rattle.std.proofs.lemmas.List.{append-nil, drop_more}
+use Rattle.std.proofs.lemmas.List.Elements.{filter-append}
+use Rattle.cw_names.specs.declared.xrefs.SectionRef.{SectionRef}
+use Rattle.cw_index.specs.Mentions.{is_listed, listed}
+
+-- what the sections of a list print, of those that are listed
+abbrev pub printed : (SectionRef → List ℕ) → Bool → List SectionRef → List ℕ
+printed f only ms = flat_map f (listed only ms)
+
+printed-append : (f : SectionRef → List ℕ) (only : Bool) (xs ys : List SectionRef)
+    → printed f only (xs ++ ys) ≡ printed f only xs ++ printed f only ys
+printed-append f only xs ys = ap (flat_map f) (filter-append (is_listed only) xs ys)
+    ∙ flat_map-append f (listed only xs) (listed only ys)
+
+pub printed-more : (f : SectionRef → List ℕ) (only : Bool) (ms : List SectionRef) (i : ℕ) (d : SectionRef)
+    → i < length ms
+    → printed f only (drop i ms) ≡ printed f only (slice_index_or ms i d ∷ []) ++ printed f only (drop (i + 1) ms)
+printed-more f only ms i d within =
+    ap (printed f only) (drop_more ms i d within) ∙ printed-append f only (slice_index_or ms i d ∷ []) (drop (i + 1) ms)
+
+pub printed-none : (f : SectionRef → List ℕ) (only : Bool) (m : SectionRef) → is_listed only m ≡ false
+    → printed f only (m ∷ []) ≡ []
+printed-none f only m is = rw is refl
+
+pub printed-one : (f : SectionRef → List ℕ) (only : Bool) (m : SectionRef) → is_listed only m ≡ true
+    → printed f only (m ∷ []) ≡ f m
+printed-one f only m is = rw is (append-nil (f m))

@@ -1,0 +1,44 @@
+-- The names that stand in a text are sorted one after another.
+use Rattle.std.proofs.Common.{◌≡◌, ℕ, ◌+◌, ◌==◌, ◌<◌, ◌≤◌, refl, sym, ap, ◌∙◌, List, [], ◌∷◌, ◌++◌, Option, Some, None, drop, length, map}
+use Rattle.std.specs.Prelude.{slice_index}
+use Rattle.std.specs.Ordering.{on}
+use Rattle.std.specs.BTreeSet.{insert_key}
+use Rattle.std.proofs.lemmas.List.{drop_all, drop_more}
+use Rattle.std.proofs.lemmas.List.Sums.{fold-append}
+use Rattle.cw_lex.specs.Bytes.{at_sign}
+use Rattle.cw_secnames.specs.Kept.{SecName, id}
+use Rattle.cw_secnames.specs.Uses.{NameUse}
+use Rattle.cw_index.specs.declared.standing.Standing.{Standing}
+use Rattle.cw_index.specs.Sorted.{sorted_on}
+use Rattle.cw_index.specs.Standing.{Stand, stand_cmp, stand_if, stands_from}
+use Rattle.cw_index.specs.StandingForms.{stand_of, stands_of}
+use Rattle.cw_index.proofs.RowLaws.{inserted}
+
+-- The names so far, with those that are still to come, are all.
+abbrev pub with_stands : List SecName → List NameUse → ℕ → List ℕ → List Stand → List Stand
+with_stands kept uses place later stands = sorted_on stand_cmp stands (stands_from kept uses place later)
+
+sorted-append : (xs ys stands : List Stand)
+    → sorted_on stand_cmp stands (xs ++ ys) ≡ sorted_on stand_cmp (sorted_on stand_cmp stands xs) ys
+sorted-append xs ys stands = fold-append (insert_key stand_cmp) stands xs ys
+
+pub stands-step : (kept : List SecName) (uses : List NameUse) (text : List ℕ) (i : ℕ) (s : Option Standing)
+    (stands stands' : List Stand) → i < length text
+    → stands_of s ≡ stand_if (slice_index text i == at_sign) kept uses i
+    → stands' ≡ sorted_on stand_cmp stands (stands_of s)
+    → with_stands kept uses (i + 1) (drop (i + 1) text) stands' ≡ with_stands kept uses i (drop i text) stands
+stands-step kept uses text i s stands stands' within is more =
+    let here : List Stand = stand_if (slice_index text i == at_sign) kept uses i in
+    ap (with_stands kept uses (i + 1) (drop (i + 1) text)) (more ∙ ap (sorted_on stand_cmp stands) is)
+    ∙ sym (sorted-append here (stands_from kept uses (i + 1) (drop (i + 1) text)) stands)
+    ∙ ap (λ (later : List ℕ). with_stands kept uses i later stands) (sym (drop_more text i 0 within))
+
+pub stands-end : (kept : List SecName) (uses : List NameUse) (text : List ℕ) (i : ℕ) (stands : List Stand)
+    → length text ≤ i
+    → with_stands kept uses i (drop i text) stands ≡ stands
+stands-end kept uses text i stands ended =
+    ap (λ (later : List ℕ). with_stands kept uses i later stands) (drop_all i text ended)
+
+pub entered : (s : Standing) (old new : List Standing) → new ≡ insert_key (on stand_of stand_cmp) old s
+    → map stand_of new ≡ sorted_on stand_cmp (map stand_of old) (stands_of (Some s))
+entered s old new is = ap (map stand_of) is ∙ inserted stand_of stand_cmp old s

@@ -1,0 +1,136 @@
+-- The names of a section list are whole.
+use Rattle.std.proofs.Common.{◌≡◌, ℕ, ◌+◌, ◌==◌, Bool, true, false, List, [], ◌∷◌, ◌++◌, All, Option, Some, None, refl, sym, ap, subst, ◌∙◌}
+use Rattle.std.specs.Prelude.{slice_get}
+use Rattle.std.specs.BTreeSet.{insert_key}
+use Rattle.std.proofs.lemmas.Bool.{eqb-true}
+use Rattle.std.proofs.lemmas.List.Elements.{All-append, All-cons, All-head, All-map, All-nil, All-tail}
+use Rattle.std.proofs.lemmas.Map.Views.{All-insert_key}
+use Rattle.cw_base.specs.Web.{text_of}
+use Rattle.cw_lex.specs.declared.codes.Code.TheVariants as at
+use Rattle.cw_lex.specs.declared.tokens.Mode.TheVariants as modes
+use Rattle.cw_lex.specs.declared.tokens.TokKind.{TokKind}
+use Rattle.cw_lex.specs.declared.tokens.TokKind.TheVariants as kinds
+use Rattle.cw_lex.specs.Answers.{Answer, Token, Begin, Finish, Note, Seen}
+use Rattle.cw_lex.specs.Bytes.{at_sign}
+use Rattle.cw_lex.specs.Heads.{has_sign}
+use Rattle.cw_lex.specs.Limbo.{is_name_kind}
+use Rattle.cw_phase1.specs.declared.roles.Standing.{Standing}
+use Rattle.cw_phase1.specs.Book.{answers_of, book}
+use Rattle.cw_phase1.specs.Entering.{entered_name, entering, kept_behind, name_of_entering}
+use Rattle.cw_phase1.specs.Roles.{at_limbo, behind_begin, placed_from, token_step}
+use Rattle.cw_phase1.specs.Texts.{Void, name_text, naming_by}
+use Rattle.cw_phase1.specs.Uses.{use_by, uses_of}
+use Rattle.cw_secnames.specs.declared.kinds.SecId.{SecId}
+use Rattle.cw_secnames.specs.Kept.{SecName, id}
+use Rattle.cw_secnames.specs.Uses.{NameUse, name_at}
+use Rattle.cw_index.specs.declared.standing.Listed.{Listed}
+use Rattle.cw_index.specs.NameList.{IsWholeName}
+use Rattle.cw_index.specs.Sorted.{sorted_on}
+use Rattle.cw_index.specs.Standing.{Stand, has_reference, kept_stand, named_stand, stand_by, stand_cmp, stand_if, stands_from}
+use Rattle.cw_index.specs.WholeNames.{NamesAreWhole}
+use Rattle.cw_index.proofs.NameSpans.{begun-whole}
+use Rattle.cw_index.proofs.NameTokens.{BeginsName, HaveNames, text-names}
+
+-- ## Where the names of a book stand
+
+abbrev NamesBegin : List ℕ → List NameUse → Type 0
+NamesBegin text [] = Unit {0}
+NamesBegin text (u ∷ uses) = BeginsName text u.place × NamesBegin text uses
+
+-- Only section names are kept.
+void-by : (kind : TokKind) (text : List ℕ) → is_name_kind kind ≡ false → naming_by kind text ≡ Void
+void-by (kinds.Code at.SectionName) text h = absurd (let wrong : true ≡ false = h in cc)
+void-by (kinds.Code at.FileName) text h = absurd (let wrong : true ≡ false = h in cc)
+void-by (kinds.Code code) text h = refl
+void-by kind text h = refl
+
+unnamed : (t : Seen) (kept : List SecName) → is_name_kind t.kind ≡ false → entered_name t kept ≡ None
+unnamed t kept h = ap (λ n. name_of_entering (entering n kept)) (void-by t.kind (name_text t.text) h)
+
+use-begins : (text : List ℕ) (name : Option SecId) (kind : TokKind) (place : ℕ) (uses : List NameUse)
+    → (is_name_kind kind ≡ false → name ≡ None) → (is_name_kind kind ≡ true → BeginsName text place)
+    → NamesBegin text uses → NamesBegin text (use_by name place ++ uses)
+use-begins text None kind place uses none begins rest = rest
+use-begins text (Some id) kind place uses none begins rest = (by (is_name_kind kind) refl, rest)
+  where
+    by : (t : Bool) → is_name_kind kind ≡ t → BeginsName text place
+    by true e = begins e
+    by false e = absurd (let wrong : ◌≡◌ {A = Option SecId} (Some id) None = none e in cc)
+
+uses-begin : (text : List ℕ) (s : Standing) (kept : List SecName) (answers : List Answer) → HaveNames text answers
+    → NamesBegin text (uses_of (placed_from s kept answers))
+uses-begin text s kept [] h = tt
+uses-begin text s kept (Token t ∷ answers) h =
+    let next = (token_step t.kind (has_sign answers) s t.span).next in
+    let kept_then = kept_behind t kept in
+    use-begins text (entered_name t kept) t.kind t.span.start (uses_of (placed_from next kept_then answers))
+    (unnamed t kept) h.0 (uses-begin text next kept_then answers h.1)
+uses-begin text s kept (Begin t ∷ answers) h = uses-begin text (behind_begin s) kept answers h
+uses-begin text s kept (Finish t ∷ answers) h = uses-begin text s kept answers h
+uses-begin text s kept (Note kind place ∷ answers) h = uses-begin text s kept answers h
+
+name-begins : (text : List ℕ) (uses : List NameUse) (place k : ℕ) → NamesBegin text uses
+    → name_at place uses ≡ Some k → BeginsName text place
+name-begins text [] place k h e = absurd (let wrong : ◌≡◌ {A = Option ℕ} None (Some k) = e in cc)
+name-begins text (u ∷ uses) place k h e = by (u.place == place) refl (name-begins text uses place k h.1)
+  where
+    chosen : Bool → Option ℕ
+    chosen t = elim t [ true ↦ Some u.name | false ↦ name_at place uses ]
+
+    by : (t : Bool) → (u.place == place) ≡ t → (name_at place uses ≡ Some k → BeginsName text place)
+        → BeginsName text place
+    by true same rec = subst (BeginsName text) (eqb-true u.place place same) h.0
+    by false other rec = rec (ap chosen (sym other) ∙ e)
+
+-- ## Those that are listed
+
+abbrev Whole : List ℕ → Stand → Type 0
+Whole text s = IsWholeName text s.listed
+
+by-reference : (text : List ℕ) (t : Bool) (n : SecName) (l : Listed) → IsWholeName text l
+    → All (Whole text) (stand_by t n l)
+by-reference text true n l whole = All-cons (Whole text) _ [] whole (All-nil (Whole text))
+by-reference text false n l whole = All-nil (Whole text)
+
+by-kept : (text : List ℕ) (n : Option SecName) (l : Listed) → IsWholeName text l
+    → All (Whole text) (kept_stand n l)
+by-kept text None l whole = All-nil (Whole text)
+by-kept text (Some n) l whole = by-reference text (has_reference n) n l whole
+
+by-name : (text : List ℕ) (kept : List SecName) (found : Option ℕ) (place : ℕ)
+    → ((k : ℕ) → found ≡ Some k → BeginsName text place) → All (Whole text) (named_stand kept found place)
+by-name text kept None place begins = All-nil (Whole text)
+by-name text kept (Some k) place begins =
+    by-kept text (slice_get kept k) (record { id = id k; place = place }) (begun-whole text place (begins k refl))
+
+by-byte : (text : List ℕ) (t : Bool) (kept : List SecName) (uses : List NameUse) (place : ℕ) → NamesBegin text uses
+    → All (Whole text) (stand_if t kept uses place)
+by-byte text true kept uses place h =
+    by-name text kept (name_at place uses) place (λ k e. name-begins text uses place k h e)
+by-byte text false kept uses place h = All-nil (Whole text)
+
+stands-whole : (text : List ℕ) (kept : List SecName) (uses : List NameUse) (place : ℕ) (bytes : List ℕ)
+    → NamesBegin text uses → All (Whole text) (stands_from kept uses place bytes)
+stands-whole text kept uses place [] h = All-nil (Whole text)
+stands-whole text kept uses place (byte ∷ bytes) h =
+    All-append (Whole text) (stand_if (byte == at_sign) kept uses place) (stands_from kept uses (place + 1) bytes)
+    (by-byte text (byte == at_sign) kept uses place h) (stands-whole text kept uses (place + 1) bytes h)
+
+sorted-whole : (text : List ℕ) (xs stands : List Stand) → All (Whole text) stands → All (Whole text) xs
+    → All (Whole text) (sorted_on stand_cmp stands xs)
+sorted-whole text [] stands all more = all
+sorted-whole text (x ∷ xs) stands all more =
+    sorted-whole text xs (insert_key stand_cmp stands x)
+    (All-insert_key stand_cmp x (Whole text) stands all (All-head (Whole text) x xs more))
+    (All-tail (Whole text) x xs more)
+
+pub names-whole : NamesAreWhole
+names-whole lines =
+    let text = text_of lines in
+    let kept = (book lines).section_names in
+    let uses = (book lines).name_uses in
+    let begin : NamesBegin text uses =
+    uses-begin text at_limbo [] (answers_of lines) (text-names text 0 modes.Limbo) in
+    let stands = stands_from kept uses 0 text in
+    All-map (IsWholeName text) (λ (s : Stand). s.listed) (sorted_on stand_cmp [] stands)
+    (sorted-whole text stands [] (All-nil (Whole text)) (stands-whole text kept uses 0 text begin))

@@ -1,0 +1,8 @@
+use Rattle.std.proofs.Common.{Bool, ap}
+use Rattle.cw_lines.specs.WritesLaws.{puts-bytes}
+use Rattle.cw_print.specs.Walk.{section_number}
+use Rattle.cw_index.proofs.index.put_section_number.Goals as goal
+
+pub returns : goal.returns
+returns g c =
+    puts-bytes (ap (λ (changed : Bool). section_number c.args.number changed) c.is_changed.ensures) c.put_number.ensures

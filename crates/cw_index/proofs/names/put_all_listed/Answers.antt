@@ -1,0 +1,61 @@
+-- Each name goes behind those before it.
+use Rattle.std.proofs.Common.{ℕ, ◌+◌, List, drop, refl, subst, sym, arith}
+use Rattle.cw_lines.specs.WritesLaws.{can-after}
+use Rattle.cw_part.proofs.WovenLaws.{weaving-begun, weaving-next, weaving-stopped, weaving-wanting}
+use Rattle.cw_reduce.specs.NameParts.{AreNamesOf}
+use Rattle.cw_texpart.specs.Texts.{Lasting, Setting, lasting}
+use Rattle.cw_index.specs.declared.standing.Listed.{Listed}
+use Rattle.cw_index.specs.ListForms.{setting_in}
+use Rattle.cw_index.specs.NameList.{all_listed, listed_done}
+use Rattle.cw_index.proofs.ListingLaws.{listed-end, listed-next, moved, sum, sums}
+use Rattle.cw_index.proofs.names.put_all_listed.Goals as goal
+
+pub loop-one-init : goal.loop-one-init
+loop-one-init g c =
+    weaving-begun _ _ _
+    (record { scraps = c.none-counts.ensures.scraps; productions = c.none-counts.ensures.productions })
+
+pub put_listed-requires : goal.put_listed-requires
+put_listed-requires g c = record {
+  can = can-after c.requires.can c.loop-one.invariant.woven.puts;
+  short = c.requires.short;
+  whole = c.requires.whole c.loop-one.one-index _ c.loop-one-test.true;
+  within = c.requires.within c.loop-one.one-index _ c.loop-one-test.true;
+  kept = subst (λ (l : Lasting). AreNamesOf l.sec_names l.name_uses)
+      (sym c.loop-one.invariant.woven.same) c.requires.kept;
+}
+
+pub returns-in_err-more : goal.returns-in_err-more
+returns-in_err-more g c =
+    let s : Setting = setting_in c.args.t (lasting c.args.book.now) in
+    let ls : List Listed = c.args.listed.now in
+    let i : ℕ = c.loop-one.one-index in
+    weaving-stopped (listed_done s _) (all_listed s (drop (i + 1) ls))
+    (listed-next ls i _ c.loop-one-test.true c.loop-one.invariant)
+    (moved c.args.t _ c.loop-one.book.names c.loop-one.invariant.woven.same c.in_err-more.ensures)
+    c.from_residual.ensures.1
+
+pub returns-in_err-counts : goal.returns-in_err-counts
+returns-in_err-counts g c =
+    let s : Setting = setting_in c.args.t (lasting c.args.book.now) in
+    let ls : List Listed = c.args.listed.now in
+    let i : ℕ = c.loop-one.one-index in
+    weaving-wanting
+    (weaving-next (listed_done s _) (all_listed s (drop (i + 1) ls))
+    (listed-next ls i _ c.loop-one-test.true c.loop-one.invariant)
+    (moved c.args.t _ c.loop-one.book.names c.loop-one.invariant.woven.same c.in_ok-more.ensures)
+    (sums c.loop-one.counts c.in_ok-more.more))
+    c.from_residual-in_err-counts.ensures.1
+
+pub loop-one-preserved : goal.loop-one-preserved
+loop-one-preserved g c =
+    let s : Setting = setting_in c.args.t (lasting c.args.book.now) in
+    let ls : List Listed = c.args.listed.now in
+    let i : ℕ = c.loop-one.one-index in
+    weaving-next (listed_done s _) (all_listed s (drop (i + 1) ls))
+    (listed-next ls i _ c.loop-one-test.true c.loop-one.invariant)
+    (moved c.args.t _ c.loop-one.book.names c.loop-one.invariant.woven.same c.in_ok-more.ensures)
+    (record { scraps = c.in_ok-counts.ensures.scraps; productions = c.in_ok-counts.ensures.productions })
+
+pub returns : goal.returns
+returns g c = listed-end c.args.listed.now c.loop-one.one-index (omega arith) c.loop-one.invariant

@@ -1,0 +1,74 @@
+-- The text stands between what is put before it and behind it.
+use Rattle.std.proofs.Common.{false, ap, refl, subst, sym}
+use Rattle.cw_base.specs.declared.span.Span.{Span}
+use Rattle.cw_lex.specs.declared.tokens.Mode.TheVariants.{Inner}
+use Rattle.cw_lines.specs.WritesLaws.{can-after, puts-bytes, puts-longer, puts-then}
+use Rattle.cw_part.proofs.WovenLaws.{weaves-as}
+use Rattle.cw_texpart.specs.Texts.{Lasting, Setting, lasting, text_done}
+use Rattle.cw_texpart.specs.TexParts.{IsWhole}
+use Rattle.cw_index.specs.ListForms.{setting_in}
+use Rattle.cw_index.specs.NameList.{name_ending, name_span, use_notes}
+use Rattle.cw_index.proofs.ListedLaws.{back-refused, front-refused, listed-woven, text-refused}
+use Rattle.cw_index.proofs.names.put_listed.Goals as goal
+
+pub returns-in_err-put_all : goal.returns-in_err-put_all
+returns-in_err-put_all g c = front-refused _ c.in_err-put_all.ensures.puts c.from_residual.ensures.1
+
+pub print_text-requires : goal.print_text-requires
+print_text-requires g c =
+    let whole : IsWhole c.args.t.text.now c.name_span.result =
+    subst (IsWhole c.args.t.text.now) (sym c.name_span.ensures) c.requires.whole in
+    record {
+      can = can-after c.requires.can c.in_ok-put_all.ensures.puts;
+      order = whole.order;
+      within = whole.within;
+      short = c.requires.short;
+      c_text = refl;
+      uncut = whole.uncut;
+      kept = c.requires.kept;
+    }
+
+pub returns-in_err-counts : goal.returns-in_err-counts
+returns-in_err-counts g c =
+    let s : Setting = setting_in c.args.t (lasting c.args.book.now) in
+    text-refused (name_ending s c.args.listed) c.in_ok-put_all.ensures.puts
+    (weaves-as
+    (ap (λ (span : Span). text_done s Inner false span c.args.book.now.names) c.name_span.ensures)
+    c.in_err-counts.ensures)
+    c.from_residual-in_err-counts.ensures.1
+
+pub returns-in_err-put_all-2 : goal.returns-in_err-put_all-2
+returns-in_err-put_all-2 g c =
+    let s : Setting = setting_in c.args.t (lasting c.args.book.now) in
+    back-refused (text_done s Inner false (name_span c.args.t.text.now c.args.listed.place))
+    (name_ending s c.args.listed) c.in_ok-put_all.ensures.puts
+    (weaves-as
+    (ap (λ (span : Span). text_done s Inner false span c.args.book.now.names) c.name_span.ensures)
+    c.in_ok-counts.ensures)
+    (puts-longer (use_notes (lasting c.args.book.now) c.args.listed) c.in_err-put_all-2.ensures.puts)
+    c.from_residual-in_err-put_all-2.ensures.1
+
+pub returns-in_err-put_use_footnotes : goal.returns-in_err-put_use_footnotes
+returns-in_err-put_use_footnotes g c =
+    let s : Setting = setting_in c.args.t (lasting c.args.book.now) in
+    back-refused (text_done s Inner false (name_span c.args.t.text.now c.args.listed.place))
+    (name_ending s c.args.listed) c.in_ok-put_all.ensures.puts
+    (weaves-as
+    (ap (λ (span : Span). text_done s Inner false span c.args.book.now.names) c.name_span.ensures)
+    c.in_ok-counts.ensures)
+    (puts-then c.in_ok-put_all-2.ensures.puts
+    (puts-bytes
+    (ap (λ (l : Lasting). use_notes l c.args.listed) c.in_ok-counts.ensures.same) c.in_err-put_use_footnotes.ensures))
+    c.from_residual-in_err-put_use_footnotes.ensures.1
+
+pub returns : goal.returns
+returns g c =
+    let s : Setting = setting_in c.args.t (lasting c.args.book.now) in
+    listed-woven (text_done s Inner false (name_span c.args.t.text.now c.args.listed.place))
+    (name_ending s c.args.listed) c.in_ok-put_all.ensures.puts
+    (weaves-as
+    (ap (λ (span : Span). text_done s Inner false span c.args.book.now.names) c.name_span.ensures)
+    c.in_ok-counts.ensures)
+    (puts-then c.in_ok-put_all-2.ensures.puts
+    (puts-bytes
+    (ap (λ (l : Lasting). use_notes l c.args.listed) c.in_ok-counts.ensures.same) c.in_ok-put_use_footnotes.ensures))

@@ -1,0 +1,12 @@
+-- The names that stand before this place are sorted.
+use Rattle.std.proofs.Common.{◌≡◌, drop, map}
+use Rattle.cw_index.specs.Sorted.{sorted}
+use Rattle.cw_index.specs.Standing.{stand_cmp, stands_from}
+use Rattle.cw_index.specs.StandingForms.{stand_of}
+use Rattle.cw_index.proofs.StandLaws.{with_stands}
+use Rattle.cw_index.proofs.standing.sorted_stands.Given as goal
+
+abbrev pub invariant-loop-place : goal.invariant-loop-place
+invariant-loop-place l =
+    with_stands l.names l.uses l.place (drop l.place l.text) (map stand_of l.stands.keys)
+    ≡ sorted stand_cmp (stands_from l.names l.uses 0 l.text)

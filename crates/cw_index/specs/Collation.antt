@@ -1,0 +1,66 @@
+-- The order of the entries of the index.
+use Rattle.std.specs.Prelude.{ℕ, ◌+◌, ◌==◌, nat_le, List, if◌then◌else◌}
+use Rattle.std.specs.declared.cmp.Ordering.{Ordering}
+use Rattle.std.specs.Ordering.{nat_cmp, on, ordering_then, then_cmp}
+use Rattle.std.specs.Cmp.Lexicographic.{slice_cmp}
+use Rattle.cw_base.specs.Text.{is_blank}
+use Rattle.cw_lex.specs.Bytes.{is_between, is_digit}
+use Rattle.cw_names.specs.declared.entry.EntryKind.{EntryKind}
+use Rattle.cw_names.specs.declared.entry.EntryKind.TheVariants.{Ident, Roman, Typewriter, User}
+use Rattle.cw_names.specs.Names.{Entry}
+use Rattle.cw_index.specs.declared.collation.Class.{Class}
+use Rattle.cw_index.specs.declared.collation.Class.TheVariants.{Blank, Sign, Underscore, Letter, High, Digit}
+
+-- ## Classes of bytes
+
+-- The class of a byte. All blanks are alike, and so are a letter and its capital.
+abbrev pub class_of : ℕ → Class
+class_of byte =
+    if is_blank byte then Blank
+    else if byte == 95 then Underscore
+    else if is_between 97 122 byte then Letter byte
+    else if is_between 65 90 byte then Letter (byte + 32)
+    else if is_digit byte then Digit byte
+    else if nat_le 128 byte then High byte
+    else Sign byte
+
+-- the classes in their order
+abbrev pub rank : Class → ℕ
+rank Blank = 0
+rank (Sign byte) = 1
+rank Underscore = 2
+rank (Letter byte) = 3
+rank (High byte) = 4
+rank (Digit byte) = 5
+
+-- In a class bytes stand by value.
+abbrev pub value : Class → ℕ
+value Blank = 0
+value (Sign byte) = byte
+value Underscore = 0
+value (Letter byte) = byte
+value (High byte) = byte
+value (Digit byte) = byte
+
+abbrev pub class_cmp : Class → Class → Ordering
+class_cmp = then_cmp (on rank nat_cmp) (on value nat_cmp)
+
+-- ## Entries
+
+-- by the classes of their bytes; of two texts that agree as far as the shorter one goes, the shorter comes first
+abbrev pub classes_cmp : List ℕ → List ℕ → Ordering
+classes_cmp = slice_cmp (on class_of class_cmp)
+
+-- texts of the same classes by their bytes
+abbrev pub text_cmp : List ℕ → List ℕ → Ordering
+text_cmp = then_cmp classes_cmp (slice_cmp nat_cmp)
+
+abbrev pub kind_place : EntryKind → ℕ
+kind_place Ident = 0
+kind_place Roman = 1
+kind_place Typewriter = 2
+kind_place User = 3
+
+-- equal texts by what the entries are
+abbrev pub entry_cmp : Entry → Entry → Ordering
+entry_cmp = then_cmp (on (λ e. e.text) text_cmp) (on (λ e. e.kind) (on kind_place nat_cmp))

@@ -1,0 +1,31 @@
+-- The rows of the index as they lie in memory.
+use Rattle.std.specs.Prelude.{◌≡◌, Bool, true, false, List, Some, slice_get}
+use Rattle.std.specs.BTreeSet.{insert_key}
+use Rattle.std.specs.declared.cmp.Ordering.{Ordering}
+use Rattle.std.specs.Ordering.{nat_cmp, on, then_cmp}
+use Rattle.cw_names.specs.Names.{Entry}
+use Rattle.cw_index.specs.Collation.{kind_place, text_cmp}
+use Rattle.cw_index.specs.declared.collation.Collated.{Collated}
+use Rattle.cw_index.specs.declared.heading.Heading.{Heading}
+use Rattle.cw_index.specs.Mentions.{Row, has_sections, listed, row_cmp}
+
+abbrev pub collated_cmp : Collated → Collated → Ordering
+collated_cmp = then_cmp (on (λ c. c.text.now) text_cmp) (on (λ c. c.kind) (on kind_place nat_cmp))
+
+abbrev pub entry_of : Heading → Entry
+entry_of h = record { kind = h.collated.kind; text = h.collated.text.now; category = h.category }
+
+abbrev pub row_of : Heading → Row
+row_of h = record { name = h.id.index; entry = entry_of h; sections = listed h.underlined_only h.sections.now }
+
+-- a row at its place, if it has sections
+abbrev pub entered_by : Bool → Row → List Row → List Row
+entered_by true row rows = insert_key row_cmp rows row
+entered_by false row rows = rows
+
+abbrev pub entered : Row → List Row → List Row
+entered row rows = entered_by (has_sections row.sections) row rows
+
+-- A heading is that of its name.
+abbrev pub IsNamed : List Entry → Heading → Type 0
+IsNamed names h = slice_get names h.id.index ≡ Some (entry_of h)

@@ -1,0 +1,13 @@
+pub mod Collation
+pub mod CollationLaws
+pub mod Sorted
+pub mod Mentions
+pub mod Index
+pub mod Headings
+pub mod Closing
+pub mod Standing
+pub mod StandingForms
+pub mod StandingLaws
+pub mod NameList
+pub mod ListForms
+pub mod WholeNames

@@ -1,0 +1,22 @@
+//! The index of a book, its section list, and the lines with which its TeX file closes.
+#![tactic(auto)]
+
+mod closing;
+mod collation;
+mod heading;
+mod headings;
+mod index;
+mod laws;
+mod names;
+mod standing;
+mod whole;
+
+pub use closing::write_closing;
+pub use collation::compare_entries;
+pub use index::write_index;
+pub use laws::whole_names_law;
+pub use names::write_names;
+pub use whole::are_names_whole;
+
+#[cfg(test)]
+mod tests;

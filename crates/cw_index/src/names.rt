@@ -1,0 +1,128 @@
+//! The section list, as it is printed.
+ghost use Rattle.std.specs.Prelude.{◌≡◌, ◌^◌, ◌≤◌, ◌<◌, All, IfOk, length, true};
+ghost use Rattle.cw_base.specs.Web.{text_of};
+ghost use Rattle.cw_lines.specs.Writes.{CanWrite};
+ghost use Rattle.cw_reduce.specs.NameParts.{AreNamesOf};
+ghost use Rattle.cw_texpart.specs.Texts.{lasting, setting};
+ghost use Rattle.cw_texpart.specs.Weaving.{Weaves};
+ghost use Rattle.cw_index.specs.ListForms.{setting_in};
+ghost use Rattle.cw_index.specs.NameList.{IsWholeName, all_listed, listed_done, name_span, names_done};
+ghost use Rattle.cw_index.specs.Standing.{listed_names};
+
+use crate::standing::{Listed, listed_names};
+use cw_base::{Flags, Ledger, Span, Steps, Web};
+use cw_desk::Desk;
+use cw_lex::{Lexed, Lexer, Mode};
+use cw_lines::{LineOut, PutError};
+use cw_part::put_use_footnotes;
+use cw_phase1::Book;
+use cw_texpart::{CText, Counts, print_text};
+use std::alloc::Global;
+
+// What the section list is printed with: the web's text, and the flags.
+#[derive(Clone, Copy)]
+pub(crate) struct ListText<'a> {
+    text: &'a [u8],
+    flags: &'a Flags,
+    alloc: Global,
+}
+
+// The span of the section name that begins at a place.
+pub(crate) fn name_span(text: &[u8], place: u32) -> Span
+    requires { place ≤ length text.now }
+    ensures { result ≡ name_span text.now place }
+{
+    let start = place as usize;
+    let mut lexer = Lexer::over(text, start, text.len(), Mode::Inner);
+    match lexer.next() {
+        Lexed::Token(token) => token.span,
+        _ => Span { start, end: start },
+    }
+}
+
+// Prints a listed name with its footnotes.
+fn put_listed<D: Desk, L: Ledger>(
+    t: ListText,
+    listed: Listed,
+    book: &mut Book,
+    out: &mut LineOut,
+    desk: &mut D,
+    steps: &mut Steps<L>,
+) -> Result<Counts, PutError>
+    requires can { CanWrite (D.told desk.old) out.old }
+    requires short { length t.text.now ≤ 2 ^ 24 }
+    requires whole { IsWholeName t.text.now listed }
+    requires within { listed.place ≤ length t.text.now }
+    requires kept { AreNamesOf book.old.sec_names book.old.name_uses }
+    ensures { Weaves (setting_in t.entry (lasting book.old))
+        (listed_done (setting_in t.entry (lasting book.old)) listed book.old.names)
+        (record { book = book.old; line = out.old; told = D.told desk.old; steps = steps.old })
+        (record { book = book.new; line = out.new; told = D.told desk.new; steps = steps.new }) result }
+{
+    let c = CText {
+        text: t.text,
+        span: name_span(t.text, listed.place),
+        mode: Mode::Inner,
+        inner: false,
+        section: 0,
+        flags: t.flags,
+    };
+    out.put_all(b"\\I", desk)?;
+    let counts = print_text(t.alloc, c, book, out, desk, steps)?;
+    out.put_all(b"\n", desk)?;
+    put_use_footnotes(book, listed.id, out, desk)?;
+    Ok(counts)
+}
+
+// Prints listed names.
+fn put_all_listed<D: Desk, L: Ledger>(
+    t: ListText,
+    listed: &[Listed],
+    book: &mut Book,
+    out: &mut LineOut,
+    desk: &mut D,
+    steps: &mut Steps<L>,
+) -> Result<Counts, PutError>
+    requires can { CanWrite (D.told desk.old) out.old }
+    requires short { length t.text.now ≤ 2 ^ 24 }
+    requires whole { All (IsWholeName t.text.now) listed.now }
+    requires within { All (λ l. l.place ≤ length t.text.now) listed.now }
+    requires kept { AreNamesOf book.old.sec_names book.old.name_uses }
+    ensures { Weaves (setting_in t.entry (lasting book.old))
+        (all_listed (setting_in t.entry (lasting book.old)) listed.now book.old.names)
+        (record { book = book.old; line = out.old; told = D.told desk.old; steps = steps.old })
+        (record { book = book.new; line = out.new; told = D.told desk.new; steps = steps.new }) result }
+{
+    let mut counts = Counts::none();
+    for one in listed {
+        let more = put_listed(t, *one, book, out, desk, steps)?;
+        counts = counts.plus(more)?;
+    }
+    Ok(counts)
+}
+
+/// Prints the section list: each section name to which a section refers, in the order of the texts, with the sections
+/// that cite and use it. The book's names get the categories behind its C texts; their marks are no occurrences.
+pub fn write_names<D: Desk, L: Ledger>(
+    alloc: Global,
+    web: &Web,
+    book: &mut Book,
+    flags: &Flags,
+    out: &mut LineOut,
+    desk: &mut D,
+    steps: &mut Steps<L>,
+) -> Result<Counts, PutError>
+    requires can { CanWrite (D.told desk.old) out.old }
+    requires kept { AreNamesOf book.old.sec_names book.old.name_uses }
+    requires whole { All (IsWholeName (text_of web.now.lines))
+        (listed_names (text_of web.now.lines) book.old.sec_names book.old.name_uses) }
+    ensures { Weaves (setting (text_of web.now.lines) flags.now 0 book.old)
+        (names_done (setting (text_of web.now.lines) flags.now 0 book.old) book.old.names)
+        (record { book = book.old; line = out.old; told = D.told desk.old; steps = steps.old })
+        (record { book = book.new; line = out.new; told = D.told desk.new; steps = steps.new }) result }
+{
+    let text = web.text();
+    let listed = listed_names(alloc, text, &book.sec_names, &book.name_uses)?;
+    let t = ListText { text, flags, alloc };
+    put_all_listed(t, &listed, book, out, desk, steps)
+}
