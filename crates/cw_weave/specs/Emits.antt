@@ -1,5 +1,5 @@
 -- What a call of a run has done, from what the desk told before to what it tells now: calls that only print say `Adds`; those that may
--- read and make files too say `Emits`, for the events, and `Counts`, for the count of faults.
+-- read and make files too say `Emits`.
 use Rattle.std.specs.Prelude.{◌≡◌, ◌≤◌, List, Result, IfOk, IsErrOf, OnErr, OnOk}
 use Rattle.cw_base.specs.declared.event.Event.{Event}
 use Rattle.cw_base.specs.declared.exit.Exit.{Exit}
@@ -14,13 +14,16 @@ pub record Run : Type 0 where
   pub rest : List Event
   pub exit : Exit
 
--- The journal has grown by these events; where the call was refused, by a first part of them.
+-- The journal has grown by these events; where the call was refused, by a first part of them. The count of faults did not fall, and it
+-- rose before Fault.
 pub record Emits {T : Type 0} (events : List Event) (before now : Told) (result : Result T PutError) : Type 0 where
   pub ok : OnOk result (now.journal ≡ grown before.journal events)
   pub err : OnErr result (GrownByPart before.journal now.journal events)
+  pub kept : before.faults ≤ now.faults
+  pub fault : IsErrOf result Fault → Rose before.faults now.faults
 
--- The count of faults did not fall, and it rose before Fault.
-pub record Counts {T : Type 0} (before now : Told) (result : Result T PutError) : Type 0 where
+-- The count of faults alone, where nothing is known of the events.
+pub record Faults {T : Type 0} (before now : Told) (result : Result T PutError) : Type 0 where
   pub kept : before.faults ≤ now.faults
   pub fault : IsErrOf result Fault → Rose before.faults now.faults
 

@@ -2,7 +2,7 @@
 use Rattle.std.specs.Prelude.{ℕ, List, ◌++◌, codes}
 use Rattle.cw_base.specs.declared.event.Event.{Event}
 use Rattle.cw_base.specs.declared.flags.Flags.{Flags}
-use Rattle.cw_weave.specs.Notes.{says_if}
+use Rattle.cw_weave.specs.Saying.{says_if}
 
 abbrev pub banner : Flags → List Event
 banner flags = says_if flags.banner (codes "This is CWEAVE (profile 1)")

@@ -1,12 +1,10 @@
 -- The woven book: what is printed and written for the words of a command line, over files that are there by their names, and the
 -- status of the run.
-use Rattle.std.specs.Prelude.{◌≡◌, ℕ, ◌&&◌, Bool, true, false, not, List, [], ◌∷◌, ◌++◌, Option, Some, None, nat_le, length, map}
+use Rattle.std.specs.Prelude.{◌≡◌, ℕ, Bool, true, false, List, [], ◌∷◌, ◌++◌, Option, Some, None, map}
+use Rattle.std.specs.List.{flat_map}
 use Rattle.cw_base.specs.Flags.{start_flags}
-use Rattle.std.specs.List.{list_all}
-use Rattle.cw_base.specs.Text.{pieces_of}
-use Rattle.cw_base.specs.Web.{WebState}
+use Rattle.cw_base.specs.Web.{WebState, text_of}
 use Rattle.cw_base.specs.declared.event.Event.{Event}
-use Rattle.cw_base.specs.declared.event.Event.TheVariants.{Made}
 use Rattle.cw_base.specs.declared.event.Out.TheVariants.{Tex, Idx, Scn}
 use Rattle.cw_base.specs.declared.exit.Exit.{Exit}
 use Rattle.cw_base.specs.declared.exit.Exit.TheVariants.{Clean, Errors, Fault, Memory}
@@ -14,6 +12,8 @@ use Rattle.cw_base.specs.declared.flags.Flags.{Flags}
 use Rattle.cw_base.specs.declared.notes.Note.{Note}
 use Rattle.cw_desk.specs.Journal.{grown, GrownByPart}
 use Rattle.cw_desk.specs.Told.{Told}
+use Rattle.cw_index.specs.Index.{index_bytes}
+use Rattle.cw_index.specs.NameList.{names_done}
 use Rattle.cw_input.specs.Merge.{Lookup}
 use Rattle.cw_input.specs.Merged.{Merged, NoWeb, NoChange, TooLong, Whole, merged}
 use Rattle.cw_input.specs.Words.{command_of}
@@ -21,14 +21,20 @@ use Rattle.cw_input.specs.declared.words.Command.{Command}
 use Rattle.cw_input.specs.declared.words.Command.TheVariants.{Weave, Sample, Usage}
 use Rattle.cw_input.specs.declared.words.CommandLine.{CommandLine}
 use Rattle.cw_input.specs.declared.words.OutputNames.{OutputNames}
-use Rattle.cw_lines.specs.Cut.{broken_numbers, cut}
-use Rattle.cw_lines.specs.Line.{as_count, line_events}
-use Rattle.cw_phase1.specs.Book.{book}
-use Rattle.cw_weave.specs.Book.{tex_file}
-use Rattle.cw_weave.specs.Built.{is_built}
+use Rattle.cw_phase1.specs.Book.{BookState, book}
+use Rattle.cw_phase1.specs.declared.book.Book.{Book}
+use Rattle.cw_secnames.specs.Kept.{SecName}
+use Rattle.cw_texpart.specs.Done.{Done}
+use Rattle.cw_texpart.specs.Texts.{setting}
+use Rattle.cw_weave.specs.Closing.{closing_by, exit_by, has_error, has_note}
 use Rattle.cw_weave.specs.Emits.{Run}
-use Rattle.cw_weave.specs.Notes.{says, says_if, note_events, broken_events, broken_notes, closing, exit_of}
+use Rattle.cw_weave.specs.Files.{Broken, OutFile, broken_events, broken_in, broken_notes, file_events}
+use Rattle.cw_weave.specs.Notes.{note_events}
+use Rattle.cw_weave.specs.Saying.{says, says_if}
+use Rattle.cw_weave.specs.Statistics.{statistics_if, totals_of}
 use Rattle.cw_weave.specs.Terminal.{banner, usage_text, not_built_text, no_web_text, no_change_text, too_long_text, fatal_text, output_text, index_text, done_text}
+use Rattle.cw_weave.specs.TexFile.{left_by, tex_file}
+use Rattle.cw_weave.specs.declared.statistics.Totals.{Totals}
 
 -- a run with the flags that decide on the banner
 pub record Woven : Type 0 where
@@ -46,59 +52,86 @@ whole_run w = record { rest = events w; exit = w.run.exit }
 abbrev pub stopped : List ℕ → Run
 stopped message = record { rest = says message ++ says fatal_text; exit = Errors }
 
--- an output file with these bytes
-abbrev pub tex_events : OutputNames → List ℕ → List Event
-tex_events names tex = Made Tex names.tex ∷ line_events Tex (cut tex).lines
+-- ## The files
 
-abbrev pub output_events : Flags → OutputNames → List ℕ → List Event
-output_events flags names tex = says_if flags.progress output_text ++ tex_events names tex
+abbrev pub tex_out : OutputNames → List ℕ → OutFile
+tex_out names bytes = record { out = Tex; name = names.tex; bytes = bytes }
 
--- the index and the list of section names
-abbrev pub index_events : Bool → Flags → OutputNames → List Event
-index_events true flags names = says_if flags.progress index_text ++ Made Idx names.idx ∷ Made Scn names.scn ∷ []
-index_events false flags names = []
+abbrev pub index_out : OutputNames → List ℕ → OutFile
+index_out names bytes = record { out = Idx; name = names.idx; bytes = bytes }
 
--- the lines of an output file with these bytes that had no good place to be cut
-abbrev pub broken_lines : List ℕ → List ℕ
-broken_lines tex = map as_count (broken_numbers 0 (cut tex).lines)
+abbrev pub list_out : OutputNames → List ℕ → OutFile
+list_out names bytes = record { out = Scn; name = names.scn; bytes = bytes }
 
--- the end of the run: the notes on broken lines, and the closing message, by which the run ends
-abbrev pub ending_events : Flags → OutputNames → List Note → List ℕ → List Event
-ending_events flags names notes broken =
-    says_if flags.progress done_text ++ (broken_events names.tex broken ++ closing flags (notes ++ broken_notes broken))
+-- Both are made from the book as its TeX file leaves it. The marks in the list of section names do nothing.
+abbrev pub index_of : Book → List ℕ
+index_of left = index_bytes left.outline.sections left.names left.xrefs
 
-abbrev pub closing_run : Flags → List Note → Run
-closing_run flags notes = record { rest = closing flags notes; exit = exit_of notes }
+abbrev pub name_list : List ℕ → Flags → Book → Done ℕ
+name_list text flags left = names_done (setting text flags 0 left) left.names
 
-abbrev pub ending_run : Flags → OutputNames → List Note → List ℕ → Run
-ending_run flags names notes broken = record {
-  rest = ending_events flags names notes broken;
-  exit = exit_of (notes ++ broken_notes broken);
-}
+-- With flag x there are an index and a list of section names.
+abbrev pub index_files : Bool → CommandLine → List ℕ → Book → List OutFile
+index_files true line text left =
+    index_out line.outputs (index_of left) ∷ list_out line.outputs (name_list text line.flags left).out ∷ []
+index_files false line text left = []
 
--- The notes, the output file, the index and the list of section names, and the end of the run.
-abbrev pub weave_tex : CommandLine → List (List ℕ) → List Note → List ℕ → Run
-weave_tex line files notes tex = record {
+-- ## The run
+
+abbrev pub output_events : Flags → OutFile → List Event
+output_events flags f = says_if flags.progress output_text ++ file_events f
+
+abbrev pub index_events : Bool → Flags → List OutFile → List Event
+index_events true flags files = says_if flags.progress index_text ++ flat_map file_events files
+index_events false flags files = []
+
+abbrev pub files_events : Flags → OutFile → List OutFile → List Event
+files_events flags tex index = output_events flags tex ++ index_events flags.index flags index
+
+-- The end of the run: a line for each line of the files that had no good place to be cut, the statistics, and the closing line, by
+-- which the run ends.
+abbrev pub ending_run : Flags → List Broken → Totals → Bool → Bool → Run
+ending_run flags broken totals faulty noted = record {
   rest =
-      note_events files notes ++ (output_events line.flags line.outputs tex
-      ++ (index_events line.flags.index line.flags line.outputs ++ ending_events line.flags line.outputs notes (broken_lines tex)));
-  exit = exit_of (notes ++ broken_notes (broken_lines tex));
+      says_if flags.progress done_text ++ (flat_map broken_events broken ++ (statistics_if flags.stats totals
+      ++ closing_by faulty noted flags));
+  exit = exit_by faulty;
 }
 
--- the notes of reading, and those of the first phase
-abbrev pub notes_of : WebState → List Note
-notes_of web = web.notes ++ (book web.lines).notes
+-- Its notes are those that were printed before, and one for each such line.
+abbrev pub end_of : Flags → List Broken → Totals → List Note → Run
+end_of flags broken totals notes =
+    ending_run flags broken totals (has_error (notes ++ broken_notes broken)) (has_note (notes ++ broken_notes broken))
 
-abbrev pub weave_text : Bool → CommandLine → WebState → Run
-weave_text true line web = weave_tex line web.files (notes_of web) (tex_file line.flags.index web.lines)
-weave_text false line web = stopped not_built_text
+-- The notes, the TeX file, the index and the list of section names, and the end of the run.
+abbrev pub weave_files : CommandLine → List (List ℕ) → List SecName → List Note → Totals → OutFile → List OutFile → Run
+weave_files line files kept notes totals tex index = record {
+  rest =
+      note_events files kept notes ++ (files_events line.flags tex index
+      ++ (end_of line.flags (map broken_in (tex ∷ index)) totals notes).rest);
+  exit = (end_of line.flags (map broken_in (tex ∷ index)) totals notes).exit;
+}
 
--- No line of these bytes is longer than 80 bytes. A TeX file with a longer line isn't built yet.
-abbrev pub has_short_lines : List ℕ → Bool
-has_short_lines bytes = list_all (λ piece. nat_le (length piece) 80) (pieces_of bytes)
+abbrev pub weave_left : CommandLine → WebState → Book → Done ℕ → Book → Run
+weave_left line web b tex left =
+    weave_files line web.files b.sec_names (web.notes ++ b.outline.notes) (totals_of line.flags b.outline.sections tex)
+    (tex_out line.outputs tex.out) (index_files line.flags.index line (text_of web.lines) left)
 
-abbrev pub is_woven : CommandLine → WebState → Bool
-is_woven line web = is_built web.lines && has_short_lines (tex_file line.flags.index web.lines)
+abbrev pub weave_tex : CommandLine → WebState → Book → Done ℕ → Run
+weave_tex line web b tex = weave_left line web b tex (left_by (text_of web.lines) line.flags b tex)
+
+abbrev pub weave_book : CommandLine → WebState → Book → Run
+weave_book line web b = weave_tex line web b (tex_file (text_of web.lines) line.flags b)
+
+-- the book as the first phase hands it on
+abbrev pub handed : BookState → Book
+handed b = record {
+  names = b.names;
+  xrefs = b.occurrences;
+  sec_names = b.section_names;
+  name_uses = b.name_uses;
+  outline = record { limbo = b.limbo; sections = b.sections; notes = b.notes };
+}
 
 abbrev pub change_text : Option (List ℕ) → List ℕ
 change_text None = []
@@ -108,20 +141,14 @@ abbrev pub weave_web : CommandLine → Merged → Run
 weave_web line NoWeb = stopped (no_web_text line.web)
 weave_web line NoChange = stopped (no_change_text (change_text line.change))
 weave_web line TooLong = stopped too_long_text
-weave_web line (Whole web) = weave_text (is_woven line web) line web
+weave_web line (Whole web) = weave_book line web (handed (book web.lines))
 
--- The flags f, e, i, o and s are built as they are at the start.
-abbrev pub flags_are_built : Flags → Bool
-flags_are_built flags = flags.force && (flags.wrap && (flags.indent && (flags.separate && not flags.stats)))
-
-abbrev pub weave_line : Bool → CommandLine → Lookup → Run
-weave_line true line named = weave_web line (merged named line.web line.change)
-weave_line false line named = stopped not_built_text
+-- ## Commands
 
 abbrev pub weave_command_of : Command → Lookup → Woven
 weave_command_of (Usage flags) named = record { flags = flags; run = stopped usage_text }
 weave_command_of (Sample sections) named = record { flags = start_flags; run = stopped not_built_text }
-weave_command_of (Weave line) named = record { flags = line.flags; run = weave_line (flags_are_built line.flags) line named }
+weave_command_of (Weave line) named = record { flags = line.flags; run = weave_web line (merged named line.web line.change) }
 
 abbrev pub woven : List (List ℕ) → Lookup → Woven
 woven words named = weave_command_of (command_of words) named

@@ -1,31 +1,27 @@
 //! The top call: a web is read, woven and written.
 #![tactic(auto)]
 
-mod book;
-mod c_part;
-#[cfg(test)]
-mod c_part_tests;
-mod c_print;
-mod c_trim;
+mod closing;
+mod ending;
 #[cfg(test)]
 mod failing_tests;
-mod heads;
-mod letters;
+mod files;
+mod index_files;
 #[cfg(test)]
 mod merging_tests;
 mod message;
 mod notes;
-mod output;
-mod page;
-mod plain;
 #[cfg(test)]
 mod scanning_tests;
-mod sections;
-mod spans;
+#[cfg(test)]
+mod section_tests;
+mod source;
+mod statistics;
+mod stops;
 mod terminal;
 #[cfg(test)]
 mod tests;
-mod texts;
+mod tex_file;
 mod weave;
 
 pub use weave::weave_command;

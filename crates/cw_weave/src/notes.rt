@@ -1,13 +1,24 @@
-ghost use Rattle.std.specs.Prelude.{◌≡◌, ◌++◌, [], IfOk, OnOk, decimal, slice_index_or};
+//! The notes of a run, as they are printed.
+ghost use Rattle.std.specs.Prelude.{◌≡◌, ◌++◌, [], IfOk, OnOk, decimal, slice_get, slice_index_or};
 ghost use Rattle.cw_lines.specs.Writes.{Adds};
-ghost use Rattle.cw_weave.specs.Notes.{says, words_of, note_line, note_events, broken_line, broken_events, broken_notes, has_error, has_note};
+ghost use Rattle.cw_weave.specs.Notes.{is_on_name, name_line, note_events, note_line, place_line, text_by, words_of};
+ghost use Rattle.cw_weave.specs.Saying.{says};
 
 use crate::terminal::say_text;
-use cw_base::{Bytes, Grade, Memory, Note, NoteKind, Web};
+use cw_base::{Bytes, Memory, Note, NoteKind, Web};
 use cw_desk::Desk;
 use cw_lines::PutError;
+use cw_secnames::{SecId, SecNames};
 use itoa::Buffer;
 use std::alloc::Global;
+
+/// Where the notes of a run have been made: the files of the web, and the section names that are kept.
+#[derive(Clone, Copy)]
+pub(crate) struct Noted<'a> {
+    pub(crate) alloc: Global,
+    pub(crate) web: &'a Web,
+    pub(crate) names: &'a SecNames,
+}
 
 /// Appends a number in decimal digits.
 pub(crate) fn append_number(text: &mut Bytes, number: u64) -> Result<(), Memory>
@@ -16,7 +27,7 @@ pub(crate) fn append_number(text: &mut Bytes, number: u64) -> Result<(), Memory>
     text.append(Buffer::new().format(number).as_bytes())
 }
 
-/// The words of a note: how many lines differ stands before those of that note.
+// The words of a note: how many lines differ stands before those of that note.
 fn note_words(alloc: Global, note: Note) -> Result<Bytes, Memory>
     ensures { IfOk result (λ text. text ≡ words_of note.kind note.value) }
 {
@@ -29,7 +40,7 @@ fn note_words(alloc: Global, note: Note) -> Result<Bytes, Memory>
     Ok(text)
 }
 
-/// The name of a file of a web; empty where it has no such file.
+// The name of a file of a web; empty where it has no such file.
 fn file_name(web: &Web, file: u32) -> &[u8]
     ensures { result.now ≡ slice_index_or web.now.files file [] }
 {
@@ -39,9 +50,9 @@ fn file_name(web: &Web, file: u32) -> &[u8]
     web.file_name(file)
 }
 
-/// The line of a note of reading or scanning.
-fn note_text(alloc: Global, web: &Web, note: Note) -> Result<Bytes, Memory>
-    ensures { IfOk result (λ text. text ≡ note_line web.now.files note) }
+// The line of a note that has a place.
+fn place_text(alloc: Global, web: &Web, note: Note) -> Result<Bytes, Memory>
+    ensures { IfOk result (λ text. text ≡ place_line web.now.files note) }
 {
     let words = note_words(alloc, note)?;
     let mut text = Bytes::from_slice(alloc, b"! ")?;
@@ -54,94 +65,70 @@ fn note_text(alloc: Global, web: &Web, note: Note) -> Result<Bytes, Memory>
     Ok(text)
 }
 
-/// Prints a note of reading or scanning.
-fn print_note<D: Desk>(alloc: Global, web: &Web, note: Note, desk: &mut D) -> Result<(), PutError>
-    ensures { Adds (says (note_line web.now.files note)) (D.told desk.old) (D.told desk.new) result }
+// Whether a note is on a section name.
+fn is_on_name(kind: NoteKind) -> bool
+    ensures { result ≡ is_on_name kind }
 {
-    let text = note_text(alloc, web, note)?;
-    say_text(desk, text)
+    matches!(
+        kind,
+        NoteKind::NameIncomplete | NoteKind::NeverDefined | NoteKind::NeverUsed
+    )
 }
 
-/// Prints notes of reading or scanning.
-pub(crate) fn print_notes<D: Desk>(
-    alloc: Global,
-    web: &Web,
-    notes: &[Note],
-    desk: &mut D,
-) -> Result<(), PutError>
-    ensures { Adds (note_events web.now.files notes.now) (D.told desk.old) (D.told desk.new) result }
+// The text of a section name; empty where there is no such name.
+fn name_text(names: &SecNames, name: u32) -> &[u8]
+    ensures { result.now ≡ text_by (slice_get names.now name) }
 {
-    for note in notes {
-        print_note(alloc, web, *note, desk)?;
+    let index = name as usize;
+    if index >= names.len() {
+        return b"";
     }
-    Ok(())
+    names.text(SecId { index })
 }
 
-/// The note on a line of an output file that had no good place to be cut.
-fn broken_text(alloc: Global, name: &[u8], number: u64) -> Result<Bytes, Memory>
-    ensures { IfOk result (λ text. text ≡ broken_line name.now number) }
+// The line of a note on a section name.
+fn name_note_text(alloc: Global, kind: NoteKind, name: &[u8]) -> Result<Bytes, Memory>
+    ensures { IfOk result (λ text. text ≡ name_line kind name.now) }
 {
-    let mut text = Bytes::from_slice(alloc, b"! Line had to be broken (output l. ")?;
-    append_number(&mut text, number)?;
-    text.append(b" of ")?;
+    let mut text = Bytes::from_slice(alloc, b"! ")?;
+    text.append(kind.message().as_bytes())?;
+    text.append(b": <")?;
     text.append(name)?;
-    text.push(b')')?;
+    text.push(b'>')?;
     Ok(text)
 }
 
-/// Prints the note on one such line.
-fn print_broken_line<D: Desk>(
-    alloc: Global,
-    name: &[u8],
-    number: u64,
-    desk: &mut D,
-) -> Result<(), PutError>
-    ensures { Adds (says (broken_line name.now number)) (D.told desk.old) (D.told desk.new) result }
+// The line of a note.
+fn note_text(noted: Noted, note: Note) -> Result<Bytes, Memory>
+    ensures { IfOk result (λ text. text ≡ note_line noted.entry.web.now.files noted.entry.names.now note) }
 {
-    let text = broken_text(alloc, name, number)?;
+    let on_name = is_on_name(note.kind);
+    if on_name {
+        return name_note_text(noted.alloc, note.kind, name_text(noted.names, note.value));
+    }
+    place_text(noted.alloc, noted.web, note)
+}
+
+// Prints a note.
+fn print_note<D: Desk>(noted: Noted, note: Note, desk: &mut D) -> Result<(), PutError>
+    ensures { Adds (says (note_line noted.entry.web.now.files noted.entry.names.now note))
+        (D.told desk.old) (D.told desk.new) result }
+{
+    let text = note_text(noted, note)?;
     say_text(desk, text)
 }
 
-/// Prints the notes on such lines.
-pub(crate) fn print_broken<D: Desk>(
-    alloc: Global,
-    name: &[u8],
-    numbers: &[u64],
+/// Prints notes in their order.
+pub(crate) fn print_notes<D: Desk>(
+    noted: Noted,
+    notes: &[Note],
     desk: &mut D,
 ) -> Result<(), PutError>
-    ensures { Adds (broken_events name.now numbers.now) (D.told desk.old) (D.told desk.new) result }
-{
-    for number in numbers {
-        print_broken_line(alloc, name, *number, desk)?;
-    }
-    Ok(())
-}
-
-/// Whether there is a note, one on a broken line included.
-pub(crate) fn has_note(notes: &[Note], broken: &[u64]) -> bool
-    ensures { result ≡ has_note (notes.now ++ broken_notes broken.now) }
-{
-    if notes.is_empty() {
-        return !broken.is_empty();
-    }
-    true
-}
-
-/// Whether a note is of grade Error. Those on broken lines aren't.
-pub(crate) fn is_faulty(notes: &[Note], _broken: &[u64]) -> bool
-    ensures { result ≡ has_error (notes.now ++ broken_notes _broken.now) }
-{
-    has_error(notes)
-}
-
-/// Whether one of the notes is of grade Error.
-fn has_error(notes: &[Note]) -> bool
-    ensures { result ≡ has_error notes.now }
+    ensures { Adds (note_events noted.entry.web.now.files noted.entry.names.now notes.now)
+        (D.told desk.old) (D.told desk.new) result }
 {
     for note in notes {
-        if note.kind.grade() == Grade::Error {
-            return true;
-        }
+        print_note(noted, *note, desk)?;
     }
-    false
+    Ok(())
 }

@@ -1,9 +1,9 @@
-ghost use Rattle.std.specs.Prelude.{◌++◌};
+//! Lines on the terminal.
 ghost use Rattle.cw_base.specs.declared.event.Out.TheVariants.{Term};
 ghost use Rattle.cw_desk.specs.Journal.{byte_events};
 ghost use Rattle.cw_lines.specs.Writes.{Adds};
 ghost use Rattle.cw_weave.specs.Messages.{message_text};
-ghost use Rattle.cw_weave.specs.Notes.{says, says_if};
+ghost use Rattle.cw_weave.specs.Saying.{says, says_if};
 
 use crate::message::Message;
 use cw_base::{Bytes, Out};
@@ -40,21 +40,4 @@ pub(crate) fn say_if<D: Desk>(desk: &mut D, asked: bool, message: Message) -> Re
         return say(desk, message);
     }
     Ok(())
-}
-
-/// Prints a message, and that it was a fatal error.
-pub(crate) fn stop<D: Desk>(desk: &mut D, message: Message) -> Result<(), PutError>
-    ensures { Adds (says (message_text message) ++ says (message_text Message.Fatal))
-        (D.told desk.old) (D.told desk.new) result }
-{
-    say(desk, message)?;
-    say(desk, Message::Fatal)
-}
-
-/// The same for a message with a word of the command line.
-pub(crate) fn stop_with<D: Desk>(desk: &mut D, text: Bytes) -> Result<(), PutError>
-    ensures { Adds (says text ++ says (message_text Message.Fatal)) (D.told desk.old) (D.told desk.new) result }
-{
-    say_text(desk, text)?;
-    say(desk, Message::Fatal)
 }

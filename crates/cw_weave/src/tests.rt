@@ -247,11 +247,6 @@ pub(crate) fn told(
 
 pub(crate) const FOO: &[u8] = b"foo";
 
-const NOT_BUILT: &[u8] = b"[term]This is CWEAVE (profile 1)
-! Not built yet
-(That was a fatal error, my friend.)
-Errors";
-
 #[test]
 fn a_plain_statement(rt: HostRuntime) -> Result<(), Fail> {
     let text = told(rt.alloc(), b"@ @c i=i+1;\n", &[], &[FOO])?;
@@ -304,39 +299,6 @@ Writing the output file...
 Clean"
             .as_slice()
     );
-    Ok(())
-}
-
-#[test]
-fn long_names_are_not_built(rt: HostRuntime) -> Result<(), Fail> {
-    let text = told(rt.alloc(), b"@ @c ab;\n", &[], &[FOO])?;
-    assert_eq!(rt; text.as_slice(), NOT_BUILT);
-    Ok(())
-}
-
-#[test]
-fn other_categories_are_not_built(rt: HostRuntime) -> Result<(), Fail> {
-    let text = told(rt.alloc(), b"@s a int\n@ @c a;\n", &[], &[FOO])?;
-    assert_eq!(rt; text.as_slice(), NOT_BUILT);
-    Ok(())
-}
-
-#[test]
-fn long_lines_are_not_built(rt: HostRuntime) -> Result<(), Fail> {
-    let text = told(
-        rt.alloc(),
-        b"aaaaaaaaaaaaaaaaaaaaaaaaaaaaaaaaaaaaaaaaaaaaaaaaaaaaaaaaaaaaaaaaaaaaaaaaaaaaaaaaa\n",
-        &[],
-        &[FOO],
-    )?;
-    assert_eq!(rt; text.as_slice(), NOT_BUILT);
-    Ok(())
-}
-
-#[test]
-fn other_flags_are_not_built(rt: HostRuntime) -> Result<(), Fail> {
-    let text = told(rt.alloc(), HELLO, &[], &[b"-f".as_slice(), FOO])?;
-    assert_eq!(rt; text.as_slice(), NOT_BUILT);
     Ok(())
 }
 
@@ -436,6 +398,25 @@ fn too_many_words(rt: HostRuntime) -> Result<(), Fail> {
         text.as_slice(),
         b"[term]This is CWEAVE (profile 1)
 ! Usage: cweave [options] webfile[.w] [{changefile[.ch]|-} [outfile[.tex]]]
+(That was a fatal error, my friend.)
+Errors"
+            .as_slice()
+    );
+    Ok(())
+}
+
+#[test]
+fn the_sample_is_not_built(rt: HostRuntime) -> Result<(), Fail> {
+    let text = told(
+        rt.alloc(),
+        HELLO,
+        &[],
+        &[b"--sample".as_slice(), b"3".as_slice()],
+    )?;
+    assert_eq!(rt;
+        text.as_slice(),
+        b"[term]This is CWEAVE (profile 1)
+! Not built yet
 (That was a fatal error, my friend.)
 Errors"
             .as_slice()

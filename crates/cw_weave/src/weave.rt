@@ -1,145 +1,132 @@
-ghost use Rattle.std.specs.Prelude.{◌≡◌, ◌<◌, ◌≢◌, ◌++◌, Some, true, length, option_copied, IfOk};
+//! A whole run: the words of a command line are read, and what they ask for is done.
+ghost use Rattle.std.specs.Prelude.{◌≡◌, ◌+◌, ◌<◌, ◌≤◌, ◌≢◌, ◌++◌, All, Some, length, option_copied, IfOk};
 ghost use Rattle.std.specs.FinMap.{get};
+ghost use Rattle.cw_base.specs.Web.{text_of};
 ghost use Rattle.cw_desk.specs.Meaning.{Files, Rose};
 ghost use Rattle.cw_input.specs.Merged.{merged};
-ghost use Rattle.cw_weave.specs.Emits.{Counts, Runs};
-ghost use Rattle.cw_weave.specs.WebWord.{HasWebWord};
-ghost use Rattle.cw_weave.specs.Woven.{Outcome, change_text, flags_are_built, has_short_lines, is_woven, weave_command_of};
-ghost use Rattle.cw_weave.specs.Woven.{stopped, weave_line, weave_tex, weave_text, weave_web, whole_run, woven};
+ghost use Rattle.cw_lines.specs.Writes.{Adds};
 ghost use Rattle.cw_phase1.specs.Book.{book};
-ghost use Rattle.cw_weave.specs.Book.{tex_file};
-ghost use Rattle.cw_weave.specs.Built.{is_built};
+ghost use Rattle.cw_reduce.specs.NameParts.{AreNamesOf};
+ghost use Rattle.cw_texpart.specs.Texts.{lasting};
+ghost use Rattle.cw_weave.specs.Emits.{Emits, Faults, Runs};
+ghost use Rattle.cw_weave.specs.Looks.{book_looks, command_looks, looks_of, web_looks};
+ghost use Rattle.cw_weave.specs.Notes.{note_events};
+ghost use Rattle.cw_weave.specs.Pressing.{IsPrintable, IsWholeSection, WholeNames, flags_in, text_in};
+ghost use Rattle.cw_weave.specs.WebWord.{HasWebWord};
+ghost use Rattle.cw_weave.specs.Woven.{Outcome, handed, weave_book, weave_command_of, weave_web, whole_run, woven};
+ghost use Rattle.cw_weave.specs.Written.{AreWritten, events_of};
 
-use crate::book::print_book;
+use crate::closing::Judgement;
+use crate::ending::end_run;
+use crate::files::Written;
+use crate::index_files::write_index_files;
 use crate::message::Message;
-use crate::notes::print_notes;
-use crate::output::{end_run, write_index, write_tex};
-use crate::terminal::{say, say_if, stop, stop_with};
-use cw_base::{Bytes, Exit, Flags, Ledger, Memory, Note, Steps, Web, Words};
+use crate::notes::{Noted, print_notes};
+use crate::source::Source;
+use crate::statistics::Totals;
+use crate::stops::{stop, stop_without_change, stop_without_web};
+use crate::terminal::{say, say_if};
+use crate::tex_file::write_tex;
+use cw_base::{Exit, Ledger, Memory, Steps, Web, Words};
 use cw_desk::Desk;
+use cw_index::whole_names_law;
 use cw_input::{Command, CommandLine, LoadError, load, read_command};
 use cw_lines::PutError;
-use cw_phase1::phase_one;
+use cw_part::whole_rest_law;
+use cw_phase1::{Book, phase_one, whole_law};
+use cw_texpart::whole_pieces_law;
 use std::alloc::Global;
 
-/// Whether no line of these bytes is longer than the 80 bytes of an output line.
-fn has_short_lines(bytes: &[u8]) -> bool
-    ensures { result ≡ has_short_lines bytes.now }
+// The book that the first phase makes of a web.
+fn read_book(alloc: Global, web: &Web) -> Result<Book, Memory>
+    ensures book { IfOk result (λ b. b ≡ handed (book web.now.lines)) }
+    ensures kept { IfOk result (λ b. AreNamesOf b.sec_names b.name_uses) }
+    ensures whole { IfOk result (λ b. All (IsWholeSection (text_of web.now.lines)) b.outline.sections) }
+    ensures names { IfOk result (λ b. WholeNames (text_of web.now.lines) b.sec_names b.name_uses) }
 {
-    let mut size = 0usize;
-    for byte in bytes {
-        if *byte == b'\n' {
-            size = 0;
-            continue;
-        }
-        if size >= 80 {
-            return false;
-        }
-        size += 1;
-    }
-    true
+    whole_law();
+    whole_pieces_law();
+    whole_rest_law();
+    whole_names_law();
+    let book = phase_one(alloc, web)?;
+    // By its type a text has at most 16,777,216 bytes, and no section name is longer.
+    let _text = web.text();
+    Ok(book)
 }
 
-/// The notes of reading a web, and behind them those of the first phase.
-fn notes_of(alloc: Global, web: &Web, noted: &[Note]) -> Result<Vec<Note>, Memory>
-    ensures { IfOk result (λ notes. notes.items ≡ web.now.notes ++ noted.now) }
-{
-    let reading = web.notes();
-    let mut notes = Vec::with_capacity(alloc, reading.len())?;
-    notes.extend_from_slice(reading)?;
-    notes.extend_from_slice(noted)?;
-    Ok(notes)
-}
-
-/// Prints the notes, writes the files, and ends the run.
-fn write_book<D: Desk>(
-    alloc: Global,
-    desk: &mut D,
-    line: &CommandLine,
-    web: &Web,
-    notes: &[Note],
-    tex: &[u8],
-) -> Result<Exit, PutError>
-    ensures runs { Runs (weave_tex line.now web.now.files notes.now tex.now)
+// Prints the notes of reading, and those of the first phase.
+fn print_all_notes<D: Desk>(source: Source, book: &Book, desk: &mut D) -> Result<(), PutError>
+    ensures { Adds (note_events source.entry.web.now.files book.now.sec_names
+        (source.entry.web.now.notes ++ book.now.outline.notes))
         (D.told desk.old) (D.told desk.new) result }
-    ensures counts { Counts (D.told desk.old) (D.told desk.new) result }
 {
-    print_notes(alloc, web, notes, desk)?;
-    let out = write_tex(alloc, desk, &line.flags, &line.outputs, tex)?;
-    write_index(desk, &line.flags, &line.outputs)?;
-    end_run(alloc, desk, &line.flags, &line.outputs, notes, out.broken())
+    let noted = Noted {
+        alloc: source.alloc,
+        web: source.web,
+        names: &book.sec_names,
+    };
+    print_notes(noted, source.web.notes(), desk)?;
+    print_notes(noted, book.notes(), desk)
 }
 
-/// Writes the book of a web that is built, if no line of it is too long.
-fn weave_built<D: Desk>(
-    alloc: Global,
+// Writes the TeX file, and with flag x the index and the list of section names.
+fn write_files<D: Desk, L: Ledger>(
+    source: Source,
+    book: &mut Book,
     desk: &mut D,
-    line: &CommandLine,
-    web: &Web,
-    noted: &[Note],
-    tex: &[u8],
-) -> Result<Exit, PutError>
-    requires built { is_built web.now.lines ≡ true }
-    requires notes { noted.now ≡ (book web.now.lines).notes }
-    requires tex { tex.now ≡ tex_file line.now.flags.index web.now.lines }
-    ensures runs { Runs (weave_text (is_woven line.now web.now) line.now web.now)
-        (D.told desk.old) (D.told desk.new) result }
-    ensures counts { Counts (D.told desk.old) (D.told desk.new) result }
+    steps: &mut Steps<L>,
+) -> Result<Written, PutError>
+    requires printable { IsPrintable (text_in source) (lasting book.old) }
+    ensures emits { Emits (events_of source.entry book.old) (D.told desk.old) (D.told desk.new) result }
+    ensures written { IfOk result (λ w. AreWritten source.entry book.old w) }
+    ensures bound { steps.new ≤ steps.old + book_looks (text_in source.entry) (flags_in source.entry) book.old }
 {
-    if !has_short_lines(tex) {
-        stop(desk, Message::NotBuilt)?;
-        return Ok(Exit::Errors);
-    }
-    let notes = notes_of(alloc, web, noted)?;
-    write_book(alloc, desk, line, web, &notes, tex)
+    let tex = write_tex(source, book, desk, steps)?;
+    let totals = Totals::of(book.section_count(), tex.counts, tex.lines.lines());
+    let index = write_index_files(source, book, desk, steps)?;
+    Ok(Written {
+        tex: tex.lines,
+        totals,
+        index,
+    })
 }
 
-/// Weaves a web that was read.
-fn weave_web<D: Desk>(
-    alloc: Global,
+// Prints the notes of a web, writes its files, and ends the run.
+fn weave_book<D: Desk, L: Ledger>(
+    source: Source,
+    book: &mut Book,
     desk: &mut D,
-    line: &CommandLine,
-    web: &Web,
+    steps: &mut Steps<L>,
 ) -> Result<Exit, PutError>
-    ensures runs { Runs (weave_text (is_woven line.now web.now) line.now web.now)
+    requires printable { IsPrintable (text_in source) (lasting book.old) }
+    ensures runs { Runs (weave_book source.entry.line.now source.entry.web.now book.old)
         (D.told desk.old) (D.told desk.new) result }
-    ensures counts { Counts (D.told desk.old) (D.told desk.new) result }
+    ensures bound { steps.new ≤ steps.old + book_looks (text_in source.entry) (flags_in source.entry) book.old }
+{
+    print_all_notes(source, book, desk)?;
+    let judgement = Judgement::of(source.web.notes(), book.notes());
+    let written = write_files(source, book, desk, steps)?;
+    end_run(source.alloc, desk, source.line, judgement, &written)
+}
+
+// Weaves a web that was read.
+fn weave_web<D: Desk, L: Ledger>(
+    source: Source,
+    desk: &mut D,
+    steps: &mut Steps<L>,
+) -> Result<Exit, PutError>
+    ensures runs { Runs
+        (weave_book source.entry.line.now source.entry.web.now (handed (book source.entry.web.now.lines)))
+        (D.told desk.old) (D.told desk.new) result }
+    ensures bound { steps.new ≤ steps.old
+        + book_looks (text_in source.entry) (flags_in source.entry) (handed (book source.entry.web.now.lines)) }
     ensures real { IfOk result (λ exit. exit ≢ Exit.Fault) }
 {
-    let book = phase_one(alloc, web)?;
-    match print_book(alloc, web.text(), &book, line.flags.index)? {
-        Some(page) => weave_built(alloc, desk, line, web, book.notes(), &page.bytes),
-        None => {
-            stop(desk, Message::NotBuilt)?;
-            Ok(Exit::Errors)
-        }
-    }
+    let mut book = read_book(source.alloc, source.web)?;
+    weave_book(source, &mut book, desk, steps)
 }
 
-/// Ends the run with a message about a word of the command line.
-fn stop_at<D: Desk>(
-    alloc: Global,
-    desk: &mut D,
-    message: &[u8],
-    word: &[u8],
-) -> Result<Exit, PutError>
-    ensures runs { Runs (stopped (message.now ++ word.now)) (D.told desk.old) (D.told desk.new) result }
-    ensures counts { Counts (D.told desk.old) (D.told desk.new) result }
-{
-    let mut text = Bytes::from_slice(alloc, message)?;
-    text.append(word)?;
-    stop_with(desk, text)?;
-    Ok(Exit::Errors)
-}
-
-/// Whether these flags are built so far.
-fn flags_are_built(flags: &Flags) -> bool
-    ensures { result ≡ flags_are_built flags.now }
-{
-    flags.force && flags.wrap && flags.indent && flags.separate && !flags.stats
-}
-
-/// The change word of a command line.
+// The change word of a command line.
 fn change_word(line: &CommandLine) -> Option<&[u8]>
     ensures { option_copied result ≡ line.now.change }
 {
@@ -149,93 +136,75 @@ fn change_word(line: &CommandLine) -> Option<&[u8]>
     }
 }
 
-/// The same, empty where there is none.
-fn change_text(line: &CommandLine) -> &[u8]
-    ensures { result.now ≡ change_text line.now.change }
-{
-    match &line.change {
-        Some(word) => word.as_slice(),
-        None => b"",
-    }
-}
-
-/// Reads a web and weaves it.
-fn weave_named<D: Desk>(alloc: Global, desk: &mut D, line: &CommandLine) -> Result<Exit, PutError>
+// Reads a web and weaves it.
+fn weave_line<D: Desk, L: Ledger>(
+    alloc: Global,
+    desk: &mut D,
+    line: &CommandLine,
+    steps: &mut Steps<L>,
+) -> Result<Exit, PutError>
     requires { 0 < length line.now.web }
     ensures runs { (files : Files) → (D.told desk.old).files ≡ Some files →
         Runs (weave_web line.now (merged (get files) line.now.web line.now.change))
         (D.told desk.old) (D.told desk.new) result }
-    ensures counts { Counts (D.told desk.old) (D.told desk.new) result }
+    ensures faults { Faults (D.told desk.old) (D.told desk.new) result }
+    ensures bound { (files : Files) → (D.told desk.old).files ≡ Some files →
+        steps.new ≤ steps.old + web_looks line.now.flags (merged (get files) line.now.web line.now.change) }
     ensures real { IfOk result (λ exit. exit ≢ Exit.Fault) }
 {
     match load(alloc, desk, line.web.as_slice(), change_word(line)) {
-        Ok(web) => weave_web(alloc, desk, line, &web),
-        Err(LoadError::NoWeb) => stop_at(
-            alloc,
+        Ok(web) => weave_web(
+            Source {
+                alloc,
+                web: &web,
+                line,
+            },
             desk,
-            b"! Cannot open web file ",
-            line.web.as_slice(),
+            steps,
         ),
-        Err(LoadError::NoChange) => stop_at(
-            alloc,
-            desk,
-            b"! Cannot open change file ",
-            change_text(line),
-        ),
-        Err(LoadError::TooLong) => {
-            stop(desk, Message::TooLong)?;
-            Ok(Exit::Errors)
-        }
+        Err(LoadError::NoWeb) => stop_without_web(alloc, desk, line),
+        Err(LoadError::NoChange) => stop_without_change(alloc, desk, line),
+        Err(LoadError::TooLong) => stop(desk, Message::TooLong),
         Err(LoadError::Fault) => Err(PutError::Fault),
         Err(LoadError::Memory) => Err(PutError::Memory),
     }
 }
 
-/// Does what a command line asks for.
-fn weave_line<D: Desk>(alloc: Global, desk: &mut D, line: &CommandLine) -> Result<Exit, PutError>
-    requires { 0 < length line.now.web }
-    ensures runs { (files : Files) → (D.told desk.old).files ≡ Some files →
-        Runs (weave_line (flags_are_built line.now.flags) line.now (get files))
-        (D.told desk.old) (D.told desk.new) result }
-    ensures counts { Counts (D.told desk.old) (D.told desk.new) result }
-    ensures real { IfOk result (λ exit. exit ≢ Exit.Fault) }
-{
-    if !flags_are_built(&line.flags) {
-        stop(desk, Message::NotBuilt)?;
-        return Ok(Exit::Errors);
-    }
-    weave_named(alloc, desk, line)
-}
-
-/// Prints the banner, and does what a command asks for.
-fn run<D: Desk>(alloc: Global, desk: &mut D, command: &Command) -> Result<Exit, PutError>
+// Prints the banner, and does what a command asks for.
+fn run<D: Desk, L: Ledger>(
+    alloc: Global,
+    desk: &mut D,
+    command: &Command,
+    steps: &mut Steps<L>,
+) -> Result<Exit, PutError>
     requires { HasWebWord command.now }
     ensures runs { (files : Files) → (D.told desk.old).files ≡ Some files →
         Runs (whole_run (weave_command_of command.now (get files)))
         (D.told desk.old) (D.told desk.new) result }
-    ensures counts { Counts (D.told desk.old) (D.told desk.new) result }
+    ensures faults { Faults (D.told desk.old) (D.told desk.new) result }
+    ensures bound { (files : Files) → (D.told desk.old).files ≡ Some files →
+        steps.new ≤ steps.old + command_looks command.now (get files) }
     ensures real { IfOk result (λ exit. exit ≢ Exit.Fault) }
 {
     match command {
         Command::Usage(flags) => {
             say_if(desk, flags.banner, Message::Banner)?;
-            stop(desk, Message::Usage)?;
-            Ok(Exit::Errors)
+            stop(desk, Message::Usage)
         }
         Command::Sample(_) => {
             say(desk, Message::Banner)?;
-            stop(desk, Message::NotBuilt)?;
-            Ok(Exit::Errors)
+            stop(desk, Message::NotBuilt)
         }
         Command::Weave(line) => {
             say_if(desk, line.flags.banner, Message::Banner)?;
-            weave_line(alloc, desk, line)
+            weave_line(alloc, desk, line, steps)
         }
     }
 }
 
-/// Reads the words of a command line and does what they ask for: weaves a web over the files of the desk into its outputs, and
-/// answers the status of the run. It prints nothing after a fault or want of memory, and tries no failed call again.
+/// Reads the words of a command line and does what they ask for: weaves a web over the files of the desk into its
+/// outputs, and answers the status of the run. It prints nothing after a fault or want of memory, and tries no failed
+/// call again.
 pub fn weave_command<D: Desk, L: Ledger>(
     alloc: Global,
     words: &Words,
@@ -245,13 +214,13 @@ pub fn weave_command<D: Desk, L: Ledger>(
     ensures woven { (files : Files) → (D.told desk.old).files ≡ Some files →
         Outcome (woven words.now (get files)) (D.told desk.old) (D.told desk.new) result }
     ensures fault { result ≡ Exit.Fault → Rose (D.told desk.old).faults (D.told desk.new).faults }
-    ensures steps { steps.new ≡ steps.old }
+    ensures steps { (files : Files) → (D.told desk.old).files ≡ Some files →
+        steps.new ≤ steps.old + looks_of words.now (get files) }
 {
-    let _ = steps;
     let Ok(command) = read_command(alloc, words) else {
         return Exit::Memory;
     };
-    match run(alloc, desk, &command) {
+    match run(alloc, desk, &command, steps) {
         Ok(exit) => exit,
         Err(PutError::Fault) => Exit::Fault,
         Err(PutError::Memory) => Exit::Memory,

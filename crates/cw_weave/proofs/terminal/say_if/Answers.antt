@@ -3,7 +3,7 @@ use Rattle.std.proofs.Common.{Bool, sym}
 use Rattle.cw_lines.specs.WritesLaws.{adds-events, adds-none}
 use Rattle.std.proofs.Common.{ap}
 use Rattle.cw_weave.specs.Messages.{message_text}
-use Rattle.cw_weave.specs.Notes.{says_if}
+use Rattle.cw_weave.specs.Saying.{says_if}
 use Rattle.cw_weave.proofs.terminal.say_if.Goals as goal
 
 pub returns-then-asked : goal.returns-then-asked

@@ -3,7 +3,7 @@ use Rattle.std.proofs.Common.{ap, ◌∙◌}
 use Rattle.cw_base.specs.declared.event.Out.TheVariants.{Term}
 use Rattle.cw_desk.specs.Journal.{byte_events}
 use Rattle.cw_lines.specs.WritesLaws.{adds-events}
-use Rattle.cw_weave.specs.Notes.{says}
+use Rattle.cw_weave.specs.Saying.{says}
 use Rattle.cw_weave.proofs.terminal.say_text.Goals as goal
 
 pub returns : goal.returns

@@ -1,26 +1,31 @@
--- A woven book never ends with a fault.
-use Rattle.cw_weave.specs.Woven.{is_woven, weave_text}
-use Rattle.std.proofs.Common.{◌∙◌}
-use Rattle.cw_weave.proofs.BookLaws.{page-tex}
-use Rattle.cw_weave.proofs.EmitsLaws.{runs-nothing}
-use Rattle.cw_weave.proofs.ExitLaws.{ok-real, weave_text-real}
+-- The book is the one that the definition has.
+use Rattle.std.proofs.Common.{◌≤◌, ◌+◌, ap, subst}
+use Rattle.cw_phase1.specs.Book.{book}
+use Rattle.cw_phase1.specs.declared.book.Book.{Book}
+use Rattle.cw_weave.specs.Looks.{book_looks}
+use Rattle.cw_weave.specs.Pressing.{flags_in, text_in}
+use Rattle.cw_weave.specs.Woven.{handed, weave_book}
+use Rattle.cw_weave.proofs.EmitsLaws.{runs-known, runs-nothing}
+use Rattle.cw_weave.proofs.ExitLaws.{ok-real, weave_book-real}
 use Rattle.cw_weave.proofs.weave.weave_web.Goals as goal
 
-pub returns-in-Some-clause-real : goal.returns-in-Some-clause-real
-returns-in-Some-clause-real g c =
-    let line = c.args.line.now in
-    let web = c.args.web.now in
-    ok-real c.weave_built.result (weave_text (is_woven line web) line web).exit (weave_text-real (is_woven line web) line web)
-    c.weave_built.ensures.runs.exit
+pub returns-in_err-book-clause-runs : goal.returns-in_err-book-clause-runs
+returns-in_err-book-clause-runs g c =
+    runs-nothing (weave_book c.args.source.line.now c.args.source.web.now (handed (book c.args.source.web.now.lines))) (g.D.Desk.told c.args.desk.now) c.from_residual.ensures.1
 
-pub returns-in_err-page-clause-runs : goal.returns-in_err-page-clause-runs
-returns-in_err-page-clause-runs g c =
-    let line = c.args.line.now in
-    let web = c.args.web.now in
-    runs-nothing (weave_text (is_woven line web) line web) (g.D.Desk.told c.args.desk.now) c.from_residual-in_err-page.ensures.1
+pub returns-clause-runs : goal.returns-clause-runs
+returns-clause-runs g c =
+    runs-known (ap (weave_book c.args.source.line.now c.args.source.web.now) c.in_ok-book.ensures.book) c.weave_book.ensures.runs
 
-pub weave_built-requires-clause-tex : goal.weave_built-requires-clause-tex
-weave_built-requires-clause-tex g c =
-    c.deref.ensures.value ∙
-    page-tex c.args.line.now.flags.index c.args.web.now.lines c.text.result.now c.in_ok-book.book c.in_ok-page.field-0 c.in-Some.page
-    c.in_ok-page.ensures c.in-Some.is c.text.ensures.lines c.in_ok-book.ensures.limbo c.in_ok-book.ensures.sections
+pub returns-clause-bound : goal.returns-clause-bound
+returns-clause-bound g c =
+    subst (λ (b : Book). c.weave_book.new.steps ≤ c.args.steps.now + book_looks (text_in c.args.source) (flags_in c.args.source) b) c.in_ok-book.ensures.book c.weave_book.ensures.bound
+
+pub returns-clause-real : goal.returns-clause-real
+returns-clause-real g c =
+    ok-real c.weave_book.result _ (weave_book-real c.args.source.line.now c.args.source.web.now c.in_ok-book.book) c.weave_book.ensures.runs.exit
+
+pub weave_book-requires : goal.weave_book-requires
+weave_book-requires g c = record {
+  printable = record { kept = c.in_ok-book.ensures.kept; whole = c.in_ok-book.ensures.whole; names = c.in_ok-book.ensures.names };
+}

@@ -1,7 +1,0 @@
-use Rattle.std.proofs.Common.{◌≡◌, drop}
-use Rattle.std.specs.List.{list_any}
-use Rattle.cw_trees.specs.Printing.{is_lower}
-use Rattle.cw_weave.proofs.c_print.has_lower.Given as goal
-
-abbrev pub invariant-loop-byte : goal.invariant-loop-byte
-invariant-loop-byte l = list_any is_lower (drop l.byte-index l.name) ≡ list_any is_lower l.name

@@ -1,0 +1,140 @@
+//! The TeX file, which is written as it is made, section by section.
+ghost use Rattle.std.specs.Prelude.{◌≡◌, ◌+◌, ◌-◌, ◌<◌, ◌≤◌, Some, IfOk, OnOk, length, slice_get};
+ghost use Rattle.cw_lines.specs.Writes.{CanWrite};
+ghost use Rattle.cw_phase1.specs.declared.sections.Section.{Section};
+ghost use Rattle.cw_reduce.specs.Counting.{limit_in};
+ghost use Rattle.cw_texpart.specs.Texts.{lasting};
+ghost use Rattle.cw_texpart.specs.Weaving.{underlined};
+ghost use Rattle.cw_weave.specs.Emits.{Emits};
+ghost use Rattle.cw_weave.specs.Pressing.{IsPrintable, Presses, flags_in, left_in, marks_in};
+ghost use Rattle.cw_weave.specs.Pressing.{section_in, tex_in, text_in};
+ghost use Rattle.cw_weave.specs.TexFile.{all_sections};
+ghost use Rattle.cw_weave.specs.Woven.{output_events};
+ghost use Rattle.cw_weave.specs.Written.{IsTexFile, tex_of};
+
+use crate::files::make;
+use crate::message::Message;
+use crate::source::Source;
+use crate::terminal::say_if;
+use cw_base::{Ledger, Out, Steps};
+use cw_desk::Desk;
+use cw_index::write_closing;
+use cw_lines::{LineOut, PutError};
+use cw_part::weave_section;
+use cw_phase1::Book;
+use cw_texpart::{Counts, copy_limbo, copy_tex};
+
+/// The TeX file that was written, and the scraps and productions of its C texts.
+#[derive(Drop)]
+pub(crate) struct TexFile {
+    pub(crate) lines: LineOut,
+    pub(crate) counts: Counts,
+}
+
+// Prints the section of this number.
+fn print_section<D: Desk, L: Ledger>(
+    source: Source,
+    section: u32,
+    book: &mut Book,
+    out: &mut LineOut,
+    desk: &mut D,
+    steps: &mut Steps<L>,
+) -> Result<Counts, PutError>
+    requires can { CanWrite (D.told desk.old) out.old }
+    requires first { 0 < section }
+    requires last { section ≤ length book.old.outline.sections }
+    requires printable { IsPrintable (text_in source) (lasting book.old) }
+    ensures { (s : Section) → slice_get book.old.outline.sections (section - 1) ≡ Some s →
+        Presses (flags_in source.entry) (section_in source.entry section s book.old)
+        (underlined section (section_in source.entry section s book.old).marks)
+        (record { book = book.old; line = out.old; told = D.told desk.old; steps = steps.old })
+        (record { book = book.new; line = out.new; told = D.told desk.new; steps = steps.new }) result }
+{
+    let flags = &source.line.flags;
+    let begun = copy_tex(
+        source.alloc,
+        source.web,
+        book,
+        section,
+        flags,
+        out,
+        desk,
+        steps,
+    )?;
+    let rest = weave_section(
+        source.alloc,
+        source.web,
+        book,
+        section,
+        flags,
+        out,
+        desk,
+        steps,
+    )?;
+    Ok(begun.plus(rest)?)
+}
+
+// Prints all sections in order.
+fn print_sections<D: Desk, L: Ledger>(
+    source: Source,
+    book: &mut Book,
+    out: &mut LineOut,
+    desk: &mut D,
+    steps: &mut Steps<L>,
+) -> Result<Counts, PutError>
+    requires can { CanWrite (D.told desk.old) out.old }
+    requires printable { IsPrintable (text_in source) (lasting book.old) }
+    ensures { Presses (flags_in source.entry)
+        (all_sections (text_in source.entry) (flags_in source.entry) book.old) (marks_in source.entry book.old)
+        (record { book = book.old; line = out.old; told = D.told desk.old; steps = steps.old })
+        (record { book = book.new; line = out.new; told = D.told desk.new; steps = steps.new }) result }
+{
+    let mut counts = Counts::none();
+    for before in 0..book.section_count() {
+        let more = print_section(source, before + 1, book, out, desk, steps)?;
+        counts = counts.plus(more)?;
+    }
+    Ok(counts)
+}
+
+// Prints limbo, the sections and the closing lines.
+fn print_tex<D: Desk, L: Ledger>(
+    source: Source,
+    book: &mut Book,
+    out: &mut LineOut,
+    desk: &mut D,
+    steps: &mut Steps<L>,
+) -> Result<Counts, PutError>
+    requires can { CanWrite (D.told desk.old) out.old }
+    requires printable { IsPrintable (text_in source) (lasting book.old) }
+    ensures { Presses (flags_in source.entry) (tex_in source.entry book.old) (marks_in source.entry book.old)
+        (record { book = book.old; line = out.old; told = D.told desk.old; steps = steps.old })
+        (record { book = book.new; line = out.new; told = D.told desk.new; steps = steps.new }) result }
+{
+    copy_limbo(source.alloc, source.web, book, out, desk)?;
+    let counts = print_sections(source, book, out, desk, steps)?;
+    write_closing(book, &source.line.flags, out, desk)?;
+    Ok(counts)
+}
+
+/// Makes the TeX file and writes it, and says so.
+pub(crate) fn write_tex<D: Desk, L: Ledger>(
+    source: Source,
+    book: &mut Book,
+    desk: &mut D,
+    steps: &mut Steps<L>,
+) -> Result<TexFile, PutError>
+    requires printable { IsPrintable (text_in source) (lasting book.old) }
+    ensures emits { Emits (output_events (flags_in source.entry) (tex_of source.entry book.old))
+        (D.told desk.old) (D.told desk.new) result }
+    ensures file { IfOk result (λ t. IsTexFile (flags_in source.entry) (tex_in source.entry book.old) t) }
+    ensures left { OnOk result (book.new ≡ left_in source.entry book.old) }
+    ensures bound { steps.new ≤ steps.old + limit_in (flags_in source.entry) (tex_in source.entry book.old).ended }
+{
+    let line = source.line;
+    say_if(desk, line.flags.progress, Message::WritingOutput)?;
+    make(desk, Out::Tex, line.outputs.tex.as_slice())?;
+    let mut lines = LineOut::new_in(source.alloc, Out::Tex);
+    let counts = print_tex(source, book, &mut lines, desk, steps)?;
+    Ok(TexFile { lines, counts })
+}
