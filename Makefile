@@ -1,4 +1,4 @@
-# make hello    builds cweave and weaves examples/hello.w
+# make hello    builds cweave and weaves examples/primes.w
 # make install  puts cweave into PREFIX/bin
 # make gate     every proof, must-fail edit, test and program
 # make bench    instructions per input byte and peak memory for webs of stated sizes
@@ -18,8 +18,8 @@ $(PROGRAM): $(shell find crates -name '*.rt' -o -name '*.antt' 2>/dev/null) crat
 	mkdir -p build && cp crates/cweave/out/cweave $(PROGRAM)
 
 hello: $(PROGRAM)
-	cd build && cp ../examples/hello.w . && ./cweave hello
-	cat build/hello.tex
+	cd build && cp ../examples/primes.w . && ./cweave primes
+	cat build/primes.tex
 
 install: $(PROGRAM)
 	install -d $(DESTDIR)$(PREFIX)/bin
