@@ -1,5 +1,6 @@
 pub mod Batch
 pub mod BatchLaws
+pub mod Count
 pub mod File
 pub mod Journal
 pub mod JournalLaws

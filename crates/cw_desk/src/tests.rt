@@ -1,5 +1,5 @@
 //! What no clause says of desks: that calls succeed, and what the system answers.
-use crate::{Batch, Desk, Fetched, FileDesk, Flushed, MadeOut, MemDesk, Opened, Taken};
+use crate::{Batch, CountDesk, Desk, Fetched, FileDesk, Flushed, MadeOut, MemDesk, Opened, Taken};
 use cw_base::{Event, Out};
 use std::alloc::Global;
 use std::test::Fail;
@@ -31,6 +31,16 @@ fn a_desk_in_memory(rt: HostRuntime) -> Result<(), Fail> {
         [Event::Made(Out::Tex, name), Event::Byte(Out::Tex, b'x')] if name.as_slice() == b"a.tex".as_slice()
     )
     );
+    Ok(())
+}
+
+#[test]
+fn a_desk_that_keeps_nothing(rt: HostRuntime) -> Result<(), Fail> {
+    let mut desk = CountDesk::new();
+    assert_eq!(rt; desk.open(b"a"), Opened::Missing);
+    assert_eq!(rt; desk.make(Out::Tex, b"a.tex"), MadeOut::Done);
+    assert_eq!(rt; desk.put(Out::Tex, b"xyz"), Taken::Bytes(3));
+    assert_eq!(rt; desk.put(Out::Term, b"!"), Taken::Bytes(1));
     Ok(())
 }
 
