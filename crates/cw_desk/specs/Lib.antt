@@ -10,6 +10,7 @@ pub mod MeaningLaws
 pub mod Mem
 pub mod Open
 pub mod Put
+pub mod Quiet
 pub mod Read
 pub mod Results
 pub mod Told

@@ -1,5 +1,7 @@
 //! What no clause says of desks: that calls succeed, and what the system answers.
-use crate::{Batch, CountDesk, Desk, Fetched, FileDesk, Flushed, MadeOut, MemDesk, Opened, Taken};
+use crate::{
+    Batch, CountDesk, Desk, Fetched, FileDesk, Flushed, MadeOut, MemDesk, Opened, QuietDesk, Taken,
+};
 use cw_base::{Event, Out};
 use std::alloc::Global;
 use std::test::Fail;
@@ -41,6 +43,25 @@ fn a_desk_that_keeps_nothing(rt: HostRuntime) -> Result<(), Fail> {
     assert_eq!(rt; desk.make(Out::Tex, b"a.tex"), MadeOut::Done);
     assert_eq!(rt; desk.put(Out::Tex, b"xyz"), Taken::Bytes(3));
     assert_eq!(rt; desk.put(Out::Term, b"!"), Taken::Bytes(1));
+    Ok(())
+}
+
+#[test]
+fn a_desk_on_which_nothing_fails(rt: HostRuntime) -> Result<(), Fail> {
+    let mut desk = QuietDesk::new_in(rt.alloc());
+    desk.add_file(b"a", b"bytes")?;
+    desk.limit(2)?;
+    assert_eq!(rt; desk.open(b"b"), Opened::Missing);
+    let Opened::File(id) = desk.open(b"a") else {
+        return Err(Fail::from("it has no file"));
+    };
+    let mut buffer = [0u8; 8];
+    assert_eq!(rt; desk.read(id, &mut buffer), Fetched::Got(2));
+    assert_eq!(rt; &buffer[..2], b"by".as_slice());
+    assert_eq!(rt; desk.make(Out::Tex, b"a.tex"), MadeOut::Done);
+    assert_eq!(rt; desk.put(Out::Tex, b"xyz"), Taken::Bytes(2));
+    assert_eq!(rt; desk.calls(), 5);
+    assert_eq!(rt; desk.journal().len(), 3);
     Ok(())
 }
 
