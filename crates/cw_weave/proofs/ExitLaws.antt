@@ -5,7 +5,7 @@ use Rattle.cw_base.specs.declared.exit.Exit.{Exit}
 use Rattle.cw_base.specs.declared.exit.Exit.TheVariants.{Fault}
 use Rattle.cw_input.specs.declared.words.CommandLine.{CommandLine}
 use Rattle.cw_phase1.specs.declared.book.Book.{Book}
-use Rattle.cw_weave.specs.Closing.{exit_by}
+use Rattle.cw_run.specs.Closing.{exit_by}
 use Rattle.cw_weave.specs.Woven.{weave_book}
 
 exit_by-real : (faulty : Bool) → exit_by faulty ≢ Fault

@@ -12,7 +12,7 @@ use Rattle.cw_table.specs.Normal.{normal, log, count}
 use Rattle.cw_table.specs.NormalWalk.{positions}
 use Rattle.cw_table.specs.Productions.{productions}
 use Rattle.cw_table.specs.WalkCounts.{looks}
-use Rattle.cw_weave.specs.Saying.{says}
+use Rattle.cw_run.specs.Saying.{says}
 use Rattle.cw_weave.specs.Woven.{events, woven}
 use Rattle.cw_weave.proofs.Rows.{all_say, foo, foo_w, lines}
 

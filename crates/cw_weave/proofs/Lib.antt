@@ -1,6 +1,3 @@
-pub mod EmitsLaws
-pub mod NotesLaws
-pub mod Said
 pub mod SectionLaws
 pub mod PressLaws
 pub mod WrittenLaws

@@ -13,7 +13,7 @@ use Rattle.cw_texpart.specs.Done.{Done}
 use Rattle.cw_texpart.specs.Texts.{lasting}
 use Rattle.cw_texpart.specs.Weaving.{Press}
 use Rattle.cw_texpart.specs.declared.counts.Counts.{Counts}
-use Rattle.cw_weave.specs.Files.{OutFile, broken_lines}
+use Rattle.cw_run.specs.Files.{OutFile, broken_lines}
 use Rattle.cw_weave.specs.Looks.{book_looks, list_looks}
 use Rattle.cw_weave.specs.Pressing.{Presses, flags_in, left_in, marks_in, tex_in}
 use Rattle.cw_weave.specs.TexFile.{left_by, tex_file}

@@ -1,10 +1,3 @@
-pub mod Saying
-pub mod Terminal
-pub mod Messages
-pub mod Emits
-pub mod Notes
-pub mod Closing
-pub mod Files
 pub mod Statistics
 pub mod TexFile
 pub mod Woven

@@ -26,15 +26,17 @@ use Rattle.cw_phase1.specs.declared.book.Book.{Book}
 use Rattle.cw_secnames.specs.Kept.{SecName}
 use Rattle.cw_texpart.specs.Done.{Done}
 use Rattle.cw_texpart.specs.Texts.{setting}
-use Rattle.cw_weave.specs.Closing.{closing_by, exit_by, has_error, has_note}
-use Rattle.cw_weave.specs.Emits.{Run}
-use Rattle.cw_weave.specs.Files.{Broken, OutFile, broken_events, broken_in, broken_notes, file_events}
-use Rattle.cw_weave.specs.Notes.{note_events}
-use Rattle.cw_weave.specs.Saying.{says, says_if}
-use Rattle.cw_weave.specs.Statistics.{statistics_if, totals_of}
-use Rattle.cw_weave.specs.Terminal.{banner, usage_text, not_built_text, no_web_text, no_change_text, too_long_text, fatal_text, output_text, index_text, done_text}
+use Rattle.cw_run.specs.Closing.{closing_by, exit_by, has_error, has_note}
+use Rattle.cw_run.specs.Emits.{Run}
+use Rattle.cw_run.specs.Files.{Broken, OutFile, broken_events, broken_in, broken_notes, file_events}
+use Rattle.cw_run.specs.Notes.{note_events}
+use Rattle.cw_run.specs.Saying.{says, says_if}
+use Rattle.cw_run.specs.Statistics.{statistics_if}
+use Rattle.cw_run.specs.Stops.{stopped}
+use Rattle.cw_weave.specs.Statistics.{totals_of}
+use Rattle.cw_run.specs.Terminal.{banner, usage_text, not_built_text, no_web_text, no_change_text, too_long_text, fatal_text, output_text, index_text, done_text}
 use Rattle.cw_weave.specs.TexFile.{left_by, tex_file}
-use Rattle.cw_weave.specs.declared.statistics.Totals.{Totals}
+use Rattle.cw_run.specs.declared.statistics.Totals.{Totals}
 
 -- a run with the flags that decide on the banner
 pub record Woven : Type 0 where
@@ -47,10 +49,6 @@ events w = banner w.flags ++ w.run.rest
 -- the whole run, its banner included
 abbrev pub whole_run : Woven → Run
 whole_run w = record { rest = events w; exit = w.run.exit }
-
--- a run that ends before anything is written
-abbrev pub stopped : List ℕ → Run
-stopped message = record { rest = says message ++ says fatal_text; exit = Errors }
 
 -- ## The files
 

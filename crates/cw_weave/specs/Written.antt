@@ -3,11 +3,10 @@ use Rattle.std.specs.Prelude.{◌≡◌, ℕ, List, [], ◌∷◌, Option, Some,
 use Rattle.cw_base.specs.declared.event.Event.{Event}
 use Rattle.cw_base.specs.declared.flags.Flags.{Flags}
 use Rattle.cw_input.specs.declared.words.OutputNames.{OutputNames}
-use Rattle.cw_lines.specs.Line.{LineState}
 use Rattle.cw_phase1.specs.declared.book.Book.{Book}
 use Rattle.cw_reduce.specs.Counting.{productions_in, scraps_in}
 use Rattle.cw_texpart.specs.Done.{Done}
-use Rattle.cw_weave.specs.Files.{Broken, OutFile, broken_in, broken_lines, lines_in}
+use Rattle.cw_run.specs.Files.{Broken, OutFile, broken_at, broken_in, broken_lines, lines_in}
 use Rattle.cw_weave.specs.Pressing.{flags_in, left_in, tex_in, text_in}
 use Rattle.cw_weave.specs.Statistics.{totals_of}
 use Rattle.cw_weave.specs.Woven.{files_events, index_files, tex_out}
@@ -24,9 +23,6 @@ pub record IsTexFile (flags : Flags) (d : Done ℕ) (t : TexFile) : Type 0 where
   pub productions : t.counts.productions ≡ productions_in flags d.ended
 
 -- the lines that had no good place to be cut, file by file, in the order of writing
-abbrev pub broken_at : List ℕ → LineState → Broken
-broken_at name lines = record { name = name; numbers = lines.line.broken }
-
 abbrev pub index_broken : OutputNames → Option IndexFiles → List Broken
 index_broken names None = []
 index_broken names (Some index) = broken_at names.idx index.idx ∷ broken_at names.scn index.scn ∷ []

@@ -2,22 +2,21 @@
 ghost use Rattle.std.specs.Prelude.{◌≡◌, ◌+◌, ◌≤◌, IfOk, map};
 ghost use Rattle.cw_reduce.specs.Counting.{limit_in};
 ghost use Rattle.cw_texpart.specs.Texts.{lasting};
-ghost use Rattle.cw_weave.specs.Emits.{Emits};
-ghost use Rattle.cw_weave.specs.Files.{broken_in, broken_lines, file_events};
+ghost use Rattle.cw_run.specs.Emits.{Emits};
+ghost use Rattle.cw_run.specs.Files.{broken_in, broken_lines, file_events};
 ghost use Rattle.cw_weave.specs.Looks.{list_looks};
 ghost use Rattle.cw_weave.specs.Pressing.{IsPrintable, flags_in, text_in};
 ghost use Rattle.cw_weave.specs.Woven.{index_events, index_of, index_out, list_out, name_list};
 ghost use Rattle.cw_weave.specs.Written.{index_broken, index_in};
 
-use crate::files::{IndexFiles, make};
-use crate::message::Message;
+use crate::files::IndexFiles;
 use crate::source::Source;
-use crate::terminal::say_if;
 use cw_base::{Ledger, Out, Steps};
 use cw_desk::Desk;
 use cw_index::{write_index, write_names};
 use cw_lines::{LineOut, PutError};
 use cw_phase1::Book;
+use cw_run::{Message, make, say_if};
 
 // Makes the index and writes it.
 fn copy_index<D: Desk>(source: Source, book: &Book, desk: &mut D) -> Result<LineOut, PutError>

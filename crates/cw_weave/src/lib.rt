@@ -1,7 +1,6 @@
 //! The top call: a web is read, woven and written.
 #![tactic(auto)]
 
-mod closing;
 mod ending;
 #[cfg(test)]
 mod failing_tests;
@@ -9,16 +8,11 @@ mod files;
 mod index_files;
 #[cfg(test)]
 mod merging_tests;
-mod message;
-mod notes;
 #[cfg(test)]
 mod scanning_tests;
 #[cfg(test)]
 mod section_tests;
 mod source;
-mod statistics;
-mod stops;
-mod terminal;
 #[cfg(test)]
 mod tests;
 mod tex_file;

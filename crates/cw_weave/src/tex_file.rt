@@ -1,27 +1,26 @@
 //! The TeX file, which is written as it is made, section by section.
 ghost use Rattle.std.specs.Prelude.{◌≡◌, ◌+◌, ◌-◌, ◌<◌, ◌≤◌, Some, IfOk, OnOk, length, slice_get};
+ghost use Rattle.cw_lines.specs.Line.{as_count};
 ghost use Rattle.cw_lines.specs.Writes.{CanWrite};
 ghost use Rattle.cw_phase1.specs.declared.sections.Section.{Section};
 ghost use Rattle.cw_reduce.specs.Counting.{limit_in};
 ghost use Rattle.cw_texpart.specs.Texts.{lasting};
 ghost use Rattle.cw_texpart.specs.Weaving.{underlined};
-ghost use Rattle.cw_weave.specs.Emits.{Emits};
+ghost use Rattle.cw_run.specs.Emits.{Emits};
 ghost use Rattle.cw_weave.specs.Pressing.{IsPrintable, Presses, flags_in, left_in, marks_in};
 ghost use Rattle.cw_weave.specs.Pressing.{section_in, tex_in, text_in};
 ghost use Rattle.cw_weave.specs.TexFile.{all_sections};
 ghost use Rattle.cw_weave.specs.Woven.{output_events};
 ghost use Rattle.cw_weave.specs.Written.{IsTexFile, tex_of};
 
-use crate::files::make;
-use crate::message::Message;
 use crate::source::Source;
-use crate::terminal::say_if;
 use cw_base::{Ledger, Out, Steps};
 use cw_desk::Desk;
 use cw_index::write_closing;
 use cw_lines::{LineOut, PutError};
 use cw_part::weave_section;
 use cw_phase1::Book;
+use cw_run::{Message, Totals, make, say_if};
 use cw_texpart::{Counts, copy_limbo, copy_tex};
 
 /// The TeX file that was written, and the scraps and productions of its C texts.
@@ -29,6 +28,21 @@ use cw_texpart::{Counts, copy_limbo, copy_tex};
 pub(crate) struct TexFile {
     pub(crate) lines: LineOut,
     pub(crate) counts: Counts,
+}
+
+/// What the statistics tell: the sections of a web, what the C texts of its TeX file count, and the lines of that file.
+pub(crate) fn totals_of(sections: u32, counts: Counts, lines: u64) -> Totals
+    ensures sections { result.sections ≡ sections }
+    ensures scraps { result.scraps ≡ as_count counts.scraps }
+    ensures productions { result.productions ≡ as_count counts.productions }
+    ensures lines { result.lines ≡ lines }
+{
+    Totals {
+        sections: u64::from(sections),
+        scraps: counts.scraps,
+        productions: counts.productions,
+        lines,
+    }
 }
 
 // Prints the section of this number.

@@ -8,25 +8,19 @@ ghost use Rattle.cw_lines.specs.Writes.{Adds};
 ghost use Rattle.cw_phase1.specs.Book.{book};
 ghost use Rattle.cw_reduce.specs.NameParts.{AreNamesOf};
 ghost use Rattle.cw_texpart.specs.Texts.{lasting};
-ghost use Rattle.cw_weave.specs.Emits.{Emits, Faults, Runs};
+ghost use Rattle.cw_run.specs.Emits.{Emits, Faults, Runs};
 ghost use Rattle.cw_weave.specs.Looks.{book_looks, command_looks, looks_of, web_looks};
-ghost use Rattle.cw_weave.specs.Notes.{note_events};
+ghost use Rattle.cw_run.specs.Notes.{note_events};
 ghost use Rattle.cw_weave.specs.Pressing.{IsPrintable, IsWholeSection, WholeNames, flags_in, text_in};
 ghost use Rattle.cw_weave.specs.WebWord.{HasWebWord};
-ghost use Rattle.cw_weave.specs.Woven.{Outcome, handed, weave_book, weave_command_of, weave_web, whole_run, woven};
+ghost use Rattle.cw_weave.specs.Woven.{Outcome, change_text, handed, weave_book, weave_command_of, weave_web, whole_run, woven};
 ghost use Rattle.cw_weave.specs.Written.{AreWritten, events_of};
 
-use crate::closing::Judgement;
 use crate::ending::end_run;
 use crate::files::Written;
 use crate::index_files::write_index_files;
-use crate::message::Message;
-use crate::notes::{Noted, print_notes};
 use crate::source::Source;
-use crate::statistics::Totals;
-use crate::stops::{stop, stop_without_change, stop_without_web};
-use crate::terminal::{say, say_if};
-use crate::tex_file::write_tex;
+use crate::tex_file::{totals_of, write_tex};
 use cw_base::{Exit, Ledger, Memory, Steps, Web, Words};
 use cw_desk::Desk;
 use cw_index::whole_names_law;
@@ -34,6 +28,10 @@ use cw_input::{Command, CommandLine, LoadError, load, read_command};
 use cw_lines::PutError;
 use cw_part::whole_rest_law;
 use cw_phase1::{Book, phase_one, whole_law};
+use cw_run::{
+    Judgement, Message, Noted, print_notes, say, say_if, stop, stop_without_change,
+    stop_without_web,
+};
 use cw_texpart::whole_pieces_law;
 use std::alloc::Global;
 
@@ -82,7 +80,7 @@ fn write_files<D: Desk, L: Ledger>(
     ensures bound { steps.new ≤ steps.old + book_looks (text_in source.entry) (flags_in source.entry) book.old }
 {
     let tex = write_tex(source, book, desk, steps)?;
-    let totals = Totals::of(book.section_count(), tex.counts, tex.lines.lines());
+    let totals = totals_of(book.section_count(), tex.counts, tex.lines.lines());
     let index = write_index_files(source, book, desk, steps)?;
     Ok(Written {
         tex: tex.lines,
@@ -136,6 +134,16 @@ fn change_word(line: &CommandLine) -> Option<&[u8]>
     }
 }
 
+// The change word of a command line, empty where there is none.
+fn change_text(line: &CommandLine) -> &[u8]
+    ensures { result.now ≡ change_text line.now.change }
+{
+    match &line.change {
+        Some(word) => word.as_slice(),
+        None => b"",
+    }
+}
+
 // Reads a web and weaves it.
 fn weave_line<D: Desk, L: Ledger>(
     alloc: Global,
@@ -162,8 +170,8 @@ fn weave_line<D: Desk, L: Ledger>(
             desk,
             steps,
         ),
-        Err(LoadError::NoWeb) => stop_without_web(alloc, desk, line),
-        Err(LoadError::NoChange) => stop_without_change(alloc, desk, line),
+        Err(LoadError::NoWeb) => stop_without_web(alloc, desk, line.web.as_slice()),
+        Err(LoadError::NoChange) => stop_without_change(alloc, desk, change_text(line)),
         Err(LoadError::TooLong) => stop(desk, Message::TooLong),
         Err(LoadError::Fault) => Err(PutError::Fault),
         Err(LoadError::Memory) => Err(PutError::Memory),

@@ -1,7 +1,7 @@
 -- The notes on broken lines and the statistics stand before the closing line.
 use Rattle.std.proofs.Common.{Bool, ◌||◌, ap, ◌∙◌}
-use Rattle.cw_weave.specs.Closing.{closing_run}
-use Rattle.cw_weave.proofs.EmitsLaws.{adds-emits, runs-known, runs-stop, runs-then}
+use Rattle.cw_run.specs.Closing.{closing_run}
+use Rattle.cw_run.specs.EmitsLaws.{adds-emits, runs-known, runs-stop, runs-then}
 use Rattle.cw_weave.proofs.ending.end_run.Goals as goal
 
 pub returns-in_err-print_all_broken : goal.returns-in_err-print_all_broken

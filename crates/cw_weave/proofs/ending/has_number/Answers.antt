@@ -1,6 +1,6 @@
 -- By whether there are numbers of the first file.
 use Rattle.std.proofs.Common.{sym, ap, ◌∙◌, not}
-use Rattle.cw_weave.proofs.NotesLaws.{none-broken, some-broken}
+use Rattle.cw_run.specs.NotesLaws.{none-broken, some-broken}
 use Rattle.cw_weave.proofs.ending.has_number.Goals as goal
 
 pub returns-then-is_empty : goal.returns-then-is_empty

@@ -4,7 +4,7 @@ use Rattle.cw_base.specs.declared.event.Out.{Out}
 use Rattle.cw_desk.specs.Meaning.{is_open}
 use Rattle.cw_lines.specs.Line.{Line}
 use Rattle.cw_weave.specs.Woven.{index_of, index_out}
-use Rattle.cw_weave.proofs.EmitsLaws.{emits-fail, emits-file, emits-stop, emits-value}
+use Rattle.cw_run.specs.EmitsLaws.{emits-fail, emits-file, emits-stop, emits-value}
 use Rattle.cw_weave.proofs.WrittenLaws.{broken-new}
 use Rattle.cw_weave.proofs.index_files.copy_index.Goals as goal
 

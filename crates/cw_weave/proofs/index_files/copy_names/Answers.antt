@@ -5,7 +5,7 @@ use Rattle.cw_desk.specs.Meaning.{is_open}
 use Rattle.cw_lines.specs.Line.{Line}
 use Rattle.cw_weave.specs.Pressing.{flags_in, text_in}
 use Rattle.cw_weave.specs.Woven.{list_out, name_list}
-use Rattle.cw_weave.proofs.EmitsLaws.{emits-fail, emits-file, emits-stop, emits-value}
+use Rattle.cw_run.specs.EmitsLaws.{emits-fail, emits-file, emits-stop, emits-value}
 use Rattle.cw_weave.proofs.WrittenLaws.{broken-new}
 use Rattle.cw_weave.proofs.index_files.copy_names.Goals as goal
 

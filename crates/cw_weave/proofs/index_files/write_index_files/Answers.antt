@@ -3,7 +3,7 @@ use Rattle.std.proofs.Common.{Bool, ap, sym}
 use Rattle.std.proofs.lemmas.List.{append-nil}
 use Rattle.cw_weave.specs.Pressing.{flags_in, text_in}
 use Rattle.cw_weave.specs.Woven.{index_events, index_files}
-use Rattle.cw_weave.proofs.EmitsLaws.{adds-emits, emits-events, emits-stop, emits-then, emits-value}
+use Rattle.cw_run.specs.EmitsLaws.{adds-emits, emits-events, emits-stop, emits-then, emits-value}
 use Rattle.cw_weave.proofs.index_files.write_index_files.Goals as goal
 
 pub returns-in_err-idx-clause-emits : goal.returns-in_err-idx-clause-emits

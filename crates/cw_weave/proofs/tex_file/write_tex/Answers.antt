@@ -4,7 +4,7 @@ use Rattle.cw_base.specs.declared.event.Out.{Out}
 use Rattle.cw_desk.specs.Meaning.{is_open}
 use Rattle.cw_lines.specs.Line.{Line}
 use Rattle.cw_weave.specs.Written.{tex_of}
-use Rattle.cw_weave.proofs.EmitsLaws.{adds-emits, emits-fail, emits-file, emits-stop, emits-then, emits-value}
+use Rattle.cw_run.specs.EmitsLaws.{adds-emits, emits-fail, emits-file, emits-stop, emits-then, emits-value}
 use Rattle.cw_weave.proofs.WrittenLaws.{tex-counted, tex-left}
 use Rattle.cw_weave.proofs.tex_file.write_tex.Goals as goal
 

@@ -1,6 +1,6 @@
 -- The banner comes first.
 use Rattle.std.proofs.Common.{◌∙◌}
-use Rattle.cw_weave.proofs.EmitsLaws.{adds-emits, emits-faults, faults-then, runs-then}
+use Rattle.cw_run.specs.EmitsLaws.{adds-emits, emits-faults, faults-then, runs-then}
 use Rattle.cw_weave.proofs.weave.run.Goals as goal
 
 pub returns-in_ok-say_if-in-Usage-clause-runs : goal.returns-in_ok-say_if-in-Usage-clause-runs

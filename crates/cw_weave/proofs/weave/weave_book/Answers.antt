@@ -1,9 +1,9 @@
 -- The notes, the files, and the end of the run.
 use Rattle.std.proofs.Common.{◌≡◌, List, ◌++◌, ap, ◌∙◌}
 use Rattle.cw_base.specs.declared.notes.Note.{Note}
-use Rattle.cw_weave.specs.Closing.{has_error, has_note}
+use Rattle.cw_run.specs.Closing.{has_error, has_note}
 use Rattle.cw_weave.specs.Pressing.{flags_in}
-use Rattle.cw_weave.proofs.EmitsLaws.{adds-emits, runs-known, runs-stop, runs-then}
+use Rattle.cw_run.specs.EmitsLaws.{adds-emits, runs-known, runs-stop, runs-then}
 use Rattle.cw_weave.proofs.RunLaws.{end-known}
 use Rattle.cw_weave.proofs.weave.weave_book.Goals as goal
 

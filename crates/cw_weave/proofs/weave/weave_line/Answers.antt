@@ -3,7 +3,7 @@ use Rattle.std.proofs.Common.{◌≡◌, ℕ, List, Option, sym, ap, ◌∙◌}
 use Rattle.std.specs.FinMap.{get}
 use Rattle.cw_base.specs.declared.exit.Exit.TheVariants.{Errors}
 use Rattle.cw_input.specs.Merged.{NoWeb, NoChange, merged}
-use Rattle.cw_weave.proofs.EmitsLaws.{emits-faults, faults-then, runs-after}
+use Rattle.cw_run.specs.EmitsLaws.{emits-faults, faults-then, runs-after}
 use Rattle.cw_weave.proofs.ExitLaws.{ok-real}
 use Rattle.cw_weave.proofs.weave.weave_line.Goals as goal
 

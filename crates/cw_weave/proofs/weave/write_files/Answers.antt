@@ -3,11 +3,11 @@ use Rattle.std.proofs.Common.{◌∷◌, length, map, ap, sym, subst, ◌∙◌}
 use Rattle.cw_lines.specs.Line.{as_count}
 use Rattle.cw_phase1.specs.declared.book.Book.{Book}
 use Rattle.cw_texpart.specs.Texts.{lasting}
-use Rattle.cw_weave.specs.Files.{broken_in}
+use Rattle.cw_run.specs.Files.{broken_in}
 use Rattle.cw_weave.specs.Pressing.{IsPrintable, flags_in, text_in}
 use Rattle.cw_weave.specs.Woven.{index_events}
 use Rattle.cw_weave.specs.Written.{index_in}
-use Rattle.cw_weave.proofs.EmitsLaws.{emits-events, emits-fail, emits-stop, emits-then, emits-value}
+use Rattle.cw_run.specs.EmitsLaws.{emits-events, emits-fail, emits-stop, emits-then, emits-value}
 use Rattle.cw_weave.proofs.WrittenLaws.{all-looks, tex-looks}
 use Rattle.cw_weave.proofs.weave.write_files.Goals as goal
 
@@ -50,9 +50,9 @@ returns-clause-written g c =
     record {
       broken = (λ i. record { name = c.args.source.line.now.outputs.tex; numbers = file.broken i } ∷ index i);
       totals = (λ i. record {
-        sections = (c.of-totals.ensures.sections ∙ c.section_count.ensures ∙ ap (λ (b : Book). length b.outline.sections) left) i;
-        scraps = (c.of-totals.ensures.scraps ∙ ap as_count file.scraps) i;
-        productions = (c.of-totals.ensures.productions ∙ ap as_count file.productions) i;
-        lines = (c.of-totals.ensures.lines ∙ c.lines.ensures.count ∙ file.lines) i;
+        sections = (c.totals_of-totals.ensures.sections ∙ c.section_count.ensures ∙ ap (λ (b : Book). length b.outline.sections) left) i;
+        scraps = (c.totals_of-totals.ensures.scraps ∙ ap as_count file.scraps) i;
+        productions = (c.totals_of-totals.ensures.productions ∙ ap as_count file.productions) i;
+        lines = (c.totals_of-totals.ensures.lines ∙ c.lines.ensures.count ∙ file.lines) i;
       });
     }

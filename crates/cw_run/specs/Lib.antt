@@ -1,0 +1,11 @@
+pub mod Saying
+pub mod Terminal
+pub mod Messages
+pub mod Emits
+pub mod EmitsLaws
+pub mod Stops
+pub mod Notes
+pub mod Closing
+pub mod Files
+pub mod NotesLaws
+pub mod Statistics

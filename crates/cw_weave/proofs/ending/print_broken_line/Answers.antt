@@ -1,8 +1,0 @@
--- Want of memory comes before anything is printed.
-use Rattle.cw_lines.specs.WritesLaws.{adds-events}
-use Rattle.std.proofs.Common.{ap}
-use Rattle.cw_weave.specs.Saying.{says}
-use Rattle.cw_weave.proofs.ending.print_broken_line.Goals as goal
-
-pub returns : goal.returns
-returns g c = adds-events (ap says c.in_ok-text.ensures) c.say_text.ensures
