@@ -1,4 +1,6 @@
-ghost use Rattle.std.specs.Prelude.{◌<◌, IfOk, length};
+ghost use Rattle.std.specs.Prelude.{◌<◌, IfOk, IsTrue, length};
+ghost use Rattle.cw_base.specs.declared.event.Out.TheVariants.{Tex};
+ghost use Rattle.cw_desk.specs.Meaning.{is_open};
 
 use crate::{
     Judgement, Message, Noted, Totals, close, make, print_broken, print_notes, say, say_if,
@@ -39,6 +41,15 @@ fn web_of(alloc: Global, name: &[u8]) -> Result<Web, Memory>
     let mut web = Web::new_in(alloc);
     web.add_file(name)?;
     Ok(web)
+}
+
+/// A desk on which the TeX file is made.
+fn desk_with_tex(alloc: Global) -> Result<MemDesk, PutError>
+    ensures { IfOk result (λ desk. IsTrue (is_open desk.outputs Tex)) }
+{
+    let mut desk = MemDesk::new_in(alloc);
+    make(&mut desk, Out::Tex, b"foo.tex")?;
+    Ok(desk)
 }
 
 fn says(text: Result<(), PutError>) -> bool {
@@ -118,8 +129,7 @@ fn notes(rt: HostRuntime) -> Result<(), Fail> {
 #[test]
 fn broken_lines(rt: HostRuntime) -> Result<(), Fail> {
     let alloc = rt.alloc();
-    let mut desk = MemDesk::new_in(alloc);
-    assert!(rt; says(make(&mut desk, Out::Tex, b"foo.tex")));
+    let mut desk = desk_with_tex(alloc)?;
     let mut lines = LineOut::new_in(alloc, Out::Tex);
     let long = vec![in alloc; b'a'; 100]?;
     assert!(rt; says(lines.put_all(long.as_slice(), &mut desk)));

@@ -3,7 +3,9 @@ use Rattle.std.proofs.Common.{◌≡◌, ℕ, List, Option, sym, ap, ◌∙◌}
 use Rattle.std.specs.FinMap.{get}
 use Rattle.cw_base.specs.declared.exit.Exit.TheVariants.{Errors}
 use Rattle.cw_input.specs.Merged.{NoWeb, NoChange, merged}
-use Rattle.cw_run.specs.EmitsLaws.{emits-faults, faults-then, runs-after}
+use Rattle.cw_run.specs.EmitsLaws.{emits-faults, faults-then, runs-after, runs-known}
+use Rattle.cw_run.specs.Stops.{stopped}
+use Rattle.cw_run.specs.Terminal.{no_change_text, no_web_text}
 use Rattle.cw_weave.proofs.ExitLaws.{ok-real}
 use Rattle.cw_weave.proofs.weave.weave_line.Goals as goal
 
@@ -13,7 +15,7 @@ returns-in-Err-NoWeb-clause-runs g c = λ files is.
     ap (λ (word : List ℕ). merged (get files) word c.args.line.now.change) (sym c.as_slice.ensures) ∙
     ap (λ (change : Option (List ℕ)). merged (get files) c.as_slice.result.now change) (sym c.change_word.ensures)
     ∙ (rw c.in-Err-NoWeb.field-0-is at (c.in-Err-NoWeb.ensures.loads files is)) in
-    runs-after {b = g.D.Desk.told c.load.new.desk} c.in-Err-NoWeb.ensures.same (rw missing c.stop_without_web.ensures)
+    runs-after {b = g.D.Desk.told c.load.new.desk} c.in-Err-NoWeb.ensures.same (rw missing (runs-known (ap (λ (word : List ℕ). stopped (no_web_text word)) c.as_slice-in-Err-NoWeb.ensures) c.stop_without_web.ensures))
 
 pub returns-in-Err-NoWeb-clause-real : goal.returns-in-Err-NoWeb-clause-real
 returns-in-Err-NoWeb-clause-real g c = ok-real c.stop_without_web.result Errors (λ e. cc) c.stop_without_web.ensures.exit
@@ -24,7 +26,7 @@ returns-in-Err-NoChange-clause-runs g c = λ files is.
     ap (λ (word : List ℕ). merged (get files) word c.args.line.now.change) (sym c.as_slice.ensures) ∙
     ap (λ (change : Option (List ℕ)). merged (get files) c.as_slice.result.now change) (sym c.change_word.ensures)
     ∙ (rw c.in-Err-NoChange.field-0-is at (c.in-Err-NoChange.ensures.loads files is)) in
-    runs-after {b = g.D.Desk.told c.load.new.desk} c.in-Err-NoChange.ensures.same (rw missing c.stop_without_change.ensures)
+    runs-after {b = g.D.Desk.told c.load.new.desk} c.in-Err-NoChange.ensures.same (rw missing (runs-known (ap (λ (word : List ℕ). stopped (no_change_text word)) c.change_text.ensures) c.stop_without_change.ensures))
 
 pub returns-in-Err-NoChange-clause-real : goal.returns-in-Err-NoChange-clause-real
 returns-in-Err-NoChange-clause-real g c = ok-real c.stop_without_change.result Errors (λ e. cc) c.stop_without_change.ensures.exit
