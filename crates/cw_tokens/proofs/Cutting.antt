@@ -133,3 +133,9 @@ cut-set start (x ∷ es) ts (suc i) p k u a h lt e =
     cons _ _ _ _ (take-set-le (x - start) ts k u big)
     (ap (cut x es) (ap (λ j. drop (x - start) (set ts j u)) split ∙ drop-set-add (x - start) ts (k - (x - start)) u)
     ∙ cut-set x es (drop (x - start) ts) i p (k - (x - start)) u a.1 (omega arith) lt rest)
+
+-- no list is longer than all of them
+pub cut-short : (start : ℕ) (es : List ℕ) (ts : List Token) (i : ℕ) → length (get_or (cut start es ts) i []) ≤ length ts
+cut-short start [] ts i = omega arith
+cut-short start (e ∷ es) ts zero = omega (arith, length-take (e - start) ts)
+cut-short start (e ∷ es) ts (suc i) = omega (arith, cut-short e es (drop (e - start) ts) i, length-drop (e - start) ts)

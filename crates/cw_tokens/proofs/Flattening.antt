@@ -26,7 +26,7 @@ flat-end ls l p h = ap (λ us. flat (tree_in (trees_from [] ls) us)) (drop_all p
 flat-start : (ls : List (List Token)) (l : ℕ) → IsTied ls → l < length ls → flat_from ls l 0 ≡ flat (unfolded ls l)
 flat-start ls l tied h = ap flat (sym (unfold-is ls l tied h))
 
-items-push : (items : List FlatItem) (item : FlatItem) → items_are (items ++ item ∷ []) ≡ items_are items ++ item_is item ∷ []
+pub items-push : (items : List FlatItem) (item : FlatItem) → items_are (items ++ item ∷ []) ≡ items_are items ++ item_is item ∷ []
 items-push items item = map_push item_is items item
 
 append-cons : (xs ys : List Item) (x : Item) → (xs ++ x ∷ []) ++ ys ≡ xs ++ x ∷ ys
@@ -51,13 +51,12 @@ inner-ref (Below y) x e = absurd e
 inner-ref (InnerBelow y) x e = ap InnerBelow e
 
 module _ (ls : List (List Token)) (root l p : ℕ) (all : List Item) (t : Token) (at : slice_get (get_or ls l []) p ≡ Some t) where
-  pub flattens-leaf : (items : List FlatItem) (item : FlatItem) → Flattens ls root l p (items_are items) all → IsPart (shape t) (leaf_part item) → Flattens ls root l (p + 1) (items_are (items ++ item ∷ [])) all
-  flattens-leaf items item f is = record {
+  pub flattens-leaf : (given : List Item) (item : FlatItem) → Flattens ls root l p given all → IsPart (shape t) (leaf_part item) → Flattens ls root l (p + 1) (given ++ item_is item ∷ []) all
+  flattens-leaf given item f is = record {
     way = f.way;
-    is = ap (λ xs. xs ++ (flat_from ls l (p + 1) ++ to_come ls root l f.way)) (items-push items item)
-        ∙ (append-cons (items_are items) (flat_from ls l (p + 1) ++ to_come ls root l f.way) (item_is item)
-        ∙ (ap (λ xs. items_are items ++ (xs ++ to_come ls root l f.way)) (sym (flat-at ls l p t at ∙ first (shape t) is))
-        ∙ f.is));
+    is = append-cons given (flat_from ls l (p + 1) ++ to_come ls root l f.way) (item_is item)
+        ∙ (ap (λ xs. given ++ (xs ++ to_come ls root l f.way)) (sym (flat-at ls l p t at ∙ first (shape t) is))
+        ∙ f.is);
     inside = f.inside;
     within = let lt : p < length (get_or ls l []) = slice_get_within (get_or ls l []) p t at in omega arith;
   }
@@ -86,23 +85,22 @@ module _ (ls : List (List Token)) (root l p : ℕ) (all : List Item) (t : Token)
         within = omega arith;
       }
 
-  pub flattens-inner : (items : List FlatItem) (x : ℕ) → IsTied ls → Flattens ls root l p (items_are items) all → IsPart (shape t) (inner_part x) → Flattens ls root x 0 (items_are (items ++ Open ∷ [])) all
-  flattens-inner items x tied f is =
+  pub flattens-inner : (given : List Item) (x : ℕ) → IsTied ls → Flattens ls root l p given all → IsPart (shape t) (inner_part x) → Flattens ls root x 0 (given ++ open_item ∷ []) all
+  flattens-inner given x tied f is =
       let s : shape t ≡ InnerBelow x = inner-ref (shape t) x is in
       let r : refers ls l p ≡ Some x = ap token_ref at ∙ ap ref_of s in
       let low : x < l = tied.earlier l p x r in
       let in_store : l < length ls = f.inside in
       record {
         way = next l p x r f.way;
-        is = ap (λ xs. xs ++ (flat_from ls x 0 ++ (closing_at (slice_get (get_or ls l []) p) ++ (flat_from ls l (p + 1) ++ to_come ls root l f.way)))) (items-push items Open)
-            ∙ (append-cons (items_are items) (flat_from ls x 0 ++ (closing_at (slice_get (get_or ls l []) p) ++ (flat_from ls l (p + 1) ++ to_come ls root l f.way))) open_item
-            ∙ (ap (λ o. items_are items ++ open_item ∷ (flat_from ls x 0 ++ (closing_at o ++ (flat_from ls l (p + 1) ++ to_come ls root l f.way)))) at
-            ∙ (ap (λ w. items_are items ++ open_item ∷ (flat_from ls x 0 ++ (closing w ++ (flat_from ls l (p + 1) ++ to_come ls root l f.way)))) s
-            ∙ (ap (λ xs. items_are items ++ open_item ∷ (xs ++ (close_item ∷ (flat_from ls l (p + 1) ++ to_come ls root l f.way)))) (flat-start ls x tied (omega arith))
-            ∙ (ap (λ xs. items_are items ++ open_item ∷ xs) (sym (append_assoc (flat (unfolded ls x)) (close_item ∷ flat_from ls l (p + 1)) (to_come ls root l f.way)))
-            ∙ (ap (λ w. items_are items ++ (flat (item_of (trees_from [] ls) w (tree_in (trees_from [] ls) (drop (p + 1) (get_or ls l [])))) ++ to_come ls root l f.way)) (sym s)
-            ∙ (ap (λ xs. items_are items ++ (xs ++ to_come ls root l f.way)) (sym (flat-at ls l p t at))
-            ∙ f.is)))))));
+        is = append-cons given (flat_from ls x 0 ++ (closing_at (slice_get (get_or ls l []) p) ++ (flat_from ls l (p + 1) ++ to_come ls root l f.way))) open_item
+            ∙ (ap (λ o. given ++ open_item ∷ (flat_from ls x 0 ++ (closing_at o ++ (flat_from ls l (p + 1) ++ to_come ls root l f.way)))) at
+            ∙ (ap (λ w. given ++ open_item ∷ (flat_from ls x 0 ++ (closing w ++ (flat_from ls l (p + 1) ++ to_come ls root l f.way)))) s
+            ∙ (ap (λ xs. given ++ open_item ∷ (xs ++ (close_item ∷ (flat_from ls l (p + 1) ++ to_come ls root l f.way)))) (flat-start ls x tied (omega arith))
+            ∙ (ap (λ xs. given ++ open_item ∷ xs) (sym (append_assoc (flat (unfolded ls x)) (close_item ∷ flat_from ls l (p + 1)) (to_come ls root l f.way)))
+            ∙ (ap (λ w. given ++ (flat (item_of (trees_from [] ls) w (tree_in (trees_from [] ls) (drop (p + 1) (get_or ls l [])))) ++ to_come ls root l f.way)) (sym s)
+            ∙ (ap (λ xs. given ++ (xs ++ to_come ls root l f.way)) (sym (flat-at ls l p t at))
+            ∙ f.is))))));
         inside = omega arith;
         within = omega arith;
       }

@@ -11,3 +11,5 @@ pub mod Places
 pub mod Rewriting
 pub mod Bare
 pub mod Trimming
+pub mod Standing
+pub mod TrimmedWalk

@@ -30,10 +30,10 @@ module _ (old items : List FlatItem) (i : ℕ) (d : FlatItem) (within : i < leng
   same-item : get_or items i d ≡ get_or old i d
   same-item = cc (parts)
 
-  rest-more : drop (i + 1) items ≡ drop (i + 1) old
+  pub rest-more : drop (i + 1) items ≡ drop (i + 1) old
   rest-more = cc (parts)
 
-  item-and-rest : items_are (drop i old) ≡ item_is (get_or items i d) ∷ items_are (drop (i + 1) old)
+  pub item-and-rest : items_are (drop i old) ≡ item_is (get_or items i d) ∷ items_are (drop (i + 1) old)
   item-and-rest = ap items_are (drop_more old i d within-old) ∙ ap (λ x. item_is x ∷ items_are (drop (i + 1) old)) (sym same-item)
 
   item-and-front : reverse (items_are (take (i + 1) old)) ≡ item_is (get_or items i d) ∷ reverse (items_are (take i old))
@@ -44,10 +44,10 @@ module _ (old items : List FlatItem) (i : ℕ) (d : FlatItem) (within : i < leng
       ∙ ap (λ x. item_is x ∷ reverse (items_are (take i old))) (sym same-item)
 
 -- an item that stays
-stored : (items : List FlatItem) (kept : ℕ) (item : FlatItem) → kept < length items → items_are (take (kept + 1) (set items kept item)) ≡ items_are (take kept items) ++ item_is item ∷ []
+pub stored : (items : List FlatItem) (kept : ℕ) (item : FlatItem) → kept < length items → items_are (take (kept + 1) (set items kept item)) ≡ items_are (take kept items) ++ item_is item ∷ []
 stored items kept item low = ap items_are (take_more_set items kept item low) ∙ map_push item_is (take kept items) item
 
-front_step : (begins : Bool) (item : Item) (items : List Item) (b : Bool) → (is_inserted item || (begins && is_break item)) ≡ b
+pub front_step : (begins : Bool) (item : Item) (items : List Item) (b : Bool) → (is_inserted item || (begins && is_break item)) ≡ b
     → trim_front begins (without_inserted (item ∷ items)) ≡ elim b [ true ↦ trim_front begins (without_inserted items) | false ↦ item ∷ trim_front (begins_after begins item) (without_inserted items) ]
 front_step begins item items b is =
     go (is_inserted item) ∙ ap (λ (c : Bool). elim c [ true ↦ trim_front begins (without_inserted items) | false ↦ item ∷ trim_front (begins_after begins item) (without_inserted items) ]) is

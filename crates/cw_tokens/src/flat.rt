@@ -1,16 +1,19 @@
-ghost use Rattle.std.specs.Prelude.{◌≡◌, ℕ, ◌+◌, ◌-◌, ◌<◌, ◌≤◌, ◌++◌, [], length, get_or, OnOk, Some, IsTrue, ◌↔◌, slice_get};
-ghost use Rattle.cw_trees.specs.Flat.{flat, trimmed};
+ghost use Rattle.std.specs.Prelude.{◌≡◌, ℕ, ◌+◌, ◌-◌, ◌<◌, ◌≤◌, List, ◌++◌, [], length, get_or, IfOk, OnOk, Some, IsTrue, ◌↔◌, slice_get};
+ghost use Rattle.cw_trees.specs.Flat.{Item, flat, trimmed};
 ghost use Rattle.cw_tokens.specs.Shapes.{shape, unfolded};
 ghost use Rattle.cw_tokens.specs.Stored.{cut, last_end, IsAscending, IsLinked};
 ghost use Rattle.cw_tokens.specs.FlatItems.{items_are, closing};
+ghost use Rattle.cw_tokens.specs.Trimming.{StandsFor};
 
 use crate::store::Link;
 use crate::token::Token;
 use crate::trim::trim_items;
+use crate::trimmer::Trimmer;
 use crate::walk::{Part, link_at, list_at, part_of, token_before};
 use cw_base::Memory;
 use cw_names::NameId;
 use cw_trees::Control;
+use std::alloc::Global;
 use std::marker::Model;
 
 /// An item of a translation that is laid flat.
@@ -137,4 +140,68 @@ fn close(token: Token, out: &mut Vec<FlatItem>) -> Result<(), Memory>
         out.push(FlatItem::Close)?;
     }
     Ok(())
+}
+
+/// Lays the tree of a list flat and trims it in the same walk.
+pub fn flatten_trimmed(
+    tokens: &[Token],
+    ends: &[usize],
+    links: &[Link],
+    root: usize,
+    alloc: Global,
+) -> Result<FlatTokens, Memory>
+    requires ascending { IsAscending 0 ends.now }
+    requires within { last_end 0 ends.now ≤ length tokens.now }
+    requires linked { IsLinked (cut 0 ends.now tokens.now) links.now }
+    requires links { length links.now ≡ length ends.now }
+    requires root { root < length ends.now }
+    ensures { IfOk result (λ items. items_are items ≡ trimmed (flat (unfolded (cut 0 ends.now tokens.now) root))) }
+{
+    let mut out = Trimmer::new_in(alloc);
+    let mut list = root;
+    let mut place = 0;
+    let mut items = list_at(tokens, ends, list);
+    loop {
+        if place < items.len() {
+            match part_of(items[place]) {
+                Part::Leaf(item) => {
+                    out.push(item)?;
+                    place += 1;
+                }
+                Part::Below(below) => {
+                    list = below;
+                    place = 0;
+                    items = list_at(tokens, ends, list);
+                }
+                Part::InnerBelow(below) => {
+                    out.push(FlatItem::Open)?;
+                    list = below;
+                    place = 0;
+                    items = list_at(tokens, ends, list);
+                }
+            }
+        } else if list == root {
+            return Ok(out.done());
+        } else {
+            let up = link_at(links, list);
+            close_trimmed(token_before(tokens, ends, up), &mut out)?;
+            list = up.list;
+            place = up.place;
+            items = list_at(tokens, ends, list);
+        }
+    }
+}
+
+/// The same as `close` where the items are trimmed.
+fn close_trimmed(token: Token, out: &mut Trimmer) -> Result<(), Memory>
+    ensures { OnOk result ((given : List Item) → StandsFor out.old given → StandsFor out.new (given ++ closing (shape token))) }
+{
+    match token {
+        Token::Inner(_) => out.push(FlatItem::Close),
+        Token::Source(..)
+        | Token::Ident(..)
+        | Token::Reserved(..)
+        | Token::Control(_)
+        | Token::List(_) => Ok(()),
+    }
 }

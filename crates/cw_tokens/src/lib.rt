@@ -5,6 +5,7 @@ mod flat;
 mod store;
 mod token;
 mod trim;
+mod trimmer;
 mod walk;
 
 pub use flat::{FlatItem, FlatTokens};

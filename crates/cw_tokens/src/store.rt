@@ -1,7 +1,7 @@
 ghost use Rattle.std.specs.Prelude.{◌≡◌, ℕ, ◌+◌, ◌-◌, ◌<◌, ◌≤◌, [], ◌∷◌, ◌++◌, length, IsSome, IfSome, IfNone, IfOk, OnOk, OnErr, option_map, vec_capacity, vec_len};
 ghost use Rattle.std.specs.Option.{option_to_list};
 ghost use Rattle.cw_trees.specs.Tree.{first_ident, bare_name};
-ghost use Rattle.cw_trees.specs.Flat.{flat};
+ghost use Rattle.cw_trees.specs.Flat.{flat, trimmed};
 ghost use Rattle.cw_tokens.specs.Shapes.{shape, ref_of, unfolded};
 ghost use Rattle.cw_tokens.specs.FlatItems.{items_are};
 ghost use Rattle.cw_tokens.specs.Walking.{found_name};
@@ -9,7 +9,7 @@ ghost use Rattle.cw_tokens.specs.Reserving.{Reserves, ReservesToken};
 ghost use Rattle.cw_tokens.specs.Stored.{StoredLists, MayBePushed, all_lists, last_end, linked};
 ghost use Rattle.cw_tokens.specs.References.{IsTied};
 
-use crate::flat::{FlatTokens, flatten};
+use crate::flat::{FlatTokens, flatten, flatten_trimmed};
 use crate::token::{ListId, Token};
 use crate::walk::{find, list_at, only_name, start};
 use cw_base::{Cat, Memory};
@@ -185,6 +185,14 @@ impl TokenStore {
         let mut items = Vec::new(alloc);
         flatten(&self.tokens, &self.ends, &self.links, id.index, &mut items)?;
         Ok(FlatTokens::of(items))
+    }
+
+    /// The items of a list's tree in order, trimmed: the same as `flat` and `trim` give, in one walk.
+    pub fn flat_trimmed(&self, alloc: Global, id: ListId) -> Result<FlatTokens, Memory>
+        requires list { id.index < length self.now.lists }
+        ensures items { IfOk result (λ items. items_are items ≡ trimmed (flat (unfolded self.now.lists id.index))) }
+    {
+        flatten_trimmed(&self.tokens, &self.ends, &self.links, id.index, alloc)
     }
 
     /// The name of the first identifier of a list's tree. A reserved word like `case` and the mark

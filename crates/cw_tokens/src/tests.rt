@@ -9,6 +9,7 @@ use crate::{FlatItem, ListId, Token, TokenStore};
 use cw_base::{Cat, MathMode, Memory};
 use cw_names::{NameId, Names};
 use cw_trees::Control;
+use std::alloc::Global;
 use std::test::Fail;
 
 // A list of a break and an identifier.
@@ -178,5 +179,43 @@ fn an_inner_text_is_trimmed_by_itself(rt: HostRuntime) -> Result<(), Fail> {
     assert!(rt; flat.item(1) == FlatItem::Ident(NameId { index: 50 }, 7));
     assert!(rt; flat.item(2) == FlatItem::Close);
     assert!(rt; flat.item(3) == FlatItem::Source(9));
+    Ok(())
+}
+
+// Whether the one walk gives what the others give one after the other.
+fn is_trimmed_alike(store: &TokenStore, alloc: Global, id: ListId) -> Result<bool, Memory>
+    requires list { id.index < length store.now.lists }
+{
+    let mut flat = store.flat(alloc, id)?;
+    flat.trim();
+    let trimmed = store.flat_trimmed(alloc, id)?;
+    if trimmed.len() != flat.len() {
+        return Ok(false);
+    }
+    for i in 0..flat.len() {
+        if trimmed.item(i) != flat.item(i) {
+            return Ok(false);
+        }
+    }
+    Ok(true)
+}
+
+#[test]
+fn one_walk_trims_as_two_do(rt: HostRuntime) -> Result<(), Fail> {
+    let alloc = rt.alloc();
+    let name = NameId { index: 50 };
+    let mut store = TokenStore::new_in(alloc);
+    store.reserve(12)?;
+    let inside = word(&mut store, name);
+    let outside = around(&mut store, Token::Inner(inside));
+    assert!(rt; is_trimmed_alike(&store, alloc, inside)?);
+    assert!(rt; is_trimmed_alike(&store, alloc, outside)?);
+    store.reset();
+    let inside = word(&mut store, name);
+    let outside = around(&mut store, Token::List(inside));
+    assert!(rt; is_trimmed_alike(&store, alloc, outside)?);
+    let flat = store.flat_trimmed(alloc, outside)?;
+    assert_eq!(rt; flat.len(), 2);
+    assert!(rt; flat.item(0) == FlatItem::Ident(name, 7));
     Ok(())
 }

@@ -65,7 +65,7 @@ fn inserted(item: FlatItem) -> bool
     }
 }
 
-fn breaks(item: FlatItem) -> bool
+pub(crate) fn breaks(item: FlatItem) -> bool
     ensures { result ≡ is_break (item_is item) }
 {
     match item {
@@ -77,7 +77,7 @@ fn breaks(item: FlatItem) -> bool
 }
 
 // Walls and the controls of runs.
-fn gaps(item: FlatItem) -> bool
+pub(crate) fn gaps(item: FlatItem) -> bool
     ensures { result ≡ is_gap (item_is item) }
 {
     match item {
@@ -97,7 +97,7 @@ fn gaps(item: FlatItem) -> bool
 }
 
 // Whether an item is left out from the front.
-fn drops(begins: bool, item: FlatItem) -> bool
+pub(crate) fn drops(begins: bool, item: FlatItem) -> bool
     ensures { result ≡ (is_inserted (item_is item) || (begins && is_break (item_is item))) }
 {
     inserted(item) || (begins && breaks(item))
@@ -111,7 +111,7 @@ fn drops_last(ends: bool, item: FlatItem) -> bool
 }
 
 // Whether a text only has gaps up to behind this item.
-fn still_begins(begins: bool, item: FlatItem) -> bool
+pub(crate) fn still_begins(begins: bool, item: FlatItem) -> bool
     ensures { result ≡ begins_after begins (item_is item) }
 {
     match item {

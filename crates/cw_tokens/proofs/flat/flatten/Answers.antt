@@ -2,11 +2,12 @@ use Rattle.std.proofs.Common.{◌++◌, ap, arith}
 use Rattle.cw_trees.specs.Flat.{flat}
 use Rattle.cw_tokens.specs.Shapes.{ref_of, unfolded}
 use Rattle.cw_tokens.specs.Stored.{cut}
+use Rattle.cw_tokens.specs.declared.flat.FlatItem.TheVariants.{Open}
 use Rattle.cw_tokens.specs.FlatItems.{items_are, Flattens}
 use Rattle.cw_tokens.proofs.Linking.{linked-tied}
 use Rattle.cw_tokens.proofs.Places.{at-place, at-end, below-cut, above-cut}
 use Rattle.cw_tokens.proofs.Measuring.{less-down, less-up}
-use Rattle.cw_tokens.proofs.Flattening.{flattens-start, flattens-below, flattens-inner, flattens-up, flattens-end, below-ref, inner-ref, up-step, up-flattens}
+use Rattle.cw_tokens.proofs.Flattening.{flattens-start, flattens-below, flattens-inner, items-push, flattens-up, flattens-end, below-ref, inner-ref, up-step, up-flattens}
 use Rattle.cw_tokens.proofs.flat.flatten.Goals as goal
 
 pub loop-place-init : goal.loop-place-init
@@ -32,7 +33,7 @@ loop-place-smaller-in-InnerBelow c =
 
 pub loop-place-preserved-in-InnerBelow : goal.loop-place-preserved-in-InnerBelow
 loop-place-preserved-in-InnerBelow c =
-    rw c.in_ok-push-in-InnerBelow.ensures.items (flattens-inner _ _ _ _ _ _ (at-place (cut 0 c.args.ends.now c.args.tokens.now) c.loop-place.list _ _ _ c.list_at-items.ensures c.if-place-items.true)
+    rw (c.in_ok-push-in-InnerBelow.ensures.items, items-push c.loop-place.out.items Open) (flattens-inner _ _ _ _ _ _ (at-place (cut 0 c.args.ends.now c.args.tokens.now) c.loop-place.list _ _ _ c.list_at-items.ensures c.if-place-items.true)
     _ _ (linked-tied _ _ c.requires.linked) c.loop-place.invariant c.in-InnerBelow.ensures)
 
 pub returns-then-list-root : goal.returns-then-list-root

@@ -1,0 +1,11 @@
+use Rattle.cw_tokens.proofs.Linking.{linked-lists}
+use Rattle.cw_tokens.proofs.Storing.{kept-view}
+use Rattle.cw_tokens.proofs.store.TokenStore.flat_trimmed.Goals as goal
+
+pub flatten_trimmed-requires-clause-root : goal.flatten_trimmed-requires-clause-root
+flatten_trimmed-requires-clause-root c =
+    let k = kept-view _ _ _ _ _ _ c.self.view_is c.requires.list in
+    rw c.deref-2.ensures.value k.in_ends
+
+pub flatten_trimmed-requires-clause-linked : goal.flatten_trimmed-requires-clause-linked
+flatten_trimmed-requires-clause-linked c = rw (c.deref.ensures.value, c.deref-2.ensures.value, c.deref-3.ensures.value) (linked-lists _ _ _ c.self.invariant.linked)

@@ -1,0 +1,10 @@
+use Rattle.std.proofs.Common.{ap, sym, ◌∙◌, subst}
+use Rattle.cw_tokens.specs.FlatItems.{items_are}
+use Rattle.cw_tokens.specs.Trimming.{StandsFor, Trims}
+use Rattle.cw_tokens.proofs.Standing.{stands-end}
+use Rattle.cw_tokens.proofs.trimmer.Trimmer.done.Goals as goal
+
+pub returns : goal.returns
+returns c = λ given stands.
+    ap items_are c.of.ensures
+    ∙ stands-end _ given _ (subst (λ (t : Trims). StandsFor t given) (sym c.self.view_is) stands) c.take_breaks.ensures.items

@@ -1,0 +1,5 @@
+use Rattle.cw_tokens.proofs.Standing.{KeepsUnbroken}
+use Rattle.cw_tokens.proofs.trimmer.keep_unbroken.Given as goal
+
+abbrev pub invariant-loop-i : goal.invariant-loop-i
+invariant-loop-i l = KeepsUnbroken l.initial.items l.items l.gap l.i l.kept

@@ -1,0 +1,110 @@
+//! The trimming of items as they come: each is kept, left out, or waits in the gap at the end.
+ghost use Rattle.std.specs.Prelude.{◌≡◌, ◌&&◌, ◌||◌, ℕ, List, [], ◌∷◌, ◌++◌, ◌≤◌, length, take, drop, true, OnOk};
+ghost use Rattle.cw_trees.specs.Flat.{Item, begins_after, trimmed};
+ghost use Rattle.cw_tokens.specs.FlatItems.{item_is, items_are};
+ghost use Rattle.cw_tokens.specs.Trimming.{StandsFor, gap_before, unbroken};
+
+use crate::flat::{FlatItem, FlatTokens};
+use crate::trim::{breaks, drops, gaps, still_begins};
+use cw_base::Memory;
+use std::alloc::Global;
+use std::marker::Model;
+
+/// The items that stay of those that came, where more may come.
+#[derive(Drop)]
+pub struct Trimmer {
+    items: Vec<FlatItem>,
+    // Where the gap begins with which the items end.
+    gap: usize,
+    // Whether the text at hand only has gaps so far.
+    begins: bool,
+}
+
+impl Model for Trimmer {
+    ghost use Rattle.std.specs.Prelude.{◌≤◌, length};
+    ghost use Rattle.cw_tokens.specs.Trimming.{Trims, parted};
+
+    ghost Value = { Trims };
+
+    ghost view = { λ t. parted t.gap t.items.items t.begins };
+
+    ghost invariant = { λ t. t.gap ≤ length t.items.items };
+}
+
+impl Trimmer {
+    /// Nothing has come.
+    pub fn new_in(alloc: Global) -> Trimmer
+        ensures { StandsFor result [] }
+    {
+        Trimmer {
+            items: Vec::new(alloc),
+            gap: 0,
+            begins: true,
+        }
+    }
+
+    /// Takes the item that comes next.
+    pub fn push(&mut self, item: FlatItem) -> Result<(), Memory>
+        ensures { OnOk result ((given : List Item) → StandsFor self.old given → StandsFor self.new (given ++ item_is item ∷ [])) }
+    {
+        if drops(self.begins, item) {
+            return Ok(());
+        }
+        self.begins = still_begins(self.begins, item);
+        if gaps(item) {
+            self.items.push(item)?;
+            return Ok(());
+        }
+        end_gap(&mut self.items, self.gap, item);
+        self.items.push(item)?;
+        self.gap = self.items.len();
+        Ok(())
+    }
+
+    /// The items that stay where no more come.
+    pub fn done(mut self) -> FlatTokens
+        ensures { (given : List Item) → StandsFor self given → items_are result ≡ trimmed given }
+    {
+        take_breaks(&mut self.items, self.gap);
+        FlatTokens::of(self.items)
+    }
+}
+
+// Takes the breaks out of the gap with which the items end, if the item that comes next ends a text.
+fn end_gap(items: &mut Vec<FlatItem>, gap: usize, next: FlatItem)
+    requires { gap ≤ length items.old.items }
+    ensures within { gap ≤ length items.new.items }
+    ensures items { items_are items.new.items ≡ items_are (take gap items.old.items) ++ gap_before (item_is next) (items_are (drop gap items.old.items)) }
+{
+    if let FlatItem::Close = next {
+        take_breaks(items, gap);
+    }
+}
+
+// Takes the breaks out of the gap with which the items end.
+fn take_breaks(items: &mut Vec<FlatItem>, gap: usize)
+    requires { gap ≤ length items.old.items }
+    ensures within { gap ≤ length items.new.items }
+    ensures items { items_are items.new.items ≡ items_are (take gap items.old.items) ++ unbroken (items_are (drop gap items.old.items)) }
+{
+    let kept = keep_unbroken(items, gap);
+    items.truncate(kept);
+}
+
+// Moves the items of a gap to its front that are no breaks, and says where they end.
+fn keep_unbroken(items: &mut [FlatItem], gap: usize) -> usize
+    requires { gap ≤ length items.old }
+    ensures within { result ≤ length items.new }
+    ensures behind { gap ≤ result }
+    ensures kept { items_are (take result items.new) ≡ items_are (take gap items.old) ++ unbroken (items_are (drop gap items.old)) }
+{
+    let mut kept = gap;
+    for i in gap..items.len() {
+        let item = items[i];
+        if !breaks(item) {
+            items[kept] = item;
+            kept += 1;
+        }
+    }
+    kept
+}
