@@ -131,3 +131,14 @@ printed-is inner ps =
     all-is inner ps 0 []
     ∙ ap (λ (l : List ℕ). l ++ (early_from inner 0 [] ps ++ late inner ps)) (front-none (is_inner inner 0))
     ∙ ap (λ (l : List ℕ). l ++ late inner ps) (sym (early-whole inner ps))
+
+-- What an item that is in no run prints behind its own bytes comes last.
+pub added-behind : (inner : Bool) (ps : List Printable) (item : Item) (own more : List ℕ) → run_sign item ≡ None
+    → added inner ps (record { item = item; bytes = own ++ more }) ≡ added inner ps (record { item = item; bytes = own }) ++ more
+added-behind inner ps item own more is =
+    let step : List ℕ → Option Control → List ℕ =
+    λ bytes o. step_of o inner (depth_behind ps) (last_run ps) (record { item = item; bytes = bytes }) in
+    added-is inner ps (record { item = item; bytes = own ++ more })
+    ∙ ap (step (own ++ more)) is
+    ∙ sym (append_assoc (run_back (is_inner inner (depth_behind ps)) (last_run ps)) own more)
+    ∙ ap (λ (l : List ℕ). l ++ more) (sym (added-is inner ps (record { item = item; bytes = own }) ∙ ap (step own) is))

@@ -47,6 +47,10 @@ item_bytes names Close given = given
 abbrev pub printable : List Entry → FlatToken → Printable
 printable names token = record { item = item_is token.item; bytes = item_bytes names token.item token.bytes.now }
 
+-- an item for which no bytes are given
+abbrev pub alone : List Entry → FlatItem → Printable
+alone names item = record { item = item_is item; bytes = item_bytes names item [] }
+
 -- a name is one of so many
 abbrev pub IsNamed : ℕ → FlatItem → Type 0
 IsNamed names (Ident name number) = name.index < names

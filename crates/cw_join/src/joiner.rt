@@ -24,9 +24,9 @@ use std::marker::Model;
 /// break, and whether it has a Cancel and a Backup. It takes no memory.
 #[derive(Drop)]
 pub struct Joiner {
-    inner: bool,
-    depth: u64,
-    run: Run,
+    pub(crate) inner: bool,
+    pub(crate) depth: u64,
+    pub(crate) run: Run,
 }
 
 impl Model for Joiner {
@@ -90,8 +90,8 @@ impl Joiner {
         Ok(())
     }
 
-    // Whether runs are now those of inner C text.
-    fn is_inner(&self) -> bool
+    /// Whether runs are now those of inner C text.
+    pub(crate) fn is_inner(&self) -> bool
         ensures { result ≡ is_inner self.now.inner self.now.depth }
     {
         self.inner || self.depth > 0
@@ -154,8 +154,8 @@ fn end_run<D: Desk>(run: Run, inner: bool, out: &mut LineOut, desk: &mut D) -> R
     put_some(step(run.backs(inner)), out, desk)
 }
 
-// The step to the left of a run that has one.
-fn step(backs: bool) -> &'static [u8]
+/// The step to the left of a run that has one.
+pub(crate) fn step(backs: bool) -> &'static [u8]
     ensures { result.now ≡ step_bytes backs }
 {
     if backs { b"\\4" } else { b"" }
@@ -181,8 +181,8 @@ fn put_item<D: Desk>(
     }
 }
 
-// How many inner texts are open behind an item.
-fn depth_behind(depth: u64, item: FlatItem) -> u64
+/// How many inner texts are open behind an item.
+pub(crate) fn depth_behind(depth: u64, item: FlatItem) -> u64
     requires { HasRoom depth item }
     ensures { result ≡ opened depth (item_is item) }
 {

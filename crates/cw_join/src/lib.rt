@@ -2,7 +2,9 @@
 //! run, and every other item prints its own bytes.
 #![tactic(auto)]
 
+mod appending;
 mod joiner;
+mod names_behind;
 mod naming;
 mod pieces;
 mod run;

@@ -61,8 +61,8 @@ fn put_word<D: Desk>(
     out.put_all(b"}", desk)
 }
 
-// The macro of names with lower case letters, or of names without.
-fn font(name: &[u8]) -> &'static [u8]
+/// The macro of names with lower case letters, or of names without.
+pub(crate) fn font(name: &[u8]) -> &'static [u8]
     ensures { result.now ≡ font_bytes (list_any is_lower name.now) }
 {
     if has_lower(name) { b"\\\\{" } else { b"\\.{" }
@@ -124,13 +124,20 @@ fn piece_size(bytes: &[u8]) -> usize
     1 + plain_size(&bytes[1..])
 }
 
+/// Whether a byte has a backslash in a name.
+pub(crate) fn is_marked(byte: u8) -> bool
+    ensures { result ≡ is_marked byte }
+{
+    byte == b'_' || byte == b'$'
+}
+
 // How many bytes come before the first one with a backslash.
 fn plain_size(bytes: &[u8]) -> usize
     ensures size { result ≡ position_or_len is_marked bytes.now }
     ensures within { result ≤ length bytes.now }
 {
     for (i, byte) in bytes.iter().enumerate() {
-        if *byte == b'_' || *byte == b'$' {
+        if is_marked(*byte) {
             return i;
         }
     }

@@ -1,5 +1,6 @@
 //! What is kept of a run of breaks, blanks, indents and the like.
 ghost use Rattle.std.specs.Prelude.{◌≡◌, false, max};
+ghost use Rattle.std.specs.Bool.{OnTrue};
 ghost use Rattle.cw_trees.specs.Printing.{break_bytes, indent_bytes, is_backup as is_backup_sign, is_cancel as is_cancel_sign, run_sign, strength};
 ghost use Rattle.cw_tokens.specs.FlatItems.{item_is};
 ghost use Rattle.cw_join.specs.Runs.{backs, pause_bytes, run_more, state_of, strength_of};
@@ -83,6 +84,14 @@ impl Run {
             cancelled: false,
             backed: false,
         }
+    }
+
+    /// Whether it prints nothing when it has ended.
+    #[inline(always)]
+    pub(crate) fn is_empty(self) -> bool
+        ensures { OnTrue result (state_of self ≡ record { strength = 0; cancelled = false; backed = false }) }
+    {
+        matches!(self.pause, Pause::Nothing) && !self.cancelled && !self.backed
     }
 
     /// The run with one control more.

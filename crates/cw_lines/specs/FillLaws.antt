@@ -8,7 +8,7 @@ use Rattle.cw_base.specs.declared.event.Out.{Out}
 use Rattle.cw_lines.specs.Cut.{CutLine, Cut, broken_numbers, cut, cut_behind, divide, number_if, written}
 use Rattle.cw_lines.specs.CutLaws.{divide-short}
 use Rattle.cw_lines.specs.CutOnLaws.{add_by, add, cut_on, cut_on-is, cut_behind-whole}
-use Rattle.cw_lines.specs.Line.{Line, Filled, fill_by, fill_byte, filled_on, fill, filled_with, new_line, next_number, as_count}
+use Rattle.cw_lines.specs.Line.{HasNoLineEnd, Line, Filled, with_text, fill_by, fill_byte, filled_on, fill, filled_with, new_line, next_number, as_count}
 
 pub fill-none : (line : Line) → fill line [] ≡ record { line = line; written = [] }
 unfolding fill
@@ -50,6 +50,23 @@ fill-room line byte room other = fill_by-at false true line byte (ne_eqb byte 10
 
 pub fill-full : (line : Line) (byte : ℕ) → length line.pending ≡ 80 → byte ≢ 10 → fill line (byte ∷ []) ≡ fill_by false false line byte
 fill-full line byte full other = fill_by-at false false line byte (ne_eqb byte 10 other) (grind (arith, nat_tests))
+
+-- bytes that fit, of which none ends the line
+pub fill-text : (text : List ℕ) (line : Line) → length line.pending + length text ≤ 80 → HasNoLineEnd text
+    → fill line text ≡ record { line = with_text line text; written = [] }
+fill-text [] line fits none = fill-none line ∙ ap (λ (pending : List ℕ). record {
+  line = record { out = line.out; pending = pending; lines = line.lines; broken = line.broken };
+  written = [];
+}) (sym (append-nil line.pending))
+fill-text (byte ∷ text) line fits none =
+    let here : fill line (byte ∷ []) ≡ fill_by false true line byte = fill-room line byte (omega arith) (none 0 byte (omega arith)) in
+    fill-append line (byte ∷ []) text
+    ∙ ap (λ (f : Filled). filled_on f.written (fill f.line text)) here
+    ∙ fill-text text (fill_by false true line byte).line (omega (arith, length-append line.pending (byte ∷ []))) (λ k d inside. none (suc k) d (omega arith))
+    ∙ ap (λ (pending : List ℕ). record {
+      line = record { out = line.out; pending = pending; lines = line.lines; broken = line.broken };
+      written = [];
+    }) (append_assoc line.pending (byte ∷ []) text)
 
 -- a line that fits, with its end
 pub fill-line : (text : List ℕ) (line : Line) → length line.pending + length text ≤ 80 → All (λ byte. byte ≢ 10) text

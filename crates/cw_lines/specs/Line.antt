@@ -40,6 +40,10 @@ pub record Filled : Type 0 where
 abbrev pub with_byte : Line → ℕ → Line
 with_byte line byte = record line { pending = line.pending ++ byte ∷ [] }
 
+-- more bytes, where there is room
+abbrev pub with_text : Line → List ℕ → Line
+with_text line text = record line { pending = line.pending ++ text }
+
 -- byte 10 ends the line
 abbrev pub ended : Line → Filled
 ended line = record {
@@ -92,8 +96,11 @@ filled_with line cut = record {
 abbrev pub line_events : Out → List CutLine → List Event
 line_events out lines = byte_events out (written lines)
 
+abbrev pub HasNoLineEnd : List ℕ → Type 0
+HasNoLineEnd text = All (λ byte. byte ≢ 10) text
+
 -- a line that ends with byte 10 and holds no other byte 10
 pub record IsEndedLine (line : List ℕ) : Type 0 where
   pub text : List ℕ
   pub ended : line ≡ text ++ 10 ∷ []
-  pub one : All (λ byte. byte ≢ 10) text
+  pub one : HasNoLineEnd text

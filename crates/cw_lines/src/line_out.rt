@@ -1,8 +1,8 @@
-ghost use Rattle.std.specs.Prelude.{◌≡◌, ◌≢◌, ◌==◌, ◌<◌, ◌≤◌, [], ◌∷◌, ◌++◌, IfSome, OnErr, OnOk, length, take};
+ghost use Rattle.std.specs.Prelude.{◌≡◌, ◌≢◌, ◌==◌, ◌+◌, ◌<◌, ◌≤◌, [], ◌∷◌, ◌++◌, IfNone, IfSome, OnErr, OnOk, length, take};
 ghost use Rattle.std.specs.Bool.{OnTrue, OnFalse};
 ghost use Rattle.cw_desk.specs.Journal.{byte_events};
 ghost use Rattle.cw_lines.specs.Cut.{comment_mark, number_if};
-ghost use Rattle.cw_lines.specs.Line.{divided, new_line, with_byte, HoldsLine, IsEndedLine};
+ghost use Rattle.cw_lines.specs.Line.{divided, new_line, with_byte, with_text, HasNoLineEnd, HoldsLine, IsEndedLine};
 ghost use Rattle.cw_lines.specs.Writes.{Adds, CanWrite, Puts};
 
 use crate::division::divide;
@@ -125,7 +125,7 @@ impl LineOut {
         Ok(())
     }
 
-    /// Puts bytes as `put` puts them one by one. Whole lines are written as they stand.
+    /// Puts bytes as `put` puts them one by one. Whole lines are written as they stand, and what fits goes to the line whole.
     pub fn put_all<D: Desk>(&mut self, bytes: &[u8], desk: &mut D) -> Result<(), PutError>
         requires can { CanWrite (D.told desk.old) self.old }
         ensures puts { Puts bytes.now self.old self.new (D.told desk.old) (D.told desk.new) result }
@@ -137,7 +137,7 @@ impl LineOut {
             self.put_line(&bytes[at..end], desk)?;
             at = end;
         }
-        self.put_each(&bytes[at..], desk)?;
+        self.put_text(&bytes[at..], desk)?;
         Ok(())
     }
 
@@ -151,7 +151,8 @@ impl LineOut {
         if self.is_empty() && bytes.len() <= 81 {
             return self.put_whole(bytes, desk);
         }
-        self.put_each(bytes, desk)
+        self.put_text(&bytes[..bytes.len() - 1], desk)?;
+        self.end_line(desk)
     }
 
     /// Writes a line that fits, when nothing is pending.
@@ -168,14 +169,23 @@ impl LineOut {
         Ok(())
     }
 
-    /// Puts bytes one by one.
-    fn put_each<D: Desk>(&mut self, bytes: &[u8], desk: &mut D) -> Result<(), PutError>
+    /// Puts bytes of which none ends a line: as many as have room, and the next one behind each cut.
+    fn put_text<D: Desk>(&mut self, text: &[u8], desk: &mut D) -> Result<(), PutError>
         requires can { CanWrite (D.told desk.old) self.old }
-        ensures puts { Puts bytes.now self.old self.new (D.told desk.old) (D.told desk.new) result }
+        requires text { HasNoLineEnd text.now }
+        ensures puts { Puts text.now self.old self.new (D.told desk.old) (D.told desk.new) result }
         ensures short { HoldsLine self.new }
     {
-        for byte in bytes {
-            self.put(*byte, desk)?;
+        let mut at = 0;
+        while at < text.len() {
+            if self.is_full() {
+                self.put_behind_cut(text[at], desk)?;
+                at += 1;
+            } else {
+                let end = text.len().min(at + self.room());
+                self.append(&text[at..end]);
+                at = end;
+            }
         }
         // By its type the line holds at most 80 bytes, also where no byte was put.
         let _ = &self.pending;
@@ -201,6 +211,22 @@ impl LineOut {
         ensures room { OnFalse result (length self.now.line.pending < 80) }
     {
         self.pending.is_full()
+    }
+
+    /// For how many bytes there is room.
+    fn room(&self) -> usize
+        ensures { result + length self.now.line.pending ≡ 80 }
+    {
+        80 - self.pending.len()
+    }
+
+    /// Appends bytes for which there is room, none of which ends a line.
+    fn append(&mut self, text: &[u8])
+        requires { length self.old.line.pending + length text.now ≤ 80 }
+        ensures line { self.new.line ≡ with_text self.old.line text.now }
+        ensures short { HoldsLine self.new }
+    {
+        append(&mut self.pending, text);
     }
 
     /// Appends a byte for which there is room.
@@ -241,6 +267,7 @@ fn begun_line(comment: bool, rest: &[u8]) -> Pending
 fn first_line(bytes: &[u8]) -> Option<usize>
     ensures line { IfSome result (λ size. IsEndedLine (take size bytes.now)) }
     ensures size { IfSome result (λ size. (0 < size) × (size ≤ length bytes.now)) }
+    ensures none { IfNone result (HasNoLineEnd bytes.now) }
 {
     for (i, byte) in bytes.iter().enumerate() {
         if *byte == b'\n' {

@@ -1,12 +1,13 @@
 -- The printing of a list, item by item: what was printed, and what may still come.
-use Rattle.std.proofs.Common.{◌≡◌, ℕ, suc, ◌+◌, ◌<◌, ◌≤◌, Bool, Option, Some, Err, Ok, List, [], ◌∷◌, ◌++◌, length, take, drop, slice_get, refl, ap, sym, ◌∙◌, subst, arith}
-use Rattle.std.specs.Prelude.{Result, IsErrAnd, option_map}
+use Rattle.std.proofs.Common.{◌≡◌, ℕ, suc, ◌+◌, ◌<◌, ◌≤◌, Bool, Option, Some, None, Err, Ok, List, [], ◌∷◌, ◌++◌, length, take, drop, slice_get, refl, ap, sym, ◌∙◌, subst, arith}
+use Rattle.std.specs.Prelude.{Result, IsErrAnd, ⊤, option_map}
 use Rattle.std.proofs.lemmas.List.{append-nil, append_assoc, drop_all, drop_more, length-map, take-append-drop, take_all, take_more}
 use Rattle.std.proofs.lemmas.List.Sums.{fold_push}
 use Rattle.std.proofs.lemmas.Option.{get_or_from_slice_get, slice_get-map, slice_get_within}
 use Rattle.cw_desk.specs.Told.{Told}
 use Rattle.cw_trees.specs.Flat.{Item}
-use Rattle.cw_trees.specs.Printing.{Printable, opened, printed}
+use Rattle.cw_trees.specs.declared.Control.{Control}
+use Rattle.cw_trees.specs.Printing.{Printable, opened, printed, run_sign}
 use Rattle.cw_tokens.specs.declared.flat.FlatItem.{FlatItem}
 use Rattle.cw_tokens.specs.FlatItems.{item_is, items_are}
 use Rattle.cw_lines.specs.Line.{LineState, fill}
@@ -16,8 +17,8 @@ use Rattle.cw_lines.specs.declared.put_error.PutError.{PutError}
 use Rattle.cw_lines.specs.declared.put_error.PutError.TheVariants.{Memory}
 use Rattle.cw_join.specs.Early.{added, depth_behind, early, late}
 use Rattle.cw_join.specs.Standing.{JoinerState, Stands}
-use Rattle.cw_join.specs.Tokens.{CanCome, item_bytes}
-use Rattle.cw_join.proofs.EarlyLaws.{early-added, printed-is}
+use Rattle.cw_join.specs.Tokens.{CanCome, alone}
+use Rattle.cw_join.proofs.EarlyLaws.{added-behind, early-added, printed-is}
 use Rattle.cw_join.proofs.PrintedLaws.{printed-list}
 use Rattle.cw_print.specs.declared.printing.Printer.{Printer}
 use Rattle.cw_print.specs.Coming.{AllMay, MayCome}
@@ -25,12 +26,21 @@ use Rattle.cw_print.specs.Printing.{IsBehind, shown, shown_next}
 use Rattle.cw_print.specs.Sources.{titles}
 use Rattle.cw_print.specs.Walk.{Source, Stand, Title, items_shown, outside, own_bytes, placed_shown, stand_after, title_in}
 use Rattle.cw_print.proofs.ComingLaws.{can-come, opened-most}
-use Rattle.cw_print.proofs.ShownLaws.{own-shown, shown-append, stand-more}
+use Rattle.cw_print.proofs.ShownLaws.{own-alone, placed-run, shown-append, stand-more}
 
 -- Memory was refused before anything was written.
 pub puts-nothing : {U : Type 0} (bytes : List ℕ) (line : LineState) (told : Told) {result : Result U PutError}
     → IsErrAnd result (λ found. found ≡ Memory) → Puts bytes line line told told result
 puts-nothing bytes line told is = puts-failed Memory (fill line.line bytes) refl refl is (adds-nothing _ told is (λ e. absurd (cc)))
+
+-- the bytes were put, whatever the call answered
+pub has-put : {T : Type 0} {bytes : List ℕ} {old new : LineState} {before now : Told} {value : T}
+    → Puts {T = T} bytes old new before now (Ok value) → HasPut bytes old new before now
+has-put {bytes = bytes} {new = new} {now = now} puts = puts-bytes (append-nil bytes) (puts-then puts (puts-none new now (tt {0})))
+
+-- Memory is refused, and nothing more is written.
+puts-refused : (bytes : List ℕ) {line : LineState} {told : Told} → Puts {T = ⊤} bytes line line told told (Err Memory)
+puts-refused bytes {line = line} {told = told} = puts-nothing bytes line told refl
 
 -- ## What is printed
 
@@ -50,23 +60,44 @@ module _ (s : Source) (inner : Bool) (items : List Item) (printer : Printer) (b 
   same-title : title ≡ title_in s.titles (item_is item)
   same-title = titled ∙ ap (λ (t : ℕ → Option Title). title_in t (item_is item)) b.titles
 
-  -- what the joiner prints of the next item
-  pub next-bytes : (given : List ℕ) → given ≡ (placed_shown printer.walk.fixed title (item_is item) printer.walk.stand).bytes
-      → item_bytes printer.book.now.names item given ≡ (shown_next s items (item_is item)).bytes
-  next-bytes given is =
-      own-shown printer.book.now.names printer.walk.fixed title item printer.walk.stand given is
-      ∙ (λ i. own_bytes (b.names i) (item_is item) ++ (placed_shown (b.fixed i) (same-title i) (item_is item) (b.stand i)).bytes)
+  abbrev own : List ℕ
+  own = own_bytes printer.book.now.names (item_is item)
+
+  abbrev placed : List ℕ
+  placed = (placed_shown printer.walk.fixed title (item_is item) printer.walk.stand).bytes
+
+  abbrev added_with : List ℕ → List ℕ
+  added_with bytes = added printer.joiner.inner (shown s items) (record { item = item_is item; bytes = bytes })
+
+  -- what it prints by where it stands comes behind what the joiner prints of it
+  placed-behind : (sign : Option Control) → run_sign (item_is item) ≡ sign → added_with own ++ placed ≡ added_with (own ++ placed)
+  placed-behind None is = sym (added-behind printer.joiner.inner (shown s items) (item_is item) own placed is)
+  placed-behind (Some control) is =
+      let none : placed ≡ [] = placed-run printer.walk.fixed title item printer.walk.stand control is in
+      ap (λ (l : List ℕ). added_with own ++ l) none ∙ append-nil (added_with own)
+      ∙ ap added_with (sym (append-nil own) ∙ ap (λ (l : List ℕ). own ++ l) (sym none))
+
+  pub next-added : added printer.joiner.inner (shown s items) (alone printer.book.now.names item) ++ placed
+      ≡ added inner (shown s items) (shown_next s items (item_is item))
+  next-added =
+      ap (λ (bytes : List ℕ). added_with bytes ++ placed) (own-alone printer.book.now.names item)
+      ∙ placed-behind (run_sign (item_is item)) refl
+      ∙ (λ i. added (b.same_inner i) (shown s items) (record {
+        item = item_is item;
+        bytes = own_bytes (b.names i) (item_is item) ++ (placed_shown (b.fixed i) (same-title i) (item_is item) (b.stand i)).bytes;
+      }))
+
+  pub next-appended : (before mid after : List ℕ) → mid ≡ before ++ added printer.joiner.inner (shown s items) (alone printer.book.now.names item)
+      → after ≡ mid ++ placed → after ≡ before ++ added inner (shown s items) (shown_next s items (item_is item))
+  next-appended before mid after by_joiner by_place =
+      by_place ∙ ap (λ (l : List ℕ). l ++ placed) by_joiner
+      ∙ append_assoc before (added printer.joiner.inner (shown s items) (alone printer.book.now.names item)) placed
+      ∙ ap (λ (l : List ℕ). before ++ l) next-added
 
   -- where the printing stands behind it
   pub next-stand : (placed_shown printer.walk.fixed title (item_is item) printer.walk.stand).stand ≡ stand_after s (items ++ item_is item ∷ []) outside
   next-stand =
       (λ i. (placed_shown (b.fixed i) (same-title i) (item_is item) (b.stand i)).stand) ∙ sym (stand-more s items (item_is item) outside)
-
-  pub next-shown : (given : List ℕ) → given ≡ (placed_shown printer.walk.fixed title (item_is item) printer.walk.stand).bytes
-      → shown s items ++ record { item = item_is item; bytes = item_bytes printer.book.now.names item given } ∷ [] ≡ shown s (items ++ item_is item ∷ [])
-  next-shown given is =
-      ap (λ (bytes : List ℕ). shown s items ++ record { item = item_is item; bytes = bytes } ∷ []) (next-bytes given is)
-      ∙ sym (shown-more s items (item_is item))
 
 -- ## First parts
 
@@ -159,14 +190,50 @@ module _ (items : List FlatItem) (i : ℕ) (item : FlatItem) (is : slice_get ite
           shallow = subst (λ (d : ℕ). d ≤ i + 1) (sym deeper) (omega arith);
         }
 
-  -- the bytes of one item more
-  pub puts-next : {T U : Type 0} (inner : Bool) (s : Source) {old mid new : LineState} {a b c : Told} {value : T} {result : Result U PutError}
-      → Puts {T = T} (early inner (shown s (take i (items_are items)))) old mid a b (Ok value)
-      → Puts (added inner (shown s (take i (items_are items))) (shown_next s (take i (items_are items)) (item_is item))) mid new b c result
-      → Puts (early inner (shown s (take (i + 1) (items_are items)))) old new a c result
-  puts-next inner s begun more =
-      puts-bytes (early-more inner s (take i (items_are items)) (item_is item) ∙ ap (λ (l : List Item). early inner (shown s l)) (sym taken))
-      (puts-then begun more)
+-- What is put and what waits are what the first i items print early.
+pub record Waiting (inner : Bool) (s : Source) (items : List Item) (i : ℕ) (buffer : List ℕ) (old new : LineState) (before now : Told) : Type 0 where
+  pub done : List ℕ
+  pub put : HasPut done old new before now
+  pub all : done ++ buffer ≡ early inner (shown s (take i items))
+
+module _ (items : List FlatItem) (i : ℕ) (item : FlatItem) (is : slice_get items i ≡ Some item) (inner : Bool) (s : Source)
+    {old new : LineState} {before now : Told} where
+  -- one item more waits
+  pub waits-more : (buffer more : List ℕ) → Waiting inner s (items_are items) i buffer old new before now
+      → more ≡ buffer ++ added inner (shown s (take i (items_are items))) (shown_next s (take i (items_are items)) (item_is item))
+      → Waiting inner s (items_are items) (i + 1) more old new before now
+  waits-more buffer more w grown =
+      let next : List ℕ = added inner (shown s (take i (items_are items))) (shown_next s (take i (items_are items)) (item_is item)) in
+      record {
+        done = w.done;
+        put = w.put;
+        all = ap (λ (l : List ℕ). w.done ++ l) grown ∙ sym (append_assoc w.done buffer next)
+            ∙ ap (λ (l : List ℕ). l ++ next) w.all
+            ∙ early-more inner s (take i (items_are items)) (item_is item)
+            ∙ ap (λ (l : List Item). early inner (shown s l)) (sym (taken items i item is));
+      }
+
+-- what waits is put
+pub waits-none : (inner : Bool) (s : Source) (items : List Item) (i : ℕ) (buffer left : List ℕ) {old mid new : LineState} {a b c : Told}
+    → Waiting inner s items i buffer old mid a b → HasPut buffer mid new b c → left ≡ [] → Waiting inner s items i left old new a c
+waits-none inner s items i buffer left w put none = record {
+  done = w.done ++ buffer;
+  put = has-put (puts-then w.put put);
+  all = ap (λ (l : List ℕ). (w.done ++ buffer) ++ l) none ∙ append-nil (w.done ++ buffer) ∙ w.all;
+}
+
+-- memory is refused while bytes wait
+pub stops-waiting : {U : Type 0} (inner : Bool) (s : Source) (items : List Item) (i : ℕ) (buffer : List ℕ) {old new : LineState} {before now : Told}
+    {result : Result U PutError} → Waiting inner s items i buffer old new before now
+    → IsErrAnd result (λ found. found ≡ Memory) → Puts (printed inner (shown s items)) old new before now result
+stops-waiting inner s items i buffer w is =
+    puts-part inner s items i (puts-bytes w.all (puts-then w.put (puts-refused buffer))) is
+
+-- what waits is put, and fails
+pub fails-waiting : {T U : Type 0} (inner : Bool) (s : Source) (items : List Item) (i : ℕ) (buffer : List ℕ) {old mid new : LineState} {a b c : Told}
+    {error : PutError} {result : Result U PutError} → Waiting inner s items i buffer old mid a b → Puts {T = T} buffer mid new b c (Err error)
+    → IsErrAnd result (λ found. found ≡ error) → Puts (printed inner (shown s items)) old new a c result
+fails-waiting inner s items i buffer w failed is = puts-part inner s items i (puts-bytes w.all (puts-then w.put failed)) is
 
 -- ## The beginning and the end
 
@@ -185,18 +252,16 @@ module _ (items : List FlatItem) (n : ℕ) (all : length items ≤ n) where
       ∙ subst (λ (rest : List Item). AllMay (MayCome (length s.names)) (depth_behind (shown s (take n (items_are items)))) rest)
       (drop_all n (items_are items) short) midway.come
 
-  -- what was printed early, and what is left
-  pub puts-all : {T U : Type 0} (inner : Bool) (s : Source) {old mid new : LineState} {a b c : Told} {value : T} {result : Result U PutError}
-      → Puts {T = T} (early inner (shown s (take n (items_are items)))) old mid a b (Ok value)
-      → Puts (late inner (shown s (take n (items_are items)))) mid new b c result
+  -- what waits, and what is left
+  pub puts-all : {U : Type 0} (inner : Bool) (s : Source) (buffer rest : List ℕ) {old mid new : LineState} {a b c : Told} {result : Result U PutError}
+      → Waiting inner s (items_are items) n buffer old mid a b
+      → rest ≡ buffer ++ late inner (shown s (take n (items_are items)))
+      → Puts rest mid new b c result
       → Puts (printed inner (shown s (items_are items))) old new a c result
-  puts-all inner s begun rest =
+  puts-all inner s buffer rest w left put =
       puts-bytes
-      (printed-by inner (shown s (take n (items_are items)))
+      (ap (λ (l : List ℕ). w.done ++ l) left ∙ sym (append_assoc w.done buffer (late inner (shown s (take n (items_are items)))))
+      ∙ ap (λ (l : List ℕ). l ++ late inner (shown s (take n (items_are items)))) w.all
+      ∙ printed-by inner (shown s (take n (items_are items)))
       ∙ ap (λ (l : List Item). printed inner (shown s l)) (take_all n (items_are items) short))
-      (puts-then begun rest)
-
--- the bytes were put, whatever the call answered
-pub has-put : {T : Type 0} {bytes : List ℕ} {old new : LineState} {before now : Told} {value : T}
-    → Puts {T = T} bytes old new before now (Ok value) → HasPut bytes old new before now
-has-put {bytes = bytes} {new = new} {now = now} puts = puts-bytes (append-nil bytes) (puts-then puts (puts-none new now (tt {0})))
+      (puts-then w.put put)

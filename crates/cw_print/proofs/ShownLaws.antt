@@ -1,10 +1,10 @@
 -- What is shown of a list with more behind it, and what the joiner prints of an item that is shown.
-use Rattle.std.proofs.Common.{◌≡◌, ℕ, List, [], ◌∷◌, ◌++◌, Option, refl, ap, sym, ◌∙◌}
+use Rattle.std.proofs.Common.{◌≡◌, ℕ, Bool, true, false, List, [], ◌∷◌, ◌++◌, Option, Some, None, refl, ap, sym, ◌∙◌}
 use Rattle.std.proofs.lemmas.List.{append-nil}
 use Rattle.cw_trees.specs.declared.Control.{Control}
 use Rattle.cw_trees.specs.declared.Control.TheVariants as sign
-use Rattle.cw_trees.specs.Flat.{Item}
-use Rattle.cw_trees.specs.Printing.{Printable, ident_bytes, reserved_bytes}
+use Rattle.cw_trees.specs.Flat.{Item, is_run_sign}
+use Rattle.cw_trees.specs.Printing.{Printable, ident_bytes, reserved_bytes, run_sign}
 use Rattle.cw_names.specs.Names.{Entry}
 use Rattle.cw_tokens.specs.declared.flat.FlatItem.{FlatItem}
 use Rattle.cw_tokens.specs.declared.flat.FlatItem.TheVariants as flat_item
@@ -24,38 +24,75 @@ pub stand-more : (s : Source) (items : List Item) (item : Item) (stand : Stand)
 stand-more s [] item stand = refl
 stand-more s (first ∷ items) item stand = stand-more s items item (item_shown s first stand).stand
 
-control-own : (control : Control) (stand : Stand) (given : List ℕ) → given ≡ (control_shown control stand).bytes
-    → control_bytes control given ≡ own_sign control ++ (control_shown control stand).bytes
-control-own sign.CommentEnd stand given is = is
-control-own sign.NameText stand given is = is
-control-own sign.NameEnd stand given is = is
-control-own sign.Blank stand given is = refl
-control-own sign.OptionalBreak stand given is = refl
-control-own sign.Break stand given is = refl
-control-own sign.BigBreak stand given is = refl
-control-own sign.Cancel stand given is = refl
-control-own sign.Backup stand given is = refl
-control-own sign.Wall stand given is = refl
-control-own sign.Indent stand given is = refl
-control-own sign.Outdent stand given is = refl
-control-own sign.OptionalLineBreak0 stand given is = refl
-control-own sign.OptionalLineBreak9 stand given is = refl
-control-own sign.ThinSpace stand given is = refl
-control-own sign.OpenBrace stand given is = refl
-control-own sign.CloseBrace stand given is = refl
-control-own sign.OpenRelation stand given is = refl
-control-own sign.Inserted stand given is = refl
-control-own sign.ToMath stand given is = refl
-control-own sign.ToText stand given is = refl
-control-own sign.Dollar stand given is = refl
+-- Where no bytes are given, the joiner prints the item's own.
+control-alone : (control : Control) → control_bytes control [] ≡ own_sign control
+control-alone sign.CommentEnd = refl
+control-alone sign.NameText = refl
+control-alone sign.NameEnd = refl
+control-alone sign.Blank = refl
+control-alone sign.OptionalBreak = refl
+control-alone sign.Break = refl
+control-alone sign.BigBreak = refl
+control-alone sign.Cancel = refl
+control-alone sign.Backup = refl
+control-alone sign.Wall = refl
+control-alone sign.Indent = refl
+control-alone sign.Outdent = refl
+control-alone sign.OptionalLineBreak0 = refl
+control-alone sign.OptionalLineBreak9 = refl
+control-alone sign.ThinSpace = refl
+control-alone sign.OpenBrace = refl
+control-alone sign.CloseBrace = refl
+control-alone sign.OpenRelation = refl
+control-alone sign.Inserted = refl
+control-alone sign.ToMath = refl
+control-alone sign.ToText = refl
+control-alone sign.Dollar = refl
 
--- An item's own bytes and those by where it stands are what the joiner prints.
-pub own-shown : (names : List Entry) (f : Fixed) (title : Option Title) (item : FlatItem) (stand : Stand) (given : List ℕ)
-    → given ≡ (placed_shown f title (item_is item) stand).bytes
-    → item_bytes names item given ≡ own_bytes names (item_is item) ++ (placed_shown f title (item_is item) stand).bytes
-own-shown names f title (flat_item.Source number) stand given is = is
-own-shown names f title (flat_item.Ident name number) stand given is = sym (append-nil (ident_bytes (text_at names name.index)))
-own-shown names f title (flat_item.Reserved name number) stand given is = sym (append-nil (reserved_bytes (text_at names name.index)))
-own-shown names f title (flat_item.Control control) stand given is = control-own control stand given is
-own-shown names f title flat_item.Open stand given is = is
-own-shown names f title flat_item.Close stand given is = is
+pub own-alone : (names : List Entry) (item : FlatItem) → item_bytes names item [] ≡ own_bytes names (item_is item)
+own-alone names (flat_item.Source number) = refl
+own-alone names (flat_item.Ident name number) = refl
+own-alone names (flat_item.Reserved name number) = refl
+own-alone names (flat_item.Control control) = control-alone control
+own-alone names flat_item.Open = refl
+own-alone names flat_item.Close = refl
+
+-- A control of a run prints nothing by where it stands.
+control-run : (control : Control) (stand : Stand) → is_run_sign control ≡ true → (control_shown control stand).bytes ≡ []
+control-run sign.CommentEnd stand is = absurd (cc)
+control-run sign.NameText stand is = absurd (cc)
+control-run sign.NameEnd stand is = absurd (cc)
+control-run sign.Blank stand is = refl
+control-run sign.OptionalBreak stand is = refl
+control-run sign.Break stand is = refl
+control-run sign.BigBreak stand is = refl
+control-run sign.Cancel stand is = refl
+control-run sign.Backup stand is = refl
+control-run sign.Wall stand is = refl
+control-run sign.Indent stand is = refl
+control-run sign.Outdent stand is = refl
+control-run sign.OptionalLineBreak0 stand is = refl
+control-run sign.OptionalLineBreak9 stand is = refl
+control-run sign.ThinSpace stand is = refl
+control-run sign.OpenBrace stand is = refl
+control-run sign.CloseBrace stand is = refl
+control-run sign.OpenRelation stand is = refl
+control-run sign.Inserted stand is = refl
+control-run sign.ToMath stand is = refl
+control-run sign.ToText stand is = refl
+control-run sign.Dollar stand is = refl
+
+sign-by : (control found : Control) (b : Bool) → is_run_sign control ≡ b → (elim b [ true ↦ Some control | false ↦ None ]) ≡ Some found
+    → is_run_sign control ≡ true
+sign-by control found true is some = is
+sign-by control found false is some = absurd (cc)
+
+pub placed-run : (f : Fixed) (title : Option Title) (item : FlatItem) (stand : Stand) (control : Control)
+    → run_sign (item_is item) ≡ Some control → (placed_shown f title (item_is item) stand).bytes ≡ []
+placed-run f title (flat_item.Source number) stand control is = absurd (cc)
+placed-run f title (flat_item.Ident name number) stand control is = refl
+placed-run f title (flat_item.Reserved name number) stand control is = refl
+placed-run f title (flat_item.Control found) stand control is =
+    control-run found stand (sign-by found control (is_run_sign found) refl is)
+placed-run f title flat_item.Open stand control is = absurd (cc)
+placed-run f title flat_item.Close stand control is = absurd (cc)

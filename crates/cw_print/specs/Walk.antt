@@ -4,6 +4,7 @@ use Rattle.cw_base.specs.declared.span.Span.{Span}
 use Rattle.cw_names.specs.Names.{Entry}
 use Rattle.cw_lex.specs.Answers.{Answer, Seen}
 use Rattle.cw_lex.specs.Lexing.{tokens_of}
+use Rattle.cw_lex.specs.Limbo.{is_name_kind}
 use Rattle.cw_lex.specs.Nested.{until_section}
 use Rattle.cw_lex.specs.declared.tokens.Mode.TheVariants.{Inner}
 use Rattle.cw_trees.specs.declared.Control.{Control}
@@ -133,9 +134,23 @@ pub record Fixed : Type 0 where
   pub wraps : Bool
   pub first : Bool
 
+-- A section name prints its title, where it has one.
+abbrev pub named_shown : Option Title → Stand → Shown
+named_shown None stand = prints [] stand
+named_shown (Some title) stand = name_begins title stand
+
+abbrev pub is_name : Option Seen → Bool
+is_name None = false
+is_name (Some token) = is_name_kind token.kind
+
+abbrev pub seen_shown : Bool → Option Title → Option Seen → Stand → Shown
+seen_shown first title token stand = elim (is_name token) [
+  | true ↦ named_shown title stand
+  | false ↦ found_shown first token stand
+]
+
 abbrev pub outer_shown : Fixed → Option Title → ℕ → Stand → Shown
-outer_shown f (Some title) number stand = name_begins title stand
-outer_shown f None number stand = found_shown f.first (numbered number f.answers) stand
+outer_shown f title number stand = seen_shown f.first title (numbered number f.answers) stand
 
 -- A number stands for a token of the text, perhaps a section name; or, in a section name, for a token of its inner text.
 abbrev pub source_shown : Fixed → Option Title → Option InName → ℕ → Stand → Shown

@@ -3,12 +3,10 @@ ghost use Rattle.std.specs.Prelude.{◌≡◌, Some, option_map};
 ghost use Rattle.cw_tokens.specs.FlatItems.{item_is};
 ghost use Rattle.cw_print.specs.Sources.{defines_first, first_of, is_changed, is_file, is_first, section_of, title_of_kept, titles};
 ghost use Rattle.cw_print.specs.Titles.{title_of};
-ghost use Rattle.cw_print.specs.Walk.{title_in};
 
 use crate::title::SectionTitle;
 use cw_phase1::{Book, Section};
 use cw_secnames::{SecId, SecKind};
-use cw_tokens::FlatItem;
 
 // The section of a number, if there is one.
 fn section_of(book: &Book, number: u32) -> Option<Section>
@@ -62,23 +60,13 @@ fn title_of_kept(book: &Book, id: SecId) -> Option<SectionTitle>
     })
 }
 
-// The title of the section name at a place.
-fn title_at(book: &Book, place: u32) -> Option<SectionTitle>
+/// The title of the section name at a place.
+pub(crate) fn title_at(book: &Book, place: u32) -> Option<SectionTitle>
     ensures { option_map title_of result ≡ titles book.now place }
 {
     match book.name_uses.at(place) {
         Some(id) => title_of_kept(book, id),
         None => None,
-    }
-}
-
-/// The title of the section name that an item stands for, if it is one.
-pub(crate) fn title_of_item(book: &Book, item: FlatItem) -> Option<SectionTitle>
-    ensures { option_map title_of result ≡ title_in (titles book.now) (item_is item) }
-{
-    match item {
-        FlatItem::Source(number) => title_at(book, number),
-        _ => None,
     }
 }
 

@@ -15,11 +15,11 @@ ghost use Rattle.cw_print.specs.Printing.{IsBehind, shown, shown_next, source_of
 ghost use Rattle.cw_print.specs.Sources.{source};
 ghost use Rattle.cw_print.specs.Walk.{Source, bracket, tree_bytes};
 
-use crate::book_titles::{is_first, title_of_item};
+use crate::book_titles::is_first;
 use crate::walk::{Manner, TextWalk};
 use cw_base::{Bytes, Flags, Memory, Span};
 use cw_desk::Desk;
-use cw_join::{FlatToken, Joiner};
+use cw_join::Joiner;
 use cw_lex::Mode;
 use cw_lines::{LineOut, PutError};
 use cw_phase1::Book;
@@ -65,34 +65,23 @@ impl<'a> Printer<'a> {
         }
     }
 
-    // Prints the next item. The buffer is given back, empty.
-    fn print<D: Desk>(
-        &mut self,
-        item: FlatItem,
-        mut buffer: Bytes,
-        out: &mut LineOut,
-        desk: &mut D,
-    ) -> Result<Bytes, PutError>
-        requires can { CanWrite (D.told desk.old) out.old }
+    // Appends what the next item prints behind those before it.
+    #[inline]
+    fn print(&mut self, item: FlatItem, buffer: &mut Bytes) -> Result<(), Memory>
         requires come { CanCome (length self.old.book.now.names) self.old.joiner.depth item }
-        requires empty { buffer ≡ [] }
-        ensures puts { (s : Source) (inner : Bool) (items : List Item) → IsBehind s inner items self.old
-            → Puts (added inner (shown s items) (shown_next s items (item_is item))) out.old out.new
-            (D.told desk.old) (D.told desk.new) result }
+        ensures bytes { (s : Source) (inner : Bool) (items : List Item) → IsBehind s inner items self.old
+            → OnOk result (buffer.new ≡ buffer.old
+            ++ added inner (shown s items) (shown_next s items (item_is item))) }
         ensures behind { (s : Source) (inner : Bool) (items : List Item) → IsBehind s inner items self.old
             → OnOk result (IsBehind s inner (items ++ item_is item ∷ []) self.new) }
-        ensures empty { IfOk result (λ after. after ≡ []) }
     {
-        let title = title_of_item(self.book, item);
-        self.walk.show(&mut buffer, item, title)?;
-        let token = FlatToken {
-            item,
-            bytes: buffer.as_slice(),
-        };
-        self.joiner.push(token, &self.book.names, out, desk)?;
-        Ok(cleared(buffer))
+        self.joiner.append(item, &self.book.names, buffer)?;
+        self.walk.show(buffer, item, self.book)
     }
 }
+
+// So many bytes go to the line together.
+const FULL: usize = 4096;
 
 fn cleared(buffer: Bytes) -> Bytes
     ensures { result ≡ [] }
@@ -121,19 +110,14 @@ fn print_items<D: Desk>(
     let mut printer = Printer::over(alloc, c, inner);
     let mut buffer = Bytes::new_in(alloc);
     for i in 0..items.len() {
-        buffer = printer.print(items.item(i), buffer, out, desk)?;
+        printer.print(items.item(i), &mut buffer)?;
+        if buffer.len() >= FULL {
+            out.put_all(buffer.as_slice(), desk)?;
+            buffer = cleared(buffer);
+        }
     }
-    printer.joiner.finish(out, desk)
-}
-
-// The items of a list, trimmed.
-fn trimmed_items(alloc: Global, store: &TokenStore, id: ListId) -> Result<FlatTokens, Memory>
-    requires { id.index < length store.now.lists }
-    ensures { IfOk result (λ items. items_are items ≡ trimmed (flat (unfolded store.now.lists id.index))) }
-{
-    let mut items = store.flat(alloc, id)?;
-    items.trim();
-    Ok(items)
+    printer.joiner.append_end(&mut buffer)?;
+    out.put_all(buffer.as_slice(), desk)
 }
 
 // Whether a text stands in `\PB{` and `}`.
@@ -193,7 +177,7 @@ pub fn print_list<D: Desk>(
         wraps: flags.wrap,
     };
     let wraps = is_wrapped(inner, flags);
-    let items = trimmed_items(alloc, store, id)?;
+    let items = store.flat_trimmed(alloc, id)?;
     put_bracket(wraps, b"\\PB{", out, desk)?;
     print_items(alloc, c, inner, &items, out, desk)?;
     put_bracket(wraps, b"}", out, desk)

@@ -1,56 +1,69 @@
 //! A worked text, shown item by item.
-use crate::{Manner, SectionTitle, TextWalk, put_escaped, put_token};
-use cw_base::{Bytes, Memory, Span};
+use crate::{Manner, TextWalk, put_escaped, put_token};
+use cw_base::{Bytes, Memory, Place, Span, Web};
 use cw_lex::{Mode, TokKind};
+use cw_phase1::{Book, phase_one};
 use cw_tokens::FlatItem;
 use cw_trees::Control;
+use std::alloc::Global;
 use std::test::Fail;
 
-fn show_code(walk: &mut TextWalk, out: &mut Bytes) -> Result<(), Memory> {
-    walk.show(out, FlatItem::Source(0), None)?;
-    walk.show(out, FlatItem::Source(5), None)?;
-    walk.show(out, FlatItem::Control(Control::Blank), None)?;
-    walk.show(out, FlatItem::Source(11), None)?;
-    walk.show(out, FlatItem::Source(13), None)?;
-    walk.show(out, FlatItem::Control(Control::CommentEnd), None)
+// The first line is the text that is shown, without its code.
+const CODE: &[u8] = b"@ @c 0x1f \"a b\" /* {x */  @<A |1| b@>;";
+const NAMED: &[u8] = b"@ @<A |1| b@>=";
+
+/// The book of a web whose second section is changed and defines the name that the first one uses.
+fn book_of(alloc: Global) -> Result<Book, Memory> {
+    let mut web = Web::new_in(alloc);
+    let file = web.add_file(b"foo.w")?;
+    web.add_line(CODE, Place { file, line: 1 }, false)?;
+    web.add_line(NAMED, Place { file, line: 2 }, true)?;
+    phase_one(alloc, &web)
+}
+
+fn show_code<'a>(
+    walk: &mut TextWalk<'a>,
+    out: &mut Bytes,
+    book: &'a Book,
+) -> Result<(), Memory> {
+    walk.show(out, FlatItem::Source(5), book)?;
+    walk.show(out, FlatItem::Source(10), book)?;
+    walk.show(out, FlatItem::Control(Control::Blank), book)?;
+    walk.show(out, FlatItem::Source(16), book)?;
+    walk.show(out, FlatItem::Source(18), book)?;
+    walk.show(out, FlatItem::Control(Control::CommentEnd), book)
 }
 
 fn show_name<'a>(
     walk: &mut TextWalk<'a>,
     out: &mut Bytes,
-    title: SectionTitle<'a>,
+    book: &'a Book,
 ) -> Result<(), Memory> {
-    walk.show(out, FlatItem::Source(21), Some(title))?;
-    walk.show(out, FlatItem::Open, None)?;
-    walk.show(out, FlatItem::Source(3), None)?;
-    walk.show(out, FlatItem::Close, None)?;
-    walk.show(out, FlatItem::Control(Control::NameText), None)?;
-    walk.show(out, FlatItem::Control(Control::NameEnd), None)
+    walk.show(out, FlatItem::Source(26), book)?;
+    walk.show(out, FlatItem::Open, book)?;
+    walk.show(out, FlatItem::Source(3), book)?;
+    walk.show(out, FlatItem::Close, book)?;
+    walk.show(out, FlatItem::Control(Control::NameText), book)?;
+    walk.show(out, FlatItem::Control(Control::NameEnd), book)
 }
 
 #[test]
 fn a_text_with_a_comment_and_a_name(rt: HostRuntime) -> Result<(), Fail> {
     let alloc = rt.alloc();
-    let text: &[u8] = b"0x1f \"a b\" /* {x */  @<A |1| b@>;";
-    let span = Span { start: 0, end: 33 };
+    let book = book_of(alloc)?;
+    let span = Span { start: 5, end: 38 };
     let manner = Manner {
         wraps: true,
         first: true,
     };
-    let mut walk = TextWalk::over(alloc, text, span, Mode::Inner, manner);
+    let mut walk = TextWalk::over(alloc, CODE, span, Mode::Inner, manner);
     let mut out = Bytes::new_in(alloc);
-    show_code(&mut walk, &mut out)?;
-    let title = SectionTitle {
-        text: b"A |1| b",
-        is_file: false,
-        number: 7,
-        is_changed: true,
-    };
-    show_name(&mut walk, &mut out, title)?;
-    walk.show(&mut out, FlatItem::Source(32), None)?;
-    walk.show(&mut out, FlatItem::Source(5), None)?;
+    show_code(&mut walk, &mut out, &book)?;
+    show_name(&mut walk, &mut out, &book)?;
+    walk.show(&mut out, FlatItem::Source(37), &book)?;
+    walk.show(&mut out, FlatItem::Source(10), &book)?;
     let wanted: &[u8] =
-        b"\\T{\\^1f}\\.{\"a\\ b\"}\\C{ {x }}\\X7\\*:A \\PB{\\T{1}} b\\X;\\.{\"a\\ b\"}";
+        b"\\T{\\^1f}\\.{\"a\\ b\"}\\C{ {x }}\\X2\\*:A \\PB{\\T{1}} b\\X;\\.{\"a\\ b\"}";
     assert_eq!(rt; out.as_slice(), wanted);
     Ok(())
 }

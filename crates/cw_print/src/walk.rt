@@ -1,20 +1,22 @@
 //! The walk over the items of a C text, which makes the bytes that they print by where they stand.
 ghost use Rattle.std.specs.Prelude.{◌≡◌, ◌≤◌, ◌++◌, [], None, OnOk, length, option_map};
+ghost use Rattle.cw_lex.specs.Answers.{seen};
 ghost use Rattle.cw_lex.specs.Lexing.{tokens_of};
 ghost use Rattle.cw_lex.specs.Nested.{until_section};
 ghost use Rattle.cw_tokens.specs.FlatItems.{item_is};
-ghost use Rattle.cw_print.specs.Titles.{title_of};
-ghost use Rattle.cw_print.specs.Walk.{bracket, control_shown, outside, placed_shown, source_shown};
+ghost use Rattle.cw_print.specs.Sources.{titles};
+ghost use Rattle.cw_print.specs.Walk.{bracket, control_shown, is_name, named_shown, outside, placed_shown, source_shown, title_in};
 ghost use Rattle.cw_print.specs.Walked.{behind};
 
+use crate::book_titles::title_at;
 use crate::braces::OpenBraces;
 use crate::comments::put_closing_braces;
 use crate::name_walk::NameWalk;
 use crate::scan::Scan;
 use crate::showing::put_found;
-use crate::title::SectionTitle;
 use cw_base::{Bytes, Memory, Span};
-use cw_lex::Mode;
+use cw_lex::{Code, Mode, Tok, TokKind};
+use cw_phase1::Book;
 use cw_tokens::FlatItem;
 use cw_trees::Control;
 use std::alloc::Global;
@@ -75,20 +77,21 @@ impl<'a> TextWalk<'a> {
     }
 
     /// Appends what the next item prints by where it stands; names, and signs that print the same everywhere, print
-    /// nothing here. `title` is that of the section name whose number the item has, if it is one.
+    /// nothing here. A section name prints as the book keeps it.
+    #[inline]
     pub fn show(
         &mut self,
         out: &mut Bytes,
         item: FlatItem,
-        title: Option<SectionTitle<'a>>,
+        book: &'a Book,
     ) -> Result<(), Memory>
         ensures bytes { OnOk result (out.new ≡ out.old
-            ++ (placed_shown self.old.fixed (option_map title_of title.entry) (item_is item) self.old.stand).bytes) }
-        ensures stand { OnOk result (self.new
-            ≡ behind self.old (placed_shown self.old.fixed (option_map title_of title.entry) (item_is item) self.old.stand)) }
+            ++ (placed_shown self.old.fixed (title_in (titles book.now) (item_is item)) (item_is item) self.old.stand).bytes) }
+        ensures stand { OnOk result (self.new ≡ behind self.old
+            (placed_shown self.old.fixed (title_in (titles book.now) (item_is item)) (item_is item) self.old.stand)) }
     {
         match item {
-            FlatItem::Source(number) => self.show_source(out, number, title),
+            FlatItem::Source(number) => self.show_source(out, number, book),
             FlatItem::Control(control) => self.show_control(out, control),
             FlatItem::Open => self.put_bracket(out, b"\\PB{"),
             FlatItem::Close => self.put_bracket(out, b"}"),
@@ -100,28 +103,41 @@ impl<'a> TextWalk<'a> {
         &mut self,
         out: &mut Bytes,
         number: u32,
-        title: Option<SectionTitle<'a>>,
+        book: &'a Book,
     ) -> Result<(), Memory>
         ensures bytes { OnOk result (out.new ≡ out.old
-            ++ (source_shown self.old.fixed (option_map title_of title.entry) self.old.stand.name number self.old.stand).bytes) }
-        ensures stand { OnOk result (self.new
-            ≡ behind self.old (source_shown self.old.fixed (option_map title_of title.entry) self.old.stand.name number self.old.stand)) }
+            ++ (source_shown self.old.fixed (titles book.now number) self.old.stand.name number self.old.stand).bytes) }
+        ensures stand { OnOk result (self.new ≡ behind self.old
+            (source_shown self.old.fixed (titles book.now number) self.old.stand.name number self.old.stand)) }
     {
         if let Some(name) = &mut self.name {
             let token = name.find(number);
             return put_found(out, self.manner.first, token, &mut self.braces);
         }
-        match title {
-            Some(title) => {
-                let name = NameWalk::begin(out, &title)?;
-                self.name = Some(name);
-                Ok(())
-            }
-            None => {
-                let token = self.scan.find(number);
-                put_found(out, self.manner.first, token, &mut self.braces)
-            }
+        let token = self.scan.find(number);
+        if is_name(token) {
+            return self.begin_name(out, number, book);
         }
+        put_found(out, self.manner.first, token, &mut self.braces)
+    }
+
+    // Appends what the section name at a number prints up to its first inner text, if it has a title.
+    #[inline(never)]
+    fn begin_name(
+        &mut self,
+        out: &mut Bytes,
+        number: u32,
+        book: &'a Book,
+    ) -> Result<(), Memory>
+        requires outside { self.old.stand.name ≡ None }
+        ensures bytes { OnOk result (out.new ≡ out.old ++ (named_shown (titles book.now number) self.old.stand).bytes) }
+        ensures stand { OnOk result (self.new ≡ behind self.old (named_shown (titles book.now number) self.old.stand)) }
+    {
+        if let Some(title) = title_at(book, number) {
+            let name = NameWalk::begin(out, &title)?;
+            self.name = Some(name);
+        }
+        Ok(())
     }
 
     fn show_control(&mut self, out: &mut Bytes, control: Control) -> Result<(), Memory>
@@ -154,5 +170,15 @@ impl<'a> TextWalk<'a> {
             out.append(bytes)?;
         }
         Ok(())
+    }
+}
+
+// Whether a token was found and is a section name.
+fn is_name(token: Option<Tok>) -> bool
+    ensures { result ≡ is_name (option_map seen token.entry) }
+{
+    match token {
+        Some(token) => matches!(token.kind, TokKind::Code(Code::SectionName | Code::FileName)),
+        None => false,
     }
 }

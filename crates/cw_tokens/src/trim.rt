@@ -56,6 +56,7 @@ fn keep_from_back(items: &mut [FlatItem]) -> usize
     kept
 }
 
+#[inline(always)]
 fn inserted(item: FlatItem) -> bool
     ensures { result ≡ is_inserted (item_is item) }
 {
@@ -65,6 +66,7 @@ fn inserted(item: FlatItem) -> bool
     }
 }
 
+#[inline(always)]
 pub(crate) fn breaks(item: FlatItem) -> bool
     ensures { result ≡ is_break (item_is item) }
 {
@@ -77,6 +79,7 @@ pub(crate) fn breaks(item: FlatItem) -> bool
 }
 
 // Walls and the controls of runs.
+#[inline(always)]
 pub(crate) fn gaps(item: FlatItem) -> bool
     ensures { result ≡ is_gap (item_is item) }
 {
@@ -97,6 +100,7 @@ pub(crate) fn gaps(item: FlatItem) -> bool
 }
 
 // Whether an item is left out from the front.
+#[inline(always)]
 pub(crate) fn drops(begins: bool, item: FlatItem) -> bool
     ensures { result ≡ (is_inserted (item_is item) || (begins && is_break (item_is item))) }
 {
@@ -111,6 +115,7 @@ fn drops_last(ends: bool, item: FlatItem) -> bool
 }
 
 // Whether a text only has gaps up to behind this item.
+#[inline(always)]
 pub(crate) fn still_begins(begins: bool, item: FlatItem) -> bool
     ensures { result ≡ begins_after begins (item_is item) }
 {

@@ -44,6 +44,7 @@ impl Trimmer {
     }
 
     /// Takes the item that comes next.
+    #[inline(always)]
     pub fn push(&mut self, item: FlatItem) -> Result<(), Memory>
         ensures { OnOk result ((given : List Item) → StandsFor self.old given → StandsFor self.new (given ++ item_is item ∷ [])) }
     {
@@ -71,6 +72,7 @@ impl Trimmer {
 }
 
 // Takes the breaks out of the gap with which the items end, if the item that comes next ends a text.
+#[inline(always)]
 fn end_gap(items: &mut Vec<FlatItem>, gap: usize, next: FlatItem)
     requires { gap ≤ length items.old.items }
     ensures within { gap ≤ length items.new.items }

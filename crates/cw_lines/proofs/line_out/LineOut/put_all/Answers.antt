@@ -19,8 +19,11 @@ loop-size-init g c = record { within = omega arith; put = puts-none _ _ (tt {0})
 pub put_line-requires-clause-can : goal.put_line-requires-clause-can
 put_line-requires-clause-can g c = can-after c.requires.can c.loop-size.invariant.put
 
-pub put_each-requires : goal.put_each-requires
-put_each-requires g c = record { can = can-after c.requires.can c.loop-size.invariant.put }
+pub put_text-requires-clause-can : goal.put_text-requires-clause-can
+put_text-requires-clause-can g c = can-after c.requires.can c.loop-size.invariant.put
+
+pub put_text-requires-clause-text : goal.put_text-requires-clause-text
+put_text-requires-clause-text g c = c.in_default.ensures.none
 
 pub returns-in_err-put_line-clause-puts : goal.returns-in_err-put_line-clause-puts
 returns-in_err-put_line-clause-puts g c =
@@ -33,9 +36,9 @@ loop-size-preserved g c = record {
   put = puts-bytes (next_bytes c.args.bytes.now c.loop-size.at c.in-Some.size) (puts-then c.loop-size.invariant.put c.in_ok-put_line.ensures.puts);
 }
 
-pub returns-in_err-put_each-clause-puts : goal.returns-in_err-put_each-clause-puts
-returns-in_err-put_each-clause-puts g c =
-    puts-failing (all_bytes c.args.bytes.now c.loop-size.at) (puts-then c.loop-size.invariant.put c.in_err-put_each.ensures.puts) c.from_residual-in_err-put_each.ensures.1
+pub returns-in_err-put_text-clause-puts : goal.returns-in_err-put_text-clause-puts
+returns-in_err-put_text-clause-puts g c =
+    puts-failing (all_bytes c.args.bytes.now c.loop-size.at) (puts-then c.loop-size.invariant.put c.in_err-put_text.ensures.puts) c.from_residual-in_err-put_text.ensures.1
 
 pub returns-clause-puts : goal.returns-clause-puts
-returns-clause-puts g c = puts-bytes (all_bytes c.args.bytes.now c.loop-size.at) (puts-then c.loop-size.invariant.put c.in_ok-put_each.ensures.puts)
+returns-clause-puts g c = puts-bytes (all_bytes c.args.bytes.now c.loop-size.at) (puts-then c.loop-size.invariant.put c.in_ok-put_text.ensures.puts)

@@ -1,0 +1,7 @@
+-- What is appended, and what the rest of the name prints, are what the name prints.
+use Rattle.std.proofs.Common.{◌≡◌, ◌++◌, drop}
+use Rattle.cw_trees.specs.Printing.{name_bytes}
+use Rattle.cw_join.proofs.names_behind.append_name.Given as goal
+
+abbrev pub invariant-loop-byte : goal.invariant-loop-byte
+invariant-loop-byte l = l.out ++ name_bytes (drop l.byte-index l.name) ≡ l.initial.out ++ name_bytes l.name

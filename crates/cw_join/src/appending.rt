@@ -1,0 +1,114 @@
+//! The joining of items behind bytes in memory, which go to a line together.
+ghost use Rattle.std.specs.Prelude.{◌≡◌, ◌∷◌, ◌++◌, [], List, OnOk, length};
+ghost use Rattle.cw_trees.specs.Printing.{Printable, opened};
+ghost use Rattle.cw_tokens.specs.FlatItems.{item_is};
+ghost use Rattle.cw_join.specs.Early.{added, late, run_front};
+ghost use Rattle.cw_join.specs.Runs.{run_more, run_state, state_back, state_of};
+ghost use Rattle.cw_join.specs.Standing.{Stands};
+ghost use Rattle.cw_join.specs.Stretches.{is_inner};
+ghost use Rattle.cw_join.specs.Tokens.{CanCome, IsNamed, alone, item_bytes};
+
+use crate::joiner::{Joiner, depth_behind, step};
+use crate::names_behind::{append_ident, append_reserved};
+use crate::naming::text_of;
+use crate::pieces::sign;
+use crate::run::{Run, indent, run_control};
+use cw_base::{Bytes, Memory};
+use cw_names::Names;
+use cw_tokens::FlatItem;
+use cw_trees::Control;
+
+impl Joiner {
+    /// Appends what `push` would put of an item whose given bytes are none: those go behind it. After an `Err` the
+    /// joiner is not to be used again.
+    #[inline]
+    pub fn append(
+        &mut self,
+        item: FlatItem,
+        names: &Names,
+        out: &mut Bytes,
+    ) -> Result<(), Memory>
+        requires come { CanCome (length names.now) self.old.depth item }
+        ensures bytes { (ps : List Printable) → Stands self.old ps
+            → OnOk result (out.new ≡ out.old ++ added self.old.inner ps (alone names.now item)) }
+        ensures stands { (ps : List Printable) (p : Printable) → Stands self.old ps → p.item ≡ item_is item
+            → OnOk result (Stands self.new (ps ++ p ∷ [])) }
+        ensures inner { OnOk result (self.new.inner ≡ self.old.inner) }
+    {
+        match run_control(item) {
+            Some(control) => self.append_control(control, out),
+            None => self.append_other(item, names, out),
+        }
+    }
+
+    /// Appends what a run at the end has still to print. The joiner is then as new.
+    pub fn append_end(&mut self, out: &mut Bytes) -> Result<(), Memory>
+        requires closed { self.old.depth ≡ 0 }
+        ensures bytes { (ps : List Printable) → Stands self.old ps
+            → OnOk result (out.new ≡ out.old ++ late self.old.inner ps) }
+        ensures stands { OnOk result (Stands self.new []) }
+        ensures inner { OnOk result (self.new.inner ≡ self.old.inner) }
+    {
+        append_run(self.run, self.is_inner(), out)?;
+        self.run = Run::new();
+        Ok(())
+    }
+
+    // A control goes into the run.
+    fn append_control(&mut self, control: Control, out: &mut Bytes) -> Result<(), Memory>
+        ensures bytes { OnOk result (out.new
+            ≡ out.old ++ run_front (is_inner self.old.inner self.old.depth) (control ∷ [])) }
+        ensures state { OnOk result (self.new ≡ record self.old { run = run_more self.old.run control }) }
+    {
+        if !self.is_inner() {
+            out.append(indent(control))?;
+        }
+        self.run = self.run.with(control);
+        Ok(())
+    }
+
+    // Any other item ends the run.
+    fn append_other(
+        &mut self,
+        item: FlatItem,
+        names: &Names,
+        out: &mut Bytes,
+    ) -> Result<(), Memory>
+        requires come { CanCome (length names.now) self.old.depth item }
+        ensures bytes { OnOk result (out.new ≡ out.old
+            ++ (state_back (is_inner self.old.inner self.old.depth) self.old.run ++ item_bytes names.now item [])) }
+        ensures state { OnOk result (self.new ≡ record self.old {
+          depth = opened self.old.depth (item_is item);
+          run = run_state [];
+        }) }
+    {
+        if !self.run.is_empty() {
+            append_run(self.run, self.is_inner(), out)?;
+        }
+        append_item(item, names, out)?;
+        self.depth = depth_behind(self.depth, item);
+        self.run = Run::new();
+        Ok(())
+    }
+}
+
+// Appends what a run prints when it has ended.
+fn append_run(run: Run, inner: bool, out: &mut Bytes) -> Result<(), Memory>
+    ensures { OnOk result (out.new ≡ out.old ++ state_back inner (state_of run)) }
+{
+    out.append(run.pause(inner))?;
+    out.append(step(run.backs(inner)))
+}
+
+// Appends the bytes of a name or of a sign.
+fn append_item(item: FlatItem, names: &Names, out: &mut Bytes) -> Result<(), Memory>
+    requires named { IsNamed (length names.now) item }
+    ensures { OnOk result (out.new ≡ out.old ++ item_bytes names.now item []) }
+{
+    match item {
+        FlatItem::Ident(name, _) => append_ident(text_of(names, name), out),
+        FlatItem::Reserved(name, _) => append_reserved(text_of(names, name), out),
+        FlatItem::Control(control) => out.append(sign(control, &[])),
+        FlatItem::Source(_) | FlatItem::Open | FlatItem::Close => Ok(()),
+    }
+}

@@ -1,0 +1,41 @@
+//! The bytes of names, behind others in memory.
+ghost use Rattle.std.specs.Prelude.{◌≡◌, ◌++◌, OnOk};
+ghost use Rattle.cw_trees.specs.Printing.{ident_bytes, name_bytes, reserved_bytes};
+
+use crate::naming::{font, is_marked};
+use cw_base::{Bytes, Memory};
+
+/// Appends an identifier.
+pub(crate) fn append_ident(name: &[u8], out: &mut Bytes) -> Result<(), Memory>
+    ensures { OnOk result (out.new ≡ out.old ++ ident_bytes name.now) }
+{
+    if name.len() == 1 {
+        out.append(b"\\|")?;
+        return append_name(name, out);
+    }
+    out.append(font(name))?;
+    append_name(name, out)?;
+    out.push(b'}')
+}
+
+/// Appends a reserved word.
+pub(crate) fn append_reserved(name: &[u8], out: &mut Bytes) -> Result<(), Memory>
+    ensures { OnOk result (out.new ≡ out.old ++ reserved_bytes name.now) }
+{
+    out.append(b"\\&{")?;
+    append_name(name, out)?;
+    out.push(b'}')
+}
+
+// Appends the bytes of a name; `_` and `$` have a backslash.
+fn append_name(name: &[u8], out: &mut Bytes) -> Result<(), Memory>
+    ensures { OnOk result (out.new ≡ out.old ++ name_bytes name.now) }
+{
+    for byte in name {
+        if is_marked(*byte) {
+            out.push(b'\\')?;
+        }
+        out.push(*byte)?;
+    }
+    Ok(())
+}
