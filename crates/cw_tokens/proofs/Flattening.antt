@@ -6,7 +6,6 @@ use Rattle.std.proofs.lemmas.Option.{slice_get_within}
 use Rattle.cw_trees.specs.Flat.{Item, Open as open_item, Close as close_item, flat}
 use Rattle.cw_tokens.specs.declared.token.Token.{Token}
 use Rattle.cw_tokens.specs.declared.flat.FlatItem.{FlatItem}
-use Rattle.cw_tokens.specs.declared.flat.FlatItem.TheVariants.{Open}
 use Rattle.cw_tokens.specs.declared.store.Link.{Link}
 use Rattle.cw_tokens.specs.declared.walk.Part.TheVariants.{Leaf as leaf_part, Below as below_part, InnerBelow as inner_part}
 use Rattle.cw_tokens.specs.Shapes.{Shape, Plain, Below, InnerBelow, shape, ref_of, item_of, tree_in, trees_from, unfolded}

@@ -8,7 +8,7 @@ use Rattle.cw_tokens.specs.declared.store.Link.{Link}
 use Rattle.cw_tokens.specs.declared.walk.Part.TheVariants.{Leaf as leaf_part, Below as below_part, InnerBelow as inner_part}
 use Rattle.cw_tokens.specs.Shapes.{shape, unfolded}
 use Rattle.cw_tokens.specs.References.{IsTied}
-use Rattle.cw_tokens.specs.Stored.{no_link, IsLinked}
+use Rattle.cw_tokens.specs.Stored.{no_link}
 use Rattle.cw_tokens.specs.FlatItems.{item_is, IsPart, closing, Flattens}
 use Rattle.cw_tokens.specs.Trimming.{Trims, StandsFor}
 use Rattle.cw_tokens.proofs.Flattening.{Ups, flattens-start, flattens-leaf, flattens-below, flattens-inner, flattens-end, up-flattens}

@@ -1,6 +1,6 @@
 use Rattle.std.proofs.Common.{sym, ◌∙◌, arith}
 use Rattle.cw_tokens.specs.declared.flat.FlatItem.TheVariants.{Source}
-use Rattle.cw_tokens.proofs.Standing.{unbroken-start, unbroken-kept, unbroken-dropped, unbroken-end}
+use Rattle.cw_tokens.proofs.Standing.{unbroken-start, unbroken-kept, unbroken-dropped}
 use Rattle.cw_tokens.proofs.trimmer.keep_unbroken.Goals as goal
 use Rattle.cw_tokens.proofs.trimmer.keep_unbroken.Goals.{then-not-breaks, else-not-breaks}
 

@@ -1,6 +1,6 @@
 use Rattle.std.proofs.Common.{sym, ◌∙◌, subst}
 use Rattle.cw_tokens.specs.Trimming.{StandsFor, Trims}
-use Rattle.cw_tokens.proofs.Standing.{stands-dropped, stands-gap, stands-settled}
+use Rattle.cw_tokens.proofs.Standing.{stands-gap, stands-settled}
 use Rattle.cw_tokens.proofs.trimmer.Trimmer.push.Goals as goal
 
 pub returns-then-gaps : goal.returns-then-gaps
