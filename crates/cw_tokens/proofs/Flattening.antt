@@ -16,6 +16,11 @@ use Rattle.cw_tokens.proofs.Linking.{refers-within}
 use Rattle.cw_tokens.proofs.Unfolding.{unfold-is, reach-le}
 use Rattle.cw_tokens.proofs.Searching.{drop-at}
 
+-- how far the walk has come, and the list at hand is read
+pub record ReadsFlat (lists : List (List Token)) (root list place : ℕ) (items : List Token) (given all : List Item) : Type 0 where
+  pub flattens : Flattens lists root list place given all
+  pub here : items ≡ get_or lists list []
+
 flat-at : (ls : List (List Token)) (l p : ℕ) (t : Token) → slice_get (get_or ls l []) p ≡ Some t → flat_from ls l p ≡ flat (item_of (trees_from [] ls) (shape t) (tree_in (trees_from [] ls) (drop (p + 1) (get_or ls l []))))
 flat-at ls l p t e = ap (λ us. flat (tree_in (trees_from [] ls) us)) (drop-at (get_or ls l []) p t e) ∙ ap (λ i. flat (item_of (trees_from [] ls) (shape t) (tree_in (trees_from [] ls) (drop i (get_or ls l []))))) (sym (add-one p))
 

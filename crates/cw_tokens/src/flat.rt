@@ -103,8 +103,8 @@ pub fn flatten(
 {
     let mut list = root;
     let mut place = 0;
+    let mut items = list_at(tokens, ends, list);
     loop {
-        let items = list_at(tokens, ends, list);
         if place < items.len() {
             match part_of(items[place]) {
                 Part::Leaf(item) => {
@@ -114,11 +114,13 @@ pub fn flatten(
                 Part::Below(below) => {
                     list = below;
                     place = 0;
+                    items = list_at(tokens, ends, list);
                 }
                 Part::InnerBelow(below) => {
                     out.push(FlatItem::Open)?;
                     list = below;
                     place = 0;
+                    items = list_at(tokens, ends, list);
                 }
             }
         } else if list == root {
@@ -128,6 +130,7 @@ pub fn flatten(
             close(token_before(tokens, ends, up), out)?;
             list = up.list;
             place = up.place;
+            items = list_at(tokens, ends, list);
         }
     }
 }
