@@ -2,10 +2,11 @@
 # make install  puts cweave into PREFIX/bin
 # make gate     every proof, must-fail edit, test and program
 # make bench    instructions per input byte and peak memory for webs of stated sizes
+# make hostile  refused memory, failing devices, and large webs that no one would write
 PREFIX ?= /usr/local
 PROGRAM = build/cweave
 
-.PHONY: all hello install gate bench clean
+.PHONY: all hello install gate bench hostile clean
 
 all: $(PROGRAM)
 
@@ -30,6 +31,9 @@ gate:
 
 bench: $(PROGRAM)
 	bench/run
+
+hostile: $(PROGRAM)
+	tools/hostile
 
 clean:
 	rm -rf build

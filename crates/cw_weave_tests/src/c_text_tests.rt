@@ -1,0 +1,86 @@
+//! Webs of one C part: the section and the index, with flag x and without.
+use crate::told;
+use cw_base::{Bytes, Memory};
+use std::alloc::Global;
+use std::test::Fail;
+
+/// What a run of one section without notes tells. With flag x it has the index too.
+fn whole(alloc: Global, section: &[u8], index: &[u8], with_index: bool) -> Result<Bytes, Memory> {
+    let mut text = Bytes::new_in(alloc);
+    text.append(
+        b"[term]This is CWEAVE (profile 1)\nWriting the output file...\n[tex] is foo.tex\n",
+    )?;
+    text.append(b"[tex]\\input cwebmac\n\\M{1}\n")?;
+    text.append(section)?;
+    text.append(b"\\fi\n\n")?;
+    if with_index {
+        text.append(b"\\inx\n\\fin\n\\end\n[term]Writing the index...\n[idx] is foo.idx\n")?;
+        if !index.is_empty() {
+            text.append(b"[idx]")?;
+            text.append(index)?;
+        }
+        text.append(b"[scn] is foo.scn\n")?;
+    } else {
+        text.append(b"\\end\n")?;
+    }
+    text.append(b"[term]Done.\n(No errors were found.)\nClean")?;
+    Ok(text)
+}
+
+/// A text of a C part, what its section prints, and its index.
+const ROWS: [(&[u8], &[u8], &[u8]); 8] = [
+    (
+        b"int a=b+c, *d;",
+        b"\\Y\\B\\&{int} \\|a${}\\K\\|b+\\|c,{}$ ${}{*}\\|d;$\\par\n",
+        b"\\I\\|a, \\[1].\n\\I\\|d, \\[1].\n",
+    ),
+    (
+        b"if(a)b;else if(c){d;}else e;",
+        b"\\Y\\B\\&{if} (\\|a)\\1\\5\\|b;\\2\\6
+\\&{else} \\&{if} (\\|c)\\5${}\\{\\1{}$\\6
+\\|d;\\6
+\\4${}\\}\\2{}$\\6
+\\&{else}\\1\\5\\|e;\\2\\par
+",
+        b"",
+    ),
+    (
+        b"typedef struct foo{int x;} bar; bar y;",
+        b"\\Y\\B\\&{typedef} \\&{struct} \\&{foo} ${}\\{\\1{}$\\6
+\\&{int} \\|x;\\2\\6
+${}\\}{}$ \\&{bar};\\6
+\\&{bar} \\|y;\\par
+",
+        b"\\I\\&{bar}, \\[1].\n\\I\\&{foo}, \\[1].\n\\I\\|x, \\[1].\n\\I\\|y, \\[1].\n",
+    ),
+    (
+        b"if(a)b; /* c */ else d;",
+        b"\\Y\\B\\&{if} (\\|a)\\1\\5\\|b;\\C{ c }\\2\\6\n\\&{else}\\1\\5\\|d;\\2\\par\n",
+        b"",
+    ),
+    (b") } ; @;", b"\\Y\\B) $\\}$ ;\\par\n", b""),
+    (
+        b"a; /* b |x /* c |y| */| */",
+        b"\\Y\\B\\|a;\\C{ b \\PB{\\|x\\C{ c \\PB{\\|y} }} }\\par\n",
+        b"",
+    ),
+    (b"@[int@]=x; @]", b"\\Y\\B$\\&{int}\\K\\|x;$\\par\n", b""),
+    (b"x=a?b:c;", b"\\Y\\B$\\|x\\K\\|a\\?\\|b:\\|c;$\\par\n", b""),
+];
+
+#[test]
+fn each_section_and_its_index(rt: HostRuntime) -> Result<(), Fail> {
+    for (text, section, index) in ROWS {
+        let mut web = Bytes::from_slice(rt.alloc(), b"@ @c ")?;
+        web.append(text)?;
+        web.push(b'\n')?;
+        let files = [(b"foo.w".as_slice(), web.as_slice())];
+        let seen = told(rt.alloc(), &[b"foo".as_slice()], &files)?;
+        let wanted = whole(rt.alloc(), section, index, true)?;
+        assert_eq!(rt; seen.as_slice(), wanted.as_slice());
+        let seen = told(rt.alloc(), &[b"-x".as_slice(), b"foo".as_slice()], &files)?;
+        let wanted = whole(rt.alloc(), section, index, false)?;
+        assert_eq!(rt; seen.as_slice(), wanted.as_slice());
+    }
+    Ok(())
+}

@@ -1,0 +1,16 @@
+//! Whole runs of the program over desks in memory, for tests: what is printed and written is compared byte by byte.
+#![tactic(auto)]
+
+#[cfg(test)]
+mod c_text_tests;
+#[cfg(test)]
+mod change_tests;
+#[cfg(test)]
+mod failing_tests;
+#[cfg(test)]
+mod large_tests;
+mod runs;
+#[cfg(test)]
+mod section_tests;
+
+pub use runs::{append_journal, desk_with, told, weave, weave_quietly};

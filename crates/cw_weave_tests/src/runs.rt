@@ -1,0 +1,89 @@
+//! Runs, and what they told.
+ghost use Rattle.std.specs.Prelude.{◌≢◌};
+
+use cw_base::{Bytes, Event, Exit, Memory, Out, Silent, Steps, Words};
+use cw_desk::{Desk, MemDesk, QuietDesk};
+use cw_weave::weave_command;
+use std::alloc::Global;
+
+fn list_of(alloc: Global, words: &[&[u8]]) -> Result<Words, Memory> {
+    let mut list = Words::new_in(alloc);
+    for word in words {
+        list.push(word)?;
+    }
+    Ok(list)
+}
+
+/// Weaves what these words ask for.
+pub fn weave<D: Desk>(alloc: Global, words: &[&[u8]], desk: &mut D) -> Result<Exit, Memory> {
+    let list = list_of(alloc, words)?;
+    Ok(weave_command(alloc, &list, desk, &mut Steps::<Silent>::new()))
+}
+
+/// The same over a desk on which nothing fails: a fault can't come.
+pub fn weave_quietly(alloc: Global, words: &Words, desk: &mut QuietDesk) -> Exit
+    ensures { result ≢ Exit.Fault }
+{
+    weave_command(alloc, words, desk, &mut Steps::<Silent>::new())
+}
+
+fn out_name(out: Out) -> &'static [u8] {
+    match out {
+        Out::Term => b"[term]",
+        Out::Tex => b"[tex]",
+        Out::Idx => b"[idx]",
+        Out::Scn => b"[scn]",
+    }
+}
+
+/// Appends a journal as a text: each run of bytes on one output begins with its name in brackets.
+pub fn append_journal(text: &mut Bytes, journal: &[Event]) -> Result<(), Memory> {
+    let mut last = None;
+    for event in journal {
+        match event {
+            Event::Made(out, name) => {
+                text.append(out_name(*out))?;
+                text.append(b" is ")?;
+                text.append(name.as_slice())?;
+                text.push(b'\n')?;
+                last = None;
+            }
+            Event::Byte(out, byte) => {
+                if last != Some(*out) {
+                    text.append(out_name(*out))?;
+                }
+                text.push(*byte)?;
+                last = Some(*out);
+            }
+        }
+    }
+    Ok(())
+}
+
+fn exit_name(exit: Exit) -> &'static [u8] {
+    match exit {
+        Exit::Clean => b"Clean",
+        Exit::Errors => b"Errors",
+        Exit::Fault => b"Fault",
+        Exit::Memory => b"Memory",
+    }
+}
+
+/// A desk with these files.
+pub fn desk_with(alloc: Global, files: &[(&[u8], &[u8])]) -> Result<MemDesk, Memory> {
+    let mut desk = MemDesk::new_in(alloc);
+    for (name, bytes) in files {
+        desk.add_file(name, bytes)?;
+    }
+    Ok(desk)
+}
+
+/// What a run over these files tells: its journal, and behind it how it ended.
+pub fn told(alloc: Global, words: &[&[u8]], files: &[(&[u8], &[u8])]) -> Result<Bytes, Memory> {
+    let mut desk = desk_with(alloc, files)?;
+    let exit = weave(alloc, words, &mut desk)?;
+    let mut text = Bytes::new_in(alloc);
+    append_journal(&mut text, desk.journal())?;
+    text.append(exit_name(exit))?;
+    Ok(text)
+}
