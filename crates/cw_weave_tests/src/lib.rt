@@ -8,6 +8,10 @@ mod change_tests;
 #[cfg(test)]
 mod failing_tests;
 #[cfg(test)]
+mod forty_sections;
+#[cfg(test)]
+mod forty_tests;
+#[cfg(test)]
 mod large_tests;
 mod runs;
 #[cfg(test)]
