@@ -1,5 +1,9 @@
 -- The classes stand in their order, and a class by its value.
-use Rattle.std.proofs.Common.{◌≡◌, refl}
+use Rattle.std.proofs.Common.{◌≡◌, ℕ, refl, sym}
+use Rattle.std.specs.declared.cmp.Ordering.{Ordering}
+use Rattle.std.specs.declared.cmp.Ordering.TheVariants.{Equal}
+use Rattle.std.specs.Cmp.{nat_cmp_is}
+use Rattle.std.specs.Ordering.{nat_cmp}
 use Rattle.cw_index.specs.declared.collation.Class.{Class}
 use Rattle.cw_index.specs.declared.collation.Class.TheVariants.{Blank, Sign, Underscore, Letter, High, Digit}
 use Rattle.cw_index.specs.contracts.collation.ClassOrd.TheImpl as class_ord
@@ -42,3 +46,14 @@ class_cmp-is (Digit x) Underscore = refl
 class_cmp-is (Digit x) (Letter y) = refl
 class_cmp-is (Digit x) (High y) = refl
 class_cmp-is (Digit x) (Digit y) = refl
+
+cmp-same : (n : ℕ) → nat_cmp n n ≡ Equal
+cmp-same n = sym (nat_cmp_is n n Equal refl)
+
+pub class_cmp-same : (x : Class) → class_cmp x x ≡ Equal
+class_cmp-same Blank = refl
+class_cmp-same (Sign x) = cmp-same x
+class_cmp-same Underscore = refl
+class_cmp-same (Letter x) = cmp-same x
+class_cmp-same (High x) = cmp-same x
+class_cmp-same (Digit x) = cmp-same x
