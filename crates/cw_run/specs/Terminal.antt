@@ -10,9 +10,6 @@ banner flags = says_if flags.banner (codes "This is CWEAVE (profile 1)")
 abbrev pub usage_text : List ℕ
 usage_text = codes "! Usage: cweave [options] webfile[.w] [{changefile[.ch]|-} [outfile[.tex]]]"
 
-abbrev pub not_built_text : List ℕ
-not_built_text = codes "! Not built yet"
-
 abbrev pub no_web_text : List ℕ → List ℕ
 no_web_text word = codes "! Cannot open web file " ++ word
 

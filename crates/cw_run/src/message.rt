@@ -6,7 +6,6 @@ ghost use Rattle.std.specs.Prelude.{◌≡◌, [], ◌∷◌, ◌++◌};
 pub enum Message {
     Banner,
     Usage,
-    NotBuilt,
     TooLong,
     Fatal,
     WritingOutput,
@@ -28,7 +27,6 @@ impl Message {
             Message::Banner => b"This is CWEAVE (profile 1)\n",
             Message::Usage =>
                 b"! Usage: cweave [options] webfile[.w] [{changefile[.ch]|-} [outfile[.tex]]]\n",
-            Message::NotBuilt => b"! Not built yet\n",
             Message::TooLong => b"! Input is longer than 8388608 bytes\n",
             Message::Fatal => b"(That was a fatal error, my friend.)\n",
             Message::WritingOutput => b"Writing the output file...\n",

@@ -13,8 +13,8 @@ use Rattle.cw_table.specs.NormalWalk.{positions}
 use Rattle.cw_table.specs.Productions.{productions}
 use Rattle.cw_table.specs.WalkCounts.{looks}
 use Rattle.cw_run.specs.Saying.{says}
-use Rattle.cw_weave.specs.Woven.{events, woven}
-use Rattle.cw_weave.proofs.Rows.{all_say, foo, foo_w, lines}
+use Rattle.cw_weave.specs.Woven.{woven}
+use Rattle.cw_weave.proofs.Rows.{all_say, events, foo, foo_w, lines}
 
 -- the events of a run without notes: the lines of its three files, and those that are said at its end
 abbrev run_of : List (List ℕ) → List (List ℕ) → List (List ℕ) → List (List ℕ) → List Event

@@ -3,5 +3,7 @@ pub mod PressLaws
 pub mod WrittenLaws
 pub mod ExitLaws
 pub mod RunLaws
+pub mod SampleLaws
 mod Rows
 mod IndexRows
+mod SampleRows

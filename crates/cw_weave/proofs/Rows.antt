@@ -13,7 +13,12 @@ use Rattle.cw_table.specs.NormalWalk.{positions}
 use Rattle.cw_table.specs.Productions.{productions}
 use Rattle.cw_table.specs.WalkCounts.{looks}
 use Rattle.cw_run.specs.Saying.{says}
-use Rattle.cw_weave.specs.Woven.{events, woven}
+use Rattle.cw_run.specs.Emits.{Run}
+use Rattle.cw_weave.specs.Woven.{woven}
+
+-- all that a run prints and writes
+abbrev pub events : Run → List Event
+events run = run.rest
 
 abbrev pub lines : List (List ℕ) → List ℕ
 lines [] = []
@@ -125,11 +130,6 @@ codes_that_print_nothing : events (woven foo (foo_w (codes "@q x@>" ∷ codes "@
     (codes "(Pardon me, but I think I spotted something wrong.)")
 unfolding digits cut_behind divide new_lines web_lines says translated normal log count positions looks productions
 codes_that_print_nothing = refl
-
-the_sample_is_not_built : events (woven (codes "--sample" ∷ codes "3" ∷ []) no_files) ≡ all_say (codes "This is CWEAVE (profile 1)" ∷
-    codes "! Not built yet" ∷ codes "(That was a fatal error, my friend.)" ∷ [])
-unfolding says digits
-the_sample_is_not_built = refl
 
 -- ## Runs without an index
 

@@ -1,5 +1,6 @@
 -- How many steps a run may take.
 use Rattle.std.specs.Prelude.{ℕ, ◌+◌, Bool, true, false, List}
+use Rattle.cw_base.specs.Flags.{start_flags}
 use Rattle.cw_base.specs.Web.{text_of}
 use Rattle.cw_base.specs.declared.flags.Flags.{Flags}
 use Rattle.cw_input.specs.Merge.{Lookup}
@@ -11,8 +12,9 @@ use Rattle.cw_phase1.specs.Book.{book}
 use Rattle.cw_phase1.specs.declared.book.Book.{Book}
 use Rattle.cw_reduce.specs.Counting.{limit_in}
 use Rattle.cw_texpart.specs.Done.{Done}
-use Rattle.cw_weave.specs.TexFile.{left_by, tex_file}
-use Rattle.cw_weave.specs.Woven.{handed, name_list}
+use Rattle.cw_weave.specs.Sample.{sample_tex}
+use Rattle.cw_weave.specs.TexFile.{handed, left_by, tex_file}
+use Rattle.cw_weave.specs.Woven.{name_list}
 
 -- The C texts of the list of section names are translated with flag x.
 abbrev pub list_looks : Bool → List ℕ → Flags → Book → ℕ
@@ -32,9 +34,13 @@ web_looks flags NoChange = 0
 web_looks flags TooLong = 0
 web_looks flags (Whole web) = book_looks (text_of web.lines) flags (handed (book web.lines))
 
+-- The sample has no list of section names.
+abbrev pub sample_looks : ℕ → ℕ
+sample_looks n = limit_in start_flags (sample_tex n).ended
+
 abbrev pub command_looks : Command → Lookup → ℕ
 command_looks (Usage flags) named = 0
-command_looks (Sample sections) named = 0
+command_looks (Sample sections) named = sample_looks sections
 command_looks (Weave line) named = web_looks line.flags (merged named line.web line.change)
 
 -- the limits of all C texts that a run translates, for the words of a command line, over files that are there by their names

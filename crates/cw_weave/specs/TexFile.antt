@@ -5,12 +5,23 @@ use Rattle.cw_index.specs.Closing.{closing_lines}
 use Rattle.cw_names.specs.Names.{Entry}
 use Rattle.cw_names.specs.declared.xrefs.Occurrence.{Occurrence}
 use Rattle.cw_part.specs.Sections.{at_section, section_done, sections_done}
+use Rattle.cw_phase1.specs.Book.{BookState}
 use Rattle.cw_phase1.specs.declared.book.Book.{Book}
 use Rattle.cw_phase1.specs.declared.sections.Section.{Section}
 use Rattle.cw_texpart.specs.Done.{Done, plain, then}
 use Rattle.cw_texpart.specs.Limbo.{limbo_bytes}
 use Rattle.cw_texpart.specs.Texts.{Setting, setting}
 use Rattle.cw_texpart.specs.Weaving.{underlined}
+
+-- the book as the first phase hands it on
+abbrev pub handed : BookState → Book
+handed b = record {
+  names = b.names;
+  xrefs = b.occurrences;
+  sec_names = b.section_names;
+  name_uses = b.name_uses;
+  outline = record { limbo = b.limbo; sections = b.sections; notes = b.notes };
+}
 
 -- The sections of a book begin with its names, and each leaves its categories to the next.
 abbrev pub all_sections : List ℕ → Flags → Book → Done ℕ

@@ -2,7 +2,6 @@
 -- status of the run.
 use Rattle.std.specs.Prelude.{◌≡◌, ℕ, Bool, true, false, List, [], ◌∷◌, ◌++◌, Option, Some, None, map}
 use Rattle.std.specs.List.{flat_map}
-use Rattle.cw_base.specs.Flags.{start_flags}
 use Rattle.cw_base.specs.Web.{WebState, text_of}
 use Rattle.cw_base.specs.declared.event.Event.{Event}
 use Rattle.cw_base.specs.declared.event.Out.TheVariants.{Tex, Idx, Scn}
@@ -21,7 +20,7 @@ use Rattle.cw_input.specs.declared.words.Command.{Command}
 use Rattle.cw_input.specs.declared.words.Command.TheVariants.{Weave, Sample, Usage}
 use Rattle.cw_input.specs.declared.words.CommandLine.{CommandLine}
 use Rattle.cw_input.specs.declared.words.OutputNames.{OutputNames}
-use Rattle.cw_phase1.specs.Book.{BookState, book}
+use Rattle.cw_phase1.specs.Book.{book}
 use Rattle.cw_phase1.specs.declared.book.Book.{Book}
 use Rattle.cw_secnames.specs.Kept.{SecName}
 use Rattle.cw_texpart.specs.Done.{Done}
@@ -34,21 +33,10 @@ use Rattle.cw_run.specs.Saying.{says, says_if}
 use Rattle.cw_run.specs.Statistics.{statistics_if}
 use Rattle.cw_run.specs.Stops.{stopped}
 use Rattle.cw_weave.specs.Statistics.{totals_of}
-use Rattle.cw_run.specs.Terminal.{banner, usage_text, not_built_text, no_web_text, no_change_text, too_long_text, fatal_text, output_text, index_text, done_text}
-use Rattle.cw_weave.specs.TexFile.{left_by, tex_file}
+use Rattle.cw_run.specs.Terminal.{banner, usage_text, no_web_text, no_change_text, too_long_text, output_text, index_text, done_text}
+use Rattle.cw_weave.specs.Sample.{sample_run}
+use Rattle.cw_weave.specs.TexFile.{handed, left_by, tex_file}
 use Rattle.cw_run.specs.declared.statistics.Totals.{Totals}
-
--- a run with the flags that decide on the banner
-pub record Woven : Type 0 where
-  pub flags : Flags
-  pub run : Run
-
-abbrev pub events : Woven → List Event
-events w = banner w.flags ++ w.run.rest
-
--- the whole run, its banner included
-abbrev pub whole_run : Woven → Run
-whole_run w = record { rest = events w; exit = w.run.exit }
 
 -- ## The files
 
@@ -121,16 +109,6 @@ weave_tex line web b tex = weave_left line web b tex (left_by (text_of web.lines
 abbrev pub weave_book : CommandLine → WebState → Book → Run
 weave_book line web b = weave_tex line web b (tex_file (text_of web.lines) line.flags b)
 
--- the book as the first phase hands it on
-abbrev pub handed : BookState → Book
-handed b = record {
-  names = b.names;
-  xrefs = b.occurrences;
-  sec_names = b.section_names;
-  name_uses = b.name_uses;
-  outline = record { limbo = b.limbo; sections = b.sections; notes = b.notes };
-}
-
 abbrev pub change_text : Option (List ℕ) → List ℕ
 change_text None = []
 change_text (Some word) = word
@@ -143,18 +121,21 @@ weave_web line (Whole web) = weave_book line web (handed (book web.lines))
 
 -- ## Commands
 
-abbrev pub weave_command_of : Command → Lookup → Woven
-weave_command_of (Usage flags) named = record { flags = flags; run = stopped usage_text }
-weave_command_of (Sample sections) named = record { flags = start_flags; run = stopped not_built_text }
-weave_command_of (Weave line) named = record { flags = line.flags; run = weave_web line (merged named line.web line.change) }
+abbrev pub with_banner : Flags → Run → Run
+with_banner flags run = record { rest = banner flags ++ run.rest; exit = run.exit }
 
-abbrev pub woven : List (List ℕ) → Lookup → Woven
+abbrev pub weave_command_of : Command → Lookup → Run
+weave_command_of (Usage flags) named = with_banner flags (stopped usage_text)
+weave_command_of (Sample sections) named = sample_run sections
+weave_command_of (Weave line) named = with_banner line.flags (weave_web line (merged named line.web line.change))
+
+abbrev pub woven : List (List ℕ) → Lookup → Run
 woven words named = weave_command_of (command_of words) named
 
 -- What a run has done: it emitted exactly the events and answers exactly the status; or a first part of the events, after a fault of
 -- the desk or for want of memory.
-abbrev pub Outcome : Woven → Told → Told → Exit → Type 0
-Outcome w before now Clean = (now.journal ≡ grown before.journal (events w)) × (w.run.exit ≡ Clean)
-Outcome w before now Errors = (now.journal ≡ grown before.journal (events w)) × (w.run.exit ≡ Errors)
-Outcome w before now Fault = GrownByPart before.journal now.journal (events w)
-Outcome w before now Memory = GrownByPart before.journal now.journal (events w)
+abbrev pub Outcome : Run → Told → Told → Exit → Type 0
+Outcome run before now Clean = (now.journal ≡ grown before.journal run.rest) × (run.exit ≡ Clean)
+Outcome run before now Errors = (now.journal ≡ grown before.journal run.rest) × (run.exit ≡ Errors)
+Outcome run before now Fault = GrownByPart before.journal now.journal run.rest
+Outcome run before now Memory = GrownByPart before.journal now.journal run.rest

@@ -8,6 +8,10 @@ mod files;
 mod index_files;
 #[cfg(test)]
 mod merging_tests;
+mod reading;
+mod sample;
+#[cfg(test)]
+mod sample_tests;
 #[cfg(test)]
 mod scanning_tests;
 #[cfg(test)]

@@ -406,20 +406,24 @@ Errors"
 }
 
 #[test]
-fn the_sample_is_not_built(rt: HostRuntime) -> Result<(), Fail> {
-    let text = told(
-        rt.alloc(),
-        HELLO,
-        &[],
-        &[b"--sample".as_slice(), b"3".as_slice()],
-    )?;
-    assert_eq!(rt;
-        text.as_slice(),
-        b"[term]This is CWEAVE (profile 1)
-! Not built yet
+fn no_sample(rt: HostRuntime) -> Result<(), Fail> {
+    let faults: [&[&[u8]]; 5] = [
+        &[b"--sample".as_slice()],
+        &[b"--sample".as_slice(), b"0".as_slice()],
+        &[b"--sample".as_slice(), b"01".as_slice()],
+        &[b"--sample".as_slice(), b"2001".as_slice()],
+        &[b"--sample".as_slice(), b"3".as_slice(), b"4".as_slice()],
+    ];
+    for words in faults {
+        let text = told(rt.alloc(), HELLO, &[], words)?;
+        assert_eq!(rt;
+            text.as_slice(),
+            b"[term]This is CWEAVE (profile 1)
+! Usage: cweave [options] webfile[.w] [{changefile[.ch]|-} [outfile[.tex]]]
 (That was a fatal error, my friend.)
 Errors"
-            .as_slice()
-    );
+                .as_slice()
+        );
+    }
     Ok(())
 }

@@ -1,56 +1,36 @@
 //! A whole run: the words of a command line are read, and what they ask for is done.
-ghost use Rattle.std.specs.Prelude.{◌≡◌, ◌+◌, ◌<◌, ◌≤◌, ◌≢◌, ◌++◌, All, Some, length, option_copied, IfOk};
+ghost use Rattle.std.specs.Prelude.{◌≡◌, ◌+◌, ◌<◌, ◌≤◌, ◌≢◌, ◌++◌, Some, length, option_copied, IfOk};
 ghost use Rattle.std.specs.FinMap.{get};
-ghost use Rattle.cw_base.specs.Web.{text_of};
 ghost use Rattle.cw_desk.specs.Meaning.{Files, Rose};
 ghost use Rattle.cw_input.specs.Merged.{merged};
 ghost use Rattle.cw_lines.specs.Writes.{Adds};
 ghost use Rattle.cw_phase1.specs.Book.{book};
-ghost use Rattle.cw_reduce.specs.NameParts.{AreNamesOf};
 ghost use Rattle.cw_texpart.specs.Texts.{lasting};
 ghost use Rattle.cw_run.specs.Emits.{Emits, Faults, Runs};
 ghost use Rattle.cw_weave.specs.Looks.{book_looks, command_looks, looks_of, web_looks};
 ghost use Rattle.cw_run.specs.Notes.{note_events};
-ghost use Rattle.cw_weave.specs.Pressing.{IsPrintable, IsWholeSection, WholeNames, flags_in, text_in};
-ghost use Rattle.cw_weave.specs.WebWord.{HasWebWord};
-ghost use Rattle.cw_weave.specs.Woven.{Outcome, change_text, handed, weave_book, weave_command_of, weave_web, whole_run, woven};
+ghost use Rattle.cw_weave.specs.Pressing.{IsPrintable, flags_in, text_in};
+ghost use Rattle.cw_weave.specs.Proper.{IsProper};
+ghost use Rattle.cw_weave.specs.TexFile.{handed};
+ghost use Rattle.cw_weave.specs.Woven.{Outcome, change_text, weave_book, weave_command_of, weave_web, woven};
 ghost use Rattle.cw_weave.specs.Written.{AreWritten, events_of};
 
 use crate::ending::end_run;
 use crate::files::Written;
 use crate::index_files::write_index_files;
+use crate::reading::read_book;
+use crate::sample::weave_sample;
 use crate::source::Source;
 use crate::tex_file::{totals_of, write_tex};
-use cw_base::{Exit, Ledger, Memory, Steps, Web, Words};
+use cw_base::{Exit, Ledger, Steps, Words};
 use cw_desk::Desk;
-use cw_index::whole_names_law;
 use cw_input::{Command, CommandLine, LoadError, load, read_command};
 use cw_lines::PutError;
-use cw_part::whole_rest_law;
-use cw_phase1::{Book, phase_one, whole_law};
+use cw_phase1::Book;
 use cw_run::{
-    Judgement, Message, Noted, print_notes, say, say_if, stop, stop_without_change,
-    stop_without_web,
+    Judgement, Message, Noted, print_notes, say_if, stop, stop_without_change, stop_without_web,
 };
-use cw_texpart::whole_pieces_law;
 use std::alloc::Global;
-
-// The book that the first phase makes of a web.
-fn read_book(alloc: Global, web: &Web) -> Result<Book, Memory>
-    ensures book { IfOk result (λ b. b ≡ handed (book web.now.lines)) }
-    ensures kept { IfOk result (λ b. AreNamesOf b.sec_names b.name_uses) }
-    ensures whole { IfOk result (λ b. All (IsWholeSection (text_of web.now.lines)) b.outline.sections) }
-    ensures names { IfOk result (λ b. WholeNames (text_of web.now.lines) b.sec_names b.name_uses) }
-{
-    whole_law();
-    whole_pieces_law();
-    whole_rest_law();
-    whole_names_law();
-    let book = phase_one(alloc, web)?;
-    // By its type a text has at most 16,777,216 bytes, and no section name is longer.
-    let _text = web.text();
-    Ok(book)
-}
 
 // Prints the notes of reading, and those of the first phase.
 fn print_all_notes<D: Desk>(source: Source, book: &Book, desk: &mut D) -> Result<(), PutError>
@@ -178,16 +158,16 @@ fn weave_line<D: Desk, L: Ledger>(
     }
 }
 
-// Prints the banner, and does what a command asks for.
+// Does what a command asks for.
 fn run<D: Desk, L: Ledger>(
     alloc: Global,
     desk: &mut D,
     command: &Command,
     steps: &mut Steps<L>,
 ) -> Result<Exit, PutError>
-    requires { HasWebWord command.now }
+    requires { IsProper command.now }
     ensures runs { (files : Files) → (D.told desk.old).files ≡ Some files →
-        Runs (whole_run (weave_command_of command.now (get files)))
+        Runs (weave_command_of command.now (get files))
         (D.told desk.old) (D.told desk.new) result }
     ensures faults { Faults (D.told desk.old) (D.told desk.new) result }
     ensures bound { (files : Files) → (D.told desk.old).files ≡ Some files →
@@ -199,10 +179,7 @@ fn run<D: Desk, L: Ledger>(
             say_if(desk, flags.banner, Message::Banner)?;
             stop(desk, Message::Usage)
         }
-        Command::Sample(_) => {
-            say(desk, Message::Banner)?;
-            stop(desk, Message::NotBuilt)
-        }
+        Command::Sample(sections) => weave_sample(alloc, *sections, desk, steps),
         Command::Weave(line) => {
             say_if(desk, line.flags.banner, Message::Banner)?;
             weave_line(alloc, desk, line, steps)

@@ -10,12 +10,11 @@ returns-in_ok-say_if-in-Usage-clause-runs g c = λ files is.
 pub returns-in_ok-say_if-in-Usage-clause-faults : goal.returns-in_ok-say_if-in-Usage-clause-faults
 returns-in_ok-say_if-in-Usage-clause-faults g c = faults-then c.in_ok-say_if-in-Usage.ensures.same.faults_kept (emits-faults c.stop.ensures.emits)
 
-pub returns-in_ok-say-in-Sample-clause-runs : goal.returns-in_ok-say-in-Sample-clause-runs
-returns-in_ok-say-in-Sample-clause-runs g c = λ files is.
-    rw c.in-Sample.is (runs-then (adds-emits c.in_ok-say-in-Sample.ensures) c.stop-in-Sample.ensures)
+pub returns-in-Sample-clause-runs : goal.returns-in-Sample-clause-runs
+returns-in-Sample-clause-runs g c = λ files is. rw c.in-Sample.is c.weave_sample.ensures.runs
 
-pub returns-in_ok-say-in-Sample-clause-faults : goal.returns-in_ok-say-in-Sample-clause-faults
-returns-in_ok-say-in-Sample-clause-faults g c = faults-then c.in_ok-say-in-Sample.ensures.same.faults_kept (emits-faults c.stop-in-Sample.ensures.emits)
+pub returns-in-Sample-clause-faults : goal.returns-in-Sample-clause-faults
+returns-in-Sample-clause-faults g c = emits-faults c.weave_sample.ensures.runs.emits
 
 pub returns-in_ok-say_if-in-Weave-clause-runs : goal.returns-in_ok-say_if-in-Weave-clause-runs
 returns-in_ok-say_if-in-Weave-clause-runs g c = λ files is.

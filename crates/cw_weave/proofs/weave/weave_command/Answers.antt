@@ -1,6 +1,6 @@
--- The command has a web word.
-use Rattle.cw_weave.specs.WebWord.{command_of-web}
+-- What a command asks for is known.
+use Rattle.cw_weave.specs.Proper.{command_of-proper}
 use Rattle.cw_weave.proofs.weave.weave_command.Goals as goal
 
 pub run-requires : goal.run-requires
-run-requires g c = rw c.in-Ok.ensures (command_of-web c.args.words.now)
+run-requires g c = rw c.in-Ok.ensures (command_of-proper c.args.words.now)

@@ -4,7 +4,8 @@ use Rattle.cw_phase1.specs.Book.{book}
 use Rattle.cw_phase1.specs.declared.book.Book.{Book}
 use Rattle.cw_weave.specs.Looks.{book_looks}
 use Rattle.cw_weave.specs.Pressing.{flags_in, text_in}
-use Rattle.cw_weave.specs.Woven.{handed, weave_book}
+use Rattle.cw_weave.specs.TexFile.{handed}
+use Rattle.cw_weave.specs.Woven.{weave_book}
 use Rattle.cw_run.specs.EmitsLaws.{runs-known, runs-nothing}
 use Rattle.cw_weave.proofs.ExitLaws.{ok-real, weave_book-real}
 use Rattle.cw_weave.proofs.weave.weave_web.Goals as goal

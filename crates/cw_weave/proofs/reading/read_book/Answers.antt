@@ -11,7 +11,7 @@ use Rattle.cw_secnames.specs.Kept.{SecName}
 use Rattle.cw_secnames.specs.Uses.{NameUse}
 use Rattle.cw_texpart.specs.WholePieces.{TexPartsAreWhole}
 use Rattle.cw_weave.specs.Pressing.{IsWholeSection, WholeNames}
-use Rattle.cw_weave.proofs.weave.read_book.Goals as goal
+use Rattle.cw_weave.proofs.reading.read_book.Goals as goal
 
 pub returns-clause-book : goal.returns-clause-book
 returns-clause-book c = (λ i. record {

@@ -1,0 +1,2 @@
+mod SampleLaws
+mod Rows

@@ -1,0 +1,8 @@
+//! The sample: a web of so many sections that is made in memory, to be woven and counted.
+#![tactic(auto)]
+
+mod sections;
+#[cfg(test)]
+mod tests;
+
+pub use sections::sample_web;
