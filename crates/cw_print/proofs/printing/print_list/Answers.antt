@@ -19,7 +19,7 @@ returns-in_err-items g c = record { puts = puts-nothing _ _ _ c.from_residual.en
 
 pub print_items-requires-clause-come : goal.print_items-requires-clause-come
 print_items-requires-clause-come g c =
-    subst (λ (items : List Item). AllMay (MayCome (length c.args.book.now.names)) 0 items) (sym c.in_ok-items.ensures)
+    subst (λ (items : List Item). AllMay (MayCome (length c.args.book.now.names)) 0 items) (sym c.in_ok-items.ensures.items)
     (trimmed-may (length c.args.book.now.names) (unfolded c.args.store.now.lists c.args.id.index) c.requires.named)
 
 pub returns-in_err-put_bracket : goal.returns-in_err-put_bracket
@@ -39,7 +39,7 @@ returns-in_err-print_items g c =
     let wraps : Bool = c.args.inner && c.args.flags.now.wrap in
     record {
       puts = puts-failing
-          ((λ i. (bracket (c.is_wrapped-wraps.ensures i) (codes "\\PB{") ++ printed c.args.inner (shown s (c.in_ok-items.ensures i))) ++ bracket wraps (codes "}"))
+          ((λ i. (bracket (c.is_wrapped-wraps.ensures i) (codes "\\PB{") ++ printed c.args.inner (shown s (c.in_ok-items.ensures.items i))) ++ bracket wraps (codes "}"))
           ∙ append_assoc (bracket wraps (codes "\\PB{")) (printed c.args.inner (shown s (trimmed (flat tree)))) (bracket wraps (codes "}")))
           (puts-longer (bracket wraps (codes "}")) (puts-then c.in_ok-put_bracket.ensures c.in_err-print_items.ensures))
           c.from_residual-in_err-print_items.ensures.1;
@@ -51,6 +51,6 @@ returns g c =
     record {
       puts = puts-bytes
           (λ i. bracket (c.is_wrapped-wraps.ensures i) (codes "\\PB{")
-          ++ (printed c.args.inner (shown s (c.in_ok-items.ensures i)) ++ bracket (c.is_wrapped-wraps.ensures i) (codes "}")))
+          ++ (printed c.args.inner (shown s (c.in_ok-items.ensures.items i)) ++ bracket (c.is_wrapped-wraps.ensures i) (codes "}")))
           (puts-then c.in_ok-put_bracket.ensures (puts-then c.in_ok-print_items.ensures c.put_bracket-2.ensures));
     }
