@@ -1,3 +1,4 @@
+//! What no clause says: that the sample is made.
 use crate::sample_web;
 use std::test::Fail;
 

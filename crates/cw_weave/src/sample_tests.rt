@@ -1,3 +1,4 @@
+//! The sample, as whole runs.
 use crate::tests::{read_journal, weave};
 use crate::weave_command;
 use cw_base::{Exit, Kept, Steps, Words};
