@@ -22,12 +22,7 @@ impl Joiner {
     /// Appends what `push` would put of an item whose given bytes are none: those go behind it. After an `Err` the
     /// joiner is not to be used again.
     #[inline]
-    pub fn append(
-        &mut self,
-        item: FlatItem,
-        names: &Names,
-        out: &mut Bytes,
-    ) -> Result<(), Memory>
+    pub fn append(&mut self, item: FlatItem, names: &Names, out: &mut Bytes) -> Result<(), Memory>
         requires come { CanCome (length names.now) self.old.depth item }
         ensures bytes { (ps : List Printable) → Stands self.old ps
             → OnOk result (out.new ≡ out.old ++ added self.old.inner ps (alone names.now item)) }
@@ -68,12 +63,7 @@ impl Joiner {
     }
 
     // Any other item ends the run.
-    fn append_other(
-        &mut self,
-        item: FlatItem,
-        names: &Names,
-        out: &mut Bytes,
-    ) -> Result<(), Memory>
+    fn append_other(&mut self, item: FlatItem, names: &Names, out: &mut Bytes) -> Result<(), Memory>
         requires come { CanCome (length names.now) self.old.depth item }
         ensures bytes { OnOk result (out.new ≡ out.old
             ++ (state_back (is_inner self.old.inner self.old.depth) self.old.run ++ item_bytes names.now item [])) }

@@ -10,6 +10,7 @@ use std::test::Fail;
 
 // The first line is the text that is shown, without its code.
 const CODE: &[u8] = b"@ @c 0x1f \"a b\" /* {x */  @<A |1| b@>;";
+
 const NAMED: &[u8] = b"@ @<A |1| b@>=";
 
 /// The book of a web whose second section is changed and defines the name that the first one uses.
@@ -21,11 +22,7 @@ fn book_of(alloc: Global) -> Result<Book, Memory> {
     phase_one(alloc, &web)
 }
 
-fn show_code<'a>(
-    walk: &mut TextWalk<'a>,
-    out: &mut Bytes,
-    book: &'a Book,
-) -> Result<(), Memory> {
+fn show_code<'a>(walk: &mut TextWalk<'a>, out: &mut Bytes, book: &'a Book) -> Result<(), Memory> {
     walk.show(out, FlatItem::Source(5), book)?;
     walk.show(out, FlatItem::Source(10), book)?;
     walk.show(out, FlatItem::Control(Control::Blank), book)?;
@@ -34,11 +31,7 @@ fn show_code<'a>(
     walk.show(out, FlatItem::Control(Control::CommentEnd), book)
 }
 
-fn show_name<'a>(
-    walk: &mut TextWalk<'a>,
-    out: &mut Bytes,
-    book: &'a Book,
-) -> Result<(), Memory> {
+fn show_name<'a>(walk: &mut TextWalk<'a>, out: &mut Bytes, book: &'a Book) -> Result<(), Memory> {
     walk.show(out, FlatItem::Source(26), book)?;
     walk.show(out, FlatItem::Open, book)?;
     walk.show(out, FlatItem::Source(3), book)?;

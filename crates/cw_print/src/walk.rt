@@ -79,12 +79,7 @@ impl<'a> TextWalk<'a> {
     /// Appends what the next item prints by where it stands; names, and signs that print the same everywhere, print
     /// nothing here. A section name prints as the book keeps it.
     #[inline]
-    pub fn show(
-        &mut self,
-        out: &mut Bytes,
-        item: FlatItem,
-        book: &'a Book,
-    ) -> Result<(), Memory>
+    pub fn show(&mut self, out: &mut Bytes, item: FlatItem, book: &'a Book) -> Result<(), Memory>
         ensures bytes { OnOk result (out.new ≡ out.old
             ++ (placed_shown self.old.fixed (title_in (titles book.now) (item_is item)) (item_is item) self.old.stand).bytes) }
         ensures stand { OnOk result (self.new ≡ behind self.old
@@ -99,12 +94,7 @@ impl<'a> TextWalk<'a> {
         }
     }
 
-    fn show_source(
-        &mut self,
-        out: &mut Bytes,
-        number: u32,
-        book: &'a Book,
-    ) -> Result<(), Memory>
+    fn show_source(&mut self, out: &mut Bytes, number: u32, book: &'a Book) -> Result<(), Memory>
         ensures bytes { OnOk result (out.new ≡ out.old
             ++ (source_shown self.old.fixed (titles book.now number) self.old.stand.name number self.old.stand).bytes) }
         ensures stand { OnOk result (self.new ≡ behind self.old
@@ -123,12 +113,7 @@ impl<'a> TextWalk<'a> {
 
     // Appends what the section name at a number prints up to its first inner text, if it has a title.
     #[inline(never)]
-    fn begin_name(
-        &mut self,
-        out: &mut Bytes,
-        number: u32,
-        book: &'a Book,
-    ) -> Result<(), Memory>
+    fn begin_name(&mut self, out: &mut Bytes, number: u32, book: &'a Book) -> Result<(), Memory>
         requires outside { self.old.stand.name ≡ None }
         ensures bytes { OnOk result (out.new ≡ out.old ++ (named_shown (titles book.now number) self.old.stand).bytes) }
         ensures stand { OnOk result (self.new ≡ behind self.old (named_shown (titles book.now number) self.old.stand)) }
@@ -178,7 +163,10 @@ fn is_name(token: Option<Tok>) -> bool
     ensures { result ≡ is_name (option_map seen token.entry) }
 {
     match token {
-        Some(token) => matches!(token.kind, TokKind::Code(Code::SectionName | Code::FileName)),
+        Some(token) => matches!(
+            token.kind,
+            TokKind::Code(Code::SectionName | Code::FileName)
+        ),
         None => false,
     }
 }

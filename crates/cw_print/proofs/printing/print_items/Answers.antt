@@ -41,8 +41,8 @@ pub loop-i-preserved : goal.loop-i-preserved
 loop-i-preserved g c =
     let first : List Item = take c.loop-i.i (items_are c.args.items.now) in
     let one_more = waits-more c.args.items.now c.loop-i.i c.item.result c.item.ensures c.args.inner (source_of c.args.c)
-        c.loop-i.buffer c.print.new.buffer c.loop-i.invariant.waiting
-        (c.in_ok-print.ensures.bytes (source_of c.args.c) c.args.inner first c.loop-i.invariant.midway.behind) in
+    c.loop-i.buffer c.print.new.buffer c.loop-i.invariant.waiting
+    (c.in_ok-print.ensures.bytes (source_of c.args.c) c.args.inner first c.loop-i.invariant.midway.behind) in
     record {
       midway = midway-next c.args.items.now c.loop-i.i c.item.result c.item.ensures (source_of c.args.c) c.args.inner c.loop-i.printer
           c.loop-i.invariant.midway c.print.new.self

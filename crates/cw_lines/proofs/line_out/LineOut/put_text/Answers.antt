@@ -58,7 +58,7 @@ loop-at-preserved g c =
     let room : length c.loop-at.self.line.pending + (end - at) ≤ 80 = omega (arith, c.room.ensures, c.min-end.ensures) in
     let fits : length c.loop-at.self.line.pending + length (take (end - at) (drop at text)) ≤ 80 = omega (arith, size, room) in
     let none : HasNoLineEnd (take (end - at) (drop at text)) =
-        All-take (λ byte. byte ≢ 10) (end - at) (drop at text) (All-drop (λ byte. byte ≢ 10) at text c.requires.text) in
+    All-take (λ byte. byte ≢ 10) (end - at) (drop at text) (All-drop (λ byte. byte ≢ 10) at text c.requires.text) in
     record {
       within = omega (arith, c.min-end.ensures);
       put =
