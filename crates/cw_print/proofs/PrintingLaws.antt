@@ -16,7 +16,6 @@ use Rattle.cw_lines.specs.WritesLaws.{adds-nothing, puts-bytes, puts-failed, put
 use Rattle.cw_lines.specs.declared.put_error.PutError.{PutError}
 use Rattle.cw_lines.specs.declared.put_error.PutError.TheVariants.{Memory}
 use Rattle.cw_join.specs.Early.{added, depth_behind, early, late}
-use Rattle.cw_join.specs.Standing.{JoinerState, Stands}
 use Rattle.cw_join.specs.Tokens.{CanCome, alone}
 use Rattle.cw_join.proofs.EarlyLaws.{added-behind, early-added, printed-is}
 use Rattle.cw_join.proofs.PrintedLaws.{printed-list}
@@ -24,7 +23,7 @@ use Rattle.cw_print.specs.declared.printing.Printer.{Printer}
 use Rattle.cw_print.specs.Coming.{AllMay, MayCome}
 use Rattle.cw_print.specs.Printing.{IsBehind, shown, shown_next}
 use Rattle.cw_print.specs.Sources.{titles}
-use Rattle.cw_print.specs.Walk.{Source, Stand, Title, items_shown, outside, own_bytes, placed_shown, stand_after, title_in}
+use Rattle.cw_print.specs.Walk.{Source, Title, items_shown, outside, own_bytes, placed_shown, stand_after, title_in}
 use Rattle.cw_print.proofs.ComingLaws.{can-come, opened-most}
 use Rattle.cw_print.proofs.ShownLaws.{own-alone, placed-run, shown-append, stand-more}
 

@@ -1,15 +1,14 @@
 -- What is shown of a list with more behind it, and what the joiner prints of an item that is shown.
-use Rattle.std.proofs.Common.{◌≡◌, ℕ, Bool, true, false, List, [], ◌∷◌, ◌++◌, Option, Some, None, refl, ap, sym, ◌∙◌}
-use Rattle.std.proofs.lemmas.List.{append-nil}
+use Rattle.std.proofs.Common.{◌≡◌, Bool, true, false, List, [], ◌∷◌, ◌++◌, Option, Some, None, refl, ap}
 use Rattle.cw_trees.specs.declared.Control.{Control}
 use Rattle.cw_trees.specs.declared.Control.TheVariants as sign
 use Rattle.cw_trees.specs.Flat.{Item, is_run_sign}
-use Rattle.cw_trees.specs.Printing.{Printable, ident_bytes, reserved_bytes, run_sign}
+use Rattle.cw_trees.specs.Printing.{Printable, run_sign}
 use Rattle.cw_names.specs.Names.{Entry}
 use Rattle.cw_tokens.specs.declared.flat.FlatItem.{FlatItem}
 use Rattle.cw_tokens.specs.declared.flat.FlatItem.TheVariants as flat_item
 use Rattle.cw_tokens.specs.FlatItems.{item_is}
-use Rattle.cw_join.specs.Tokens.{control_bytes, item_bytes, text_at}
+use Rattle.cw_join.specs.Tokens.{control_bytes, item_bytes}
 use Rattle.cw_print.specs.Walk.{Fixed, Source, Stand, Title, control_shown, item_shown, items_shown, own_bytes, own_sign, placed_shown, stand_after}
 
 pub shown-append : (s : Source) (items more : List Item) (stand : Stand)

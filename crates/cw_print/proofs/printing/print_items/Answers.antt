@@ -1,12 +1,11 @@
 -- One item goes behind another, and at the end comes what is left of a run.
-use Rattle.std.proofs.Common.{◌≡◌, ℕ, Bool, ◌+◌, ◌<◌, ◌≤◌, refl, ap, List, [], ◌++◌, ◌∙◌, take, length, arith}
+use Rattle.std.proofs.Common.{Bool, ◌+◌, ap, List, [], ◌++◌, ◌∙◌, take, arith}
 use Rattle.cw_trees.specs.Flat.{Item}
 use Rattle.cw_tokens.specs.FlatItems.{items_are}
 use Rattle.cw_lines.specs.WritesLaws.{can-after, puts-bytes, puts-none}
 use Rattle.cw_join.specs.Early.{late}
 use Rattle.cw_print.specs.Printing.{shown, source_of}
-use Rattle.cw_print.specs.Walk.{Source}
-use Rattle.cw_print.proofs.PrintingLaws.{Midway, Waiting, fails-waiting, midway-begun, midway-ended, midway-next, next-comes, puts-all, stops-waiting, waits-more, waits-none}
+use Rattle.cw_print.proofs.PrintingLaws.{fails-waiting, midway-begun, midway-ended, midway-next, next-comes, puts-all, stops-waiting, waits-more, waits-none}
 use Rattle.cw_print.proofs.printing.print_items.Goals as goal
 use Rattle.cw_print.proofs.printing.print_items.Goals.{then-len-ge-FULL+in_ok-put_all, else-len-ge-FULL}
 

@@ -1,5 +1,5 @@
 -- The brackets and the items, one behind another.
-use Rattle.std.proofs.Common.{◌≡◌, ℕ, Bool, ◌&&◌, List, ◌++◌, ap, ◌∙◌, sym, subst, length, codes}
+use Rattle.std.proofs.Common.{ℕ, Bool, ◌&&◌, List, ◌++◌, ap, ◌∙◌, sym, subst, length, codes}
 use Rattle.std.proofs.lemmas.List.{append_assoc}
 use Rattle.cw_trees.specs.Flat.{Item, flat, trimmed}
 use Rattle.cw_trees.specs.Printing.{printed}

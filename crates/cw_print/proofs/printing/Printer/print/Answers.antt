@@ -1,5 +1,5 @@
 -- What an item prints by where it stands goes behind what the joiner prints of it.
-use Rattle.std.proofs.Common.{List, ◌∷◌, ◌++◌, Option, ap, sym, refl, ◌∙◌, subst}
+use Rattle.std.proofs.Common.{List, Option, ap, sym, refl, ◌∙◌, subst}
 use Rattle.std.proofs.lemmas.Result.{on_ok_weaker}
 use Rattle.cw_trees.specs.Printing.{Printable}
 use Rattle.cw_tokens.specs.FlatItems.{item_is}
