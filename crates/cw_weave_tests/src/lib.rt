@@ -6,6 +6,8 @@ mod c_text_tests;
 #[cfg(test)]
 mod change_tests;
 #[cfg(test)]
+mod counted_tests;
+#[cfg(test)]
 mod failing_tests;
 #[cfg(test)]
 mod forty_sections;

@@ -1,5 +1,7 @@
 //! Webs of sections: what a TeX part, definitions, names and footnotes print, and their indexes and section lists.
 use crate::told;
+use cw_base::{Bytes, Memory};
+use std::alloc::Global;
 use std::test::Fail;
 
 /// A web, and what its run tells.
@@ -266,6 +268,39 @@ fn each_web_and_its_files(rt: HostRuntime) -> Result<(), Fail> {
         let files = [(b"foo.w".as_slice(), web)];
         let seen = told(rt.alloc(), &[b"foo".as_slice()], &files)?;
         assert_eq!(rt; seen.as_slice(), wanted);
+    }
+    Ok(())
+}
+
+/// What a run tells without flag x, by what it tells with it: the TeX file asks for no index, and none is said or written.
+fn without_index(alloc: Global, told: &[u8]) -> Result<Bytes, Memory> {
+    let mut text = Bytes::new_in(alloc);
+    let mut skips = false;
+    let mut rest = told;
+    while let [byte, others @ ..] = rest {
+        if rest.starts_with(b"\\inx\n") {
+            text.append(b"\\end\n[term]")?;
+            skips = true;
+        }
+        if rest.starts_with(b"Done.\n") {
+            skips = false;
+        }
+        if !skips {
+            text.push(*byte)?;
+        }
+        rest = others;
+    }
+    Ok(text)
+}
+
+#[test]
+fn each_web_without_its_index(rt: HostRuntime) -> Result<(), Fail> {
+    for (web, wanted) in ROWS {
+        let files = [(b"foo.w".as_slice(), web)];
+        let words = [b"-x".as_slice(), b"foo".as_slice()];
+        let seen = told(rt.alloc(), &words, &files)?;
+        let wanted = without_index(rt.alloc(), wanted)?;
+        assert_eq!(rt; seen.as_slice(), wanted.as_slice());
     }
     Ok(())
 }
