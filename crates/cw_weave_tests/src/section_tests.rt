@@ -276,8 +276,8 @@ fn each_web_and_its_files(rt: HostRuntime) -> Result<(), Fail> {
 fn without_index(alloc: Global, told: &[u8]) -> Result<Bytes, Memory> {
     let mut text = Bytes::new_in(alloc);
     let mut skips = false;
-    let mut rest = told;
-    while let [byte, others @ ..] = rest {
+    for (i, byte) in told.iter().enumerate() {
+        let rest = &told[i..];
         if rest.starts_with(b"\\inx\n") {
             text.append(b"\\end\n[term]")?;
             skips = true;
@@ -288,7 +288,6 @@ fn without_index(alloc: Global, told: &[u8]) -> Result<Bytes, Memory> {
         if !skips {
             text.push(*byte)?;
         }
-        rest = others;
     }
     Ok(text)
 }
