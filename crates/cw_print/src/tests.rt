@@ -13,12 +13,23 @@ const CODE: &[u8] = b"@ @c 0x1f \"a b\" /* {x */  @<A |1| b@>;";
 
 const NAMED: &[u8] = b"@ @<A |1| b@>=";
 
+// One line more, where the web has room for it.
+fn add(web: &mut Web, line: &[u8], changed: bool) -> Result<(), Memory> {
+    if web.file_count() == 0 || web.text().len() + line.len() >= 16_777_216 {
+        return Ok(());
+    }
+    if line.iter().all(|byte| *byte != 10) {
+        web.add_line(line, Place { file: 0, line: 1 }, changed)?;
+    }
+    Ok(())
+}
+
 /// The book of a web whose second section is changed and defines the name that the first one uses.
 fn book_of(alloc: Global) -> Result<Book, Memory> {
     let mut web = Web::new_in(alloc);
-    let file = web.add_file(b"foo.w")?;
-    web.add_line(CODE, Place { file, line: 1 }, false)?;
-    web.add_line(NAMED, Place { file, line: 2 }, true)?;
+    web.add_file(b"foo.w")?;
+    add(&mut web, CODE, false)?;
+    add(&mut web, NAMED, true)?;
     phase_one(alloc, &web)
 }
 
