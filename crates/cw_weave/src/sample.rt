@@ -53,7 +53,9 @@ fn count_sample<L: Ledger>(
     let mut desk = CountDesk::new();
     match write_tex(source, &mut book, &mut desk, steps) {
         Ok(tex) => Ok(totals_of(book.section_count(), tex.counts, tex.lines.lines())),
-        Err(_) => Err(Memory),
+        Err(PutError::Memory) => Err(Memory),
+        // On that desk none is counted.
+        Err(PutError::Fault) => unreachable!(),
     }
 }
 

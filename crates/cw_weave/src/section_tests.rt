@@ -68,46 +68,6 @@ Clean"
 }
 
 #[test]
-fn an_ambiguous_prefix(rt: HostRuntime) -> Result<(), Fail> {
-    let text = told(
-        rt.alloc(),
-        b"@ @<Read a@>= x;\n@ @<Read b@>= y;\n@ @c @<Read...@>;\n",
-        &[],
-        &[b"-x".as_slice(), FOO],
-    )?;
-    assert_eq!(rt;
-        text.as_slice(),
-        b"[term]This is CWEAVE (profile 1)
-! Ambiguous prefix (l. 3 of foo.w)
-! Never used: <Read b>
-Writing the output file...
-[tex] is foo.tex
-[tex]\\input cwebmac
-\\M{1}
-\\Y\\B\\X1:Read a\\X${}\\E{}$\\6
-\\|x;\\par
-\\U3.
-\\fi
-
-\\M{2}
-\\Y\\B\\X2:Read b\\X${}\\E{}$\\6
-\\|y;\\par
-\\fi
-
-\\M{3}
-\\Y\\B\\X1:Read a\\X;\\par
-\\fi
-
-\\end
-[term]Done.
-(Pardon me, but I think I spotted something wrong.)
-Errors"
-            .as_slice()
-    );
-    Ok(())
-}
-
-#[test]
 fn statistics_with_an_index(rt: HostRuntime) -> Result<(), Fail> {
     let text = told(
         rt.alloc(),

@@ -21,9 +21,9 @@ returns-in-Ok-clause-bound g c =
     let is = sample-book n c.in_ok-web.ensures c.in_ok-book.ensures.book in
     sample-bound n _ _ flags (sample-tex n c.in_ok-web.ensures flags is) c.in-Ok.ensures.bound
 
-pub returns-clause-bound : goal.returns-clause-bound
-returns-clause-bound g c =
+pub returns-in-Err-Memory-clause-bound : goal.returns-in-Err-Memory-clause-bound
+returns-in-Err-Memory-clause-bound g c =
     let n = c.args.sections in
     let flags = c.sample_line-line.ensures in
     let is = sample-book n c.in_ok-web.ensures c.in_ok-book.ensures.book in
-    sample-bound n _ _ flags (sample-tex n c.in_ok-web.ensures flags is) c.in-Err.ensures.bound
+    sample-bound n _ _ flags (sample-tex n c.in_ok-web.ensures flags is) c.in-Err-Memory.ensures.bound
