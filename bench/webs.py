@@ -1,4 +1,4 @@
-"""Webs like those that authors write, for `bench/beside`."""
+"""Webs for `bench/beside`: like those that authors write, of one kind of text, and hostile."""
 import random
 
 WORDS = (
@@ -67,4 +67,112 @@ def real_web(size):
     return ("\\def\\title{A web}\n" + sections).encode()
 
 
-WEBS = [("real, 100 kB", real_web, 100_000), ("real, 1 MB", real_web, 1_000_000)]
+def filled(size, begin, part):
+    """A web that begins so and has parts, numbered from 1, until it is as large as the size."""
+    parts, length, number = [begin], len(begin), 1
+    while length < size:
+        parts.append(part(number))
+        length += len(parts[-1])
+        number += 1
+    return "".join(parts).encode()
+
+
+def prose(size):
+    """Sections of six lines of text without C."""
+    author = Author(size, 1)
+
+    def line():
+        return " ".join(author.rng.choice(WORDS) for _ in range(11))
+
+    return filled(size, "\\def\\title{Prose}\n", lambda _: "@ " + "\n".join(line() for _ in range(6)) + ".\n")
+
+
+def short_texts(size):
+    """Sections of text in which each fourth word is one name between bars."""
+    author = Author(size, 2000)
+
+    def words():
+        return " ".join(author.rng.choice(WORDS) for _ in range(3)) + f" |{author.name()}|"
+
+    return filled(size, "\\def\\title{Names}\n", lambda _: "@ " + ",\n".join(f"{words()} {words()}" for _ in range(6)) + ".\n")
+
+
+def ordinary_c(size):
+    """Named parts of fifteen lines of C behind a word of text."""
+    author = Author(size, 2000)
+    last = max(2, size // 490)
+
+    def section(number):
+        below = number + 1 if number < last else 1
+        return f"@ Next.\n@<Part {number} of the work@>=\n{author.code(f'Part {below} of the work')}"
+
+    return ("\\def\\title{C}\n" + "".join(section(number) for number in range(1, last + 1))).encode()
+
+
+def declarations(size):
+    """C parts of structures, typedefs, and variables of these types: 700 types, as many as the original has room for."""
+    author = Author(size, 1000)
+
+    def section(count):
+        a, b, c, d = (author.name() for _ in range(4))
+        number = count % 700
+        return (
+            f"@ Types.\n@c\ntypedef struct node_{number} {{\n    int {a};\n    char *{b}[{number % 99 + 1}];\n"
+            f"    struct node_{number} *next, *last;\n}} kind_{number};\n"
+            f"static const kind_{number} *{c};\nunsigned long int {d} = {number};\n"
+            f"extern kind_{number} *make_{number}(int {a}, const char *{b}, kind_{number} **{c});\n"
+        )
+
+    return filled(size, "\\def\\title{Types}\n", section)
+
+
+def long_comments(size):
+    """C parts of a statement and a comment of six lines with inner texts."""
+    author = Author(size, 2000)
+
+    def line():
+        return " ".join(author.rng.choice(WORDS) for _ in range(8)) + f" |{author.name()}+1|"
+
+    def section(_):
+        return f"@ Next.\n@c\n{author.name()}={author.name()};\n/* " + "\n   ".join(line() for _ in range(6)) + " */\n"
+
+    return filled(size, "\\def\\title{Comments}\n", section)
+
+
+def many_names(size):
+    """Sections of one line, each with a name of its own that the next one uses."""
+
+    def section(number):
+        return f"@ @<Do step {number} of all@>=\nx;@<Do step {number + 1} of all@>\n"
+
+    last = size // 60
+    sections = "".join(section(number) for number in range(1, last))
+    return ("\\def\\title{Steps}\n" + sections + f"@ @<Do step {last} of all@>=\nx;@<Do step 1 of all@>\n").encode()
+
+
+def hostile(begin, unit):
+    """A web of one unit over and over."""
+    return lambda size: (begin + unit * (size // len(unit)))[: size - 1] + b"\n"
+
+
+LIMIT = 8388608
+WEBS = [
+    ("real, 100 kB", real_web, 100_000),
+    ("real", real_web, 1_000_000),
+    ("prose", prose, 1_000_000),
+    ("short texts", short_texts, 1_000_000),
+    ("ordinary C", ordinary_c, 1_000_000),
+    ("declarations", declarations, 1_000_000),
+    ("long comments", long_comments, 1_000_000),
+    ("50,000 names", many_names, 3_000_000),
+]
+HOSTILE = [
+    ("bars in prose", hostile(b"@ ", b"|" * 63 + b"\n"), LIMIT),
+    ("bars in C", hostile(b"@ @c ", b"|" * 63 + b"\n"), LIMIT),
+    ("quotes", hostile(b"@ @c ", b'"' * 63 + b"\n"), LIMIT),
+    ("section names", hostile(b"@ @c ", b"@<" * 31 + b"\n"), LIMIT),
+    ("comments", hostile(b"@ @c ", b"/*" * 31 + b"\n"), LIMIT),
+    ("braces", hostile(b"@ @c ", b"{" * 63 + b"\n"), LIMIT),
+    ("prose, one line", hostile(b"@ ", b"aaa "), LIMIT),
+    ("C, one line", hostile(b"@ @c ", b"a;"), LIMIT),
+]
