@@ -175,7 +175,7 @@ def told(book):
     tex, index, names = lines_of(book)
     unused = [f"! Never used: <{text}>" for text, kept in book.names.items() if not kept["used"]]
     return "\n".join(
-        ["[term]This is CWEAVE (profile 1)"] + unused + ["Writing the output file...", "[tex] is foo.tex", "[tex]" + tex[0]] + tex[1:]
+        ["[term]This is CWEAVE (profile 2)"] + unused + ["Writing the output file...", "[tex] is foo.tex", "[tex]" + tex[0]] + tex[1:]
         + ["[term]Writing the index...", "[idx] is foo.idx", "[idx]" + index[0]] + index[1:]
         + ["[scn] is foo.scn", "[scn]" + names[0]] + names[1:]
         + ["[term]Done.", f"sections {SECTIONS}", f"scraps {book.scraps}", f"productions {book.productions}", f"lines {len(tex)}"]

@@ -70,7 +70,7 @@ fn add_all(
 fn first_row(line: &ScrapLine, place: usize, steps: &mut Steps<Silent>) -> Option<RowNo>
     requires { place < length line.now }
     ensures from_one { IfSome result (λ row. 1 ≤ row.number) }
-    ensures to_last { IfSome result (λ row. row.number ≤ 92) }
+    ensures to_last { IfSome result (λ row. row.number ≤ 97) }
     ensures fits { IfSome result (λ row. row_fits (row_of productions row.number) (drop place (entry_cats line.now)) ≡ true) }
 {
     let _length = line.len();
@@ -85,7 +85,7 @@ fn first_row(line: &ScrapLine, place: usize, steps: &mut Steps<Silent>) -> Optio
 // The production whose instructions are counted.
 #[inline(never)]
 fn apply(
-    table: &Table<92>,
+    table: &Table<97>,
     row: RowNo,
     place: usize,
     line: &mut ScrapLine,
@@ -95,7 +95,7 @@ fn apply(
     steps: &mut Steps<Silent>,
 )
     requires from_one { 1 ≤ row.number }
-    requires to_last { row.number ≤ 92 }
+    requires to_last { row.number ≤ 97 }
     requires fits { row_fits (row_of table.now row.number) (drop place (cats_of (scraps_of store.old.lists line.old))) ≡ true }
     requires sound { IsSoundLine store.old names.old line.old }
     requires room { 24 ≤ store.old.spare }
@@ -108,7 +108,7 @@ fn apply(
 
 // The production by the first row that fits at a place, where there is one.
 fn once(
-    table: &Table<92>,
+    table: &Table<97>,
     place: usize,
     line: &mut ScrapLine,
     names: &mut Names,

@@ -1,4 +1,4 @@
-//! Looks up 4,400 windows in the production table, so that `bench/run` can count the instructions of one.
+//! Looks up 4,500 windows in the production table, so that `bench/run` can count the instructions of one.
 #![tactic(auto)]
 
 use cw_base::{ALL_CATS, Cat};
@@ -6,7 +6,7 @@ use cw_table::{Table, table};
 use std::io;
 
 #[inline(never)]
-fn look(table: &Table<92>, window: [Cat; 4]) -> u8 {
+fn look(table: &Table<97>, window: [Cat; 4]) -> u8 {
     match table.first_at(window) {
         Some(row) => row.number,
         None => 0,
@@ -30,6 +30,6 @@ fn main(rt: HostRuntime) -> io::Result<()> {
             sum = sum.wrapping_add(number as u64);
         }
     }
-    println!(rt; "windows 4400, some row fits in {found}, sum of the rows {sum}")?;
+    println!(rt; "windows 4500, some row fits in {found}, sum of the rows {sum}")?;
     Ok(())
 }

@@ -3,7 +3,7 @@ use Rattle.std.proofs.Common.{◌≡◌, ◌∙◌, sym, ap, ℕ, zero, suc, Boo
 use Rattle.std.specs.Prelude.{slice_get}
 use Rattle.std.specs.List.{list_all}
 use Rattle.cw_base.specs.declared.category.Cat.{Cat}
-use Rattle.cw_base.specs.declared.category.Cat.TheVariants.{RawInt, ConstLike, Cast, IntLike, IfClause, SectionScrap, Exp, DeclHead, ElseLike, IfHead, Semi, RawUbin, Unop, Binop, Ubinop, Question, Lpar, Rpar, Lbrace, Rbrace, Comma, Colon, StructLike, CaseLike, ForLike, DoLike, IfLike, DefineLike, SizeofLike, TypedefLike, Decl, FnDecl, Function, Stmt, Tag, StructHead, ElseHead, Lproc, Rproc, Insert, BeginArg, EndArg, Dead, End}
+use Rattle.cw_base.specs.declared.category.Cat.TheVariants.{RawInt, ConstLike, Cast, IntLike, IfClause, SectionScrap, Exp, DeclHead, ElseLike, IfHead, Semi, RawUbin, Unop, Binop, Ubinop, Question, Lpar, Rpar, Lbrace, Rbrace, Comma, Colon, StructLike, CaseLike, ForLike, DoLike, IfLike, DefineLike, SizeofLike, TypedefLike, Decl, FnDecl, Function, Stmt, Tag, StructHead, ElseHead, Lproc, Rproc, Insert, BeginArg, EndArg, Dead, Dot, End}
 use Rattle.cw_base.specs.Category.{all_cats, number_of}
 use Rattle.cw_base.proofs.TestLaws.{both-left, both-right}
 
@@ -51,6 +51,7 @@ place-of Insert = refl
 place-of BeginArg = refl
 place-of EndArg = refl
 place-of Dead = refl
+place-of Dot = refl
 place-of End = refl
 
 pub each-of : {X : Type 0} (p : X → Bool) (xs : List X) (i : ℕ) (x : X) → list_all p xs ≡ true → slice_get xs i ≡ Some x → p x ≡ true

@@ -3,7 +3,7 @@ use Rattle.std.specs.Prelude.{ℕ, ◌+◌, ◌-◌, ◌^◌, Bool, true, false,
 use Rattle.std.specs.List.{list_any}
 use Rattle.cw_base.specs.declared.category.Cat.{Cat}
 use Rattle.cw_base.specs.declared.category.CatSet.{CatSet}
-use Rattle.cw_base.specs.declared.category.Cat.TheVariants.{RawInt, ConstLike, Cast, IntLike, IfClause, SectionScrap, Exp, DeclHead, ElseLike, IfHead, Semi, RawUbin, Unop, Binop, Ubinop, Question, Lpar, Rpar, Lbrace, Rbrace, Comma, Colon, StructLike, CaseLike, ForLike, DoLike, IfLike, DefineLike, SizeofLike, TypedefLike, Decl, FnDecl, Function, Stmt, Tag, StructHead, ElseHead, Lproc, Rproc, Insert, BeginArg, EndArg, Dead, End}
+use Rattle.cw_base.specs.declared.category.Cat.TheVariants.{RawInt, ConstLike, Cast, IntLike, IfClause, SectionScrap, Exp, DeclHead, ElseLike, IfHead, Semi, RawUbin, Unop, Binop, Ubinop, Question, Lpar, Rpar, Lbrace, Rbrace, Comma, Colon, StructLike, CaseLike, ForLike, DoLike, IfLike, DefineLike, SizeofLike, TypedefLike, Decl, FnDecl, Function, Stmt, Tag, StructHead, ElseHead, Lproc, Rproc, Insert, BeginArg, EndArg, Dead, Dot, End}
 
 -- every category in the order of its number, and End, which stands past the last scrap
 abbrev pub all_cats : List Cat
@@ -12,7 +12,7 @@ all_cats =
     IfHead ∷ Semi ∷ RawUbin ∷ Unop ∷ Binop ∷ Ubinop ∷ Question ∷ Lpar ∷ Rpar ∷ Lbrace ∷ Rbrace ∷
     Comma ∷ Colon ∷ StructLike ∷ CaseLike ∷ ForLike ∷ DoLike ∷ IfLike ∷ DefineLike ∷ SizeofLike ∷
     TypedefLike ∷ Decl ∷ FnDecl ∷ Function ∷ Stmt ∷ Tag ∷ StructHead ∷ ElseHead ∷ Lproc ∷ Rproc ∷
-    Insert ∷ BeginArg ∷ EndArg ∷ Dead ∷ End ∷ []
+    Insert ∷ BeginArg ∷ EndArg ∷ Dead ∷ Dot ∷ End ∷ []
 
 -- the place of a category in that list, and its bit in a set
 abbrev pub number_of : Cat → ℕ
@@ -59,7 +59,8 @@ number_of Insert = 39
 number_of BeginArg = 40
 number_of EndArg = 41
 number_of Dead = 42
-number_of End = 43
+number_of Dot = 43
+number_of End = 44
 
 -- the rank of a category: a scrap weighs 4 and its rank, and rewriting lowers the weight
 abbrev pub rank : Cat → ℕ
@@ -75,6 +76,7 @@ rank ElseLike = 1
 rank IfHead = 1
 rank Semi = 1
 rank RawUbin = 1
+rank Dot = 1
 rank _ = 0
 
 -- the categories that a scrap may have whose translation is exactly one unreserved identifier

@@ -7,7 +7,7 @@ ghost use Rattle.cw_base.specs.Category.{in_set, leaves, meet, number_of, some_o
 pub enum Cat {
     /// A type word such as `int`.
     RawInt,
-    /// `const` and `volatile`.
+    /// `const`, `volatile` and `restrict`.
     ConstLike,
     /// A type in parentheses.
     Cast,
@@ -61,7 +61,7 @@ pub enum Cat {
     IfLike,
     /// `define` of a `#` line.
     DefineLike,
-    /// `sizeof`.
+    /// `sizeof` and `_Generic`.
     SizeofLike,
     /// `typedef`.
     TypedefLike,
@@ -91,6 +91,8 @@ pub enum Cat {
     EndArg,
     /// What no row joins.
     Dead,
+    /// `.`, before a field's name or between a structure and its field.
+    Dot,
     /// Stands past the last scrap; the category of no scrap.
     End,
 }
@@ -140,6 +142,7 @@ pub const ALL_CATS: [Cat; Cat::End as usize + 1] = [
     Cat::BeginArg,
     Cat::EndArg,
     Cat::Dead,
+    Cat::Dot,
     Cat::End,
 ];
 

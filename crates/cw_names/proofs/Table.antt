@@ -1,11 +1,13 @@
 -- The names that come of a table of words, each of which is added with its category.
-use Rattle.std.proofs.Common.{◌≡◌, ℕ, ◌+◌, ◌<◌, ◌≤◌, Bool, true, false, List, [], ◌∷◌, ◌++◌, Bor, Vec, Global, get_or, length, take, drop, map, refl, sym, ap, ◌∙◌, add-one, drop-cons, if◌then◌else◌}
-use Rattle.std.proofs.lemmas.List.{drop_all}
+use Rattle.std.proofs.Common.{◌≡◌, ℕ, ◌+◌, ◌<◌, ◌≤◌, Bool, true, false, not, ◌&&◌, List, [], ◌∷◌, ◌++◌, Bor, Vec, Global, get_or, length, take, drop, map, refl, sym, ap, ◌∙◌, add-one, append_assoc, drop-cons, if◌then◌else◌}
+use Rattle.std.specs.List.{list_all}
+use Rattle.std.proofs.lemmas.List.{append-nil, drop_all}
 use Rattle.indexmap.specs.IndexMap.{insert_entry}
 use Rattle.cw_base.specs.declared.category.Cat.{Cat}
+use Rattle.cw_base.proofs.TestLaws.{both-left, both-right}
 use Rattle.cw_names.specs.declared.entry.Key.{Key}
 use Rattle.cw_names.specs.declared.entry.EntryKind.TheVariants.{Ident}
-use Rattle.cw_names.specs.Names.{Entry}
+use Rattle.cw_names.specs.Names.{Entry, is_entry}
 use Rattle.cw_names.specs.Inside.{entry_of}
 use Rattle.cw_names.specs.Table.{with_word, with_table, row}
 use Rattle.cw_names.specs.Words.{built_in_words}
@@ -19,46 +21,49 @@ with_table-cons : (w : List ℕ × Cat) (words : List (List ℕ × Cat)) (names 
 unfolding with_table
 with_table-cons w words names = refl
 
-with_table-append : (xs ys : List (List ℕ × Cat)) (names : List Entry) → with_table (xs ++ ys) names ≡ with_table ys (with_table xs names)
-unfolding with_table
-with_table-append [] ys names = refl
-with_table-append (x ∷ xs) ys names = with_table-append xs ys (with_word x names)
+-- the entry of a word of a table
+abbrev entry_with : List ℕ × Cat → Entry
+entry_with w = record { kind = Ident; text = w.0; category = w.1 }
+
+-- no entry has the word
+abbrev is_new : List ℕ × Cat → List Entry → Bool
+is_new w entries = list_all (λ entry. not (is_entry Ident w.0 entry)) entries
+
+-- each word of a table is new behind those that stand before it
+abbrev are_new : List (List ℕ × Cat) → List Entry → Bool
+are_new [] entries = true
+are_new (w ∷ words) entries = is_new w entries && are_new words (entries ++ entry_with w ∷ [])
+
+new-last : (w : List ℕ × Cat) (entries : List Entry) → is_new w entries ≡ true → with_word w entries ≡ entries ++ entry_with w ∷ []
+new-last w [] h = refl
+new-last w (entry ∷ entries) h = go (is_entry Ident w.0 entry) (both-left _ _ h) (new-last w entries (both-right _ _ h))
+  where
+    go : (b : Bool) → not b ≡ true → with_word w entries ≡ entries ++ entry_with w ∷ []
+        → (if b then record entry { category = w.1 } ∷ entries else entry ∷ with_word w entries) ≡ entry ∷ (entries ++ entry_with w ∷ [])
+    go true n rest = absurd cc
+    go false n rest = ap (λ l. entry ∷ l) rest
+
+-- of a table whose words are all new, each is an entry, in order
+with_table-new : (words : List (List ℕ × Cat)) (entries : List Entry) → are_new words entries ≡ true → with_table words entries ≡ entries ++ map entry_with words
+with_table-new [] entries h = with_table-nil entries ∙ sym (append-nil entries)
+with_table-new (w ∷ words) entries h =
+    with_table-cons w words entries
+    ∙ ap (with_table words) (new-last w entries (both-left _ _ h))
+    ∙ with_table-new words (entries ++ entry_with w ∷ []) (both-right _ _ h)
+    ∙ append_assoc entries (entry_with w ∷ []) (map entry_with words)
 
 -- the table of the built-in words
 abbrev pub table : List (List ℕ × Cat)
 table = map (λ (e : Entry). (e.text, e.category)) built_in_words
 
--- nine words of it from a place on, and the names after them
-abbrev nine : ℕ → List (List ℕ × Cat)
-nine n = take 9 (drop n table)
+table-new : are_new table [] ≡ true
+table-new = refl
 
-nine-0 : with_table (nine 0) [] ≡ take 9 built_in_words
-unfolding with_table
-nine-0 = refl
-
-nine-9 : with_table (nine 9) (take 9 built_in_words) ≡ take 18 built_in_words
-unfolding with_table
-nine-9 = refl
-
-nine-18 : with_table (nine 18) (take 18 built_in_words) ≡ take 27 built_in_words
-unfolding with_table
-nine-18 = refl
-
-nine-27 : with_table (nine 27) (take 27 built_in_words) ≡ take 36 built_in_words
-unfolding with_table
-nine-27 = refl
-
-nine-36 : with_table (nine 36) (take 36 built_in_words) ≡ built_in_words
-unfolding with_table
-nine-36 = refl
+table-entries : map entry_with table ≡ built_in_words
+table-entries = refl
 
 pub table-all : with_table table [] ≡ built_in_words
-table-all =
-    with_table-append (nine 0) (drop 9 table) [] ∙ ap (with_table (drop 9 table)) nine-0
-    ∙ with_table-append (nine 9) (drop 18 table) (take 9 built_in_words) ∙ ap (with_table (drop 18 table)) nine-9
-    ∙ with_table-append (nine 18) (drop 27 table) (take 18 built_in_words) ∙ ap (with_table (drop 27 table)) nine-18
-    ∙ with_table-append (nine 27) (drop 36 table) (take 27 built_in_words) ∙ ap (with_table (drop 36 table)) nine-27
-    ∙ nine-36
+table-all = with_table-new table [] table-new ∙ table-entries
 
 -- a word that is inserted into the hash table
 inserted-by : (b : Bool) (e : Key × Cat) (es : List (Key × Cat)) (c : Cat) (rest : List (Key × Cat))

@@ -14,16 +14,16 @@ words_with category words = map (λ word. record { kind = Ident; text = word; ca
 -- The reserved words of C.
 abbrev pub c_words : List Entry
 c_words =
-    words_with RawInt (codes "char" ∷ codes "double" ∷ codes "float" ∷ codes "int" ∷ codes "long" ∷ codes "short" ∷ codes "signed" ∷ codes "unsigned" ∷ codes "void" ∷ codes "FILE" ∷ codes "size_t" ∷ []) ++
-    words_with IntLike (codes "auto" ∷ codes "extern" ∷ codes "register" ∷ codes "static" ∷ []) ++
-    words_with ConstLike (codes "const" ∷ codes "volatile" ∷ []) ++
+    words_with RawInt (codes "char" ∷ codes "double" ∷ codes "float" ∷ codes "int" ∷ codes "long" ∷ codes "short" ∷ codes "signed" ∷ codes "unsigned" ∷ codes "void" ∷ codes "FILE" ∷ codes "size_t" ∷ codes "_Bool" ∷ []) ++
+    words_with IntLike (codes "auto" ∷ codes "extern" ∷ codes "register" ∷ codes "static" ∷ codes "inline" ∷ []) ++
+    words_with ConstLike (codes "const" ∷ codes "volatile" ∷ codes "restrict" ∷ []) ++
     words_with StructLike (codes "struct" ∷ codes "union" ∷ codes "enum" ∷ []) ++
     words_with CaseLike (codes "break" ∷ codes "case" ∷ codes "continue" ∷ codes "default" ∷ codes "goto" ∷ codes "return" ∷ []) ++
     words_with ForLike (codes "for" ∷ codes "switch" ∷ codes "while" ∷ []) ++
     words_with DoLike (codes "do" ∷ []) ++
     words_with IfLike (codes "if" ∷ []) ++
     words_with ElseLike (codes "else" ∷ []) ++
-    words_with SizeofLike (codes "sizeof" ∷ []) ++
+    words_with SizeofLike (codes "sizeof" ∷ codes "_Generic" ∷ []) ++
     words_with TypedefLike (codes "typedef" ∷ [])
 
 -- The words that are reserved in a `#` line only, with their categories there.

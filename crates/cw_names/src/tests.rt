@@ -5,13 +5,13 @@ use std::test::Fail;
 #[test]
 fn names_are_found_again(rt: HostRuntime) -> Result<(), Fail> {
     let mut names = Names::with_words(rt.alloc())?;
-    assert_eq!(rt; names.len(), 45);
+    assert_eq!(rt; names.len(), 49);
     let x = names.find_or_add(EntryKind::Ident, b"x")?;
     let roman = names.find_or_add(EntryKind::Roman, b"x")?;
     let again = names.find_or_add(EntryKind::Ident, b"x")?;
-    assert_eq!(rt; x.index, 45);
-    assert_eq!(rt; roman.index, 46);
-    assert_eq!(rt; again.index, 45);
+    assert_eq!(rt; x.index, 49);
+    assert_eq!(rt; roman.index, 50);
+    assert_eq!(rt; again.index, 49);
     assert_eq!(rt; names.text(roman), b"x".as_slice());
     assert_eq!(rt; names.kind(roman), EntryKind::Roman);
     assert_eq!(rt; names.category(x), Cat::Exp);
@@ -27,6 +27,11 @@ fn words_are_there_from_the_start(rt: HostRuntime) -> Result<(), Fail> {
     let mut names = Names::with_words(rt.alloc())?;
     let word = names.find_or_add(EntryKind::Ident, b"struct")?;
     assert_eq!(rt; names.category(word), Cat::StructLike);
+    let word = names.find_or_add(EntryKind::Ident, b"_Generic")?;
+    assert!(rt; names.is_built_in(word));
+    assert_eq!(rt; names.category(word), Cat::SizeofLike);
+    let word = names.find_or_add(EntryKind::Ident, b"restrict")?;
+    assert_eq!(rt; names.category(word), Cat::ConstLike);
     let word = names.find_or_add(EntryKind::Ident, b"endif")?;
     assert!(rt; names.is_built_in(word));
     assert_eq!(rt; names.category(word), Cat::Exp);

@@ -11,7 +11,7 @@ use std::alloc::Global;
 
 /// The reserved words of C with their categories, and then the words that are reserved in `#` lines
 /// only, which are ordinary identifiers elsewhere.
-pub(crate) const WORDS: [(&[u8], Cat); 45] = [
+pub(crate) const WORDS: [(&[u8], Cat); 49] = [
     (b"char", Cat::RawInt),
     (b"double", Cat::RawInt),
     (b"float", Cat::RawInt),
@@ -23,12 +23,15 @@ pub(crate) const WORDS: [(&[u8], Cat); 45] = [
     (b"void", Cat::RawInt),
     (b"FILE", Cat::RawInt),
     (b"size_t", Cat::RawInt),
+    (b"_Bool", Cat::RawInt),
     (b"auto", Cat::IntLike),
     (b"extern", Cat::IntLike),
     (b"register", Cat::IntLike),
     (b"static", Cat::IntLike),
+    (b"inline", Cat::IntLike),
     (b"const", Cat::ConstLike),
     (b"volatile", Cat::ConstLike),
+    (b"restrict", Cat::ConstLike),
     (b"struct", Cat::StructLike),
     (b"union", Cat::StructLike),
     (b"enum", Cat::StructLike),
@@ -45,6 +48,7 @@ pub(crate) const WORDS: [(&[u8], Cat); 45] = [
     (b"if", Cat::IfLike),
     (b"else", Cat::ElseLike),
     (b"sizeof", Cat::SizeofLike),
+    (b"_Generic", Cat::SizeofLike),
     (b"typedef", Cat::TypedefLike),
     (b"elif", Cat::Exp),
     (b"error", Cat::Exp),

@@ -90,7 +90,7 @@ a_prefix_of_two_names : shown (web ((codes "@ @<Read a@>= x;") ∷ (codes "@ @<R
   limbo = span 0 0;
   sections = section false Zero (span 2 2) (span 2 2) (span 2 17) (Some 0) false ∷ section false Zero (span 19 19) (span 19 19) (span 19 34) (Some 1) false ∷ section false Zero (span 36 36) (span 36 36) (span 36 52) None false ∷ [];
   names = entry Ident (codes "x") Exp ∷ entry Ident (codes "y") Exp ∷ [];
-  occurrences = occ 45 1 false ∷ occ 46 2 false ∷ [];
+  occurrences = occ 49 1 false ∷ occ 50 2 false ∷ [];
   section_names = sec_name Named (codes "Read a") true (1 ∷ []) (3 ∷ []) ([]) ∷ sec_name Named (codes "Read b") true (2 ∷ []) ([]) ([]) ∷ [];
   name_uses = at 2 0 ∷ at 19 1 ∷ at 39 0 ∷ [];
   notes = note notes.AmbiguousPrefix 0 0 3 ∷ note notes.NeverUsed 1 0 0 ∷ [];
@@ -101,7 +101,7 @@ two_parts : shown (web ((codes "@ @c int i;") ∷ (codes "@ @c i=i+1;") ∷ []))
   limbo = span 0 0;
   sections = section false Zero (span 2 2) (span 2 2) (span 2 12) None false ∷ section false Zero (span 14 14) (span 14 14) (span 14 24) None false ∷ [];
   names = entry Ident (codes "i") Exp ∷ [];
-  occurrences = occ 3 1 false ∷ occ 45 1 false ∷ occ 45 2 false ∷ occ 45 2 false ∷ [];
+  occurrences = occ 3 1 false ∷ occ 49 1 false ∷ occ 49 2 false ∷ occ 49 2 false ∷ [];
   section_names = [];
   name_uses = [];
   notes = [];
@@ -112,7 +112,7 @@ a_format_definition : shown (web ((codes "@ @f foo int") ∷ (codes "@c foo x;")
   limbo = span 0 0;
   sections = section false Zero (span 2 2) (span 2 13) (span 13 23) None false ∷ [];
   names = entry Ident (codes "foo") RawInt ∷ entry Ident (codes "x") Exp ∷ [];
-  occurrences = occ 45 1 false ∷ occ 3 1 false ∷ occ 45 1 false ∷ occ 46 1 false ∷ [];
+  occurrences = occ 49 1 false ∷ occ 3 1 false ∷ occ 49 1 false ∷ occ 50 1 false ∷ [];
   section_names = [];
   name_uses = [];
   notes = [];
@@ -123,7 +123,7 @@ a_conflict : shown (web ((codes "@ @<Read@>= x;") ∷ (codes "@ @<Read b@>= y;")
   limbo = span 0 0;
   sections = section false Zero (span 2 2) (span 2 2) (span 2 15) (Some 0) false ∷ section false Zero (span 17 17) (span 17 17) (span 17 32) (Some 0) false ∷ [];
   names = entry Ident (codes "x") Exp ∷ entry Ident (codes "y") Exp ∷ [];
-  occurrences = occ 45 1 false ∷ occ 46 2 false ∷ [];
+  occurrences = occ 49 1 false ∷ occ 50 2 false ∷ [];
   section_names = sec_name Named (codes "Read") true (1 ∷ 2 ∷ []) ([]) ([]) ∷ [];
   name_uses = at 2 0 ∷ at 17 0 ∷ [];
   notes = note notes.NameConflict 0 0 2 ∷ note notes.NeverUsed 0 0 0 ∷ [];
@@ -134,7 +134,7 @@ an_ordinary_web : shown (web ((92 ∷ 100 ∷ 101 ∷ 102 ∷ 92 ∷ 116 ∷ 105
   limbo = span 0 18;
   sections = section true Zero (span 21 59) (span 59 66) (span 66 159) None false ∷ section false Zero (span 161 173) (span 173 173) (span 173 223) (Some 0) false ∷ [];
   names = entry Ident (codes "n") Exp ∷ entry Ident (codes "main") Exp ∷ entry Ident (codes "i") Exp ∷ entry Ident (codes "printf") Exp ∷ [];
-  occurrences = occ 45 1 false ∷ occ 45 1 true ∷ occ 38 1 false ∷ occ 3 1 false ∷ occ 46 1 false ∷ occ 8 1 false ∷ occ 3 1 false ∷ occ 47 1 false ∷ occ 26 1 false ∷ occ 47 1 false ∷ occ 47 1 false ∷ occ 45 1 false ∷ occ 47 1 false ∷ occ 25 1 false ∷ occ 48 2 false ∷ occ 47 2 false ∷ [];
+  occurrences = occ 49 1 false ∷ occ 49 1 true ∷ occ 42 1 false ∷ occ 3 1 false ∷ occ 50 1 false ∷ occ 8 1 false ∷ occ 3 1 false ∷ occ 51 1 false ∷ occ 29 1 false ∷ occ 51 1 false ∷ occ 51 1 false ∷ occ 49 1 false ∷ occ 51 1 false ∷ occ 28 1 false ∷ occ 52 2 false ∷ occ 51 2 false ∷ [];
   section_names = sec_name Named (codes "Greet") true (2 ∷ []) (1 ∷ []) ([]) ∷ [];
   name_uses = at 134 0 ∷ at 173 0 ∷ [];
   notes = [];
@@ -145,7 +145,7 @@ adjacent_and_apart : shown (web ((codes "@ @d f(a,...)a") ∷ (codes "@d g (a)")
   limbo = span 0 0;
   sections = section false Zero (span 2 2) (span 2 66) (span 66 66) None false ∷ [];
   names = entry Ident (codes "f") Exp ∷ entry Ident (codes "a") Exp ∷ entry Ident (codes "g") Exp ∷ entry Ident (codes "h") Exp ∷ entry Ident (codes "b") Exp ∷ entry Ident (codes "c") Exp ∷ entry Ident (codes "k") Exp ∷ entry Ident (codes "x") Exp ∷ entry Ident (codes "y") Exp ∷ entry Roman (codes "e@x") Exp ∷ [];
-  occurrences = occ 45 1 true ∷ occ 46 1 false ∷ occ 46 1 false ∷ occ 47 1 true ∷ occ 46 1 false ∷ occ 48 1 true ∷ occ 49 1 false ∷ occ 50 1 true ∷ occ 51 1 true ∷ occ 53 1 true ∷ occ 3 1 false ∷ occ 54 1 false ∷ [];
+  occurrences = occ 49 1 true ∷ occ 50 1 false ∷ occ 50 1 false ∷ occ 51 1 true ∷ occ 50 1 false ∷ occ 52 1 true ∷ occ 53 1 false ∷ occ 54 1 true ∷ occ 55 1 true ∷ occ 57 1 true ∷ occ 3 1 false ∷ occ 58 1 false ∷ [];
   section_names = [];
   name_uses = [];
   notes = note notes.ImproperMacro 0 0 3 ∷ note notes.ImproperFormat 0 0 4 ∷ note notes.ImproperMacro 0 0 5 ∷ note notes.ImproperFormat 0 0 6 ∷ [];
@@ -169,14 +169,14 @@ an_ignored_name_at_the_head : shown (web ((codes "@ @<") ∷ (codes "...@>=x;") 
   limbo = span 0 0;
   sections = section false Zero (span 2 2) (span 2 2) (span 2 14) None false ∷ [];
   names = entry Ident (codes "x") Exp ∷ [];
-  occurrences = occ 45 1 false ∷ [];
+  occurrences = occ 49 1 false ∷ [];
   section_names = [];
   name_uses = [];
   notes = note notes.NameEmpty 0 0 1 ∷ [];
 }
 an_ignored_name_at_the_head = refl
 
-an_underline_waits : (book (web ((codes "@ @!@<Read@>") ∷ (codes "@ @c x;x;") ∷ []))).occurrences ≡ occ 45 2 true ∷ occ 45 2 false ∷ []
+an_underline_waits : (book (web ((codes "@ @!@<Read@>") ∷ (codes "@ @c x;x;") ∷ []))).occurrences ≡ occ 49 2 true ∷ occ 49 2 false ∷ []
 an_underline_waits = refl
 
 formats_in_order : (shown (web ((codes "@ @f a b") ∷ (codes "@f b int") ∷ (codes "@f c b") ∷ (codes "@f d 1 int") ∷ []))).names

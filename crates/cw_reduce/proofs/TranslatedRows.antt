@@ -107,6 +107,42 @@ conditional_bytes : bytes_of ((4, codes "\\K") ∷ (6, codes "\\?") ∷ (8, code
 unfolding translated normal log count positions looks productions
 conditional_bytes = refl
 
+-- `struct s p={.x=1,.y=2};`
+field_names_bytes : bytes_of ((13, codes "\\K") ∷ (14, codes "\\{") ∷ (15, codes ".") ∷ (17, codes "\\K") ∷ (18, codes "\\T{1}") ∷ (19, codes ",") ∷ (20, codes ".") ∷ (22, codes "\\K") ∷ (23, codes "\\T{2}") ∷ (24, codes "\\}") ∷ (25, codes ";") ∷ []) (in_c_part (codes "@c struct s p={.x=1,.y=2};")) ≡ codes "\\&{struct} \\|s \\|p${}\\K\\{{.}\\|x\\K\\T{1},\\39{.}\\|y\\K\\T{2}\\};$"
+unfolding translated normal log count positions looks productions
+field_names_bytes = refl
+
+-- `x=(int){1};`
+literal_bytes : bytes_of ((4, codes "\\K") ∷ (5, codes "(") ∷ (9, codes ")") ∷ (10, codes "\\{") ∷ (11, codes "\\T{1}") ∷ (12, codes "\\}") ∷ (13, codes ";") ∷ []) (in_c_part (codes "@c x=(int){1};")) ≡ codes "$\\|x\\K(\\&{int})\\{\\T{1}\\};$"
+unfolding translated normal log count positions looks productions
+literal_bytes = refl
+
+-- `_Generic(x,default:2);`
+selection_bytes : bytes_of ((11, codes "(") ∷ (13, codes ",") ∷ (21, codes ":") ∷ (22, codes "\\T{2}") ∷ (23, codes ")") ∷ (24, codes ";") ∷ []) (in_c_part (codes "@c _Generic(x,default:2);")) ≡ codes "\\&{\\_Generic} ${}(\\|x,\\39{}$\\&{default}: \\T{2});"
+unfolding translated normal log count positions looks productions
+selection_bytes = refl
+
+-- `a.b;`
+field_bytes : bytes_of ((4, codes ".") ∷ (6, codes ";") ∷ []) (in_c_part (codes "@c a.b;")) ≡ codes "$\\|a.\\|b;$"
+unfolding translated normal log count positions looks productions
+field_bytes = refl
+
+field_names_log : map (λ log. map (λ p. p.number) log) (logs_in start_flags (in_c_part (codes "@c struct s p={.x=1,.y=2};")).known.ended) ≡ (43 ∷ 29 ∷ 33 ∷ 95 ∷ 6 ∷ 95 ∷ 7 ∷ 6 ∷ 51 ∷ 34 ∷ 37 ∷ []) ∷ []
+unfolding translated normal log count positions looks productions
+field_names_log = refl
+
+literal_log : map (λ log. map (λ p. p.number) log) (logs_in start_flags (in_c_part (codes "@c x=(int){1};")).known.ended) ≡ (89 ∷ 14 ∷ 94 ∷ 6 ∷ 8 ∷ []) ∷ []
+unfolding translated normal log count positions looks productions
+literal_log = refl
+
+selection_log : map (λ log. map (λ p. p.number) log) (logs_in start_flags (in_c_part (codes "@c _Generic(x,default:2);")).known.ended) ≡ (15 ∷ 67 ∷ 96 ∷ 12 ∷ 26 ∷ 8 ∷ []) ∷ []
+unfolding translated normal log count positions looks productions
+selection_log = refl
+
+field_log : map (λ log. map (λ p. p.number) log) (logs_in start_flags (in_c_part (codes "@c a.b;")).known.ended) ≡ (97 ∷ 6 ∷ 8 ∷ []) ∷ []
+unfolding translated normal log count positions looks productions
+field_log = refl
+
 -- `a; /* |b| */`, and inner C text of one identifier
 counted : done (in_c_part (codes "@c a; /* |b| */")) ≡ 4 ∷ 2 ∷ []
 unfolding translated normal log count positions looks productions

@@ -81,6 +81,11 @@ fn put_source(out: &mut Bytes, text: &[u8]) -> Result<(), Memory> {
         Some(b'{') => out.append(b"\\{"),
         Some(b'}') => out.append(b"\\}"),
         Some(b' ') => put_piece(out, text),
+        Some(digit @ b'0'..=b'9') => {
+            out.append(b"\\T{")?;
+            out.push(*digit)?;
+            out.push(b'}')
+        }
         Some(byte) => out.push(*byte),
         None => Ok(()),
     }
@@ -89,7 +94,12 @@ fn put_source(out: &mut Bytes, text: &[u8]) -> Result<(), Memory> {
 fn put_name(out: &mut Bytes, begin: &[u8], names: &Names, name: NameId) -> Result<(), Memory> {
     out.append(begin)?;
     if name.index < names.len() {
-        out.append(names.text(name))?;
+        for byte in names.text(name) {
+            if *byte == b'_' {
+                out.push(b'\\')?;
+            }
+            out.push(*byte)?;
+        }
     }
     Ok(())
 }
@@ -150,7 +160,7 @@ struct Sample {
     productions: Option<u64>,
 }
 
-const SAMPLES: [Sample; 11] = [
+const SAMPLES: [Sample; 15] = [
     Sample {
         text: b"a; /* |b| */",
         mode: Mode::CPart,
@@ -220,6 +230,34 @@ const SAMPLES: [Sample; 11] = [
         bytes: b"$\\|x\\K\\|a\\?\\|b:\\|c;$",
         scraps: 8,
         productions: None,
+    },
+    Sample {
+        text: b"struct s p={.x=1,.y=2};",
+        mode: Mode::CPart,
+        bytes: b"\\&{struct} \\|s \\|p${}\\K\\{{.}\\|x\\K\\T{1},\\39{.}\\|y\\K\\T{2}\\};$",
+        scraps: 16,
+        productions: Some(11),
+    },
+    Sample {
+        text: b"x=(int){1};",
+        mode: Mode::CPart,
+        bytes: b"$\\|x\\K(\\&{int})\\{\\T{1}\\};$",
+        scraps: 9,
+        productions: Some(5),
+    },
+    Sample {
+        text: b"_Generic(x,default:2);",
+        mode: Mode::CPart,
+        bytes: b"\\&{\\_Generic} ${}(\\|x,\\39{}$\\&{default}: \\T{2});",
+        scraps: 9,
+        productions: Some(6),
+    },
+    Sample {
+        text: b"a.b;",
+        mode: Mode::CPart,
+        bytes: b"$\\|a.\\|b;$",
+        scraps: 4,
+        productions: Some(3),
     },
     Sample {
         text: b"",

@@ -5,7 +5,7 @@ use Rattle.cw_run.specs.declared.message.Message.{Message}
 use Rattle.cw_run.specs.declared.message.Message.TheVariants.{Banner, Usage, TooLong, Fatal, WritingOutput, WritingIndex, Done, NoErrors, Warned, SomethingWrong}
 
 abbrev pub message_text : Message → List ℕ
-message_text Banner = codes "This is CWEAVE (profile 1)"
+message_text Banner = codes "This is CWEAVE (profile 2)"
 message_text Usage = usage_text
 message_text TooLong = too_long_text
 message_text Fatal = fatal_text

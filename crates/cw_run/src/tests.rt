@@ -67,7 +67,7 @@ fn lines(rt: HostRuntime) -> Result<(), Fail> {
     let text = printed(rt.alloc(), &desk)?;
     assert_eq!(rt;
         text.as_slice(),
-        b"This is CWEAVE (profile 1)
+        b"This is CWEAVE (profile 2)
 Writing the index...
 Done.
 "

@@ -32,7 +32,7 @@ source c mode number = record { cat = c; mode = mode; tokens = Source number mod
 -- signs
 abbrev pub sign_cat : Sign → Cat
 sign_cat sign.Slash = cat.Binop
-sign_cat sign.Dot = cat.Binop
+sign_cat sign.Dot = cat.Dot
 sign_cat sign.Less = cat.Binop
 sign_cat sign.Greater = cat.Binop
 sign_cat sign.Bar = cat.Binop

@@ -26,7 +26,7 @@ impl ScrapLine {
     /// no memory: the store and the marks have the room that was reserved.
     pub fn apply<L: Ledger>(
         &mut self,
-        table: &Table<92>,
+        table: &Table<97>,
         row: RowNo,
         place: usize,
         flags: &Flags,

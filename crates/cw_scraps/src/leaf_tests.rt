@@ -54,7 +54,7 @@ const SOURCE: FlatItem = FlatItem::Source(3);
 
 const SIGNS: [(Sign, Cat, MathMode); 37] = [
     (Sign::Slash, Cat::Binop, MathMode::Math),
-    (Sign::Dot, Cat::Binop, MathMode::Math),
+    (Sign::Dot, Cat::Dot, MathMode::Math),
     (Sign::Less, Cat::Binop, MathMode::Math),
     (Sign::Greater, Cat::Binop, MathMode::Math),
     (Sign::Bar, Cat::Binop, MathMode::Math),
@@ -224,11 +224,14 @@ fn a_line_of_the_preprocessor_is_put_on_a_line_of_its_own(rt: HostRuntime) -> Re
 }
 
 // Words with their categories outside `#` lines and in them.
-const WORDS: [(&[u8], Cat, Cat); 23] = [
+const WORDS: [(&[u8], Cat, Cat); 27] = [
     (b"n", Cat::Exp, Cat::Exp),
     (b"size_t", Cat::RawInt, Cat::RawInt),
+    (b"_Bool", Cat::RawInt, Cat::RawInt),
     (b"static", Cat::IntLike, Cat::IntLike),
+    (b"inline", Cat::IntLike, Cat::IntLike),
     (b"const", Cat::ConstLike, Cat::ConstLike),
+    (b"restrict", Cat::ConstLike, Cat::ConstLike),
     (b"enum", Cat::StructLike, Cat::StructLike),
     (b"return", Cat::CaseLike, Cat::CaseLike),
     (b"while", Cat::ForLike, Cat::ForLike),
@@ -236,6 +239,7 @@ const WORDS: [(&[u8], Cat, Cat); 23] = [
     (b"if", Cat::IfLike, Cat::IfLike),
     (b"else", Cat::ElseLike, Cat::ElseLike),
     (b"sizeof", Cat::SizeofLike, Cat::SizeofLike),
+    (b"_Generic", Cat::SizeofLike, Cat::SizeofLike),
     (b"typedef", Cat::TypedefLike, Cat::TypedefLike),
     (b"elif", Cat::Exp, Cat::IfLike),
     (b"error", Cat::Exp, Cat::IfLike),

@@ -279,7 +279,6 @@ fn sign_cat(sign: Sign) -> Cat
 {
     match sign {
         Sign::Slash
-        | Sign::Dot
         | Sign::Less
         | Sign::Greater
         | Sign::Bar
@@ -295,6 +294,7 @@ fn sign_cat(sign: Sign) -> Cat
         | Sign::AtLeast
         | Sign::AndAnd
         | Sign::OrOr => Cat::Binop,
+        Sign::Dot => Cat::Dot,
         Sign::Not | Sign::Tilde | Sign::PlusPlus | Sign::MinusMinus => Cat::Unop,
         Sign::Plus | Sign::Minus | Sign::Hash => Cat::Ubinop,
         Sign::Star | Sign::Ampersand => Cat::RawUbin,

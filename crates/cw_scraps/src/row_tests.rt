@@ -143,6 +143,14 @@ const FROM_83: [(u8, &[Cat], usize, usize, Cat, &[u8]); 10] = rows! {
     92: [ConstLike] 0 1 IntLike b"0";
 };
 
+const FROM_93: [(u8, &[Cat], usize, usize, Cat, &[u8]); 5] = rows! {
+    93: [Cast Lbrace Rbrace] 0 1 Exp b"01T2";
+    94: [Cast Lbrace Exp Rbrace] 0 1 Exp b"0123";
+    95: [Comma Dot Exp] 1 2 Exp b"{1}2";
+    96: [Lpar Tag Exp Rpar] 1 3 Exp b"1_2";
+    97: [Dot] 0 1 Binop b"0";
+};
+
 // The same for the rows that a flag changes, with all flags off. Behind a function a declaration is set apart all the same.
 const FLAGS_OFF: [(u8, &[Cat], usize, usize, Cat, &[u8]); 6] = rows! {
     4: [Exp Lbrace] 0 2 FnDecl b"0";
@@ -227,7 +235,7 @@ fn names_of(alloc: Global, cats: &[Cat]) -> Result<Names, Memory> {
 fn first_row(line: &ScrapLine, place: usize, steps: &mut Steps<Kept>) -> Option<RowNo>
     requires { place < length line.now }
     ensures from_one { IfSome result (λ row. 1 ≤ row.number) }
-    ensures to_last { IfSome result (λ row. row.number ≤ 92) }
+    ensures to_last { IfSome result (λ row. row.number ≤ 97) }
     ensures fits { IfSome result (λ row. row_fits (row_of productions row.number) (drop place (entry_cats line.now)) ≡ true) }
 {
     let _length = line.len();
@@ -409,6 +417,7 @@ fn each_production_makes_what_its_row_says(rt: HostRuntime) -> Result<(), Fail> 
     assert_eq!(rt; first_wrong(alloc, &FROM_61, &flags)?, 0);
     assert_eq!(rt; first_wrong(alloc, &FROM_73, &flags)?, 0);
     assert_eq!(rt; first_wrong(alloc, &FROM_83, &flags)?, 0);
+    assert_eq!(rt; first_wrong(alloc, &FROM_93, &flags)?, 0);
     Ok(())
 }
 

@@ -22,7 +22,7 @@ back-are = refl
 some_row : Row
 some_row = replaces_all 0 [] (SameAs 0) (joins [])
 
-pub back-at : (n : ℕ) → 1 ≤ n → n ≤ 92 → IfSome (row_numbered productions n) (λ r. get_or BACK (n - 1) 0 ≡ least productions r)
+pub back-at : (n : ℕ) → 1 ≤ n → n ≤ 97 → IfSome (row_numbered productions n) (λ r. get_or BACK (n - 1) 0 ≡ least productions r)
 back-at n from to =
     let found : row_numbered productions n ≡ Some (get_or productions (n - 1) some_row) = numbered-row productions productions n some_row refl refl from (omega (arith, productions-length)) in
     let is : get_or BACK (n - 1) 0 ≡ least productions (get_or productions (n - 1) some_row) =
@@ -30,6 +30,6 @@ back-at n from to =
     ∙ get_or-map (least productions) productions (n - 1) some_row 0 (omega (arith, productions-length)) in
     subst (λ o. IfSome o (λ r. get_or BACK (n - 1) 0 ≡ least productions r)) (sym found) is
 
-pub back-at-most : (n : ℕ) → 1 ≤ n → n ≤ 92 → get_or BACK (n - 1) 0 ≤ 3
+pub back-at-most : (n : ℕ) → 1 ≤ n → n ≤ 97 → get_or BACK (n - 1) 0 ≤ 3
 back-at-most n from to =
     leb-true _ _ (each-of (λ b. leb b 3) BACK (n - 1) (get_or BACK (n - 1) 0) refl (slice_get-get_or BACK (n - 1) 0 (omega arith)))

@@ -1,7 +1,7 @@
--- Worked rows of rewriting: the productions, the marks and the trees of some C texts, by the 92 rows.
+-- Worked rows of rewriting: the productions, the marks and the trees of some C texts, by the rows of the table.
 use Rattle.std.proofs.Common.{◌≡◌, ℕ, false, List, [], ◌∷◌, map, codes, get_or, replicate, refl}
 use Rattle.cw_base.specs.declared.category.Cat.{Cat}
-use Rattle.cw_base.specs.declared.category.Cat.TheVariants.{RawInt, Exp, ElseLike, Semi, RawUbin, Binop, Ubinop, Question, Lpar, Rpar, Lbrace, Rbrace, Comma, Colon, IfLike, TypedefLike, Decl}
+use Rattle.cw_base.specs.declared.category.Cat.TheVariants.{RawInt, Exp, ElseLike, Semi, RawUbin, Binop, Ubinop, Question, Lpar, Rpar, Lbrace, Rbrace, Comma, Colon, StructLike, CaseLike, IfLike, SizeofLike, TypedefLike, Decl, Dot}
 use Rattle.cw_base.specs.declared.mode.MathMode.{MathMode}
 use Rattle.cw_base.specs.declared.mode.MathMode.TheVariants.{Math, Maybe}
 use Rattle.cw_base.specs.Flags.{start_flags}
@@ -115,3 +115,51 @@ statements_count = (refl, refl)
 statements_bytes : bytes_of (codes "a" ∷ codes "\\K" ∷ codes "(" ∷ codes "b" ∷ codes ")" ∷ codes ";" ∷ codes "c" ∷ codes ";" ∷ []) (normal productions start_flags statements) ≡ codes "$\\|a\\K(\\|b);{}$\\6\n\\|c;"
 unfolding normal productions
 statements_bytes = refl
+
+-- `struct s p={.x=1,.y=2};`, whose fields have names
+abbrev initialiser : State
+initialiser = start (word StructLike 0 0 ∷ ident 1 1 ∷ ident 2 2 ∷ sign Binop Math 3 ∷ sign Lbrace Math 4 ∷ sign Dot Math 5 ∷ ident 3 6 ∷ sign Binop Math 7 ∷ sign Exp Maybe 8 ∷ sign Comma Math 9 ∷ sign Dot Math 10 ∷ ident 4 11 ∷ sign Binop Math 12 ∷ sign Exp Maybe 13 ∷ sign Rbrace Math 14 ∷ sign Semi Maybe 15 ∷ [])
+
+initialiser_log : numbers (log productions start_flags initialiser) ≡ 43 ∷ 29 ∷ 33 ∷ 95 ∷ 6 ∷ 95 ∷ 7 ∷ 6 ∷ 51 ∷ 34 ∷ 37 ∷ []
+unfolding log productions
+initialiser_log = refl
+
+initialiser_bytes : bytes_of (codes "struct" ∷ codes "s" ∷ codes "p" ∷ codes "\\K" ∷ codes "\\{" ∷ codes "." ∷ codes "x" ∷ codes "\\K" ∷ codes "\\T{1}" ∷ codes "," ∷ codes "." ∷ codes "y" ∷ codes "\\K" ∷ codes "\\T{2}" ∷ codes "\\}" ∷ codes ";" ∷ []) (normal productions start_flags initialiser) ≡ codes "\\&{struct} \\|s \\|p${}\\K\\{{.}\\|x\\K\\T{1},\\39{.}\\|y\\K\\T{2}\\};$"
+unfolding normal productions
+initialiser_bytes = refl
+
+-- `x=(int){1};`
+abbrev literal : State
+literal = start (ident 0 0 ∷ sign Binop Math 1 ∷ sign Lpar Maybe 2 ∷ word RawInt 1 3 ∷ sign Rpar Maybe 4 ∷ sign Lbrace Math 5 ∷ sign Exp Maybe 6 ∷ sign Rbrace Math 7 ∷ sign Semi Maybe 8 ∷ [])
+
+literal_log : numbers (log productions start_flags literal) ≡ 89 ∷ 14 ∷ 94 ∷ 6 ∷ 8 ∷ []
+unfolding log productions
+literal_log = refl
+
+literal_bytes : bytes_of (codes "x" ∷ codes "\\K" ∷ codes "(" ∷ codes "int" ∷ codes ")" ∷ codes "\\{" ∷ codes "\\T{1}" ∷ codes "\\}" ∷ codes ";" ∷ []) (normal productions start_flags literal) ≡ codes "$\\|x\\K(\\&{int})\\{\\T{1}\\};$"
+unfolding normal productions
+literal_bytes = refl
+
+-- `_Generic(x,default:2);`
+abbrev selection : State
+selection = start (word SizeofLike 0 0 ∷ sign Lpar Maybe 1 ∷ ident 1 2 ∷ sign Comma Math 3 ∷ word CaseLike 2 4 ∷ sign Colon Maybe 5 ∷ sign Exp Maybe 6 ∷ sign Rpar Maybe 7 ∷ sign Semi Maybe 8 ∷ [])
+
+selection_log : numbers (log productions start_flags selection) ≡ 15 ∷ 67 ∷ 96 ∷ 12 ∷ 26 ∷ 8 ∷ []
+unfolding log productions
+selection_log = refl
+
+selection_bytes : bytes_of (codes "_Generic" ∷ codes "(" ∷ codes "x" ∷ codes "," ∷ codes "default" ∷ codes ":" ∷ codes "\\T{2}" ∷ codes ")" ∷ codes ";" ∷ []) (normal productions start_flags selection) ≡ codes "\\&{\\_Generic} ${}(\\|x,\\39{}$\\&{default}: \\T{2});"
+unfolding normal productions
+selection_bytes = refl
+
+-- `a.b;`
+abbrev field : State
+field = start (ident 0 0 ∷ sign Dot Math 1 ∷ ident 1 2 ∷ sign Semi Maybe 3 ∷ [])
+
+field_log : numbers (log productions start_flags field) ≡ 97 ∷ 6 ∷ 8 ∷ []
+unfolding log productions
+field_log = refl
+
+field_bytes : bytes_of (codes "a" ∷ codes "." ∷ codes "b" ∷ codes ";" ∷ []) (normal productions start_flags field) ≡ codes "$\\|a.\\|b;$"
+unfolding normal productions
+field_bytes = refl

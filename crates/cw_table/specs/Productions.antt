@@ -1,6 +1,6 @@
 -- The productions, in order: at each place the first one that fits is taken.
 use Rattle.std.specs.Prelude.{List, [], ◌∷◌}
-use Rattle.cw_base.specs.declared.category.Cat.TheVariants.{RawInt, ConstLike, Cast, IntLike, IfClause, SectionScrap, Exp, DeclHead, ElseLike, IfHead, Semi, RawUbin, Unop, Binop, Ubinop, Question, Lpar, Rpar, Lbrace, Rbrace, Comma, Colon, StructLike, CaseLike, ForLike, DoLike, IfLike, DefineLike, SizeofLike, TypedefLike, Decl, FnDecl, Function, Stmt, Tag, StructHead, ElseHead, Lproc, Rproc, Insert, BeginArg, EndArg}
+use Rattle.cw_base.specs.declared.category.Cat.TheVariants.{RawInt, ConstLike, Cast, IntLike, IfClause, SectionScrap, Exp, DeclHead, ElseLike, IfHead, Semi, RawUbin, Unop, Binop, Ubinop, Question, Lpar, Rpar, Lbrace, Rbrace, Comma, Colon, StructLike, CaseLike, ForLike, DoLike, IfLike, DefineLike, SizeofLike, TypedefLike, Decl, FnDecl, Function, Stmt, Tag, StructHead, ElseHead, Lproc, Rproc, Insert, BeginArg, EndArg, Dot}
 use Rattle.cw_base.specs.Category.{any_but, none_of}
 use Rattle.cw_table.specs.declared.types.Choice.{Choice}
 use Rattle.cw_table.specs.declared.types.Piece.TheVariants.{Scrap, MathScrap, Blank, OptionalBreak, Break, BigBreak, Cancel, Backup, Wall, Indent, Outdent, OptionalLineBreak9, ThinSpace, OpenBrace, CloseBrace, OpenRelation, Inserted}
@@ -156,4 +156,13 @@ productions =
     ∷ replaces_all 90 (only RawUbin ∷ only ConstLike ∷ []) (Is RawUbin) (joins (Scrap 0 ∷ Scrap 1 ∷ Blank ∷ []))
     ∷ replaces 0 1 91 (only RawUbin ∷ []) (Is Ubinop) (joins (Scrap 0 ∷ []))
     ∷ replaces 0 1 92 (only ConstLike ∷ []) (Is IntLike) (joins (Scrap 0 ∷ []))
+    ∷ replaces_all 93 (only Cast ∷ only Lbrace ∷ only Rbrace ∷ []) (Is Exp)
+    (joins (Scrap 0 ∷ Scrap 1 ∷ ThinSpace ∷ Scrap 2 ∷ []))
+    ∷ replaces_all 94 (only Cast ∷ only Lbrace ∷ only Exp ∷ only Rbrace ∷ []) (Is Exp)
+    (joins (Scrap 0 ∷ Scrap 1 ∷ Scrap 2 ∷ Scrap 3 ∷ []))
+    ∷ replaces 1 2 95 (one_of (Lbrace ∷ Comma ∷ []) ∷ only Dot ∷ only Exp ∷ []) (Is Exp)
+    (joins (OpenBrace ∷ Scrap 1 ∷ CloseBrace ∷ Scrap 2 ∷ []))
+    ∷ replaces 1 2 96 (only Lpar ∷ only Tag ∷ only Exp ∷ one_of (Comma ∷ Rpar ∷ []) ∷ []) (Is Exp)
+    (joins (Scrap 1 ∷ Blank ∷ Scrap 2 ∷ []))
+    ∷ replaces 0 1 97 (only Dot ∷ []) (Is Binop) (joins (Scrap 0 ∷ []))
     ∷ []

@@ -24,7 +24,7 @@ impl Model for RowAtHand {
 
     ghost view = { λ r. row_of productions (r.index + 1) };
 
-    ghost invariant = { λ r. r.index < 92 };
+    ghost invariant = { λ r. r.index < 97 };
 }
 
 impl RowAtHand {

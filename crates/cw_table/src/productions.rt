@@ -115,6 +115,11 @@ macro_rules! productions {
             90: [RawUbin], [ConstLike]; 0 + 2 => is RawUbin; [0 1 Blank];
             91: [RawUbin]; 0 + 1 => is Ubinop; [0];
             92: [ConstLike]; 0 + 1 => is IntLike; [0];
+            93: [Cast], [Lbrace], [Rbrace]; 0 + 3 => is Exp; [0 1 ThinSpace 2];
+            94: [Cast], [Lbrace], [Exp], [Rbrace]; 0 + 4 => is Exp; [0 1 2 3];
+            95: [Lbrace Comma], [Dot], [Exp]; 1 + 2 => is Exp; [OpenBrace 1 CloseBrace 2];
+            96: [Lpar], [Tag], [Exp], [Comma Rpar]; 1 + 2 => is Exp; [1 Blank 2];
+            97: [Dot]; 0 + 1 => is Binop; [0];
         }
     };
 }
@@ -246,7 +251,7 @@ macro_rules! heads_of {
 }
 
 /// How many productions there are.
-pub const ROW_COUNT: usize = 92;
+pub const ROW_COUNT: usize = 97;
 
 static TESTS: [[CatSet; 4]; ROW_COUNT] = productions!(tests_of);
 
@@ -288,7 +293,7 @@ fn row_at(i: usize) -> Row
 }
 
 /// The table of the productions.
-pub fn table() -> Table<92>
+pub fn table() -> Table<97>
     ensures rows { result ≡ productions }
     ensures sound { list_all row_is_sound result ≡ true }
     ensures rules { All IsSound result }

@@ -18,12 +18,16 @@ fn distances_are_the_least_safe_ones(rt: HostRuntime) {
     assert_eq!(rt; table.distance(RowNo { number: 6 }), 2);
     assert_eq!(rt; table.distance(RowNo { number: 58 }), 3);
     assert_eq!(rt; table.distance(RowNo { number: 82 }), 0);
+    assert_eq!(rt; table.distance(RowNo { number: 69 }), 1);
+    for (number, distance) in [(93, 2), (94, 2), (95, 1), (96, 0), (97, 1)] {
+        assert_eq!(rt; table.distance(RowNo { number }), distance);
+    }
 }
 
 #[test]
 fn steps_back_are_the_distances(rt: HostRuntime) {
     let table = table();
-    for number in 1..93 {
+    for number in 1..98 {
         assert_eq!(rt;
             step_back(RowNo { number }),
             table.distance(RowNo { number }),
@@ -45,7 +49,7 @@ fn nothing_fits_at_what_no_row_joins(rt: HostRuntime) {
 #[test]
 fn each_row_is_found_by_its_own_tests(rt: HostRuntime) {
     let table = table();
-    for number in 1..93 {
+    for number in 1..98 {
         let row = table.row(RowNo { number });
         let window = [
             first_of(row.tests[0]),
@@ -79,5 +83,6 @@ fn ranks(rt: HostRuntime) {
     assert_eq!(rt; rank(Cat::RawInt), 3);
     assert_eq!(rt; rank(Cat::SectionScrap), 2);
     assert_eq!(rt; rank(Cat::Exp), 1);
+    assert_eq!(rt; rank(Cat::Dot), 1);
     assert_eq!(rt; rank(Cat::Dead), 0);
 }

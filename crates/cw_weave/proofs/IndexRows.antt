@@ -19,7 +19,7 @@ use Rattle.cw_weave.proofs.Rows.{all_say, events, foo, foo_w, lines}
 -- the events of a run without notes: the lines of its three files, and those that are said at its end
 abbrev run_of : List (List ℕ) → List (List ℕ) → List (List ℕ) → List (List ℕ) → List Event
 run_of tex index list ending =
-    says (codes "This is CWEAVE (profile 1)") ++ says (codes "Writing the output file...") ++
+    says (codes "This is CWEAVE (profile 2)") ++ says (codes "Writing the output file...") ++
     Made Tex (codes "foo.tex") ∷ (byte_events Tex (lines tex) ++ says (codes "Writing the index...") ++
     Made Idx (codes "foo.idx") ∷ (byte_events Idx (lines index) ++
     Made Scn (codes "foo.scn") ∷ (byte_events Scn (lines list) ++ says (codes "Done.") ++ all_say ending)))

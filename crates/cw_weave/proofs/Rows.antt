@@ -44,14 +44,14 @@ foo = codes "foo" ∷ []
 -- the events of a run without notes, with the flags of the start
 abbrev pub clean_run : List (List ℕ) → List Event
 clean_run tex =
-    says (codes "This is CWEAVE (profile 1)") ++ says (codes "Writing the output file...") ++
+    says (codes "This is CWEAVE (profile 2)") ++ says (codes "Writing the output file...") ++
     Made Tex (codes "foo.tex") ∷ (byte_events Tex (lines tex) ++ says (codes "Writing the index...") ++
     Made Idx (codes "foo.idx") ∷ (Made Scn (codes "foo.scn") ∷ (says (codes "Done.") ++ says (codes "(No errors were found.)"))))
 
 -- the events of a run with notes
 abbrev pub run_with : List (List ℕ) → List (List ℕ) → List ℕ → List Event
 run_with notes tex closing =
-    says (codes "This is CWEAVE (profile 1)") ++ all_say notes ++ says (codes "Writing the output file...") ++
+    says (codes "This is CWEAVE (profile 2)") ++ all_say notes ++ says (codes "Writing the output file...") ++
     Made Tex (codes "foo.tex") ∷ (byte_events Tex (lines tex) ++ says (codes "Writing the index...") ++
     Made Idx (codes "foo.idx") ∷ (Made Scn (codes "foo.scn") ∷ (says (codes "Done.") ++ says closing)))
 
@@ -65,12 +65,12 @@ an_empty_web : events (woven foo (foo_w [])) ≡
 unfolding digits cut_behind divide new_lines web_lines says translated normal log count positions looks productions
 an_empty_web = refl
 
-no_words : events (woven [] no_files) ≡ all_say (codes "This is CWEAVE (profile 1)" ∷
+no_words : events (woven [] no_files) ≡ all_say (codes "This is CWEAVE (profile 2)" ∷
     codes "! Usage: cweave [options] webfile[.w] [{changefile[.ch]|-} [outfile[.tex]]]" ∷ codes "(That was a fatal error, my friend.)" ∷ [])
 unfolding says
 no_words = refl
 
-no_web : events (woven foo no_files) ≡ all_say (codes "This is CWEAVE (profile 1)" ∷
+no_web : events (woven foo no_files) ≡ all_say (codes "This is CWEAVE (profile 2)" ∷
     codes "! Cannot open web file foo" ∷ codes "(That was a fatal error, my friend.)" ∷ [])
 unfolding says
 no_web = refl
@@ -136,7 +136,7 @@ codes_that_print_nothing = refl
 -- the events of a run with flag x off, up to the note and the lines at its end
 abbrev pub plain_run : List (List ℕ) → List (List ℕ) → List (List ℕ) → List Event
 plain_run notes tex ending =
-    says (codes "This is CWEAVE (profile 1)") ++ all_say notes ++ says (codes "Writing the output file...") ++
+    says (codes "This is CWEAVE (profile 2)") ++ all_say notes ++ says (codes "Writing the output file...") ++
     Made Tex (codes "foo.tex") ∷ (byte_events Tex (lines tex) ++ (says (codes "Done.") ++ all_say ending))
 
 -- An ambiguous prefix stands for the first name, and the note on a name tells its text.

@@ -15,7 +15,7 @@ fn a_change(rt: HostRuntime) -> Result<(), Fail> {
     )?;
     assert_eq!(rt;
         text.as_slice(),
-        b"[term]This is CWEAVE (profile 1)
+        b"[term]This is CWEAVE (profile 2)
 ! 1 of the preceding lines did not match (l. 4 of foo.ch)
 Writing the output file...
 [tex] is foo.tex
@@ -48,7 +48,7 @@ fn an_ended_change(rt: HostRuntime) -> Result<(), Fail> {
     )?;
     assert_eq!(rt;
         text.as_slice(),
-        b"[term]This is CWEAVE (profile 1)
+        b"[term]This is CWEAVE (profile 2)
 ! Change file ended before @y (l. 2 of foo.ch)
 Writing the output file...
 [tex] is foo.tex
@@ -76,7 +76,7 @@ fn no_change_file(rt: HostRuntime) -> Result<(), Fail> {
     let text = told(rt.alloc(), CHANGED, &[], &[FOO, b"bar".as_slice()])?;
     assert_eq!(rt;
         text.as_slice(),
-        b"[term]This is CWEAVE (profile 1)
+        b"[term]This is CWEAVE (profile 2)
 ! Cannot open change file bar
 (That was a fatal error, my friend.)
 Errors"
@@ -86,7 +86,7 @@ Errors"
 }
 
 /// What a run prints and writes whose book is one section.
-const DEEP: &[u8] = b"[term]This is CWEAVE (profile 1)
+const DEEP: &[u8] = b"[term]This is CWEAVE (profile 2)
 Writing the output file...
 [tex] is foo.tex
 [tex]\\input cwebmac
@@ -133,7 +133,7 @@ fn eleven_files_deep(rt: HostRuntime) -> Result<(), Fail> {
     let text = told_by(rt.alloc(), &mut desk, &[FOO])?;
     assert_eq!(rt;
         text.as_slice(),
-        b"[term]This is CWEAVE (profile 1)
+        b"[term]This is CWEAVE (profile 2)
 ! Too many nested includes (l. 1 of f10)
 Writing the output file...
 [tex] is foo.tex
@@ -193,7 +193,7 @@ f
     )?;
     assert_eq!(rt;
         text.as_slice(),
-        b"[term]This is CWEAVE (profile 1)
+        b"[term]This is CWEAVE (profile 2)
 ! Where is the matching @x? (l. 1 of foo.ch)
 ! No old line in this change (l. 3 of foo.ch)
 ! Cannot open include file (l. 1 of foo.w)
@@ -234,7 +234,7 @@ fn new_lines_without_an_end(rt: HostRuntime) -> Result<(), Fail> {
     )?;
     assert_eq!(rt;
         text.as_slice(),
-        b"[term]This is CWEAVE (profile 1)
+        b"[term]This is CWEAVE (profile 2)
 ! Change file ended before @z (l. 4 of foo.ch)
 Writing the output file...
 [tex] is foo.tex

@@ -25,7 +25,7 @@ fn terminal(alloc: Global, web: &[u8]) -> Result<Bytes, Memory> {
 /// The same from the notes alone.
 fn expected(alloc: Global, notes: &[u8]) -> Result<Bytes, Memory> {
     let mut text = Bytes::new_in(alloc);
-    text.append(b"This is CWEAVE (profile 1)\n")?;
+    text.append(b"This is CWEAVE (profile 2)\n")?;
     text.append(notes)?;
     text.append(
         b"Writing the output file...

@@ -10,7 +10,7 @@ fn a_declaration_with_its_index(rt: HostRuntime) -> Result<(), Fail> {
     let text = told(rt.alloc(), b"@ @c int a=b+c, *d;\n", &[], &[FOO])?;
     assert_eq!(rt;
         text.as_slice(),
-        b"[term]This is CWEAVE (profile 1)
+        b"[term]This is CWEAVE (profile 2)
 Writing the output file...
 [tex] is foo.tex
 [tex]\\input cwebmac
@@ -45,7 +45,7 @@ aaaaaaaaaaaaaaaaaaaaaaaaaaaaaaaaaaaaaaaaaaaaaaaaaaaaaaaaaaaaaaaaaaaaaaaaaaaaaaaa
     )?;
     assert_eq!(rt;
         text.as_slice(),
-        b"[term]This is CWEAVE (profile 1)
+        b"[term]This is CWEAVE (profile 2)
 Writing the output file...
 [tex] is foo.tex
 [tex]\\input cwebmac
@@ -77,7 +77,7 @@ fn statistics_with_an_index(rt: HostRuntime) -> Result<(), Fail> {
     )?;
     assert_eq!(rt;
         text.as_slice(),
-        b"[term]This is CWEAVE (profile 1)
+        b"[term]This is CWEAVE (profile 2)
 Writing the output file...
 [tex] is foo.tex
 [tex]\\input cwebmac
@@ -132,7 +132,7 @@ printf(\"Hello\\n\"); /* |i| is unused */
     )?;
     assert_eq!(rt;
         text.as_slice(),
-        b"[term]This is CWEAVE (profile 1)
+        b"[term]This is CWEAVE (profile 2)
 Writing the output file...
 [tex] is foo.tex
 [tex]\\input cwebmac
@@ -184,7 +184,7 @@ fn conflicting_names_and_a_format(rt: HostRuntime) -> Result<(), Fail> {
     )?;
     assert_eq!(rt;
         text.as_slice(),
-        b"[term]This is CWEAVE (profile 1)
+        b"[term]This is CWEAVE (profile 2)
 ! Name conflicts with another (l. 2 of foo.w)
 ! Never used: <Read>
 Writing the output file...

@@ -70,7 +70,7 @@ fn a_section(rt: HostRuntime) -> Result<(), Fail> {
     let text = read_journal(rt.alloc(), desk.journal())?;
     assert_eq!(rt;
         text.as_slice(),
-        b"[term]This is CWEAVE (profile 1)
+        b"[term]This is CWEAVE (profile 2)
 Writing the output file...
 [tex] is foo.tex
 [tex]\\input cwebmac
@@ -100,7 +100,7 @@ fn an_empty_web(rt: HostRuntime) -> Result<(), Fail> {
     let text = read_journal(rt.alloc(), desk.journal())?;
     assert_eq!(rt;
         text.as_slice(),
-        b"[term]This is CWEAVE (profile 1)
+        b"[term]This is CWEAVE (profile 2)
 Writing the output file...
 [tex] is foo.tex
 [tex]\\input cwebmac
@@ -126,7 +126,7 @@ fn no_words(rt: HostRuntime) -> Result<(), Fail> {
     let text = read_journal(rt.alloc(), desk.journal())?;
     assert_eq!(rt;
         text.as_slice(),
-        b"[term]This is CWEAVE (profile 1)
+        b"[term]This is CWEAVE (profile 2)
 ! Usage: cweave [options] webfile[.w] [{changefile[.ch]|-} [outfile[.tex]]]
 (That was a fatal error, my friend.)
 "
@@ -143,7 +143,7 @@ fn no_web(rt: HostRuntime) -> Result<(), Fail> {
     let text = read_journal(rt.alloc(), desk.journal())?;
     assert_eq!(rt;
         text.as_slice(),
-        b"[term]This is CWEAVE (profile 1)
+        b"[term]This is CWEAVE (profile 2)
 ! Cannot open web file foo
 (That was a fatal error, my friend.)
 "
@@ -162,7 +162,7 @@ fn a_failing_put(rt: HostRuntime) -> Result<(), Fail> {
     let text = read_journal(rt.alloc(), desk.journal())?;
     assert_eq!(rt;
         text.as_slice(),
-        b"[term]This is CWEAVE (profile 1)
+        b"[term]This is CWEAVE (profile 2)
 Writing the output file...
 [tex] is foo.tex
 [tex]\\input cwebmac
@@ -183,7 +183,7 @@ fn a_failing_read(rt: HostRuntime) -> Result<(), Fail> {
     let text = read_journal(rt.alloc(), desk.journal())?;
     assert_eq!(rt;
         text.as_slice(),
-        b"[term]This is CWEAVE (profile 1)\n".as_slice()
+        b"[term]This is CWEAVE (profile 2)\n".as_slice()
     );
     Ok(())
 }
@@ -212,7 +212,7 @@ fn too_long(rt: HostRuntime) -> Result<(), Fail> {
     let text = read_journal(rt.alloc(), desk.journal())?;
     assert_eq!(rt;
         text.as_slice(),
-        b"[term]This is CWEAVE (profile 1)
+        b"[term]This is CWEAVE (profile 2)
 ! Input is longer than 8388608 bytes
 (That was a fatal error, my friend.)
 "
@@ -252,7 +252,7 @@ fn a_plain_statement(rt: HostRuntime) -> Result<(), Fail> {
     let text = told(rt.alloc(), b"@ @c i=i+1;\n", &[], &[FOO])?;
     assert_eq!(rt;
         text.as_slice(),
-        b"[term]This is CWEAVE (profile 1)
+        b"[term]This is CWEAVE (profile 2)
 Writing the output file...
 [tex] is foo.tex
 [tex]\\input cwebmac
@@ -279,7 +279,7 @@ fn two_statements(rt: HostRuntime) -> Result<(), Fail> {
     let text = told(rt.alloc(), b"@ @c a=(b); c;\n", &[], &[FOO])?;
     assert_eq!(rt;
         text.as_slice(),
-        b"[term]This is CWEAVE (profile 1)
+        b"[term]This is CWEAVE (profile 2)
 Writing the output file...
 [tex] is foo.tex
 [tex]\\input cwebmac
@@ -307,7 +307,7 @@ fn codes_and_a_starred_section(rt: HostRuntime) -> Result<(), Fail> {
     let text = told(rt.alloc(), b"a@@b@q x@>c\n@* T. @t x@>y\n", &[], &[FOO])?;
     assert_eq!(rt;
         text.as_slice(),
-        b"[term]This is CWEAVE (profile 1)
+        b"[term]This is CWEAVE (profile 2)
 ! You can't do that in TeX text (l. 2 of foo.w)
 Writing the output file...
 [tex] is foo.tex
@@ -396,7 +396,7 @@ fn too_many_words(rt: HostRuntime) -> Result<(), Fail> {
     )?;
     assert_eq!(rt;
         text.as_slice(),
-        b"[term]This is CWEAVE (profile 1)
+        b"[term]This is CWEAVE (profile 2)
 ! Usage: cweave [options] webfile[.w] [{changefile[.ch]|-} [outfile[.tex]]]
 (That was a fatal error, my friend.)
 Errors"
@@ -418,7 +418,7 @@ fn no_sample(rt: HostRuntime) -> Result<(), Fail> {
         let text = told(rt.alloc(), HELLO, &[], words)?;
         assert_eq!(rt;
             text.as_slice(),
-            b"[term]This is CWEAVE (profile 1)
+            b"[term]This is CWEAVE (profile 2)
 ! Usage: cweave [options] webfile[.w] [{changefile[.ch]|-} [outfile[.tex]]]
 (That was a fatal error, my friend.)
 Errors"

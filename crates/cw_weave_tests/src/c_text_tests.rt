@@ -8,7 +8,7 @@ use std::test::Fail;
 fn whole(alloc: Global, section: &[u8], index: &[u8], with_index: bool) -> Result<Bytes, Memory> {
     let mut text = Bytes::new_in(alloc);
     text.append(
-        b"[term]This is CWEAVE (profile 1)\nWriting the output file...\n[tex] is foo.tex\n",
+        b"[term]This is CWEAVE (profile 2)\nWriting the output file...\n[tex] is foo.tex\n",
     )?;
     text.append(b"[tex]\\input cwebmac\n\\M{1}\n")?;
     text.append(section)?;
@@ -28,7 +28,7 @@ fn whole(alloc: Global, section: &[u8], index: &[u8], with_index: bool) -> Resul
 }
 
 /// A text of a C part, what its section prints, and its index.
-const ROWS: [(&[u8], &[u8], &[u8]); 8] = [
+const ROWS: [(&[u8], &[u8], &[u8]); 12] = [
     (
         b"int a=b+c, *d;",
         b"\\Y\\B\\&{int} \\|a${}\\K\\|b+\\|c,{}$ ${}{*}\\|d;$\\par\n",
@@ -66,6 +66,22 @@ ${}\\}{}$ \\&{bar};\\6
     ),
     (b"@[int@]=x; @]", b"\\Y\\B$\\&{int}\\K\\|x;$\\par\n", b""),
     (b"x=a?b:c;", b"\\Y\\B$\\|x\\K\\|a\\?\\|b:\\|c;$\\par\n", b""),
+    (
+        b"struct s p={.x=1,.y=2};",
+        b"\\Y\\B\\&{struct} \\|s \\|p${}\\K\\{{.}\\|x\\K\\T{1},\\39{.}\\|y\\K\\T{2}\\};$\\par\n",
+        b"\\I\\|p, \\[1].\n",
+    ),
+    (
+        b"x=(int){1};",
+        b"\\Y\\B$\\|x\\K(\\&{int})\\{\\T{1}\\};$\\par\n",
+        b"",
+    ),
+    (
+        b"_Generic(x,default:2);",
+        b"\\Y\\B\\&{\\_Generic} ${}(\\|x,\\39{}$\\&{default}: \\T{2});\\par\n",
+        b"",
+    ),
+    (b"a.b;", b"\\Y\\B$\\|a.\\|b;$\\par\n", b""),
 ];
 
 #[test]

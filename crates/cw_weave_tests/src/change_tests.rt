@@ -6,7 +6,7 @@ use std::test::Fail;
 const ENDED: [(&[u8], &[u8]); 2] = [
     (
         b"@x\n@c a;\n@y\n",
-        b"[term]This is CWEAVE (profile 1)
+        b"[term]This is CWEAVE (profile 2)
 ! Change file ended before @z (l. 3 of foo.ch)
 Writing the output file...
 [tex] is foo.tex
@@ -27,7 +27,7 @@ Errors",
     ),
     (
         b"@x\n@c a;\nc;\n@y\n",
-        b"[term]This is CWEAVE (profile 1)
+        b"[term]This is CWEAVE (profile 2)
 ! 1 of the preceding lines did not match (l. 4 of foo.ch)
 ! Change file ended before @z (l. 4 of foo.ch)
 Writing the output file...
@@ -103,7 +103,7 @@ fn each_number_of_a_changed_section(rt: HostRuntime) -> Result<(), Fail> {
     let seen = told(rt.alloc(), &[b"foo".as_slice(), b"foo".as_slice()], &files)?;
     assert_eq!(rt;
         seen.as_slice(),
-        b"[term]This is CWEAVE (profile 1)
+        b"[term]This is CWEAVE (profile 2)
 Writing the output file...
 [tex] is foo.tex
 [tex]\\input cwebmac

@@ -76,7 +76,7 @@ if (a>38) { b+=38; c(38,a); } else while (b) b--;
 ";
 
 /// What its run with the words `-e +s foo` tells.
-pub(crate) const TOLD: &[u8] = b"[term]This is CWEAVE (profile 1)
+pub(crate) const TOLD: &[u8] = b"[term]This is CWEAVE (profile 2)
 ! Never used: <Step 6.>
 ! Never used: <Step 18.>
 ! Never used: <Step 26.>

@@ -33,7 +33,7 @@ fn nested(alloc: Global, depth: usize) -> Result<Bytes, Memory> {
     Ok(web)
 }
 
-const CLEAN: &[u8] = b"This is CWEAVE (profile 1)
+const CLEAN: &[u8] = b"This is CWEAVE (profile 2)
 Writing the output file...
 Writing the index...
 Done.
@@ -56,7 +56,7 @@ fn one_text_too_deep(rt: HostRuntime) -> Result<(), Fail> {
     let (text, exit) = terminal(rt.alloc(), &[b"foo".as_slice()], web.as_slice())?;
     assert_eq!(rt;
         text.as_slice(),
-        b"This is CWEAVE (profile 1)
+        b"This is CWEAVE (profile 2)
 ! C text is nested too deeply (l. 1 of foo.w)
 ! C text is nested too deeply (l. 1 of foo.w)
 Writing the output file...
@@ -81,7 +81,7 @@ fn many_statements_on_one_line(rt: HostRuntime) -> Result<(), Fail> {
     let (text, exit) = terminal(rt.alloc(), &words, web.as_slice())?;
     assert_eq!(rt;
         text.as_slice(),
-        b"This is CWEAVE (profile 1)
+        b"This is CWEAVE (profile 2)
 Writing the output file...
 Done.
 sections 1

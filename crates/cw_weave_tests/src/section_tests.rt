@@ -9,7 +9,7 @@ const ROWS: [(&[u8], &[u8]); 7] = [
     // Two names begin with the prefix.
     (
         b"@ @<Read a@>= x;\n@ @<Read b@>= y;\n@ @c @<Read...@>;\n",
-        b"[term]This is CWEAVE (profile 1)
+        b"[term]This is CWEAVE (profile 2)
 ! Ambiguous prefix (l. 3 of foo.w)
 ! Never used: <Read b>
 Writing the output file...
@@ -46,7 +46,7 @@ Errors",
     // A name gets the category of another.
     (
         b"@ @f foo int\n@c foo x;\n",
-        b"[term]This is CWEAVE (profile 1)
+        b"[term]This is CWEAVE (profile 2)
 Writing the output file...
 [tex] is foo.tex
 [tex]\\input cwebmac
@@ -70,7 +70,7 @@ Clean",
     // A name begins another.
     (
         b"@ @<Read@>= x;\n@ @<Read b@>= y;\n",
-        b"[term]This is CWEAVE (profile 1)
+        b"[term]This is CWEAVE (profile 2)
 ! Name conflicts with another (l. 2 of foo.w)
 ! Never used: <Read>
 Writing the output file...
@@ -105,7 +105,7 @@ Then @(out@>.
 @ @<Cited@>= z;
 @ @(out@>= w;
 ",
-        b"[term]This is CWEAVE (profile 1)
+        b"[term]This is CWEAVE (profile 2)
 ! Never used: <Cited>
 Writing the output file...
 [tex] is foo.tex
@@ -147,7 +147,7 @@ Clean",
     // Three definitions in a row, and one that prints nothing.
     (
         b"@ Text.\n@d a 1\n@f foo int\n@s bar int\n@d b 2\n",
-        b"[term]This is CWEAVE (profile 1)
+        b"[term]This is CWEAVE (profile 2)
 Writing the output file...
 [tex] is foo.tex
 [tex]\\input cwebmac
@@ -180,7 +180,7 @@ Clean",
 @ And @<N@>.
 @ Last @<N@>.
 ",
-        b"[term]This is CWEAVE (profile 1)
+        b"[term]This is CWEAVE (profile 2)
 Writing the output file...
 [tex] is foo.tex
 [tex]\\input cwebmac
@@ -232,7 +232,7 @@ Clean",
 @*1 aaaaaaaaaaaaaaaaaaaaaaaaaaaaaaaaaaaaaaaaaaaaaaaaaaaaaaaaaaaaaaaaaaaaaaaaaaaaaaaa.
 @c @<Print...@>;
 ",
-        b"[term]This is CWEAVE (profile 1)
+        b"[term]This is CWEAVE (profile 2)
 Writing the output file...
 [tex] is foo.tex
 [tex]\\input cwebmac

@@ -3,4 +3,4 @@ use Rattle.cw_table.specs.Productions.{productions}
 use Rattle.cw_table.proofs.productions.table.Given as goal
 
 abbrev pub invariant-loop-i : goal.invariant-loop-i
-invariant-loop-i l = record { filled : length l.rows ≡ 92; same : take l.i l.rows ≡ take l.i productions }
+invariant-loop-i l = record { filled : length l.rows ≡ 97; same : take l.i l.rows ≡ take l.i productions }
