@@ -1,4 +1,4 @@
-% A web of ten sections: a program that prints the first primes.
+% A web of twelve sections: a program that prints the first primes.
 \def\title{PRIMES}
 
 @* Printing primes. This program prints as many primes as its command line
@@ -45,6 +45,12 @@ typedef struct table_of_primes {
   long prime[LIMIT]; /* the first |count| of them matter */
 } Table;
 
+@ The smallest table that the program fills holds the only even prime. What
+its initialiser doesn't name is zero.
+
+@<Functions@>=
+static const Table first={.count=1,.prime={2}};
+
 @* Finding the next prime. The candidates are odd, but for the first one. A
 candidate |n| is a prime if no prime |p| of the table divides it as long as
 |p*p<=n|; this is the inner loop of the program.
@@ -60,17 +66,14 @@ static int is_prime(const Table *t,long n)
   return 1;
 }
 
-@ The next prime behind the last one of the table is found by trying one
-candidate after another. There always is one, as Euclid knew.
+@ The next prime behind the last one of the table, which isn't empty, is found
+by trying one candidate after another. There always is one, as Euclid knew.
 @:Euclid}{Euclid@>
 
 @<Functions@>=
 static long next_prime(const Table *t)
 {
-  long n;
-  if (t->count==0)
-    return 2;
-  n=t->prime[t->count-1]+1;
+  long n=t->prime[t->count-1]+1;
   while (!is_prime(t,n))
     n++;
   return n;
@@ -94,10 +97,11 @@ if (wanted>LIMIT)
 else if (wanted<0)
   wanted=0;
 
-@ The table begins empty and grows by one prime at a time.
+@ The table begins with the first prime, or stays empty if none is wanted, and
+grows by one prime at a time.
 
 @<Fill the table@>=
-table.count=0;
+table=wanted>0?first:(Table){.count=0};
 while (table.count<wanted) {
   table.prime[table.count]=next_prime(&table);
   table.count++;

@@ -15,7 +15,7 @@ use cw_base::{Flags, Memory, Silent, Span, Steps};
 use cw_lex::{Sign, Tok, TokKind};
 use cw_names::Names;
 use cw_scraps::{Marks, ScrapLine, scrap_of};
-use cw_table::{RowNo, Table, first_production, table};
+use cw_table::{ROW_COUNT, RowNo, Table, first_production, table};
 use cw_tokens::TokenStore;
 use std::alloc::Global;
 use std::{env, io};
@@ -70,7 +70,7 @@ fn add_all(
 fn first_row(line: &ScrapLine, place: usize, steps: &mut Steps<Silent>) -> Option<RowNo>
     requires { place < length line.now }
     ensures from_one { IfSome result (λ row. 1 ≤ row.number) }
-    ensures to_last { IfSome result (λ row. row.number ≤ 97) }
+    ensures to_last { IfSome result (λ row. row.number ≤ ROW_COUNT) }
     ensures fits { IfSome result (λ row. row_fits (row_of productions row.number) (drop place (entry_cats line.now)) ≡ true) }
 {
     let _length = line.len();
@@ -95,7 +95,7 @@ fn apply(
     steps: &mut Steps<Silent>,
 )
     requires from_one { 1 ≤ row.number }
-    requires to_last { row.number ≤ 97 }
+    requires to_last { row.number ≤ ROW_COUNT }
     requires fits { row_fits (row_of table.now row.number) (drop place (cats_of (scraps_of store.old.lists line.old))) ≡ true }
     requires sound { IsSoundLine store.old names.old line.old }
     requires room { 24 ≤ store.old.spare }

@@ -7,6 +7,7 @@ use Rattle.cw_base.specs.declared.category.Cat.TheVariants.{RawInt}
 use Rattle.cw_base.specs.declared.flags.Flags.{Flags}
 use Rattle.cw_names.specs.Names.{Entry, with_category}
 use Rattle.cw_trees.specs.Tree.{Search, Found, Stopped, Nothing}
+use Rattle.cw_table.specs.declared.productions.TheConstants.{ROW_COUNT}
 use Rattle.cw_table.specs.declared.types.Row.{Row}
 use Rattle.cw_table.specs.declared.types.RowNo.{RowNo}
 use Rattle.cw_table.specs.Fitting.{row_fits, first_of, window_of}
@@ -41,7 +42,7 @@ number_of o = option_map (λ row. row.number) o
 abbrev pub first_fits : List Cat → Option RowNo → Type 0
 first_fits cats o = MatchOption o (first_of productions cats ≡ None) (λ row. IsFirst cats row.number)
 
-first-is : (cats : List Cat) (o : Option RowNo) (first : Option Row) → first_of productions cats ≡ first → o ≡ number_of first → IfSome o (λ row. 1 ≤ row.number) → IfSome o (λ row. row.number ≤ 97) → first_fits cats o
+first-is : (cats : List Cat) (o : Option RowNo) (first : Option Row) → first_of productions cats ≡ first → o ≡ number_of first → IfSome o (λ row. 1 ≤ row.number) → IfSome o (λ row. row.number ≤ ROW_COUNT) → first_fits cats o
 first-is cats None None found is one last = found
 first-is cats None (Some row) found is one last = absurd cc
 first-is cats (Some n) None found is one last = absurd cc
@@ -51,7 +52,7 @@ first-is cats (Some n) (Some row) found is one last =
     let row_is : row_of productions n.number ≡ row = ap (λ (x : Option Row). unwrap_or x no_row) numbered in
     record { from_one = one; to_last = last; numbered = numbered ∙ ap Some (sym row_is); fits = found ∙ ap Some (sym row_is) }
 
-pub first-line : (line : List LineEntry) (place : ℕ) (window : List Cat) (o : Option RowNo) → window ≡ window_of (drop place (entry_cats line)) → o ≡ number_of (first_of productions window) → IfSome o (λ row. 1 ≤ row.number) → IfSome o (λ row. row.number ≤ 97) → first_fits (drop place (entry_cats line)) o
+pub first-line : (line : List LineEntry) (place : ℕ) (window : List Cat) (o : Option RowNo) → window ≡ window_of (drop place (entry_cats line)) → o ≡ number_of (first_of productions window) → IfSome o (λ row. 1 ≤ row.number) → IfSome o (λ row. row.number ≤ ROW_COUNT) → first_fits (drop place (entry_cats line)) o
 first-line line place window o w is one last = first-is (drop place (entry_cats line)) o (first_of productions (drop place (entry_cats line))) refl (is ∙ ap number_of (ap (first_of productions) w ∙ first-window productions (drop place (entry_cats line)) productions-sound)) one last
 
 -- no row fits where no window that begins with the two categories there has one
@@ -64,7 +65,7 @@ none-line line place first second a b none =
     ∙ none (get_or line (place + 2) no_entry).cat (get_or line (place + 3) no_entry).cat)))
 
 -- the least safe distance of a number is that of its row
-pub least-row : (n distance : ℕ) → 1 ≤ n → n ≤ 97 → IfSome (row_numbered productions n) (λ row. distance ≡ least productions row) → distance ≡ least productions (row_of productions n)
+pub least-row : (n distance : ℕ) → 1 ≤ n → n ≤ ROW_COUNT → IfSome (row_numbered productions n) (λ row. distance ≡ least productions row) → distance ≡ least productions (row_of productions n)
 least-row n distance one last is =
     go (row_numbered productions n) (numbered-row productions productions n no_row refl refl one (omega (arith, productions-length))) is
   where

@@ -6,6 +6,7 @@ use Rattle.std.proofs.lemmas.List.{get_or-map}
 use Rattle.std.proofs.lemmas.Option.{slice_get-get_or}
 use Rattle.cw_base.specs.Category.{meet}
 use Rattle.cw_base.proofs.CategoryLaws.{each-of}
+use Rattle.cw_table.specs.declared.productions.TheConstants.{ROW_COUNT}
 use Rattle.cw_table.specs.declared.back.TheConstants.{BACK}
 use Rattle.cw_table.specs.declared.types.RowResult.TheVariants.{SameAs}
 use Rattle.cw_table.specs.declared.types.Row.{Row}
@@ -22,7 +23,7 @@ back-are = refl
 some_row : Row
 some_row = replaces_all 0 [] (SameAs 0) (joins [])
 
-pub back-at : (n : ℕ) → 1 ≤ n → n ≤ 97 → IfSome (row_numbered productions n) (λ r. get_or BACK (n - 1) 0 ≡ least productions r)
+pub back-at : (n : ℕ) → 1 ≤ n → n ≤ ROW_COUNT → IfSome (row_numbered productions n) (λ r. get_or BACK (n - 1) 0 ≡ least productions r)
 back-at n from to =
     let found : row_numbered productions n ≡ Some (get_or productions (n - 1) some_row) = numbered-row productions productions n some_row refl refl from (omega (arith, productions-length)) in
     let is : get_or BACK (n - 1) 0 ≡ least productions (get_or productions (n - 1) some_row) =
@@ -30,6 +31,6 @@ back-at n from to =
     ∙ get_or-map (least productions) productions (n - 1) some_row 0 (omega (arith, productions-length)) in
     subst (λ o. IfSome o (λ r. get_or BACK (n - 1) 0 ≡ least productions r)) (sym found) is
 
-pub back-at-most : (n : ℕ) → 1 ≤ n → n ≤ 97 → get_or BACK (n - 1) 0 ≤ 3
+pub back-at-most : (n : ℕ) → 1 ≤ n → n ≤ ROW_COUNT → get_or BACK (n - 1) 0 ≤ 3
 back-at-most n from to =
     leb-true _ _ (each-of (λ b. leb b 3) BACK (n - 1) (get_or BACK (n - 1) 0) refl (slice_get-get_or BACK (n - 1) 0 (omega arith)))

@@ -6,7 +6,7 @@ use Rattle.std.proofs.lemmas.Option.{slice_get-get_or}
 use Rattle.cw_base.specs.declared.category.Cat.TheVariants.{RawInt}
 use Rattle.cw_base.proofs.CategoryLaws.{each-of}
 use Rattle.cw_table.specs.declared.productions.Head.{Head}
-use Rattle.cw_table.specs.declared.productions.TheConstants.{TESTS, USUAL, OTHER, HEADS}
+use Rattle.cw_table.specs.declared.productions.TheConstants.{TESTS, USUAL, OTHER, HEADS, ROW_COUNT}
 use Rattle.cw_table.specs.declared.types.Choice.TheVariants.{Always}
 use Rattle.cw_table.specs.declared.types.Piece.{Piece}
 use Rattle.cw_table.specs.declared.types.Piece.TheVariants.{Scrap}
@@ -41,7 +41,7 @@ abbrev pub row_at : ℕ → Row
 row_at i = joined (get_or TESTS i []) (get_or USUAL i []) (get_or OTHER i []) (get_or HEADS i no_head)
 
 -- it is the row of the number after the place
-pub row-at : (i : ℕ) → i < 97 → row_at i ≡ row_of productions (i + 1)
+pub row-at : (i : ℕ) → i < ROW_COUNT → row_at i ≡ row_of productions (i + 1)
 row-at i lt =
     let at : slice_get productions i ≡ Some (row_at i) =
     ap (λ rows. slice_get rows i) (sym zipped-is)
@@ -50,18 +50,18 @@ row-at i lt =
     sym (ap (λ (o : Option Row). unwrap_or o no_row) numbered)
 
 -- the row of a number is sound
-pub row-sound : (n : ℕ) → 1 ≤ n → n ≤ 97 → row_is_sound (row_of productions n) ≡ true
+pub row-sound : (n : ℕ) → 1 ≤ n → n ≤ ROW_COUNT → row_is_sound (row_of productions n) ≡ true
 row-sound n from to =
     let found : row_numbered productions n ≡ Some (get_or productions (n - 1) no_row) = numbered-row productions productions n no_row refl refl from (omega (arith, productions-length)) in
     ap row_is_sound (ap (λ (o : Option Row). unwrap_or o no_row) found)
     ∙ numbered-sound productions (n - 1) no_row refl (omega (arith, productions-length))
 
 -- each translation has twelve places
-usual-places : (i : ℕ) → i < 97 → length (get_or USUAL i []) ≡ 12
+usual-places : (i : ℕ) → i < ROW_COUNT → length (get_or USUAL i []) ≡ 12
 usual-places i lt =
     eqb-true _ _ (each-of (λ ps. eqb (length ps) 12) USUAL i (get_or USUAL i []) refl (slice_get-get_or USUAL i [] (omega arith)))
 
-other-places : (i : ℕ) → i < 97 → length (get_or OTHER i []) ≡ 12
+other-places : (i : ℕ) → i < ROW_COUNT → length (get_or OTHER i []) ≡ 12
 other-places i lt =
     eqb-true _ _ (each-of (λ ps. eqb (length ps) 12) OTHER i (get_or OTHER i []) refl (slice_get-get_or OTHER i [] (omega arith)))
 
@@ -89,12 +89,12 @@ has other ps count row is few twelve =
       below = λ i inside. omega arith;
     }
 
-pub usual-pieces : (i : ℕ) (other : Bool) (row : Row) → i < 97 → other ≡ false → row_of productions (i + 1) ≡ row → HasPieces other (get_or USUAL i []) (get_or HEADS i no_head).usual_count row
+pub usual-pieces : (i : ℕ) (other : Bool) (row : Row) → i < ROW_COUNT → other ≡ false → row_of productions (i + 1) ≡ row → HasPieces other (get_or USUAL i []) (get_or HEADS i no_head).usual_count row
 usual-pieces i other row lt off is =
     let s : IsSound (row_at i) = sound-row (row_at i) (ap row_is_sound (row-at i lt) ∙ row-sound (i + 1) (omega arith) (omega arith)) in
     has other (get_or USUAL i []) (get_or HEADS i no_head).usual_count row (ap (λ b. pieces_by b row) off ∙ ap (pieces_by false) (sym (row-at i lt ∙ is))) s.usual_short (usual-places i lt)
 
-pub other-pieces : (i : ℕ) (other : Bool) (row : Row) → i < 97 → other ≡ true → row_of productions (i + 1) ≡ row → HasPieces other (get_or OTHER i []) (get_or HEADS i no_head).other_count row
+pub other-pieces : (i : ℕ) (other : Bool) (row : Row) → i < ROW_COUNT → other ≡ true → row_of productions (i + 1) ≡ row → HasPieces other (get_or OTHER i []) (get_or HEADS i no_head).other_count row
 other-pieces i other row lt on is =
     let s : IsSound (row_at i) = sound-row (row_at i) (ap row_is_sound (row-at i lt) ∙ row-sound (i + 1) (omega arith) (omega arith)) in
     has other (get_or OTHER i []) (get_or HEADS i no_head).other_count row (ap (λ b. pieces_by b row) on ∙ ap (pieces_by true) (sym (row-at i lt ∙ is))) s.other_short (other-places i lt)

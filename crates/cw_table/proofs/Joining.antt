@@ -6,7 +6,7 @@ use Rattle.std.proofs.lemmas.Option.{get_or_from_slice_get}
 use Rattle.cw_table.specs.declared.types.Row.{Row}
 use Rattle.cw_base.specs.declared.category.CatSet.{CatSet}
 use Rattle.cw_table.specs.declared.productions.Head.{Head}
-use Rattle.cw_table.specs.declared.productions.TheConstants.{TESTS, USUAL, OTHER, HEADS}
+use Rattle.cw_table.specs.declared.productions.TheConstants.{TESTS, USUAL, OTHER, HEADS, ROW_COUNT}
 use Rattle.cw_table.specs.declared.types.Piece.{Piece}
 use Rattle.cw_table.specs.Joined.{joined, zipped}
 use Rattle.cw_table.specs.Productions.{productions}
@@ -23,19 +23,19 @@ zipped-get (t ∷ ts) (u ∷ us) (o ∷ os) [] i a b c d p q r s = absurd (omega
 zipped-get (t ∷ ts) (u ∷ us) (o ∷ os) (h ∷ hs) zero a b c d p q r s = refl
 zipped-get (t ∷ ts) (u ∷ us) (o ∷ os) (h ∷ hs) (suc i) a b c d p q r s = zipped-get ts us os hs i a b c d (omega arith) (omega arith) (omega arith) (omega arith)
 
-pub productions-length : length productions ≡ 97
+pub productions-length : length productions ≡ ROW_COUNT
 unfolding productions
 productions-length = refl
 
 -- one row more is as in the definition
-pub joins-more : (rows : List Row) (i : ℕ) (r : Row) → length rows ≡ 97 → i < 97 → take i rows ≡ take i productions → slice_get productions i ≡ Some r → take (i + 1) (set rows i r) ≡ take (i + 1) productions
+pub joins-more : (rows : List Row) (i : ℕ) (r : Row) → length rows ≡ ROW_COUNT → i < ROW_COUNT → take i rows ≡ take i productions → slice_get productions i ≡ Some r → take (i + 1) (set rows i r) ≡ take (i + 1) productions
 joins-more rows i r len below same at =
     take_more_set rows i r (omega arith)
     ∙ ap (λ xs. xs ++ r ∷ []) same
     ∙ ap (λ x. take i productions ++ x ∷ []) (sym (get_or_from_slice_get productions i r r at))
     ∙ sym (take_more productions i r (omega (arith, productions-length)))
 
-pub joins-all : (rows : List Row) (i : ℕ) → length rows ≡ 97 → 97 ≤ i → take i rows ≡ take i productions → rows ≡ productions
+pub joins-all : (rows : List Row) (i : ℕ) → length rows ≡ ROW_COUNT → ROW_COUNT ≤ i → take i rows ≡ take i productions → rows ≡ productions
 joins-all rows i len past same =
     sym (take_all i rows (omega arith)) ∙ same ∙ take_all i productions (omega (arith, productions-length))
 

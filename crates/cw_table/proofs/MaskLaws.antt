@@ -16,6 +16,7 @@ use Rattle.cw_base.specs.declared.category.CatSet.{CatSet}
 use Rattle.cw_base.specs.Category.{all_cats, in_set, number_of}
 use Rattle.cw_base.proofs.CategoryLaws.{place-of}
 use Rattle.cw_base.proofs.TestLaws.{both-left, both-right, not-false}
+use Rattle.cw_table.specs.declared.productions.TheConstants.{ROW_COUNT}
 use Rattle.cw_table.specs.declared.masks.TheConstants.{MASKS}
 use Rattle.cw_table.specs.declared.types.Row.{Row}
 use Rattle.cw_table.specs.Fitting.{all_hold, first_of, row_fits}
@@ -239,7 +240,7 @@ misfits-below (row ∷ rows) cats h = go (row_fits row cats) refl (misfits-below
         let below = rest (omega arith) in
         subst (λ b. cond (not b) (1 + misfits rows cats) 0 < suc (length rows)) (sym e) (omega arith)
 
-pub first-bound : (w : List Cat) (d : Cat) (m0 m1 m2 m3 : ℕ) → length w ≡ 4 → m0 ≡ mask_of productions 0 (get_or w 0 d) → m1 ≡ mask_of productions 1 (get_or w 1 d) → m2 ≡ mask_of productions 2 (get_or w 2 d) → m3 ≡ mask_of productions 3 (get_or w 3 d) → (bit_and (bit_and (bit_and m0 m1) m2) m3 ≡ 0 → ⊥) → count_trailing_zeros 128 (bit_and (bit_and (bit_and m0 m1) m2) m3) + 1 ≤ 97
+pub first-bound : (w : List Cat) (d : Cat) (m0 m1 m2 m3 : ℕ) → length w ≡ 4 → m0 ≡ mask_of productions 0 (get_or w 0 d) → m1 ≡ mask_of productions 1 (get_or w 1 d) → m2 ≡ mask_of productions 2 (get_or w 2 d) → m3 ≡ mask_of productions 3 (get_or w 3 d) → (bit_and (bit_and (bit_and m0 m1) m2) m3 ≡ 0 → ⊥) → count_trailing_zeros 128 (bit_and (bit_and (bit_and m0 m1) m2) m3) + 1 ≤ ROW_COUNT
 first-bound w d m0 m1 m2 m3 len e0 e1 e2 e3 some =
     let mask : bit_and (bit_and (bit_and m0 m1) m2) m3 ≡ fit_mask productions w = met-by w d m0 m1 m2 m3 len e0 e1 e2 e3 in
     let positive : 0 < fit_mask productions w = subst (λ k. 0 < k) mask (omega (arith, some)) in

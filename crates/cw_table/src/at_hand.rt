@@ -16,6 +16,7 @@ pub struct RowAtHand {
 
 impl Model for RowAtHand {
     ghost use Rattle.std.specs.Prelude.{◌+◌, ◌<◌};
+    ghost use Rattle.cw_table.specs.declared.productions.TheConstants.{ROW_COUNT};
     ghost use Rattle.cw_table.specs.declared.types.Row.{Row};
     ghost use Rattle.cw_table.specs.Productions.{productions};
     ghost use Rattle.cw_table.specs.Rows.{row_of};
@@ -24,7 +25,7 @@ impl Model for RowAtHand {
 
     ghost view = { λ r. row_of productions (r.index + 1) };
 
-    ghost invariant = { λ r. r.index < 97 };
+    ghost invariant = { λ r. r.index < ROW_COUNT };
 }
 
 impl RowAtHand {
