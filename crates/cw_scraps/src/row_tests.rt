@@ -11,7 +11,7 @@ use crate::{Marks, ScrapLine, scrap_of};
 use cw_base::{Cat, Flags, Kept, MathMode, Memory, Span, Steps};
 use cw_lex::{Sign, Tok, TokKind};
 use cw_names::{EntryKind, Names};
-use cw_table::{RowNo, first_production, table};
+use cw_table::{ROW_COUNT, RowNo, first_production, table};
 use cw_tokens::{FlatItem, TokenStore};
 use cw_trees::Control;
 use std::alloc::Global;
@@ -235,7 +235,7 @@ fn names_of(alloc: Global, cats: &[Cat]) -> Result<Names, Memory> {
 fn first_row(line: &ScrapLine, place: usize, steps: &mut Steps<Kept>) -> Option<RowNo>
     requires { place < length line.now }
     ensures from_one { IfSome result (λ row. 1 ≤ row.number) }
-    ensures to_last { IfSome result (λ row. row.number ≤ 97) }
+    ensures to_last { IfSome result (λ row. row.number ≤ ROW_COUNT) }
     ensures fits { IfSome result (λ row. row_fits (row_of productions row.number) (drop place (entry_cats line.now)) ≡ true) }
 {
     let _length = line.len();

@@ -158,6 +158,35 @@ a_typedef : events (woven (codes "-x" ∷ foo) (foo_w (codes "@ @c typedef int t
 unfolding digits cut_behind divide new_lines web_lines says translated normal log count positions looks productions
 a_typedef = refl
 
+-- Names of fields in an initialiser, a compound literal, a generic selection, and a field.
+field_names : events (woven (codes "-x" ∷ foo) (foo_w (codes "@ @c struct s p={.x=1,.y=2};" ∷ []))) ≡
+    plain_run []
+    (codes "\\input cwebmac" ∷ codes "\\M{1}" ∷ codes "\\Y\\B\\&{struct} \\|s \\|p${}\\K\\{{.}\\|x\\K\\T{1},\\39{.}\\|y\\K\\T{2}\\};$\\par" ∷ codes "\\fi" ∷ [] ∷ codes "\\end" ∷ [])
+    (codes "(No errors were found.)" ∷ [])
+unfolding digits cut_behind divide new_lines web_lines says translated normal log count positions looks productions
+field_names = refl
+
+a_literal : events (woven (codes "-x" ∷ foo) (foo_w (codes "@ @c x=(int){1};" ∷ []))) ≡
+    plain_run []
+    (codes "\\input cwebmac" ∷ codes "\\M{1}" ∷ codes "\\Y\\B$\\|x\\K(\\&{int})\\{\\T{1}\\};$\\par" ∷ codes "\\fi" ∷ [] ∷ codes "\\end" ∷ [])
+    (codes "(No errors were found.)" ∷ [])
+unfolding digits cut_behind divide new_lines web_lines says translated normal log count positions looks productions
+a_literal = refl
+
+a_selection : events (woven (codes "-x" ∷ foo) (foo_w (codes "@ @c _Generic(x,default:2);" ∷ []))) ≡
+    plain_run []
+    (codes "\\input cwebmac" ∷ codes "\\M{1}" ∷ codes "\\Y\\B\\&{\\_Generic} ${}(\\|x,\\39{}$\\&{default}: \\T{2});\\par" ∷ codes "\\fi" ∷ [] ∷ codes "\\end" ∷ [])
+    (codes "(No errors were found.)" ∷ [])
+unfolding digits cut_behind divide new_lines web_lines says translated normal log count positions looks productions
+a_selection = refl
+
+a_field : events (woven (codes "-x" ∷ foo) (foo_w (codes "@ @c a.b;" ∷ []))) ≡
+    plain_run []
+    (codes "\\input cwebmac" ∷ codes "\\M{1}" ∷ codes "\\Y\\B$\\|a.\\|b;$\\par" ∷ codes "\\fi" ∷ [] ∷ codes "\\end" ∷ [])
+    (codes "(No errors were found.)" ∷ [])
+unfolding digits cut_behind divide new_lines web_lines says translated normal log count positions looks productions
+a_field = refl
+
 -- The statistics of a run.
 two_sections_counted : events (woven (codes "-x" ∷ codes "+s" ∷ foo) (foo_w (codes "@ @c int i;" ∷ codes "@ @c i=i+1;" ∷ []))) ≡
     plain_run []
