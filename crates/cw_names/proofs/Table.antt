@@ -1,5 +1,5 @@
 -- The names that come of a table of words, each of which is added with its category.
-use Rattle.std.proofs.Common.{◌≡◌, ℕ, ◌+◌, ◌<◌, ◌≤◌, Bool, true, false, not, ◌&&◌, List, [], ◌∷◌, ◌++◌, Bor, Vec, Global, get_or, length, take, drop, map, refl, sym, ap, ◌∙◌, add-one, append_assoc, drop-cons, if◌then◌else◌}
+use Rattle.std.proofs.Common.{◌≡◌, ℕ, ◌+◌, ◌<◌, ◌≤◌, Bool, true, false, not, ◌&&◌, List, [], ◌∷◌, ◌++◌, Bor, Vec, Global, get_or, length, drop, map, refl, sym, ap, ◌∙◌, add-one, append_assoc, drop-cons, if◌then◌else◌}
 use Rattle.std.specs.List.{list_all}
 use Rattle.std.proofs.lemmas.List.{append-nil, drop_all}
 use Rattle.indexmap.specs.IndexMap.{insert_entry}

@@ -18,7 +18,13 @@ pub(crate) fn rank_of(cat: Cat) -> u8
     match cat {
         Cat::RawInt | Cat::ConstLike => 3,
         Cat::Cast | Cat::IntLike | Cat::IfClause | Cat::SectionScrap => 2,
-        Cat::Exp | Cat::DeclHead | Cat::ElseLike | Cat::IfHead | Cat::Semi | Cat::RawUbin | Cat::Dot => 1,
+        Cat::Exp
+        | Cat::DeclHead
+        | Cat::ElseLike
+        | Cat::IfHead
+        | Cat::Semi
+        | Cat::RawUbin
+        | Cat::Dot => 1,
         _ => 0,
     }
 }
