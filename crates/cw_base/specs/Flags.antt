@@ -13,4 +13,5 @@ start_flags = record {
   separate = true;
   index = true;
   stats = false;
+  keep = false;
 }

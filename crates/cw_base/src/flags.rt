@@ -22,10 +22,12 @@ pub struct Flags {
     pub index: bool,
     /// `s`: print statistics. Off at the start.
     pub stats: bool,
+    /// `k`: draft the outputs and compare them with the old files. Off at the start.
+    pub keep: bool,
 }
 
 impl Flags {
-    /// The flags of a command line without option words: all on but the statistics.
+    /// The flags of a command line without option words: all on but the statistics and the drafts.
     pub fn start() -> Flags
         ensures { result ≡ start_flags }
     {
@@ -39,6 +41,7 @@ impl Flags {
             separate: true,
             index: true,
             stats: false,
+            keep: false,
         }
     }
 }

@@ -3,7 +3,7 @@ use Rattle.std.specs.Prelude.{[], None}
 use Rattle.cw_desk.specs.Told.{Told}
 use Rattle.cw_desk.specs.declared.outputs.Outputs.{Outputs}
 
--- neither files nor journal, no opened file, and no fault; which outputs are made
+-- neither files nor journal, no opened file, and no fault; which outputs are made, and which have a draft
 abbrev pub tell : Outputs → Told
 tell outputs = record {
   opened = 0;

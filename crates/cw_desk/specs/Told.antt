@@ -1,10 +1,11 @@
 -- What a desk tells, and what each call changes of it.
 use Rattle.std.specs.Prelude.{◌≡◌, ◌≢◌, ℕ, ◌<◌, ◌≤◌, List, ◌∷◌, Option, Some}
 use Rattle.cw_base.specs.declared.event.Event.{Event}
+use Rattle.cw_base.specs.declared.event.Event.TheVariants.{Drafted, Kept, Made, Replaced}
 use Rattle.cw_base.specs.declared.event.Out.{Out}
 use Rattle.cw_desk.specs.Journal.{grown}
-use Rattle.cw_desk.specs.Make.{outputs_after, made_events}
-use Rattle.cw_desk.specs.Meaning.{Files, Rose}
+use Rattle.cw_desk.specs.Make.{event_after, outputs_after}
+use Rattle.cw_desk.specs.Meaning.{Files, Rose, with_draft, with_output, without_draft}
 use Rattle.cw_desk.specs.Open.{OpensNext, OpensNamed}
 use Rattle.cw_desk.specs.Put.{TakesSome, put_events}
 use Rattle.cw_desk.specs.Read.{ReadsSome, ReadsNext}
@@ -21,7 +22,7 @@ use Rattle.cw_desk.specs.declared.desk.Taken.TheVariants.{Failed as failed_put}
 -- A desk may tell no files (then the rests mean nothing) and no journal.
 pub record Told : Type 0 where
   pub opened : ℕ  -- how many files were opened
-  pub outputs : Outputs  -- which outputs are made
+  pub outputs : Outputs  -- which outputs are made, and which have a draft
   pub files : Option Files
   pub rest : ℕ → List ℕ  -- what is unread of each opened file
   pub journal : Option (List Event)  -- all that was made and written
@@ -71,15 +72,28 @@ pub record Reads (index : ℕ) (buffer : List ℕ) (result : Fetched) (old new :
   pub faults_kept : old.faults ≤ new.faults
   pub failed : result ≡ failed_read → Rose old.faults new.faults
 
-pub record Makes (out : Out) (name : List ℕ) (result : MadeOut) (old new : Told) : Type 0 where
+-- A call that begins or ends an output: after Done the outputs are these, and the journal has this event more.
+pub record Turns (done : Outputs) (event : Event) (result : MadeOut) (old new : Told) : Type 0 where
   pub same_names : new.names ≡ old.names
-  pub outputs : new.outputs ≡ outputs_after out result old.outputs
-  pub journal : new.journal ≡ grown old.journal (made_events out name result)
+  pub outputs : new.outputs ≡ outputs_after result done old.outputs
+  pub journal : new.journal ≡ grown old.journal (event_after result event)
   pub same_opened : new.opened ≡ old.opened
   pub same_rests : new.rest ≡ old.rest
   pub same_files : new.files ≡ old.files
   pub faults_kept : old.faults ≤ new.faults
   pub failed : result ≡ failed_make → Rose old.faults new.faults
+
+abbrev pub Makes : Out → List ℕ → MadeOut → Told → Told → Type 0
+Makes out name result old new = Turns (with_output out old.outputs) (Made out name) result old new
+
+abbrev pub Drafts : Out → List ℕ → MadeOut → Told → Told → Type 0
+Drafts out name result old new = Turns (with_draft out old.outputs) (Drafted out name) result old new
+
+abbrev pub Keeps : Out → MadeOut → Told → Told → Type 0
+Keeps out result old new = Turns (without_draft out old.outputs) (Kept out) result old new
+
+abbrev pub Replaces : Out → MadeOut → Told → Told → Type 0
+Replaces out result old new = Turns (without_draft out old.outputs) (Replaced out) result old new
 
 pub record Takes (out : Out) (bytes : List ℕ) (result : Taken) (old new : Told) : Type 0 where
   pub some : TakesSome bytes result

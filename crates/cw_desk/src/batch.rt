@@ -3,8 +3,8 @@ ghost use Rattle.std.specs.Prelude.{◌≡◌, ◌≢◌, ◌<◌, ◌≤◌, �
 ghost use Rattle.cw_base.specs.declared.event.Out.TheVariants.{Term};
 ghost use Rattle.cw_desk.specs.Batch.{HandsOn, IsGathered, PutsFirst, Gathers, tell};
 ghost use Rattle.cw_desk.specs.Journal.{GrownByPart, byte_events};
-ghost use Rattle.cw_desk.specs.Told.{OnlyPuts, Opens, Reads, Makes, Takes};
-ghost use Rattle.cw_desk.specs.Meaning.{Rose, is_open};
+ghost use Rattle.cw_desk.specs.Told.{OnlyPuts, Opens, Reads, Makes, Drafts, Keeps, Replaces, Takes};
+ghost use Rattle.cw_desk.specs.Meaning.{Rose, has_draft, is_open};
 
 use crate::desk::{Desk, Fetched, FileId, MadeOut, Opened, Taken};
 use crate::flushed::Flushed;
@@ -144,6 +144,41 @@ impl<D: Desk + Drop> Desk for Batch<D> {
     {
         match self.flush() {
             Flushed::Done => self.desk.make(out, name),
+            Flushed::Failed => MadeOut::Failed,
+            Flushed::Memory => MadeOut::Memory,
+        }
+    }
+
+    fn draft(&mut self, out: Out, name: &[u8]) -> MadeOut
+        ensures drafts { Drafts out name.now result (tell D.told self.old) (tell D.told self.new) }
+        ensures handed_on { result ≡ MadeOut.Done → self.new.waiting ≡ [] }
+    {
+        match self.flush() {
+            Flushed::Done => self.desk.draft(out, name),
+            Flushed::Failed => MadeOut::Failed,
+            Flushed::Memory => MadeOut::Memory,
+        }
+    }
+
+    fn keep(&mut self, out: Out) -> MadeOut
+        requires { IsTrue (has_draft (D.told self.old.below).outputs out) }
+        ensures keeps { Keeps out result (tell D.told self.old) (tell D.told self.new) }
+        ensures handed_on { result ≡ MadeOut.Done → self.new.waiting ≡ [] }
+    {
+        match self.flush() {
+            Flushed::Done => self.desk.keep(out),
+            Flushed::Failed => MadeOut::Failed,
+            Flushed::Memory => MadeOut::Memory,
+        }
+    }
+
+    fn replace(&mut self, out: Out) -> MadeOut
+        requires { IsTrue (has_draft (D.told self.old.below).outputs out) }
+        ensures replaces { Replaces out result (tell D.told self.old) (tell D.told self.new) }
+        ensures handed_on { result ≡ MadeOut.Done → self.new.waiting ≡ [] }
+    {
+        match self.flush() {
+            Flushed::Done => self.desk.replace(out),
             Flushed::Failed => MadeOut::Failed,
             Flushed::Memory => MadeOut::Memory,
         }

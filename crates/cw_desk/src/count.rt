@@ -2,7 +2,7 @@
 ghost use Rattle.std.specs.Prelude.{◌≡◌, ◌<◌, length};
 ghost use Rattle.cw_desk.specs.Count.{tell};
 ghost use Rattle.cw_desk.specs.Meaning.{no_outputs};
-ghost use Rattle.cw_desk.specs.Told.{Opens, Reads, Makes, Takes};
+ghost use Rattle.cw_desk.specs.Told.{Opens, Reads, Makes, Drafts, Keeps, Replaces, Takes};
 
 use crate::desk::{Desk, Fetched, FileId, MadeOut, Opened, Taken};
 use crate::outputs::Outputs;
@@ -26,16 +26,12 @@ impl Model for CountDesk {
 }
 
 impl CountDesk {
-    /// A desk on which no output is made.
+    /// A desk on which no output is made or drafted.
     pub fn new() -> CountDesk
         ensures { result ≡ no_outputs }
     {
         CountDesk {
-            outputs: Outputs {
-                tex: false,
-                idx: false,
-                scn: false,
-            },
+            outputs: Outputs::none(),
         }
     }
 }
@@ -62,6 +58,30 @@ impl Desk for CountDesk {
         ensures done { result ≡ MadeOut.Done }
     {
         self.outputs.add(out);
+        MadeOut::Done
+    }
+
+    fn draft(&mut self, out: Out, name: &[u8]) -> MadeOut
+        ensures drafts { Drafts out name.now result (tell self.old) (tell self.new) }
+        ensures done { result ≡ MadeOut.Done }
+    {
+        self.outputs.add_draft(out);
+        MadeOut::Done
+    }
+
+    fn keep(&mut self, out: Out) -> MadeOut
+        ensures keeps { Keeps out result (tell self.old) (tell self.new) }
+        ensures done { result ≡ MadeOut.Done }
+    {
+        self.outputs.end_draft(out);
+        MadeOut::Done
+    }
+
+    fn replace(&mut self, out: Out) -> MadeOut
+        ensures replaces { Replaces out result (tell self.old) (tell self.new) }
+        ensures done { result ≡ MadeOut.Done }
+    {
+        self.outputs.end_draft(out);
         MadeOut::Done
     }
 

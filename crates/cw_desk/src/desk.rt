@@ -1,7 +1,7 @@
-//! What a desk is: its four calls, and what each answer says.
+//! What a desk is: its calls, and what each answer says.
 ghost use Rattle.std.specs.Prelude.{◌<◌, IsTrue, length};
-ghost use Rattle.cw_desk.specs.Meaning.{is_open};
-ghost use Rattle.cw_desk.specs.Told.{Told, Opens, Reads, Makes, Takes, lent};
+ghost use Rattle.cw_desk.specs.Meaning.{has_draft, is_open};
+ghost use Rattle.cw_desk.specs.Told.{Told, Opens, Reads, Makes, Drafts, Keeps, Replaces, Takes, lent};
 
 use cw_base::Out;
 
@@ -29,7 +29,7 @@ pub enum Fetched {
     Memory,
 }
 
-/// The answer of `make`.
+/// The answer of `make`, `draft`, `keep` and `replace`.
 #[derive(Clone, Copy, Debug, PartialEq, Eq)]
 pub enum MadeOut {
     Done,
@@ -47,8 +47,8 @@ pub enum Taken {
 
 /// What the program reads and writes, and all that it can do outside its own memory.
 ///
-/// Contracts see what the desk tells: how many files were opened, which outputs are made, the files, the unread rest of
-/// each opened file, the journal of all that was written, and the count of faults. Memory may be answered at any time.
+/// Contracts see what the desk tells: how many files were opened, which outputs are made and which have a draft, the
+/// files, the unread rest of each opened file, the journal of all that was written, and the count of faults. Memory may be answered at any time.
 pub trait Desk {
     ghost told: { Self → Told };
 
@@ -65,6 +65,20 @@ pub trait Desk {
     /// Begins an output under a name.
     fn make(&mut self, out: Out, name: &[u8]) -> MadeOut
         ensures { Makes out name.now result (told self.old) (told self.new) };
+
+    /// Begins a draft of an output: bytes are put to it, and the named file stays as it is. The terminal has no draft.
+    fn draft(&mut self, out: Out, name: &[u8]) -> MadeOut
+        ensures { Drafts out name.now result (told self.old) (told self.new) };
+
+    /// Gives a draft up: the named file stays as it is.
+    fn keep(&mut self, out: Out) -> MadeOut
+        requires { IsTrue (has_draft (told self.old).outputs out) }
+        ensures { Keeps out result (told self.old) (told self.new) };
+
+    /// Puts a draft in the place of the named file.
+    fn replace(&mut self, out: Out) -> MadeOut
+        requires { IsTrue (has_draft (told self.old).outputs out) }
+        ensures { Replaces out result (told self.old) (told self.new) };
 
     /// Puts bytes to an output: a first part of them, which is not empty.
     fn put(&mut self, out: Out, bytes: &[u8]) -> Taken
@@ -86,6 +100,18 @@ impl<D: Desk> Desk for &mut D {
 
     fn make(&mut self, out: Out, name: &[u8]) -> MadeOut {
         Desk::make(&mut **self, out, name)
+    }
+
+    fn draft(&mut self, out: Out, name: &[u8]) -> MadeOut {
+        Desk::draft(&mut **self, out, name)
+    }
+
+    fn keep(&mut self, out: Out) -> MadeOut {
+        Desk::keep(&mut **self, out)
+    }
+
+    fn replace(&mut self, out: Out) -> MadeOut {
+        Desk::replace(&mut **self, out)
     }
 
     fn put(&mut self, out: Out, bytes: &[u8]) -> Taken {

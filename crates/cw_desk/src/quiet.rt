@@ -1,11 +1,12 @@
 //! A desk in memory on which nothing fails.
 ghost use Rattle.std.specs.Prelude.{◌≡◌, ◌≢◌, ℕ, ◌<◌, [], ◌∷◌, ◌++◌, IsTrue, OnOk, OnErr, length, min, slice_index_or};
-ghost use Rattle.cw_desk.specs.Make.{outputs_after, made_events};
-ghost use Rattle.cw_desk.specs.Meaning.{is_open};
+ghost use Rattle.cw_base.specs.declared.event.Event.TheVariants.{Drafted, Kept, Made, Replaced};
+ghost use Rattle.cw_desk.specs.Make.{event_after, outputs_after};
+ghost use Rattle.cw_desk.specs.Meaning.{has_draft, is_open, with_draft, with_output, without_draft};
 ghost use Rattle.cw_desk.specs.Mem.{new_state, called, moved, allowed};
 ghost use Rattle.cw_desk.specs.Put.{put_events};
 ghost use Rattle.cw_desk.specs.Quiet.{as_mem, as_quiet, tell};
-ghost use Rattle.cw_desk.specs.Told.{Opens, Reads, Makes, Takes};
+ghost use Rattle.cw_desk.specs.Told.{Opens, Reads, Makes, Drafts, Keeps, Replaces, Takes};
 
 use crate::desk::{Desk, Fetched, FileId, MadeOut, Opened, Taken};
 use crate::mem::MemDesk;
@@ -99,12 +100,47 @@ impl Desk for QuietDesk {
     fn make(&mut self, out: Out, name: &[u8]) -> MadeOut
         ensures makes { Makes out name.now result (tell self.old) (tell self.new) }
         ensures state { as_mem self.new ≡ record (called (as_mem self.old)) {
-          outputs = outputs_after out result self.old.outputs;
-          journal = self.old.journal ++ made_events out name.now result;
+          outputs = outputs_after result (with_output out self.old.outputs) self.old.outputs;
+          journal = self.old.journal ++ event_after result (Made out name.now);
         } }
         ensures quiet { result ≢ MadeOut.Failed }
     {
         self.desk.make(out, name)
+    }
+
+    fn draft(&mut self, out: Out, name: &[u8]) -> MadeOut
+        ensures drafts { Drafts out name.now result (tell self.old) (tell self.new) }
+        ensures state { as_mem self.new ≡ record (called (as_mem self.old)) {
+          outputs = outputs_after result (with_draft out self.old.outputs) self.old.outputs;
+          journal = self.old.journal ++ event_after result (Drafted out name.now);
+        } }
+        ensures quiet { result ≢ MadeOut.Failed }
+    {
+        self.desk.draft(out, name)
+    }
+
+    fn keep(&mut self, out: Out) -> MadeOut
+        requires { IsTrue (has_draft self.old.outputs out) }
+        ensures keeps { Keeps out result (tell self.old) (tell self.new) }
+        ensures state { as_mem self.new ≡ record (called (as_mem self.old)) {
+          outputs = outputs_after result (without_draft out self.old.outputs) self.old.outputs;
+          journal = self.old.journal ++ event_after result (Kept out);
+        } }
+        ensures quiet { result ≢ MadeOut.Failed }
+    {
+        self.desk.keep(out)
+    }
+
+    fn replace(&mut self, out: Out) -> MadeOut
+        requires { IsTrue (has_draft self.old.outputs out) }
+        ensures replaces { Replaces out result (tell self.old) (tell self.new) }
+        ensures state { as_mem self.new ≡ record (called (as_mem self.old)) {
+          outputs = outputs_after result (without_draft out self.old.outputs) self.old.outputs;
+          journal = self.old.journal ++ event_after result (Replaced out);
+        } }
+        ensures quiet { result ≢ MadeOut.Failed }
+    {
+        self.desk.replace(out)
     }
 
     fn put(&mut self, out: Out, bytes: &[u8]) -> Taken

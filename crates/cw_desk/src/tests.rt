@@ -119,9 +119,14 @@ fn is_same_event(event: &Event, other: &Event) -> bool {
         (Event::Made(out, name), Event::Made(other_out, other_name)) => {
             out == other_out && name.as_slice() == other_name.as_slice()
         }
+        (Event::Drafted(out, name), Event::Drafted(other_out, other_name)) => {
+            out == other_out && name.as_slice() == other_name.as_slice()
+        }
         (Event::Byte(out, byte), Event::Byte(other_out, other_byte)) => {
             out == other_out && byte == other_byte
         }
+        (Event::Kept(out), Event::Kept(other_out)) => out == other_out,
+        (Event::Replaced(out), Event::Replaced(other_out)) => out == other_out,
         _ => false,
     }
 }

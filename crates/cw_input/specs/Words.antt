@@ -26,6 +26,7 @@ turned on flags letter = record {
   separate = cond (letter == 111) on flags.separate;
   index = cond (letter == 120) on flags.index;
   stats = cond (letter == 115) on flags.stats;
+  keep = cond (letter == 107) on flags.keep;
 }
 
 -- each byte behind the first of an option word is a letter

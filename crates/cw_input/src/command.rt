@@ -139,6 +139,7 @@ fn turn_letter(flags: Flags, letter: u8, on: bool) -> Flags
         },
         b'x' => Flags { index: on, ..flags },
         b's' => Flags { stats: on, ..flags },
+        b'k' => Flags { keep: on, ..flags },
         _ => flags,
     }
 }
