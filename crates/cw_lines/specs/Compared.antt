@@ -38,14 +38,13 @@ left_behind bytes (Some text) = behind bytes text
 
 -- Over a desk that tells its files: what was left begins with these bytes, and what is behind them is left now; or it doesn't begin
 -- with them, and nothing is left.
-abbrev pub Compares : List ℕ → Option OldFile → Option OldFile → Told → Told → Type 0
-Compares bytes old new before now =
-    (files : Files) → before.files ≡ Some files → left now new ≡ left_behind bytes (left before old)
+pub record Compares (bytes : List ℕ) (old new : Option OldFile) (before now : Told) : Type 0 where
+  pub rest : (files : Files) → before.files ≡ Some files → left now new ≡ left_behind bytes (left before old)
 
 -- What is unread of the file may have become shorter.
-abbrev pub Shortens : Option ℕ → Told → Told → Type 0
-Shortens file before now =
-    (files : Files) → before.files ≡ Some files → (id : ℕ) → file ≡ Some id → (read : List ℕ) × (before.rest id ≡ read ++ now.rest id)
+pub record Shortens (file : Option ℕ) (before now : Told) : Type 0 where
+  pub unread : (files : Files) → before.files ≡ Some files → (id : ℕ) → file ≡ Some id
+      → (read : List ℕ) × (before.rest id ≡ read ++ now.rest id)
 
 -- what a desk tells, but for what is unread of the file
 abbrev pub rest_without : Option ℕ → (ℕ → List ℕ) → ℕ → List ℕ

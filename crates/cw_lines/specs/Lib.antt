@@ -1,3 +1,5 @@
+pub mod Compared
+pub mod ComparedLaws
 pub mod Cut
 pub mod CutLaws
 pub mod CutOnLaws

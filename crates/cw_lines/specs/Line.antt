@@ -1,8 +1,9 @@
 -- An output line that is being filled.
-use Rattle.std.specs.Prelude.{◌≡◌, ℕ, ◌+◌, ◌-◌, ◌^◌, ◌≤◌, ◌≢◌, ◌==◌, All, Bool, true, false, nat_lt, map, min, List, [], ◌∷◌, ◌++◌, length}
+use Rattle.std.specs.Prelude.{◌≡◌, ℕ, ◌+◌, ◌-◌, ◌^◌, ◌≤◌, ◌≢◌, ◌==◌, All, Bool, true, false, nat_lt, map, min, List, [], ◌∷◌, ◌++◌, Option, length}
 use Rattle.cw_base.specs.declared.event.Event.{Event}
 use Rattle.cw_base.specs.declared.event.Out.{Out}
 use Rattle.cw_desk.specs.Journal.{byte_events}
+use Rattle.cw_lines.specs.Compared.{OldFile}
 use Rattle.cw_lines.specs.Cut.{Cut, CutLine, broken_numbers, divide, number_if, written}
 
 -- the line that bytes fill
@@ -15,6 +16,7 @@ pub record Line : Type 0 where
 -- what contracts see of a `LineOut`
 pub record LineState : Type 0 where
   pub line : Line
+  pub compared : Option OldFile  -- the old file that it is compared with, where there is one
 
 -- a line on which nothing was put
 abbrev pub new_line : Out → Line

@@ -1,6 +1,7 @@
 //! Output lines: the bytes of an output file, cut into lines of at most 80 bytes, and written a line at a time.
 #![tactic(auto)]
 
+mod comparison;
 mod division;
 mod line_out;
 mod put_error;

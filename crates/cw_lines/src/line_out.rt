@@ -1,16 +1,19 @@
-ghost use Rattle.std.specs.Prelude.{◌≡◌, ◌≢◌, ◌==◌, ◌+◌, ◌<◌, ◌≤◌, [], ◌∷◌, ◌++◌, IfNone, IfSome, OnErr, OnOk, length, take};
+ghost use Rattle.std.specs.Prelude.{◌≡◌, ◌≢◌, ◌==◌, ◌+◌, ◌<◌, ◌≤◌, [], ◌∷◌, ◌++◌, ◌↔◌, IfNone, IfOk, IfSome, IsTrue, None, OnErr, OnOk, Some, length, take, true};
 ghost use Rattle.std.specs.Bool.{OnTrue, OnFalse};
 ghost use Rattle.cw_desk.specs.Journal.{byte_events};
+ghost use Rattle.cw_desk.specs.Meaning.{Files};
+ghost use Rattle.cw_lines.specs.Compared.{Compares, agrees_of, id_of, left};
 ghost use Rattle.cw_lines.specs.Cut.{comment_mark, number_if};
 ghost use Rattle.cw_lines.specs.Line.{divided, new_line, with_byte, with_text, HasNoLineEnd, HoldsLine, IsEndedLine};
-ghost use Rattle.cw_lines.specs.Writes.{Adds, CanWrite, Puts};
+ghost use Rattle.cw_lines.specs.Writes.{CanCompare, CanWrite, Puts, Writes};
 
+use crate::comparison::Comparison;
 use crate::division::divide;
 use crate::put_error::PutError;
-use crate::writing::{append, write_all, write_line};
+use crate::writing::{append, ended_line, write_all};
 use arrayvec::ArrayVec;
 use cw_base::Out;
-use cw_desk::Desk;
+use cw_desk::{Desk, FileId};
 use std::alloc::Global;
 use std::marker::Model;
 
@@ -18,12 +21,15 @@ use std::marker::Model;
 type Pending = ArrayVec<u8, 80>;
 
 /// The line of an output that is being filled. It never holds more than 80 bytes; a line that would is cut.
+///
+/// What it writes may be compared with an old file, which is read in step with it.
 #[derive(Drop)]
 pub struct LineOut {
     out: Out,
     pending: Pending,
     lines: u64,
     broken: Vec<u64>,
+    compared: Option<Comparison>,
 }
 
 impl Model for LineOut {
@@ -34,6 +40,7 @@ impl Model for LineOut {
 
     ghost view = { λ l. record {
       line = record { out = l.out; pending = l.pending.items; lines = l.lines; broken = l.broken.items };
+      compared = l.compared;
     } };
 
     ghost invariant = { λ l. length l.pending.items ≤ 80 };
@@ -43,6 +50,7 @@ impl LineOut {
     /// A line on which nothing was put. It takes no memory.
     pub fn new_in(alloc: Global, out: Out) -> LineOut
         ensures new { result.line ≡ new_line out }
+        ensures alone { result.compared ≡ None }
         ensures short { HoldsLine result }
     {
         LineOut {
@@ -50,7 +58,38 @@ impl LineOut {
             pending: Pending::new(),
             lines: 0,
             broken: Vec::new(alloc),
+            compared: None,
         }
+    }
+
+    /// Compares what is written from now on with an old file.
+    pub fn compare(&mut self, old: FileId)
+        requires { self.old.line ≡ new_line self.old.line.out }
+        ensures line { self.new.line ≡ self.old.line }
+        ensures compared { self.new.compared ≡ Some (record { id = old.index; agrees = true; ahead = [] }) }
+        ensures short { HoldsLine self.new }
+    {
+        self.compared = Some(Comparison::new(old));
+    }
+
+    /// Whether the old file is exactly what was written: it agrees with the bytes, and ends where they end.
+    pub fn same<D: Desk>(&mut self, desk: &mut D) -> Result<bool, PutError>
+        requires opened { CanCompare (D.told desk.old) self.old }
+        requires empty { self.old.line.pending ≡ [] }
+        ensures same { (files : Files) → (D.told desk.old).files ≡ Some files →
+            IfOk result (λ same. IsTrue same ↔ (left (D.told desk.old) self.old.compared ≡ Some [])) }
+        ensures left { OnOk result
+            (Compares [] self.old.compared self.new.compared (D.told desk.old) (D.told desk.new)) }
+        ensures line { self.new.line ≡ self.old.line }
+        ensures file { id_of self.new.compared ≡ id_of self.old.compared }
+        ensures agrees { agrees_of self.new.compared ≡ agrees_of self.old.compared }
+        ensures writes { Writes (id_of self.old.compared) [] (D.told desk.old) (D.told desk.new) result }
+        ensures short { HoldsLine self.new }
+    {
+        let Some(old) = &mut self.compared else {
+            return Ok(false);
+        };
+        old.is_whole(desk)
     }
 
     /// How many lines were ended, those that a cut ended included.
@@ -83,19 +122,41 @@ impl LineOut {
         ensures puts { Puts (10 ∷ []) self.old self.new (D.told desk.old) (D.told desk.new) result }
         ensures short { HoldsLine self.new }
     {
-        write_line(desk, self.out, self.pending.as_slice(), false)?;
+        let line = ended_line(self.pending.as_slice(), false);
+        self.emit(line.as_slice(), desk)?;
         self.pending.clear();
         self.lines = self.lines.saturating_add(1);
         Ok(())
+    }
+
+    /// Writes bytes, and compares them with the old file.
+    fn emit<D: Desk>(&mut self, bytes: &[u8], desk: &mut D) -> Result<(), PutError>
+        requires can { CanWrite (D.told desk.old) self.old }
+        ensures line { self.new.line ≡ self.old.line }
+        ensures file { id_of self.new.compared ≡ id_of self.old.compared }
+        ensures writes { Writes (id_of self.old.compared) (byte_events self.old.line.out bytes.now)
+            (D.told desk.old) (D.told desk.new) result }
+        ensures compares { OnOk result
+            (Compares bytes.now self.old.compared self.new.compared (D.told desk.old) (D.told desk.new)) }
+        ensures short { HoldsLine self.new }
+    {
+        write_all(desk, self.out, bytes)?;
+        let Some(old) = &mut self.compared else {
+            return Ok(());
+        };
+        old.compare(bytes, desk)
     }
 
     /// Divides a full line, writes its first part, and begins the next line with the rest.
     fn cut<D: Desk>(&mut self, desk: &mut D) -> Result<(), PutError>
         requires can { CanWrite (D.told desk.old) self.old }
         requires full { length self.old.line.pending ≡ 80 }
-        ensures adds { Adds (byte_events self.old.line.out (divided self.old.line).written)
+        ensures writes { Writes (id_of self.old.compared) (byte_events self.old.line.out (divided self.old.line).written)
             (D.told desk.old) (D.told desk.new) result }
+        ensures compares { OnOk result (Compares (divided self.old.line).written self.old.compared self.new.compared
+            (D.told desk.old) (D.told desk.new)) }
         ensures same_out { self.new.line.out ≡ self.old.line.out }
+        ensures same_file { id_of self.new.compared ≡ id_of self.old.compared }
         ensures line { OnOk result (self.new.line ≡ (divided self.old.line).line) }
         ensures short { HoldsLine self.new }
     {
@@ -104,8 +165,10 @@ impl LineOut {
         self.lines = number;
         note_broken(&mut self.broken, division.broken, number)?;
         let (first, behind) = self.pending.as_slice().split_at(division.at);
-        write_line(desk, self.out, first, division.percent)?;
-        self.pending = begun_line(division.comment, behind);
+        let line = ended_line(first, division.percent);
+        let next = begun_line(division.comment, behind);
+        self.emit(line.as_slice(), desk)?;
+        self.pending = next;
         Ok(())
     }
 
@@ -164,7 +227,7 @@ impl LineOut {
         ensures puts { Puts bytes.now self.old self.new (D.told desk.old) (D.told desk.new) result }
         ensures short { HoldsLine self.new }
     {
-        write_all(desk, self.out, bytes)?;
+        self.emit(bytes, desk)?;
         self.lines = self.lines.saturating_add(1);
         Ok(())
     }
@@ -224,6 +287,7 @@ impl LineOut {
     fn append(&mut self, text: &[u8])
         requires { length self.old.line.pending + length text.now ≤ 80 }
         ensures line { self.new.line ≡ with_text self.old.line text.now }
+        ensures compared { self.new.compared ≡ self.old.compared }
         ensures short { HoldsLine self.new }
     {
         append(&mut self.pending, text);
@@ -233,6 +297,7 @@ impl LineOut {
     fn add(&mut self, byte: u8)
         requires { length self.old.line.pending < 80 }
         ensures line { self.new.line ≡ with_byte self.old.line byte }
+        ensures compared { self.new.compared ≡ self.old.compared }
         ensures short { HoldsLine self.new }
     {
         self.pending.push(byte);

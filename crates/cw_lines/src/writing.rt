@@ -36,23 +36,16 @@ pub(crate) fn append<const N: usize>(line: &mut ArrayVec<u8, N>, bytes: &[u8])
     }
 }
 
-/// Writes a line and its end in one piece; a line that was cut may have a `%` behind it.
-pub(crate) fn write_line<D: Desk>(
-    desk: &mut D,
-    out: Out,
-    text: &[u8],
-    percent: bool,
-) -> Result<(), PutError>
-    requires made { IsTrue (is_open (D.told desk.old).outputs out) }
-    requires short { length text.now ≤ 80 }
-    ensures { Adds (byte_events out (text.now ++ comment_mark percent ++ 10 ∷ []))
-        (D.told desk.old) (D.told desk.new) result }
+/// A line with its end; one that was cut may have a `%` before it.
+pub(crate) fn ended_line(text: &[u8], percent: bool) -> ArrayVec<u8, 82>
+    requires { length text.now ≤ 80 }
+    ensures { result.items ≡ text.now ++ comment_mark percent ++ 10 ∷ [] }
 {
-    let mut line = ArrayVec::<u8, 82>::new();
+    let mut line = ArrayVec::new();
     append(&mut line, text);
     if percent {
         line.push(b'%');
     }
     line.push(b'\n');
-    write_all(desk, out, line.as_slice())
+    line
 }

@@ -1,29 +1,34 @@
 -- The line is written as it stands.
-use Rattle.std.proofs.Common.{rules, ◌≡◌, ℕ, List, [], ◌∷◌, ◌++◌, ap, ◌∙◌, refl}
+use Rattle.std.proofs.Common.{rules, ◌≡◌, ℕ, List, [], ◌∷◌, ◌++◌, ap, sym, ◌∙◌}
 use Rattle.std.proofs.lemmas.List.{append-nil}
-use Rattle.cw_base.specs.declared.event.Out.{Out}
 use Rattle.cw_desk.specs.Journal.{byte_events}
+use Rattle.cw_lines.specs.Compared.{id_of}
+use Rattle.cw_lines.specs.ComparedLaws.{compares-as}
 use Rattle.cw_lines.specs.FillLaws.{fill-end}
 use Rattle.cw_lines.specs.Line.{Line, LineState, ended}
-use Rattle.cw_lines.specs.WritesLaws.{puts-known, puts-failed, adds-fail, adds-events}
+use Rattle.cw_lines.specs.WritesLaws.{puts-known, puts-refused, writes-events, writes-fail}
 use Rattle.cw_lines.proofs.line_out.LineOut.end_line.Goals as goal
 
--- the bytes that are written, by the fields and by the value
-same_bytes : (old : Line) (out : Out) (pending text : List ℕ) → out ≡ old.out → pending ≡ old.pending → text ≡ pending
-    → byte_events out (text ++ [] ++ 10 ∷ []) ≡ byte_events old.out (old.pending ++ 10 ∷ [])
-same_bytes old out pending text same_out same_pending is =
-    ap (λ (o : Out). byte_events o (text ++ [] ++ 10 ∷ [])) same_out ∙ ap (λ (t : List ℕ). byte_events old.out (t ++ 10 ∷ [])) (append-nil text) ∙ ap (λ (t : List ℕ). byte_events old.out (t ++ 10 ∷ [])) (is ∙ same_pending)
+-- the bytes that are written
+line_bytes : (pending items text line bytes : List ℕ) → items ≡ pending → text ≡ items → line ≡ text ++ [] ++ 10 ∷ [] → bytes ≡ line → bytes ≡ pending ++ 10 ∷ []
+line_bytes pending items text line bytes viewed lent is shown =
+    shown ∙ is ∙ ap (λ (t : List ℕ). t ++ 10 ∷ []) (append-nil text ∙ lent ∙ viewed)
 
-pub returns-in_err-write_line-clause-puts : goal.returns-in_err-write_line-clause-puts
-returns-in_err-write_line-clause-puts g c =
-    puts-failed _ (ended c.args.self.now.line) (fill-end c.args.self.now.line) refl c.from_residual.ensures.1
-    (adds-events (same_bytes c.args.self.now.line c.self.inside.out c.self.inside.pending.items c.as_slice.result.now
-    (ap (λ (l : LineState). l.line.out) c.self.view_is) (ap (λ (l : LineState). l.line.pending) c.self.view_is) c.as_slice.ensures.value)
-    (adds-fail c.in_err-write_line.ensures c.from_residual.ensures.1))
+pub returns-in_err-emit-clause-puts : goal.returns-in_err-emit-clause-puts
+returns-in_err-emit-clause-puts g c =
+    let is = line_bytes c.args.self.now.line.pending c.self.inside.pending.items c.as_slice.result.now c.ended_line-line.result.items c.as_slice-2.result.now
+        (ap (λ (l : LineState). l.line.pending) c.self.view_is) c.as_slice.ensures.value c.ended_line-line.ensures c.as_slice-2.ensures.value in
+    puts-refused _ (ended c.args.self.now.line) (fill-end c.args.self.now.line) (ap (λ (l : Line). l.out) c.in_err-emit.ensures.line)
+    c.in_err-emit.ensures.file c.from_residual.ensures.1
+    (writes-events (ap (byte_events c.args.self.now.line.out) is) (writes-fail c.in_err-emit.ensures.writes c.from_residual.ensures.1))
 
 pub returns-clause-puts : goal.returns-clause-puts
 returns-clause-puts g c =
-    puts-known (ended c.args.self.now.line) (fill-end c.args.self.now.line) (ap (λ (l : LineState). l.line.out) c.self.view_is) (search rules)
-    (adds-events (same_bytes c.args.self.now.line c.self.inside.out c.self.inside.pending.items c.as_slice.result.now
-    (ap (λ (l : LineState). l.line.out) c.self.view_is) (ap (λ (l : LineState). l.line.pending) c.self.view_is) c.as_slice.ensures.value)
-    c.in_ok-write_line.ensures)
+    let is = line_bytes c.args.self.now.line.pending c.self.inside.pending.items c.as_slice.result.now c.ended_line-line.result.items c.as_slice-2.result.now
+        (ap (λ (l : LineState). l.line.pending) c.self.view_is) c.as_slice.ensures.value c.ended_line-line.ensures c.as_slice-2.ensures.value in
+    puts-known (ended c.args.self.now.line) (fill-end c.args.self.now.line)
+    (ap (λ (l : LineState). l.line.out) c.self-2.view_is ∙ ap (λ (l : Line). l.out) c.in_ok-emit.ensures.line)
+    (ap (λ (l : LineState). id_of l.compared) c.self-2.view_is ∙ c.in_ok-emit.ensures.file)
+    (search rules)
+    (writes-events (ap (byte_events c.args.self.now.line.out) is) c.in_ok-emit.ensures.writes)
+    (compares-as is (sym (ap (λ (l : LineState). l.compared) c.self-2.view_is)) c.in_ok-emit.ensures.compares)

@@ -1,13 +1,15 @@
 -- The next bytes go behind those before them.
-use Rattle.std.proofs.Common.{◌≡◌, ◌≢◌, ℕ, [], ◌+◌, ◌-◌, ◌≤◌, Err, List, ◌++◌, length, take, drop, sym, subst, ap, ◌∙◌, arith, take-add}
+use Rattle.std.proofs.Common.{◌≡◌, ◌≢◌, ℕ, [], ◌+◌, ◌-◌, ◌≤◌, Err, List, ◌++◌, length, take, drop, Option, refl, sym, subst, ap, ◌∙◌, arith, take-add}
 use Rattle.std.proofs.lemmas.List.{take_more, take_all, length-take}
 use Rattle.std.proofs.lemmas.List.Elements.{All-take, All-drop}
 use Rattle.std.specs.Prelude.{⊤}
+use Rattle.cw_lines.specs.Compared.{OldFile, id_of}
+use Rattle.cw_lines.specs.ComparedLaws.{compares-as, compares-none}
 use Rattle.cw_lines.specs.FillLaws.{fill-text}
 use Rattle.cw_lines.specs.Line.{HasNoLineEnd, Line, LineState, with_text}
 use Rattle.cw_desk.specs.Told.{Told}
 use Rattle.cw_lines.specs.Writes.{Puts, HasPut}
-use Rattle.cw_lines.specs.WritesLaws.{puts-none, puts-known, puts-then, puts-within, can-after, adds-none}
+use Rattle.cw_lines.specs.WritesLaws.{puts-none, puts-known, puts-then, puts-within, can-after, writes-none}
 use Rattle.cw_lines.proofs.line_out.LineOut.put_text.Goals as goal
 
 pub loop-at-init : goal.loop-at-init
@@ -34,10 +36,11 @@ loop-at-preserved-then-is_full g c = record {
 
 -- bytes for which there is room are put where they are appended
 has-put : (text : List ℕ) {old new : LineState} (told : Told) → length old.line.pending + length text ≤ 80 → HasNoLineEnd text
-    → new.line ≡ with_text old.line text → HasPut text old new told told
-has-put text {old = old} told fits none is =
+    → new.line ≡ with_text old.line text → new.compared ≡ old.compared → HasPut text old new told told
+has-put text {old = old} told fits none is same =
     puts-known (record { line = with_text old.line text; written = [] }) (fill-text text old.line fits none)
-    (ap (λ (l : Line). l.out) is) is (adds-none told (tt {0}))
+    (ap (λ (l : Line). l.out) is) (ap (λ (file : Option OldFile). id_of file) same) is (writes-none (id_of old.compared) told (tt {0}))
+    (compares-as refl (sym same) (compares-none old.compared told))
 
 -- the next bytes, as they are sliced
 next_bytes : (bytes : List ℕ) (at end : ℕ) → at ≤ end → take at bytes ++ take (end - at) (drop at bytes) ≡ take end bytes
@@ -64,7 +67,7 @@ loop-at-preserved g c =
       put =
           subst (λ (xs : List ℕ). HasPut xs c.args.self.now c.append.new.self (g.D.Desk.told c.args.desk.now) (g.D.Desk.told c.loop-at.desk))
           (next_bytes text at end order)
-          (puts-then c.loop-at.invariant.put (has-put (take (end - at) (drop at text)) (g.D.Desk.told c.loop-at.desk) fits none c.append.ensures.line));
+          (puts-then c.loop-at.invariant.put (has-put (take (end - at) (drop at text)) (g.D.Desk.told c.loop-at.desk) fits none c.append.ensures.line c.append.ensures.compared));
     }
 
 pub returns-clause-puts : goal.returns-clause-puts
