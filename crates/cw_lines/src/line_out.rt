@@ -72,10 +72,10 @@ impl LineOut {
         self.compared = Some(Comparison::new(old));
     }
 
-    /// Whether the old file is exactly what was written: it agrees with the bytes, and ends where they end.
+    /// Whether the old file is exactly what was written: it agrees with the bytes, and ends where they end. Bytes that are
+    /// pending aren't written yet.
     pub fn same<D: Desk>(&mut self, desk: &mut D) -> Result<bool, PutError>
-        requires opened { CanCompare (D.told desk.old) self.old }
-        requires empty { self.old.line.pending ≡ [] }
+        requires { CanCompare (D.told desk.old) self.old }
         ensures same { (files : Files) → (D.told desk.old).files ≡ Some files →
             IfOk result (λ same. IsTrue same ↔ (left (D.told desk.old) self.old.compared ≡ Some [])) }
         ensures left { OnOk result

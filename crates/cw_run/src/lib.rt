@@ -15,7 +15,7 @@ mod tests;
 
 pub use broken::print_broken;
 pub use closing::{Judgement, close};
-pub use files::make;
+pub use files::{begin_file, end_file};
 pub use message::Message;
 pub use notes::{Noted, append_number, print_notes};
 pub use statistics::{Totals, say_statistics};

@@ -1,15 +1,13 @@
 //! What no clause says: that the calls succeed, and the lines that they print.
-ghost use Rattle.std.specs.Prelude.{◌<◌, IfOk, IsTrue, length};
-ghost use Rattle.cw_base.specs.declared.event.Out.TheVariants.{Tex};
-ghost use Rattle.cw_desk.specs.Meaning.{is_open};
+ghost use Rattle.std.specs.Prelude.{◌<◌, IfOk, length};
 
 use crate::{
-    Judgement, Message, Noted, Totals, close, make, print_broken, print_notes, say, say_if,
+    Judgement, Message, Noted, Totals, begin_file, close, end_file, print_broken, print_notes, say, say_if,
     say_statistics, stop, stop_without_change, stop_without_web,
 };
 use cw_base::{Bytes, Event, Exit, Flags, Memory, Note, NoteKind, Out, Place, Web};
 use cw_desk::MemDesk;
-use cw_lines::{LineOut, PutError};
+use cw_lines::PutError;
 use cw_secnames::{SecKind, SecNames};
 use std::alloc::Global;
 use std::test::Fail;
@@ -42,15 +40,6 @@ fn web_of(alloc: Global, name: &[u8]) -> Result<Web, Memory>
     let mut web = Web::new_in(alloc);
     web.add_file(name)?;
     Ok(web)
-}
-
-/// A desk on which the TeX file is made.
-fn desk_with_tex(alloc: Global) -> Result<MemDesk, PutError>
-    ensures { IfOk result (λ desk. IsTrue (is_open desk.outputs Tex)) }
-{
-    let mut desk = MemDesk::new_in(alloc);
-    make(&mut desk, Out::Tex, b"foo.tex")?;
-    Ok(desk)
 }
 
 fn says(text: Result<(), PutError>) -> bool {
@@ -130,14 +119,33 @@ fn notes(rt: HostRuntime) -> Result<(), Fail> {
 #[test]
 fn broken_lines(rt: HostRuntime) -> Result<(), Fail> {
     let alloc = rt.alloc();
-    let mut desk = desk_with_tex(alloc)?;
-    let mut lines = LineOut::new_in(alloc, Out::Tex);
+    let mut desk = MemDesk::new_in(alloc);
+    let mut lines = begin_file(alloc, &mut desk, Out::Tex, b"foo.tex", false)?;
     let long = vec![in alloc; b'a'; 100]?;
     assert!(rt; says(lines.put_all(long.as_slice(), &mut desk)));
     assert!(rt; says(print_broken(alloc, b"foo.tex", &lines, &mut desk)));
     let text = printed(alloc, &desk)?;
     let end = b"! Line had to be broken (output l. 1 of foo.tex)\n".as_slice();
     assert!(rt; text.as_slice().ends_with(end));
+    Ok(())
+}
+
+/// Writes a line to a draft over an old file, and tells whether the old file was kept.
+fn is_kept(alloc: Global, name: &[u8]) -> Result<bool, Fail> {
+    let mut desk = MemDesk::new_in(alloc);
+    desk.add_file(b"a.idx", b"line\n")?;
+    desk.add_file(b"b.idx", b"line\n\n")?;
+    let mut lines = begin_file(alloc, &mut desk, Out::Idx, name, true)?;
+    lines.put_all(b"line\n", &mut desk)?;
+    end_file(&mut desk, Out::Idx, &mut lines, true)?;
+    Ok(matches!(desk.journal().last(), Some(Event::Kept(Out::Idx))))
+}
+
+#[test]
+fn old_files(rt: HostRuntime) -> Result<(), Fail> {
+    assert!(rt; is_kept(rt.alloc(), b"a.idx")?);
+    assert!(rt; !is_kept(rt.alloc(), b"b.idx")?);
+    assert!(rt; !is_kept(rt.alloc(), b"c.idx")?);
     Ok(())
 }
 
