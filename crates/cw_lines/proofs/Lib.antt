@@ -1,1 +1,2 @@
+mod ComparedRows
 mod Rows

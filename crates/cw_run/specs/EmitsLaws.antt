@@ -217,7 +217,7 @@ settled-same true out bytes old is = ap (λ (same : Bool). settled same out ∷ 
 pub emits_by-file : {S T U : Type 0} (keep : Bool) (f : OutFile) {old new : LineState} {a b c d : Told} {lines : S} {value : T} {result : Result U PutError}
     → Emits {T = S} (begun keep f.out f.name ∷ []) a b (Ok lines) → IsBegun keep f.out f.name old a b → Puts {T = T} f.bytes old new b c (Ok value)
     → ((files : Files) → c.files ≡ Some files → Emits (settled_if keep (is_end (left c new.compared)) f.out) c d result) → Faults c d result
-    → EmitsBy (λ named. file_events keep named f) a d result
+    → EmitsBy (file_events keep f) a d result
 emits_by-file keep f {old = old} {new = new} {b = b} {c = c} made is put ended faults =
     let lines = writes-emits (puts-new f.out is.line put) in
     record {
@@ -232,7 +232,7 @@ emits_by-file keep f {old = old} {new = new} {b = b} {c = c} made is put ended f
 
 pub file-refused : {S T U : Type 0} (keep : Bool) (f : OutFile) {old new : LineState} {a b c : Told} {lines : S} {error : PutError} {result : Result U PutError}
     → Emits {T = S} (begun keep f.out f.name ∷ []) a b (Ok lines) → IsBegun keep f.out f.name old a b → Puts {T = T} f.bytes old new b c (Err error)
-    → IsErrAnd result (λ found. found ≡ error) → EmitsBy (λ named. file_events keep named f) a c result
+    → IsErrAnd result (λ found. found ≡ error) → EmitsBy (file_events keep f) a c result
 file-refused keep f {b = b} made is put err =
     let lines = writes-emits (puts-new f.out is.line put) in
     record {
@@ -241,7 +241,7 @@ file-refused keep f {b = b} made is put err =
     }
 
 pub file-not_begun : {T U : Type 0} (keep : Bool) (f : OutFile) {a b : Told} {error : PutError} {result : Result U PutError}
-    → Emits {T = T} (begun keep f.out f.name ∷ []) a b (Err error) → IsErrAnd result (λ found. found ≡ error) → EmitsBy (λ named. file_events keep named f) a b result
+    → Emits {T = T} (begun keep f.out f.name ∷ []) a b (Err error) → IsErrAnd result (λ found. found ≡ error) → EmitsBy (file_events keep f) a b result
 file-not_begun keep f made err = record {
   emits = λ files there. emits-stop _ made err;
   faults = faults-as (emits-faults made) err;
@@ -289,25 +289,37 @@ runs-known {a = a} {b = b} {result = result} same runs = subst (λ (run : Run). 
 pub runs-by : {run : Run} {a b : Told} {result : Result Exit PutError} → Runs run a b result → RunsBy (λ named. run) a b result
 runs-by {run = run} {result = result} runs = record { emits = emits-by runs.emits; exit = IfOk-weaker result (λ e. e ≡ run.exit) (λ e. (named : Named) → e ≡ run.exit) (λ e is named. is) runs.exit }
 
-pub runs_by-then : {T : Type 0} {first : Named → List Event} {run : Named → Run} {a b c : Told} {value : T} {result : Result Exit PutError}
-    → EmitsBy {T = T} first a b (Ok value) → RunsBy run b c result
-    → RunsBy (λ named. record { rest = first named ++ (run named).rest; exit = (run named).exit }) a c result
+pub runs_by-then : {T : Type 0} {first rest : Named → List Event} {exit : Exit} {a b c : Told} {value : T} {result : Result Exit PutError}
+    → EmitsBy {T = T} first a b (Ok value) → RunsBy (λ named. record { rest = rest named; exit = exit }) b c result
+    → RunsBy (λ named. record { rest = first named ++ rest named; exit = exit }) a c result
 runs_by-then begun ended = record { emits = emits_by-then begun ended.emits; exit = ended.exit }
 
-pub runs_by-stop : {T : Type 0} {first : Named → List Event} (run : Named → Run) {a b : Told} {error : PutError} {result : Result Exit PutError}
+pub runs_by-stop : {T : Type 0} {first : Named → List Event} (rest : Named → List Event) (exit : Exit) {a b : Told} {error : PutError} {result : Result Exit PutError}
     → EmitsBy {T = T} first a b (Err error) → IsErrAnd result (λ found. found ≡ error)
-    → RunsBy (λ named. record { rest = first named ++ (run named).rest; exit = (run named).exit }) a b result
-runs_by-stop run {error = error} {result = result} begun is = record {
-  emits = emits_by-stop (λ named. (run named).rest) begun is;
-  exit = subst (λ (r : Result Exit PutError). IfOk r (λ e. (named : Named) → e ≡ (run named).exit)) (sym (is_err result error is)) tt;
+    → RunsBy (λ named. record { rest = first named ++ rest named; exit = exit }) a b result
+runs_by-stop rest exit {error = error} {result = result} begun is = record {
+  emits = emits_by-stop rest begun is;
+  exit = subst (λ (r : Result Exit PutError). IfOk r (λ e. (named : Named) → e ≡ exit)) (sym (is_err result error is)) tt;
 }
+
+-- memory was refused before anything was emitted
+pub runs_by-nothing : (run : Named → Run) (told : Told) {result : Result Exit PutError} → IsErrAnd result (λ found. found ≡ Memory) → RunsBy run told told result
+runs_by-nothing run told {result = result} is = record {
+  emits = record { emits = λ files there. emits-nothing (run (get files)).rest told is; faults = emits-faults (emits-nothing [] told is) };
+  exit = subst (λ (r : Result Exit PutError). IfOk r (λ e. (named : Named) → e ≡ (run named).exit)) (sym (is_err result Memory is)) tt;
+}
+
+-- its status, whatever files there are
+pub runs_by-exit : {run : Named → Run} {a b : Told} {result : Result Exit PutError} (named : Named) → RunsBy run a b result → IfOk result (λ e. e ≡ (run named).exit)
+runs_by-exit {run = run} {result = result} named runs =
+    IfOk-weaker result (λ e. (named : Named) → e ≡ (run named).exit) (λ e. e ≡ (run named).exit) (λ e same. same named) runs.exit
 
 -- over the files that are told
 pub runs_by-over : {run : Named → Run} {a b : Told} {result : Result Exit PutError} → RunsBy run a b result
     → (files : Files) → a.files ≡ Some files → Runs (run (get files)) a b result
-runs_by-over {run = run} {result = result} runs files is = record {
+runs_by-over runs files is = record {
   emits = runs.emits.emits files is;
-  exit = IfOk-weaker result (λ e. (named : Named) → e ≡ (run named).exit) (λ e. e ≡ (run (get files)).exit) (λ e same. same (get files)) runs.exit;
+  exit = runs_by-exit (get files) runs;
 }
 
 -- after a call that only reads

@@ -52,8 +52,8 @@ is_same (Some old) bytes = bytes_eq bytes old
 
 -- It is begun, and its lines are written; a draft of it ends as kept where the file of its name has just these lines, else as
 -- replaced.
-abbrev pub file_events : Bool → Named → OutFile → List Event
-file_events keep named f =
+abbrev pub file_events : Bool → OutFile → Named → List Event
+file_events keep f named =
     begun keep f.out f.name ∷ (line_events f.out (cut f.bytes).lines
     ++ settled_if keep (is_same (named f.name) (written (cut f.bytes).lines)) f.out)
 

@@ -6,4 +6,5 @@ pub mod RunLaws
 pub mod SampleLaws
 mod Rows
 mod IndexRows
+mod KeepRows
 mod SampleRows

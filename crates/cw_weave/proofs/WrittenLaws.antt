@@ -28,10 +28,11 @@ broken-new f is put = ap (λ (l : Line). l.broken) (puts-new_line f.out is put)
 -- ## The TeX file
 
 pub tex-counted : {flags : Flags} {d : Done ℕ} {marks : List Occurrence} {old new : Press} {counts : Counts}
-    → Presses flags d marks old new (Ok counts) → old.line.line ≡ new_line Tex → IsTexFile flags d (record { lines = new.line; counts = counts })
-tex-counted pressed is = record {
-  broken = ap (λ (l : Line). l.broken) (puts-new_line Tex is pressed.puts);
-  lines = ap (λ (l : Line). l.lines) (puts-new_line Tex is pressed.puts) ∙ ap as_count (omega arith);
+    → Presses flags d marks old new (Ok counts) → old.line.line ≡ new_line Tex → {lines : LineState} → lines.line ≡ new.line.line
+    → IsTexFile flags d (record { lines = lines; counts = counts })
+tex-counted pressed is same = record {
+  broken = ap (λ (l : Line). l.broken) (same ∙ puts-new_line Tex is pressed.puts);
+  lines = ap (λ (l : Line). l.lines) (same ∙ puts-new_line Tex is pressed.puts) ∙ ap as_count (omega arith);
   scraps = pressed.scraps;
   productions = pressed.productions;
 }

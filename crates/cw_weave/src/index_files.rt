@@ -2,7 +2,7 @@
 ghost use Rattle.std.specs.Prelude.{◌≡◌, ◌+◌, ◌≤◌, IfOk, map};
 ghost use Rattle.cw_reduce.specs.Counting.{limit_in};
 ghost use Rattle.cw_texpart.specs.Texts.{lasting};
-ghost use Rattle.cw_run.specs.Emits.{Emits};
+ghost use Rattle.cw_run.specs.Emits.{EmitsBy};
 ghost use Rattle.cw_run.specs.Files.{broken_in, broken_lines, file_events};
 ghost use Rattle.cw_weave.specs.Looks.{list_looks};
 ghost use Rattle.cw_weave.specs.Pressing.{IsPrintable, flags_in, text_in};
@@ -16,17 +16,20 @@ use cw_desk::Desk;
 use cw_index::{write_index, write_names};
 use cw_lines::{LineOut, PutError};
 use cw_phase1::Book;
-use cw_run::{Message, make, say_if};
+use cw_run::{Message, begin_file, end_file, say_if};
 
 // Makes the index and writes it.
 fn copy_index<D: Desk>(source: Source, book: &Book, desk: &mut D) -> Result<LineOut, PutError>
-    ensures emits { Emits (file_events (index_out source.entry.line.now.outputs (index_of book.now)))
+    ensures emits { EmitsBy (file_events (flags_in source.entry).keep
+        (index_out source.entry.line.now.outputs (index_of book.now)))
         (D.told desk.old) (D.told desk.new) result }
     ensures broken { IfOk result (λ lines. lines.line.broken ≡ broken_lines (index_of book.now)) }
 {
-    make(desk, Out::Idx, source.line.outputs.idx.as_slice())?;
-    let mut lines = LineOut::new_in(source.alloc, Out::Idx);
+    let keep = source.line.flags.keep;
+    let name = source.line.outputs.idx.as_slice();
+    let mut lines = begin_file(source.alloc, desk, Out::Idx, name, keep)?;
     write_index(source.alloc, source.web, book, &mut lines, desk)?;
+    end_file(desk, Out::Idx, &mut lines, keep)?;
     Ok(lines)
 }
 
@@ -38,7 +41,7 @@ fn copy_names<D: Desk, L: Ledger>(
     steps: &mut Steps<L>,
 ) -> Result<LineOut, PutError>
     requires printable { IsPrintable (text_in source) (lasting book.old) }
-    ensures emits { Emits (file_events (list_out source.entry.line.now.outputs
+    ensures emits { EmitsBy (file_events (flags_in source.entry).keep (list_out source.entry.line.now.outputs
         (name_list (text_in source.entry) (flags_in source.entry) book.old).out))
         (D.told desk.old) (D.told desk.new) result }
     ensures broken { IfOk result (λ lines. lines.line.broken
@@ -47,8 +50,8 @@ fn copy_names<D: Desk, L: Ledger>(
         + limit_in (flags_in source.entry) (name_list (text_in source.entry) (flags_in source.entry) book.old).ended }
 {
     let line = source.line;
-    make(desk, Out::Scn, line.outputs.scn.as_slice())?;
-    let mut lines = LineOut::new_in(source.alloc, Out::Scn);
+    let name = line.outputs.scn.as_slice();
+    let mut lines = begin_file(source.alloc, desk, Out::Scn, name, line.flags.keep)?;
     write_names(
         source.alloc,
         source.web,
@@ -58,6 +61,7 @@ fn copy_names<D: Desk, L: Ledger>(
         desk,
         steps,
     )?;
+    end_file(desk, Out::Scn, &mut lines, line.flags.keep)?;
     Ok(lines)
 }
 
@@ -69,7 +73,7 @@ pub(crate) fn write_index_files<D: Desk, L: Ledger>(
     steps: &mut Steps<L>,
 ) -> Result<Option<IndexFiles>, PutError>
     requires printable { IsPrintable (text_in source) (lasting book.old) }
-    ensures emits { Emits
+    ensures emits { EmitsBy
         (index_events (flags_in source.entry).index (flags_in source.entry) (index_in source.entry book.old))
         (D.told desk.old) (D.told desk.new) result }
     ensures broken { IfOk result (λ files. index_broken source.entry.line.now.outputs files

@@ -7,6 +7,8 @@ mod failing_tests;
 mod files;
 mod index_files;
 #[cfg(test)]
+mod keeping_tests;
+#[cfg(test)]
 mod merging_tests;
 mod reading;
 mod sample;

@@ -10,13 +10,6 @@ pub(crate) fn read_journal(alloc: Global, journal: &[Event]) -> Result<Bytes, Me
     let mut last = None;
     for event in journal {
         match event {
-            Event::Made(out, name) => {
-                text.append(out_name(*out))?;
-                text.append(b" is ")?;
-                text.append(name.as_slice())?;
-                text.push(b'\n')?;
-                last = None;
-            }
             Event::Byte(out, byte) => {
                 if last != Some(*out) {
                     text.append(out_name(*out))?;
@@ -24,9 +17,28 @@ pub(crate) fn read_journal(alloc: Global, journal: &[Event]) -> Result<Bytes, Me
                 text.push(*byte)?;
                 last = Some(*out);
             }
+            other => {
+                append_turn(&mut text, other)?;
+                last = None;
+            }
         }
     }
     Ok(text)
+}
+
+/// Appends what was begun or ended, on a line of its own.
+fn append_turn(text: &mut Bytes, event: &Event) -> Result<(), Memory> {
+    let (out, what, name) = match event {
+        Event::Made(out, name) => (out, b" is ".as_slice(), name.as_slice()),
+        Event::Drafted(out, name) => (out, b" is drafted for ".as_slice(), name.as_slice()),
+        Event::Kept(out) => (out, b" is kept".as_slice(), b"".as_slice()),
+        Event::Replaced(out) => (out, b" is replaced".as_slice(), b"".as_slice()),
+        Event::Byte(out, _) => (out, b"".as_slice(), b"".as_slice()),
+    };
+    text.append(out_name(*out))?;
+    text.append(what)?;
+    text.append(name)?;
+    text.push(b'\n')
 }
 
 fn out_name(out: Out) -> &'static [u8] {
@@ -60,7 +72,7 @@ pub(crate) fn weave(alloc: Global, words: &[&[u8]], desk: &mut MemDesk) -> Resul
     Ok(weave_command(alloc, &list, desk, &mut Steps::<Silent>::new()))
 }
 
-const HELLO: &[u8] = b"% limbo\n@ Hello.\n";
+pub(crate) const HELLO: &[u8] = b"% limbo\n@ Hello.\n";
 
 #[test]
 fn a_section(rt: HostRuntime) -> Result<(), Fail> {

@@ -6,7 +6,7 @@ ghost use Rattle.cw_phase1.specs.declared.sections.Section.{Section};
 ghost use Rattle.cw_reduce.specs.Counting.{limit_in};
 ghost use Rattle.cw_texpart.specs.Texts.{lasting};
 ghost use Rattle.cw_texpart.specs.Weaving.{underlined};
-ghost use Rattle.cw_run.specs.Emits.{Emits};
+ghost use Rattle.cw_run.specs.Emits.{EmitsBy};
 ghost use Rattle.cw_weave.specs.Pressing.{IsPrintable, Presses, flags_in, left_in, marks_in};
 ghost use Rattle.cw_weave.specs.Pressing.{section_in, tex_in, text_in};
 ghost use Rattle.cw_weave.specs.TexFile.{all_sections};
@@ -20,7 +20,7 @@ use cw_index::write_closing;
 use cw_lines::{LineOut, PutError};
 use cw_part::weave_section;
 use cw_phase1::Book;
-use cw_run::{Message, Totals, make, say_if};
+use cw_run::{Message, Totals, begin_file, end_file, say_if};
 use cw_texpart::{Counts, copy_limbo, copy_tex};
 
 /// The TeX file that was written, and the scraps and productions of its C texts.
@@ -131,7 +131,7 @@ fn print_tex<D: Desk, L: Ledger>(
     Ok(counts)
 }
 
-/// Makes the TeX file and writes it, and says so.
+/// Writes the TeX file, and says so.
 pub(crate) fn write_tex<D: Desk, L: Ledger>(
     source: Source,
     book: &mut Book,
@@ -139,7 +139,7 @@ pub(crate) fn write_tex<D: Desk, L: Ledger>(
     steps: &mut Steps<L>,
 ) -> Result<TexFile, PutError>
     requires printable { IsPrintable (text_in source) (lasting book.old) }
-    ensures emits { Emits (output_events (flags_in source.entry) (tex_of source.entry book.old))
+    ensures emits { EmitsBy (output_events (flags_in source.entry) (tex_of source.entry book.old))
         (D.told desk.old) (D.told desk.new) result }
     ensures file { IfOk result (λ t. IsTexFile (flags_in source.entry) (tex_in source.entry book.old) t) }
     ensures left { OnOk result (book.new ≡ left_in source.entry book.old) }
@@ -147,8 +147,9 @@ pub(crate) fn write_tex<D: Desk, L: Ledger>(
 {
     let line = source.line;
     say_if(desk, line.flags.progress, Message::WritingOutput)?;
-    make(desk, Out::Tex, line.outputs.tex.as_slice())?;
-    let mut lines = LineOut::new_in(source.alloc, Out::Tex);
+    let name = line.outputs.tex.as_slice();
+    let mut lines = begin_file(source.alloc, desk, Out::Tex, name, line.flags.keep)?;
     let counts = print_tex(source, book, &mut lines, desk, steps)?;
+    end_file(desk, Out::Tex, &mut lines, line.flags.keep)?;
     Ok(TexFile { lines, counts })
 }

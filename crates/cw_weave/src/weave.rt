@@ -6,7 +6,7 @@ ghost use Rattle.cw_input.specs.Merged.{merged};
 ghost use Rattle.cw_lines.specs.Writes.{Adds};
 ghost use Rattle.cw_phase1.specs.Book.{book};
 ghost use Rattle.cw_texpart.specs.Texts.{lasting};
-ghost use Rattle.cw_run.specs.Emits.{Emits, Faults, Runs};
+ghost use Rattle.cw_run.specs.Emits.{EmitsBy, Faults, Runs, RunsBy};
 ghost use Rattle.cw_weave.specs.Looks.{book_looks, command_looks, looks_of, web_looks};
 ghost use Rattle.cw_run.specs.Notes.{note_events};
 ghost use Rattle.cw_weave.specs.Pressing.{IsPrintable, flags_in, text_in};
@@ -55,7 +55,7 @@ fn write_files<D: Desk, L: Ledger>(
     steps: &mut Steps<L>,
 ) -> Result<Written, PutError>
     requires printable { IsPrintable (text_in source) (lasting book.old) }
-    ensures emits { Emits (events_of source.entry book.old) (D.told desk.old) (D.told desk.new) result }
+    ensures emits { EmitsBy (events_of source.entry book.old) (D.told desk.old) (D.told desk.new) result }
     ensures written { IfOk result (λ w. AreWritten source.entry book.old w) }
     ensures bound { steps.new ≤ steps.old + book_looks (text_in source.entry) (flags_in source.entry) book.old }
 {
@@ -77,7 +77,7 @@ fn weave_book<D: Desk, L: Ledger>(
     steps: &mut Steps<L>,
 ) -> Result<Exit, PutError>
     requires printable { IsPrintable (text_in source) (lasting book.old) }
-    ensures runs { Runs (weave_book source.entry.line.now source.entry.web.now book.old)
+    ensures runs { RunsBy (weave_book source.entry.line.now source.entry.web.now book.old)
         (D.told desk.old) (D.told desk.new) result }
     ensures bound { steps.new ≤ steps.old + book_looks (text_in source.entry) (flags_in source.entry) book.old }
 {
@@ -93,7 +93,7 @@ fn weave_web<D: Desk, L: Ledger>(
     desk: &mut D,
     steps: &mut Steps<L>,
 ) -> Result<Exit, PutError>
-    ensures runs { Runs
+    ensures runs { RunsBy
         (weave_book source.entry.line.now source.entry.web.now (handed (book source.entry.web.now.lines)))
         (D.told desk.old) (D.told desk.new) result }
     ensures bound { steps.new ≤ steps.old
@@ -133,7 +133,7 @@ fn weave_line<D: Desk, L: Ledger>(
 ) -> Result<Exit, PutError>
     requires { 0 < length line.now.web }
     ensures runs { (files : Files) → (D.told desk.old).files ≡ Some files →
-        Runs (weave_web line.now (merged (get files) line.now.web line.now.change))
+        Runs (weave_web line.now (merged (get files) line.now.web line.now.change) (get files))
         (D.told desk.old) (D.told desk.new) result }
     ensures faults { Faults (D.told desk.old) (D.told desk.new) result }
     ensures bound { (files : Files) → (D.told desk.old).files ≡ Some files →

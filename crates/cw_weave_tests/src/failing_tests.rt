@@ -1,4 +1,4 @@
-//! Four webs over desks on which each call fails in turn, on which a call moves one byte, and on which nothing fails.
+//! Four webs, one of them over old files too, where each call fails in turn, a call moves one byte, or nothing fails.
 use crate::{append_journal, desk_with, weave, weave_quietly};
 use cw_base::{Bytes, Exit, Memory, Words};
 use cw_desk::{MemDesk, QuietDesk};
@@ -42,7 +42,17 @@ const NESTED: [(&[u8], &[u8]); 11] = [
     (b"f10", b"@ Deep.\n"),
 ];
 
-/// A desk for each of the four webs. The second has a change file.
+/// The files of a run whose outputs are compared with old files: the TeX file and the index would be the same.
+const KEPT: [(&[u8], &[u8]); 3] = [
+    (b"foo.w", b"% limbo\n@ Hello.\n"),
+    (
+        b"foo.tex",
+        b"\\input cwebmac\n% limbo\n\\M{1}Hello.\n\\fi\n\n\\inx\n\\fin\n\\end\n",
+    ),
+    (b"foo.idx", b""),
+];
+
+/// A desk for each run. The second has a change file, and the last has old files.
 fn desk_for(alloc: Global, web: usize) -> Result<MemDesk, Memory> {
     match web {
         0 => desk_with(
@@ -51,7 +61,8 @@ fn desk_for(alloc: Global, web: usize) -> Result<MemDesk, Memory> {
         ),
         1 => desk_with(alloc, &CHANGED),
         2 => desk_with(alloc, &NESTED),
-        _ => desk_with(alloc, &[(b"foo.w".as_slice(), GREETING)]),
+        3 => desk_with(alloc, &[(b"foo.w".as_slice(), GREETING)]),
+        _ => desk_with(alloc, &KEPT),
     }
 }
 
@@ -61,7 +72,12 @@ fn run(alloc: Global, web: usize, desk: &mut MemDesk) -> Result<Exit, Memory> {
     } else {
         b"-".as_slice()
     };
-    weave(alloc, &[b"foo".as_slice(), change], desk)
+    let flags = if web == 4 {
+        b"+k".as_slice()
+    } else {
+        b"+b".as_slice()
+    };
+    weave(alloc, &[flags, b"foo".as_slice(), change], desk)
 }
 
 fn journal_of(alloc: Global, desk: &MemDesk) -> Result<Bytes, Memory> {
@@ -73,7 +89,7 @@ fn journal_of(alloc: Global, desk: &MemDesk) -> Result<Bytes, Memory> {
 // A call that fails is the last one, and a first part of what the whole run tells is told.
 #[test]
 fn each_call_fails_in_turn(rt: HostRuntime) -> Result<(), Fail> {
-    for web in 0..4 {
+    for web in 0..5 {
         let mut whole = desk_for(rt.alloc(), web)?;
         run(rt.alloc(), web, &mut whole)?;
         let all = journal_of(rt.alloc(), &whole)?;
@@ -92,7 +108,7 @@ fn each_call_fails_in_turn(rt: HostRuntime) -> Result<(), Fail> {
 
 #[test]
 fn a_byte_at_a_time(rt: HostRuntime) -> Result<(), Fail> {
-    for web in 0..4 {
+    for web in 0..5 {
         let mut whole = desk_for(rt.alloc(), web)?;
         let mut bytes = desk_for(rt.alloc(), web)?;
         bytes.limit(1)?;

@@ -41,13 +41,6 @@ pub fn append_journal(text: &mut Bytes, journal: &[Event]) -> Result<(), Memory>
     let mut last = None;
     for event in journal {
         match event {
-            Event::Made(out, name) => {
-                text.append(out_name(*out))?;
-                text.append(b" is ")?;
-                text.append(name.as_slice())?;
-                text.push(b'\n')?;
-                last = None;
-            }
             Event::Byte(out, byte) => {
                 if last != Some(*out) {
                     text.append(out_name(*out))?;
@@ -55,9 +48,28 @@ pub fn append_journal(text: &mut Bytes, journal: &[Event]) -> Result<(), Memory>
                 text.push(*byte)?;
                 last = Some(*out);
             }
+            other => {
+                append_turn(text, other)?;
+                last = None;
+            }
         }
     }
     Ok(())
+}
+
+/// Appends what was begun or ended, on a line of its own.
+fn append_turn(text: &mut Bytes, event: &Event) -> Result<(), Memory> {
+    let (out, what, name) = match event {
+        Event::Made(out, name) => (out, b" is ".as_slice(), name.as_slice()),
+        Event::Drafted(out, name) => (out, b" is drafted for ".as_slice(), name.as_slice()),
+        Event::Kept(out) => (out, b" is kept".as_slice(), b"".as_slice()),
+        Event::Replaced(out) => (out, b" is replaced".as_slice(), b"".as_slice()),
+        Event::Byte(out, _) => (out, b"".as_slice(), b"".as_slice()),
+    };
+    text.append(out_name(*out))?;
+    text.append(what)?;
+    text.append(name)?;
+    text.push(b'\n')
 }
 
 fn exit_name(exit: Exit) -> &'static [u8] {

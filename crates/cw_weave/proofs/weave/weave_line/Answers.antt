@@ -9,6 +9,9 @@ use Rattle.cw_run.specs.Terminal.{no_change_text, no_web_text}
 use Rattle.cw_weave.proofs.ExitLaws.{ok-real}
 use Rattle.cw_weave.proofs.weave.weave_line.Goals as goal
 
+pub returns-in-Ok-clause-runs : goal.returns-in-Ok-clause-runs
+returns-in-Ok-clause-runs g c = ?
+
 pub returns-in-Err-NoWeb-clause-runs : goal.returns-in-Err-NoWeb-clause-runs
 returns-in-Err-NoWeb-clause-runs g c = λ files is.
     let missing : merged (get files) c.args.line.now.web c.args.line.now.change ≡ NoWeb =
@@ -32,7 +35,7 @@ pub returns-in-Err-NoChange-clause-real : goal.returns-in-Err-NoChange-clause-re
 returns-in-Err-NoChange-clause-real g c = ok-real c.stop_without_change.result Errors (λ e. cc) c.stop_without_change.ensures.exit
 
 pub returns-in-Ok-clause-faults : goal.returns-in-Ok-clause-faults
-returns-in-Ok-clause-faults g c = faults-then c.in-Ok.ensures.same.faults_kept (emits-faults c.weave_web.ensures.runs.emits)
+returns-in-Ok-clause-faults g c = faults-then c.in-Ok.ensures.same.faults_kept c.weave_web.ensures.runs.emits.faults
 
 pub returns-in-Err-NoWeb-clause-faults : goal.returns-in-Err-NoWeb-clause-faults
 returns-in-Err-NoWeb-clause-faults g c = faults-then c.in-Err-NoWeb.ensures.same.faults_kept (emits-faults c.stop_without_web.ensures.emits)

@@ -7,12 +7,12 @@ use Rattle.cw_run.specs.Files.{broken_in}
 use Rattle.cw_weave.specs.Pressing.{IsPrintable, flags_in, text_in}
 use Rattle.cw_weave.specs.Woven.{index_events}
 use Rattle.cw_weave.specs.Written.{index_in}
-use Rattle.cw_run.specs.EmitsLaws.{emits-events, emits-fail, emits-stop, emits-then, emits-value}
+use Rattle.cw_run.specs.EmitsLaws.{emits_by-events, emits_by-fail, emits_by-stop, emits_by-then, emits_by-value}
 use Rattle.cw_weave.proofs.WrittenLaws.{all-looks, tex-looks}
 use Rattle.cw_weave.proofs.weave.write_files.Goals as goal
 
 pub returns-in_err-tex-clause-emits : goal.returns-in_err-tex-clause-emits
-returns-in_err-tex-clause-emits g c = emits-stop _ c.in_err-tex.ensures.emits c.from_residual.ensures.1
+returns-in_err-tex-clause-emits g c = emits_by-stop _ c.in_err-tex.ensures.emits c.from_residual.ensures.1
 
 pub returns-in_err-tex-clause-bound : goal.returns-in_err-tex-clause-bound
 returns-in_err-tex-clause-bound g c = tex-looks (text_in c.args.source) (flags_in c.args.source) c.args.book.now _ _ c.in_err-tex.ensures.bound
@@ -24,8 +24,9 @@ write_index_files-requires g c = record {
 
 pub returns-in_err-index-clause-emits : goal.returns-in_err-index-clause-emits
 returns-in_err-index-clause-emits g c =
-    emits-then c.in_ok-tex.ensures.emits
-    (emits-fail (emits-events (ap (λ (b : Book). index_events (flags_in c.args.source).index (flags_in c.args.source) (index_in c.args.source b)) c.in_ok-tex.ensures.left)
+    emits_by-then c.in_ok-tex.ensures.emits
+    (emits_by-fail (emits_by-events
+    (λ named. ap (λ (b : Book). index_events (flags_in c.args.source).index (flags_in c.args.source) (index_in c.args.source b) named) c.in_ok-tex.ensures.left)
     c.in_err-index.ensures.emits) c.from_residual-in_err-index.ensures.1)
 
 pub returns-in_err-index-clause-bound : goal.returns-in_err-index-clause-bound
@@ -34,8 +35,9 @@ returns-in_err-index-clause-bound g c =
 
 pub returns-clause-emits : goal.returns-clause-emits
 returns-clause-emits g c =
-    emits-then c.in_ok-tex.ensures.emits
-    (emits-value _ (emits-events (ap (λ (b : Book). index_events (flags_in c.args.source).index (flags_in c.args.source) (index_in c.args.source b)) c.in_ok-tex.ensures.left)
+    emits_by-then c.in_ok-tex.ensures.emits
+    (emits_by-value _ (emits_by-events
+    (λ named. ap (λ (b : Book). index_events (flags_in c.args.source).index (flags_in c.args.source) (index_in c.args.source b) named) c.in_ok-tex.ensures.left)
     c.in_ok-index.ensures.emits))
 
 pub returns-clause-bound : goal.returns-clause-bound
