@@ -56,7 +56,7 @@ impl Joiner {
         ensures state { OnOk result (self.new ≡ record self.old { run = run_more self.old.run control }) }
     {
         if !self.is_inner() {
-            out.append(indent(control))?;
+            append_some(indent(control), out)?;
         }
         self.run = self.run.with(control);
         Ok(())
@@ -86,8 +86,19 @@ impl Joiner {
 fn append_run(run: Run, inner: bool, out: &mut Bytes) -> Result<(), Memory>
     ensures { OnOk result (out.new ≡ out.old ++ state_back inner (state_of run)) }
 {
-    out.append(run.pause(inner))?;
-    out.append(step(run.backs(inner)))
+    append_some(run.pause(inner), out)?;
+    append_some(step(run.backs(inner)), out)
+}
+
+// Appends bytes, if there are any.
+#[inline(always)]
+fn append_some(bytes: &[u8], out: &mut Bytes) -> Result<(), Memory>
+    ensures { OnOk result (out.new ≡ out.old ++ bytes.now) }
+{
+    if bytes.is_empty() {
+        return Ok(());
+    }
+    out.append(bytes)
 }
 
 // Appends the bytes of a name or of a sign.

@@ -2,6 +2,9 @@
 use Rattle.std.proofs.Common.{◌≡◌, ℕ, zero, suc, ◌<◌, ◌≤◌, ◌≢◌, ◌==◌, ◌||◌, Bool, true, false, nat_lt, List, [], ◌∷◌, ◌++◌, length, get_or, set, insert, fold, filter, Vec, Global, refl, sym, ap, subst, ◌∙◌, ◌⊎◌, inl, inr, arith, ◌-◌}
 use Rattle.std.proofs.lemmas.Bool.{lt-ltb, le-ltb, ltb-false, ltb-true, eqb-true, eq-eqb}
 use Rattle.std.proofs.lemmas.List.Kept.{AllPairs-cons}
+use Rattle.std.proofs.lemmas.List.Sorted.{IsPartitionedBy-ltb}
+use Rattle.std.proofs.Math.Dec.{ltb}
+use Rattle.std.specs.List.Sorted.{IsPartitionPoint, IsPartitionedBy}
 use Rattle.cw_names.specs.declared.xrefs.Occurrence.{Occurrence}
 use Rattle.cw_names.specs.declared.xrefs.SectionRef.{SectionRef}
 use Rattle.cw_names.specs.Mentions.{with_mention, mentions, AreAscending, sections_at}
@@ -168,3 +171,26 @@ pub at-end : (lists : List (Vec SectionRef Global)) (name : ℕ) → length list
 at-end [] name past = refl
 at-end (x ∷ lists) zero past = absurd (omega arith)
 at-end (x ∷ lists) (suc name) past = at-end lists name (omega arith)
+
+-- The sections from a point on are not below a section.
+unfoldable pub IsPoint : ℕ → List SectionRef → ℕ → Type 0
+IsPoint section ms place = IsPartitionPoint (λ (m : SectionRef). ltb m.section section ≡ true) (λ (m : SectionRef). ltb m.section section ≡ false) ms place
+
+weak-by : (b : Bool) (ms : List SectionRef) (i j : ℕ) (d : SectionRef) → nat_lt i j ≡ b → AreAscending ms → i ≤ j → j < length ms
+    → (get_or ms i d).section ≤ (get_or ms j d).section
+weak-by true ms i j d t a h within = omega (arith, a i j d (ltb-true i j t) within)
+weak-by false ms i j d t a h within =
+    let same : j ≡ i = omega (arith, ltb-false i j t) in
+    rw same (omega arith)
+
+pub parted : (section : ℕ) (ms : List SectionRef) → AreAscending ms → IsPartitionedBy (λ (m : SectionRef). ltb m.section section) ms
+parted section ms a = IsPartitionedBy-ltb (λ (m : SectionRef). m.section) ms section (λ i j d h within. weak-by (nat_lt i j) ms i j d refl a h within)
+
+pub point-before : (section : ℕ) (ms : List SectionRef) (place : ℕ) → IsPoint section ms place → place ≤ length ms → Before section place ms
+unfolding IsPoint
+point-before section ms place point within k d h = ltb-true _ _ (point.0 k d (omega arith) h)
+
+pub point-behind : (section : ℕ) (ms : List SectionRef) (place : ℕ) → IsPoint section ms place → (d : SectionRef) → place < length ms
+    → section ≤ (get_or ms place d).section
+unfolding IsPoint
+point-behind section ms place point d h = ltb-false _ _ (point.1 place d (omega arith) h)

@@ -150,16 +150,33 @@ fn add(list: &mut Vec<SectionRef>, section: u32, underlined: bool) -> Result<(),
     }
 }
 
-// How many sections of an ascending list come before this one. It is looked for from the end, where new ones belong.
+// How many sections of an ascending list come before this one. Most are the last one or belong behind it.
 fn place_of_section(list: &[SectionRef], section: u32) -> usize
     requires { AreAscending list.now }
     ensures within { result ≤ length list.now }
     ensures before { (k : ℕ) (d : SectionRef) → k < result → (slice_index_or list.now k d).section < section }
     ensures behind { (d : SectionRef) → result < length list.now → section ≤ (slice_index_or list.now result d).section }
 {
-    let mut place = list.len();
-    while place > 0 && list[place - 1].section >= section {
-        place -= 1;
+    let count = list.len();
+    if count == 0 {
+        return 0;
     }
-    place
+    let last = list[count - 1].section;
+    if last < section {
+        return count;
+    }
+    if last == section {
+        return count - 1;
+    }
+    place_inside(list, section)
+}
+
+// The same for a section that belongs anywhere.
+fn place_inside(list: &[SectionRef], section: u32) -> usize
+    requires { AreAscending list.now }
+    ensures within { result ≤ length list.now }
+    ensures before { (k : ℕ) (d : SectionRef) → k < result → (slice_index_or list.now k d).section < section }
+    ensures behind { (d : SectionRef) → result < length list.now → section ≤ (slice_index_or list.now result d).section }
+{
+    list.partition_point(|found| found.section < section)
 }

@@ -83,6 +83,14 @@ impl<'a> Printer<'a> {
 // So many bytes go to the line together.
 const FULL: usize = 4096;
 
+// A buffer with room for what most texts of so many items print.
+fn empty_buffer(alloc: Global, items: usize) -> Result<Bytes, Memory>
+    ensures { IfOk result (λ bytes. bytes ≡ []) }
+{
+    let room = items.min(FULL / 8) * 8 + 64;
+    Ok(Bytes::from_vec(Vec::with_capacity(alloc, room)?))
+}
+
 fn cleared(buffer: Bytes) -> Bytes
     ensures { result ≡ [] }
 {
@@ -108,7 +116,7 @@ fn print_items<D: Desk>(
         (D.told desk.old) (D.told desk.new) result }
 {
     let mut printer = Printer::over(alloc, c, inner);
-    let mut buffer = Bytes::new_in(alloc);
+    let mut buffer = empty_buffer(alloc, items.len())?;
     for i in 0..items.len() {
         printer.print(items.item(i), &mut buffer)?;
         if buffer.len() >= FULL {

@@ -99,6 +99,13 @@ impl TranslatedText {
     }
 }
 
+// How much room a translation begins with: enough for most texts, so that their lists are never moved.
+fn first_room(span: Span) -> usize
+    requires order { span.start ≤ span.end }
+{
+    (span.end - span.start).min(4096) + 16
+}
+
 /// Translates a C text without printing it. Its marks go to the book's occurrences, and the book's names get the
 /// categories behind it.
 pub fn translate_text<L: Ledger>(
@@ -121,6 +128,7 @@ pub fn translate_text<L: Ledger>(
     ensures named { IfOk result (λ text. IsNamedBelow (length book.new.names) (tree_of text)) }
 {
     let mut store = TokenStore::new_in(alloc);
+    store.reserve(first_room(c.span))?;
     let mut marks = Marks::new_in(alloc);
     let done = translate(
         alloc,

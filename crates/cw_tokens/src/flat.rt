@@ -160,7 +160,7 @@ pub fn flatten_trimmed(
     requires root { root < length ends.now }
     ensures { IfOk result (λ items. items_are items ≡ trimmed (flat (unfolded (cut 0 ends.now tokens.now) root))) }
 {
-    let mut out = Trimmer::new_in(alloc);
+    let mut out = Trimmer::with_room(alloc, tokens.len())?;
     let mut list = root;
     let mut place = 0;
     let mut items = list_at(tokens, ends, list);

@@ -1,5 +1,5 @@
 //! The trimming of items as they come: each is kept, left out, or waits in the gap at the end.
-ghost use Rattle.std.specs.Prelude.{◌≡◌, ◌&&◌, ◌||◌, ℕ, List, [], ◌∷◌, ◌++◌, ◌≤◌, length, take, drop, true, OnOk};
+ghost use Rattle.std.specs.Prelude.{◌≡◌, ◌&&◌, ◌||◌, ℕ, List, [], ◌∷◌, ◌++◌, ◌≤◌, length, take, drop, true, IfOk, OnOk};
 ghost use Rattle.cw_trees.specs.Flat.{Item, begins_after, trimmed};
 ghost use Rattle.cw_tokens.specs.FlatItems.{item_is, items_are};
 ghost use Rattle.cw_tokens.specs.Trimming.{StandsFor, gap_before, unbroken};
@@ -32,15 +32,15 @@ impl Model for Trimmer {
 }
 
 impl Trimmer {
-    /// Nothing has come.
-    pub fn new_in(alloc: Global) -> Trimmer
-        ensures { StandsFor result [] }
+    /// Nothing has come. There is room for so many items.
+    pub fn with_room(alloc: Global, n: usize) -> Result<Trimmer, Memory>
+        ensures { IfOk result (λ t. StandsFor t []) }
     {
-        Trimmer {
-            items: Vec::new(alloc),
+        Ok(Trimmer {
+            items: Vec::with_capacity(alloc, n)?,
             gap: 0,
             begins: true,
-        }
+        })
     }
 
     /// Takes the item that comes next.

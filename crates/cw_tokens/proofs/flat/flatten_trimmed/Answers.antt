@@ -11,7 +11,7 @@ use Rattle.cw_tokens.proofs.TrimmedWalk.{TrimsFlat, trims-start, trims-leaf, tri
 use Rattle.cw_tokens.proofs.flat.flatten_trimmed.Goals as goal
 
 pub loop-place-init : goal.loop-place-init
-loop-place-init c = trims-start _ _ _ _ (linked-tied _ _ c.requires.linked) (below-cut _ _ _ c.requires.root) c.new_in-out.ensures c.list_at-items.ensures
+loop-place-init c = trims-start _ _ _ _ (linked-tied _ _ c.requires.linked) (below-cut _ _ _ c.requires.root) c.in_ok-out.ensures c.list_at-items.ensures
 
 pub offset_bounds-items-place : goal.offset_bounds-items-place
 offset_bounds-items-place c =
