@@ -6,7 +6,7 @@ ghost use Rattle.cw_join.specs.Early.{added, late, run_front};
 ghost use Rattle.cw_join.specs.Runs.{run_more, run_state, state_back, state_of};
 ghost use Rattle.cw_join.specs.Standing.{Stands};
 ghost use Rattle.cw_join.specs.Stretches.{is_inner};
-ghost use Rattle.cw_join.specs.Tokens.{CanCome, IsNamed, alone, item_bytes};
+ghost use Rattle.cw_join.specs.Tokens.{CanCome, IsNamed, alone, control_bytes, item_bytes};
 
 use crate::joiner::{Joiner, depth_behind, step};
 use crate::names_behind::{append_ident, append_reserved};
@@ -21,7 +21,7 @@ use cw_trees::Control;
 impl Joiner {
     /// Appends what `push` would put of an item whose given bytes are none: those go behind it. After an `Err` the
     /// joiner is not to be used again.
-    #[inline]
+    #[inline(always)]
     pub fn append(&mut self, item: FlatItem, names: &Names, out: &mut Bytes) -> Result<(), Memory>
         requires come { CanCome (length names.now) self.old.depth item }
         ensures bytes { (ps : List Printable) → Stands self.old ps
@@ -50,6 +50,7 @@ impl Joiner {
     }
 
     // A control goes into the run.
+    #[inline(always)]
     fn append_control(&mut self, control: Control, out: &mut Bytes) -> Result<(), Memory>
         ensures bytes { OnOk result (out.new
             ≡ out.old ++ run_front (is_inner self.old.inner self.old.depth) (control ∷ [])) }
@@ -63,6 +64,7 @@ impl Joiner {
     }
 
     // Any other item ends the run.
+    #[inline(always)]
     fn append_other(&mut self, item: FlatItem, names: &Names, out: &mut Bytes) -> Result<(), Memory>
         requires come { CanCome (length names.now) self.old.depth item }
         ensures bytes { OnOk result (out.new ≡ out.old
@@ -83,6 +85,7 @@ impl Joiner {
 }
 
 // Appends what a run prints when it has ended.
+#[inline(always)]
 fn append_run(run: Run, inner: bool, out: &mut Bytes) -> Result<(), Memory>
     ensures { OnOk result (out.new ≡ out.old ++ state_back inner (state_of run)) }
 {
@@ -102,6 +105,7 @@ fn append_some(bytes: &[u8], out: &mut Bytes) -> Result<(), Memory>
 }
 
 // Appends the bytes of a name or of a sign.
+#[inline(always)]
 fn append_item(item: FlatItem, names: &Names, out: &mut Bytes) -> Result<(), Memory>
     requires named { IsNamed (length names.now) item }
     ensures { OnOk result (out.new ≡ out.old ++ item_bytes names.now item []) }
@@ -109,7 +113,19 @@ fn append_item(item: FlatItem, names: &Names, out: &mut Bytes) -> Result<(), Mem
     match item {
         FlatItem::Ident(name, _) => append_ident(text_of(names, name), out),
         FlatItem::Reserved(name, _) => append_reserved(text_of(names, name), out),
-        FlatItem::Control(control) => out.append(sign(control, &[])),
+        FlatItem::Control(control) => append_sign(control, out),
         FlatItem::Source(_) | FlatItem::Open | FlatItem::Close => Ok(()),
+    }
+}
+
+// Appends what a control prints that is in no run. Most begin or end a formula.
+#[inline(always)]
+fn append_sign(control: Control, out: &mut Bytes) -> Result<(), Memory>
+    ensures { OnOk result (out.new ≡ out.old ++ control_bytes control []) }
+{
+    match control {
+        Control::ToMath => out.append(b"${}"),
+        Control::ToText => out.append(b"{}$"),
+        _ => append_some(sign(control, &[]), out),
     }
 }

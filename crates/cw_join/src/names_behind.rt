@@ -6,6 +6,7 @@ use crate::naming::{font, is_marked};
 use cw_base::{Bytes, Memory};
 
 /// Appends an identifier.
+#[inline(always)]
 pub(crate) fn append_ident(name: &[u8], out: &mut Bytes) -> Result<(), Memory>
     ensures { OnOk result (out.new ≡ out.old ++ ident_bytes name.now) }
 {
@@ -28,6 +29,7 @@ pub(crate) fn append_reserved(name: &[u8], out: &mut Bytes) -> Result<(), Memory
 }
 
 // Appends the bytes of a name; `_` and `$` have a backslash.
+#[inline(always)]
 fn append_name(name: &[u8], out: &mut Bytes) -> Result<(), Memory>
     ensures { OnOk result (out.new ≡ out.old ++ name_bytes name.now) }
 {

@@ -109,6 +109,7 @@ impl<'a> Held<'a> {
     }
 
     // Puts the note that waits out.
+    #[inline(always)]
     pub(crate) fn put_remark(&mut self, web: &Web) -> Result<(), Memory>
         ensures held { OnOk result (held_of self.new ≡ remark_put web.now.lines (held_of self.old)) }
         ensures kept { OnOk result (self.new.kept ≡ self.old.kept) }
@@ -121,6 +122,7 @@ impl<'a> Held<'a> {
     }
 
     // Settles the name that waits.
+    #[inline(always)]
     pub(crate) fn settle(&mut self, web: &Web, headed: bool) -> Result<(), Memory>
         requires { CanSettle (held_of self.old) }
         ensures held { OnOk result (held_of self.new ≡ settled web.now.lines headed (held_of self.old)) }
@@ -169,6 +171,7 @@ impl<'a> Held<'a> {
     }
 
     // Any other token.
+    #[inline(always)]
     fn plain(&mut self, web: &Web, token: Tok<'a>) -> Result<(), Memory>
         requires waits { self.old.waiting ≡ None }
         requires token { IsToken (seen token) }
@@ -190,6 +193,7 @@ impl<'a> Held<'a> {
     }
 
     /// One token more.
+    #[inline(always)]
     pub(crate) fn token(&mut self, web: &Web, token: Tok<'a>) -> Result<(), Memory>
         requires token { IsToken (seen token) }
         requires ready { CanSettle (held_of self.old) }

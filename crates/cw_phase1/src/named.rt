@@ -77,6 +77,7 @@ impl Named {
     }
 
     /// One token more.
+    #[inline(always)]
     pub(crate) fn tell(&mut self, p: &Placed) -> Result<(), Memory>
         requires place { p.now.token.span.start < 2 ^ 32 }
         requires order { IfSome p.now.name (λ _. All (λ u. u.place < p.now.token.span.start) self.old.uses) }

@@ -149,6 +149,7 @@ impl Standing {
     }
 
     // The role of a token that belongs to no head.
+    #[inline(always)]
     fn free(&mut self, kind: TokKind) -> Role
         requires { self.old.section < 4294967295 }
         ensures role { result ≡ (free_step kind false self.old).role }
@@ -162,6 +163,7 @@ impl Standing {
     }
 
     /// The role of a token, behind which the text stands then, where no sign of a head stands behind it.
+    #[inline(always)]
     pub fn token(&mut self, kind: TokKind, span: Span) -> Role
         requires { self.old.section < 4294967295 }
         ensures role { result ≡ (token_step kind false self.old span).role }

@@ -204,6 +204,7 @@ impl Open {
     }
 
     // A token of the section.
+    #[inline(always)]
     fn meet(&mut self, p: &Placed)
         ensures { self.new ≡ with_token (placed_of p.now) self.old }
     {
@@ -265,6 +266,7 @@ impl Sections {
     }
 
     // One token more.
+    #[inline(always)]
     pub(crate) fn tell(&mut self, web: &Web, p: &Placed) -> Result<(), Memory>
         requires { p.now.token.span.start + length p.now.token.text.now + 2 < 2 ^ 64 }
         ensures { OnOk result (self.new ≡ section_told web.now.lines (placed_of p.now) self.old) }

@@ -31,6 +31,7 @@ impl Told {
     }
 
     /// One token more.
+    #[inline(always)]
     pub(crate) fn tell(&mut self, web: &Web, p: &Placed, buffer: &mut Vec<u8>) -> Result<(), Memory>
         requires known { IsKnown self.old.words }
         requires place { p.now.token.span.start < 2 ^ 32 }

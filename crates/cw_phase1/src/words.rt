@@ -50,6 +50,7 @@ impl Words {
     }
 
     // An occurrence in a section. It uses an `@!` up.
+    #[inline(always)]
     fn occur(
         &mut self,
         kind: EntryKind,
@@ -73,6 +74,7 @@ impl Words {
     }
 
     // An identifier, which occurs unless it is silent.
+    #[inline(always)]
     fn word(&mut self, p: &Placed, silent: bool) -> Result<NameId, Memory>
         ensures id { IfOk result (λ id. id ≡ name_id EntryKind.Ident p.now.token.text.now self.old.names) }
         ensures within { IfOk result (λ id. id.index < length self.new.names) }
@@ -104,6 +106,7 @@ impl Words {
     }
 
     /// One token more.
+    #[inline(always)]
     pub(crate) fn tell(&mut self, p: &Placed, buffer: &mut Vec<u8>) -> Result<(), Memory>
         requires { IsKnown self.old }
         ensures told { OnOk result (self.new ≡ word_told (placed_of p.now) self.old) }

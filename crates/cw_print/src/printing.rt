@@ -66,7 +66,7 @@ impl<'a> Printer<'a> {
     }
 
     // Appends what the next item prints behind those before it.
-    #[inline]
+    #[inline(always)]
     fn print(&mut self, item: FlatItem, buffer: &mut Bytes) -> Result<(), Memory>
         requires come { CanCome (length self.old.book.now.names) self.old.joiner.depth item }
         ensures bytes { (s : Source) (inner : Bool) (items : List Item) → IsBehind s inner items self.old

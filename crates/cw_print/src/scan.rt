@@ -54,6 +54,7 @@ impl<'a> Scan<'a> {
     }
 
     /// The token that has this number, if there is one.
+    #[inline(always)]
     pub fn find(&mut self, number: u32) -> Option<Tok<'a>>
         ensures found { option_map seen result ≡ numbered number self.old }
         ensures same { self.new ≡ self.old }
@@ -76,6 +77,7 @@ fn is_section(kind: TokKind) -> bool
 }
 
 // Goes on to the token of a number, and answers it and from which number on all lie ahead behind it.
+#[inline(always)]
 fn find_ahead<'a>(lexer: &mut Lexer<'a>, from: usize, number: usize) -> (Option<Tok<'a>>, usize)
     requires order { from ≤ number }
     requires number { number < 2 ^ 32 }

@@ -5,6 +5,7 @@ ghost use Rattle.cw_print.specs.Showing.{found, head_sign, token_shown};
 
 use crate::braces::OpenBraces;
 use crate::comments::put_piece;
+use crate::signs::put_sign;
 use crate::tokens::put_token;
 use cw_base::{Bytes, Memory};
 use cw_lex::{Tok, TokKind};
@@ -19,6 +20,7 @@ fn head_sign(first: bool) -> &'static [u8]
     }
 }
 
+#[inline(always)]
 fn put_shown(
     out: &mut Bytes,
     first: bool,
@@ -38,6 +40,7 @@ fn put_shown(
             put_token(out, kind, text)?;
             braces.begin()
         }
+        TokKind::Sign(sign) => put_sign(out, sign),
         TokKind::HeadSign => out.append(head_sign(first)),
         _ => put_token(out, kind, text),
     }
@@ -45,6 +48,7 @@ fn put_shown(
 
 /// Appends what a token prints where these braces are open, and counts those that it opens and closes. `first` says that
 /// the present section is the first that defines its name. A number without a token prints nothing.
+#[inline(always)]
 pub fn put_found(
     out: &mut Bytes,
     first: bool,

@@ -1,7 +1,8 @@
 //! The macros of signs.
-ghost use Rattle.std.specs.Prelude.{◌≡◌};
+ghost use Rattle.std.specs.Prelude.{◌≡◌, ◌++◌, OnOk};
 ghost use Rattle.cw_print.specs.Tokens.{sign_macro};
 
+use cw_base::{Bytes, Memory};
 use cw_lex::Sign;
 
 /// What a sign prints: a macro, or itself.
@@ -46,5 +47,16 @@ pub fn sign_macro(sign: Sign) -> &'static [u8]
         Sign::Semicolon => b";",
         Sign::Colon => b":",
         Sign::Ellipsis => b"\\,\\ldots\\,",
+    }
+}
+
+/// Appends what a sign prints. Most print themselves.
+#[inline(always)]
+pub(crate) fn put_sign(out: &mut Bytes, sign: Sign) -> Result<(), Memory>
+    ensures { OnOk result (out.new ≡ out.old ++ sign_macro sign) }
+{
+    match sign_macro(sign) {
+        [byte] => out.push(*byte),
+        bytes => out.append(bytes),
     }
 }

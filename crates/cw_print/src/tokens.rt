@@ -5,7 +5,7 @@ ghost use Rattle.cw_print.specs.Tokens.{code_bytes, token_bytes};
 
 use crate::constants::put_constant;
 use crate::escaping::put_escaped;
-use crate::signs::sign_macro;
+use crate::signs::put_sign;
 use crate::texts::{put_control_text, put_escaped_control_text, put_include_name, put_string};
 use cw_base::{Bytes, Memory};
 use cw_lex::{Code, TokKind};
@@ -70,7 +70,7 @@ pub fn put_token(out: &mut Bytes, kind: TokKind, text: &[u8]) -> Result<(), Memo
             put_escaped(out, text)?;
             out.push(b'}')
         }
-        TokKind::Sign(sign) => out.append(sign_macro(sign)),
+        TokKind::Sign(sign) => put_sign(out, sign),
         TokKind::HashLine => out.append(b"\\8\\#"),
         TokKind::Code(code) => put_code(out, code, text),
         TokKind::LongComment => out.append(b"\\C{"),

@@ -78,7 +78,7 @@ impl<'a> TextWalk<'a> {
 
     /// Appends what the next item prints by where it stands; names, and signs that print the same everywhere, print
     /// nothing here. A section name prints as the book keeps it.
-    #[inline]
+    #[inline(always)]
     pub fn show(&mut self, out: &mut Bytes, item: FlatItem, book: &'a Book) -> Result<(), Memory>
         ensures bytes { OnOk result (out.new ≡ out.old
             ++ (placed_shown self.old.fixed (title_in (titles book.now) (item_is item)) (item_is item) self.old.stand).bytes) }
@@ -94,6 +94,7 @@ impl<'a> TextWalk<'a> {
         }
     }
 
+    #[inline(always)]
     fn show_source(&mut self, out: &mut Bytes, number: u32, book: &'a Book) -> Result<(), Memory>
         ensures bytes { OnOk result (out.new ≡ out.old
             ++ (source_shown self.old.fixed (titles book.now number) self.old.stand.name number self.old.stand).bytes) }
@@ -125,6 +126,7 @@ impl<'a> TextWalk<'a> {
         Ok(())
     }
 
+    #[inline(always)]
     fn show_control(&mut self, out: &mut Bytes, control: Control) -> Result<(), Memory>
         ensures bytes { OnOk result (out.new ≡ out.old ++ (control_shown control self.old.stand).bytes) }
         ensures stand { OnOk result (self.new ≡ behind self.old (control_shown control self.old.stand)) }

@@ -197,6 +197,7 @@ impl Translator {
     }
 
     /// One answer of the scanner, in which section names stand for their texts.
+    #[inline(always)]
     pub(crate) fn named_answer<L: Ledger>(
         &mut self,
         answer: &Lexed,

@@ -63,6 +63,7 @@ pub(crate) enum Open {
 
 impl Open {
     /// A scrap comes behind those of a C text.
+    #[inline(always)]
     fn add_scrap(&mut self, leaf: Leaf) -> Result<(), Memory>
         requires { leaf.cat ≢ End }
         ensures { OnOk result ((outer : List Open) → self.new ∷ outer ≡ with_entry (entry_of leaf) (self.old ∷ outer)) }

@@ -110,6 +110,7 @@ impl Translator {
     }
 
     /// A token without parts: a scrap of the innermost C text, or a piece of the innermost comment.
+    #[inline(always)]
     fn token(
         &mut self,
         token: &Tok,
@@ -137,6 +138,7 @@ impl Translator {
     }
 
     /// A token that makes a scrap of its own.
+    #[inline(always)]
     fn leaf(&mut self, token: &Tok, names: &mut Names, store: &mut TokenStore) -> Result<(), Memory>
         requires translating { IsTranslating store.old names.old self.old }
         requires start { token.now.span.start < 2 ^ 32 }
@@ -230,6 +232,7 @@ impl Translator {
     }
 
     /// One answer of the scanner, in which section names stand for nothing.
+    #[inline(always)]
     pub(crate) fn answer<L: Ledger>(
         &mut self,
         answer: &Lexed,

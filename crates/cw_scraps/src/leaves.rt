@@ -61,6 +61,7 @@ pub fn scrap_of(token: &Tok, names: &mut Names, store: &mut TokenStore) -> Resul
 }
 
 /// The category of an identifier that has a category of its own.
+#[inline(always)]
 pub(crate) fn word_cat(hash_line: bool, text: &[u8], own: Cat) -> Cat
     ensures cat { result ≡ word_cat hash_line text.now own }
     ensures real { own ≢ Cats.End → result ≢ Cats.End }
@@ -105,6 +106,7 @@ fn hash_line_category(text: &[u8]) -> Option<Cat>
 }
 
 /// The scrap of an identifier.
+#[inline(always)]
 fn word_leaf(cat: Cat, name: NameId, number: u32, store: &mut TokenStore) -> Leaf
     requires idle { store.old.building ≡ None }
     requires room { 6 ≤ store.old.spare }
@@ -127,6 +129,7 @@ fn word_leaf(cat: Cat, name: NameId, number: u32, store: &mut TokenStore) -> Lea
 }
 
 /// The scrap of another token.
+#[inline(always)]
 fn token_leaf(kind: TokKind, number: u32, store: &mut TokenStore) -> Leaf
     requires kind { IsSome (form_of kind number) }
     requires idle { store.old.building ≡ None }
