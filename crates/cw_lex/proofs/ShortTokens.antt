@@ -1,5 +1,5 @@
 -- Short tokens of C text, by its rules.
-use Rattle.std.proofs.Common.{◌≡◌, ℕ, ◌+◌, ◌<◌, ◌≤◌, arith, length-drop, Bool, true, false, ◌&&◌, ◌||◌, ◌==◌, nat_lt, List, ◌∷◌, Some, None, length, slice_index, drop, refl, sym, ap, ◌∙◌, if◌then◌else◌}
+use Rattle.std.proofs.Common.{not, [], subst, ◌⊎◌, inl, inr, ◌≡◌, ℕ, ◌+◌, ◌<◌, ◌≤◌, arith, length-drop, Bool, true, false, ◌&&◌, ◌||◌, ◌==◌, nat_lt, List, ◌∷◌, Some, None, length, slice_index, drop, refl, sym, ap, ◌∙◌, if◌then◌else◌}
 use Rattle.cw_lex.specs.declared.classes.Class.TheVariants as classes
 use Rattle.cw_lex.specs.declared.parts.Part.{Part}
 use Rattle.cw_lex.specs.declared.parts.Part.TheVariants as parts
@@ -16,12 +16,12 @@ use Rattle.cw_lex.specs.Signs.{all_signs, longest, spelling}
 use Rattle.cw_lex.specs.Lexing.{fresh_at, last_at}
 use Rattle.cw_lex.specs.Tokens.{section, in_text, code_text, in_code, start_of, sign_or_other, is_space, is_include, behind_word, ends_at_bar, in_hash_line, passed, one, moved}
 use Rattle.cw_lex.specs.Coming.{is_code, found_at, bytes_at}
-use Rattle.cw_lex.specs.Short.{is_lone, is_quote, IsShort, BeginsString}
+use Rattle.cw_lex.specs.Short.{is_alone, is_lone, is_quote, IsShort, BeginsString}
 use Rattle.cw_lex.proofs.Lines.{in_text-code}
 use Rattle.cw_lex.proofs.White.{other-byte}
 use Rattle.cw_lex.proofs.Steps.{bytes-here}
 use Rattle.cw_lex.proofs.Sizes.{run-le}
-use Rattle.std.proofs.lemmas.Bool.{lt-ltb}
+use Rattle.std.proofs.lemmas.Bool.{lt-ltb, eqb-true}
 
 -- a byte that begins no line's end, white space, code, `#` line or include name
 pub record IsStart (b : ℕ) : Type 0 where
@@ -185,11 +185,11 @@ number-short text part comments place size code within letter digit some most e 
           ∙ (λ i. one (in_hash_line part) (moved w (passed part)) place (b ∷ bs) (plain kinds.Constant (sym same i)));
     }
 
-pub sign-short : (text : List ℕ) (part : Part) (comments : List Opened) (place size : ℕ) (sign : Sign) → is_code part comments ≡ true → place < length text
+lone-short : (text : List ℕ) (part : Part) (comments : List Opened) (place size : ℕ) (sign : Sign) → is_code part comments ≡ true → place < length text
     → is_letter (slice_index text place) ≡ false → is_in classes.Digit (slice_index text place) ≡ false → is_lone (slice_index text place) ≡ true
     → longest all_signs (bytes_at text place) ≡ Some sign → 0 < size → size ≡ length (spelling sign) → place + size ≤ length text
     → IsShort text (record { part = part; comments = comments }) place (record { kind = kinds.Sign sign; size = size })
-sign-short text part comments place size sign code within letter digit lone e some same most =
+lone-short text part comments place size sign code within letter digit lone e some same most =
     let w : Where = record { part = part; comments = comments } in
     let b = slice_index text place in
     let bs = drop (place + 1) text in
@@ -200,6 +200,62 @@ sign-short text part comments place size sign code within letter digit lone e so
           start-found text part comments place (start.Sign sign) code (sign-starts b bs sign lone e) (sign-is (ends_at_bar part comments) b bs sign letter digit lone e)
           ∙ (λ i. one (in_hash_line part) (moved w (passed part)) place (b ∷ bs) (plain (kinds.Sign sign) (sym same i)));
     }
+
+-- a dot before no digit
+run-none : (bs : List ℕ) → begins_by (is_in classes.Digit) bs ≡ false → run classes.Digit bs ≡ 0
+run-none [] h = refl
+run-none (c ∷ cs) h = ap (λ t. elim t [ true ↦ 1 + run classes.Digit cs | false ↦ 0 ]) h
+
+no-decimal : (bs : List ℕ) → begins_by (is_in classes.Digit) bs ≡ false → constant (46 ∷ bs) ≡ 0
+no-decimal bs h =
+    let part : fraction false (46 ∷ bs) ≡ 0 = ap (λ n. if nat_lt 0 n then 1 + n else 0) (run-none bs h) in
+    let whole : mantissa (46 ∷ bs) ≡ 0 = ap (λ n. 0 + n) part in
+    let decimally : decimal (46 ∷ bs) ≡ 0 = ap (λ m. if nat_lt 0 m then m + exponent (drop m (46 ∷ bs)) else 0) whole in
+    ap (λ n. if nat_lt 0 n then n + run classes.Suffix (drop n (46 ∷ bs)) else 0) decimally
+
+dot-starts : IsStart 46
+dot-starts = record { newline = refl; blank = refl; backslash = refl; at_sign = refl; hash = refl; less = refl }
+
+dot-is : (bars : Bool) (bs : List ℕ) (sign : Sign) → begins_by (is_in classes.Digit) bs ≡ false → longest all_signs (46 ∷ bs) ≡ Some sign
+    → start_of bars 46 bs ≡ start.Sign sign
+dot-is bars bs sign h e =
+    ap (λ n. if nat_lt 0 n then start.Constant else sign_or_other (longest all_signs (46 ∷ bs))) (no-decimal bs h) ∙ ap sign_or_other e
+
+dot-short : (text : List ℕ) (part : Part) (comments : List Opened) (place size : ℕ) (sign : Sign) → is_code part comments ≡ true
+    → slice_index text place ≡ 46 → begins_by (is_in classes.Digit) (drop (place + 1) text) ≡ false
+    → longest all_signs (bytes_at text place) ≡ Some sign → 0 < size → size ≡ length (spelling sign) → place + size ≤ length text
+    → IsShort text (record { part = part; comments = comments }) place (record { kind = kinds.Sign sign; size = size })
+dot-short text part comments place size sign code here digit e some same most =
+    let w : Where = record { part = part; comments = comments } in
+    let bs = drop (place + 1) text in
+    let starts : IsStart (slice_index text place) = subst IsStart (sym here) dot-starts in
+    let kind : start_of (ends_at_bar part comments) (slice_index text place) bs ≡ start.Sign sign =
+    ap (λ b. start_of (ends_at_bar part comments) b bs) here ∙ dot-is (ends_at_bar part comments) bs sign digit (ap (λ b. longest all_signs (b ∷ bs)) (sym here) ∙ e) in
+    record {
+      some = some;
+      within = most;
+      found =
+          start-found text part comments place (start.Sign sign) code starts kind
+          ∙ (λ i. one (in_hash_line part) (moved w (passed part)) place (bytes_at text place) (plain (kinds.Sign sign) (sym same i)));
+    }
+
+alone-by : (lone dotted digit : Bool) → (lone || (dotted && not digit)) ≡ true → (lone ≡ true) ⊎ ((dotted ≡ true) × (digit ≡ false))
+alone-by true dotted digit h = inl refl
+alone-by false true true h = absurd (cc)
+alone-by false true false h = inr (refl, refl)
+alone-by false false digit h = absurd (cc)
+
+pub sign-short : (text : List ℕ) (part : Part) (comments : List Opened) (place size : ℕ) (sign : Sign) → is_code part comments ≡ true → place < length text
+    → is_letter (slice_index text place) ≡ false → is_in classes.Digit (slice_index text place) ≡ false
+    → is_alone (slice_index text place) (drop (place + 1) text) ≡ true
+    → longest all_signs (bytes_at text place) ≡ Some sign → 0 < size → size ≡ length (spelling sign) → place + size ≤ length text
+    → IsShort text (record { part = part; comments = comments }) place (record { kind = kinds.Sign sign; size = size })
+sign-short text part comments place size sign code within letter digit alone e some same most =
+    let b = slice_index text place in
+    elim (alone-by (is_lone b) (b == 46) (begins_by (is_in classes.Digit) (drop (place + 1) text)) alone) [
+      | inl lone ↦ lone-short text part comments place size sign code within letter digit lone e some same most
+      | inr dotted ↦ dot-short text part comments place size sign code (eqb-true b 46 dotted.0) dotted.1 e some same most
+    ]
 
 pub string-begins : (text : List ℕ) (part : Part) (comments : List Opened) (place : ℕ) → is_code part comments ≡ true → place < length text
     → is_letter (slice_index text place) ≡ false → is_in classes.Digit (slice_index text place) ≡ false → is_quote (slice_index text place) ≡ true

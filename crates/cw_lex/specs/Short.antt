@@ -1,10 +1,11 @@
 -- The quick tokens of C text.
-use Rattle.std.specs.Prelude.{◌≡◌, ℕ, ◌+◌, ◌<◌, ◌≤◌, Bool, not, ◌||◌, ◌==◌, List, length}
+use Rattle.std.specs.Prelude.{◌≡◌, ℕ, ◌+◌, ◌<◌, ◌≤◌, Bool, not, ◌&&◌, ◌||◌, ◌==◌, List, length}
+use Rattle.cw_lex.specs.declared.classes.Class.TheVariants.{Digit}
 use Rattle.cw_lex.specs.declared.parts.Start.TheVariants as start
 use Rattle.cw_lex.specs.declared.short.Short.{Short}
 use Rattle.cw_lex.specs.declared.short.Quick.{Quick}
 use Rattle.cw_lex.specs.declared.short.Quick.TheVariants as quick
-use Rattle.cw_lex.specs.Bytes.{quote, hash, apostrophe, dot, slash, less, bar}
+use Rattle.cw_lex.specs.Bytes.{begins_by, is_in, quote, hash, apostrophe, dot, slash, less, bar}
 use Rattle.cw_lex.specs.Answers.{Where, plain}
 use Rattle.cw_lex.specs.Tokens.{one, moved, passed, in_hash_line, in_code}
 use Rattle.cw_lex.specs.Coming.{found_at, bytes_at}
@@ -18,6 +19,10 @@ pub record IsShort (text : List ℕ) (w : Where) (place : ℕ) (short : Short) :
 -- a byte that begins no token but signs, where it begins a sign
 abbrev pub is_lone : ℕ → Bool
 is_lone byte = not (byte == slash || byte == dot || byte == less || byte == bar || byte == hash)
+
+-- the same of a byte with those behind it: a dot begins a constant before a digit
+abbrev pub is_alone : ℕ → List ℕ → Bool
+is_alone byte bytes = is_lone byte || (byte == dot && not (begins_by (is_in Digit) bytes))
 
 -- a string with this quote begins
 abbrev pub BeginsString : List ℕ → Where → ℕ → ℕ → Type 0

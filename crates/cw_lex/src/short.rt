@@ -1,10 +1,10 @@
 //! The quick tokens of C text, of which most of it consists.
 ghost use Rattle.std.specs.Prelude.{◌≡◌, ◌<◌, true, false, length, slice_index, IfSome};
 ghost use Rattle.cw_lex.specs.Answers.{Gives};
-ghost use Rattle.cw_lex.specs.Bytes.{is_in, is_letter};
+ghost use Rattle.cw_lex.specs.Bytes.{begins_by, is_in, is_letter};
 ghost use Rattle.cw_lex.specs.Pending.{no_notes};
 ghost use Rattle.cw_lex.specs.Coming.{where_of, coming, is_code, IsReady};
-ghost use Rattle.cw_lex.specs.Short.{IsShort, IsQuick, is_lone, is_quote};
+ghost use Rattle.cw_lex.specs.Short.{IsShort, IsQuick, is_alone, is_lone, is_quote};
 
 use crate::classes::{Class, from, is_digit, is_word, run};
 use crate::code_text::is_include_word;
@@ -96,10 +96,11 @@ fn sign(text: &[u8], state: &State) -> Option<Short>
     ensures { IfSome result (IsShort text.now (where_of state.now) state.now.at) }
 {
     let byte = text[state.at];
-    if !is_lone(byte) {
+    let rest = from(text, state.at + 1);
+    if !is_alone(byte, rest) {
         return None;
     }
-    match sign_at(byte, from(text, state.at + 1)) {
+    match sign_at(byte, rest) {
         Some(sign) => Some(Short {
             kind: TokKind::Sign(sign),
             size: sign.size(),
@@ -137,6 +138,24 @@ fn is_lone(byte: u8) -> bool
     ensures { result ≡ is_lone byte }
 {
     !matches!(byte, b'/' | b'.' | b'<' | b'|' | b'#')
+}
+
+// The same of a byte with those behind it. A dot begins a constant before a digit.
+#[inline(always)]
+fn is_alone(byte: u8, rest: &[u8]) -> bool
+    ensures { result ≡ is_alone byte rest.now }
+{
+    is_lone(byte) || (byte == b'.' && !begins_digit(rest))
+}
+
+#[inline(always)]
+fn begins_digit(bytes: &[u8]) -> bool
+    ensures { result ≡ begins_by (is_in Class.Digit) bytes.now }
+{
+    match bytes {
+        [] => false,
+        [byte, ..] => is_digit(*byte),
+    }
 }
 
 /// Answers a short token at the scanner's place.

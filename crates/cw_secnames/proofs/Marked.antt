@@ -1,5 +1,6 @@
 -- The positions that are found by marks hold those of all names near a text.
-use Rattle.std.proofs.Common.{◌≡◌, ℕ, zero, suc, ◌+◌, ◌-◌, ◌^◌, ◌<◌, ◌≤◌, ◌&&◌, ◌||◌, ◌==◌, ◌⊎◌, inl, inr, Bool, true, false, not, nat_eq, List, [], ◌∷◌, ◌++◌, map, length, take, get_or, cond, refl, ap, ◌∙◌, sym, subst, arith, min, length-take, take_all, take-take, eq-eqb, nat_cmp, is_eq, is_lt, is_le, Ordering, Less, Equal, Greater}
+use Rattle.std.proofs.Common.{nat_lt, ◌≡◌, ℕ, zero, suc, ◌+◌, ◌-◌, ◌^◌, ◌<◌, ◌≤◌, ◌&&◌, ◌||◌, ◌==◌, ◌⊎◌, inl, inr, Bool, true, false, not, nat_eq, List, [], ◌∷◌, ◌++◌, map, length, take, get_or, cond, refl, ap, ◌∙◌, sym, subst, arith, min, length-take, take_all, take-take, eq-eqb, nat_cmp, is_eq, is_lt, is_le, Ordering, Less, Equal, Greater}
+use Rattle.std.proofs.lemmas.Bool.{ltb-true}
 use Rattle.std.specs.Ordering.{ordering_then, MatchOrdering}
 use Rattle.std.specs.List.{list_any}
 use Rattle.std.specs.Cmp.{tied_then}
@@ -14,7 +15,7 @@ use Rattle.std.specs.BTreeSet.{BTreeSet, contains}
 use Rattle.cw_secnames.specs.declared.kinds.SecKind.{SecKind}
 use Rattle.cw_secnames.specs.declared.marks.Marks.{Marks}
 use Rattle.cw_secnames.specs.Kept.{begins}
-use Rattle.cw_secnames.specs.Marks.{first_mark, next_mark, mark_from, mark_of, is_kept_length, last_kept, pair_cmp, Has, HasAll, positions_at, is_in, IsMarked, KeepsMarks, IsNear}
+use Rattle.cw_secnames.specs.Marks.{first_mark, next_mark, mark_from, mark_of, is_kept_length, last_kept, pair_cmp, Has, HasAll, positions_at, is_in, wholes_at, IsMarked, KeepsMarks, IsNear}
 
 -- ## What a set has under a mark
 
@@ -127,7 +128,7 @@ pub record Found (marks : Marks) (kind : SecKind) (text : List ℕ) (count mark 
   pub within : count ≤ length text
   pub kept : is_kept_length at ≡ true
   pub start_is : start ≡ mark_of kind (take at text)
-  pub shorter : (before k : ℕ) → before < count → k < 2 ^ 64 → Has marks.wholes (mark_of kind (take before text)) k → is_in k near ≡ true
+  pub shorter : (before k : ℕ) → before < count → IsMarked marks kind (take before text) k → is_in k near ≡ true
 
 pub found-first : (marks : Marks) (kind : SecKind) (text : List ℕ) (mark start : ℕ) (near : List ℕ) → mark ≡ first_mark kind → start ≡ first_mark kind
     → Found marks kind text 0 mark start near
@@ -139,27 +140,39 @@ found-first marks kind text mark start near is same = record {
   within = omega arith;
   kept = refl;
   start_is = same;
-  shorter = λ before k h small has. absurd (omega arith);
+  shorter = λ before k h m. absurd (omega arith);
 }
 
 below-or : (a b : ℕ) → a < b + 1 → (a < b) ⊎ (a ≡ b)
 below-or a b h = grind arith
 
+-- a text with so many bytes is found under its mark
+found-here : (short : Bool) (marks : Marks) (kind : SecKind) (text : List ℕ) (count k mark : ℕ) → nat_lt count marks.shortest ≡ short
+    → mark ≡ mark_of kind (take count text) → IsMarked marks kind (take count text) k
+    → is_in k (elim short as (λ _. List ℕ) [ true ↦ [] | false ↦ positions_at mark marks.wholes ]) ≡ true
+found-here true marks kind text count k mark below is m =
+    let low : count < marks.shortest = ltb-true count marks.shortest below in
+    let size : length (take count text) ≡ min count (length text) = length-take count text in
+    let long : marks.shortest ≤ length (take count text) = m.long in
+    absurd (omega (arith, size))
+found-here false marks kind text count k mark below is m =
+    is-at marks.wholes mark k m.small (subst (λ n. Has marks.wholes n k) (sym is) m.whole)
+
 shorter-more : (marks : Marks) (kind : SecKind) (text : List ℕ) (count mark : ℕ) (near : List ℕ)
     → mark ≡ mark_of kind (take count text)
-    → ((before k : ℕ) → before < count → k < 2 ^ 64 → Has marks.wholes (mark_of kind (take before text)) k → is_in k near ≡ true)
-    → (before k : ℕ) → before < count + 1 → k < 2 ^ 64 → Has marks.wholes (mark_of kind (take before text)) k
-    → is_in k (near ++ positions_at mark marks.wholes) ≡ true
-shorter-more marks kind text count mark near is f before k h small has = elim (below-or before count h) [
-  | inl below ↦ in-left k near (positions_at mark marks.wholes) (f before k below small has)
+    → ((before k : ℕ) → before < count → IsMarked marks kind (take before text) k → is_in k near ≡ true)
+    → (before k : ℕ) → before < count + 1 → IsMarked marks kind (take before text) k
+    → is_in k (near ++ wholes_at marks count mark) ≡ true
+shorter-more marks kind text count mark near is f before k h m = elim (below-or before count h) [
+  | inl below ↦ in-left k near (wholes_at marks count mark) (f before k below m)
   | inr same ↦
-      let here : mark_of kind (take before text) ≡ mark = ap (λ n. mark_of kind (take n text)) same ∙ sym is in
-      in-right k near (positions_at mark marks.wholes) (is-at marks.wholes mark k small (subst (λ m. Has marks.wholes m k) here has))
+      in-right k near (wholes_at marks count mark)
+      (found-here (nat_lt count marks.shortest) marks kind text count k mark refl is (subst (λ n. IsMarked marks kind (take n text) k) same m))
 ]
 
 pub found-more : (marks : Marks) (kind : SecKind) (text : List ℕ) (count mark start d : ℕ) (near : List ℕ)
     → Found marks kind text count mark start near → count < length text
-    → Found marks kind text (count + 1) (next_mark mark (get_or text count d)) start (near ++ positions_at mark marks.wholes)
+    → Found marks kind text (count + 1) (next_mark mark (get_or text count d)) start (near ++ wholes_at marks count mark)
 found-more marks kind text count mark start d near f h = record {
   mark_is = ap (λ m. next_mark m (get_or text count d)) f.mark_is ∙ sym (mark-more (first_mark kind) text count d h);
   at = f.at;
@@ -187,11 +200,11 @@ kept-by false marks kind text count mark start near kept f = f
 -- a byte more, behind which the mark is kept or not
 pub found-next : (marks : Marks) (kind : SecKind) (text : List ℕ) (count mark start new next d : ℕ) (near more : List ℕ)
     → Found marks kind text count mark start near → count < length text → new ≡ next_mark mark (get_or text count d)
-    → next ≡ last_kept (count + 1) new start → more ≡ near ++ positions_at mark marks.wholes
+    → next ≡ last_kept (count + 1) new start → more ≡ near ++ wholes_at marks count mark
     → Found marks kind text (count + 1) new next more
 found-next marks kind text count mark start new next d near more f h is last all =
     rw (all, last, is)
-    (kept-by (is_kept_length (count + 1)) marks kind text (count + 1) (next_mark mark (get_or text count d)) start (near ++ positions_at mark marks.wholes) refl
+    (kept-by (is_kept_length (count + 1)) marks kind text (count + 1) (next_mark mark (get_or text count d)) start (near ++ wholes_at marks count mark) refl
     (found-more marks kind text count mark start d near f h))
 
 -- ## What is found in the end
@@ -230,7 +243,7 @@ found-all marks kind text other mark start k near f m h =
       | inl first ↦ elim (decide (length other) (length text) (not-longer other text first)) [
         | inl below ↦
             in-left k near (positions_at start marks.starts)
-            (f.shorter (length other) k below m.small (subst (λ t. Has marks.wholes (mark_of kind t) k) (begins-take other text first) m.whole))
+            (f.shorter (length other) k below (subst (λ t. IsMarked marks kind t k) (begins-take other text first) m))
         | inr same ↦
             more (begins-self text other (begins-take other text first ∙ (ap (λ n. take n text) same ∙ take_all (length text) text (omega arith))))
       ]
@@ -247,9 +260,10 @@ found-end marks kind text other count mark start k near f end m h =
 
 -- ## What a name is marked by
 
-pub keeps-all : (marks more : Marks) → HasAll marks.wholes more.wholes → HasAll marks.starts more.starts → KeepsMarks marks more
-keeps-all marks more wholes starts kind text k m = record {
+pub keeps-all : (marks more : Marks) → more.shortest ≤ marks.shortest → HasAll marks.wholes more.wholes → HasAll marks.starts more.starts → KeepsMarks marks more
+keeps-all marks more low wholes starts kind text k m = record {
   small = m.small;
+  long = let long : marks.shortest ≤ length text = m.long in omega arith;
   whole = wholes (mark_of kind text) k m.whole;
   starts = λ count h kept. starts (mark_of kind (take count text)) k (m.starts count h kept);
 }
@@ -257,14 +271,16 @@ keeps-all marks more wholes starts kind text k m = record {
 -- the marks of a name that are kept so far
 pub record Marking (old marks : Marks) (kind : SecKind) (text : List ℕ) (k count mark : ℕ) : Type 0 where
   pub mark_is : mark ≡ mark_of kind (take count text)
+  pub shortest : marks.shortest ≡ min old.shortest (length text)
   pub wholes : HasAll old.wholes marks.wholes
   pub keeps : HasAll old.starts marks.starts
   pub starts : (at : ℕ) → at ≤ count → is_kept_length at ≡ true → Has marks.starts (mark_of kind (take at text)) k
 
-pub enter-first : (old marks : Marks) (kind : SecKind) (text : List ℕ) (k mark : ℕ) → mark ≡ first_mark kind → HasAll old.wholes marks.wholes
-    → HasAll old.starts marks.starts → (is_kept_length 0 ≡ true → Has marks.starts mark k) → Marking old marks kind text k 0 mark
-enter-first old marks kind text k mark is wholes keeps has = record {
+pub enter-first : (old marks : Marks) (kind : SecKind) (text : List ℕ) (k mark : ℕ) → mark ≡ first_mark kind → marks.shortest ≡ min old.shortest (length text)
+    → HasAll old.wholes marks.wholes → HasAll old.starts marks.starts → (is_kept_length 0 ≡ true → Has marks.starts mark k) → Marking old marks kind text k 0 mark
+enter-first old marks kind text k mark is shortest wholes keeps has = record {
   mark_is = is;
+  shortest = shortest;
   wholes = wholes;
   keeps = keeps;
   starts = λ at h kept.
@@ -286,22 +302,28 @@ starts-more marks more kind text k count mark grows starts has at h kept = elim 
 ]
 
 pub enter-more : (old marks more : Marks) (kind : SecKind) (text : List ℕ) (k count mark new d : ℕ) → Marking old marks kind text k count mark
-    → count < length text → new ≡ next_mark mark (get_or text count d) → HasAll marks.wholes more.wholes → HasAll marks.starts more.starts
-    → (is_kept_length (count + 1) ≡ true → Has more.starts new k) → Marking old more kind text k (count + 1) new
-enter-more old marks more kind text k count mark new d e h byte wholes grows has =
+    → count < length text → new ≡ next_mark mark (get_or text count d) → more.shortest ≡ marks.shortest
+    → HasAll marks.wholes more.wholes → HasAll marks.starts more.starts → (is_kept_length (count + 1) ≡ true → Has more.starts new k) → Marking old more kind text k (count + 1) new
+enter-more old marks more kind text k count mark new d e h byte shortest wholes grows has =
     let is : new ≡ mark_of kind (take (count + 1) text) =
     byte ∙ (ap (λ m. next_mark m (get_or text count d)) e.mark_is ∙ sym (mark-more (first_mark kind) text count d h)) in
     record {
       mark_is = is;
+      shortest = shortest ∙ e.shortest;
       wholes = λ m j h. wholes m j (e.wholes m j h);
       keeps = λ m j h. grows m j (e.keeps m j h);
       starts = starts-more marks more kind text k count mark grows e.starts (λ kept. subst (λ m. Has more.starts m k) is (has kept));
     }
 
-pub enter-last : (old marks more : Marks) (kind : SecKind) (text : List ℕ) (k count mark : ℕ) → k < 2 ^ 64 → Marking old marks kind text k count mark
+pub enter-last : (old marks more : Marks) (kind : SecKind) (text : List ℕ) (k count mark : ℕ) → k < 2 ^ 64 → more.shortest ≤ length text → Marking old marks kind text k count mark
     → length text ≤ count → HasAll marks.starts more.starts → Has more.wholes mark k → IsMarked more kind text k
-enter-last old marks more kind text k count mark small e end grows has = record {
+enter-last old marks more kind text k count mark small long e end grows has = record {
   small = small;
+  long = long;
   whole = subst (λ m. Has more.wholes m k) (e.mark_is ∙ ap (mark_of kind) (take_all count text end)) has;
   starts = λ at h kept. grows (mark_of kind (take at text)) k (e.starts at (omega arith) kept);
 }
+
+-- the lesser of two is no more than the first
+pub no-more : (old new size : ℕ) → new ≡ min old size → new ≤ old
+no-more old new size e = omega (arith, e)

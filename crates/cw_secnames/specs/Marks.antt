@@ -52,12 +52,17 @@ HasAll set more = (mark k : ℕ) → Has set mark k → Has more mark k
 abbrev pub positions_at : ℕ → BTreeSet (ℕ × ℕ) → List ℕ
 positions_at mark set = map (λ pair. pair.1) (keys_between pair_cmp (Included (mark, 0)) (Included (mark, 2 ^ 64 - 1)) set)
 
+-- those of whole texts of so many bytes, where some name is as short
+abbrev pub wholes_at : Marks → ℕ → ℕ → List ℕ
+wholes_at marks count mark = elim (nat_lt count marks.shortest) [ true ↦ [] | false ↦ positions_at mark marks.wholes ]
+
 abbrev pub is_in : ℕ → List ℕ → Bool
 is_in k positions = list_any (λ other. other == k) positions
 
 -- A name of this kind and text is found by its marks.
 pub record IsMarked (marks : Marks) (kind : SecKind) (text : List ℕ) (k : ℕ) : Type 0 where
   pub small : k < 2 ^ 64
+  pub long : marks.shortest ≤ length text
   pub whole : Has marks.wholes (mark_of kind text) k
   pub starts : (count : ℕ) → count ≤ length text → is_kept_length count ≡ true → Has marks.starts (mark_of kind (take count text)) k
 

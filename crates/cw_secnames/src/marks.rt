@@ -12,6 +12,7 @@ ghost use Rattle.cw_secnames.specs.Marks.{
   last_kept,
   next_mark,
   positions_at,
+  wholes_at,
 };
 
 use crate::SecKind;
@@ -30,6 +31,8 @@ pub(crate) struct Marks {
     wholes: BTreeSet<(u64, usize)>,
     // The marks of what each name's text begins with.
     starts: BTreeSet<(u64, usize)>,
+    // No name's text has fewer bytes.
+    shortest: usize,
     alloc: Global,
 }
 
@@ -117,6 +120,7 @@ impl Marks {
         Marks {
             wholes: BTreeSet::new(alloc),
             starts: BTreeSet::new(alloc),
+            shortest: usize::MAX,
             alloc,
         }
     }
@@ -126,6 +130,7 @@ impl Marks {
         ensures keeps { KeepsMarks self.old self.new }
         ensures ok { OnOk result (IsMarked self.new kind text.now index) }
     {
+        self.shortest = self.shortest.min(text.len());
         let mut mark = first_mark(kind);
         put_start(&mut self.starts, 0, mark, index)?;
         for count in 0..text.len() {
@@ -134,6 +139,17 @@ impl Marks {
         }
         put(&mut self.wholes, mark, index)?;
         Ok(())
+    }
+
+    // Adds the positions of names whose text has so many bytes and this mark behind others. Nothing is looked for where
+    // all names are longer.
+    fn add_wholes(&self, positions: &mut Vec<usize>, count: usize, mark: u64) -> Result<(), Memory>
+        ensures { OnOk result (positions.new.items ≡ positions.old.items ++ wholes_at self.now count mark) }
+    {
+        if count < self.shortest {
+            return Ok(());
+        }
+        add_marked(positions, &self.wholes, mark)
     }
 
     // The positions of the names of a kind that begin a text or that it begins, and maybe others.
@@ -145,7 +161,7 @@ impl Marks {
         let mut mark = first_mark(kind);
         let mut start = mark;
         for count in 0..text.len() {
-            add_marked(&mut near, &self.wholes, mark)?;
+            self.add_wholes(&mut near, count, mark)?;
             mark = next_mark(mark, text[count]);
             start = last_kept(count + 1, mark, start);
         }

@@ -1,4 +1,5 @@
 use Rattle.std.proofs.Common.{◌∷◌, slice_index, ap, sym, ◌∙◌, arith}
+use Rattle.cw_lex.specs.Short.{is_alone}
 use Rattle.cw_lex.specs.Signs.{all_signs, longest}
 use Rattle.cw_lex.proofs.ShortTokens.{sign-short}
 use Rattle.cw_lex.proofs.short.sign.Goals as goal
@@ -8,7 +9,7 @@ returns-in-Some c =
     let s = c.args.state.now in
     let text = c.args.text.now in
     sign-short text s.part s.comments s.at c.size.result c.in-Some.sign c.requires.code c.requires.place c.requires.letter c.requires.digit
-    (sym c.is_lone.ensures ∙ c.if-not-is_lone.false)
-    (ap (λ bytes. longest all_signs (slice_index text s.at ∷ bytes)) (sym c.from.ensures.value) ∙ sym c.in-Some.ensures.value)
+    (ap (is_alone (slice_index text s.at)) (sym c.from-rest.ensures.value) ∙ (sym c.is_alone.ensures ∙ c.if-not-is_alone.false))
+    (ap (λ bytes. longest all_signs (slice_index text s.at ∷ bytes)) (sym c.from-rest.ensures.value) ∙ sym c.in-Some.ensures.value)
     c.size.ensures.some c.size.ensures.value
-    (omega (arith, c.in-Some.ensures.within, c.size.ensures.value, c.from.ensures.length))
+    (omega (arith, c.in-Some.ensures.within, c.size.ensures.value, c.from-rest.ensures.length))
