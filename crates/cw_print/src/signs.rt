@@ -6,6 +6,7 @@ use cw_base::{Bytes, Memory};
 use cw_lex::Sign;
 
 /// What a sign prints: a macro, or itself.
+#[inline(always)]
 pub fn sign_macro(sign: Sign) -> &'static [u8]
     ensures { result.now ≡ sign_macro sign }
 {
