@@ -8,7 +8,7 @@ use std::marker::Model;
 
 /// How many braces are open in each comment that is open: the innermost comment first.
 #[derive(Drop)]
-pub struct OpenBraces {
+pub(crate) struct OpenBraces {
     // The innermost comment last.
     counts: Vec<usize>,
 }
@@ -23,7 +23,7 @@ impl Model for OpenBraces {
 
 impl OpenBraces {
     /// No comment is open.
-    pub fn new_in(alloc: Global) -> OpenBraces
+    pub(crate) fn new_in(alloc: Global) -> OpenBraces
         ensures { result ≡ [] }
     {
         OpenBraces {
@@ -32,7 +32,7 @@ impl OpenBraces {
     }
 
     /// How many braces are open in the innermost comment; none outside comments.
-    pub fn innermost(&self) -> usize
+    pub(crate) fn innermost(&self) -> usize
         ensures { result ≡ innermost self.now }
     {
         match self.counts.last() {
@@ -42,7 +42,7 @@ impl OpenBraces {
     }
 
     /// A comment begins.
-    pub fn begin(&mut self) -> Result<(), Memory>
+    pub(crate) fn begin(&mut self) -> Result<(), Memory>
         ensures { OnOk result (self.new ≡ 0 ∷ self.old) }
     {
         self.counts.push(0)?;
@@ -50,14 +50,14 @@ impl OpenBraces {
     }
 
     /// The innermost comment ends.
-    pub fn end(&mut self)
+    pub(crate) fn end(&mut self)
         ensures { self.new ≡ others self.old }
     {
         self.counts.pop();
     }
 
     /// So many braces are now open in the innermost comment.
-    pub fn set_innermost(&mut self, count: usize) -> Result<(), Memory>
+    pub(crate) fn set_innermost(&mut self, count: usize) -> Result<(), Memory>
         ensures { OnOk result (self.new ≡ count ∷ others self.old) }
     {
         self.counts.pop();

@@ -106,7 +106,7 @@ fn put_pair(out: &mut Bytes, first: u8, second: u8) -> Result<(), Memory>
 }
 
 /// Appends a piece of a comment's text in which so many braces are open, and answers how many are open behind it.
-pub fn put_piece(out: &mut Bytes, text: &[u8], braces: usize) -> Result<usize, Memory>
+pub(crate) fn put_piece(out: &mut Bytes, text: &[u8], braces: usize) -> Result<usize, Memory>
     ensures bytes { OnOk result (out.new ≡ out.old ++ (piece text.now braces).bytes) }
     ensures braces { IfOk result (λ after. after ≡ (piece text.now braces).braces) }
 {
@@ -128,7 +128,7 @@ pub fn put_piece(out: &mut Bytes, text: &[u8], braces: usize) -> Result<usize, M
 }
 
 /// Appends the braces that a comment lacks at its end, and the one that ends it.
-pub fn put_closing_braces(out: &mut Bytes, braces: usize) -> Result<(), Memory>
+pub(crate) fn put_closing_braces(out: &mut Bytes, braces: usize) -> Result<(), Memory>
     ensures { OnOk result (out.new ≡ out.old ++ closing_braces braces) }
 {
     let mut open = braces;

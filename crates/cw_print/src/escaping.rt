@@ -24,7 +24,7 @@ pub(crate) fn put_escaped_byte(out: &mut Bytes, byte: u8) -> Result<(), Memory>
 }
 
 /// Appends a text with a backslash before each byte that TeX would take for its own.
-pub fn put_escaped(out: &mut Bytes, text: &[u8]) -> Result<(), Memory>
+pub(crate) fn put_escaped(out: &mut Bytes, text: &[u8]) -> Result<(), Memory>
     ensures { OnOk result (out.new ≡ out.old ++ escaped text.now) }
 {
     for byte in text {

@@ -16,16 +16,7 @@ mod title;
 mod tokens;
 mod walk;
 
-pub use braces::OpenBraces;
-pub use comments::{put_closing_braces, put_piece};
-pub use escaping::put_escaped;
-pub use name_walk::NameWalk;
 pub use printing::print_list;
-pub use scan::Scan;
-pub use showing::put_found;
-pub use title::{SectionTitle, put_section_number};
-pub use tokens::put_token;
-pub use walk::{Manner, TextWalk};
 
 #[cfg(test)]
 mod tests;

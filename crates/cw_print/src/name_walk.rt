@@ -16,7 +16,7 @@ use std::marker::Model;
 /// Where the printing stands in a section name. It is seen as the answers of the inner text at hand, and the pieces that
 /// are still to come.
 #[derive(Drop)]
-pub struct NameWalk<'a> {
+pub(crate) struct NameWalk<'a> {
     text: &'a [u8],
     // Where the text goes on, if more of it is to come.
     rest: Option<usize>,
@@ -39,7 +39,7 @@ impl<'a> Model for NameWalk<'a> {
 
 impl<'a> NameWalk<'a> {
     /// Appends what a name prints before its text, and its text up to its first inner text or to its end.
-    pub fn begin(out: &mut Bytes, title: &SectionTitle<'a>) -> Result<NameWalk<'a>, Memory>
+    pub(crate) fn begin(out: &mut Bytes, title: &SectionTitle<'a>) -> Result<NameWalk<'a>, Memory>
         ensures bytes { OnOk result (out.new ≡ out.old ++ (front (title_of title.now) ++ next_bytes (name_pieces (title_of title.now)))) }
         ensures behind { IfOk result (λ walk. walk ≡ behind_next (name_pieces (title_of title.now))) }
     {
@@ -64,7 +64,7 @@ impl<'a> NameWalk<'a> {
     }
 
     /// Appends the next piece of the name's text.
-    pub fn next(&mut self, out: &mut Bytes) -> Result<(), Memory>
+    pub(crate) fn next(&mut self, out: &mut Bytes) -> Result<(), Memory>
         ensures bytes { OnOk result (out.new ≡ out.old ++ next_bytes self.old.pieces) }
         ensures behind { OnOk result (self.new ≡ behind_next self.old.pieces) }
     {
@@ -88,7 +88,7 @@ impl<'a> NameWalk<'a> {
     }
 
     /// The token that has this number in the inner text at hand, if there is one.
-    pub fn find(&mut self, number: u32) -> Option<Tok<'a>>
+    pub(crate) fn find(&mut self, number: u32) -> Option<Tok<'a>>
         ensures found { option_map seen result ≡ numbered number self.old.answers }
         ensures same { self.new ≡ self.old }
     {

@@ -1,8 +1,8 @@
 //! The printing of a C text from its translation.
-ghost use Rattle.std.specs.Prelude.{◌≡◌, ◌&&◌, ℕ, ◌≤◌, ◌<◌, ◌++◌, Bool, List, [], ◌∷◌, IfOk, OnOk, false, length};
+ghost use Rattle.std.specs.Prelude.{◌≡◌, ◌&&◌, ◌≤◌, ◌<◌, ◌++◌, Bool, List, [], ◌∷◌, IfOk, OnOk, false, length};
 ghost use Rattle.cw_lex.specs.Lexing.{tokens_of};
 ghost use Rattle.cw_lex.specs.Nested.{begins_section_in};
-ghost use Rattle.cw_trees.specs.Flat.{Item, flat, trimmed};
+ghost use Rattle.cw_trees.specs.Flat.{Item};
 ghost use Rattle.cw_trees.specs.Printing.{printed};
 ghost use Rattle.cw_tokens.specs.FlatItems.{item_is, items_are};
 ghost use Rattle.cw_tokens.specs.Shapes.{unfolded};

@@ -13,7 +13,7 @@ use std::marker::Model;
 /// numbers rise each is found a little ahead, and for a number that does not lie ahead the scan begins anew. A section
 /// code ends it.
 #[derive(Drop)]
-pub struct Scan<'a> {
+pub(crate) struct Scan<'a> {
     text: &'a [u8],
     span: Span,
     mode: Mode,
@@ -39,7 +39,7 @@ impl<'a> Model for Scan<'a> {
 
 impl<'a> Scan<'a> {
     /// A scan of this span of a text, up to a section code in it.
-    pub fn over(text: &'a [u8], span: Span, mode: Mode) -> Scan<'a>
+    pub(crate) fn over(text: &'a [u8], span: Span, mode: Mode) -> Scan<'a>
         requires order { span.start ≤ span.end }
         requires within { span.end ≤ length text.now }
         ensures { result ≡ until_section (tokens_of text.now span.start span.end mode) }
@@ -55,7 +55,7 @@ impl<'a> Scan<'a> {
 
     /// The token that has this number, if there is one.
     #[inline(always)]
-    pub fn find(&mut self, number: u32) -> Option<Tok<'a>>
+    pub(crate) fn find(&mut self, number: u32) -> Option<Tok<'a>>
         ensures found { option_map seen result ≡ numbered number self.old }
         ensures same { self.new ≡ self.old }
     {

@@ -49,7 +49,7 @@ fn put_shown(
 /// Appends what a token prints where these braces are open, and counts those that it opens and closes. `first` says that
 /// the present section is the first that defines its name. A number without a token prints nothing.
 #[inline(always)]
-pub fn put_found(
+pub(crate) fn put_found(
     out: &mut Bytes,
     first: bool,
     token: Option<Tok>,

@@ -7,7 +7,7 @@ use cw_lex::Sign;
 
 /// What a sign prints: a macro, or itself.
 #[inline(always)]
-pub fn sign_macro(sign: Sign) -> &'static [u8]
+pub(crate) fn sign_macro(sign: Sign) -> &'static [u8]
     ensures { result.now ≡ sign_macro sign }
 {
     match sign {

@@ -1,5 +1,7 @@
-//! A worked text, shown item by item.
-use crate::{Manner, TextWalk, put_escaped, put_token};
+//! Worked texts, shown item by item.
+use crate::escaping::put_escaped;
+use crate::tokens::put_token;
+use crate::walk::{Manner, TextWalk};
 use cw_base::{Bytes, Memory, Place, Span, Web};
 use cw_lex::{Mode, TokKind};
 use cw_phase1::{Book, phase_one};
@@ -13,6 +15,10 @@ const CODE: &[u8] = b"@ @c 0x1f \"a b\" /* {x */  @<A |1| b@>;";
 
 const NAMED: &[u8] = b"@ @<A |1| b@>=";
 
+const TWICE: &[u8] = b"@ @c @<A |1| b |2| c@>;";
+
+const TWICE_NAMED: &[u8] = b"@ @<A |1| b |2| c@>=";
+
 // One line more, where the web has room for it.
 fn add(web: &mut Web, line: &[u8], changed: bool) -> Result<(), Memory> {
     if web.file_count() == 0 || web.text().len() + line.len() >= 16_777_216 {
@@ -25,11 +31,11 @@ fn add(web: &mut Web, line: &[u8], changed: bool) -> Result<(), Memory> {
 }
 
 /// The book of a web whose second section is changed and defines the name that the first one uses.
-fn book_of(alloc: Global) -> Result<Book, Memory> {
+fn book_of(alloc: Global, using: &[u8], defining: &[u8]) -> Result<Book, Memory> {
     let mut web = Web::new_in(alloc);
     web.add_file(b"foo.w")?;
-    add(&mut web, CODE, false)?;
-    add(&mut web, NAMED, true)?;
+    add(&mut web, using, false)?;
+    add(&mut web, defining, true)?;
     phase_one(alloc, &web)
 }
 
@@ -54,7 +60,7 @@ fn show_name<'a>(walk: &mut TextWalk<'a>, out: &mut Bytes, book: &'a Book) -> Re
 #[test]
 fn a_text_with_a_comment_and_a_name(rt: HostRuntime) -> Result<(), Fail> {
     let alloc = rt.alloc();
-    let book = book_of(alloc)?;
+    let book = book_of(alloc, CODE, NAMED)?;
     let span = Span { start: 5, end: 38 };
     let manner = Manner {
         wraps: true,
@@ -69,6 +75,67 @@ fn a_text_with_a_comment_and_a_name(rt: HostRuntime) -> Result<(), Fail> {
     let wanted: &[u8] =
         b"\\T{\\^1f}\\.{\"a\\ b\"}\\C{ {x }}\\X2\\*:A \\PB{\\T{1}} b\\X;\\.{\"a\\ b\"}";
     assert_eq!(rt; out.as_slice(), wanted);
+    Ok(())
+}
+
+fn show_twice<'a>(walk: &mut TextWalk<'a>, out: &mut Bytes, book: &'a Book) -> Result<(), Memory> {
+    walk.show(out, FlatItem::Source(5), book)?;
+    walk.show(out, FlatItem::Open, book)?;
+    walk.show(out, FlatItem::Source(3), book)?;
+    walk.show(out, FlatItem::Close, book)?;
+    walk.show(out, FlatItem::Control(Control::NameText), book)?;
+    walk.show(out, FlatItem::Open, book)?;
+    walk.show(out, FlatItem::Source(9), book)?;
+    walk.show(out, FlatItem::Close, book)?;
+    walk.show(out, FlatItem::Control(Control::NameText), book)?;
+    walk.show(out, FlatItem::Control(Control::NameEnd), book)
+}
+
+#[test]
+fn a_name_with_two_inner_texts(rt: HostRuntime) -> Result<(), Fail> {
+    let alloc = rt.alloc();
+    let book = book_of(alloc, TWICE, TWICE_NAMED)?;
+    let span = Span { start: 5, end: 23 };
+    let manner = Manner {
+        wraps: true,
+        first: true,
+    };
+    let mut walk = TextWalk::over(alloc, TWICE, span, Mode::Inner, manner);
+    let mut out = Bytes::new_in(alloc);
+    show_twice(&mut walk, &mut out, &book)?;
+    let wanted: &[u8] = b"\\X2\\*:A \\PB{\\T{1}} b \\PB{\\T{2}} c\\X";
+    assert_eq!(rt; out.as_slice(), wanted);
+    Ok(())
+}
+
+// What the tokens of a definition print at these places.
+fn head_of(alloc: Global, text: &[u8], places: &[u32]) -> Result<Bytes, Memory> {
+    let book = book_of(alloc, CODE, NAMED)?;
+    let span = Span {
+        start: 0,
+        end: text.len(),
+    };
+    let manner = Manner {
+        wraps: false,
+        first: true,
+    };
+    let mut walk = TextWalk::over(alloc, text, span, Mode::Definition, manner);
+    let mut out = Bytes::new_in(alloc);
+    for place in places {
+        walk.show(&mut out, FlatItem::Source(*place), &book)?;
+    }
+    Ok(out)
+}
+
+#[test]
+fn heads_of_definitions(rt: HostRuntime) -> Result<(), Fail> {
+    let alloc = rt.alloc();
+    let define = head_of(alloc, b"@d f(a,b) a+b", &[0, 4, 6, 8, 11])?;
+    let wanted: &[u8] = b"\\D(,)+";
+    assert_eq!(rt; define.as_slice(), wanted);
+    let format = head_of(alloc, b"@f x int", &[0, 3, 5])?;
+    let wanted: &[u8] = b"\\F";
+    assert_eq!(rt; format.as_slice(), wanted);
     Ok(())
 }
 

@@ -8,7 +8,7 @@ use itoa::Buffer;
 
 /// A section name as it is printed.
 #[derive(Clone, Copy)]
-pub struct SectionTitle<'a> {
+pub(crate) struct SectionTitle<'a> {
     /// The name's text, as it is kept.
     pub text: &'a [u8],
     /// Whether it is the name of a file.
@@ -20,7 +20,11 @@ pub struct SectionTitle<'a> {
 }
 
 /// Appends a section number, with `\*` behind that of a changed section.
-pub fn put_section_number(out: &mut Bytes, number: u32, is_changed: bool) -> Result<(), Memory>
+pub(crate) fn put_section_number(
+    out: &mut Bytes,
+    number: u32,
+    is_changed: bool,
+) -> Result<(), Memory>
     ensures { OnOk result (out.new ≡ out.old ++ section_number number is_changed) }
 {
     out.append(Buffer::new().format(number).as_bytes())?;

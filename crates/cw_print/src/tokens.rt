@@ -46,7 +46,7 @@ fn put_code(out: &mut Bytes, code: Code, text: &[u8]) -> Result<(), Memory>
 
 /// Appends what a token prints that is known from its kind and its bytes alone. Pieces of comments, section names and
 /// the signs behind them print by where they stand, and nothing here.
-pub fn put_token(out: &mut Bytes, kind: TokKind, text: &[u8]) -> Result<(), Memory>
+pub(crate) fn put_token(out: &mut Bytes, kind: TokKind, text: &[u8]) -> Result<(), Memory>
     ensures { OnOk result (out.new ≡ out.old ++ token_bytes kind text.now) }
 {
     match kind {

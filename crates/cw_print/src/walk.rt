@@ -1,5 +1,5 @@
 //! The walk over the items of a C text, which makes the bytes that they print by where they stand.
-ghost use Rattle.std.specs.Prelude.{◌≡◌, ◌≤◌, ◌++◌, [], None, OnOk, length, option_map};
+ghost use Rattle.std.specs.Prelude.{◌≡◌, ◌≤◌, ◌++◌, None, OnOk, length, option_map};
 ghost use Rattle.cw_lex.specs.Answers.{seen};
 ghost use Rattle.cw_lex.specs.Lexing.{tokens_of};
 ghost use Rattle.cw_lex.specs.Nested.{until_section};
@@ -24,7 +24,7 @@ use std::marker::Model;
 
 /// How a C text is printed.
 #[derive(Clone, Copy, PartialEq, Eq, Debug)]
-pub struct Manner {
+pub(crate) struct Manner {
     /// Inner texts stand in `\PB{` and `}`.
     pub wraps: bool,
     /// The present section is the first that defines its name.
@@ -34,7 +34,7 @@ pub struct Manner {
 /// A walk over the items of a C text in their order: where the printing stands in section names and in comments, and a
 /// second scan of the text.
 #[derive(Drop)]
-pub struct TextWalk<'a> {
+pub(crate) struct TextWalk<'a> {
     scan: Scan<'a>,
     name: Option<NameWalk<'a>>,
     braces: OpenBraces,
@@ -54,7 +54,7 @@ impl<'a> Model for TextWalk<'a> {
 
 impl<'a> TextWalk<'a> {
     /// A walk that stands before the first item of this span.
-    pub fn over(
+    pub(crate) fn over(
         alloc: Global,
         text: &'a [u8],
         span: Span,
@@ -79,9 +79,15 @@ impl<'a> TextWalk<'a> {
     /// Appends what the next item prints by where it stands; names, and signs that print the same everywhere, print
     /// nothing here. A section name prints as the book keeps it.
     #[inline(always)]
-    pub fn show(&mut self, out: &mut Bytes, item: FlatItem, book: &'a Book) -> Result<(), Memory>
+    pub(crate) fn show(
+        &mut self,
+        out: &mut Bytes,
+        item: FlatItem,
+        book: &'a Book,
+    ) -> Result<(), Memory>
         ensures bytes { OnOk result (out.new ≡ out.old
-            ++ (placed_shown self.old.fixed (title_in (titles book.now) (item_is item)) (item_is item) self.old.stand).bytes) }
+            ++ (placed_shown self.old.fixed (title_in (titles book.now) (item_is item)) (item_is item)
+            self.old.stand).bytes) }
         ensures stand { OnOk result (self.new ≡ behind self.old
             (placed_shown self.old.fixed (title_in (titles book.now) (item_is item)) (item_is item) self.old.stand)) }
     {

@@ -1,4 +1,4 @@
-ghost use Rattle.std.specs.Prelude.{◌≡◌, ℕ, ◌+◌, ◌-◌, ◌<◌, ◌≤◌, List, ◌++◌, [], length, get_or, IfOk, OnOk, Some, IsTrue, ◌↔◌, slice_get};
+ghost use Rattle.std.specs.Prelude.{◌≡◌, ◌+◌, ◌-◌, ◌<◌, ◌≤◌, List, ◌++◌, length, IfOk, OnOk, Some, IsTrue, ◌↔◌, slice_get};
 ghost use Rattle.cw_trees.specs.Flat.{Item, flat, trimmed};
 ghost use Rattle.cw_tokens.specs.Shapes.{shape, unfolded};
 ghost use Rattle.cw_tokens.specs.Stored.{cut, last_end, IsAscending, IsLinked};
@@ -197,7 +197,8 @@ pub fn flatten_trimmed(
 
 /// The same as `close` where the items are trimmed.
 fn close_trimmed(token: Token, out: &mut Trimmer) -> Result<(), Memory>
-    ensures { OnOk result ((given : List Item) → StandsFor out.old given → StandsFor out.new (given ++ closing (shape token))) }
+    ensures { OnOk result ((given : List Item) → StandsFor out.old given
+        → StandsFor out.new (given ++ closing (shape token))) }
 {
     match token {
         Token::Inner(_) => out.push(FlatItem::Close),

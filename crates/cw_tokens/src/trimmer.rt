@@ -1,6 +1,6 @@
 //! The trimming of items as they come: each is kept, left out, or waits in the gap at the end.
-ghost use Rattle.std.specs.Prelude.{◌≡◌, ◌&&◌, ◌||◌, ℕ, List, [], ◌∷◌, ◌++◌, ◌≤◌, length, take, drop, true, IfOk, OnOk};
-ghost use Rattle.cw_trees.specs.Flat.{Item, begins_after, trimmed};
+ghost use Rattle.std.specs.Prelude.{◌≡◌, List, [], ◌∷◌, ◌++◌, ◌≤◌, length, take, drop, true, IfOk, OnOk};
+ghost use Rattle.cw_trees.specs.Flat.{Item, trimmed};
 ghost use Rattle.cw_tokens.specs.FlatItems.{item_is, items_are};
 ghost use Rattle.cw_tokens.specs.Trimming.{StandsFor, gap_before, unbroken};
 
