@@ -1,4 +1,5 @@
 pub mod Stretches
+pub mod Appending
 pub mod Early
 pub mod Runs
 pub mod Tokens

@@ -1,7 +1,8 @@
 //! The joining of items behind bytes in memory, which go to a line together.
-ghost use Rattle.std.specs.Prelude.{◌≡◌, ◌∷◌, ◌++◌, [], List, OnOk, length};
+ghost use Rattle.std.specs.Prelude.{◌≡◌, ◌∷◌, ◌++◌, [], List, OnOk, OnErr, length};
 ghost use Rattle.cw_trees.specs.Printing.{Printable, opened};
 ghost use Rattle.cw_tokens.specs.FlatItems.{item_is};
+ghost use Rattle.cw_join.specs.Appending.{StaysBefore};
 ghost use Rattle.cw_join.specs.Early.{added, late, run_front};
 ghost use Rattle.cw_join.specs.Runs.{run_more, run_state, state_back, state_of};
 ghost use Rattle.cw_join.specs.Standing.{Stands};
@@ -20,7 +21,7 @@ use cw_trees::Control;
 
 impl Joiner {
     /// Appends what `push` would put of an item whose given bytes are none: those go behind it. After an `Err` the
-    /// joiner is not to be used again.
+    /// joiner is not to be used again, and what stood in `out` stands there, maybe with some of the item's bytes behind.
     #[inline(always)]
     pub fn append(&mut self, item: FlatItem, names: &Names, out: &mut Bytes) -> Result<(), Memory>
         requires come { CanCome (length names.now) self.old.depth item }
@@ -29,6 +30,7 @@ impl Joiner {
         ensures stands { (ps : List Printable) (p : Printable) → Stands self.old ps → p.item ≡ item_is item
             → OnOk result (Stands self.new (ps ++ p ∷ [])) }
         ensures inner { OnOk result (self.new.inner ≡ self.old.inner) }
+        ensures stays { OnErr result (StaysBefore out.old out.new) }
     {
         match run_control(item) {
             Some(control) => self.append_control(control, out),
@@ -43,6 +45,7 @@ impl Joiner {
             → OnOk result (out.new ≡ out.old ++ late self.old.inner ps) }
         ensures stands { OnOk result (Stands self.new []) }
         ensures inner { OnOk result (self.new.inner ≡ self.old.inner) }
+        ensures stays { OnErr result (StaysBefore out.old out.new) }
     {
         append_run(self.run, self.is_inner(), out)?;
         self.run = Run::new();
@@ -55,6 +58,7 @@ impl Joiner {
         ensures bytes { OnOk result (out.new
             ≡ out.old ++ run_front (is_inner self.old.inner self.old.depth) (control ∷ [])) }
         ensures state { OnOk result (self.new ≡ record self.old { run = run_more self.old.run control }) }
+        ensures stays { OnErr result (StaysBefore out.old out.new) }
     {
         if !self.is_inner() {
             append_some(indent(control), out)?;
@@ -73,6 +77,7 @@ impl Joiner {
           depth = opened self.old.depth (item_is item);
           run = run_state [];
         }) }
+        ensures stays { OnErr result (StaysBefore out.old out.new) }
     {
         if !self.run.is_empty() {
             append_run(self.run, self.is_inner(), out)?;
@@ -87,7 +92,8 @@ impl Joiner {
 // Appends what a run prints when it has ended.
 #[inline(always)]
 fn append_run(run: Run, inner: bool, out: &mut Bytes) -> Result<(), Memory>
-    ensures { OnOk result (out.new ≡ out.old ++ state_back inner (state_of run)) }
+    ensures bytes { OnOk result (out.new ≡ out.old ++ state_back inner (state_of run)) }
+    ensures stays { OnErr result (StaysBefore out.old out.new) }
 {
     append_some(run.pause(inner), out)?;
     append_some(step(run.backs(inner)), out)
@@ -96,7 +102,8 @@ fn append_run(run: Run, inner: bool, out: &mut Bytes) -> Result<(), Memory>
 // Appends bytes, if there are any.
 #[inline(always)]
 fn append_some(bytes: &[u8], out: &mut Bytes) -> Result<(), Memory>
-    ensures { OnOk result (out.new ≡ out.old ++ bytes.now) }
+    ensures bytes { OnOk result (out.new ≡ out.old ++ bytes.now) }
+    ensures stays { OnErr result (StaysBefore out.old out.new) }
 {
     if bytes.is_empty() {
         return Ok(());
@@ -108,7 +115,8 @@ fn append_some(bytes: &[u8], out: &mut Bytes) -> Result<(), Memory>
 #[inline(always)]
 fn append_item(item: FlatItem, names: &Names, out: &mut Bytes) -> Result<(), Memory>
     requires named { IsNamed (length names.now) item }
-    ensures { OnOk result (out.new ≡ out.old ++ item_bytes names.now item []) }
+    ensures bytes { OnOk result (out.new ≡ out.old ++ item_bytes names.now item []) }
+    ensures stays { OnErr result (StaysBefore out.old out.new) }
 {
     match item {
         FlatItem::Ident(name, _) => append_ident(text_of(names, name), out),
@@ -121,7 +129,8 @@ fn append_item(item: FlatItem, names: &Names, out: &mut Bytes) -> Result<(), Mem
 // Appends what a control prints that is in no run. Most begin or end a formula.
 #[inline(always)]
 fn append_sign(control: Control, out: &mut Bytes) -> Result<(), Memory>
-    ensures { OnOk result (out.new ≡ out.old ++ control_bytes control []) }
+    ensures bytes { OnOk result (out.new ≡ out.old ++ control_bytes control []) }
+    ensures stays { OnErr result (StaysBefore out.old out.new) }
 {
     match control {
         Control::ToMath => out.append(b"${}"),

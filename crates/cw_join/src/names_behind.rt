@@ -1,6 +1,7 @@
 //! The bytes of names, behind others in memory.
-ghost use Rattle.std.specs.Prelude.{◌≡◌, ◌++◌, OnOk};
+ghost use Rattle.std.specs.Prelude.{◌≡◌, ◌++◌, OnOk, OnErr};
 ghost use Rattle.cw_trees.specs.Printing.{ident_bytes, name_bytes, reserved_bytes};
+ghost use Rattle.cw_join.specs.Appending.{StaysBefore};
 
 use crate::naming::{font, is_marked};
 use cw_base::{Bytes, Memory};
@@ -8,7 +9,8 @@ use cw_base::{Bytes, Memory};
 /// Appends an identifier.
 #[inline(always)]
 pub(crate) fn append_ident(name: &[u8], out: &mut Bytes) -> Result<(), Memory>
-    ensures { OnOk result (out.new ≡ out.old ++ ident_bytes name.now) }
+    ensures bytes { OnOk result (out.new ≡ out.old ++ ident_bytes name.now) }
+    ensures stays { OnErr result (StaysBefore out.old out.new) }
 {
     if name.len() == 1 {
         out.append(b"\\|")?;
@@ -21,7 +23,8 @@ pub(crate) fn append_ident(name: &[u8], out: &mut Bytes) -> Result<(), Memory>
 
 /// Appends a reserved word.
 pub(crate) fn append_reserved(name: &[u8], out: &mut Bytes) -> Result<(), Memory>
-    ensures { OnOk result (out.new ≡ out.old ++ reserved_bytes name.now) }
+    ensures bytes { OnOk result (out.new ≡ out.old ++ reserved_bytes name.now) }
+    ensures stays { OnErr result (StaysBefore out.old out.new) }
 {
     out.append(b"\\&{")?;
     append_name(name, out)?;
@@ -31,7 +34,8 @@ pub(crate) fn append_reserved(name: &[u8], out: &mut Bytes) -> Result<(), Memory
 // Appends the bytes of a name; `_` and `$` have a backslash.
 #[inline(always)]
 fn append_name(name: &[u8], out: &mut Bytes) -> Result<(), Memory>
-    ensures { OnOk result (out.new ≡ out.old ++ name_bytes name.now) }
+    ensures bytes { OnOk result (out.new ≡ out.old ++ name_bytes name.now) }
+    ensures stays { OnErr result (StaysBefore out.old out.new) }
 {
     for byte in name {
         if is_marked(*byte) {

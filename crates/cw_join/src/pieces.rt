@@ -1,6 +1,5 @@
 //! Pieces of bytes that are put to a line.
-ghost use Rattle.std.specs.Prelude.{◌≡◌, ℕ};
-ghost use Rattle.cw_trees.specs.Printing.{sign_bytes};
+ghost use Rattle.std.specs.Prelude.{◌≡◌};
 ghost use Rattle.cw_lines.specs.Writes.{CanWrite, Puts};
 ghost use Rattle.cw_join.specs.Tokens.{control_bytes};
 
