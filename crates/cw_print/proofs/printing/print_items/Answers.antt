@@ -5,15 +5,18 @@ use Rattle.cw_tokens.specs.FlatItems.{items_are}
 use Rattle.cw_lines.specs.WritesLaws.{can-after, puts-bytes, puts-none}
 use Rattle.cw_join.specs.Early.{late}
 use Rattle.cw_print.specs.Printing.{shown, source_of}
-use Rattle.cw_print.proofs.PrintingLaws.{fails-waiting, midway-begun, midway-ended, midway-next, next-comes, puts-all, stops-waiting, waits-more, waits-none}
+use Rattle.cw_print.proofs.PrintingLaws.{fails-waiting, midway-begun, midway-ended, midway-next, next-comes, puts-all, puts-nothing, stops-waiting, waits-more, waits-none}
 use Rattle.cw_print.proofs.printing.print_items.Goals as goal
 use Rattle.cw_print.proofs.printing.print_items.Goals.{then-len-ge-FULL+in_ok-put_all, else-len-ge-FULL}
 
 pub loop-i-init : goal.loop-i-init
 loop-i-init g c = record {
   midway = midway-begun (source_of c.args.c) c.args.inner (items_are c.args.items.now) c.over-printer.result c.over-printer.ensures c.requires.come;
-  waiting = record { done = []; put = puts-none _ _ (tt {0}); all = c.new_in-buffer.ensures };
+  waiting = record { done = []; put = puts-none _ _ (tt {0}); all = c.in_ok-buffer.ensures };
 }
+
+pub returns-in_err-buffer : goal.returns-in_err-buffer
+returns-in_err-buffer g c = puts-nothing _ _ _ c.from_residual.ensures.1
 
 pub print-requires : goal.print-requires
 print-requires g c = record {
@@ -23,7 +26,7 @@ print-requires g c = record {
 
 pub returns-in_err-print : goal.returns-in_err-print
 returns-in_err-print g c =
-    stops-waiting c.args.inner (source_of c.args.c) (items_are c.args.items.now) c.loop-i.i c.loop-i.buffer c.loop-i.invariant.waiting c.from_residual.ensures.1
+    stops-waiting c.args.inner (source_of c.args.c) (items_are c.args.items.now) c.loop-i.i c.loop-i.buffer c.loop-i.invariant.waiting c.from_residual-in_err-print.ensures.1
 
 pub put_all-requires : goal.put_all-requires
 put_all-requires g c = record { can = can-after c.requires.can c.loop-i.invariant.waiting.put }
