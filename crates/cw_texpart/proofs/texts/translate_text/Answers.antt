@@ -5,12 +5,15 @@ use Rattle.cw_texpart.specs.Texts.{lasting}
 use Rattle.cw_texpart.proofs.TextLaws.{Translating, text-bound, text-printed, text-translates, translates-refused}
 use Rattle.cw_texpart.proofs.texts.translate_text.Goals as goal
 
+pub returns-in_err-reserve-clause-translates : goal.returns-in_err-reserve-clause-translates
+returns-in_err-reserve-clause-translates g c = translates-refused _ refl (omega arith) c.from_residual.ensures.1
+
 pub returns-in_err-done-clause-translates : goal.returns-in_err-done-clause-translates
 returns-in_err-done-clause-translates g c =
     translates-refused _ refl
     (text-bound c.args.c (lasting c.args.book.now) c.args.book.now.names (marked_names c.new_in-marks.result) _ _
     (ap (map (λ id. id.index)) c.new_in-marks.ensures) c.in_err-done.ensures.bound)
-    c.from_residual.ensures.1
+    c.from_residual-in_err-done.ensures.1
 
 pub returns-in_err-note_marks-clause-translates : goal.returns-in_err-note_marks-clause-translates
 returns-in_err-note_marks-clause-translates g c =
