@@ -19,6 +19,10 @@ const TWICE: &[u8] = b"@ @c @<A |1| b |2| c@>;";
 
 const TWICE_NAMED: &[u8] = b"@ @<A |1| b |2| c@>=";
 
+const MACRO: &[u8] = b"@d f(a,b) a+b";
+
+const FORMAT: &[u8] = b"@f x int";
+
 // One line more, where the web has room for it.
 fn add(web: &mut Web, line: &[u8], changed: bool) -> Result<(), Memory> {
     if web.file_count() == 0 || web.text().len() + line.len() >= 16_777_216 {
@@ -108,34 +112,46 @@ fn a_name_with_two_inner_texts(rt: HostRuntime) -> Result<(), Fail> {
     Ok(())
 }
 
-// What the tokens of a definition print at these places.
-fn head_of(alloc: Global, text: &[u8], places: &[u32]) -> Result<Bytes, Memory> {
+fn show_macro<'a>(walk: &mut TextWalk<'a>, out: &mut Bytes, book: &'a Book) -> Result<(), Memory> {
+    walk.show(out, FlatItem::Source(0), book)?;
+    walk.show(out, FlatItem::Source(4), book)?;
+    walk.show(out, FlatItem::Source(6), book)?;
+    walk.show(out, FlatItem::Source(8), book)?;
+    walk.show(out, FlatItem::Source(11), book)
+}
+
+#[test]
+fn the_head_of_a_macro(rt: HostRuntime) -> Result<(), Fail> {
+    let alloc = rt.alloc();
     let book = book_of(alloc, CODE, NAMED)?;
-    let span = Span {
-        start: 0,
-        end: text.len(),
-    };
+    let span = Span { start: 0, end: 13 };
     let manner = Manner {
         wraps: false,
         first: true,
     };
-    let mut walk = TextWalk::over(alloc, text, span, Mode::Definition, manner);
+    let mut walk = TextWalk::over(alloc, MACRO, span, Mode::Definition, manner);
     let mut out = Bytes::new_in(alloc);
-    for place in places {
-        walk.show(&mut out, FlatItem::Source(*place), &book)?;
-    }
-    Ok(out)
+    show_macro(&mut walk, &mut out, &book)?;
+    let wanted: &[u8] = b"\\D(,)+";
+    assert_eq!(rt; out.as_slice(), wanted);
+    Ok(())
 }
 
 #[test]
-fn heads_of_definitions(rt: HostRuntime) -> Result<(), Fail> {
+fn the_head_of_a_format_definition(rt: HostRuntime) -> Result<(), Fail> {
     let alloc = rt.alloc();
-    let define = head_of(alloc, b"@d f(a,b) a+b", &[0, 4, 6, 8, 11])?;
-    let wanted: &[u8] = b"\\D(,)+";
-    assert_eq!(rt; define.as_slice(), wanted);
-    let format = head_of(alloc, b"@f x int", &[0, 3, 5])?;
+    let book = book_of(alloc, CODE, NAMED)?;
+    let span = Span { start: 0, end: 8 };
+    let manner = Manner {
+        wraps: false,
+        first: true,
+    };
+    let mut walk = TextWalk::over(alloc, FORMAT, span, Mode::Definition, manner);
+    let mut out = Bytes::new_in(alloc);
+    walk.show(&mut out, FlatItem::Source(0), &book)?;
+    walk.show(&mut out, FlatItem::Source(3), &book)?;
     let wanted: &[u8] = b"\\F";
-    assert_eq!(rt; format.as_slice(), wanted);
+    assert_eq!(rt; out.as_slice(), wanted);
     Ok(())
 }
 
