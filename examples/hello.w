@@ -1,20 +1,30 @@
-% A small web: limbo goes into the TeX file as it stands.
+% What stands before the first section goes into the book as it is.
 \def\title{HELLO}
 
-@ This is the first section of a small literate program. What stands
-here is \TeX\ text, and it is copied line by line. A section begins at
-an at sign that is followed by a blank; to print the sign itself, double
-it: \.{@@}.
+@* Hello. This program greets everybody whom its command line names.
+Without names |argc==1|, and then it greets the world.
 
-@ The second section has two paragraphs.
+@d WORLD "world"
+@c
+#include <stdio.h>
+@<Functions@>@;
 
-An empty line stays an empty line, so \TeX\ ends the paragraph there.
+int main(int argc,char *argv[])
+{
+  int i; /* |argv[i]| is greeted next */
+  if (argc==1)
+    greet(WORLD);
+  for (i=1; i<argc; i++)
+    greet(argv[i]);
+  return 0;
+}
 
-@* A group of sections. A starred section begins a group, and the table of
-contents lists it. From a line of the web that holds only a comment for its
-reader
-@q this text is for readers of the web alone @>
-the book gets nothing.
+@ A greeting is one line on standard output.
 
-@ The last section has a C part.
-@c c=(a+b)-1; d=c;
+@<Functions@>=
+static void greet(const char *name)
+{
+  printf("Hello, %s!\n",name);
+}
+
+@* Index.
