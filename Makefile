@@ -1,12 +1,17 @@
-# make hello    builds cweave and weaves examples/primes.w
-# make install  puts cweave into PREFIX/bin
+# make try      weaves examples/hello.w without any proof, in less than a minute
+# make hello    proves and builds cweave, and weaves examples/hello.w
+# make book     weaves, compiles and typesets the examples, as far as ctangle, cc and TeX are there
+# make install  puts cweave into PREFIX/bin and its man page into PREFIX/share/man/man1; make uninstall takes both away
 # make gate     every proof, must-fail edit, test and program
 # make bench    instructions per input byte and peak memory for webs of stated sizes
 # make hostile  refused memory, failing devices, and large webs that no one would write
+# make picture  makes docs/hello.png anew
 PREFIX ?= /usr/local
 PROGRAM = build/cweave
+BINDIR = $(DESTDIR)$(PREFIX)/bin
+MANDIR = $(DESTDIR)$(PREFIX)/share/man/man1
 
-.PHONY: all hello install gate bench hostile clean
+.PHONY: all try hello book install uninstall gate bench hostile picture clean
 
 all: $(PROGRAM)
 
@@ -18,13 +23,26 @@ $(PROGRAM): $(shell find crates -name '*.rt' -o -name '*.antt' 2>/dev/null) crat
 	rm -f crates/cweave/run.log
 	mkdir -p build && cp crates/cweave/out/cweave $(PROGRAM)
 
+try:
+	mkdir -p build
+	cd crates/cweave && rt try --data hello.w=../../examples/hello.w -- hello - $(CURDIR)/build/try
+	cat build/try.tex
+	@echo "Nothing was proved: this was a trial run. 'make hello' proves the program and then runs it."
+
 hello: $(PROGRAM)
-	cd build && cp ../examples/primes.w . && ./cweave primes
-	cat build/primes.tex
+	cd build && cp ../examples/hello.w . && ./cweave hello
+	cat build/hello.tex
+
+book: $(PROGRAM)
+	tools/book
 
 install: $(PROGRAM)
-	install -d $(DESTDIR)$(PREFIX)/bin
-	install -m 755 $(PROGRAM) $(DESTDIR)$(PREFIX)/bin/cweave
+	install -d $(BINDIR) $(MANDIR)
+	install -m 755 $(PROGRAM) $(BINDIR)/cweave
+	install -m 644 docs/cweave.1 $(MANDIR)/cweave.1
+
+uninstall:
+	rm -f $(BINDIR)/cweave $(MANDIR)/cweave.1
 
 gate:
 	.ci/run
@@ -34,6 +52,9 @@ bench: $(PROGRAM)
 
 hostile: $(PROGRAM)
 	tools/hostile
+
+picture: $(PROGRAM)
+	tools/picture
 
 clean:
 	rm -rf build
