@@ -8,14 +8,6 @@ pub if-both : {A : Type 0} (P : A → Type 0) (b : Bool) (x y : A) → (b ≡ tr
 if-both P true x y f g = f refl
 if-both P false x y f g = g refl
 
-pub or-left : (a b : Bool) → a ≡ true → (a || b) ≡ true
-or-left true b h = refl
-or-left false b h = absurd cc
-
-pub or-right : (a b : Bool) → b ≡ true → (a || b) ≡ true
-or-right true b h = refl
-or-right false b h = h
-
 pub or-false : (a b : Bool) → a ≡ false → b ≡ false → (a || b) ≡ false
 or-false true b h g = absurd cc
 or-false false b h g = g

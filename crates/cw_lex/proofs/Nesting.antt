@@ -1,6 +1,7 @@
 -- The scanner's answers over C text are nested.
 use Rattle.std.proofs.Common.{◌≡◌, ℕ, zero, suc, ◌+◌, ◌-◌, Bool, true, false, not, ◌&&◌, ◌||◌, Option, Some, None, List, [], ◌∷◌, ◌++◌, take, drop, length, refl, sym, ◌∙◌, ap, subst, append-nil, append_assoc}
 use Rattle.std.specs.Prelude.{if◌then◌else◌, ◌==◌, nat_lt}
+use Rattle.cw_base.proofs.TestLaws.{both-left, both-right}
 use Rattle.cw_lex.specs.declared.codes.Code.{Code}
 use Rattle.cw_lex.specs.declared.codes.Code.TheVariants as code
 use Rattle.cw_lex.specs.declared.codes.Effect.{Effect}
@@ -29,7 +30,6 @@ use Rattle.cw_lex.specs.Codes.{has_control_text, is_section, begins_section, eff
 use Rattle.cw_lex.specs.Tokens.{one, skipped_byte, dropped_code, identifier, string, include_name, sign_or_other, piece_start, passed, moved, in_hash_line, ends_at_bar, line_end, comment_begin, comment_end, inner_cut, comment_cut, part_cut, inner_or_none, all_cut, inner_end, effect_in, code_by, code_token, control_or_plain, in_code, start_of, code_text, comment_text, head_text, part_text, in_text, section, section_code, found, is_name, is_quote, behind_word, is_include, may_head, is_head, is_space, takes_hash_line, behind_include, closes_on_line, is_deep, name_follows, macro_name, parameter_follows, parameter, format_name, behind_head}
 use Rattle.cw_lex.specs.Lexing.{answers, joined, tokens_of, still_fresh, fresh_at, last_at}
 use Rattle.cw_lex.specs.Nested.{Level, InCode, InComment, after_token, levels_after, all_levels_after, IsNested, is_section_kind, is_section_answer, begins_section_in, until_section, is_c_mode}
-use Rattle.cw_lex.proofs.Sizes.{and-left, and-right}
 use Rattle.cw_lex.proofs.Choices.{if-both, or-false, or-first, or-second}
 
 levels-append : (xs bs : List Answer) (ls ms : List Level) → all_levels_after xs ls ≡ Some ms → all_levels_after (xs ++ bs) ls ≡ all_levels_after bs ms
@@ -83,12 +83,12 @@ in_tex _ = false
 
 pub inner-nested : (cs : List Opened) → all_inner cs ≡ true → nested_in cs ≡ true
 inner-nested [] h = refl
-inner-nested (c ∷ cs) h = and-right c.inner (all_inner cs) h
+inner-nested (c ∷ cs) h = both-right c.inner (all_inner cs) h
 
 -- C text goes on in code
 pub code-first : (cs : List Opened) → all_inner cs ≡ true → (ls : List Level) × (levels_in cs ≡ InCode ∷ ls)
 code-first [] h = ([], refl)
-code-first (c ∷ cs) h = (InComment ∷ levels_in cs, ap (λ b. with_code b (InComment ∷ levels_in cs)) (and-left c.inner (all_inner cs) h))
+code-first (c ∷ cs) h = (InComment ∷ levels_in cs, ap (λ b. with_code b (InComment ∷ levels_in cs)) (both-left c.inner (all_inner cs) h))
 
 passed-c : (p : Part) → is_c p ≡ true → is_c (passed p) ≡ true
 passed-c parts.Begin h = refl
@@ -184,15 +184,15 @@ end-uncut hash_line c place size bytes = notes-uncut (one_note (note_unless (c.b
 pub line-goes : (part : Part) (cs : List Opened) (last place : ℕ) → is_c part ≡ true → all_inner cs ≡ true → Goes (in_tex part) (levels_in cs) (line_end part cs last place)
 line-goes part [] last place p inner =
     if-both (Goes (in_tex part) (InCode ∷ [])) (in_hash_line part && not (last == backslash)) _ _
-    (λ e. one-goes (in_tex part) true (record { part = parts.Plain false false; comments = [] }) place (newline ∷ []) (plain kind.HashLineEnd 1) (hash-tex part (and-left (in_hash_line part) (not (last == backslash)) e)) refl refl refl)
+    (λ e. one-goes (in_tex part) true (record { part = parts.Plain false false; comments = [] }) place (newline ∷ []) (plain kind.HashLineEnd 1) (hash-tex part (both-left (in_hash_line part) (not (last == backslash)) e)) refl refl refl)
     (λ e. skip-goes (record { part = part; comments = [] }) p refl)
 line-goes part (c ∷ cs) last place p inner =
     let cut = inner_cut (in_hash_line part) place place ++ comment_end (in_hash_line part) c place 0 [] in
     if-both (Goes (in_tex part) (levels_in (c ∷ cs))) c.long _ _ (λ e. skip-goes (record { part = part; comments = c ∷ cs }) p inner)
     (λ e. before-goes (in_tex part) cut (levels_in (c ∷ cs)) (levels_in cs) (line_end (passed part) cs last place)
-    (ap (λ b. all_levels_after cut (with_code b (InComment ∷ levels_in cs))) (and-left c.inner (all_inner cs) inner) ∙ end-levels (in_hash_line part) c place 0 [] cs (and-right c.inner (all_inner cs) inner))
+    (ap (λ b. all_levels_after cut (with_code b (InComment ∷ levels_in cs))) (both-left c.inner (all_inner cs) inner) ∙ end-levels (in_hash_line part) c place 0 [] cs (both-right c.inner (all_inner cs) inner))
     (end-uncut (in_hash_line part) c place 0 [])
-    (same-goes (in_tex (passed part)) (in_tex part) (levels_in cs) (line_end (passed part) cs last place) (passed-tex part) (line-goes (passed part) cs last place (passed-c part p) (and-right c.inner (all_inner cs) inner))))
+    (same-goes (in_tex (passed part)) (in_tex part) (levels_in cs) (line_end (passed part) cs last place) (passed-tex part) (line-goes (passed part) cs last place (passed-c part p) (both-right c.inner (all_inner cs) inner))))
 
 -- a comment begins, and inner C text begins and ends
 comment-goes : (long : Bool) (w : Where) (place : ℕ) (bytes : List ℕ) → is_c w.part ≡ true → all_inner w.comments ≡ true → Goes (in_tex w.part) (levels_in w.comments) (comment_begin long w place bytes)
@@ -212,8 +212,8 @@ inner-ends part [] place bytes p inner opens = absurd cc
 inner-ends part (c ∷ cs) place bytes p inner opens = record {
   part = passed-c part p;
   same = passed-tex part;
-  nested = and-right c.inner (all_inner cs) inner;
-  levels = ap (λ b. all_levels_after (Finish (token_of (in_hash_line part) kind.InnerText place 1 bytes) ∷ []) (with_code b (InComment ∷ levels_in cs))) (and-left c.inner (all_inner cs) inner);
+  nested = both-right c.inner (all_inner cs) inner;
+  levels = ap (λ b. all_levels_after (Finish (token_of (in_hash_line part) kind.InnerText place 1 bytes) ∷ []) (with_code b (InComment ∷ levels_in cs))) (both-left c.inner (all_inner cs) inner);
   uncut = refl;
 }
 
@@ -256,7 +256,7 @@ code-goes : (effect : Effect) (c : Code) (w : Where) (place : ℕ) (bytes : List
 code-goes effects.Stands c w place bytes k s p inner =
     if-both (λ (next : Where). Goes (in_tex w.part) (levels_in w.comments) (one (in_hash_line w.part) next place bytes (code_token c place bytes))) (is_name c && (may_head w.part w.comments && is_head place bytes)) (moved w parts.Head) (moved w (passed w.part))
     (λ e. one-goes (in_tex w.part) (in_hash_line w.part) (moved w parts.Head) place bytes (code_token c place bytes)
-    (head-tex w.part w.comments (and-left (may_head w.part w.comments) (is_head place bytes) (and-right (is_name c) (may_head w.part w.comments && is_head place bytes) e))) (code-kind c place bytes s).is refl inner)
+    (head-tex w.part w.comments (both-left (may_head w.part w.comments) (is_head place bytes) (both-right (is_name c) (may_head w.part w.comments && is_head place bytes) e))) (code-kind c place bytes s).is refl inner)
     (λ e. one-goes (in_tex w.part) (in_hash_line w.part) (moved w (passed w.part)) place bytes (code_token c place bytes) (passed-tex w.part) (code-kind c place bytes s).is (passed-c w.part p) inner)
 code-goes (effects.Drops note) c w place bytes k s p inner = one-goes (in_tex w.part) (in_hash_line w.part) (moved w (passed w.part)) place bytes (dropped_code note c place bytes) (passed-tex w.part) refl (passed-c w.part p) inner
 code-goes effects.BeginsC c w place bytes k s p inner = one-goes (in_tex w.part) false (moved w (parts.Plain false false)) place bytes (plain (kind.Code c) 2) (other-tex (in_tex w.part) false k refl) (code-in-c c s) refl inner
@@ -290,14 +290,14 @@ begins-so ends byte bytes section =
     (λ e. if-both (Begins ends) (byte == slash && begins slash bytes) _ _ (λ e. record { is = tt })
     (λ e. if-both (Begins ends) (byte == at_sign) _ _ (λ e. record { is = ap (λ t. t && begins_section bytes) (sym e) ∙ section })
     (λ e. if-both (Begins ends) (byte == bar && (ends && not (begins bar bytes))) start.EndOfInner (sign_or_other (longest all_signs (byte ∷ bytes)))
-    (λ e. record { is = and-left ends (not (begins bar bytes)) (and-right (byte == bar) (ends && not (begins bar bytes)) e) })
+    (λ e. record { is = both-left ends (not (begins bar bytes)) (both-right (byte == bar) (ends && not (begins bar bytes)) e) })
     (λ e. record { is = sign-begins ends (longest all_signs (byte ∷ bytes)) })))))))
 
 word-c : (p : Part) (bytes : List ℕ) → is_c p ≡ true → is_c (behind_word p bytes) ≡ true
 word-c p bytes h = if-both (λ (q : Part). is_c q ≡ true) (in_hash_line p && is_include bytes) (parts.Plain true true) (passed p) (λ e. refl) (λ e. passed-c p h)
 
 word-tex : (p : Part) (bytes : List ℕ) → in_tex (behind_word p bytes) ≡ in_tex p
-word-tex p bytes = if-both (λ (q : Part). in_tex q ≡ in_tex p) (in_hash_line p && is_include bytes) (parts.Plain true true) (passed p) (λ e. hash-tex p (and-left (in_hash_line p) (is_include bytes) e)) (λ e. passed-tex p)
+word-tex p bytes = if-both (λ (q : Part). in_tex q ≡ in_tex p) (in_hash_line p && is_include bytes) (parts.Plain true true) (passed p) (λ e. hash-tex p (both-left (in_hash_line p) (is_include bytes) e)) (λ e. passed-tex p)
 
 pub in-code-goes : (s : Start) (part : Part) (cs : List Opened) (place : ℕ) (bytes : List ℕ) → is_c part ≡ true → all_inner cs ≡ true → (s ≡ start.EndOfInner → is_open cs ≡ true) → Begun (ends_at_bar part cs) s → Goes (in_tex part) (levels_in cs) (in_code s (record { part = part; comments = cs }) place bytes)
 in-code-goes start.Identifier part cs place bytes p inner bar_ends b = one-goes (in_tex part) (in_hash_line part) (record { part = behind_word part bytes; comments = cs }) place bytes (identifier bytes) (word-tex part bytes) refl (word-c part bytes p) inner
@@ -320,7 +320,7 @@ before-code P part cs fresh last place byte bytes p inner goes code =
     (λ e. if-both P (is_space part byte bytes) _ _ (λ e. goes (skipped_byte w) (skip-goes w p inner))
     (λ e. if-both P (byte == hash && (takes_hash_line part cs && fresh)) _ _
     (λ e. goes (one true (moved w (parts.Plain true false)) place (byte ∷ bytes) (plain kind.HashLine 1)) (one-goes (in_tex part) true (moved w (parts.Plain true false)) place (byte ∷ bytes) (plain kind.HashLine 1)
-    (takes-tex part cs (and-left (takes_hash_line part cs) fresh (and-right (byte == hash) (takes_hash_line part cs && fresh) e))) refl refl inner))
+    (takes-tex part cs (both-left (takes_hash_line part cs) fresh (both-right (byte == hash) (takes_hash_line part cs && fresh) e))) refl refl inner))
     (λ e. if-both P (byte == less && (behind_include part && closes_on_line bytes)) _ _
     (λ e. goes (one (in_hash_line part) (moved w (passed part)) place (byte ∷ bytes) (include_name place (byte ∷ bytes))) (one-goes (in_tex part) (in_hash_line part) (moved w (passed part)) place (byte ∷ bytes) (include_name place (byte ∷ bytes)) (passed-tex part) refl (passed-c part p) inner))
     (λ e. code))))

@@ -2,6 +2,7 @@
 use Rattle.std.proofs.Common.{◌≡◌, ℕ, zero, suc, ◌+◌, ◌-◌, Bool, true, false, not, ◌&&◌, ◌||◌, Option, Some, None, List, [], ◌∷◌, ◌++◌, take, drop, length, refl, sym, ◌∙◌, ap}
 use Rattle.std.specs.Prelude.{if◌then◌else◌, ◌==◌, nat_lt}
 use Rattle.std.specs.List.{list_any}
+use Rattle.cw_base.proofs.TestLaws.{both-right, one-failed-left, one-failed-right}
 use Rattle.cw_lex.specs.Answers.{Answer, Token, Begin, Finish, Note, Seen, Where, Cut, Found, before, note_answers, plain}
 use Rattle.cw_lex.specs.Bodies.{one_note, note_unless, noted}
 use Rattle.cw_lex.specs.Bytes.{newline, backslash, bar, at_sign, begins, is_letter, is_in, quote, apostrophe, slash, star, hash, less, equals}
@@ -52,13 +53,6 @@ abbrev defines_in : List Answer → Bool
 defines_in answers = list_any is_defining answers
 
 -- the first token of a nest is one of the answers
-or-left : (a b : Bool) → (a || b) ≡ false → a ≡ false
-or-left false b h = refl
-or-left true b h = absurd cc
-
-or-right : (a b : Bool) → (a || b) ≡ false → b ≡ false
-or-right false b h = h
-or-right true b h = absurd cc
 
 or-both : (a b : Bool) → a ≡ false → b ≡ false → (a || b) ≡ false
 or-both false b e h = h
@@ -75,7 +69,7 @@ none-group token (n ∷ m ∷ ns) = refl
 
 pub none-first : (answers : List Answer) → defines_in answers ≡ false → begins_definition (nest answers) ≡ false
 none-first [] h = refl
-none-first (Token token ∷ answers) h = none-leaf token (nests answers) (or-left (is_definition token.kind) (defines_in answers) h)
+none-first (Token token ∷ answers) h = none-leaf token (nests answers) (one-failed-left (is_definition token.kind) (defines_in answers) h)
 none-first (Begin token ∷ answers) h = none-group token (nests answers)
 none-first (Finish token ∷ answers) h = refl
 none-first (Note note place ∷ answers) h = none-first answers h
@@ -83,7 +77,7 @@ none-first (Note note place ∷ answers) h = none-first answers h
 -- lists of answers
 none-append : (xs ys : List Answer) → defines_in xs ≡ false → defines_in ys ≡ false → defines_in (xs ++ ys) ≡ false
 none-append [] ys a b = b
-none-append (x ∷ xs) ys a b = or-both (is_defining x) (defines_in (xs ++ ys)) (or-left (is_defining x) (defines_in xs) a) (none-append xs ys (or-right (is_defining x) (defines_in xs) a) b)
+none-append (x ∷ xs) ys a b = or-both (is_defining x) (defines_in (xs ++ ys)) (one-failed-left (is_defining x) (defines_in xs) a) (none-append xs ys (one-failed-right (is_defining x) (defines_in xs) a) b)
 
 none-notes : (ns : List Noted) → defines_in (note_answers ns) ≡ false
 none-notes [] = refl
@@ -192,10 +186,6 @@ sign-not-end (Some s) = refl
 record NotEnd (s : Start) : Type 0 where
   pub is : not_end s ≡ true
 
-and-right : (a b : Bool) → (a && b) ≡ true → b ≡ true
-and-right true b h = h
-and-right false b h = absurd cc
-
 no-end : (byte : ℕ) (bytes : List ℕ) → NotEnd (start_of false byte bytes)
 no-end byte bytes =
     if-both NotEnd (is_letter byte) _ _ (λ e. record { is = refl })
@@ -204,7 +194,7 @@ no-end byte bytes =
     (λ e. if-both NotEnd (byte == slash && begins star bytes) _ _ (λ e. record { is = refl })
     (λ e. if-both NotEnd (byte == slash && begins slash bytes) _ _ (λ e. record { is = refl })
     (λ e. if-both NotEnd (byte == at_sign) _ _ (λ e. record { is = refl })
-    (λ e. if-both NotEnd (byte == bar && (false && not (begins bar bytes))) start.EndOfInner (sign_or_other (longest all_signs (byte ∷ bytes))) (λ e. let k : false ≡ true = and-right (byte == bar) (false && not (begins bar bytes)) e in record { is = cc })
+    (λ e. if-both NotEnd (byte == bar && (false && not (begins bar bytes))) start.EndOfInner (sign_or_other (longest all_signs (byte ∷ bytes))) (λ e. let k : false ≡ true = both-right (byte == bar) (false && not (begins bar bytes)) e in record { is = cc })
     (λ e. record { is = sign-not-end (longest all_signs (byte ∷ bytes)) })))))))
 
 bar-needed : (ends : Bool) (byte : ℕ) (bytes : List ℕ) → start_of ends byte bytes ≡ start.EndOfInner → ends ≡ true
@@ -266,11 +256,11 @@ any-later (x ∷ xs) ys h = go (is_section_answer x) (any-later xs ys h)
 
 uncut-left : (xs ys : List Answer) → begins_section_in (xs ++ ys) ≡ false → begins_section_in xs ≡ false
 uncut-left [] ys h = refl
-uncut-left (x ∷ xs) ys h = or-both (is_section_answer x) (begins_section_in xs) (or-left (is_section_answer x) (begins_section_in (xs ++ ys)) h) (uncut-left xs ys (or-right (is_section_answer x) (begins_section_in (xs ++ ys)) h))
+uncut-left (x ∷ xs) ys h = or-both (is_section_answer x) (begins_section_in xs) (one-failed-left (is_section_answer x) (begins_section_in (xs ++ ys)) h) (uncut-left xs ys (one-failed-right (is_section_answer x) (begins_section_in (xs ++ ys)) h))
 
 uncut-right : (xs ys : List Answer) → begins_section_in (xs ++ ys) ≡ false → begins_section_in ys ≡ false
 uncut-right [] ys h = h
-uncut-right (x ∷ xs) ys h = uncut-right xs ys (or-right (is_section_answer x) (begins_section_in (xs ++ ys)) h)
+uncut-right (x ∷ xs) ys h = uncut-right xs ys (one-failed-right (is_section_answer x) (begins_section_in (xs ++ ys)) h)
 
 record IsSection (x : Cut) : Type 0 where
   pub is : is_section_kind x.kind ≡ true

@@ -3,6 +3,7 @@ use Rattle.std.proofs.Common.{◌≡◌, ℕ, zero, suc, ◌+◌, ◌-◌, ◌<�
 use Rattle.std.specs.Prelude.{if◌then◌else◌}
 use Rattle.std.proofs.lemmas.Bool.{eqb-true}
 use Rattle.std.proofs.lemmas.List.{drop-drop, take-take, take_all, drop_all}
+use Rattle.cw_base.proofs.TestLaws.{both-left, both-right}
 use Rattle.cw_lex.specs.declared.codes.Code.{Code}
 use Rattle.cw_lex.specs.declared.codes.Code.TheVariants as at
 use Rattle.cw_lex.specs.declared.parts.Part.TheVariants as parts
@@ -25,7 +26,6 @@ use Rattle.cw_lex.proofs.CodeStarts.{kind_code, code_in, is_opener, is_limbo, is
 use Rattle.cw_lex.proofs.CodeTwins.{Twin, Opens, Definitions, Program, Named, OpensAt, OpensBy, beginning_of, found-twin}
 use Rattle.cw_lex.proofs.Covering.{drop-part}
 use Rattle.cw_lex.proofs.RulesAhead.{found-local}
-use Rattle.cw_lex.proofs.Sizes.{and-left, and-right}
 use Rattle.cw_lex.proofs.Taking.{AreBare, AreNotes, IsWhole, TakesAll, bare-all-cut, found-takes}
 use Rattle.cw_lex.proofs.Walk.{drop-here, fresh-more, last-more, answers-at}
 use Rattle.cw_lex.proofs.Within.{found-fits}
@@ -177,8 +177,8 @@ opening w fresh last place byte bytes o = by (byte == at_sign && begins_section 
     by true e =
         let is-section : f ≡ section w place bytes = ap (λ t. if t then section w place bytes else in_text w.part w.comments fresh last place byte bytes) e in
         record {
-          byte-is = eqb-true byte at_sign (and-left (byte == at_sign) (begins_section bytes) e);
-          opener = section-opens (code_at bytes) (and-right (byte == at_sign) (begins_section bytes) e);
+          byte-is = eqb-true byte at_sign (both-left (byte == at_sign) (begins_section bytes) e);
+          opener = section-opens (code_at bytes) (both-right (byte == at_sign) (begins_section bytes) e);
           same = λ h. not-both _ (section-found w place bytes) (ap (λ (f : Found). is_section (code_in f.answers)) (sym is-section) ∙ h);
           behind = λ h. is-section;
         }

@@ -3,6 +3,7 @@ use Rattle.std.proofs.Common.{◌≡◌, ℕ, zero, suc, ◌+◌, ◌-◌, ◌<�
 use Rattle.std.specs.Prelude.{if◌then◌else◌}
 use Rattle.std.proofs.lemmas.Bool.{eqb-true}
 use Rattle.std.proofs.lemmas.List.{drop-drop, length-take, take-take, take-append-drop, take_all}
+use Rattle.cw_base.proofs.TestLaws.{both-left, both-right}
 use Rattle.cw_lex.specs.declared.parts.Part.TheVariants as parts
 use Rattle.cw_lex.specs.declared.tokens.Mode.{Mode}
 use Rattle.cw_lex.specs.declared.tokens.Mode.TheVariants as modes
@@ -12,7 +13,6 @@ use Rattle.cw_lex.specs.Answers.{Answer, Where}
 use Rattle.cw_lex.specs.Lexing.{still_fresh, joined, answers, fresh_after, last_after, fresh_at, last_at, answers_at, beginning, tokens_of}
 use Rattle.cw_lex.specs.Tokens.{all_cut, section, in_text, found}
 use Rattle.cw_lex.specs.Parts.{stand, stands_at, answers_to, part_answers, is_section_at, IsCodeAt}
-use Rattle.cw_lex.proofs.Sizes.{and-left, and-right}
 use Rattle.cw_lex.proofs.Walk.{fresh-more, last-more}
 use Rattle.cw_lex.proofs.Covering.{drop-part}
 use Rattle.cw_lex.proofs.RulesAhead.{found-local}
@@ -128,8 +128,8 @@ part-law text start end mode next ys order stands at code behind =
 pub ends-at-section : (text : List ℕ) (start end : ℕ) (mode : Mode) (w : Where) → start ≤ end → stands_at text (beginning mode) start end ≡ Some w → is_section_at text end ≡ true
     → answers_at text (beginning mode) start ≡ part_answers text start end mode end ++ answers_at text (beginning modes.TexText) end
 ends-at-section text start end mode w order stands section =
-    let at = and-left (begins at_sign (drop end text)) (begins_section (drop (end + 1) text)) section in
-    let code = and-right (begins at_sign (drop end text)) (begins_section (drop (end + 1) text)) section in
+    let at = both-left (begins at_sign (drop end text)) (begins_section (drop (end + 1) text)) section in
+    let code = both-right (begins at_sign (drop end text)) (begins_section (drop (end + 1) text)) section in
     part-law text start end mode w _ order stands at (section-code (drop (end + 1) text) code) (section-behind (drop (end + 1) text) w (fresh_at text end) (last_at text end) end code)
     ∙ ap (λ l. part_answers text start end mode end ++ answers l (beginning modes.TexText) (fresh_at text end) (last_at text end) end 0) (sym (begins-byte at_sign text end at))
 

@@ -3,6 +3,7 @@ use Rattle.std.proofs.Common.{◌≡◌, ℕ, zero, suc, ◌+◌, ◌-◌, ◌<�
 use Rattle.std.specs.Prelude.{if◌then◌else◌}
 use Rattle.std.proofs.lemmas.Bool.{eqb-true}
 use Rattle.std.proofs.lemmas.List.{drop_all}
+use Rattle.cw_base.proofs.TestLaws.{both-right}
 use Rattle.cw_base.specs.declared.notes.NoteKind.{NoteKind}
 use Rattle.cw_base.specs.declared.notes.NoteKind.TheVariants as notes
 use Rattle.cw_lex.specs.declared.bodies.Body.TheVariants as bodies
@@ -30,7 +31,7 @@ use Rattle.cw_lex.specs.Bodies.{at_start, stops, takes_next, goes_on, stepped, e
 use Rattle.cw_lex.specs.Answers.{Answer, Token, Begin, Finish, Note, Where, Cut, Found, before, note_answers, plain, dropped}
 use Rattle.cw_lex.specs.Tokens.{comment_kind, missing_brace, sign_or_other, identifier, string, string_of, closes_on_line, include_name, section_name, is_name, is_quote, control_or_plain, code_token, dropped_code, depth_size, section_code, is_signed, is_head, in_hash_line, behind_include, passed, moved, one, all_cut, section, comment_begin, comment_closed, is_deep, piece_start, piece, comment_text, effect_in, may_head, code_by, in_code, start_of, is_space, takes_hash_line, ends_at_bar, code_text, limbo_by, limbo_text, tex_by, tex_text, head_text, name_follows, macro_name, parameter_follows, parameter, format_name, behind_head, part_text, in_text, found}
 use Rattle.cw_lex.proofs.Choices.{if-both}
-use Rattle.cw_lex.proofs.Sizes.{and-right, run-le, depth-le}
+use Rattle.cw_lex.proofs.Sizes.{run-le, depth-le}
 use Rattle.cw_lex.proofs.Ahead.{drop-same, take-same, begins-same, run-same, section-same, constant-same, start_of-same, signed-same, name-same, parameter-same, paren-same, include-same, depth-same}
 use Rattle.cw_lex.proofs.BodiesAhead.{NoAt, body-same, extent-same, all_notes-same}
 
@@ -306,7 +307,7 @@ module _ (more : List ℕ) (code : begins greater more ≡ false) where
           (if byte == less && (behind && closes_on_line bs) then one hash_line next place (byte ∷ bs) (include_name place (byte ∷ bs)) else g)
       by (inl e) =
           if-local (length bs) (byte == less && (behind && closes_on_line (bs ++ 64 ∷ more))) (byte == less && (behind && closes_on_line bs)) _ _ _ _ (ap (λ t. byte == less && (behind && t)) e)
-          (λ h. include-local hash_line next place byte bs (and-right behind (closes_on_line bs) (and-right (byte == less) (behind && closes_on_line bs) h))) (λ h. l)
+          (λ h. include-local hash_line next place byte bs (both-right behind (closes_on_line bs) (both-right (byte == less) (behind && closes_on_line bs) h))) (λ h. l)
       by (inr r) = far (byte == less && (behind && closes_on_line (bs ++ 64 ∷ more))) (ap (λ t. byte == less && (behind && t)) r.0 ∙ none (byte == less) behind)
         where
           none : (a b : Bool) → (a && (b && false)) ≡ false
@@ -524,5 +525,5 @@ module _ (more : List ℕ) (code : begins greater more ≡ false) where
   pub found-local : (w : Where) (fresh : Bool) (last place byte : ℕ) (bs : List ℕ) → Local (length bs) (found w fresh last place byte (bs ++ 64 ∷ more)) (found w fresh last place byte bs)
   found-local w fresh last place byte bs =
       if-local (length bs) (byte == at_sign && begins_section (bs ++ 64 ∷ more)) (byte == at_sign && begins_section bs) _ _ _ _ (ap (λ t. byte == at_sign && t) (section-same more bs))
-      (λ h. section-local w place byte bs (and-right (byte == at_sign) (begins_section bs) h))
+      (λ h. section-local w place byte bs (both-right (byte == at_sign) (begins_section bs) h))
       (λ h. in_text-local w.part w.comments fresh last place byte bs)

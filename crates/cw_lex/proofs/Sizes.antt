@@ -1,6 +1,7 @@
 -- The rules take no more bytes than there are.
 use Rattle.std.proofs.Common.{◌≡◌, ℕ, suc, ◌+◌, ◌-◌, ◌<◌, ◌≤◌, Bool, true, false, true≢false, ◌&&◌, ◌||◌, ◌==◌, nat_lt, List, [], ◌∷◌, Option, Some, None, length, drop, refl, sym, arith, if◌then◌else◌, length-drop}
 use Rattle.std.proofs.lemmas.Bool.{ltb-true}
+use Rattle.cw_base.proofs.TestLaws.{both-left, both-right}
 use Rattle.cw_lex.specs.declared.bodies.Body.TheVariants as bodies
 use Rattle.cw_lex.specs.declared.bodies.Inside.{Inside}
 use Rattle.cw_lex.specs.declared.classes.Class.{Class}
@@ -17,14 +18,6 @@ use Rattle.cw_lex.specs.Bodies.{at_start, goes_on, stepped, ended, closing_bytes
 use Rattle.cw_lex.specs.Answers.{Cut}
 use Rattle.cw_lex.specs.Tokens.{identifier, string, closes_on_line, include_name, control_text, section_name, alone_size, is_name, is_quote, control_or_plain, code_token, depth_size, section_code}
 
-pub and-left : (a b : Bool) → (a && b) ≡ true → a ≡ true
-and-left true b h = refl
-and-left false b h = absurd (true≢false (sym h))
-
-pub and-right : (a b : Bool) → (a && b) ≡ true → b ≡ true
-and-right true b h = h
-and-right false b h = absurd (true≢false (sym h))
-
 either-size : (t : Bool) (a b n : ℕ) → (t ≡ true → a ≤ n) → (t ≡ false → b ≤ n) → (if t then a else b) ≤ n
 either-size true a b n f g = f refl
 either-size false a b n f g = g refl
@@ -40,7 +33,7 @@ begins-some wanted (b ∷ bs) h = omega arith
 pub begins_with-le : (wanted bytes : List ℕ) → begins_with wanted bytes ≡ true → length wanted ≤ length bytes
 begins_with-le [] bytes h = omega arith
 begins_with-le (w ∷ ws) [] h = absurd (true≢false (sym h))
-begins_with-le (w ∷ ws) (b ∷ bs) h = omega (arith, begins_with-le ws bs (and-right (b == w) (begins_with ws bs) h))
+begins_with-le (w ∷ ws) (b ∷ bs) h = omega (arith, begins_with-le ws bs (both-right (b == w) (begins_with ws bs) h))
 
 pub run-le : (class : Class) (bytes : List ℕ) → run class bytes ≤ length bytes
 run-le class [] = omega arith
@@ -60,14 +53,14 @@ hexadecimal-le bytes =
     let digits = run classes.HexDigit (drop 2 bytes) in
     let begun = begins digit_0 bytes && begins_by (is_letter_of 120) (drop 1 bytes) in
     either-size (begun && nat_lt 0 digits) (2 + digits) 0 (length bytes)
-    (λ h. omega (arith, run-drop-le classes.HexDigit 2 bytes, ltb-true 0 digits (and-right begun (nat_lt 0 digits) h)))
+    (λ h. omega (arith, run-drop-le classes.HexDigit 2 bytes, ltb-true 0 digits (both-right begun (nat_lt 0 digits) h)))
     (λ h. omega arith)
 
 fraction-le : (behind_digit : Bool) (bytes : List ℕ) → fraction behind_digit bytes ≤ length bytes
 fraction-le behind_digit bytes =
     let digits = run classes.Digit (drop 1 bytes) in
     either-size (begins dot bytes && (behind_digit || nat_lt 0 digits)) (1 + digits) 0 (length bytes)
-    (λ h. omega (arith, run-drop-le classes.Digit 1 bytes, begins-some dot bytes (and-left (begins dot bytes) (behind_digit || nat_lt 0 digits) h)))
+    (λ h. omega (arith, run-drop-le classes.Digit 1 bytes, begins-some dot bytes (both-left (begins dot bytes) (behind_digit || nat_lt 0 digits) h)))
     (λ h. omega arith)
 
 exponent-le : (bytes : List ℕ) → exponent bytes ≤ length bytes
@@ -75,7 +68,7 @@ exponent-le bytes =
     let opening = 1 + exponent_sign (drop 1 bytes) in
     let digits = run classes.Digit (drop opening bytes) in
     either-size (begins_by (is_letter_of 101) bytes && nat_lt 0 digits) (opening + digits) 0 (length bytes)
-    (λ h. omega (arith, run-drop-le classes.Digit opening bytes, ltb-true 0 digits (and-right (begins_by (is_letter_of 101) bytes) (nat_lt 0 digits) h)))
+    (λ h. omega (arith, run-drop-le classes.Digit opening bytes, ltb-true 0 digits (both-right (begins_by (is_letter_of 101) bytes) (nat_lt 0 digits) h)))
     (λ h. omega arith)
 
 pub mantissa-le : (bytes : List ℕ) → mantissa bytes ≤ length bytes
@@ -118,7 +111,7 @@ longest-fits (sign ∷ signs) bytes = by (begins_with (spelling sign) bytes) (lo
     by : (t : Bool) (found : Option Sign) → (t ≡ true → length (spelling sign) ≤ length bytes) → AllFit found (length bytes) → AllFit (longer t sign found) (length bytes)
     by true None fits h = fits refl
     by false None fits h = tt
-    by t (Some other) fits h = choose (t && nat_lt (length (spelling other)) (length (spelling sign))) other (λ e. fits (and-left t (nat_lt (length (spelling other)) (length (spelling sign))) e)) h
+    by t (Some other) fits h = choose (t && nat_lt (length (spelling other)) (length (spelling sign))) other (λ e. fits (both-left t (nat_lt (length (spelling other)) (length (spelling sign))) e)) h
 
 -- ## Bodies
 

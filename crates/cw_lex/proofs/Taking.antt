@@ -2,6 +2,7 @@
 use Rattle.std.proofs.Common.{◌≡◌, ℕ, suc, ◌+◌, ◌-◌, ◌<◌, Bool, true, false, ◌&&◌, ◌||◌, not, ◌==◌, nat_lt, List, [], ◌∷◌, ◌++◌, length, take, drop, refl, sym, ap, ◌∙◌, arith, Option, Some, None, append_assoc}
 use Rattle.std.specs.Prelude.{if◌then◌else◌}
 use Rattle.std.proofs.lemmas.Bool.{ltb-true}
+use Rattle.cw_base.proofs.TestLaws.{one-left, one-right}
 use Rattle.cw_base.specs.declared.notes.NoteKind.{NoteKind}
 use Rattle.cw_base.specs.declared.notes.NoteKind.TheVariants.{MissingBrace, ImproperMacro, ImproperFormat}
 use Rattle.cw_lex.specs.declared.bodies.Noted.{Noted}
@@ -29,7 +30,7 @@ use Rattle.cw_lex.specs.Order.{begins_space}
 use Rattle.cw_lex.specs.Tokens.{in_hash_line, behind_include, takes_hash_line, is_space, is_deep, ends_at_bar, closes_on_line, moved, passed, one, skipped_byte, comment_end, inner_cut, comment_cut, part_cut, inner_or_none, all_cut, section, section_code, line_end, sign_or_other, start_of, identifier, is_name, is_quote, alone_size, control_or_plain, effect_in, code_by, in_code, string, code_token, dropped_code, include_name, comment_begin, inner_begin, inner_end, code_text, piece_start, piece, comment_closed, comment_text, limbo_by, limbo_text, tex_by, tex_text, head_text, behind_white, name_follows, macro_name, parameter_follows, parameter, format_name, behind_head, part_text, in_text, found}
 use Rattle.cw_lex.specs.Codes.{effect_in_tex}
 use Rattle.cw_lex.proofs.Inside.{ended-some}
-use Rattle.cw_lex.proofs.Choices.{if-both, or-left, or-right, or-false, at-byte}
+use Rattle.cw_lex.proofs.Choices.{if-both, or-false, at-byte}
 
 -- answers without bytes at a place
 abbrev pub AreBare : ℕ → List Answer → Type 0
@@ -175,7 +176,7 @@ run-some class byte bytes h =
     omega arith
 
 identifier-some : (byte : ℕ) (bytes : List ℕ) → is_letter byte ≡ true → 0 < (identifier (byte ∷ bytes)).size
-identifier-some byte bytes h = run-some classes.Word byte bytes (or-left (is_letter byte) (is_digit byte) h)
+identifier-some byte bytes h = run-some classes.Word byte bytes (one-left (is_letter byte) (is_digit byte) h)
 
 spelling-some : (sign : Sign) → 0 < length (spelling sign)
 spelling-some signs.Slash = omega arith
@@ -251,10 +252,10 @@ in_code-takes (start.Sign sign) w place byte bytes h = one-takes _ _ place (byte
 in_code-takes start.OtherByte w place byte bytes h = one-takes _ _ place (byte ∷ bytes) (plain kinds.OtherByte 1) (omega arith)
 
 blank-space : (byte : ℕ) (bytes : List ℕ) → is_in classes.Blank byte ≡ true → begins_space (byte ∷ bytes) ≡ true
-blank-space byte bytes h = or-left (is_in classes.White byte) (byte == backslash && begins newline bytes) (or-right (byte == newline) (is_in classes.Blank byte) h)
+blank-space byte bytes h = one-left (is_in classes.White byte) (byte == backslash && begins newline bytes) (one-right (byte == newline) (is_in classes.Blank byte) h)
 
 white-space : (byte : ℕ) (bytes : List ℕ) → is_in classes.White byte ≡ true → begins_space (byte ∷ bytes) ≡ true
-white-space byte bytes h = or-left (is_in classes.White byte) (byte == backslash && begins newline bytes) h
+white-space byte bytes h = one-left (is_in classes.White byte) (byte == backslash && begins newline bytes) h
 
 space-space : (part : Part) (byte : ℕ) (bytes : List ℕ) → is_space part byte bytes ≡ true → begins_space (byte ∷ bytes) ≡ true
 space-space part byte bytes h = by (is_in classes.Blank byte) (in_hash_line part) (byte == newline) (byte == backslash && begins newline bytes) h

@@ -3,6 +3,7 @@ use Rattle.std.proofs.Common.{◌≡◌, ℕ, suc, ◌+◌, ◌-◌, ◌<◌, �
 use Rattle.std.specs.Prelude.{if◌then◌else◌}
 use Rattle.std.proofs.lemmas.Bool.{eqb-true}
 use Rattle.std.proofs.lemmas.List.{drop-drop, length-take}
+use Rattle.cw_base.proofs.TestLaws.{both-right, one-failed-left, one-failed-right}
 use Rattle.cw_base.specs.declared.notes.NoteKind.TheVariants as notes
 use Rattle.cw_lex.specs.declared.bodies.Body.TheVariants as bodies
 use Rattle.cw_lex.specs.declared.bodies.Noted.{Noted}
@@ -37,7 +38,7 @@ use Rattle.cw_lex.proofs.InnerScans.{inner-ends-at-bar}
 use Rattle.cw_lex.proofs.NameEnds.{name-take}
 use Rattle.cw_lex.proofs.Openings.{not-both, notes-sign, section-cuts, begun, bare-uncut}
 use Rattle.cw_lex.proofs.BarRules.{tex_inner}
-use Rattle.cw_lex.proofs.Sizes.{and-right, extent-le}
+use Rattle.cw_lex.proofs.Sizes.{extent-le}
 use Rattle.cw_lex.proofs.PartScans.{ends-with-text}
 use Rattle.cw_lex.proofs.Taking.{AreNotes, found-takes, bare-all-cut}
 use Rattle.cw_lex.proofs.Walk.{drop-here, answers-at}
@@ -54,17 +55,9 @@ inner = record { part = parts.Inner; comments = [] }
 
 -- ## Lists
 
-or-left : (a b : Bool) → (a || b) ≡ false → a ≡ false
-or-left false b h = refl
-or-left true b h = absurd cc
-
-or-right : (a b : Bool) → (a || b) ≡ false → b ≡ false
-or-right false b h = h
-or-right true b h = absurd cc
-
 pub opens-uncut : (more answers : List Answer) → opens_part_before more answers ≡ false → begins_section_in answers ≡ false
 opens-uncut more [] h = refl
-opens-uncut more (Token t ∷ answers) h = both (is_section_kind t.kind) (or-left (is_section_kind t.kind) _ h) (opens-uncut more answers (or-right (is_some (opened_by t.kind (has_sign (answers ++ more)))) (opens_part_before more answers) (or-right (is_section_kind t.kind) _ h)))
+opens-uncut more (Token t ∷ answers) h = both (is_section_kind t.kind) (one-failed-left (is_section_kind t.kind) _ h) (opens-uncut more answers (one-failed-right (is_some (opened_by t.kind (has_sign (answers ++ more)))) (opens_part_before more answers) (one-failed-right (is_section_kind t.kind) _ h)))
   where
     both : (a : Bool) → a ≡ false → begins_section_in answers ≡ false → (a || begins_section_in answers) ≡ false
     both true e k = absurd cc
@@ -310,12 +303,12 @@ module _ (text : List ℕ) (place : ℕ) (within : place < length text) (quiet :
       let two : drop (place + 2) text ≡ bs = sym (drop-drop 2 place text) ∙ ap (drop 2) (drop-here text place within) in
       let at-next : drop next text ≡ drop x.size bs =
       ap (λ n. drop n text) (to ∙ omega arith) ∙ sym (drop-drop x.size (place + 2) text) ∙ ap (drop x.size) two in
-      let sign : has_sign (answers_at text head next) ≡ true = signed (drop next text) (fresh_at text next) (last_at text next) next (ap is_signed at-next ∙ and-right x.closed (is_signed (drop x.size bs)) h) in
+      let sign : has_sign (answers_at text head next) ≡ true = signed (drop next text) (fresh_at text next) (last_at text next) next (ap is_signed at-next ∙ both-right x.closed (is_signed (drop x.size bs)) h) in
       let rest = note_answers cut.notes ++ answers_at text head next in
       let all : tex_at text place ≡ Token t ∷ rest = goes ∙ ap (λ (f : Found). f.answers ++ answers_at text f.next next) e in
       let unopened = ap opens_part_in (sym all) ∙ quiet in
       let behind-name : has_sign (rest ++ []) ≡ true = ap has_sign (append-nil rest) ∙ notes-sign (note_answers cut.notes) (answers_at text head next) (notes-only cut.notes) ∙ sign in
-      not-both _ (ap (λ b. is_some (opened_by (kinds.Code c) b)) behind-name ∙ named-opens c n) (or-left (is_some (opened_by (kinds.Code c) (has_sign (rest ++ [])))) (opens_part_before [] rest) (or-right (is_section_kind (kinds.Code c)) _ unopened))
+      not-both _ (ap (λ b. is_some (opened_by (kinds.Code c) b)) behind-name ∙ named-opens c n) (one-failed-left (is_some (opened_by (kinds.Code c) (has_sign (rest ++ [])))) (opens_part_before [] rest) (one-failed-right (is_section_kind (kinds.Code c)) _ unopened))
     where
       named-opens : (c : Code) → is_name c ≡ true → is_some (opened_by (kinds.Code c) true) ≡ true
       named-opens at.SectionName n = refl
@@ -350,7 +343,7 @@ module _ (text : List ℕ) (place : ℕ) (within : place < length text) (quiet :
           let rest = answers_at text here.next next in
           let all : tex_at text place ≡ Token o.token ∷ rest = goes ∙ ap (λ l. l ++ rest) (ap (λ (f : Found). f.answers) is ∙ o.answers) in
           let unopened = ap opens_part_in (sym all) ∙ quiet in
-          not-both _ (more-opened o.token.kind (has_sign (rest ++ [])) o.opened) (or-left (is_some (opened_by o.token.kind (has_sign (rest ++ [])))) (opens_part_before [] rest) (or-right (is_section_kind o.token.kind) _ unopened))
+          not-both _ (more-opened o.token.kind (has_sign (rest ++ [])) o.opened) (one-failed-left (is_some (opened_by o.token.kind (has_sign (rest ++ [])))) (opens_part_before [] rest) (one-failed-right (is_section_kind o.token.kind) _ unopened))
 
   -- inner C text
   abbrev opening : Seen

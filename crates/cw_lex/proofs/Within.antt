@@ -1,6 +1,7 @@
 -- The spans of all answers lie in the bytes that are scanned, whatever the text.
 use Rattle.std.proofs.Common.{◌≡◌, ℕ, zero, suc, ◌+◌, ◌-◌, ◌<◌, ◌≤◌, Bool, true, false, ◌&&◌, ◌||◌, not, ◌==◌, nat_lt, List, [], ◌∷◌, ◌++◌, length, drop, refl, sym, ap, ◌∙◌, arith, Option, Some, None, codes, subst, take, if◌then◌else◌, length-drop}
 use Rattle.std.proofs.lemmas.List.{length-take}
+use Rattle.cw_base.proofs.TestLaws.{both-right}
 use Rattle.cw_base.specs.declared.notes.NoteKind.{NoteKind}
 use Rattle.cw_base.specs.declared.notes.NoteKind.TheVariants.{UnknownCode, MissingBrace, ImproperMacro, ImproperFormat}
 use Rattle.cw_lex.specs.declared.bodies.Noted.{Noted}
@@ -26,7 +27,7 @@ use Rattle.cw_lex.specs.Answers.{Answer, Token, Begin, Finish, Note, Where, Cut,
 use Rattle.cw_lex.specs.Lexing.{still_fresh, answers, fresh_at, last_at, beginning, tokens_of}
 use Rattle.cw_lex.specs.Order.{AreWithin}
 use Rattle.cw_lex.specs.Tokens.{in_hash_line, behind_include, takes_hash_line, is_space, is_deep, ends_at_bar, closes_on_line, moved, one, skipped_byte, comment_end, inner_cut, comment_cut, part_cut, inner_or_none, all_cut, section, passed, line_end, sign_or_other, start_of, effect_in, code_by, in_code, string, code_token, dropped_code, include_name, code_text, piece_start, piece, comment_closed, comment_text, limbo_by, limbo_text, tex_by, tex_text, head_text, behind_white, name_follows, macro_name, is_parameter, parameter_follows, parameter, format_name, behind_head, part_text, in_text, found}
-use Rattle.cw_lex.proofs.Sizes.{and-right, begins-some, begins_with-le, run-le, constant-le, AllFit, longest-fits, extent-le, identifier-le, string-le, include_name-le, control_or_plain-le, code_token-le, section_code-le}
+use Rattle.cw_lex.proofs.Sizes.{begins-some, begins_with-le, run-le, constant-le, AllFit, longest-fits, extent-le, identifier-le, string-le, include_name-le, control_or_plain-le, code_token-le, section_code-le}
 
 -- What is found at a place fits in so many bytes.
 pub record Fits (place left : ℕ) (f : Found) : Type 0 where
@@ -154,8 +155,8 @@ start_of-fits bar_ends byte bytes =
     either-start (is_letter byte) _ _ bytes (λ h. tt)
     (λ h. either-start (nat_lt 0 (constant (byte ∷ bytes))) _ _ bytes (λ h. tt)
     (λ h. either-start (byte == quote || byte == apostrophe) _ _ bytes (λ h. tt)
-    (λ h. either-start (byte == slash && begins star bytes) _ _ bytes (λ h. begins-some star bytes (and-right (byte == slash) (begins star bytes) h))
-    (λ h. either-start (byte == slash && begins slash bytes) _ _ bytes (λ h. begins-some slash bytes (and-right (byte == slash) (begins slash bytes) h))
+    (λ h. either-start (byte == slash && begins star bytes) _ _ bytes (λ h. begins-some star bytes (both-right (byte == slash) (begins star bytes) h))
+    (λ h. either-start (byte == slash && begins slash bytes) _ _ bytes (λ h. begins-some slash bytes (both-right (byte == slash) (begins slash bytes) h))
     (λ h. either-start (byte == at_sign) _ _ bytes (λ h. refl)
     (λ h. either-start (byte == bar && (bar_ends && not (begins bar bytes))) _ _ bytes (λ h. tt)
     (λ h. sign-fits byte bytes)))))))
@@ -203,7 +204,7 @@ code_text-fits w fresh last place byte bytes =
     (λ h. either place left (byte == hash && (takes_hash_line w.part w.comments && fresh)) _ _ (λ h. search (one-fits, arith))
     (λ h. either place left (byte == less && (behind_include w.part && closes_on_line bytes)) _ _
     (λ h. one-fits _ _ place (byte ∷ bytes) (include_name place (byte ∷ bytes)) left
-    (include_name-le place byte bytes (and-right (behind_include w.part) (closes_on_line bytes) (and-right (byte == less) (behind_include w.part && closes_on_line bytes) h))) (omega arith))
+    (include_name-le place byte bytes (both-right (behind_include w.part) (closes_on_line bytes) (both-right (byte == less) (behind_include w.part && closes_on_line bytes) h))) (omega arith))
     (λ h. in_code-fits (start_of (ends_at_bar w.part w.comments) byte bytes) w place byte bytes (start_of-fits (ends_at_bar w.part w.comments) byte bytes)))))
 
 -- ## Comments
@@ -218,7 +219,7 @@ comment_text-fits part c comments last place byte bytes =
     let left = suc (length bytes) in
     let hash_line = in_hash_line part in
     either place left (c.long && (byte == star && begins slash bytes)) _ _
-    (λ h. closed (begins-some slash bytes (and-right (byte == star) (begins slash bytes) (and-right c.long (byte == star && begins slash bytes) h))))
+    (λ h. closed (begins-some slash bytes (both-right (byte == star) (begins slash bytes) (both-right c.long (byte == star && begins slash bytes) h))))
     (λ h. either place left (not c.long && byte == newline) _ _
     (λ h. before-fits place left (comment_end hash_line c place 0 []) (line_end part comments last place) (comment_end-within hash_line c place 0 [] left (omega arith)) (line_end-fits part comments last place left (omega arith)))
     (λ h. either place left (byte == bar && not (is_deep part (c ∷ comments))) _ _

@@ -1,6 +1,7 @@
 -- The first token of a list of answers at which a part of a section ends.
 use Rattle.std.proofs.Common.{◌≡◌, ℕ, Bool, true, false, not, ◌||◌, List, [], ◌∷◌, ◌++◌, Option, Some, None, append-nil, refl, sym, ap, subst, ◌∙◌, ◌⊎◌, inl, inr}
 use Rattle.std.specs.List.{list_any}
+use Rattle.cw_base.proofs.TestLaws.{one-failed-left, one-failed-right}
 use Rattle.cw_base.specs.declared.span.Span.{Span}
 use Rattle.cw_lex.specs.declared.codes.Code.{Code}
 use Rattle.cw_lex.specs.declared.codes.Code.TheVariants as at
@@ -160,25 +161,17 @@ or-none : (a b : Bool) → a ≡ false → b ≡ false → (a || b) ≡ false
 or-none false b e h = h
 or-none true b e h = absurd cc
 
-or-left : (a b : Bool) → (a || b) ≡ false → a ≡ false
-or-left false b h = refl
-or-left true b h = absurd cc
-
-or-right : (a b : Bool) → (a || b) ≡ false → b ≡ false
-or-right false b h = h
-or-right true b h = absurd cc
-
 pub first-none : (test : Placed → Bool) (size : ℕ) (ps : List Placed) → list_any test ps ≡ false → first_start test size ps ≡ size
 first-none test size [] h = refl
 first-none test size (p ∷ ps) h =
-    ap (λ (t : Bool). elim t as (λ _. ℕ) [ true ↦ p.token.span.start | false ↦ first_start test size ps ]) (or-left (test p) (list_any test ps) h)
-    ∙ first-none test size ps (or-right (test p) (list_any test ps) h)
+    ap (λ (t : Bool). elim t as (λ _. ℕ) [ true ↦ p.token.span.start | false ↦ first_start test size ps ]) (one-failed-left (test p) (list_any test ps) h)
+    ∙ first-none test size ps (one-failed-right (test p) (list_any test ps) h)
 
 pub first-behind : (test : Placed → Bool) (size : ℕ) (front ps : List Placed) → list_any test front ≡ false → first_start test size (front ++ ps) ≡ first_start test size ps
 first-behind test size [] ps h = refl
 first-behind test size (p ∷ front) ps h =
-    ap (λ (t : Bool). elim t as (λ _. ℕ) [ true ↦ p.token.span.start | false ↦ first_start test size (front ++ ps) ]) (or-left (test p) (list_any test front) h)
-    ∙ first-behind test size front ps (or-right (test p) (list_any test front) h)
+    ap (λ (t : Bool). elim t as (λ _. ℕ) [ true ↦ p.token.span.start | false ↦ first_start test size (front ++ ps) ]) (one-failed-left (test p) (list_any test front) h)
+    ∙ first-behind test size front ps (one-failed-right (test p) (list_any test front) h)
 
 first-is : (test : Placed → Bool) (size : ℕ) (p : Placed) (ps : List Placed) → test p ≡ true → first_start test size (p ∷ ps) ≡ p.token.span.start
 first-is test size p ps h = ap (λ (t : Bool). elim t as (λ _. ℕ) [ true ↦ p.token.span.start | false ↦ first_start test size ps ]) h
@@ -191,7 +184,7 @@ no-stricter true b f h = absurd (let k : true ≡ false = sym (f refl) ∙ h in 
 pub none-stricter : (test other : Placed → Bool) (ps : List Placed) → ((p : Placed) → other p ≡ true → test p ≡ true) → list_any test ps ≡ false → list_any other ps ≡ false
 none-stricter test other [] f h = refl
 none-stricter test other (p ∷ ps) f h =
-    or-none (other p) (list_any other ps) (no-stricter (other p) (test p) (f p) (or-left (test p) (list_any test ps) h)) (none-stricter test other ps f (or-right (test p) (list_any test ps) h))
+    or-none (other p) (list_any other ps) (no-stricter (other p) (test p) (f p) (one-failed-left (test p) (list_any test ps) h)) (none-stricter test other ps f (one-failed-right (test p) (list_any test ps) h))
 
 -- section codes by the tokens
 abbrev is_code_token : Seen → Bool
@@ -263,11 +256,11 @@ bare-opens (Note kind place ∷ cut) h = bare-opens cut h
 opens-alone : (xs cut rest more : List Answer) → tokens_in cut ≡ [] → opens_part_before more (xs ++ rest) ≡ false → opens_part_before [] (xs ++ cut) ≡ false
 opens-alone [] cut rest more n h = bare-opens cut n
 opens-alone (Token t ∷ xs) cut rest more n h =
-    let later = or-right (is_section_kind t.kind) _ h in
-    or-none (is_section_kind t.kind) _ (or-left (is_section_kind t.kind) _ h)
+    let later = one-failed-right (is_section_kind t.kind) _ h in
+    or-none (is_section_kind t.kind) _ (one-failed-left (is_section_kind t.kind) _ h)
     (or-none (is_some (opened_by t.kind (has_sign ((xs ++ cut) ++ [])))) (opens_part_before [] (xs ++ cut))
-    (opened-less t.kind (has_sign ((xs ++ cut) ++ [])) (has_sign ((xs ++ rest) ++ more)) (sign-inside xs cut rest more n) (or-left (is_some (opened_by t.kind (has_sign ((xs ++ rest) ++ more)))) (opens_part_before more (xs ++ rest)) later))
-    (opens-alone xs cut rest more n (or-right (is_some (opened_by t.kind (has_sign ((xs ++ rest) ++ more)))) (opens_part_before more (xs ++ rest)) later)))
+    (opened-less t.kind (has_sign ((xs ++ cut) ++ [])) (has_sign ((xs ++ rest) ++ more)) (sign-inside xs cut rest more n) (one-failed-left (is_some (opened_by t.kind (has_sign ((xs ++ rest) ++ more)))) (opens_part_before more (xs ++ rest)) later))
+    (opens-alone xs cut rest more n (one-failed-right (is_some (opened_by t.kind (has_sign ((xs ++ rest) ++ more)))) (opens_part_before more (xs ++ rest)) later)))
 opens-alone (Begin t ∷ xs) cut rest more n h = opens-alone xs cut rest more n h
 opens-alone (Finish t ∷ xs) cut rest more n h = opens-alone xs cut rest more n h
 opens-alone (Note kind place ∷ xs) cut rest more n h = opens-alone xs cut rest more n h
@@ -336,7 +329,7 @@ module _ (good : Part → Bool) where
     split = ap (λ l. a ∷ l) r.split;
     placed = p ∙ r.placed;
     none = r.none;
-    uncut = or-none (is_section_answer a) (begins_section_in r.before) (or-left (is_section_answer a) false n) r.uncut;
+    uncut = or-none (is_section_answer a) (begins_section_in r.before) (one-failed-left (is_section_answer a) false n) r.uncut;
     keeps = k (Token r.token ∷ r.behind) r.before r.keeps;
     part = r.part;
     passes = r.passes;
@@ -362,8 +355,8 @@ module _ (good : Part → Bool) where
   })
   token-by false s kept t answers g e rest =
       let p = token_placed s kept t answers in
-      let code : is_section_kind t.kind ≡ false = sym (told t.kind (has_sign answers) s t.span).role ∙ or-left (is_section_code p.role) (not (good p.part)) e in
-      let stays = not-false (good p.part) (or-right (is_section_code p.role) (not (good p.part)) e) in
+      let code : is_section_kind t.kind ≡ false = sym (told t.kind (has_sign answers) s t.span).role ∙ one-failed-left (is_section_code p.role) (not (good p.part)) e in
+      let stays = not-false (good p.part) (one-failed-right (is_section_code p.role) (not (good p.part)) e) in
       let part : p.part ≡ part_of (opened_by t.kind (has_sign answers)) s.part = plain-part s t answers (opened_by t.kind (has_sign answers)) code refl in
       by code (record { part = s.part; stays = ap good (sym part) ∙ stays; plain = code }) (rest stays)
     where

@@ -3,6 +3,7 @@ use Rattle.std.proofs.Common.{◌≡◌, ℕ, ◌+◌, ◌<◌, ◌≤◌, ◌||
 use Rattle.std.proofs.lemmas.Bool.{eq-eqb}
 use Rattle.std.proofs.lemmas.List.Elements.{All-nil, All-cons, All-weaker}
 use Rattle.std.specs.Option.{option_map}
+use Rattle.cw_base.proofs.TestLaws.{one-left}
 use Rattle.cw_base.specs.Web.{MergedLine}
 use Rattle.cw_lex.specs.Answers.{Seen, Answer, Token, Begin, Finish, Note}
 use Rattle.cw_lex.specs.Order.{Covers}
@@ -79,12 +80,8 @@ first-earlier test other from size (p ∷ ps) h f =
     earlier-by (test p) (other p) p.token.span.start (first_start other size ps) (first_start test size ps) (h p)
     (omega (arith, f.1, first-from test p.token.span.«end» size ps f.2)) (first-earlier test other p.token.span.«end» size ps h f.2)
 
-or-left : (a b : Bool) → a ≡ true → (a || b) ≡ true
-or-left true b h = refl
-or-left false b h = let wrong : false ≡ true = h in absurd (cc)
-
 code-ends : (p : Placed) → ends_section p ≡ true → ends_definitions p ≡ true
-code-ends p h = or-left (is_section_code p.role) (is_program p.part) h
+code-ends p h = one-left (is_section_code p.role) (is_program p.part) h
 
 tex-by : (code : Bool) (part : Part) → (code || is_program part) ≡ true → (code || not (is_tex part)) ≡ true
 tex-by true part h = refl

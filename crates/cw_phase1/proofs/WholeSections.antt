@@ -3,6 +3,7 @@ use Rattle.std.proofs.Common.{◌≡◌, ℕ, ◌≤◌, Bool, true, false, not,
 use Rattle.std.specs.List.{list_any}
 use Rattle.std.proofs.lemmas.List.{take_all, drop_all, length-take}
 use Rattle.std.proofs.lemmas.List.Elements.{All-nil, All-cons}
+use Rattle.cw_base.proofs.TestLaws.{one-right}
 use Rattle.cw_base.specs.Web.{MergedLine, text_of}
 use Rattle.cw_lex.specs.declared.tokens.Mode.{Mode}
 use Rattle.cw_lex.specs.declared.tokens.Mode.TheVariants as modes
@@ -56,10 +57,6 @@ any_part part = true
 or-true : (a b : Bool) → a ≡ true → (a || b) ≡ true
 or-true true b h = refl
 or-true false b h = absurd cc
-
-or-right : (a b : Bool) → b ≡ true → (a || b) ≡ true
-or-right true b h = refl
-or-right false b h = h
 
 -- a section code passes each test
 code-passes : (good : Part → Bool) (p : Placed) → is_section_code p.role ≡ true → ends good p ≡ true
@@ -179,7 +176,7 @@ module _ (sections : TextsEndAtSections) (openings : TextsEndAtOpenings) (text :
       let part = plain-part r.standing r.token r.behind (Some modes.CPart) h.0 h.1 in
       let to : first_start ends_definitions size ps ≡ r.token.span.start =
       ap (first_start ends_definitions size) r.placed ∙ first-behind ends_definitions size r.front (placed_from r.standing r.names (Token r.token ∷ r.behind)) (none-stricter (ends not_program) ends_definitions r.front definitions-not r.none)
-      ∙ first-token not_program ends_definitions size r.standing r.names r.token r.behind (or-right (is_section_code p.role) (is_program p.part) (ap is_program part)) in
+      ∙ first-token not_program ends_definitions size r.standing r.names r.token r.behind (one-right (is_section_code p.role) (is_program p.part) (ap is_program part)) in
       let law = openings text start modes.Definition modes.CPart r.before r.token r.behind refl r.split h.1 in
       let end : first_start ends_section size ps ≡ first_start ends_section size (tokens_at modes.CPart r.token.span.start r.standing r.names) =
       ap (first_start ends_section size) r.placed ∙ first-behind ends_section size r.front (placed_from r.standing r.names (Token r.token ∷ r.behind)) (none-stricter (ends not_program) ends_section r.front section-definitions r.none)
@@ -277,7 +274,7 @@ module _ (sections : TextsEndAtSections) (openings : TextsEndAtOpenings) (text :
       told-by start at at (first_start ends_section size rest) ps
       (ap (first_start ends_tex size) r.placed ∙ first-behind ends_tex size r.front (placed_from r.standing r.names (Token r.token ∷ r.behind)) r.none ∙ first-token is_tex ends_tex size r.standing r.names r.token r.behind r.passes)
       (ap (first_start ends_definitions size) r.placed ∙ first-behind ends_definitions size r.front (placed_from r.standing r.names (Token r.token ∷ r.behind)) (none-stricter (ends is_tex) ends_definitions r.front definitions-tex r.none)
-      ∙ first-token is_tex ends_definitions size r.standing r.names r.token r.behind (or-right (is_section_code p.role) (is_program p.part) (ap is_program part)))
+      ∙ first-token is_tex ends_definitions size r.standing r.names r.token r.behind (one-right (is_section_code p.role) (is_program p.part) (ap is_program part)))
       (ap (first_start ends_section size) r.placed ∙ first-behind ends_section size r.front (placed_from r.standing r.names (Token r.token ∷ r.behind)) (none-stricter (ends is_tex) ends_section r.front section-tex r.none)
       ∙ ap (λ l. first_start ends_section size (placed_from r.standing r.names l)) law.1)
       (alone-before text start modes.TexText r.before r.token (Token r.token ∷ r.behind) law.0 (tex-opens (Token r.token ∷ r.behind) r.before r.keeps)) (empty-definition text at) (c-part at r.standing r.names)

@@ -2,6 +2,7 @@
 use Rattle.std.proofs.Common.{◌≡◌, ℕ, Bool, true, false, ◌&&◌, Option, Some, None, List, [], ◌∷◌, ◌++◌, refl, sym, ap, ◌∙◌, subst}
 use Rattle.std.specs.List.{list_all}
 use Rattle.std.proofs.lemmas.List.{append_assoc}
+use Rattle.cw_base.proofs.TestLaws.{both-left, both-right}
 use Rattle.cw_base.specs.declared.category.Cat.{Cat}
 use Rattle.cw_base.specs.declared.category.Cat.TheVariants.{Exp}
 use Rattle.cw_base.specs.declared.flags.Flags.{Flags}
@@ -22,7 +23,7 @@ use Rattle.cw_names.specs.declared.NameId.{NameId}
 use Rattle.cw_names.specs.Names.{Entry}
 use Rattle.cw_trees.specs.declared.Control.TheVariants as control
 use Rattle.cw_trees.specs.Joining.{reads, leads_on, stays}
-use Rattle.cw_table.proofs.ScrapFacts.{and-left, and-right, and-both}
+use Rattle.cw_table.proofs.ScrapFacts.{and-both}
 use Rattle.cw_tokens.specs.declared.token.Token.{Token}
 use Rattle.cw_tokens.specs.declared.token.Token.TheVariants as token
 use Rattle.cw_tokens.specs.Shapes.{tree_in}
@@ -74,8 +75,8 @@ spelled-stays : (mode : MathMode) (words : List Seen) (names : List Entry) → l
 spelled-stays mode [] names h = stays-none mode
 spelled-stays mode (word ∷ words) names h =
     stays-append mode (word_tokens word names) (spelled words (names_with word.kind word.text names)).tokens
-    (kind-stays mode word.kind word.text word.hash_line word.span.start names (and-left (word_fits mode word) (list_all (word_fits mode) words) h))
-    (spelled-stays mode words (names_with word.kind word.text names) (and-right (word_fits mode word) (list_all (word_fits mode) words) h))
+    (kind-stays mode word.kind word.text word.hash_line word.span.start names (both-left (word_fits mode word) (list_all (word_fits mode) words) h))
+    (spelled-stays mode words (names_with word.kind word.text names) (both-right (word_fits mode word) (list_all (word_fits mode) words) h))
 
 dollared-stays : (tokens : List Token) → StaysIn Math tokens → StaysIn Text (dollared tokens)
 dollared-stays [] s = stays-none Text
@@ -192,11 +193,11 @@ head-fits (Leaf t rest) = fits-by t.kind t rest
 
 first-fits : (mode : MathMode) (words : List Seen) → list_all (word_fits mode) words ≡ true → list_all (word_fits mode) (first_word words) ≡ true
 first-fits mode [] h = refl
-first-fits mode (word ∷ words) h = and-both (word_fits mode word) true (and-left (word_fits mode word) (list_all (word_fits mode) words) h) refl
+first-fits mode (word ∷ words) h = and-both (word_fits mode word) true (both-left (word_fits mode word) (list_all (word_fits mode) words) h) refl
 
 later-fits : (mode : MathMode) (words : List Seen) → list_all (word_fits mode) words ≡ true → list_all (word_fits mode) (later_words words) ≡ true
 later-fits mode [] h = refl
-later-fits mode (word ∷ words) h = and-right (word_fits mode word) (list_all (word_fits mode) words) h
+later-fits mode (word ∷ words) h = both-right (word_fits mode word) (list_all (word_fits mode) words) h
 
 pub reads-head : (flags : Flags) (named : ℕ → Option (List (List Answer))) (h : Head) (known : Known) → HeadFits h → MadeReads (head_made flags named h known)
 reads-head flags named Headless known f = reads-nothing known

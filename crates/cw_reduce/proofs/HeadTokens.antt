@@ -6,6 +6,7 @@ use Rattle.std.specs.Option.{option_to_list}
 use Rattle.std.proofs.lemmas.Bool.{ltb-true}
 use Rattle.std.proofs.lemmas.List.{length-append}
 use Rattle.std.proofs.lemmas.List.Sums.{prefix_len-le-length}
+use Rattle.cw_base.proofs.TestLaws.{both-left, both-right}
 use Rattle.cw_base.specs.declared.category.Cat.{Cat}
 use Rattle.cw_base.specs.declared.category.Cat.TheVariants.{Dead, Exp}
 use Rattle.cw_base.specs.declared.flags.Flags.{Flags}
@@ -19,7 +20,6 @@ use Rattle.cw_names.specs.declared.entry.EntryKind.TheVariants.{Ident as ident_k
 use Rattle.cw_trees.specs.declared.Control.TheVariants as control
 use Rattle.cw_trees.specs.Joining.{scrap_agrees, reads}
 use Rattle.cw_trees.specs.Tree.{Tree}
-use Rattle.cw_table.proofs.ScrapFacts.{and-left, and-right}
 use Rattle.cw_tokens.specs.declared.token.Token.{Token}
 use Rattle.cw_tokens.specs.declared.token.Token.TheVariants as token
 use Rattle.cw_tokens.specs.References.{token_ref, IsTied}
@@ -131,8 +131,8 @@ spelled-named [] names h = tt
 spelled-named (word ∷ words) names h =
     let n = names_with word.kind word.text names in
     named-append (length (spelled words n).names) (word_tokens word names) (spelled words n).tokens
-    (more-named (length n) (length (spelled words n).names) (spelled-grow words n) (word_tokens word names) (kind-named word.kind word.text word.hash_line word.span.start names (and-left (word_kind word) (list_all word_kind words) h)))
-    (spelled-named words n (and-right (word_kind word) (list_all word_kind words) h))
+    (more-named (length n) (length (spelled words n).names) (spelled-grow words n) (word_tokens word names) (kind-named word.kind word.text word.hash_line word.span.start names (both-left (word_kind word) (list_all word_kind words) h)))
+    (spelled-named words n (both-right (word_kind word) (list_all word_kind words) h))
 
 -- each word is one token
 record IsOne (ts : List Token) : Type 0 where
@@ -154,7 +154,7 @@ pub break-behind : (words : List Seen) (names : List Entry) → list_all word_ki
 break-behind [] names h = refl
 break-behind (word ∷ words) names h =
     let n = names_with word.kind word.text names in
-    by (word_tokens word names) (spelled words n).tokens (kind-one word.kind word.text word.hash_line word.span.start names (and-left (word_kind word) (list_all word_kind words) h))
+    by (word_tokens word names) (spelled words n).tokens (kind-one word.kind word.text word.hash_line word.span.start names (both-left (word_kind word) (list_all word_kind words) h))
   where
     by : (ts us : List Token) → IsOne ts → (ts ++ []) ++ token.Control control.OptionalBreak ∷ us ≡ with_break (ts ++ us)
     by ts us o = subst (λ ts. (ts ++ []) ++ token.Control control.OptionalBreak ∷ us ≡ with_break (ts ++ us)) (sym o.is) refl

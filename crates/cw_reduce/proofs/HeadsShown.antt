@@ -1,6 +1,7 @@
 -- The words of heads stand in the tree of a translation as well.
 use Rattle.std.proofs.Common.{◌≡◌, ℕ, Bool, true, false, is_some, Option, Some, None, List, [], ◌∷◌, ◌++◌, refl, ◌∙◌, ap}
 use Rattle.std.specs.List.{list_all}
+use Rattle.cw_base.proofs.TestLaws.{both-left, both-right}
 use Rattle.cw_base.specs.declared.category.Cat.{Cat}
 use Rattle.cw_base.specs.declared.category.Cat.TheVariants.{Exp, Dead}
 use Rattle.cw_base.specs.declared.flags.Flags.{Flags}
@@ -15,7 +16,7 @@ use Rattle.cw_names.specs.declared.NameId.{NameId}
 use Rattle.cw_names.specs.Names.{Entry}
 use Rattle.cw_trees.specs.Flat.{struck}
 use Rattle.cw_trees.specs.declared.Control.TheVariants as control
-use Rattle.cw_table.proofs.ScrapFacts.{and-left, and-right, and-both}
+use Rattle.cw_table.proofs.ScrapFacts.{and-both}
 use Rattle.cw_tokens.specs.declared.token.Token.{Token}
 use Rattle.cw_tokens.specs.declared.token.Token.TheVariants as token
 use Rattle.cw_tokens.specs.Shapes.{tree_in}
@@ -103,12 +104,12 @@ plain-append xs ys ns ms p q = record { plain = list-append xs ys p.plain q.plai
   where
     list-append : (xs ys : List Token) → list_all is_plain xs ≡ true → list_all is_plain ys ≡ true → list_all is_plain (xs ++ ys) ≡ true
     list-append [] ys a b = b
-    list-append (x ∷ xs) ys a b = and-both (is_plain x) (list_all is_plain (xs ++ ys)) (and-left (is_plain x) (list_all is_plain xs) a) (list-append xs ys (and-right (is_plain x) (list_all is_plain xs) a) b)
+    list-append (x ∷ xs) ys a b = and-both (is_plain x) (list_all is_plain (xs ++ ys)) (both-left (is_plain x) (list_all is_plain xs) a) (list-append xs ys (both-right (is_plain x) (list_all is_plain xs) a) b)
 
 pub spelled-plain : (words : List Seen) (names : List Entry) → list_all is_word words ≡ true → PlainFor (spelled words names).tokens (starts words)
 unfolding is_plain is_word
 spelled-plain [] names h = record { plain = refl; numbers_are = refl }
-spelled-plain (t ∷ words) names h = plain-append _ _ (t.span.start ∷ []) (starts words) (kind-plain t.kind t.text t.hash_line t.span.start names (and-left (is_word t) (list_all is_word words) h)) (spelled-plain words _ (and-right (is_word t) (list_all is_word words) h))
+spelled-plain (t ∷ words) names h = plain-append _ _ (t.span.start ∷ []) (starts words) (kind-plain t.kind t.text t.hash_line t.span.start names (both-left (is_word t) (list_all is_word words) h)) (spelled-plain words _ (both-right (is_word t) (list_all is_word words) h))
 
 pub dollared-plain : (ts : List Token) (ns : List ℕ) → PlainFor ts ns → PlainFor (dollared ts) ns
 unfolding is_plain
@@ -166,11 +167,11 @@ starts-split (word ∷ words) = refl
 
 words-first : (words : List Seen) → list_all is_word words ≡ true → list_all is_word (first_word words) ≡ true
 words-first [] h = refl
-words-first (word ∷ words) h = and-both (is_word word) true (and-left (is_word word) (list_all is_word words) h) refl
+words-first (word ∷ words) h = and-both (is_word word) true (both-left (is_word word) (list_all is_word words) h) refl
 
 words-later : (words : List Seen) → list_all is_word words ≡ true → list_all is_word (later_words words) ≡ true
 words-later [] h = refl
-words-later (word ∷ words) h = and-right (is_word word) (list_all is_word words) h
+words-later (word ∷ words) h = both-right (is_word word) (list_all is_word words) h
 
 shows-head : (flags : Flags) (named : ℕ → Option (List (List Answer))) (h : Head) (known : Known) → AreHeadWords h → Shows false (head_made flags named h known) (shown_head (λ n. is_some (named n)) h)
 unfolding AreHeadWords is_plain

@@ -2,6 +2,7 @@
 use Rattle.std.proofs.Common.{◌≡◌, ◌≤◌, ℕ, ◌+◌, ◌*◌, length, Bool, true, Option, Some, None, List, [], ◌∷◌, refl, arith}
 use Rattle.std.specs.List.{list_all}
 use Rattle.std.proofs.lemmas.List.Sums.{sum_by-append}
+use Rattle.cw_base.proofs.TestLaws.{both-left, both-right}
 use Rattle.cw_base.specs.declared.category.Cat.{Cat}
 use Rattle.cw_base.specs.declared.mode.MathMode.{MathMode}
 use Rattle.cw_base.specs.declared.flags.Flags.{Flags}
@@ -17,7 +18,7 @@ use Rattle.cw_table.specs.WalkCounts.{ticks, reservings}
 use Rattle.cw_table.specs.Productions.{productions}
 use Rattle.cw_table.proofs.Examples.{productions-sound}
 use Rattle.cw_table.proofs.CountLaws.{ticks-most}
-use Rattle.cw_table.proofs.ScrapFacts.{all-append, and-left, and-right, and-both}
+use Rattle.cw_table.proofs.ScrapFacts.{all-append, and-both}
 use Rattle.cw_scraps.specs.Leaves.{LeafForm, token_form}
 use Rattle.cw_lex.specs.Nest.{Nest, End, Leaf, Group, nest}
 use Rattle.cw_lex.specs.Heads.{Head, Headless, Macro, Format, Silent, Named, Headed, headed}
@@ -103,8 +104,8 @@ fine-headed flags named h known f =
 most : (flags : Flags) (ended : List State) → list_all fine_state ended ≡ true → ticks_in flags ended ≤ limit_in flags ended
 most flags [] f = omega arith
 most flags (state ∷ ended) f =
-    let a = ticks-most productions flags state productions-sound (and-left (fine_state state) (list_all fine_state ended) f) in
-    let b : ticks_in flags ended ≤ limit_in flags ended = most flags ended (and-right (fine_state state) (list_all fine_state ended) f) in
+    let a = ticks-most productions flags state productions-sound (both-left (fine_state state) (list_all fine_state ended) f) in
+    let b : ticks_in flags ended ≤ limit_in flags ended = most flags ended (both-right (fine_state state) (list_all fine_state ended) f) in
     let t : ticks_in flags (state ∷ ended) ≡ (0 + ticks productions flags state) + ticks_in flags ended = sum_by-append (λ s. ticks productions flags s) (state ∷ []) ended in
     let l : limit_in flags (state ∷ ended) ≡ (0 + (132 * length state.scraps + length state.scraps * reservings productions flags state)) + limit_in flags ended = sum_by-append (λ s. 132 * length s.scraps + length s.scraps * reservings productions flags s) (state ∷ []) ended in
     omega (arith, a, b, t, l)

@@ -12,6 +12,7 @@ use Rattle.std.specs.BTreeMap.{is_at}
 use Rattle.std.specs.BTreeMap.Range.{range_contains}
 use Rattle.std.specs.declared.ops.Bound.TheVariants.{Included}
 use Rattle.std.specs.BTreeSet.{BTreeSet, contains}
+use Rattle.cw_base.proofs.TestLaws.{one-left, one-right}
 use Rattle.cw_secnames.specs.declared.kinds.SecKind.{SecKind}
 use Rattle.cw_secnames.specs.declared.marks.Marks.{Marks}
 use Rattle.cw_secnames.specs.Kept.{begins}
@@ -70,21 +71,13 @@ pub or-yes : (a b : Bool) → (a || b) ≡ true → (a ≡ true) ⊎ (b ≡ true
 or-yes true b h = inl refl
 or-yes false b h = inr h
 
-pub or-left : (a b : Bool) → a ≡ true → (a || b) ≡ true
-or-left true b h = refl
-or-left false b h = absurd (cc)
-
-pub or-right : (a b : Bool) → b ≡ true → (a || b) ≡ true
-or-right true b h = refl
-or-right false b h = h
-
 in-map : (mark k : ℕ) (pairs : List (ℕ × ℕ)) → list_any (is_at (pair_cmp (mark, k))) pairs ≡ true → is_in k (map (λ pair. pair.1) pairs) ≡ true
 in-map mark k [] h = absurd (cc)
 in-map mark k (pair ∷ pairs) h = elim (or-yes (is_at (pair_cmp (mark, k)) pair) (list_any (is_at (pair_cmp (mark, k))) pairs) h) [
   | inl at ↦
       let e : (mark ≡ pair.0) × (k ≡ pair.1) = parts mark k pair at in
-      or-left (pair.1 == k) (is_in k (map (λ p. p.1) pairs)) (eq-eqb pair.1 k (sym e.1))
-  | inr later ↦ or-right (pair.1 == k) (is_in k (map (λ p. p.1) pairs)) (in-map mark k pairs later)
+      one-left (pair.1 == k) (is_in k (map (λ p. p.1) pairs)) (eq-eqb pair.1 k (sym e.1))
+  | inr later ↦ one-right (pair.1 == k) (is_in k (map (λ p. p.1) pairs)) (in-map mark k pairs later)
 ]
 
 pub is-at : (set : BTreeSet (ℕ × ℕ)) (mark k : ℕ) → k < 2 ^ 64 → Has set mark k → is_in k (positions_at mark set) ≡ true
@@ -93,10 +86,10 @@ is-at set mark k small h =
     (any-filter_same (is_at (pair_cmp (mark, k))) (range_contains pair_cmp (Included (mark, 0)) (Included (mark, 2 ^ 64 - 1))) true (in-range mark k small) set.keys ∙ h)
 
 pub in-left : (k : ℕ) (xs ys : List ℕ) → is_in k xs ≡ true → is_in k (xs ++ ys) ≡ true
-in-left k xs ys h = list_any-append (λ other. other == k) xs ys ∙ or-left (is_in k xs) (is_in k ys) h
+in-left k xs ys h = list_any-append (λ other. other == k) xs ys ∙ one-left (is_in k xs) (is_in k ys) h
 
 pub in-right : (k : ℕ) (xs ys : List ℕ) → is_in k ys ≡ true → is_in k (xs ++ ys) ≡ true
-in-right k xs ys h = list_any-append (λ other. other == k) xs ys ∙ or-right (is_in k xs) (is_in k ys) h
+in-right k xs ys h = list_any-append (λ other. other == k) xs ys ∙ one-right (is_in k xs) (is_in k ys) h
 
 cond-yes : (b c : Bool) → c ≡ true → cond b true c ≡ true
 cond-yes true c h = refl

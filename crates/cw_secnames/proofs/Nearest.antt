@@ -3,6 +3,7 @@ use Rattle.std.proofs.Common.{◌≡◌, ℕ, zero, suc, ◌+◌, ◌-◌, ◌<�
 use Rattle.std.specs.List.{position, position_or_len}
 use Rattle.std.specs.Cmp.Lexicographic.{same_text, pointwise}
 use Rattle.std.proofs.lemmas.List.Sums.{position_or_len_is}
+use Rattle.cw_base.proofs.TestLaws.{one-left, one-right}
 use Rattle.cw_secnames.specs.declared.kinds.SecKind.{SecKind}
 use Rattle.cw_secnames.specs.declared.kinds.SecKind.TheVariants.{Named, File}
 use Rattle.cw_secnames.specs.declared.sec_names.Asked.{Asked}
@@ -17,7 +18,7 @@ use Rattle.cw_secnames.specs.Kept.{SecName, same_kind, begins, begins_properly, 
 use Rattle.cw_secnames.specs.Asked.{kind_asked, passes, passes_at, is_below, chosen, is_lesser, least_of}
 use Rattle.cw_secnames.specs.Marks.{is_in, is_near, IsNear, IsMarked, KeepsMarks, AreMarked, HoldNear}
 use Rattle.cw_secnames.proofs.Finding.{length-named}
-use Rattle.cw_secnames.proofs.Marked.{both, and-yes, or-yes, or-left, or-right, begins-self}
+use Rattle.cw_secnames.proofs.Marked.{both, and-yes, or-yes, begins-self}
 
 -- ## All names are marked
 
@@ -56,10 +57,10 @@ holds marks near kind text k (n ∷ names) h f = (
 )
 
 begun : (kind : SecKind) (text : List ℕ) (n : SecName) → same_kind kind n.kind ≡ true → begins n.text text ≡ true → is_near kind text n ≡ true
-begun kind text n h k = and-yes (same_kind kind n.kind) (begins n.text text || begins text n.text) h (or-left (begins n.text text) (begins text n.text) k)
+begun kind text n h k = and-yes (same_kind kind n.kind) (begins n.text text || begins text n.text) h (one-left (begins n.text text) (begins text n.text) k)
 
 begins-it : (kind : SecKind) (text : List ℕ) (n : SecName) → same_kind kind n.kind ≡ true → begins text n.text ≡ true → is_near kind text n ≡ true
-begins-it kind text n h k = and-yes (same_kind kind n.kind) (begins n.text text || begins text n.text) h (or-right (begins n.text text) (begins text n.text) k)
+begins-it kind text n h k = and-yes (same_kind kind n.kind) (begins n.text text || begins text n.text) h (one-right (begins n.text text) (begins text n.text) k)
 
 -- a name that passes is near
 passes-near : (asked : Asked) (text : List ℕ) (n : SecName) → passes asked text n ≡ true → is_near (kind_asked asked) text n ≡ true

@@ -1,6 +1,7 @@
 -- Laws of the normal form, its log and its count.
 use Rattle.std.proofs.Common.{◌≡◌, ℕ, zero, suc, ◌+◌, ◌*◌, ◌<◌, ◌≤◌, Bool, true, false, Option, Some, None, List, [], ◌∷◌, length, drop, refl, sym, ◌∙◌, ap, arith}
 use Rattle.std.specs.List.{list_all}
+use Rattle.cw_base.proofs.TestLaws.{both-left, both-right}
 use Rattle.cw_base.specs.declared.category.Cat.{Cat}
 use Rattle.cw_base.specs.declared.flags.Flags.{Flags}
 use Rattle.cw_table.specs.declared.types.Row.{Row}
@@ -8,7 +9,7 @@ use Rattle.cw_table.specs.Fitting.{row_fits, first_of}
 use Rattle.cw_table.specs.Sound.{row_is_sound, IsSound}
 use Rattle.cw_table.specs.Rewriting.{cats_of, State, rewrite}
 use Rattle.cw_table.specs.Normal.{Place, Nowhere, At, least_place, next_place, weight, is_fine, steps, normal, Production, log_of, log, count}
-use Rattle.cw_table.proofs.ScrapFacts.{and-left, and-right, weight-most, cats-length}
+use Rattle.cw_table.proofs.ScrapFacts.{weight-most, cats-length}
 use Rattle.cw_table.proofs.Falling.{Falls, falls}
 use Rattle.cw_table.proofs.Soundness.{sound-row}
 
@@ -19,12 +20,12 @@ pub record Found (rows : List Row) (cs : List Cat) (r : Row) : Type 0 where
 
 pub first-found : (rows : List Row) (cs : List Cat) (r : Row) → list_all row_is_sound rows ≡ true → first_of rows cs ≡ Some r → Found rows cs r
 first-found [] cs r all h = cc
-first-found (x ∷ rows) cs r all h = go (λ k. first-found rows cs r (and-right (row_is_sound x) _ all) k) (row_fits x cs) refl h
+first-found (x ∷ rows) cs r all h = go (λ k. first-found rows cs r (both-right (row_is_sound x) _ all) k) (row_fits x cs) refl h
   where
     go : (first_of rows cs ≡ Some r → Found rows cs r) → (b : Bool) → row_fits x cs ≡ b → elim b [ true ↦ Some x | false ↦ first_of rows cs ] ≡ Some r → Found (x ∷ rows) cs r
     go rec true e h =
         let same : x ≡ r = cc in
-        record { fits = ap (λ y. row_fits y cs) (sym same) ∙ e; sound = ap row_is_sound (sym same) ∙ and-left (row_is_sound x) _ all }
+        record { fits = ap (λ y. row_fits y cs) (sym same) ∙ e; sound = ap row_is_sound (sym same) ∙ both-left (row_is_sound x) _ all }
     go rec false e h = let k = rec h in record { fits = k.fits; sound = k.sound }
 
 -- the least place, seen from the list

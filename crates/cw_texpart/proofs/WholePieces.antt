@@ -3,6 +3,7 @@ use Rattle.std.proofs.Common.{◌≡◌, ℕ, zero, suc, ◌+◌, ◌-◌, ◌<�
 use Rattle.std.proofs.lemmas.Bool.{cases_lt}
 use Rattle.std.proofs.lemmas.List.{drop_all, length-take, take-take}
 use Rattle.std.proofs.lemmas.List.Elements.{All-nil, All-cons, All-weaker}
+use Rattle.cw_base.proofs.TestLaws.{one-failed-left, one-failed-right}
 use Rattle.cw_base.specs.declared.span.Span.{Span}
 use Rattle.cw_lex.specs.declared.codes.Code.{Code}
 use Rattle.cw_lex.specs.declared.codes.Code.TheVariants as at
@@ -22,21 +23,13 @@ use Rattle.cw_texpart.specs.WholePieces.{PiecesAreWhole, TexPartsAreWhole}
 
 -- ## Answers in which no part begins
 
-or-left : (a b : Bool) → (a || b) ≡ false → a ≡ false
-or-left false b h = refl
-or-left true b h = absurd cc
-
-or-right : (a b : Bool) → (a || b) ≡ false → b ≡ false
-or-right false b h = h
-or-right true b h = absurd cc
-
 or-none : (a b : Bool) → a ≡ false → b ≡ false → (a || b) ≡ false
 or-none false b e h = h
 or-none true b e h = absurd cc
 
 token-rest : (more : List Answer) (t : Seen) (answers : List Answer) → opens_part_before more (Token t ∷ answers) ≡ false → opens_part_before more answers ≡ false
 token-rest more t answers h =
-    or-right (is_some (opened_by t.kind (has_sign (answers ++ more)))) (opens_part_before more answers) (or-right (is_section_kind t.kind) _ h)
+    one-failed-right (is_some (opened_by t.kind (has_sign (answers ++ more)))) (opens_part_before more answers) (one-failed-right (is_section_kind t.kind) _ h)
 
 opens-right : (more xs ys : List Answer) → opens_part_before more (xs ++ ys) ≡ false → opens_part_before more ys ≡ false
 opens-right more [] ys h = h
@@ -47,7 +40,7 @@ opens-right more (Note kind place ∷ xs) ys h = opens-right more xs ys h
 
 uncut-left : (more xs ys : List Answer) → opens_part_before more (xs ++ ys) ≡ false → begins_section_in xs ≡ false
 uncut-left more [] ys h = refl
-uncut-left more (Token t ∷ xs) ys h = or-none (is_section_kind t.kind) (begins_section_in xs) (or-left (is_section_kind t.kind) _ h) (uncut-left more xs ys (token-rest more t (xs ++ ys) h))
+uncut-left more (Token t ∷ xs) ys h = or-none (is_section_kind t.kind) (begins_section_in xs) (one-failed-left (is_section_kind t.kind) _ h) (uncut-left more xs ys (token-rest more t (xs ++ ys) h))
 uncut-left more (Begin t ∷ xs) ys h = uncut-left more xs ys h
 uncut-left more (Finish t ∷ xs) ys h = uncut-left more xs ys h
 uncut-left more (Note kind place ∷ xs) ys h = uncut-left more xs ys h
