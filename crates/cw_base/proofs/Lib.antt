@@ -1,3 +1,4 @@
+-- The laws of categories and their sets, of tests that are put together, and of how a web is kept.
 pub mod CategoryLaws
 pub mod SetLaws
 pub mod TestLaws

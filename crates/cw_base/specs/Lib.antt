@@ -1,3 +1,4 @@
+-- The definitions that all crates share: categories, exits, flags, notes, words on texts, and the merged web.
 pub mod Category
 pub mod Exit
 pub mod Flags

@@ -1,3 +1,4 @@
+//! Byte texts that own their bytes.
 ghost use Rattle.std.specs.Prelude.{◌≡◌, [], ◌∷◌, ◌++◌, ◌==◌, length, IfOk, OnOk, OnErr};
 
 use crate::Memory;

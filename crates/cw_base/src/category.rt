@@ -1,3 +1,4 @@
+//! The categories of scraps, and sets of categories.
 ghost use Rattle.std.specs.Prelude.{not, ◌≡◌, ◌≤◌, ℕ, ◌^◌};
 ghost use Rattle.cw_base.specs.Category.{in_set, leaves, meet, number_of, some_of};
 

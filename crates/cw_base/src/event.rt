@@ -1,3 +1,4 @@
+//! The outputs of a run, and the events that a journal records.
 use crate::Bytes;
 
 /// An output of the program: the terminal, the TeX file, the index and the file of section names.

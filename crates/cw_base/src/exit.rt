@@ -1,3 +1,4 @@
+//! How a run of the program ends, and the status of its process.
 ghost use Rattle.std.specs.Prelude.{◌≡◌};
 ghost use Rattle.cw_base.specs.Exit.{code_of};
 

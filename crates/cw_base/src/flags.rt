@@ -1,3 +1,4 @@
+//! The flags of a run, and how they stand on a command line without option words.
 ghost use Rattle.std.specs.Prelude.{◌≡◌};
 ghost use Rattle.cw_base.specs.Flags.{start_flags};
 

@@ -1,3 +1,4 @@
+//! Want of memory, which every call that allocates may answer.
 use std::alloc::{AllocError, AllocFailed};
 
 /// Want of memory: an ordinary answer of every call that allocates.

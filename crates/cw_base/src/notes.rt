@@ -1,3 +1,4 @@
+//! Notes: what each is about, where it stands, how grave it is, and its fixed words.
 ghost use Rattle.std.specs.Prelude.{◌≡◌};
 ghost use Rattle.cw_base.specs.Notes.{grade_of, message_of};
 

@@ -1,3 +1,4 @@
+//! The counter of steps, with a ledger that keeps its number and one whose number contracts alone see.
 ghost use Rattle.std.specs.Prelude.{◌≡◌, ℕ, ◌+◌, ◌-◌, ◌^◌, min};
 
 use std::marker::Model;

@@ -1,3 +1,4 @@
+//! Tests of texts, words, ledgers, notes, exits and flags.
 use crate::{Bytes, Exit, Flags, Grade, Kept, NoteKind, Silent, Steps, Words};
 use std::test::Fail;
 

@@ -1,3 +1,4 @@
+//! The merged web: its lines, the names of its files, and the notes of reading.
 ghost use Rattle.std.specs.Prelude.{
   ◌≡◌,
   ◌≢◌,

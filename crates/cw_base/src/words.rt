@@ -1,3 +1,4 @@
+//! The words of a command line.
 ghost use Rattle.std.specs.Prelude.{◌≡◌, ◌<◌, ◌==◌, [], ◌∷◌, ◌++◌, length, OnOk, OnErr, slice_index_or};
 
 use crate::{Bytes, Memory};

@@ -1,3 +1,4 @@
+-- The definitions of desks: what each kind tells, what calls answer and change, and how a journal grows.
 pub mod Batch
 pub mod BatchLaws
 pub mod Count

@@ -1,3 +1,4 @@
+-- The laws of the index and the section list: their order, their rows, and names that are whole.
 mod ClassLaws
 mod OrderLaws
 mod OrderRows

@@ -1,3 +1,4 @@
+-- The definitions of the index, of the section list and of the closing lines, and of the order of entries.
 pub mod Collation
 pub mod CollationLaws
 pub mod Sorted

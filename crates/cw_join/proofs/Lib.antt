@@ -1,3 +1,4 @@
+-- The laws of joining: runs, what is printed early and late, what a joiner keeps, and the pieces of names.
 pub mod RunLaws
 pub mod EarlyLaws
 pub mod PrintedLaws

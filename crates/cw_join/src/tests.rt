@@ -1,3 +1,4 @@
+//! Tests of the joiner: names, signs and runs are printed, and inner texts have a blank for a run.
 ghost use Rattle.std.specs.Prelude.{ℕ, IfOk, IsTrue, List, OnOk};
 ghost use Rattle.std.specs.Bool.{OnTrue};
 ghost use Rattle.cw_base.specs.declared.event.Out.TheVariants.{Tex};

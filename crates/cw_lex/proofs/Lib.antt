@@ -1,3 +1,4 @@
+-- The laws of the scanner: what tokens take, how answers are nested, and how parts are scanned by themselves.
 pub mod Inside
 pub mod Walk
 pub mod Stack

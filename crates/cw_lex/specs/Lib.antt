@@ -1,3 +1,4 @@
+-- The definitions of the scanner: its tokens, how its answers stand and are nested, and where parts begin.
 pub mod Bytes
 pub mod Signs
 pub mod Constants

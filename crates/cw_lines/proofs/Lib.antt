@@ -1,2 +1,3 @@
+-- What the definition of cutting gives for worked rows.
 mod ComparedRows
 mod Rows

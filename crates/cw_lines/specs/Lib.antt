@@ -1,3 +1,4 @@
+-- The definitions of output lines: how bytes are cut, how a line is filled, and what a call that writes has done.
 pub mod Compared
 pub mod ComparedLaws
 pub mod Cut

@@ -1,3 +1,4 @@
+-- The laws of names, of the hash table in which they lie, and of the sections in which they occur.
 pub mod Lookup
 pub mod Ends
 pub mod First

@@ -1,3 +1,4 @@
+-- The definitions of names and of the built-in words, and of the sections in which names occur.
 pub mod Names
 pub mod Wanting
 pub mod Words

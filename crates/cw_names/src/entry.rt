@@ -1,3 +1,4 @@
+//! What a name is: its kind and its text, by which it is found, and its place in the list.
 ghost use Rattle.std.specs.Prelude.{◌&&◌, ◌∷◌, length, nat_eq};
 ghost use Rattle.std.proofs.Common.{◌∙◌, ap, rules};
 ghost use Rattle.std.specs.Hash.{le_bytes, u8};

@@ -1,3 +1,4 @@
+//! Tests of names that are found again, of the words known from the start, and of the sections of names.
 use crate::{EntryKind, Names, Xrefs};
 use cw_base::Cat;
 use std::test::Fail;

@@ -1,3 +1,4 @@
+-- The laws of sections behind their TeX parts: paragraphs, footnotes, and definitions that are whole.
 pub mod WovenLaws
 mod ParagraphLaws
 mod SectionLaws

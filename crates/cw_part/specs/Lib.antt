@@ -1,3 +1,4 @@
+-- The definitions of sections behind their TeX parts: definitions, C parts, footnotes, and whole sections.
 pub mod Definitions
 pub mod Parts
 pub mod Footnotes

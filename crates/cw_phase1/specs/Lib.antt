@@ -1,3 +1,4 @@
+-- The definitions of the book: texts, roles, words, sections, uses and notes, and what is held on the way.
 pub mod Texts
 pub mod Entering
 pub mod Roles

@@ -1,3 +1,4 @@
+-- The laws of printing C texts: pieces of comments, tokens that are found, and items that may come.
 pub mod PieceLaws
 pub mod ScanLaws
 pub mod ComingLaws

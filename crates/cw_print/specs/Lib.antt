@@ -1,3 +1,4 @@
+-- The definitions of what C texts print: each kind of token, each item of a list, and the list as a whole.
 pub mod Escaping
 pub mod Constants
 pub mod Texts

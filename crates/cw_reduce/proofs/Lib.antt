@@ -1,3 +1,4 @@
+-- The laws of reducing and translating: the walk, gathered lists, heads, section names, and what is shown.
 pub mod WalkSteps
 pub mod WalkLoop
 mod TranslatedRows

@@ -1,3 +1,4 @@
+-- The definitions of translations: how texts are reduced and put together, with their heads and section names.
 pub mod Reduction
 pub mod Translating
 pub mod Counting

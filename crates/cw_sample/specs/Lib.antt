@@ -1,1 +1,2 @@
+-- The definition of the sample, a web that is made in memory.
 pub mod Sample

@@ -1,3 +1,4 @@
+-- The laws of a line of scraps and of one production on it: its gap, lists, trees, modes and reservings.
 pub mod Gaps
 pub mod RowPieces
 pub mod Buildings

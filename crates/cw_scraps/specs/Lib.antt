@@ -1,3 +1,4 @@
+-- The definitions of a line of scraps, of the scrap of a token, and of what one production does.
 pub mod Gap
 pub mod Lines
 pub mod Inserting

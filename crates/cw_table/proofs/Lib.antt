@@ -1,3 +1,4 @@
+-- The laws of productions: which row fits, how far to step back, and what rewriting by sound rows comes to.
 pub mod BackLaws
 pub mod CheckLaws
 pub mod Examples

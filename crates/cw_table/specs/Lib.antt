@@ -1,3 +1,4 @@
+-- The definitions of productions: rows, the row that fits, safe distances, rewriting, and the walk with a pointer.
 pub mod Masks
 pub mod Joined
 pub mod Rows

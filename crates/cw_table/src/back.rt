@@ -1,3 +1,4 @@
+//! How far a reducer steps back after each production, from the program's data.
 ghost use Rattle.std.specs.Prelude.{◌≡◌, ◌≤◌, IfSome};
 ghost use Rattle.cw_table.specs.Productions.{productions};
 ghost use Rattle.cw_table.specs.Rows.{row_numbered};

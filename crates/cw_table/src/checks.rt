@@ -1,3 +1,4 @@
+//! The check of each production by itself: its tests, pieces, result, marks and counts.
 ghost use Rattle.std.specs.Prelude.{◌≡◌, ◌≤◌, true};
 ghost use Rattle.std.specs.List.{All, list_all};
 ghost use Rattle.cw_base.specs.Category.{may_be_bare};

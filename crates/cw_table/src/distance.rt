@@ -1,3 +1,4 @@
+//! The least safe distance of a production, found by going over all rows of the table.
 ghost use Rattle.std.specs.Prelude.{◌≡◌, ◌≤◌, IfSome, true};
 ghost use Rattle.cw_table.specs.Rows.{row_numbered};
 ghost use Rattle.cw_table.specs.Safe.{endangers, least, safe};

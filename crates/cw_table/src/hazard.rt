@@ -1,3 +1,4 @@
+//! Whether one production may bring another to fit some places before it, where that didn't fit.
 ghost use Rattle.std.specs.Prelude.{◌≡◌, ◌≤◌, ◌&&◌, ◌||◌};
 ghost use Rattle.std.specs.List.{list_any};
 ghost use Rattle.cw_base.specs.Category.{leaves, some_of};

@@ -1,3 +1,4 @@
+//! The laws of rewriting, of safe distances, and of the walk with a pointer.
 ghost use Rattle.cw_table.specs.SourceNumbers.{NormalKeepsNumbers, StepsKeepNumbers};
 ghost use Rattle.cw_table.specs.NormalLaws.{CountAtMostEight, CountAtMostWeight, LeastIsSafe, NormalIsDone, NormalStays, SafeReachesFar, StaysFine, TicksAtMost, TurnsAtMost, WalkEndsNormal, WalkHasLog, WalkIsLeftmost, WeightFalls, WeightTellsNumber};
 

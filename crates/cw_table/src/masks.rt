@@ -1,3 +1,4 @@
+//! The first production that fits four categories, found by masks of bits.
 ghost use Rattle.std.specs.Prelude.{◌≡◌, ◌≤◌, ◌<◌, ◌&&◌, [], ◌∷◌, false, IfSome, None};
 ghost use Rattle.std.specs.List.{list_any};
 ghost use Rattle.cw_base.specs.declared.category.Cat.{Cat};

@@ -1,3 +1,4 @@
+//! The productions as they are written, and the table that is made of them.
 ghost use Rattle.std.specs.Prelude.{◌≡◌, ◌<◌, Some, true, slice_get};
 ghost use Rattle.std.specs.List.{All, list_all};
 ghost use Rattle.cw_table.specs.Productions.{productions};

@@ -1,3 +1,4 @@
+//! The ranks of categories: each production lowers the weight that they make up.
 ghost use Rattle.std.specs.Prelude.{◌≡◌, ◌≢◌};
 ghost use Rattle.cw_base.specs.Category as spec;
 

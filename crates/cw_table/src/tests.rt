@@ -1,3 +1,4 @@
+//! Tests of the table: distances, steps back, the rows that fit, and ranks.
 use crate::{Piece, RowNo, first_production, rank, step_back, table};
 use cw_base::{ALL_CATS, Cat, CatSet};
 

@@ -1,3 +1,4 @@
+//! What a production is: tests, result, pieces and marks; and the table in which productions are found.
 ghost use Rattle.std.specs.Prelude.{true, ◌≡◌, ◌≤◌, IfSome, Some};
 
 use crate::masks::first_production;

@@ -1,3 +1,4 @@
+-- The laws of limbo, heads and TeX parts: pieces woven one after another, and C texts that are whole.
 pub mod LayingLaws
 pub mod WeavingLaws
 pub mod TextLaws

@@ -1,3 +1,4 @@
+-- The definitions of limbo, heads and TeX parts: what a piece of the book prints and leaves, and what calls do.
 pub mod Inks
 pub mod Laying
 pub mod Heads

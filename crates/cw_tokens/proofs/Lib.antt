@@ -1,3 +1,4 @@
+-- The laws of the store and its trees: how lists are linked, searched, reserved, laid flat and trimmed.
 pub mod Cutting
 pub mod Linking
 pub mod Storing

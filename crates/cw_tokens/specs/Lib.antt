@@ -1,3 +1,4 @@
+-- The definitions of stored lists, of their trees, and of the walks that search them, lay them flat and trim them.
 pub mod Shapes
 pub mod References
 pub mod Stored

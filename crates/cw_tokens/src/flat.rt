@@ -1,3 +1,4 @@
+//! A tree laid flat: its items in order, as they stand or trimmed in the same walk.
 ghost use Rattle.std.specs.Prelude.{◌≡◌, ◌+◌, ◌-◌, ◌<◌, ◌≤◌, List, ◌++◌, length, IfOk, OnOk, Some, IsTrue, ◌↔◌, slice_get};
 ghost use Rattle.cw_trees.specs.Flat.{Item, flat, trimmed};
 ghost use Rattle.cw_tokens.specs.Shapes.{shape, unfolded};

@@ -1,3 +1,4 @@
+//! The store of lists of tokens, with a link from each list to the one token that refers to it.
 ghost use Rattle.std.specs.Prelude.{◌≡◌, ℕ, ◌+◌, ◌-◌, ◌<◌, ◌≤◌, [], ◌∷◌, ◌++◌, length, IsSome, IfSome, IfNone, IfOk, OnOk, OnErr, option_map, vec_capacity, vec_len};
 ghost use Rattle.std.specs.Option.{option_to_list};
 ghost use Rattle.cw_trees.specs.Tree.{first_ident, bare_name};

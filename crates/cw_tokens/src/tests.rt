@@ -1,3 +1,4 @@
+//! Tests of the store: lists in lists, inner texts, searches, trimming, and room that is refused.
 ghost use Rattle.std.specs.Prelude.{◌≡◌, ℕ, ◌+◌, ◌<◌, ◌≤◌, ◌++◌, ◌∷◌, [], length};
 ghost use Rattle.cw_trees.specs.declared.Control.TheVariants as controls;
 ghost use Rattle.cw_tokens.specs.declared.token.Token.TheVariants as tokens;

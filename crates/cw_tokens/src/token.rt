@@ -1,3 +1,4 @@
+//! The items of a list of tokens, and the place of a list in its store.
 use cw_base::{Cat, MathMode};
 use cw_names::NameId;
 use cw_trees::Control;

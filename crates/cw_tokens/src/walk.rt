@@ -1,3 +1,4 @@
+//! Walks through a tree in its store: the lists and links that they read, and the search for an identifier.
 ghost use Rattle.std.specs.Prelude.{◌≡◌, ℕ, ◌+◌, ◌-◌, ◌<◌, ◌≤◌, [], ◌∷◌, length, get_or, MatchOption, drop, take, slice_get};
 ghost use Rattle.cw_trees.specs.Tree.{first_ident};
 ghost use Rattle.cw_tokens.specs.Shapes.{shape, unfolded};

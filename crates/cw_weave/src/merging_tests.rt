@@ -1,3 +1,4 @@
+//! Whole runs over webs with change files and included files.
 use crate::tests::{FOO, desk_with, told, told_by};
 use std::test::Fail;
 

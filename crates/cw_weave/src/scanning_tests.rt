@@ -1,3 +1,4 @@
+//! Whole runs over webs that make notes of scanning, one by one and in order.
 use crate::weave_command;
 use cw_base::{Bytes, Event, Exit, Memory, Out, Silent, Steps, Words};
 use cw_desk::MemDesk;

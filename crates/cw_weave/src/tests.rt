@@ -1,3 +1,4 @@
+//! Whole runs over small webs and command lines, and over desks that fail; and a journal read as a text.
 use crate::weave_command;
 use cw_base::{Bytes, Event, Exit, Memory, Out, Silent, Steps, Words};
 use cw_desk::MemDesk;

@@ -1,3 +1,4 @@
+-- Each answer leaves one less to come.
 use Rattle.std.proofs.Common.{length}
 use Rattle.bench_lexer.proofs.count.Given as goal
 

@@ -1,3 +1,4 @@
+-- Each piece leaves fewer bytes wanting up to the size.
 use Rattle.std.proofs.Common.{◌-◌, vec_len}
 use Rattle.bench_lexer.proofs.repeated.Given as goal
 

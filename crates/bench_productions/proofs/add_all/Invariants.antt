@@ -1,3 +1,4 @@
+-- The line is sound with the scraps added so far.
 use Rattle.cw_scraps.specs.Lines.{IsSoundLine}
 use Rattle.bench_productions.proofs.add_all.Given as goal
 

@@ -1,3 +1,4 @@
+-- The first row for the four categories that are read fits at that place of the line.
 use Rattle.cw_scraps.proofs.FirstRows.{window-line, first-line}
 use Rattle.bench_productions.proofs.first_row.Goals as goal
 

@@ -1,3 +1,4 @@
+-- The comma is put, and then the section as it is referred to; a failure of the first ends both.
 use Rattle.cw_lines.specs.WritesLaws.{puts-stop, puts-then}
 use Rattle.cw_index.proofs.index.put_listed.Goals as goal
 

@@ -1,3 +1,4 @@
+-- A section's number is put with its mark where the book has the section as changed.
 use Rattle.std.proofs.Common.{Bool, ap}
 use Rattle.cw_lines.specs.WritesLaws.{puts-bytes}
 use Rattle.cw_print.specs.Walk.{section_number}

@@ -1,3 +1,4 @@
+-- The break or blank of the run is put, and then its step to the left; a failure of the first ends both.
 use Rattle.std.proofs.Common.{List, ℕ, ◌++◌, ap, ◌∙◌}
 use Rattle.cw_lines.specs.WritesLaws.{puts-failing, puts-longer, puts-then, puts-bytes}
 use Rattle.cw_join.specs.Runs.{backs, state_of, step_bytes}

@@ -1,3 +1,4 @@
+-- No byte so far is a lower case letter, so those that are left decide.
 use Rattle.std.proofs.Common.{◌≡◌, drop}
 use Rattle.std.specs.List.{list_any}
 use Rattle.cw_trees.specs.Printing.{is_lower}

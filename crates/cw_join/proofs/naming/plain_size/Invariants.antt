@@ -1,3 +1,4 @@
+-- No byte so far has a backslash, so the first that has one is looked for behind them.
 use Rattle.std.proofs.Common.{◌≡◌, ◌+◌, drop}
 use Rattle.std.specs.List.{position_or_len}
 use Rattle.cw_join.specs.Tokens.{is_marked}

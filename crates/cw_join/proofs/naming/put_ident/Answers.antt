@@ -1,3 +1,4 @@
+-- A name of one byte has a macro of its own before it; any other stands in braces behind the macro of its font.
 use Rattle.std.proofs.Common.{List, ℕ, ◌++◌, codes, sym, ap, ◌∙◌, arith}
 use Rattle.cw_trees.specs.Printing.{name_bytes}
 use Rattle.cw_lines.specs.WritesLaws.{puts-failing, puts-longer, puts-then, puts-bytes}

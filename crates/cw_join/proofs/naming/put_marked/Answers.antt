@@ -1,3 +1,4 @@
+-- The backslash is put, and then the bytes that it stands before.
 use Rattle.std.proofs.Common.{refl}
 use Rattle.cw_lines.specs.WritesLaws.{puts-failing, puts-longer, puts-then}
 use Rattle.cw_join.proofs.naming.put_marked.Goals as goal

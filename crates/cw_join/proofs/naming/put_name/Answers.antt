@@ -1,3 +1,4 @@
+-- The bytes before the first backslash, and then the pieces behind it, are the bytes of the name.
 use Rattle.cw_trees.specs.Printing.{name_bytes}
 use Rattle.cw_lines.specs.WritesLaws.{puts-failing, puts-longer, puts-then, puts-bytes}
 use Rattle.cw_join.proofs.NameLaws.{name-parts, name-begins}

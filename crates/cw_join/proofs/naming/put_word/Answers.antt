@@ -1,3 +1,4 @@
+-- The macro of the font, the name and the closing brace are put one after another.
 use Rattle.std.proofs.Common.{codes, refl}
 use Rattle.cw_trees.specs.Printing.{name_bytes}
 use Rattle.cw_lines.specs.WritesLaws.{puts-failing, puts-longer, puts-then}

@@ -1,3 +1,4 @@
+-- Where there are no bytes, nothing is put.
 use Rattle.std.proofs.Common.{length, sym, ◌∙◌}
 use Rattle.std.proofs.lemmas.Bool.{eqb-true}
 use Rattle.cw_lines.specs.WritesLaws.{puts-none, puts-bytes}

@@ -1,3 +1,4 @@
+-- The new joiner stands for no items.
 use Rattle.std.proofs.Common.{[]}
 use Rattle.cw_join.proofs.tests.push_each.Goals as goal
 

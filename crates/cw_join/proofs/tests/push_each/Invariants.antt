@@ -1,3 +1,4 @@
+-- The output can be written, and the joiner stands for some items.
 use Rattle.std.proofs.Common.{List}
 use Rattle.cw_desk.specs.Mem.{tell}
 use Rattle.cw_lines.specs.Writes.{CanWrite}

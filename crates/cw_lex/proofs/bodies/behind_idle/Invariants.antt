@@ -1,3 +1,4 @@
+-- The bytes passed so far change neither where the body stops nor which notes it has.
 use Rattle.std.proofs.Common.{◌≡◌, ◌-◌, ◌≤◌, length, drop}
 use Rattle.cw_lex.specs.Bodies.{ended, noted}
 use Rattle.cw_lex.proofs.bodies.behind_idle.Given as goal

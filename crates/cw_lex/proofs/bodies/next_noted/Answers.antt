@@ -1,3 +1,4 @@
+-- The note that is met is the first of those that were left; a byte without one leaves them all.
 use Rattle.std.proofs.Common.{◌≡◌, ◌∷◌, true, None, Some, slice_index, drop, ap, sym, ◌∙◌}
 use Rattle.cw_lex.specs.declared.bodies.Noted.{Noted}
 use Rattle.cw_lex.specs.Bodies.{goes_on, note_here, stepped}

@@ -1,3 +1,4 @@
+-- The notes from this place on are all those that were left.
 use Rattle.std.proofs.Common.{◌≡◌, ◌-◌, ◌≤◌, length, drop}
 use Rattle.cw_lex.specs.Bodies.{noted}
 use Rattle.cw_lex.proofs.bodies.next_noted.Given as goal

@@ -1,3 +1,4 @@
+-- From this place on the body stops where it did, and the notes met so far with those to come are all its notes.
 use Rattle.std.proofs.Common.{◌≡◌, ◌-◌, ◌≤◌, length, drop}
 use Rattle.cw_lex.specs.Bodies.{ended, noted}
 use Rattle.cw_lex.specs.Pending.{IsInside, notes_so_far}

@@ -1,3 +1,4 @@
+-- Bytes that end before the wanted ones don't begin with them.
 use Rattle.std.proofs.Common.{sym, ◌∙◌}
 use Rattle.cw_lex.proofs.Runs.{begins_with-short}
 use Rattle.cw_lex.proofs.classes.begins_with.Goals as goal

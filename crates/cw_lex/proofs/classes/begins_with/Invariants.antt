@@ -1,3 +1,4 @@
+-- The bytes so far are the wanted ones, so what is behind them decides.
 use Rattle.std.proofs.Common.{◌≡◌, ◌-◌, ◌≤◌, length, drop}
 use Rattle.cw_lex.specs.Bytes.{begins_with}
 use Rattle.cw_lex.proofs.classes.begins_with.Given as goal

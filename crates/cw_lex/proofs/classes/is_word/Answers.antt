@@ -1,3 +1,4 @@
+-- The table of the code tells of each byte whether an identifier may go on with it.
 use Rattle.std.proofs.Common.{false, arith}
 use Rattle.cw_lex.proofs.WordBytes.{word-at}
 use Rattle.cw_lex.proofs.classes.is_word.Goals as goal

@@ -1,3 +1,4 @@
+-- The bytes so far, and the run behind them, are the whole run.
 use Rattle.std.proofs.Common.{◌≡◌, ◌+◌, ◌-◌, ◌≤◌, length, drop}
 use Rattle.cw_lex.specs.Bytes.{run}
 use Rattle.cw_lex.proofs.classes.run.Given as goal

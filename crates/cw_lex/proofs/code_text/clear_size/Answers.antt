@@ -1,3 +1,4 @@
+-- From each place before the next `>` or line's end the bytes run up to there, so the end is kept.
 use Rattle.std.proofs.Common.{arith, ap, ◌∙◌}
 use Rattle.cw_lex.specs.declared.classes.Class.TheVariants.{IncludeName}
 use Rattle.cw_lex.specs.Bytes.{run}

@@ -1,3 +1,4 @@
+-- A line's end finishes inner C text of a short comment, with a note that its bar is missing, and takes no byte.
 use Rattle.std.proofs.Common.{ℕ, List, [], ◌∷◌, ◌++◌, None, drop, refl, sym, ap, ◌∙◌}
 use Rattle.cw_lex.specs.declared.state.State.{State}
 use Rattle.cw_lex.specs.declared.tokens.TokKind.TheVariants as kinds

@@ -1,3 +1,4 @@
+-- Only blanks were passed so far: what stands before them decides.
 use Rattle.std.proofs.Common.{◌≡◌, ◌≤◌, length}
 use Rattle.cw_lex.specs.Lexing.{fresh_at}
 use Rattle.cw_lex.proofs.code_text.is_fresh.Given as goal

@@ -1,3 +1,4 @@
+-- White space gives no answer, so behind it the same answers come.
 use Rattle.std.proofs.Common.{sym, ◌∙◌, arith}
 use Rattle.cw_lex.specs.Coming.{where_of}
 use Rattle.cw_lex.proofs.Steps.{skip-gives}

@@ -1,3 +1,4 @@
+-- From here on come the answers that came from where the scanner stood.
 use Rattle.std.proofs.Common.{◌≡◌, ◌-◌, ◌≤◌, length}
 use Rattle.cw_lex.specs.Lexing.{answers_at}
 use Rattle.cw_lex.specs.Coming.{where_of}

@@ -1,3 +1,4 @@
+-- The two bytes that open a comment are answered as its beginning, and it is the innermost from there on.
 use Rattle.std.proofs.Common.{ℕ, ◌+◌, List, ◌∷◌, false, refl, sym, ap, ◌∙◌, arith}
 use Rattle.cw_lex.specs.declared.parts.Opened.{Opened}
 use Rattle.cw_lex.specs.declared.state.State.{State}

@@ -1,3 +1,4 @@
+-- A bar in a comment's text is answered as the beginning of inner C text of that comment.
 use Rattle.std.proofs.Common.{ℕ, ◌+◌, List, true, drop, refl, sym, ap, ◌∙◌, arith}
 use Rattle.cw_lex.specs.declared.state.State.{State}
 use Rattle.cw_lex.specs.declared.tokens.TokKind.TheVariants as kinds

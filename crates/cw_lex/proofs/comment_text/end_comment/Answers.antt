@@ -1,3 +1,4 @@
+-- The two bytes that close a comment finish it, with a note if braces are open, and what is around it goes on.
 use Rattle.std.proofs.Common.{ℕ, ◌+◌, List, ◌∷◌, length, drop, sym, ap, ◌∙◌, arith}
 use Rattle.cw_lex.specs.declared.state.State.{State}
 use Rattle.cw_lex.specs.Answers.{Finish, token_of}

@@ -1,3 +1,4 @@
+-- A bar finishes inner C text of a comment, whose own text goes on behind it.
 use Rattle.std.proofs.Common.{ℕ, ◌+◌, List, false, drop, sym, ap, ◌∙◌, arith}
 use Rattle.cw_lex.specs.declared.state.State.{State}
 use Rattle.cw_lex.specs.declared.tokens.TokKind.TheVariants as kinds

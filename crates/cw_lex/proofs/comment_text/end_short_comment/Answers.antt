@@ -1,3 +1,4 @@
+-- A line's end finishes a short comment and isn't taken: what it ends around the comment comes next.
 use Rattle.std.proofs.Common.{ℕ, ◌≡◌, List, [], ◌∷◌, true, length, drop, refl, sym, ap, ◌∙◌, arith}
 use Rattle.cw_lex.specs.declared.state.State.{State}
 use Rattle.cw_lex.specs.Answers.{seen, before, Finish, note_answers, token_of}

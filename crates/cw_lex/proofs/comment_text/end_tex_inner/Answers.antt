@@ -1,3 +1,4 @@
+-- A bar finishes inner C text of TeX text, which goes on behind it.
 use Rattle.std.proofs.Common.{ℕ, ◌+◌, List, sym, ap, ◌∙◌, arith}
 use Rattle.cw_lex.specs.declared.parts.Part.TheVariants as parts
 use Rattle.cw_lex.specs.declared.state.State.{State}

@@ -1,3 +1,4 @@
+-- A piece of a comment takes the bytes up to where it stops; its notes follow, and the open braces are kept.
 use Rattle.std.proofs.Common.{ℕ, ◌≡◌, ◌≤◌, ◌<◌, ◌-◌, List, ◌∷◌, false, drop, refl, sym, ◌∙◌, arith}
 use Rattle.cw_lex.specs.declared.state.State.{State}
 use Rattle.cw_lex.specs.declared.tokens.TokKind.TheVariants as kinds

@@ -1,3 +1,4 @@
+-- A code that takes a section name is cut with the name behind it.
 use Rattle.std.proofs.Common.{sym}
 use Rattle.cw_lex.proofs.Cuts.{name-cut}
 use Rattle.cw_lex.proofs.cuttings.code_token.Goals as goal

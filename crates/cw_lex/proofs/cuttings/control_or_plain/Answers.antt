@@ -1,3 +1,4 @@
+-- A code that takes a control text is cut with the text behind it.
 use Rattle.std.proofs.Common.{sym}
 use Rattle.cw_lex.proofs.Cuts.{control-cut}
 use Rattle.cw_lex.proofs.cuttings.control_or_plain.Goals as goal

@@ -1,3 +1,4 @@
+-- A code that is dropped is cut as it would be, with the note why before the notes that it has.
 use Rattle.std.proofs.Common.{ap, ◌∙◌}
 use Rattle.cw_lex.specs.Coming.{cut_of}
 use Rattle.cw_lex.proofs.Cuts.{dropped-cut}

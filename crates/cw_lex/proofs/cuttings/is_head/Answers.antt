@@ -1,3 +1,4 @@
+-- Whether a name begins a C part is told by the bytes behind the two of its code.
 use Rattle.std.proofs.Common.{◌+◌, sym, ap, ◌∙◌}
 use Rattle.cw_lex.specs.declared.bodies.Body.TheVariants.{SectionName}
 use Rattle.cw_lex.specs.Bodies.{at_start, extent}

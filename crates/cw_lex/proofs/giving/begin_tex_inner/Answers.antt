@@ -1,3 +1,4 @@
+-- A bar in TeX text is answered as the beginning of inner C text.
 use Rattle.std.proofs.Common.{ℕ, ◌+◌, List, false, refl, ap, arith}
 use Rattle.cw_lex.specs.declared.parts.Part.TheVariants as parts
 use Rattle.cw_lex.specs.declared.state.State.{State}

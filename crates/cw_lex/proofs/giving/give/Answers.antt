@@ -1,3 +1,4 @@
+-- A token that is cut takes its bytes; its notes follow, and then the text goes on in its part.
 use Rattle.std.proofs.Common.{ℕ, ◌+◌, List, ◌∷◌, refl, sym, ap, ◌∙◌, arith}
 use Rattle.cw_lex.specs.Answers.{Token, note_answers, token_of}
 use Rattle.cw_lex.specs.Pending.{pending_notes}

@@ -1,3 +1,4 @@
+-- A string takes its bytes; its notes follow, and then the C text goes on as it did.
 use Rattle.std.proofs.Common.{ℕ, ◌+◌, ◌<◌, List, ◌∷◌, length, drop, sym, ap, ◌∙◌, arith}
 use Rattle.cw_lex.specs.Answers.{Token, note_answers, token_of}
 use Rattle.cw_lex.specs.Pending.{pending_notes}

@@ -1,3 +1,4 @@
+-- Answers are nested over C text, up to a section code that cuts it, and over TeX text.
 use Rattle.cw_lex.proofs.Nesting.{c-texts-nested, parts-nested}
 use Rattle.cw_lex.proofs.TexNesting.{tex-texts-nested}
 use Rattle.cw_lex.proofs.laws.nesting_law.Goals as goal

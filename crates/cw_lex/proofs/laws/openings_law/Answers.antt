@@ -1,3 +1,4 @@
+-- A text ends before the code of a section or of another part, and goes on from there as a scan of that part.
 use Rattle.cw_lex.proofs.Openings.{ends-at-sections, ends-at-openings}
 use Rattle.cw_lex.proofs.laws.openings_law.Goals as goal
 

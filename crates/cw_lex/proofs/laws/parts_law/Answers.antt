@@ -1,3 +1,4 @@
+-- A part that ends at a code or with the text is scanned as the whole is there, and so is inner C text up to its bar.
 use Rattle.cw_lex.proofs.PartScans.{ends-at-section, ends-at-code, ends-with-text, answered}
 use Rattle.cw_lex.proofs.InnerScans.{inner-ends-at-bar}
 use Rattle.cw_lex.proofs.laws.parts_law.Goals as goal

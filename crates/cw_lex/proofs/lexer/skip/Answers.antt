@@ -1,3 +1,4 @@
+-- The blanks behind a head give no answer, and the scanner then stands at no blank.
 use Rattle.std.proofs.Common.{◌≡◌, ◌+◌, true, slice_index, drop, sym, ap, ◌∙◌}
 use Rattle.cw_lex.specs.declared.classes.Class.TheVariants.{Blank}
 use Rattle.cw_lex.specs.Bytes.{run}

@@ -1,3 +1,4 @@
+-- White space before a name that a format definition wants gives no answer: the name comes first.
 use Rattle.std.proofs.Common.{◌≡◌, List, true, drop, subst}
 use Rattle.cw_lex.specs.Bytes.{begins_by, is_letter}
 use Rattle.cw_lex.specs.Answers.{Answer, Gives}

@@ -1,3 +1,4 @@
+-- White space before a parameter, or a sign among parameters, gives no answer.
 use Rattle.std.proofs.Common.{◌≡◌, List, true, drop, subst}
 use Rattle.cw_lex.specs.Tokens.{is_parameter}
 use Rattle.cw_lex.specs.Answers.{Answer, Gives}

@@ -1,3 +1,4 @@
+-- Behind the dots so far, the rest of the name tells whether it is void.
 use Rattle.std.proofs.Common.{◌≡◌, ◌-◌, ◌≤◌, length, drop}
 use Rattle.cw_lex.specs.Names.{uncoded, void_behind, is_void}
 use Rattle.cw_lex.proofs.names.is_void.Given as goal

@@ -1,3 +1,4 @@
+-- White space, or one dot more, leaves it to the rest of the name whether it is void.
 use Rattle.std.proofs.Common.{sym, arith}
 use Rattle.cw_lex.proofs.Void.{white-step, dot-step}
 use Rattle.cw_lex.proofs.names.next_step.Goals as goal

@@ -1,3 +1,4 @@
+-- An identifier, constant or sign takes its bytes, and the C text goes on as it did.
 use Rattle.std.proofs.Common.{ℕ, ◌+◌, ◌-◌, ◌<◌, List, length, drop, ap, ◌∙◌, arith}
 use Rattle.cw_lex.specs.declared.state.State.{State}
 use Rattle.cw_lex.specs.Answers.{Token, token_of}

@@ -1,3 +1,4 @@
+-- Letters and digits in a row, from a letter on, are a short token unless they are the word that includes a file.
 use Rattle.std.proofs.Common.{◌&&◌, ap, sym, ◌∙◌}
 use Rattle.cw_lex.specs.declared.classes.Class.TheVariants.{Word}
 use Rattle.cw_lex.specs.Bytes.{run}

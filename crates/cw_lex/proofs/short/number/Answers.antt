@@ -1,3 +1,4 @@
+-- A constant that begins with a digit is a short token.
 use Rattle.std.proofs.Common.{ap, ◌∙◌, arith}
 use Rattle.cw_lex.specs.Constants.{constant}
 use Rattle.cw_lex.proofs.ShortTokens.{number-short}

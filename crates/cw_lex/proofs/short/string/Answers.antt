@@ -1,3 +1,4 @@
+-- A quote where C text goes on begins a string.
 use Rattle.std.proofs.Common.{sym}
 use Rattle.cw_lex.proofs.ShortTokens.{string-begins}
 use Rattle.cw_lex.proofs.short.string.Goals as goal

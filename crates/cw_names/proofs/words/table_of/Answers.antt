@@ -1,3 +1,4 @@
+-- Each word that is put into the hash table is one word more of the table that is read.
 use Rattle.std.proofs.Common.{ap, ◌∙◌, arith, get_or, map, []}
 use Rattle.cw_base.specs.declared.category.Cat.TheVariants.{RawInt}
 use Rattle.cw_names.specs.Inside.{entry_of}

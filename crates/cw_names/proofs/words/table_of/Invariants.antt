@@ -1,3 +1,4 @@
+-- The words that are left, added to what lies in the hash table, give what all words give.
 use Rattle.std.proofs.Common.{◌≡◌, [], drop, map}
 use Rattle.cw_names.specs.Inside.{entry_of}
 use Rattle.cw_names.specs.Table.{row, with_table}

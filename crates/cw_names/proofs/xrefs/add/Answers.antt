@@ -1,3 +1,4 @@
+-- A section goes before the first that isn't less, or is joined to the same section where that stands there.
 use Rattle.std.proofs.Common.{◌≡◌, ◌<◌, ◌≤◌, length, get_or, ap, sym, subst, ◌∙◌, arith}
 use Rattle.cw_names.specs.declared.xrefs.SectionRef.{SectionRef}
 use Rattle.cw_names.proofs.Mentions.{Before, any-default, section-inserted, section-joined}

@@ -1,3 +1,4 @@
+-- Each name has the sections that it had, and at each turn fewer lists are wanting.
 use Rattle.std.proofs.Common.{◌≡◌, ℕ, ◌+◌, ◌-◌, length}
 use Rattle.cw_names.specs.Mentions.{sections_at}
 use Rattle.cw_names.proofs.xrefs.grow.Given as goal

@@ -1,3 +1,4 @@
+-- The list of this name gets the section, or stays where memory is wanting; those of other names stay.
 use Rattle.std.proofs.Common.{◌≡◌, ◌∙◌, ap, subst, sym}
 use Rattle.std.proofs.lemmas.Result.{on_ok_weaker, on_err_weaker}
 use Rattle.cw_names.specs.Mentions.{AreAscending, sections_at, with_mention}

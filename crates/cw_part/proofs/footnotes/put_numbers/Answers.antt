@@ -1,3 +1,4 @@
+-- A footnote without numbers puts nothing.
 use Rattle.std.proofs.Common.{◌<◌, length, arith}
 use Rattle.cw_lines.specs.WritesLaws.{puts-bytes, puts-none}
 use Rattle.cw_part.specs.Footnotes.{number_in}

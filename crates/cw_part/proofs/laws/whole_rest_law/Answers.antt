@@ -1,3 +1,4 @@
+-- Behind its TeX part a whole section is whole, since a text ends where another part of it begins.
 use Rattle.cw_part.proofs.WholeDefinitions.{definitions-whole, rests-whole}
 use Rattle.cw_part.proofs.laws.whole_rest_law.Goals as goal
 

@@ -1,3 +1,4 @@
+-- The parts of sections are whole, since a text ends where a section or another part begins.
 use Rattle.cw_phase1.proofs.WholeSections.{sections-whole}
 use Rattle.cw_phase1.proofs.laws.whole_law.Goals as goal
 

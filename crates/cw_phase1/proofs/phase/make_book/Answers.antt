@@ -1,3 +1,4 @@
+-- The sections of a book, the last one closed, are so few that their number fits in 32 bits.
 use Rattle.cw_phase1.proofs.Closings.{few-sections}
 use Rattle.cw_phase1.proofs.phase.make_book.Goals as goal
 

@@ -1,3 +1,4 @@
+-- The references that are left, added to the names so far, give what all references give.
 use Rattle.std.proofs.Common.{◌≡◌, length, drop, map}
 use Rattle.cw_phase1.specs.Ending.{with_references}
 use Rattle.cw_phase1.specs.Referring.{referring_of}

@@ -1,3 +1,4 @@
+-- A line behind the part ends the search, a changed one that reaches into it decides, and any other is passed.
 use Rattle.std.proofs.Common.{◌≡◌, ◌+◌, ◌≤◌, ◌<◌, ◌∙◌, sym, ap, arith, false, [], length, get_or, drop, zero-add}
 use Rattle.cw_base.specs.Web.{MergedLine}
 use Rattle.cw_phase1.specs.Places.{nowhere}

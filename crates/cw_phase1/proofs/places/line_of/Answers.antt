@@ -1,3 +1,4 @@
+-- What the table says of a line is where its text begins and ends, its place, and whether it was changed.
 use Rattle.std.proofs.Common.{◌≡◌, ◌+◌, ℕ, ap, ◌∙◌, false, [], get_or, length, zero-add}
 use Rattle.cw_base.specs.Web.{MergedLine, info_from}
 use Rattle.cw_base.specs.declared.web.LineInfo.{LineInfo}

@@ -1,3 +1,4 @@
+-- The place of a byte is that of the line which has it.
 use Rattle.std.proofs.Common.{◌+◌, ◌≤◌, ◌<◌, ◌∙◌, sym, arith, false, []}
 use Rattle.cw_base.specs.Web.{MergedLine}
 use Rattle.cw_phase1.specs.Places.{nowhere}

@@ -1,3 +1,4 @@
+-- The bytes so far, and what the rest of the control text stands for, are the text of the entry.
 use Rattle.std.proofs.Common.{◌≡◌, ◌-◌, ◌++◌, length, drop}
 use Rattle.cw_phase1.specs.Texts.{control_text}
 use Rattle.cw_phase1.proofs.texts.entry_text.Given as goal

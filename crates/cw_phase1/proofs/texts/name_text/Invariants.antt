@@ -1,3 +1,4 @@
+-- The bytes so far, and what the rest gives behind the white space that waits, are the text of the name.
 use Rattle.std.proofs.Common.{◌≡◌, ◌-◌, ◌++◌, length, drop}
 use Rattle.cw_lex.specs.Names.{uncoded}
 use Rattle.cw_phase1.specs.Texts.{reduced, rest_of, is_begun}

@@ -1,3 +1,4 @@
+-- The braces put so far, with those that the open ones still want, are all that close the comment.
 use Rattle.std.proofs.Common.{◌≡◌, ◌++◌}
 use Rattle.cw_print.specs.Comments.{closing_braces}
 use Rattle.cw_print.proofs.comments.put_closing_braces.Given as goal

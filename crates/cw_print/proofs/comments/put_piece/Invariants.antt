@@ -1,3 +1,4 @@
+-- What is put so far, with what the rest of the piece prints from its open braces on, is the piece.
 use Rattle.std.proofs.Common.{length}
 use Rattle.cw_print.proofs.PieceLaws.{Prints}
 use Rattle.cw_print.proofs.comments.put_piece.Given as goal

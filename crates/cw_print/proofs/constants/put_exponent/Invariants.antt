@@ -1,3 +1,4 @@
+-- What is put so far, with what the rest of the exponent prints, is the exponent.
 use Rattle.std.proofs.Common.{◌≡◌, ◌++◌, length}
 use Rattle.cw_print.specs.Constants.{exponent}
 use Rattle.cw_print.proofs.constants.put_exponent.Given as goal

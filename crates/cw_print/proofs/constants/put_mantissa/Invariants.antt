@@ -1,3 +1,4 @@
+-- What is put so far, with what the rest of the mantissa prints, is the mantissa.
 use Rattle.std.proofs.Common.{◌≡◌, ◌++◌, length}
 use Rattle.cw_print.specs.Constants.{mantissa}
 use Rattle.cw_print.proofs.constants.put_mantissa.Given as goal

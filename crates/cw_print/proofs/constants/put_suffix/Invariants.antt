@@ -1,3 +1,4 @@
+-- What is put so far, with what the letters that are left print, is the suffix.
 use Rattle.std.proofs.Common.{◌≡◌, ◌++◌, drop}
 use Rattle.cw_print.specs.Constants.{suffix}
 use Rattle.cw_print.proofs.constants.put_suffix.Given as goal

@@ -1,3 +1,4 @@
+-- The bytes put so far, with those that are left escaped, are the text escaped.
 use Rattle.std.proofs.Common.{◌≡◌, ◌++◌, drop}
 use Rattle.cw_print.specs.Escaping.{escaped}
 use Rattle.cw_print.proofs.escaping.put_escaped.Given as goal

@@ -1,3 +1,4 @@
+-- The bracket is put where the text is wrapped, and nothing where it isn't.
 use Rattle.std.proofs.Common.{Bool, ap, sym}
 use Rattle.cw_lines.specs.WritesLaws.{puts-bytes, puts-none}
 use Rattle.cw_print.specs.Walk.{bracket}

@@ -1,3 +1,4 @@
+-- Whether the number has a token is told by the answers that are left, and which numbers lie ahead is known.
 use Rattle.std.proofs.Common.{length}
 use Rattle.cw_print.proofs.ScanLaws.{Passes}
 use Rattle.cw_print.proofs.scan.find_ahead.Given as goal

@@ -1,3 +1,4 @@
+-- What is put so far, with what the rest of the control text says escaped, is all of it escaped.
 use Rattle.std.proofs.Common.{◌≡◌, ◌++◌, length}
 use Rattle.cw_print.specs.Escaping.{escaped}
 use Rattle.cw_print.specs.Texts.{text_to_end}

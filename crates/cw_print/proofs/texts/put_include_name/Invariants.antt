@@ -1,3 +1,4 @@
+-- What is put so far, with what the rest of the include name says escaped, is the name escaped.
 use Rattle.std.proofs.Common.{◌≡◌, ◌++◌, length}
 use Rattle.cw_print.specs.Escaping.{escaped}
 use Rattle.cw_print.specs.Texts.{include_name}

@@ -1,3 +1,4 @@
+-- What is put so far, with what the rest of the string says escaped, is the string escaped.
 use Rattle.std.proofs.Common.{◌≡◌, ◌++◌, length}
 use Rattle.cw_print.specs.Escaping.{escaped}
 use Rattle.cw_print.specs.Texts.{string}

@@ -1,3 +1,4 @@
+-- The list of a comment has the comment's tree, and refers to each of its inner texts once and in order.
 use Rattle.std.proofs.Common.{◌≤◌, length, ◌∙◌, arith}
 use Rattle.cw_reduce.proofs.GatherSteps.{builds-start, builds-pushed}
 use Rattle.cw_reduce.proofs.GatherLines.{part-may, part-more, parts-end, parts-tree, parts-gathers}

@@ -1,3 +1,4 @@
+-- The parts so far stand in the list, and there is room for those that are left and for the end.
 use Rattle.std.proofs.Common.{◌+◌, ◌≤◌, length}
 use Rattle.cw_reduce.proofs.GatherTrees.{comment_tokens}
 use Rattle.cw_reduce.proofs.GatherSteps.{Builds}

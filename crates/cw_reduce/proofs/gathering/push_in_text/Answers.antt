@@ -1,3 +1,4 @@
+-- A dollar before a scrap refers to no list, so the scrap's list may still be referred to.
 use Rattle.cw_tokens.specs.declared.token.Token.TheVariants.{«List» as ListOf}
 use Rattle.cw_reduce.proofs.GatherSteps.{may-behind-dollar}
 use Rattle.cw_reduce.proofs.gathering.push_in_text.Goals as goal

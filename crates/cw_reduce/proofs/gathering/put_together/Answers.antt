@@ -1,3 +1,4 @@
+-- The list of a line has the tree of its scraps side by side, and refers to each of their lists once and in order.
 use Rattle.std.proofs.Common.{◌<◌, ◌≤◌, length, ◌∙◌, arith}
 use Rattle.cw_reduce.proofs.GatherSteps.{builds-start}
 use Rattle.cw_reduce.proofs.GatherTrees.{separator-short, text-short}

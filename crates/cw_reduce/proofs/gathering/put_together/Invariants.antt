@@ -1,3 +1,4 @@
+-- The scraps so far stand in the list that is being built, with room for four tokens of each that is left.
 use Rattle.std.proofs.Common.{◌+◌, ◌*◌, ◌≤◌, length, drop}
 use Rattle.cw_reduce.proofs.GatherTrees.{whole_from}
 use Rattle.cw_reduce.proofs.GatherSteps.{Builds}

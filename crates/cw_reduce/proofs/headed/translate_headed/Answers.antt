@@ -1,3 +1,4 @@
+-- What a text with its head comes to is its translation, and want of memory leaves what was on the way to it.
 use Rattle.std.proofs.Common.{◌≡◌, ◌+◌, ◌≤◌, [], ◌∷◌, ◌++◌, ap, subst, arith}
 use Rattle.std.proofs.lemmas.Result.{IfOk-weaker}
 use Rattle.cw_scraps.specs.Changing.{Keeps}

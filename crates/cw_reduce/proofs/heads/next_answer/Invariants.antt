@@ -1,3 +1,4 @@
+-- Without notes, the answers that are left are those that were to come.
 use Rattle.std.specs.Prelude.{◌≡◌, length}
 use Rattle.cw_reduce.specs.HeadReading.{without_notes}
 use Rattle.cw_reduce.proofs.heads.next_answer.Given as goal

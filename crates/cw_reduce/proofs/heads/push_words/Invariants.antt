@@ -1,3 +1,4 @@
+-- The words so far stand behind what the list held, and each took one place of the room.
 use Rattle.std.specs.Prelude.{◌≡◌, ◌+◌, ◌++◌, length, take, option_map}
 use Rattle.cw_reduce.proofs.heads.push_words.Given as goal
 

@@ -1,3 +1,4 @@
+-- The code of a definition, or a section name, begins a head; before any other answer there is none.
 use Rattle.std.proofs.Common.{◌≡◌, ◌^◌, [], ◌++◌, refl, sym, ap, ◌∙◌, subst}
 use Rattle.std.specs.Result.{IfOk, OnOk, OnErr}
 use Rattle.cw_base.specs.declared.flags.Flags.{Flags}

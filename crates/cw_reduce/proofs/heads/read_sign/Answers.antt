@@ -1,3 +1,4 @@
+-- A section name with its sign heads a C part; without one it heads nothing, and what was read is handed on.
 use Rattle.std.proofs.Common.{◌^◌, ◌<◌, arith, rules, ap, subst, sym, ◌∙◌}
 use Rattle.cw_lex.specs.Answers.{seen}
 use Rattle.cw_lex.specs.declared.tokens.Lexed.TheVariants as lexed

@@ -1,3 +1,4 @@
+-- The list of a section name has the name's tree, and refers to each of its inner texts once and in order.
 use Rattle.std.proofs.Common.{◌≤◌, length, ◌∙◌, arith}
 use Rattle.cw_reduce.proofs.GatherSteps.{builds-start, builds-pushed}
 use Rattle.cw_reduce.proofs.NameLists.{name_tokens, part-may, parts-end, sign-end, name-tree, name-gathers}

@@ -1,3 +1,4 @@
+-- The inner texts so far stand in the list, and there is room for the others, for the end and for the sign.
 use Rattle.std.proofs.Common.{◌+◌, ◌*◌, ◌≤◌, length}
 use Rattle.cw_reduce.proofs.GatherSteps.{Builds}
 use Rattle.cw_reduce.proofs.NameLists.{name_from, name_tokens}

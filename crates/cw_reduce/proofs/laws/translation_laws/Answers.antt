@@ -1,3 +1,4 @@
+-- Shown tokens stand in the tree once and in order, the tree ends in text, and the steps keep to the limit.
 use Rattle.cw_reduce.proofs.HeadReads.{stands-in-text}
 use Rattle.cw_reduce.proofs.HeadsShown.{translated-shown}
 use Rattle.cw_reduce.proofs.Limits.{ticks-within}

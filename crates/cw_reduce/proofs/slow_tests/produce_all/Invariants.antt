@@ -1,3 +1,4 @@
+-- After the productions so far the line is sound.
 use Rattle.cw_scraps.specs.Lines.{IsSoundLine}
 use Rattle.cw_reduce.proofs.slow_tests.produce_all.Given as goal
 

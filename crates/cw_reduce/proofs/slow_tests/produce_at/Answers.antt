@@ -1,3 +1,4 @@
+-- The first row for the categories at a place fits there, so that its production can be done.
 use Rattle.cw_table.proofs.Examples.{productions-sound}
 use Rattle.cw_table.proofs.SafeLaws.{first-fits}
 use Rattle.cw_table.specs.Productions.{productions}

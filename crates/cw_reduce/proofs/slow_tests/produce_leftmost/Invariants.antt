@@ -1,3 +1,4 @@
+-- From place to place the line stays sound.
 use Rattle.cw_scraps.specs.Lines.{IsSoundLine}
 use Rattle.cw_reduce.proofs.slow_tests.produce_leftmost.Given as goal
 

@@ -1,3 +1,4 @@
+-- The head that is read, and the text behind it, give the translation; the lists that the store held stay.
 use Rattle.std.proofs.Common.{◌≡◌, ◌+◌, ◌≤◌, [], ◌∷◌, ◌++◌, refl, ap, ◌∙◌, sym, subst, arith}
 use Rattle.std.proofs.lemmas.Result.{IfOk-weaker}
 use Rattle.cw_lex.specs.Lexing.{tokens_of}

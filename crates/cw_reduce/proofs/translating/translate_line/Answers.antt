@@ -1,3 +1,4 @@
+-- A line that is reduced and put together is one list, with the categories of names that its normal form has.
 use Rattle.std.proofs.Common.{[], ◌∷◌, length, refl, sym, subst}
 use Rattle.cw_scraps.specs.Applying.{state_of}
 use Rattle.cw_scraps.specs.Lines.{IsNamedBelow, roots_of, scraps_of}

@@ -1,3 +1,4 @@
+-- The step back after a row is its least safe distance among the productions.
 use Rattle.cw_reduce.proofs.WalkSteps.{least-row}
 use Rattle.cw_reduce.proofs.walk.distance.Goals as goal
 

@@ -1,3 +1,4 @@
+-- The row still fits when room is made, and a production leaves the kinds and texts of all names.
 use Rattle.std.proofs.Common.{ap, ◌∙◌}
 use Rattle.cw_reduce.specs.Reduction.{words_of}
 use Rattle.cw_reduce.proofs.WalkSteps.{words-retyped}

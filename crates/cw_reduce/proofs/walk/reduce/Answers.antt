@@ -1,3 +1,4 @@
+-- Each turn rewrites and goes back, or goes on, and less of the walk is left; at the end of the line no row fits.
 use Rattle.std.proofs.Common.{arith}
 use Rattle.cw_scraps.proofs.Applied.{keeps-trans}
 use Rattle.cw_scraps.specs.Applying.{state_of}

@@ -1,3 +1,4 @@
+-- The productions and steps so far are those of the walk up to this place, and the line is sound.
 use Rattle.cw_table.specs.NormalWalk.{walk_left}
 use Rattle.cw_scraps.specs.Applying.{state_of}
 use Rattle.cw_reduce.proofs.WalkLoop.{InLoop}

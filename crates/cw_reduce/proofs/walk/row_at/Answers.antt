@@ -1,3 +1,4 @@
+-- The row found by four categories is the first that fits at the place; two of them may tell that none does.
 use Rattle.cw_scraps.proofs.FirstRows.{window-line}
 use Rattle.cw_reduce.proofs.WalkSteps.{first-line, none-line}
 use Rattle.cw_reduce.proofs.walk.row_at.Goals as goal

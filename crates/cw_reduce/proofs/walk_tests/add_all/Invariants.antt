@@ -1,3 +1,4 @@
+-- The line is sound with the scraps of the bytes so far.
 use Rattle.cw_scraps.specs.Lines.{IsSoundLine}
 use Rattle.cw_reduce.proofs.walk_tests.add_all.Given as goal
 

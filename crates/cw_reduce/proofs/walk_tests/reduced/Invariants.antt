@@ -1,3 +1,4 @@
+-- The line is sound with the tokens that were added so far, those of the first kind and then of the second.
 use Rattle.cw_scraps.specs.Lines.{IsSoundLine}
 use Rattle.cw_reduce.proofs.walk_tests.reduced.Given as goal
 

@@ -1,3 +1,4 @@
+-- Each piece of the row is put behind those before it, with the toggle that it needs, and the room lasts for all.
 use Rattle.std.proofs.Common.{◌≡◌, ◌+◌, ◌<◌, ◌≤◌, length, drop, arith}
 use Rattle.std.proofs.lemmas.List.{length-drop}
 use Rattle.cw_table.specs.Rows.{pieces_by}

@@ -1,3 +1,4 @@
+-- The pieces so far stand in the list that is being built, with the modes in which it begins and ends so far.
 use Rattle.std.proofs.Common.{drop}
 use Rattle.cw_table.specs.Rows.{pieces_by}
 use Rattle.cw_scraps.specs.Building.{Joins}

@@ -1,3 +1,4 @@
+-- The list of a token's scrap is in the store when the scrap is made.
 use Rattle.cw_scraps.proofs.LeafForms.{list-there}
 use Rattle.cw_scraps.proofs.leaf_tests.leaf.Goals as goal
 

@@ -1,3 +1,4 @@
+-- The scrap has the form of its token, and a sound line stays sound with it behind the others.
 use Rattle.std.proofs.Common.{◌≤◌, length, sym, subst}
 use Rattle.cw_names.specs.declared.entry.EntryKind.TheVariants.{Ident}
 use Rattle.cw_tokens.specs.References.{IsTied}

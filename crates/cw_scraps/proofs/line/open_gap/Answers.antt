@@ -1,3 +1,4 @@
+-- Wherever the gap stood, the scraps before the replaced ones and those behind them stay.
 use Rattle.std.proofs.Common.{refl, ap, take, drop, arith}
 use Rattle.cw_scraps.specs.Gap.{IsGap}
 use Rattle.cw_scraps.proofs.Gaps.{gap-before, gap-behind, gap-empty}

@@ -1,3 +1,4 @@
+-- The pieces that are taken, usual or other, are those that the flags choose at this place.
 use Rattle.std.proofs.Common.{ap, ◌∙◌, drop}
 use Rattle.cw_table.specs.Rows.{pieces_by}
 use Rattle.cw_table.specs.Rewriting.{takes_other}

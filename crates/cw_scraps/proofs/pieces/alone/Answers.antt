@@ -1,3 +1,4 @@
+-- Where several scraps are replaced, or the pieces aren't one, no scrap stays as it is.
 use Rattle.std.proofs.Common.{sym, ◌∙◌}
 use Rattle.cw_scraps.proofs.RowPieces.{alone-none}
 use Rattle.cw_scraps.proofs.pieces.alone.Goals as goal

@@ -1,3 +1,4 @@
+-- The scraps that a row replaces lie in the line, and the one that it makes takes their place.
 use Rattle.std.proofs.Common.{◌+◌, ◌≤◌, length, drop, arith}
 use Rattle.std.proofs.lemmas.List.{length-drop}
 use Rattle.cw_scraps.proofs.Changings.{tied-idle}

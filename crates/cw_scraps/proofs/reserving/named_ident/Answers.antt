@@ -1,3 +1,4 @@
+-- The scrap that a row names for a mark lies in the line, and its list in the store.
 use Rattle.cw_scraps.proofs.Reservings.{entry-there}
 use Rattle.cw_scraps.proofs.reserving.named_ident.Goals as goal
 

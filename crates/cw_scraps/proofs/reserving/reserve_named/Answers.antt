@@ -1,3 +1,4 @@
+-- The scrap that a row names has its first identifier reserved, and the others stay as they are.
 use Rattle.std.proofs.Common.{◌++◌, take, drop, sym, ap, ◌∙◌}
 use Rattle.cw_table.specs.Rewriting.{reserved_at}
 use Rattle.cw_scraps.specs.Lines.{scraps_of}

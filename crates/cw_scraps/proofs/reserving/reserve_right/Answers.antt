@@ -1,3 +1,4 @@
+-- One scrap more is turned into a type, or stays, and one step more is counted.
 use Rattle.std.proofs.Common.{◌≡◌, ℕ, ◌+◌, ◌-◌, ◌≤◌, ap, ◌∙◌, arith}
 use Rattle.cw_scraps.proofs.Changings.{tied-idle}
 use Rattle.cw_scraps.proofs.Reservings.{turn-there, turn-inside, turns-more, turns-end}

@@ -1,3 +1,4 @@
+-- Where a row names no scrap there is no name, and no scrap is turned.
 use Rattle.cw_scraps.proofs.Applied.{unturned}
 use Rattle.cw_scraps.proofs.reserving.turn_right.Goals as goal
 

@@ -1,3 +1,4 @@
+-- The line is sound with the scraps of the letters so far.
 use Rattle.cw_scraps.specs.Lines.{IsSoundLine}
 use Rattle.cw_scraps.proofs.row_tests.add_words.Given as goal
 

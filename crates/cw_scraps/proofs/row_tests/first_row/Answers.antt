@@ -1,3 +1,4 @@
+-- The first row for the four categories that are read fits at that place of the line.
 use Rattle.cw_scraps.proofs.FirstRows.{window-line, first-line}
 use Rattle.cw_scraps.proofs.row_tests.first_row.Goals as goal
 

@@ -1,3 +1,4 @@
+-- The row that was found fits, since the rows of the table are the productions.
 use Rattle.cw_scraps.proofs.Productions.{cats-same}
 use Rattle.cw_scraps.proofs.row_tests.produce.Goals as goal
 

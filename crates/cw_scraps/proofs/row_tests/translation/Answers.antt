@@ -1,3 +1,4 @@
+-- The list of a scrap of a sound line lies in the store, so that its translation can be shown.
 use Rattle.std.proofs.Common.{arith}
 use Rattle.cw_scraps.proofs.Reservings.{entry-there}
 use Rattle.cw_scraps.proofs.row_tests.translation.Goals as goal

@@ -1,3 +1,4 @@
+-- The positions so far, with those of the pairs that are left, are all positions under the mark.
 use Rattle.std.proofs.Common.{◌≡◌, ◌++◌, map}
 use Rattle.cw_secnames.specs.Marks.{positions_at}
 use Rattle.cw_secnames.proofs.marks.add_marked.Given as goal

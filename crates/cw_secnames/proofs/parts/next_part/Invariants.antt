@@ -1,3 +1,4 @@
+-- The parts from this place on are all parts that were asked for.
 use Rattle.std.proofs.Common.{◌≡◌, ◌≤◌, ◌-◌, length}
 use Rattle.cw_secnames.specs.Parts.{parts_at}
 use Rattle.cw_secnames.proofs.parts.next_part.Given as goal

@@ -1,3 +1,4 @@
+-- What stands from behind a bar up to the bar that ends it is the next part.
 use Rattle.cw_secnames.proofs.PartLaws.{next-part}
 use Rattle.cw_secnames.proofs.parts.part_behind.Goals as goal
 

@@ -1,3 +1,4 @@
+-- Productions lower the weight, keep scraps fine and numbers in order, and end at a normal form.
 use Rattle.cw_table.proofs.Normals.{takes, normal-step, normal-done, count-weight, count-most}
 use Rattle.cw_table.proofs.StepLaws.{is-after}
 use Rattle.cw_table.proofs.NumberLaws.{steps-numbers, normal-numbers}

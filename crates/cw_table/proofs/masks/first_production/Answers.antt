@@ -1,3 +1,4 @@
+-- The lowest bit that four masks share is the first production that fits; where they share none, none fits.
 use Rattle.std.proofs.Common.{arith}
 use Rattle.cw_table.proofs.MaskLaws.{first-bound, first-met, none-met}
 use Rattle.cw_table.proofs.masks.first_production.Goals as goal

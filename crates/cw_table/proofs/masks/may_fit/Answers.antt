@@ -1,3 +1,4 @@
+-- Two masks share a bit where some production admits both categories; where none does, no window fits.
 use Rattle.std.proofs.Common.{sym, ◌∙◌}
 use Rattle.cw_table.proofs.MaskLaws.{two-met, two-none}
 use Rattle.cw_table.proofs.masks.may_fit.Goals as goal

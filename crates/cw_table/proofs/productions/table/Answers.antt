@@ -1,3 +1,4 @@
+-- The rows that are put in are all productions, sound ones, numbered one after another.
 use Rattle.std.proofs.Common.{◌∙◌, length-set}
 use Rattle.std.specs.List.{list_all}
 use Rattle.cw_table.specs.Sound.{are_numbered, row_is_sound}

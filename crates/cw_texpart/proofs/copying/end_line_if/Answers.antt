@@ -1,3 +1,4 @@
+-- Where the line isn't to be ended, nothing is put.
 use Rattle.std.proofs.Common.{ap, sym}
 use Rattle.cw_lines.specs.WritesLaws.{puts-bytes, puts-none}
 use Rattle.cw_texpart.specs.Inks.{end_if}

@@ -1,3 +1,4 @@
+-- The opening, the number and the closing brace are put one after another, and a failure ends the head.
 use Rattle.cw_lines.specs.WritesLaws.{puts-stop, puts-then}
 use Rattle.cw_texpart.proofs.heads.put_plain.Goals as goal
 

@@ -1,3 +1,4 @@
+-- The opening, the depth, the number and the braces around them are put in order, and a failure ends the head.
 use Rattle.std.specs.Prelude.{codes}
 use Rattle.cw_lines.specs.WritesLaws.{puts-longer, puts-stop, puts-then}
 use Rattle.cw_texpart.specs.Heads.{section_number}

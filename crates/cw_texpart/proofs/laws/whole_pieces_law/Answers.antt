@@ -1,3 +1,4 @@
+-- C texts in TeX parts are whole, since TeX text goes on token by token and C texts are nested.
 use Rattle.cw_texpart.proofs.WholePieces.{pieces-whole, tex-parts-whole}
 use Rattle.cw_texpart.proofs.laws.whole_pieces_law.Goals as goal
 

@@ -1,3 +1,4 @@
+-- A reference to an inner text gives the bracket that closes it.
 use Rattle.cw_tokens.proofs.flat.close_trimmed.Goals as goal
 
 pub returns-in-Inner : goal.returns-in-Inner

@@ -1,3 +1,4 @@
+-- Each turn takes an item, goes down into a list or up behind one; at the end all items of the tree are laid.
 use Rattle.std.proofs.Common.{◌≤◌, ◌++◌, length, ap, arith}
 use Rattle.cw_trees.specs.Flat.{flat}
 use Rattle.cw_tokens.specs.Shapes.{ref_of, unfolded}

@@ -1,3 +1,4 @@
+-- The items so far, with those that the walk still gives, are those before it and all of the tree.
 use Rattle.std.proofs.Common.{◌+◌, ◌++◌, length}
 use Rattle.cw_trees.specs.Flat.{flat}
 use Rattle.cw_tokens.specs.Shapes.{unfolded}

@@ -1,3 +1,4 @@
+-- At each turn the trimmer takes what the walk gives; at the end it stands for all items of the tree.
 use Rattle.std.proofs.Common.{◌≤◌, length, ap, arith}
 use Rattle.cw_trees.specs.Flat.{flat}
 use Rattle.cw_tokens.specs.Shapes.{ref_of, unfolded}

@@ -1,3 +1,4 @@
+-- The trimmer stands for the items that the walk has given; with those to come they are all of the tree.
 use Rattle.std.proofs.Common.{◌+◌, length}
 use Rattle.cw_trees.specs.Flat.{flat}
 use Rattle.cw_tokens.specs.Shapes.{unfolded}

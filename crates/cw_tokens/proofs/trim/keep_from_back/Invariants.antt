@@ -1,3 +1,4 @@
+-- The items that stay so far are those that trimming from the back leaves of the items so far.
 use Rattle.cw_tokens.proofs.Trimming.{KeepsBack}
 use Rattle.cw_tokens.proofs.trim.keep_from_back.Given as goal
 

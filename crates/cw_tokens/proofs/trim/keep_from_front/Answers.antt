@@ -1,3 +1,4 @@
+-- A mark, or a break that begins a text, is passed over; every other item is moved to the front.
 use Rattle.std.proofs.Common.{sym, ◌∙◌, arith}
 use Rattle.cw_tokens.specs.declared.flat.FlatItem.TheVariants.{Source}
 use Rattle.cw_tokens.proofs.Trimming.{front-kept, front-dropped}

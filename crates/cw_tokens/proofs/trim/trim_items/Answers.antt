@@ -1,3 +1,4 @@
+-- Trimming from the front, and then from the back with the items reversed, gives the trimmed list.
 use Rattle.std.proofs.Common.{◌≡◌, true, List, length, take, ap, reverse, ◌∙◌, arith}
 use Rattle.cw_trees.specs.Flat.{trim_front, without_inserted}
 use Rattle.cw_tokens.specs.declared.flat.FlatItem.{FlatItem}

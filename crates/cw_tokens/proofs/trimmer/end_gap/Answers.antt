@@ -1,3 +1,4 @@
+-- An item that ends no text leaves the gap before it as it is.
 use Rattle.cw_tokens.proofs.Standing.{gap-untouched}
 use Rattle.cw_tokens.proofs.trimmer.end_gap.Goals as goal
 

@@ -1,3 +1,4 @@
+-- A break of the gap is passed over, and every other item of it is moved to its front.
 use Rattle.std.proofs.Common.{sym, ◌∙◌, arith}
 use Rattle.cw_tokens.specs.declared.flat.FlatItem.TheVariants.{Source}
 use Rattle.cw_tokens.proofs.Standing.{unbroken-start, unbroken-kept, unbroken-dropped}

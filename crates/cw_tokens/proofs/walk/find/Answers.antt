@@ -1,3 +1,4 @@
+-- At each token the search finds the first identifier, ends without one, passes on, goes down a list or back up.
 use Rattle.std.proofs.Common.{Some, ap, ◌∙◌, arith}
 use Rattle.cw_tokens.specs.Shapes.{ref_of}
 use Rattle.cw_tokens.specs.Stored.{cut}

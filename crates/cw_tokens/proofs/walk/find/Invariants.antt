@@ -1,3 +1,4 @@
+-- No identifier stands before the place of the search, and nothing before it ends the search.
 use Rattle.std.proofs.Common.{◌+◌, length}
 use Rattle.cw_tokens.specs.Stored.{cut}
 use Rattle.cw_tokens.specs.Walking.{Walks, size_from, size_above}

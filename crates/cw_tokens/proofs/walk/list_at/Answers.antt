@@ -1,3 +1,4 @@
+-- The tokens from where a list begins up to where it ends lie in the vector, and are that list.
 use Rattle.std.proofs.Common.{◌∙◌, arith}
 use Rattle.cw_tokens.proofs.Cutting.{spans, list-is}
 use Rattle.cw_tokens.proofs.walk.list_at.Goals as goal

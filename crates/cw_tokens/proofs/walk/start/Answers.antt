@@ -1,3 +1,4 @@
+-- The first list begins at 0, and each later one where the list before it ends.
 use Rattle.cw_tokens.proofs.Cutting.{start_of-first, start_of-later}
 use Rattle.cw_tokens.proofs.walk.start.Goals as goal
 

@@ -1,3 +1,4 @@
+-- Two sets share a category exactly where they share one of the bits that stand for categories.
 use Rattle.cw_base.proofs.SetLaws.{meets-is}
 use Rattle.cw_base.proofs.category.CatSet.meets.Goals as goal
 

@@ -1,3 +1,4 @@
+-- A control of a run goes into it and any other item ends it: what is put and kept is that of one item more.
 use Rattle.std.proofs.Common.{[], ◌∷◌, ◌++◌, sym, subst}
 use Rattle.std.proofs.lemmas.Result.{on_ok_weaker}
 use Rattle.cw_lines.specs.WritesLaws.{puts-bytes}

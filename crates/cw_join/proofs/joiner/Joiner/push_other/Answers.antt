@@ -1,3 +1,4 @@
+-- What the run prints at its end is put, and then the item's own bytes; a failure ends both.
 use Rattle.std.proofs.Common.{List, ℕ, ◌++◌, ap}
 use Rattle.cw_lines.specs.WritesLaws.{puts-failing, puts-longer, puts-then, puts-bytes}
 use Rattle.cw_join.specs.Runs.{state_back}

@@ -1,3 +1,4 @@
+-- The comment that is stored behind the others is the innermost one.
 use Rattle.std.proofs.Common.{◌≡◌, ◌∷◌, length, sym, ap, ◌∙◌, arith, add-one}
 use Rattle.cw_lex.specs.Stack.{innermost}
 use Rattle.cw_lex.proofs.Stack.{innermost-length, innermost-push}

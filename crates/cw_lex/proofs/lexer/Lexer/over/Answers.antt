@@ -1,3 +1,4 @@
+-- The answers stand on the scanned bytes, one behind another, with only white space between them.
 use Rattle.std.proofs.Common.{List, sym, subst}
 use Rattle.cw_lex.specs.Answers.{Answer}
 use Rattle.cw_lex.specs.Order.{Covers, AreWithin}

@@ -1,3 +1,4 @@
+-- The category that is read is that of the entry at this place, and it isn't the one of tests.
 use Rattle.std.proofs.Common.{ap, ◌∙◌, sym, slice_get}
 use Rattle.std.specs.Option.{option_map}
 use Rattle.std.proofs.lemmas.Option.{slice_get-map}

@@ -1,3 +1,4 @@
+-- A present name keeps its place, a new one is last, and the built-in words stay first.
 use Rattle.std.proofs.Common.{◌≡◌, length, sym, ap, subst, ◌∙◌, refl, arith, map}
 use Rattle.std.proofs.lemmas.List.{length-map}
 use Rattle.indexmap.specs.IndexMap.{insert_entry}

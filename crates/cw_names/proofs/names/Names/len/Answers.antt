@@ -1,3 +1,4 @@
+-- No two entries have the same kind and text, since no two keys of the hash table are equal.
 use Rattle.std.proofs.Common.{subst}
 use Rattle.cw_names.specs.Names.{AreDistinct}
 use Rattle.cw_names.proofs.Apart.{entries-distinct}

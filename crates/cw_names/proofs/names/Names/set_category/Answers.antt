@@ -1,3 +1,4 @@
+-- The entry at this place has the new category, and the built-in words still stand first.
 use Rattle.std.proofs.Common.{ap, sym, subst, map, ◌∙◌}
 use Rattle.cw_names.specs.Names.{with_category}
 use Rattle.cw_names.specs.Inside.{entry_of}

@@ -1,3 +1,4 @@
+-- The table of the built-in words gives their entries, in order, and no others.
 use Rattle.std.proofs.Common.{◌≡◌, not, map, sym, ap, subst, ◌∙◌}
 use Rattle.std.specs.List.{list_all}
 use Rattle.cw_names.specs.Names.{Entry}

@@ -1,3 +1,4 @@
+-- The list in which a section is noted is ascending, since it has the sections that mention the name.
 use Rattle.std.proofs.Common.{sym, subst, ◌∙◌}
 use Rattle.cw_names.specs.Mentions.{AreAscending}
 use Rattle.cw_names.proofs.Mentions.{mentions-ascending}

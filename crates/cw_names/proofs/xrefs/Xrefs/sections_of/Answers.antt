@@ -1,3 +1,4 @@
+-- The list that is lent has the sections that mention the name, ascending; where there is no list none do.
 use Rattle.std.proofs.Common.{◌<◌, ◌≤◌, length, get_or, ap, sym, subst, ◌∙◌}
 use Rattle.cw_names.specs.Mentions.{AreAscending, mentions}
 use Rattle.cw_names.proofs.Mentions.{at-read, at-end, mentions-ascending}

@@ -1,3 +1,4 @@
+-- A token, a beginning or an end does to what is open what the definition says of it; a note does nothing.
 use Rattle.std.proofs.Common.{[], sym, subst}
 use Rattle.std.proofs.lemmas.Result.{on_ok_weaker}
 use Rattle.cw_lex.specs.Answers.{seen}

@@ -1,3 +1,4 @@
+-- What begins neither an inner text nor a comment nor a section name opens nothing.
 use Rattle.std.proofs.Common.{ap}
 use Rattle.cw_reduce.proofs.AnswerSteps.{begun-other}
 use Rattle.cw_reduce.proofs.translating.Translator.begin.Goals as goal

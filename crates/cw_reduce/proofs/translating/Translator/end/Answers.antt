@@ -1,3 +1,4 @@
+-- The scraps of the whole text are a sound line, and its list takes the place of all lists that were open.
 use Rattle.std.proofs.Common.{[], ◌∷◌, refl, sym, subst}
 use Rattle.cw_scraps.specs.Changing.{Keeps}
 use Rattle.cw_scraps.specs.Lines.{IsSoundLine, roots_of}

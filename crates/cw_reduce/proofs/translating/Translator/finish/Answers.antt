@@ -1,3 +1,4 @@
+-- The list of a text that ends is a part of what holds it; that of a comment or name is a scrap around it.
 use Rattle.std.proofs.Common.{[], ◌∷◌, refl, ap, ◌∙◌}
 use Rattle.std.proofs.lemmas.Result.{on_ok_weaker}
 use Rattle.cw_scraps.proofs.Changings.{tied-idle}

@@ -1,3 +1,4 @@
+-- A section name begins, its inner texts are read, and it ends: these are the answers that it stands for.
 use Rattle.std.proofs.Common.{◌≡◌, ◌+◌, ◌≤◌, [], ◌∷◌, subst, arith}
 use Rattle.cw_lex.specs.Answers.{Finish}
 use Rattle.cw_scraps.specs.Changing.{Keeps}

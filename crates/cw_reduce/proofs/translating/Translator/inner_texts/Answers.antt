@@ -1,3 +1,4 @@
+-- One inner text more is read, and behind its bar come those that are left.
 use Rattle.std.proofs.Common.{◌≡◌, ◌+◌, ◌≤◌, [], subst, arith}
 use Rattle.cw_secnames.specs.Parts.{parts_at}
 use Rattle.cw_reduce.specs.NameParts.{parts_of_name}

@@ -1,3 +1,4 @@
+-- What was read so far, with the inner texts from this place on, comes to all of the name's inner texts.
 use Rattle.std.specs.Prelude.{◌-◌, ◌≤◌, length}
 use Rattle.cw_secnames.specs.Parts.{parts_at}
 use Rattle.cw_reduce.specs.NameParts.{parts_of_name}

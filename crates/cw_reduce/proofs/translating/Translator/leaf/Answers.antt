@@ -1,3 +1,4 @@
+-- The scrap of a token goes behind those of the innermost C text, and its line stays sound.
 use Rattle.std.proofs.Common.{refl}
 use Rattle.std.proofs.lemmas.Result.{on_ok_weaker}
 use Rattle.cw_lex.specs.Answers.{seen}

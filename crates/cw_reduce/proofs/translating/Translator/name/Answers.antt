@@ -1,3 +1,4 @@
+-- The name that a place is paired with is kept, and its text is short enough to be read.
 use Rattle.std.proofs.Common.{[], sym, ◌∙◌}
 use Rattle.cw_lex.specs.Answers.{seen}
 use Rattle.cw_reduce.specs.declared.holders.Holder.TheVariants as holder

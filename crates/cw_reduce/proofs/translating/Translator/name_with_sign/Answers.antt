@@ -1,3 +1,4 @@
+-- Without a pair the name of a head makes nothing; with one it is kept, and is read with its sign behind it.
 use Rattle.std.proofs.Common.{◌+◌, ◌≤◌, [], sym, ◌∙◌, subst}
 use Rattle.cw_reduce.specs.declared.holders.Holder.TheVariants as holder
 use Rattle.cw_reduce.specs.Counting.{limit_in}

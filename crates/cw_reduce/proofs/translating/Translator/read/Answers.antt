@@ -1,3 +1,4 @@
+-- One answer more is one step of the reading, up to the section code or to want of memory.
 use Rattle.std.proofs.Common.{[], sym, ◌∙◌}
 use Rattle.cw_lex.specs.Nested.{until_section}
 use Rattle.cw_reduce.specs.Opening.{answers_in, progress_of}

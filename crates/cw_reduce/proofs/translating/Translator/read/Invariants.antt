@@ -1,3 +1,4 @@
+-- What was read so far, with the answers up to the section code, comes to what all of these give.
 use Rattle.std.specs.Prelude.{length, ◌^◌}
 use Rattle.cw_lex.specs.Nested.{until_section}
 use Rattle.cw_reduce.specs.Opening.{StartsBelow}

@@ -1,3 +1,4 @@
+-- A name that was read ahead, the first answer behind it, and then all others are the answers behind the head.
 use Rattle.std.proofs.Common.{◌^◌, [], ◌++◌, subst}
 use Rattle.std.proofs.lemmas.List.{append_assoc}
 use Rattle.cw_scraps.specs.Changing.{Keeps}

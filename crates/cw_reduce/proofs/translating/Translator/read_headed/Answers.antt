@@ -1,3 +1,4 @@
+-- What the head makes, and then the answers behind it, are the text with its head.
 use Rattle.std.proofs.Common.{◌+◌, ◌≤◌, [], ◌++◌, subst, arith}
 use Rattle.std.proofs.lemmas.List.{append-nil}
 use Rattle.cw_scraps.specs.Changing.{Keeps}

@@ -1,3 +1,4 @@
+-- One answer more, a section name with its text, is one step of the reading, also where memory is wanting.
 use Rattle.std.proofs.Common.{[]}
 use Rattle.cw_reduce.specs.NameParts.{name_texts}
 use Rattle.cw_reduce.specs.Naming.{with_texts}

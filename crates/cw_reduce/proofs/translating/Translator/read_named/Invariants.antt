@@ -1,3 +1,4 @@
+-- What was read so far, with the answers that are left and the texts of their names, comes to what all give.
 use Rattle.std.specs.Prelude.{length, ◌^◌}
 use Rattle.cw_reduce.specs.NameParts.{name_texts}
 use Rattle.cw_reduce.specs.Naming.{with_texts}

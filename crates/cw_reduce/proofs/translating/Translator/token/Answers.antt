@@ -1,3 +1,4 @@
+-- A piece of a comment's text is one part more of the innermost comment, and what is open stays sound.
 use Rattle.std.proofs.Common.{refl}
 use Rattle.std.proofs.lemmas.Result.{on_ok_weaker}
 use Rattle.cw_reduce.proofs.LeafSteps.{piece-steps}

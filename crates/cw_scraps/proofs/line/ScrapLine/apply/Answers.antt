@@ -1,3 +1,4 @@
+-- The row at hand is the row of that number in the table, so its production is that of the table's row.
 use Rattle.std.proofs.Common.{◌≡◌}
 use Rattle.cw_table.specs.Productions.{productions}
 use Rattle.cw_table.specs.Rows.{row_of}

@@ -1,3 +1,4 @@
+-- The six steps of a production, one after another, are one production with its marks and its reserving.
 use Rattle.std.proofs.Common.{◌≡◌, ◌+◌, ◌≤◌, length, drop, sym, ap, ◌∙◌, arith}
 use Rattle.cw_table.specs.Rewriting.{search_in}
 use Rattle.cw_scraps.specs.Lines.{scraps_of}

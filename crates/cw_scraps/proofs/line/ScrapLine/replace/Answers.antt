@@ -1,3 +1,4 @@
+-- The new scrap stands before the gap, which has taken in all scraps that it replaces.
 use Rattle.std.proofs.Common.{◌≡◌, ◌+◌, ◌<◌, ◌≤◌, length, take, drop, set, ap, ◌∙◌, arith}
 use Rattle.std.proofs.lemmas.List.{with_items_is}
 use Rattle.cw_scraps.specs.Gap.{around}

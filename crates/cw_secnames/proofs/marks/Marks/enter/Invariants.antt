@@ -1,3 +1,4 @@
+-- What was marked is so still, and the beginnings of the text so far are marked where their lengths are kept.
 use Rattle.cw_secnames.proofs.Marked.{Marking}
 use Rattle.cw_secnames.proofs.marks.Marks.enter.Given as goal
 

@@ -1,3 +1,4 @@
+-- Each name that is shorter than the bytes so far, and that they begin with, is found.
 use Rattle.cw_secnames.proofs.Marked.{Found}
 use Rattle.cw_secnames.proofs.marks.Marks.near.Given as goal
 

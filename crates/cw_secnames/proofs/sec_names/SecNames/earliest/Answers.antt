@@ -1,3 +1,4 @@
+-- From the first position on, the earliest name that passes is the first of all names that pass.
 use Rattle.std.proofs.Common.{◌∙◌}
 use Rattle.std.specs.List.{position}
 use Rattle.cw_secnames.specs.Asked.{passes}

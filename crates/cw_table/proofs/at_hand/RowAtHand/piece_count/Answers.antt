@@ -1,3 +1,4 @@
+-- Either translation has as many pieces as the program's data says, and at most twelve.
 use Rattle.cw_table.proofs.HandLaws.{other-pieces, usual-pieces}
 use Rattle.cw_table.proofs.at_hand.RowAtHand.piece_count.Goals as goal
 

@@ -1,3 +1,4 @@
+-- For each kind of result the sets of categories tell what the pairs tell: whether one is new to the other row.
 use Rattle.std.proofs.Common.{◌∙◌, refl}
 use Rattle.cw_table.proofs.HazardLaws.{and-no, and-yes, is-joined, other-joined, same-joined}
 use Rattle.cw_table.proofs.types.Row.brings.Goals as goal

@@ -1,3 +1,4 @@
+-- A piece goes on where it is the next replaced scrap, and where it is none; any other scrap decides.
 use Rattle.std.proofs.Common.{ap, sym, ◌∙◌, ◌+◌, ◌-◌, arith, drop, take}
 use Rattle.cw_table.proofs.CheckLaws.{order-end, order-many, order-on, order-past, order-wrong}
 use Rattle.cw_table.specs.Sound.{numbers_from, same_numbers, scraps_in}

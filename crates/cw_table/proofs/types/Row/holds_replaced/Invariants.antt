@@ -1,3 +1,4 @@
+-- The pieces hold the replaced scraps exactly where those that are left hold the scraps that are left.
 use Rattle.std.proofs.Common.{◌≡◌, ◌≤◌, ◌-◌, drop}
 use Rattle.cw_table.specs.Sound.{numbers_from, same_numbers, scraps_in}
 use Rattle.cw_table.proofs.types.Row.holds_replaced.Given as goal

@@ -1,3 +1,4 @@
+-- The five checks together are the test of a sound row, and a row that passes it keeps the rule.
 use Rattle.std.proofs.Common.{sym, ◌∙◌}
 use Rattle.cw_table.proofs.CheckLaws.{parts-joined}
 use Rattle.cw_table.proofs.Soundness.{sound-row}

@@ -1,3 +1,4 @@
+-- One category that isn't lowered decides; where the categories end, all are lowered.
 use Rattle.std.proofs.Common.{sym, ◌∙◌}
 use Rattle.cw_table.proofs.CheckLaws.{lowers-more, lowers-none, lowers-whole}
 use Rattle.cw_table.proofs.types.Row.lowers_all.Goals as goal

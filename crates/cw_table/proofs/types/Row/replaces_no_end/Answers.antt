@@ -1,3 +1,4 @@
+-- One replaced scrap whose test admits the end decides; behind the last of them, none does.
 use Rattle.std.proofs.Common.{◌≡◌, true, ap, sym, ◌∙◌, arith}
 use Rattle.cw_base.specs.declared.category.Cat.TheVariants.{End}
 use Rattle.cw_base.specs.Category.{in_set}

@@ -1,3 +1,4 @@
+-- One test behind the new scrap that doesn't suit decides; behind the last of them, all suit.
 use Rattle.std.proofs.Common.{◌≡◌, ◌+◌, ◌-◌, ap, sym, suc, ◌∙◌, arith}
 use Rattle.cw_table.specs.Safe.{suits_at}
 use Rattle.cw_table.proofs.HazardLaws.{not-all-numbers}

@@ -1,3 +1,4 @@
+-- One scrap before the new one that doesn't suit both rows decides; at the new one, all before it suit.
 use Rattle.std.proofs.Common.{◌≡◌, ◌+◌, ap, sym, ◌∙◌, arith, false, zero-add}
 use Rattle.cw_base.specs.Category.{meet}
 use Rattle.cw_table.specs.Rows.{test}

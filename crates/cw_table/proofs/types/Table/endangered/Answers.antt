@@ -1,3 +1,4 @@
+-- One row to which this one is a hazard decides; behind the last row, it is a hazard to none.
 use Rattle.std.proofs.Common.{sym, ◌∙◌, arith}
 use Rattle.cw_table.proofs.HazardLaws.{endangered-none, endangered-some, none-more}
 use Rattle.cw_table.proofs.types.Table.endangered.Goals as goal

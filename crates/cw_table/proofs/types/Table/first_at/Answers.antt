@@ -1,3 +1,4 @@
+-- The first production that fits is the first row of the table that fits, since its rows are the productions.
 use Rattle.std.proofs.Common.{◌≤◌, ap, sym, ◌∙◌, subst, length}
 use Rattle.std.specs.Option.{IfSome, option_map}
 use Rattle.cw_table.specs.Fitting.{first_of}

@@ -1,3 +1,4 @@
+-- All rows of the table keep the rule, since the productions pass the test.
 use Rattle.std.proofs.Common.{ap, sym, ◌∙◌}
 use Rattle.std.specs.List.{list_all}
 use Rattle.cw_table.specs.Sound.{row_is_sound}

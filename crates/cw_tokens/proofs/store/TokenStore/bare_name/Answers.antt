@@ -1,3 +1,4 @@
+-- The only name of a list is that of its tree, where the tree is exactly one identifier.
 use Rattle.std.proofs.Common.{ap, ◌∙◌}
 use Rattle.std.proofs.Common.{refl}
 use Rattle.cw_trees.specs.Tree.{bare_name}

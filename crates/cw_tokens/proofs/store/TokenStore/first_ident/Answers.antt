@@ -1,3 +1,4 @@
+-- The search begins at a list of the store, and each list is linked to the token that refers to it.
 use Rattle.cw_tokens.proofs.Linking.{linked-lists}
 use Rattle.cw_tokens.proofs.Storing.{kept-view}
 use Rattle.cw_tokens.proofs.store.TokenStore.first_ident.Goals as goal

@@ -1,3 +1,4 @@
+-- The root is a list of the store and all lists are linked, so its tree can be laid flat.
 use Rattle.cw_tokens.proofs.Linking.{linked-lists}
 use Rattle.cw_tokens.proofs.Storing.{kept-view}
 use Rattle.cw_tokens.proofs.store.TokenStore.flat.Goals as goal

@@ -1,3 +1,4 @@
+-- The token stands behind those of the list being built, and the list to which it refers is linked to it.
 use Rattle.cw_tokens.proofs.Storing.{push-view}
 use Rattle.cw_tokens.proofs.store.TokenStore.push.Goals as goal
 

@@ -1,3 +1,4 @@
+-- The token of the first identifier is written over, which reserves it in the tree; without one nothing changes.
 use Rattle.std.proofs.Common.{◌≡◌, ◌+◌, length, None, subst, ap, ◌∙◌, arith}
 use Rattle.cw_tokens.specs.Stored.{StoredLists, cut, start_of}
 use Rattle.cw_tokens.specs.Walking.{Finds, found_name}

@@ -1,3 +1,4 @@
+-- The lists that a store keeps refer to earlier ones alone, and to each at most once.
 use Rattle.cw_tokens.proofs.Storing.{tied-view}
 use Rattle.cw_tokens.proofs.store.TokenStore.tied_law.Goals as goal
 

@@ -1,3 +1,4 @@
+-- What is held is the trimmed list, once the breaks are taken out of the gap at its end.
 use Rattle.std.proofs.Common.{ap, sym, ◌∙◌, subst}
 use Rattle.cw_tokens.specs.FlatItems.{items_are}
 use Rattle.cw_tokens.specs.Trimming.{StandsFor, Trims}

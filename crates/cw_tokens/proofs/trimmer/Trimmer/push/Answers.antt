@@ -1,3 +1,4 @@
+-- The trimmer stands for one item more: it goes into the gap, or the gap is settled and the item stays.
 use Rattle.std.proofs.Common.{sym, ◌∙◌, subst}
 use Rattle.cw_tokens.specs.Trimming.{StandsFor, Trims}
 use Rattle.cw_tokens.proofs.Standing.{stands-gap, stands-settled}
