@@ -1,4 +1,5 @@
-//! Does the production of a sum twice in a line of 10 scraps, or of 1,000,000 where the command line has a word, so that
+//! Does the production of a sum twice in a line of 10 scraps, or of 1,000,000 where the command line has a word, so
+//! that
 //! `bench/run` can count the instructions of one.
 #![tactic(auto)]
 
@@ -71,7 +72,8 @@ fn first_row(line: &ScrapLine, place: usize, steps: &mut Steps<Silent>) -> Optio
     requires { place < length line.now }
     ensures from_one { IfSome result (λ row. 1 ≤ row.number) }
     ensures to_last { IfSome result (λ row. row.number ≤ ROW_COUNT) }
-    ensures fits { IfSome result (λ row. row_fits (row_of productions row.number) (drop place (entry_cats line.now)) ≡ true) }
+    ensures fits { IfSome result (λ row. row_fits (row_of productions row.number) (drop place (entry_cats line.now)) ≡
+        true) }
 {
     let _length = line.len();
     first_production([
@@ -96,7 +98,8 @@ fn apply(
 )
     requires from_one { 1 ≤ row.number }
     requires to_last { row.number ≤ ROW_COUNT }
-    requires fits { row_fits (row_of table.now row.number) (drop place (cats_of (scraps_of store.old.lists line.old))) ≡ true }
+    requires fits { row_fits (row_of table.now row.number) (drop place (cats_of (scraps_of store.old.lists line.old))) ≡
+        true }
     requires sound { IsSoundLine store.old names.old line.old }
     requires room { 24 ≤ store.old.spare }
     requires free { 0 < marks.old.spare }

@@ -10,7 +10,8 @@ pub enum Out {
     Scn,
 }
 
-/// What a journal records: an output was made under a name, or one byte was written to it; or a draft of it was begun for
+/// What a journal records: an output was made under a name, or one byte was written to it; or a draft of it was begun
+/// for
 /// a name, and then given up, since the named file stays as it is, or put in that file's place.
 #[derive(Drop)]
 pub enum Event {

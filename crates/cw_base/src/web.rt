@@ -50,7 +50,11 @@ impl Model for Web {
 
     ghost use Rattle.cw_base.specs.WebLayout.{read_lines, IsLaidOut};
 
-    ghost view = { λ w. record { lines = read_lines w.text.items w.lines.items; files = w.files.items; notes = w.notes.items } };
+    ghost view = { λ w. record {
+      lines = read_lines w.text.items w.lines.items;
+      files = w.files.items;
+      notes = w.notes.items;
+    } };
 
     ghost invariant = { λ w. IsLaidOut w.text.items w.lines.items w.notes.items (length w.files.items) };
 }

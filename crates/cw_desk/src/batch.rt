@@ -1,5 +1,6 @@
 //! A desk over a desk that hands bytes on in few calls.
-ghost use Rattle.std.specs.Prelude.{◌≡◌, ◌≢◌, ◌<◌, ◌≤◌, ◌+◌, ◌-◌, ◌++◌, ◌↔◌, IsTrue, IfOk, OnErr, OnOk, drop, take, length, min, []};
+ghost use Rattle.std.specs.Prelude.{◌≡◌, ◌≢◌, ◌<◌, ◌≤◌, ◌+◌, ◌-◌, ◌++◌, ◌↔◌, IsTrue, IfOk, OnErr, OnOk, drop, take};
+ghost use Rattle.std.specs.Prelude.{length, min, []};
 ghost use Rattle.cw_base.specs.declared.event.Out.TheVariants.{Term};
 ghost use Rattle.cw_desk.specs.Batch.{HandsOn, IsGathered, PutsFirst, Gathers, tell};
 ghost use Rattle.cw_desk.specs.Journal.{GrownByPart, byte_events};
@@ -17,9 +18,9 @@ const ROOM: usize = 32768;
 
 /// A desk that gathers the bytes which consecutive calls put to one file, and hands them on in few calls.
 ///
-/// They are handed on to the desk below before any other call, before bytes of another output, where the buffer is full,
-/// and by `finish`. The terminal's bytes are not gathered. Where handing on fails, so does the call that asked for it, and
-/// the bytes that were not taken go on waiting.
+/// They are handed on to the desk below before any other call, before bytes of another output, where the buffer is
+/// full, and by `finish`. The terminal's bytes are not gathered. Where handing on fails, so does the call that asked
+/// for it, and the bytes that were not taken go on waiting.
 #[derive(Drop)]
 pub struct Batch<D: Desk + Drop> {
     desk: D,
@@ -53,7 +54,8 @@ impl<D: Desk + Drop> Batch<D> {
     /// Hands on all bytes that wait, and gives back the desk below. What it did not take is lost.
     pub fn finish(mut self) -> (Flushed, D)
         ensures done { result.0 ≡ Flushed.Done → (D.told result.1).journal ≡ (tell D.told self).journal }
-        ensures part { GrownByPart (D.told self.below).journal (D.told result.1).journal (byte_events self.out self.waiting) }
+        ensures part { GrownByPart (D.told self.below).journal (D.told result.1).journal
+            (byte_events self.out self.waiting) }
         ensures same { OnlyPuts (D.told self.below) (D.told result.1) }
         ensures failed { result.0 ≡ Flushed.Failed → Rose (D.told self.below).faults (D.told result.1).faults }
     {
@@ -205,8 +207,8 @@ impl<D: Desk + Drop> Desk for Batch<D> {
     }
 }
 
-/// Lays a first part of the bytes into the buffer: all of them, or as many as there is room for. The first time it takes
-/// the whole buffer.
+/// Lays a first part of the bytes into the buffer: all of them, or as many as there is room for. The first time it
+/// takes the whole buffer.
 fn gather(buffer: &mut Vec<u8>, bytes: &[u8]) -> Result<usize, Memory>
     requires { length buffer.old.items ≤ ROOM }
     ensures taken { IfOk result (λ count. count ≡ min (length bytes.now) (ROOM - length buffer.old.items)) }

@@ -48,7 +48,8 @@ pub enum Taken {
 /// What the program reads and writes, and all that it can do outside its own memory.
 ///
 /// Contracts see what the desk tells: how many files were opened, which outputs are made and which have a draft, the
-/// files, the unread rest of each opened file, the journal of all that was written, and the count of faults. Memory may be answered at any time.
+/// files, the unread rest of each opened file, the journal of all that was written, and the count of faults. Memory may
+/// be answered at any time.
 pub trait Desk {
     ghost told: { Self → Told };
 

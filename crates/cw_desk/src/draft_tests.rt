@@ -78,15 +78,24 @@ fn drafts_of_real_files(rt: HostRuntime) -> Result<(), Fail> {
     let mut desk = FileDesk::new_in(rt, rt.alloc());
     assert_eq!(rt; desk.draft(Out::Tex, path.as_bytes()), MadeOut::Done);
     assert_eq!(rt; desk.put(Out::Tex, b"old"), Taken::Bytes(3));
-    assert_eq!(rt; fs::read(&rt, draft.as_str())?.as_slice(), b"old".as_slice());
+    assert_eq!(rt;
+        fs::read(&rt, draft.as_str())?.as_slice(),
+        b"old".as_slice()
+    );
     assert_eq!(rt; desk.keep(Out::Tex), MadeOut::Done);
     assert!(rt; !fs::exists(&rt, draft.as_str())?, "no draft stays behind");
-    assert!(rt; fs::metadata(&rt, path.as_str())?.modified()? == before, "the time stamp stays");
+    assert!(rt;
+        fs::metadata(&rt, path.as_str())?.modified()? == before,
+        "the time stamp stays"
+    );
     assert_eq!(rt; desk.draft(Out::Tex, path.as_bytes()), MadeOut::Done);
     assert_eq!(rt; desk.put(Out::Tex, b"new text"), Taken::Bytes(8));
     assert_eq!(rt; fs::read(&rt, path.as_str())?.as_slice(), b"old".as_slice());
     assert_eq!(rt; desk.replace(Out::Tex), MadeOut::Done);
-    assert_eq!(rt; fs::read(&rt, path.as_str())?.as_slice(), b"new text".as_slice());
+    assert_eq!(rt;
+        fs::read(&rt, path.as_str())?.as_slice(),
+        b"new text".as_slice()
+    );
     assert!(rt; !fs::exists(&rt, draft.as_str())?, "no draft stays behind");
     fs::remove_file(&rt, path.as_str())?;
     Ok(())

@@ -50,7 +50,8 @@ impl QuietDesk {
         self.desk.add_file(name, bytes)
     }
 
-    /// Appends a greatest size: the first holds for the first read or put, and so on; the last holds for all later ones.
+    /// Appends a greatest size: the first holds for the first read or put, and so on; the last holds for all later
+    /// ones.
     pub fn limit(&mut self, size: usize) -> Result<(), Memory>
         requires { 0 < size }
         ensures ok { OnOk result (self.new ≡ record self.old { sizes = self.old.sizes ++ size ∷ [] }) }
@@ -92,7 +93,8 @@ impl Desk for QuietDesk {
         ensures state { as_mem self.new ≡ record (moved (as_mem self.old)) { rests = self.new.rests } }
         ensures quiet { result ≢ Fetched.Failed }
         ensures size { (n : ℕ) → result ≡ Fetched.Got n →
-            n ≡ allowed (as_mem self.old) (min (length buffer.old) (length (slice_index_or self.old.rests id.index []))) }
+            n ≡ allowed (as_mem self.old) (min (length buffer.old)
+            (length (slice_index_or self.old.rests id.index []))) }
     {
         self.desk.read(id, buffer)
     }

@@ -20,7 +20,8 @@ ghost use Rattle.cw_lex.specs.Bytes.{at_sign};
 ghost use Rattle.cw_secnames.specs.Kept.{SecName};
 ghost use Rattle.cw_secnames.specs.Uses.{name_at};
 ghost use Rattle.cw_index.specs.Sorted.{sorted, sorted_on};
-ghost use Rattle.cw_index.specs.Standing.{has_any, has_reference, kept_stand, kind_place, listed_names, named_stand, stand_cmp, stand_if, stands_from};
+ghost use Rattle.cw_index.specs.Standing.{has_any, has_reference, kept_stand, kind_place, listed_names, named_stand};
+ghost use Rattle.cw_index.specs.Standing.{stand_cmp, stand_if, stands_from};
 ghost use Rattle.cw_index.specs.StandingForms.{stand_of, stands_of};
 ghost use Rattle.cw_index.specs.StandingLaws.{stand_cmp-total};
 

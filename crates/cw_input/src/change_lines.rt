@@ -1,6 +1,7 @@
 //! One line of a change file, in each of its phases.
 
-ghost use Rattle.std.specs.Prelude.{◌≡◌, ◌<◌, ◌≤◌, ◌-◌, ◌+◌, ℕ, IsErrOf, IsOkUnless, List, OnOk, Some, cond, length, nat_lt};
+ghost use Rattle.std.specs.Prelude.{◌≡◌, ◌<◌, ◌≤◌, ◌-◌, ◌+◌, ℕ, IsErrOf, IsOkUnless, List, OnOk, Some, cond, length};
+ghost use Rattle.std.specs.Prelude.{nat_lt};
 ghost use Rattle.cw_base.specs.declared.notes.NoteKind.TheVariants.{LinesDiffer};
 ghost use Rattle.cw_input.specs.Answers.{Gives, Steps, Waits};
 ghost use Rattle.cw_input.specs.Lines.{FileLine};
@@ -198,7 +199,8 @@ pub(crate) fn end_change(m: &mut Merger, phase: Phase, line: u32) -> Result<(), 
     requires listed { 1 < length m.old.web.files }
     requires bytes { m.old.sum ≤ INPUT_LIMIT }
     ensures gives { (change : List ℕ) →
-        Gives (Some (ended phase (record { file = 1; line = line }) (state_of change m.old))) (state_of change m.new) result }
+        Gives (Some (ended phase (record { file = 1; line = line }) (state_of change m.old)))
+        (state_of change m.new) result }
     ensures moves { OnOk result (Moves 0 0 0 0 m.old m.new) }
     ensures nothing { OnOk result (m.new.meets ≡ Meets.Nothing) }
     ensures fault { ¬ IsErrOf result LoadError.Fault }

@@ -1,13 +1,15 @@
 //! The lines of a change file that need no line of the web.
 
-ghost use Rattle.std.specs.Prelude.{◌≡◌, ◌≢◌, ◌+◌, ◌-◌, ◌*◌, ◌<◌, ◌≤◌, ℕ, All, IsErrOf, List, OnOk, Some, ◌∷◌, [], length, option_and_then, slice_range};
+ghost use Rattle.std.specs.Prelude.{◌≡◌, ◌≢◌, ◌+◌, ◌-◌, ◌*◌, ◌<◌, ◌≤◌, ℕ, All, IsErrOf, List, OnOk, Some, ◌∷◌, []};
+ghost use Rattle.std.specs.Prelude.{length, option_and_then, slice_range};
 ghost use Rattle.std.specs.FinMap.{get};
 ghost use Rattle.cw_desk.specs.Meaning.{Files, Rose};
 ghost use Rattle.cw_desk.specs.Told.{OnlyReads};
 ghost use Rattle.cw_input.specs.Answers.{Gives, Steps, Waits};
 ghost use Rattle.cw_input.specs.Lines.{FileLine, code_of};
 ghost use Rattle.cw_input.specs.Fold.{Onward, advance, new_lines, step};
-ghost use Rattle.cw_input.specs.State.{HasRoom, IsCursor, IsMet, IsPhase, IsPiece, Moves, ahead, line_at, line_of, rest_of, state_of};
+ghost use Rattle.cw_input.specs.State.{HasRoom, IsCursor, IsMet, IsPhase, IsPiece, Moves, ahead, line_at, line_of};
+ghost use Rattle.cw_input.specs.State.{rest_of, state_of};
 ghost use Rattle.cw_input.specs.declared.phase.Phase.TheVariants.{New};
 
 use crate::change_lines::{

@@ -2,7 +2,8 @@
 
 ghost use Rattle.std.specs.Prelude.{◌≡◌, ◌<◌, ◌≤◌, [], ◌∷◌, ◌==◌, not, filter, length, IfOk, drop, true, Some};
 ghost use Rattle.cw_input.specs.Names.{outputs_of_web, outputs_of_word};
-ghost use Rattle.cw_input.specs.Words.{is_option, turned, with_option, flags_of, plain_words, can_be_output, can_be_web, weave_by, command_with, sample_of, command_of, sample_number};
+ghost use Rattle.cw_input.specs.Words.{is_option, turned, with_option, flags_of, plain_words, can_be_output};
+ghost use Rattle.cw_input.specs.Words.{can_be_web, weave_by, command_with, sample_of, command_of, sample_number};
 
 use crate::names::{names_from_output, names_from_web};
 use crate::words::{Command, CommandLine, OutputNames};

@@ -1,4 +1,5 @@
-//! Reading: what the words of the command line ask for, and the merged lines of a web, its included files and its change file.
+//! Reading: what the words of the command line ask for, and the merged lines of a web, its included files and its
+//! change file.
 #![tactic(auto)]
 
 mod change_lines;

@@ -1,6 +1,7 @@
 //! The lines of a file, and what a line says by its first bytes.
 
-ghost use Rattle.std.specs.Prelude.{◌≡◌, ◌≢◌, ◌+◌, ◌<◌, ◌≤◌, ◌∷◌, ◌==◌, All, None, Some, true, MatchOption, drop, take, length, slice_range};
+ghost use Rattle.std.specs.Prelude.{◌≡◌, ◌≢◌, ◌+◌, ◌<◌, ◌≤◌, ◌∷◌, ◌==◌, All, None, Some, true, MatchOption, drop, take};
+ghost use Rattle.std.specs.Prelude.{length, slice_range};
 ghost use Rattle.cw_base.specs.Text.{is_blank, trimmed, lines_of};
 ghost use Rattle.cw_input.specs.Lines.{begins, code_of, include_name, name_of, skip_blanks, until};
 

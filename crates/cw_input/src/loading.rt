@@ -1,6 +1,7 @@
 //! Reading a web with its change file: the files are found and read, and their lines merged.
 
-ghost use Rattle.std.specs.Prelude.{◌≡◌, ◌*◌, ◌+◌, ◌-◌, ◌<◌, ◌≤◌, [], IsErrOf, None, Some, IfOk, length, option_and_then, option_copied};
+ghost use Rattle.std.specs.Prelude.{◌≡◌, ◌*◌, ◌+◌, ◌-◌, ◌<◌, ◌≤◌, [], IsErrOf, None, Some, IfOk, length};
+ghost use Rattle.std.specs.Prelude.{option_and_then, option_copied};
 ghost use Rattle.std.specs.FinMap.{get};
 ghost use Rattle.cw_desk.specs.Meaning.{Files, Rose};
 ghost use Rattle.cw_desk.specs.Told.{OnlyReads};

@@ -7,7 +7,8 @@ use std::alloc::Global;
 use std::process::Abort;
 use std::test::Fail;
 
-// A web as a text: its lines, then where each was read with a `*` where it is marked, then its notes as the program prints them.
+// A web as a text: its lines, then where each was read with a `*` where it is marked, then its notes as the program
+// prints them.
 fn shown(alloc: Global, web: &Web) -> Result<Bytes, Fail> {
     let mut out = Bytes::from_slice(alloc, web.text())?;
     for i in 0..web.line_count() {

@@ -21,7 +21,8 @@ use cw_trees::Control;
 
 impl Joiner {
     /// Appends what `push` would put of an item whose given bytes are none: those go behind it. After an `Err` the
-    /// joiner is not to be used again, and what stood in `out` stands there, maybe with some of the item's bytes behind.
+    /// joiner is not to be used again, and what stood in `out` stands there, maybe with some of the item's bytes
+    /// behind.
     #[inline(always)]
     pub fn append(&mut self, item: FlatItem, names: &Names, out: &mut Bytes) -> Result<(), Memory>
         requires come { CanCome (length names.now) self.old.depth item }

@@ -1,6 +1,8 @@
 //! What goes on byte by byte: strings, control texts, section names and pieces of comments, with their notes.
-ghost use Rattle.std.specs.Prelude.{◌≡◌, ◌≤◌, ◌<◌, ◌+◌, ◌-◌, ◌^◌, ◌∷◌, [], true, length, drop, slice_index, MatchOption, IsTrue};
-ghost use Rattle.cw_lex.specs.Bodies.{stops, takes_next, note_on, braces_after, stepped, goes_on, note_here, is_plain, is_idle, ended, noted, closing_bytes, extent};
+ghost use Rattle.std.specs.Prelude.{◌≡◌, ◌≤◌, ◌<◌, ◌+◌, ◌-◌, ◌^◌, ◌∷◌, [], true, length, drop, slice_index};
+ghost use Rattle.std.specs.Prelude.{MatchOption, IsTrue};
+ghost use Rattle.cw_lex.specs.Bodies.{stops, takes_next, note_on, braces_after, stepped, goes_on, note_here, is_plain};
+ghost use Rattle.cw_lex.specs.Bodies.{is_idle, ended, noted, closing_bytes, extent};
 ghost use Rattle.cw_lex.specs.Bytes.{begins_with};
 ghost use Rattle.cw_lex.specs.Pending.{body_notes, notes_so_far, IsInside};
 
@@ -251,7 +253,8 @@ fn first_noted(notes: Option<Inside>, i: Inside, text: &[u8]) -> Option<Inside>
     requires some { i.place < length text.now }
     requires braces { i.braces ≤ i.place }
     requires inside { IsInside (length text.now) notes }
-    ensures notes { notes_so_far text.now result (stepped i (slice_index (drop i.place text.now) 0) (drop 1 (drop i.place text.now))) ≡ notes_so_far text.now notes i }
+    ensures notes { notes_so_far text.now result (stepped i (slice_index (drop i.place text.now) 0)
+        (drop 1 (drop i.place text.now))) ≡ notes_so_far text.now notes i }
     ensures inside { IsInside (length text.now) result }
 {
     match notes {
@@ -289,7 +292,9 @@ pub(crate) fn walk(inside: Inside, text: &[u8]) -> Walked
 pub(crate) fn next_noted(inside: &mut Inside, text: &[u8]) -> Option<Noted>
     requires within { inside.old.place ≤ length text.now }
     requires braces { inside.old.braces ≤ inside.old.place }
-    ensures value { MatchOption result (noted inside.old (drop inside.old.place text.now) ≡ []) (λ n. noted inside.old (drop inside.old.place text.now) ≡ n ∷ noted inside.new (drop inside.new.place text.now)) }
+    ensures value { MatchOption result (noted inside.old (drop inside.old.place text.now) ≡
+        []) (λ n. noted inside.old (drop inside.old.place text.now) ≡ n ∷
+        noted inside.new (drop inside.new.place text.now)) }
     ensures within { inside.new.place ≤ length text.now }
     ensures braces { inside.new.braces ≤ inside.new.place }
 {

@@ -1,11 +1,16 @@
 //! C text.
-ghost use Rattle.std.specs.Prelude.{◌≡◌, ◌≤◌, ◌<◌, ◌+◌, ◌-◌, ◌∷◌, [], true, false, not, ◌==◌, ◌&&◌, ◌++◌, nat_lt, length, drop, slice_index, MatchOption};
+ghost use Rattle.std.specs.Prelude.{◌≡◌, ◌≤◌, ◌<◌, ◌+◌, ◌-◌, ◌∷◌, [], true, false, not, ◌==◌, ◌&&◌, ◌++◌, nat_lt};
+ghost use Rattle.std.specs.Prelude.{length, drop, slice_index, MatchOption};
 ghost use Rattle.cw_lex.specs.Answers.{Gives, before};
 ghost use Rattle.cw_lex.specs.Bytes.{run, is_letter};
 ghost use Rattle.cw_lex.specs.Codes.{code_at};
 ghost use Rattle.cw_lex.specs.Lexing.{fresh_at, last_at, answers_at};
-ghost use Rattle.cw_lex.specs.Tokens.{code_text, in_code, start_of, code_by, effect_in, line_end, part_line_end, comment_end, inner_cut, takes_hash_line, behind_include, is_space, in_hash_line, ends_at_bar, one, moved, closes_on_line, is_include, behind_word, with_inner, passed};
-ghost use Rattle.cw_lex.specs.Coming.{where_of, coming, bytes_at, found_at, cut_of, is_code, is_code_part, ends_line, is_white_here, IsClear, IsCut, IsReady, CanStep};
+ghost use Rattle.cw_lex.specs.Tokens.{code_text, in_code, start_of, code_by, effect_in, line_end, part_line_end};
+ghost use Rattle.cw_lex.specs.Tokens.{comment_end, inner_cut, takes_hash_line, behind_include, is_space, in_hash_line};
+ghost use Rattle.cw_lex.specs.Tokens.{ends_at_bar, one, moved, closes_on_line, is_include, behind_word, with_inner};
+ghost use Rattle.cw_lex.specs.Tokens.{passed};
+ghost use Rattle.cw_lex.specs.Coming.{where_of, coming, bytes_at, found_at, cut_of, is_code, is_code_part, ends_line};
+ghost use Rattle.cw_lex.specs.Coming.{is_white_here, IsClear, IsCut, IsReady, CanStep};
 ghost use Rattle.cw_lex.specs.Starts.{SignFits, CommentFits, CodeIs};
 ghost use Rattle.cw_lex.specs.Constants.{constant};
 
@@ -61,7 +66,8 @@ impl State {
     // Whether white space of C text stands at a place.
     fn is_white_at(&self, text: &[u8], at: usize) -> bool
         requires { at < length text.now }
-        ensures { result ≡ is_white_here self.now.part self.now.comments (last_at text.now at) (slice_index text.now at) (drop (at + 1) text.now) }
+        ensures { result ≡ is_white_here self.now.part self.now.comments (last_at text.now at) (slice_index text.now at)
+            (drop (at + 1) text.now) }
     {
         let byte = text[at];
         if byte == b'\n' || byte == b'\\' {
@@ -74,7 +80,8 @@ impl State {
     #[inline(never)]
     fn is_white_line_end(&self, text: &[u8], at: usize) -> bool
         requires { at < length text.now }
-        ensures { result ≡ is_white_here self.now.part self.now.comments (last_at text.now at) (slice_index text.now at) (drop (at + 1) text.now) }
+        ensures { result ≡ is_white_here self.now.part self.now.comments (last_at text.now at) (slice_index text.now at)
+            (drop (at + 1) text.now) }
     {
         let byte = text[at];
         if byte == b'\n' {
@@ -90,10 +97,12 @@ impl State {
 pub(crate) fn skip_white(text: &[u8], state: &State) -> usize
     requires within { state.now.at ≤ length text.now }
     requires code { is_code state.now.part state.now.comments ≡ true }
-    ensures same { answers_at text.now (where_of state.now) result ≡ answers_at text.now (where_of state.now) state.now.at }
+    ensures same { answers_at text.now (where_of state.now) result ≡ answers_at text.now (where_of state.now)
+        state.now.at }
     ensures from { state.now.at ≤ result }
     ensures within { result ≤ length text.now }
-    ensures none { result < length text.now → is_white_here state.now.part state.now.comments (last_at text.now result) (slice_index text.now result) (drop (result + 1) text.now) ≡ false }
+    ensures none { result < length text.now → is_white_here state.now.part state.now.comments (last_at text.now result)
+        (slice_index text.now result) (drop (result + 1) text.now) ≡ false }
 {
     let mut at = state.at;
     while at < text.len() {
@@ -110,8 +119,11 @@ pub(crate) fn code_text<'a>(text: &'a [u8], state: &mut State) -> Lexed<'a>
     requires step { CanStep text.now state.old }
     requires code { is_code state.old.part state.old.comments ≡ true }
     requires part { is_code_part state.old.part ≡ true }
-    requires white { is_white_here state.old.part state.old.comments (last_at text.now state.old.at) (slice_index text.now state.old.at) (drop (state.old.at + 1) text.now) ≡ false }
-    requires found { found_at text.now (where_of state.old) state.old.at ≡ code_text (where_of state.old) (fresh_at text.now state.old.at) (last_at text.now state.old.at) state.old.at (slice_index text.now state.old.at) (drop (state.old.at + 1) text.now) }
+    requires white { is_white_here state.old.part state.old.comments (last_at text.now state.old.at)
+        (slice_index text.now state.old.at) (drop (state.old.at + 1) text.now) ≡ false }
+    requires found { found_at text.now (where_of state.old) state.old.at ≡
+        code_text (where_of state.old) (fresh_at text.now state.old.at) (last_at text.now state.old.at) state.old.at
+        (slice_index text.now state.old.at) (drop (state.old.at + 1) text.now) }
     ensures gives { Gives (coming text.now state.old) result (coming text.now state.new) }
     ensures ready { IsReady text.now state.new }
 {
@@ -137,7 +149,8 @@ pub(crate) fn code_text<'a>(text: &'a [u8], state: &mut State) -> Lexed<'a>
 
 fn begins_hash_line(text: &[u8], state: &State) -> bool
     requires { state.now.at < length text.now }
-    ensures value { result ≡ (slice_index text.now state.now.at == 35 && (takes_hash_line state.now.part state.now.comments && fresh_at text.now state.now.at)) }
+    ensures value { result ≡ (slice_index text.now state.now.at == 35 &&
+        (takes_hash_line state.now.part state.now.comments && fresh_at text.now state.now.at)) }
     ensures none { result ≡ true → state.now.comments ≡ [] }
 {
     text[state.at] == b'#' && state.takes_hash_line() && is_fresh(text, state.at)
@@ -147,7 +160,10 @@ fn begins_hash_line(text: &[u8], state: &State) -> bool
 fn include_size(text: &[u8], at: usize, part: Part, clear: &mut Clear) -> Option<usize>
     requires place { at < length text.now }
     requires clear { IsClear text.now clear.old }
-    ensures value { MatchOption result ((slice_index text.now at == 60 && (behind_include part && closes_on_line (drop (at + 1) text.now))) ≡ false) (λ n. ((slice_index text.now at == 60 && (behind_include part && closes_on_line (drop (at + 1) text.now))) ≡ true) × (n ≡ run Class.IncludeName (drop (at + 1) text.now)) × (at + (n + 2) ≤ length text.now)) }
+    ensures value { MatchOption result ((slice_index text.now at == 60 && (behind_include part && closes_on_line
+        (drop (at + 1) text.now))) ≡ false) (λ n. ((slice_index text.now at == 60 &&
+        (behind_include part && closes_on_line (drop (at + 1) text.now))) ≡ true) ×
+        (n ≡ run Class.IncludeName (drop (at + 1) text.now)) × (at + (n + 2) ≤ length text.now)) }
     ensures clear { IsClear text.now clear.new }
 {
     if text[at] != b'<' || !part.behind_include() {
@@ -182,7 +198,9 @@ fn give_code<'a>(text: &'a [u8], state: &mut State, part: Part, cut: Cutting) ->
     requires step { CanStep text.now state.old }
     requires code { is_code_part part ≡ true }
     requires cut { IsCut text.now state.old.at cut }
-    requires found { found_at text.now (where_of state.old) state.old.at ≡ one (in_hash_line state.old.part) (moved (where_of state.old) part) state.old.at (bytes_at text.now state.old.at) (cut_of text.now cut) }
+    requires found { found_at text.now (where_of state.old) state.old.at ≡
+        one (in_hash_line state.old.part) (moved (where_of state.old) part) state.old.at
+        (bytes_at text.now state.old.at) (cut_of text.now cut) }
     ensures gives { Gives (coming text.now state.old) result (coming text.now state.new) }
     ensures ready { IsReady text.now state.new }
 {
@@ -195,7 +213,8 @@ fn line_end<'a>(text: &'a [u8], state: &mut State) -> Lexed<'a>
     requires step { CanStep text.now state.old }
     requires newline { slice_index text.now state.old.at ≡ 10 }
     requires ends { ends_line state.old.part state.old.comments (last_at text.now state.old.at) ≡ true }
-    requires found { found_at text.now (where_of state.old) state.old.at ≡ line_end state.old.part state.old.comments (last_at text.now state.old.at) state.old.at }
+    requires found { found_at text.now (where_of state.old) state.old.at ≡ line_end state.old.part state.old.comments
+        (last_at text.now state.old.at) state.old.at }
     ensures gives { Gives (coming text.now state.old) result (coming text.now state.new) }
     ensures ready { IsReady text.now state.new }
 {
@@ -210,7 +229,8 @@ fn end_hash_line<'a>(text: &'a [u8], state: &mut State) -> Lexed<'a>
     requires newline { slice_index text.now state.old.at ≡ 10 }
     requires comments { state.old.comments ≡ [] }
     requires ends { (in_hash_line state.old.part && not (last_at text.now state.old.at == 92)) ≡ true }
-    requires found { found_at text.now (where_of state.old) state.old.at ≡ part_line_end state.old.part (last_at text.now state.old.at) state.old.at }
+    requires found { found_at text.now (where_of state.old) state.old.at ≡
+        part_line_end state.old.part (last_at text.now state.old.at) state.old.at }
     ensures gives { Gives (coming text.now state.old) result (coming text.now state.new) }
     ensures ready { IsReady text.now state.new }
 {
@@ -227,7 +247,10 @@ fn cut_inner<'a>(text: &'a [u8], state: &mut State, comment: Opened) -> Lexed<'a
     requires newline { slice_index text.now state.old.at ≡ 10 }
     requires top { state.old.comments ≡ comment ∷ drop 1 state.old.comments }
     requires short { comment.long ≡ false }
-    requires found { found_at text.now (where_of state.old) state.old.at ≡ before (inner_cut (in_hash_line state.old.part) state.old.at state.old.at ++ comment_end (in_hash_line state.old.part) comment state.old.at 0 []) (line_end (passed state.old.part) (drop 1 state.old.comments) (last_at text.now state.old.at) state.old.at) }
+    requires found { found_at text.now (where_of state.old) state.old.at ≡
+        before (inner_cut (in_hash_line state.old.part) state.old.at state.old.at ++
+        comment_end (in_hash_line state.old.part) comment state.old.at 0 []) (line_end (passed state.old.part)
+        (drop 1 state.old.comments) (last_at text.now state.old.at) state.old.at) }
     ensures gives { Gives (coming text.now state.old) result (coming text.now state.new) }
     ensures ready { IsReady text.now state.new }
 {
@@ -259,7 +282,9 @@ fn in_code<'a>(text: &'a [u8], state: &mut State) -> Lexed<'a>
     requires step { CanStep text.now state.old }
     requires code { is_code state.old.part state.old.comments ≡ true }
     requires part { is_code_part state.old.part ≡ true }
-    requires found { found_at text.now (where_of state.old) state.old.at ≡ in_code (start_of (ends_at_bar state.old.part state.old.comments) (slice_index text.now state.old.at) (drop (state.old.at + 1) text.now)) (where_of state.old) state.old.at (bytes_at text.now state.old.at) }
+    requires found { found_at text.now (where_of state.old) state.old.at ≡
+        in_code (start_of (ends_at_bar state.old.part state.old.comments) (slice_index text.now state.old.at)
+        (drop (state.old.at + 1) text.now)) (where_of state.old) state.old.at (bytes_at text.now state.old.at) }
     ensures gives { Gives (coming text.now state.old) result (coming text.now state.new) }
     ensures ready { IsReady text.now state.new }
 {
@@ -340,7 +365,8 @@ fn identifier<'a>(text: &'a [u8], state: &mut State) -> Lexed<'a>
     requires step { CanStep text.now state.old }
     requires code { is_code_part state.old.part ≡ true }
     requires letter { is_letter (slice_index text.now state.old.at) ≡ true }
-    requires found { found_at text.now (where_of state.old) state.old.at ≡ in_code Start.Identifier (where_of state.old) state.old.at (bytes_at text.now state.old.at) }
+    requires found { found_at text.now (where_of state.old) state.old.at ≡ in_code Start.Identifier (where_of state.old)
+        state.old.at (bytes_at text.now state.old.at) }
     ensures gives { Gives (coming text.now state.old) result (coming text.now state.new) }
     ensures ready { IsReady text.now state.new }
 {
@@ -386,7 +412,9 @@ fn code_in_code<'a>(text: &'a [u8], state: &mut State, code: Code) -> Lexed<'a>
     requires step { CanStep text.now state.old }
     requires part { is_code_part state.old.part ≡ true }
     requires code { code ≡ code_at (drop (state.old.at + 1) text.now) }
-    requires found { found_at text.now (where_of state.old) state.old.at ≡ code_by (effect_in state.old.part state.old.comments code) code (where_of state.old) state.old.at (bytes_at text.now state.old.at) }
+    requires found { found_at text.now (where_of state.old) state.old.at ≡
+        code_by (effect_in state.old.part state.old.comments code) code (where_of state.old) state.old.at
+        (bytes_at text.now state.old.at) }
     ensures gives { Gives (coming text.now state.old) result (coming text.now state.new) }
     ensures ready { IsReady text.now state.new }
 {

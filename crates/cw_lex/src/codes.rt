@@ -1,6 +1,7 @@
 //! The control codes, and what each does in each kind of text.
 ghost use Rattle.std.specs.Prelude.{◌≡◌, true};
-ghost use Rattle.cw_lex.specs.Codes.{code_of, code_at, is_section, begins_section, has_control_text, effect_in_limbo, effect_in_tex, effect_in_c, effect_in_definition, effect_at_begin};
+ghost use Rattle.cw_lex.specs.Codes.{code_of, code_at, is_section, begins_section, has_control_text, effect_in_limbo};
+ghost use Rattle.cw_lex.specs.Codes.{effect_in_tex, effect_in_c, effect_in_definition, effect_at_begin};
 ghost use Rattle.cw_lex.specs.Tokens.{is_name, is_quote};
 ghost use Rattle.cw_lex.specs.Effects.{stays};
 

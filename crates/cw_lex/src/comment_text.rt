@@ -1,12 +1,14 @@
 //! The text of comments, and what opens and ends comments and inner C text.
-ghost use Rattle.std.specs.Prelude.{◌≡◌, ◌<◌, ◌≤◌, ◌+◌, ◌∷◌, [], true, false, not, ◌==◌, ◌&&◌, length, drop, slice_index};
+ghost use Rattle.std.specs.Prelude.{◌≡◌, ◌<◌, ◌≤◌, ◌+◌, ◌∷◌, [], true, false, not, ◌==◌, ◌&&◌, length, drop};
+ghost use Rattle.std.specs.Prelude.{slice_index};
 ghost use Rattle.cw_lex.specs.Answers.{Gives, before};
 ghost use Rattle.cw_lex.specs.Bytes.{begins};
 ghost use Rattle.cw_lex.specs.Bodies.{stops, note_unless};
 ghost use Rattle.cw_lex.specs.Lexing.{last_at};
 ghost use Rattle.cw_lex.specs.Pending.{no_notes};
 ghost use Rattle.cw_lex.specs.Codes.{begins_section};
-ghost use Rattle.cw_lex.specs.Tokens.{comment_text, comment_closed, comment_end, piece, is_deep, line_end, inner_begin, inner_end, with_inner, in_hash_line, comment_begin, comment_kind};
+ghost use Rattle.cw_lex.specs.Tokens.{comment_text, comment_closed, comment_end, piece, is_deep, line_end, inner_begin};
+ghost use Rattle.cw_lex.specs.Tokens.{inner_end, with_inner, in_hash_line, comment_begin, comment_kind};
 ghost use Rattle.cw_lex.specs.Coming.{where_of, coming, bytes_at, found_at, is_code, IsReady, CanStep};
 
 use crate::bodies::{Body, Inside, walk};
@@ -34,7 +36,8 @@ pub(crate) fn begin_comment<'a>(text: &'a [u8], state: &mut State, long: bool) -
     requires step { CanStep text.now state.old }
     requires code { is_code state.old.part state.old.comments ≡ true }
     requires two { state.old.at + 2 ≤ length text.now }
-    requires found { found_at text.now (where_of state.old) state.old.at ≡ comment_begin long (where_of state.old) state.old.at (bytes_at text.now state.old.at) }
+    requires found { found_at text.now (where_of state.old) state.old.at ≡
+        comment_begin long (where_of state.old) state.old.at (bytes_at text.now state.old.at) }
     ensures gives { Gives (coming text.now state.old) result (coming text.now state.new) }
     ensures ready { IsReady text.now state.new }
 {
@@ -53,7 +56,8 @@ pub(crate) fn begin_comment<'a>(text: &'a [u8], state: &mut State, long: bool) -
 /// Answers that inner C text of TeX text or of a comment ends at its bar.
 pub(crate) fn end_inner<'a>(text: &'a [u8], state: &mut State) -> Lexed<'a>
     requires step { CanStep text.now state.old }
-    requires found { found_at text.now (where_of state.old) state.old.at ≡ inner_end (where_of state.old) state.old.at (bytes_at text.now state.old.at) }
+    requires found { found_at text.now (where_of state.old) state.old.at ≡ inner_end (where_of state.old) state.old.at
+        (bytes_at text.now state.old.at) }
     ensures gives { Gives (coming text.now state.old) result (coming text.now state.new) }
     ensures ready { IsReady text.now state.new }
 {
@@ -66,7 +70,8 @@ pub(crate) fn end_inner<'a>(text: &'a [u8], state: &mut State) -> Lexed<'a>
 fn end_tex_inner<'a>(text: &'a [u8], state: &mut State) -> Lexed<'a>
     requires step { CanStep text.now state.old }
     requires comments { state.old.comments ≡ [] }
-    requires found { found_at text.now (where_of state.old) state.old.at ≡ inner_end (where_of state.old) state.old.at (bytes_at text.now state.old.at) }
+    requires found { found_at text.now (where_of state.old) state.old.at ≡ inner_end (where_of state.old) state.old.at
+        (bytes_at text.now state.old.at) }
     ensures gives { Gives (coming text.now state.old) result (coming text.now state.new) }
     ensures ready { IsReady text.now state.new }
 {
@@ -85,7 +90,8 @@ fn end_tex_inner<'a>(text: &'a [u8], state: &mut State) -> Lexed<'a>
 fn end_comment_inner<'a>(text: &'a [u8], state: &mut State, comment: Opened) -> Lexed<'a>
     requires step { CanStep text.now state.old }
     requires top { state.old.comments ≡ comment ∷ drop 1 state.old.comments }
-    requires found { found_at text.now (where_of state.old) state.old.at ≡ inner_end (where_of state.old) state.old.at (bytes_at text.now state.old.at) }
+    requires found { found_at text.now (where_of state.old) state.old.at ≡ inner_end (where_of state.old) state.old.at
+        (bytes_at text.now state.old.at) }
     ensures gives { Gives (coming text.now state.old) result (coming text.now state.new) }
     ensures ready { IsReady text.now state.new }
 {
@@ -112,8 +118,11 @@ pub(crate) fn comment_text<'a>(text: &'a [u8], state: &mut State, comment: Opene
     requires step { CanStep text.now state.old }
     requires top { state.old.comments ≡ comment ∷ drop 1 state.old.comments }
     requires text { comment.inner ≡ false }
-    requires section { (slice_index text.now state.old.at == 64 && begins_section (drop (state.old.at + 1) text.now)) ≡ false }
-    requires found { found_at text.now (where_of state.old) state.old.at ≡ comment_text state.old.part comment (drop 1 state.old.comments) (last_at text.now state.old.at) state.old.at (slice_index text.now state.old.at) (drop (state.old.at + 1) text.now) }
+    requires section { (slice_index text.now state.old.at == 64 && begins_section (drop (state.old.at + 1) text.now)) ≡
+        false }
+    requires found { found_at text.now (where_of state.old) state.old.at ≡
+        comment_text state.old.part comment (drop 1 state.old.comments) (last_at text.now state.old.at) state.old.at
+        (slice_index text.now state.old.at) (drop (state.old.at + 1) text.now) }
     ensures gives { Gives (coming text.now state.old) result (coming text.now state.new) }
     ensures ready { IsReady text.now state.new }
 {
@@ -157,7 +166,9 @@ fn end_comment<'a>(text: &'a [u8], state: &mut State, comment: Opened) -> Lexed<
     requires step { CanStep text.now state.old }
     requires top { state.old.comments ≡ comment ∷ drop 1 state.old.comments }
     requires two { state.old.at + 2 ≤ length text.now }
-    requires found { found_at text.now (where_of state.old) state.old.at ≡ comment_closed state.old.part comment (drop 1 state.old.comments) state.old.at (bytes_at text.now state.old.at) }
+    requires found { found_at text.now (where_of state.old) state.old.at ≡
+        comment_closed state.old.part comment (drop 1 state.old.comments) state.old.at
+        (bytes_at text.now state.old.at) }
     ensures gives { Gives (coming text.now state.old) result (coming text.now state.new) }
     ensures ready { IsReady text.now state.new }
 {
@@ -191,7 +202,9 @@ fn end_short_comment<'a>(text: &'a [u8], state: &mut State, comment: Opened) -> 
     requires step { CanStep text.now state.old }
     requires top { state.old.comments ≡ comment ∷ drop 1 state.old.comments }
     requires newline { slice_index text.now state.old.at ≡ 10 }
-    requires found { found_at text.now (where_of state.old) state.old.at ≡ before (comment_end (in_hash_line state.old.part) comment state.old.at 0 []) (line_end state.old.part (drop 1 state.old.comments) (last_at text.now state.old.at) state.old.at) }
+    requires found { found_at text.now (where_of state.old) state.old.at ≡
+        before (comment_end (in_hash_line state.old.part) comment state.old.at 0 [])
+        (line_end state.old.part (drop 1 state.old.comments) (last_at text.now state.old.at) state.old.at) }
     ensures gives { Gives (coming text.now state.old) result (coming text.now state.new) }
     ensures ready { IsReady text.now state.new }
 {
@@ -212,7 +225,9 @@ fn begin_inner<'a>(text: &'a [u8], state: &mut State, comment: Opened) -> Lexed<
     requires step { CanStep text.now state.old }
     requires top { state.old.comments ≡ comment ∷ drop 1 state.old.comments }
     requires depth { length state.old.comments ≤ 20 }
-    requires found { found_at text.now (where_of state.old) state.old.at ≡ inner_begin (in_hash_line state.old.part) (record { part = state.old.part; comments = with_inner comment true ∷ drop 1 state.old.comments }) state.old.at (bytes_at text.now state.old.at) }
+    requires found { found_at text.now (where_of state.old) state.old.at ≡ inner_begin (in_hash_line state.old.part)
+        (record { part = state.old.part; comments = with_inner comment true ∷ drop 1 state.old.comments }) state.old.at
+        (bytes_at text.now state.old.at) }
     ensures gives { Gives (coming text.now state.old) result (coming text.now state.new) }
     ensures ready { IsReady text.now state.new }
 {
@@ -239,8 +254,10 @@ fn piece<'a>(text: &'a [u8], state: &mut State, comment: Opened, deep: bool) -> 
     requires top { state.old.comments ≡ comment ∷ drop 1 state.old.comments }
     requires text { comment.inner ≡ false }
     requires deep { deep ≡ is_deep state.old.part state.old.comments }
-    requires goes { stops (Body.Piece comment.long deep) 0 (slice_index text.now state.old.at) (drop (state.old.at + 1) text.now) ≡ false }
-    requires found { found_at text.now (where_of state.old) state.old.at ≡ piece state.old.part (drop 1 state.old.comments) comment state.old.at (bytes_at text.now state.old.at) }
+    requires goes { stops (Body.Piece comment.long deep) 0 (slice_index text.now state.old.at)
+        (drop (state.old.at + 1) text.now) ≡ false }
+    requires found { found_at text.now (where_of state.old) state.old.at ≡
+        piece state.old.part (drop 1 state.old.comments) comment state.old.at (bytes_at text.now state.old.at) }
     ensures gives { Gives (coming text.now state.old) result (coming text.now state.new) }
     ensures ready { IsReady text.now state.new }
 {

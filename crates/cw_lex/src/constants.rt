@@ -1,6 +1,7 @@
 //! How far a constant of C goes.
 ghost use Rattle.std.specs.Prelude.{◌≡◌, ◌≤◌, length};
-ghost use Rattle.cw_lex.specs.Constants.{hexadecimal, fraction, exponent_sign, exponent, mantissa, decimal, number, constant};
+ghost use Rattle.cw_lex.specs.Constants.{hexadecimal, fraction, exponent_sign, exponent, mantissa, decimal, number};
+ghost use Rattle.cw_lex.specs.Constants.{constant};
 
 use crate::classes::{Class, begins, from, is_letter_of, run};
 

@@ -4,7 +4,9 @@ ghost use Rattle.cw_lex.specs.Bytes.{run};
 ghost use Rattle.cw_lex.specs.Bodies.{at_start, extent, note_unless};
 ghost use Rattle.cw_lex.specs.Pending.{no_notes};
 ghost use Rattle.cw_lex.specs.Codes.{code_at};
-ghost use Rattle.cw_lex.specs.Tokens.{string, include_name, alone_size, control_text_of, section_name_of, control_or_plain, code_token, dropped_code, is_head, is_head_by, is_signed, head_sign_size, section_code, depth_size};
+ghost use Rattle.cw_lex.specs.Tokens.{string, include_name, alone_size, control_text_of, section_name_of};
+ghost use Rattle.cw_lex.specs.Tokens.{control_or_plain, code_token, dropped_code, is_head, is_head_by, is_signed};
+ghost use Rattle.cw_lex.specs.Tokens.{head_sign_size, section_code, depth_size};
 ghost use Rattle.cw_lex.specs.Answers.{dropped, plain};
 ghost use Rattle.cw_lex.specs.Coming.{bytes_at, cut_of, IsCut};
 
@@ -84,7 +86,8 @@ pub(crate) fn string(text: &[u8], at: usize, kind: TokKind, opening: usize, quot
 /// A code with its control text.
 fn control_text(text: &[u8], at: usize, code: Code) -> Cutting
     requires { at + 2 ≤ length text.now }
-    ensures same { cut_of text.now result ≡ control_text_of code (at_start (Body.ControlText) (at + 2)) (drop (at + 2) text.now) }
+    ensures same { cut_of text.now result ≡ control_text_of code (at_start (Body.ControlText) (at + 2))
+        (drop (at + 2) text.now) }
     ensures first { result.pending.first ≡ None }
     ensures fits { IsCut text.now at result }
 {
@@ -106,7 +109,8 @@ fn control_text(text: &[u8], at: usize, code: Code) -> Cutting
 /// A section name.
 fn section_name(text: &[u8], at: usize, code: Code) -> Cutting
     requires { at + 2 ≤ length text.now }
-    ensures same { cut_of text.now result ≡ section_name_of code at (at_start (Body.SectionName) (at + 2)) (drop (at + 2) text.now) }
+    ensures same { cut_of text.now result ≡ section_name_of code at (at_start (Body.SectionName) (at + 2))
+        (drop (at + 2) text.now) }
     ensures fits { IsCut text.now at result }
 {
     let inside = at_start(Body::SectionName, at + 2);
@@ -207,7 +211,11 @@ pub(crate) fn dropped_code(text: &[u8], at: usize, code: Code, note: NoteKind) -
 
 /// The token as one that is dropped, with the note why before its own.
 pub(crate) fn dropped(cut: Cutting, note: NoteKind, at: usize) -> Cutting
-    ensures { result ≡ record { kind = TokKind.Dropped; size = cut.size; pending = record cut.pending { first = Some (record { kind = note; place = at }) } } }
+    ensures { result ≡ record {
+      kind = TokKind.Dropped;
+      size = cut.size;
+      pending = record cut.pending { first = Some (record { kind = note; place = at }) };
+    } }
 {
     Cutting {
         kind: TokKind::Dropped,
@@ -235,7 +243,8 @@ pub(crate) fn is_head(text: &[u8], at: usize) -> bool
 // The same, from behind its code on.
 fn is_head_from(text: &[u8], place: usize) -> bool
     requires { place ≤ length text.now }
-    ensures { result ≡ is_head_by (extent (at_start (Body.SectionName) place) (drop place text.now)) (drop place text.now) }
+    ensures { result ≡ is_head_by (extent (at_start (Body.SectionName) place) (drop place text.now))
+        (drop place text.now) }
 {
     let inside = at_start(Body::SectionName, place);
     let extent = extent_to(inside, walk(inside, text).stop, text);

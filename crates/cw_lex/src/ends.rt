@@ -1,5 +1,6 @@
 //! What ends at a section code and at the end of the text.
-ghost use Rattle.std.specs.Prelude.{◌≡◌, ◌≤◌, ◌<◌, ◌+◌, ◌-◌, ◌∷◌, ◌++◌, [], true, false, ◌==◌, ◌&&◌, length, drop, slice_index, Some, MatchOption};
+ghost use Rattle.std.specs.Prelude.{◌≡◌, ◌≤◌, ◌<◌, ◌+◌, ◌-◌, ◌∷◌, ◌++◌, [], true, false, ◌==◌, ◌&&◌, length, drop};
+ghost use Rattle.std.specs.Prelude.{slice_index, Some, MatchOption};
 ghost use Rattle.cw_lex.specs.Answers.{Gives, note_answers};
 ghost use Rattle.cw_lex.specs.Codes.{begins_section};
 ghost use Rattle.cw_lex.specs.Pending.{pending_notes, no_notes};
@@ -30,7 +31,9 @@ pub(crate) fn is_section_at(text: &[u8], at: usize) -> bool
 pub(crate) fn cut_off<'a>(text: &'a [u8], state: &mut State, about: usize) -> Option<Lexed<'a>>
     requires ready { IsReady text.now state.old }
     requires quiet { state.old.pending ≡ no_notes }
-    ensures answer { CutsOff (all_cut state.old.part state.old.comments state.old.at about) result (note_answers (pending_notes text.now state.new.pending) ++ all_cut state.new.part state.new.comments state.new.at about) }
+    ensures answer { CutsOff (all_cut state.old.part state.old.comments state.old.at about) result
+        (note_answers (pending_notes text.now state.new.pending) ++ all_cut state.new.part state.new.comments
+        state.new.at about) }
     ensures at { state.new.at ≡ state.old.at }
     ensures none { MatchOption result ((state.new ≡ state.old) × (state.old.comments ≡ [])) (λ _. Unit {0}) }
     ensures ready { IsReady text.now state.new }
@@ -62,7 +65,9 @@ fn cut_off_inner<'a>(text: &'a [u8], state: &mut State, comment: Opened, about: 
     requires ready { IsReady text.now state.old }
     requires top { state.old.comments ≡ comment ∷ drop 1 state.old.comments }
     requires inner { comment.inner ≡ true }
-    ensures answer { CutsOff (all_cut state.old.part state.old.comments state.old.at about) (Some result) (note_answers (pending_notes text.now state.new.pending) ++ all_cut state.new.part state.new.comments state.new.at about) }
+    ensures answer { CutsOff (all_cut state.old.part state.old.comments state.old.at about) (Some result)
+        (note_answers (pending_notes text.now state.new.pending) ++ all_cut state.new.part state.new.comments
+        state.new.at about) }
     ensures at { state.new.at ≡ state.old.at }
     ensures ready { IsReady text.now state.new }
 {
@@ -92,7 +97,9 @@ fn cut_off_comment<'a>(
     requires ready { IsReady text.now state.old }
     requires top { state.old.comments ≡ comment ∷ drop 1 state.old.comments }
     requires text { comment.inner ≡ false }
-    ensures answer { CutsOff (all_cut state.old.part state.old.comments state.old.at about) (Some result) (note_answers (pending_notes text.now state.new.pending) ++ all_cut state.new.part state.new.comments state.new.at about) }
+    ensures answer { CutsOff (all_cut state.old.part state.old.comments state.old.at about) (Some result)
+        (note_answers (pending_notes text.now state.new.pending) ++ all_cut state.new.part state.new.comments
+        state.new.at about) }
     ensures at { state.new.at ≡ state.old.at }
     ensures ready { IsReady text.now state.new }
 {
@@ -109,7 +116,10 @@ fn cut_off_comment<'a>(
 }
 
 fn comment_notes(comment: Opened, about: usize) -> Pending
-    ensures { result ≡ record no_notes { first = note_unless false NoteKind.CommentUnended comment.start; second = note_unless (comment.braces == 0) NoteKind.MissingBrace about } }
+    ensures { result ≡ record no_notes {
+      first = note_unless false NoteKind.CommentUnended comment.start;
+      second = note_unless (comment.braces == 0) NoteKind.MissingBrace about;
+    } }
 {
     Pending {
         first: note_unless(false, NoteKind::CommentUnended, comment.start),
@@ -123,7 +133,9 @@ fn cut_off_part<'a>(text: &'a [u8], state: &mut State, about: usize) -> Option<L
     requires ready { IsReady text.now state.old }
     requires quiet { state.old.pending ≡ no_notes }
     requires comments { state.old.comments ≡ [] }
-    ensures answer { CutsOff (all_cut state.old.part state.old.comments state.old.at about) result (note_answers (pending_notes text.now state.new.pending) ++ all_cut state.new.part state.new.comments state.new.at about) }
+    ensures answer { CutsOff (all_cut state.old.part state.old.comments state.old.at about) result
+        (note_answers (pending_notes text.now state.new.pending) ++ all_cut state.new.part state.new.comments
+        state.new.at about) }
     ensures at { state.new.at ≡ state.old.at }
     ensures none { MatchOption result ((state.new ≡ state.old) × (state.old.comments ≡ [])) (λ _. Unit {0}) }
     ensures ready { IsReady text.now state.new }

@@ -45,7 +45,9 @@ pub(crate) fn give<'a>(
     requires step { CanStep text.now state.old }
     requires cut { IsCut text.now state.old.at cut }
     requires nested { IsNested part state.old.comments }
-    requires found { found_at text.now (where_of state.old) state.old.at ≡ one hash_line (moved (where_of state.old) part) state.old.at (bytes_at text.now state.old.at) (cut_of text.now cut) }
+    requires found { found_at text.now (where_of state.old) state.old.at ≡
+        one hash_line (moved (where_of state.old) part) state.old.at (bytes_at text.now state.old.at)
+        (cut_of text.now cut) }
     ensures gives { Gives (coming text.now state.old) result (coming text.now state.new) }
     ensures ready { IsReady text.now state.new }
 {
@@ -89,7 +91,8 @@ pub(crate) fn give_note<'a>(
 ) -> Lexed<'a>
     requires step { CanStep text.now state.old }
     requires comments { state.old.comments ≡ [] }
-    requires found { found_at text.now (where_of state.old) state.old.at ≡ before (Note kind code ∷ []) (found_at text.now (moved (where_of state.old) part) state.old.at) }
+    requires found { found_at text.now (where_of state.old) state.old.at ≡
+        before (Note kind code ∷ []) (found_at text.now (moved (where_of state.old) part) state.old.at) }
     ensures gives { Gives (coming text.now state.old) result (coming text.now state.new) }
     ensures ready { IsReady text.now state.new }
 {
@@ -101,7 +104,8 @@ pub(crate) fn give_note<'a>(
 pub(crate) fn begin_tex_inner<'a>(text: &'a [u8], state: &mut State) -> Lexed<'a>
     requires step { CanStep text.now state.old }
     requires comments { state.old.comments ≡ [] }
-    requires found { found_at text.now (where_of state.old) state.old.at ≡ inner_begin false (moved (where_of state.old) Part.TexInner) state.old.at (bytes_at text.now state.old.at) }
+    requires found { found_at text.now (where_of state.old) state.old.at ≡
+        inner_begin false (moved (where_of state.old) Part.TexInner) state.old.at (bytes_at text.now state.old.at) }
     ensures gives { Gives (coming text.now state.old) result (coming text.now state.new) }
     ensures ready { IsReady text.now state.new }
 {

@@ -1,5 +1,6 @@
 //! The scanner.
-ghost use Rattle.std.specs.Prelude.{◌≡◌, ◌≤◌, ◌<◌, ◌+◌, ◌-◌, [], true, false, ◌==◌, ◌&&◌, length, drop, slice_index, IfSome};
+ghost use Rattle.std.specs.Prelude.{◌≡◌, ◌≤◌, ◌<◌, ◌+◌, ◌-◌, [], true, false, ◌==◌, ◌&&◌, length, drop, slice_index};
+ghost use Rattle.std.specs.Prelude.{IfSome};
 ghost use Rattle.cw_lex.specs.Answers.{Gives};
 ghost use Rattle.cw_lex.specs.Codes.{begins_section};
 ghost use Rattle.cw_lex.specs.Order.{Covers, AreWithin};
@@ -8,7 +9,8 @@ ghost use Rattle.cw_lex.specs.Lexing.{tokens_of, fresh_at, last_at, answers_at};
 ghost use Rattle.cw_lex.specs.Tokens.{part_text, is_parameter};
 ghost use Rattle.cw_lex.specs.Bytes.{run, is_letter, begins_by};
 ghost use Rattle.cw_lex.specs.Short.{IsQuick, BeginsString};
-ghost use Rattle.cw_lex.specs.Coming.{where_of, coming, bytes_at, found_at, is_code, is_code_part, beginning_part, IsSkipped, IsReady, CanStep};
+ghost use Rattle.cw_lex.specs.Coming.{where_of, coming, bytes_at, found_at, is_code, is_code_part, beginning_part};
+ghost use Rattle.cw_lex.specs.Coming.{IsSkipped, IsReady, CanStep};
 
 use crate::classes::{Class, begins_with, from, is_letter, run};
 use crate::code_text::{code_text, skip_white};
@@ -247,7 +249,8 @@ fn at_end<'a>(text: &'a [u8], state: &mut State) -> Lexed<'a>
 
 fn at_section<'a>(text: &'a [u8], state: &mut State) -> Lexed<'a>
     requires step { CanStep text.now state.old }
-    requires section { (slice_index text.now state.old.at == 64 && begins_section (drop (state.old.at + 1) text.now)) ≡ true }
+    requires section { (slice_index text.now state.old.at == 64 && begins_section (drop (state.old.at + 1) text.now)) ≡
+        true }
     ensures gives { Gives (coming text.now state.old) result (coming text.now state.new) }
     ensures ready { IsReady text.now state.new }
 {
@@ -264,8 +267,11 @@ fn part_text<'a>(text: &'a [u8], state: &mut State) -> Lexed<'a>
     requires skipped { IsSkipped text.now state.old }
     requires comments { state.old.comments ≡ [] }
     requires text { is_code_part state.old.part ≡ false }
-    requires section { (slice_index text.now state.old.at == 64 && begins_section (drop (state.old.at + 1) text.now)) ≡ false }
-    requires found { found_at text.now (where_of state.old) state.old.at ≡ part_text state.old.part (where_of state.old) (fresh_at text.now state.old.at) (last_at text.now state.old.at) state.old.at (slice_index text.now state.old.at) (drop (state.old.at + 1) text.now) }
+    requires section { (slice_index text.now state.old.at == 64 && begins_section (drop (state.old.at + 1) text.now)) ≡
+        false }
+    requires found { found_at text.now (where_of state.old) state.old.at ≡ part_text state.old.part (where_of state.old)
+        (fresh_at text.now state.old.at) (last_at text.now state.old.at) state.old.at
+        (slice_index text.now state.old.at) (drop (state.old.at + 1) text.now) }
     ensures gives { Gives (coming text.now state.old) result (coming text.now state.new) }
     ensures ready { IsReady text.now state.new }
 {
@@ -300,7 +306,8 @@ fn want_macro_name<'a>(text: &'a [u8], state: &mut State, code: usize) -> Lexed<
     requires step { CanStep text.now state.old }
     requires comments { state.old.comments ≡ [] }
     requires part { state.old.part ≡ Part.MacroName code }
-    requires section { (slice_index text.now state.old.at == 64 && begins_section (drop (state.old.at + 1) text.now)) ≡ false }
+    requires section { (slice_index text.now state.old.at == 64 && begins_section (drop (state.old.at + 1) text.now)) ≡
+        false }
     ensures gives { Gives (coming text.now state.old) result (coming text.now state.new) }
     ensures ready { IsReady text.now state.new }
 {
@@ -316,7 +323,8 @@ fn want_parameter<'a>(text: &'a [u8], state: &mut State, code: usize) -> Lexed<'
     requires step { CanStep text.now state.old }
     requires comments { state.old.comments ≡ [] }
     requires part { state.old.part ≡ Part.Parameters code }
-    requires section { (slice_index text.now state.old.at == 64 && begins_section (drop (state.old.at + 1) text.now)) ≡ false }
+    requires section { (slice_index text.now state.old.at == 64 && begins_section (drop (state.old.at + 1) text.now)) ≡
+        false }
     ensures gives { Gives (coming text.now state.old) result (coming text.now state.new) }
     ensures ready { IsReady text.now state.new }
 {
@@ -338,7 +346,8 @@ fn want_format_name<'a>(
     requires step { CanStep text.now state.old }
     requires comments { state.old.comments ≡ [] }
     requires part { state.old.part ≡ Part.FormatName code second limbo }
-    requires section { (slice_index text.now state.old.at == 64 && begins_section (drop (state.old.at + 1) text.now)) ≡ false }
+    requires section { (slice_index text.now state.old.at == 64 && begins_section (drop (state.old.at + 1) text.now)) ≡
+        false }
     ensures gives { Gives (coming text.now state.old) result (coming text.now state.new) }
     ensures ready { IsReady text.now state.new }
 {

@@ -33,7 +33,8 @@ struct Step {
 fn next_step(dots: usize, bytes: &[u8]) -> Option<Step>
     requires some { 0 < length bytes.now }
     requires dots { dots ≤ 3 }
-    ensures value { MatchOption result (void_behind dots (uncoded bytes.now) ≡ false) (λ s. void_behind dots (uncoded bytes.now) ≡ void_behind s.dots (uncoded (drop s.size bytes.now))) }
+    ensures value { MatchOption result (void_behind dots (uncoded bytes.now) ≡
+        false) (λ s. void_behind dots (uncoded bytes.now) ≡ void_behind s.dots (uncoded (drop s.size bytes.now))) }
     ensures size { MatchOption result (Unit {0}) (λ s. (0 < s.size) × (s.size ≤ length bytes.now) × (s.dots ≤ 3)) }
 {
     let byte = bytes[0];

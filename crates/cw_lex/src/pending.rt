@@ -37,7 +37,8 @@ impl Pending {
     /// The next note, which is taken out.
     pub(crate) fn next(&mut self, text: &[u8]) -> Option<Noted>
         requires { IsInside (length text.now) self.old.body }
-        ensures value { MatchOption result (pending_notes text.now self.old ≡ []) (λ n. pending_notes text.now self.old ≡ n ∷ pending_notes text.now self.new) }
+        ensures value { MatchOption result (pending_notes text.now self.old ≡
+            []) (λ n. pending_notes text.now self.old ≡ n ∷ pending_notes text.now self.new) }
         ensures quiet { MatchOption result (self.new ≡ no_notes) (λ _. Unit {0}) }
         ensures inside { IsInside (length text.now) self.new.body }
     {
@@ -57,7 +58,8 @@ impl Pending {
         requires inside { IsInside (length text.now) self.old.body }
         requires first { self.old.first ≡ None }
         requires second { self.old.second ≡ None }
-        ensures value { MatchOption result (pending_notes text.now self.old ≡ []) (λ n. pending_notes text.now self.old ≡ n ∷ pending_notes text.now self.new) }
+        ensures value { MatchOption result (pending_notes text.now self.old ≡
+            []) (λ n. pending_notes text.now self.old ≡ n ∷ pending_notes text.now self.new) }
         ensures quiet { MatchOption result (self.new ≡ no_notes) (λ _. Unit {0}) }
         ensures inside { IsInside (length text.now) self.new.body }
     {

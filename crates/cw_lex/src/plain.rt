@@ -1,7 +1,8 @@
 //! Limbo, TeX text, and the heads of definitions and C parts.
 ghost use Rattle.std.specs.Prelude.{◌≡◌, ◌+◌, ◌<◌, ◌&&◌, [], false, true, length, drop, slice_index};
 ghost use Rattle.cw_lex.specs.Answers.{Gives};
-ghost use Rattle.cw_lex.specs.Tokens.{limbo_text, tex_text, head_text, macro_name, format_name, parameter, parameter_follows, is_name, is_head};
+ghost use Rattle.cw_lex.specs.Tokens.{limbo_text, tex_text, head_text, macro_name, format_name, parameter};
+ghost use Rattle.cw_lex.specs.Tokens.{parameter_follows, is_name, is_head};
 ghost use Rattle.cw_lex.specs.Codes.{code_at};
 ghost use Rattle.cw_lex.specs.Bytes.{is_in, is_letter};
 ghost use Rattle.cw_lex.specs.Coming.{where_of, coming, bytes_at, found_at, IsReady, CanStep};
@@ -18,7 +19,8 @@ use crate::{Code, Lexed, Sign, TokKind};
 pub(crate) fn limbo_text<'a>(text: &'a [u8], state: &mut State) -> Lexed<'a>
     requires step { CanStep text.now state.old }
     requires comments { state.old.comments ≡ [] }
-    requires found { found_at text.now (where_of state.old) state.old.at ≡ limbo_text (where_of state.old) state.old.at (slice_index text.now state.old.at) (drop (state.old.at + 1) text.now) }
+    requires found { found_at text.now (where_of state.old) state.old.at ≡ limbo_text (where_of state.old) state.old.at
+        (slice_index text.now state.old.at) (drop (state.old.at + 1) text.now) }
     ensures gives { Gives (coming text.now state.old) result (coming text.now state.new) }
     ensures ready { IsReady text.now state.new }
 {
@@ -51,7 +53,8 @@ pub(crate) fn limbo_text<'a>(text: &'a [u8], state: &mut State) -> Lexed<'a>
 pub(crate) fn tex_text<'a>(text: &'a [u8], state: &mut State) -> Lexed<'a>
     requires step { CanStep text.now state.old }
     requires comments { state.old.comments ≡ [] }
-    requires found { found_at text.now (where_of state.old) state.old.at ≡ tex_text (where_of state.old) state.old.at (slice_index text.now state.old.at) (drop (state.old.at + 1) text.now) }
+    requires found { found_at text.now (where_of state.old) state.old.at ≡ tex_text (where_of state.old) state.old.at
+        (slice_index text.now state.old.at) (drop (state.old.at + 1) text.now) }
     ensures gives { Gives (coming text.now state.old) result (coming text.now state.new) }
     ensures ready { IsReady text.now state.new }
 {
@@ -110,7 +113,8 @@ pub(crate) fn begins_c(text: &[u8], at: usize, code: Code) -> bool
 pub(crate) fn head_text<'a>(text: &'a [u8], state: &mut State) -> Lexed<'a>
     requires step { CanStep text.now state.old }
     requires comments { state.old.comments ≡ [] }
-    requires found { found_at text.now (where_of state.old) state.old.at ≡ head_text (where_of state.old) state.old.at (slice_index text.now state.old.at) (drop (state.old.at + 1) text.now) }
+    requires found { found_at text.now (where_of state.old) state.old.at ≡ head_text (where_of state.old) state.old.at
+        (slice_index text.now state.old.at) (drop (state.old.at + 1) text.now) }
     requires sign { is_in Class.Blank (slice_index text.now state.old.at) ≡ false }
     ensures gives { Gives (coming text.now state.old) result (coming text.now state.new) }
     ensures ready { IsReady text.now state.new }
@@ -132,7 +136,9 @@ pub(crate) fn macro_name<'a>(text: &'a [u8], state: &mut State, code: usize) -> 
     requires step { CanStep text.now state.old }
     requires comments { state.old.comments ≡ [] }
     requires letter { is_letter (slice_index text.now state.old.at) ≡ true }
-    requires found { found_at text.now (where_of state.old) state.old.at ≡ macro_name code (where_of state.old) state.old.at (slice_index text.now state.old.at) (drop (state.old.at + 1) text.now) }
+    requires found { found_at text.now (where_of state.old) state.old.at ≡
+        macro_name code (where_of state.old) state.old.at (slice_index text.now state.old.at)
+        (drop (state.old.at + 1) text.now) }
     ensures gives { Gives (coming text.now state.old) result (coming text.now state.new) }
     ensures ready { IsReady text.now state.new }
 {
@@ -157,7 +163,9 @@ pub(crate) fn format_name<'a>(
     requires step { CanStep text.now state.old }
     requires comments { state.old.comments ≡ [] }
     requires letter { is_letter (slice_index text.now state.old.at) ≡ true }
-    requires found { found_at text.now (where_of state.old) state.old.at ≡ format_name code second limbo (where_of state.old) state.old.at (slice_index text.now state.old.at) (drop (state.old.at + 1) text.now) }
+    requires found { found_at text.now (where_of state.old) state.old.at ≡
+        format_name code second limbo (where_of state.old) state.old.at (slice_index text.now state.old.at)
+        (drop (state.old.at + 1) text.now) }
     ensures gives { Gives (coming text.now state.old) result (coming text.now state.new) }
     ensures ready { IsReady text.now state.new }
 {
@@ -182,7 +190,8 @@ pub(crate) fn parameter<'a>(text: &'a [u8], state: &mut State) -> Lexed<'a>
     requires comments { state.old.comments ≡ [] }
     requires follows { parameter_follows (bytes_at text.now state.old.at) ≡ true }
     requires white { is_in Class.White (slice_index text.now state.old.at) ≡ false }
-    requires found { found_at text.now (where_of state.old) state.old.at ≡ parameter (where_of state.old) state.old.at (slice_index text.now state.old.at) (drop (state.old.at + 1) text.now) }
+    requires found { found_at text.now (where_of state.old) state.old.at ≡ parameter (where_of state.old) state.old.at
+        (slice_index text.now state.old.at) (drop (state.old.at + 1) text.now) }
     ensures gives { Gives (coming text.now state.old) result (coming text.now state.new) }
     ensures ready { IsReady text.now state.new }
 {

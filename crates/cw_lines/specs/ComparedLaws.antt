@@ -41,8 +41,8 @@ behind-begun (x ∷ xs) rest = ap (λ (same : Bool). cond same (behind xs (xs ++
 stripped-other : (x y : ℕ) (xs ys : List ℕ) → (x ≡ y → behind xs ys ≡ None) → cond (x == y) (behind xs ys) None ≡ None
 stripped-other x y xs ys same =
     elim (eqb_tells x y) [
-      inl is ↦ ap (λ (b : Bool). cond b (behind xs ys) None) is.0 ∙ same is.1
-    | inr is ↦ ap (λ (b : Bool). cond b (behind xs ys) None) is.0
+      | inl is ↦ ap (λ (b : Bool). cond b (behind xs ys) None) is.0 ∙ same is.1
+      | inr is ↦ ap (λ (b : Bool). cond b (behind xs ys) None) is.0
     ]
 
 pub behind-other : (xs ys : List ℕ) (count : ℕ) → count ≤ length xs → count ≤ length ys → (take count ys ≡ take count xs → ⊥) → behind xs ys ≡ None
@@ -63,8 +63,8 @@ same-text [] text is = ap (option_or text) is
 same-text (x ∷ xs) [] is = absurd cc
 same-text (x ∷ xs) (first ∷ rest) is =
     elim (eqb_tells x first) [
-      inl same ↦ λ i. sym same.1 i ∷ same-text xs rest (sym (ap (λ (b : Bool). cond b (behind xs rest) None) same.0) ∙ is) i
-    | inr other ↦ absurd (let none = sym (ap (λ (b : Bool). cond b (behind xs rest) None) other.0) ∙ is in cc)
+      | inl same ↦ λ i. sym same.1 i ∷ same-text xs rest (sym (ap (λ (b : Bool). cond b (behind xs rest) None) same.0) ∙ is) i
+      | inr other ↦ absurd (let none = sym (ap (λ (b : Bool). cond b (behind xs rest) None) other.0) ∙ is in cc)
     ]
 
 -- ## What is ahead

@@ -1,5 +1,6 @@
 //! The old file of an output, compared with the bytes that are written.
-ghost use Rattle.std.specs.Prelude.{◌≡◌, ◌↔◌, ◌<◌, ◌≤◌, ◌++◌, ℕ, List, [], IfOk, IsErrOf, IsTrue, OnOk, Some, length, take, true};
+ghost use Rattle.std.specs.Prelude.{◌≡◌, ◌↔◌, ◌<◌, ◌≤◌, ◌++◌, ℕ, List, [], IfOk, IsErrOf, IsTrue, OnOk, Some, length};
+ghost use Rattle.std.specs.Prelude.{take, true};
 ghost use Rattle.std.specs.Bool.{OnFalse, OnTrue};
 ghost use Rattle.cw_desk.specs.Meaning.{Files, Rose};
 ghost use Rattle.cw_lines.specs.Compared.{Compares, left, left_behind, left_by};
@@ -89,7 +90,8 @@ impl Comparison {
         ensures writes { Writes (Some self.old.id) [] (D.told desk.old) (D.told desk.new) result }
         ensures left { (files : Files) → (D.told desk.old).files ≡ Some files → OnOk result
             ((bytes : List ℕ) → 0 < length bytes →
-            left_behind bytes (left (D.told desk.new) (Some self.new)) ≡ left_behind bytes (left (D.told desk.old) (Some self.old))) }
+            left_behind bytes (left (D.told desk.new) (Some self.new)) ≡
+            left_behind bytes (left (D.told desk.old) (Some self.old))) }
         ensures some { OnOk result (IsTrue self.new.agrees → 0 < length self.new.ahead) }
     {
         if !self.agrees || self.start < self.end {
@@ -101,8 +103,8 @@ impl Comparison {
         Ok(())
     }
 
-    /// Compares the first of these bytes with those ahead, and tells how many it compared: with a file that doesn't agree
-    /// all of them.
+    /// Compares the first of these bytes with those ahead, and tells how many it compared: with a file that doesn't
+    /// agree all of them.
     fn check(&mut self, bytes: &[u8]) -> usize
         requires { IsTrue self.old.agrees → 0 < length self.old.ahead }
         ensures file { self.new.id ≡ self.old.id }

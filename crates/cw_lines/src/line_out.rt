@@ -1,5 +1,6 @@
 //! The line of an output that is being filled, and cut where it would hold more than 80 bytes.
-ghost use Rattle.std.specs.Prelude.{◌≡◌, ◌≢◌, ◌==◌, ◌+◌, ◌<◌, ◌≤◌, [], ◌∷◌, ◌++◌, ◌↔◌, IfNone, IfOk, IfSome, IsTrue, None, OnErr, OnOk, Some, length, take, true};
+ghost use Rattle.std.specs.Prelude.{◌≡◌, ◌≢◌, ◌==◌, ◌+◌, ◌<◌, ◌≤◌, [], ◌∷◌, ◌++◌, ◌↔◌, IfNone, IfOk, IfSome, IsTrue};
+ghost use Rattle.std.specs.Prelude.{None, OnErr, OnOk, Some, length, take, true};
 ghost use Rattle.std.specs.Bool.{OnTrue, OnFalse};
 ghost use Rattle.cw_desk.specs.Journal.{byte_events};
 ghost use Rattle.cw_desk.specs.Meaning.{Files};
@@ -73,8 +74,8 @@ impl LineOut {
         self.compared = Some(Comparison::new(old));
     }
 
-    /// Whether the old file is exactly what was written: it agrees with the bytes, and ends where they end. Bytes that are
-    /// pending aren't written yet.
+    /// Whether the old file is exactly what was written: it agrees with the bytes, and ends where they end. Bytes that
+    /// are pending aren't written yet.
     pub fn same<D: Desk>(&mut self, desk: &mut D) -> Result<bool, PutError>
         requires { CanCompare (D.told desk.old) self.old }
         ensures same { (files : Files) → (D.told desk.old).files ≡ Some files →
@@ -152,7 +153,8 @@ impl LineOut {
     fn cut<D: Desk>(&mut self, desk: &mut D) -> Result<(), PutError>
         requires can { CanWrite (D.told desk.old) self.old }
         requires full { length self.old.line.pending ≡ 80 }
-        ensures writes { Writes (id_of self.old.compared) (byte_events self.old.line.out (divided self.old.line).written)
+        ensures writes { Writes (id_of self.old.compared) (byte_events self.old.line.out
+            (divided self.old.line).written)
             (D.told desk.old) (D.told desk.new) result }
         ensures compares { OnOk result (Compares (divided self.old.line).written self.old.compared self.new.compared
             (D.told desk.old) (D.told desk.new)) }
@@ -189,7 +191,8 @@ impl LineOut {
         Ok(())
     }
 
-    /// Puts bytes as `put` puts them one by one. Whole lines are written as they stand, and what fits goes to the line whole.
+    /// Puts bytes as `put` puts them one by one. Whole lines are written as they stand, and what fits goes to the line
+    /// whole.
     pub fn put_all<D: Desk>(&mut self, bytes: &[u8], desk: &mut D) -> Result<(), PutError>
         requires can { CanWrite (D.told desk.old) self.old }
         ensures puts { Puts bytes.now self.old self.new (D.told desk.old) (D.told desk.new) result }

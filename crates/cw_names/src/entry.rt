@@ -44,9 +44,11 @@ pub(crate) struct Wanted<'a> {
 impl<'a> Equivalent<Key> for Wanted<'a> {
     ghost equivalent = { is_wanted };
 
-    ghost respects_hash = { alike (λ kind text. le_bytes 8 (tag_of the_type kind) ∷ le_bytes 8 (length text) ∷ flat_map u8 text) };
+    ghost respects_hash = { alike (λ kind text. le_bytes 8 (tag_of the_type kind) ∷ le_bytes 8 (length text) ∷
+        flat_map u8 text) };
 
-    ghost respects_eq = { λ q x y h. alike (λ kind text. same_kind kind y.kind && pointwise nat_eq text y.text.items) q x h ∙ ap (λ b. b && pointwise nat_eq x.text.items y.text.items) (Prim.search rules) };
+    ghost respects_eq = { λ q x y h. alike (λ kind text. same_kind kind y.kind && pointwise nat_eq text y.text.items) q
+        x h ∙ ap (λ b. b && pointwise nat_eq x.text.items y.text.items) (Prim.search rules) };
 
     fn equivalent(&self, key: &Key) -> bool {
         self.kind == key.kind && self.text == key.text.as_slice()

@@ -1,4 +1,5 @@
-//! The names of a web, numbered in order of first appearance, with their categories and the sections in which they occur.
+//! The names of a web, numbered in order of first appearance, with their categories and the sections in which they
+//! occur.
 #![tactic(auto)]
 
 mod entry;

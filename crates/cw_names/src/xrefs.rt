@@ -60,7 +60,11 @@ impl Xrefs {
     /// Adds an occurrence. Sections may come in any order; ascending ones cost the least. After `Memory` the
     /// occurrences are as before.
     pub fn note(&mut self, id: NameId, section: u32, underlined: bool) -> Result<(), Memory>
-        ensures ok { OnOk result (self.new ≡ self.old ++ record { name = id; section = section; underlined = underlined } ∷ []) }
+        ensures ok { OnOk result (self.new ≡ self.old ++ record {
+          name = id;
+          section = section;
+          underlined = underlined;
+        } ∷ []) }
         ensures err { OnErr result (self.new ≡ self.old) }
     {
         let name = id;
@@ -120,8 +124,10 @@ fn mention(
 ) -> Result<(), Memory>
     requires there { name < length lists.old.items }
     requires ascending { AreAscending (sections_at name lists.old.items) }
-    ensures here { OnOk result (sections_at name lists.new.items ≡ with_mention section underlined (sections_at name lists.old.items)) }
-    ensures elsewhere { (other : ℕ) → (other ≡ name → Prim.⊥) → sections_at other lists.new.items ≡ sections_at other lists.old.items }
+    ensures here { OnOk result (sections_at name lists.new.items ≡
+        with_mention section underlined (sections_at name lists.old.items)) }
+    ensures elsewhere { (other : ℕ) → (other ≡ name → Prim.⊥) → sections_at other lists.new.items ≡
+        sections_at other lists.old.items }
     ensures err { OnErr result (sections_at name lists.new.items ≡ sections_at name lists.old.items) }
 {
     let list = &mut lists[name];
@@ -155,7 +161,8 @@ fn place_of_section(list: &[SectionRef], section: u32) -> usize
     requires { AreAscending list.now }
     ensures within { result ≤ length list.now }
     ensures before { (k : ℕ) (d : SectionRef) → k < result → (slice_index_or list.now k d).section < section }
-    ensures behind { (d : SectionRef) → result < length list.now → section ≤ (slice_index_or list.now result d).section }
+    ensures behind { (d : SectionRef) → result < length list.now → section ≤
+        (slice_index_or list.now result d).section }
 {
     let count = list.len();
     if count == 0 {
@@ -176,7 +183,8 @@ fn place_inside(list: &[SectionRef], section: u32) -> usize
     requires { AreAscending list.now }
     ensures within { result ≤ length list.now }
     ensures before { (k : ℕ) (d : SectionRef) → k < result → (slice_index_or list.now k d).section < section }
-    ensures behind { (d : SectionRef) → result < length list.now → section ≤ (slice_index_or list.now result d).section }
+    ensures behind { (d : SectionRef) → result < length list.now → section ≤
+        (slice_index_or list.now result d).section }
 {
     list.partition_point(|found| found.section < section)
 }

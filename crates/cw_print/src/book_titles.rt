@@ -1,6 +1,7 @@
 //! The titles of a book's section names.
 ghost use Rattle.std.specs.Prelude.{◌≡◌, Some, option_map};
-ghost use Rattle.cw_print.specs.Sources.{defines_first, first_of, is_changed, is_file, is_first, section_of, title_of_kept, titles};
+ghost use Rattle.cw_print.specs.Sources.{defines_first, first_of, is_changed, is_file, is_first, section_of};
+ghost use Rattle.cw_print.specs.Sources.{title_of_kept, titles};
 ghost use Rattle.cw_print.specs.Titles.{title_of};
 
 use crate::title::SectionTitle;

@@ -1,7 +1,8 @@
 //! The bytes of constants.
 ghost use Rattle.std.specs.Prelude.{◌≡◌, ◌++◌, ◌∷◌, OnOk};
 ghost use Rattle.cw_lex.specs.Bytes.{is_digit, is_hex_digit};
-ghost use Rattle.cw_print.specs.Constants.{upper, suffix, is_exponent_byte, exponent, behind_mantissa, is_mantissa_byte, mantissa, hex_digits, behind_zero, constant};
+ghost use Rattle.cw_print.specs.Constants.{upper, suffix, is_exponent_byte, exponent, behind_mantissa};
+ghost use Rattle.cw_print.specs.Constants.{is_mantissa_byte, mantissa, hex_digits, behind_zero, constant};
 
 use cw_base::{Bytes, Memory};
 

@@ -13,8 +13,8 @@ use cw_lex::{Mode, Tok};
 use cw_secnames::next_part;
 use std::marker::Model;
 
-/// Where the printing stands in a section name. It is seen as the answers of the inner text at hand, and the pieces that
-/// are still to come.
+/// Where the printing stands in a section name. It is seen as the answers of the inner text at hand, and the pieces
+/// that are still to come.
 #[derive(Drop)]
 pub(crate) struct NameWalk<'a> {
     text: &'a [u8],
@@ -40,7 +40,8 @@ impl<'a> Model for NameWalk<'a> {
 impl<'a> NameWalk<'a> {
     /// Appends what a name prints before its text, and its text up to its first inner text or to its end.
     pub(crate) fn begin(out: &mut Bytes, title: &SectionTitle<'a>) -> Result<NameWalk<'a>, Memory>
-        ensures bytes { OnOk result (out.new ≡ out.old ++ (front (title_of title.now) ++ next_bytes (name_pieces (title_of title.now)))) }
+        ensures bytes { OnOk result (out.new ≡ out.old ++ (front (title_of title.now) ++
+            next_bytes (name_pieces (title_of title.now)))) }
         ensures behind { IfOk result (λ walk. walk ≡ behind_next (name_pieces (title_of title.now))) }
     {
         put_front(out, title)?;

@@ -150,9 +150,9 @@ fn put_bracket<D: Desk>(
     Ok(())
 }
 
-/// Prints a C text from its translation, a list of the store. It scans the span once more to find the tokens of the list,
-/// and prints section names as the book keeps them. `section` is the present section, or 0 in the section list; with
-/// `inner` the text is itself inner C text.
+/// Prints a C text from its translation, a list of the store. It scans the span once more to find the tokens of the
+/// list, and prints section names as the book keeps them. `section` is the present section, or 0 in the section list;
+/// with `inner` the text is itself inner C text.
 pub fn print_list<D: Desk>(
     alloc: Global,
     text: &[u8],
@@ -173,7 +173,8 @@ pub fn print_list<D: Desk>(
     requires uncut { begins_section_in (tokens_of text.now span.start span.end mode) ≡ false }
     requires list { id.index < length store.now.lists }
     requires named { IsNamedBelow (length book.now.names) (unfolded store.now.lists id.index) }
-    ensures puts { Puts (tree_bytes inner (source text.now span mode book.now section flags.now.wrap) (unfolded store.now.lists id.index))
+    ensures puts { Puts (tree_bytes inner (source text.now span mode book.now section flags.now.wrap)
+        (unfolded store.now.lists id.index))
         out.old out.new (D.told desk.old) (D.told desk.new) result }
 {
     let c = CText {

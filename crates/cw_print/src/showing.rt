@@ -46,8 +46,8 @@ fn put_shown(
     }
 }
 
-/// Appends what a token prints where these braces are open, and counts those that it opens and closes. `first` says that
-/// the present section is the first that defines its name. A number without a token prints nothing.
+/// Appends what a token prints where these braces are open, and counts those that it opens and closes. `first` says
+/// that the present section is the first that defines its name. A number without a token prints nothing.
 #[inline(always)]
 pub(crate) fn put_found(
     out: &mut Bytes,

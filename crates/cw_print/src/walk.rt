@@ -5,7 +5,8 @@ ghost use Rattle.cw_lex.specs.Lexing.{tokens_of};
 ghost use Rattle.cw_lex.specs.Nested.{until_section};
 ghost use Rattle.cw_tokens.specs.FlatItems.{item_is};
 ghost use Rattle.cw_print.specs.Sources.{titles};
-ghost use Rattle.cw_print.specs.Walk.{bracket, control_shown, is_name, named_shown, outside, placed_shown, source_shown, title_in};
+ghost use Rattle.cw_print.specs.Walk.{bracket, control_shown, is_name, named_shown, outside, placed_shown};
+ghost use Rattle.cw_print.specs.Walk.{source_shown, title_in};
 ghost use Rattle.cw_print.specs.Walked.{behind};
 
 use crate::book_titles::title_at;

@@ -26,7 +26,8 @@ pub(crate) enum CommentPart {
 pub(crate) fn put_together(line: &ScrapLine, store: &mut TokenStore) -> Result<ListId, Memory>
     requires idle { store.old.building ≡ None }
     requires roots { AreRoots store.old.lists (roots_of line.now) }
-    ensures tree { IfOk result (λ list. unfolded store.new.lists list.index ≡ whole (scraps_of store.old.lists line.now)) }
+    ensures tree { IfOk result (λ list. unfolded store.new.lists list.index ≡
+        whole (scraps_of store.old.lists line.now)) }
     ensures gathers { IfOk result (λ list. Gathers store.old.lists store.new.lists (roots_of line.now) list.index) }
     ensures idle { store.new.building ≡ None }
     ensures refused { OnErr result (store.new.lists ≡ store.old.lists) }
@@ -49,7 +50,8 @@ pub(crate) fn comment_list(
 ) -> Result<ListId, Memory>
     requires idle { store.old.building ≡ None }
     requires roots { AreRoots store.old.lists (inner_lists parts.now) }
-    ensures tree { IfOk result (λ list. unfolded store.new.lists list.index ≡ comment_tree number (map (part_seen store.old.lists) parts.now)) }
+    ensures tree { IfOk result (λ list. unfolded store.new.lists list.index ≡
+        comment_tree number (map (part_seen store.old.lists) parts.now)) }
     ensures gathers { IfOk result (λ list. Gathers store.old.lists store.new.lists (inner_lists parts.now) list.index) }
     ensures idle { store.new.building ≡ None }
     ensures refused { OnErr result (store.new.lists ≡ store.old.lists) }
@@ -94,7 +96,8 @@ fn push_in_text(part: Part, store: &mut TokenStore)
     requires building { IsSome store.old.building }
     requires room { 3 ≤ store.old.spare }
     requires reference { MayBePushed store.old (ListOf part.list) }
-    ensures building { store.new.building ≡ option_map (λ tokens. tokens ++ text_tokens part.left part.list part.right) store.old.building }
+    ensures building { store.new.building ≡ option_map (λ tokens. tokens ++ text_tokens part.left part.list part.right)
+        store.old.building }
     ensures lists { store.new.lists ≡ store.old.lists }
     ensures spare { store.new.spare + length (text_tokens part.left part.list part.right) ≡ store.old.spare }
 {

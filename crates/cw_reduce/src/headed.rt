@@ -10,10 +10,12 @@ ghost use Rattle.cw_reduce.specs.declared.nesting.Open.TheVariants as Opens;
 ghost use Rattle.cw_reduce.specs.Counting.{limit_in};
 ghost use Rattle.cw_reduce.specs.declared.holders.Holder.TheVariants as Holders;
 ghost use Rattle.cw_reduce.specs.HeadReading.{answers_ahead, head_line, name_ahead};
-ghost use Rattle.cw_reduce.specs.Heading.{NamesOfHead, NamesOfHeaded, NamesOfHeld, after_head, after_held, head_begun, headed_text};
+ghost use Rattle.cw_reduce.specs.Heading.{NamesOfHead, NamesOfHeaded, NamesOfHeld, after_head, after_held, head_begun};
+ghost use Rattle.cw_reduce.specs.Heading.{headed_text};
 ghost use Rattle.cw_reduce.specs.NameParts.{AreNamesOf, name_texts};
 ghost use Rattle.cw_reduce.specs.Naming.{with_texts};
-ghost use Rattle.cw_reduce.specs.Opening.{HasCome, IsTranslated, IsTranslating, StartsBelow, all_roots, answers_in, progress_of};
+ghost use Rattle.cw_reduce.specs.Opening.{HasCome, IsTranslated, IsTranslating, StartsBelow, all_roots, answers_in};
+ghost use Rattle.cw_reduce.specs.Opening.{progress_of};
 ghost use Rattle.cw_reduce.specs.Reading.{after_answers};
 ghost use Rattle.cw_reduce.specs.Retyping.{NamesAmong};
 ghost use Rattle.cw_reduce.specs.Translating.{begin};
@@ -46,7 +48,11 @@ fn line_of(head: HeadRead, alloc: Global) -> Result<ScrapLine, Memory>
 impl Translator {
     /// Nothing is counted yet, and the text begins with the scrap of this head, where the head has one.
     fn with_head(head: HeadRead, alloc: Global) -> Result<Translator, Memory>
-        ensures { IfOk result (λ t. t ≡ record { nesting = Opens.CText (head_line head) ∷ []; scraps = 0; productions = 0 }) }
+        ensures { IfOk result (λ t. t ≡ record {
+          nesting = Opens.CText (head_line head) ∷ [];
+          scraps = 0;
+          productions = 0;
+        }) }
     {
         let line = line_of(head, alloc)?;
         Translator::over(line, alloc)
@@ -69,10 +75,16 @@ impl Translator {
         requires kept { AreNamesOf sec_names.now uses.now }
         requires translating { IsTranslating store.old names.old self.old }
         ensures translating { OnOk result (IsTranslating store.new names.new self.new) }
-        ensures come { OnOk result (HasCome flags.now self.old steps.old store.new.lists names.new marks.new self.new steps.new (after_held flags.now (name_texts sec_names.now uses.now number) (Holders.Head number sign) (progress_of store.old.lists names.old marks.old self.old []))) }
-        ensures keeps { OnOk result (Keeps store.old.lists store.new.lists (all_roots self.old.nesting) (all_roots self.new.nesting)) }
-        ensures names { OnErr result (NamesOfHeld flags.now (name_texts sec_names.now uses.now number) (Holders.Head number sign) (progress_of store.old.lists names.old marks.old self.old []) names.new) }
-        ensures bound { steps.new ≤ steps.old + limit_in flags.now (after_held flags.now (name_texts sec_names.now uses.now number) (Holders.Head number sign) (progress_of store.old.lists names.old marks.old self.old [])).known.ended }
+        ensures come { OnOk result (HasCome flags.now self.old steps.old store.new.lists names.new marks.new self.new
+            steps.new (after_held flags.now (name_texts sec_names.now uses.now number) (Holders.Head number sign)
+            (progress_of store.old.lists names.old marks.old self.old []))) }
+        ensures keeps { OnOk result (Keeps store.old.lists store.new.lists (all_roots self.old.nesting)
+            (all_roots self.new.nesting)) }
+        ensures names { OnErr result (NamesOfHeld flags.now (name_texts sec_names.now uses.now number)
+            (Holders.Head number sign) (progress_of store.old.lists names.old marks.old self.old []) names.new) }
+        ensures bound { steps.new ≤ steps.old + limit_in flags.now
+            (after_held flags.now (name_texts sec_names.now uses.now number) (Holders.Head number sign)
+            (progress_of store.old.lists names.old marks.old self.old [])).known.ended }
         ensures idle { store.new.building ≡ None }
     {
         match uses.at(number) {
@@ -111,10 +123,16 @@ impl Translator {
         requires kept { AreNamesOf sec_names.now uses.now }
         requires translating { IsTranslating store.old names.old self.old }
         ensures translating { OnOk result (IsTranslating store.new names.new self.new) }
-        ensures come { OnOk result (HasCome flags.now self.old steps.old store.new.lists names.new marks.new self.new steps.new (after_head flags.now (name_texts sec_names.now uses.now) head (progress_of store.old.lists names.old marks.old self.old []))) }
-        ensures keeps { OnOk result (Keeps store.old.lists store.new.lists (all_roots self.old.nesting) (all_roots self.new.nesting)) }
-        ensures names { OnErr result (NamesOfHead flags.now (name_texts sec_names.now uses.now) head (progress_of store.old.lists names.old marks.old self.old []) names.new) }
-        ensures bound { steps.new ≤ steps.old + limit_in flags.now (after_head flags.now (name_texts sec_names.now uses.now) head (progress_of store.old.lists names.old marks.old self.old [])).known.ended }
+        ensures come { OnOk result (HasCome flags.now self.old steps.old store.new.lists names.new marks.new self.new
+            steps.new (after_head flags.now (name_texts sec_names.now uses.now) head
+            (progress_of store.old.lists names.old marks.old self.old []))) }
+        ensures keeps { OnOk result (Keeps store.old.lists store.new.lists (all_roots self.old.nesting)
+            (all_roots self.new.nesting)) }
+        ensures names { OnErr result (NamesOfHead flags.now (name_texts sec_names.now uses.now) head
+            (progress_of store.old.lists names.old marks.old self.old []) names.new) }
+        ensures bound { steps.new ≤ steps.old + limit_in flags.now
+            (after_head flags.now (name_texts sec_names.now uses.now) head (progress_of store.old.lists names.old
+            marks.old self.old [])).known.ended }
         ensures idle { store.new.building ≡ None }
     {
         match head {
@@ -144,10 +162,16 @@ impl Translator {
         requires kept { AreNamesOf sec_names.now uses.now }
         requires translating { IsTranslating store.old names.old self.old }
         ensures translating { OnOk result (IsTranslating store.new names.new self.new) }
-        ensures come { OnOk result (HasCome flags.now self.old steps.old store.new.lists names.new marks.new self.new steps.new (after_answers flags.now (with_texts (name_texts sec_names.now uses.now) (name_ahead begun.now.name)) (progress_of store.old.lists names.old marks.old self.old []))) }
-        ensures keeps { OnOk result (Keeps store.old.lists store.new.lists (all_roots self.old.nesting) (all_roots self.new.nesting)) }
-        ensures names { OnErr result (NamesAmong flags.now (with_texts (name_texts sec_names.now uses.now) (name_ahead begun.now.name)) (progress_of store.old.lists names.old marks.old self.old []) names.new) }
-        ensures bound { steps.new ≤ steps.old + limit_in flags.now (after_answers flags.now (with_texts (name_texts sec_names.now uses.now) (name_ahead begun.now.name)) (progress_of store.old.lists names.old marks.old self.old [])).known.ended }
+        ensures come { OnOk result (HasCome flags.now self.old steps.old store.new.lists names.new marks.new self.new
+            steps.new (after_answers flags.now (with_texts (name_texts sec_names.now uses.now)
+            (name_ahead begun.now.name)) (progress_of store.old.lists names.old marks.old self.old []))) }
+        ensures keeps { OnOk result (Keeps store.old.lists store.new.lists (all_roots self.old.nesting)
+            (all_roots self.new.nesting)) }
+        ensures names { OnErr result (NamesAmong flags.now (with_texts (name_texts sec_names.now uses.now)
+            (name_ahead begun.now.name)) (progress_of store.old.lists names.old marks.old self.old []) names.new) }
+        ensures bound { steps.new ≤ steps.old + limit_in flags.now
+            (after_answers flags.now (with_texts (name_texts sec_names.now uses.now) (name_ahead begun.now.name))
+            (progress_of store.old.lists names.old marks.old self.old [])).known.ended }
         ensures idle { store.new.building ≡ None }
     {
         match begun.name {
@@ -184,10 +208,17 @@ impl Translator {
         requires kept { AreNamesOf sec_names.now uses.now }
         requires translating { IsTranslating store.old names.old self.old }
         ensures translating { OnOk result (IsTranslating store.new names.new self.new) }
-        ensures come { OnOk result (HasCome flags.now self.old steps.old store.new.lists names.new marks.new self.new steps.new (after_answers flags.now (with_texts (name_texts sec_names.now uses.now) (answers_ahead begun.now ++ lexer.old)) (progress_of store.old.lists names.old marks.old self.old []))) }
-        ensures keeps { OnOk result (Keeps store.old.lists store.new.lists (all_roots self.old.nesting) (all_roots self.new.nesting)) }
-        ensures names { OnErr result (NamesAmong flags.now (with_texts (name_texts sec_names.now uses.now) (answers_ahead begun.now ++ lexer.old)) (progress_of store.old.lists names.old marks.old self.old []) names.new) }
-        ensures bound { steps.new ≤ steps.old + limit_in flags.now (after_answers flags.now (with_texts (name_texts sec_names.now uses.now) (answers_ahead begun.now ++ lexer.old)) (progress_of store.old.lists names.old marks.old self.old [])).known.ended }
+        ensures come { OnOk result (HasCome flags.now self.old steps.old store.new.lists names.new marks.new self.new
+            steps.new (after_answers flags.now (with_texts (name_texts sec_names.now uses.now)
+            (answers_ahead begun.now ++ lexer.old)) (progress_of store.old.lists names.old marks.old self.old []))) }
+        ensures keeps { OnOk result (Keeps store.old.lists store.new.lists (all_roots self.old.nesting)
+            (all_roots self.new.nesting)) }
+        ensures names { OnErr result (NamesAmong flags.now (with_texts (name_texts sec_names.now uses.now)
+            (answers_ahead begun.now ++ lexer.old)) (progress_of store.old.lists names.old marks.old self.old [])
+            names.new) }
+        ensures bound { steps.new ≤ steps.old + limit_in flags.now
+            (after_answers flags.now (with_texts (name_texts sec_names.now uses.now) (answers_ahead begun.now ++
+            lexer.old)) (progress_of store.old.lists names.old marks.old self.old [])).known.ended }
         ensures idle { store.new.building ≡ None }
     {
         self.name_ahead(
@@ -227,10 +258,19 @@ impl Translator {
         requires kept { AreNamesOf sec_names.now uses.now }
         requires translating { IsTranslating store.old names.old self.old }
         ensures translating { OnOk result (IsTranslating store.new names.new self.new) }
-        ensures come { OnOk result (HasCome flags.now self.old steps.old store.new.lists names.new marks.new self.new steps.new (after_answers flags.now (with_texts (name_texts sec_names.now uses.now) (answers_ahead begun.now ++ lexer.old)) (after_head flags.now (name_texts sec_names.now uses.now) begun.now.head (progress_of store.old.lists names.old marks.old self.old [])))) }
-        ensures keeps { OnOk result (Keeps store.old.lists store.new.lists (all_roots self.old.nesting) (all_roots self.new.nesting)) }
-        ensures names { OnErr result (NamesOfHeaded flags.now (name_texts sec_names.now uses.now) begun.now.head (answers_ahead begun.now ++ lexer.old) (progress_of store.old.lists names.old marks.old self.old []) names.new) }
-        ensures bound { steps.new ≤ steps.old + limit_in flags.now (after_answers flags.now (with_texts (name_texts sec_names.now uses.now) (answers_ahead begun.now ++ lexer.old)) (after_head flags.now (name_texts sec_names.now uses.now) begun.now.head (progress_of store.old.lists names.old marks.old self.old []))).known.ended }
+        ensures come { OnOk result (HasCome flags.now self.old steps.old store.new.lists names.new marks.new self.new
+            steps.new (after_answers flags.now (with_texts (name_texts sec_names.now uses.now)
+            (answers_ahead begun.now ++ lexer.old)) (after_head flags.now (name_texts sec_names.now uses.now)
+            begun.now.head (progress_of store.old.lists names.old marks.old self.old [])))) }
+        ensures keeps { OnOk result (Keeps store.old.lists store.new.lists (all_roots self.old.nesting)
+            (all_roots self.new.nesting)) }
+        ensures names { OnErr result (NamesOfHeaded flags.now (name_texts sec_names.now uses.now) begun.now.head
+            (answers_ahead begun.now ++ lexer.old) (progress_of store.old.lists names.old marks.old self.old [])
+            names.new) }
+        ensures bound { steps.new ≤ steps.old + limit_in flags.now
+            (after_answers flags.now (with_texts (name_texts sec_names.now uses.now) (answers_ahead begun.now ++
+            lexer.old)) (after_head flags.now (name_texts sec_names.now uses.now) begun.now.head
+            (progress_of store.old.lists names.old marks.old self.old []))).known.ended }
         ensures idle { store.new.building ≡ None }
     {
         self.head_name(
@@ -259,13 +299,20 @@ pub(crate) fn translate_headed<L: Ledger>(
     requires start { StartsBelow (2 ^ 32) (answers_ahead begun.now ++ lexer.old) }
     requires nested { IsNested (answers_ahead begun.now ++ lexer.old) }
     requires kept { AreNamesOf sec_names.now uses.now }
-    ensures text { IfOk result (λ done. IsTranslated flags.now store.new.lists names.new marks.new done steps.old steps.new (headed_text flags.now (name_texts sec_names.now uses.now) store.old.lists begun.now.head (answers_ahead begun.now ++ lexer.old) (begin names.old (marked_names marks.old)))) }
+    ensures text { IfOk result (λ done. IsTranslated flags.now store.new.lists names.new marks.new done steps.old
+        steps.new (headed_text flags.now (name_texts sec_names.now uses.now) store.old.lists begun.now.head
+        (answers_ahead begun.now ++ lexer.old) (begin names.old (marked_names marks.old)))) }
     ensures few { IfOk result (λ done. done.productions ≤ 8 * done.scraps) }
     ensures named { IfOk result (λ done. IsNamedBelow (length names.new) (unfolded store.new.lists done.list.index)) }
     ensures root { IfOk result (λ done. AreRoots store.new.lists (done.list.index ∷ [])) }
-    ensures keeps { IfOk result (λ done. Keeps store.old.lists store.new.lists (roots_of (head_line begun.now.head)) (done.list.index ∷ [])) }
-    ensures refused { OnErr result (NamesOfHeaded flags.now (name_texts sec_names.now uses.now) begun.now.head (answers_ahead begun.now ++ lexer.old) (head_begun store.old.lists begun.now.head (begin names.old (marked_names marks.old))) names.new) }
-    ensures bound { steps.new ≤ steps.old + limit_in flags.now (headed_text flags.now (name_texts sec_names.now uses.now) store.old.lists begun.now.head (answers_ahead begun.now ++ lexer.old) (begin names.old (marked_names marks.old))).known.ended }
+    ensures keeps { IfOk result (λ done. Keeps store.old.lists store.new.lists (roots_of (head_line begun.now.head))
+        (done.list.index ∷ [])) }
+    ensures refused { OnErr result (NamesOfHeaded flags.now (name_texts sec_names.now uses.now) begun.now.head
+        (answers_ahead begun.now ++ lexer.old) (head_begun store.old.lists begun.now.head
+        (begin names.old (marked_names marks.old))) names.new) }
+    ensures bound { steps.new ≤ steps.old + limit_in flags.now
+        (headed_text flags.now (name_texts sec_names.now uses.now) store.old.lists begun.now.head
+        (answers_ahead begun.now ++ lexer.old) (begin names.old (marked_names marks.old))).known.ended }
     ensures idle { store.new.building ≡ None }
 {
     let mut translator = Translator::with_head(begun.head, alloc)?;

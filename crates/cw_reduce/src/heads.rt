@@ -1,5 +1,6 @@
 //! The head with which a definition or a named C part begins, as it is read.
-ghost use Rattle.std.specs.Prelude.{◌≡◌, ℕ, ◌+◌, ◌^◌, ◌<◌, ◌≤◌, [], ◌∷◌, ◌++◌, length, true, option_map, IsSome, None, Some, IfOk, OnOk, OnErr};
+ghost use Rattle.std.specs.Prelude.{◌≡◌, ℕ, ◌+◌, ◌^◌, ◌<◌, ◌≤◌, [], ◌∷◌, ◌++◌, length, true, option_map, IsSome, None};
+ghost use Rattle.std.specs.Prelude.{Some, IfOk, OnOk, OnErr};
 ghost use Rattle.cw_base.specs.declared.flags.Flags.{Flags};
 ghost use Rattle.cw_lex.specs.Answers.{Gives, Token as TokenAnswer, seen};
 ghost use Rattle.cw_lex.specs.Heads.{headed, headed_by, is_head_sign, named_headed, wanted_by, without_words};
@@ -12,7 +13,9 @@ ghost use Rattle.cw_trees.specs.declared.Control.TheVariants as Controls;
 ghost use Rattle.cw_tokens.specs.declared.token.Token.TheVariants as Tokens;
 ghost use Rattle.cw_reduce.specs.declared.heads.HeadRead.TheVariants as Heads;
 ghost use Rattle.cw_reduce.specs.Gathering.{refs_in};
-ghost use Rattle.cw_reduce.specs.HeadReading.{HasTokens, IsLast, NamesWithin, answer_words, answers_ahead, format_tokens, head_line, head_named, is_definition, is_name, macro_tokens, read_made, without_notes, words_in, words_tokens};
+ghost use Rattle.cw_reduce.specs.HeadReading.{HasTokens, IsLast, NamesWithin, answer_words, answers_ahead};
+ghost use Rattle.cw_reduce.specs.HeadReading.{format_tokens, head_line, head_named, is_definition, is_name};
+ghost use Rattle.cw_reduce.specs.HeadReading.{macro_tokens, read_made, without_notes, words_in, words_tokens};
 ghost use Rattle.cw_reduce.specs.Opening.{StartsBelow, answers_in};
 ghost use Rattle.cw_reduce.specs.Translating.{Known, NameTexts, dollared, head_made, spelled, with_names};
 
@@ -56,7 +59,9 @@ pub(crate) fn read_head<'a>(
     requires start { StartsBelow (2 ^ 32) lexer.old }
     requires idle { store.old.building ≡ None }
     // What the head makes is that of the definition, and the names are those behind its words.
-    ensures made { IfOk result (λ begun. (flags : Flags) (named : NameTexts) (known : Known) → head_made flags named (headed (nest lexer.old)).head (with_names names.old known) ≡ read_made flags named store.new.lists begun.head (with_names names.new known)) }
+    ensures made { IfOk result (λ begun. (flags : Flags) (named : NameTexts) (known : Known) →
+        head_made flags named (headed (nest lexer.old)).head (with_names names.old known) ≡
+        read_made flags named store.new.lists begun.head (with_names names.new known)) }
     ensures names { OnOk result (names.new ≡ (spelled (words_in (headed (nest lexer.old)).head) names.old).names) }
     // The answers behind it are those of what the definition leaves.
     ensures rest { IfOk result (λ begun. nest (answers_ahead begun ++ lexer.new) ≡ (headed (nest lexer.old)).rest) }
@@ -192,15 +197,20 @@ fn definition_head<'a>(
     requires nested { IsNested (TokenAnswer (seen code) ∷ lexer.old) }
     requires start { StartsBelow (2 ^ 32) (TokenAnswer (seen code) ∷ lexer.old) }
     requires idle { store.old.building ≡ None }
-    ensures made { IfOk result (λ begun. (flags : Flags) (named : NameTexts) (known : Known) → head_made flags named (headed_by code.entry.kind (seen code.entry) (nest lexer.old)).head (with_names names.old known) ≡ read_made flags named store.new.lists begun.head (with_names names.new known)) }
-    ensures names { OnOk result (names.new ≡ (spelled (words_in (headed_by code.entry.kind (seen code.entry) (nest lexer.old)).head) names.old).names) }
-    ensures rest { IfOk result (λ begun. nest (answers_ahead begun ++ lexer.new) ≡ (headed_by code.entry.kind (seen code.entry) (nest lexer.old)).rest) }
+    ensures made { IfOk result (λ begun. (flags : Flags) (named : NameTexts) (known : Known) →
+        head_made flags named (headed_by code.entry.kind (seen code.entry) (nest lexer.old)).head
+        (with_names names.old known) ≡ read_made flags named store.new.lists begun.head (with_names names.new known)) }
+    ensures names { OnOk result (names.new ≡ (spelled (words_in (headed_by code.entry.kind (seen code.entry)
+        (nest lexer.old)).head) names.old).names) }
+    ensures rest { IfOk result (λ begun. nest (answers_ahead begun ++ lexer.new) ≡
+        (headed_by code.entry.kind (seen code.entry) (nest lexer.old)).rest) }
     ensures nested { IfOk result (λ begun. IsNested (answers_ahead begun ++ lexer.new)) }
     ensures start { IfOk result (λ begun. StartsBelow (2 ^ 32) (answers_ahead begun ++ lexer.new)) }
     ensures sound { IfOk result (λ begun. IsSoundLine store.new names.new (head_line begun.head)) }
     ensures keeps { IfOk result (λ begun. Keeps store.old.lists store.new.lists [] (roots_of (head_line begun.head))) }
     ensures idle { store.new.building ≡ None }
-    ensures no_names { OnErr result (NamesWithin (words_in (headed_by code.entry.kind (seen code.entry) (nest lexer.old)).head) names.old names.new) }
+    ensures no_names { OnErr result (NamesWithin (words_in (headed_by code.entry.kind (seen code.entry)
+        (nest lexer.old)).head) names.old names.new) }
     ensures no_lists { OnErr result (store.new.lists ≡ store.old.lists) }
 {
     store.tied_law();
@@ -223,7 +233,8 @@ fn read_words<'a>(
     names: &mut Names,
 ) -> Result<Lexed<'a>, Memory>
     requires start { StartsBelow (2 ^ 32) lexer.old }
-    ensures words { OnOk result (words.new.items ≡ words.old.items ++ (spelled (answer_words wanted lexer.old) names.old).tokens) }
+    ensures words { OnOk result (words.new.items ≡ words.old.items ++
+        (spelled (answer_words wanted lexer.old) names.old).tokens) }
     ensures names { OnOk result (names.new ≡ (spelled (answer_words wanted lexer.old) names.old).names) }
     ensures rest { IfOk result (λ next. answers_in next ++ lexer.new ≡ without_words wanted lexer.old) }
     ensures start { IfOk result (λ next. StartsBelow (2 ^ 32) (answers_in next ++ lexer.new)) }
@@ -252,7 +263,8 @@ fn words_head(
 ) -> Result<HeadRead, Memory>
     requires plain { refs_in words.now ≡ [] }
     requires idle { store.old.building ≡ None }
-    ensures lists { IfOk result (λ head. HasTokens (words_tokens wanted number words.now) head store.old.lists store.new.lists) }
+    ensures lists { IfOk result (λ head. HasTokens (words_tokens wanted number words.now) head store.old.lists
+        store.new.lists) }
     ensures idle { store.new.building ≡ None }
     ensures no_lists { OnErr result (store.new.lists ≡ store.old.lists) }
 {
@@ -267,7 +279,8 @@ fn words_head(
 fn macro_list(number: u32, words: &[Token], store: &mut TokenStore) -> Result<ListId, Memory>
     requires plain { refs_in words.now ≡ [] }
     requires idle { store.old.building ≡ None }
-    ensures last { IfOk result (λ list. IsLast (macro_tokens number words.now) list.index store.old.lists store.new.lists) }
+    ensures last { IfOk result (λ list. IsLast (macro_tokens number words.now) list.index store.old.lists
+        store.new.lists) }
     ensures idle { store.new.building ≡ None }
     ensures no_lists { OnErr result (store.new.lists ≡ store.old.lists) }
 {
@@ -281,7 +294,8 @@ fn macro_list(number: u32, words: &[Token], store: &mut TokenStore) -> Result<Li
 fn format_list(number: u32, words: &[Token], store: &mut TokenStore) -> Result<ListId, Memory>
     requires plain { refs_in words.now ≡ [] }
     requires idle { store.old.building ≡ None }
-    ensures last { IfOk result (λ list. IsLast (format_tokens number words.now) list.index store.old.lists store.new.lists) }
+    ensures last { IfOk result (λ list. IsLast (format_tokens number words.now) list.index store.old.lists
+        store.new.lists) }
     ensures idle { store.new.building ≡ None }
     ensures no_lists { OnErr result (store.new.lists ≡ store.old.lists) }
 {
@@ -296,7 +310,8 @@ fn format_list(number: u32, words: &[Token], store: &mut TokenStore) -> Result<L
 /// Begins the list of a definition's head with these words.
 fn begin_head(number: u32, words: &[Token], store: &mut TokenStore) -> Result<(), Memory>
     requires idle { store.old.building ≡ None }
-    ensures building { OnOk result (store.new.building ≡ Some (Tokens.Control Controls.Backup ∷ Tokens.Source number Modes.Text ∷ [])) }
+    ensures building { OnOk result (store.new.building ≡ Some (Tokens.Control Controls.Backup ∷
+        Tokens.Source number Modes.Text ∷ [])) }
     ensures room { OnOk result (length words.now + 3 ≤ store.new.spare) }
     ensures lists { store.new.lists ≡ store.old.lists }
     ensures idle { OnErr result (store.new.building ≡ None) }

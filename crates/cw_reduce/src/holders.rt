@@ -50,7 +50,8 @@ pub(crate) fn held_list(
 ) -> Result<ListId, Memory>
     requires idle { store.old.building ≡ None }
     requires roots { AreRoots store.old.lists (inner_lists parts.now) }
-    ensures tree { IfOk result (λ list. unfolded store.new.lists list.index ≡ held_tree holder (map (part_seen store.old.lists) parts.now)) }
+    ensures tree { IfOk result (λ list. unfolded store.new.lists list.index ≡
+        held_tree holder (map (part_seen store.old.lists) parts.now)) }
     ensures gathers { IfOk result (λ list. Gathers store.old.lists store.new.lists (inner_lists parts.now) list.index) }
     ensures idle { store.new.building ≡ None }
     ensures refused { OnErr result (store.new.lists ≡ store.old.lists) }
@@ -71,7 +72,8 @@ fn name_list(
 ) -> Result<ListId, Memory>
     requires idle { store.old.building ≡ None }
     requires roots { AreRoots store.old.lists (inner_lists parts.now) }
-    ensures tree { IfOk result (λ list. unfolded store.new.lists list.index ≡ name_tree number (behind_name sign) (map (part_seen store.old.lists) parts.now)) }
+    ensures tree { IfOk result (λ list. unfolded store.new.lists list.index ≡
+        name_tree number (behind_name sign) (map (part_seen store.old.lists) parts.now)) }
     ensures gathers { IfOk result (λ list. Gathers store.old.lists store.new.lists (inner_lists parts.now) list.index) }
     ensures idle { store.new.building ≡ None }
     ensures refused { OnErr result (store.new.lists ≡ store.old.lists) }

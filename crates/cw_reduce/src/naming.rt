@@ -7,7 +7,8 @@ ghost use Rattle.cw_lex.specs.Nested.{until_section};
 ghost use Rattle.cw_scraps.specs.Changing.{Keeps};
 ghost use Rattle.cw_reduce.specs.Counting.{limit_in};
 ghost use Rattle.cw_reduce.specs.NameParts.{AreNamesOf, name_texts, parts_by_kind, parts_of_name};
-ghost use Rattle.cw_reduce.specs.Naming.{held_answers, is_name_answer, is_name_kind, text_answers, texts_answers, token_answers, with_texts};
+ghost use Rattle.cw_reduce.specs.Naming.{held_answers, is_name_answer, is_name_kind, text_answers, texts_answers};
+ghost use Rattle.cw_reduce.specs.Naming.{token_answers, with_texts};
 ghost use Rattle.cw_reduce.specs.Opening.{HasCome, IsTranslating, StartsBelow, all_roots, answers_in, progress_of};
 ghost use Rattle.cw_reduce.specs.Reading.{after_answers, with_held};
 ghost use Rattle.cw_reduce.specs.Retyping.{NamesAmong};
@@ -53,10 +54,18 @@ impl Translator {
         requires short { length text.now ≤ 2 ^ 24 }
         requires translating { IsTranslating store.old names.old self.old }
         ensures translating { OnOk result (IsTranslating store.new names.new self.new) }
-        ensures come { OnOk result (HasCome flags.now self.old steps.old store.new.lists names.new marks.new self.new steps.new (after_answers flags.now (text_answers (until_section (tokens_of text.now span.start span.end Inner))) (progress_of store.old.lists names.old marks.old self.old []))) }
-        ensures keeps { OnOk result (Keeps store.old.lists store.new.lists (all_roots self.old.nesting) (all_roots self.new.nesting)) }
-        ensures names { OnErr result (NamesAmong flags.now (text_answers (until_section (tokens_of text.now span.start span.end Inner))) (progress_of store.old.lists names.old marks.old self.old []) names.new) }
-        ensures bound { steps.new ≤ steps.old + limit_in flags.now (after_answers flags.now (text_answers (until_section (tokens_of text.now span.start span.end Inner))) (progress_of store.old.lists names.old marks.old self.old [])).known.ended }
+        ensures come { OnOk result (HasCome flags.now self.old steps.old store.new.lists names.new marks.new self.new
+            steps.new (after_answers flags.now (text_answers
+            (until_section (tokens_of text.now span.start span.end Inner))) (progress_of store.old.lists names.old
+            marks.old self.old []))) }
+        ensures keeps { OnOk result (Keeps store.old.lists store.new.lists (all_roots self.old.nesting)
+            (all_roots self.new.nesting)) }
+        ensures names { OnErr result (NamesAmong flags.now (text_answers
+            (until_section (tokens_of text.now span.start span.end Inner))) (progress_of store.old.lists names.old
+            marks.old self.old []) names.new) }
+        ensures bound { steps.new ≤ steps.old + limit_in flags.now
+            (after_answers flags.now (text_answers (until_section (tokens_of text.now span.start span.end Inner)))
+            (progress_of store.old.lists names.old marks.old self.old [])).known.ended }
         ensures idle { store.new.building ≡ None }
     {
         self.open_text(alloc)?;
@@ -79,10 +88,16 @@ impl Translator {
         requires short { length text.now ≤ 2 ^ 24 }
         requires translating { IsTranslating store.old names.old self.old }
         ensures translating { OnOk result (IsTranslating store.new names.new self.new) }
-        ensures come { OnOk result (HasCome flags.now self.old steps.old store.new.lists names.new marks.new self.new steps.new (after_answers flags.now (texts_answers (parts_of_name text.now)) (progress_of store.old.lists names.old marks.old self.old []))) }
-        ensures keeps { OnOk result (Keeps store.old.lists store.new.lists (all_roots self.old.nesting) (all_roots self.new.nesting)) }
-        ensures names { OnErr result (NamesAmong flags.now (texts_answers (parts_of_name text.now)) (progress_of store.old.lists names.old marks.old self.old []) names.new) }
-        ensures bound { steps.new ≤ steps.old + limit_in flags.now (after_answers flags.now (texts_answers (parts_of_name text.now)) (progress_of store.old.lists names.old marks.old self.old [])).known.ended }
+        ensures come { OnOk result (HasCome flags.now self.old steps.old store.new.lists names.new marks.new self.new
+            steps.new (after_answers flags.now (texts_answers (parts_of_name text.now))
+            (progress_of store.old.lists names.old marks.old self.old []))) }
+        ensures keeps { OnOk result (Keeps store.old.lists store.new.lists (all_roots self.old.nesting)
+            (all_roots self.new.nesting)) }
+        ensures names { OnErr result (NamesAmong flags.now (texts_answers (parts_of_name text.now))
+            (progress_of store.old.lists names.old marks.old self.old []) names.new) }
+        ensures bound { steps.new ≤ steps.old + limit_in flags.now
+            (after_answers flags.now (texts_answers (parts_of_name text.now)) (progress_of store.old.lists names.old
+            marks.old self.old [])).known.ended }
         ensures idle { store.new.building ≡ None }
     {
         let mut from = 0;
@@ -112,10 +127,16 @@ impl Translator {
         requires short { length text.now ≤ 2 ^ 24 }
         requires translating { IsTranslating store.old names.old self.old }
         ensures translating { OnOk result (IsTranslating store.new names.new self.new) }
-        ensures come { OnOk result (HasCome flags.now self.old steps.old store.new.lists names.new marks.new self.new steps.new (after_answers flags.now (texts_answers (parts_by_kind kind text.now)) (progress_of store.old.lists names.old marks.old self.old []))) }
-        ensures keeps { OnOk result (Keeps store.old.lists store.new.lists (all_roots self.old.nesting) (all_roots self.new.nesting)) }
-        ensures names { OnErr result (NamesAmong flags.now (texts_answers (parts_by_kind kind text.now)) (progress_of store.old.lists names.old marks.old self.old []) names.new) }
-        ensures bound { steps.new ≤ steps.old + limit_in flags.now (after_answers flags.now (texts_answers (parts_by_kind kind text.now)) (progress_of store.old.lists names.old marks.old self.old [])).known.ended }
+        ensures come { OnOk result (HasCome flags.now self.old steps.old store.new.lists names.new marks.new self.new
+            steps.new (after_answers flags.now (texts_answers (parts_by_kind kind text.now))
+            (progress_of store.old.lists names.old marks.old self.old []))) }
+        ensures keeps { OnOk result (Keeps store.old.lists store.new.lists (all_roots self.old.nesting)
+            (all_roots self.new.nesting)) }
+        ensures names { OnErr result (NamesAmong flags.now (texts_answers (parts_by_kind kind text.now))
+            (progress_of store.old.lists names.old marks.old self.old []) names.new) }
+        ensures bound { steps.new ≤ steps.old + limit_in flags.now
+            (after_answers flags.now (texts_answers (parts_by_kind kind text.now))
+            (progress_of store.old.lists names.old marks.old self.old [])).known.ended }
         ensures idle { store.new.building ≡ None }
     {
         match kind {
@@ -140,10 +161,16 @@ impl Translator {
         requires short { length text.now ≤ 2 ^ 24 }
         requires translating { IsTranslating store.old names.old self.old }
         ensures translating { OnOk result (IsTranslating store.new names.new self.new) }
-        ensures come { OnOk result (HasCome flags.now self.old steps.old store.new.lists names.new marks.new self.new steps.new (after_answers flags.now (held_answers (parts_by_kind kind text.now)) (with_held holder (progress_of store.old.lists names.old marks.old self.old [])))) }
-        ensures keeps { OnOk result (Keeps store.old.lists store.new.lists (all_roots self.old.nesting) (all_roots self.new.nesting)) }
-        ensures names { OnErr result (NamesAmong flags.now (held_answers (parts_by_kind kind text.now)) (with_held holder (progress_of store.old.lists names.old marks.old self.old [])) names.new) }
-        ensures bound { steps.new ≤ steps.old + limit_in flags.now (after_answers flags.now (held_answers (parts_by_kind kind text.now)) (with_held holder (progress_of store.old.lists names.old marks.old self.old []))).known.ended }
+        ensures come { OnOk result (HasCome flags.now self.old steps.old store.new.lists names.new marks.new self.new
+            steps.new (after_answers flags.now (held_answers (parts_by_kind kind text.now))
+            (with_held holder (progress_of store.old.lists names.old marks.old self.old [])))) }
+        ensures keeps { OnOk result (Keeps store.old.lists store.new.lists (all_roots self.old.nesting)
+            (all_roots self.new.nesting)) }
+        ensures names { OnErr result (NamesAmong flags.now (held_answers (parts_by_kind kind text.now))
+            (with_held holder (progress_of store.old.lists names.old marks.old self.old [])) names.new) }
+        ensures bound { steps.new ≤ steps.old + limit_in flags.now
+            (after_answers flags.now (held_answers (parts_by_kind kind text.now))
+            (with_held holder (progress_of store.old.lists names.old marks.old self.old []))).known.ended }
         ensures idle { store.new.building ≡ None }
     {
         self.hold(holder, alloc)?;
@@ -169,10 +196,16 @@ impl Translator {
         requires kept { AreNamesOf sec_names.now uses.now }
         requires translating { IsTranslating store.old names.old self.old }
         ensures translating { OnOk result (IsTranslating store.new names.new self.new) }
-        ensures come { OnOk result (HasCome flags.now self.old steps.old store.new.lists names.new marks.new self.new steps.new (after_answers flags.now (token_answers (name_texts sec_names.now uses.now) token.now.kind (seen token.now)) (progress_of store.old.lists names.old marks.old self.old []))) }
-        ensures keeps { OnOk result (Keeps store.old.lists store.new.lists (all_roots self.old.nesting) (all_roots self.new.nesting)) }
-        ensures names { OnErr result (NamesAmong flags.now (token_answers (name_texts sec_names.now uses.now) token.now.kind (seen token.now)) (progress_of store.old.lists names.old marks.old self.old []) names.new) }
-        ensures bound { steps.new ≤ steps.old + limit_in flags.now (after_answers flags.now (token_answers (name_texts sec_names.now uses.now) token.now.kind (seen token.now)) (progress_of store.old.lists names.old marks.old self.old [])).known.ended }
+        ensures come { OnOk result (HasCome flags.now self.old steps.old store.new.lists names.new marks.new self.new
+            steps.new (after_answers flags.now (token_answers (name_texts sec_names.now uses.now) token.now.kind
+            (seen token.now)) (progress_of store.old.lists names.old marks.old self.old []))) }
+        ensures keeps { OnOk result (Keeps store.old.lists store.new.lists (all_roots self.old.nesting)
+            (all_roots self.new.nesting)) }
+        ensures names { OnErr result (NamesAmong flags.now (token_answers (name_texts sec_names.now uses.now)
+            token.now.kind (seen token.now)) (progress_of store.old.lists names.old marks.old self.old []) names.new) }
+        ensures bound { steps.new ≤ steps.old + limit_in flags.now
+            (after_answers flags.now (token_answers (name_texts sec_names.now uses.now) token.now.kind (seen token.now))
+            (progress_of store.old.lists names.old marks.old self.old [])).known.ended }
         ensures idle { store.new.building ≡ None }
     {
         let number = token.span.start as u32;
@@ -214,10 +247,16 @@ impl Translator {
         requires kept { AreNamesOf sec_names.now uses.now }
         requires translating { IsTranslating store.old names.old self.old }
         ensures translating { OnOk result (IsTranslating store.new names.new self.new) }
-        ensures come { OnOk result (HasCome flags.now self.old steps.old store.new.lists names.new marks.new self.new steps.new (after_answers flags.now (with_texts (name_texts sec_names.now uses.now) (answers_in answer.now)) (progress_of store.old.lists names.old marks.old self.old []))) }
-        ensures keeps { OnOk result (Keeps store.old.lists store.new.lists (all_roots self.old.nesting) (all_roots self.new.nesting)) }
-        ensures names { OnErr result (NamesAmong flags.now (with_texts (name_texts sec_names.now uses.now) (answers_in answer.now)) (progress_of store.old.lists names.old marks.old self.old []) names.new) }
-        ensures bound { steps.new ≤ steps.old + limit_in flags.now (after_answers flags.now (with_texts (name_texts sec_names.now uses.now) (answers_in answer.now)) (progress_of store.old.lists names.old marks.old self.old [])).known.ended }
+        ensures come { OnOk result (HasCome flags.now self.old steps.old store.new.lists names.new marks.new self.new
+            steps.new (after_answers flags.now (with_texts (name_texts sec_names.now uses.now) (answers_in answer.now))
+            (progress_of store.old.lists names.old marks.old self.old []))) }
+        ensures keeps { OnOk result (Keeps store.old.lists store.new.lists (all_roots self.old.nesting)
+            (all_roots self.new.nesting)) }
+        ensures names { OnErr result (NamesAmong flags.now (with_texts (name_texts sec_names.now uses.now)
+            (answers_in answer.now)) (progress_of store.old.lists names.old marks.old self.old []) names.new) }
+        ensures bound { steps.new ≤ steps.old + limit_in flags.now
+            (after_answers flags.now (with_texts (name_texts sec_names.now uses.now) (answers_in answer.now))
+            (progress_of store.old.lists names.old marks.old self.old [])).known.ended }
         ensures idle { store.new.building ≡ None }
     {
         if !is_name(answer) {
@@ -248,10 +287,16 @@ impl Translator {
         requires kept { AreNamesOf sec_names.now uses.now }
         requires translating { IsTranslating store.old names.old self.old }
         ensures translating { OnOk result (IsTranslating store.new names.new self.new) }
-        ensures come { OnOk result (HasCome flags.now self.old steps.old store.new.lists names.new marks.new self.new steps.new (after_answers flags.now (with_texts (name_texts sec_names.now uses.now) lexer.old) (progress_of store.old.lists names.old marks.old self.old []))) }
-        ensures keeps { OnOk result (Keeps store.old.lists store.new.lists (all_roots self.old.nesting) (all_roots self.new.nesting)) }
-        ensures names { OnErr result (NamesAmong flags.now (with_texts (name_texts sec_names.now uses.now) lexer.old) (progress_of store.old.lists names.old marks.old self.old []) names.new) }
-        ensures bound { steps.new ≤ steps.old + limit_in flags.now (after_answers flags.now (with_texts (name_texts sec_names.now uses.now) lexer.old) (progress_of store.old.lists names.old marks.old self.old [])).known.ended }
+        ensures come { OnOk result (HasCome flags.now self.old steps.old store.new.lists names.new marks.new self.new
+            steps.new (after_answers flags.now (with_texts (name_texts sec_names.now uses.now) lexer.old)
+            (progress_of store.old.lists names.old marks.old self.old []))) }
+        ensures keeps { OnOk result (Keeps store.old.lists store.new.lists (all_roots self.old.nesting)
+            (all_roots self.new.nesting)) }
+        ensures names { OnErr result (NamesAmong flags.now (with_texts (name_texts sec_names.now uses.now) lexer.old)
+            (progress_of store.old.lists names.old marks.old self.old []) names.new) }
+        ensures bound { steps.new ≤ steps.old + limit_in flags.now
+            (after_answers flags.now (with_texts (name_texts sec_names.now uses.now) lexer.old)
+            (progress_of store.old.lists names.old marks.old self.old [])).known.ended }
         ensures idle { store.new.building ≡ None }
     {
         loop {

@@ -53,8 +53,8 @@ impl CommentText {
     }
 }
 
-/// What is open while a C text is read: C text with its scraps so far, or a comment or a section name, which holds inner
-/// texts.
+/// What is open while a C text is read: C text with its scraps so far, or a comment or a section name, which holds
+/// inner texts.
 #[derive(Drop)]
 pub(crate) enum Open {
     CText(ScrapLine),

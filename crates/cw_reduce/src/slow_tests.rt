@@ -1,4 +1,5 @@
-//! The slow program of the definition, which looks for the least place again from the left before each production, beside `reduce`.
+//! The slow program of the definition, which looks for the least place again from the left before each production,
+//! beside `reduce`.
 ghost use Rattle.std.specs.Prelude.{OnOk};
 ghost use Rattle.cw_scraps.specs.Lines.{IsSoundLine};
 

@@ -1,5 +1,6 @@
 //! The translation of a C text.
-ghost use Rattle.std.specs.Prelude.{◌≡◌, ℕ, ◌+◌, ◌*◌, ◌^◌, ◌<◌, ◌≤◌, ◌⊎◌, List, [], ◌∷◌, length, true, false, IfOk, OnOk, OnErr, None};
+ghost use Rattle.std.specs.Prelude.{◌≡◌, ℕ, ◌+◌, ◌*◌, ◌^◌, ◌<◌, ◌≤◌, ◌⊎◌, List, [], ◌∷◌, length, true, false, IfOk};
+ghost use Rattle.std.specs.Prelude.{OnOk, OnErr, None};
 ghost use Rattle.cw_table.specs.Normal.{count, normal};
 ghost use Rattle.cw_table.specs.Productions.{productions};
 ghost use Rattle.cw_table.specs.Rewriting.{State};
@@ -18,7 +19,8 @@ ghost use Rattle.cw_reduce.specs.declared.nesting.Open.TheVariants as CTexts;
 ghost use Rattle.cw_reduce.specs.Counting.{limit_in, productions_in, scraps_in, text_limit, ticks_in};
 ghost use Rattle.cw_reduce.specs.Heading.{NamesOfText};
 ghost use Rattle.cw_reduce.specs.NameParts.{AreNamesOf, name_texts};
-ghost use Rattle.cw_reduce.specs.Opening.{HasCome, HasEnded, IsTranslating, StartsBelow, all_roots, answers_in, begun_by, progress_of};
+ghost use Rattle.cw_reduce.specs.Opening.{HasCome, HasEnded, IsTranslating, StartsBelow, all_roots, answers_in};
+ghost use Rattle.cw_reduce.specs.Opening.{begun_by, progress_of};
 ghost use Rattle.cw_reduce.specs.Reading.{after_answers, after_finish, after_token, begun, last_scraps};
 ghost use Rattle.cw_reduce.specs.Reduction.{words_of};
 ghost use Rattle.cw_reduce.specs.Retyping.{NamesAmong, NamesOnTheWay, Retypes, RetypesIn};
@@ -61,14 +63,20 @@ fn translate_line<L: Ledger>(
     steps: &mut Steps<L>,
 ) -> Result<Translated, Memory>
     requires sound { IsSoundLine store.old names.old line }
-    ensures tree { IfOk result (λ done. unfolded store.new.lists done.list.index ≡ whole (normal productions flags.now (state_of store.old.lists line marks.old names.old)).scraps) }
+    ensures tree { IfOk result (λ done. unfolded store.new.lists done.list.index ≡
+        whole (normal productions flags.now (state_of store.old.lists line marks.old names.old)).scraps) }
     ensures scraps { IfOk result (λ done. done.scraps ≡ length line) }
-    ensures productions { IfOk result (λ done. done.productions ≡ count productions flags.now (state_of store.old.lists line marks.old names.old)) }
+    ensures productions { IfOk result (λ done. done.productions ≡
+        count productions flags.now (state_of store.old.lists line marks.old names.old)) }
     ensures few { IfOk result (λ done. done.productions ≤ 8 * done.scraps) }
-    ensures names { OnOk result (names.new ≡ with_categories (normal productions flags.now (state_of store.old.lists line marks.old names.old)).cats names.old) }
-    ensures marks { OnOk result (marked_names marks.new ≡ (normal productions flags.now (state_of store.old.lists line marks.old names.old)).marks) }
-    ensures steps { OnOk result (steps.new ≡ steps.old + ticks productions flags.now (state_of store.old.lists line marks.old names.old)) }
-    ensures bound { steps.new ≤ steps.old + (132 * length line + length line * reservings productions flags.now (state_of store.old.lists line marks.old names.old)) }
+    ensures names { OnOk result (names.new ≡ with_categories
+        (normal productions flags.now (state_of store.old.lists line marks.old names.old)).cats names.old) }
+    ensures marks { OnOk result (marked_names marks.new ≡ (normal productions flags.now
+        (state_of store.old.lists line marks.old names.old)).marks) }
+    ensures steps { OnOk result (steps.new ≡ steps.old + ticks productions flags.now
+        (state_of store.old.lists line marks.old names.old)) }
+    ensures bound { steps.new ≤ steps.old + (132 * length line + length line * reservings productions flags.now
+        (state_of store.old.lists line marks.old names.old)) }
     ensures words { words_of names.new ≡ words_of names.old }
     ensures named { IfOk result (λ done. IsNamedBelow (length names.new) (unfolded store.new.lists done.list.index)) }
     ensures root { IfOk result (λ done. AreRoots store.new.lists (done.list.index ∷ [])) }
@@ -120,10 +128,13 @@ impl Translator {
         requires translating { IsTranslating store.old names.old self.old }
         requires start { token.now.span.start < 2 ^ 32 }
         ensures translating { OnOk result (IsTranslating store.new names.new self.new) }
-        ensures progress { OnOk result ((marks : MarkList) (ended : List State) → progress_of store.new.lists names.new marks self.new ended ≡ after_token token.now.kind (seen token.now) (progress_of store.old.lists names.old marks self.old ended)) }
+        ensures progress { OnOk result ((marks : MarkList) (ended : List State) →
+            progress_of store.new.lists names.new marks self.new ended ≡ after_token token.now.kind (seen token.now)
+            (progress_of store.old.lists names.old marks self.old ended)) }
         ensures scraps { self.new.scraps ≡ self.old.scraps }
         ensures productions { self.new.productions ≡ self.old.productions }
-        ensures keeps { OnOk result (Keeps store.old.lists store.new.lists (all_roots self.old.nesting) (all_roots self.new.nesting)) }
+        ensures keeps { OnOk result (Keeps store.old.lists store.new.lists (all_roots self.old.nesting)
+            (all_roots self.new.nesting)) }
         ensures names { (names.new ≡ names.old) ⊎ (names.new ≡ names_with token.now.kind token.now.text.now names.old) }
         ensures idle { store.new.building ≡ None }
     {
@@ -144,10 +155,13 @@ impl Translator {
         requires start { token.now.span.start < 2 ^ 32 }
         requires makes { MakesLeaf token.now.kind }
         ensures translating { OnOk result (IsTranslating store.new names.new self.new) }
-        ensures progress { OnOk result ((marks : MarkList) (ended : List State) → progress_of store.new.lists names.new marks self.new ended ≡ after_token token.now.kind (seen token.now) (progress_of store.old.lists names.old marks self.old ended)) }
+        ensures progress { OnOk result ((marks : MarkList) (ended : List State) →
+            progress_of store.new.lists names.new marks self.new ended ≡ after_token token.now.kind (seen token.now)
+            (progress_of store.old.lists names.old marks self.old ended)) }
         ensures scraps { self.new.scraps ≡ self.old.scraps }
         ensures productions { self.new.productions ≡ self.old.productions }
-        ensures keeps { OnOk result (Keeps store.old.lists store.new.lists (all_roots self.old.nesting) (all_roots self.new.nesting)) }
+        ensures keeps { OnOk result (Keeps store.old.lists store.new.lists (all_roots self.old.nesting)
+            (all_roots self.new.nesting)) }
         ensures names { (names.new ≡ names.old) ⊎ (names.new ≡ names_with token.now.kind token.now.text.now names.old) }
         ensures idle { store.new.building ≡ None }
     {
@@ -159,7 +173,8 @@ impl Translator {
     /// A comment, a section name or an inner text begins.
     fn begin(&mut self, token: &Tok, alloc: Global) -> Result<(), Memory>
         requires start { token.now.span.start < 2 ^ 32 }
-        ensures begins { OnOk result (self.new ≡ record self.old { nesting = begun_by token.now.kind token.now.span.start self.old.nesting }) }
+        ensures begins { OnOk result (self.new ≡ record self.old
+            { nesting = begun_by token.now.kind token.now.span.start self.old.nesting }) }
     {
         let number = token.span.start as u32;
         match token.kind {
@@ -189,7 +204,10 @@ impl Translator {
 
     /// Counts what was done for one text; `Memory` where no memory could hold so many scraps.
     fn count(&mut self, done: &Translated) -> Result<(), Memory>
-        ensures counted { OnOk result (self.new ≡ record self.old { scraps = self.old.scraps + done.now.scraps; productions = self.old.productions + done.now.productions }) }
+        ensures counted { OnOk result (self.new ≡ record self.old {
+          scraps = self.old.scraps + done.now.scraps;
+          productions = self.old.productions + done.now.productions;
+        }) }
     {
         self.scraps = self.scraps.checked_add(done.scraps).ok_or(Memory)?;
         self.productions = self
@@ -210,10 +228,15 @@ impl Translator {
     ) -> Result<(), Memory>
         requires translating { IsTranslating store.old names.old self.old }
         ensures translating { OnOk result (IsTranslating store.new names.new self.new) }
-        ensures come { OnOk result (let p = progress_of store.old.lists names.old marks.old self.old [] in HasCome flags.now self.old steps.old store.new.lists names.new marks.new self.new steps.new (after_finish flags.now p.frames p.known)) }
-        ensures keeps { OnOk result (Keeps store.old.lists store.new.lists (all_roots self.old.nesting) (all_roots self.new.nesting)) }
-        ensures names { (token : Seen) → NamesAmong flags.now (Finish token ∷ []) (progress_of store.old.lists names.old marks.old self.old []) names.new }
-        ensures bound { let p = progress_of store.old.lists names.old marks.old self.old [] in steps.new ≤ steps.old + limit_in flags.now (after_finish flags.now p.frames p.known).known.ended }
+        ensures come { OnOk result (let p = progress_of store.old.lists names.old marks.old self.old [] in HasCome
+            flags.now self.old steps.old store.new.lists names.new marks.new self.new steps.new
+            (after_finish flags.now p.frames p.known)) }
+        ensures keeps { OnOk result (Keeps store.old.lists store.new.lists (all_roots self.old.nesting)
+            (all_roots self.new.nesting)) }
+        ensures names { (token : Seen) → NamesAmong flags.now (Finish token ∷ []) (progress_of store.old.lists names.old
+            marks.old self.old []) names.new }
+        ensures bound { let p = progress_of store.old.lists names.old marks.old self.old [] in steps.new ≤ steps.old +
+            limit_in flags.now (after_finish flags.now p.frames p.known).known.ended }
         ensures idle { store.new.building ≡ None }
     {
         store.tied_law();
@@ -246,10 +269,15 @@ impl Translator {
         requires translating { IsTranslating store.old names.old self.old }
         requires start { StartsBelow (2 ^ 32) (answers_in answer.now) }
         ensures translating { OnOk result (IsTranslating store.new names.new self.new) }
-        ensures come { OnOk result (HasCome flags.now self.old steps.old store.new.lists names.new marks.new self.new steps.new (after_answers flags.now (answers_in answer.now) (progress_of store.old.lists names.old marks.old self.old []))) }
-        ensures keeps { OnOk result (Keeps store.old.lists store.new.lists (all_roots self.old.nesting) (all_roots self.new.nesting)) }
-        ensures names { NamesAmong flags.now (answers_in answer.now) (progress_of store.old.lists names.old marks.old self.old []) names.new }
-        ensures bound { steps.new ≤ steps.old + limit_in flags.now (after_answers flags.now (answers_in answer.now) (progress_of store.old.lists names.old marks.old self.old [])).known.ended }
+        ensures come { OnOk result (HasCome flags.now self.old steps.old store.new.lists names.new marks.new self.new
+            steps.new (after_answers flags.now (answers_in answer.now) (progress_of store.old.lists names.old marks.old
+            self.old []))) }
+        ensures keeps { OnOk result (Keeps store.old.lists store.new.lists (all_roots self.old.nesting)
+            (all_roots self.new.nesting)) }
+        ensures names { NamesAmong flags.now (answers_in answer.now) (progress_of store.old.lists names.old marks.old
+            self.old []) names.new }
+        ensures bound { steps.new ≤ steps.old + limit_in flags.now (after_answers flags.now (answers_in answer.now)
+            (progress_of store.old.lists names.old marks.old self.old [])).known.ended }
         ensures idle { store.new.building ≡ None }
     {
         match answer {
@@ -274,10 +302,15 @@ impl Translator {
         requires translating { IsTranslating store.old names.old self.old }
         requires start { StartsBelow (2 ^ 32) lexer.old }
         ensures translating { OnOk result (IsTranslating store.new names.new self.new) }
-        ensures come { OnOk result (HasCome flags.now self.old steps.old store.new.lists names.new marks.new self.new steps.new (after_answers flags.now (until_section lexer.old) (progress_of store.old.lists names.old marks.old self.old []))) }
-        ensures keeps { OnOk result (Keeps store.old.lists store.new.lists (all_roots self.old.nesting) (all_roots self.new.nesting)) }
-        ensures names { OnErr result (NamesAmong flags.now (until_section lexer.old) (progress_of store.old.lists names.old marks.old self.old []) names.new) }
-        ensures bound { steps.new ≤ steps.old + limit_in flags.now (after_answers flags.now (until_section lexer.old) (progress_of store.old.lists names.old marks.old self.old [])).known.ended }
+        ensures come { OnOk result (HasCome flags.now self.old steps.old store.new.lists names.new marks.new self.new
+            steps.new (after_answers flags.now (until_section lexer.old) (progress_of store.old.lists names.old
+            marks.old self.old []))) }
+        ensures keeps { OnOk result (Keeps store.old.lists store.new.lists (all_roots self.old.nesting)
+            (all_roots self.new.nesting)) }
+        ensures names { OnErr result (NamesAmong flags.now (until_section lexer.old)
+            (progress_of store.old.lists names.old marks.old self.old []) names.new) }
+        ensures bound { steps.new ≤ steps.old + limit_in flags.now (after_answers flags.now (until_section lexer.old)
+            (progress_of store.old.lists names.old marks.old self.old [])).known.ended }
         ensures idle { store.new.building ≡ None }
     {
         loop {
@@ -300,13 +333,18 @@ impl Translator {
         steps: &mut Steps<L>,
     ) -> Result<Translated, Memory>
         requires translating { IsTranslating store.old names.old self }
-        ensures ended { IfOk result (λ done. HasEnded flags.now self steps.old store.new.lists names.new marks.new done steps.new (progress_of store.old.lists names.old marks.old self [])) }
+        ensures ended { IfOk result (λ done. HasEnded flags.now self steps.old store.new.lists names.new marks.new done
+            steps.new (progress_of store.old.lists names.old marks.old self [])) }
         ensures few { IfOk result (λ done. done.productions ≤ 8 * done.scraps) }
-        ensures named { IfOk result (λ done. IsNamedBelow (length names.new) (unfolded store.new.lists done.list.index)) }
+        ensures named { IfOk result (λ done. IsNamedBelow (length names.new)
+            (unfolded store.new.lists done.list.index)) }
         ensures root { IfOk result (λ done. AreRoots store.new.lists (done.list.index ∷ [])) }
-        ensures keeps { IfOk result (λ done. Keeps store.old.lists store.new.lists (all_roots self.nesting) (done.list.index ∷ [])) }
-        ensures retypes { let p = progress_of store.old.lists names.old marks.old self [] in RetypesIn flags.now (last_scraps p.frames) p.known names.new }
-        ensures bound { let p = progress_of store.old.lists names.old marks.old self [] in steps.new ≤ steps.old + text_limit flags.now (state_in (last_scraps p.frames) p.known) }
+        ensures keeps { IfOk result (λ done. Keeps store.old.lists store.new.lists (all_roots self.nesting)
+            (done.list.index ∷ [])) }
+        ensures retypes { let p = progress_of store.old.lists names.old marks.old self [] in RetypesIn flags.now
+            (last_scraps p.frames) p.known names.new }
+        ensures bound { let p = progress_of store.old.lists names.old marks.old self [] in steps.new ≤ steps.old +
+            text_limit flags.now (state_in (last_scraps p.frames) p.known) }
         ensures idle { store.new.building ≡ None }
     {
         let line = self.nesting.take_line(alloc);
@@ -321,11 +359,11 @@ impl Translator {
 }
 
 /// Translates a C text, whose first byte stands at `span.start`: its head is read, its tokens become scraps, the inner
-/// texts of its comments are translated in the same store where they end, and those of its section names where the names
-/// stand, the scraps are reduced, and what no production joins stands side by side. Tokens have the place of their first
-/// byte as their number, in a section name that of the name's own text. Codes that make no scrap are passed over, and so
-/// are section names without a pair. `Memory` is the only refusal; no production was done then in a text that had not
-/// ended, and lists may have been added to the store.
+/// texts of its comments are translated in the same store where they end, and those of its section names where the
+/// names stand, the scraps are reduced, and what no production joins stands side by side. Tokens have the place of
+/// their first byte as their number, in a section name that of the name's own text. Codes that make no scrap are passed
+/// over, and so are section names without a pair. `Memory` is the only refusal; no production was done then in a text
+/// that had not ended, and lists may have been added to the store.
 pub fn translate<L: Ledger>(
     alloc: Global,
     text: &[u8],
@@ -347,15 +385,26 @@ pub fn translate<L: Ledger>(
     requires kept { AreNamesOf sec_names.now uses.now }
     requires idle { store.old.building ≡ None }
     // The tree, the names with their categories, the marks and the counts are those of the definition.
-    ensures tree { IfOk result (λ done. unfolded store.new.lists done.list.index ≡ (translated flags.now (name_texts sec_names.now uses.now) (tokens_of text.now span.start span.end mode) names.old (marked_names marks.old)).tree) }
-    ensures names { OnOk result (names.new ≡ (translated flags.now (name_texts sec_names.now uses.now) (tokens_of text.now span.start span.end mode) names.old (marked_names marks.old)).known.names) }
-    ensures marks { OnOk result (marked_names marks.new ≡ (translated flags.now (name_texts sec_names.now uses.now) (tokens_of text.now span.start span.end mode) names.old (marked_names marks.old)).known.marks) }
-    ensures scraps { IfOk result (λ done. done.scraps ≡ scraps_in (translated flags.now (name_texts sec_names.now uses.now) (tokens_of text.now span.start span.end mode) names.old (marked_names marks.old)).known.ended) }
-    ensures productions { IfOk result (λ done. done.productions ≡ productions_in flags.now (translated flags.now (name_texts sec_names.now uses.now) (tokens_of text.now span.start span.end mode) names.old (marked_names marks.old)).known.ended) }
+    ensures tree { IfOk result (λ done. unfolded store.new.lists done.list.index ≡
+        (translated flags.now (name_texts sec_names.now uses.now) (tokens_of text.now span.start span.end mode)
+        names.old (marked_names marks.old)).tree) }
+    ensures names { OnOk result (names.new ≡ (translated flags.now (name_texts sec_names.now uses.now)
+        (tokens_of text.now span.start span.end mode) names.old (marked_names marks.old)).known.names) }
+    ensures marks { OnOk result (marked_names marks.new ≡ (translated flags.now (name_texts sec_names.now uses.now)
+        (tokens_of text.now span.start span.end mode) names.old (marked_names marks.old)).known.marks) }
+    ensures scraps { IfOk result (λ done. done.scraps ≡ scraps_in
+        (translated flags.now (name_texts sec_names.now uses.now) (tokens_of text.now span.start span.end mode)
+        names.old (marked_names marks.old)).known.ended) }
+    ensures productions { IfOk result (λ done. done.productions ≡
+        productions_in flags.now (translated flags.now (name_texts sec_names.now uses.now)
+        (tokens_of text.now span.start span.end mode) names.old (marked_names marks.old)).known.ended) }
     ensures few { IfOk result (λ done. done.productions ≤ 8 * done.scraps) }
-    ensures steps { OnOk result (steps.new ≡ steps.old + ticks_in flags.now (translated flags.now (name_texts sec_names.now uses.now) (tokens_of text.now span.start span.end mode) names.old (marked_names marks.old)).known.ended) }
+    ensures steps { OnOk result (steps.new ≡ steps.old + ticks_in flags.now
+        (translated flags.now (name_texts sec_names.now uses.now) (tokens_of text.now span.start span.end mode)
+        names.old (marked_names marks.old)).known.ended) }
     // Whatever it answers: of each text of n scraps 132 n steps, and n for each production by a row that reserves.
-    ensures bound { steps.new ≤ steps.old + limit_in flags.now (translated flags.now (name_texts sec_names.now uses.now) (tokens_of text.now span.start span.end mode) names.old (marked_names marks.old)).known.ended }
+    ensures bound { steps.new ≤ steps.old + limit_in flags.now (translated flags.now (name_texts sec_names.now uses.now)
+        (tokens_of text.now span.start span.end mode) names.old (marked_names marks.old)).known.ended }
     // The list is one of the store to which no list refers, and the names in its tree are names.
     ensures root { IfOk result (λ done. AreRoots store.new.lists (done.list.index ∷ [])) }
     ensures named { IfOk result (λ done. IsNamedBelow (length names.new) (unfolded store.new.lists done.list.index)) }
@@ -364,7 +413,8 @@ pub fn translate<L: Ledger>(
     ensures idle { store.new.building ≡ None }
     // The names are those at a word of the head or at an answer, or those after some productions of a text that has
     // ended.
-    ensures refused { OnErr result (NamesOfText flags.now (name_texts sec_names.now uses.now) (tokens_of text.now span.start span.end mode) names.old (marked_names marks.old) names.new) }
+    ensures refused { OnErr result (NamesOfText flags.now (name_texts sec_names.now uses.now)
+        (tokens_of text.now span.start span.end mode) names.old (marked_names marks.old) names.new) }
 {
     let mut lexer = Lexer::over(text, span.start, span.end, mode);
     let begun = read_head(&mut lexer, alloc, names, store)?;

@@ -1,5 +1,6 @@
 //! The reducer: a pointer goes along a line of scraps, and back after each production.
-ghost use Rattle.std.specs.Prelude.{◌≡◌, ◌+◌, ◌*◌, ◌<◌, ◌≤◌, true, drop, length, IfOk, OnOk, OnErr, MatchOption, MatchResult};
+ghost use Rattle.std.specs.Prelude.{◌≡◌, ◌+◌, ◌*◌, ◌<◌, ◌≤◌, true, drop, length, IfOk, OnOk, OnErr, MatchOption};
+ghost use Rattle.std.specs.Prelude.{MatchResult};
 ghost use Rattle.cw_table.specs.Fitting.{first_of, row_fits};
 ghost use Rattle.cw_table.specs.Normal.{count, normal, weight};
 ghost use Rattle.cw_table.specs.Productions.{productions};
@@ -43,23 +44,30 @@ pub fn reduce<L: Ledger>(
     steps: &mut Steps<L>,
 ) -> Result<Reduced, Memory>
     requires sound { IsSoundLine store.old names.old line.old }
-    ensures normal { OnOk result (state_of store.new.lists line.new marks.new names.new ≡ normal productions flags.now (state_of store.old.lists line.old marks.old names.old)) }
-    ensures productions { IfOk result (λ done. done.productions ≡ count productions flags.now (state_of store.old.lists line.old marks.old names.old)) }
+    ensures normal { OnOk result (state_of store.new.lists line.new marks.new names.new ≡
+        normal productions flags.now (state_of store.old.lists line.old marks.old names.old)) }
+    ensures productions { IfOk result (λ done. done.productions ≡
+        count productions flags.now (state_of store.old.lists line.old marks.old names.old)) }
     ensures light { IfOk result (λ done. done.productions ≤ weight (scraps_of store.old.lists line.old)) }
     ensures few { IfOk result (λ done. done.productions ≤ 8 * length line.old) }
-    ensures after { IsAfter productions flags.now (state_of store.old.lists line.old marks.old names.old) (state_of store.new.lists line.new marks.new names.new) }
+    ensures after { IsAfter productions flags.now (state_of store.old.lists line.old marks.old names.old)
+        (state_of store.new.lists line.new marks.new names.new) }
     ensures words { words_of names.new ≡ words_of names.old }
     // Each source token stands in the trees once and in order, as before.
-    ensures numbers { numbers_of (scraps_of store.new.lists line.new) ≡ numbers_of (scraps_of store.old.lists line.old) }
+    ensures numbers { numbers_of (scraps_of store.new.lists line.new) ≡
+        numbers_of (scraps_of store.old.lists line.old) }
     ensures sound { IsSoundLine store.new names.new line.new }
     ensures others { Keeps store.old.lists store.new.lists (roots_of line.old) (roots_of line.new) }
     // However many tokens the lists of the scraps hold: they are not copied.
     ensures tokens { GrowsByProductions flags.now
         (state_of store.old.lists line.old marks.old names.old) store.old.lists
         (state_of store.new.lists line.new marks.new names.new) store.new.lists }
-    ensures steps { OnOk result (steps.new ≡ steps.old + ticks productions flags.now (state_of store.old.lists line.old marks.old names.old)) }
-    ensures no_more { steps.new ≤ steps.old + ticks productions flags.now (state_of store.old.lists line.old marks.old names.old) }
-    ensures bound { steps.new ≤ steps.old + (132 * length line.old + length line.old * reservings productions flags.now (state_of store.old.lists line.old marks.old names.old)) }
+    ensures steps { OnOk result (steps.new ≡ steps.old + ticks productions flags.now (state_of store.old.lists line.old
+        marks.old names.old)) }
+    ensures no_more { steps.new ≤ steps.old + ticks productions flags.now (state_of store.old.lists line.old marks.old
+        names.old) }
+    ensures bound { steps.new ≤ steps.old + (132 * length line.old + length line.old * reservings productions flags.now
+        (state_of store.old.lists line.old marks.old names.old)) }
 {
     let _length = line.len();
     let mut place = 0;
@@ -84,7 +92,8 @@ pub(crate) fn row_at<L: Ledger>(
     steps: &mut Steps<L>,
 ) -> Option<RowNo>
     requires { place < length line.now }
-    ensures first { MatchOption result (first_of productions (drop place (entry_cats line.now)) ≡ None) (λ row. IsFirst (drop place (entry_cats line.now)) row.number) }
+    ensures first { MatchOption result (first_of productions (drop place (entry_cats line.now)) ≡
+        None) (λ row. IsFirst (drop place (entry_cats line.now)) row.number) }
     ensures steps { steps.new ≡ steps.old + 4 }
 {
     let _length = line.len();
@@ -122,10 +131,16 @@ pub(crate) fn produce<L: Ledger>(
 ) -> Result<(), Memory>
     requires from_one { 1 ≤ row.number }
     requires to_last { row.number ≤ ROW_COUNT }
-    requires fits { row_fits (row_of productions row.number) (drop place (cats_of (scraps_of store.old.lists line.old))) ≡ true }
+    requires fits { row_fits (row_of productions row.number)
+        (drop place (cats_of (scraps_of store.old.lists line.old))) ≡ true }
     requires sound { IsSoundLine store.old names.old line.old }
-    ensures state { MatchResult result (λ _. state_of store.new.lists line.new marks.new names.new ≡ rewrite flags.now (row_of productions row.number) place (state_of store.old.lists line.old marks.old names.old)) (λ _. state_of store.new.lists line.new marks.new names.new ≡ state_of store.old.lists line.old marks.old names.old) }
-    ensures steps { MatchResult result (λ _. steps.new ≡ steps.old + right_of_new flags.now (row_of productions row.number) place (state_of store.old.lists line.old marks.old names.old)) (λ _. steps.new ≡ steps.old) }
+    ensures state { MatchResult result (λ _. state_of store.new.lists line.new marks.new names.new ≡
+        rewrite flags.now (row_of productions row.number) place (state_of store.old.lists line.old marks.old names.old))
+        (λ _. state_of store.new.lists line.new marks.new names.new ≡ state_of store.old.lists line.old marks.old
+        names.old) }
+    ensures steps { MatchResult result (λ _. steps.new ≡ steps.old +
+        right_of_new flags.now (row_of productions row.number) place (state_of store.old.lists line.old marks.old
+        names.old)) (λ _. steps.new ≡ steps.old) }
     ensures words { words_of names.new ≡ words_of names.old }
     ensures sound { IsSoundLine store.new names.new line.new }
     ensures others { Keeps store.old.lists store.new.lists (roots_of line.old) (roots_of line.new) }

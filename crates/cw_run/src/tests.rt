@@ -2,8 +2,8 @@
 ghost use Rattle.std.specs.Prelude.{◌<◌, IfOk, length};
 
 use crate::{
-    Judgement, Message, Noted, Totals, begin_file, close, end_file, print_broken, print_notes, say, say_if,
-    say_statistics, stop, stop_without_change, stop_without_web,
+    Judgement, Message, Noted, Totals, begin_file, close, end_file, print_broken, print_notes, say,
+    say_if, say_statistics, stop, stop_without_change, stop_without_web,
 };
 use cw_base::{Bytes, Event, Exit, Flags, Memory, Note, NoteKind, Out, Place, Web};
 use cw_desk::MemDesk;

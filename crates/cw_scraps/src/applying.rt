@@ -37,7 +37,8 @@ impl ScrapLine {
     )
         requires from_one { 1 ≤ row.number }
         requires to_last { row.number ≤ ROW_COUNT }
-        requires fits { row_fits (row_of table.now row.number) (drop place (cats_of (scraps_of store.old.lists self.old))) ≡ true }
+        requires fits { row_fits (row_of table.now row.number)
+            (drop place (cats_of (scraps_of store.old.lists self.old))) ≡ true }
         requires sound { IsSoundLine store.old names.old self.old }
         requires room { PRODUCTION_TOKENS ≤ store.old.spare }
         requires free { 0 < marks.old.spare }

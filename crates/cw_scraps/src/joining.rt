@@ -4,7 +4,8 @@ ghost use Rattle.cw_base.specs.declared.mode.MathMode.TheVariants.{Maybe};
 ghost use Rattle.cw_table.specs.Rows.{pieces_by};
 ghost use Rattle.cw_tokens.specs.Stored.{MayBePushed};
 ghost use Rattle.cw_scraps.specs.Lines.{roots_of, AreRoots};
-ghost use Rattle.cw_scraps.specs.Inserting.{inserting, toggle, toggled, tokens_of, left_of, right_after, IsPieceWithin, IsRun};
+ghost use Rattle.cw_scraps.specs.Inserting.{inserting, toggle, toggled, tokens_of, left_of, right_after, IsPieceWithin};
+ghost use Rattle.cw_scraps.specs.Inserting.{IsRun};
 
 use crate::PRODUCTION_TOKENS;
 use crate::line::{Part, ScrapLine};
@@ -28,7 +29,8 @@ pub fn join(
     requires place { place ≤ length line.now }
     requires run { IsRun (pieces_by other row.now) (length (drop place line.now)) }
     requires roots { AreRoots store.old.lists (roots_of (drop place line.now)) }
-    ensures lists { store.new.lists ≡ store.old.lists ++ tokens_of Maybe (map (inserting (drop place line.now)) (pieces_by other row.now)) ∷ [] }
+    ensures lists { store.new.lists ≡ store.old.lists ++ tokens_of Maybe (map (inserting (drop place line.now))
+        (pieces_by other row.now)) ∷ [] }
     ensures idle { store.new.building ≡ None }
     ensures spare { store.old.spare ≤ store.new.spare + PRODUCTION_TOKENS }
     ensures list { result.list.index ≡ length store.old.lists }
@@ -70,12 +72,16 @@ fn put_piece(
     requires piece { IsPieceWithin place (length line.now) piece }
     requires building { IsSome store.old.building }
     requires room { 2 ≤ store.old.spare }
-    requires reference { MayBePushed (toggled mode (inserting (drop place line.now) piece).left store.old) (inserting (drop place line.now) piece).token }
+    requires reference { MayBePushed (toggled mode (inserting (drop place line.now) piece).left store.old)
+        (inserting (drop place line.now) piece).token }
     ensures left { result.left ≡ (inserting (drop place line.now) piece).left }
     ensures right { result.right ≡ (inserting (drop place line.now) piece).right }
-    ensures building { store.new.building ≡ option_map (λ tokens. tokens ++ (inserting (drop place line.now) piece).token ∷ []) (toggled mode (inserting (drop place line.now) piece).left store.old).building }
+    ensures building { store.new.building ≡ option_map (λ tokens. tokens ++
+        (inserting (drop place line.now) piece).token ∷ []) (toggled mode (inserting (drop place line.now) piece).left
+        store.old).building }
     ensures lists { store.new.lists ≡ store.old.lists }
-    ensures spare { store.new.spare + 1 + length (toggle mode (inserting (drop place line.now) piece).left) ≡ store.old.spare }
+    ensures spare { store.new.spare + 1 + length (toggle mode (inserting (drop place line.now) piece).left) ≡
+        store.old.spare }
 {
     match piece {
         Piece::Scrap(k) => put(scrap_insert(line, place, k), mode, store),
@@ -92,7 +98,8 @@ fn put(insert: Insert, mode: MathMode, store: &mut TokenStore) -> Modes
     requires reference { MayBePushed (toggled mode insert.left store.old) insert.token }
     ensures left { result.left ≡ insert.left }
     ensures right { result.right ≡ insert.right }
-    ensures building { store.new.building ≡ option_map (λ tokens. tokens ++ insert.token ∷ []) (toggled mode insert.left store.old).building }
+    ensures building { store.new.building ≡ option_map (λ tokens. tokens ++ insert.token ∷
+        []) (toggled mode insert.left store.old).building }
     ensures lists { store.new.lists ≡ store.old.lists }
     ensures spare { store.new.spare + 1 + length (toggle mode insert.left) ≡ store.old.spare }
 {

@@ -1,5 +1,6 @@
 //! The scrap of a token without nested text.
-ghost use Rattle.std.specs.Prelude.{◌≡◌, ◌≢◌, ℕ, ◌+◌, ◌^◌, ◌<◌, ◌≤◌, ◌++◌, ◌∷◌, [], List, length, IsSome, IfSome, IfOk, OnOk, OnErr, option_map, unwrap_or, nat_eq};
+ghost use Rattle.std.specs.Prelude.{◌≡◌, ◌≢◌, ℕ, ◌+◌, ◌^◌, ◌<◌, ◌≤◌, ◌++◌, ◌∷◌, [], List, length, IsSome, IfSome, IfOk};
+ghost use Rattle.std.specs.Prelude.{OnOk, OnErr, option_map, unwrap_or, nat_eq};
 ghost use Rattle.std.specs.Cmp.Lexicographic.{pointwise};
 ghost use Rattle.std.specs.Option.{option_to_list};
 ghost use Rattle.cw_names.specs.Words.{hash_line_category};
@@ -9,7 +10,8 @@ ghost use Rattle.cw_lex.specs.declared.codes.Code.TheVariants as Code;
 ghost use Rattle.cw_tokens.specs.declared.token.Token.TheVariants as Token;
 ghost use Rattle.cw_scraps.specs.declared.line.LineEntry.{LineEntry};
 ghost use Rattle.cw_scraps.specs.Lines.{IsSoundLine};
-ghost use Rattle.cw_scraps.specs.Leaves.{MakesLeaf, HasForm, entry_of, token_form, names_with, form_of, code_form, sign_cat, sign_mode, word_cat, word_form, source};
+ghost use Rattle.cw_scraps.specs.Leaves.{MakesLeaf, HasForm, entry_of, token_form, names_with, form_of, code_form};
+ghost use Rattle.cw_scraps.specs.Leaves.{sign_cat, sign_mode, word_cat, word_form, source};
 
 use cw_base::{Cat, MathMode, Memory};
 use cw_lex::{Code, Sign, Tok, TokKind};
@@ -35,12 +37,14 @@ pub fn scrap_of(token: &Tok, names: &mut Names, store: &mut TokenStore) -> Resul
     requires kind { MakesLeaf token.now.kind }
     requires start { token.now.span.start < 2 ^ 32 }
     requires idle { store.old.building ≡ None }
-    ensures form { IfOk result (λ leaf. IfSome (token_form token.now.kind token.now.text.now token.now.hash_line token.now.span.start names.old) (λ form. HasForm form leaf store.old.lists store.new.lists)) }
+    ensures form { IfOk result (λ leaf. IfSome (token_form token.now.kind token.now.text.now token.now.hash_line
+        token.now.span.start names.old) (λ form. HasForm form leaf store.old.lists store.new.lists)) }
     ensures real { IfOk result (λ leaf. leaf.cat ≢ Cats.End) }
     ensures names { OnOk result (names.new ≡ names_with token.now.kind token.now.text.now names.old) }
     ensures idle { store.new.building ≡ None }
     // A line that was sound stays so with this scrap behind it.
-    ensures sound { (line : List LineEntry) → IsSoundLine store.old names.old line → IfOk result (λ leaf. IsSoundLine store.new names.new (line ++ entry_of leaf ∷ [])) }
+    ensures sound { (line : List LineEntry) → IsSoundLine store.old names.old line →
+        IfOk result (λ leaf. IsSoundLine store.new names.new (line ++ entry_of leaf ∷ [])) }
     ensures no_names { OnErr result (names.new ≡ names.old) }
     ensures no_lists { OnErr result (store.new.lists ≡ store.old.lists) }
 {
@@ -169,7 +173,8 @@ fn source_leaf(cat: Cat, mode: MathMode, number: u32, store: &mut TokenStore) ->
 fn control_leaf(cat: Cat, mode: MathMode, control: Control, store: &mut TokenStore) -> Leaf
     requires idle { store.old.building ≡ None }
     requires room { 6 ≤ store.old.spare }
-    ensures form { HasForm (record { cat = cat; mode = mode; tokens = Token.Control control ∷ [] }) result store.old.lists store.new.lists }
+    ensures form { HasForm (record { cat = cat; mode = mode; tokens = Token.Control control ∷ [] }) result
+        store.old.lists store.new.lists }
     ensures cat { result.cat ≡ cat }
     ensures idle { store.new.building ≡ None }
 {
@@ -182,7 +187,8 @@ fn control_leaf(cat: Cat, mode: MathMode, control: Control, store: &mut TokenSto
 fn empty_leaf(cat: Cat, store: &mut TokenStore) -> Leaf
     requires idle { store.old.building ≡ None }
     requires room { 6 ≤ store.old.spare }
-    ensures form { HasForm (record { cat = cat; mode = MathMode.Maybe; tokens = [] }) result store.old.lists store.new.lists }
+    ensures form { HasForm (record { cat = cat; mode = MathMode.Maybe; tokens = [] }) result store.old.lists
+        store.new.lists }
     ensures cat { result.cat ≡ cat }
     ensures idle { store.new.building ≡ None }
 {
@@ -265,7 +271,8 @@ fn no_break_leaf(store: &mut TokenStore) -> Leaf
 fn header_leaf(number: u32, store: &mut TokenStore) -> Leaf
     requires idle { store.old.building ≡ None }
     requires room { 6 ≤ store.old.spare }
-    ensures form { IfSome (code_form Code.HeaderFile number) (λ form. HasForm form result store.old.lists store.new.lists) }
+    ensures form { IfSome (code_form Code.HeaderFile number) (λ form. HasForm form result store.old.lists
+        store.new.lists) }
     ensures real { result.cat ≢ Cats.End }
     ensures idle { store.new.building ≡ None }
 {

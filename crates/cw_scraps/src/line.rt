@@ -1,5 +1,6 @@
 //! A line of scraps: the two ends of one vector, with a gap between them.
-ghost use Rattle.std.specs.Prelude.{◌≡◌, ◌≢◌, ℕ, ◌+◌, ◌-◌, ◌^◌, ◌<◌, ◌≤◌, ◌↔◌, [], ◌∷◌, ◌++◌, length, take, drop, set, get_or, IsTrue, OnOk, OnErr, Some, slice_get, slice_index_or};
+ghost use Rattle.std.specs.Prelude.{◌≡◌, ◌≢◌, ℕ, ◌+◌, ◌-◌, ◌^◌, ◌<◌, ◌≤◌, ◌↔◌, [], ◌∷◌, ◌++◌, length, take, drop, set};
+ghost use Rattle.std.specs.Prelude.{get_or, IsTrue, OnOk, OnErr, Some, slice_get, slice_index_or};
 ghost use Rattle.cw_base.specs.declared.category.Cat.TheVariants.{End};
 ghost use Rattle.cw_scraps.specs.Gap.{around, IsGap};
 ghost use Rattle.cw_scraps.specs.Lines.{no_entry};
@@ -72,7 +73,8 @@ impl ScrapLine {
         right: MathMode,
     ) -> Result<(), Memory>
         requires { cat ≢ End }
-        ensures ok { OnOk result (self.new ≡ self.old ++ record { cat = cat; list = list; left = left; right = right } ∷ []) }
+        ensures ok { OnOk result (self.new ≡ self.old ++ record { cat = cat; list = list; left = left; right = right } ∷
+            []) }
         ensures refused { OnErr result (self.new ≡ self.old) }
     {
         self.items.push(LineEntry {
@@ -111,7 +113,8 @@ impl ScrapLine {
     /// The translation of a scrap.
     pub fn part_at(&self, i: usize) -> Part
         requires { i < length self.now }
-        ensures { let entry = slice_index_or self.now i no_entry in result ≡ record { list = entry.list; left = entry.left; right = entry.right } }
+        ensures { let entry = slice_index_or self.now i no_entry in result ≡
+            record { list = entry.list; left = entry.left; right = entry.right } }
     {
         let entry = self.entry(i);
         Part {

@@ -1,5 +1,6 @@
 //! The names that productions underlined.
-ghost use Rattle.std.specs.Prelude.{◌≡◌, ◌+◌, ◌-◌, ◌<◌, ◌≤◌, ◌↔◌, [], ◌∷◌, ◌++◌, length, IsTrue, OnOk, OnErr, Some, slice_get};
+ghost use Rattle.std.specs.Prelude.{◌≡◌, ◌+◌, ◌-◌, ◌<◌, ◌≤◌, ◌↔◌, [], ◌∷◌, ◌++◌, length, IsTrue, OnOk, OnErr, Some};
+ghost use Rattle.std.specs.Prelude.{slice_get};
 ghost use Rattle.cw_scraps.specs.Marking.{MarkList};
 
 use cw_base::Memory;

@@ -1,5 +1,6 @@
 //! Reserving: identifiers of one name become reserved words.
-ghost use Rattle.std.specs.Prelude.{◌≡◌, ℕ, ◌+◌, ◌-◌, ◌<◌, ◌≤◌, ◌++◌, [], ◌∷◌, ◌&&◌, length, take, drop, map, option_map};
+ghost use Rattle.std.specs.Prelude.{◌≡◌, ℕ, ◌+◌, ◌-◌, ◌<◌, ◌≤◌, ◌++◌, [], ◌∷◌, ◌&&◌, length, take, drop, map};
+ghost use Rattle.std.specs.Prelude.{option_map};
 ghost use Rattle.cw_table.specs.Rewriting.{search_in, reserved_at, is_name};
 ghost use Rattle.cw_tokens.specs.References.{IsTied};
 ghost use Rattle.cw_tokens.specs.Walking.{found_name};
@@ -44,7 +45,8 @@ pub fn reserve_named(
     requires idle { store.old.building ≡ None }
     requires roots { AreRoots store.old.lists (roots_of line.now) }
     ensures name { result ≡ found_name (search_in named (drop place (scraps_of store.old.lists line.now))) }
-    ensures scraps { scraps_of store.new.lists line.now ≡ take place (scraps_of store.old.lists line.now) ++ reserved_at named (drop place (scraps_of store.old.lists line.now)) }
+    ensures scraps { scraps_of store.new.lists line.now ≡ take place (scraps_of store.old.lists line.now) ++
+        reserved_at named (drop place (scraps_of store.old.lists line.now)) }
     ensures lists { Changes store.old.lists store.new.lists (roots_of line.now) }
     ensures tied { IsTied store.old.lists }
     ensures idle { store.new.building ≡ None }
@@ -109,7 +111,8 @@ pub fn reserve_right<L: Ledger>(
     requires start { start ≤ length line.old }
     requires idle { store.old.building ≡ None }
     requires roots { AreRoots store.old.lists (roots_of line.old) }
-    ensures scraps { scraps_of store.new.lists line.new ≡ take start (scraps_of store.old.lists line.old) ++ map (named_by name) (drop start (scraps_of store.old.lists line.old)) }
+    ensures scraps { scraps_of store.new.lists line.new ≡ take start (scraps_of store.old.lists line.old) ++
+        map (named_by name) (drop start (scraps_of store.old.lists line.old)) }
     ensures same_roots { roots_of line.new ≡ roots_of line.old }
     ensures lists { Changes store.old.lists store.new.lists (roots_of line.old) }
     ensures idle { store.new.building ≡ None }
@@ -138,7 +141,8 @@ pub fn turn_right<L: Ledger>(
     requires unnamed { named ≡ None → name ≡ None }
     requires idle { store.old.building ≡ None }
     requires roots { AreRoots store.old.lists (roots_of line.old) }
-    ensures scraps { scraps_of store.new.lists line.new ≡ take start (scraps_of store.old.lists line.old) ++ map (named_by name) (drop start (scraps_of store.old.lists line.old)) }
+    ensures scraps { scraps_of store.new.lists line.new ≡ take start (scraps_of store.old.lists line.old) ++
+        map (named_by name) (drop start (scraps_of store.old.lists line.old)) }
     ensures same_roots { roots_of line.new ≡ roots_of line.old }
     ensures lists { Changes store.old.lists store.new.lists (roots_of line.old) }
     ensures idle { store.new.building ≡ None }

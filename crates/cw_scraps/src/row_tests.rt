@@ -17,10 +17,11 @@ use cw_trees::Control;
 use std::alloc::Global;
 use std::test::Fail;
 
-// For each production, in order: categories before which it is the first that fits, the first scrap that it replaces, how many
-// scraps are left, and the category and the translation of the new one. In a translation a digit stands for a scrap, and as
-// in the table `_` for a blank, Y, F and B for breaks, N for a cancel, U for a backup, W for a wall, `>` and `<` for
-// indents, O for the optional break of cost 9, T for a thin space, `{`, `}` and m for braces and a relation; I for the mark.
+// For each production, in order: categories before which it is the first that fits, the first scrap that it replaces,
+// how many scraps are left, and the category and the translation of the new one. In a translation a digit stands for a
+// scrap, and as in the table `_` for a blank, Y, F and B for breaks, N for a cancel, U for a backup, W for a wall, `>`
+// and `<` for indents, O for the optional break of cost 9, T for a thin space, `{`, `}` and m for braces and a
+// relation; I for the mark.
 macro_rules! rows {
     ($($row:literal: [$($test:ident)*] $at:literal $left:literal $cat:ident $bytes:literal;)*) => {
         [$(($row, &[$(Cat::$test),*], $at, $left, Cat::$cat, $bytes)),*]
@@ -151,7 +152,8 @@ const FROM_93: [(u8, &[Cat], usize, usize, Cat, &[u8]); 5] = rows! {
     97: [Dot] 0 1 Binop b"0";
 };
 
-// The same for the rows that a flag changes, with all flags off. Behind a function a declaration is set apart all the same.
+// The same for the rows that a flag changes, with all flags off. Behind a function a declaration is set apart all the
+// same.
 const FLAGS_OFF: [(u8, &[Cat], usize, usize, Cat, &[u8]); 6] = rows! {
     4: [Exp Lbrace] 0 2 FnDecl b"0";
     36: [DeclHead Decl] 0 2 FnDecl b"0";
@@ -236,7 +238,8 @@ fn first_row(line: &ScrapLine, place: usize, steps: &mut Steps<Kept>) -> Option<
     requires { place < length line.now }
     ensures from_one { IfSome result (λ row. 1 ≤ row.number) }
     ensures to_last { IfSome result (λ row. row.number ≤ ROW_COUNT) }
-    ensures fits { IfSome result (λ row. row_fits (row_of productions row.number) (drop place (entry_cats line.now)) ≡ true) }
+    ensures fits { IfSome result (λ row. row_fits (row_of productions row.number) (drop place (entry_cats line.now)) ≡
+        true) }
 {
     let _length = line.len();
     first_production([
@@ -503,7 +506,8 @@ fn add_block(line: &mut ScrapLine, store: &mut TokenStore, names: &mut Names) ->
     add(TokKind::Sign(Sign::RightBrace), b'}', 3, line, store, names)
 }
 
-// Its statement and then the block: one list of ten tokens, four toggles between them and its beginning take fifteen of the spare.
+// Its statement and then the block: one list of ten tokens, four toggles between them and its beginning take fifteen of
+// the spare.
 #[test]
 fn a_block_takes_one_list_with_toggles_between_its_pieces(rt: HostRuntime) -> Result<(), Fail> {
     let alloc = rt.alloc();

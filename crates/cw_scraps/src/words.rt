@@ -14,7 +14,8 @@ use cw_tokens::Token;
 pub fn word_token(word: &Tok, names: &mut Names) -> Result<Token, Memory>
     requires kind { is_word word.now.kind ≡ true }
     requires start { word.now.span.start < 2 ^ 32 }
-    ensures token { IfOk result (λ token. option_map (λ form. form.tokens) (token_form word.now.kind word.now.text.now word.now.hash_line word.now.span.start names.old) ≡ Some (token ∷ [])) }
+    ensures token { IfOk result (λ token. option_map (λ form. form.tokens) (token_form word.now.kind word.now.text.now
+        word.now.hash_line word.now.span.start names.old) ≡ Some (token ∷ [])) }
     ensures names { OnOk result (names.new ≡ names_with word.now.kind word.now.text.now names.old) }
     ensures no_names { OnErr result (names.new ≡ names.old) }
 {

@@ -23,8 +23,8 @@ use std::collections::BTreeSet;
 /// The positions of names, by marks. A mark is made of a kind and some bytes. Equal bytes have one mark; other bytes
 /// rarely have it too, so that a name found by a mark has still to be looked at.
 ///
-/// A name costs as many steps as its text has bytes, but marks at each fourth length below 16, at each second below 256,
-/// and at each 256th one alone.
+/// A name costs as many steps as its text has bytes, but marks at each fourth length below 16, at each second below
+/// 256, and at each 256th one alone.
 #[derive(Drop)]
 pub(crate) struct Marks {
     // The mark of each name's whole text.

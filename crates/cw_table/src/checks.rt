@@ -46,7 +46,9 @@ impl Piece {
 
 impl Row {
     ghost use Rattle.std.specs.Prelude.{drop};
-    ghost use Rattle.cw_table.specs.Sound.{IsSound, counts_parts, holds_replaced, is_blank, lowers, lowers_all, marks_parts, pieces_parts, result_is_good, result_parts, row_is_sound, tests_parts, without_end};
+    ghost use Rattle.cw_table.specs.Sound.{IsSound, counts_parts, holds_replaced, is_blank, lowers, lowers_all};
+    ghost use Rattle.cw_table.specs.Sound.{marks_parts, pieces_parts, result_is_good, result_parts, row_is_sound};
+    ghost use Rattle.cw_table.specs.Sound.{tests_parts, without_end};
 
     /// Whether the row is a good one by itself: it has from one to four tests, the replaced scraps are
     /// tested ones, its pieces hold each of these once and in order, a new category lowers the rank where

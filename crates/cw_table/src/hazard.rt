@@ -8,7 +8,8 @@ use cw_base::CatSet;
 
 impl Row {
     ghost use Rattle.cw_table.specs.Rows.{test};
-    ghost use Rattle.cw_table.specs.Safe.{brings, is_hazard, pairs_of, reserves, sees_moved, suits_after, suits_at, suits_before};
+    ghost use Rattle.cw_table.specs.Safe.{brings, is_hazard, pairs_of, reserves, sees_moved, suits_after, suits_at};
+    ghost use Rattle.cw_table.specs.Safe.{suits_before};
 
     // The test of a number; past the tests nothing is admitted.
     pub(crate) fn test_at(&self, q: usize) -> CatSet

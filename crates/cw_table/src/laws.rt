@@ -1,6 +1,8 @@
 //! The laws of rewriting, of safe distances, and of the walk with a pointer.
 ghost use Rattle.cw_table.specs.SourceNumbers.{NormalKeepsNumbers, StepsKeepNumbers};
-ghost use Rattle.cw_table.specs.NormalLaws.{CountAtMostEight, CountAtMostWeight, LeastIsSafe, NormalIsDone, NormalStays, SafeReachesFar, StaysFine, TicksAtMost, TurnsAtMost, WalkEndsNormal, WalkHasLog, WalkIsLeftmost, WeightFalls, WeightTellsNumber};
+ghost use Rattle.cw_table.specs.NormalLaws.{CountAtMostEight, CountAtMostWeight, LeastIsSafe, NormalIsDone};
+ghost use Rattle.cw_table.specs.NormalLaws.{NormalStays, SafeReachesFar, StaysFine, TicksAtMost, TurnsAtMost};
+ghost use Rattle.cw_table.specs.NormalLaws.{WalkEndsNormal, WalkHasLog, WalkIsLeftmost, WeightFalls, WeightTellsNumber};
 
 /// The laws of leftmost-first rewriting, for every table of sound rows. It does nothing: what it ensures is for
 /// proofs.

@@ -35,7 +35,8 @@ pub fn first_production(window: [Cat; 4]) -> Option<RowNo>
 #[inline(always)]
 pub fn may_fit(first: Cat, second: Cat) -> bool
     ensures some { result ≡ list_any (λ row. admits 0 first row && admits 1 second row) productions }
-    ensures none { result ≡ false → (third fourth : Cat) → first_of productions (first ∷ second ∷ third ∷ fourth ∷ []) ≡ None }
+    ensures none { result ≡ false → (third fourth : Cat) → first_of productions (first ∷ second ∷ third ∷ fourth ∷ []) ≡
+        None }
 {
     mask(first, 0) & mask(second, 1) != 0
 }

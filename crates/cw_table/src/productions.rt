@@ -216,25 +216,29 @@ macro_rules! perhaps {
 
 macro_rules! tests_of {
     ($($number:literal: $([$($test:tt)+]),+; $offset:literal + $replaced:literal => $how:tt $what:tt;
-        [$($usual:tt)+] $(or $choice:ident [$($other:tt)+])? $(underline $underline:literal)? $(reserve $reserve:literal)?;)+
+        [$($usual:tt)+] $(or $choice:ident [$($other:tt)+])? $(underline $underline:literal)?
+        $(reserve $reserve:literal)?;)+
     ) => { [$(tests!($([$($test)+]),+)),+] };
 }
 
 macro_rules! usual_of {
     ($($number:literal: $([$($test:tt)+]),+; $offset:literal + $replaced:literal => $how:tt $what:tt;
-        [$($usual:tt)+] $(or $choice:ident [$($other:tt)+])? $(underline $underline:literal)? $(reserve $reserve:literal)?;)+
+        [$($usual:tt)+] $(or $choice:ident [$($other:tt)+])? $(underline $underline:literal)?
+        $(reserve $reserve:literal)?;)+
     ) => { [$(pieces!($($usual)+)),+] };
 }
 
 macro_rules! other_of {
     ($($number:literal: $([$($test:tt)+]),+; $offset:literal + $replaced:literal => $how:tt $what:tt;
-        [$($usual:tt)+] $(or $choice:ident [$($other:tt)+])? $(underline $underline:literal)? $(reserve $reserve:literal)?;)+
+        [$($usual:tt)+] $(or $choice:ident [$($other:tt)+])? $(underline $underline:literal)?
+        $(reserve $reserve:literal)?;)+
     ) => { [$(pieces_or!([$($usual)+] $([$($other)+])?)),+] };
 }
 
 macro_rules! heads_of {
     ($($number:literal: $([$($test:tt)+]),+; $offset:literal + $replaced:literal => $how:tt $what:tt;
-        [$($usual:tt)+] $(or $choice:ident [$($other:tt)+])? $(underline $underline:literal)? $(reserve $reserve:literal)?;)+
+        [$($usual:tt)+] $(or $choice:ident [$($other:tt)+])? $(underline $underline:literal)?
+        $(reserve $reserve:literal)?;)+
     ) => {
         [$(Head {
             number: $number,

@@ -1,5 +1,6 @@
 //! A tree laid flat: its items in order, as they stand or trimmed in the same walk.
-ghost use Rattle.std.specs.Prelude.{◌≡◌, ◌+◌, ◌-◌, ◌<◌, ◌≤◌, List, ◌++◌, length, IfOk, OnOk, Some, IsTrue, ◌↔◌, slice_get};
+ghost use Rattle.std.specs.Prelude.{◌≡◌, ◌+◌, ◌-◌, ◌<◌, ◌≤◌, List, ◌++◌, length, IfOk, OnOk, Some, IsTrue, ◌↔◌};
+ghost use Rattle.std.specs.Prelude.{slice_get};
 ghost use Rattle.cw_trees.specs.Flat.{Item, flat, trimmed};
 ghost use Rattle.cw_tokens.specs.Shapes.{shape, unfolded};
 ghost use Rattle.cw_tokens.specs.Stored.{cut, last_end, IsAscending, IsLinked};
@@ -100,7 +101,8 @@ pub fn flatten(
     requires linked { IsLinked (cut 0 ends.now tokens.now) links.now }
     requires links { length links.now ≡ length ends.now }
     requires root { root < length ends.now }
-    ensures { OnOk result (items_are out.new.items ≡ items_are out.old.items ++ flat (unfolded (cut 0 ends.now tokens.now) root)) }
+    ensures { OnOk result (items_are out.new.items ≡ items_are out.old.items ++
+        flat (unfolded (cut 0 ends.now tokens.now) root)) }
 {
     let mut list = root;
     let mut place = 0;

@@ -1,5 +1,6 @@
 //! The store of lists of tokens, with a link from each list to the one token that refers to it.
-ghost use Rattle.std.specs.Prelude.{◌≡◌, ℕ, ◌+◌, ◌-◌, ◌<◌, ◌≤◌, [], ◌∷◌, ◌++◌, length, IsSome, IfSome, IfNone, IfOk, OnOk, OnErr, option_map, vec_capacity, vec_len};
+ghost use Rattle.std.specs.Prelude.{◌≡◌, ℕ, ◌+◌, ◌-◌, ◌<◌, ◌≤◌, [], ◌∷◌, ◌++◌, length, IsSome, IfSome, IfNone, IfOk};
+ghost use Rattle.std.specs.Prelude.{OnOk, OnErr, option_map, vec_capacity, vec_len};
 ghost use Rattle.std.specs.Option.{option_to_list};
 ghost use Rattle.cw_trees.specs.Tree.{first_ident, bare_name};
 ghost use Rattle.cw_trees.specs.Flat.{flat, trimmed};
@@ -45,9 +46,14 @@ impl Model for TokenStore {
 
     ghost Value = { StoredLists };
 
-    ghost view = { λ s. record { lists = cut 0 s.ends.items s.tokens.items; building = built s.building s.ends.items s.tokens.items; spare = s.spare } };
+    ghost view = { λ s. record {
+      lists = cut 0 s.ends.items s.tokens.items;
+      building = built s.building s.ends.items s.tokens.items;
+      spare = s.spare;
+    } };
 
-    ghost invariant = { λ s. IsStored s.building s.from s.ends.items s.tokens.items s.links.items s.spare (vec_capacity s.tokens) (vec_capacity s.ends) (vec_capacity s.links) };
+    ghost invariant = { λ s. IsStored s.building s.from s.ends.items s.tokens.items s.links.items s.spare
+        (vec_capacity s.tokens) (vec_capacity s.ends) (vec_capacity s.links) };
 }
 
 impl TokenStore {
@@ -211,7 +217,8 @@ impl TokenStore {
     /// The name of a list that is exactly one identifier.
     pub fn bare_name(&self, id: ListId) -> Option<NameId>
         requires list { id.index < length self.now.lists }
-        ensures name { result ≡ option_map (λ name. record { index = name }) (bare_name (unfolded self.now.lists id.index)) }
+        ensures name { result ≡ option_map (λ name. record { index = name })
+            (bare_name (unfolded self.now.lists id.index)) }
     {
         only_name(list_at(&self.tokens, &self.ends, id.index))
     }

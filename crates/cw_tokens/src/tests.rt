@@ -17,7 +17,8 @@ use std::test::Fail;
 fn word(store: &mut TokenStore, name: NameId) -> ListId
     requires idle { store.old.building ≡ None }
     requires room { 3 ≤ store.old.spare }
-    ensures lists { store.new.lists ≡ store.old.lists ++ (tokens.Control controls.Break ∷ tokens.Ident name 7 ∷ []) ∷ [] }
+    ensures lists { store.new.lists ≡ store.old.lists ++ (tokens.Control controls.Break ∷ tokens.Ident name 7 ∷ []) ∷
+        [] }
     ensures list { result.index ≡ length store.old.lists }
     ensures idle { store.new.building ≡ None }
     ensures spare { store.new.spare + 3 ≡ store.old.spare }
@@ -32,7 +33,8 @@ fn word(store: &mut TokenStore, name: NameId) -> ListId
 fn around(store: &mut TokenStore, below: Token) -> ListId
     requires idle { store.old.building ≡ None }
     requires room { 3 ≤ store.old.spare }
-    requires below { (x : ℕ) → ref_of (shape below) ≡ Some x → (x < length store.old.lists) × IsUnreferred store.old.lists x }
+    requires below { (x : ℕ) → ref_of (shape below) ≡ Some x → (x < length store.old.lists) ×
+        IsUnreferred store.old.lists x }
     ensures list { result.index ≡ length store.old.lists }
     ensures lists { store.new.lists ≡ store.old.lists ++ (below ∷ tokens.Source 9 MathModes.Math ∷ []) ∷ [] }
     ensures idle { store.new.building ≡ None }

@@ -46,7 +46,8 @@ impl Trimmer {
     /// Takes the item that comes next.
     #[inline(always)]
     pub fn push(&mut self, item: FlatItem) -> Result<(), Memory>
-        ensures { OnOk result ((given : List Item) → StandsFor self.old given → StandsFor self.new (given ++ item_is item ∷ [])) }
+        ensures { OnOk result ((given : List Item) → StandsFor self.old given →
+            StandsFor self.new (given ++ item_is item ∷ [])) }
     {
         if drops(self.begins, item) {
             return Ok(());
@@ -76,7 +77,8 @@ impl Trimmer {
 fn end_gap(items: &mut Vec<FlatItem>, gap: usize, next: FlatItem)
     requires { gap ≤ length items.old.items }
     ensures within { gap ≤ length items.new.items }
-    ensures items { items_are items.new.items ≡ items_are (take gap items.old.items) ++ gap_before (item_is next) (items_are (drop gap items.old.items)) }
+    ensures items { items_are items.new.items ≡ items_are (take gap items.old.items) ++
+        gap_before (item_is next) (items_are (drop gap items.old.items)) }
 {
     if let FlatItem::Close = next {
         take_breaks(items, gap);
@@ -87,7 +89,8 @@ fn end_gap(items: &mut Vec<FlatItem>, gap: usize, next: FlatItem)
 fn take_breaks(items: &mut Vec<FlatItem>, gap: usize)
     requires { gap ≤ length items.old.items }
     ensures within { gap ≤ length items.new.items }
-    ensures items { items_are items.new.items ≡ items_are (take gap items.old.items) ++ unbroken (items_are (drop gap items.old.items)) }
+    ensures items { items_are items.new.items ≡ items_are (take gap items.old.items) ++
+        unbroken (items_are (drop gap items.old.items)) }
 {
     let kept = keep_unbroken(items, gap);
     items.truncate(kept);
@@ -98,7 +101,8 @@ fn keep_unbroken(items: &mut [FlatItem], gap: usize) -> usize
     requires { gap ≤ length items.old }
     ensures within { result ≤ length items.new }
     ensures behind { gap ≤ result }
-    ensures kept { items_are (take result items.new) ≡ items_are (take gap items.old) ++ unbroken (items_are (drop gap items.old)) }
+    ensures kept { items_are (take result items.new) ≡ items_are (take gap items.old) ++
+        unbroken (items_are (drop gap items.old)) }
 {
     let mut kept = gap;
     for i in gap..items.len() {

@@ -1,5 +1,6 @@
 //! Walks through a tree in its store: the lists and links that they read, and the search for an identifier.
-ghost use Rattle.std.specs.Prelude.{◌≡◌, ℕ, ◌+◌, ◌-◌, ◌<◌, ◌≤◌, [], ◌∷◌, length, get_or, MatchOption, drop, take, slice_get};
+ghost use Rattle.std.specs.Prelude.{◌≡◌, ℕ, ◌+◌, ◌-◌, ◌<◌, ◌≤◌, [], ◌∷◌, length, get_or, MatchOption, drop, take};
+ghost use Rattle.std.specs.Prelude.{slice_get};
 ghost use Rattle.cw_trees.specs.Tree.{first_ident};
 ghost use Rattle.cw_tokens.specs.Shapes.{shape, unfolded};
 ghost use Rattle.cw_tokens.specs.Stored.{cut, last_end, start_of, no_link, IsAscending, IsLinked};
@@ -110,7 +111,8 @@ pub fn find(tokens: &[Token], ends: &[usize], links: &[Link], root: usize) -> Op
     requires linked { IsLinked (cut 0 ends.now tokens.now) links.now }
     requires links { length links.now ≡ length ends.now }
     requires root { root < length ends.now }
-    ensures { MatchOption result (found_name (first_ident (unfolded (cut 0 ends.now tokens.now) root)) ≡ None) (Finds (cut 0 ends.now tokens.now) root) }
+    ensures { MatchOption result (found_name (first_ident (unfolded (cut 0 ends.now tokens.now) root)) ≡
+        None) (Finds (cut 0 ends.now tokens.now) root) }
 {
     let mut list = root;
     let mut place = 0;

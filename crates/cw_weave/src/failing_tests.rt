@@ -94,7 +94,10 @@ fn desk_with_old(alloc: Global) -> Result<MemDesk, Memory> {
     desk_with(
         alloc,
         b"% limbo\n@ Hello.\n",
-        &[(b"foo.tex".as_slice(), b"\\input cwebmac\n% limbo\n".as_slice())],
+        &[(
+            b"foo.tex".as_slice(),
+            b"\\input cwebmac\n% limbo\n".as_slice(),
+        )],
     )
 }
 

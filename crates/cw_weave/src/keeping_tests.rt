@@ -43,7 +43,10 @@ const INDEXED: &[u8] = b"[term]Writing the index...
 
 /// What a run tells over this old TeX file and an old index that is empty.
 fn told_over(alloc: Global, old: &[u8]) -> Result<Bytes, Memory> {
-    let others = [(b"foo.tex".as_slice(), old), (b"foo.idx".as_slice(), b"".as_slice())];
+    let others = [
+        (b"foo.tex".as_slice(), old),
+        (b"foo.idx".as_slice(), b"".as_slice()),
+    ];
     let mut desk = desk_with(alloc, HELLO, &others)?;
     weave(alloc, &KEEPING, &mut desk)?;
     read_journal(alloc, desk.journal())
@@ -79,13 +82,22 @@ fn old_files_that_differ(rt: HostRuntime) -> Result<(), Fail> {
     let mut longer = Vec::new(rt.alloc());
     longer.extend_from_slice(TEX)?;
     longer.push(b'\n')?;
-    assert_eq!(rt; told_over(rt.alloc(), longer.as_slice())?.as_slice(), replaced.as_slice());
+    assert_eq!(rt;
+        told_over(rt.alloc(), longer.as_slice())?.as_slice(),
+        replaced.as_slice()
+    );
     let shorter = &TEX[..TEX.len() - 1];
-    assert_eq!(rt; told_over(rt.alloc(), shorter)?.as_slice(), replaced.as_slice());
+    assert_eq!(rt;
+        told_over(rt.alloc(), shorter)?.as_slice(),
+        replaced.as_slice()
+    );
     assert_eq!(rt; told_over(rt.alloc(), b"")?.as_slice(), replaced.as_slice());
     for at in 0..TEX.len() {
         let old = changed(rt.alloc(), at)?;
-        assert_eq!(rt; told_over(rt.alloc(), old.as_slice())?.as_slice(), replaced.as_slice());
+        assert_eq!(rt;
+            told_over(rt.alloc(), old.as_slice())?.as_slice(),
+            replaced.as_slice()
+        );
     }
     Ok(())
 }
@@ -115,6 +127,9 @@ fn an_old_file_is_no_input(rt: HostRuntime) -> Result<(), Fail> {
     let mut old = vec![in rt.alloc(); b'x'; 8_388_609]?;
     old.as_mut_slice()[..TEX.len()].copy_from_slice(TEX);
     let replaced = expected(rt.alloc(), b"[tex] is replaced\n")?;
-    assert_eq!(rt; told_over(rt.alloc(), old.as_slice())?.as_slice(), replaced.as_slice());
+    assert_eq!(rt;
+        told_over(rt.alloc(), old.as_slice())?.as_slice(),
+        replaced.as_slice()
+    );
     Ok(())
 }

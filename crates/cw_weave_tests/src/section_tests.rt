@@ -272,7 +272,8 @@ fn each_web_and_its_files(rt: HostRuntime) -> Result<(), Fail> {
     Ok(())
 }
 
-/// What a run tells without flag x, by what it tells with it: the TeX file asks for no index, and none is said or written.
+/// What a run tells without flag x, by what it tells with it: the TeX file asks for no index, and none is said or
+/// written.
 fn without_index(alloc: Global, told: &[u8]) -> Result<Bytes, Memory> {
     let mut text = Bytes::new_in(alloc);
     let mut skips = false;

@@ -8,11 +8,17 @@ use Rattle.cw_lines.proofs.comparison.Comparison.is_whole.Goals.{then-not-self-v
 pub returns-then-not-self-clause-whole : goal.returns-then-not-self-clause-whole
 returns-then-not-self-clause-whole g c files is =
     elim c.then-not-self.branch [
-      then-not-self-via-then-not-self w ↦ ((λ no. absurd cc), (λ whole. absurd (left-lost c.args.self.now.agrees _
-      (sym (ap (λ (o : OldFile). o.agrees) c.self.view_is) ∙ w.if-not-self.true) whole)))
-    | then-not-self-via-else-not-self+then-self w ↦ ((λ no. absurd cc), (λ whole. absurd (left-more c.args.self.now.agrees c.args.self.now.ahead _
-      (subst (λ (text : List ℕ). 0 < length text) (ap (λ (o : OldFile). o.ahead) c.self.view_is)
-      (ahead-some c.self.inside.buffer c.self.inside.start c.self.inside.end w.if-self.true (omega (arith, c.self.invariant.1, c.self.told)))) whole)))
+      | then-not-self-via-then-not-self w ↦ (
+        (λ no. absurd cc),
+        (λ whole. absurd (left-lost c.args.self.now.agrees _
+            (sym (ap (λ (o : OldFile). o.agrees) c.self.view_is) ∙ w.if-not-self.true) whole)),
+      )
+      | then-not-self-via-else-not-self+then-self w ↦ (
+        (λ no. absurd cc),
+        (λ whole. absurd (left-more c.args.self.now.agrees c.args.self.now.ahead _
+            (subst (λ (text : List ℕ). 0 < length text) (ap (λ (o : OldFile). o.ahead) c.self.view_is)
+            (ahead-some c.self.inside.buffer c.self.inside.start c.self.inside.end w.if-self.true (omega (arith, c.self.invariant.1, c.self.told)))) whole)),
+      )
     ]
 
 pub returns-clause-whole : goal.returns-clause-whole
