@@ -1,7 +1,7 @@
 -- The rows of the names are entered one after another.
-use Rattle.std.proofs.Common.{◌≡◌, ℕ, ◌+◌, ◌<◌, ◌≤◌, Bool, true, false, refl, sym, ap, ◌∙◌, subst, List, [], ◌∷◌, All, Some, drop, length, map, fold}
+use Rattle.std.proofs.Common.{◌≡◌, ℕ, ◌+◌, ◌<◌, ◌≤◌, Bool, true, false, refl, sym, ap, ◌∙◌, subst, List, [], ◌∷◌, All, Some, drop, map, fold}
 use Rattle.std.specs.Prelude.{slice_get}
-use Rattle.std.proofs.lemmas.List.{drop_all, drop_more}
+use Rattle.std.proofs.lemmas.List.{drop_more}
 use Rattle.std.proofs.lemmas.Option.{get_or_from_slice_get, slice_get_within}
 use Rattle.std.proofs.lemmas.Map.Views.{All-insert_key}
 use Rattle.std.specs.BTreeSet.{insert_key}
@@ -13,7 +13,7 @@ use Rattle.cw_names.specs.Names.{Entry}
 use Rattle.cw_index.specs.declared.heading.Heading.{Heading}
 use Rattle.cw_index.specs.Collation.{entry_cmp}
 use Rattle.cw_index.specs.Headings.{IsNamed, entered, entered_by, entry_of, row_of}
-use Rattle.cw_index.specs.Mentions.{Row, has_sections, index_rows, row, row_cmp, rows_from, with_row}
+use Rattle.cw_index.specs.Mentions.{Row, has_sections, row, row_cmp, rows_from, with_row}
 
 -- What keys are mapped to is in the same order.
 inserted-by : {X Y : Type 0} (f : X → Y) (o : Ordering) (k x : X) (xs ys : List X)
@@ -56,21 +56,12 @@ later-step names occurrences rows rows' i h here is more =
     ∙ sym (later-next i (entry_of h) (drop (i + 1) names) occurrences rows)
     ∙ ap (λ (later : List Entry). with_later i later occurrences rows) (sym here)
 
-pub later-end : (names : List Entry) (occurrences : List Occurrence) (rows : List Row) (i : ℕ) → length names ≤ i
-    → with_later i (drop i names) occurrences rows ≡ rows
-later-end names occurrences rows i ended =
-    ap (λ (later : List Entry). with_later i later occurrences rows) (drop_all i names ended)
-
 -- a heading that has sections, and one that has none
 pub entered-listed : (h : Heading) (old new : List Heading) → has_sections (row_of h).sections ≡ true
     → new ≡ insert_key (on entry_of entry_cmp) old h → map row_of new ≡ entered (row_of h) (map row_of old)
 entered-listed h old new listed is =
     ap (map row_of) is ∙ inserted row_of row_cmp old h
     ∙ ap (λ (t : Bool). entered_by t (row_of h) (map row_of old)) (sym listed)
-
-pub entered-unlisted : (h : Heading) (old : List Heading) → has_sections (row_of h).sections ≡ false
-    → map row_of old ≡ entered (row_of h) (map row_of old)
-entered-unlisted h old unlisted = ap (λ (t : Bool). entered_by t (row_of h) (map row_of old)) (sym unlisted)
 
 pub named-more : (names : List Entry) (h : Heading) (old new : List Heading)
     → new ≡ insert_key (on entry_of entry_cmp) old h

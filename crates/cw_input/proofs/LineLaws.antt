@@ -1,15 +1,10 @@
 -- How a line is cut off and trimmed, byte by byte.
-use Rattle.std.proofs.Common.{◌≡◌, ◌≢◌, ℕ, suc, ◌+◌, ◌-◌, ◌<◌, ◌≤◌, ◌==◌, Bool, true, false, cond, List, [], ◌∷◌, ◌++◌, length, take, drop, map, get_or, slice_range, All, refl, ap, sym, ◌∙◌, arith, append_assoc, append-nil, drop-drop, length-drop, get_or-drop, length-take, take-take}
+use Rattle.std.proofs.Common.{◌≡◌, ◌≢◌, ℕ, suc, ◌+◌, ◌-◌, ◌<◌, ◌≤◌, ◌==◌, Bool, true, false, cond, List, [], ◌∷◌, ◌++◌, length, take, drop, map, get_or, slice_range, All, refl, ap, sym, ◌∙◌, arith, append_assoc, drop-drop, length-drop, get_or-drop, length-take, take-take}
 use Rattle.std.proofs.lemmas.Bool.{eqb-false}
 use Rattle.std.proofs.lemmas.List.{drop_more, drop_all, take_more}
 use Rattle.std.proofs.lemmas.List.Elements.{All-nil, All-cons, All-same, All-take}
 use Rattle.cw_base.specs.Text.{is_blank, pieces_by, pieces_of, trim_by, trimmed, lines_of}
 use Rattle.cw_input.specs.Lines.{until}
-
--- what stands before the first byte that passes: nothing at such a byte, and one byte more at another
-pub until-stops : (test : ℕ → Bool) (xs : List ℕ) (i : ℕ) → i < length xs → test (get_or xs i 0) ≡ true → until test (drop i xs) ≡ []
-until-stops test xs i within passes =
-    ap (until test) (drop_more xs i 0 within) ∙ ap (λ passes. cond passes [] (get_or xs i 0 ∷ until test (drop (i + 1) xs))) passes
 
 pub until-goes_on : (test : ℕ → Bool) (xs : List ℕ) (i : ℕ) → i < length xs → test (get_or xs i 0) ≡ false → until test (drop i xs) ≡ get_or xs i 0 ∷ until test (drop (i + 1) xs)
 until-goes_on test xs i within fails =
@@ -33,10 +28,6 @@ found_more test xs at i from within fails so_far =
     so_far ∙ ap (λ rest. slice_range xs at i ++ rest) (until-goes_on test xs i within fails)
     ∙ sym (append_assoc (slice_range xs at i) (get_or xs i 0 ∷ []) (until test (drop (i + 1) xs)))
     ∙ ap (λ front. front ++ until test (drop (i + 1) xs)) (sym (slice_range-next xs at i from within))
-
-pub found_here : (test : ℕ → Bool) (xs : List ℕ) (at i : ℕ) → until test (drop i xs) ≡ [] → until test (drop at xs) ≡ slice_range xs at i ++ until test (drop i xs)
-    → until test (drop at xs) ≡ slice_range xs at i
-found_here test xs at i stops so_far = so_far ∙ ap (λ rest. slice_range xs at i ++ rest) stops ∙ append-nil (slice_range xs at i)
 
 -- the first piece of a text that isn't empty
 cut_first : (ends : Bool) (byte : ℕ) → pieces_by ends byte [] ≡ cond ends [] (byte ∷ []) ∷ pieces_of (drop (length (cond ends [] (byte ∷ []))) [])

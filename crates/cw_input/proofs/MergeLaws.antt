@@ -34,13 +34,6 @@ pub lines_from-first : (file line at next : ℕ) (text bytes : List ℕ) → lin
     → lines_from file line at bytes ≡ line_of text (record { file = file; line = line + 1 }) ∷ lines_from file (line + 1) next bytes
 lines_from-first file line at next text bytes cut = ap (numbered file line) cut
 
-pub walk-first : (each : FileLine → MergeState → Option MergeState) (file line at next : ℕ) (text bytes : List ℕ) (m new : MergeState)
-    → lines_of (drop at bytes) ≡ text ∷ lines_of (drop next bytes) → each (line_of text (record { file = file; line = line + 1 })) m ≡ Some new
-    → walk each (lines_from file line at bytes) (Some m) ≡ walk each (lines_from file (line + 1) next bytes) (Some new)
-walk-first each file line at next text bytes m new cut first =
-    ap (λ lines. walk each lines (Some m)) (lines_from-first file line at next text bytes cut)
-    ∙ ap (walk each (lines_from file (line + 1) next bytes)) first
-
 -- behind the end no line is left
 pub lines_from-end : (file line at : ℕ) (bytes : List ℕ) → length bytes ≤ at → lines_from file line at bytes ≡ []
 lines_from-end file line at bytes past = ap (λ rest. numbered file line (lines_of rest)) (drop_all at bytes past)

@@ -3,7 +3,6 @@ use Rattle.std.proofs.Common.{◌≡◌, ◌≢◌, ℕ, suc, ◌+◌, ◌<◌, 
 use Rattle.std.specs.List.{list_any, position_or_len}
 use Rattle.std.proofs.lemmas.Bool.{eqb-true, eq-eqb}
 use Rattle.std.proofs.lemmas.List.{append_assoc}
-use Rattle.std.proofs.lemmas.List.Sums.{prefix_len-le-length}
 use Rattle.cw_desk.specs.Told.{Told}
 use Rattle.cw_lines.specs.Line.{LineState}
 use Rattle.cw_lines.specs.Writes.{HasPut}
@@ -27,9 +26,6 @@ some (x ∷ xs) is = omega arith
 
 abbrev plain : List ℕ → ℕ
 plain xs = position_or_len is_marked xs
-
-pub plain-within : (xs : List ℕ) → position_or_len is_marked xs ≤ length xs
-plain-within xs = prefix_len-le-length (λ x. not (is_marked x)) xs
 
 one-add : (n : ℕ) → 1 + n ≡ suc n
 one-add n = omega arith

@@ -6,7 +6,7 @@ use Rattle.std.proofs.lemmas.List.Sums.{fold_push}
 use Rattle.cw_trees.specs.declared.Control.{Control}
 use Rattle.cw_trees.specs.Printing.{Printable, break_bytes, is_backup, is_cancel, opened, run_sign, strength, strongest}
 use Rattle.cw_join.specs.Stretches.{is_inner}
-use Rattle.cw_join.specs.Early.{added, late, run_back, run_front, run_with, depth_behind, last_run}
+use Rattle.cw_join.specs.Early.{added, run_back, run_front, run_with, depth_behind, last_run}
 use Rattle.cw_join.specs.Runs.{RunState, run_more, run_state, state_back, pause_bytes, step_bytes}
 use Rattle.cw_join.specs.Standing.{JoinerState, Stands}
 use Rattle.cw_join.proofs.EarlyLaws.{added-is, same-depth, step_of}
@@ -80,8 +80,3 @@ module _ (joiner : JoinerState) (ps : List Printable) (s : Stands joiner ps) (p 
     depth = ap (λ (depth : ℕ). opened depth p.item) s.depth ∙ sym depth-more;
     run = sym (ap run_state (run-of None is));
   }
-
--- the end
-pub late-is : (joiner : JoinerState) (ps : List Printable) → Stands joiner ps → state_back (is_inner joiner.inner joiner.depth) joiner.run ≡ late joiner.inner ps
-late-is joiner ps s =
-    (λ i. state_back (is_inner joiner.inner (s.depth i)) (s.run i)) ∙ sym (back-is (is_inner joiner.inner (depth_behind ps)) (last_run ps))

@@ -1,19 +1,18 @@
 -- Over a C part and inner C text no definition begins.
-use Rattle.std.proofs.Common.{◌≡◌, ℕ, zero, suc, ◌+◌, ◌-◌, Bool, true, false, not, ◌&&◌, ◌||◌, Option, Some, None, List, [], ◌∷◌, ◌++◌, take, drop, length, refl, sym, ◌∙◌, ap}
+use Rattle.std.proofs.Common.{◌≡◌, ℕ, ◌+◌, ◌-◌, Bool, true, false, not, ◌&&◌, ◌||◌, Option, Some, None, List, [], ◌∷◌, ◌++◌, drop, length, refl, sym, ◌∙◌, ap}
 use Rattle.std.specs.Prelude.{if◌then◌else◌, ◌==◌, nat_lt}
 use Rattle.std.specs.List.{list_any}
 use Rattle.cw_base.proofs.TestLaws.{both-right, one-failed-left, one-failed-right}
 use Rattle.cw_lex.specs.Answers.{Answer, Token, Begin, Finish, Note, Seen, Where, Cut, Found, before, note_answers, plain}
-use Rattle.cw_lex.specs.Bodies.{one_note, note_unless, noted}
-use Rattle.cw_lex.specs.Bytes.{newline, backslash, bar, at_sign, begins, is_letter, is_in, quote, apostrophe, slash, star, hash, less, equals}
-use Rattle.cw_lex.specs.Codes.{has_control_text, begins_section, effect_in_c, effect_at_begin}
+use Rattle.cw_lex.specs.Bodies.{one_note, note_unless}
+use Rattle.cw_lex.specs.Bytes.{newline, backslash, bar, at_sign, begins, is_letter, quote, apostrophe, slash, star}
+use Rattle.cw_lex.specs.Codes.{has_control_text, effect_in_c, effect_at_begin}
 use Rattle.cw_lex.specs.Constants.{constant}
-use Rattle.cw_lex.specs.Lexing.{answers, tokens_of, still_fresh, fresh_at, last_at}
+use Rattle.cw_lex.specs.Lexing.{answers}
 use Rattle.cw_lex.specs.Nest.{Nest, Leaf, leaf, group, nests, nest, first_nest}
-use Rattle.cw_lex.specs.Nested.{is_section_kind, is_section_answer, begins_section_in, is_c_mode, is_plain_c_mode, IsNested}
+use Rattle.cw_lex.specs.Nested.{is_section_kind, is_section_answer, begins_section_in}
 use Rattle.cw_lex.specs.Signs.{all_signs, longest, spelling}
-use Rattle.cw_lex.specs.Tokens.{one, dropped_code, identifier, string, include_name, sign_or_other, piece_start, passed, moved, in_hash_line, ends_at_bar, line_end, comment_end, inner_cut, comment_cut, part_cut, inner_or_none, all_cut, inner_end, effect_in, code_by, code_token, in_code, start_of, code_text, comment_text, head_text, part_text, in_text, section, section_code, found, is_name, is_quote, behind_word, is_include, may_head, is_head, is_space, takes_hash_line, behind_include, closes_on_line, is_deep}
-use Rattle.cw_lex.proofs.Nesting.{c-texts-nested}
+use Rattle.cw_lex.specs.Tokens.{one, dropped_code, identifier, string, sign_or_other, passed, moved, in_hash_line, ends_at_bar, line_end, comment_end, inner_cut, inner_end, effect_in, code_by, code_token, in_code, start_of, section_code, is_name, is_quote, behind_word, is_include, may_head, is_head}
 use Rattle.cw_lex.specs.declared.bodies.Noted.{Noted}
 use Rattle.cw_lex.specs.declared.classes.Class.TheVariants as classes
 use Rattle.cw_lex.specs.declared.codes.Code.{Code}
@@ -26,7 +25,6 @@ use Rattle.cw_lex.specs.declared.parts.Part.TheVariants as parts
 use Rattle.cw_lex.specs.declared.parts.Start.{Start}
 use Rattle.cw_lex.specs.declared.parts.Start.TheVariants as start
 use Rattle.cw_lex.specs.declared.signs.Sign.{Sign}
-use Rattle.cw_lex.specs.declared.tokens.Mode.{Mode}
 use Rattle.cw_lex.specs.declared.tokens.Mode.TheVariants as modes
 use Rattle.cw_lex.specs.declared.tokens.TokKind.{TokKind}
 use Rattle.cw_lex.specs.declared.tokens.TokKind.TheVariants as kind
@@ -213,47 +211,6 @@ in-code-c (start.Quoted q) w place bytes p ends = one-c (in_hash_line w.part) (m
 in-code-c (start.Sign s) w place bytes p ends = one-c (in_hash_line w.part) (moved w (passed w.part)) place bytes (plain (kind.Sign s) (length (spelling s))) refl (passed-c w.part p)
 in-code-c start.OtherByte w place bytes p ends = one-c (in_hash_line w.part) (moved w (passed w.part)) place bytes (plain kind.OtherByte 1) refl (passed-c w.part p)
 
-text-c : (w : Where) (fresh : Bool) (last place byte : ℕ) (bytes : List ℕ) → is_c w.part ≡ true → StaysC (code_text w fresh last place byte bytes)
-text-c w fresh last place byte bytes p =
-    if-both StaysC (byte == newline) _ _ (λ e. line-c w.part w.comments last place p)
-    (λ e. if-both StaysC (is_space w.part byte bytes) _ _ (λ e. record { part = p; none = refl })
-    (λ e. if-both StaysC (byte == hash && (takes_hash_line w.part w.comments && fresh)) _ _ (λ e. one-c true (moved w (parts.Plain true false)) place (byte ∷ bytes) (plain kind.HashLine 1) refl refl)
-    (λ e. if-both StaysC (byte == less && (behind_include w.part && closes_on_line bytes)) _ _ (λ e. one-c (in_hash_line w.part) (moved w (passed w.part)) place (byte ∷ bytes) (include_name place (byte ∷ bytes)) refl (passed-c w.part p))
-    (λ e. in-code-c (start_of (ends_at_bar w.part w.comments) byte bytes) w place (byte ∷ bytes) p (bar-needed (ends_at_bar w.part w.comments) byte bytes)))))
-
-comment-c : (part : Part) (c : Opened) (cs : List Opened) (last place byte : ℕ) (bytes : List ℕ) → is_c part ≡ true → StaysC (comment_text part c cs last place byte bytes)
-comment-c part c cs last place byte bytes p =
-    if-both StaysC (c.long && (byte == star && begins slash bytes)) _ _ (λ e. record { part = p; none = end-none (in_hash_line part) c place 2 (byte ∷ bytes) })
-    (λ e. if-both StaysC (not c.long && byte == newline) _ _ (λ e. before-c (comment_end (in_hash_line part) c place 0 []) (line_end part cs last place) (end-none (in_hash_line part) c place 0 []) (line-c part cs last place p))
-    (λ e. if-both StaysC (byte == bar && not (is_deep part (c ∷ cs))) _ _ (λ e. record { part = p; none = refl })
-    (λ e. record { part = p; none = none-notes (noted (piece_start part cs c place) (byte ∷ bytes)) })))
-
-head-c : (part : Part) (place byte : ℕ) (bytes : List ℕ) → is_c part ≡ true → StaysC (head_text (record { part = part; comments = [] }) place byte bytes)
-head-c part place byte bytes p =
-    if-both StaysC (is_in classes.Blank byte) _ _ (λ e. record { part = p; none = refl })
-    (λ e. one-c false (record { part = parts.Plain false false; comments = [] }) place (byte ∷ bytes) (plain kind.HeadSign (if begins equals bytes then 2 else 1)) refl refl)
-
-part-c : (part : Part) (fresh : Bool) (last place byte : ℕ) (bytes : List ℕ) → is_c part ≡ true → StaysC (part_text part (record { part = part; comments = [] }) fresh last place byte bytes)
-part-c parts.Begin fresh last place byte bytes p = text-c (record { part = parts.Begin; comments = [] }) fresh last place byte bytes refl
-part-c (parts.Plain a b) fresh last place byte bytes p = text-c (record { part = parts.Plain a b; comments = [] }) fresh last place byte bytes refl
-part-c parts.Inner fresh last place byte bytes p = text-c (record { part = parts.Inner; comments = [] }) fresh last place byte bytes refl
-part-c parts.Head fresh last place byte bytes p = head-c parts.Head place byte bytes refl
-part-c _ fresh last place byte bytes p = absurd cc
-
-in-text-c : (part : Part) (cs : List Opened) (fresh : Bool) (last place byte : ℕ) (bytes : List ℕ) → is_c part ≡ true → StaysC (in_text part cs fresh last place byte bytes)
-in-text-c part [] fresh last place byte bytes p = part-c part fresh last place byte bytes p
-in-text-c part (c ∷ cs) fresh last place byte bytes p =
-    if-both StaysC c.inner _ _ (λ e. text-c (record { part = part; comments = c ∷ cs }) fresh last place byte bytes p) (λ e. comment-c part c cs last place byte bytes p)
-
--- a section code
-any-later : (xs ys : List Answer) → begins_section_in ys ≡ true → begins_section_in (xs ++ ys) ≡ true
-any-later [] ys h = h
-any-later (x ∷ xs) ys h = go (is_section_answer x) (any-later xs ys h)
-  where
-    go : (b : Bool) → begins_section_in (xs ++ ys) ≡ true → (b || begins_section_in (xs ++ ys)) ≡ true
-    go true k = refl
-    go false k = k
-
 uncut-left : (xs ys : List Answer) → begins_section_in (xs ++ ys) ≡ false → begins_section_in xs ≡ false
 uncut-left [] ys h = refl
 uncut-left (x ∷ xs) ys h = or-both (is_section_answer x) (begins_section_in xs) (one-failed-left (is_section_answer x) (begins_section_in (xs ++ ys)) h) (uncut-left xs ys (one-failed-right (is_section_answer x) (begins_section_in (xs ++ ys)) h))
@@ -268,56 +225,5 @@ record IsSection (x : Cut) : Type 0 where
 section-kind : (bytes : List ℕ) → IsSection (section_code bytes)
 section-kind bytes = if-both IsSection (begins star (drop 1 bytes)) _ _ (λ e. record { is = refl }) (λ e. record { is = refl })
 
-section-there : (w : Where) (place : ℕ) (bytes : List ℕ) → begins_section_in (section w place bytes).answers ≡ true
-section-there w place bytes = any-later (all_cut w.part w.comments place place) _ (ap (λ b. b || begins_section_in (note_answers (section_code (at_sign ∷ bytes)).notes)) (section-kind (at_sign ∷ bytes)).is)
-
 record StaysUncut (f : Found) : Type 0 where
   pub stays : begins_section_in f.answers ≡ false → StaysC f
-
-found-c : (w : Where) (fresh : Bool) (last place byte : ℕ) (bytes : List ℕ) → is_c w.part ≡ true → StaysUncut (found w fresh last place byte bytes)
-found-c w fresh last place byte bytes p =
-    if-both StaysUncut (byte == at_sign && begins_section bytes) _ _
-    (λ e. record { stays = λ h. absurd (let k : true ≡ false = sym (section-there w place bytes) ∙ h in cc) })
-    (λ e. record { stays = λ h. in-text-c w.part w.comments fresh last place byte bytes p })
-
--- all answers
-cut-none : (part : Part) (place about : ℕ) → is_c part ≡ true → part_cut part place about ≡ []
-cut-none parts.Begin place about p = refl
-cut-none (parts.Plain a b) place about p = refl
-cut-none parts.Inner place about p = refl
-cut-none parts.Head place about p = refl
-cut-none _ place about p = absurd cc
-
-open-none : (b in_hash : Bool) (place about : ℕ) → defines_in (inner_or_none b in_hash place about) ≡ false
-open-none true in_hash place about = refl
-open-none false in_hash place about = refl
-
-all-none : (part : Part) (cs : List Opened) (place about : ℕ) → is_c part ≡ true → defines_in (all_cut part cs place about) ≡ false
-all-none part [] place about p = ap defines_in (cut-none part place about p)
-all-none part (c ∷ cs) place about p =
-    none-append (inner_or_none c.inner (in_hash_line part) place about) (comment_cut (in_hash_line part) c place about ++ all_cut part cs place about) (open-none c.inner (in_hash_line part) place about)
-    (none-append (comment_cut (in_hash_line part) c place about) (all_cut part cs place about) (end-none (in_hash_line part) c about 0 []) (all-none part cs place about p))
-
-answers-none : (bytes : List ℕ) (w : Where) (fresh : Bool) (last place taken : ℕ) → is_c w.part ≡ true → begins_section_in (answers bytes w fresh last place taken) ≡ false → defines_in (answers bytes w fresh last place taken) ≡ false
-answers-none [] w fresh last place taken p h = all-none w.part w.comments place (place - 1) p
-answers-none (byte ∷ bytes) w fresh last place zero p h =
-    let f = found w fresh last place byte bytes in
-    let rest = answers bytes f.next (still_fresh fresh byte) byte (place + 1) f.more in
-    let s = (found-c w fresh last place byte bytes p).stays (uncut-left f.answers rest h) in
-    none-append f.answers rest s.none (answers-none bytes f.next (still_fresh fresh byte) byte (place + 1) f.more s.part (uncut-right f.answers rest h))
-answers-none (byte ∷ bytes) w fresh last place (suc taken) p h = answers-none bytes w (still_fresh fresh byte) byte (place + 1) taken p h
-
-pub c-texts-undefined : (text : List ℕ) (start end : ℕ) (mode : Mode) → is_plain_c_mode mode ≡ true → begins_section_in (tokens_of text start end mode) ≡ false → begins_definition (nest (tokens_of text start end mode)) ≡ false
-c-texts-undefined text first end modes.CPart m h = none-first (tokens_of text first end modes.CPart) (answers-none (drop first (take end text)) (record { part = parts.Begin; comments = [] }) (fresh_at (take end text) first) (last_at (take end text) first) first 0 refl h)
-c-texts-undefined text first end modes.Inner m h = none-first (tokens_of text first end modes.Inner) (answers-none (drop first (take end text)) (record { part = parts.Inner; comments = [] }) (fresh_at (take end text) first) (last_at (take end text) first) first 0 refl h)
-c-texts-undefined text first end _ m h = absurd cc
-
-pub plain-is-c : (mode : Mode) → is_plain_c_mode mode ≡ true → is_c_mode mode ≡ true
-plain-is-c modes.CPart m = refl
-plain-is-c modes.Inner m = refl
-plain-is-c modes.Limbo m = m
-plain-is-c modes.TexText m = m
-plain-is-c modes.Definition m = refl
-
-pub plain-texts-nested : (text : List ℕ) (start end : ℕ) (mode : Mode) → is_plain_c_mode mode ≡ true → begins_section_in (tokens_of text start end mode) ≡ false → IsNested (tokens_of text start end mode)
-plain-texts-nested text start end mode m h = c-texts-nested text start end mode (plain-is-c mode m) h

@@ -16,7 +16,7 @@ use Rattle.cw_lex.specs.Constants.{hexadecimal, fraction, exponent_sign, exponen
 use Rattle.cw_lex.specs.Codes.{has_control_text}
 use Rattle.cw_lex.specs.Bodies.{at_start, goes_on, stepped, ended, closing_bytes, extent}
 use Rattle.cw_lex.specs.Answers.{Cut}
-use Rattle.cw_lex.specs.Tokens.{identifier, string, closes_on_line, include_name, control_text, section_name, alone_size, is_name, is_quote, control_or_plain, code_token, depth_size, section_code}
+use Rattle.cw_lex.specs.Tokens.{identifier, string, closes_on_line, include_name, control_text, section_name, is_name, is_quote, control_or_plain, code_token, depth_size, section_code}
 
 either-size : (t : Bool) (a b n : ℕ) → (t ≡ true → a ≤ n) → (t ≡ false → b ≤ n) → (if t then a else b) ≤ n
 either-size true a b n f g = f refl
@@ -152,10 +152,6 @@ control_text-le code place bytes h = behind-opening 2 (at_start bodies.ControlTe
 
 pub section_name-le : (code : Code) (place : ℕ) (bytes : List ℕ) → 2 ≤ length bytes → (section_name code place bytes).size ≤ length bytes
 section_name-le code place bytes h = behind-opening 2 (at_start bodies.SectionName (place + 2)) bytes h
-
-pub alone-le : (byte : ℕ) (bytes : List ℕ) → alone_size (byte ∷ bytes) ≤ length (byte ∷ bytes)
-alone-le byte [] = omega arith
-alone-le byte (b ∷ bs) = omega arith
 
 pub control_or_plain-le : (code : Code) (place byte next : ℕ) (bytes : List ℕ) → (control_or_plain code place (byte ∷ next ∷ bytes)).size ≤ length (byte ∷ next ∷ bytes)
 control_or_plain-le code place byte next bytes =

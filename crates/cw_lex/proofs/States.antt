@@ -25,11 +25,6 @@ pub nested-part : (p q : Part) (comments : List Opened) → is_code_part q ≡ i
 nested-part p q [] e n = tt
 nested-part p q (c ∷ comments) e n = (is_code-part p q comments e ∙ n.0, nested-part p q comments e n.1)
 
--- where C text goes on, the part is one of C text
-pub part-code : (p : Part) (comments : List Opened) → IsNested p comments → is_code p comments ≡ true → is_code_part p ≡ true
-part-code p [] n h = h
-part-code p (c ∷ comments) n h = part-code p comments n.1 n.0
-
 -- one comment more
 pub ready-push : (text : List ℕ) (s : State) (q : Part) (c : Opened) (comments : List Opened) (next : ℕ) → IsReady text s → is_code s.part s.comments ≡ true
     → is_code_part q ≡ is_code_part s.part → c.braces ≡ 0 → c.inner ≡ false → comments ≡ c ∷ s.comments → s.at ≤ next → next ≤ length text

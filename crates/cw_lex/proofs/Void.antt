@@ -1,5 +1,5 @@
 -- A name is void by what its bytes are one after another.
-use Rattle.std.proofs.Common.{◌≡◌, ℕ, zero, suc, ◌+◌, ◌<◌, ◌≤◌, Bool, true, false, ◌&&◌, ◌||◌, ◌==◌, List, [], ◌∷◌, codes, length, slice_index, drop, refl, sym, ap, ◌∙◌, arith, if◌then◌else◌, true≢false}
+use Rattle.std.proofs.Common.{◌≡◌, ℕ, zero, suc, ◌+◌, ◌<◌, ◌≤◌, Bool, true, false, ◌&&◌, ◌||◌, ◌==◌, List, [], ◌∷◌, codes, length, slice_index, drop, refl, ap, ◌∙◌, arith, if◌then◌else◌, true≢false}
 use Rattle.std.proofs.lemmas.Bool.{eqb-true}
 use Rattle.std.proofs.lemmas.Bool.Decides.{nat_tests}
 use Rattle.cw_lex.specs.declared.classes.Class.TheVariants.{White}
@@ -15,27 +15,14 @@ may_be_white (suc (suc (suc n))) = true
 run-white : (b : ℕ) (bs : List ℕ) → is_in White b ≡ true → run White (b ∷ bs) ≡ 1 + run White bs
 run-white b bs h = ap (λ t. elim t [ true ↦ 1 + run White bs | false ↦ 0 ]) h
 
-run-other : (b : ℕ) (bs : List ℕ) → is_in White b ≡ false → run White (b ∷ bs) ≡ 0
-run-other b bs h = ap (λ t. elim t [ true ↦ 1 + run White bs | false ↦ 0 ]) h
-
 suc-eq : (m n : ℕ) → (suc m == suc n) ≡ (m == n)
 suc-eq m n = grind (arith, nat_tests)
-
-zero-eq : (n : ℕ) → (0 == suc n) ≡ false
-zero-eq n = grind (arith, nat_tests)
 
 one-more : (n : ℕ) → 1 + n ≡ suc n
 one-more n = omega arith
 
 other-empty : (n : ℕ) → (suc n == 0) ≡ false
 other-empty n = grind (arith, nat_tests)
-
-not-dot : (b : ℕ) → is_in White b ≡ true → (b == 46) ≡ false
-not-dot b w = by (b == 46) refl
-  where
-    by : (t : Bool) → (b == 46) ≡ t → (b == 46) ≡ false
-    by true e = absurd (true≢false (sym w ∙ ap (is_in White) (eqb-true b 46 e)))
-    by false e = e
 
 -- white space goes on before the dots and behind three of them
 pub void-white : (dots b : ℕ) (bs : List ℕ) → is_in White b ≡ true → may_be_white dots ≡ true → void_behind dots (b ∷ bs) ≡ void_behind dots bs
@@ -44,34 +31,12 @@ void-white (suc zero) b bs w m = cc
 void-white (suc (suc zero)) b bs w m = cc
 void-white (suc (suc (suc n))) b bs w m = ap (λ k. k == length (b ∷ bs)) (run-white b bs w ∙ one-more (run White bs)) ∙ suc-eq (run White bs) (length bs)
 
--- and not between them
-pub void-between : (dots b : ℕ) (bs : List ℕ) → is_in White b ≡ true → may_be_white dots ≡ false → void_behind dots (b ∷ bs) ≡ false
-void-between zero b bs w m = cc
-void-between (suc zero) b bs w m = ap (λ t. (t && begins_with (codes ".") bs) && is_white (drop 1 bs)) (not-dot b w)
-void-between (suc (suc zero)) b bs w m = ap (λ t. (t && true) && is_white bs) (not-dot b w)
-void-between (suc (suc (suc n))) b bs w m = cc
-
 -- one dot more
 pub void-dot : (dots : ℕ) (bs : List ℕ) → dots < 3 → void_behind dots (46 ∷ bs) ≡ void_behind (dots + 1) bs
 void-dot zero bs h = ap (λ t. t || (begins_with (codes "..") bs && is_white (drop 2 bs))) (other-empty (length bs))
 void-dot (suc zero) bs h = refl
 void-dot (suc (suc zero)) bs h = refl
 void-dot (suc (suc (suc n))) bs h = absurd (omega arith)
-
--- no other byte, and no fourth dot
-pub void-other : (dots b : ℕ) (bs : List ℕ) → is_in White b ≡ false → (b == 46) ≡ false → void_behind dots (b ∷ bs) ≡ false
-void-other zero b bs w d =
-    ap (λ n. is_void_from (drop n (b ∷ bs))) (run-other b bs w)
-    ∙ (λ i. other-empty (length bs) i || ((d i && begins_with (codes "..") bs) && is_white (drop 2 bs)))
-void-other (suc zero) b bs w d = ap (λ t. (t && begins_with (codes ".") bs) && is_white (drop 1 bs)) d
-void-other (suc (suc zero)) b bs w d = ap (λ t. (t && true) && is_white bs) d
-void-other (suc (suc (suc n))) b bs w d = ap (λ k. k == length (b ∷ bs)) (run-other b bs w) ∙ zero-eq (length bs)
-
-pub void-fourth : (dots b : ℕ) (bs : List ℕ) → is_in White b ≡ false → 3 ≤ dots → void_behind dots (b ∷ bs) ≡ false
-void-fourth zero b bs w h = absurd (omega arith)
-void-fourth (suc zero) b bs w h = absurd (omega arith)
-void-fourth (suc (suc zero)) b bs w h = absurd (omega arith)
-void-fourth (suc (suc (suc n))) b bs w h = ap (λ k. k == length (b ∷ bs)) (run-other b bs w) ∙ zero-eq (length bs)
 
 uncoded-plain : (b : ℕ) (bs : List ℕ) → (b == 64) ≡ false → uncoded (b ∷ bs) ≡ b ∷ uncoded bs
 uncoded-plain b [] h = ap (λ t. if t then [] else b ∷ []) h

@@ -245,10 +245,6 @@ ready-settled : (lines : List MergedLine) (headed : Bool) (from : ℕ) (h : Held
 ready-settled lines headed from h r =
     settle-quiet h.pass.waiting lines headed from (length h.kept) h.pass.standing h.told r.section r.known r.waits r.ids r.total r.id
 
-quiet-ready : (from to count : ℕ) (s : Standing) (t : Told) → from ≤ to → IsQuiet from count s t
-    → (s.section ≤ to) × AreBefore to t.named.uses
-quiet-ready from to count s t le q = (omega (arith, q.section), before-more from to t.named.uses le q.before)
-
 ready-begin : (lines : List MergedLine) (from to : ℕ) (h : HeldState) → from ≤ to → IsReady from h → IsReady to (begun_held (ended_held lines h))
 ready-begin lines from to h le r =
     let q = ready-settled lines false from h r in

@@ -80,12 +80,6 @@ whole-refs i (entry ∷ line) =
     ∙ (text-refs entry.left entry.right entry.list (whole_from (suc i) line)
     ∙ ap (λ xs. entry.list.index ∷ xs) (whole-refs (suc i) line)))
 
-pub whole-short : (i : ℕ) (line : List LineEntry) → length (whole_from i line) ≤ 4 * length line
-whole-short i [] = omega arith
-whole-short i (entry ∷ line) =
-    let rest : length (whole_from (suc i) line) ≤ 4 * length line = whole-short (suc i) line in
-    omega (arith, ap length (whole-cons i entry line), length-append (separator i) (text_tokens entry.left entry.list entry.right ++ whole_from (suc i) line), length-append (text_tokens entry.left entry.list entry.right) (whole_from (suc i) line), separator-short i, text-short entry.left entry.right entry.list)
-
 module _ (lists : List (List Token)) where
   blank-tree : (i : ℕ) (line : List LineEntry) → tree_in (trees_from [] lists) (whole_from (suc i) line) ≡ blank_and_whole (scraps_of lists line)
   blank-tree i [] = refl

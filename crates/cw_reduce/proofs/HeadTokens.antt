@@ -1,17 +1,15 @@
 -- The tokens of heads: their names are names, they refer to no list, and read from text they end in text.
-use Rattle.std.proofs.Common.{◌≡◌, ℕ, zero, suc, ◌+◌, ◌<◌, ◌≤◌, Bool, true, false, not, nat_lt, Option, Some, None, List, [], ◌∷◌, ◌++◌, length, get_or, refl, sym, ap, ◌∙◌, subst, arith}
+use Rattle.std.proofs.Common.{◌≡◌, ℕ, ◌+◌, ◌<◌, ◌≤◌, Bool, true, false, not, nat_lt, Some, List, [], ◌∷◌, ◌++◌, length, refl, sym, ap, ◌∙◌, subst, arith}
 use Rattle.std.specs.Prelude.{if◌then◌else◌}
-use Rattle.std.specs.List.{list_all, All, slice_get}
-use Rattle.std.specs.Option.{option_to_list}
+use Rattle.std.specs.List.{list_all, slice_get}
 use Rattle.std.proofs.lemmas.Bool.{ltb-true}
 use Rattle.std.proofs.lemmas.List.{length-append}
 use Rattle.std.proofs.lemmas.List.Sums.{prefix_len-le-length}
 use Rattle.cw_base.proofs.TestLaws.{both-left, both-right}
 use Rattle.cw_base.specs.declared.category.Cat.{Cat}
-use Rattle.cw_base.specs.declared.category.Cat.TheVariants.{Dead, Exp}
-use Rattle.cw_base.specs.declared.flags.Flags.{Flags}
+use Rattle.cw_base.specs.declared.category.Cat.TheVariants.{Exp}
 use Rattle.cw_base.specs.declared.mode.MathMode.TheVariants.{Text}
-use Rattle.cw_lex.specs.Answers.{Answer, Seen}
+use Rattle.cw_lex.specs.Answers.{Seen}
 use Rattle.cw_lex.specs.declared.tokens.TokKind.{TokKind}
 use Rattle.cw_lex.specs.declared.tokens.TokKind.TheVariants as kind
 use Rattle.cw_names.specs.declared.NameId.{NameId}
@@ -22,24 +20,19 @@ use Rattle.cw_trees.specs.Joining.{scrap_agrees, reads}
 use Rattle.cw_trees.specs.Tree.{Tree}
 use Rattle.cw_tokens.specs.declared.token.Token.{Token}
 use Rattle.cw_tokens.specs.declared.token.Token.TheVariants as token
-use Rattle.cw_tokens.specs.References.{token_ref, IsTied}
-use Rattle.cw_tokens.specs.Shapes.{shape, ref_of, tree_in, trees_from, unfolded}
-use Rattle.cw_tokens.specs.Stored.{StoredLists}
-use Rattle.cw_tokens.proofs.Unfolding.{tree_in-same, unfolded-new}
-use Rattle.cw_scraps.specs.declared.leaves.Leaf.{Leaf}
-use Rattle.cw_scraps.specs.declared.line.LineEntry.{LineEntry}
-use Rattle.cw_scraps.specs.Changing.{Keeps}
-use Rattle.cw_scraps.specs.Leaves.{LeafForm, word_form, token_form, names_with, entry_of}
-use Rattle.cw_scraps.specs.Lines.{seen, roots_of, AreRoots, IsNamedBelow, IsSoundLine}
+use Rattle.cw_tokens.specs.References.{token_ref}
+use Rattle.cw_tokens.specs.Shapes.{tree_in}
+use Rattle.cw_tokens.proofs.Unfolding.{tree_in-same}
+use Rattle.cw_scraps.specs.Leaves.{word_form, token_form, names_with}
+use Rattle.cw_scraps.specs.Lines.{IsNamedBelow}
 use Rattle.cw_scraps.specs.Words.{is_word}
-use Rattle.cw_scraps.proofs.LeafForms.{IsGood, leaf-sound, length-entry}
+use Rattle.cw_scraps.proofs.LeafForms.{IsGood}
 use Rattle.cw_reduce.specs.Gathering.{refs_in}
-use Rattle.cw_reduce.specs.HeadReading.{IsLast, macro_tokens, format_tokens, with_break}
-use Rattle.cw_reduce.specs.Translating.{Known, spelled, form_tokens, word_tokens, first_word, later_words, dollared, dead, leaf_scrap}
-use Rattle.cw_reduce.proofs.GatherSteps.{refs-append, ref-place, AtPlace}
+use Rattle.cw_reduce.specs.HeadReading.{macro_tokens, format_tokens, with_break}
+use Rattle.cw_reduce.specs.Translating.{spelled, form_tokens, word_tokens, first_word, later_words, dollared, dead, leaf_scrap}
+use Rattle.cw_reduce.proofs.GatherSteps.{ref-place, AtPlace}
 use Rattle.cw_reduce.proofs.HeadAnswers.{word_kind}
-use Rattle.cw_reduce.proofs.LeafSteps.{names-grow, empty-line, keeps-itself}
-use Rattle.cw_reduce.proofs.OpenLaws.{plain-keeps}
+use Rattle.cw_reduce.proofs.LeafSteps.{names-grow}
 
 -- tokens that refer to no list, with names that are among so many
 abbrev pub IsNamed : ℕ → Token → Type 0
@@ -180,9 +173,6 @@ pub format-named : (count number : ℕ) (ts : List Token) → AreNamed count ts 
 format-named count number ts h = (tt, (tt, break-named count ts h))
 
 -- ## The scrap of a head
-
-abbrev pub dead_entry : LineEntry → Leaf
-dead_entry entry = record { list = entry.list; cat = entry.cat; left = entry.left; right = entry.right }
 
 module _ (count number : ℕ) (ts : List Token) (named : AreNamed count (dead number ts).tokens) (agrees : scrap_agrees (leaf_scrap (dead number ts))) where
   pub head-plain : (p x : ℕ) → token_ref (slice_get (dead number ts).tokens p) ≡ Some x → ⊥

@@ -1,21 +1,18 @@
 -- A translation on its way comes to the translation that is defined over the nest.
-use Rattle.std.proofs.Common.{◌≡◌, ℕ, true, false, Option, Some, None, List, [], ◌∷◌, ◌++◌, refl, sym, ◌∙◌, ap}
+use Rattle.std.proofs.Common.{◌≡◌, ℕ, Option, Some, None, List, [], ◌∷◌, ◌++◌, refl, sym, ◌∙◌, ap}
 use Rattle.std.proofs.lemmas.List.{append_assoc}
 use Rattle.cw_base.specs.declared.flags.Flags.{Flags}
 use Rattle.cw_lex.specs.Answers.{Answer, Token, Begin, Finish, Note, Seen}
 use Rattle.cw_lex.specs.declared.codes.Code.TheVariants as code
 use Rattle.cw_lex.specs.declared.tokens.TokKind.{TokKind}
 use Rattle.cw_lex.specs.declared.tokens.TokKind.TheVariants as kind
-use Rattle.cw_lex.specs.Heads.{Named, headed, headed_by, headless, named_headed, is_head_sign}
-use Rattle.cw_lex.specs.Nest.{Nest, End, Leaf, Group, leaf, group, nests, nest, first_nest}
-use Rattle.cw_lex.specs.Nested.{Level, InCode, InComment, after_token as level_token, after_begin as level_begin, after_finish as level_finish, levels_after, all_levels_after, IsNested}
-use Rattle.cw_names.specs.Names.{Entry}
+use Rattle.cw_lex.specs.Nest.{Nest, End, leaf, group, nests, nest, first_nest}
+use Rattle.cw_lex.specs.Nested.{Level, InCode, InComment, after_token as level_token, after_begin as level_begin, after_finish as level_finish, levels_after, all_levels_after}
 use Rattle.cw_trees.specs.Joining.{Scrap}
 use Rattle.cw_scraps.specs.Leaves.{LeafForm, token_form, names_with}
 use Rattle.cw_reduce.specs.declared.holders.Holder.TheVariants as holder
-use Rattle.cw_reduce.specs.Reading.{Frame, CText, Comment, with_scrap, with_item, with_form, Progress, extended, with_made, after_token, after_begin, after_finish, after_answers, all_ended, begun}
-use Rattle.cw_reduce.specs.Translating.{CommentItem, Piece, InnerText, comment_scrap, leaf_scrap, Known, Made, nothing, one_item, beside, before, end_of, as_item, form_made, with_names, token_made, group_made, made, no_name, plain_text, headed_made, begin, translated, unnamed}
-use Rattle.cw_lex.proofs.NoDefinitions.{is_definition, begins_definition}
+use Rattle.cw_reduce.specs.Reading.{Frame, CText, Comment, with_scrap, with_item, with_form, Progress, extended, with_made, after_token, after_begin, after_finish, after_answers}
+use Rattle.cw_reduce.specs.Translating.{CommentItem, Piece, InnerText, comment_scrap, leaf_scrap, Known, Made, nothing, one_item, beside, before, end_of, as_item, form_made, with_names, token_made, group_made, made, no_name}
 use Rattle.cw_reduce.proofs.NestSizes.{SameSize, some-levels, first-levels, nests-size}
 
 pub append-none : {A : Type 0} (xs : List A) → xs ++ [] ≡ xs
@@ -179,40 +176,3 @@ pub one-nest : (flags : Flags) (name : ℕ → Known → Made) (ns : List Nest) 
 one-nest flags name [] a s = absurd s
 one-nest flags name (n ∷ []) a s = refl
 one-nest flags name (n ∷ m ∷ ns) a s = absurd s
-
-pub plain-translation : (flags : Flags) (answers : List Answer) (names : List Entry) (marks : List ℕ) → IsNested answers → all_ended flags (after_answers flags answers (begun names marks)) ≡ plain_text flags answers (begin names marks)
-plain-translation flags answers names marks nested =
-    ap (all_ended flags) (run-all flags answers (InCode ∷ []) (begun names marks) nested ∙ one-nest flags no_name (nests answers) (begun names marks) (nests-size answers (InCode ∷ []) nested))
-
--- The head of a text, where no section name stands for anything and no definition begins.
-nothing-before : (flags : Flags) (k : TokKind) (token : Seen) (rest : Nest) (known : Known) → token.kind ≡ k → token_made no_name k token known ≡ nothing known → made flags no_name (Leaf token rest) known ≡ made flags no_name rest known
-nothing-before flags k token rest known e h =
-    ap (λ j. before (token_made no_name j token known) (made flags no_name rest)) e ∙ ap (λ m. before m (made flags no_name rest)) h
-
-sign-passed : (flags : Flags) (k j : TokKind) (name sign : Seen) (rest : Nest) (known : Known) → sign.kind ≡ k → name.kind ≡ j → token_made no_name j name known ≡ nothing known
-    → headed_made flags unnamed (elim (is_head_sign k) [ true ↦ record { head = Named name.span.start sign.span.start; rest = rest } | false ↦ headless (Leaf name (Leaf sign rest)) ]) known ≡ made flags no_name (Leaf name (Leaf sign rest)) known
-sign-passed flags kind.HeadSign j name sign rest known e n h = sym (nothing-before flags j name (Leaf sign rest) known n h ∙ nothing-before flags kind.HeadSign sign rest known e refl)
-sign-passed flags k j name sign rest known e n h = refl
-
-named-passed : (flags : Flags) (j : TokKind) (name : Seen) (rest : Nest) (known : Known) → name.kind ≡ j → token_made no_name j name known ≡ nothing known → headed_made flags unnamed (named_headed name rest) known ≡ made flags no_name (Leaf name rest) known
-named-passed flags j name End known n h = refl
-named-passed flags j name (Group token inner rest) known n h = refl
-named-passed flags j name (Leaf sign rest) known n h = sign-passed flags sign.kind j name sign rest known refl n h
-
-by-kind : (flags : Flags) (k : TokKind) (token : Seen) (rest : Nest) (known : Known) → token.kind ≡ k → is_definition k ≡ false → headed_made flags unnamed (headed_by k token rest) known ≡ made flags no_name (Leaf token rest) known
-by-kind flags (kind.Code code.Define) token rest known e h = absurd cc
-by-kind flags (kind.Code code.Format) token rest known e h = absurd cc
-by-kind flags (kind.Code code.SilentFormat) token rest known e h = absurd cc
-by-kind flags (kind.Code code.SectionName) token rest known e h = named-passed flags (kind.Code code.SectionName) token rest known e refl
-by-kind flags (kind.Code code.FileName) token rest known e h = named-passed flags (kind.Code code.FileName) token rest known e refl
-by-kind flags k token rest known e h = refl
-
-head-passed : (flags : Flags) (n : Nest) (known : Known) → begins_definition n ≡ false → headed_made flags unnamed (headed n) known ≡ made flags no_name n known
-head-passed flags End known h = refl
-head-passed flags (Group token inner rest) known h = refl
-head-passed flags (Leaf token rest) known h = by-kind flags token.kind token rest known refl h
-
-pub whole-translation : (flags : Flags) (answers : List Answer) (names : List Entry) (marks : List ℕ) → IsNested answers → begins_definition (nest answers) ≡ false → all_ended flags (after_answers flags answers (begun names marks)) ≡ translated flags unnamed answers names marks
-unfolding translated
-whole-translation flags answers names marks nested h =
-    plain-translation flags answers names marks nested ∙ ap (end_of flags) (sym (head-passed flags (nest answers) (begin names marks) h))

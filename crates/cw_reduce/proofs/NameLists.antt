@@ -1,8 +1,8 @@
 -- How the list of a section name is built, one inner text after the other.
-use Rattle.std.proofs.Common.{◌≡◌, ℕ, ◌+◌, ◌<◌, ◌≤◌, Option, Some, None, List, [], ◌∷◌, ◌++◌, length, map, drop, get_or, refl, sym, ap, ◌∙◌, subst, option_map, arith}
+use Rattle.std.proofs.Common.{◌≡◌, ℕ, ◌+◌, ◌<◌, ◌≤◌, Option, Some, None, List, [], ◌∷◌, ◌++◌, length, map, drop, get_or, refl, sym, ap, ◌∙◌, subst, option_map}
 use Rattle.std.specs.Option.{option_to_list}
 use Rattle.std.proofs.lemmas.List.{append-nil, append_assoc, drop_more, drop_all}
-use Rattle.cw_base.specs.declared.mode.MathMode.TheVariants.{Text, Maybe}
+use Rattle.cw_base.specs.declared.mode.MathMode.TheVariants.{Maybe}
 use Rattle.cw_trees.specs.declared.Control.TheVariants as control
 use Rattle.cw_trees.specs.Tree.{Then, Inner, Source, Sign}
 use Rattle.cw_tokens.specs.declared.token.Token.{Token}
@@ -30,10 +30,6 @@ name_tokens number sign parts = source number Maybe ∷ (name_parts parts ++ nam
 -- those of the parts from one on
 abbrev pub name_from : ℕ → Option ℕ → List CommentPart → List Token
 name_from i sign parts = name_parts (drop i parts) ++ name_end sign
-
-pub part-short : (p : CommentPart) → length (name_part p) ≤ 2
-part-short (part.Piece number) = omega arith
-part-short (part.InnerText list) = omega arith
 
 -- the lists to which they refer
 part-refs : (p : CommentPart) (ts : List Token) → refs_in (name_part p ++ ts) ≡ option_to_list (ref_of (shape (token_of p))) ++ refs_in ts

@@ -6,7 +6,7 @@ use Rattle.std.proofs.lemmas.List.Elements.{All-cons, All-head, All-tail}
 use Rattle.std.proofs.lemmas.Option.{get_or_from_slice_get, slice_get_within}
 use Rattle.cw_base.specs.declared.flags.Flags.{Flags}
 use Rattle.cw_base.specs.declared.span.Span.{Span}
-use Rattle.cw_lex.specs.Answers.{Answer, Seen, Token, Begin, Finish, Note, Gives, seen}
+use Rattle.cw_lex.specs.Answers.{Answer, Seen, Token, Begin, Finish, Note, Gives}
 use Rattle.cw_lex.specs.Lexing.{tokens_of}
 use Rattle.cw_lex.specs.Nested.{until_section}
 use Rattle.cw_lex.specs.declared.codes.Code.TheVariants as code
@@ -25,21 +25,20 @@ use Rattle.cw_tokens.specs.declared.token.Token.{Token as StoredToken}
 use Rattle.cw_tokens.specs.Stored.{StoredLists}
 use Rattle.cw_scraps.specs.Changing.{Keeps}
 use Rattle.cw_scraps.specs.Lines.{AreRoots}
-use Rattle.cw_scraps.specs.Marking.{MarkList, marked_names}
+use Rattle.cw_scraps.specs.Marking.{MarkList}
 use Rattle.cw_reduce.specs.declared.holders.Holder.{Holder}
 use Rattle.cw_reduce.specs.declared.holders.Holder.TheVariants as holder
 use Rattle.cw_reduce.specs.declared.nesting.Open.TheVariants.{CText, Comment}
 use Rattle.cw_reduce.specs.declared.translating.Translator.{Translator}
 use Rattle.cw_reduce.specs.Counting.{limit_in, productions_in, scraps_in}
 use Rattle.cw_reduce.specs.NameParts.{AreNamesOf, name_texts, parts_by_kind, texts_kept, texts_of_name}
-use Rattle.cw_reduce.specs.Naming.{held_answers, is_name_answer, is_name_kind, name_answers, text_answers, text_token, texts_answers, token_answers, with_texts}
+use Rattle.cw_reduce.specs.Naming.{held_answers, is_name_kind, name_answers, text_answers, text_token, texts_answers, token_answers, with_texts}
 use Rattle.cw_reduce.specs.Opening.{all_roots, answers_in, frames_of, IsSoundFrame, IsTranslating, progress_of, HasCome}
 use Rattle.cw_reduce.specs.Reading.{Progress, after_token, after_begin, after_answers, with_held}
 use Rattle.cw_reduce.specs.Reading.{Comment as CommentFrame}
 use Rattle.cw_reduce.specs.Retyping.{NamesAmong, NamesOnTheWay, later}
 use Rattle.cw_reduce.specs.Translating.{NameTexts}
 use Rattle.cw_reduce.proofs.AnswerSteps.{Reads, reads-start, reads-more, reads-fails, reads-few, begin-steps, begin-come, gives-is, stay-come}
-use Rattle.cw_reduce.proofs.FinishSteps.{same-names}
 use Rattle.cw_reduce.proofs.LeafSteps.{Steps, keeps-itself}
 
 -- An inner text has begun.
@@ -227,19 +226,6 @@ module _ (kept : List SecName) (uses : List NameUse) (token : Seen) (named : is_
     paired-fails flags p entries h = subst (λ xs. NamesAmong flags xs p entries) (sym answers-are)
         (λ coming. later (Begin token) (held_texts ++ coming) p entries (subst (λ q. NamesOnTheWay flags (held_texts ++ coming) q entries) (sym (name-begins token.kind token.span.start p named)) (h coming)))
 
--- Other answers are as they are.
-pub other-answers : (named : NameTexts) (answer : Lexed) → is_name_answer answer ≡ false → with_texts named (answers_in answer) ≡ answers_in answer
-other-answers named (lexed.Token token) h = other token.kind (seen token) h
-  where
-    other : (k : TokKind) (t : Seen) → is_name_kind k ≡ false → token_answers named k t ++ [] ≡ Token t ∷ []
-    other (kind.Code code.SectionName) t e = absurd cc
-    other (kind.Code code.FileName) t e = absurd cc
-    other _ t e = refl
-other-answers named (lexed.Begin token) h = refl
-other-answers named (lexed.Finish token) h = refl
-other-answers named (lexed.Note note place) h = refl
-other-answers named lexed.End h = refl
-
 pub with-texts-append : (named : NameTexts) (xs ys : List Answer) → with_texts named (xs ++ ys) ≡ with_texts named xs ++ with_texts named ys
 with-texts-append named [] ys = refl
 with-texts-append named (Token token ∷ xs) ys =
@@ -250,9 +236,3 @@ with-texts-append named (Note note place ∷ xs) ys = ap (λ zs. Note note place
 
 pub with-texts-next : (named : NameTexts) (old new : List Answer) (answer : Lexed) → Gives old answer new → with_texts named old ≡ with_texts named (answers_in answer) ++ with_texts named new
 with-texts-next named old new answer g = ap (with_texts named) (gives-is old new answer g) ∙ with-texts-append named (answers_in answer) new
-
--- Where no name stands in a text, none needs to be kept.
-pub none-kept : (kept : List SecName) (uses : List NameUse) → kept ≡ [] → uses ≡ [] → AreNamesOf kept uses
-none-kept [] [] a b = record { among = λ i d h. absurd (omega arith); short = λ i d h. absurd (omega arith) }
-none-kept (name ∷ kept) uses a b = absurd cc
-none-kept [] (u ∷ uses) a b = absurd cc

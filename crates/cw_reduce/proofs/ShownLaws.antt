@@ -31,7 +31,7 @@ use Rattle.cw_reduce.specs.Translating.{leaf_scrap, CommentItem, Piece, InnerTex
 use Rattle.cw_reduce.specs.Visible.{is_shown, is_shown_code, is_comment, number_if}
 use Rattle.cw_lex.specs.Nest.{Nest, End, Leaf, Group}
 use Rattle.cw_reduce.specs.Visible.{shown_token, shown_in}
-use Rattle.cw_reduce.specs.Translating.{Known, Made, beside, state_in, end_from, end_of, form_made, token_made, group_made, made, plain_text, texts_made, texts_named, leaf_of_name}
+use Rattle.cw_reduce.specs.Translating.{Known, Made, beside, state_in, end_from, end_of, form_made, token_made, group_made, made, plain_text, texts_made, texts_named}
 
 pub append-none : (ns : List ℕ) → ns ++ [] ≡ ns
 append-none [] = refl
@@ -200,9 +200,3 @@ struck-parts flags (part ∷ parts) rest known = struck-parts flags parts rest (
 pub shows-name : (flags : Flags) (o : Option (List (List Answer))) (number : ℕ) (known : Known) → Shows false (texts_named flags o SectionScrap Maybe Empty number known) (number_if (is_some o) number)
 shows-name flags None number known = record { fine = refl; numbers_are = refl }
 shows-name flags (Some parts) number known = record { fine = refl; numbers_are = ap (λ ns. number ∷ (ns ++ [])) (struck-parts flags parts (Then (Sign control.NameEnd) Empty) known) }
-
-pub text-shown : (flags : Flags) (named : ℕ → Option (List (List Answer))) (nest : Nest) (known : Known) → IsWell false nest → struck (end_of flags (made flags (leaf_of_name flags named) nest known)).tree ≡ shown_in (λ n. is_some (named n)) nest
-text-shown flags named nest known w =
-    let m = made flags (leaf_of_name flags named) nest known in
-    let s = shows-made flags (λ n. is_some (named n)) (leaf_of_name flags named) (λ number k. shows-name flags (named number) number k) nest false known w in
-    struck-end flags m.scraps m.known s.fine ∙ s.numbers_are

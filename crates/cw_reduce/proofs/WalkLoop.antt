@@ -1,5 +1,5 @@
 -- The loop of the reducer, over a line in its store.
-use Rattle.std.proofs.Common.{◌≡◌, ℕ, ◌+◌, ◌-◌, ◌*◌, ◌^◌, ◌<◌, ◌≤◌, true, None, List, length, drop, refl, sym, ◌∙◌, ap, arith}
+use Rattle.std.proofs.Common.{◌≡◌, ℕ, ◌+◌, ◌-◌, ◌*◌, ◌^◌, ◌<◌, ◌≤◌, true, None, List, length, drop, sym, ◌∙◌, ap, arith}
 use Rattle.cw_base.specs.declared.flags.Flags.{Flags}
 use Rattle.cw_names.specs.Names.{Entry}
 use Rattle.cw_table.specs.Fitting.{row_fits, first_of}
@@ -28,7 +28,7 @@ use Rattle.cw_scraps.proofs.Applied.{keeps-trans}
 use Rattle.cw_scraps.proofs.Productions.{cats-same}
 use Rattle.cw_scraps.proofs.Reservings.{length-scraps}
 use Rattle.cw_reduce.specs.Reduction.{GrowsByProductions, IsFirst, words_of}
-use Rattle.cw_reduce.proofs.WalkSteps.{Walks, walk-starts, Rewrites, rewrites, GoesOn, goes-on, WalkEnds, walk-ends, walk-reaches}
+use Rattle.cw_reduce.proofs.WalkSteps.{Walks, Rewrites, rewrites, GoesOn, goes-on, WalkEnds, walk-ends, walk-reaches}
 
 -- what holds at each turn; the first values are those with which the reducer was called
 pub record InLoop (f : Flags) (line0 : List LineEntry) (store0 : StoredLists) (names0 : List Entry) (marks0 : MarkList) (steps0 : ℕ) (line : List LineEntry) (store : StoredLists) (names : List Entry) (marks : MarkList) (steps place done : ℕ) : Type 0 where
@@ -111,13 +111,3 @@ module _ (f : Flags) (line0 : List LineEntry) (store0 : StoredLists) (names0 : L
 
   pub few : length line ≤ place → done ≤ 8 * length line0
   few past = omega (arith, (ends past).number, count-most productions f (state_of store0.lists line0 marks0 names0), length-scraps store0.lists line0)
-
-pub loop-starts : (f : Flags) (line : List LineEntry) (store : StoredLists) (names : List Entry) (marks : MarkList) (steps : ℕ) → IsSoundLine store names line → length line < 2 ^ 60 → InLoop f line store names marks steps line store names marks steps 0 0
-loop-starts f line store names marks steps sound short = record {
-  walks = walk-starts f (state_of store.lists line marks names) steps sound.fine;
-  sound = sound;
-  keeps = record { lists = λ k out. refl; trees = λ k out. refl; outside = λ k out. out; free = λ k out unreferred. unreferred };
-  words = refl;
-  grown = omega arith;
-  short = short;
-}

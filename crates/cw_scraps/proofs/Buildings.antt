@@ -1,6 +1,6 @@
 -- One piece more goes into the list that is being built.
 use Rattle.std.proofs.Common.{◌≡◌, ℕ, zero, suc, ◌+◌, ◌-◌, ◌*◌, ◌<◌, ◌≤◌, List, [], ◌∷◌, ◌++◌, length, map, drop, get_or, Option, Some, None, inl, inr, refl, sym, ap, ◌∙◌, subst, option_map, arith}
-use Rattle.std.proofs.lemmas.List.{append_assoc, append-nil, length-append, length-drop, length_push, drop_more, drop_all}
+use Rattle.std.proofs.lemmas.List.{append_assoc, append-nil, length-append, length_push, drop_more}
 use Rattle.std.proofs.lemmas.Option.{get_or_from_slice_get}
 use Rattle.std.specs.Prelude.{slice_get}
 use Rattle.cw_base.specs.declared.mode.MathMode.{MathMode}
@@ -268,28 +268,8 @@ joins-within lists entries pieces spare i left mode store j p at roots place cou
 pub piece-at : (ps : List Piece) (i : ℕ) (p : Piece) → i < length ps → slice_get ps i ≡ Some p → drop i ps ≡ p ∷ drop (i + 1) ps
 piece-at ps i p h at = drop_more ps i p h ∙ ap (λ q. q ∷ drop (i + 1) ps) (get_or_from_slice_get ps i p p at)
 
--- where something is read of a place on, the line is that long
-pub long-drop : (line : List LineEntry) (place : ℕ) → 0 < length (drop place line) → length line ≡ place + length (drop place line)
-long-drop line place h = omega (arith, length-drop place line)
-
 -- a list that is done
 pub record JoinsEnd (lists : List (List Token)) (entries : List LineEntry) (pieces : List Piece) (spare : ℕ) (left mode : MathMode) (store : StoredLists) : Type 0 where
   pub built : store.building ≡ Some (tokens_of Maybe (map (inserting entries) pieces))
   pub left_is : left ≡ left_of (map (inserting entries) pieces)
   pub right_is : mode ≡ right_after Maybe (map (inserting entries) pieces)
-
-pub joins-end : (lists : List (List Token)) (entries : List LineEntry) (pieces : List Piece) (spare i : ℕ) (left mode : MathMode) (store : StoredLists) → Joins lists entries pieces spare i left mode store → length pieces ≤ i
-    → JoinsEnd lists entries pieces spare left mode store
-joins-end lists entries pieces spare i left mode store j h =
-    let none : drop i pieces ≡ [] = drop_all i pieces h in
-    let all : j.done ≡ tokens_of Maybe (map (inserting entries) pieces) = sym (append-nil j.done) ∙ (ap (λ ps. j.done ++ tokens_of mode (map (inserting entries) ps)) (sym none) ∙ j.tokens) in
-    record {
-      built = j.is ∙ ap Some all;
-      left_is = sym (first-none left) ∙ (ap (λ ps. first_mode left (left_of (map (inserting entries) ps))) (sym none) ∙ j.left_is);
-      right_is = ap (λ ps. right_after mode (map (inserting entries) ps)) (sym none) ∙ j.right_is;
-    }
-  where
-    first-none : (a : MathMode) → first_mode a Maybe ≡ a
-    first-none Maybe = refl
-    first-none Text = refl
-    first-none Math = refl

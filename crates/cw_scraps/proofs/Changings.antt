@@ -2,7 +2,7 @@
 use Rattle.std.proofs.Common.{◌≡◌, ℕ, zero, suc, ◌<◌, ◌≤◌, List, [], ◌∷◌, length, get_or, None, inl, inr, refl, sym, ap, ◌∙◌, subst, arith}
 use Rattle.cw_tokens.specs.declared.token.Token.{Token}
 use Rattle.cw_tokens.specs.Shapes.{unfolded}
-use Rattle.cw_tokens.specs.References.{refers, IsTied, IsUnreferred, Reach, here, next}
+use Rattle.cw_tokens.specs.References.{refers, IsTied, Reach, here, next}
 use Rattle.cw_tokens.specs.Reserving.{Reserves}
 use Rattle.cw_tokens.specs.Stored.{StoredLists, all_lists, with_built}
 use Rattle.cw_tokens.proofs.Unfolding.{unfolded-same, reach-le, reach-trans}
@@ -36,13 +36,6 @@ outside-stay old new rs ts k ch o = record {
   there = let a : k < length old = o.there in let e : length new ≡ length old = ch.same_length in omega arith;
   above = λ i h r. o.above i h (reach-back old new ch.same_refs k (get_or rs i 0) r);
   below = λ i h r. o.below i h (reach-back old new ch.same_refs (get_or rs i 0) k r);
-}
-
-pub outside-back : (old new : List (List Token)) (rs ts : List ℕ) (k : ℕ) → Changes old new ts → IsOutside new rs k → IsOutside old rs k
-outside-back old new rs ts k ch o = record {
-  there = let a : k < length new = o.there in let e : length new ≡ length old = ch.same_length in omega arith;
-  above = λ i h r. o.above i h (reach-same old new ch.same_refs k (get_or rs i 0) r);
-  below = λ i h r. o.below i h (reach-same old new ch.same_refs (get_or rs i 0) k r);
 }
 
 pub outside-reach : (ls : List (List Token)) (rs : List ℕ) (k j : ℕ) → IsTied ls → IsOutside ls rs k → Reach ls k j → IsOutside ls rs j
@@ -98,14 +91,6 @@ root-outside ls rs i m tied roots hi hm apart = record {
     two : (j : ℕ) → j < length (get_or rs i 0 ∷ []) → Reach ls (get_or (get_or rs i 0 ∷ []) j 0) (get_or rs m 0) → Reach ls (get_or rs i 0) (get_or rs m 0)
     two zero g r = r
     two (suc j) g r = absurd (omega arith)
-
--- a list to which nothing refers stands outside a line to which it does not belong
-pub other-outside : (ls : List (List Token)) (rs : List ℕ) (k : ℕ) → IsTied ls → AreRoots ls rs → k < length ls → IsUnreferred ls k → ((i : ℕ) → i < length rs → k ≡ get_or rs i 0 → ⊥) → IsOutside ls rs k
-other-outside ls rs k tied roots inside free apart = record {
-  there = inside;
-  above = λ i h r. apart i h (unreferred-reach ls tied k (get_or rs i 0) (roots.free i h) r);
-  below = λ i h r. apart i h (sym (unreferred-reach ls tied (get_or rs i 0) k free r));
-}
 
 pub reserves-changes : (old new : List (List Token)) (root : ℕ) → Reserves old new root → Changes old new (root ∷ [])
 reserves-changes old new root r = record {

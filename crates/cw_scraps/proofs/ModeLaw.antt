@@ -44,11 +44,6 @@ maybe-reads tree Maybe h m = h m
 maybe-reads tree Text h m = absurd h
 maybe-reads tree Math h m = absurd h
 
-maybe-right : (tree : Tree) (r : MathMode) → Agrees tree Maybe r → r ≡ Maybe
-maybe-right tree Maybe h = refl
-maybe-right tree Text h = absurd h
-maybe-right tree Math h = absurd h
-
 pub agrees-same : (a b : Tree) (l r : MathMode) → ((m : MathMode) → reads a m ≡ reads b m) → Agrees b l r → Agrees a l r
 agrees-same a b Maybe Maybe e h = λ m. e m ∙ h m
 agrees-same a b Maybe Text e h = h

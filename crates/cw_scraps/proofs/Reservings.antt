@@ -14,7 +14,7 @@ use Rattle.cw_scraps.specs.Lines.{seen, scraps_of, roots_of, no_entry, AreRoots,
 use Rattle.cw_scraps.specs.Changing.{Changes}
 use Rattle.cw_scraps.specs.Turning.{named_by, Turns}
 use Rattle.cw_scraps.proofs.Buildings.{root-entry, length-roots}
-use Rattle.cw_scraps.proofs.Changings.{changes-none, changes-trans, changes-more, roots-stay, root-outside, trees-outside, reserves-changes, seen-same, tied-same}
+use Rattle.cw_scraps.proofs.Changings.{changes-trans, changes-more, roots-stay, root-outside, trees-outside, reserves-changes, seen-same, tied-same}
 
 pub length-scraps : (lists : List (List Token)) (line : List LineEntry) → length (scraps_of lists line) ≡ length line
 length-scraps lists [] = refl
@@ -115,14 +115,6 @@ module _ (name : Option NameId) (old_lists : List (List Token)) (old : List Line
           go [] n e = refl
           go (x ∷ es) zero e = ap (λ r. r ∷ roots_of es) e
           go (x ∷ es) (suc n) e = ap (λ rs. x.list.index ∷ rs) (go es n e)
-
-pub turns-start : (name : Option NameId) (lists : List (List Token)) (line : List LineEntry) (start : ℕ) → Turns name lists line start start lists line
-turns-start name lists line start = record {
-  done = λ m a b. absurd (omega arith);
-  same = λ m h o. refl;
-  roots = refl;
-  changes = changes-none lists (roots_of line);
-}
 
 pub turns-end : (name : Option NameId) (old_lists : List (List Token)) (old : List LineEntry) (start i : ℕ) (lists : List (List Token)) (line : List LineEntry) → Turns name old_lists old start i lists line → start ≤ length old → length old ≤ i
     → scraps_of lists line ≡ take start (scraps_of old_lists old) ++ map (named_by name) (drop start (scraps_of old_lists old))

@@ -13,16 +13,9 @@ use Rattle.cw_secnames.specs.Inside.{name_of}
 use Rattle.std.specs.Prelude.{slice_set}
 use Rattle.std.specs.Global.{Vec}
 
-place-map : (test : SecName → Bool) (xs : List Kept) → position_or_len test (map name_of xs) ≡ position_or_len (λ x. test (name_of x)) xs
-place-map test [] = refl
-place-map test (x ∷ xs) = ap (λ n. cond (not (test (name_of x))) (1 + n) 0) (place-map test xs)
-
 pub length-named : (xs : List Kept) → length (map name_of xs) ≡ length xs
 length-named [] = refl
 length-named (x ∷ xs) = ap suc (length-named xs)
-
-pub position-map : (test : SecName → Bool) (xs : List Kept) → position test (map name_of xs) ≡ position (λ x. test (name_of x)) xs
-position-map test xs = rw (place-map test xs, length-named xs) refl
 
 pub with_text-map : (xs : List Kept) (i : ℕ) (d old : Kept) (t : Vec ℕ) (text : List ℕ) (complete : Bool)
     → old ≡ get_or xs i d → t.items ≡ text
@@ -31,27 +24,12 @@ with_text-map [] i d old t text complete same h = refl
 with_text-map (x ∷ xs) zero d old t text complete same h = rw (same, h) refl
 with_text-map (x ∷ xs) (suc i) d old t text complete same h = ap (λ rest. name_of x ∷ rest) (with_text-map xs i d old t text complete same h)
 
-pub drop-named : (i : ℕ) (xs : List Kept) → drop i (map name_of xs) ≡ map name_of (drop i xs)
-drop-named zero xs = refl
-drop-named (suc i) [] = refl
-drop-named (suc i) (x ∷ xs) = drop-named i xs
-
 -- ## A name changed in memory
 
 pub length-with_text : (i : ℕ) (text : List ℕ) (complete : Bool) (names : List SecName) → length (with_text i text complete names) ≡ length names
 length-with_text i text complete [] = refl
 length-with_text zero text complete (n ∷ names) = refl
 length-with_text (suc i) text complete (n ∷ names) = ap suc (length-with_text i text complete names)
-
-length-by : (t : Bool) (prefix : List ℕ) (n : SecName) (names : List SecName)
-    → length (elim t as (λ _. List SecName) [ true ↦ record n { text = prefix } ∷ names | false ↦ n ∷ names ]) ≡ suc (length names)
-length-by true prefix n names = refl
-length-by false prefix n names = refl
-
-pub length-grown : (prefix : List ℕ) (i : ℕ) (names : List SecName) → length (grown prefix i names) ≡ length names
-length-grown prefix i [] = refl
-length-grown prefix zero (n ∷ names) = length-by (is_shorter prefix n) prefix n names
-length-grown prefix (suc i) (n ∷ names) = ap suc (length-grown prefix i names)
 
 pub length-with_reference : (i : ℕ) (how : RefKind) (section : ℕ) (names : List SecName) → length (with_reference i how section names) ≡ length names
 length-with_reference i how section [] = refl
@@ -185,9 +163,6 @@ earliest-several test names i j h more =
     sym (ap earliest ((found-first test names 0 i h).positions ∙
     (ap (λ m. m ∷ positions_from (m + 1) test (drop (i + 1) names)) (zero-add i) ∙
     ap (λ rest. i ∷ rest) (found-first test (drop (i + 1) names) (i + 1) j more).positions)))
-
-pub found-below : (test : SecName → Bool) (names : List SecName) (i : ℕ) → position test names ≡ Some i → i < length names
-found-below test names i h = (found-first test names 0 i h).below
 
 -- ## The next one from a position on
 

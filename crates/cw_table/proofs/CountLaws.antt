@@ -118,10 +118,6 @@ none-looks rows f (suc n) st e = ap (λ (p : Place). elim p [ Nowhere ↦ 0 | At
 one-looks : (rows : List Row) (f : Flags) (n i : ℕ) (r : Row) (st : State) → next_place rows st ≡ At i r → looks_of rows f (suc n) st ≡ right_of_new f r i st + looks_of rows f n (rewrite f r i st)
 one-looks rows f n i r st e = ap (λ (p : Place). elim p [ Nowhere ↦ 0 | At j q ↦ right_of_new f q j st + looks_of rows f n (rewrite f q j st) ]) e
 
-none-reservings : (rows : List Row) (f : Flags) (n : ℕ) (st : State) → next_place rows st ≡ Nowhere → reservings_of rows f n st ≡ 0
-none-reservings rows f zero st e = refl
-none-reservings rows f (suc n) st e = ap (λ (p : Place). elim p [ Nowhere ↦ 0 | At i r ↦ where_reserving r.action.reserve 1 + reservings_of rows f n (rewrite f r i st) ]) e
-
 one-reservings : (rows : List Row) (f : Flags) (n i : ℕ) (r : Row) (st : State) → next_place rows st ≡ At i r → reservings_of rows f (suc n) st ≡ where_reserving r.action.reserve 1 + reservings_of rows f n (rewrite f r i st)
 one-reservings rows f n i r st e = ap (λ (p : Place). elim p [ Nowhere ↦ 0 | At j q ↦ where_reserving q.action.reserve 1 + reservings_of rows f n (rewrite f q j st) ]) e
 

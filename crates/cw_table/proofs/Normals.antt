@@ -53,15 +53,6 @@ least-at rows first (c ∷ cs) place row h = go (λ k. least-at rows (suc first)
         below l e zero less = e
         below l e (suc k) less = l.none k (omega arith)
 
-pub least-none : (rows : List Row) (first : ℕ) (cs : List Cat) → least_place rows first cs ≡ Nowhere → (k : ℕ) → k < length cs → first_of rows (drop k cs) ≡ None
-least-none rows first [] h k less = absurd (omega arith)
-least-none rows first (c ∷ cs) h k less = go (λ m n. least-none rows (suc first) cs m n) (first_of rows (c ∷ cs)) refl h k less
-  where
-    go : (least_place rows (suc first) cs ≡ Nowhere → (n : ℕ) → n < length cs → first_of rows (drop n cs) ≡ None) → (o : Option Row) → first_of rows (c ∷ cs) ≡ o → elim o [ Some r ↦ At first r | None ↦ least_place rows (suc first) cs ] ≡ Nowhere → (n : ℕ) → n < suc (length cs) → first_of rows (drop n (c ∷ cs)) ≡ None
-    go rec (Some r) e h n less = cc
-    go rec None e h zero less = e
-    go rec None e h (suc n) less = rec h n (omega arith)
-
 -- A production at the least place.
 pub record Takes (rows : List Row) (f : Flags) (st : State) (i : ℕ) (r : Row) : Type 0 where
   pub is_sound : IsSound r

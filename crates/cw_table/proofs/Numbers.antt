@@ -1,14 +1,12 @@
 -- Rows that are numbered one after the other.
-use Rattle.std.proofs.Common.{◌≡◌, ◌<◌, ◌≤◌, ◌+◌, ◌-◌, ◌∙◌, sym, ap, ℕ, zero, suc, List, [], ◌∷◌, length, get_or, Option, Some, None, Bool, true, false, eqb, refl, arith, eq-eqb}
+use Rattle.std.proofs.Common.{◌≡◌, ◌<◌, ◌≤◌, ◌+◌, ◌-◌, ◌∙◌, sym, ap, ℕ, zero, suc, List, [], ◌∷◌, length, get_or, Some, Bool, true, false, eqb, refl, arith, eq-eqb}
 use Rattle.std.proofs.lemmas.Bool.{eqb-true, ne_eqb}
 use Rattle.std.specs.Prelude.{slice_get}
 use Rattle.std.specs.List.{list_all}
 use Rattle.cw_base.proofs.CategoryLaws.{each-of}
 use Rattle.cw_base.proofs.TestLaws.{both-left, both-right}
-use Rattle.std.specs.Option.{option_map}
 use Rattle.cw_base.specs.declared.category.Cat.{Cat}
 use Rattle.cw_table.specs.declared.types.Row.{Row}
-use Rattle.cw_table.specs.declared.types.RowNo.{RowNo}
 use Rattle.cw_table.specs.Fitting.{first_of, row_fits}
 use Rattle.cw_table.proofs.FirstLaws.{first-behind, first-here}
 use Rattle.cw_table.specs.Productions.{productions}
@@ -46,13 +44,6 @@ pub numbered-sound : (rows : List Row) (i : ℕ) (d : Row) → rows ≡ producti
 numbered-sound rows i d is lt =
     each-of row_is_sound rows i (get_or rows i d) (ap (list_all row_is_sound) is ∙ productions-sound) (slice_get-get_or rows i d lt)
 
--- the rows that are numbered from one on have no lower number
-numbered-above : (rows : List Row) (first n : ℕ) → are_numbered first rows ≡ true → n < first → row_numbered rows n ≡ None
-numbered-above [] first n numbered lt = refl
-numbered-above (r ∷ rows) first n numbered lt =
-    let is : r.number.number ≡ first = eqb-true _ _ (both-left _ _ numbered) in
-    behind r rows n (ne_eqb _ _ (omega arith)) ∙ numbered-above rows (suc first) n (both-right _ _ numbered) (omega arith)
-
 -- the first row that fits is the row of its number
 pub first-numbered : (rows : List Row) (first : ℕ) (cats : List Cat) (row : Row) → are_numbered first rows ≡ true → first_of rows cats ≡ Some row → (first ≤ row.number.number) × (row_numbered rows row.number.number ≡ Some row)
 first-numbered [] first cats row numbered e = absurd cc
@@ -72,14 +63,3 @@ first-numbered (r ∷ rows) first cats row numbered e =
         let above : suc first ≤ row.number.number = later.0 in
         let mine : r.number.number ≡ first = is in
         (omega arith, behind r rows row.number.number (ne_eqb _ _ (omega arith)) ∙ later.1)
-
--- a number that was found by its window leads to the first row that fits there
-pub found-row : (rows : List Row) (cats : List Cat) (found : RowNo) (row : Row) → are_numbered 1 rows ≡ true → Some found ≡ option_map (λ r. r.number) (first_of rows cats) → row_numbered rows found.number ≡ Some row → first_of rows cats ≡ Some row
-found-row rows cats found row numbered h e = go (first_of rows cats) refl h
-  where
-    go : (o : Option Row) → first_of rows cats ≡ o → Some found ≡ option_map (λ r. r.number) o → first_of rows cats ≡ Some row
-    go None f k = absurd cc
-    go (Some first) f k =
-        let number : found ≡ first.number = cc in
-        let at = (first-numbered rows 1 cats first numbered f).1 in
-        f ∙ sym at ∙ ap (λ n. row_numbered rows n.number) (sym number) ∙ e

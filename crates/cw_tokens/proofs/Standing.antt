@@ -86,20 +86,6 @@ all-push : (gaps : List Item) (item : Item) → AllGaps gaps → is_gap item ≡
 all-push [] item all e = (e, tt)
 all-push (gap ∷ gaps) item all e = (all.0, all-push gaps item all.1 e)
 
--- at the beginning
-pub stands-start : StandsFor (parted 0 [] true) []
-stands-start = record { gaps = tt; stays = λ more. refl }
-
--- an item that is left out
-pub stands-dropped : (trims : Trims) (given : List Item) (item : Item) → (is_inserted item || (trims.begins && is_break item)) ≡ true → StandsFor trims given → StandsFor trims (given ++ item ∷ [])
-stands-dropped trims given item drops stands = record {
-  gaps = stands.gaps;
-  stays = λ more.
-      ap trimmed (append_assoc given (item ∷ []) more)
-      ∙ stands.stays (item ∷ more)
-      ∙ ap (λ (l : List Item). items_are trims.settled ++ trim_back (items_are trims.gap ++ l)) (front_step trims.begins item more true drops);
-}
-
 module _ (gap : ℕ) (items : List FlatItem) (begins : Bool) (item : FlatItem) (given : List Item) (within : gap ≤ length items) (stands : StandsFor (parted gap items begins) given) where
   abbrev came : Item
   came = item_is item
@@ -212,10 +198,3 @@ module _ (old items : List FlatItem) (gap i kept : ℕ) (d : FlatItem) (within :
         rest = rest-more old items i d within k.rest;
         front = ap (λ (l : List Item). items_are (take kept items) ++ l) (sym (next true is)) ∙ k.front;
       }
-
--- at the end of the gap
-pub unbroken-end : (old items : List FlatItem) (gap i kept : ℕ) → KeepsUnbroken old items gap i kept → length old ≤ i → items_are (take kept items) ≡ items_are (take gap old) ++ unbroken (items_are (drop gap old))
-unbroken-end old items gap i kept k end =
-    sym (append-nil (items_are (take kept items)))
-    ∙ ap (λ (l : List FlatItem). items_are (take kept items) ++ unbroken (items_are l)) (sym (drop_all i old end))
-    ∙ k.front

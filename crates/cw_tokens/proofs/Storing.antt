@@ -1,70 +1,21 @@
 -- What the fields of a store keep, from one call to the next.
 use Rattle.std.proofs.Common.{◌≡◌, ℕ, ◌+◌, ◌-◌, ◌<◌, ◌≤◌, Bool, true, false, List, [], ◌∷◌, ◌++◌, length, Option, Some, None, drop, refl, sym, ap, ◌∙◌, subst, IsSome, arith}
 use Rattle.std.specs.Option.{option_to_list}
-use Rattle.std.proofs.lemmas.List.{drop-append-le, drop_all, length-drop, length-set, length_push}
+use Rattle.std.proofs.lemmas.List.{drop-append-le, length-drop, length-set, length_push}
 use Rattle.cw_tokens.specs.declared.token.Token.{Token}
 use Rattle.cw_tokens.specs.declared.store.Link.{Link}
 use Rattle.cw_tokens.specs.Shapes.{shape, ref_of}
-use Rattle.cw_tokens.specs.References.{refers, IsTied}
-use Rattle.cw_tokens.specs.Stored.{StoredLists, MayBePushed, all_lists, cut, built, last_end, one_if, with_built, linked, no_link, IsStored}
+use Rattle.cw_tokens.specs.References.{IsTied}
+use Rattle.cw_tokens.specs.Stored.{StoredLists, MayBePushed, all_lists, cut, built, last_end, with_built, linked, no_link, IsStored}
 use Rattle.cw_tokens.proofs.Cutting.{length-cut, cut-push, cut-finish, ascending-finish, last_end-finish}
-use Rattle.cw_tokens.proofs.Linking.{linked-push, linked-begin, linked-finish, linked-tied}
+use Rattle.cw_tokens.proofs.Linking.{linked-push, linked-finish, linked-tied}
 
 -- what contracts see of these fields
 abbrev pub view_of : Bool → List ℕ → List Token → ℕ → StoredLists
 view_of building ends tokens spare = record { lists = cut 0 ends tokens; building = built building ends tokens; spare = spare }
 
-no-lists : (l p x : ℕ) → refers [] l p ≡ Some x → ⊥
-no-lists l p x h = cc
-
 false-true : ◌≡◌ {A = Bool} false true → ⊥
 false-true n = cc
-
-pub empty-stored : (f spare token_room end_room link_room : ℕ) → spare ≤ token_room → spare ≤ end_room → spare ≤ link_room → IsStored false f [] [] [] spare token_room end_room link_room
-empty-stored f spare token_room end_room link_room a b d = record {
-  for_tokens = omega arith;
-  for_ends = omega arith;
-  for_links = omega arith;
-  ascending = tt;
-  within = omega arith;
-  begun = λ n. absurd (false-true n);
-  all = λ _. refl;
-  as_many = refl;
-  linked = record { earlier = λ l p x h. absurd (no-lists l p x h); up = λ l p x h. absurd (no-lists l p x h) };
-}
-
-pub room-stored : (b : Bool) (f : ℕ) (es : List ℕ) (ts : List Token) (ks : List Link) (s t e k s' t' e' k' : ℕ) → IsStored b f es ts ks s t e k
-    → length ts + s' ≤ t' → length es + one_if b + s' ≤ e' → length ks + one_if b + s' ≤ k' → IsStored b f es ts ks s' t' e' k'
-room-stored b f es ts ks s t e k s' t' e' k' old x y z = record {
-  for_tokens = x;
-  for_ends = y;
-  for_links = z;
-  ascending = old.ascending;
-  within = old.within;
-  begun = old.begun;
-  all = old.all;
-  as_many = old.as_many;
-  linked = old.linked;
-}
-
-pub begin-stored : (f : ℕ) (es : List ℕ) (ts : List Token) (ks : List Link) (s t e k : ℕ) → 0 < s → IsStored false f es ts ks s t e k → IsStored true (length ts) es ts ks (s - 1) t e k
-begin-stored f es ts ks s t e k h old = record {
-  for_tokens = let a : length ts + s ≤ t = old.for_tokens in omega arith;
-  for_ends = let a : length es + 0 + s ≤ e = old.for_ends in omega arith;
-  for_links = let a : length ks + 0 + s ≤ k = old.for_links in omega arith;
-  ascending = old.ascending;
-  within = old.within;
-  begun = λ _. sym (old.all refl);
-  all = λ n. absurd (true-false n);
-  as_many = old.as_many;
-  linked = rw nothing (linked-begin (cut 0 es ts) ks old.linked);
-}
-  where
-    true-false : ◌≡◌ {A = Bool} true false → ⊥
-    true-false n = cc
-
-    nothing : drop (last_end 0 es) ts ≡ []
-    nothing = drop_all (last_end 0 es) ts (let a : last_end 0 es ≡ length ts = old.all refl in omega arith)
 
 abbrev pub up_here : ℕ → List ℕ → List Token → Link
 up_here f es ts = record { list = length es; place = (length ts - f) + 1 }

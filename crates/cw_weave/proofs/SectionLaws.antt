@@ -1,8 +1,6 @@
 -- Sections are found by their numbers.
-use Rattle.std.proofs.Common.{◌≡◌, ℕ, ◌+◌, ◌-◌, ◌<◌, ◌≤◌, List, [], ◌∷◌, All, length, drop, get_or, ap, ◌∙◌, sym, subst, arith}
+use Rattle.std.proofs.Common.{◌≡◌, ℕ, ◌+◌, ◌-◌, ◌<◌, ◌≤◌, List, [], ◌∷◌, All, length, drop, get_or, ap, ◌∙◌, subst, arith}
 use Rattle.std.specs.Prelude.{Some, slice_get}
-use Rattle.std.proofs.Common.{inl, inr}
-use Rattle.std.proofs.lemmas.Bool.{cases_lt}
 use Rattle.std.proofs.lemmas.List.{drop_more}
 use Rattle.std.proofs.lemmas.Option.{get_or_from_slice_get, slice_get-get_or, slice_get_within}
 
@@ -20,23 +18,3 @@ found-before xs i there = ap (slice_get xs) (omega arith) ∙ there
 
 pub all-at : {X : Type 0} (P : X → Type 0) (xs : List X) (i : ℕ) {x : X} → All P xs → slice_get xs i ≡ Some x → P x
 all-at P xs i {x = x} all there = subst P (get_or_from_slice_get xs i x x there) (all i x (slice_get_within xs i x there))
-
-pub found-after : {X : Type 0} (xs : List X) (i : ℕ) {x : X} → slice_get xs (i + 1 - 1) ≡ Some x → slice_get xs i ≡ Some x
-found-after xs i there = ap (slice_get xs) (omega arith) ∙ there
-
--- the elements before a position
-abbrev pub AllBelow : {X : Type 0} → (X → Type 0) → List X → ℕ → Type 0
-AllBelow {X} P xs i = (k : ℕ) (d : X) → k < i → P (get_or xs k d)
-
-pub below-none : {X : Type 0} (P : X → Type 0) (xs : List X) → AllBelow P xs 0
-below-none P xs k d below = absurd (omega arith)
-
-pub below-more : {X : Type 0} (P : X → Type 0) (xs : List X) (i : ℕ) {x : X} → AllBelow P xs i → slice_get xs i ≡ Some x → P x → AllBelow P xs (i + 1)
-below-more P xs i {x = x} before there here k d below =
-    elim (cases_lt k i) [
-      | inl less ↦ before k d less
-      | inr more ↦ subst P (sym (ap (λ (n : ℕ). get_or xs n d) (omega arith) ∙ get_or_from_slice_get xs i x d there)) here
-    ]
-
-pub all-below : {X : Type 0} (P : X → Type 0) (xs : List X) (i : ℕ) → AllBelow P xs i → length xs ≤ i → All P xs
-all-below P xs i before whole = λ k d inside. before k d (omega arith)
