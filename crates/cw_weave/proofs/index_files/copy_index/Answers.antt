@@ -16,8 +16,8 @@ returns-in_err-lines-clause-emits g c =
     file-not_begun (flags_in c.args.source).keep (index_out c.args.source.line.now.outputs (index_of c.args.book.now))
     (rw c.as_slice-name.ensures at c.in_err-lines.ensures.emits) c.from_residual.ensures.1
 
-pub write_index-requires-clause-can : goal.write_index-requires-clause-can
-write_index-requires-clause-can g c = c.in_ok-lines.ensures.begun.can
+pub write_index-requires : goal.write_index-requires
+write_index-requires g c = record { can = c.in_ok-lines.ensures.begun.can }
 
 pub returns-in_err-write_index-clause-emits : goal.returns-in_err-write_index-clause-emits
 returns-in_err-write_index-clause-emits g c =

@@ -2,15 +2,21 @@
 use Rattle.std.proofs.Common.{◌≡◌, ℕ, List, Option, sym, ap, ◌∙◌}
 use Rattle.std.specs.FinMap.{get}
 use Rattle.cw_base.specs.declared.exit.Exit.TheVariants.{Errors}
-use Rattle.cw_input.specs.Merged.{NoWeb, NoChange, merged}
-use Rattle.cw_run.specs.EmitsLaws.{emits-faults, faults-then, runs-after, runs-known}
+use Rattle.cw_input.specs.Merged.{NoWeb, NoChange, Whole, merged}
+use Rattle.cw_run.specs.EmitsLaws.{emits-faults, faults-then, runs-after, runs-known, runs_by-over}
 use Rattle.cw_run.specs.Stops.{stopped}
 use Rattle.cw_run.specs.Terminal.{no_change_text, no_web_text}
 use Rattle.cw_weave.proofs.ExitLaws.{ok-real}
 use Rattle.cw_weave.proofs.weave.weave_line.Goals as goal
 
 pub returns-in-Ok-clause-runs : goal.returns-in-Ok-clause-runs
-returns-in-Ok-clause-runs g c = ?
+returns-in-Ok-clause-runs g c = λ files is.
+    let whole : merged (get files) c.args.line.now.web c.args.line.now.change ≡ Whole c.in-Ok.web =
+    ap (λ (word : List ℕ). merged (get files) word c.args.line.now.change) (sym c.as_slice.ensures) ∙
+    ap (λ (change : Option (List ℕ)). merged (get files) c.as_slice.result.now change) (sym c.change_word.ensures)
+    ∙ c.in-Ok.ensures.loads files is in
+    runs-after {b = g.D.Desk.told c.load.new.desk} c.in-Ok.ensures.same
+    (rw whole (runs_by-over c.weave_web.ensures.runs files (c.in-Ok.ensures.same.same_files ∙ is)))
 
 pub returns-in-Err-NoWeb-clause-runs : goal.returns-in-Err-NoWeb-clause-runs
 returns-in-Err-NoWeb-clause-runs g c = λ files is.
