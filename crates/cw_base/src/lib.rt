@@ -29,5 +29,3 @@ pub use steps::{Kept, Ledger, Silent, Steps};
 pub use web::{LineInfo, Web};
 pub use words::Words;
 
-#[cfg(test)]
-mod tests;

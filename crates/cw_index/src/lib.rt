@@ -18,5 +18,3 @@ pub use laws::whole_names_law;
 pub use names::write_names;
 pub use whole::are_names_whole;
 
-#[cfg(test)]
-mod tests;

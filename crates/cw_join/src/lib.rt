@@ -8,8 +8,6 @@ mod names_behind;
 mod naming;
 mod pieces;
 mod run;
-#[cfg(test)]
-mod tests;
 mod token;
 
 pub use joiner::Joiner;

@@ -30,11 +30,3 @@ pub use lexer::Lexer;
 pub use signs::Sign;
 pub use tokens::{Lexed, Mode, Tok, TokKind};
 
-#[cfg(test)]
-mod note_tests;
-#[cfg(test)]
-mod tests;
-#[cfg(test)]
-mod text_tests;
-#[cfg(test)]
-mod token_tests;

@@ -11,5 +11,3 @@ pub use entry::{EntryKind, NameId};
 pub use names::Names;
 pub use xrefs::{Occurrence, SectionRef, Xrefs};
 
-#[cfg(test)]
-mod tests;

@@ -13,5 +13,3 @@ pub use laws::whole_rest_law;
 pub use sections::weave_section;
 pub use whole::is_whole_rest;
 
-#[cfg(test)]
-mod tests;

@@ -22,5 +22,3 @@ pub use phase::phase_one;
 pub use roles::{Part, Role, Standing};
 pub use sections::{Depth, Section};
 
-#[cfg(test)]
-mod tests;

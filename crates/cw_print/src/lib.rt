@@ -18,5 +18,3 @@ mod walk;
 
 pub use printing::print_list;
 
-#[cfg(test)]
-mod tests;

@@ -18,11 +18,3 @@ pub use translating::{Translated, translate};
 pub use uncut::{is_plain_c, is_uncut};
 pub use walk::{Reduced, reduce};
 
-#[cfg(test)]
-mod slow_tests;
-#[cfg(test)]
-mod test_printing;
-#[cfg(test)]
-mod translate_tests;
-#[cfg(test)]
-mod walk_tests;

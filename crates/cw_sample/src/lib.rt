@@ -2,7 +2,5 @@
 #![tactic(auto)]
 
 mod sections;
-#[cfg(test)]
-mod tests;
 
 pub use sections::sample_web;

@@ -22,9 +22,3 @@ pub use line::{LineEntry, Part, ScrapLine};
 pub use marks::Marks;
 pub use words::word_token;
 
-#[cfg(test)]
-mod leaf_tests;
-#[cfg(test)]
-mod row_tests;
-#[cfg(test)]
-mod tests;

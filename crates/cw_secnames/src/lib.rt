@@ -12,5 +12,3 @@ pub use name_uses::NameUses;
 pub use parts::next_part;
 pub use sec_names::SecNames;
 
-#[cfg(test)]
-mod tests;

@@ -20,5 +20,3 @@ pub use productions::{ROW_COUNT, table};
 pub use ranks::rank;
 pub use types::{Action, Choice, Piece, Pieces, Row, RowNo, RowResult, Table};
 
-#[cfg(test)]
-mod tests;

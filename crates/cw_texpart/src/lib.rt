@@ -21,5 +21,3 @@ pub use tex_parts::copy_tex;
 pub use texts::{CText, TranslatedText, print_text, translate_text};
 pub use whole::is_whole;
 
-#[cfg(test)]
-mod tests;

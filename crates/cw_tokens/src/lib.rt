@@ -12,5 +12,3 @@ pub use flat::{FlatItem, FlatTokens};
 pub use store::TokenStore;
 pub use token::{ListId, Token};
 
-#[cfg(test)]
-mod tests;

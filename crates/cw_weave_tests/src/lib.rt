@@ -4,6 +4,20 @@
 #[cfg(test)]
 mod c_text_tests;
 #[cfg(test)]
+mod desk_failing_tests;
+#[cfg(test)]
+mod keeping_tests;
+#[cfg(test)]
+mod merging_tests;
+#[cfg(test)]
+mod sample_tests;
+#[cfg(test)]
+mod scanning_tests;
+#[cfg(test)]
+mod small_section_tests;
+#[cfg(test)]
+mod weave_tests;
+#[cfg(test)]
 mod change_tests;
 #[cfg(test)]
 mod counted_tests;

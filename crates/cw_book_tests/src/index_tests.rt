@@ -1,0 +1,146 @@
+//! Indexes and section lists of small webs, by calls.
+ghost use Rattle.std.specs.Prelude.{IfOk, IsTrue};
+ghost use Rattle.cw_base.specs.declared.event.Out.TheVariants.{Idx};
+ghost use Rattle.cw_desk.specs.Meaning.{is_open};
+ghost use Rattle.cw_lines.specs.Writes.{CanWrite};
+ghost use Rattle.cw_reduce.specs.NameParts.{AreNamesOf};
+
+use cw_index::{are_names_whole, compare_entries, write_closing, write_index, write_names};
+use cw_base::{Bytes, Event, Flags, Kept, Memory, Out, Place, Steps, Web};
+use cw_desk::{Desk, MadeOut, MemDesk};
+use cw_lines::{LineOut, PutError};
+use cw_names::{EntryKind, Names};
+use cw_phase1::{Book, phase_one};
+use cw_texpart::Counts;
+use std::alloc::Global;
+use std::cmp::Ordering;
+use std::test::Fail;
+
+// One line more, where the web has room for it.
+fn add(web: &mut Web, line: &[u8]) -> Result<(), Memory> {
+    if web.file_count() == 0 || web.text().len() + line.len() >= 16_777_216 {
+        return Ok(());
+    }
+    if line.iter().all(|byte| *byte != 10) {
+        web.add_line(line, Place { file: 0, line: 1 }, false)?;
+    }
+    Ok(())
+}
+
+fn web_of(alloc: Global, lines: &[&[u8]]) -> Result<Web, Memory> {
+    let mut web = Web::new_in(alloc);
+    web.add_file(b"t.w")?;
+    for line in lines {
+        add(&mut web, line)?;
+    }
+    Ok(web)
+}
+
+// A desk on which the index is made.
+fn desk_with_index(alloc: Global) -> Result<MemDesk, Memory>
+    ensures { IfOk result (λ desk. IsTrue (is_open desk.outputs Idx)) }
+{
+    let mut desk = MemDesk::new_in(alloc);
+    match desk.make(Out::Idx, b"idx") {
+        MadeOut::Done => Ok(desk),
+        _ => Err(Memory),
+    }
+}
+
+// All bytes that were written.
+fn written(alloc: Global, journal: &[Event]) -> Result<Bytes, Memory> {
+    let mut text = Bytes::new_in(alloc);
+    for event in journal {
+        if let Event::Byte(_, byte) = event {
+            text.push(*byte)?;
+        }
+    }
+    Ok(text)
+}
+
+// The book of a web.
+fn book_of(alloc: Global, web: &Web) -> Result<Book, Memory>
+    ensures { IfOk result (λ book. AreNamesOf book.sec_names book.name_uses) }
+{
+    let _text = web.text();
+    let book = phase_one(alloc, web)?;
+    Ok(book)
+}
+
+#[test]
+fn an_entry_stands_before_another(rt: HostRuntime) -> Result<(), Fail> {
+    let mut names = Names::with_words(rt.alloc())?;
+    let capital = names.find_or_add(EntryKind::Ident, b"Ab")?;
+    let small = names.find_or_add(EntryKind::Roman, b"ab")?;
+    let digit = names.find_or_add(EntryKind::Ident, b"a1")?;
+    if capital.index < names.len() && small.index < names.len() && digit.index < names.len() {
+        assert!(rt; compare_entries(&names, capital, small) == Ordering::Less);
+        assert!(rt; compare_entries(&names, digit, small) == Ordering::Greater);
+        assert!(rt; compare_entries(&names, small, small) == Ordering::Equal);
+    }
+    Ok(())
+}
+
+#[test]
+fn an_index_is_written(rt: HostRuntime) -> Result<(), Fail> {
+    let lines: &[&[u8]] = &[
+        b"@* One. |main|".as_slice(),
+        b"@d EOF n".as_slice(),
+        b"@ Two.".as_slice(),
+        b"@c x1=main; @.t_t@>".as_slice(),
+    ];
+    let web = web_of(rt.alloc(), lines)?;
+    let book = phase_one(rt.alloc(), &web)?;
+    let mut desk = desk_with_index(rt.alloc())?;
+    let mut out = LineOut::new_in(rt.alloc(), Out::Idx);
+    let counts = write_index(rt.alloc(), &web, &book, &mut out, &mut desk)?;
+    assert_eq!(rt; counts.scraps, 0);
+    let counts = write_closing(&book, &Flags::start(), &mut out, &mut desk)?;
+    assert_eq!(rt; counts.productions, 0);
+    let text = written(rt.alloc(), desk.journal())?;
+    let wanted: &[u8] =
+        b"\\I\\.{EOF}, \\[1].\n\\I\\\\{main}, 1, 2.\n\\I\\.{t_t}, 2.\n\\I\\\\{x1}, 2.\n\\inx\n\\fin\n\\con\n";
+    assert_eq!(rt; text.as_slice(), wanted);
+    Ok(())
+}
+
+// The section list, once its C texts were found whole.
+fn list_names<D: Desk>(
+    alloc: Global,
+    web: &Web,
+    book: &mut Book,
+    out: &mut LineOut,
+    desk: &mut D,
+) -> Result<Counts, PutError>
+    requires can { CanWrite (D.told desk.old) out.old }
+    requires kept { AreNamesOf book.old.sec_names book.old.name_uses }
+{
+    let whole = are_names_whole(alloc, web, book)?;
+    if !whole {
+        return Err(PutError::Memory);
+    }
+    let mut steps: Steps<Kept> = Steps::new();
+    write_names(alloc, web, book, &Flags::start(), out, desk, &mut steps)
+}
+
+#[test]
+fn a_section_list_is_written(rt: HostRuntime) -> Result<(), Fail> {
+    let lines: &[&[u8]] = &[
+        b"@ One, @<b|n|@>.".as_slice(),
+        b"@ Two.".as_slice(),
+        b"@<b|n|@>=@<B@>; @<B@>".as_slice(),
+        b"@ Three.".as_slice(),
+        b"@(B@>=x; @<b|n|@>".as_slice(),
+    ];
+    let web = web_of(rt.alloc(), lines)?;
+    let mut book = book_of(rt.alloc(), &web)?;
+    let mut desk = desk_with_index(rt.alloc())?;
+    let mut out = LineOut::new_in(rt.alloc(), Out::Idx);
+    let counts = list_names(rt.alloc(), &web, &mut book, &mut out, &mut desk)?;
+    assert_eq!(rt; counts.scraps, 4);
+    let text = written(rt.alloc(), desk.journal())?;
+    let wanted: &[u8] =
+        b"\\I\\X0:B\\X\n\\U2.\n\\I\\X3:\\.{B}\\X\n\\I\\X2:b\\PB{\\|n}\\X\n\\Q1.\n\\U3.\n";
+    assert_eq!(rt; text.as_slice(), wanted);
+    Ok(())
+}

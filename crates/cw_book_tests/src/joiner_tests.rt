@@ -1,0 +1,159 @@
+//! Tests of the joiner: names, signs and runs are printed, and inner texts have a blank for a run.
+ghost use Rattle.std.specs.Prelude.{ℕ, IfOk, IsTrue, List, OnOk};
+ghost use Rattle.std.specs.Bool.{OnTrue};
+ghost use Rattle.cw_base.specs.declared.event.Out.TheVariants.{Tex};
+ghost use Rattle.cw_desk.specs.Meaning.{is_open};
+ghost use Rattle.cw_desk.specs.Mem.{tell};
+ghost use Rattle.cw_lines.specs.Writes.{CanWrite};
+ghost use Rattle.cw_trees.specs.Printing.{Printable};
+ghost use Rattle.cw_join.specs.Standing.{Stands};
+ghost use Rattle.cw_join.specs.Tokens.{CanCome};
+
+use cw_join::{FlatToken, Joiner};
+use cw_base::{Bytes, Event, Memory, Out};
+use cw_desk::{Desk, MadeOut, MemDesk};
+use cw_lines::{LineOut, PutError};
+use cw_names::{EntryKind, NameId, Names};
+use cw_tokens::FlatItem;
+use cw_trees::Control;
+use std::alloc::Global;
+use std::test::Fail;
+
+/// A desk on which the TeX file is made.
+fn desk_with_tex(alloc: Global) -> Result<MemDesk, Memory>
+    ensures { IfOk result (λ desk. IsTrue (is_open desk.outputs Tex)) }
+{
+    let mut desk = MemDesk::new_in(alloc);
+    match desk.make(Out::Tex, b"tex") {
+        MadeOut::Done => Ok(desk),
+        _ => Err(Memory),
+    }
+}
+
+/// All bytes that were written.
+fn written(alloc: Global, journal: &[Event]) -> Result<Bytes, Memory> {
+    let mut text = Bytes::new_in(alloc);
+    for event in journal {
+        if let Event::Byte(_, byte) = event {
+            text.push(*byte)?;
+        }
+    }
+    Ok(text)
+}
+
+/// Whether an item may come wherever it stands.
+fn is_plain(item: FlatItem, names: usize) -> bool
+    ensures { OnTrue result ((depth : ℕ) → CanCome names depth item) }
+{
+    match item {
+        FlatItem::Source(_) => true,
+        FlatItem::Ident(name, _) | FlatItem::Reserved(name, _) => name.index < names,
+        FlatItem::Control(Control::Inserted) => false,
+        FlatItem::Control(_) => true,
+        FlatItem::Open | FlatItem::Close => false,
+    }
+}
+
+/// Pushes an item, if it may come.
+fn push_one(
+    joiner: &mut Joiner,
+    token: FlatToken,
+    names: &Names,
+    out: &mut LineOut,
+    desk: &mut MemDesk,
+) -> Result<(), PutError>
+    requires can { CanWrite (tell desk.old) out.old }
+    requires stands { (ps : List Printable) × Stands joiner.old ps }
+    ensures can { OnOk result (CanWrite (tell desk.new) out.new) }
+    ensures stands { OnOk result ((ps : List Printable) × Stands joiner.new ps) }
+{
+    if !is_plain(token.item, names.len()) {
+        return Ok(());
+    }
+    joiner.push(token, names, out, desk)?;
+    Ok(())
+}
+
+/// Pushes items.
+fn push_each(
+    inner: bool,
+    items: &[(FlatItem, &[u8])],
+    names: &Names,
+    out: &mut LineOut,
+    desk: &mut MemDesk,
+) -> Result<(), PutError>
+    requires can { CanWrite (tell desk.old) out.old }
+    ensures can { OnOk result (CanWrite (tell desk.new) out.new) }
+{
+    let mut joiner = Joiner::new(inner);
+    for (item, bytes) in items {
+        let token = FlatToken { item: *item, bytes };
+        push_one(&mut joiner, token, names, out, desk)?;
+    }
+    Ok(())
+}
+
+/// Finishes a text without items.
+fn finish_none(out: &mut LineOut, desk: &mut MemDesk) -> Result<(), PutError>
+    requires can { CanWrite (tell desk.old) out.old }
+    ensures can { OnOk result (CanWrite (tell desk.new) out.new) }
+{
+    let mut joiner = Joiner::new(false);
+    joiner.finish(out, desk)?;
+    Ok(())
+}
+
+/// Names, signs and runs; the names are the first three behind the built-in words.
+const TEXT: [(FlatItem, &[u8]); 13] = [
+    (FlatItem::Ident(NameId { index: 49 }, 0), b""),
+    (FlatItem::Control(Control::Blank), b""),
+    (FlatItem::Control(Control::Indent), b""),
+    (FlatItem::Control(Control::Break), b""),
+    (FlatItem::Control(Control::Backup), b""),
+    (FlatItem::Control(Control::ToMath), b""),
+    (FlatItem::Ident(NameId { index: 50 }, 0), b""),
+    (FlatItem::Source(9), b"\\K"),
+    (FlatItem::Ident(NameId { index: 51 }, 0), b""),
+    (FlatItem::Control(Control::ToText), b""),
+    (FlatItem::Control(Control::BigBreak), b""),
+    (FlatItem::Control(Control::Cancel), b""),
+    (FlatItem::Source(19), b";"),
+];
+
+const INNER_TEXT: [(FlatItem, &[u8]); 4] = [
+    (FlatItem::Source(0), b"a"),
+    (FlatItem::Control(Control::BigBreak), b""),
+    (FlatItem::Control(Control::Outdent), b""),
+    (FlatItem::Source(1), b"b"),
+];
+
+#[test]
+fn names_signs_and_runs_are_printed(rt: HostRuntime) -> Result<(), Fail> {
+    let mut desk = desk_with_tex(rt.alloc())?;
+    let mut out = LineOut::new_in(rt.alloc(), Out::Tex);
+    let mut names = Names::with_words(rt.alloc())?;
+    names.find_or_add(EntryKind::Ident, b"_next_of$")?;
+    names.find_or_add(EntryKind::Ident, b"x")?;
+    names.find_or_add(EntryKind::Ident, b"EOF")?;
+    push_each(false, &TEXT, &names, &mut out, &mut desk)?;
+    out.end_line(&mut desk)?;
+    let text = written(rt.alloc(), desk.journal())?;
+    assert_eq!(rt;
+        text.as_slice(),
+        b"\\\\{\\_next\\_of\\$}\\1\\6\n\\4${}\\|x\\K\\.{EOF}{}$;\n".as_slice()
+    );
+    Ok(())
+}
+
+#[test]
+fn inner_text_prints_a_blank_for_a_run(rt: HostRuntime) -> Result<(), Fail> {
+    let mut desk = desk_with_tex(rt.alloc())?;
+    let mut out = LineOut::new_in(rt.alloc(), Out::Tex);
+    let names = Names::with_words(rt.alloc())?;
+    push_each(true, &INNER_TEXT, &names, &mut out, &mut desk)?;
+    finish_none(&mut out, &mut desk)?;
+    out.end_line(&mut desk)?;
+    let text = written(rt.alloc(), desk.journal())?;
+    assert_eq!(rt; text.as_slice(), b"a b\n".as_slice());
+    Ok(())
+}

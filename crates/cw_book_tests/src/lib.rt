@@ -1,0 +1,17 @@
+//! Tests of the book of small webs: section names, the first phase, joining, printing, parts, the index.
+#![tactic(auto)]
+
+#[cfg(test)]
+mod index_tests;
+#[cfg(test)]
+mod joiner_tests;
+#[cfg(test)]
+mod part_tests;
+#[cfg(test)]
+mod phase_tests;
+#[cfg(test)]
+mod print_tests;
+#[cfg(test)]
+mod section_name_tests;
+#[cfg(test)]
+mod tex_part_tests;

@@ -1,0 +1,289 @@
+//! Tests that make the scrap of each kind of token once.
+ghost use Rattle.std.specs.Prelude.{◌≡◌, ◌^◌, ◌<◌, length};
+ghost use Rattle.cw_lex.specs.declared.tokens.TokKind.TheVariants as TokKind;
+ghost use Rattle.cw_scraps.specs.Leaves.{MakesLeaf};
+
+use cw_scraps::{scrap_of, word_token};
+use cw_base::{Cat, MathMode, Memory, Span};
+use cw_lex::{Code, Sign, Tok, TokKind};
+use cw_names::Names;
+use cw_tokens::{FlatItem, ListId, Token, TokenStore};
+use cw_trees::Control;
+use std::alloc::Global;
+use std::test::Fail;
+
+// The scrap of a token at place 3, and the items of its list.
+fn leaf(
+    alloc: Global,
+    kind: TokKind,
+    text: &[u8],
+    hash_line: bool,
+) -> Result<(Cat, MathMode, Vec<FlatItem>), Memory>
+    requires { MakesLeaf kind }
+{
+    let mut names = Names::with_words(alloc)?;
+    let mut store = TokenStore::new_in(alloc);
+    let token = Tok {
+        kind,
+        text,
+        span: Span { start: 3, end: 4 },
+        hash_line,
+    };
+    let leaf = scrap_of(&token, &mut names, &mut store)?;
+    let flat = first_list(alloc, &store, leaf.list)?;
+    Ok((leaf.cat, leaf.left, flat))
+}
+
+fn first_list(alloc: Global, store: &TokenStore, id: ListId) -> Result<Vec<FlatItem>, Memory>
+    requires { id.index < length store.now.lists }
+{
+    let flat = store.flat(alloc, id)?;
+    let mut items = Vec::new(alloc);
+    for i in 0..flat.len() {
+        items.push(flat.item(i))?;
+    }
+    Ok(items)
+}
+
+fn is(found: (Cat, MathMode, Vec<FlatItem>), cat: Cat, mode: MathMode, items: &[FlatItem]) -> bool {
+    let (found_cat, found_mode, found_items) = found;
+    found_cat == cat && found_mode == mode && found_items.as_slice() == items
+}
+
+const SOURCE: FlatItem = FlatItem::Source(3);
+
+const SIGNS: [(Sign, Cat, MathMode); 37] = [
+    (Sign::Slash, Cat::Binop, MathMode::Math),
+    (Sign::Dot, Cat::Dot, MathMode::Math),
+    (Sign::Less, Cat::Binop, MathMode::Math),
+    (Sign::Greater, Cat::Binop, MathMode::Math),
+    (Sign::Bar, Cat::Binop, MathMode::Math),
+    (Sign::Assign, Cat::Binop, MathMode::Math),
+    (Sign::Caret, Cat::Binop, MathMode::Math),
+    (Sign::Percent, Cat::Binop, MathMode::Math),
+    (Sign::Arrow, Cat::Binop, MathMode::Math),
+    (Sign::ShiftLeft, Cat::Binop, MathMode::Math),
+    (Sign::ShiftRight, Cat::Binop, MathMode::Math),
+    (Sign::Equal, Cat::Binop, MathMode::Math),
+    (Sign::NotEqual, Cat::Binop, MathMode::Math),
+    (Sign::AtMost, Cat::Binop, MathMode::Math),
+    (Sign::AtLeast, Cat::Binop, MathMode::Math),
+    (Sign::AndAnd, Cat::Binop, MathMode::Math),
+    (Sign::OrOr, Cat::Binop, MathMode::Math),
+    (Sign::Not, Cat::Unop, MathMode::Math),
+    (Sign::Tilde, Cat::Unop, MathMode::Math),
+    (Sign::PlusPlus, Cat::Unop, MathMode::Math),
+    (Sign::MinusMinus, Cat::Unop, MathMode::Math),
+    (Sign::Plus, Cat::Ubinop, MathMode::Math),
+    (Sign::Minus, Cat::Ubinop, MathMode::Math),
+    (Sign::Hash, Cat::Ubinop, MathMode::Math),
+    (Sign::Star, Cat::RawUbin, MathMode::Math),
+    (Sign::Ampersand, Cat::RawUbin, MathMode::Math),
+    (Sign::Question, Cat::Question, MathMode::Math),
+    (Sign::LeftParen, Cat::Lpar, MathMode::Maybe),
+    (Sign::LeftBracket, Cat::Lpar, MathMode::Maybe),
+    (Sign::RightParen, Cat::Rpar, MathMode::Maybe),
+    (Sign::RightBracket, Cat::Rpar, MathMode::Maybe),
+    (Sign::LeftBrace, Cat::Lbrace, MathMode::Math),
+    (Sign::RightBrace, Cat::Rbrace, MathMode::Math),
+    (Sign::Comma, Cat::Comma, MathMode::Math),
+    (Sign::Semicolon, Cat::Semi, MathMode::Maybe),
+    (Sign::Colon, Cat::Colon, MathMode::Maybe),
+    (Sign::Ellipsis, Cat::RawInt, MathMode::Math),
+];
+
+#[test]
+fn each_sign_has_its_category_and_mode(rt: HostRuntime) -> Result<(), Fail> {
+    for (sign, cat, mode) in SIGNS {
+        let found = leaf(rt.alloc(), TokKind::Sign(sign), b"", false)?;
+        assert!(rt; is(found, cat, mode, &[SOURCE]), "{sign:?}");
+    }
+    Ok(())
+}
+
+// The scrap holds the place of the token alone: prefixes, exponents, suffixes and escapes are printed from there.
+const CONSTANTS: [&[u8]; 8] = [
+    b"0", b"12", b"017", b"0x1F", b"0XaL", b"1.5e-3", b"2E9f", b"7ul",
+];
+
+const STRINGS: [&[u8]; 9] = [
+    b"\"\"",
+    b"'a'",
+    b"\" #%$^{}~&_\"",
+    b"\"\\\\\"",
+    b"\"\\\"\"",
+    b"'\\''",
+    b"\"a\\n\"",
+    b"\"a\\\nb\"",
+    b"\"\xC3\xA9\"",
+];
+
+#[test]
+fn constants_and_strings_are_expressions(rt: HostRuntime) -> Result<(), Fail> {
+    let one = [SOURCE];
+    for text in CONSTANTS {
+        let found = leaf(rt.alloc(), TokKind::Constant, text, false)?;
+        assert!(rt; is(found, Cat::Exp, MathMode::Maybe, &one));
+    }
+    for text in STRINGS {
+        let found = leaf(rt.alloc(), TokKind::Quoted, text, false)?;
+        assert!(rt; is(found, Cat::Exp, MathMode::Maybe, &one));
+    }
+    let found = leaf(rt.alloc(), TokKind::IncludeName, b"<stdio.h>", true)?;
+    assert!(rt; is(found, Cat::Exp, MathMode::Maybe, &one));
+    let found = leaf(rt.alloc(), TokKind::OtherByte, b"$", false)?;
+    assert!(rt; is(found, Cat::Exp, MathMode::Maybe, &one));
+    Ok(())
+}
+
+// The codes by the byte behind `@`.
+fn code_of(byte: u8) -> Code
+    ensures { MakesLeaf (TokKind.Code result) }
+{
+    match byte {
+        b'=' => Code::Verbatim,
+        b't' => Code::TexBox,
+        b'\'' => Code::Quote,
+        b';' => Code::InvisibleSemicolon,
+        b'[' => Code::BeginArgument,
+        b']' => Code::EndArgument,
+        b',' => Code::ThinSpace,
+        b'/' => Code::LineBreak,
+        b'#' => Code::BigBreak,
+        b'|' => Code::OptionalBreak,
+        b'+' => Code::NoBreak,
+        b'&' => Code::Join,
+        _ => Code::HeaderFile,
+    }
+}
+
+const BREAK: FlatItem = FlatItem::Control(Control::Break);
+
+const CANCEL: FlatItem = FlatItem::Control(Control::Cancel);
+
+const WALL: FlatItem = FlatItem::Control(Control::Wall);
+
+const CODES: [(u8, Cat, MathMode, &[FlatItem]); 13] = [
+    (b'=', Cat::Exp, MathMode::Maybe, &[SOURCE]),
+    (b't', Cat::Exp, MathMode::Maybe, &[SOURCE]),
+    (b'\'', Cat::Exp, MathMode::Maybe, &[SOURCE]),
+    (b';', Cat::Semi, MathMode::Maybe, &[]),
+    (b'[', Cat::BeginArg, MathMode::Maybe, &[]),
+    (b']', Cat::EndArg, MathMode::Maybe, &[]),
+    (
+        b',',
+        Cat::Insert,
+        MathMode::Maybe,
+        &[FlatItem::Control(Control::ThinSpace)],
+    ),
+    (b'/', Cat::Insert, MathMode::Text, &[BREAK]),
+    (
+        b'#',
+        Cat::Insert,
+        MathMode::Text,
+        &[FlatItem::Control(Control::BigBreak)],
+    ),
+    (
+        b'|',
+        Cat::Insert,
+        MathMode::Maybe,
+        &[FlatItem::Control(Control::OptionalLineBreak0)],
+    ),
+    (
+        b'+',
+        Cat::Insert,
+        MathMode::Text,
+        &[
+            CANCEL,
+            WALL,
+            FlatItem::Control(Control::Blank),
+            WALL,
+            CANCEL,
+        ],
+    ),
+    (b'&', Cat::Insert, MathMode::Maybe, &[SOURCE]),
+    (b'h', Cat::Insert, MathMode::Text, &[BREAK, SOURCE, BREAK]),
+];
+
+#[test]
+fn each_code_is_laid_out_or_passed_on(rt: HostRuntime) -> Result<(), Fail> {
+    for (byte, cat, mode, items) in CODES {
+        let found = leaf(rt.alloc(), TokKind::Code(code_of(byte)), b"", false)?;
+        assert!(rt; is(found, cat, mode, items), "code {byte}");
+    }
+    Ok(())
+}
+
+#[test]
+fn a_line_of_the_preprocessor_is_put_on_a_line_of_its_own(rt: HostRuntime) -> Result<(), Fail> {
+    let found = leaf(rt.alloc(), TokKind::HashLine, b"#", true)?;
+    assert!(rt; is(found, Cat::Lproc, MathMode::Text, &[BREAK, SOURCE]));
+    let found = leaf(rt.alloc(), TokKind::HashLineEnd, b"\n", true)?;
+    assert!(rt; is(found, Cat::Rproc, MathMode::Text, &[BREAK]));
+    Ok(())
+}
+
+// Words with their categories outside `#` lines and in them.
+const WORDS: [(&[u8], Cat, Cat); 27] = [
+    (b"n", Cat::Exp, Cat::Exp),
+    (b"size_t", Cat::RawInt, Cat::RawInt),
+    (b"_Bool", Cat::RawInt, Cat::RawInt),
+    (b"static", Cat::IntLike, Cat::IntLike),
+    (b"inline", Cat::IntLike, Cat::IntLike),
+    (b"const", Cat::ConstLike, Cat::ConstLike),
+    (b"restrict", Cat::ConstLike, Cat::ConstLike),
+    (b"enum", Cat::StructLike, Cat::StructLike),
+    (b"return", Cat::CaseLike, Cat::CaseLike),
+    (b"while", Cat::ForLike, Cat::ForLike),
+    (b"do", Cat::DoLike, Cat::DoLike),
+    (b"if", Cat::IfLike, Cat::IfLike),
+    (b"else", Cat::ElseLike, Cat::ElseLike),
+    (b"sizeof", Cat::SizeofLike, Cat::SizeofLike),
+    (b"_Generic", Cat::SizeofLike, Cat::SizeofLike),
+    (b"typedef", Cat::TypedefLike, Cat::TypedefLike),
+    (b"elif", Cat::Exp, Cat::IfLike),
+    (b"error", Cat::Exp, Cat::IfLike),
+    (b"ifdef", Cat::Exp, Cat::IfLike),
+    (b"ifndef", Cat::Exp, Cat::IfLike),
+    (b"include", Cat::Exp, Cat::IfLike),
+    (b"line", Cat::Exp, Cat::IfLike),
+    (b"pragma", Cat::Exp, Cat::IfLike),
+    (b"undef", Cat::Exp, Cat::IfLike),
+    (b"endif", Cat::Exp, Cat::ElseLike),
+    (b"define", Cat::Exp, Cat::DefineLike),
+    (b"defined", Cat::Exp, Cat::SizeofLike),
+];
+
+#[test]
+fn a_word_is_reserved_in_its_place_only(rt: HostRuntime) -> Result<(), Fail> {
+    for (word, outside, inside) in WORDS {
+        let found = leaf(rt.alloc(), TokKind::Identifier, word, false)?;
+        assert!(rt; found.0 == outside && found.1 == MathMode::Maybe);
+        let found = leaf(rt.alloc(), TokKind::Identifier, word, true)?;
+        assert!(rt; found.0 == inside && found.1 == MathMode::Maybe);
+    }
+    Ok(())
+}
+
+#[test]
+fn words_are_tokens_by_themselves(rt: HostRuntime) -> Result<(), Fail> {
+    let mut names = Names::with_words(rt.alloc())?;
+    let comma = Tok {
+        kind: TokKind::Sign(Sign::Comma),
+        text: b",",
+        span: Span { start: 3, end: 4 },
+        hash_line: false,
+    };
+    let token = word_token(&comma, &mut names)?;
+    assert_eq!(rt; token, Token::Source(3, MathMode::Math));
+    let word = Tok {
+        kind: TokKind::Identifier,
+        text: b"int",
+        span: Span { start: 5, end: 8 },
+        hash_line: false,
+    };
+    let token = word_token(&word, &mut names)?;
+    let is_reserved = matches!(token, Token::Reserved(_, 5, Cat::RawInt));
+    assert!(rt; is_reserved);
+    Ok(())
+}

@@ -1,0 +1,23 @@
+//! Tests of C texts: names, the table, the store of tokens, scraps, productions and translations.
+#![tactic(auto)]
+
+#[cfg(test)]
+mod leaf_tests;
+#[cfg(test)]
+mod line_tests;
+#[cfg(test)]
+mod name_tests;
+#[cfg(test)]
+mod row_tests;
+#[cfg(test)]
+mod slow_tests;
+#[cfg(test)]
+mod store_tests;
+#[cfg(test)]
+mod table_tests;
+#[cfg(test)]
+mod test_printing;
+#[cfg(test)]
+mod translate_tests;
+#[cfg(test)]
+mod walk_tests;

@@ -1,0 +1,539 @@
+//! Tests that apply each production once.
+ghost use Rattle.std.specs.Prelude.{◌≡◌, ◌<◌, ◌≤◌, true, length, drop, IfSome, OnOk};
+ghost use Rattle.cw_table.specs.Fitting.{row_fits};
+ghost use Rattle.cw_table.specs.Productions.{productions};
+ghost use Rattle.cw_scraps.specs.Applying.{row_of};
+ghost use Rattle.cw_scraps.specs.Inserting.{entry_cats};
+ghost use Rattle.cw_scraps.specs.Leaves.{MakesLeaf};
+ghost use Rattle.cw_scraps.specs.Lines.{IsSoundLine};
+
+use cw_scraps::{Marks, ScrapLine, scrap_of};
+use cw_base::{Cat, Flags, Kept, MathMode, Memory, Span, Steps};
+use cw_lex::{Sign, Tok, TokKind};
+use cw_names::{EntryKind, Names};
+use cw_table::{ROW_COUNT, RowNo, first_production, table};
+use cw_tokens::{FlatItem, TokenStore};
+use cw_trees::Control;
+use std::alloc::Global;
+use std::test::Fail;
+
+// For each production, in order: categories before which it is the first that fits, the first scrap that it replaces,
+// how many scraps are left, and the category and the translation of the new one. In a translation a digit stands for a
+// scrap, and as in the table `_` for a blank, Y, F and B for breaks, N for a cancel, U for a backup, W for a wall, `>`
+// and `<` for indents, O for the optional break of cost 9, T for a thin space, `{`, `}` and m for braces and a
+// relation; I for the mark.
+macro_rules! rows {
+    ($($row:literal: [$($test:ident)*] $at:literal $left:literal $cat:ident $bytes:literal;)*) => {
+        [$(($row, &[$(Cat::$test),*], $at, $left, Cat::$cat, $bytes)),*]
+    };
+}
+
+const FROM_1: [(u8, &[Cat], usize, usize, Cat, &[u8]); 12] = rows! {
+    1: [Stmt Insert] 0 1 Stmt b"01";
+    2: [BeginArg EndArg] 0 1 Exp b"01";
+    3: [Comma EndArg] 0 1 EndArg b"01";
+    4: [Exp Lbrace] 0 2 FnDecl b"0>>";
+    5: [Exp Unop] 0 1 Exp b"01";
+    6: [Exp Binop Exp] 0 1 Exp b"012";
+    7: [Exp Comma Exp] 0 1 Exp b"01O2";
+    8: [Exp Semi] 0 1 Stmt b"01";
+    9: [Exp Colon] 0 1 Tag b"01";
+    10: [Exp Rbrace] 0 2 Stmt b"0";
+    11: [Exp Cast] 0 1 Exp b"01";
+    12: [Lpar Ubinop Rpar] 0 1 Exp b"012";
+};
+
+const FROM_13: [(u8, &[Cat], usize, usize, Cat, &[u8]); 12] = rows! {
+    13: [Lpar Rpar] 0 1 Exp b"0T1";
+    14: [Lpar IntLike Rpar] 0 1 Cast b"012";
+    15: [Lpar Exp Comma] 0 1 Lpar b"012O";
+    16: [Lpar Stmt] 0 1 Lpar b"01_";
+    17: [Unop IntLike] 0 1 IntLike b"01";
+    18: [Ubinop Cast Rpar] 0 2 Cast b"{0}1";
+    19: [Ubinop Exp] 0 1 Exp b"{0}1";
+    20: [Ubinop Binop] 0 1 Binop b"m0{1}}";
+    21: [Binop Binop] 0 1 Binop b"m{0}{1}}";
+    22: [Cast Lpar] 0 1 Lpar b"01";
+    23: [Cast Exp] 0 1 Exp b"0_1";
+    24: [Cast Semi] 0 2 Exp b"0";
+};
+
+const FROM_25: [(u8, &[Cat], usize, usize, Cat, &[u8]); 12] = rows! {
+    25: [SizeofLike Cast] 0 1 Exp b"01";
+    26: [SizeofLike Exp] 0 1 Exp b"0_1";
+    27: [IntLike StructLike] 0 1 StructLike b"0_1";
+    28: [IntLike Exp RawInt] 0 2 IntLike b"01";
+    29: [IntLike Exp] 0 2 DeclHead b"0_";
+    30: [IntLike Semi] 0 2 DeclHead b"0";
+    31: [DeclHead Comma] 0 1 DeclHead b"01_";
+    32: [DeclHead Ubinop] 0 1 DeclHead b"0{1}";
+    33: [DeclHead Exp Semi] 0 2 DeclHead b"01";
+    34: [DeclHead Binop Exp Semi] 0 2 DeclHead b"012";
+    35: [DeclHead Cast] 0 1 DeclHead b"01";
+    36: [DeclHead Decl] 0 2 FnDecl b"0>>";
+};
+
+const FROM_37: [(u8, &[Cat], usize, usize, Cat, &[u8]); 12] = rows! {
+    37: [DeclHead Semi] 0 1 Decl b"01";
+    38: [Decl Decl] 0 1 Decl b"0F1";
+    39: [Decl Stmt] 0 1 Stmt b"0B1";
+    40: [StructLike Lbrace] 0 1 StructHead b"0_1";
+    41: [StructLike Exp Semi] 0 2 DeclHead b"0_1";
+    42: [StructLike Exp Lbrace] 0 1 StructHead b"0_1_2";
+    43: [StructLike Exp Comma] 0 2 IntLike b"0_1";
+    44: [StructHead Decl Rbrace] 0 1 IntLike b"0>F1<F2";
+    45: [StructHead Rbrace] 0 1 IntLike b"0T1";
+    46: [FnDecl Decl] 0 1 FnDecl b"0F1";
+    47: [FnDecl Stmt] 0 1 Function b"0<<F1";
+    48: [Function Decl] 0 1 Decl b"0B1";
+};
+
+const FROM_49: [(u8, &[Cat], usize, usize, Cat, &[u8]); 12] = rows! {
+    49: [Lbrace Rbrace] 0 1 Stmt b"0T1";
+    50: [Lbrace Stmt Rbrace] 0 1 Stmt b"F0>F1FU2<F";
+    51: [Lbrace Exp Rbrace] 0 1 Exp b"012";
+    52: [Lbrace Exp Comma Rbrace] 0 1 Exp b"0123";
+    53: [IfLike Exp] 0 1 IfClause b"0_1";
+    54: [ElseLike Lbrace] 0 2 ElseHead b"0";
+    55: [ElseLike Stmt] 0 1 Stmt b"F0>YWN1<F";
+    56: [ElseHead Exp] 0 1 Stmt b"F0YWN1F";
+    57: [IfClause Lbrace] 0 2 IfHead b"0";
+    58: [IfClause Stmt ElseLike IfLike] 0 1 IfLike b"F0>YWN1<F2_3";
+    59: [IfClause Stmt ElseLike Stmt] 0 2 ElseLike b"F0>YWN1<F2";
+    60: [IfClause Stmt Stmt] 0 3 ElseLike b"0";
+};
+
+const FROM_61: [(u8, &[Cat], usize, usize, Cat, &[u8]); 12] = rows! {
+    61: [IfHead Exp ElseLike IfLike] 0 1 IfLike b"F0YWN1F2_3";
+    62: [IfHead Stmt ElseLike Stmt] 0 2 ElseLike b"F0YWN1F2";
+    63: [IfHead Stmt Stmt] 0 3 ElseHead b"0";
+    64: [DoLike Stmt ElseLike Semi] 0 1 Stmt b"0YWN1NWY23";
+    65: [ForLike Exp] 0 1 ElseLike b"0_1";
+    66: [CaseLike Semi] 0 1 Stmt b"01";
+    67: [CaseLike Colon] 0 1 Tag b"01";
+    68: [CaseLike Exp] 0 1 Exp b"0_1";
+    69: [Tag Tag] 0 1 Tag b"0Y1";
+    70: [Tag Function] 0 1 Function b"FU0Y1";
+    71: [Stmt Decl] 0 1 Decl b"0B1";
+    72: [Stmt Stmt] 0 1 Stmt b"0F1";
+};
+
+const FROM_73: [(u8, &[Cat], usize, usize, Cat, &[u8]); 10] = rows! {
+    73: [Semi] 0 1 Stmt b"_0";
+    74: [Lproc DefineLike Exp] 0 2 Lproc b"01";
+    75: [Lproc IfLike] 0 1 Lproc b"01";
+    76: [Lproc Rproc] 0 1 Insert b"I01";
+    77: [Lproc Exp Rproc] 0 1 Insert b"I0_12";
+    78: [Lproc Exp Exp Rproc] 0 1 Insert b"I0_1Y23";
+    79: [SectionScrap Semi] 0 1 Stmt b"01F";
+    80: [SectionScrap] 0 1 Exp b"0";
+    81: [Insert Decl] 0 1 Decl b"01";
+    82: [TypedefLike IntLike Comma] 1 3 Exp b"1";
+};
+
+const FROM_83: [(u8, &[Cat], usize, usize, Cat, &[u8]); 10] = rows! {
+    83: [TypedefLike IntLike] 0 1 TypedefLike b"0_1";
+    84: [TypedefLike Exp Semi] 0 2 TypedefLike b"0_1";
+    85: [TypedefLike Comma] 0 1 TypedefLike b"01_";
+    86: [TypedefLike Semi] 0 1 Decl b"01";
+    87: [TypedefLike Ubinop Cast] 1 2 Cast b"{1}2";
+    88: [Question Exp Colon] 0 1 Binop b"012";
+    89: [RawInt] 0 1 IntLike b"0";
+    90: [RawUbin ConstLike] 0 1 RawUbin b"01_";
+    91: [RawUbin] 0 1 Ubinop b"0";
+    92: [ConstLike] 0 1 IntLike b"0";
+};
+
+const FROM_93: [(u8, &[Cat], usize, usize, Cat, &[u8]); 5] = rows! {
+    93: [Cast Lbrace Rbrace] 0 1 Exp b"01T2";
+    94: [Cast Lbrace Exp Rbrace] 0 1 Exp b"0123";
+    95: [Comma Dot Exp] 1 2 Exp b"{1}2";
+    96: [Lpar Tag Exp Rpar] 1 3 Exp b"1_2";
+    97: [Dot] 0 1 Binop b"0";
+};
+
+// The same for the rows that a flag changes, with all flags off. Behind a function a declaration is set apart all the
+// same.
+const FLAGS_OFF: [(u8, &[Cat], usize, usize, Cat, &[u8]); 6] = rows! {
+    4: [Exp Lbrace] 0 2 FnDecl b"0";
+    36: [DeclHead Decl] 0 2 FnDecl b"0";
+    39: [Decl Stmt] 0 1 Stmt b"0F1";
+    39: [Decl Function] 0 1 Function b"0B1";
+    47: [FnDecl Stmt] 0 1 Function b"0F1";
+    72: [Stmt Stmt] 0 1 Stmt b"0Y1";
+};
+
+// The scrap whose identifier a production underlines.
+fn underlined(row: u8) -> Option<u8> {
+    match row {
+        4 | 9 => Some(0),
+        33 | 41 | 42 | 84 => Some(1),
+        74 => Some(2),
+        _ => None,
+    }
+}
+
+// A scrap of a token of one byte; an identifier's has the category of its name.
+fn add(
+    kind: TokKind,
+    byte: u8,
+    place: u8,
+    line: &mut ScrapLine,
+    store: &mut TokenStore,
+    names: &mut Names,
+) -> Result<(), Memory>
+    requires kind { MakesLeaf kind }
+    requires sound { IsSoundLine store.old names.old line.old }
+    ensures sound { OnOk result (IsSoundLine store.new names.new line.new) }
+{
+    let token = Tok {
+        kind,
+        text: &[byte],
+        span: Span {
+            start: place as usize,
+            end: place as usize,
+        },
+        hash_line: false,
+    };
+    let leaf = scrap_of(&token, names, store)?;
+    line.add(leaf.cat, leaf.list, leaf.left, leaf.right)
+}
+
+// A scrap of an identifier for each letter.
+fn add_words(
+    letters: &[u8],
+    line: &mut ScrapLine,
+    store: &mut TokenStore,
+    names: &mut Names,
+) -> Result<(), Memory>
+    requires sound { IsSoundLine store.old names.old line.old }
+    ensures sound { OnOk result (IsSoundLine store.new names.new line.new) }
+{
+    let mut place = 0u8;
+    for letter in letters {
+        add(TokKind::Identifier, *letter, place, line, store, names)?;
+        place = place.wrapping_add(1);
+    }
+    Ok(())
+}
+
+// The letters from `a` on get these categories, and `z` that of a scrap that no row joins to the right.
+fn names_of(alloc: Global, cats: &[Cat]) -> Result<Names, Memory> {
+    let mut names = Names::with_words(alloc)?;
+    let name = names.find_or_add(EntryKind::Ident, b"z")?;
+    names.set_category(name, Cat::Dead);
+    let mut letter = b'a';
+    for cat in cats {
+        let name = names.find_or_add(EntryKind::Ident, &[letter])?;
+        if *cat != Cat::End {
+            names.set_category(name, *cat);
+        }
+        letter = letter.wrapping_add(1);
+    }
+    Ok(names)
+}
+
+// The first row that fits at a place.
+fn first_row(line: &ScrapLine, place: usize, steps: &mut Steps<Kept>) -> Option<RowNo>
+    requires { place < length line.now }
+    ensures from_one { IfSome result (λ row. 1 ≤ row.number) }
+    ensures to_last { IfSome result (λ row. row.number ≤ ROW_COUNT) }
+    ensures fits { IfSome result (λ row. row_fits (row_of productions row.number) (drop place (entry_cats line.now)) ≡
+        true) }
+{
+    let _length = line.len();
+    first_production([
+        line.cat_at(place, steps),
+        line.cat_at(place + 1, steps),
+        line.cat_at(place + 2, steps),
+        line.cat_at(place + 3, steps),
+    ])
+}
+
+// The production by the first row that fits at a place. It answers the row's number, or 0 where none fits.
+fn produce(
+    place: usize,
+    flags: &Flags,
+    line: &mut ScrapLine,
+    names: &mut Names,
+    marks: &mut Marks,
+    store: &mut TokenStore,
+    steps: &mut Steps<Kept>,
+) -> Result<u8, Memory>
+    requires sound { IsSoundLine store.old names.old line.old }
+    ensures sound { OnOk result (IsSoundLine store.new names.new line.new) }
+{
+    if place >= line.len() {
+        return Ok(0);
+    }
+    store.reserve(24)?;
+    marks.reserve(1)?;
+    match first_row(line, place, steps) {
+        Some(row) => {
+            line.apply(&table(), row, place, flags, names, marks, store, steps);
+            Ok(row.number)
+        }
+        None => Ok(0),
+    }
+}
+
+// How an item of a translation stands in the table of this file; a toggle as `$` into math and `#` out of it.
+fn shown(item: FlatItem) -> u8 {
+    match item {
+        FlatItem::Source(place) | FlatItem::Ident(_, place) | FlatItem::Reserved(_, place) =>
+            b'0'.wrapping_add((place % 10) as u8),
+        FlatItem::Open | FlatItem::Close => b'?',
+        FlatItem::Control(control) => sign(control),
+    }
+}
+
+fn sign(control: Control) -> u8 {
+    match control {
+        Control::Blank => b'_',
+        Control::OptionalBreak => b'Y',
+        Control::Break => b'F',
+        Control::BigBreak => b'B',
+        Control::Cancel => b'N',
+        Control::Backup => b'U',
+        Control::Wall => b'W',
+        Control::Indent => b'>',
+        Control::Outdent => b'<',
+        Control::OptionalLineBreak9 => b'O',
+        Control::ThinSpace => b'T',
+        Control::OpenBrace => b'{',
+        Control::CloseBrace => b'}',
+        Control::OpenRelation => b'm',
+        Control::Inserted => b'I',
+        Control::ToMath => b'$',
+        Control::ToText => b'#',
+        _ => b'?',
+    }
+}
+
+// The translation of a scrap.
+fn translation(
+    alloc: Global,
+    line: &ScrapLine,
+    i: usize,
+    store: &TokenStore,
+    names: &Names,
+) -> Result<Vec<u8>, Memory>
+    requires sound { IsSoundLine store.now names.now line.now }
+{
+    let mut bytes = Vec::new(alloc);
+    if i < line.len() {
+        let flat = store.flat(alloc, line.part_at(i).list)?;
+        for k in 0..flat.len() {
+            bytes.push(shown(flat.item(k)))?;
+        }
+    }
+    Ok(bytes)
+}
+
+// Whether the names that were underlined are that of one letter, or none.
+fn are_marked(scrap: Option<u8>, marks: &Marks, names: &mut Names) -> Result<bool, Memory> {
+    match scrap {
+        None => Ok(marks.is_empty()),
+        Some(k) => {
+            let name = names.find_or_add(EntryKind::Ident, &[b'a'.wrapping_add(k)])?;
+            Ok(marks.len() == 1 && marks.name(0) == name)
+        }
+    }
+}
+
+// What a production makes of the scraps of these categories, behind one that no row joins.
+#[derive(Drop)]
+struct Outcome {
+    row: u8,
+    left: usize,
+    cat: Cat,
+    marked: bool,
+    bytes: Vec<u8>,
+}
+
+fn made_of(
+    alloc: Global,
+    cats: &[Cat],
+    replaced: usize,
+    underlined: Option<u8>,
+    flags: &Flags,
+) -> Result<Outcome, Memory> {
+    let mut line = ScrapLine::new_in(alloc);
+    let mut store = TokenStore::new_in(alloc);
+    let mut names = names_of(alloc, cats)?;
+    let mut marks = Marks::new_in(alloc);
+    let mut steps: Steps<Kept> = Steps::new();
+    add(
+        TokKind::Identifier,
+        b'z',
+        9,
+        &mut line,
+        &mut store,
+        &mut names,
+    )?;
+    let letters = b"abcd";
+    let count = cats.len().min(letters.len());
+    add_words(&letters[..count], &mut line, &mut store, &mut names)?;
+    let row = produce(
+        1, flags, &mut line, &mut names, &mut marks, &mut store, &mut steps,
+    )?;
+    let at = replaced.saturating_add(1);
+    let bytes = translation(alloc, &line, at, &store, &names)?;
+    Ok(Outcome {
+        row,
+        left: line.len(),
+        cat: line.cat_at(at, &mut steps),
+        marked: are_marked(underlined, &marks, &mut names)?,
+        bytes,
+    })
+}
+
+// The number of the first of these productions that makes something else than its row says, or 0.
+fn first_wrong(
+    alloc: Global,
+    rows: &[(u8, &[Cat], usize, usize, Cat, &[u8])],
+    flags: &Flags,
+) -> Result<u8, Memory> {
+    for (row, cats, replaced, left, cat, bytes) in rows {
+        let done = made_of(alloc, cats, *replaced, underlined(*row), flags)?;
+        let same = done.row == *row
+            && done.left == left.wrapping_add(1)
+            && done.cat == *cat
+            && done.marked
+            && done.bytes.as_slice() == *bytes;
+        if !same {
+            return Ok(*row);
+        }
+    }
+    Ok(0)
+}
+
+#[test]
+fn each_production_makes_what_its_row_says(rt: HostRuntime) -> Result<(), Fail> {
+    let alloc = rt.alloc();
+    let flags = Flags::start();
+    assert_eq!(rt; first_wrong(alloc, &FROM_1, &flags)?, 0);
+    assert_eq!(rt; first_wrong(alloc, &FROM_13, &flags)?, 0);
+    assert_eq!(rt; first_wrong(alloc, &FROM_25, &flags)?, 0);
+    assert_eq!(rt; first_wrong(alloc, &FROM_37, &flags)?, 0);
+    assert_eq!(rt; first_wrong(alloc, &FROM_49, &flags)?, 0);
+    assert_eq!(rt; first_wrong(alloc, &FROM_61, &flags)?, 0);
+    assert_eq!(rt; first_wrong(alloc, &FROM_73, &flags)?, 0);
+    assert_eq!(rt; first_wrong(alloc, &FROM_83, &flags)?, 0);
+    assert_eq!(rt; first_wrong(alloc, &FROM_93, &flags)?, 0);
+    Ok(())
+}
+
+#[test]
+fn a_flag_that_is_off_changes_its_rows(rt: HostRuntime) -> Result<(), Fail> {
+    let mut flags = Flags::start();
+    flags.force = false;
+    flags.indent = false;
+    flags.separate = false;
+    assert_eq!(rt; first_wrong(rt.alloc(), &FLAGS_OFF, &flags)?, 0);
+    Ok(())
+}
+
+// The last item of a scrap's translation.
+fn last_item(
+    alloc: Global,
+    line: &ScrapLine,
+    i: usize,
+    store: &TokenStore,
+    names: &Names,
+) -> Result<Option<FlatItem>, Memory>
+    requires sound { IsSoundLine store.now names.now line.now }
+{
+    let mut last = None;
+    if i < line.len() {
+        let flat = store.flat(alloc, line.part_at(i).list)?;
+        for k in 0..flat.len() {
+            last = Some(flat.item(k));
+        }
+    }
+    Ok(last)
+}
+
+// `a struct a; a b`, and the declaration of a structure `a` in it: to its right each bare `a` is a type from now on.
+#[test]
+fn reserving_turns_scraps_to_the_right_alone(rt: HostRuntime) -> Result<(), Fail> {
+    let alloc = rt.alloc();
+    let mut line = ScrapLine::new_in(alloc);
+    let mut store = TokenStore::new_in(alloc);
+    let mut names = names_of(alloc, &[Cat::Exp, Cat::Exp, Cat::StructLike, Cat::Semi])?;
+    let mut marks = Marks::new_in(alloc);
+    let mut steps: Steps<Kept> = Steps::new();
+    let flags = Flags::start();
+    add_words(b"acadab", &mut line, &mut store, &mut names)?;
+    let row = produce(
+        1, &flags, &mut line, &mut names, &mut marks, &mut store, &mut steps,
+    )?;
+    assert_eq!(rt; row, 41);
+    assert_eq!(rt; steps.count(), 7);
+    let left = last_item(alloc, &line, 0, &store, &names)?;
+    let made = last_item(alloc, &line, 1, &store, &names)?;
+    let right = last_item(alloc, &line, 3, &store, &names)?;
+    let name = names.find_or_add(EntryKind::Ident, b"a")?;
+    assert!(rt; left == Some(FlatItem::Ident(name, 0)));
+    assert!(rt; made == Some(FlatItem::Reserved(name, 2)));
+    assert!(rt; right == Some(FlatItem::Reserved(name, 4)));
+    assert!(rt; marks.len() == 1 && marks.name(0) == name);
+    assert!(rt; names.category(name) == Cat::RawInt);
+    for (i, cat) in [
+        Cat::Exp,
+        Cat::DeclHead,
+        Cat::Semi,
+        Cat::RawInt,
+        Cat::Exp,
+        Cat::End,
+    ]
+    .iter()
+    .enumerate()
+    {
+        assert!(rt; line.cat_at(i, &mut steps) == *cat, "scrap {i}");
+    }
+    Ok(())
+}
+
+// The scraps of `{a;}`.
+fn add_block(line: &mut ScrapLine, store: &mut TokenStore, names: &mut Names) -> Result<(), Memory>
+    requires sound { IsSoundLine store.old names.old line.old }
+    ensures sound { OnOk result (IsSoundLine store.new names.new line.new) }
+{
+    add(TokKind::Sign(Sign::LeftBrace), b'{', 0, line, store, names)?;
+    add(TokKind::Identifier, b'a', 1, line, store, names)?;
+    add(TokKind::Sign(Sign::Semicolon), b';', 2, line, store, names)?;
+    add(TokKind::Sign(Sign::RightBrace), b'}', 3, line, store, names)
+}
+
+// Its statement and then the block: one list of ten tokens, four toggles between them and its beginning take fifteen of
+// the spare.
+#[test]
+fn a_block_takes_one_list_with_toggles_between_its_pieces(rt: HostRuntime) -> Result<(), Fail> {
+    let alloc = rt.alloc();
+    let mut line = ScrapLine::new_in(alloc);
+    let mut store = TokenStore::new_in(alloc);
+    let mut names = Names::with_words(alloc)?;
+    let mut marks = Marks::new_in(alloc);
+    let mut steps: Steps<Kept> = Steps::new();
+    let flags = Flags::start();
+    add_block(&mut line, &mut store, &mut names)?;
+    let statement = produce(
+        1, &flags, &mut line, &mut names, &mut marks, &mut store, &mut steps,
+    )?;
+    store.reserve(24)?;
+    let room = store.spare();
+    let block = produce(
+        0, &flags, &mut line, &mut names, &mut marks, &mut store, &mut steps,
+    )?;
+    assert_eq!(rt; statement, 8);
+    assert_eq!(rt; block, 50);
+    assert_eq!(rt; room.saturating_sub(store.spare()), 15);
+    let bytes = translation(alloc, &line, 0, &store, &names)?;
+    assert!(rt; bytes.as_slice() == b"F$0>#F12FU$3<#F".as_slice());
+    assert!(rt; line.len() == 1);
+    let part = line.part_at(0);
+    assert_eq!(rt; part.list.index, 5);
+    assert!(rt; part.left == MathMode::Text && part.right == MathMode::Text);
+    Ok(())
+}

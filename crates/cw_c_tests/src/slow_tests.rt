@@ -1,0 +1,160 @@
+//! The slow program of the definition, which looks for the least place again from the left before each production,
+//! beside `reduce`.
+ghost use Rattle.std.specs.Prelude.{OnOk};
+ghost use Rattle.cw_scraps.specs.Lines.{IsSoundLine};
+
+use cw_reduce::reduce;
+use cw_reduce::walk::{produce, row_at};
+use crate::walk_tests::add_all;
+use cw_base::{Cat, Flags, Kept, Memory, Steps};
+use cw_names::Names;
+use cw_scraps::{Marks, ScrapLine};
+use cw_tokens::TokenStore;
+use std::alloc::Global;
+use std::test::Fail;
+
+// The production at a place, where a row fits there.
+fn produce_at(
+    place: usize,
+    line: &mut ScrapLine,
+    store: &mut TokenStore,
+    names: &mut Names,
+    marks: &mut Marks,
+    steps: &mut Steps<Kept>,
+) -> Result<bool, Memory>
+    requires sound { IsSoundLine store.old names.old line.old }
+    ensures sound { OnOk result (IsSoundLine store.new names.new line.new) }
+{
+    if place >= line.len() {
+        return Ok(false);
+    }
+    match row_at(line, place, steps) {
+        Some(row) => {
+            produce(
+                row,
+                place,
+                &Flags::start(),
+                line,
+                names,
+                marks,
+                store,
+                steps,
+            )?;
+            Ok(true)
+        }
+        None => Ok(false),
+    }
+}
+
+// The leftmost production, if there is one.
+fn produce_leftmost(
+    line: &mut ScrapLine,
+    store: &mut TokenStore,
+    names: &mut Names,
+    marks: &mut Marks,
+    steps: &mut Steps<Kept>,
+) -> Result<bool, Memory>
+    requires sound { IsSoundLine store.old names.old line.old }
+    ensures sound { OnOk result (IsSoundLine store.new names.new line.new) }
+{
+    for place in 0..line.len() {
+        if produce_at(place, line, store, names, marks, steps)? {
+            return Ok(true);
+        }
+    }
+    Ok(false)
+}
+
+// All productions of a line, of which there are at most eight for each scrap.
+fn produce_all(
+    line: &mut ScrapLine,
+    store: &mut TokenStore,
+    names: &mut Names,
+    marks: &mut Marks,
+    steps: &mut Steps<Kept>,
+) -> Result<u64, Memory>
+    requires sound { IsSoundLine store.old names.old line.old }
+    ensures sound { OnOk result (IsSoundLine store.new names.new line.new) }
+{
+    for done in 0..8 * line.len() as u64 {
+        if !produce_leftmost(line, store, names, marks, steps)? {
+            return Ok(done);
+        }
+    }
+    Ok(8 * line.len() as u64)
+}
+
+// What is left of a line: its categories, and how many productions and marks there were.
+#[derive(Drop)]
+struct Left {
+    cats: Vec<Cat>,
+    productions: u64,
+    marks: usize,
+}
+
+fn left_of(
+    alloc: Global,
+    line: &ScrapLine,
+    productions: u64,
+    marks: usize,
+) -> Result<Left, Memory> {
+    let mut cats = Vec::new(alloc);
+    let mut steps: Steps<Kept> = Steps::new();
+    for i in 0..line.len() {
+        cats.push(line.cat_at(i, &mut steps))?;
+    }
+    Ok(Left {
+        cats,
+        productions,
+        marks,
+    })
+}
+
+fn slowly(alloc: Global, tokens: &[u8]) -> Result<Left, Memory> {
+    let mut line = ScrapLine::new_in(alloc);
+    let mut store = TokenStore::new_in(alloc);
+    let mut names = Names::with_words(alloc)?;
+    let mut marks = Marks::new_in(alloc);
+    let mut steps: Steps<Kept> = Steps::new();
+    add_all(tokens, &mut line, &mut store, &mut names)?;
+    let productions = produce_all(&mut line, &mut store, &mut names, &mut marks, &mut steps)?;
+    left_of(alloc, &line, productions, marks.len())
+}
+
+fn by_walk(alloc: Global, tokens: &[u8]) -> Result<Left, Memory> {
+    let mut line = ScrapLine::new_in(alloc);
+    let mut store = TokenStore::new_in(alloc);
+    let mut names = Names::with_words(alloc)?;
+    let mut marks = Marks::new_in(alloc);
+    let mut steps: Steps<Kept> = Steps::new();
+    add_all(tokens, &mut line, &mut store, &mut names)?;
+    let done = reduce(
+        &mut line,
+        &mut store,
+        &mut names,
+        &mut marks,
+        &Flags::start(),
+        &mut steps,
+    )?;
+    left_of(alloc, &line, done.productions, marks.len())
+}
+
+#[test]
+fn the_walk_ends_as_the_slow_program(rt: HostRuntime) -> Result<(), Fail> {
+    let texts: [&[u8]; 6] = [
+        b"Ta=b+c,*d;",
+        b"I(a)b;EI(c){d;}Ee;",
+        b")))a;b;c;(",
+        b"Ta(Tb,Tc){a=b+c;}",
+        b"T*a;Tb;c=(a+b)*a;",
+        b"{I(a){b;}E{c;}}}",
+    ];
+    for text in texts {
+        let slow = slowly(rt.alloc(), text)?;
+        let walk = by_walk(rt.alloc(), text)?;
+        assert_eq!(rt; slow.cats.as_slice(), walk.cats.as_slice());
+        assert_eq!(rt; slow.productions, walk.productions);
+        assert_eq!(rt; slow.marks, walk.marks);
+    }
+    Ok(())
+}

@@ -1,0 +1,224 @@
+//! Tests of the store: lists in lists, inner texts, searches, trimming, and room that is refused.
+ghost use Rattle.std.specs.Prelude.{◌≡◌, ℕ, ◌+◌, ◌<◌, ◌≤◌, ◌++◌, ◌∷◌, [], length};
+ghost use Rattle.cw_trees.specs.declared.Control.TheVariants as controls;
+ghost use Rattle.cw_tokens.specs.declared.token.Token.TheVariants as tokens;
+ghost use Rattle.cw_base.specs.declared.mode.MathMode.TheVariants as MathModes;
+ghost use Rattle.cw_tokens.specs.References.{IsUnreferred};
+ghost use Rattle.cw_tokens.specs.Shapes.{shape, ref_of};
+
+use cw_tokens::{FlatItem, ListId, Token, TokenStore};
+use cw_base::{Cat, MathMode, Memory};
+use cw_names::{NameId, Names};
+use cw_trees::Control;
+use std::alloc::Global;
+use std::test::Fail;
+
+// A list of a break and an identifier.
+fn word(store: &mut TokenStore, name: NameId) -> ListId
+    requires idle { store.old.building ≡ None }
+    requires room { 3 ≤ store.old.spare }
+    ensures lists { store.new.lists ≡ store.old.lists ++ (tokens.Control controls.Break ∷ tokens.Ident name 7 ∷ []) ∷
+        [] }
+    ensures list { result.index ≡ length store.old.lists }
+    ensures idle { store.new.building ≡ None }
+    ensures spare { store.new.spare + 3 ≡ store.old.spare }
+{
+    store.begin();
+    store.push(Token::Control(Control::Break));
+    store.push(Token::Ident(name, 7));
+    store.finish()
+}
+
+// A list that holds another, and a source token behind it.
+fn around(store: &mut TokenStore, below: Token) -> ListId
+    requires idle { store.old.building ≡ None }
+    requires room { 3 ≤ store.old.spare }
+    requires below { (x : ℕ) → ref_of (shape below) ≡ Some x → (x < length store.old.lists) ×
+        IsUnreferred store.old.lists x }
+    ensures list { result.index ≡ length store.old.lists }
+    ensures lists { store.new.lists ≡ store.old.lists ++ (below ∷ tokens.Source 9 MathModes.Math ∷ []) ∷ [] }
+    ensures idle { store.new.building ≡ None }
+    ensures spare { store.new.spare + 3 ≡ store.old.spare }
+{
+    store.begin();
+    store.push(below);
+    store.push(Token::Source(9, MathMode::Math));
+    store.finish()
+}
+
+// A list of two tokens that refer to none.
+fn pair(store: &mut TokenStore, first: Token, second: Token) -> ListId
+    requires idle { store.old.building ≡ None }
+    requires room { 3 ≤ store.old.spare }
+    requires first { ref_of (shape first) ≡ None }
+    requires second { ref_of (shape second) ≡ None }
+    ensures list { result.index ≡ length store.old.lists }
+    ensures lists { length store.new.lists ≡ length store.old.lists + 1 }
+    ensures idle { store.new.building ≡ None }
+    ensures spare { store.new.spare + 3 ≡ store.old.spare }
+{
+    store.begin();
+    store.push(first);
+    store.push(second);
+    store.finish()
+}
+
+#[test]
+fn a_list_inside_another_is_laid_flat_and_reserved_in_place(rt: HostRuntime) -> Result<(), Fail> {
+    let alloc = rt.alloc();
+    let names = Names::with_words(alloc)?;
+    let name = NameId { index: 50 };
+    let mut store = TokenStore::new_in(alloc);
+    store.reserve(6)?;
+    let room = store.spare();
+    let inside = word(&mut store, name);
+    let outside = around(&mut store, Token::List(inside));
+    assert_eq!(rt; room - store.spare(), 6);
+    assert!(rt; store.first_ident(outside, &names) == Some(name));
+    assert!(rt; store.bare_name(outside).is_none());
+    assert!(rt; store.reserve_ident(outside, &names) == Some(name));
+    assert!(rt; store.first_ident(outside, &names).is_none());
+    let flat = store.flat(alloc, outside)?;
+    assert_eq!(rt; flat.len(), 3);
+    assert!(rt; flat.item(0) == FlatItem::Control(Control::Break));
+    assert!(rt; flat.item(1) == FlatItem::Reserved(name, 7));
+    assert!(rt; flat.item(2) == FlatItem::Source(9));
+    Ok(())
+}
+
+#[test]
+fn an_inner_text_stands_between_brackets_and_is_not_searched(rt: HostRuntime) -> Result<(), Fail> {
+    let alloc = rt.alloc();
+    let names = Names::with_words(alloc)?;
+    let mut store = TokenStore::new_in(alloc);
+    store.reserve(6)?;
+    let inside = word(&mut store, NameId { index: 50 });
+    let outside = around(&mut store, Token::Inner(inside));
+    assert!(rt; store.first_ident(outside, &names).is_none());
+    let flat = store.flat(alloc, outside)?;
+    assert_eq!(rt; flat.len(), 5);
+    assert!(rt; flat.item(0) == FlatItem::Open);
+    assert!(rt; flat.item(3) == FlatItem::Close);
+    assert!(rt; !flat.is_empty());
+    Ok(())
+}
+
+#[test]
+fn a_search_stops_at_a_word_like_case_and_at_the_mark(rt: HostRuntime) -> Result<(), Fail> {
+    let alloc = rt.alloc();
+    let names = Names::with_words(alloc)?;
+    let name = NameId { index: 50 };
+    let mut store = TokenStore::new_in(alloc);
+    store.reserve(12)?;
+    let id = pair(
+        &mut store,
+        Token::Reserved(name, 1, Cat::CaseLike),
+        Token::Ident(name, 2),
+    );
+    assert!(rt; store.first_ident(id, &names).is_none());
+    let id = pair(
+        &mut store,
+        Token::Control(Control::Inserted),
+        Token::Ident(name, 2),
+    );
+    assert!(rt; store.first_ident(id, &names).is_none());
+    let id = pair(
+        &mut store,
+        Token::Reserved(name, 1, Cat::RawInt),
+        Token::Ident(name, 2),
+    );
+    assert!(rt; store.first_ident(id, &names) == Some(name));
+    let id = pair(
+        &mut store,
+        Token::Control(Control::Wall),
+        Token::Ident(name, 2),
+    );
+    assert!(rt; store.first_ident(id, &names) == Some(name));
+    Ok(())
+}
+
+#[test]
+fn a_store_that_is_emptied_keeps_its_room(rt: HostRuntime) -> Result<(), Fail> {
+    let mut store = TokenStore::new_in(rt.alloc());
+    store.reserve(5)?;
+    let room = store.spare();
+    let _list = word(&mut store, NameId { index: 50 });
+    store.begin();
+    store.reset();
+    assert_eq!(rt; room - store.spare(), 4);
+    assert!(rt; store.reserve(usize::MAX) == Err(Memory));
+    assert!(rt; store.spare() + 4 == room);
+    Ok(())
+}
+
+// Run with `rt try --test --fail-alloc N` for N from 1 to 3, each of the three vectors is refused once.
+#[test]
+fn a_store_that_was_refused_room_is_as_before_and_can_ask_again(
+    rt: HostRuntime,
+) -> Result<(), Fail> {
+    let mut store = TokenStore::new_in(rt.alloc());
+    if store.reserve(3).is_err() {
+        assert_eq!(rt; store.spare(), 0);
+    }
+    store.reserve(3)?;
+    let room = store.spare();
+    let list = word(&mut store, NameId { index: 50 });
+    assert_eq!(rt; list.index, 0);
+    assert_eq!(rt; room - store.spare(), 3);
+    Ok(())
+}
+
+#[test]
+fn an_inner_text_is_trimmed_by_itself(rt: HostRuntime) -> Result<(), Fail> {
+    let alloc = rt.alloc();
+    let mut store = TokenStore::new_in(alloc);
+    store.reserve(6)?;
+    let inside = word(&mut store, NameId { index: 50 });
+    let outside = around(&mut store, Token::Inner(inside));
+    let mut flat = store.flat(alloc, outside)?;
+    flat.trim();
+    assert_eq!(rt; flat.len(), 4);
+    assert!(rt; flat.item(0) == FlatItem::Open);
+    assert!(rt; flat.item(1) == FlatItem::Ident(NameId { index: 50 }, 7));
+    assert!(rt; flat.item(2) == FlatItem::Close);
+    assert!(rt; flat.item(3) == FlatItem::Source(9));
+    Ok(())
+}
+
+// Whether the one walk gives what the others give one after the other.
+fn is_trimmed_alike(store: &TokenStore, alloc: Global, id: ListId) -> Result<bool, Memory>
+    requires list { id.index < length store.now.lists }
+{
+    let mut flat = store.flat(alloc, id)?;
+    flat.trim();
+    let trimmed = store.flat_trimmed(alloc, id)?;
+    if trimmed.len() != flat.len() {
+        return Ok(false);
+    }
+    for i in 0..flat.len() {
+        if trimmed.item(i) != flat.item(i) {
+            return Ok(false);
+        }
+    }
+    Ok(true)
+}
+
+#[test]
+fn one_walk_trims_as_two_do(rt: HostRuntime) -> Result<(), Fail> {
+    let alloc = rt.alloc();
+    let name = NameId { index: 50 };
+    let mut store = TokenStore::new_in(alloc);
+    store.reserve(12)?;
+    let inside = word(&mut store, name);
+    let outside = around(&mut store, Token::Inner(inside));
+    assert!(rt; is_trimmed_alike(&store, alloc, inside)?);
+    assert!(rt; is_trimmed_alike(&store, alloc, outside)?);
+    store.reset();
+    let inside = word(&mut store, name);
+    let outside = around(&mut store, Token::List(inside));
+    assert!(rt; is_trimmed_alike(&store, alloc, outside)?);
+    let flat = store.flat_trimmed(alloc, outside)?;
+    assert_eq!(rt; flat.len(), 2);
+    assert!(rt; flat.item(0) == FlatItem::Ident(name, 7));
+    Ok(())
+}

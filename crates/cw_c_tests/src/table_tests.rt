@@ -1,0 +1,89 @@
+//! Tests of the table: distances, steps back, the rows that fit, and ranks.
+use cw_table::{Piece, RowNo, first_production, rank, step_back, table};
+use cw_base::{ALL_CATS, Cat, CatSet};
+
+// The first category of a set, or End past the tests.
+fn first_of(set: CatSet) -> Cat {
+    for cat in ALL_CATS {
+        if set.has(cat) {
+            return cat;
+        }
+    }
+    Cat::End
+}
+
+#[test]
+fn distances_are_the_least_safe_ones(rt: HostRuntime) {
+    let table = table();
+    assert_eq!(rt; table.distance(RowNo { number: 37 }), 1);
+    assert_eq!(rt; table.distance(RowNo { number: 6 }), 2);
+    assert_eq!(rt; table.distance(RowNo { number: 58 }), 3);
+    assert_eq!(rt; table.distance(RowNo { number: 82 }), 0);
+    assert_eq!(rt; table.distance(RowNo { number: 69 }), 1);
+    for (number, distance) in [(93, 2), (94, 2), (95, 1), (96, 0), (97, 1)] {
+        assert_eq!(rt; table.distance(RowNo { number }), distance);
+    }
+}
+
+#[test]
+fn steps_back_are_the_distances(rt: HostRuntime) {
+    let table = table();
+    for number in 1..98 {
+        assert_eq!(rt;
+            step_back(RowNo { number }),
+            table.distance(RowNo { number }),
+            "production {number}"
+        );
+    }
+}
+
+#[test]
+fn nothing_fits_at_what_no_row_joins(rt: HostRuntime) {
+    let table = table();
+    assert!(rt;
+        table
+            .first_at([Cat::Dead, Cat::Exp, Cat::Exp, Cat::Exp])
+            .is_none()
+    );
+}
+
+#[test]
+fn each_row_is_found_by_its_own_tests(rt: HostRuntime) {
+    let table = table();
+    for number in 1..98 {
+        let row = table.row(RowNo { number });
+        let window = [
+            first_of(row.tests[0]),
+            first_of(row.tests[1]),
+            first_of(row.tests[2]),
+            first_of(row.tests[3]),
+        ];
+        assert!(rt;
+            table.first_at(window) == Some(RowNo { number }),
+            "production {number}"
+        );
+        assert!(rt;
+            first_production(window) == Some(RowNo { number }),
+            "production {number}"
+        );
+    }
+}
+
+#[test]
+fn rows_are_as_written(rt: HostRuntime) {
+    let table = table();
+    assert!(rt; table.is_sound());
+    let row = table.row(RowNo { number: 58 });
+    assert!(rt; row.tests[0].has(Cat::IfClause) && !row.tests[0].has(Cat::IfLike));
+    assert!(rt; row.action.usual.pieces[11] == Piece::Scrap(3));
+    assert!(rt; row.action.usual.count == 12);
+}
+
+#[test]
+fn ranks(rt: HostRuntime) {
+    assert_eq!(rt; rank(Cat::RawInt), 3);
+    assert_eq!(rt; rank(Cat::SectionScrap), 2);
+    assert_eq!(rt; rank(Cat::Exp), 1);
+    assert_eq!(rt; rank(Cat::Dot), 1);
+    assert_eq!(rt; rank(Cat::Dead), 0);
+}

@@ -1,0 +1,339 @@
+//! Worked C texts, translated by calls.
+use crate::test_printing::{put_run, put_sign, run_control, trimmed};
+use cw_reduce::{Translated, is_plain_c, is_uncut, translate};
+use cw_base::{Bytes, Flags, Kept, Memory, Span, Steps};
+use cw_lex::Mode;
+use cw_names::{NameId, Names};
+use cw_scraps::Marks;
+use cw_secnames::{NameUses, SecNames};
+use cw_tokens::{FlatItem, FlatTokens, TokenStore};
+use cw_trees::Control;
+use std::alloc::{AllocError, Global};
+use std::test::Fail;
+
+// The translation of a text, with the flags and names of the start, and all that it was made with.
+#[derive(Drop)]
+struct Outcome {
+    done: Translated,
+    items: FlatTokens,
+    names: Names,
+    marks: usize,
+    steps: u64,
+}
+
+fn translated(alloc: Global, text: &[u8], mode: Mode) -> Result<Outcome, Memory> {
+    if text.len() > 16777216 {
+        return Err(Memory);
+    }
+    let span = Span {
+        start: 0,
+        end: text.len(),
+    };
+    if !is_plain_c(mode) || !is_uncut(text, span, mode) {
+        return Err(Memory);
+    }
+    let mut names = Names::with_words(alloc)?;
+    let mut store = TokenStore::new_in(alloc);
+    let mut marks = Marks::new_in(alloc);
+    let mut steps: Steps<Kept> = Steps::new();
+    let done = translate(
+        alloc,
+        text,
+        span,
+        mode,
+        &mut names,
+        &SecNames::new_in(alloc),
+        &NameUses::new_in(alloc),
+        &mut store,
+        &mut marks,
+        &Flags::start(),
+        &mut steps,
+    )?;
+    let items = store.flat(alloc, done.list)?;
+    Ok(Outcome {
+        done,
+        items,
+        names,
+        marks: marks.len(),
+        steps: steps.count(),
+    })
+}
+
+// A piece of a comment's text goes on up to a bar or the comment's end.
+fn put_piece(out: &mut Bytes, text: &[u8]) -> Result<(), Memory> {
+    for (i, byte) in text.iter().enumerate() {
+        if *byte == b'|' || text[i..].starts_with(b"*/") {
+            return Ok(());
+        }
+        out.push(*byte)?;
+    }
+    Ok(())
+}
+
+// The token at the beginning of a text.
+fn put_source(out: &mut Bytes, text: &[u8]) -> Result<(), Memory> {
+    if text.starts_with(b"/*") {
+        return out.append(b"\\C{");
+    }
+    match text.first() {
+        Some(b'=') => out.append(b"\\K"),
+        Some(b'?') => out.append(b"\\?"),
+        Some(b'{') => out.append(b"\\{"),
+        Some(b'}') => out.append(b"\\}"),
+        Some(b' ') => put_piece(out, text),
+        Some(digit @ b'0'..=b'9') => {
+            out.append(b"\\T{")?;
+            out.push(*digit)?;
+            out.push(b'}')
+        }
+        Some(byte) => out.push(*byte),
+        None => Ok(()),
+    }
+}
+
+fn put_name(out: &mut Bytes, begin: &[u8], names: &Names, name: NameId) -> Result<(), Memory> {
+    out.append(begin)?;
+    if name.index < names.len() {
+        for byte in names.text(name) {
+            if *byte == b'_' {
+                out.push(b'\\')?;
+            }
+            out.push(*byte)?;
+        }
+    }
+    Ok(())
+}
+
+fn put_item(out: &mut Bytes, item: FlatItem, text: &[u8], names: &Names) -> Result<(), Memory> {
+    match item {
+        FlatItem::Source(number) => match text.get(number as usize..) {
+            Some(rest) => put_source(out, rest),
+            None => Ok(()),
+        },
+        FlatItem::Ident(name, _) => put_name(out, b"\\|", names, name),
+        FlatItem::Reserved(name, _) => {
+            put_name(out, b"\\&{", names, name)?;
+            out.push(b'}')
+        }
+        FlatItem::Control(control) => put_sign(out, control),
+        FlatItem::Open => out.append(b"\\PB{"),
+        FlatItem::Close => out.push(b'}'),
+    }
+}
+
+// How many inner texts are open behind an item.
+fn depth_after(depth: usize, item: FlatItem) -> usize {
+    match item {
+        FlatItem::Open => depth.saturating_add(1),
+        FlatItem::Close => depth.saturating_sub(1),
+        _ => depth,
+    }
+}
+
+// The bytes of a translation. In the inner texts here no run prints anything.
+fn printed(alloc: Global, text: &[u8], outcome: &Outcome) -> Result<Bytes, Memory> {
+    let mut out = Bytes::new_in(alloc);
+    let mut run = Vec::new(alloc);
+    let mut depth = 0;
+    for item in &trimmed(alloc, &outcome.items)? {
+        if let Some(control) = run_control(*item) {
+            run.push(control)?;
+        } else {
+            if depth == 0 {
+                put_run(&mut out, &run)?;
+            }
+            run.clear();
+            put_item(&mut out, *item, text, &outcome.names)?;
+            depth = depth_after(depth, *item);
+        }
+    }
+    put_run(&mut out, &run)?;
+    Ok(out)
+}
+
+// A text with what it is printed as, how many scraps it has, and in how many productions it is reduced.
+struct Sample {
+    text: &'static [u8],
+    mode: Mode,
+    bytes: &'static [u8],
+    scraps: u64,
+    productions: Option<u64>,
+}
+
+const SAMPLES: [Sample; 15] = [
+    Sample {
+        text: b"a; /* |b| */",
+        mode: Mode::CPart,
+        bytes: b"\\|a;\\C{ \\PB{\\|b} }",
+        scraps: 4,
+        productions: Some(2),
+    },
+    Sample {
+        text: b"int a=b+c, *d;",
+        mode: Mode::CPart,
+        bytes: b"\\&{int} \\|a${}\\K\\|b+\\|c,{}$ ${}{*}\\|d;$",
+        scraps: 10,
+        productions: Some(10),
+    },
+    Sample {
+        text: b"if(a)b;else if(c){d;}else e;",
+        mode: Mode::CPart,
+        bytes: b"\\&{if} (\\|a)\\1\\5\\|b;\\2\\6\n\\&{else} \\&{if} (\\|c)\\5${}\\{\\1{}$\\6\n\\|d;\\6\n\\4${}\\}\\2{}$\\6\n\\&{else}\\1\\5\\|e;\\2",
+        scraps: 18,
+        productions: Some(12),
+    },
+    Sample {
+        text: b"typedef struct foo{int x;} bar; bar y;",
+        mode: Mode::CPart,
+        bytes: b"\\&{typedef} \\&{struct} \\&{foo} ${}\\{\\1{}$\\6\n\\&{int} \\|x;\\2\\6\n${}\\}{}$ \\&{bar};\\6\n\\&{bar} \\|y;",
+        scraps: 13,
+        productions: None,
+    },
+    Sample {
+        text: b"if(a)b; /* c */ else d;",
+        mode: Mode::CPart,
+        bytes: b"\\&{if} (\\|a)\\1\\5\\|b;\\C{ c }\\2\\6\n\\&{else}\\1\\5\\|d;\\2",
+        scraps: 10,
+        productions: None,
+    },
+    Sample {
+        text: b") } ; @;",
+        mode: Mode::CPart,
+        bytes: b") $\\}$ ;",
+        scraps: 4,
+        productions: None,
+    },
+    Sample {
+        text: b"a; /* b |x /* c |y| */| */",
+        mode: Mode::CPart,
+        bytes: b"\\|a;\\C{ b \\PB{\\|x\\C{ c \\PB{\\|y} }} }",
+        scraps: 6,
+        productions: Some(3),
+    },
+    Sample {
+        text: b"x /* c |y| */",
+        mode: Mode::Inner,
+        bytes: b"\\|x\\C{ c \\PB{\\|y} }",
+        scraps: 3,
+        productions: Some(1),
+    },
+    Sample {
+        text: b"@[int@]=x; @]",
+        mode: Mode::CPart,
+        bytes: b"$\\&{int}\\K\\|x;$",
+        scraps: 7,
+        productions: None,
+    },
+    Sample {
+        text: b"x=a?b:c;",
+        mode: Mode::CPart,
+        bytes: b"$\\|x\\K\\|a\\?\\|b:\\|c;$",
+        scraps: 8,
+        productions: None,
+    },
+    Sample {
+        text: b"struct s p={.x=1,.y=2};",
+        mode: Mode::CPart,
+        bytes: b"\\&{struct} \\|s \\|p${}\\K\\{{.}\\|x\\K\\T{1},\\39{.}\\|y\\K\\T{2}\\};$",
+        scraps: 16,
+        productions: Some(11),
+    },
+    Sample {
+        text: b"x=(int){1};",
+        mode: Mode::CPart,
+        bytes: b"$\\|x\\K(\\&{int})\\{\\T{1}\\};$",
+        scraps: 9,
+        productions: Some(5),
+    },
+    Sample {
+        text: b"_Generic(x,default:2);",
+        mode: Mode::CPart,
+        bytes: b"\\&{\\_Generic} ${}(\\|x,\\39{}$\\&{default}: \\T{2});",
+        scraps: 9,
+        productions: Some(6),
+    },
+    Sample {
+        text: b"a.b;",
+        mode: Mode::CPart,
+        bytes: b"$\\|a.\\|b;$",
+        scraps: 4,
+        productions: Some(3),
+    },
+    Sample {
+        text: b"",
+        mode: Mode::CPart,
+        bytes: b"",
+        scraps: 0,
+        productions: Some(0),
+    },
+];
+
+#[test]
+fn worked_texts_have_their_bytes_and_counts(rt: HostRuntime) -> Result<(), Fail> {
+    for (i, sample) in SAMPLES.iter().enumerate() {
+        let outcome = translated(rt.alloc(), sample.text, sample.mode)?;
+        let bytes = printed(rt.alloc(), sample.text, &outcome)?;
+        assert_eq!(rt; bytes.as_slice(), sample.bytes, "text {i}");
+        assert_eq!(rt; outcome.done.scraps, sample.scraps, "scraps of text {i}");
+        if let Some(productions) = sample.productions {
+            assert_eq!(rt;
+                outcome.done.productions,
+                productions,
+                "productions of text {i}"
+            );
+        }
+    }
+    Ok(())
+}
+
+#[test]
+fn a_declaration_has_two_marks(rt: HostRuntime) -> Result<(), Fail> {
+    let outcome = translated(rt.alloc(), b"int a=b+c, *d;", Mode::CPart)?;
+    assert_eq!(rt; outcome.marks, 2);
+    Ok(())
+}
+
+// The first piece so many times, and then the second.
+fn repeated(
+    alloc: Global,
+    first: &[u8],
+    first_times: usize,
+    second: &[u8],
+    second_times: usize,
+) -> Result<Vec<u8>, AllocError> {
+    let mut text = Vec::new(alloc);
+    for _first in 0..first_times {
+        text.extend_from_slice(first)?;
+    }
+    for _second in 0..second_times {
+        text.extend_from_slice(second)?;
+    }
+    Ok(text)
+}
+
+#[test]
+fn what_stays_at_the_left_is_not_looked_at_again(rt: HostRuntime) -> Result<(), Fail> {
+    let text = repeated(rt.alloc(), b")", 200, b"a;", 200)?;
+    let outcome = translated(rt.alloc(), &text, Mode::CPart)?;
+    assert_eq!(rt; outcome.done.scraps, 600);
+    assert_eq!(rt; outcome.done.productions, 399);
+    assert_eq!(rt; outcome.steps, 4796);
+    let mut blanks = 0u64;
+    for i in 0..outcome.items.len() {
+        if outcome.items.item(i) == FlatItem::Control(Control::Blank) {
+            blanks = blanks.wrapping_add(1);
+        }
+    }
+    // so 201 scraps are left
+    assert_eq!(rt; blanks, 200);
+    Ok(())
+}
+
+#[test]
+fn a_text_of_a_million_scraps_is_one_scrap(rt: HostRuntime) -> Result<(), Fail> {
+    let text = repeated(rt.alloc(), b"", 0, b"a;", 500000)?;
+    let outcome = translated(rt.alloc(), &text, Mode::CPart)?;
+    assert_eq!(rt; outcome.done.scraps, 1000000);
+    assert_eq!(rt; outcome.done.productions, 999999);
+    Ok(())
+}

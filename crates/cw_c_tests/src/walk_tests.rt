@@ -1,0 +1,167 @@
+//! Worked lines of scraps, reduced by calls.
+ghost use Rattle.std.specs.Prelude.{◌≡◌, [], OnOk};
+ghost use Rattle.cw_scraps.specs.Leaves.{MakesLeaf};
+ghost use Rattle.cw_scraps.specs.Lines.{IsSoundLine};
+
+use cw_reduce::reduce;
+use cw_base::{Flags, Kept, Memory, Span, Steps};
+use cw_lex::{Sign, Tok, TokKind};
+use cw_names::Names;
+use cw_scraps::{Marks, ScrapLine, scrap_of};
+use cw_tokens::TokenStore;
+use std::alloc::Global;
+use std::test::Fail;
+
+// A byte stands for a token: a sign for itself, and a letter for an identifier.
+fn kind_of(byte: u8) -> TokKind
+    ensures { MakesLeaf result }
+{
+    match byte {
+        b'(' => TokKind::Sign(Sign::LeftParen),
+        b')' => TokKind::Sign(Sign::RightParen),
+        b'{' => TokKind::Sign(Sign::LeftBrace),
+        b'}' => TokKind::Sign(Sign::RightBrace),
+        b';' => TokKind::Sign(Sign::Semicolon),
+        b',' => TokKind::Sign(Sign::Comma),
+        b'=' => TokKind::Sign(Sign::Assign),
+        b'+' => TokKind::Sign(Sign::Plus),
+        b'*' => TokKind::Sign(Sign::Star),
+        _ => TokKind::Identifier,
+    }
+}
+
+// Some letters stand for reserved words.
+fn word_of(byte: &[u8]) -> &[u8] {
+    match byte {
+        b"I" => b"if",
+        b"E" => b"else",
+        b"T" => b"int",
+        _ => byte,
+    }
+}
+
+fn add(
+    byte: &[u8],
+    kind: TokKind,
+    line: &mut ScrapLine,
+    store: &mut TokenStore,
+    names: &mut Names,
+) -> Result<(), Memory>
+    requires kind { MakesLeaf kind }
+    requires sound { IsSoundLine store.old names.old line.old }
+    ensures sound { OnOk result (IsSoundLine store.new names.new line.new) }
+{
+    let token = Tok {
+        kind,
+        text: byte,
+        span: Span { start: 0, end: 0 },
+        hash_line: false,
+    };
+    let leaf = scrap_of(&token, names, store)?;
+    line.add(leaf.cat, leaf.list, leaf.left, leaf.right)
+}
+
+pub(crate) fn add_all(
+    bytes: &[u8],
+    line: &mut ScrapLine,
+    store: &mut TokenStore,
+    names: &mut Names,
+) -> Result<(), Memory>
+    requires sound { IsSoundLine store.old names.old line.old }
+    ensures sound { OnOk result (IsSoundLine store.new names.new line.new) }
+{
+    for byte in bytes {
+        add(word_of(&[*byte]), kind_of(*byte), line, store, names)?;
+    }
+    Ok(())
+}
+
+// What is left of a line, and what was counted.
+#[derive(Clone, Copy)]
+struct Outcome {
+    scraps: usize,
+    productions: u64,
+    steps: u64,
+    marks: usize,
+}
+
+fn finish(
+    line: &mut ScrapLine,
+    store: &mut TokenStore,
+    names: &mut Names,
+    alloc: Global,
+) -> Result<Outcome, Memory>
+    requires sound { IsSoundLine store.old names.old line.old }
+{
+    let mut marks = Marks::new_in(alloc);
+    let mut steps: Steps<Kept> = Steps::new();
+    let reduced = reduce(line, store, names, &mut marks, &Flags::start(), &mut steps)?;
+    Ok(Outcome {
+        scraps: line.len(),
+        productions: reduced.productions,
+        steps: steps.count(),
+        marks: marks.len(),
+    })
+}
+
+// A line of these tokens, so many times the first and then so many times the second, is reduced.
+fn reduced(
+    alloc: Global,
+    first: &[u8],
+    first_times: usize,
+    second: &[u8],
+    second_times: usize,
+) -> Result<Outcome, Memory> {
+    let mut line = ScrapLine::new_in(alloc);
+    let mut store = TokenStore::new_in(alloc);
+    let mut names = Names::with_words(alloc)?;
+    for _first in 0..first_times {
+        add_all(first, &mut line, &mut store, &mut names)?;
+    }
+    for _second in 0..second_times {
+        add_all(second, &mut line, &mut store, &mut names)?;
+    }
+    finish(&mut line, &mut store, &mut names, alloc)
+}
+
+#[test]
+fn a_declaration_is_one_scrap_with_two_marks(rt: HostRuntime) -> Result<(), Fail> {
+    let done = reduced(rt.alloc(), b"Ta=b+c,*d;", 1, b"", 0)?;
+    assert_eq!(rt; done.scraps, 1);
+    assert_eq!(rt; done.productions, 10);
+    assert_eq!(rt; done.marks, 2);
+    Ok(())
+}
+
+#[test]
+fn nested_choices_are_one_scrap(rt: HostRuntime) -> Result<(), Fail> {
+    let done = reduced(rt.alloc(), b"I(a)b;EI(c){d;}Ee;", 1, b"", 0)?;
+    assert_eq!(rt; done.scraps, 1);
+    assert_eq!(rt; done.productions, 12);
+    Ok(())
+}
+
+#[test]
+fn what_stays_at_the_left_is_not_looked_at_again(rt: HostRuntime) -> Result<(), Fail> {
+    let done = reduced(rt.alloc(), b")", 200, b"a;", 200)?;
+    assert_eq!(rt; done.scraps, 201);
+    assert_eq!(rt; done.productions, 399);
+    assert_eq!(rt; done.steps, 4796);
+    Ok(())
+}
+
+#[test]
+fn a_million_scraps_become_one(rt: HostRuntime) -> Result<(), Fail> {
+    let done = reduced(rt.alloc(), b"a;", 500000, b"", 0)?;
+    assert_eq!(rt; done.scraps, 1);
+    assert_eq!(rt; done.productions, 999999);
+    Ok(())
+}
+
+#[test]
+fn a_line_without_scraps_stays(rt: HostRuntime) -> Result<(), Fail> {
+    let done = reduced(rt.alloc(), b"", 1, b"", 0)?;
+    assert_eq!(rt; done.scraps, 0);
+    assert_eq!(rt; done.steps, 0);
+    Ok(())
+}

@@ -1,0 +1,157 @@
+//! Tests of the scanner on whole texts.
+use cw_lex::{Code, Lexed, Lexer, Mode, TokKind};
+use cw_base::NoteKind;
+
+/// An answer by its kind and its places.
+#[derive(Clone, Copy, Debug, PartialEq, Eq)]
+pub(crate) enum Shown {
+    Token(TokKind, usize, usize),
+    Begin(TokKind, usize, usize),
+    Finish(TokKind, usize, usize),
+    Note(NoteKind, usize),
+    End,
+}
+
+pub(crate) fn show(answer: Lexed) -> Shown {
+    match answer {
+        Lexed::Token(t) => Shown::Token(t.kind, t.span.start, t.span.end),
+        Lexed::Begin(t) => Shown::Begin(t.kind, t.span.start, t.span.end),
+        Lexed::Finish(t) => Shown::Finish(t.kind, t.span.start, t.span.end),
+        Lexed::Note(kind, place) => Shown::Note(kind, place),
+        Lexed::End => Shown::End,
+    }
+}
+
+/// Whether these are the answers over a whole text, one by one up to the end.
+pub(crate) fn gives(mode: Mode, text: &[u8], expected: &[Shown]) -> bool {
+    let mut lexer = Lexer::over(text, 0, text.len(), mode);
+    for wanted in expected {
+        if show(lexer.next()) != *wanted {
+            return false;
+        }
+    }
+    matches!(lexer.next(), Lexed::End)
+}
+
+/// Whether the whole text is one token, without a note.
+pub(crate) fn is_one(mode: Mode, text: &[u8], kind: TokKind) -> bool {
+    gives(mode, text, &[Shown::Token(kind, 0, text.len())])
+}
+
+/// Whether this note, at this place, is the only one over a text.
+pub(crate) fn notes_only(mode: Mode, text: &[u8], kind: NoteKind, place: usize) -> bool {
+    let mut lexer = Lexer::over(text, 0, text.len(), mode);
+    let mut count = 0u32;
+    let mut same = true;
+    // No text of these tests has more answers.
+    for _ in 0..1000 {
+        match show(lexer.next()) {
+            Shown::Note(other, at) => {
+                count = count.saturating_add(1);
+                same = other == kind && at == place;
+            }
+            Shown::End => return count == 1 && same,
+            _ => {}
+        }
+    }
+    false
+}
+
+#[test]
+fn an_answer_tells_its_bytes_and_its_line(rt: HostRuntime) {
+    let mut lexer = Lexer::over(b"x\n #y\nz", 1, 6, Mode::CPart);
+    assert!(rt;
+        matches!(lexer.next(), Lexed::Token(t) if t.kind == TokKind::HashLine && t.hash_line)
+    );
+    assert!(rt;
+        matches!(lexer.next(), Lexed::Token(t) if t.text == b"y".as_slice() && t.hash_line)
+    );
+    assert!(rt;
+        matches!(lexer.next(), Lexed::Token(t) if t.text == b"\n".as_slice() && t.hash_line)
+    );
+    assert!(rt; matches!(lexer.next(), Lexed::End));
+    assert!(rt; matches!(lexer.next(), Lexed::End));
+}
+
+#[test]
+fn each_part_of_a_section(rt: HostRuntime) {
+    let expected = [
+        Shown::Token(TokKind::Text, 0, 2),
+        Shown::Token(TokKind::Code(Code::Section), 2, 4),
+        Shown::Token(TokKind::Text, 4, 6),
+        Shown::Begin(TokKind::InnerText, 6, 7),
+        Shown::Token(TokKind::Identifier, 7, 8),
+        Shown::Finish(TokKind::InnerText, 8, 9),
+        Shown::Token(TokKind::Code(Code::Define), 9, 11),
+        Shown::Token(TokKind::Identifier, 12, 13),
+        Shown::Token(TokKind::Constant, 14, 15),
+        Shown::Token(TokKind::Code(Code::SectionName), 15, 20),
+        Shown::Token(TokKind::HeadSign, 20, 21),
+        Shown::Token(TokKind::Identifier, 21, 22),
+        Shown::Token(TokKind::Code(Code::StarredSection), 22, 26),
+        Shown::Token(TokKind::Text, 26, 27),
+    ];
+    assert!(rt; gives(Mode::Limbo, b"l @ T |x|@d n 3@<a@>=x@*2 U", &expected));
+}
+
+// The beginnings of so many comments with inner text in each, from the outermost on.
+fn begins_nested(lexer: &mut Lexer, levels: usize) -> bool {
+    let mut at = 0usize;
+    for _ in 0..levels {
+        let bar = at.wrapping_add(2);
+        let next = at.wrapping_add(3);
+        if show(lexer.next()) != Shown::Begin(TokKind::LongComment, at, bar)
+            || show(lexer.next()) != Shown::Begin(TokKind::InnerText, bar, next)
+        {
+            return false;
+        }
+        at = next;
+    }
+    true
+}
+
+#[test]
+fn inner_text_of_depth_20(rt: HostRuntime) {
+    let text = b"/*|/*|/*|/*|/*|/*|/*|/*|/*|/*|/*|/*|/*|/*|/*|/*|/*|/*|/*|/*|x";
+    let mut lexer = Lexer::over(text, 0, text.len(), Mode::CPart);
+    assert!(rt; begins_nested(&mut lexer, 20));
+    assert_eq!(rt;
+        show(lexer.next()),
+        Shown::Token(TokKind::Identifier, 60, 61)
+    );
+    assert_eq!(rt;
+        show(lexer.next()),
+        Shown::Finish(TokKind::InnerText, 61, 61)
+    );
+    assert_eq!(rt; show(lexer.next()), Shown::Note(NoteKind::BarMissing, 60));
+    assert_eq!(rt;
+        show(lexer.next()),
+        Shown::Finish(TokKind::LongComment, 61, 61)
+    );
+    assert_eq!(rt;
+        show(lexer.next()),
+        Shown::Note(NoteKind::CommentUnended, 57)
+    );
+}
+
+#[test]
+fn inner_text_of_depth_21_is_text(rt: HostRuntime) {
+    let text = b"/*|/*|/*|/*|/*|/*|/*|/*|/*|/*|/*|/*|/*|/*|/*|/*|/*|/*|/*|/*|/*|x*/";
+    let mut lexer = Lexer::over(text, 0, text.len(), Mode::CPart);
+    assert!(rt; begins_nested(&mut lexer, 20));
+    assert_eq!(rt;
+        show(lexer.next()),
+        Shown::Begin(TokKind::LongComment, 60, 62)
+    );
+    assert_eq!(rt; show(lexer.next()), Shown::Token(TokKind::Text, 62, 64));
+    assert_eq!(rt; show(lexer.next()), Shown::Note(NoteKind::TooDeep, 62));
+    assert_eq!(rt;
+        show(lexer.next()),
+        Shown::Finish(TokKind::LongComment, 64, 66)
+    );
+    assert_eq!(rt;
+        show(lexer.next()),
+        Shown::Finish(TokKind::InnerText, 66, 66)
+    );
+    assert_eq!(rt; show(lexer.next()), Shown::Note(NoteKind::BarMissing, 65));
+}

@@ -1,6 +1,0 @@
--- After the productions so far the line is sound.
-use Rattle.cw_scraps.specs.Lines.{IsSoundLine}
-use Rattle.cw_reduce.proofs.slow_tests.produce_all.Given as goal
-
-abbrev pub invariant-loop-done : goal.invariant-loop-done
-invariant-loop-done l = IsSoundLine l.store l.names l.line
