@@ -1,5 +1,5 @@
 -- A key that is looked for by its kind and text is hashed and compared as the key itself.
-use Rattle.std.specs.Prelude.{◌≡◌, ℕ, Bool, true, false, ◌&&◌, nat_eq, List, refl, IsTrue}
+use Rattle.std.specs.Prelude.{◌≡◌, ℕ, Bool, true, false, ◌&&◌, nat_eq, List, [], ◌∷◌, refl, IsTrue}
 use Rattle.std.specs.Cmp.Lexicographic.{pointwise, bytes_decides}
 use Rattle.cw_names.specs.declared.entry.EntryKind.{EntryKind}
 use Rattle.cw_names.specs.declared.entry.EntryKind.TheVariants.{Ident, Roman, Typewriter, User}
@@ -29,3 +29,8 @@ alike said wanted key h =
     let kind : wanted.kind ≡ key.kind = kinds wanted.kind key.kind (pointwise nat_eq wanted.text.now key.text.items) h in
     let text : wanted.text.now ≡ key.text.items = (bytes_decides wanted.text.now key.text.items).0 (texts wanted.kind key.kind (pointwise nat_eq wanted.text.now key.text.items) h) in
     λ i. said (kind i) (text i)
+
+-- Equal keys have equal texts, and their hashes are fed the same.
+pub same_text : (kinds : Bool) (a b : List ℕ) → IsTrue (kinds && pointwise nat_eq a b) → a ∷ [] ≡ b ∷ []
+same_text true a b h = let text : a ≡ b = (bytes_decides a b).0 h in λ i. text i ∷ []
+same_text false a b h = absurd (let wrong : false ≡ true = h in cc)
