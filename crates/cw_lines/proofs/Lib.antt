@@ -1,3 +1,4 @@
--- What the definition of cutting gives for worked rows.
+-- What the definition of cutting gives for worked rows, and what is put by appending.
+mod Appending
 mod ComparedRows
 mod Rows

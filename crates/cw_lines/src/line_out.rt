@@ -16,6 +16,7 @@ use crate::writing::{append, ended_line, write_all};
 use arrayvec::ArrayVec;
 use cw_base::Out;
 use cw_desk::{Desk, FileId};
+use memchr::memchr;
 use std::alloc::Global;
 use std::marker::Model;
 
@@ -198,6 +199,20 @@ impl LineOut {
         ensures puts { Puts bytes.now self.old self.new (D.told desk.old) (D.told desk.new) result }
         ensures short { HoldsLine self.new }
     {
+        if bytes.len() <= self.room() && !bytes.contains(&b'\n') {
+            self.append(bytes);
+            return Ok(());
+        }
+        self.put_lines(bytes, desk)
+    }
+
+    /// Puts bytes line by line.
+    #[inline(never)]
+    fn put_lines<D: Desk>(&mut self, bytes: &[u8], desk: &mut D) -> Result<(), PutError>
+        requires can { CanWrite (D.told desk.old) self.old }
+        ensures puts { Puts bytes.now self.old self.new (D.told desk.old) (D.told desk.new) result }
+        ensures short { HoldsLine self.new }
+    {
         let mut at = 0;
         while let Some(size) = first_line(&bytes[at..]) {
             let end = at + size;
@@ -338,10 +353,8 @@ fn first_line(bytes: &[u8]) -> Option<usize>
     ensures size { IfSome result (λ size. (0 < size) × (size ≤ length bytes.now)) }
     ensures none { IfNone result (HasNoLineEnd bytes.now) }
 {
-    for (i, byte) in bytes.iter().enumerate() {
-        if *byte == b'\n' {
-            return Some(i + 1);
-        }
+    match memchr(b'\n', bytes) {
+        Some(before) => Some(before + 1),
+        None => None,
     }
-    None
 }

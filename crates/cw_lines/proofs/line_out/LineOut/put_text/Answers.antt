@@ -1,15 +1,12 @@
 -- The next bytes go behind those before them.
-use Rattle.std.proofs.Common.{◌≡◌, ◌≢◌, ℕ, [], ◌+◌, ◌-◌, ◌≤◌, Err, List, ◌++◌, length, take, drop, Option, refl, sym, subst, ap, ◌∙◌, arith, take-add}
+use Rattle.std.proofs.Common.{◌≡◌, ◌≢◌, ℕ, ◌+◌, ◌-◌, ◌≤◌, Err, List, ◌++◌, length, take, drop, sym, subst, ap, ◌∙◌, arith, take-add}
 use Rattle.std.proofs.lemmas.List.{take_more, take_all, length-take}
 use Rattle.std.proofs.lemmas.List.Elements.{All-take, All-drop}
 use Rattle.std.specs.Prelude.{⊤}
-use Rattle.cw_lines.specs.Compared.{OldFile, id_of}
-use Rattle.cw_lines.specs.ComparedLaws.{compares-as, compares-none}
-use Rattle.cw_lines.specs.FillLaws.{fill-text}
-use Rattle.cw_lines.specs.Line.{HasNoLineEnd, Line, LineState, with_text}
-use Rattle.cw_desk.specs.Told.{Told}
+use Rattle.cw_lines.specs.Line.{HasNoLineEnd}
 use Rattle.cw_lines.specs.Writes.{Puts, HasPut}
-use Rattle.cw_lines.specs.WritesLaws.{puts-none, puts-known, puts-then, puts-within, can-after, writes-none}
+use Rattle.cw_lines.specs.WritesLaws.{puts-none, puts-then, puts-within, can-after}
+use Rattle.cw_lines.proofs.Appending.{has-put}
 use Rattle.cw_lines.proofs.line_out.LineOut.put_text.Goals as goal
 
 pub loop-at-init : goal.loop-at-init
@@ -33,14 +30,6 @@ loop-at-preserved-then-is_full g c = record {
       subst (λ (xs : List ℕ). HasPut xs c.args.self.now c.put_behind_cut.new.self (g.D.Desk.told c.args.desk.now) (g.D.Desk.told c.put_behind_cut.new.desk))
       (sym (take_more c.args.text.now c.loop-at.at 0 c.loop-at-test.true)) (puts-then c.loop-at.invariant.put c.in_ok-put_behind_cut.ensures.puts);
 }
-
--- bytes for which there is room are put where they are appended
-has-put : (text : List ℕ) {old new : LineState} (told : Told) → length old.line.pending + length text ≤ 80 → HasNoLineEnd text
-    → new.line ≡ with_text old.line text → new.compared ≡ old.compared → HasPut text old new told told
-has-put text {old = old} told fits none is same =
-    puts-known (record { line = with_text old.line text; written = [] }) (fill-text text old.line fits none)
-    (ap (λ (l : Line). l.out) is) (ap (λ (file : Option OldFile). id_of file) same) is (writes-none (id_of old.compared) told (tt {0}))
-    (compares-as refl (sym same) (compares-none old.compared told))
 
 -- the next bytes, as they are sliced
 next_bytes : (bytes : List ℕ) (at end : ℕ) → at ≤ end → take at bytes ++ take (end - at) (drop at bytes) ≡ take end bytes
