@@ -1,4 +1,5 @@
--- What the definition of cutting gives for worked rows, and what is put by appending.
+-- What the definition of cutting gives for worked rows, what is put by appending, and where no place passes.
 mod Appending
 mod ComparedRows
+mod Places
 mod Rows

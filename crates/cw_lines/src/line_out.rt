@@ -127,7 +127,7 @@ impl LineOut {
     {
         let line = ended_line(self.pending.as_slice(), false);
         self.emit(line.as_slice(), desk)?;
-        self.pending.clear();
+        self.pending = Pending::new();
         self.lines = self.lines.saturating_add(1);
         Ok(())
     }
