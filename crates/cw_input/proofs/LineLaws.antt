@@ -1,8 +1,9 @@
 -- How a line is cut off and trimmed, byte by byte.
-use Rattle.std.proofs.Common.{◌≡◌, ◌≢◌, ℕ, suc, ◌+◌, ◌-◌, ◌<◌, ◌≤◌, ◌==◌, Bool, true, false, cond, List, [], ◌∷◌, ◌++◌, length, take, drop, map, get_or, slice_range, All, refl, ap, sym, ◌∙◌, arith, append_assoc, drop-drop, length-drop, get_or-drop, length-take, take-take}
+use Rattle.std.proofs.Common.{◌≡◌, ◌≢◌, ℕ, zero, suc, ◌+◌, ◌-◌, ◌<◌, ◌≤◌, ◌==◌, Bool, true, false, cond, List, [], ◌∷◌, ◌++◌, length, take, drop, map, get_or, slice_range, All, refl, ap, sym, ◌∙◌, arith, append_assoc, drop-drop, length-drop, get_or-drop, length-take, take-take}
 use Rattle.std.proofs.lemmas.Bool.{eqb-false}
-use Rattle.std.proofs.lemmas.List.{drop_more, drop_all, take_more}
+use Rattle.std.proofs.lemmas.List.{drop_more, drop_all, take_more, take_rest}
 use Rattle.std.proofs.lemmas.List.Elements.{All-nil, All-cons, All-same, All-take}
+use Rattle.memchr.specs.Find.{Nowhere, NoneBefore, Passes, is_byte}
 use Rattle.cw_base.specs.Text.{is_blank, pieces_by, pieces_of, trim_by, trimmed, lines_of}
 use Rattle.cw_input.specs.Lines.{until}
 
@@ -28,6 +29,40 @@ found_more test xs at i from within fails so_far =
     so_far ∙ ap (λ rest. slice_range xs at i ++ rest) (until-goes_on test xs i within fails)
     ∙ sym (append_assoc (slice_range xs at i) (get_or xs i 0 ∷ []) (until test (drop (i + 1) xs)))
     ∙ ap (λ front. front ++ until test (drop (i + 1) xs)) (sym (slice_range-next xs at i from within))
+
+-- a test that isn't passed fails
+fails-by : (passes : Bool) → (passes ≡ true → ⊥) → passes ≡ false
+fails-by true fails = absurd (fails refl)
+fails-by false fails = refl
+
+-- what stands before the first place that passes, and what does where none passes
+until-place : (test : ℕ → Bool) (xs : List ℕ) (n : ℕ) → n < length xs → ((k : ℕ) → k < n → test (get_or xs k 0) ≡ true → ⊥) → test (get_or xs n 0) ≡ true → until test xs ≡ take n xs
+until-place test [] n within none found = absurd (omega (arith, within))
+until-place test (x ∷ xs) zero within none found = ap (λ passes. cond passes [] (x ∷ until test xs)) found
+until-place test (x ∷ xs) (suc n) within none found =
+    ap (λ passes. cond passes [] (x ∷ until test xs)) (fails-by (test x) (none 0 (omega arith)))
+    ∙ ap (λ (rest : List ℕ). x ∷ rest) (until-place test xs n (omega (arith, within)) (λ k below. none (suc k) (omega (arith, below))) found)
+
+until-nowhere : (test : ℕ → Bool) (xs : List ℕ) → ((k : ℕ) → k < length xs → test (get_or xs k 0) ≡ true → ⊥) → until test xs ≡ xs
+until-nowhere test [] none = refl
+until-nowhere test (x ∷ xs) none =
+    ap (λ passes. cond passes [] (x ∷ until test xs)) (fails-by (test x) (none 0 (omega arith)))
+    ∙ ap (λ (rest : List ℕ). x ∷ rest) (until-nowhere test xs (λ k below. none (suc k) (omega (arith, below))))
+
+-- the same of a search from a place on
+pub found-place : (byte : ℕ) (xs : List ℕ) (at n : ℕ) → NoneBefore (Passes (is_byte byte) (slice_range xs at (length xs))) 0 (length (slice_range xs at (length xs))) n
+    → Passes (is_byte byte) (slice_range xs at (length xs)) n → until (λ other. other == byte) (drop at xs) ≡ slice_range xs at (at + n)
+found-place byte xs at n before found =
+    let size : n ≡ at + n - at = omega arith in
+    ap (until (λ other. other == byte)) (sym (take_rest xs at))
+    ∙ until-place (λ other. other == byte) (slice_range xs at (length xs)) n before.high (λ k below. before.before k (omega arith) below) found
+    ∙ ap (take n) (take_rest xs at) ∙ ap (λ m. take m (drop at xs)) size
+
+pub found-nowhere : (byte : ℕ) (xs : List ℕ) (at : ℕ) → Nowhere (Passes (is_byte byte) (slice_range xs at (length xs))) 0 (length (slice_range xs at (length xs)))
+    → until (λ other. other == byte) (drop at xs) ≡ slice_range xs at (length xs)
+found-nowhere byte xs at none =
+    ap (until (λ other. other == byte)) (sym (take_rest xs at))
+    ∙ until-nowhere (λ other. other == byte) (slice_range xs at (length xs)) (λ k below. none k (omega arith) below)
 
 -- the first piece of a text that isn't empty
 cut_first : (ends : Bool) (byte : ℕ) → pieces_by ends byte [] ≡ cond ends [] (byte ∷ []) ∷ pieces_of (drop (length (cond ends [] (byte ∷ []))) [])

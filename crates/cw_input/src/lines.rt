@@ -5,6 +5,8 @@ ghost use Rattle.std.specs.Prelude.{length, slice_range};
 ghost use Rattle.cw_base.specs.Text.{is_blank, trimmed, lines_of};
 ghost use Rattle.cw_input.specs.Lines.{begins, code_of, include_name, name_of, skip_blanks, until};
 
+use memchr::memchr;
+
 /// What a line of a change file says by its first two bytes: `@x`, `@y` or `@z` in either case, that
 /// it is empty, or none of these.
 #[derive(Clone, Copy, Debug, PartialEq, Eq)]
@@ -118,11 +120,10 @@ fn find_byte(bytes: &[u8], at: usize, wanted: u8) -> usize
     ensures within { (at ≤ result) × (result ≤ length bytes.now) }
     ensures front { until (λ byte. byte == wanted) (drop at bytes.now) ≡ slice_range bytes.now at result }
 {
-    let mut i = at;
-    while i < bytes.len() && bytes[i] != wanted {
-        i += 1;
+    match memchr(wanted, &bytes[at..]) {
+        Some(before) => at + before,
+        None => bytes.len(),
     }
-    i
 }
 
 // Where a part of a text ends without its trailing blanks.

@@ -1,12 +1,9 @@
--- One byte more that isn't the one asked for; or the search ends.
-use Rattle.std.proofs.Common.{◌==◌, get_or, arith, ne_eqb}
-use Rattle.cw_input.proofs.LineLaws.{found_more}
+-- What stands before the place that was found, or all.
+use Rattle.cw_input.proofs.LineLaws.{found-nowhere, found-place}
 use Rattle.cw_input.proofs.lines.find_byte.Goals as goal
 
-pub loop-i-preserved : goal.loop-i-preserved
-loop-i-preserved c = record {
-  from = omega arith;
-  within = omega arith;
-  front = found_more (λ byte. byte == c.args.wanted) c.args.bytes.now c.args.at c.loop-i.i c.loop-i.invariant.from c.loop-i-test.true
-      (ne_eqb (get_or c.args.bytes.now c.loop-i.i 0) c.args.wanted c.if-bytes-i.true) c.loop-i.invariant.front;
-}
+pub returns-in-Some-clause-front : goal.returns-in-Some-clause-front
+returns-in-Some-clause-front c = found-place c.args.wanted c.args.bytes.now c.args.at c.in-Some.before c.in-Some.ensures.0 c.in-Some.ensures.1
+
+pub returns-in-None-clause-front : goal.returns-in-None-clause-front
+returns-in-None-clause-front c = found-nowhere c.args.wanted c.args.bytes.now c.args.at c.in-None.ensures
