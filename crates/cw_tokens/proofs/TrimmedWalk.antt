@@ -9,9 +9,9 @@ use Rattle.cw_tokens.specs.declared.walk.Part.TheVariants.{Leaf as leaf_part, Be
 use Rattle.cw_tokens.specs.Shapes.{shape, unfolded}
 use Rattle.cw_tokens.specs.References.{IsTied}
 use Rattle.cw_tokens.specs.Stored.{no_link}
-use Rattle.cw_tokens.specs.FlatItems.{item_is, IsPart, closing, Flattens}
+use Rattle.cw_tokens.specs.FlatItems.{item_is, IsOnly, IsPart, closing, Flattens}
 use Rattle.cw_tokens.specs.Trimming.{Trims, StandsFor}
-use Rattle.cw_tokens.proofs.Flattening.{Ups, flattens-start, flattens-leaf, flattens-below, flattens-inner, flattens-end, up-flattens}
+use Rattle.cw_tokens.proofs.Flattening.{Ups, flattens-start, flattens-leaf, flattens-below, flattens-only, flattens-inner, flattens-end, up-flattens}
 
 -- items were given of the walk, and those that stay of them are kept; the list at hand is read
 pub record TrimsFlat (lists : List (List Token)) (root list place : ℕ) (items : List Token) (trims : Trims) (all : List Item) : Type 0 where
@@ -38,6 +38,15 @@ module _ (ls : List (List Token)) (root l p : ℕ) (items : List Token) (trims :
     flattens = flattens-below ls root l p all t at w.given x tied w.flattens is;
     stands = w.stands;
     here = here;
+  }
+
+  pub trims-only : (x : ℕ) (below : List Token) (new : Trims) (item : FlatItem) → IsTied ls → IsPart (shape t) (below_part x) → below ≡ get_or ls x [] → IsOnly below item
+      → ((given : List Item) → StandsFor trims given → StandsFor new (given ++ item_is item ∷ [])) → TrimsFlat ls root l (p + 1) items new all
+  trims-only x below new item tied is read only push = record {
+    given = w.given ++ item_is item ∷ [];
+    flattens = flattens-only ls root l p all t at w.given x below item tied w.flattens is read only;
+    stands = push w.given w.stands;
+    here = w.here;
   }
 
   pub trims-inner : (x : ℕ) (below : List Token) (new : Trims) → IsTied ls → IsPart (shape t) (inner_part x) → below ≡ get_or ls x [] → ((given : List Item) → StandsFor trims given → StandsFor new (given ++ open_item ∷ [])) → TrimsFlat ls root x 0 below new all

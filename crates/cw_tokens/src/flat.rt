@@ -1,10 +1,10 @@
 //! A tree laid flat: its items in order, as they stand or trimmed in the same walk.
-ghost use Rattle.std.specs.Prelude.{◌≡◌, ◌+◌, ◌-◌, ◌<◌, ◌≤◌, List, ◌++◌, length, IfOk, OnOk, Some, IsTrue, ◌↔◌};
+ghost use Rattle.std.specs.Prelude.{◌≡◌, ◌+◌, ◌-◌, ◌<◌, ◌≤◌, List, ◌++◌, length, IfOk, IfSome, OnOk, Some, IsTrue, ◌↔◌};
 ghost use Rattle.std.specs.Prelude.{slice_get};
 ghost use Rattle.cw_trees.specs.Flat.{Item, flat, trimmed};
 ghost use Rattle.cw_tokens.specs.Shapes.{shape, unfolded};
 ghost use Rattle.cw_tokens.specs.Stored.{cut, last_end, IsAscending, IsLinked};
-ghost use Rattle.cw_tokens.specs.FlatItems.{items_are, closing};
+ghost use Rattle.cw_tokens.specs.FlatItems.{items_are, closing, IsOnly};
 ghost use Rattle.cw_tokens.specs.Trimming.{StandsFor};
 
 use crate::store::Link;
@@ -175,9 +175,19 @@ pub fn flatten_trimmed(
                     place += 1;
                 }
                 Part::Below(below) => {
-                    list = below;
-                    place = 0;
-                    items = list_at(tokens, ends, list);
+                    let inside = list_at(tokens, ends, below);
+                    // Most lists are one token.
+                    match only_item(inside) {
+                        Some(item) => {
+                            out.push(item)?;
+                            place += 1;
+                        }
+                        None => {
+                            list = below;
+                            place = 0;
+                            items = inside;
+                        }
+                    }
                 }
                 Part::InnerBelow(below) => {
                     out.push(FlatItem::Open)?;
@@ -195,6 +205,20 @@ pub fn flatten_trimmed(
             place = up.place;
             items = list_at(tokens, ends, list);
         }
+    }
+}
+
+/// The item of a list that is one token with no list below it.
+#[inline(always)]
+fn only_item(tokens: &[Token]) -> Option<FlatItem>
+    ensures { IfSome result (IsOnly tokens.now) }
+{
+    if tokens.len() != 1 {
+        return None;
+    }
+    match part_of(tokens[0]) {
+        Part::Leaf(item) => Some(item),
+        Part::Below(_) | Part::InnerBelow(_) => None,
     }
 }
 

@@ -8,7 +8,7 @@ use Rattle.cw_tokens.proofs.Linking.{linked-tied}
 use Rattle.cw_tokens.proofs.Places.{at-place, at-end, below-cut, above-cut}
 use Rattle.cw_tokens.proofs.Measuring.{less-down, less-up}
 use Rattle.cw_tokens.proofs.Flattening.{flattens-below, flattens-inner, flattens-up, below-ref, inner-ref, up-step}
-use Rattle.cw_tokens.proofs.TrimmedWalk.{TrimsFlat, trims-start, trims-leaf, trims-below, trims-inner, trims-up, trims-end}
+use Rattle.cw_tokens.proofs.TrimmedWalk.{TrimsFlat, trims-start, trims-leaf, trims-below, trims-only, trims-inner, trims-up, trims-end}
 use Rattle.cw_tokens.proofs.flat.flatten_trimmed.Goals as goal
 
 pub loop-place-init : goal.loop-place-init
@@ -27,21 +27,31 @@ overflow_add-place c =
 pub loop-place-preserved-in-Leaf : goal.loop-place-preserved-in-Leaf
 loop-place-preserved-in-Leaf c = trims-leaf _ _ _ _ _ _ _ _ (at-place (cut 0 c.args.ends.now c.args.tokens.now) c.loop-place.list _ _ _ c.loop-place.invariant.here c.if-place-items.true) c.loop-place.invariant _ _ c.in-Leaf.ensures c.in_ok-push-in-Leaf.ensures
 
-pub list_at-items-requires-in-Below-clause-list : goal.list_at-items-requires-in-Below-clause-list
-list_at-items-requires-in-Below-clause-list c =
+pub overflow_add-place-in-Some : goal.overflow_add-place-in-Some
+overflow_add-place-in-Some c =
+    let here : length c.loop-place.items.now ≤ length c.args.tokens.now = omega (arith, ap length c.loop-place.invariant.here, cut-short 0 c.args.ends.now c.args.tokens.now c.loop-place.list) in
+    omega (arith, here)
+
+pub loop-place-preserved-in-Some : goal.loop-place-preserved-in-Some
+loop-place-preserved-in-Some c =
+    trims-only _ _ _ _ _ _ _ _ (at-place (cut 0 c.args.ends.now c.args.tokens.now) c.loop-place.list _ _ _ c.loop-place.invariant.here c.if-place-items.true)
+    c.loop-place.invariant _ _ _ _ (linked-tied _ _ c.requires.linked) c.in-Below.ensures c.list_at-inside.ensures c.in-Some.ensures c.in_ok-push-in-Some.ensures
+
+pub list_at-inside-requires-clause-list : goal.list_at-inside-requires-clause-list
+list_at-inside-requires-clause-list c =
     let f = flattens-below _ _ _ _ _ _ (at-place (cut 0 c.args.ends.now c.args.tokens.now) c.loop-place.list _ _ _ c.loop-place.invariant.here c.if-place-items.true)
     _ _ (linked-tied _ _ c.requires.linked) c.loop-place.invariant.flattens c.in-Below.ensures in
     above-cut _ _ _ f.inside
 
-pub loop-place-smaller-in-Below : goal.loop-place-smaller-in-Below
-loop-place-smaller-in-Below c =
+pub loop-place-smaller-in-None : goal.loop-place-smaller-in-None
+loop-place-smaller-in-None c =
     less-down _ _ _ c.requires.linked _ _ _ _ (below-cut _ _ _ c.requires.root) c.loop-place.invariant.flattens.way
     (at-place (cut 0 c.args.ends.now c.args.tokens.now) c.loop-place.list _ _ _ c.loop-place.invariant.here c.if-place-items.true) (ap ref_of (below-ref _ _ c.in-Below.ensures))
 
-pub loop-place-preserved-in-Below : goal.loop-place-preserved-in-Below
-loop-place-preserved-in-Below c =
+pub loop-place-preserved-in-None : goal.loop-place-preserved-in-None
+loop-place-preserved-in-None c =
     trims-below _ _ _ _ _ _ _ _ (at-place (cut 0 c.args.ends.now c.args.tokens.now) c.loop-place.list _ _ _ c.loop-place.invariant.here c.if-place-items.true)
-    c.loop-place.invariant _ _ (linked-tied _ _ c.requires.linked) c.in-Below.ensures c.list_at-items-in-Below.ensures
+    c.loop-place.invariant _ _ (linked-tied _ _ c.requires.linked) c.in-Below.ensures c.list_at-inside.ensures
 
 pub list_at-items-requires-in-InnerBelow-clause-list : goal.list_at-items-requires-in-InnerBelow-clause-list
 list_at-items-requires-in-InnerBelow-clause-list c =
