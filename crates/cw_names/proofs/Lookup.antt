@@ -101,6 +101,9 @@ module _ (es : List (Key × Cat)) (names : List Entry) (view : map entry_of es �
   pub new-place : (wanted : Wanted) → wanted.kind ≡ kind → wanted.text.now ≡ text → position (is_wanted wanted) (keys_of es) ≡ None → length es ≡ place_of kind text names
   new-place wanted p q h = sym (length-map es (λ (e : Key × Cat). e.0)) ∙ sym (position-none (is_wanted wanted) (keys_of es) h) ∙ place-looked-for wanted p q
 
+  pub new-last : (wanted : Wanted) → wanted.kind ≡ kind → wanted.text.now ≡ text → position (is_wanted wanted) (keys_of es) ≡ None → place_of kind text names ≡ length names
+  new-last wanted p q h = sym (new-place wanted p q h) ∙ sym (length-map es entry_of) ∙ ap length view
+
   pub with_entry-present : place_of kind text names < length names → with_entry kind text names ≡ names
   with_entry-present h = ap (λ b. if b then names else names ++ record { kind = kind; text = text; category = Exp } ∷ []) (lt-ltb (place_of kind text names) (length names) h)
 

@@ -54,13 +54,23 @@ impl Names {
     {
         match self.categories.get_index_of(Wanted { kind, text }) {
             Some(index) => Ok(NameId { index }),
-            None => {
-                let index = self.categories.len();
-                let text = Vec::from_slice(self.alloc, text)?;
-                self.categories.insert(Key { kind, text }, Cat::Exp)?;
-                Ok(NameId { index })
-            }
+            None => self.add(kind, text),
         }
+    }
+
+    /// Adds an entry that isn't there.
+    #[inline(never)]
+    fn add(&mut self, kind: EntryKind, text: &[u8]) -> Result<NameId, Memory>
+        requires new { place_of kind text.now self.old ≡ length self.old }
+        ensures id { IfOk result (λ id. id.index ≡ length self.old) }
+        ensures within { IfOk result (λ id. id.index < length self.new) }
+        ensures ok { OnOk result (self.new ≡ with_entry kind text.now self.old) }
+        ensures err { OnErr result (self.new ≡ self.old) }
+    {
+        let index = self.categories.len();
+        let text = Vec::from_slice(self.alloc, text)?;
+        self.categories.insert(Key { kind, text }, Cat::Exp)?;
+        Ok(NameId { index })
     }
 
     /// Gives an entry another category.
