@@ -209,12 +209,13 @@ impl Open {
         ensures { self.new ≡ with_token (placed_of p.now) self.old }
     {
         let start = p.token.span.start;
-        self.tex_end = or_here(self.tex_end, p.ends_tex(), start);
-        let ends = p.ends_definitions();
-        if ends && self.definitions_end.is_none() {
+        if self.tex_end.is_none() && p.ends_tex() {
+            self.tex_end = Some(start);
+        }
+        if self.definitions_end.is_none() && p.ends_definitions() {
+            self.definitions_end = Some(start);
             self.name = p.name;
         }
-        self.definitions_end = or_here(self.definitions_end, ends, start);
     }
 
     // The section, which ends at a place.
