@@ -1,5 +1,5 @@
 -- The names that stand in a text are sorted one after another.
-use Rattle.std.proofs.Common.{◌≡◌, ℕ, ◌+◌, ◌==◌, ◌<◌, ◌≤◌, refl, sym, ap, ◌∙◌, List, [], ◌∷◌, ◌++◌, Option, Some, None, drop, length, map}
+use Rattle.std.proofs.Common.{◌≡◌, ℕ, zero, suc, Bool, false, ◌+◌, ◌==◌, ◌<◌, ◌≤◌, arith, refl, sym, ap, ◌∙◌, List, [], ◌∷◌, ◌++◌, Option, Some, None, drop, length, map}
 use Rattle.std.specs.Prelude.{slice_index}
 use Rattle.std.specs.Ordering.{on}
 use Rattle.std.specs.BTreeSet.{insert_key}
@@ -32,6 +32,22 @@ stands-step kept uses text i s stands stands' within is more =
     ap (with_stands kept uses (i + 1) (drop (i + 1) text)) (more ∙ ap (sorted_on stand_cmp stands) is)
     ∙ sym (sorted-append here (stands_from kept uses (i + 1) (drop (i + 1) text)) stands)
     ∙ ap (λ (later : List ℕ). with_stands kept uses i later stands) (sym (drop_more text i 0 within))
+
+-- where no byte is an `@` no name stands
+pub stands-skip : (kept : List SecName) (uses : List NameUse) (text : List ℕ) (n i j : ℕ) (stands : List Stand) → i + n ≡ j → j ≤ length text
+    → ((k : ℕ) → i ≤ k → k < j → (slice_index text k == at_sign) ≡ false)
+    → with_stands kept uses j (drop j text) stands ≡ with_stands kept uses i (drop i text) stands
+stands-skip kept uses text zero i j stands e within none =
+    let same : j ≡ i = omega (arith, e) in
+    ap (λ (p : ℕ). with_stands kept uses p (drop p text) stands) same
+stands-skip kept uses text (suc n) i j stands e within none =
+    let before : i < j = omega (arith, e) in
+    let inside : i < length text = omega (arith, before, within) in
+    let first : i ≤ i = omega arith in
+    let next : i + 1 + n ≡ j = omega (arith, e) in
+    stands-skip kept uses text n (i + 1) j stands next within (λ k low high. none k (omega (arith, low)) high)
+    ∙ sym (ap (λ (b : Bool). sorted_on stand_cmp stands (stand_if b kept uses i ++ stands_from kept uses (i + 1) (drop (i + 1) text))) (none i first before))
+    ∙ ap (λ (later : List ℕ). with_stands kept uses i later stands) (sym (drop_more text i 0 inside))
 
 pub stands-end : (kept : List SecName) (uses : List NameUse) (text : List ℕ) (i : ℕ) (stands : List Stand)
     → length text ≤ i

@@ -5,9 +5,11 @@ ghost use Rattle.std.specs.Prelude.{
   ◌^◌,
   ◌<◌,
   ◌≤◌,
+  ℕ,
   IfOk,
   OnOk,
   Some,
+  false,
   length,
   map,
   refl,
@@ -27,6 +29,7 @@ ghost use Rattle.cw_index.specs.StandingLaws.{stand_cmp-total};
 
 use cw_base::Memory;
 use cw_secnames::{NameUses, SecId, SecKind, SecNames};
+use memchr::memchr;
 use std::alloc::Global;
 use std::cmp::Ordering;
 use std::collections::BTreeSet;
@@ -171,6 +174,19 @@ fn enter<'a>(stands: &mut BTreeSet<Standing<'a>>, stand: Option<Standing<'a>>) -
     }
 }
 
+// The first place from this one on where a text has an `@`, or else its end.
+fn next_sign(text: &[u8], from: usize) -> usize
+    requires { from ≤ length text.now }
+    ensures after { from ≤ result }
+    ensures within { result ≤ length text.now }
+    ensures none { (k : ℕ) → from ≤ k → k < result → (slice_index text.now k == at_sign) ≡ false }
+{
+    match memchr(b'@', &text[from..]) {
+        Some(before) => from + before,
+        None => text.len(),
+    }
+}
+
 // The names that stand in a text, sorted.
 fn sorted_stands<'a>(
     alloc: Global,
@@ -183,9 +199,11 @@ fn sorted_stands<'a>(
         ≡ sorted stand_cmp (stands_from names.now uses.now 0 text.now)) }
 {
     let mut stands = BTreeSet::new(alloc);
-    for place in 0..text.len() {
+    let mut place = next_sign(text, 0);
+    while place < text.len() {
         let stand = stand_at(text, names, uses, place);
         enter(&mut stands, stand)?;
+        place = next_sign(text, place + 1);
     }
     Ok(stands)
 }

@@ -18,6 +18,7 @@ fn takes_next(byte: u8, next: u8) -> bool
 }
 
 // One byte of a comment in which so many braces are open. Answers how many are open behind it.
+#[inline(always)]
 fn put_byte(out: &mut Bytes, byte: u8, braces: usize) -> Result<usize, Memory>
     ensures bytes { OnOk result (out.new ≡ out.old ++ (byte_piece byte braces).bytes) }
     ensures braces { IfOk result (λ after. after ≡ (byte_piece byte braces).braces) }

@@ -14,6 +14,7 @@ fn is_escaped(byte: u8) -> bool
     }
 }
 
+#[inline(always)]
 pub(crate) fn put_escaped_byte(out: &mut Bytes, byte: u8) -> Result<(), Memory>
     ensures { OnOk result (out.new ≡ out.old ++ escaped_byte byte) }
 {

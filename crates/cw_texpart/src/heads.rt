@@ -74,14 +74,22 @@ pub fn put_number<D: Desk>(
 {
     let mut buffer = Buffer::new();
     out.put_all(buffer.format(number).as_bytes(), desk)?;
-    out.put_all(changed_mark(changed), desk)
+    put_changed_mark(changed, out, desk)
 }
 
-// What stands behind the number of a section.
-fn changed_mark(changed: bool) -> &'static [u8]
-    ensures { result.now ≡ changed_mark changed }
+// Puts what stands behind the number of a section.
+fn put_changed_mark<D: Desk>(
+    changed: bool,
+    out: &mut LineOut,
+    desk: &mut D,
+) -> Result<(), PutError>
+    requires can { CanWrite (D.told desk.old) out.old }
+    ensures { Puts (changed_mark changed) out.old out.new (D.told desk.old) (D.told desk.new) result }
 {
-    if changed { b"\\*" } else { b"" }
+    if changed {
+        return out.put_all(b"\\*", desk);
+    }
+    Ok(())
 }
 
 // The depth of a section in digits.

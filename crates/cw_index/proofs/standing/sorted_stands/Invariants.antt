@@ -1,5 +1,5 @@
 -- The names that stand before this place are sorted.
-use Rattle.std.proofs.Common.{◌≡◌, drop, map}
+use Rattle.std.proofs.Common.{◌≡◌, ◌-◌, drop, length, map}
 use Rattle.cw_index.specs.Sorted.{sorted}
 use Rattle.cw_index.specs.Standing.{stand_cmp, stands_from}
 use Rattle.cw_index.specs.StandingForms.{stand_of}
@@ -10,3 +10,6 @@ abbrev pub invariant-loop-place : goal.invariant-loop-place
 invariant-loop-place l =
     with_stands l.names l.uses l.place (drop l.place l.text) (map stand_of l.stands.keys)
     ≡ sorted stand_cmp (stands_from l.names l.uses 0 l.text)
+
+abbrev pub decreases-loop-place : goal.decreases-loop-place
+decreases-loop-place l = length l.text - l.place
