@@ -14,4 +14,4 @@ returns-in_err-put_all g c =
 pub returns : goal.returns
 returns g c =
     let e : c.as_bytes.result.now ≡ decimal c.args.number = search rules in
-    puts-bytes (λ i. e i ++ c.changed_mark.ensures i) (puts-then c.in_ok-put_all.ensures.puts c.put_all-2.ensures.puts)
+    puts-bytes (ap (λ (bytes : List ℕ). bytes ++ changed_mark c.args.changed) e) (puts-then c.in_ok-put_all.ensures.puts c.put_changed_mark.ensures)
