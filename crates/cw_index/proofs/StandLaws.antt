@@ -1,9 +1,10 @@
 -- The names that stand in a text are sorted one after another.
-use Rattle.std.proofs.Common.{◌≡◌, ℕ, zero, suc, Bool, false, ◌+◌, ◌==◌, ◌<◌, ◌≤◌, arith, refl, sym, ap, ◌∙◌, List, [], ◌∷◌, ◌++◌, Option, Some, None, drop, length, map}
-use Rattle.std.specs.Prelude.{slice_index}
+use Rattle.std.proofs.Common.{◌≡◌, ℕ, zero, suc, Bool, true, false, ◌+◌, ◌-◌, ◌==◌, ◌<◌, ◌≤◌, arith, refl, sym, ap, ◌∙◌, List, [], ◌∷◌, ◌++◌, Option, Some, None, drop, get_or, length, map}
+use Rattle.std.specs.Prelude.{slice_index, slice_range}
 use Rattle.std.specs.Ordering.{on}
 use Rattle.std.specs.BTreeSet.{insert_key}
-use Rattle.std.proofs.lemmas.List.{drop_all, drop_more}
+use Rattle.std.proofs.lemmas.List.{drop_all, drop_more, get_or-drop, take_rest}
+use Rattle.memchr.specs.Find.{Nowhere, Passes, is_byte}
 use Rattle.std.proofs.lemmas.List.Sums.{fold-append}
 use Rattle.cw_lex.specs.Bytes.{at_sign}
 use Rattle.cw_secnames.specs.Kept.{SecName, id}
@@ -32,6 +33,22 @@ stands-step kept uses text i s stands stands' within is more =
     ap (with_stands kept uses (i + 1) (drop (i + 1) text)) (more ∙ ap (sorted_on stand_cmp stands) is)
     ∙ sym (sorted-append here (stands_from kept uses (i + 1) (drop (i + 1) text)) stands)
     ∙ ap (λ (later : List ℕ). with_stands kept uses i later stands) (sym (drop_more text i 0 within))
+
+-- a test that isn't passed fails
+fails-by : (passes : Bool) → (passes ≡ true → ⊥) → passes ≡ false
+fails-by true fails = absurd (fails refl)
+fails-by false fails = refl
+
+-- a search of the rest of a text speaks of places of the text
+pub sign-free : (text : List ℕ) (from n k : ℕ) → Nowhere (Passes (is_byte 64) (slice_range text from (length text))) 0 n → from ≤ k → k < from + n
+    → (slice_index text k == at_sign) ≡ false
+sign-free text from n k none low high =
+    let start : 0 ≤ k - from = omega arith in
+    let inside : k - from < n = omega (arith, low, high) in
+    let place : from + (k - from) ≡ k = omega (arith, low) in
+    let here : get_or (slice_range text from (length text)) (k - from) 0 ≡ get_or text k 0 =
+    ap (λ (rest : List ℕ). get_or rest (k - from) 0) (take_rest text from) ∙ get_or-drop from text (k - from) 0 ∙ ap (λ (p : ℕ). get_or text p 0) place in
+    fails-by (slice_index text k == at_sign) (λ is. none (k - from) start inside (ap (λ (byte : ℕ). byte == 64) here ∙ is))
 
 -- where no byte is an `@` no name stands
 pub stands-skip : (kept : List SecName) (uses : List NameUse) (text : List ℕ) (n i j : ℕ) (stands : List Stand) → i + n ≡ j → j ≤ length text
