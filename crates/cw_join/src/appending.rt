@@ -10,7 +10,7 @@ ghost use Rattle.cw_join.specs.Stretches.{is_inner};
 ghost use Rattle.cw_join.specs.Tokens.{CanCome, IsNamed, alone, control_bytes, item_bytes};
 
 use crate::joiner::{Joiner, depth_behind, step};
-use crate::names_behind::{append_ident, append_reserved};
+use crate::names_behind::{append_few, append_ident, append_reserved};
 use crate::naming::text_of;
 use crate::pieces::sign;
 use crate::run::{Run, indent, run_control};
@@ -62,7 +62,7 @@ impl Joiner {
         ensures stays { OnErr result (StaysBefore out.old out.new) }
     {
         if !self.is_inner() {
-            append_some(indent(control), out)?;
+            append_few(indent(control), out)?;
         }
         self.run = self.run.with(control);
         Ok(())
@@ -96,20 +96,8 @@ fn append_run(run: Run, inner: bool, out: &mut Bytes) -> Result<(), Memory>
     ensures bytes { OnOk result (out.new ≡ out.old ++ state_back inner (state_of run)) }
     ensures stays { OnErr result (StaysBefore out.old out.new) }
 {
-    append_some(run.pause(inner), out)?;
-    append_some(step(run.backs(inner)), out)
-}
-
-// Appends bytes, if there are any.
-#[inline(always)]
-fn append_some(bytes: &[u8], out: &mut Bytes) -> Result<(), Memory>
-    ensures bytes { OnOk result (out.new ≡ out.old ++ bytes.now) }
-    ensures stays { OnErr result (StaysBefore out.old out.new) }
-{
-    if bytes.is_empty() {
-        return Ok(());
-    }
-    out.append(bytes)
+    append_few(run.pause(inner), out)?;
+    append_few(step(run.backs(inner)), out)
 }
 
 // Appends the bytes of a name or of a sign.
@@ -134,8 +122,8 @@ fn append_sign(control: Control, out: &mut Bytes) -> Result<(), Memory>
     ensures stays { OnErr result (StaysBefore out.old out.new) }
 {
     match control {
-        Control::ToMath => out.append(b"${}"),
-        Control::ToText => out.append(b"{}$"),
-        _ => append_some(sign(control, &[]), out),
+        Control::ToMath => append_few(b"${}", out),
+        Control::ToText => append_few(b"{}$", out),
+        _ => append_few(sign(control, &[]), out),
     }
 }

@@ -13,10 +13,10 @@ pub(crate) fn append_ident(name: &[u8], out: &mut Bytes) -> Result<(), Memory>
     ensures stays { OnErr result (StaysBefore out.old out.new) }
 {
     if name.len() == 1 {
-        out.append(b"\\|")?;
+        append_few(b"\\|", out)?;
         return append_name(name, out);
     }
-    out.append(font(name))?;
+    append_few(font(name), out)?;
     append_name(name, out)?;
     out.push(b'}')
 }
@@ -26,9 +26,21 @@ pub(crate) fn append_reserved(name: &[u8], out: &mut Bytes) -> Result<(), Memory
     ensures bytes { OnOk result (out.new ≡ out.old ++ reserved_bytes name.now) }
     ensures stays { OnErr result (StaysBefore out.old out.new) }
 {
-    out.append(b"\\&{")?;
+    append_few(b"\\&{", out)?;
     append_name(name, out)?;
     out.push(b'}')
+}
+
+/// Appends bytes one by one: of two or three that takes less than a copy of them together.
+#[inline(always)]
+pub(crate) fn append_few(bytes: &[u8], out: &mut Bytes) -> Result<(), Memory>
+    ensures bytes { OnOk result (out.new ≡ out.old ++ bytes.now) }
+    ensures stays { OnErr result (StaysBefore out.old out.new) }
+{
+    for byte in bytes {
+        out.push(*byte)?;
+    }
+    Ok(())
 }
 
 // Appends the bytes of a name; `_` and `$` have a backslash.

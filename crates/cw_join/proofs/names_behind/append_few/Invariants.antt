@@ -1,0 +1,10 @@
+-- What is appended, and the bytes that are left, are all.
+use Rattle.std.proofs.Common.{◌≡◌, ◌++◌, drop}
+use Rattle.cw_join.specs.Appending.{StaysBefore}
+use Rattle.cw_join.proofs.names_behind.append_few.Given as goal
+
+abbrev pub invariant-loop-byte : goal.invariant-loop-byte
+invariant-loop-byte l = record {
+  bytes : l.out ++ drop l.byte-index l.bytes ≡ l.initial.out ++ l.bytes;
+  stays : StaysBefore l.initial.out l.out;
+}
