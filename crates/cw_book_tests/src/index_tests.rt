@@ -5,9 +5,9 @@ ghost use Rattle.cw_desk.specs.Meaning.{is_open};
 ghost use Rattle.cw_lines.specs.Writes.{CanWrite};
 ghost use Rattle.cw_reduce.specs.NameParts.{AreNamesOf};
 
-use cw_index::{are_names_whole, compare_entries, write_closing, write_index, write_names};
 use cw_base::{Bytes, Event, Flags, Kept, Memory, Out, Place, Steps, Web};
 use cw_desk::{Desk, MadeOut, MemDesk};
+use cw_index::{are_names_whole, compare_entries, write_closing, write_index, write_names};
 use cw_lines::{LineOut, PutError};
 use cw_names::{EntryKind, Names};
 use cw_phase1::{Book, phase_one};

@@ -9,9 +9,9 @@ ghost use Rattle.cw_trees.specs.Printing.{Printable};
 ghost use Rattle.cw_join.specs.Standing.{Stands};
 ghost use Rattle.cw_join.specs.Tokens.{CanCome};
 
-use cw_join::{FlatToken, Joiner};
 use cw_base::{Bytes, Event, Memory, Out};
 use cw_desk::{Desk, MadeOut, MemDesk};
+use cw_join::{FlatToken, Joiner};
 use cw_lines::{LineOut, PutError};
 use cw_names::{EntryKind, NameId, Names};
 use cw_tokens::FlatItem;

@@ -10,8 +10,6 @@ mod part_tests;
 #[cfg(test)]
 mod phase_tests;
 #[cfg(test)]
-mod print_tests;
-#[cfg(test)]
 mod section_name_tests;
 #[cfg(test)]
 mod tex_part_tests;

@@ -5,10 +5,10 @@ ghost use Rattle.cw_desk.specs.Meaning.{is_open};
 ghost use Rattle.cw_lines.specs.Writes.{CanWrite};
 ghost use Rattle.cw_reduce.specs.NameParts.{AreNamesOf};
 
-use cw_part::{is_whole_rest, weave_section};
 use cw_base::{Bytes, Event, Flags, Kept, Memory, Out, Place, Steps, Web};
 use cw_desk::{Desk, MadeOut, MemDesk};
 use cw_lines::{LineOut, PutError};
+use cw_part::{is_whole_rest, weave_section};
 use cw_phase1::{Book, phase_one};
 use cw_texpart::Counts;
 use std::alloc::Global;

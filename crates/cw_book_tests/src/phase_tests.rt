@@ -1,6 +1,6 @@
 //! The first phase of worked webs, by calls.
-use cw_phase1::phase_one;
 use cw_base::{Memory, NoteKind, Place, Span, Web};
+use cw_phase1::phase_one;
 use cw_secnames::SecId;
 use std::alloc::Global;
 use std::test::Fail;

@@ -1,6 +1,6 @@
 //! Worked names, by calls.
-use cw_secnames::{Entered, NameUses, RefKind, SecId, SecKind, SecNames, next_part};
 use cw_base::Span;
+use cw_secnames::{Entered, NameUses, RefKind, SecId, SecKind, SecNames, next_part};
 use std::test::Fail;
 
 #[test]

@@ -5,11 +5,11 @@ ghost use Rattle.cw_desk.specs.Meaning.{is_open};
 ghost use Rattle.cw_lines.specs.Writes.{CanWrite};
 ghost use Rattle.cw_reduce.specs.NameParts.{AreNamesOf};
 
-use cw_texpart::{Counts, copy_limbo, copy_tex, is_whole};
 use cw_base::{Bytes, Event, Flags, Kept, Memory, Out, Place, Steps, Web};
 use cw_desk::{Desk, MadeOut, MemDesk};
 use cw_lines::{LineOut, PutError};
 use cw_phase1::{Book, phase_one};
+use cw_texpart::{Counts, copy_limbo, copy_tex, is_whole};
 use std::alloc::Global;
 use std::test::Fail;
 

@@ -3,10 +3,10 @@ ghost use Rattle.std.specs.Prelude.{◌≡◌, ◌^◌, ◌<◌, length};
 ghost use Rattle.cw_lex.specs.declared.tokens.TokKind.TheVariants as TokKind;
 ghost use Rattle.cw_scraps.specs.Leaves.{MakesLeaf};
 
-use cw_scraps::{scrap_of, word_token};
 use cw_base::{Cat, MathMode, Memory, Span};
 use cw_lex::{Code, Sign, Tok, TokKind};
 use cw_names::Names;
+use cw_scraps::{scrap_of, word_token};
 use cw_tokens::{FlatItem, ListId, Token, TokenStore};
 use cw_trees::Control;
 use std::alloc::Global;

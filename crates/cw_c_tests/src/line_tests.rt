@@ -1,6 +1,6 @@
 //! Tests of lines, marks and productions.
-use cw_scraps::{Marks, ScrapLine};
 use cw_base::{Cat, Kept, MathMode, Memory, Steps};
+use cw_scraps::{Marks, ScrapLine};
 use cw_tokens::ListId;
 use std::test::Fail;
 

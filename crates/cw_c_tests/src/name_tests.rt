@@ -1,6 +1,6 @@
 //! Tests of names that are found again, of the words known from the start, and of the sections of names.
-use cw_names::{EntryKind, Names, Xrefs};
 use cw_base::Cat;
+use cw_names::{EntryKind, Names, Xrefs};
 use std::test::Fail;
 
 #[test]

@@ -7,10 +7,10 @@ ghost use Rattle.cw_scraps.specs.Inserting.{entry_cats};
 ghost use Rattle.cw_scraps.specs.Leaves.{MakesLeaf};
 ghost use Rattle.cw_scraps.specs.Lines.{IsSoundLine};
 
-use cw_scraps::{Marks, ScrapLine, scrap_of};
 use cw_base::{Cat, Flags, Kept, MathMode, Memory, Span, Steps};
 use cw_lex::{Sign, Tok, TokKind};
 use cw_names::{EntryKind, Names};
+use cw_scraps::{Marks, ScrapLine, scrap_of};
 use cw_table::{ROW_COUNT, RowNo, first_production, table};
 use cw_tokens::{FlatItem, TokenStore};
 use cw_trees::Control;
@@ -251,7 +251,7 @@ fn first_row(line: &ScrapLine, place: usize, steps: &mut Steps<Kept>) -> Option<
 }
 
 // The production by the first row that fits at a place. It answers the row's number, or 0 where none fits.
-fn produce(
+pub(crate) fn produce(
     place: usize,
     flags: &Flags,
     line: &mut ScrapLine,

@@ -3,11 +3,11 @@
 ghost use Rattle.std.specs.Prelude.{OnOk};
 ghost use Rattle.cw_scraps.specs.Lines.{IsSoundLine};
 
-use cw_reduce::reduce;
-use cw_reduce::walk::{produce, row_at};
+use crate::row_tests::produce;
 use crate::walk_tests::add_all;
 use cw_base::{Cat, Flags, Kept, Memory, Steps};
 use cw_names::Names;
+use cw_reduce::reduce;
 use cw_scraps::{Marks, ScrapLine};
 use cw_tokens::TokenStore;
 use std::alloc::Global;
@@ -25,25 +25,8 @@ fn produce_at(
     requires sound { IsSoundLine store.old names.old line.old }
     ensures sound { OnOk result (IsSoundLine store.new names.new line.new) }
 {
-    if place >= line.len() {
-        return Ok(false);
-    }
-    match row_at(line, place, steps) {
-        Some(row) => {
-            produce(
-                row,
-                place,
-                &Flags::start(),
-                line,
-                names,
-                marks,
-                store,
-                steps,
-            )?;
-            Ok(true)
-        }
-        None => Ok(false),
-    }
+    let row = produce(place, &Flags::start(), line, names, marks, store, steps)?;
+    Ok(row != 0)
 }
 
 // The leftmost production, if there is one.

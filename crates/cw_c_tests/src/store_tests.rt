@@ -6,9 +6,9 @@ ghost use Rattle.cw_base.specs.declared.mode.MathMode.TheVariants as MathModes;
 ghost use Rattle.cw_tokens.specs.References.{IsUnreferred};
 ghost use Rattle.cw_tokens.specs.Shapes.{shape, ref_of};
 
-use cw_tokens::{FlatItem, ListId, Token, TokenStore};
 use cw_base::{Cat, MathMode, Memory};
 use cw_names::{NameId, Names};
+use cw_tokens::{FlatItem, ListId, Token, TokenStore};
 use cw_trees::Control;
 use std::alloc::Global;
 use std::test::Fail;

@@ -1,6 +1,6 @@
 //! Tests of the table: distances, steps back, the rows that fit, and ranks.
-use cw_table::{Piece, RowNo, first_production, rank, step_back, table};
 use cw_base::{ALL_CATS, Cat, CatSet};
+use cw_table::{Piece, RowNo, first_production, rank, step_back, table};
 
 // The first category of a set, or End past the tests.
 fn first_of(set: CatSet) -> Cat {

@@ -1,9 +1,9 @@
 //! Worked C texts, translated by calls.
 use crate::test_printing::{put_run, put_sign, run_control, trimmed};
-use cw_reduce::{Translated, is_plain_c, is_uncut, translate};
 use cw_base::{Bytes, Flags, Kept, Memory, Span, Steps};
 use cw_lex::Mode;
 use cw_names::{NameId, Names};
+use cw_reduce::{Translated, is_plain_c, is_uncut, translate};
 use cw_scraps::Marks;
 use cw_secnames::{NameUses, SecNames};
 use cw_tokens::{FlatItem, FlatTokens, TokenStore};

@@ -3,10 +3,10 @@ ghost use Rattle.std.specs.Prelude.{◌≡◌, [], OnOk};
 ghost use Rattle.cw_scraps.specs.Leaves.{MakesLeaf};
 ghost use Rattle.cw_scraps.specs.Lines.{IsSoundLine};
 
-use cw_reduce::reduce;
 use cw_base::{Flags, Kept, Memory, Span, Steps};
 use cw_lex::{Sign, Tok, TokKind};
 use cw_names::Names;
+use cw_reduce::reduce;
 use cw_scraps::{Marks, ScrapLine, scrap_of};
 use cw_tokens::TokenStore;
 use std::alloc::Global;

@@ -1,6 +1,6 @@
 //! Tests of the scanner on whole texts.
-use cw_lex::{Code, Lexed, Lexer, Mode, TokKind};
 use cw_base::NoteKind;
+use cw_lex::{Code, Lexed, Lexer, Mode, TokKind};
 
 /// An answer by its kind and its places.
 #[derive(Clone, Copy, Debug, PartialEq, Eq)]

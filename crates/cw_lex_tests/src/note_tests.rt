@@ -1,7 +1,7 @@
 //! Tests of the notes of scanning: each with its place, in its order.
-use cw_lex::Mode;
 use crate::lexer_tests::notes_only;
 use cw_base::NoteKind;
+use cw_lex::Mode;
 
 #[test]
 fn notes_on_codes(rt: HostRuntime) {

@@ -1,7 +1,7 @@
 //! Tests of limbo, TeX text, definitions and comments.
 use crate::lexer_tests::{Shown, gives, is_one};
-use cw_lex::{Code, Mode, Sign, TokKind};
 use cw_base::NoteKind;
+use cw_lex::{Code, Mode, Sign, TokKind};
 
 // A letter is a code in either case.
 #[test]

@@ -1,7 +1,7 @@
 //! Tests of each token of C text.
 use crate::lexer_tests::{Shown, gives, is_one};
-use cw_lex::{Code, Mode, Sign, TokKind};
 use cw_base::NoteKind;
+use cw_lex::{Code, Mode, Sign, TokKind};
 
 #[test]
 fn identifiers(rt: HostRuntime) {

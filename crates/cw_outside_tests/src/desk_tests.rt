@@ -1,8 +1,8 @@
 //! What no clause says of desks: that calls succeed, and what the system answers.
+use cw_base::{Event, Out};
 use cw_desk::{
     Batch, CountDesk, Desk, Fetched, FileDesk, Flushed, MadeOut, MemDesk, Opened, QuietDesk, Taken,
 };
-use cw_base::{Event, Out};
 use std::alloc::Global;
 use std::test::Fail;
 

@@ -4,8 +4,8 @@ ghost use Rattle.cw_base.specs.declared.event.Out.TheVariants.{Tex};
 ghost use Rattle.cw_desk.specs.File.{tell};
 ghost use Rattle.cw_desk.specs.Meaning.{has_draft, is_open};
 
-use cw_desk::{Batch, CountDesk, Desk, FileDesk, Flushed, MadeOut, MemDesk, QuietDesk, Taken};
 use cw_base::{Event, Out};
+use cw_desk::{Batch, CountDesk, Desk, FileDesk, Flushed, MadeOut, MemDesk, QuietDesk, Taken};
 use std::fs;
 use std::test::Fail;
 use std::time::{SystemTime, UNIX_EPOCH};

@@ -1,8 +1,8 @@
 //! Reading over files in memory.
 
-use cw_input::{Command, LoadError, load, read_command};
 use cw_base::{Bytes, Note, Web, Words};
 use cw_desk::MemDesk;
+use cw_input::{Command, LoadError, load, read_command};
 use std::alloc::Global;
 use std::process::Abort;
 use std::test::Fail;

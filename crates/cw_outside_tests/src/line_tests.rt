@@ -5,9 +5,9 @@ ghost use Rattle.cw_desk.specs.Meaning.{is_open};
 ghost use Rattle.cw_desk.specs.Mem.{tell};
 ghost use Rattle.cw_lines.specs.Writes.{CanWrite};
 
-use cw_lines::{LineOut, PutError, write_all};
 use cw_base::{Bytes, Event, Memory, Out};
 use cw_desk::{Desk, MadeOut, MemDesk};
+use cw_lines::{LineOut, PutError, write_all};
 use std::alloc::Global;
 use std::test::Fail;
 

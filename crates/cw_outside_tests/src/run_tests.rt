@@ -1,13 +1,13 @@
 //! What no clause says: that the calls succeed, and the lines that they print.
 ghost use Rattle.std.specs.Prelude.{◌<◌, IfOk, length};
 
+use cw_base::{Bytes, Event, Exit, Flags, Memory, Note, NoteKind, Out, Place, Web};
+use cw_desk::MemDesk;
+use cw_lines::PutError;
 use cw_run::{
     Judgement, Message, Noted, Totals, begin_file, close, end_file, print_broken, print_notes, say,
     say_if, say_statistics, stop, stop_without_change, stop_without_web,
 };
-use cw_base::{Bytes, Event, Exit, Flags, Memory, Note, NoteKind, Out, Place, Web};
-use cw_desk::MemDesk;
-use cw_lines::PutError;
 use cw_secnames::{SecKind, SecNames};
 use std::alloc::Global;
 use std::test::Fail;

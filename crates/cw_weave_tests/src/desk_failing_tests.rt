@@ -1,8 +1,8 @@
 //! Runs in which each call fails in turn, over a desk and over a batch: none is tried again, and no call follows.
-use crate::weave_tests::{FOO, desk_with, read_journal, weave};
-use cw_weave::weave_command;
+use crate::{FOO, journal_text, weave, web_desk};
 use cw_base::{Exit, Memory, Silent, Steps, Words};
 use cw_desk::{Batch, Flushed, MemDesk};
+use cw_weave::weave_command;
 use std::alloc::Global;
 use std::test::Fail;
 
@@ -39,14 +39,14 @@ fn long_web(alloc: Global) -> Result<Vec<u8>, Memory> {
 #[test]
 fn a_batch_changes_nothing(rt: HostRuntime) -> Result<(), Fail> {
     let web = long_web(rt.alloc())?;
-    let mut direct = desk_with(rt.alloc(), web.as_slice(), &[])?;
-    let mut gathered = desk_with(rt.alloc(), web.as_slice(), &[])?;
+    let mut direct = web_desk(rt.alloc(), web.as_slice(), &[])?;
+    let mut gathered = web_desk(rt.alloc(), web.as_slice(), &[])?;
     let first = weave(rt.alloc(), &[FOO], &mut direct)?;
     let second = weave_gathered(rt.alloc(), &[FOO], &mut gathered)?;
     assert_eq!(rt; first, Exit::Clean);
     assert_eq!(rt; second, Exit::Clean);
-    let all = read_journal(rt.alloc(), direct.journal())?;
-    let same = read_journal(rt.alloc(), gathered.journal())?;
+    let all = journal_text(rt.alloc(), direct.journal())?;
+    let same = journal_text(rt.alloc(), gathered.journal())?;
     assert_eq!(rt; all.as_slice(), same.as_slice());
     assert!(rt; gathered.calls() < 30, "the lines are handed on together");
     assert!(rt; direct.calls() > 1000);
@@ -56,16 +56,16 @@ fn a_batch_changes_nothing(rt: HostRuntime) -> Result<(), Fail> {
 #[test]
 fn each_call_fails_in_turn(rt: HostRuntime) -> Result<(), Fail> {
     let web = b"% limbo\n@ Hello.\n".as_slice();
-    let mut whole = desk_with(rt.alloc(), web, &[])?;
+    let mut whole = web_desk(rt.alloc(), web, &[])?;
     weave(rt.alloc(), &[FOO], &mut whole)?;
-    let all = read_journal(rt.alloc(), whole.journal())?;
+    let all = journal_text(rt.alloc(), whole.journal())?;
     for before in 0..whole.calls() {
-        let mut desk = desk_with(rt.alloc(), web, &[])?;
+        let mut desk = web_desk(rt.alloc(), web, &[])?;
         desk.fail_at(before + 1)?;
         let exit = weave(rt.alloc(), &[FOO], &mut desk)?;
         assert_eq!(rt; exit, Exit::Fault);
         assert_eq!(rt; desk.calls(), before + 1, "no call follows");
-        let part = read_journal(rt.alloc(), desk.journal())?;
+        let part = journal_text(rt.alloc(), desk.journal())?;
         assert!(rt; all.as_slice().starts_with(part.as_slice()));
     }
     Ok(())
@@ -74,16 +74,16 @@ fn each_call_fails_in_turn(rt: HostRuntime) -> Result<(), Fail> {
 #[test]
 fn each_call_of_a_batch_fails_in_turn(rt: HostRuntime) -> Result<(), Fail> {
     let web = long_web(rt.alloc())?;
-    let mut whole = desk_with(rt.alloc(), web.as_slice(), &[])?;
+    let mut whole = web_desk(rt.alloc(), web.as_slice(), &[])?;
     weave_gathered(rt.alloc(), &[FOO], &mut whole)?;
-    let all = read_journal(rt.alloc(), whole.journal())?;
+    let all = journal_text(rt.alloc(), whole.journal())?;
     for before in 0..whole.calls() {
-        let mut desk = desk_with(rt.alloc(), web.as_slice(), &[])?;
+        let mut desk = web_desk(rt.alloc(), web.as_slice(), &[])?;
         desk.fail_at(before + 1)?;
         let exit = weave_gathered(rt.alloc(), &[FOO], &mut desk)?;
         assert_eq!(rt; exit, Exit::Fault);
         assert_eq!(rt; desk.calls(), before + 1, "no call follows");
-        let part = read_journal(rt.alloc(), desk.journal())?;
+        let part = journal_text(rt.alloc(), desk.journal())?;
         assert!(rt; all.as_slice().starts_with(part.as_slice()));
     }
     Ok(())
@@ -91,7 +91,7 @@ fn each_call_of_a_batch_fails_in_turn(rt: HostRuntime) -> Result<(), Fail> {
 
 /// A desk with an old TeX file that agrees with the new one for some of its bytes.
 fn desk_with_old(alloc: Global) -> Result<MemDesk, Memory> {
-    desk_with(
+    web_desk(
         alloc,
         b"% limbo\n@ Hello.\n",
         &[(
@@ -106,10 +106,10 @@ fn each_call_over_old_files_fails_in_turn(rt: HostRuntime) -> Result<(), Fail> {
     let words = [b"+k".as_slice(), FOO];
     let mut whole = desk_with_old(rt.alloc())?;
     weave_gathered(rt.alloc(), &words, &mut whole)?;
-    let all = read_journal(rt.alloc(), whole.journal())?;
+    let all = journal_text(rt.alloc(), whole.journal())?;
     let mut direct = desk_with_old(rt.alloc())?;
     weave(rt.alloc(), &words, &mut direct)?;
-    let same = read_journal(rt.alloc(), direct.journal())?;
+    let same = journal_text(rt.alloc(), direct.journal())?;
     assert_eq!(rt; all.as_slice(), same.as_slice());
     for before in 0..whole.calls() {
         let mut desk = desk_with_old(rt.alloc())?;
@@ -117,7 +117,7 @@ fn each_call_over_old_files_fails_in_turn(rt: HostRuntime) -> Result<(), Fail> {
         let exit = weave_gathered(rt.alloc(), &words, &mut desk)?;
         assert_eq!(rt; exit, Exit::Fault);
         assert_eq!(rt; desk.calls(), before + 1, "no call follows");
-        let part = read_journal(rt.alloc(), desk.journal())?;
+        let part = journal_text(rt.alloc(), desk.journal())?;
         assert!(rt; all.as_slice().starts_with(part.as_slice()));
     }
     Ok(())

@@ -1,5 +1,5 @@
 //! Runs with flag k: what is drafted over old files, and which of these are kept.
-use crate::weave_tests::{HELLO, desk_with, read_journal, weave};
+use crate::{HELLO, journal_text, weave, web_desk};
 use cw_base::{Bytes, Exit, Memory};
 use std::alloc::Global;
 use std::test::Fail;
@@ -47,9 +47,9 @@ fn told_over(alloc: Global, old: &[u8]) -> Result<Bytes, Memory> {
         (b"foo.tex".as_slice(), old),
         (b"foo.idx".as_slice(), b"".as_slice()),
     ];
-    let mut desk = desk_with(alloc, HELLO, &others)?;
+    let mut desk = web_desk(alloc, HELLO, &others)?;
     weave(alloc, &KEEPING, &mut desk)?;
-    read_journal(alloc, desk.journal())
+    journal_text(alloc, desk.journal())
 }
 
 /// What is expected of it.
@@ -111,13 +111,13 @@ fn a_draft_that_stays_a_draft(rt: HostRuntime) -> Result<(), Fail> {
         (b"foo.tex".as_slice(), TEX),
         (b"foo.idx".as_slice(), b"".as_slice()),
     ];
-    let mut whole = desk_with(rt.alloc(), HELLO, &others)?;
+    let mut whole = web_desk(rt.alloc(), HELLO, &others)?;
     weave(rt.alloc(), &KEEPING, &mut whole)?;
-    let mut desk = desk_with(rt.alloc(), HELLO, &others)?;
+    let mut desk = web_desk(rt.alloc(), HELLO, &others)?;
     desk.fail_at(whole.calls().saturating_sub(2))?;
     let exit = weave(rt.alloc(), &KEEPING, &mut desk)?;
     assert_eq!(rt; exit, Exit::Fault);
-    let text = read_journal(rt.alloc(), desk.journal())?;
+    let text = journal_text(rt.alloc(), desk.journal())?;
     let end = b"[idx] is kept\n[scn] is drafted for foo.scn\n".as_slice();
     assert!(rt; text.as_slice().ends_with(end));
     Ok(())

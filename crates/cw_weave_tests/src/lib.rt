@@ -4,23 +4,11 @@
 #[cfg(test)]
 mod c_text_tests;
 #[cfg(test)]
-mod desk_failing_tests;
-#[cfg(test)]
-mod keeping_tests;
-#[cfg(test)]
-mod merging_tests;
-#[cfg(test)]
-mod sample_tests;
-#[cfg(test)]
-mod scanning_tests;
-#[cfg(test)]
-mod small_section_tests;
-#[cfg(test)]
-mod weave_tests;
-#[cfg(test)]
 mod change_tests;
 #[cfg(test)]
 mod counted_tests;
+#[cfg(test)]
+mod desk_failing_tests;
 #[cfg(test)]
 mod failing_tests;
 #[cfg(test)]
@@ -28,9 +16,26 @@ mod forty_sections;
 #[cfg(test)]
 mod forty_tests;
 #[cfg(test)]
+mod keeping_tests;
+#[cfg(test)]
 mod large_tests;
+#[cfg(test)]
+mod merging_tests;
+#[cfg(test)]
+mod printed_tests;
 mod runs;
 #[cfg(test)]
+mod sample_tests;
+#[cfg(test)]
+mod scanning_tests;
+#[cfg(test)]
 mod section_tests;
+#[cfg(test)]
+mod small_section_tests;
+#[cfg(test)]
+mod weave_tests;
 
-pub use runs::{append_journal, desk_with, told, weave, weave_quietly};
+pub use runs::{
+    FOO, HELLO, append_journal, desk_with, journal_text, told, told_by, weave, weave_quietly,
+    web_desk, web_told,
+};

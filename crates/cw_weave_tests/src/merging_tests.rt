@@ -1,5 +1,5 @@
 //! Whole runs over webs with change files and included files.
-use crate::weave_tests::{FOO, desk_with, told, told_by};
+use crate::{FOO, told_by, web_desk, web_told};
 use std::test::Fail;
 
 const FOO_CH: &[u8] = b"foo.ch";
@@ -8,7 +8,7 @@ const CHANGED: &[u8] = b"@ One.\n@c a;\nb;\n";
 
 #[test]
 fn a_change(rt: HostRuntime) -> Result<(), Fail> {
-    let text = told(
+    let text = web_told(
         rt.alloc(),
         CHANGED,
         &[(FOO_CH, b"@x\n@c a;\nc;\n@y\n@c z;\n@z\n".as_slice())],
@@ -41,7 +41,7 @@ Errors"
 
 #[test]
 fn an_ended_change(rt: HostRuntime) -> Result<(), Fail> {
-    let text = told(
+    let text = web_told(
         rt.alloc(),
         CHANGED,
         &[(FOO_CH, b"@x\n@c a;\n".as_slice())],
@@ -74,7 +74,7 @@ Errors"
 
 #[test]
 fn no_change_file(rt: HostRuntime) -> Result<(), Fail> {
-    let text = told(rt.alloc(), CHANGED, &[], &[FOO, b"bar".as_slice()])?;
+    let text = web_told(rt.alloc(), CHANGED, &[], &[FOO, b"bar".as_slice()])?;
     assert_eq!(rt;
         text.as_slice(),
         b"[term]This is CWEAVE (profile 2)
@@ -123,15 +123,15 @@ fn nested(last: &[u8]) -> [(&[u8], &[u8]); 11] {
 
 #[test]
 fn ten_files_deep(rt: HostRuntime) -> Result<(), Fail> {
-    let text = told(rt.alloc(), b"@i f1\n", &nested(b"@ Deep.\n"), &[FOO])?;
+    let text = web_told(rt.alloc(), b"@i f1\n", &nested(b"@ Deep.\n"), &[FOO])?;
     assert_eq!(rt; text.as_slice(), DEEP);
     Ok(())
 }
 
 #[test]
 fn eleven_files_deep(rt: HostRuntime) -> Result<(), Fail> {
-    let mut desk = desk_with(rt.alloc(), b"@i f1\n", &nested(b"@i f11\n@ Deep.\n"))?;
-    let text = told_by(rt.alloc(), &mut desk, &[FOO])?;
+    let mut desk = web_desk(rt.alloc(), b"@i f1\n", &nested(b"@i f11\n@ Deep.\n"))?;
+    let text = told_by(rt.alloc(), &[FOO], &mut desk)?;
     assert_eq!(rt;
         text.as_slice(),
         b"[term]This is CWEAVE (profile 2)
@@ -160,7 +160,7 @@ Errors"
 
 #[test]
 fn notes_of_merging(rt: HostRuntime) -> Result<(), Fail> {
-    let text = told(
+    let text = web_told(
         rt.alloc(),
         b"@i missing\n@i\n@ One.\na\nb\nd\n",
         &[(
@@ -227,7 +227,7 @@ Errors"
 
 #[test]
 fn new_lines_without_an_end(rt: HostRuntime) -> Result<(), Fail> {
-    let text = told(
+    let text = web_told(
         rt.alloc(),
         b"@ One.\na\n",
         &[(FOO_CH, b"@x\na\n@y\nnew\n".as_slice())],

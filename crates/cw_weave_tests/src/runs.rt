@@ -81,6 +81,26 @@ fn exit_name(exit: Exit) -> &'static [u8] {
     }
 }
 
+/// The name of most webs here, as a word.
+pub const FOO: &[u8] = b"foo";
+
+/// A web of one section without C text.
+pub const HELLO: &[u8] = b"% limbo\n@ Hello.\n";
+
+/// A journal as a text of its own.
+pub fn journal_text(alloc: Global, journal: &[Event]) -> Result<Bytes, Memory> {
+    let mut text = Bytes::new_in(alloc);
+    append_journal(&mut text, journal)?;
+    Ok(text)
+}
+
+/// A desk on which `foo.w` has these bytes, beside other files.
+pub fn web_desk(alloc: Global, web: &[u8], others: &[(&[u8], &[u8])]) -> Result<MemDesk, Memory> {
+    let mut desk = desk_with(alloc, others)?;
+    desk.add_file(b"foo.w", web)?;
+    Ok(desk)
+}
+
 /// A desk with these files.
 pub fn desk_with(alloc: Global, files: &[(&[u8], &[u8])]) -> Result<MemDesk, Memory> {
     let mut desk = MemDesk::new_in(alloc);
@@ -90,12 +110,25 @@ pub fn desk_with(alloc: Global, files: &[(&[u8], &[u8])]) -> Result<MemDesk, Mem
     Ok(desk)
 }
 
-/// What a run over these files tells: its journal, and behind it how it ended.
-pub fn told(alloc: Global, words: &[&[u8]], files: &[(&[u8], &[u8])]) -> Result<Bytes, Memory> {
-    let mut desk = desk_with(alloc, files)?;
-    let exit = weave(alloc, words, &mut desk)?;
-    let mut text = Bytes::new_in(alloc);
-    append_journal(&mut text, desk.journal())?;
+/// What a run over a desk tells: its journal, and behind it how it ended.
+pub fn told_by(alloc: Global, words: &[&[u8]], desk: &mut MemDesk) -> Result<Bytes, Memory> {
+    let exit = weave(alloc, words, desk)?;
+    let mut text = journal_text(alloc, desk.journal())?;
     text.append(exit_name(exit))?;
     Ok(text)
+}
+
+/// What a run over these files tells.
+pub fn told(alloc: Global, words: &[&[u8]], files: &[(&[u8], &[u8])]) -> Result<Bytes, Memory> {
+    told_by(alloc, words, &mut desk_with(alloc, files)?)
+}
+
+/// What a run tells over `foo.w` with these bytes, beside other files.
+pub fn web_told(
+    alloc: Global,
+    web: &[u8],
+    others: &[(&[u8], &[u8])],
+    words: &[&[u8]],
+) -> Result<Bytes, Memory> {
+    told_by(alloc, words, &mut web_desk(alloc, web, others)?)
 }

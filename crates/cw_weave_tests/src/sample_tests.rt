@@ -1,8 +1,8 @@
 //! The sample, as whole runs.
-use crate::weave_tests::{read_journal, weave};
-use cw_weave::weave_command;
+use crate::{journal_text, weave};
 use cw_base::{Exit, Kept, Steps, Words};
 use cw_desk::MemDesk;
+use cw_weave::weave_command;
 use std::test::Fail;
 
 #[test]
@@ -14,7 +14,7 @@ fn three_sections(rt: HostRuntime) -> Result<(), Fail> {
         &mut desk,
     )?;
     assert_eq!(rt; exit, Exit::Clean);
-    let text = read_journal(rt.alloc(), desk.journal())?;
+    let text = journal_text(rt.alloc(), desk.journal())?;
     assert_eq!(rt;
         text.as_slice(),
         b"[term]sections 3

@@ -1,7 +1,7 @@
 //! Whole runs over webs that make notes of scanning, one by one and in order.
-use cw_weave::weave_command;
 use cw_base::{Bytes, Event, Exit, Memory, Out, Silent, Steps, Words};
 use cw_desk::MemDesk;
+use cw_weave::weave_command;
 use std::alloc::Global;
 use std::test::Fail;
 

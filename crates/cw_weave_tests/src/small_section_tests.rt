@@ -1,5 +1,5 @@
 //! Whole runs over webs with C parts, definitions and section names, their indexes and their section lists.
-use crate::weave_tests::{FOO, told};
+use crate::{FOO, web_told};
 use cw_base::Memory;
 use itoa::Buffer;
 use std::alloc::Global;
@@ -7,7 +7,7 @@ use std::test::Fail;
 
 #[test]
 fn a_declaration_with_its_index(rt: HostRuntime) -> Result<(), Fail> {
-    let text = told(rt.alloc(), b"@ @c int a=b+c, *d;\n", &[], &[FOO])?;
+    let text = web_told(rt.alloc(), b"@ @c int a=b+c, *d;\n", &[], &[FOO])?;
     assert_eq!(rt;
         text.as_slice(),
         b"[term]This is CWEAVE (profile 2)
@@ -36,7 +36,7 @@ Clean"
 
 #[test]
 fn lines_that_had_to_be_broken(rt: HostRuntime) -> Result<(), Fail> {
-    let text = told(
+    let text = web_told(
         rt.alloc(),
         b"@ @c aaaaaaaaaaaaaaaaaaaaaaaaaaaaaaaaaaaaaaaaaaaaaaaaaaaaaaaaaaaaaaaaaaaaaaaaaaaaaaaaaaaaaaaaaaaaaaaaaaaa\
 aaaaaaaaaaaaaaaaaaaaaaaaaaaaaaaaaaaaaaaaaaaaaaaaaaaaaaaaaaaaaaaaaaaaaaaaaaaaaaaaaaaaaaaaaaaaaaaaaaaa\n",
@@ -69,7 +69,7 @@ Clean"
 
 #[test]
 fn statistics_with_an_index(rt: HostRuntime) -> Result<(), Fail> {
-    let text = told(
+    let text = web_told(
         rt.alloc(),
         b"@ @c int i;\n@ @c i=i+1;\n",
         &[],
@@ -110,7 +110,7 @@ Clean"
 
 #[test]
 fn an_ordinary_web(rt: HostRuntime) -> Result<(), Fail> {
-    let text = told(
+    let text = web_told(
         rt.alloc(),
         b"\\def\\title{Hello}
 @* Hello. This program greets |n| times.
@@ -176,7 +176,7 @@ Clean"
 
 #[test]
 fn conflicting_names_and_a_format(rt: HostRuntime) -> Result<(), Fail> {
-    let text = told(
+    let text = web_told(
         rt.alloc(),
         b"@ @<Read@>= x;\n@ @<Read b@>= y;\n@ @f foo int\n@c foo x; /* b |x /* c |y| */| */\n",
         &[],
@@ -257,7 +257,7 @@ fn forty(alloc: Global) -> Result<Vec<u8>, Memory> {
 #[test]
 fn forty_sections(rt: HostRuntime) -> Result<(), Fail> {
     let web = forty(rt.alloc())?;
-    let text = told(
+    let text = web_told(
         rt.alloc(),
         web.as_slice(),
         &[],
