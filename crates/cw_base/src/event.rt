@@ -11,8 +11,7 @@ pub enum Out {
 }
 
 /// What a journal records: an output was made under a name, or one byte was written to it; or a draft of it was begun
-/// for
-/// a name, and then given up, since the named file stays as it is, or put in that file's place.
+/// for a name, and then given up, since the named file stays as it is, or put in that file's place.
 #[derive(Drop)]
 pub enum Event {
     Made(Out, Bytes),

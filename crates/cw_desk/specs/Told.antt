@@ -89,8 +89,8 @@ Makes out name result old new = Turns (with_output out old.outputs) (Made out na
 abbrev pub Drafts : Out → List ℕ → MadeOut → Told → Told → Type 0
 Drafts out name result old new = Turns (with_draft out old.outputs) (Drafted out name) result old new
 
-abbrev pub Keeps : Out → MadeOut → Told → Told → Type 0
-Keeps out result old new = Turns (without_draft out old.outputs) (Kept out) result old new
+abbrev pub KeepsOld : Out → MadeOut → Told → Told → Type 0
+KeepsOld out result old new = Turns (without_draft out old.outputs) (Kept out) result old new
 
 abbrev pub Replaces : Out → MadeOut → Told → Told → Type 0
 Replaces out result old new = Turns (without_draft out old.outputs) (Replaced out) result old new

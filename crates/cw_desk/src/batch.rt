@@ -4,7 +4,7 @@ ghost use Rattle.std.specs.Prelude.{length, min, []};
 ghost use Rattle.cw_base.specs.declared.event.Out.TheVariants.{Term};
 ghost use Rattle.cw_desk.specs.Batch.{HandsOn, IsGathered, PutsFirst, Gathers, tell};
 ghost use Rattle.cw_desk.specs.Journal.{GrownByPart, byte_events};
-ghost use Rattle.cw_desk.specs.Told.{OnlyPuts, Opens, Reads, Makes, Drafts, Keeps, Replaces, Takes};
+ghost use Rattle.cw_desk.specs.Told.{OnlyPuts, Opens, Reads, Makes, Drafts, KeepsOld, Replaces, Takes};
 ghost use Rattle.cw_desk.specs.Meaning.{Rose, has_draft, is_open};
 
 use crate::desk::{Desk, Fetched, FileId, MadeOut, Opened, Taken};
@@ -164,7 +164,7 @@ impl<D: Desk + Drop> Desk for Batch<D> {
 
     fn keep(&mut self, out: Out) -> MadeOut
         requires { IsTrue (has_draft (D.told self.old.below).outputs out) }
-        ensures keeps { Keeps out result (tell D.told self.old) (tell D.told self.new) }
+        ensures keeps { KeepsOld out result (tell D.told self.old) (tell D.told self.new) }
         ensures handed_on { result ≡ MadeOut.Done → self.new.waiting ≡ [] }
     {
         match self.flush() {

@@ -2,7 +2,7 @@
 ghost use Rattle.std.specs.Prelude.{◌≡◌, ◌<◌, length};
 ghost use Rattle.cw_desk.specs.Count.{tell};
 ghost use Rattle.cw_desk.specs.Meaning.{no_outputs};
-ghost use Rattle.cw_desk.specs.Told.{Opens, Reads, Makes, Drafts, Keeps, Replaces, Takes};
+ghost use Rattle.cw_desk.specs.Told.{Opens, Reads, Makes, Drafts, KeepsOld, Replaces, Takes};
 
 use crate::desk::{Desk, Fetched, FileId, MadeOut, Opened, Taken};
 use crate::outputs::Outputs;
@@ -70,7 +70,7 @@ impl Desk for CountDesk {
     }
 
     fn keep(&mut self, out: Out) -> MadeOut
-        ensures keeps { Keeps out result (tell self.old) (tell self.new) }
+        ensures keeps { KeepsOld out result (tell self.old) (tell self.new) }
         ensures done { result ≡ MadeOut.Done }
     {
         self.outputs.end_draft(out);

@@ -2,10 +2,10 @@
 use Rattle.std.proofs.Common.{◌≡◌, ℕ, ◌+◌, ◌<◌, ◌≤◌, List, [], ◌∷◌, ◌++◌, length, Option, Some, None, Err, refl, ap, ◌∙◌, le-leb}
 use Rattle.cw_base.specs.declared.limits.TheConstants.{INPUT_LIMIT}
 use Rattle.cw_base.specs.Web.{WebState}
+use Rattle.cw_desk.specs.Meaning.{NamedFiles}
 use Rattle.cw_input.specs.Answers.{Fails, Reads, Finds, Loads, Merges}
 use Rattle.cw_input.specs.Lines.{FileLine}
 use Rattle.cw_input.specs.Fold.{MergeState, read, read_by, walk}
-use Rattle.cw_input.specs.Merge.{Lookup}
 use Rattle.cw_input.specs.Merged as outcome
 use Rattle.cw_input.specs.Folded.{merge_with}
 use Rattle.cw_input.specs.declared.error.LoadError.{LoadError}
@@ -13,7 +13,7 @@ use Rattle.cw_input.specs.declared.error.LoadError.TheVariants.{NoWeb, NoChange,
 use Rattle.cw_input.specs.declared.found.Found.{Found}
 
 -- input that is too long gives no other outcome, whatever the change word is
-too_long : (named : Lookup) (web : List ℕ) (change : Option (List ℕ)) → merge_with named web change None ≡ outcome.TooLong
+too_long : (named : NamedFiles) (web : List ℕ) (change : Option (List ℕ)) → merge_with named web change None ≡ outcome.TooLong
 too_long named web None = refl
 too_long named web (Some word) = refl
 

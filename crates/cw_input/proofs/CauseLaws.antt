@@ -3,9 +3,9 @@ use Rattle.std.proofs.Common.{◌≡◌, ℕ, ◌<◌, ◌≤◌, Bool, true, fa
 use Rattle.std.proofs.lemmas.Bool.{lt-leb}
 use Rattle.cw_base.specs.declared.limits.TheConstants.{INPUT_LIMIT}
 use Rattle.cw_base.specs.Web.{WebState}
+use Rattle.cw_desk.specs.Meaning.{NamedFiles}
 use Rattle.cw_input.specs.Answers.{Loads}
 use Rattle.cw_input.specs.Causes.{FailsWith, ComesWhere, LacksWeb, LacksChange, IsTooLong}
-use Rattle.cw_input.specs.Merge.{Lookup}
 use Rattle.cw_input.specs.Merged as outcome
 use Rattle.cw_input.specs.Merged.{Merged, Reading, NoFile, Alone, Complete, bytes_read, change_word, found, found_or, limited, limited_by, merged, read_change, read_web, reading, web_file}
 use Rattle.cw_input.specs.Names.{first_name, second_name, change_name}
@@ -46,11 +46,11 @@ limited-no_web true (Complete web) is = absurd (let no : ⊥ = cc in no)
 limited-no_web false reading is = absurd (let no : ⊥ = cc in no)
 
 -- where no web is there, nothing else is read
-change-no_web : (named : Lookup) (web : Found) (given : Option Found) → read_change named web given ≡ NoFile → ⊥
+change-no_web : (named : NamedFiles) (web : Found) (given : Option Found) → read_change named web given ≡ NoFile → ⊥
 change-no_web named web None is = cc
 change-no_web named web (Some change) is = cc
 
-web-no_web : (named : Lookup) (given : Option Found) (change : Option (List ℕ)) → read_web named given change ≡ NoFile → given ≡ None
+web-no_web : (named : NamedFiles) (given : Option Found) (change : Option (List ℕ)) → read_web named given change ≡ NoFile → given ≡ None
 web-no_web named None change is = refl
 web-no_web named (Some web) None is = absurd (let no : ⊥ = cc in no)
 web-no_web named (Some web) (Some word) is = absurd (change-no_web named web (found named (change_name word)) is)
@@ -63,7 +63,7 @@ not_there : (name : List ℕ) (bytes : Option (List ℕ)) → (let given : Optio
 not_there name None is = refl
 not_there name (Some bytes) is = absurd (let no : ⊥ = cc in no)
 
-pub merged-no_web : (named : Lookup) (web : List ℕ) (change : Option (List ℕ)) → merged named web change ≡ outcome.NoWeb → LacksWeb named web
+pub merged-no_web : (named : NamedFiles) (web : List ℕ) (change : Option (List ℕ)) → merged named web change ≡ outcome.NoWeb → LacksWeb named web
 merged-no_web named web change is =
     let none = limited-no_web (nat_le (bytes_read named (reading named web change)) INPUT_LIMIT) (reading named web change) is in
     let both = neither (found named (first_name web)) (found named (second_name web)) (web-no_web named (web_file named web) (change_word change) none) in
@@ -72,14 +72,14 @@ merged-no_web named web change is =
 none_named : (name : List ℕ) (bytes : Option (List ℕ)) → bytes ≡ None → (let given : Option Found = option_map (λ bytes. record { name = name; bytes = bytes }) bytes in given ≡ None)
 none_named name bytes is = ap (option_map (λ bytes. record { name = name; bytes = bytes })) is
 
-pub merged-lacks_web : (named : Lookup) (web : List ℕ) (change : Option (List ℕ)) → LacksWeb named web → merged named web change ≡ outcome.NoWeb
+pub merged-lacks_web : (named : NamedFiles) (web : List ℕ) (change : Option (List ℕ)) → LacksWeb named web → merged named web change ≡ outcome.NoWeb
 merged-lacks_web named web change lacks =
     ap (λ given. limited named (read_web named given (change_word change)))
     (ap (λ given. found_or given (found named (second_name web))) (none_named (first_name web) (named (first_name web)) lacks.0)
     ∙ none_named (second_name web) (named (second_name web)) lacks.1)
 
 -- where the change file is missing, the web alone was read, and a change file was wanted
-limited-alone : (fits : Bool) (named : Lookup) (web : Found) → nat_le (length web.bytes) INPUT_LIMIT ≡ fits → limited_by fits (Alone web) ≡ outcome.NoChange → length web.bytes ≤ INPUT_LIMIT
+limited-alone : (fits : Bool) (named : NamedFiles) (web : Found) → nat_le (length web.bytes) INPUT_LIMIT ≡ fits → limited_by fits (Alone web) ≡ outcome.NoChange → length web.bytes ≤ INPUT_LIMIT
 limited-alone true named web fits is = leb-true (length web.bytes) INPUT_LIMIT fits
 limited-alone false named web fits is = absurd (let no : ⊥ = cc in no)
 
@@ -87,7 +87,7 @@ limited-complete : (fits : Bool) (web : WebState) → limited_by fits (Complete 
 limited-complete true web is = cc
 limited-complete false web is = cc
 
-change-no_change : (named : Lookup) (word : List ℕ) (web : List ℕ) (change : Option (List ℕ)) (file : Found) (given : Option Found) → web_file named web ≡ Some file → change_word change ≡ Some word
+change-no_change : (named : NamedFiles) (word : List ℕ) (web : List ℕ) (change : Option (List ℕ)) (file : Found) (given : Option Found) → web_file named web ≡ Some file → change_word change ≡ Some word
     → found named (change_name word) ≡ given → limited named (read_change named file given) ≡ outcome.NoChange → LacksChange named web change
 change-no_change named word web change file None there wanted looked is = record {
   file = file;
@@ -99,16 +99,16 @@ change-no_change named word web change file None there wanted looked is = record
 }
 change-no_change named word web change file (Some other) there wanted looked is = absurd (limited-complete (nat_le (bytes_read named (read_change named file (Some other))) INPUT_LIMIT) _ is)
 
-web-no_change : (named : Lookup) (web : List ℕ) (change : Option (List ℕ)) (given : Option Found) (word : Option (List ℕ)) → web_file named web ≡ given → change_word change ≡ word
+web-no_change : (named : NamedFiles) (web : List ℕ) (change : Option (List ℕ)) (given : Option Found) (word : Option (List ℕ)) → web_file named web ≡ given → change_word change ≡ word
     → limited named (read_web named given word) ≡ outcome.NoChange → LacksChange named web change
 web-no_change named web change None word there wanted is = absurd (let no : ⊥ = cc in no)
 web-no_change named web change (Some file) None there wanted is = absurd (limited-complete (nat_le (bytes_read named (read_web named (Some file) None)) INPUT_LIMIT) _ is)
 web-no_change named web change (Some file) (Some word) there wanted is = change-no_change named word web change file (found named (change_name word)) there wanted refl is
 
-pub merged-no_change : (named : Lookup) (web : List ℕ) (change : Option (List ℕ)) → merged named web change ≡ outcome.NoChange → LacksChange named web change
+pub merged-no_change : (named : NamedFiles) (web : List ℕ) (change : Option (List ℕ)) → merged named web change ≡ outcome.NoChange → LacksChange named web change
 merged-no_change named web change is = web-no_change named web change (web_file named web) (change_word change) refl refl is
 
-pub merged-lacks_change : (named : Lookup) (web : List ℕ) (change : Option (List ℕ)) → LacksChange named web change → merged named web change ≡ outcome.NoChange
+pub merged-lacks_change : (named : NamedFiles) (web : List ℕ) (change : Option (List ℕ)) → LacksChange named web change → merged named web change ≡ outcome.NoChange
 merged-lacks_change named web change lacks =
     ap (λ given. limited named (read_web named given (change_word change))) lacks.there
     ∙ ap (λ word. limited named (read_web named (Some lacks.file) word)) lacks.wanted
@@ -122,16 +122,16 @@ limited-long true (Alone web) bytes fits is = absurd (let no : ⊥ = cc in no)
 limited-long true (Complete web) bytes fits is = absurd (let no : ⊥ = cc in no)
 limited-long false reading bytes fits is = leb-false bytes INPUT_LIMIT fits
 
-pub merged-too_long : (named : Lookup) (web : List ℕ) (change : Option (List ℕ)) → merged named web change ≡ outcome.TooLong → IsTooLong named web change
+pub merged-too_long : (named : NamedFiles) (web : List ℕ) (change : Option (List ℕ)) → merged named web change ≡ outcome.TooLong → IsTooLong named web change
 merged-too_long named web change is =
     limited-long (nat_le (bytes_read named (reading named web change)) INPUT_LIMIT) (reading named web change) (bytes_read named (reading named web change)) refl is
 
-pub merged-is_long : (named : Lookup) (web : List ℕ) (change : Option (List ℕ)) → IsTooLong named web change → merged named web change ≡ outcome.TooLong
+pub merged-is_long : (named : NamedFiles) (web : List ℕ) (change : Option (List ℕ)) → IsTooLong named web change → merged named web change ≡ outcome.TooLong
 merged-is_long named web change long =
     ap (λ fits. limited_by fits (reading named web change)) (lt-leb (bytes_read named (reading named web change)) INPUT_LIMIT long)
 
 -- the causes of what `load` answers, for a call that loads what the definition gives
-pub cause_of_no_web : (named : Lookup) (web : List ℕ) (change : Option (List ℕ)) (result : Result WebState LoadError) → Loads (merged named web change) result → ComesWhere (LacksWeb named web) NoWeb result
+pub cause_of_no_web : (named : NamedFiles) (web : List ℕ) (change : Option (List ℕ)) (result : Result WebState LoadError) → Loads (merged named web change) result → ComesWhere (LacksWeb named web) NoWeb result
 cause_of_no_web named web change result loads =
     let P : Result WebState LoadError → Type 0 = λ answer. Loads (merged named web change) answer in
     let Q : Merged → Type 0 = λ given. Loads given result in
@@ -140,7 +140,7 @@ cause_of_no_web named web change result loads =
       always = λ lacks. answers-no_web result (subst Q (merged-lacks_web named web change lacks) loads);
     }
 
-pub cause_of_no_change : (named : Lookup) (web : List ℕ) (change : Option (List ℕ)) (result : Result WebState LoadError) → Loads (merged named web change) result → ComesWhere (LacksChange named web change) NoChange result
+pub cause_of_no_change : (named : NamedFiles) (web : List ℕ) (change : Option (List ℕ)) (result : Result WebState LoadError) → Loads (merged named web change) result → ComesWhere (LacksChange named web change) NoChange result
 cause_of_no_change named web change result loads =
     let P : Result WebState LoadError → Type 0 = λ answer. Loads (merged named web change) answer in
     let Q : Merged → Type 0 = λ given. Loads given result in
@@ -149,7 +149,7 @@ cause_of_no_change named web change result loads =
       always = λ lacks. answers-no_change result (subst Q (merged-lacks_change named web change lacks) loads);
     }
 
-pub cause_of_too_long : (named : Lookup) (web : List ℕ) (change : Option (List ℕ)) (result : Result WebState LoadError) → Loads (merged named web change) result → ComesWhere (IsTooLong named web change) TooLong result
+pub cause_of_too_long : (named : NamedFiles) (web : List ℕ) (change : Option (List ℕ)) (result : Result WebState LoadError) → Loads (merged named web change) result → ComesWhere (IsTooLong named web change) TooLong result
 cause_of_too_long named web change result loads =
     let P : Result WebState LoadError → Type 0 = λ answer. Loads (merged named web change) answer in
     let Q : Merged → Type 0 = λ given. Loads given result in

@@ -3,9 +3,10 @@ use Rattle.std.proofs.Common.{◌≡◌, ℕ, true, false, List, [], ◌∷◌, 
 use Rattle.cw_base.specs.declared.notes.Note.{Note}
 use Rattle.cw_base.specs.declared.notes.NoteKind.TheVariants.{NoMatchingX, NoMatchingY, NoOldLine, EndedBeforeY, EndedBeforeZ, LinesDiffer, WebEnded}
 use Rattle.cw_base.specs.declared.notes.Place.{Place}
+use Rattle.cw_desk.specs.Meaning.{NamedFiles}
 use Rattle.cw_input.specs.Changes.{Change, Line, Misplaced, Held, changes_of, note_at}
 use Rattle.cw_input.specs.Lines.{FileLine}
-use Rattle.cw_input.specs.Merge.{Lookup, new_lines, web_lines}
+use Rattle.cw_input.specs.Merge.{new_lines, web_lines}
 use Rattle.cw_input.specs.Merged.{Whole, bytes_read, reading}
 use Rattle.cw_input.proofs.Rows.{among, changed_by, file, line, note, text}
 
@@ -66,7 +67,7 @@ unfolding new_lines web_lines
 notes_of_one_change = refl
 
 -- a file that is included twice is read twice, and of a web whose change file is missing the bytes are those of the web's file alone
-abbrev twice : Lookup
+abbrev twice : NamedFiles
 twice = among (file (codes "foo.w") (codes "@i b" ∷ codes "@i b" ∷ []) ∷ file (codes "b") (codes "four" ∷ []) ∷ [])
 
 pub bytes_twice : bytes_read twice (reading twice (codes "foo") None) ≡ 20

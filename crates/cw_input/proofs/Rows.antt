@@ -4,7 +4,8 @@ use Rattle.cw_base.specs.Web.{MergedLine}
 use Rattle.cw_base.specs.declared.notes.Note.{Note}
 use Rattle.cw_base.specs.declared.notes.NoteKind.{NoteKind}
 use Rattle.cw_base.specs.declared.notes.NoteKind.TheVariants.{IncludeMissing, IncludeUnnamed, IncludeTooDeep, NoMatchingX, NoMatchingY, NoMatchingZ, NoOldLine, EndedBeforeY, EndedBeforeZ, LinesDiffer, WebEnded, ChangeUnmatched}
-use Rattle.cw_input.specs.Merge.{Lookup, new_lines, web_lines}
+use Rattle.cw_desk.specs.Meaning.{NamedFiles}
+use Rattle.cw_input.specs.Merge.{new_lines, web_lines}
 use Rattle.cw_input.specs.Merged.{Merged, NoWeb, NoChange, Whole, merged}
 
 pub record File : Type 0 where
@@ -18,7 +19,7 @@ text (line ∷ lines) = line ++ 10 ∷ text lines
 abbrev pub file : List ℕ → List (List ℕ) → File
 file name lines = record { name = name; bytes = text lines }
 
-abbrev pub among : List File → Lookup
+abbrev pub among : List File → NamedFiles
 among [] name = None
 among (first ∷ files) name = cond (bytes_eq first.name name) (Some first.bytes) (among files name)
 
@@ -97,7 +98,7 @@ unfolding new_lines web_lines
 emptied = refl
 
 -- ten files may be included in one another
-abbrev chain : List (List ℕ) → Lookup
+abbrev chain : List (List ℕ) → NamedFiles
 chain last = among (file (codes "foo.w") (codes "@i f1" ∷ []) ∷ file (codes "f1") (codes "@i f2" ∷ []) ∷ file (codes "f2") (codes "@i f3" ∷ []) ∷ file (codes "f3") (codes "@i f4" ∷ [])
     ∷ file (codes "f4") (codes "@i f5" ∷ []) ∷ file (codes "f5") (codes "@i f6" ∷ []) ∷ file (codes "f6") (codes "@i f7" ∷ []) ∷ file (codes "f7") (codes "@i f8" ∷ [])
     ∷ file (codes "f8") (codes "@i f9" ∷ []) ∷ file (codes "f9") (codes "@i f10" ∷ []) ∷ file (codes "f10") last ∷ file (codes "f11") (codes "Deeper." ∷ []) ∷ [])

@@ -12,8 +12,9 @@ use Rattle.cw_base.specs.Web.{WebState}
 use Rattle.cw_base.specs.declared.notes.NoteKind.{NoteKind}
 use Rattle.cw_base.specs.declared.notes.NoteKind.TheVariants.{IncludeMissing, IncludeUnnamed, IncludeTooDeep, NoMatchingX, NoMatchingY, NoMatchingZ, NoOldLine, EndedBeforeY, EndedBeforeZ, LinesDiffer, WebEnded, ChangeUnmatched}
 use Rattle.cw_base.specs.declared.notes.Place.{Place}
+use Rattle.cw_desk.specs.Meaning.{NamedFiles}
 use Rattle.cw_input.specs.Lines.{FileLine, file_lines, code_of, include_name}
-use Rattle.cw_input.specs.Merge.{Lookup, counted}
+use Rattle.cw_input.specs.Merge.{counted}
 use Rattle.cw_input.specs.declared.lines.Code.{Code}
 use Rattle.cw_input.specs.declared.lines.Code.TheVariants.{X, Y, Z, Empty, Other}
 use Rattle.cw_input.specs.declared.phase.Phase.{Phase}
@@ -76,17 +77,17 @@ include_found into name None place m = Some (noted IncludeMissing 0 place m)
 include_found into name (Some bytes) place m =
     option_and_then (into (file_lines (length m.web.files) bytes)) (read name bytes m)
 
-abbrev pub include : Lookup → Into → List ℕ → Place → MergeState → Option MergeState
+abbrev pub include : NamedFiles → Into → List ℕ → Place → MergeState → Option MergeState
 include named into [] place m = Some (noted IncludeUnnamed 0 place m)
 include named None (byte ∷ bytes) place m = Some (noted IncludeTooDeep 0 place m)
 include named (Some into) (byte ∷ bytes) place m = include_found into (byte ∷ bytes) (named (byte ∷ bytes)) place m
 
 -- a line that no group takes: an include line includes, any other is appended
-abbrev pub put_by : Option (List ℕ) → Lookup → Bool → Into → FileLine → MergeState → Option MergeState
+abbrev pub put_by : Option (List ℕ) → NamedFiles → Bool → Into → FileLine → MergeState → Option MergeState
 put_by None named changed into line m = Some (appended changed line m)
 put_by (Some name) named changed into line m = include named into name line.place m
 
-abbrev pub put : Lookup → Bool → Into → FileLine → MergeState → Option MergeState
+abbrev pub put : NamedFiles → Bool → Into → FileLine → MergeState → Option MergeState
 put named changed into line m = put_by (include_name line.text) named changed into line m
 
 -- lines given one after another
@@ -96,7 +97,7 @@ walk each (line ∷ lines) m = walk each lines (option_and_then (each line) m)
 
 -- New lines of a group, and the lines of files that they include: each is appended as changed. The number says how many
 -- files deep may still be included.
-unfoldable pub new_lines : Lookup → ℕ → List FileLine → MergeState → Option MergeState
+unfoldable pub new_lines : NamedFiles → ℕ → List FileLine → MergeState → Option MergeState
 new_lines named zero lines m = walk (put named true None) lines (Some m)
 new_lines named (suc left) lines m = walk (put named true (Some (new_lines named left))) lines (Some m)
 
@@ -115,7 +116,7 @@ noted_if false kind value place m = m
 abbrev pub Onward : Type 0
 Onward = Phase → MergeState → Option MergeState
 
-abbrev pub step : Lookup → Phase → Code → FileLine → List FileLine → Onward → MergeState → Option MergeState
+abbrev pub step : NamedFiles → Phase → Code → FileLine → List FileLine → Onward → MergeState → Option MergeState
 step named Outside X line rest go m = go Opening m
 step named Outside Y line rest go m = go Outside (noted NoMatchingX 0 line.place m)
 step named Outside Z line rest go m = go Outside (noted NoMatchingX 0 line.place m)
@@ -157,41 +158,41 @@ ended (Spent differ) last m = grouped Over (noted EndedBeforeY 0 last m)
 ended New last m = grouped Over (noted EndedBeforeZ 0 last m)
 
 -- the lines of the change file that need no line of the web, from a phase on; last is the place of the line before them
-abbrev pub advance : Lookup → Phase → Place → List FileLine → MergeState → Option MergeState
+abbrev pub advance : NamedFiles → Phase → Place → List FileLine → MergeState → Option MergeState
 advance named phase last [] m = Some (ended phase last m)
 advance named phase last (line ∷ rest) m =
     step named phase (code_of line.text) line rest (λ next state. advance named next line.place rest state) m
 
 -- the first line that a pending group is compared with decides whether the group has been met
-abbrev pub compared : Bool → Lookup → FileLine → List FileLine → Into → FileLine → MergeState → Option MergeState
+abbrev pub compared : Bool → NamedFiles → FileLine → List FileLine → Into → FileLine → MergeState → Option MergeState
 compared true named match rest into line m = advance named (Old 0) match.place rest (record m { mark = true })
 compared false named match rest into line m = put named m.mark into line m
 
 -- a line of the web is taken: by a group that has been met, by the match line of a pending one that it equals, or else
 -- by the result
-abbrev pub take_by : Group → Lookup → Into → FileLine → MergeState → Option MergeState
+abbrev pub take_by : Group → NamedFiles → Into → FileLine → MergeState → Option MergeState
 take_by Over named into line m = put named m.mark into line m
 take_by (Pending match rest) named into line m = compared (bytes_eq match.text line.text) named match rest into line m
 take_by (Waiting old differ rest) named into line m =
     advance named (Old (counted (bytes_eq old.text line.text) differ)) old.place rest m
 
-abbrev pub take_line : Lookup → Into → FileLine → MergeState → Option MergeState
+abbrev pub take_line : NamedFiles → Into → FileLine → MergeState → Option MergeState
 take_line named into line m = take_by m.group named into line m
 
 -- Lines of the web, and of the files that it includes. The number says how many files deep may still be included.
-unfoldable pub web_lines : Lookup → ℕ → List FileLine → MergeState → Option MergeState
+unfoldable pub web_lines : NamedFiles → ℕ → List FileLine → MergeState → Option MergeState
 web_lines named zero lines m = walk (take_line named None) lines (Some m)
 web_lines named (suc left) lines m = walk (take_line named (Some (web_lines named left))) lines (Some m)
 
 -- The web has no line left: an old line that waits for one is noted, and the rest of its group and the next group are
 -- handled.
-abbrev pub drained_by : Group → Lookup → MergeState → Option MergeState
+abbrev pub drained_by : Group → NamedFiles → MergeState → Option MergeState
 drained_by Over named m = Some m
 drained_by (Pending match rest) named m = Some m
 drained_by (Waiting old differ rest) named m =
     advance named (Spent differ) old.place rest (noted WebEnded 0 old.place m)
 
-abbrev pub drained : Lookup → MergeState → Option MergeState
+abbrev pub drained : NamedFiles → MergeState → Option MergeState
 drained named m = drained_by m.group named m
 
 -- Then a group that is still pending is noted, and the result is complete.

@@ -10,12 +10,9 @@ use Rattle.cw_base.specs.Web.{WebState}
 use Rattle.cw_base.specs.declared.notes.Note.{Note}
 use Rattle.cw_base.specs.declared.notes.NoteKind.TheVariants.{IncludeMissing, IncludeUnnamed, IncludeTooDeep, NoMatchingY, NoMatchingZ, LinesDiffer, WebEnded, ChangeUnmatched}
 use Rattle.cw_base.specs.declared.notes.Place.{Place}
+use Rattle.cw_desk.specs.Meaning.{NamedFiles}
 use Rattle.cw_input.specs.Changes.{Change, Entry, Line, Misplaced, note_at}
 use Rattle.cw_input.specs.Lines.{FileLine, file_lines, include_name}
-
--- the files that are there, by their names
-abbrev pub Lookup : Type 0
-Lookup = List ℕ → Option (List ℕ)
 
 -- whether a change has been met, and which lines of the web it has dropped behind its match line
 pub data Course : Type 0 where
@@ -61,17 +58,17 @@ abbrev pub include_found : (List FileLine → Merging → Merging) → List ℕ 
 include_found into name None place m = noted (note_at IncludeMissing 0 place) m
 include_found into name (Some bytes) place m = into (file_lines (length m.web.files) bytes) (opened name m)
 
-abbrev pub include : Lookup → Into → List ℕ → Place → Merging → Merging
+abbrev pub include : NamedFiles → Into → List ℕ → Place → Merging → Merging
 include named into [] place m = noted (note_at IncludeUnnamed 0 place) m
 include named None (byte ∷ bytes) place m = noted (note_at IncludeTooDeep 0 place) m
 include named (Some into) (byte ∷ bytes) place m = include_found into (byte ∷ bytes) (named (byte ∷ bytes)) place m
 
 -- a line that no change drops: an include line includes, any other is appended
-abbrev pub put_by : Option (List ℕ) → Lookup → Bool → Into → FileLine → Merging → Merging
+abbrev pub put_by : Option (List ℕ) → NamedFiles → Bool → Into → FileLine → Merging → Merging
 put_by None named changed into line m = appended changed line m
 put_by (Some name) named changed into line m = include named into name line.place m
 
-abbrev pub put : Lookup → Bool → Into → FileLine → Merging → Merging
+abbrev pub put : NamedFiles → Bool → Into → FileLine → Merging → Merging
 put named changed into line m = put_by (include_name line.text) named changed into line m
 
 -- lines taken one after another
@@ -81,12 +78,12 @@ walk each (line ∷ lines) m = walk each lines (each line m)
 
 -- New lines of a change, and the lines of files that they include: each is appended as changed. The number says how
 -- many files deep may still be included.
-unfoldable pub new_lines : Lookup → ℕ → List FileLine → Merging → Merging
+unfoldable pub new_lines : NamedFiles → ℕ → List FileLine → Merging → Merging
 new_lines named zero lines m = walk (put named true None) lines m
 new_lines named (suc left) lines m = walk (put named true (Some (new_lines named left))) lines m
 
 -- the new lines of a change, with a note on each code line among them
-abbrev pub replaced : Lookup → List Entry → Merging → Merging
+abbrev pub replaced : NamedFiles → List Entry → Merging → Merging
 replaced named [] m = m
 replaced named (Line line ∷ entries) m = replaced named entries (new_lines named 10 (line ∷ []) m)
 replaced named (Misplaced place ∷ entries) m = replaced named entries (noted (note_at NoMatchingZ 0 place) m)
@@ -134,49 +131,49 @@ turn_notes (Some place) differ = turn_notes_by (nat_lt 0 differ) differ place
 
 -- A change that has been met and has dropped these lines: a mark waits for the first line behind, and the new lines
 -- stand in place of the old.
-abbrev pub applied : Lookup → Change → List (List ℕ) → Merging → Merging
+abbrev pub applied : NamedFiles → Change → List (List ℕ) → Merging → Merging
 applied named change dropped m =
     all_noted change.behind (replaced named change.new
     (all_noted (turn_notes change.turn (differing 0 change.old dropped))
     (all_noted (old_notes change.old dropped) (record m { mark = true; course = Free }))))
 
 -- a change that has been met drops lines of the web until it has one for each old line
-abbrev pub taking_by : Bool → Lookup → Change → List (List ℕ) → Merging → Merging
+abbrev pub taking_by : Bool → NamedFiles → Change → List (List ℕ) → Merging → Merging
 taking_by true named change dropped m = record m { course = Taking change dropped }
 taking_by false named change dropped m = applied named change dropped m
 
-abbrev pub taking : Lookup → Change → List (List ℕ) → Merging → Merging
+abbrev pub taking : NamedFiles → Change → List (List ℕ) → Merging → Merging
 taking named change dropped m = taking_by (nat_lt (length dropped) (line_count change.old)) named change dropped m
 
 -- whether the first change that is left is met
-abbrev pub met_by : Bool → Lookup → Change → List Change → Into → FileLine → Merging → Merging
+abbrev pub met_by : Bool → NamedFiles → Change → List Change → Into → FileLine → Merging → Merging
 met_by true named change changes into line m = taking named change [] (record m { changes = changes })
 met_by false named change changes into line m = put named m.mark into line m
 
-abbrev pub met : List Change → Lookup → Into → FileLine → Merging → Merging
+abbrev pub met : List Change → NamedFiles → Into → FileLine → Merging → Merging
 met [] named into line m = put named m.mark into line m
 met (change ∷ changes) named into line m =
     met_by (bytes_eq change.match.text line.text) named change changes into line m
 
 -- a line of the web: a change that has been met drops it, or it meets the first change that is left, or it is put
-abbrev pub take_by : Course → Lookup → Into → FileLine → Merging → Merging
+abbrev pub take_by : Course → NamedFiles → Into → FileLine → Merging → Merging
 take_by Free named into line m = met m.changes named into line m
 take_by (Taking change dropped) named into line m = taking named change (dropped ++ line.text ∷ []) m
 
-abbrev pub take_line : Lookup → Into → FileLine → Merging → Merging
+abbrev pub take_line : NamedFiles → Into → FileLine → Merging → Merging
 take_line named into line m = take_by m.course named into line m
 
 -- Lines of the web, and of the files that it includes. The number says how many files deep may still be included.
-unfoldable pub web_lines : Lookup → ℕ → List FileLine → Merging → Merging
+unfoldable pub web_lines : NamedFiles → ℕ → List FileLine → Merging → Merging
 web_lines named zero lines m = walk (take_line named None) lines m
 web_lines named (suc left) lines m = walk (take_line named (Some (web_lines named left))) lines m
 
 -- The web has ended: a change that has been met is applied with the lines that it has.
-abbrev pub drained_by : Course → Lookup → Merging → Merging
+abbrev pub drained_by : Course → NamedFiles → Merging → Merging
 drained_by Free named m = m
 drained_by (Taking change dropped) named m = applied named change dropped m
 
-abbrev pub drained : Lookup → Merging → Merging
+abbrev pub drained : NamedFiles → Merging → Merging
 drained named m = drained_by m.course named m
 
 -- Then the first change that is left is noted.

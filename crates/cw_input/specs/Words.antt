@@ -1,5 +1,6 @@
 -- What the words of a command line ask for.
 use Rattle.std.specs.Prelude.{ℕ, ◌+◌, ◌-◌, ◌*◌, ◌==◌, ◌&&◌, ◌||◌, Bool, true, false, cond, not, nat_le, List, [], ◌∷◌, fold, filter, Option, Some, None, codes, bytes_eq}
+use Rattle.std.specs.Char.{is_ascii_digit}
 use Rattle.std.specs.List.{list_all}
 use Rattle.cw_base.specs.Flags.{start_flags}
 use Rattle.cw_base.specs.declared.flags.Flags.{Flags}
@@ -61,16 +62,13 @@ command_with flags (web ∷ change ∷ []) = weave_by (can_be_web web) flags web
 command_with flags (web ∷ change ∷ output ∷ []) = weave_by (can_be_web web && can_be_output output) flags web (Some change) (outputs_of_word output)
 command_with flags (web ∷ change ∷ output ∷ more ∷ words) = Usage flags
 
--- a decimal number from 1 to 2000, without sign or leading zero
-abbrev pub is_digit : ℕ → Bool
-is_digit byte = nat_le 48 byte && nat_le byte 57
-
 abbrev pub value_of : List ℕ → ℕ
 value_of digits = fold (λ value digit. 10 * value + (digit - 48)) 0 digits
 
+-- a decimal number from 1 to 2000, without sign or leading zero
 abbrev pub is_sample_number : List ℕ → Bool
 is_sample_number [] = false
-is_sample_number (first ∷ digits) = not (first == 48) && list_all is_digit (first ∷ digits) && nat_le (value_of (first ∷ digits)) 2000
+is_sample_number (first ∷ digits) = not (first == 48) && list_all is_ascii_digit (first ∷ digits) && nat_le (value_of (first ∷ digits)) 2000
 
 abbrev pub sample_number_by : Bool → ℕ → Option ℕ
 sample_number_by true number = Some number

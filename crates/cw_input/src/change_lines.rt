@@ -3,10 +3,10 @@
 ghost use Rattle.std.specs.Prelude.{◌≡◌, ◌<◌, ◌≤◌, ◌-◌, ◌+◌, ℕ, IsErrOf, IsOkUnless, List, OnOk, Some, cond, length};
 ghost use Rattle.std.specs.Prelude.{nat_lt};
 ghost use Rattle.cw_base.specs.declared.notes.NoteKind.TheVariants.{LinesDiffer};
+ghost use Rattle.cw_desk.specs.Meaning.{NamedFiles};
 ghost use Rattle.cw_input.specs.Answers.{Gives, Steps, Waits};
 ghost use Rattle.cw_input.specs.Lines.{FileLine};
 ghost use Rattle.cw_input.specs.Fold.{MergeState, Onward, ended, step};
-ghost use Rattle.cw_input.specs.Merge.{Lookup};
 ghost use Rattle.cw_input.specs.State.{IsCursor, IsPhase, IsPiece, Moves, line_at, rest_of, state_of, with_note};
 ghost use Rattle.cw_input.specs.declared.phase.Phase.TheVariants.{Old, Opening, Outside, Skipping, Spent};
 
@@ -24,7 +24,7 @@ pub(crate) fn outside_line(
 ) -> Result<Option<Phase>, LoadError>
     requires listed { 1 < length m.old.web.files }
     requires bytes { m.old.sum ≤ INPUT_LIMIT }
-    ensures steps { (named : Lookup) (change : List ℕ) (rest : List FileLine) (go : Onward) →
+    ensures steps { (named : NamedFiles) (change : List ℕ) (rest : List FileLine) (go : Onward) →
         Steps (step named Outside code (line_at change piece) rest go (state_of change m.old)) go
         (state_of change m.new) result }
     ensures moves { OnOk result (Moves 0 0 0 0 m.old m.new) }
@@ -59,7 +59,7 @@ pub(crate) fn opening_line(
 ) -> Result<Option<Phase>, LoadError>
     requires listed { 1 < length m.old.web.files }
     requires bytes { m.old.sum ≤ INPUT_LIMIT }
-    ensures steps { (named : Lookup) (change : List ℕ) (go : Onward) →
+    ensures steps { (named : NamedFiles) (change : List ℕ) (go : Onward) →
         Steps (step named Opening code (line_at change piece) (rest_of change rest) go (state_of change m.old)) go
         (state_of change m.new) result }
     ensures moves { OnOk result (Moves 0 0 0 0 m.old m.new) }
@@ -90,7 +90,7 @@ pub(crate) fn opening_line(
 
 /// A line of a group that has no old lines.
 pub(crate) fn skipped_line(code: Code) -> Phase
-    ensures steps { (named : Lookup) (line : FileLine) (rest : List FileLine) (go : Onward) (m : MergeState) →
+    ensures steps { (named : NamedFiles) (line : FileLine) (rest : List FileLine) (go : Onward) (m : MergeState) →
         step named Skipping code line rest go m ≡ go result m }
     ensures waits { (line : ℕ) → IsPhase line result }
 {
@@ -114,7 +114,7 @@ pub(crate) fn old_line(
     requires listed { 1 < length m.old.web.files }
     requires bytes { m.old.sum ≤ INPUT_LIMIT }
     requires differ { differ < rest.line }
-    ensures steps { (named : Lookup) (change : List ℕ) (go : Onward) →
+    ensures steps { (named : NamedFiles) (change : List ℕ) (go : Onward) →
         Steps (step named (Old differ) code (line_at change piece) (rest_of change rest) go
         (state_of change m.old)) go (state_of change m.new) result }
     ensures moves { OnOk result (Moves 0 0 0 0 m.old m.new) }
@@ -155,7 +155,7 @@ pub(crate) fn spent_line(
 ) -> Result<Option<Phase>, LoadError>
     requires listed { 1 < length m.old.web.files }
     requires bytes { m.old.sum ≤ INPUT_LIMIT }
-    ensures steps { (named : Lookup) (change : List ℕ) (rest : List FileLine) (go : Onward) →
+    ensures steps { (named : NamedFiles) (change : List ℕ) (rest : List FileLine) (go : Onward) →
         Steps (step named (Spent differ) code (line_at change piece) rest go (state_of change m.old)) go
         (state_of change m.new) result }
     ensures moves { OnOk result (Moves 0 0 0 0 m.old m.new) }

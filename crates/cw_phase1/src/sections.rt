@@ -99,18 +99,12 @@ impl SectionList {
     }
 }
 
-fn is_digit(byte: u8) -> bool
-    ensures { result ≡ is_digit byte }
-{
-    byte.is_ascii_digit()
-}
-
 /// How many digits bytes begin with.
 fn digits(bytes: &[u8]) -> usize
     ensures value { result ≡ length (take_while is_digit bytes.now) }
     ensures within { result ≤ length bytes.now }
 {
-    bytes.iter().take_while(|byte| is_digit(**byte)).count()
+    bytes.iter().take_while(|byte| byte.is_ascii_digit()).count()
 }
 
 // The depth that stands at a place.

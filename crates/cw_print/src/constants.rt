@@ -1,33 +1,27 @@
 //! The bytes of constants.
 ghost use Rattle.std.specs.Prelude.{◌≡◌, ◌++◌, ◌∷◌, OnOk};
-ghost use Rattle.cw_lex.specs.Bytes.{is_digit, is_hex_digit};
+ghost use Rattle.cw_lex.specs.Bytes.{is_hex_digit};
 ghost use Rattle.cw_print.specs.Constants.{upper, suffix, is_exponent_byte, exponent, behind_mantissa};
 ghost use Rattle.cw_print.specs.Constants.{is_mantissa_byte, mantissa, hex_digits, behind_zero, constant};
 
 use cw_base::{Bytes, Memory};
 
-fn is_digit(byte: u8) -> bool
-    ensures { result ≡ is_digit byte }
-{
-    48 <= byte && byte <= 57
-}
-
 fn is_hex_digit(byte: u8) -> bool
     ensures { result ≡ is_hex_digit byte }
 {
-    is_digit(byte) || (97 <= byte && byte <= 102) || (65 <= byte && byte <= 70)
+    byte.is_ascii_digit() || (97 <= byte && byte <= 102) || (65 <= byte && byte <= 70)
 }
 
 fn is_exponent_byte(byte: u8) -> bool
     ensures { result ≡ is_exponent_byte byte }
 {
-    is_digit(byte) || byte == b'+' || byte == b'-'
+    byte.is_ascii_digit() || byte == b'+' || byte == b'-'
 }
 
 fn is_mantissa_byte(byte: u8) -> bool
     ensures { result ≡ is_mantissa_byte byte }
 {
-    is_digit(byte) || byte == b'.'
+    byte.is_ascii_digit() || byte == b'.'
 }
 
 fn upper(byte: u8) -> u8
@@ -110,7 +104,7 @@ fn put_behind_zero(out: &mut Bytes, byte: u8, bytes: &[u8], behind: &[u8]) -> Re
         out.append(b"\\^")?;
         return put_hex_digits(out, behind);
     }
-    if is_digit(byte) {
+    if byte.is_ascii_digit() {
         out.append(b"\\~")?;
     } else {
         out.push(b'0')?;

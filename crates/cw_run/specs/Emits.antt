@@ -5,11 +5,10 @@ use Rattle.std.specs.FinMap.{get}
 use Rattle.cw_base.specs.declared.event.Event.{Event}
 use Rattle.cw_base.specs.declared.exit.Exit.{Exit}
 use Rattle.cw_desk.specs.Journal.{grown, GrownByPart}
-use Rattle.cw_desk.specs.Meaning.{Files, Rose}
+use Rattle.cw_desk.specs.Meaning.{Files, NamedFiles, Rose}
 use Rattle.cw_desk.specs.Told.{Told}
 use Rattle.cw_lines.specs.declared.put_error.PutError.{PutError}
 use Rattle.cw_lines.specs.declared.put_error.PutError.TheVariants.{Fault}
-use Rattle.cw_run.specs.Files.{Named}
 
 -- what a run does behind the banner, and its status
 pub record Run : Type 0 where
@@ -31,7 +30,7 @@ pub record Faults {T : Type 0} (before now : Told) (result : Result T PutError) 
   pub fault : IsErrOf result Fault → Rose before.faults now.faults
 
 -- The events depend on the files: over a desk that tells them, the journal has grown by those that they give.
-pub record EmitsBy {T : Type 0} (events : Named → List Event) (before now : Told) (result : Result T PutError) : Type 0 where
+pub record EmitsBy {T : Type 0} (events : NamedFiles → List Event) (before now : Told) (result : Result T PutError) : Type 0 where
   pub emits : (files : Files) → before.files ≡ Some files → Emits (events (get files)) before now result
   pub faults : Faults before now result
 
@@ -41,6 +40,6 @@ pub record Runs (run : Run) (before now : Told) (result : Result Exit PutError) 
   pub exit : IfOk result (λ exit. exit ≡ run.exit)
 
 -- The same where the events depend on the files; the status doesn't.
-pub record RunsBy (run : Named → Run) (before now : Told) (result : Result Exit PutError) : Type 0 where
+pub record RunsBy (run : NamedFiles → Run) (before now : Told) (result : Result Exit PutError) : Type 0 where
   pub emits : EmitsBy (λ named. (run named).rest) before now result
-  pub exit : IfOk result (λ exit. (named : Named) → exit ≡ (run named).exit)
+  pub exit : IfOk result (λ exit. (named : NamedFiles) → exit ≡ (run named).exit)

@@ -10,7 +10,7 @@ use Rattle.cw_base.specs.declared.exit.Exit.{Exit}
 use Rattle.cw_desk.specs.Journal.{grown, GrownByPart}
 use Rattle.cw_desk.specs.JournalLaws.{grown-none, grown-after, part-first, part-same, part-second}
 use Rattle.cw_base.specs.declared.event.Out.TheVariants.{Term, Tex, Idx, Scn}
-use Rattle.cw_desk.specs.Meaning.{Files, Rose, has_draft, is_open, with_draft, with_output}
+use Rattle.cw_desk.specs.Meaning.{Files, NamedFiles, Rose, has_draft, is_open, with_draft, with_output}
 use Rattle.cw_desk.specs.MeaningLaws.{drafted-is_open, made-is_open}
 use Rattle.cw_desk.specs.Told.{Told, OnlyReads, Turns}
 use Rattle.cw_desk.specs.declared.desk.FileId.{FileId}
@@ -25,7 +25,7 @@ use Rattle.cw_lines.specs.WritesLaws.{adds-nothing, puts-new, puts-new_compared}
 use Rattle.cw_lines.specs.declared.put_error.PutError.{PutError}
 use Rattle.cw_lines.specs.declared.put_error.PutError.TheVariants.{Memory}
 use Rattle.cw_run.specs.Emits.{Emits, EmitsBy, Faults, Run, Runs, RunsBy}
-use Rattle.cw_run.specs.Files.{IsBegun, Named, OutFile, answered, begun, file_events, fresh, is_end, is_same, old_text, settled, settled_if}
+use Rattle.cw_run.specs.Files.{IsBegun, OutFile, answered, begun, file_events, fresh, is_end, is_same, old_text, settled, settled_if}
 
 is_err : {T E : Type 0} (result : Result T E) (error : E) → IsErrAnd result (λ found. found ≡ error) → result ≡ Err error
 is_err result error is = let p = err_from_is_err_and result is in p.1 ∙ ap Err p.2
@@ -103,31 +103,31 @@ faults-as {U = U} {a = a} {b = b} {error = error} {result = result} done is =
 pub emits-by : {T : Type 0} {events : List Event} {a b : Told} {result : Result T PutError} → Emits events a b result → EmitsBy (λ named. events) a b result
 emits-by done = record { emits = λ files is. done; faults = emits-faults done }
 
-pub emits_by-then : {T U : Type 0} {first second : Named → List Event} {a b c : Told} {value : T} {result : Result U PutError}
+pub emits_by-then : {T U : Type 0} {first second : NamedFiles → List Event} {a b c : Told} {value : T} {result : Result U PutError}
     → EmitsBy {T = T} first a b (Ok value) → EmitsBy second b c result → EmitsBy (λ named. first named ++ second named) a c result
 emits_by-then begun ended = record {
   emits = λ files is. let done = begun.emits files is in emits-then done (ended.emits files (done.same_files ∙ is));
   faults = faults-then begun.faults.kept ended.faults;
 }
 
-pub emits_by-stop : {T U : Type 0} {first : Named → List Event} (second : Named → List Event) {a b : Told} {error : PutError} {result : Result U PutError}
+pub emits_by-stop : {T U : Type 0} {first : NamedFiles → List Event} (second : NamedFiles → List Event) {a b : Told} {error : PutError} {result : Result U PutError}
     → EmitsBy {T = T} first a b (Err error) → IsErrAnd result (λ found. found ≡ error) → EmitsBy (λ named. first named ++ second named) a b result
 emits_by-stop second begun is = record {
   emits = λ files there. emits-stop _ (begun.emits files there) is;
   faults = faults-as begun.faults is;
 }
 
-pub emits_by-events : {T : Type 0} {first second : Named → List Event} {a b : Told} {result : Result T PutError} → ((named : Named) → first named ≡ second named)
+pub emits_by-events : {T : Type 0} {first second : NamedFiles → List Event} {a b : Told} {result : Result T PutError} → ((named : NamedFiles) → first named ≡ second named)
     → EmitsBy first a b result → EmitsBy second a b result
 emits_by-events same done = record { emits = λ files is. emits-events (same (get files)) (done.emits files is); faults = done.faults }
 
 -- the same failure of a call around it
-pub emits_by-fail : {T U : Type 0} {events : Named → List Event} {a b : Told} {error : PutError} {result : Result U PutError}
+pub emits_by-fail : {T U : Type 0} {events : NamedFiles → List Event} {a b : Told} {error : PutError} {result : Result U PutError}
     → EmitsBy {T = T} events a b (Err error) → IsErrAnd result (λ found. found ≡ error) → EmitsBy events a b result
 emits_by-fail done is = record { emits = λ files there. emits-fail (done.emits files there) is; faults = faults-as done.faults is }
 
 -- another answer after the same events
-pub emits_by-value : {T U : Type 0} {events : Named → List Event} {a b : Told} {value : T} (other : U) → EmitsBy {T = T} events a b (Ok value)
+pub emits_by-value : {T U : Type 0} {events : NamedFiles → List Event} {a b : Told} {value : T} (other : U) → EmitsBy {T = T} events a b (Ok value)
     → EmitsBy {T = U} events a b (Ok other)
 emits_by-value other done = record {
   emits = λ files is. emits-value other (done.emits files is);
@@ -287,35 +287,35 @@ runs-known {a = a} {b = b} {result = result} same runs = subst (λ (run : Run). 
 -- ## Runs whose events depend on the files
 
 pub runs-by : {run : Run} {a b : Told} {result : Result Exit PutError} → Runs run a b result → RunsBy (λ named. run) a b result
-runs-by {run = run} {result = result} runs = record { emits = emits-by runs.emits; exit = IfOk-weaker result (λ e. e ≡ run.exit) (λ e. (named : Named) → e ≡ run.exit) (λ e is named. is) runs.exit }
+runs-by {run = run} {result = result} runs = record { emits = emits-by runs.emits; exit = IfOk-weaker result (λ e. e ≡ run.exit) (λ e. (named : NamedFiles) → e ≡ run.exit) (λ e is named. is) runs.exit }
 
-pub runs_by-then : {T : Type 0} {first rest : Named → List Event} {exit : Exit} {a b c : Told} {value : T} {result : Result Exit PutError}
+pub runs_by-then : {T : Type 0} {first rest : NamedFiles → List Event} {exit : Exit} {a b c : Told} {value : T} {result : Result Exit PutError}
     → EmitsBy {T = T} first a b (Ok value) → RunsBy (λ named. record { rest = rest named; exit = exit }) b c result
     → RunsBy (λ named. record { rest = first named ++ rest named; exit = exit }) a c result
 runs_by-then begun ended = record { emits = emits_by-then begun ended.emits; exit = ended.exit }
 
-pub runs_by-stop : {T : Type 0} {first : Named → List Event} (rest : Named → List Event) (exit : Exit) {a b : Told} {error : PutError} {result : Result Exit PutError}
+pub runs_by-stop : {T : Type 0} {first : NamedFiles → List Event} (rest : NamedFiles → List Event) (exit : Exit) {a b : Told} {error : PutError} {result : Result Exit PutError}
     → EmitsBy {T = T} first a b (Err error) → IsErrAnd result (λ found. found ≡ error)
     → RunsBy (λ named. record { rest = first named ++ rest named; exit = exit }) a b result
 runs_by-stop rest exit {error = error} {result = result} begun is = record {
   emits = emits_by-stop rest begun is;
-  exit = subst (λ (r : Result Exit PutError). IfOk r (λ e. (named : Named) → e ≡ exit)) (sym (is_err result error is)) tt;
+  exit = subst (λ (r : Result Exit PutError). IfOk r (λ e. (named : NamedFiles) → e ≡ exit)) (sym (is_err result error is)) tt;
 }
 
 -- memory was refused before anything was emitted
-pub runs_by-nothing : (run : Named → Run) (told : Told) {result : Result Exit PutError} → IsErrAnd result (λ found. found ≡ Memory) → RunsBy run told told result
+pub runs_by-nothing : (run : NamedFiles → Run) (told : Told) {result : Result Exit PutError} → IsErrAnd result (λ found. found ≡ Memory) → RunsBy run told told result
 runs_by-nothing run told {result = result} is = record {
   emits = record { emits = λ files there. emits-nothing (run (get files)).rest told is; faults = emits-faults (emits-nothing [] told is) };
-  exit = subst (λ (r : Result Exit PutError). IfOk r (λ e. (named : Named) → e ≡ (run named).exit)) (sym (is_err result Memory is)) tt;
+  exit = subst (λ (r : Result Exit PutError). IfOk r (λ e. (named : NamedFiles) → e ≡ (run named).exit)) (sym (is_err result Memory is)) tt;
 }
 
 -- its status, whatever files there are
-pub runs_by-exit : {run : Named → Run} {a b : Told} {result : Result Exit PutError} (named : Named) → RunsBy run a b result → IfOk result (λ e. e ≡ (run named).exit)
+pub runs_by-exit : {run : NamedFiles → Run} {a b : Told} {result : Result Exit PutError} (named : NamedFiles) → RunsBy run a b result → IfOk result (λ e. e ≡ (run named).exit)
 runs_by-exit {run = run} {result = result} named runs =
-    IfOk-weaker result (λ e. (named : Named) → e ≡ (run named).exit) (λ e. e ≡ (run named).exit) (λ e same. same named) runs.exit
+    IfOk-weaker result (λ e. (named : NamedFiles) → e ≡ (run named).exit) (λ e. e ≡ (run named).exit) (λ e same. same named) runs.exit
 
 -- over the files that are told
-pub runs_by-over : {run : Named → Run} {a b : Told} {result : Result Exit PutError} → RunsBy run a b result
+pub runs_by-over : {run : NamedFiles → Run} {a b : Told} {result : Result Exit PutError} → RunsBy run a b result
     → (files : Files) → a.files ≡ Some files → Runs (run (get files)) a b result
 runs_by-over runs files is = record {
   emits = runs.emits.emits files is;

@@ -7,7 +7,7 @@ use Rattle.cw_base.specs.declared.event.Event.TheVariants.{Drafted, Kept, Made, 
 use Rattle.cw_base.specs.declared.event.Out.{Out}
 use Rattle.cw_base.specs.declared.notes.Note.{Note}
 use Rattle.cw_base.specs.declared.notes.NoteKind.TheVariants.{LineBroken}
-use Rattle.cw_desk.specs.Meaning.{Files, has_draft}
+use Rattle.cw_desk.specs.Meaning.{Files, NamedFiles, has_draft}
 use Rattle.cw_desk.specs.Told.{Told}
 use Rattle.cw_desk.specs.declared.desk.FileId.{FileId}
 use Rattle.cw_desk.specs.declared.desk.MadeOut.{MadeOut}
@@ -26,10 +26,6 @@ pub record OutFile : Type 0 where
   pub out : Out
   pub name : List ℕ
   pub bytes : List ℕ
-
--- the bytes of the files that are there, by their names
-abbrev pub Named : Type 0
-Named = List ℕ → Option (List ℕ)
 
 -- Its begin: it is made or, to keep an old file that would be the same, drafted.
 abbrev pub begun : Bool → Out → List ℕ → Event
@@ -52,7 +48,7 @@ is_same (Some old) bytes = bytes_eq bytes old
 
 -- It is begun, and its lines are written; a draft of it ends as kept where the file of its name has just these lines, else as
 -- replaced.
-abbrev pub file_events : Bool → OutFile → Named → List Event
+abbrev pub file_events : Bool → OutFile → NamedFiles → List Event
 file_events keep f named =
     begun keep f.out f.name ∷ (line_events f.out (cut f.bytes).lines
     ++ settled_if keep (is_same (named f.name) (written (cut f.bytes).lines)) f.out)

@@ -5,7 +5,8 @@ use Rattle.cw_base.specs.declared.event.Event.{Event}
 use Rattle.cw_base.specs.declared.event.Event.TheVariants.{Drafted, Kept, Replaced}
 use Rattle.cw_base.specs.declared.event.Out.TheVariants.{Tex, Idx, Scn}
 use Rattle.cw_desk.specs.Journal.{byte_events}
-use Rattle.cw_input.specs.Merge.{Lookup, new_lines, web_lines}
+use Rattle.cw_desk.specs.Meaning.{NamedFiles}
+use Rattle.cw_input.specs.Merge.{new_lines, web_lines}
 use Rattle.cw_lines.specs.Cut.{cut_behind, divide}
 use Rattle.cw_reduce.specs.Translating.{translated}
 use Rattle.cw_table.specs.Normal.{normal, log, count}
@@ -20,7 +21,7 @@ abbrev hello_tex : List ℕ
 hello_tex = lines (codes "\\input cwebmac" ∷ codes "% limbo" ∷ codes "\\M{1}Hello." ∷ codes "\\fi" ∷ [] ∷ codes "\\inx" ∷ codes "\\fin" ∷ codes "\\end" ∷ [])
 
 -- the web, an old TeX file and an old index that is empty
-abbrev hello_over : List ℕ → Lookup
+abbrev hello_over : List ℕ → NamedFiles
 hello_over old = with_file (codes "foo.idx") [] (with_file (codes "foo.tex") old (foo_w (codes "% limbo" ∷ codes "@ Hello." ∷ [])))
 
 abbrev hello_run : Event → List Event

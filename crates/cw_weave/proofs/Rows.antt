@@ -5,7 +5,8 @@ use Rattle.cw_base.specs.declared.event.Event.{Event}
 use Rattle.cw_base.specs.declared.event.Event.TheVariants.{Made}
 use Rattle.cw_base.specs.declared.event.Out.TheVariants.{Tex, Idx, Scn}
 use Rattle.cw_desk.specs.Journal.{byte_events}
-use Rattle.cw_input.specs.Merge.{Lookup, new_lines, web_lines}
+use Rattle.cw_desk.specs.Meaning.{NamedFiles}
+use Rattle.cw_input.specs.Merge.{new_lines, web_lines}
 use Rattle.cw_lines.specs.Cut.{cut_behind, divide}
 use Rattle.cw_reduce.specs.Translating.{translated}
 use Rattle.cw_table.specs.Normal.{normal, log, count}
@@ -29,13 +30,13 @@ all_say [] = []
 all_say (text ∷ texts) = says text ++ all_say texts
 
 -- a file of this name is there, beside others
-abbrev pub with_file : List ℕ → List ℕ → Lookup → Lookup
+abbrev pub with_file : List ℕ → List ℕ → NamedFiles → NamedFiles
 with_file name bytes named other = cond (bytes_eq name other) (Some bytes) (named other)
 
-abbrev pub no_files : Lookup
+abbrev pub no_files : NamedFiles
 no_files other = None
 
-abbrev pub foo_w : List (List ℕ) → Lookup
+abbrev pub foo_w : List (List ℕ) → NamedFiles
 foo_w texts = with_file (codes "foo.w") (lines texts) no_files
 
 abbrev pub foo : List (List ℕ)

@@ -3,7 +3,7 @@ use Rattle.std.specs.Prelude.{ℕ, ◌+◌, Bool, true, false, List}
 use Rattle.cw_base.specs.Flags.{start_flags}
 use Rattle.cw_base.specs.Web.{text_of}
 use Rattle.cw_base.specs.declared.flags.Flags.{Flags}
-use Rattle.cw_input.specs.Merge.{Lookup}
+use Rattle.cw_desk.specs.Meaning.{NamedFiles}
 use Rattle.cw_input.specs.Merged.{Merged, NoWeb, NoChange, TooLong, Whole, merged}
 use Rattle.cw_input.specs.Words.{command_of}
 use Rattle.cw_input.specs.declared.words.Command.{Command}
@@ -38,11 +38,11 @@ web_looks flags (Whole web) = book_looks (text_of web.lines) flags (handed (book
 abbrev pub sample_looks : ℕ → ℕ
 sample_looks n = limit_in start_flags (sample_tex n).ended
 
-abbrev pub command_looks : Command → Lookup → ℕ
+abbrev pub command_looks : Command → NamedFiles → ℕ
 command_looks (Usage flags) named = 0
 command_looks (Sample sections) named = sample_looks sections
 command_looks (Weave line) named = web_looks line.flags (merged named line.web line.change)
 
 -- the limits of all C texts that a run translates, for the words of a command line, over files that are there by their names
-abbrev pub looks_of : List (List ℕ) → Lookup → ℕ
+abbrev pub looks_of : List (List ℕ) → NamedFiles → ℕ
 looks_of words named = command_looks (command_of words) named

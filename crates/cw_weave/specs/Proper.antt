@@ -1,11 +1,12 @@
 -- What is known of a command: its web word is never empty, and a sample has at most 2000 sections.
 use Rattle.std.specs.Prelude.{◌≡◌, ℕ, ◌<◌, ◌≤◌, ◌==◌, ◌&&◌, Bool, true, false, not, nat_le, List, [], ◌∷◌, Option, Some, None, length, ⊤, bytes_eq, codes}
+use Rattle.std.specs.Char.{is_ascii_digit}
 use Rattle.std.specs.List.{list_all}
 use Rattle.std.proofs.Common.{refl, arith}
 use Rattle.std.proofs.lemmas.Bool.{leb-true}
 use Rattle.cw_base.specs.declared.flags.Flags.{Flags}
 use Rattle.cw_input.specs.Names.{outputs_of_web, outputs_of_word}
-use Rattle.cw_input.specs.Words.{can_be_output, can_be_web, command_by, command_of, command_with, flags_of, is_digit, is_sample_number, plain_words, sample_by, sample_number_by, sample_of, value_of, weave_by}
+use Rattle.cw_input.specs.Words.{can_be_output, can_be_web, command_by, command_of, command_with, flags_of, is_sample_number, plain_words, sample_by, sample_number_by, sample_of, value_of, weave_by}
 use Rattle.cw_input.specs.declared.words.Command.{Command}
 use Rattle.cw_input.specs.declared.words.Command.TheVariants.{Weave, Sample, Usage}
 use Rattle.cw_input.specs.declared.words.OutputNames.{OutputNames}
@@ -53,7 +54,7 @@ small [] is = absurd (never is)
     never e = cc
 small (first ∷ digits) is =
     leb-true (value_of (first ∷ digits)) 2000
-    (second_true (not (first == 48) && list_all is_digit (first ∷ digits)) (nat_le (value_of (first ∷ digits)) 2000) is)
+    (second_true (not (first == 48) && list_all is_ascii_digit (first ∷ digits)) (nat_le (value_of (first ∷ digits)) 2000) is)
 
 sample_by-proper : (is : Bool) (number : ℕ) → (is ≡ true → number ≤ 2000) → IsProper (sample_by (sample_number_by is number))
 sample_by-proper true number few = few refl

@@ -10,10 +10,10 @@ use Rattle.cw_base.specs.declared.exit.Exit.TheVariants.{Clean, Errors, Fault, M
 use Rattle.cw_base.specs.declared.flags.Flags.{Flags}
 use Rattle.cw_base.specs.declared.notes.Note.{Note}
 use Rattle.cw_desk.specs.Journal.{grown, GrownByPart}
+use Rattle.cw_desk.specs.Meaning.{NamedFiles}
 use Rattle.cw_desk.specs.Told.{Told}
 use Rattle.cw_index.specs.Index.{index_bytes}
 use Rattle.cw_index.specs.NameList.{names_done}
-use Rattle.cw_input.specs.Merge.{Lookup}
 use Rattle.cw_input.specs.Merged.{Merged, NoWeb, NoChange, TooLong, Whole, merged}
 use Rattle.cw_input.specs.Words.{command_of}
 use Rattle.cw_input.specs.declared.words.Command.{Command}
@@ -65,14 +65,14 @@ index_files false line text left = []
 -- ## The run
 
 -- With flag k each file is drafted, and the old file of its name is kept where it would be the same.
-abbrev pub output_events : Flags → OutFile → Lookup → List Event
+abbrev pub output_events : Flags → OutFile → NamedFiles → List Event
 output_events flags f named = says_if flags.progress output_text ++ file_events flags.keep f named
 
-abbrev pub index_events : Bool → Flags → List OutFile → Lookup → List Event
+abbrev pub index_events : Bool → Flags → List OutFile → NamedFiles → List Event
 index_events true flags files named = says_if flags.progress index_text ++ flat_map (λ f. file_events flags.keep f named) files
 index_events false flags files named = []
 
-abbrev pub files_events : Flags → OutFile → List OutFile → Lookup → List Event
+abbrev pub files_events : Flags → OutFile → List OutFile → NamedFiles → List Event
 files_events flags tex index named = output_events flags tex named ++ index_events flags.index flags index named
 
 -- The end of the run: a line for each line of the files that had no good place to be cut, the statistics, and the closing line, by
@@ -91,7 +91,7 @@ end_of flags broken totals notes =
     ending_run flags broken totals (has_error (notes ++ broken_notes broken)) (has_note (notes ++ broken_notes broken))
 
 -- The notes, the TeX file, the index and the list of section names, and the end of the run.
-abbrev pub weave_files : CommandLine → List (List ℕ) → List SecName → List Note → Totals → OutFile → List OutFile → Lookup → Run
+abbrev pub weave_files : CommandLine → List (List ℕ) → List SecName → List Note → Totals → OutFile → List OutFile → NamedFiles → Run
 weave_files line files kept notes totals tex index named = record {
   rest =
       note_events files kept notes ++ (files_events line.flags tex index named
@@ -99,22 +99,22 @@ weave_files line files kept notes totals tex index named = record {
   exit = (end_of line.flags (map broken_in (tex ∷ index)) totals notes).exit;
 }
 
-abbrev pub weave_left : CommandLine → WebState → Book → Done ℕ → Book → Lookup → Run
+abbrev pub weave_left : CommandLine → WebState → Book → Done ℕ → Book → NamedFiles → Run
 weave_left line web b tex left named =
     weave_files line web.files b.sec_names (web.notes ++ b.outline.notes) (totals_of line.flags b.outline.sections tex)
     (tex_out line.outputs tex.out) (index_files line.flags.index line (text_of web.lines) left) named
 
-abbrev pub weave_tex : CommandLine → WebState → Book → Done ℕ → Lookup → Run
+abbrev pub weave_tex : CommandLine → WebState → Book → Done ℕ → NamedFiles → Run
 weave_tex line web b tex named = weave_left line web b tex (left_by (text_of web.lines) line.flags b tex) named
 
-abbrev pub weave_book : CommandLine → WebState → Book → Lookup → Run
+abbrev pub weave_book : CommandLine → WebState → Book → NamedFiles → Run
 weave_book line web b named = weave_tex line web b (tex_file (text_of web.lines) line.flags b) named
 
 abbrev pub change_text : Option (List ℕ) → List ℕ
 change_text None = []
 change_text (Some word) = word
 
-abbrev pub weave_web : CommandLine → Merged → Lookup → Run
+abbrev pub weave_web : CommandLine → Merged → NamedFiles → Run
 weave_web line NoWeb named = stopped (no_web_text line.web)
 weave_web line NoChange named = stopped (no_change_text (change_text line.change))
 weave_web line TooLong named = stopped too_long_text
@@ -125,12 +125,12 @@ weave_web line (Whole web) named = weave_book line web (handed (book web.lines))
 abbrev pub with_banner : Flags → Run → Run
 with_banner flags run = record { rest = banner flags ++ run.rest; exit = run.exit }
 
-abbrev pub weave_command_of : Command → Lookup → Run
+abbrev pub weave_command_of : Command → NamedFiles → Run
 weave_command_of (Usage flags) named = with_banner flags (stopped usage_text)
 weave_command_of (Sample sections) named = sample_run sections
 weave_command_of (Weave line) named = with_banner line.flags (weave_web line (merged named line.web line.change) named)
 
-abbrev pub woven : List (List ℕ) → Lookup → Run
+abbrev pub woven : List (List ℕ) → NamedFiles → Run
 woven words named = weave_command_of (command_of words) named
 
 -- What a run has done: it emitted exactly the events and answers exactly the status; or a first part of the events, after a fault of

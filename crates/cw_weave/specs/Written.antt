@@ -2,7 +2,7 @@
 use Rattle.std.specs.Prelude.{◌≡◌, ℕ, List, [], ◌∷◌, Option, Some, None, map}
 use Rattle.cw_base.specs.declared.event.Event.{Event}
 use Rattle.cw_base.specs.declared.flags.Flags.{Flags}
-use Rattle.cw_input.specs.Merge.{Lookup}
+use Rattle.cw_desk.specs.Meaning.{NamedFiles}
 use Rattle.cw_input.specs.declared.words.OutputNames.{OutputNames}
 use Rattle.cw_phase1.specs.declared.book.Book.{Book}
 use Rattle.cw_reduce.specs.Counting.{productions_in, scraps_in}
@@ -43,7 +43,7 @@ index_in source left = index_files (flags_in source).index source.line.now (text
 abbrev pub files_in : Source → Book → List OutFile
 files_in source b = tex_of source b ∷ index_in source (left_in source b)
 
-abbrev pub events_of : Source → Book → Lookup → List Event
+abbrev pub events_of : Source → Book → NamedFiles → List Event
 events_of source b named = files_events (flags_in source) (tex_of source b) (index_in source (left_in source b)) named
 
 -- They were written.

@@ -2,10 +2,10 @@
 use Rattle.std.proofs.Common.{◌≡◌, ℕ, ◌+◌, ◌≤◌, List, [], length, Option, Some, Err, option_and_then, ap, sym, subst, ◌∙◌, arith}
 use Rattle.std.specs.FinMap.{get}
 use Rattle.cw_base.specs.declared.limits.TheConstants.{INPUT_LIMIT}
+use Rattle.cw_desk.specs.Meaning.{NamedFiles}
 use Rattle.cw_input.specs.Answers.{Loads, Merges}
 use Rattle.cw_input.specs.Lines.{file_lines}
 use Rattle.cw_input.specs.Fold.{MergeState, advance, read}
-use Rattle.cw_input.specs.Merge.{Lookup}
 use Rattle.cw_input.specs.Folded.{taken}
 use Rattle.cw_input.specs.Merged.{Merged}
 use Rattle.cw_input.specs.State.{state_of, with_file}
@@ -18,10 +18,10 @@ use Rattle.cw_input.proofs.StartLaws.{read-second}
 use Rattle.cw_input.proofs.loading.merge_found.Goals as goal
 
 -- the change file up to the first line that waits, and the web with a change file of these bytes
-abbrev handled : Lookup → List ℕ → MergeState → Option MergeState
+abbrev handled : NamedFiles → List ℕ → MergeState → Option MergeState
 handled named bytes = advance named Outside (record { file = 1; line = 0 }) (file_lines 1 bytes)
 
-abbrev changed : Lookup → List ℕ → List ℕ → List ℕ → Merger → Merged
+abbrev changed : NamedFiles → List ℕ → List ℕ → List ℕ → Merger → Merged
 changed named web name bytes m = taken named web (option_and_then (handled named bytes) (read name bytes (state_of [] m)))
 
 begun : (name bytes given : List ℕ) (m new : Merger) → m.meets ≡ Nothing → bytes ≡ given → new ≡ with_file name (length given) m → m.sum + length given ≤ INPUT_LIMIT
