@@ -4,7 +4,7 @@
 ghost use Rattle.std.specs.Prelude.{◌≡◌, ◌≤◌, ◌<◌, IsTrue, false, length};
 ghost use Rattle.cw_base.specs.declared.event.Out.TheVariants.{Tex};
 ghost use Rattle.cw_desk.specs.Meaning.{is_open};
-ghost use Rattle.cw_lex.specs.declared.tokens.Mode.TheVariants.{CPart};
+ghost use Rattle.cw_rules.specs.declared.tokens.Mode.TheVariants.{CPart};
 ghost use Rattle.cw_lex.specs.Lexing.{tokens_of};
 ghost use Rattle.cw_lex.specs.Nested.{begins_section_in};
 ghost use Rattle.cw_scraps.specs.Lines.{IsNamedBelow};

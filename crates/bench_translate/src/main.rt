@@ -3,7 +3,7 @@
 #![tactic(auto)]
 
 ghost use Rattle.std.specs.Prelude.{◌≡◌, ◌≤◌, ◌^◌, false, length};
-ghost use Rattle.cw_lex.specs.declared.tokens.Mode.TheVariants.{CPart};
+ghost use Rattle.cw_rules.specs.declared.tokens.Mode.TheVariants.{CPart};
 ghost use Rattle.cw_lex.specs.Lexing.{tokens_of};
 ghost use Rattle.cw_lex.specs.Nested.{begins_section_in};
 

@@ -1,6 +1,6 @@
 //! Tests that make the scrap of each kind of token once.
 ghost use Rattle.std.specs.Prelude.{◌≡◌, ◌^◌, ◌<◌, length};
-ghost use Rattle.cw_lex.specs.declared.tokens.TokKind.TheVariants as TokKind;
+ghost use Rattle.cw_rules.specs.declared.tokens.TokKind.TheVariants as TokKind;
 ghost use Rattle.cw_scraps.specs.Leaves.{MakesLeaf};
 
 use cw_base::{Cat, MathMode, Memory, Span};

@@ -2,25 +2,25 @@
 use Rattle.std.proofs.Common.{◌≡◌, ℕ, suc, ◌+◌, ◌-◌, ◌≤◌, Bool, true, false, ◌||◌, List, [], ◌∷◌, ◌++◌, length, take, drop, refl, sym, ap, subst, ◌∙◌, arith, length-drop}
 use Rattle.std.specs.Prelude.{if◌then◌else◌}
 use Rattle.std.proofs.lemmas.List.{length-take, take_all}
-use Rattle.cw_lex.specs.declared.bodies.Body.TheVariants as bodies
-use Rattle.cw_lex.specs.declared.bodies.Noted.{Noted}
-use Rattle.cw_lex.specs.declared.codes.Code.{Code}
-use Rattle.cw_lex.specs.declared.codes.Code.TheVariants as at
-use Rattle.cw_lex.specs.declared.parts.Part.TheVariants as parts
-use Rattle.cw_lex.specs.declared.tokens.Mode.TheVariants as modes
-use Rattle.cw_lex.specs.declared.tokens.TokKind.TheVariants as kinds
-use Rattle.cw_lex.specs.Answers.{Answer, Where, Found, note_answers}
-use Rattle.cw_lex.specs.Bodies.{at_start, extent}
-use Rattle.cw_lex.specs.Codes.{code_of}
+use Rattle.cw_rules.specs.declared.bodies.Body.TheVariants as bodies
+use Rattle.cw_rules.specs.declared.bodies.Noted.{Noted}
+use Rattle.cw_rules.specs.declared.codes.Code.{Code}
+use Rattle.cw_rules.specs.declared.codes.Code.TheVariants as at
+use Rattle.cw_rules.specs.declared.parts.Part.TheVariants as parts
+use Rattle.cw_rules.specs.declared.tokens.Mode.TheVariants as modes
+use Rattle.cw_rules.specs.declared.tokens.TokKind.TheVariants as kinds
+use Rattle.cw_rules.specs.Answers.{Answer, Where, Found, note_answers}
+use Rattle.cw_rules.specs.Bodies.{at_start, extent}
+use Rattle.cw_rules.specs.Codes.{code_of}
 use Rattle.cw_lex.specs.Lexing.{still_fresh, joined, answers, fresh_at, last_at, answers_at, tokens_of}
 use Rattle.cw_lex.specs.Nested.{is_section_kind, begins_section_in}
-use Rattle.cw_lex.specs.Tokens.{one, effect_in, section_name, is_name, section, found, code_by, code_text, all_cut}
-use Rattle.cw_lex.proofs.CodeTwins.{at-code}
+use Rattle.cw_rules.specs.Tokens.{one, effect_in, section_name, is_name, section, found, code_by, code_text, all_cut}
+use Rattle.cw_rules.proofs.CodeTwins.{at-code}
 use Rattle.cw_lex.proofs.Covering.{drop-part}
-use Rattle.cw_lex.proofs.NameEnds.{name-take}
+use Rattle.cw_rules.proofs.NameEnds.{name-take}
 use Rattle.cw_lex.proofs.Openings.{bare-uncut}
-use Rattle.cw_lex.proofs.Sizes.{extent-le}
-use Rattle.cw_lex.proofs.Taking.{bare-all-cut}
+use Rattle.cw_rules.proofs.Sizes.{extent-le}
+use Rattle.cw_rules.proofs.Taking.{bare-all-cut}
 use Rattle.cw_texpart.specs.TexParts.{IsWhole, span}
 use Rattle.cw_index.specs.NameList.{first_span, name_span}
 use Rattle.cw_index.proofs.NameTokens.{BeginsName, name-plain}

@@ -2,21 +2,21 @@
 use Rattle.std.proofs.Common.{◌≡◌, ℕ, zero, suc, ◌+◌, ◌-◌, Bool, true, false, ◌&&◌, ◌==◌, List, [], ◌∷◌, ◌++◌, length, drop, refl, sym, ap, subst, ◌∙◌, arith, append_assoc, append-nil}
 use Rattle.std.specs.Prelude.{if◌then◌else◌}
 use Rattle.std.proofs.lemmas.List.{drop-drop, take_all}
-use Rattle.cw_lex.specs.declared.codes.Code.{Code}
-use Rattle.cw_lex.specs.declared.codes.Code.TheVariants as at
-use Rattle.cw_lex.specs.declared.tokens.Mode.{Mode}
-use Rattle.cw_lex.specs.declared.tokens.TokKind.{TokKind}
-use Rattle.cw_lex.specs.declared.tokens.TokKind.TheVariants as kinds
-use Rattle.cw_lex.specs.Answers.{Answer, Token, Begin, Finish, Note, Where, Cut, Found}
-use Rattle.cw_lex.specs.Bytes.{at_sign, star, begins}
-use Rattle.cw_lex.specs.Codes.{code_of, code_at, is_section, begins_section}
+use Rattle.cw_rules.specs.declared.codes.Code.{Code}
+use Rattle.cw_rules.specs.declared.codes.Code.TheVariants as at
+use Rattle.cw_rules.specs.declared.tokens.Mode.{Mode}
+use Rattle.cw_rules.specs.declared.tokens.TokKind.{TokKind}
+use Rattle.cw_rules.specs.declared.tokens.TokKind.TheVariants as kinds
+use Rattle.cw_rules.specs.Answers.{Answer, Token, Begin, Finish, Note, Where, Cut, Found}
+use Rattle.cw_rules.specs.Bytes.{at_sign, star, begins}
+use Rattle.cw_rules.specs.Codes.{code_of, code_at, is_section, begins_section}
 use Rattle.cw_lex.specs.Lexing.{still_fresh, answers, fresh_at, last_at, answers_at, beginning, tokens_of}
 use Rattle.cw_lex.specs.Limbo.{is_name_kind}
-use Rattle.cw_lex.specs.Tokens.{all_cut, found, in_text, is_name, section, section_code}
-use Rattle.cw_lex.proofs.Choices.{if-both}
-use Rattle.cw_lex.proofs.CodeStarts.{kind_code, code_in, is_opener, in-text-tells}
+use Rattle.cw_rules.specs.Tokens.{all_cut, found, in_text, is_name, section, section_code}
+use Rattle.cw_rules.proofs.Choices.{if-both}
+use Rattle.cw_rules.proofs.CodeStarts.{kind_code, code_in, is_opener, in-text-tells}
 use Rattle.cw_lex.proofs.Openings.{not-both}
-use Rattle.cw_lex.proofs.Taking.{AreBare, AreNotes, TakesAll, bare-all-cut, found-takes}
+use Rattle.cw_rules.proofs.Taking.{AreBare, AreNotes, TakesAll, bare-all-cut, found-takes}
 
 -- A section name begins at a place of a text.
 pub record BeginsName (text : List ℕ) (place : ℕ) : Type 0 where

@@ -4,7 +4,7 @@ use Rattle.std.specs.Prelude.{slice_get}
 use Rattle.std.specs.BTreeSet.{insert_key}
 use Rattle.std.proofs.lemmas.List.Elements.{All-append, All-cons, All-head, All-map, All-nil, All-tail}
 use Rattle.std.proofs.lemmas.Map.Views.{All-insert_key}
-use Rattle.cw_lex.specs.Bytes.{at_sign}
+use Rattle.cw_rules.specs.Bytes.{at_sign}
 use Rattle.cw_secnames.specs.Kept.{SecName, id}
 use Rattle.cw_secnames.specs.Uses.{NameUse, name_at}
 use Rattle.cw_index.specs.declared.standing.Listed.{Listed}

@@ -6,7 +6,7 @@ use Rattle.std.specs.BTreeSet.{insert_key}
 use Rattle.std.proofs.lemmas.List.{drop_all, drop_more, get_or-drop, take_rest}
 use Rattle.memchr.specs.Find.{Nowhere, Passes, is_byte}
 use Rattle.std.proofs.lemmas.List.Sums.{fold-append}
-use Rattle.cw_lex.specs.Bytes.{at_sign}
+use Rattle.cw_rules.specs.Bytes.{at_sign}
 use Rattle.cw_secnames.specs.Kept.{SecName, id}
 use Rattle.cw_secnames.specs.Uses.{NameUse}
 use Rattle.cw_index.specs.declared.standing.Standing.{Standing}

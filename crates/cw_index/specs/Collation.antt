@@ -4,7 +4,7 @@ use Rattle.std.specs.declared.cmp.Ordering.{Ordering}
 use Rattle.std.specs.Ordering.{nat_cmp, on, ordering_then, then_cmp}
 use Rattle.std.specs.Cmp.Lexicographic.{slice_cmp}
 use Rattle.cw_base.specs.Text.{is_blank}
-use Rattle.cw_lex.specs.Bytes.{is_between, is_digit}
+use Rattle.cw_rules.specs.Bytes.{is_between, is_digit}
 use Rattle.cw_names.specs.declared.entry.EntryKind.{EntryKind}
 use Rattle.cw_names.specs.declared.entry.EntryKind.TheVariants.{Ident, Roman, Typewriter, User}
 use Rattle.cw_names.specs.Names.{Entry}

@@ -1,9 +1,9 @@
 -- The section list: the section names in their order, each with the sections that cite and use it.
 use Rattle.std.specs.Prelude.{ℕ, false, List, [], ◌∷◌, ◌++◌, Some, codes, length}
 use Rattle.cw_base.specs.declared.span.Span.{Span}
-use Rattle.cw_lex.specs.Answers.{Answer, Token}
+use Rattle.cw_rules.specs.Answers.{Answer, Token}
 use Rattle.cw_lex.specs.Lexing.{tokens_of}
-use Rattle.cw_lex.specs.declared.tokens.Mode.TheVariants.{Inner}
+use Rattle.cw_rules.specs.declared.tokens.Mode.TheVariants.{Inner}
 use Rattle.cw_names.specs.Names.{Entry}
 use Rattle.cw_part.specs.Footnotes.{of_name, use_footnotes}
 use Rattle.cw_texpart.specs.Done.{Done, behind, plain, then}

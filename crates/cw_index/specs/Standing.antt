@@ -3,7 +3,7 @@ use Rattle.std.specs.Prelude.{ℕ, ◌+◌, ◌==◌, ◌||◌, Bool, true, fals
 use Rattle.std.specs.declared.cmp.Ordering.{Ordering}
 use Rattle.std.specs.Ordering.{nat_cmp, on, then_cmp}
 use Rattle.std.specs.Cmp.Lexicographic.{slice_cmp}
-use Rattle.cw_lex.specs.Bytes.{at_sign}
+use Rattle.cw_rules.specs.Bytes.{at_sign}
 use Rattle.cw_secnames.specs.Kept.{SecName, id}
 use Rattle.cw_secnames.specs.Uses.{NameUse, name_at}
 use Rattle.cw_secnames.specs.declared.kinds.SecKind.{SecKind}

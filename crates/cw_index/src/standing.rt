@@ -18,7 +18,7 @@ ghost use Rattle.std.specs.Prelude.{
 };
 ghost use Rattle.std.specs.Cmp;
 ghost use Rattle.std.specs.Ordering.{as_partial_cmp, eq_by_cmp, on};
-ghost use Rattle.cw_lex.specs.Bytes.{at_sign};
+ghost use Rattle.cw_rules.specs.Bytes.{at_sign};
 ghost use Rattle.cw_secnames.specs.Kept.{SecName};
 ghost use Rattle.cw_secnames.specs.Uses.{name_at};
 ghost use Rattle.cw_index.specs.Sorted.{sorted, sorted_on};

@@ -3,15 +3,15 @@ use Rattle.std.proofs.Common.{◌≡◌, ℕ, zero, suc, ◌+◌, ◌-◌, ◌<�
 use Rattle.std.specs.Prelude.{slice_range}
 use Rattle.std.proofs.lemmas.Bool.{cases_lt}
 use Rattle.std.proofs.lemmas.List.{drop-drop, length-take, drop-take, take-take}
-use Rattle.cw_lex.specs.declared.tokens.Mode.{Mode}
-use Rattle.cw_lex.specs.Bytes.{newline, backslash, begins, is_in}
-use Rattle.cw_lex.specs.declared.classes.Class.TheVariants as classes
-use Rattle.cw_lex.specs.Answers.{Answer, Token, Begin, Finish, Note, Seen, Where, Found}
+use Rattle.cw_rules.specs.declared.tokens.Mode.{Mode}
+use Rattle.cw_rules.specs.Bytes.{newline, backslash, begins, is_in}
+use Rattle.cw_rules.specs.declared.classes.Class.TheVariants as classes
+use Rattle.cw_rules.specs.Answers.{Answer, Token, Begin, Finish, Note, Seen, Where, Found}
 use Rattle.cw_lex.specs.Lexing.{still_fresh, answers, fresh_at, last_at, beginning, tokens_of}
-use Rattle.cw_lex.specs.Tokens.{all_cut, found}
-use Rattle.cw_lex.specs.Order.{begins_space, IsSpace, Stands, Covers}
-use Rattle.cw_lex.proofs.Taking.{AreBare, AreNotes, IsWhole, TakesAll, Takes, bare-all-cut, found-takes}
-use Rattle.cw_lex.proofs.Within.{found-fits}
+use Rattle.cw_rules.specs.Tokens.{all_cut, found}
+use Rattle.cw_rules.specs.Order.{begins_space, IsSpace, Stands, Covers}
+use Rattle.cw_rules.proofs.Taking.{AreBare, AreNotes, IsWhole, TakesAll, Takes, bare-all-cut, found-takes}
+use Rattle.cw_rules.proofs.Within.{found-fits}
 
 -- white space up to a place that a token without bytes has
 no-space : (text : List ℕ) (place from : ℕ) → from ≡ place → IsSpace text from place

@@ -1,14 +1,14 @@
 -- The answers behind a head are nested, and their nest is what stands behind the head.
 use Rattle.std.proofs.Common.{◌≡◌, Bool, true, false, Option, Some, None, List, [], ◌∷◌, refl, sym, ◌∙◌, ap, subst}
-use Rattle.cw_lex.specs.declared.codes.Code.TheVariants as code
+use Rattle.cw_rules.specs.declared.codes.Code.TheVariants as code
 use Rattle.cw_lex.specs.declared.heads.Wanted.{Wanted}
 use Rattle.cw_lex.specs.declared.heads.Wanted.TheVariants as wants
-use Rattle.cw_lex.specs.declared.tokens.TokKind.{TokKind}
-use Rattle.cw_lex.specs.declared.tokens.TokKind.TheVariants as kind
-use Rattle.cw_lex.specs.Answers.{Answer, Token, Begin, Finish, Note, Seen}
+use Rattle.cw_rules.specs.declared.tokens.TokKind.{TokKind}
+use Rattle.cw_rules.specs.declared.tokens.TokKind.TheVariants as kind
+use Rattle.cw_rules.specs.Answers.{Answer, Token, Begin, Finish, Note, Seen, is_head_sign}
 use Rattle.cw_lex.specs.Nested.{Level, InCode, after_token, levels_after, IsNested}
 use Rattle.cw_lex.specs.Nest.{Nest, Leaf, leaf, group, nests, first_nest, nest}
-use Rattle.cw_lex.specs.Heads.{head_behind, is_head_sign, behind_sign, Named, headless, Headed, Words, no_word, word_before, head_words, named_headed, headed_by, headed, without_words, without_name, without_head_of, without_head}
+use Rattle.cw_lex.specs.Heads.{head_behind, behind_sign, Named, headless, Headed, Words, no_word, word_before, head_words, named_headed, headed_by, headed, without_words, without_name, without_head_of, without_head}
 use Rattle.cw_lex.proofs.Nests.{some-levels, first-levels, nests-nested}
 
 stays : (k : TokKind) (l : List Level) → after_token k (InCode ∷ []) ≡ Some l → l ≡ InCode ∷ []

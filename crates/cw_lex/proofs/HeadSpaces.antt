@@ -3,24 +3,24 @@ use Rattle.std.proofs.Common.{◌≡◌, ℕ, zero, suc, ◌+◌, ◌-◌, ◌<�
 use Rattle.std.proofs.lemmas.Bool.{eqb-true, ltb-true, ltb-false}
 use Rattle.std.proofs.lemmas.List.{drop-drop, drop_all}
 use Rattle.cw_base.specs.declared.notes.NoteKind.TheVariants as notes
-use Rattle.cw_lex.specs.declared.classes.Class.{Class}
-use Rattle.cw_lex.specs.declared.classes.Class.TheVariants as classes
-use Rattle.cw_lex.specs.declared.parts.Part.TheVariants as parts
-use Rattle.cw_lex.specs.Answers.{Where, Note, before, plain, note_answers}
-use Rattle.cw_lex.specs.Bytes.{is_in, is_letter, run, begins, begins_by}
-use Rattle.cw_lex.specs.Codes.{begins_section}
+use Rattle.cw_rules.specs.declared.classes.Class.{Class}
+use Rattle.cw_rules.specs.declared.classes.Class.TheVariants as classes
+use Rattle.cw_rules.specs.declared.parts.Part.TheVariants as parts
+use Rattle.cw_rules.specs.Answers.{Where, Note, before, plain, note_answers}
+use Rattle.cw_rules.specs.Bytes.{is_in, is_letter, run, begins, begins_by}
+use Rattle.cw_rules.specs.Codes.{begins_section}
 use Rattle.cw_lex.specs.Lexing.{fresh_at, last_at, answers_at}
-use Rattle.cw_lex.specs.Tokens.{section, in_text, macro_name, format_name, parameter, is_parameter, behind_white, behind_head, behind_format, identifier, skipped_byte, one, moved}
-use Rattle.cw_lex.specs.declared.signs.Sign.TheVariants as signs
-use Rattle.cw_lex.specs.declared.tokens.TokKind.TheVariants as kinds
-use Rattle.cw_lex.specs.Coming.{found_at, bytes_at, where_of, coming, is_head_part, is_skipped, is_code, is_white_here}
-use Rattle.cw_lex.specs.declared.parts.Part.{Part}
-use Rattle.cw_lex.specs.declared.parts.Opened.{Opened}
+use Rattle.cw_rules.specs.Tokens.{section, in_text, macro_name, format_name, parameter, is_parameter, behind_white, behind_head, behind_format, identifier, skipped_byte, one, moved, is_head_part, is_code}
+use Rattle.cw_rules.specs.declared.signs.Sign.TheVariants as signs
+use Rattle.cw_rules.specs.declared.tokens.TokKind.TheVariants as kinds
+use Rattle.cw_lex.specs.Coming.{found_at, where_of, coming, is_skipped, is_white_here}
+use Rattle.cw_rules.specs.Cuttings.{bytes_at}
+use Rattle.cw_rules.specs.declared.parts.Part.{Part}
+use Rattle.cw_rules.specs.declared.parts.Opened.{Opened}
 use Rattle.cw_lex.specs.declared.state.State.{State}
-use Rattle.cw_lex.specs.Pending.{pending_notes}
-use Rattle.cw_lex.proofs.Walk.{drop-here}
+use Rattle.cw_rules.specs.Pending.{pending_notes}
+use Rattle.cw_rules.proofs.Runs.{drop-here, run-inside}
 use Rattle.cw_lex.proofs.Steps.{skip-gives}
-use Rattle.cw_lex.proofs.Runs.{run-inside}
 use Rattle.cw_lex.proofs.White.{other-byte}
 
 run-some : (class : Class) (bytes : List ℕ) → 0 < run class bytes → (0 < length bytes) × (is_in class (slice_index bytes 0) ≡ true)

@@ -1,26 +1,26 @@
 -- Inner C text of TeX text that no bar closes has the answers of its bytes, up to the end of the text.
 use Rattle.std.proofs.Common.{◌≡◌, ℕ, zero, suc, ◌+◌, ◌-◌, Bool, true, false, ◌&&◌, ◌||◌, not, ◌==◌, nat_lt, List, [], ◌∷◌, ◌++◌, Option, Some, None, length, refl, sym, ap, ◌∙◌, arith, append_assoc}
 use Rattle.std.specs.Prelude.{if◌then◌else◌}
-use Rattle.cw_lex.specs.declared.classes.Class.TheVariants as classes
-use Rattle.cw_lex.specs.declared.codes.Code.{Code}
-use Rattle.cw_lex.specs.declared.codes.Code.TheVariants as at
-use Rattle.cw_lex.specs.declared.parts.Part.TheVariants as parts
-use Rattle.cw_lex.specs.declared.parts.Opened.{Opened}
-use Rattle.cw_lex.specs.declared.parts.Start.{Start}
-use Rattle.cw_lex.specs.declared.parts.Start.TheVariants as start
-use Rattle.cw_lex.specs.declared.signs.Sign.{Sign}
-use Rattle.cw_lex.specs.Answers.{Answer, Where, Found}
-use Rattle.cw_lex.specs.Bytes.{newline, quote, hash, apostrophe, star, slash, less, at_sign, bar, begins, is_letter, is_in}
-use Rattle.cw_lex.specs.Codes.{begins_section, effect_in_c}
-use Rattle.cw_lex.specs.Constants.{constant}
+use Rattle.cw_rules.specs.declared.classes.Class.TheVariants as classes
+use Rattle.cw_rules.specs.declared.codes.Code.{Code}
+use Rattle.cw_rules.specs.declared.codes.Code.TheVariants as at
+use Rattle.cw_rules.specs.declared.parts.Part.TheVariants as parts
+use Rattle.cw_rules.specs.declared.parts.Opened.{Opened}
+use Rattle.cw_rules.specs.declared.parts.Start.{Start}
+use Rattle.cw_rules.specs.declared.parts.Start.TheVariants as start
+use Rattle.cw_rules.specs.declared.signs.Sign.{Sign}
+use Rattle.cw_rules.specs.Answers.{Answer, Where, Found}
+use Rattle.cw_rules.specs.Bytes.{newline, quote, hash, apostrophe, star, slash, less, at_sign, bar, begins, is_letter, is_in}
+use Rattle.cw_rules.specs.Codes.{begins_section, effect_in_c}
+use Rattle.cw_rules.specs.Constants.{constant}
 use Rattle.cw_lex.specs.Lexing.{still_fresh, joined, answers}
 use Rattle.cw_lex.specs.Nested.{begins_section_in}
-use Rattle.cw_lex.specs.Parts.{is_tex_inner, closing_bar}
-use Rattle.cw_lex.specs.Signs.{all_signs, longest}
-use Rattle.cw_lex.specs.Tokens.{sign_or_other, inner_cut, comment_cut, inner_or_none, all_cut, line_end, code_by, in_code, start_of, code_text, comment_text, in_text, section, found, is_deep}
-use Rattle.cw_lex.proofs.BarRules.{tex_inner}
-use Rattle.cw_lex.proofs.Choices.{if-both, and-none}
-use Rattle.cw_lex.proofs.InnerTwins.{alone, in_tex, in_text-twin}
+use Rattle.cw_rules.specs.Tokens.{is_tex_inner, sign_or_other, inner_cut, comment_cut, inner_or_none, all_cut, line_end, code_by, in_code, start_of, code_text, comment_text, in_text, section, found, is_deep}
+use Rattle.cw_lex.specs.Parts.{closing_bar}
+use Rattle.cw_rules.specs.Signs.{all_signs, longest}
+use Rattle.cw_rules.proofs.BarRules.{tex_inner}
+use Rattle.cw_rules.proofs.Choices.{if-both, and-none}
+use Rattle.cw_rules.proofs.InnerTwins.{alone, in_tex, in_text-twin}
 use Rattle.cw_lex.proofs.Openings.{section-cuts, not-both, uncut-right}
 
 -- ## What leaves inner C text

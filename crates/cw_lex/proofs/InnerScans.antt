@@ -3,25 +3,25 @@ use Rattle.std.proofs.Common.{◌≡◌, ℕ, zero, suc, ◌+◌, ◌-◌, ◌�
 use Rattle.std.specs.Prelude.{if◌then◌else◌}
 use Rattle.std.proofs.lemmas.Bool.{eqb-true}
 use Rattle.std.proofs.lemmas.List.{drop-drop, drop_all, take-take, take_all}
-use Rattle.cw_lex.specs.declared.parts.Part.TheVariants as parts
-use Rattle.cw_lex.specs.declared.parts.Opened.{Opened}
-use Rattle.cw_lex.specs.declared.parts.Start.TheVariants as start
-use Rattle.cw_lex.specs.declared.signs.Sign.{Sign}
-use Rattle.cw_lex.specs.declared.tokens.Mode.TheVariants as modes
-use Rattle.cw_lex.specs.declared.tokens.TokKind.TheVariants as kinds
-use Rattle.cw_lex.specs.Bytes.{bar, begins}
-use Rattle.cw_lex.specs.Signs.{all_signs, longest}
-use Rattle.cw_lex.specs.Answers.{Answer, Begin, Finish, Where, Found, token_of}
+use Rattle.cw_rules.specs.declared.parts.Part.TheVariants as parts
+use Rattle.cw_rules.specs.declared.parts.Opened.{Opened}
+use Rattle.cw_rules.specs.declared.parts.Start.TheVariants as start
+use Rattle.cw_rules.specs.declared.signs.Sign.{Sign}
+use Rattle.cw_rules.specs.declared.tokens.Mode.TheVariants as modes
+use Rattle.cw_rules.specs.declared.tokens.TokKind.TheVariants as kinds
+use Rattle.cw_rules.specs.Bytes.{bar, begins}
+use Rattle.cw_rules.specs.Signs.{all_signs, longest}
+use Rattle.cw_rules.specs.Answers.{Answer, Begin, Finish, Where, Found, token_of}
 use Rattle.cw_lex.specs.Lexing.{still_fresh, joined, answers, fresh_after, last_after, fresh_at, last_at, answers_at, beginning, tokens_of}
-use Rattle.cw_lex.specs.Tokens.{found, in_code, sign_or_other, is_deep}
-use Rattle.cw_lex.specs.Parts.{is_tex_inner, closing_bar, closing_bar_from}
-use Rattle.cw_lex.proofs.Choices.{if-both, and-none}
-use Rattle.cw_lex.proofs.Ahead.{drop-same, take-same}
+use Rattle.cw_rules.specs.Tokens.{found, in_code, sign_or_other, is_deep, is_tex_inner}
+use Rattle.cw_lex.specs.Parts.{closing_bar, closing_bar_from}
+use Rattle.cw_rules.proofs.Choices.{if-both, and-none}
+use Rattle.cw_rules.proofs.Ahead.{drop-same, take-same}
 use Rattle.cw_lex.proofs.Walk.{fresh-more, last-more}
 use Rattle.cw_lex.proofs.Covering.{drop-part}
 use Rattle.cw_lex.proofs.PartScans.{begins-byte}
-use Rattle.cw_lex.proofs.BarRules.{tex_inner}
-use Rattle.cw_lex.proofs.InnerTwins.{alone, found-twin}
+use Rattle.cw_rules.proofs.BarRules.{tex_inner}
+use Rattle.cw_rules.proofs.InnerTwins.{alone, found-twin}
 
 -- ## Where the bar stands
 

@@ -1,18 +1,18 @@
 -- No section name stands in limbo.
 use Rattle.std.proofs.Common.{◌≡◌, ℕ, zero, suc, ◌+◌, ◌-◌, ◌==◌, ◌&&◌, Bool, true, false, List, [], ◌∷◌, ◌++◌, drop, take, refl, if◌then◌else◌}
-use Rattle.cw_lex.specs.declared.bodies.Noted.{Noted}
-use Rattle.cw_lex.specs.declared.classes.Class.TheVariants as classes
-use Rattle.cw_lex.specs.declared.codes.Code.{Code}
-use Rattle.cw_lex.specs.declared.codes.Code.TheVariants as at
-use Rattle.cw_lex.specs.declared.parts.Part.{Part}
-use Rattle.cw_lex.specs.declared.parts.Part.TheVariants as parts
-use Rattle.cw_lex.specs.Answers.{Answer, Where, Cut, Found, note_answers}
-use Rattle.cw_lex.specs.Bytes.{at_sign, star, begins, is_in}
-use Rattle.cw_lex.specs.Codes.{code_at, begins_section, effect_in_limbo}
+use Rattle.cw_rules.specs.declared.bodies.Noted.{Noted}
+use Rattle.cw_rules.specs.declared.classes.Class.TheVariants as classes
+use Rattle.cw_rules.specs.declared.codes.Code.{Code}
+use Rattle.cw_rules.specs.declared.codes.Code.TheVariants as at
+use Rattle.cw_rules.specs.declared.parts.Part.{Part}
+use Rattle.cw_rules.specs.declared.parts.Part.TheVariants as parts
+use Rattle.cw_rules.specs.Answers.{Answer, Where, Cut, Found, note_answers}
+use Rattle.cw_rules.specs.Bytes.{at_sign, star, begins, is_in}
+use Rattle.cw_rules.specs.Codes.{code_at, begins_section, effect_in_limbo}
 use Rattle.cw_lex.specs.Lexing.{answers, joined, still_fresh, fresh_at, last_at}
 use Rattle.cw_lex.specs.Limbo.{HasNoNames, LimboHasNoNames}
 use Rattle.cw_lex.specs.Nested.{is_section_kind}
-use Rattle.cw_lex.specs.Tokens.{found, section, section_code, code_token, limbo_by, limbo_text, format_name, name_follows, part_text}
+use Rattle.cw_rules.specs.Tokens.{found, section, section_code, code_token, limbo_by, limbo_text, format_name, name_follows, part_text}
 
 -- limbo, and a format definition in it
 abbrev is_limbo : Part → Bool

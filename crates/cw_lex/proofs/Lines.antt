@@ -1,12 +1,12 @@
 -- What begins at a line's end of C text.
 use Rattle.std.proofs.Common.{◌≡◌, ℕ, ◌+◌, Bool, true, false, true≢false, List, [], ◌∷◌, slice_index, drop, refl, sym, ap, ◌∙◌, if◌then◌else◌}
-use Rattle.cw_lex.specs.declared.parts.Part.{Part}
-use Rattle.cw_lex.specs.declared.parts.Part.TheVariants as parts
-use Rattle.cw_lex.specs.declared.parts.Opened.{Opened}
-use Rattle.cw_lex.specs.Tokens.{found, part_text, in_text, code_text, comment_text, comment_end, in_hash_line, passed, line_end}
-use Rattle.cw_lex.specs.Answers.{before}
+use Rattle.cw_rules.specs.declared.parts.Part.{Part}
+use Rattle.cw_rules.specs.declared.parts.Part.TheVariants as parts
+use Rattle.cw_rules.specs.declared.parts.Opened.{Opened}
+use Rattle.cw_rules.specs.Tokens.{found, part_text, in_text, code_text, comment_text, comment_end, in_hash_line, passed, line_end, is_code, is_code_part}
+use Rattle.cw_rules.specs.Answers.{before}
 use Rattle.cw_lex.specs.Lexing.{fresh_at, last_at}
-use Rattle.cw_lex.specs.Coming.{is_code, is_code_part, found_at}
+use Rattle.cw_lex.specs.Coming.{found_at}
 
 -- where C text goes on, the rules of C text hold
 pub part_text-code : (part : Part) (fresh : Bool) (last place byte : ℕ) (bytes : List ℕ) → is_code_part part ≡ true

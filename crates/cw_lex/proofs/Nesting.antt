@@ -2,35 +2,35 @@
 use Rattle.std.proofs.Common.{◌≡◌, ℕ, zero, suc, ◌+◌, ◌-◌, Bool, true, false, not, ◌&&◌, ◌||◌, Option, Some, None, List, [], ◌∷◌, ◌++◌, take, drop, length, refl, sym, ◌∙◌, ap, subst, append-nil, append_assoc}
 use Rattle.std.specs.Prelude.{if◌then◌else◌, ◌==◌, nat_lt}
 use Rattle.cw_base.proofs.TestLaws.{both-left, both-right}
-use Rattle.cw_lex.specs.declared.codes.Code.{Code}
-use Rattle.cw_lex.specs.declared.codes.Code.TheVariants as code
-use Rattle.cw_lex.specs.declared.codes.Effect.{Effect}
-use Rattle.cw_lex.specs.declared.codes.Effect.TheVariants as effects
-use Rattle.cw_lex.specs.declared.bodies.Noted.{Noted}
-use Rattle.cw_lex.specs.declared.parts.Part.{Part}
-use Rattle.cw_lex.specs.declared.parts.Part.TheVariants as parts
-use Rattle.cw_lex.specs.declared.parts.Opened.{Opened}
-use Rattle.cw_lex.specs.declared.parts.Start.{Start}
-use Rattle.cw_lex.specs.declared.parts.Start.TheVariants as start
-use Rattle.cw_lex.specs.declared.tokens.Mode.{Mode}
-use Rattle.cw_lex.specs.declared.tokens.Mode.TheVariants as modes
-use Rattle.cw_lex.specs.declared.tokens.TokKind.{TokKind}
-use Rattle.cw_lex.specs.declared.tokens.TokKind.TheVariants as kind
-use Rattle.cw_lex.specs.Answers.{Answer, Token, Note, Finish, Where, Cut, Found, before, note_answers, token_of, plain}
-use Rattle.cw_lex.specs.declared.classes.Class.TheVariants as classes
-use Rattle.cw_lex.specs.Bytes.{newline, backslash, bar, at_sign, equals, comma, left_paren, right_paren, run, begins, is_letter, is_in, quote, apostrophe, slash, star, hash, less}
-use Rattle.cw_lex.specs.Bodies.{one_note, note_unless, noted}
-use Rattle.cw_lex.specs.Constants.{constant}
-use Rattle.cw_lex.specs.Signs.{all_signs, longest, spelling}
-use Rattle.cw_lex.specs.declared.signs.Sign.{Sign}
+use Rattle.cw_rules.specs.declared.codes.Code.{Code}
+use Rattle.cw_rules.specs.declared.codes.Code.TheVariants as code
+use Rattle.cw_rules.specs.declared.codes.Effect.{Effect}
+use Rattle.cw_rules.specs.declared.codes.Effect.TheVariants as effects
+use Rattle.cw_rules.specs.declared.bodies.Noted.{Noted}
+use Rattle.cw_rules.specs.declared.parts.Part.{Part}
+use Rattle.cw_rules.specs.declared.parts.Part.TheVariants as parts
+use Rattle.cw_rules.specs.declared.parts.Opened.{Opened}
+use Rattle.cw_rules.specs.declared.parts.Start.{Start}
+use Rattle.cw_rules.specs.declared.parts.Start.TheVariants as start
+use Rattle.cw_rules.specs.declared.tokens.Mode.{Mode}
+use Rattle.cw_rules.specs.declared.tokens.Mode.TheVariants as modes
+use Rattle.cw_rules.specs.declared.tokens.TokKind.{TokKind}
+use Rattle.cw_rules.specs.declared.tokens.TokKind.TheVariants as kind
+use Rattle.cw_rules.specs.Answers.{Answer, Token, Note, Finish, Where, Cut, Found, before, note_answers, token_of, plain}
+use Rattle.cw_rules.specs.declared.classes.Class.TheVariants as classes
+use Rattle.cw_rules.specs.Bytes.{newline, backslash, bar, at_sign, equals, comma, left_paren, right_paren, run, begins, is_letter, is_in, quote, apostrophe, slash, star, hash, less}
+use Rattle.cw_rules.specs.Bodies.{one_note, note_unless, noted}
+use Rattle.cw_rules.specs.Constants.{constant}
+use Rattle.cw_rules.specs.Signs.{all_signs, longest, spelling}
+use Rattle.cw_rules.specs.declared.signs.Sign.{Sign}
 use Rattle.cw_base.specs.declared.notes.NoteKind.TheVariants as notes
 use Rattle.cw_base.specs.declared.notes.NoteKind.{NoteKind}
-use Rattle.cw_lex.specs.declared.signs.Sign.TheVariants as signs
-use Rattle.cw_lex.specs.Codes.{has_control_text, is_section, begins_section, effect_in_c}
-use Rattle.cw_lex.specs.Tokens.{one, skipped_byte, dropped_code, identifier, string, include_name, sign_or_other, piece_start, passed, moved, in_hash_line, ends_at_bar, line_end, comment_begin, comment_end, inner_cut, comment_cut, part_cut, inner_or_none, all_cut, inner_end, effect_in, code_by, code_token, control_or_plain, in_code, start_of, code_text, comment_text, head_text, part_text, in_text, section, section_code, found, is_name, is_quote, behind_word, is_include, may_head, is_head, is_space, takes_hash_line, behind_include, closes_on_line, is_deep, name_follows, macro_name, parameter_follows, parameter, format_name, behind_head}
+use Rattle.cw_rules.specs.declared.signs.Sign.TheVariants as signs
+use Rattle.cw_rules.specs.Codes.{has_control_text, is_section, begins_section, effect_in_c}
+use Rattle.cw_rules.specs.Tokens.{one, skipped_byte, dropped_code, identifier, string, include_name, sign_or_other, piece_start, passed, moved, in_hash_line, ends_at_bar, line_end, comment_begin, comment_end, inner_cut, comment_cut, part_cut, inner_or_none, all_cut, inner_end, effect_in, code_by, code_token, control_or_plain, in_code, start_of, code_text, comment_text, head_text, part_text, in_text, section, section_code, found, is_name, is_quote, behind_word, is_include, may_head, is_head, is_space, takes_hash_line, behind_include, closes_on_line, is_deep, name_follows, macro_name, parameter_follows, parameter, format_name, behind_head}
 use Rattle.cw_lex.specs.Lexing.{answers, joined, tokens_of, still_fresh, fresh_at, last_at}
 use Rattle.cw_lex.specs.Nested.{Level, InCode, InComment, after_token, levels_after, all_levels_after, IsNested, is_section_kind, is_section_answer, begins_section_in, until_section, is_c_mode}
-use Rattle.cw_lex.proofs.Choices.{if-both, or-false, or-first, or-second}
+use Rattle.cw_rules.proofs.Choices.{if-both, or-false, or-first, or-second}
 
 levels-append : (xs bs : List Answer) (ls ms : List Level) → all_levels_after xs ls ≡ Some ms → all_levels_after (xs ++ bs) ls ≡ all_levels_after bs ms
 levels-append [] bs ls ms h = ap (all_levels_after bs) (let e : ls ≡ ms = cc in e)

@@ -3,31 +3,31 @@ use Rattle.std.proofs.Common.{◌≡◌, ℕ, ◌+◌, ◌-◌, Bool, true, fals
 use Rattle.std.specs.Prelude.{if◌then◌else◌, ◌==◌, nat_lt}
 use Rattle.std.specs.List.{list_any}
 use Rattle.cw_base.proofs.TestLaws.{both-right, one-failed-left, one-failed-right}
-use Rattle.cw_lex.specs.Answers.{Answer, Token, Begin, Finish, Note, Seen, Where, Cut, Found, before, note_answers, plain}
-use Rattle.cw_lex.specs.Bodies.{one_note, note_unless}
-use Rattle.cw_lex.specs.Bytes.{newline, backslash, bar, at_sign, begins, is_letter, quote, apostrophe, slash, star}
-use Rattle.cw_lex.specs.Codes.{has_control_text, effect_in_c, effect_at_begin}
-use Rattle.cw_lex.specs.Constants.{constant}
+use Rattle.cw_rules.specs.Answers.{Answer, Token, Begin, Finish, Note, Seen, Where, Cut, Found, before, note_answers, plain}
+use Rattle.cw_rules.specs.Bodies.{one_note, note_unless}
+use Rattle.cw_rules.specs.Bytes.{newline, backslash, bar, at_sign, begins, is_letter, quote, apostrophe, slash, star}
+use Rattle.cw_rules.specs.Codes.{has_control_text, effect_in_c, effect_at_begin}
+use Rattle.cw_rules.specs.Constants.{constant}
 use Rattle.cw_lex.specs.Lexing.{answers}
 use Rattle.cw_lex.specs.Nest.{Nest, Leaf, leaf, group, nests, nest, first_nest}
 use Rattle.cw_lex.specs.Nested.{is_section_kind, is_section_answer, begins_section_in}
-use Rattle.cw_lex.specs.Signs.{all_signs, longest, spelling}
-use Rattle.cw_lex.specs.Tokens.{one, dropped_code, identifier, string, sign_or_other, passed, moved, in_hash_line, ends_at_bar, line_end, comment_end, inner_cut, inner_end, effect_in, code_by, code_token, in_code, start_of, section_code, is_name, is_quote, behind_word, is_include, may_head, is_head}
-use Rattle.cw_lex.specs.declared.bodies.Noted.{Noted}
-use Rattle.cw_lex.specs.declared.classes.Class.TheVariants as classes
-use Rattle.cw_lex.specs.declared.codes.Code.{Code}
-use Rattle.cw_lex.specs.declared.codes.Code.TheVariants as code
-use Rattle.cw_lex.specs.declared.codes.Effect.{Effect}
-use Rattle.cw_lex.specs.declared.codes.Effect.TheVariants as effects
-use Rattle.cw_lex.specs.declared.parts.Opened.{Opened}
-use Rattle.cw_lex.specs.declared.parts.Part.{Part}
-use Rattle.cw_lex.specs.declared.parts.Part.TheVariants as parts
-use Rattle.cw_lex.specs.declared.parts.Start.{Start}
-use Rattle.cw_lex.specs.declared.parts.Start.TheVariants as start
-use Rattle.cw_lex.specs.declared.signs.Sign.{Sign}
-use Rattle.cw_lex.specs.declared.tokens.Mode.TheVariants as modes
-use Rattle.cw_lex.specs.declared.tokens.TokKind.{TokKind}
-use Rattle.cw_lex.specs.declared.tokens.TokKind.TheVariants as kind
+use Rattle.cw_rules.specs.Signs.{all_signs, longest, spelling}
+use Rattle.cw_rules.specs.Tokens.{one, dropped_code, identifier, string, sign_or_other, passed, moved, in_hash_line, ends_at_bar, line_end, comment_end, inner_cut, inner_end, effect_in, code_by, code_token, in_code, start_of, section_code, is_name, is_quote, behind_word, is_include, may_head, is_head}
+use Rattle.cw_rules.specs.declared.bodies.Noted.{Noted}
+use Rattle.cw_rules.specs.declared.classes.Class.TheVariants as classes
+use Rattle.cw_rules.specs.declared.codes.Code.{Code}
+use Rattle.cw_rules.specs.declared.codes.Code.TheVariants as code
+use Rattle.cw_rules.specs.declared.codes.Effect.{Effect}
+use Rattle.cw_rules.specs.declared.codes.Effect.TheVariants as effects
+use Rattle.cw_rules.specs.declared.parts.Opened.{Opened}
+use Rattle.cw_rules.specs.declared.parts.Part.{Part}
+use Rattle.cw_rules.specs.declared.parts.Part.TheVariants as parts
+use Rattle.cw_rules.specs.declared.parts.Start.{Start}
+use Rattle.cw_rules.specs.declared.parts.Start.TheVariants as start
+use Rattle.cw_rules.specs.declared.signs.Sign.{Sign}
+use Rattle.cw_rules.specs.declared.tokens.Mode.TheVariants as modes
+use Rattle.cw_rules.specs.declared.tokens.TokKind.{TokKind}
+use Rattle.cw_rules.specs.declared.tokens.TokKind.TheVariants as kind
 
 abbrev pub is_definition_code : Code → Bool
 is_definition_code code.Define = true

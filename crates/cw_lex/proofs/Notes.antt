@@ -1,10 +1,10 @@
 -- The answers of pending notes.
 use Rattle.std.proofs.Common.{◌≡◌, ℕ, List, [], ◌++◌, Option, None, Some, refl, sym, ap, subst, ◌∙◌}
-use Rattle.cw_lex.specs.declared.bodies.Noted.{Noted}
-use Rattle.cw_lex.specs.declared.pending.Pending.{Pending}
-use Rattle.cw_lex.specs.Bodies.{one_note}
-use Rattle.cw_lex.specs.Answers.{note_answers}
-use Rattle.cw_lex.specs.Pending.{pending_notes, no_notes, IsInside}
+use Rattle.cw_rules.specs.declared.bodies.Noted.{Noted}
+use Rattle.cw_rules.specs.declared.pending.Pending.{Pending}
+use Rattle.cw_rules.specs.Bodies.{one_note}
+use Rattle.cw_rules.specs.Answers.{note_answers}
+use Rattle.cw_rules.specs.Pending.{pending_notes, no_notes, IsInside}
 
 one_note-nil : (n : Option Noted) → one_note n ++ [] ≡ one_note n
 one_note-nil None = refl

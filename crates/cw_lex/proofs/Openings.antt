@@ -4,31 +4,31 @@ use Rattle.std.specs.Prelude.{if◌then◌else◌}
 use Rattle.std.proofs.lemmas.Bool.{eqb-true}
 use Rattle.std.proofs.lemmas.List.{drop-drop, take-take, take_all, drop_all}
 use Rattle.cw_base.proofs.TestLaws.{both-left, both-right}
-use Rattle.cw_lex.specs.declared.codes.Code.{Code}
-use Rattle.cw_lex.specs.declared.codes.Code.TheVariants as at
-use Rattle.cw_lex.specs.declared.parts.Part.TheVariants as parts
-use Rattle.cw_lex.specs.declared.tokens.Mode.{Mode}
-use Rattle.cw_lex.specs.declared.tokens.Mode.TheVariants as modes
-use Rattle.cw_lex.specs.declared.tokens.TokKind.{TokKind}
-use Rattle.cw_lex.specs.declared.tokens.TokKind.TheVariants as kinds
-use Rattle.cw_lex.specs.Answers.{Answer, Token, Begin, Finish, Note, Seen, Where, Cut, Found, note_answers, token_of}
-use Rattle.cw_lex.specs.Bytes.{star, at_sign, greater, begins}
+use Rattle.cw_rules.specs.declared.codes.Code.{Code}
+use Rattle.cw_rules.specs.declared.codes.Code.TheVariants as at
+use Rattle.cw_rules.specs.declared.parts.Part.TheVariants as parts
+use Rattle.cw_rules.specs.declared.tokens.Mode.{Mode}
+use Rattle.cw_rules.specs.declared.tokens.Mode.TheVariants as modes
+use Rattle.cw_rules.specs.declared.tokens.TokKind.{TokKind}
+use Rattle.cw_rules.specs.declared.tokens.TokKind.TheVariants as kinds
+use Rattle.cw_rules.specs.Answers.{Answer, Token, Begin, Finish, Note, Seen, Where, Cut, Found, note_answers, token_of, has_sign, is_head_sign}
+use Rattle.cw_rules.specs.Bytes.{star, at_sign, greater, begins}
 use Rattle.cw_lex.specs.Coming.{found_at}
-use Rattle.cw_lex.specs.Codes.{code_of, code_at, is_section, begins_section}
-use Rattle.cw_lex.specs.Heads.{has_sign, is_head_sign}
+use Rattle.cw_rules.specs.Codes.{code_of, code_at, is_section, begins_section}
 use Rattle.cw_lex.specs.Lexing.{still_fresh, joined, answers, fresh_after, last_after, fresh_at, last_at, answers_at, beginning, tokens_of}
 use Rattle.cw_lex.specs.Nested.{is_section_kind, is_section_answer, begins_section_in}
 use Rattle.cw_lex.specs.Openings.{tokens_in, named, opened_by, is_limbo_mode, EndsBefore}
-use Rattle.cw_lex.specs.Tokens.{all_cut, section, section_code, in_text, found}
-use Rattle.cw_lex.proofs.Ahead.{drop-same, take-same}
-use Rattle.cw_lex.proofs.Choices.{if-both}
-use Rattle.cw_lex.proofs.CodeStarts.{kind_code, code_in, is_opener, is_limbo, is_head_where, in-text-tells}
-use Rattle.cw_lex.proofs.CodeTwins.{Twin, Opens, Definitions, Program, Named, OpensAt, OpensBy, beginning_of, found-twin}
+use Rattle.cw_rules.specs.Tokens.{all_cut, section, section_code, in_text, found}
+use Rattle.cw_rules.proofs.Ahead.{drop-same, take-same}
+use Rattle.cw_rules.proofs.Choices.{if-both}
+use Rattle.cw_rules.proofs.CodeStarts.{kind_code, code_in, is_opener, is_limbo, is_head_where, in-text-tells}
+use Rattle.cw_rules.proofs.CodeTwins.{Twin, Opens, Definitions, Program, Named, OpensAt, OpensBy, beginning_of, found-twin}
 use Rattle.cw_lex.proofs.Covering.{drop-part}
-use Rattle.cw_lex.proofs.RulesAhead.{found-local}
-use Rattle.cw_lex.proofs.Taking.{AreBare, AreNotes, IsWhole, TakesAll, bare-all-cut, found-takes}
-use Rattle.cw_lex.proofs.Walk.{drop-here, fresh-more, last-more, answers-at}
-use Rattle.cw_lex.proofs.Within.{found-fits}
+use Rattle.cw_rules.proofs.RulesAhead.{found-local}
+use Rattle.cw_rules.proofs.Taking.{AreBare, AreNotes, IsWhole, TakesAll, bare-all-cut, found-takes}
+use Rattle.cw_rules.proofs.Runs.{drop-here}
+use Rattle.cw_lex.proofs.Walk.{fresh-more, last-more, answers-at}
+use Rattle.cw_rules.proofs.Within.{found-fits}
 
 -- ## Lists of answers
 

@@ -4,18 +4,18 @@ use Rattle.std.specs.Prelude.{if◌then◌else◌}
 use Rattle.std.proofs.lemmas.Bool.{eqb-true}
 use Rattle.std.proofs.lemmas.List.{drop-drop, length-take, take-take, take-append-drop, take_all}
 use Rattle.cw_base.proofs.TestLaws.{both-left, both-right}
-use Rattle.cw_lex.specs.declared.parts.Part.TheVariants as parts
-use Rattle.cw_lex.specs.declared.tokens.Mode.{Mode}
-use Rattle.cw_lex.specs.declared.tokens.Mode.TheVariants as modes
-use Rattle.cw_lex.specs.Bytes.{at_sign, greater, begins}
-use Rattle.cw_lex.specs.Codes.{code_of, is_section, begins_section}
-use Rattle.cw_lex.specs.Answers.{Answer, Where}
+use Rattle.cw_rules.specs.declared.parts.Part.TheVariants as parts
+use Rattle.cw_rules.specs.declared.tokens.Mode.{Mode}
+use Rattle.cw_rules.specs.declared.tokens.Mode.TheVariants as modes
+use Rattle.cw_rules.specs.Bytes.{at_sign, greater, begins}
+use Rattle.cw_rules.specs.Codes.{code_of, is_section, begins_section}
+use Rattle.cw_rules.specs.Answers.{Answer, Where}
 use Rattle.cw_lex.specs.Lexing.{still_fresh, joined, answers, fresh_after, last_after, fresh_at, last_at, answers_at, beginning, tokens_of}
-use Rattle.cw_lex.specs.Tokens.{all_cut, section, in_text, found}
+use Rattle.cw_rules.specs.Tokens.{all_cut, section, in_text, found}
 use Rattle.cw_lex.specs.Parts.{stand, stands_at, answers_to, part_answers, is_section_at, IsCodeAt}
 use Rattle.cw_lex.proofs.Walk.{fresh-more, last-more}
 use Rattle.cw_lex.proofs.Covering.{drop-part}
-use Rattle.cw_lex.proofs.RulesAhead.{found-local}
+use Rattle.cw_rules.proofs.RulesAhead.{found-local}
 
 stand-taken : (n : ℕ) (bytes : List ℕ) (w : Where) (fresh : Bool) (last place taken : ℕ) (next : Where) → stand n bytes w fresh last place taken ≡ Some next → taken ≤ n
 stand-taken zero bytes w fresh last place zero next h = omega arith

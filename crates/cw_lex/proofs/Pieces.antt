@@ -1,15 +1,15 @@
 -- A piece of a comment's text, as the scanner reads it.
 use Rattle.std.proofs.Common.{◌≡◌, ℕ, ◌+◌, ◌-◌, ◌<◌, Bool, true, false, not, ◌||◌, List, ◌∷◌, length, slice_index, drop, refl, sym, ap, ◌∙◌, arith}
-use Rattle.cw_lex.specs.declared.bodies.Body.TheVariants as bodies
-use Rattle.cw_lex.specs.declared.bodies.Inside.{Inside}
-use Rattle.cw_lex.specs.declared.parts.Part.{Part}
-use Rattle.cw_lex.specs.declared.parts.Opened.{Opened}
-use Rattle.cw_lex.specs.declared.tokens.TokKind.TheVariants as kinds
-use Rattle.cw_lex.specs.Bodies.{stops, goes_on, ended, extent, noted}
-use Rattle.cw_lex.specs.Answers.{Found}
-use Rattle.cw_lex.specs.Tokens.{in_hash_line, is_deep, one, piece, piece_start}
-use Rattle.cw_lex.specs.Coming.{bytes_at}
-use Rattle.cw_lex.proofs.Inside.{ended-some}
+use Rattle.cw_rules.specs.declared.bodies.Body.TheVariants as bodies
+use Rattle.cw_rules.specs.declared.bodies.Inside.{Inside}
+use Rattle.cw_rules.specs.declared.parts.Part.{Part}
+use Rattle.cw_rules.specs.declared.parts.Opened.{Opened}
+use Rattle.cw_rules.specs.declared.tokens.TokKind.TheVariants as kinds
+use Rattle.cw_rules.specs.Bodies.{stops, goes_on, ended, extent, noted}
+use Rattle.cw_rules.specs.Answers.{Found}
+use Rattle.cw_rules.specs.Tokens.{in_hash_line, is_deep, one, piece, piece_start}
+use Rattle.cw_rules.specs.Cuttings.{bytes_at}
+use Rattle.cw_rules.proofs.Inside.{ended-some}
 use Rattle.cw_lex.proofs.Steps.{bytes-here}
 
 or-true : (b : Bool) → (b || true) ≡ true

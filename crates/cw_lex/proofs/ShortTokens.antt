@@ -1,26 +1,27 @@
 -- Short tokens of C text, by its rules.
 use Rattle.std.proofs.Common.{not, [], subst, ◌⊎◌, inl, inr, ◌≡◌, ℕ, ◌+◌, ◌<◌, ◌≤◌, arith, length-drop, Bool, true, false, ◌&&◌, ◌||◌, ◌==◌, nat_lt, List, ◌∷◌, Some, None, length, slice_index, drop, refl, sym, ap, ◌∙◌, if◌then◌else◌}
-use Rattle.cw_lex.specs.declared.classes.Class.TheVariants as classes
-use Rattle.cw_lex.specs.declared.parts.Part.{Part}
-use Rattle.cw_lex.specs.declared.parts.Part.TheVariants as parts
-use Rattle.cw_lex.specs.declared.parts.Opened.{Opened}
-use Rattle.cw_lex.specs.declared.parts.Start.{Start}
-use Rattle.cw_lex.specs.declared.parts.Start.TheVariants as start
-use Rattle.cw_lex.specs.declared.signs.Sign.{Sign}
-use Rattle.cw_lex.specs.declared.tokens.TokKind.TheVariants as kinds
-use Rattle.cw_lex.specs.Answers.{Where, plain}
-use Rattle.cw_lex.specs.Bytes.{is_in, is_letter, is_letter_of, is_digit, begins_by, run}
-use Rattle.cw_lex.specs.Codes.{begins_section}
-use Rattle.cw_lex.specs.Constants.{hexadecimal, fraction, exponent, mantissa, decimal, number, constant}
-use Rattle.cw_lex.specs.Signs.{all_signs, longest, spelling}
+use Rattle.cw_rules.specs.declared.classes.Class.TheVariants as classes
+use Rattle.cw_rules.specs.declared.parts.Part.{Part}
+use Rattle.cw_rules.specs.declared.parts.Part.TheVariants as parts
+use Rattle.cw_rules.specs.declared.parts.Opened.{Opened}
+use Rattle.cw_rules.specs.declared.parts.Start.{Start}
+use Rattle.cw_rules.specs.declared.parts.Start.TheVariants as start
+use Rattle.cw_rules.specs.declared.signs.Sign.{Sign}
+use Rattle.cw_rules.specs.declared.tokens.TokKind.TheVariants as kinds
+use Rattle.cw_rules.specs.Answers.{Where, plain}
+use Rattle.cw_rules.specs.Bytes.{is_in, is_letter, is_letter_of, is_digit, begins_by, run}
+use Rattle.cw_rules.specs.Codes.{begins_section}
+use Rattle.cw_rules.specs.Constants.{hexadecimal, fraction, exponent, mantissa, decimal, number, constant}
+use Rattle.cw_rules.specs.Signs.{all_signs, longest, spelling}
 use Rattle.cw_lex.specs.Lexing.{fresh_at, last_at}
-use Rattle.cw_lex.specs.Tokens.{section, in_text, code_text, in_code, start_of, sign_or_other, is_space, is_include, behind_word, ends_at_bar, in_hash_line, passed, one, moved}
-use Rattle.cw_lex.specs.Coming.{is_code, found_at, bytes_at}
+use Rattle.cw_rules.specs.Tokens.{section, in_text, code_text, in_code, start_of, sign_or_other, is_space, is_include, behind_word, ends_at_bar, in_hash_line, passed, one, moved, is_code}
+use Rattle.cw_lex.specs.Coming.{found_at}
+use Rattle.cw_rules.specs.Cuttings.{bytes_at}
 use Rattle.cw_lex.specs.Short.{is_alone, is_lone, is_quote, IsShort, BeginsString}
 use Rattle.cw_lex.proofs.Lines.{in_text-code}
 use Rattle.cw_lex.proofs.White.{other-byte}
 use Rattle.cw_lex.proofs.Steps.{bytes-here}
-use Rattle.cw_lex.proofs.Sizes.{run-le}
+use Rattle.cw_rules.proofs.Sizes.{run-le}
 use Rattle.std.proofs.lemmas.Bool.{lt-ltb, eqb-true}
 
 -- a byte that begins no line's end, white space, code, `#` line or include name

@@ -1,7 +1,7 @@
 -- The open comments in their array.
 use Rattle.std.proofs.Common.{◌≡◌, ℕ, zero, suc, ◌<◌, ◌≤◌, ◌≢◌, List, ◌∷◌, length, refl, ap, arith, get_or-set_same, get_or-set_other}
 use Rattle.std.specs.Prelude.{slice_set}
-use Rattle.cw_lex.specs.declared.parts.Opened.{Opened}
+use Rattle.cw_rules.specs.declared.parts.Opened.{Opened}
 use Rattle.cw_lex.specs.Stack.{no_comment, innermost}
 
 pub innermost-length : (items : List Opened) (n : ℕ) → length (innermost items n) ≡ n

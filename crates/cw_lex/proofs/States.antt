@@ -1,11 +1,12 @@
 -- What stays true of a scanner's parts and comments.
 use Rattle.std.proofs.Common.{◌≡◌, ℕ, ◌+◌, ◌≤◌, Bool, true, false, List, [], ◌∷◌, length, drop, refl, sym, ap, subst, ◌∙◌, arith}
-use Rattle.cw_lex.specs.declared.parts.Part.{Part}
-use Rattle.cw_lex.specs.declared.parts.Opened.{Opened}
-use Rattle.cw_lex.specs.declared.pending.Pending.{Pending}
+use Rattle.cw_rules.specs.declared.parts.Part.{Part}
+use Rattle.cw_rules.specs.declared.parts.Opened.{Opened}
+use Rattle.cw_rules.specs.declared.pending.Pending.{Pending}
 use Rattle.cw_lex.specs.declared.state.State.{State}
-use Rattle.cw_lex.specs.Pending.{IsInside}
-use Rattle.cw_lex.specs.Coming.{one_if, is_code, is_code_part, IsNested, AllWithin, IsReady}
+use Rattle.cw_rules.specs.Pending.{IsInside}
+use Rattle.cw_lex.specs.Coming.{one_if, IsNested, AllWithin, IsReady}
+use Rattle.cw_rules.specs.Tokens.{is_code, is_code_part}
 use Rattle.cw_lex.proofs.Steps.{AllWithin-more}
 
 one_if-le : (b : Bool) → one_if b ≤ 1

@@ -1,15 +1,17 @@
 -- How one answer follows from what begins at the scanner's place.
 use Rattle.std.proofs.Common.{◌≡◌, ℕ, Bool, ◌+◌, ◌<◌, ◌≤◌, List, [], ◌∷◌, ◌++◌, length, sym, ap, ◌∙◌, arith, append_assoc, add_assoc, drop}
 use Rattle.std.proofs.lemmas.List.{drop-drop}
-use Rattle.cw_lex.specs.declared.parts.Opened.{Opened}
+use Rattle.cw_rules.specs.declared.parts.Opened.{Opened}
 use Rattle.cw_lex.specs.declared.state.State.{State}
-use Rattle.cw_lex.specs.declared.tokens.TokKind.{TokKind}
-use Rattle.cw_lex.specs.Answers.{Answer, Seen, Where, Found, before, note_answers, token_of}
-use Rattle.cw_lex.specs.Pending.{pending_notes, no_notes}
+use Rattle.cw_rules.specs.declared.tokens.TokKind.{TokKind}
+use Rattle.cw_rules.specs.Answers.{Answer, Seen, Where, Found, before, note_answers, token_of}
+use Rattle.cw_rules.specs.Pending.{pending_notes, no_notes}
 use Rattle.cw_lex.specs.Lexing.{answers_at, joined}
-use Rattle.cw_lex.specs.Coming.{where_of, coming, found_at, bytes_at, AllWithin}
-use Rattle.cw_lex.specs.Tokens.{skipped_byte}
-use Rattle.cw_lex.proofs.Walk.{answers-at, answers-here, rest_at, drop-here}
+use Rattle.cw_lex.specs.Coming.{where_of, coming, found_at, AllWithin}
+use Rattle.cw_rules.specs.Cuttings.{bytes_at}
+use Rattle.cw_rules.specs.Tokens.{skipped_byte}
+use Rattle.cw_lex.proofs.Walk.{answers-at, answers-here, rest_at}
+use Rattle.cw_rules.proofs.Runs.{drop-here}
 
 -- without notes the answers are those of the text
 pub coming-quiet : (text : List ℕ) (s : State) → s.pending ≡ no_notes → coming text s ≡ answers_at text (where_of s) s.at

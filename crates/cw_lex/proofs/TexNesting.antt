@@ -1,27 +1,27 @@
 -- The scanner's answers over TeX text are nested.
 use Rattle.std.proofs.Common.{◌≡◌, ℕ, zero, suc, ◌+◌, ◌-◌, Bool, true, false, ◌&&◌, ◌||◌, Option, Some, None, List, [], ◌∷◌, ◌++◌, take, drop, refl, sym, ◌∙◌, ap}
 use Rattle.std.specs.Prelude.{if◌then◌else◌, ◌==◌}
-use Rattle.cw_lex.specs.declared.bodies.Noted.{Noted}
-use Rattle.cw_lex.specs.declared.classes.Class.TheVariants as classes
-use Rattle.cw_lex.specs.declared.codes.Code.{Code}
-use Rattle.cw_lex.specs.declared.codes.Code.TheVariants as code
-use Rattle.cw_lex.specs.declared.codes.Effect.{Effect}
-use Rattle.cw_lex.specs.declared.codes.Effect.TheVariants as effects
-use Rattle.cw_lex.specs.declared.parts.Part.{Part}
-use Rattle.cw_lex.specs.declared.parts.Part.TheVariants as parts
-use Rattle.cw_lex.specs.declared.parts.Opened.{Opened}
-use Rattle.cw_lex.specs.declared.parts.Start.{Start}
-use Rattle.cw_lex.specs.declared.parts.Start.TheVariants as start
-use Rattle.cw_lex.specs.declared.tokens.Mode.TheVariants as modes
-use Rattle.cw_lex.specs.declared.tokens.TokKind.{TokKind}
-use Rattle.cw_lex.specs.declared.tokens.TokKind.TheVariants as kind
-use Rattle.cw_lex.specs.Bytes.{at_sign, bar, equals, begins, is_in, run}
-use Rattle.cw_lex.specs.Codes.{code_at, begins_section, effect_in_tex}
-use Rattle.cw_lex.specs.Answers.{Answer, Token, Begin, Finish, Note, Where, Cut, Found, note_answers, plain}
+use Rattle.cw_rules.specs.declared.bodies.Noted.{Noted}
+use Rattle.cw_rules.specs.declared.classes.Class.TheVariants as classes
+use Rattle.cw_rules.specs.declared.codes.Code.{Code}
+use Rattle.cw_rules.specs.declared.codes.Code.TheVariants as code
+use Rattle.cw_rules.specs.declared.codes.Effect.{Effect}
+use Rattle.cw_rules.specs.declared.codes.Effect.TheVariants as effects
+use Rattle.cw_rules.specs.declared.parts.Part.{Part}
+use Rattle.cw_rules.specs.declared.parts.Part.TheVariants as parts
+use Rattle.cw_rules.specs.declared.parts.Opened.{Opened}
+use Rattle.cw_rules.specs.declared.parts.Start.{Start}
+use Rattle.cw_rules.specs.declared.parts.Start.TheVariants as start
+use Rattle.cw_rules.specs.declared.tokens.Mode.TheVariants as modes
+use Rattle.cw_rules.specs.declared.tokens.TokKind.{TokKind}
+use Rattle.cw_rules.specs.declared.tokens.TokKind.TheVariants as kind
+use Rattle.cw_rules.specs.Bytes.{at_sign, bar, equals, begins, is_in, run}
+use Rattle.cw_rules.specs.Codes.{code_at, begins_section, effect_in_tex}
+use Rattle.cw_rules.specs.Answers.{Answer, Token, Begin, Finish, Note, Where, Cut, Found, note_answers, plain}
 use Rattle.cw_lex.specs.Lexing.{answers, tokens_of, still_fresh, fresh_at, last_at}
-use Rattle.cw_lex.specs.Tokens.{one, dropped_code, moved, is_name, is_head, code_token, comment_cut, inner_or_none, all_cut, start_of, in_code, tex_by, tex_text, head_text, in_text, section, section_code, found}
+use Rattle.cw_rules.specs.Tokens.{one, dropped_code, moved, is_name, is_head, code_token, comment_cut, inner_or_none, all_cut, start_of, in_code, tex_by, tex_text, head_text, in_text, section, section_code, found}
 use Rattle.cw_lex.specs.Nested.{Level, InCode, InComment, after_token, after_begin, levels_after, all_levels_after, tex_levels_after, all_tex_levels_after, IsTexNested, is_section_kind, is_part_kind, begins_part_in, is_part_answer}
-use Rattle.cw_lex.proofs.Choices.{if-both, or-first, or-second}
+use Rattle.cw_rules.proofs.Choices.{if-both, or-first, or-second}
 use Rattle.cw_lex.proofs.Nesting.{Goes, levels_in, nested_in, in_tex, Begun, begins-so, in-code-goes, before-code, open-goes, inner-nested, open-levels, cut-one, section-kind}
 
 -- ## Levels

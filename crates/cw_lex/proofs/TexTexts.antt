@@ -5,44 +5,44 @@ use Rattle.std.proofs.lemmas.Bool.{eqb-true}
 use Rattle.std.proofs.lemmas.List.{drop-drop, length-take}
 use Rattle.cw_base.proofs.TestLaws.{both-right, one-failed-left, one-failed-right}
 use Rattle.cw_base.specs.declared.notes.NoteKind.TheVariants as notes
-use Rattle.cw_lex.specs.declared.bodies.Body.TheVariants as bodies
-use Rattle.cw_lex.specs.declared.bodies.Noted.{Noted}
-use Rattle.cw_lex.specs.declared.classes.Class.TheVariants as classes
-use Rattle.cw_lex.specs.declared.codes.Code.{Code}
-use Rattle.cw_lex.specs.declared.codes.Code.TheVariants as at
-use Rattle.cw_lex.specs.declared.codes.Effect.{Effect}
-use Rattle.cw_lex.specs.declared.codes.Effect.TheVariants as effects
-use Rattle.cw_lex.specs.declared.parts.Part.TheVariants as parts
-use Rattle.cw_lex.specs.declared.tokens.Mode.TheVariants as modes
-use Rattle.cw_lex.specs.declared.tokens.TokKind.{TokKind}
-use Rattle.cw_lex.specs.declared.tokens.TokKind.TheVariants as kinds
-use Rattle.cw_lex.specs.Answers.{Answer, Token, Begin, Finish, Note, Seen, Where, Cut, Found, note_answers, token_of, plain}
-use Rattle.cw_lex.specs.Bodies.{at_start, extent}
-use Rattle.cw_lex.specs.Bytes.{at_sign, bar, equals, run, begins, is_in}
-use Rattle.cw_lex.specs.Codes.{code_of, code_at, is_section, begins_section, effect_in_tex}
+use Rattle.cw_rules.specs.declared.bodies.Body.TheVariants as bodies
+use Rattle.cw_rules.specs.declared.bodies.Noted.{Noted}
+use Rattle.cw_rules.specs.declared.classes.Class.TheVariants as classes
+use Rattle.cw_rules.specs.declared.codes.Code.{Code}
+use Rattle.cw_rules.specs.declared.codes.Code.TheVariants as at
+use Rattle.cw_rules.specs.declared.codes.Effect.{Effect}
+use Rattle.cw_rules.specs.declared.codes.Effect.TheVariants as effects
+use Rattle.cw_rules.specs.declared.parts.Part.TheVariants as parts
+use Rattle.cw_rules.specs.declared.tokens.Mode.TheVariants as modes
+use Rattle.cw_rules.specs.declared.tokens.TokKind.{TokKind}
+use Rattle.cw_rules.specs.declared.tokens.TokKind.TheVariants as kinds
+use Rattle.cw_rules.specs.Answers.{Answer, Token, Begin, Finish, Note, Seen, Where, Cut, Found, note_answers, token_of, plain, has_sign}
+use Rattle.cw_rules.specs.Bodies.{at_start, extent}
+use Rattle.cw_rules.specs.Bytes.{at_sign, bar, equals, run, begins, is_in}
+use Rattle.cw_rules.specs.Codes.{code_of, code_at, is_section, begins_section, effect_in_tex}
 use Rattle.cw_lex.specs.Coming.{found_at}
-use Rattle.cw_lex.specs.Heads.{has_sign}
 use Rattle.cw_lex.specs.Lexing.{still_fresh, joined, answers, fresh_at, last_at, answers_at, beginning, tokens_of}
 use Rattle.cw_lex.specs.Limbo.{is_name_kind}
 use Rattle.cw_lex.specs.Nested.{is_section_kind, begins_section_in}
 use Rattle.cw_lex.specs.Openings.{opened_by, is_some, opens_part_before, opens_part_in}
-use Rattle.cw_lex.specs.Order.{Covers}
+use Rattle.cw_rules.specs.Order.{Covers}
 use Rattle.cw_lex.specs.Parts.{closing_bar_from}
 use Rattle.cw_lex.specs.TexTexts.{tex_at, are_notes, GoesOn, HoldsInner}
-use Rattle.cw_lex.specs.Tokens.{one, moved, dropped_code, effect_in, section_name, code_token, is_name, is_head, is_signed, head_sign_size, tex_by, tex_text, in_text, section, found, code_by, code_text, inner_begin, inner_cut, all_cut}
-use Rattle.cw_lex.proofs.CodeStarts.{code-kind}
-use Rattle.cw_lex.proofs.CodeTwins.{at-code}
+use Rattle.cw_rules.specs.Tokens.{one, moved, dropped_code, effect_in, section_name, code_token, is_name, is_head, is_signed, head_sign_size, tex_by, tex_text, in_text, section, found, code_by, code_text, inner_begin, inner_cut, all_cut}
+use Rattle.cw_rules.proofs.CodeStarts.{code-kind}
+use Rattle.cw_rules.proofs.CodeTwins.{at-code}
 use Rattle.cw_lex.proofs.Covering.{drop-part, covers-le, tokens-cover}
 use Rattle.cw_lex.proofs.InnerEnds.{to-end}
 use Rattle.cw_lex.proofs.InnerScans.{inner-ends-at-bar}
-use Rattle.cw_lex.proofs.NameEnds.{name-take}
+use Rattle.cw_rules.proofs.NameEnds.{name-take}
 use Rattle.cw_lex.proofs.Openings.{not-both, notes-sign, section-cuts, begun, bare-uncut}
-use Rattle.cw_lex.proofs.BarRules.{tex_inner}
-use Rattle.cw_lex.proofs.Sizes.{extent-le}
+use Rattle.cw_rules.proofs.BarRules.{tex_inner}
+use Rattle.cw_rules.proofs.Sizes.{extent-le}
 use Rattle.cw_lex.proofs.PartScans.{ends-with-text}
-use Rattle.cw_lex.proofs.Taking.{AreNotes, found-takes, bare-all-cut}
-use Rattle.cw_lex.proofs.Walk.{drop-here, answers-at}
-use Rattle.cw_lex.proofs.Within.{found-fits}
+use Rattle.cw_rules.proofs.Taking.{AreNotes, found-takes, bare-all-cut}
+use Rattle.cw_rules.proofs.Runs.{drop-here}
+use Rattle.cw_lex.proofs.Walk.{answers-at}
+use Rattle.cw_rules.proofs.Within.{found-fits}
 
 abbrev tex : Where
 tex = record { part = parts.Tex; comments = [] }

@@ -1,17 +1,17 @@
 -- White space of C text, and what the bytes before a place say of it.
 use Rattle.std.proofs.Common.{◌≡◌, ℕ, ◌+◌, ◌-◌, ◌<◌, ◌≤◌, Bool, true, false, true≢false, not, ◌&&◌, ◌||◌, ◌==◌, List, [], ◌∷◌, ◌++◌, length, slice_index, drop, refl, sym, ap, ◌∙◌, arith, if◌then◌else◌}
 use Rattle.std.proofs.lemmas.Bool.{eqb-true}
-use Rattle.cw_lex.specs.declared.classes.Class.TheVariants as classes
-use Rattle.cw_lex.specs.declared.parts.Part.{Part}
-use Rattle.cw_lex.specs.declared.parts.Opened.{Opened}
-use Rattle.cw_lex.specs.declared.tokens.TokKind.TheVariants as kinds
-use Rattle.cw_lex.specs.declared.parts.Part.TheVariants as parts
-use Rattle.cw_lex.specs.Answers.{Where, before, plain}
-use Rattle.cw_lex.specs.Bytes.{is_in}
-use Rattle.cw_lex.specs.Codes.{begins_section}
+use Rattle.cw_rules.specs.declared.classes.Class.TheVariants as classes
+use Rattle.cw_rules.specs.declared.parts.Part.{Part}
+use Rattle.cw_rules.specs.declared.parts.Opened.{Opened}
+use Rattle.cw_rules.specs.declared.tokens.TokKind.TheVariants as kinds
+use Rattle.cw_rules.specs.declared.parts.Part.TheVariants as parts
+use Rattle.cw_rules.specs.Answers.{Where, before, plain}
+use Rattle.cw_rules.specs.Bytes.{is_in}
+use Rattle.cw_rules.specs.Codes.{begins_section}
 use Rattle.cw_lex.specs.Lexing.{fresh_at, last_at}
-use Rattle.cw_lex.specs.Tokens.{section, in_text, code_text, passed, line_end, is_space, in_hash_line, skipped_byte, comment_end, inner_cut, one}
-use Rattle.cw_lex.specs.Coming.{is_code, ends_line, is_white_here, found_at}
+use Rattle.cw_rules.specs.Tokens.{section, in_text, code_text, passed, line_end, is_space, in_hash_line, skipped_byte, comment_end, inner_cut, one, is_code}
+use Rattle.cw_lex.specs.Coming.{ends_line, is_white_here, found_at}
 use Rattle.cw_lex.proofs.Lines.{in_text-code, found-newline}
 use Rattle.cw_lex.proofs.Walk.{fresh-here, last-here}
 

@@ -1,20 +1,20 @@
 -- What is still to come of a scanner's answers, and what holds of a scanner.
 use Rattle.std.specs.Prelude.{◌≡◌, ℕ, ◌+◌, ◌-◌, ◌<◌, ◌≤◌, Bool, true, false, List, [], ◌∷◌, ◌++◌, length, drop, slice_index, not, ◌&&◌, ◌==◌, Option, Some, None, if◌then◌else◌}
-use Rattle.cw_lex.specs.declared.classes.Class.TheVariants as classes
-use Rattle.cw_lex.specs.declared.parts.Part.{Part}
-use Rattle.cw_lex.specs.declared.parts.Part.TheVariants as parts
-use Rattle.cw_lex.specs.declared.parts.Opened.{Opened}
-use Rattle.cw_lex.specs.declared.tokens.Mode.{Mode}
-use Rattle.cw_lex.specs.declared.tokens.Mode.TheVariants as modes
-use Rattle.cw_lex.specs.declared.tokens.Lexed.{Lexed}
-use Rattle.cw_lex.specs.declared.tokens.Lexed.TheVariants as lexed
-use Rattle.cw_lex.specs.declared.cuttings.Cutting.{Cutting}
+use Rattle.cw_rules.specs.declared.classes.Class.TheVariants as classes
+use Rattle.cw_rules.specs.declared.parts.Part.{Part}
+use Rattle.cw_rules.specs.declared.parts.Part.TheVariants as parts
+use Rattle.cw_rules.specs.declared.parts.Opened.{Opened}
+use Rattle.cw_rules.specs.declared.tokens.Mode.{Mode}
+use Rattle.cw_rules.specs.declared.tokens.Mode.TheVariants as modes
+use Rattle.cw_rules.specs.declared.tokens.Lexed.{Lexed}
+use Rattle.cw_rules.specs.declared.tokens.Lexed.TheVariants as lexed
+use Rattle.cw_rules.specs.declared.cuttings.Cutting.{Cutting}
 use Rattle.cw_lex.specs.declared.state.Clear.{Clear}
 use Rattle.cw_lex.specs.declared.state.State.{State}
-use Rattle.cw_lex.specs.Bytes.{newline, backslash, is_in, run}
-use Rattle.cw_lex.specs.Answers.{Answer, Finish, Note, seen, Where, Cut, Found, note_answers}
-use Rattle.cw_lex.specs.Pending.{pending_notes, no_notes, IsInside}
-use Rattle.cw_lex.specs.Tokens.{in_hash_line, is_space, found}
+use Rattle.cw_rules.specs.Bytes.{newline, backslash, is_in, run}
+use Rattle.cw_rules.specs.Answers.{Answer, Finish, Note, seen, Where, Cut, Found, note_answers}
+use Rattle.cw_rules.specs.Pending.{pending_notes, no_notes, IsInside}
+use Rattle.cw_rules.specs.Tokens.{in_hash_line, is_space, found}
 use Rattle.cw_lex.specs.Lexing.{answers_at, fresh_at, last_at}
 
 abbrev pub where_of : State → Where

@@ -1,13 +1,13 @@
 -- The heads with which definitions and named C parts begin.
 use Rattle.std.specs.Prelude.{ℕ, Bool, true, false, ◌==◌, Option, Some, None, List, [], ◌∷◌}
 use Rattle.cw_base.specs.declared.span.Span.{Span}
-use Rattle.cw_lex.specs.Answers.{Answer, Token, Begin, Finish, Note, Seen}
-use Rattle.cw_lex.specs.declared.codes.Code.TheVariants as code
+use Rattle.cw_rules.specs.Answers.{Answer, Token, Begin, Finish, Note, Seen}
+use Rattle.cw_rules.specs.declared.codes.Code.TheVariants as code
 use Rattle.cw_lex.specs.declared.heads.Wanted.{Wanted}
 use Rattle.cw_lex.specs.declared.heads.Wanted.TheVariants as wants
-use Rattle.cw_lex.specs.declared.signs.Sign.TheVariants as sign
-use Rattle.cw_lex.specs.declared.tokens.TokKind.{TokKind}
-use Rattle.cw_lex.specs.declared.tokens.TokKind.TheVariants as kind
+use Rattle.cw_rules.specs.declared.signs.Sign.TheVariants as sign
+use Rattle.cw_rules.specs.declared.tokens.TokKind.{TokKind}
+use Rattle.cw_rules.specs.declared.tokens.TokKind.TheVariants as kind
 use Rattle.cw_lex.specs.Nest.{Nest, Leaf}
 
 -- ## Which tokens belong to the head of a definition

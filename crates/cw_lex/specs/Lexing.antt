@@ -1,12 +1,12 @@
 -- The tokens of a whole text.
 use Rattle.std.specs.Prelude.{ℕ, zero, suc, ◌+◌, ◌-◌, Bool, true, ◌&&◌, ◌||◌, ◌==◌, List, [], ◌∷◌, ◌++◌, drop, take}
-use Rattle.cw_lex.specs.declared.classes.Class.TheVariants.{Blank}
-use Rattle.cw_lex.specs.declared.parts.Part.TheVariants as parts
-use Rattle.cw_lex.specs.declared.tokens.Mode.{Mode}
-use Rattle.cw_lex.specs.declared.tokens.Mode.TheVariants as modes
-use Rattle.cw_lex.specs.Bytes.{newline, is_in}
-use Rattle.cw_lex.specs.Answers.{Answer, Where, Found}
-use Rattle.cw_lex.specs.Tokens.{found, all_cut}
+use Rattle.cw_rules.specs.declared.classes.Class.TheVariants.{Blank}
+use Rattle.cw_rules.specs.declared.parts.Part.TheVariants as parts
+use Rattle.cw_rules.specs.declared.tokens.Mode.{Mode}
+use Rattle.cw_rules.specs.declared.tokens.Mode.TheVariants as modes
+use Rattle.cw_rules.specs.Bytes.{newline, is_in}
+use Rattle.cw_rules.specs.Answers.{Answer, Where, Found}
+use Rattle.cw_rules.specs.Tokens.{found, all_cut}
 
 -- only blanks stand before the next byte on its line
 abbrev pub still_fresh : Bool → ℕ → Bool

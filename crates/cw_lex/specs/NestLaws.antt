@@ -1,6 +1,6 @@
 -- What holds of the nests of nested answers.
 use Rattle.std.specs.Prelude.{◌≡◌, false, List, [], ◌∷◌}
-use Rattle.cw_lex.specs.Answers.{Answer}
+use Rattle.cw_rules.specs.Answers.{Answer}
 use Rattle.cw_lex.specs.Nested.{IsNested}
 use Rattle.cw_lex.specs.Nest.{nests, nest, IsWell}
 use Rattle.cw_lex.specs.Heads.{headed, without_head}

@@ -1,12 +1,12 @@
 -- How the answers over C text are nested.
 use Rattle.std.specs.Prelude.{◌≡◌, ℕ, Bool, true, false, Option, Some, None, List, [], ◌∷◌}
 use Rattle.std.specs.List.{list_any}
-use Rattle.cw_lex.specs.declared.codes.Code.TheVariants as code
-use Rattle.cw_lex.specs.declared.tokens.Mode.{Mode}
-use Rattle.cw_lex.specs.declared.tokens.Mode.TheVariants as modes
-use Rattle.cw_lex.specs.declared.tokens.TokKind.{TokKind}
-use Rattle.cw_lex.specs.declared.tokens.TokKind.TheVariants as kind
-use Rattle.cw_lex.specs.Answers.{Answer, Token, Begin, Finish, Note}
+use Rattle.cw_rules.specs.declared.codes.Code.TheVariants as code
+use Rattle.cw_rules.specs.declared.tokens.Mode.{Mode}
+use Rattle.cw_rules.specs.declared.tokens.Mode.TheVariants as modes
+use Rattle.cw_rules.specs.declared.tokens.TokKind.{TokKind}
+use Rattle.cw_rules.specs.declared.tokens.TokKind.TheVariants as kind
+use Rattle.cw_rules.specs.Answers.{Answer, Token, Begin, Finish, Note}
 use Rattle.cw_lex.specs.Lexing.{tokens_of}
 
 -- Answers are nested: pieces of text stand in comments and other tokens in C text, comments begin in C text and inner

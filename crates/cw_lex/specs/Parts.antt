@@ -1,14 +1,14 @@
 -- The scan of a part of a text, and the scan of the whole.
 use Rattle.std.specs.Prelude.{◌≡◌, ℕ, zero, suc, ◌+◌, ◌-◌, ◌≤◌, Bool, true, false, ◌&&◌, ◌==◌, List, [], ◌∷◌, ◌++◌, Option, Some, None, length, drop, take, if◌then◌else◌}
-use Rattle.cw_lex.specs.declared.parts.Part.{Part}
-use Rattle.cw_lex.specs.declared.parts.Part.TheVariants as parts
-use Rattle.cw_lex.specs.declared.tokens.Mode.{Mode}
-use Rattle.cw_lex.specs.declared.tokens.Mode.TheVariants as modes
-use Rattle.cw_lex.specs.declared.tokens.TokKind.TheVariants as kinds
-use Rattle.cw_lex.specs.Bytes.{at_sign, greater, bar, begins}
-use Rattle.cw_lex.specs.Codes.{begins_section}
-use Rattle.cw_lex.specs.Answers.{Answer, Begin, Finish, Where, Found, token_of}
-use Rattle.cw_lex.specs.Tokens.{found, all_cut}
+use Rattle.cw_rules.specs.declared.parts.Part.{Part}
+use Rattle.cw_rules.specs.declared.parts.Part.TheVariants as parts
+use Rattle.cw_rules.specs.declared.tokens.Mode.{Mode}
+use Rattle.cw_rules.specs.declared.tokens.Mode.TheVariants as modes
+use Rattle.cw_rules.specs.declared.tokens.TokKind.TheVariants as kinds
+use Rattle.cw_rules.specs.Bytes.{at_sign, greater, bar, begins}
+use Rattle.cw_rules.specs.Codes.{begins_section}
+use Rattle.cw_rules.specs.Answers.{Answer, Begin, Finish, Where, Found, token_of}
+use Rattle.cw_rules.specs.Tokens.{found, all_cut}
 use Rattle.cw_lex.specs.Lexing.{still_fresh, joined, fresh_at, last_at, answers_at, beginning, tokens_of}
 
 abbrev pub followed : Found → (Where → ℕ → Option Where) → Option Where

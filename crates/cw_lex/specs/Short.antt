@@ -1,14 +1,15 @@
 -- The quick tokens of C text.
 use Rattle.std.specs.Prelude.{◌≡◌, ℕ, ◌+◌, ◌<◌, ◌≤◌, Bool, not, ◌&&◌, ◌||◌, ◌==◌, List, length}
-use Rattle.cw_lex.specs.declared.classes.Class.TheVariants.{Digit}
-use Rattle.cw_lex.specs.declared.parts.Start.TheVariants as start
+use Rattle.cw_rules.specs.declared.classes.Class.TheVariants.{Digit}
+use Rattle.cw_rules.specs.declared.parts.Start.TheVariants as start
 use Rattle.cw_lex.specs.declared.short.Short.{Short}
 use Rattle.cw_lex.specs.declared.short.Quick.{Quick}
 use Rattle.cw_lex.specs.declared.short.Quick.TheVariants as quick
-use Rattle.cw_lex.specs.Bytes.{begins_by, is_in, quote, hash, apostrophe, dot, slash, less, bar}
-use Rattle.cw_lex.specs.Answers.{Where, plain}
-use Rattle.cw_lex.specs.Tokens.{one, moved, passed, in_hash_line, in_code}
-use Rattle.cw_lex.specs.Coming.{found_at, bytes_at}
+use Rattle.cw_rules.specs.Bytes.{begins_by, is_in, quote, hash, apostrophe, dot, slash, less, bar}
+use Rattle.cw_rules.specs.Answers.{Where, plain}
+use Rattle.cw_rules.specs.Tokens.{one, moved, passed, in_hash_line, in_code}
+use Rattle.cw_lex.specs.Coming.{found_at}
+use Rattle.cw_rules.specs.Cuttings.{bytes_at}
 
 -- A token without notes begins at a place, behind which the C text goes on as it does.
 pub record IsShort (text : List ℕ) (w : Where) (place : ℕ) (short : Short) : Type 0 where

@@ -1,6 +1,6 @@
 -- The open comments in their array.
 use Rattle.std.specs.Prelude.{ℕ, zero, suc, false, List, [], ◌∷◌, slice_index_or}
-use Rattle.cw_lex.specs.declared.parts.Opened.{Opened}
+use Rattle.cw_rules.specs.declared.parts.Opened.{Opened}
 
 abbrev pub no_comment : Opened
 no_comment = record { start = 0; long = false; braces = 0; inner = false }

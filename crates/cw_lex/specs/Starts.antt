@@ -1,9 +1,9 @@
 -- What begins at a byte of C text fits in the bytes that are left.
 use Rattle.std.specs.Prelude.{◌≡◌, ℕ, ◌≤◌, length}
-use Rattle.cw_lex.specs.declared.codes.Code.{Code}
-use Rattle.cw_lex.specs.declared.parts.Start.{Start}
-use Rattle.cw_lex.specs.declared.parts.Start.TheVariants as start
-use Rattle.cw_lex.specs.Signs.{spelling}
+use Rattle.cw_rules.specs.declared.codes.Code.{Code}
+use Rattle.cw_rules.specs.declared.parts.Start.{Start}
+use Rattle.cw_rules.specs.declared.parts.Start.TheVariants as start
+use Rattle.cw_rules.specs.Signs.{spelling}
 
 abbrev pub SignFits : Start → ℕ → Type 0
 SignFits (start.Sign sign) left = length (spelling sign) ≤ left

@@ -1,18 +1,22 @@
 //! C text.
 ghost use Rattle.std.specs.Prelude.{◌≡◌, ◌≤◌, ◌<◌, ◌+◌, ◌-◌, ◌∷◌, [], true, false, not, ◌==◌, ◌&&◌, ◌++◌, nat_lt};
 ghost use Rattle.std.specs.Prelude.{length, drop, slice_index, MatchOption};
-ghost use Rattle.cw_lex.specs.Answers.{Gives, before};
-ghost use Rattle.cw_lex.specs.Bytes.{run, is_letter};
-ghost use Rattle.cw_lex.specs.Codes.{code_at};
+ghost use Rattle.cw_rules.specs.Answers.{Gives, before};
+ghost use Rattle.cw_rules.specs.Bytes.{run, is_letter};
+ghost use Rattle.cw_rules.specs.Codes.{code_at};
 ghost use Rattle.cw_lex.specs.Lexing.{fresh_at, last_at, answers_at};
-ghost use Rattle.cw_lex.specs.Tokens.{code_text, in_code, start_of, code_by, effect_in, line_end, part_line_end};
-ghost use Rattle.cw_lex.specs.Tokens.{comment_end, inner_cut, takes_hash_line, behind_include, is_space, in_hash_line};
-ghost use Rattle.cw_lex.specs.Tokens.{ends_at_bar, one, moved, closes_on_line, is_include, behind_word, with_inner};
-ghost use Rattle.cw_lex.specs.Tokens.{passed};
-ghost use Rattle.cw_lex.specs.Coming.{where_of, coming, bytes_at, found_at, cut_of, is_code, is_code_part, ends_line};
-ghost use Rattle.cw_lex.specs.Coming.{is_white_here, IsClear, IsCut, IsReady, CanStep};
+ghost use Rattle.cw_rules.specs.Tokens.{code_text, in_code, start_of, code_by, effect_in, line_end, part_line_end};
+ghost use Rattle.cw_rules.specs.Tokens.{comment_end, inner_cut, takes_hash_line, behind_include, is_space};
+ghost use Rattle.cw_rules.specs.Tokens.{in_hash_line};
+ghost use Rattle.cw_rules.specs.Tokens.{ends_at_bar, one, moved, closes_on_line, is_include, behind_word, with_inner};
+ghost use Rattle.cw_rules.specs.Tokens.{passed};
+ghost use Rattle.cw_lex.specs.Coming.{where_of, coming, found_at, ends_line};
+ghost use Rattle.cw_rules.specs.Cuttings.{bytes_at, cut_of};
+ghost use Rattle.cw_rules.specs.Tokens.{is_code, is_code_part};
+ghost use Rattle.cw_lex.specs.Coming.{is_white_here, IsClear, IsReady, CanStep};
+ghost use Rattle.cw_rules.specs.Cuttings.{IsCut};
 ghost use Rattle.cw_lex.specs.Starts.{SignFits, CommentFits, CodeIs};
-ghost use Rattle.cw_lex.specs.Constants.{constant};
+ghost use Rattle.cw_rules.specs.Constants.{constant};
 
 use crate::classes::{Class, begins, begins_with, from, is_blank, is_digit, is_letter, run};
 use crate::codes::Effect;

@@ -1,15 +1,18 @@
 //! The text of comments, and what opens and ends comments and inner C text.
 ghost use Rattle.std.specs.Prelude.{◌≡◌, ◌<◌, ◌≤◌, ◌+◌, ◌∷◌, [], true, false, not, ◌==◌, ◌&&◌, length, drop};
 ghost use Rattle.std.specs.Prelude.{slice_index};
-ghost use Rattle.cw_lex.specs.Answers.{Gives, before};
-ghost use Rattle.cw_lex.specs.Bytes.{begins};
-ghost use Rattle.cw_lex.specs.Bodies.{stops, note_unless};
+ghost use Rattle.cw_rules.specs.Answers.{Gives, before};
+ghost use Rattle.cw_rules.specs.Bytes.{begins};
+ghost use Rattle.cw_rules.specs.Bodies.{stops, note_unless};
 ghost use Rattle.cw_lex.specs.Lexing.{last_at};
-ghost use Rattle.cw_lex.specs.Pending.{no_notes};
-ghost use Rattle.cw_lex.specs.Codes.{begins_section};
-ghost use Rattle.cw_lex.specs.Tokens.{comment_text, comment_closed, comment_end, piece, is_deep, line_end, inner_begin};
-ghost use Rattle.cw_lex.specs.Tokens.{inner_end, with_inner, in_hash_line, comment_begin, comment_kind};
-ghost use Rattle.cw_lex.specs.Coming.{where_of, coming, bytes_at, found_at, is_code, IsReady, CanStep};
+ghost use Rattle.cw_rules.specs.Pending.{no_notes};
+ghost use Rattle.cw_rules.specs.Codes.{begins_section};
+ghost use Rattle.cw_rules.specs.Tokens.{comment_text, comment_closed, comment_end, piece, is_deep, line_end};
+ghost use Rattle.cw_rules.specs.Tokens.{inner_begin};
+ghost use Rattle.cw_rules.specs.Tokens.{inner_end, with_inner, in_hash_line, comment_begin, comment_kind};
+ghost use Rattle.cw_lex.specs.Coming.{where_of, coming, found_at, IsReady, CanStep};
+ghost use Rattle.cw_rules.specs.Cuttings.{bytes_at};
+ghost use Rattle.cw_rules.specs.Tokens.{is_code};
 
 use crate::bodies::{Body, Inside, walk};
 use crate::classes::{begins, from};

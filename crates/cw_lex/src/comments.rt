@@ -13,7 +13,7 @@ pub(crate) struct Comments {
 
 impl Model for Comments {
     ghost use Rattle.std.specs.Prelude.{◌≡◌, ◌≤◌, List, length};
-    ghost use Rattle.cw_lex.specs.declared.parts.Opened.{Opened};
+    ghost use Rattle.cw_rules.specs.declared.parts.Opened.{Opened};
 
     ghost Value = { List Opened };
 

@@ -1,10 +1,11 @@
 //! The answers that the scanner gives, and where it stands behind them.
 ghost use Rattle.std.specs.Prelude.{◌≡◌, ◌+◌, ◌≤◌, false, [], ◌∷◌, length, drop};
-ghost use Rattle.cw_lex.specs.Answers.{Gives, Note, before, seen, token_of};
-ghost use Rattle.cw_lex.specs.Tokens.{one, moved, inner_begin};
+ghost use Rattle.cw_rules.specs.Answers.{Gives, Note, before, seen, token_of};
+ghost use Rattle.cw_rules.specs.Tokens.{one, moved, inner_begin};
 ghost use Rattle.cw_lex.specs.Short.{BeginsString};
-ghost use Rattle.cw_lex.specs.Pending.{no_notes};
-ghost use Rattle.cw_lex.specs.Coming.{where_of, coming, bytes_at, found_at, cut_of, IsNested, IsCut, IsReady, CanStep};
+ghost use Rattle.cw_rules.specs.Pending.{no_notes};
+ghost use Rattle.cw_lex.specs.Coming.{where_of, coming, found_at, IsNested, IsReady, CanStep};
+ghost use Rattle.cw_rules.specs.Cuttings.{bytes_at, cut_of, IsCut};
 
 use crate::cuttings::{Cutting, string};
 use crate::parts::Part;

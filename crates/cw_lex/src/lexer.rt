@@ -1,15 +1,17 @@
 //! The scanner.
 ghost use Rattle.std.specs.Prelude.{◌≡◌, ◌≤◌, ◌<◌, ◌+◌, ◌-◌, [], true, false, ◌==◌, ◌&&◌, length, drop, slice_index};
 ghost use Rattle.std.specs.Prelude.{IfSome};
-ghost use Rattle.cw_lex.specs.Answers.{Gives};
-ghost use Rattle.cw_lex.specs.Codes.{begins_section};
-ghost use Rattle.cw_lex.specs.Order.{Covers, AreWithin};
-ghost use Rattle.cw_lex.specs.Pending.{no_notes};
+ghost use Rattle.cw_rules.specs.Answers.{Gives};
+ghost use Rattle.cw_rules.specs.Codes.{begins_section};
+ghost use Rattle.cw_rules.specs.Order.{Covers, AreWithin};
+ghost use Rattle.cw_rules.specs.Pending.{no_notes};
 ghost use Rattle.cw_lex.specs.Lexing.{tokens_of, fresh_at, last_at, answers_at};
-ghost use Rattle.cw_lex.specs.Tokens.{part_text, is_parameter};
-ghost use Rattle.cw_lex.specs.Bytes.{run, is_letter, begins_by};
+ghost use Rattle.cw_rules.specs.Tokens.{part_text, is_parameter};
+ghost use Rattle.cw_rules.specs.Bytes.{run, is_letter, begins_by};
 ghost use Rattle.cw_lex.specs.Short.{IsQuick, BeginsString};
-ghost use Rattle.cw_lex.specs.Coming.{where_of, coming, bytes_at, found_at, is_code, is_code_part, beginning_part};
+ghost use Rattle.cw_lex.specs.Coming.{where_of, coming, found_at, beginning_part};
+ghost use Rattle.cw_rules.specs.Cuttings.{bytes_at};
+ghost use Rattle.cw_rules.specs.Tokens.{is_code, is_code_part};
 ghost use Rattle.cw_lex.specs.Coming.{IsSkipped, IsReady, CanStep};
 
 use crate::classes::{Class, begins_with, from, is_letter, run};
@@ -38,7 +40,7 @@ pub struct Lexer<'a> {
 
 impl<'a> Model for Lexer<'a> {
     ghost use Rattle.std.specs.Prelude.{List};
-    ghost use Rattle.cw_lex.specs.Answers.{Answer};
+    ghost use Rattle.cw_rules.specs.Answers.{Answer};
     ghost use Rattle.cw_lex.specs.Coming.{coming, IsReady};
 
     ghost Value = { List Answer };

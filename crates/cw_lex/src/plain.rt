@@ -1,11 +1,12 @@
 //! Limbo, TeX text, and the heads of definitions and C parts.
 ghost use Rattle.std.specs.Prelude.{◌≡◌, ◌+◌, ◌<◌, ◌&&◌, [], false, true, length, drop, slice_index};
-ghost use Rattle.cw_lex.specs.Answers.{Gives};
-ghost use Rattle.cw_lex.specs.Tokens.{limbo_text, tex_text, head_text, macro_name, format_name, parameter};
-ghost use Rattle.cw_lex.specs.Tokens.{parameter_follows, is_name, is_head};
-ghost use Rattle.cw_lex.specs.Codes.{code_at};
-ghost use Rattle.cw_lex.specs.Bytes.{is_in, is_letter};
-ghost use Rattle.cw_lex.specs.Coming.{where_of, coming, bytes_at, found_at, IsReady, CanStep};
+ghost use Rattle.cw_rules.specs.Answers.{Gives};
+ghost use Rattle.cw_rules.specs.Tokens.{limbo_text, tex_text, head_text, macro_name, format_name, parameter};
+ghost use Rattle.cw_rules.specs.Tokens.{parameter_follows, is_name, is_head};
+ghost use Rattle.cw_rules.specs.Codes.{code_at};
+ghost use Rattle.cw_rules.specs.Bytes.{is_in, is_letter};
+ghost use Rattle.cw_lex.specs.Coming.{where_of, coming, found_at, IsReady, CanStep};
+ghost use Rattle.cw_rules.specs.Cuttings.{bytes_at};
 
 use crate::classes::{Class, begins, from, is_letter, run};
 use crate::codes::Effect;

@@ -1,9 +1,10 @@
 //! The quick tokens of C text, of which most of it consists.
 ghost use Rattle.std.specs.Prelude.{◌≡◌, ◌<◌, true, false, length, slice_index, IfSome};
-ghost use Rattle.cw_lex.specs.Answers.{Gives};
-ghost use Rattle.cw_lex.specs.Bytes.{begins_by, is_in, is_letter};
-ghost use Rattle.cw_lex.specs.Pending.{no_notes};
-ghost use Rattle.cw_lex.specs.Coming.{where_of, coming, is_code, IsReady};
+ghost use Rattle.cw_rules.specs.Answers.{Gives};
+ghost use Rattle.cw_rules.specs.Bytes.{begins_by, is_in, is_letter};
+ghost use Rattle.cw_rules.specs.Pending.{no_notes};
+ghost use Rattle.cw_lex.specs.Coming.{where_of, coming, IsReady};
+ghost use Rattle.cw_rules.specs.Tokens.{is_code};
 ghost use Rattle.cw_lex.specs.Short.{IsShort, IsQuick, is_alone, is_lone, is_quote};
 
 use crate::classes::{Class, from, is_digit, is_word, run};

@@ -1,8 +1,8 @@
 //! Where the scanner stands.
 ghost use Rattle.std.specs.Prelude.{◌≡◌, true, false, []};
-ghost use Rattle.cw_lex.specs.Tokens.{takes_hash_line, ends_at_bar, may_head, effect_in};
-ghost use Rattle.cw_lex.specs.Coming.{is_code, is_head_part};
-ghost use Rattle.cw_lex.specs.Effects.{stays};
+ghost use Rattle.cw_rules.specs.Tokens.{takes_hash_line, ends_at_bar, may_head, effect_in};
+ghost use Rattle.cw_rules.specs.Tokens.{is_code, is_head_part};
+ghost use Rattle.cw_rules.specs.Effects.{stays};
 
 use crate::Code;
 use crate::codes::Effect;

@@ -4,20 +4,18 @@ use Rattle.std.specs.List.{list_any}
 use Rattle.std.proofs.lemmas.List.{take_all, take-take, length-take}
 use Rattle.std.proofs.lemmas.List.Elements.{All-nil, All-cons, All-weaker}
 use Rattle.cw_base.specs.declared.span.Span.{Span}
-use Rattle.cw_lex.specs.declared.codes.Code.{Code}
-use Rattle.cw_lex.specs.declared.codes.Code.TheVariants as at
-use Rattle.cw_lex.specs.declared.tokens.Mode.{Mode}
-use Rattle.cw_lex.specs.declared.tokens.Mode.TheVariants as modes
-use Rattle.cw_lex.specs.declared.tokens.TokKind.{TokKind}
-use Rattle.cw_lex.specs.declared.tokens.TokKind.TheVariants as kinds
-use Rattle.cw_lex.specs.Answers.{Answer, Token, Begin, Finish, Note, Seen}
-use Rattle.cw_lex.specs.Heads.{has_sign}
-use Rattle.cw_lex.specs.Lexing.{answers_at, tokens_of}
-use Rattle.cw_lex.specs.Lexing.{beginning as begun}
+use Rattle.cw_rules.specs.declared.codes.Code.{Code}
+use Rattle.cw_rules.specs.declared.codes.Code.TheVariants as at
+use Rattle.cw_rules.specs.declared.tokens.Mode.{Mode}
+use Rattle.cw_rules.specs.declared.tokens.Mode.TheVariants as modes
+use Rattle.cw_rules.specs.declared.tokens.TokKind.{TokKind}
+use Rattle.cw_rules.specs.declared.tokens.TokKind.TheVariants as kinds
+use Rattle.cw_rules.specs.Answers.{Answer, Token, Begin, Finish, Note, Seen, has_sign}
+use Rattle.cw_lex.specs.Lexing.{answers_at, tokens_of, beginning as begun}
 use Rattle.cw_lex.specs.Nested.{is_section_kind, is_section_answer, begins_section_in}
 use Rattle.cw_lex.specs.Openings.{tokens_in, opened_by, EndsBefore, TextsEndAtOpenings}
-use Rattle.cw_lex.specs.Order.{AreWithin}
-use Rattle.cw_lex.proofs.Within.{tokens-within}
+use Rattle.cw_rules.specs.Order.{AreWithin}
+use Rattle.cw_lex.proofs.TokensWithin.{tokens-within}
 use Rattle.cw_part.specs.declared.definitions.Begun.{Begun}
 use Rattle.cw_part.specs.declared.definitions.Definition.{Definition}
 use Rattle.cw_part.specs.Definitions.{begun_by, beginning, ended_at, with_begun, definitions_of, definitions_in}

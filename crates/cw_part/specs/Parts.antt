@@ -1,6 +1,6 @@
 -- Definitions and C parts, as they are printed.
 use Rattle.std.specs.Prelude.{ℕ, ◌||◌, Bool, true, false, is_some, nat_lt, List, [], ◌∷◌, ◌++◌, codes}
-use Rattle.cw_lex.specs.declared.tokens.Mode.TheVariants as modes
+use Rattle.cw_rules.specs.declared.tokens.Mode.TheVariants as modes
 use Rattle.cw_names.specs.Names.{Entry}
 use Rattle.cw_part.specs.declared.definitions.Definition.{Definition}
 use Rattle.cw_phase1.specs.declared.sections.Section.{Section}

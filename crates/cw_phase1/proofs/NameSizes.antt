@@ -3,14 +3,14 @@ use Rattle.std.proofs.Common.{ℕ, zero, suc, ◌+◌, ◌-◌, ◌≤◌, ◌==
 use Rattle.std.specs.List.{position}
 use Rattle.std.proofs.lemmas.List.{length-take}
 use Rattle.std.proofs.lemmas.List.Elements.{All-nil, All-cons}
-use Rattle.cw_lex.specs.declared.codes.Code.{Code}
-use Rattle.cw_lex.specs.declared.codes.Code.TheVariants as at
-use Rattle.cw_lex.specs.declared.tokens.TokKind.{TokKind}
-use Rattle.cw_lex.specs.declared.tokens.TokKind.TheVariants as kinds
-use Rattle.cw_lex.specs.Answers.{Seen, Answer, Token, Begin, Finish, Note}
-use Rattle.cw_lex.specs.Bytes.{at_sign}
-use Rattle.cw_lex.specs.Names.{uncoded}
-use Rattle.cw_lex.specs.Order.{Covers}
+use Rattle.cw_rules.specs.declared.codes.Code.{Code}
+use Rattle.cw_rules.specs.declared.codes.Code.TheVariants as at
+use Rattle.cw_rules.specs.declared.tokens.TokKind.{TokKind}
+use Rattle.cw_rules.specs.declared.tokens.TokKind.TheVariants as kinds
+use Rattle.cw_rules.specs.Answers.{Seen, Answer, Token, Begin, Finish, Note}
+use Rattle.cw_rules.specs.Bytes.{at_sign}
+use Rattle.cw_rules.specs.Names.{uncoded}
+use Rattle.cw_rules.specs.Order.{Covers}
 use Rattle.cw_secnames.specs.declared.kinds.Earliest.{Earliest}
 use Rattle.cw_secnames.specs.declared.kinds.Earliest.TheVariants.{Nobody, One, Several}
 use Rattle.cw_secnames.specs.declared.kinds.SecKind.{SecKind}

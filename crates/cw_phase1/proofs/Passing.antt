@@ -1,12 +1,12 @@
 -- The tokens that one answer settles, and those that are still to come.
 use Rattle.std.proofs.Common.{◌≡◌, ℕ, Bool, true, false, List, [], ◌∷◌, ◌++◌, Option, Some, None, refl, ap, sym, ◌∙◌, append_assoc}
 use Rattle.cw_base.specs.Web.{MergedLine}
-use Rattle.cw_lex.specs.declared.codes.Code.TheVariants as at
+use Rattle.cw_rules.specs.declared.codes.Code.TheVariants as at
 use Rattle.cw_lex.specs.declared.heads.Wanted.{Wanted}
-use Rattle.cw_lex.specs.declared.tokens.TokKind.{TokKind}
-use Rattle.cw_lex.specs.declared.tokens.TokKind.TheVariants as kinds
-use Rattle.cw_lex.specs.Answers.{Seen, Answer, Token, Begin, Finish, Note}
-use Rattle.cw_lex.specs.Heads.{head_behind, has_sign, is_head_sign}
+use Rattle.cw_rules.specs.declared.tokens.TokKind.{TokKind}
+use Rattle.cw_rules.specs.declared.tokens.TokKind.TheVariants as kinds
+use Rattle.cw_rules.specs.Answers.{Seen, Answer, Token, Begin, Finish, Note, has_sign, is_head_sign}
+use Rattle.cw_lex.specs.Heads.{head_behind}
 use Rattle.cw_base.specs.declared.span.Span.{Span}
 use Rattle.cw_base.specs.declared.notes.Note.{Note as NoteRecord}
 use Rattle.cw_base.specs.declared.notes.NoteKind.{NoteKind}

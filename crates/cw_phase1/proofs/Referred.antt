@@ -3,7 +3,7 @@ use Rattle.std.proofs.Common.{◌≡◌, ℕ, zero, suc, ◌+◌, ◌<◌, Bool,
 use Rattle.std.specs.Prelude.{slice_get}
 use Rattle.std.specs.List.{position}
 use Rattle.std.proofs.lemmas.List.{append-nil}
-use Rattle.cw_lex.specs.Answers.{Answer, Token, Begin, Finish, Note}
+use Rattle.cw_rules.specs.Answers.{Answer, Token, Begin, Finish, Note}
 use Rattle.cw_secnames.specs.declared.kinds.SecKind.{SecKind}
 use Rattle.cw_secnames.specs.declared.kinds.Earliest.{Earliest}
 use Rattle.cw_secnames.specs.declared.kinds.Earliest.TheVariants.{Nobody, One, Several}

@@ -5,8 +5,8 @@ use Rattle.std.proofs.lemmas.List.Elements.{All-nil, All-cons, All-weaker}
 use Rattle.std.specs.Option.{option_map}
 use Rattle.cw_base.proofs.TestLaws.{one-left}
 use Rattle.cw_base.specs.Web.{MergedLine}
-use Rattle.cw_lex.specs.Answers.{Seen, Answer, Token, Begin, Finish, Note}
-use Rattle.cw_lex.specs.Order.{Covers}
+use Rattle.cw_rules.specs.Answers.{Seen, Answer, Token, Begin, Finish, Note}
+use Rattle.cw_rules.specs.Order.{Covers}
 use Rattle.cw_secnames.specs.declared.kinds.SecId.{SecId}
 use Rattle.cw_secnames.specs.Kept.{SecName, id}
 use Rattle.cw_secnames.specs.Uses.{NameUse, name_at}

@@ -1,6 +1,6 @@
 -- The texts of entries and names, piece by piece.
 use Rattle.std.proofs.Common.{◌≡◌, ◌≢◌, ℕ, ◌<◌, ◌==◌, Bool, true, false, List, [], ◌∷◌, drop, length, refl, ap, sym, ◌∙◌, get_or, arith}
-use Rattle.cw_lex.specs.Names.{uncoded}
+use Rattle.cw_rules.specs.Names.{uncoded}
 use Rattle.cw_phase1.specs.Texts.{is_white, blank_before, single_blanks, without_first_blank, rest_of}
 
 apart : (a b : ℕ) → (a ≢ b) → (a == b) ≡ false

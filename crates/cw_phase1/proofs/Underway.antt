@@ -4,14 +4,14 @@ use Rattle.std.specs.Prelude.{slice_range}
 use Rattle.std.proofs.lemmas.List.{append-nil, length-take}
 use Rattle.std.proofs.lemmas.List.Elements.{All-append, All-nil, All-cons, All-weaker}
 use Rattle.cw_base.specs.Web.{MergedLine}
-use Rattle.cw_lex.specs.declared.codes.Code.{Code}
-use Rattle.cw_lex.specs.declared.codes.Code.TheVariants as at
+use Rattle.cw_rules.specs.declared.codes.Code.{Code}
+use Rattle.cw_rules.specs.declared.codes.Code.TheVariants as at
 use Rattle.cw_lex.specs.declared.heads.Wanted.{Wanted}
 use Rattle.cw_lex.specs.declared.heads.Wanted.TheVariants as wants
-use Rattle.cw_lex.specs.declared.tokens.TokKind.{TokKind}
-use Rattle.cw_lex.specs.declared.tokens.TokKind.TheVariants as kinds
-use Rattle.cw_lex.specs.Answers.{Seen, Answer, Token, Begin, Finish, Note}
-use Rattle.cw_lex.specs.Heads.{head_behind, is_head_sign}
+use Rattle.cw_rules.specs.declared.tokens.TokKind.{TokKind}
+use Rattle.cw_rules.specs.declared.tokens.TokKind.TheVariants as kinds
+use Rattle.cw_rules.specs.Answers.{Seen, Answer, Token, Begin, Finish, Note, is_head_sign}
+use Rattle.cw_lex.specs.Heads.{head_behind}
 use Rattle.cw_names.specs.Names as names
 use Rattle.cw_names.specs.declared.entry.EntryKind.{EntryKind}
 use Rattle.cw_names.specs.declared.entry.EntryKind.TheVariants.{Ident}
@@ -41,9 +41,9 @@ use Rattle.cw_phase1.specs.Ending.{IsScanned, open_count, section_total}
 use Rattle.cw_phase1.specs.Book.{answers_of}
 use Rattle.cw_base.specs.Web.{text_of}
 use Rattle.cw_base.specs.declared.notes.NoteKind.{NoteKind}
-use Rattle.cw_lex.specs.Order.{Covers}
+use Rattle.cw_rules.specs.Order.{Covers}
 use Rattle.cw_lex.specs.Lexing.{tokens_of}
-use Rattle.cw_lex.specs.declared.tokens.Mode.TheVariants as modes
+use Rattle.cw_rules.specs.declared.tokens.Mode.TheVariants as modes
 use Rattle.cw_phase1.proofs.Passing.{told_at_end, kept_at_end, notes_at_end, told-passes, kept-passes, notes-pass, settle-told}
 use Rattle.cw_phase1.specs.Holding.{Waiting, HeldState, waiting_of, settled_placed, settled_standing, settled, remark_notes, remark_put, is_name, token_held_by, begun_held, ended_held, noted_held, held_step}
 use Rattle.cw_phase1.specs.Ready.{IsToken, AreBefore, WaitsBehind, CanSettle, WaitingIsKept, held_start}

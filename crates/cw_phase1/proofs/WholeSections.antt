@@ -5,10 +5,9 @@ use Rattle.std.proofs.lemmas.List.{take_all, drop_all, length-take}
 use Rattle.std.proofs.lemmas.List.Elements.{All-nil, All-cons}
 use Rattle.cw_base.proofs.TestLaws.{one-right}
 use Rattle.cw_base.specs.Web.{MergedLine, text_of}
-use Rattle.cw_lex.specs.declared.tokens.Mode.{Mode}
-use Rattle.cw_lex.specs.declared.tokens.Mode.TheVariants as modes
-use Rattle.cw_lex.specs.Answers.{Answer, Token, Begin, Finish, Note, Seen}
-use Rattle.cw_lex.specs.Heads.{has_sign}
+use Rattle.cw_rules.specs.declared.tokens.Mode.{Mode}
+use Rattle.cw_rules.specs.declared.tokens.Mode.TheVariants as modes
+use Rattle.cw_rules.specs.Answers.{Answer, Token, Begin, Finish, Note, Seen, has_sign}
 use Rattle.cw_lex.specs.Lexing.{answers, answers_at, beginning, fresh_at, last_at, tokens_of}
 use Rattle.cw_lex.specs.Nested.{is_section_kind, begins_section_in}
 use Rattle.cw_lex.specs.Openings.{opened_by, opens_part_in, EndsBefore, TextsEndAtOpenings, TextsEndAtSections}

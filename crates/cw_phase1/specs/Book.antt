@@ -3,9 +3,9 @@ use Rattle.std.specs.Prelude.{ℕ, List, [], length, ◌++◌}
 use Rattle.cw_base.specs.declared.notes.Note.{Note}
 use Rattle.cw_base.specs.declared.span.Span.{Span}
 use Rattle.cw_base.specs.Web.{MergedLine, text_of}
-use Rattle.cw_lex.specs.Answers.{Answer}
+use Rattle.cw_rules.specs.Answers.{Answer}
 use Rattle.cw_lex.specs.Lexing.{tokens_of}
-use Rattle.cw_lex.specs.declared.tokens.Mode.TheVariants as modes
+use Rattle.cw_rules.specs.declared.tokens.Mode.TheVariants as modes
 use Rattle.cw_names.specs.Names.{Entry}
 use Rattle.cw_names.specs.Words.{built_in_words}
 use Rattle.cw_names.specs.declared.xrefs.Occurrence.{Occurrence}

@@ -1,7 +1,7 @@
 -- What the answers of a whole web leave.
 use Rattle.std.specs.Prelude.{◌≡◌, ℕ, ◌+◌, ◌<◌, ◌≤◌, List, [], ◌∷◌, Option, Some, None, All, length, slice_get}
 use Rattle.cw_base.specs.Web.{MergedLine, text_of}
-use Rattle.cw_lex.specs.Order.{Covers}
+use Rattle.cw_rules.specs.Order.{Covers}
 use Rattle.cw_secnames.specs.Kept.{SecName}
 use Rattle.cw_secnames.specs.References.{Reference, with_reference}
 use Rattle.cw_phase1.specs.declared.sections.Open.{Open}

@@ -2,7 +2,7 @@
 use Rattle.std.specs.Prelude.{ℕ, Bool, true, false, List, [], ◌∷◌, Option, Some, None}
 use Rattle.cw_base.specs.declared.notes.NoteKind.{NoteKind}
 use Rattle.cw_base.specs.declared.notes.NoteKind.TheVariants as notes
-use Rattle.cw_lex.specs.Answers.{Seen, Answer, Token, Begin, Finish, Note}
+use Rattle.cw_rules.specs.Answers.{Seen, Answer, Token, Begin, Finish, Note}
 use Rattle.cw_secnames.specs.declared.kinds.Entered.{Entered}
 use Rattle.cw_secnames.specs.declared.kinds.Entered.TheVariants.{Known, New, Ambiguous, Conflict}
 use Rattle.cw_secnames.specs.Kept.{SecName, Entering, enter, enter_prefix}

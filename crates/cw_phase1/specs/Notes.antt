@@ -5,7 +5,7 @@ use Rattle.cw_base.specs.declared.notes.Note.{Note}
 use Rattle.cw_base.specs.declared.notes.NoteKind.{NoteKind}
 use Rattle.cw_base.specs.declared.notes.NoteKind.TheVariants as kinds
 use Rattle.cw_base.specs.Web.{MergedLine}
-use Rattle.cw_lex.specs.Answers as lex
+use Rattle.cw_rules.specs.Answers as lex
 use Rattle.cw_secnames.specs.declared.kinds.SecKind.{SecKind}
 use Rattle.cw_secnames.specs.declared.kinds.SecKind.TheVariants.{Named}
 use Rattle.cw_secnames.specs.Kept.{SecName}

@@ -1,7 +1,7 @@
 -- The sections that came, and what one token more does to them.
 use Rattle.std.specs.Prelude.{ℕ, ◌++◌, Bool, true, false, List, [], ◌∷◌, Option, Some, None}
 use Rattle.cw_base.specs.Web.{MergedLine}
-use Rattle.cw_lex.specs.Answers.{Seen}
+use Rattle.cw_rules.specs.Answers.{Seen}
 use Rattle.cw_secnames.specs.declared.kinds.SecId.{SecId}
 use Rattle.cw_phase1.specs.declared.sections.Section.{Section}
 use Rattle.cw_phase1.specs.declared.sections.Sections.{Sections}

@@ -1,5 +1,5 @@
 -- Tokens in their places, in memory.
-use Rattle.cw_lex.specs.Answers.{seen}
+use Rattle.cw_rules.specs.Answers.{seen}
 use Rattle.cw_phase1.specs.declared.placing.Placed.{Placed as InMemory}
 use Rattle.cw_phase1.specs.Roles.{Placed}
 

@@ -1,6 +1,6 @@
 -- What holds of what is held: sections and names come in order, behind all that came before.
 use Rattle.std.specs.Prelude.{ℕ, ◌<◌, ◌^◌, List, [], Option, Some, None, All, IfSome, length}
-use Rattle.cw_lex.specs.Answers.{Seen}
+use Rattle.cw_rules.specs.Answers.{Seen}
 use Rattle.cw_secnames.specs.Uses.{NameUse}
 use Rattle.cw_phase1.specs.declared.held.Waiting.{Waiting as WaitingToken}
 use Rattle.cw_phase1.specs.Roles.{at_limbo}

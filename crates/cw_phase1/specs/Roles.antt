@@ -1,14 +1,14 @@
 -- What each token is in its web: its section, its part, its role there, and the name that is kept for it.
 use Rattle.std.specs.Prelude.{ℕ, ◌+◌, Bool, true, false, List, [], ◌∷◌, Option, Some, None}
 use Rattle.cw_base.specs.declared.span.Span.{Span}
-use Rattle.cw_lex.specs.declared.codes.Code.{Code}
-use Rattle.cw_lex.specs.declared.codes.Code.TheVariants as at
+use Rattle.cw_rules.specs.declared.codes.Code.{Code}
+use Rattle.cw_rules.specs.declared.codes.Code.TheVariants as at
 use Rattle.cw_lex.specs.declared.heads.Wanted.{Wanted}
 use Rattle.cw_lex.specs.declared.heads.Wanted.TheVariants as wants
-use Rattle.cw_lex.specs.declared.tokens.TokKind.{TokKind}
-use Rattle.cw_lex.specs.declared.tokens.TokKind.TheVariants as kinds
-use Rattle.cw_lex.specs.Answers.{Seen, Answer, Token, Begin, Finish, Note}
-use Rattle.cw_lex.specs.Heads.{head_behind, has_sign}
+use Rattle.cw_rules.specs.declared.tokens.TokKind.{TokKind}
+use Rattle.cw_rules.specs.declared.tokens.TokKind.TheVariants as kinds
+use Rattle.cw_rules.specs.Answers.{Seen, Answer, Token, Begin, Finish, Note, has_sign}
+use Rattle.cw_lex.specs.Heads.{head_behind}
 use Rattle.cw_names.specs.declared.entry.EntryKind.TheVariants.{Roman, Typewriter, User}
 use Rattle.cw_phase1.specs.declared.roles.Part.{Part}
 use Rattle.cw_phase1.specs.declared.roles.Part.TheVariants as parts

@@ -2,11 +2,11 @@
 use Rattle.std.specs.Prelude.{ℕ, ◌+◌, ◌==◌, ◌||◌, Bool, true, false, not, List, [], ◌∷◌, Option, None, length, drop, take_while}
 use Rattle.cw_base.specs.Web.{MergedLine}
 use Rattle.cw_base.specs.declared.span.Span.{Span}
-use Rattle.cw_lex.specs.declared.codes.Code.TheVariants as at
-use Rattle.cw_lex.specs.declared.tokens.TokKind.{TokKind}
-use Rattle.cw_lex.specs.declared.tokens.TokKind.TheVariants as kinds
-use Rattle.cw_lex.specs.Bytes.{star, begins, is_digit}
-use Rattle.cw_lex.specs.Answers.{Seen}
+use Rattle.cw_rules.specs.declared.codes.Code.TheVariants as at
+use Rattle.cw_rules.specs.declared.tokens.TokKind.{TokKind}
+use Rattle.cw_rules.specs.declared.tokens.TokKind.TheVariants as kinds
+use Rattle.cw_rules.specs.Bytes.{star, begins, is_digit}
+use Rattle.cw_rules.specs.Answers.{Seen}
 use Rattle.cw_secnames.specs.declared.kinds.SecId.{SecId}
 use Rattle.cw_phase1.specs.declared.roles.Role.{Role}
 use Rattle.cw_phase1.specs.declared.roles.Role.TheVariants as roles

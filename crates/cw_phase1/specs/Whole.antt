@@ -2,8 +2,8 @@
 use Rattle.std.specs.Prelude.{◌≡◌, ℕ, false, List, All, length}
 use Rattle.cw_base.specs.Web.{MergedLine, text_of}
 use Rattle.cw_base.specs.declared.span.Span.{Span}
-use Rattle.cw_lex.specs.declared.tokens.Mode.{Mode}
-use Rattle.cw_lex.specs.declared.tokens.Mode.TheVariants as modes
+use Rattle.cw_rules.specs.declared.tokens.Mode.{Mode}
+use Rattle.cw_rules.specs.declared.tokens.Mode.TheVariants as modes
 use Rattle.cw_lex.specs.Lexing.{tokens_of}
 use Rattle.cw_lex.specs.Nested.{begins_section_in}
 use Rattle.cw_lex.specs.Openings.{opens_part_in}

@@ -1,7 +1,7 @@
 //! What is held behind the answers of the scanner that came.
 ghost use Rattle.std.specs.Prelude.{◌≡◌, ◌+◌, ◌<◌, ◌≤◌, true, false, None, [], IfOk, OnOk, length};
-ghost use Rattle.cw_lex.specs.Answers.{seen, Token, Note as NoteAnswer};
-ghost use Rattle.cw_lex.specs.Heads.{is_head_sign};
+ghost use Rattle.cw_rules.specs.Answers.{seen, Token, Note as NoteAnswer};
+ghost use Rattle.cw_rules.specs.Answers.{is_head_sign};
 ghost use Rattle.cw_phase1.specs.Entering.{is_unended, note_on};
 ghost use Rattle.cw_phase1.specs.Holding.{
   begun_held,

@@ -1,6 +1,6 @@
 //! Notes in a row.
 ghost use Rattle.std.specs.Prelude.{◌≡◌, [], ◌∷◌, ◌++◌, OnOk};
-ghost use Rattle.cw_lex.specs.Answers.{Note as NoteAnswer};
+ghost use Rattle.cw_rules.specs.Answers.{Note as NoteAnswer};
 ghost use Rattle.cw_phase1.specs.Notes.{scanned_note};
 
 use crate::places::place_of;

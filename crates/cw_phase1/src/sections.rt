@@ -1,7 +1,7 @@
 //! The sections of a web: their heads, and the spans of their parts.
 ghost use Rattle.std.specs.Prelude.{◌≡◌, ◌+◌, ◌^◌, ◌<◌, ◌≤◌, [], ◌∷◌, ◌++◌, List, None, length, drop, take_while, OnOk};
-ghost use Rattle.cw_lex.specs.Answers.{seen};
-ghost use Rattle.cw_lex.specs.Bytes.{is_digit};
+ghost use Rattle.cw_rules.specs.Answers.{seen};
+ghost use Rattle.cw_rules.specs.Bytes.{is_digit};
 ghost use Rattle.cw_phase1.specs.Placing.{placed_of};
 ghost use Rattle.cw_phase1.specs.Sections.{depth_at, ends_definitions, ends_tex, is_section_code, is_starred};
 ghost use Rattle.cw_phase1.specs.Outlining.{closed_at, closing, opened, or_else, or_here, section_told, with_token};

@@ -1,6 +1,6 @@
 //! The texts of index entries and of section names.
 ghost use Rattle.std.specs.Prelude.{◌≡◌, ◌<◌, ◌≤◌, ◌∷◌, ◌++◌, ℕ, List, [], true, drop, length, MatchOption, OnOk};
-ghost use Rattle.cw_lex.specs.Names.{uncoded};
+ghost use Rattle.cw_rules.specs.Names.{uncoded};
 ghost use Rattle.cw_phase1.specs.Texts.{
   byte_of,
   control_text,

@@ -1,8 +1,8 @@
 -- What each kind of token prints, on worked texts.
 use Rattle.std.proofs.Common.{◌≡◌, [], codes, refl}
-use Rattle.cw_lex.specs.declared.codes.Code.TheVariants as code
-use Rattle.cw_lex.specs.declared.signs.Sign.TheVariants as sign
-use Rattle.cw_lex.specs.declared.tokens.TokKind.TheVariants as kind
+use Rattle.cw_rules.specs.declared.codes.Code.TheVariants as code
+use Rattle.cw_rules.specs.declared.signs.Sign.TheVariants as sign
+use Rattle.cw_rules.specs.declared.tokens.TokKind.TheVariants as kind
 use Rattle.cw_print.specs.Comments.{piece, prints, closing_braces}
 use Rattle.cw_print.specs.Tokens.{token_bytes, sign_macro}
 

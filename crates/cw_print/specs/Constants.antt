@@ -1,6 +1,6 @@
 -- What a constant prints.
 use Rattle.std.specs.Prelude.{ℕ, ◌-◌, ◌||◌, ◌==◌, nat_le, Bool, true, false, List, [], ◌∷◌}
-use Rattle.cw_lex.specs.Bytes.{is_digit, is_hex_digit}
+use Rattle.cw_rules.specs.Bytes.{is_digit, is_hex_digit}
 
 -- `\$` and its upper case letter for each letter behind the number
 abbrev pub upper : ℕ → ℕ

@@ -1,6 +1,6 @@
 -- The token of a number among the scanner's answers.
 use Rattle.std.specs.Prelude.{◌≡◌, ℕ, ◌≤◌, ◌<◌, ◌^◌, ◌==◌, true, false, List, [], ◌∷◌, Option, Some, None}
-use Rattle.cw_lex.specs.Answers.{Answer, Token, Begin, Finish, Note, Seen}
+use Rattle.cw_rules.specs.Answers.{Answer, Token, Begin, Finish, Note, Seen}
 
 -- A token's number is the place of its first byte; a comment has that of its beginning.
 abbrev pub numbered : ℕ → List Answer → Option Seen

@@ -1,6 +1,6 @@
 -- The pieces of a section name that are still to come.
 use Rattle.std.specs.Prelude.{ℕ, List, [], Option, Some, None}
-use Rattle.cw_lex.specs.Answers.{Answer}
+use Rattle.cw_rules.specs.Answers.{Answer}
 use Rattle.cw_secnames.specs.Parts.{parts_at}
 use Rattle.cw_print.specs.Walk.{InName, NamePiece, pieces_between}
 

@@ -1,8 +1,8 @@
 -- What a token prints where comments are open. How many braces are open in each is listed, the innermost comment first.
 use Rattle.std.specs.Prelude.{ℕ, Bool, true, false, List, [], ◌∷◌, Option, Some, None, codes}
-use Rattle.cw_lex.specs.Answers.{Seen}
-use Rattle.cw_lex.specs.declared.tokens.TokKind.{TokKind}
-use Rattle.cw_lex.specs.declared.tokens.TokKind.TheVariants as kind
+use Rattle.cw_rules.specs.Answers.{Seen}
+use Rattle.cw_rules.specs.declared.tokens.TokKind.{TokKind}
+use Rattle.cw_rules.specs.declared.tokens.TokKind.TheVariants as kind
 use Rattle.cw_print.specs.Comments.{Piece, piece}
 use Rattle.cw_print.specs.Tokens.{token_bytes}
 

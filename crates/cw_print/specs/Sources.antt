@@ -2,7 +2,7 @@
 use Rattle.std.specs.Prelude.{ℕ, ◌-◌, ◌==◌, Bool, true, false, List, [], ◌∷◌, Option, Some, None, option_map, slice_get, unwrap_or}
 use Rattle.cw_base.specs.declared.span.Span.{Span}
 use Rattle.cw_lex.specs.Lexing.{tokens_of}
-use Rattle.cw_lex.specs.declared.tokens.Mode.{Mode}
+use Rattle.cw_rules.specs.declared.tokens.Mode.{Mode}
 use Rattle.cw_phase1.specs.declared.book.Book.{Book}
 use Rattle.cw_phase1.specs.declared.sections.Section.{Section}
 use Rattle.cw_secnames.specs.Kept.{SecName}

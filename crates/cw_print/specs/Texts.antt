@@ -1,6 +1,6 @@
 -- The bytes that strings, include names and control texts say.
 use Rattle.std.specs.Prelude.{ℕ, ◌&&◌, ◌==◌, Bool, true, false, List, [], ◌∷◌, drop}
-use Rattle.cw_lex.specs.Bytes.{begins}
+use Rattle.cw_rules.specs.Bytes.{begins}
 
 -- In a string `@@` is one `@`, and a backslash and a line's end print nothing. Any other byte behind a backslash is taken
 -- along with it.

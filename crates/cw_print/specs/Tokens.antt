@@ -1,12 +1,12 @@
 -- What a token of C text prints, by its kind and its bytes.
 use Rattle.std.specs.Prelude.{ℕ, List, [], ◌++◌, codes, drop}
-use Rattle.cw_lex.specs.declared.codes.Code.{Code}
-use Rattle.cw_lex.specs.declared.codes.Code.TheVariants as code
-use Rattle.cw_lex.specs.declared.signs.Sign.{Sign}
-use Rattle.cw_lex.specs.declared.signs.Sign.TheVariants as sign
-use Rattle.cw_lex.specs.declared.tokens.TokKind.{TokKind}
-use Rattle.cw_lex.specs.declared.tokens.TokKind.TheVariants as kind
-use Rattle.cw_lex.specs.Signs.{spelling}
+use Rattle.cw_rules.specs.declared.codes.Code.{Code}
+use Rattle.cw_rules.specs.declared.codes.Code.TheVariants as code
+use Rattle.cw_rules.specs.declared.signs.Sign.{Sign}
+use Rattle.cw_rules.specs.declared.signs.Sign.TheVariants as sign
+use Rattle.cw_rules.specs.declared.tokens.TokKind.{TokKind}
+use Rattle.cw_rules.specs.declared.tokens.TokKind.TheVariants as kind
+use Rattle.cw_rules.specs.Signs.{spelling}
 use Rattle.cw_print.specs.Escaping.{escaped, braced, typewriter}
 use Rattle.cw_print.specs.Constants.{constant}
 use Rattle.cw_print.specs.Texts.{string, include_name, control_text}

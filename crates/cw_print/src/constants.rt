@@ -1,6 +1,6 @@
 //! The bytes of constants.
 ghost use Rattle.std.specs.Prelude.{◌≡◌, ◌++◌, ◌∷◌, OnOk};
-ghost use Rattle.cw_lex.specs.Bytes.{is_hex_digit};
+ghost use Rattle.cw_rules.specs.Bytes.{is_hex_digit};
 ghost use Rattle.cw_print.specs.Constants.{upper, suffix, is_exponent_byte, exponent, behind_mantissa};
 ghost use Rattle.cw_print.specs.Constants.{is_mantissa_byte, mantissa, hex_digits, behind_zero, constant};
 

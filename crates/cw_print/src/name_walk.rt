@@ -1,6 +1,6 @@
 //! The text of a section name, piece by piece, and the tokens of its inner texts.
 ghost use Rattle.std.specs.Prelude.{◌≡◌, ◌++◌, IfOk, OnOk, option_map};
-ghost use Rattle.cw_lex.specs.Answers.{seen};
+ghost use Rattle.cw_rules.specs.Answers.{seen};
 ghost use Rattle.cw_print.specs.Found.{numbered};
 ghost use Rattle.cw_print.specs.Titles.{title_of};
 ghost use Rattle.cw_print.specs.Walk.{behind_next, front, name_pieces, next_bytes};

@@ -1,6 +1,6 @@
 //! The second scan of a C text, in which tokens are found by their numbers.
 ghost use Rattle.std.specs.Prelude.{◌≡◌, ◌≤◌, ◌<◌, ◌^◌, List, length, option_map};
-ghost use Rattle.cw_lex.specs.Answers.{Answer, seen};
+ghost use Rattle.cw_rules.specs.Answers.{Answer, seen};
 ghost use Rattle.cw_lex.specs.Lexing.{tokens_of};
 ghost use Rattle.cw_lex.specs.Nested.{is_section_kind, until_section};
 ghost use Rattle.cw_print.specs.Found.{numbered, IsAhead};
@@ -24,7 +24,7 @@ pub(crate) struct Scan<'a> {
 
 impl<'a> Model for Scan<'a> {
     ghost use Rattle.std.specs.Prelude.{List};
-    ghost use Rattle.cw_lex.specs.Answers.{Answer};
+    ghost use Rattle.cw_rules.specs.Answers.{Answer};
     ghost use Rattle.cw_lex.specs.Lexing.{tokens_of};
     ghost use Rattle.cw_lex.specs.Nested.{until_section};
     ghost use Rattle.cw_print.specs.Found.{IsAhead};

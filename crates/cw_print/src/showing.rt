@@ -1,6 +1,6 @@
 //! What a token prints where comments are open.
 ghost use Rattle.std.specs.Prelude.{◌≡◌, ◌++◌, OnOk, option_map};
-ghost use Rattle.cw_lex.specs.Answers.{seen};
+ghost use Rattle.cw_rules.specs.Answers.{seen};
 ghost use Rattle.cw_print.specs.Showing.{found, head_sign, token_shown};
 
 use crate::braces::OpenBraces;

@@ -1,6 +1,6 @@
 //! The walk over the items of a C text, which makes the bytes that they print by where they stand.
 ghost use Rattle.std.specs.Prelude.{◌≡◌, ◌≤◌, ◌++◌, None, OnOk, length, option_map};
-ghost use Rattle.cw_lex.specs.Answers.{seen};
+ghost use Rattle.cw_rules.specs.Answers.{seen};
 ghost use Rattle.cw_lex.specs.Lexing.{tokens_of};
 ghost use Rattle.cw_lex.specs.Nested.{until_section};
 ghost use Rattle.cw_tokens.specs.FlatItems.{item_is};

@@ -6,14 +6,14 @@ use Rattle.std.specs.List.{All}
 use Rattle.std.proofs.lemmas.List.{append-nil, append_assoc}
 use Rattle.std.proofs.lemmas.List.Elements.{All-cons}
 use Rattle.cw_base.specs.declared.flags.Flags.{Flags}
-use Rattle.cw_lex.specs.Answers.{Answer, Seen, Token, Begin, Finish, Note, Gives, seen}
+use Rattle.cw_rules.specs.Answers.{Answer, Seen, Token, Begin, Finish, Note, Gives, seen}
 use Rattle.cw_lex.specs.Nested.{is_section_kind, is_section_answer, until_section}
-use Rattle.cw_lex.specs.Order.{AreWithin}
-use Rattle.cw_lex.specs.declared.codes.Code.{Code}
-use Rattle.cw_lex.specs.declared.tokens.Lexed.{Lexed}
-use Rattle.cw_lex.specs.declared.tokens.Lexed.TheVariants as lexed
-use Rattle.cw_lex.specs.declared.tokens.TokKind.{TokKind}
-use Rattle.cw_lex.specs.declared.tokens.TokKind.TheVariants as kind
+use Rattle.cw_rules.specs.Order.{AreWithin}
+use Rattle.cw_rules.specs.declared.codes.Code.{Code}
+use Rattle.cw_rules.specs.declared.tokens.Lexed.{Lexed}
+use Rattle.cw_rules.specs.declared.tokens.Lexed.TheVariants as lexed
+use Rattle.cw_rules.specs.declared.tokens.TokKind.{TokKind}
+use Rattle.cw_rules.specs.declared.tokens.TokKind.TheVariants as kind
 use Rattle.cw_names.specs.Names.{Entry}
 use Rattle.cw_table.specs.Normal.{count}
 use Rattle.cw_table.specs.Productions.{productions}

@@ -3,13 +3,13 @@ use Rattle.std.proofs.Common.{◌≡◌, ℕ, ◌+◌, ◌<◌, ◌≤◌, ◌^�
 use Rattle.std.specs.List.{list_all}
 use Rattle.std.proofs.lemmas.List.{append_assoc, append-nil}
 use Rattle.cw_base.specs.declared.span.Span.{Span}
-use Rattle.cw_lex.specs.Answers.{Answer, Token, Begin, Finish, Note, Seen, seen, Gives}
+use Rattle.cw_rules.specs.Answers.{Answer, Token, Begin, Finish, Note, Seen, seen, Gives}
 use Rattle.cw_lex.specs.declared.heads.Wanted.{Wanted}
-use Rattle.cw_lex.specs.declared.tokens.Lexed.{Lexed}
-use Rattle.cw_lex.specs.declared.tokens.Lexed.TheVariants as lexed
-use Rattle.cw_lex.specs.declared.tokens.Tok.{Tok}
-use Rattle.cw_lex.specs.declared.tokens.TokKind.{TokKind}
-use Rattle.cw_lex.specs.declared.tokens.TokKind.TheVariants as kind
+use Rattle.cw_rules.specs.declared.tokens.Lexed.{Lexed}
+use Rattle.cw_rules.specs.declared.tokens.Lexed.TheVariants as lexed
+use Rattle.cw_rules.specs.declared.tokens.Tok.{Tok}
+use Rattle.cw_rules.specs.declared.tokens.TokKind.{TokKind}
+use Rattle.cw_rules.specs.declared.tokens.TokKind.TheVariants as kind
 use Rattle.cw_lex.specs.Heads.{Words, no_word, word_before, head_behind, head_words, without_words}
 use Rattle.cw_lex.specs.Nest.{Nest, Leaf, group, nests, first_nest, nest}
 use Rattle.cw_lex.specs.Nested.{IsNested}

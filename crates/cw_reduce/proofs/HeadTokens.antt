@@ -9,9 +9,9 @@ use Rattle.cw_base.proofs.TestLaws.{both-left, both-right}
 use Rattle.cw_base.specs.declared.category.Cat.{Cat}
 use Rattle.cw_base.specs.declared.category.Cat.TheVariants.{Exp}
 use Rattle.cw_base.specs.declared.mode.MathMode.TheVariants.{Text}
-use Rattle.cw_lex.specs.Answers.{Seen}
-use Rattle.cw_lex.specs.declared.tokens.TokKind.{TokKind}
-use Rattle.cw_lex.specs.declared.tokens.TokKind.TheVariants as kind
+use Rattle.cw_rules.specs.Answers.{Seen}
+use Rattle.cw_rules.specs.declared.tokens.TokKind.{TokKind}
+use Rattle.cw_rules.specs.declared.tokens.TokKind.TheVariants as kind
 use Rattle.cw_names.specs.declared.NameId.{NameId}
 use Rattle.cw_names.specs.Names.{Entry, is_entry, place_of, with_entry}
 use Rattle.cw_names.specs.declared.entry.EntryKind.TheVariants.{Ident as ident_kind}

@@ -7,10 +7,10 @@ use Rattle.cw_base.specs.declared.category.Cat.TheVariants.{Exp, Dead}
 use Rattle.cw_base.specs.declared.flags.Flags.{Flags}
 use Rattle.cw_base.specs.declared.mode.MathMode.TheVariants.{Text}
 use Rattle.cw_base.specs.declared.span.Span.{Span}
-use Rattle.cw_lex.specs.Answers.{Answer, Seen}
-use Rattle.cw_lex.specs.declared.codes.Code.TheVariants as code
-use Rattle.cw_lex.specs.declared.tokens.TokKind.{TokKind}
-use Rattle.cw_lex.specs.declared.tokens.TokKind.TheVariants as kind
+use Rattle.cw_rules.specs.Answers.{Answer, Seen, is_head_sign}
+use Rattle.cw_rules.specs.declared.codes.Code.TheVariants as code
+use Rattle.cw_rules.specs.declared.tokens.TokKind.{TokKind}
+use Rattle.cw_rules.specs.declared.tokens.TokKind.TheVariants as kind
 use Rattle.cw_lex.specs.Nested.{IsNested}
 use Rattle.cw_names.specs.declared.NameId.{NameId}
 use Rattle.cw_names.specs.Names.{Entry}
@@ -23,7 +23,7 @@ use Rattle.cw_tokens.specs.Shapes.{tree_in}
 use Rattle.cw_scraps.specs.Leaves.{token_form, word_form}
 use Rattle.cw_reduce.specs.Visible.{number_if}
 use Rattle.cw_lex.specs.Nest.{Nest, End, Leaf, Group, nest}
-use Rattle.cw_lex.specs.Heads.{Head, Headless, Macro, Format, Silent, Named, Headed, headed, headed_by, headless, named_headed, Words, no_word, word_before, head_behind, head_words, is_head_sign}
+use Rattle.cw_lex.specs.Heads.{Head, Headless, Macro, Format, Silent, Named, Headed, headed, headed_by, headless, named_headed, Words, no_word, word_before, head_behind, head_words}
 use Rattle.cw_lex.specs.declared.heads.Wanted.{Wanted}
 use Rattle.cw_lex.specs.declared.heads.Wanted.TheVariants as wants
 use Rattle.cw_reduce.specs.Visible.{starts, shown_in, shown_head, shown}

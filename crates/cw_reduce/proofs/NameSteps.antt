@@ -6,15 +6,15 @@ use Rattle.std.proofs.lemmas.List.Elements.{All-cons, All-head, All-tail}
 use Rattle.std.proofs.lemmas.Option.{get_or_from_slice_get, slice_get_within}
 use Rattle.cw_base.specs.declared.flags.Flags.{Flags}
 use Rattle.cw_base.specs.declared.span.Span.{Span}
-use Rattle.cw_lex.specs.Answers.{Answer, Seen, Token, Begin, Finish, Note, Gives}
+use Rattle.cw_rules.specs.Answers.{Answer, Seen, Token, Begin, Finish, Note, Gives}
 use Rattle.cw_lex.specs.Lexing.{tokens_of}
 use Rattle.cw_lex.specs.Nested.{until_section}
-use Rattle.cw_lex.specs.declared.codes.Code.TheVariants as code
-use Rattle.cw_lex.specs.declared.tokens.Lexed.{Lexed}
-use Rattle.cw_lex.specs.declared.tokens.Lexed.TheVariants as lexed
-use Rattle.cw_lex.specs.declared.tokens.Mode.TheVariants.{Inner as inner_mode}
-use Rattle.cw_lex.specs.declared.tokens.TokKind.{TokKind}
-use Rattle.cw_lex.specs.declared.tokens.TokKind.TheVariants as kind
+use Rattle.cw_rules.specs.declared.codes.Code.TheVariants as code
+use Rattle.cw_rules.specs.declared.tokens.Lexed.{Lexed}
+use Rattle.cw_rules.specs.declared.tokens.Lexed.TheVariants as lexed
+use Rattle.cw_rules.specs.declared.tokens.Mode.TheVariants.{Inner as inner_mode}
+use Rattle.cw_rules.specs.declared.tokens.TokKind.{TokKind}
+use Rattle.cw_rules.specs.declared.tokens.TokKind.TheVariants as kind
 use Rattle.cw_names.specs.Names.{Entry}
 use Rattle.cw_secnames.specs.Kept.{SecName, shown, id as id_of}
 use Rattle.cw_secnames.specs.Parts.{parts_at, IsNextPart}

@@ -1,8 +1,8 @@
 -- Nested answers make as many nests as texts are open.
 use Rattle.std.proofs.Common.{◌≡◌, Option, Some, None, List, [], ◌∷◌, refl, sym, ◌∙◌, ap}
-use Rattle.cw_lex.specs.Answers.{Answer, Token, Begin, Finish, Note, Seen}
-use Rattle.cw_lex.specs.declared.tokens.TokKind.{TokKind}
-use Rattle.cw_lex.specs.declared.tokens.TokKind.TheVariants as kind
+use Rattle.cw_rules.specs.Answers.{Answer, Token, Begin, Finish, Note, Seen}
+use Rattle.cw_rules.specs.declared.tokens.TokKind.{TokKind}
+use Rattle.cw_rules.specs.declared.tokens.TokKind.TheVariants as kind
 use Rattle.cw_lex.specs.Nested.{Level, InCode, InComment, after_token as level_token, after_begin as level_begin, after_finish as level_finish, levels_after, all_levels_after}
 use Rattle.cw_lex.specs.Nest.{Nest, End, leaf, group, nests}
 

@@ -3,8 +3,8 @@ use Rattle.std.proofs.Common.{◌≡◌, ℕ, Bool, false, true, List, [], ◌�
 use Rattle.cw_base.specs.Flags.{start_flags}
 use Rattle.cw_base.specs.declared.category.Cat.TheVariants as cat
 use Rattle.cw_base.specs.declared.mode.MathMode.TheVariants.{Text}
-use Rattle.cw_lex.specs.declared.tokens.Mode.TheVariants.{CPart, Definition, Inner as InnerMode}
-use Rattle.cw_lex.specs.Answers.{Answer}
+use Rattle.cw_rules.specs.declared.tokens.Mode.TheVariants.{CPart, Definition, Inner as InnerMode}
+use Rattle.cw_rules.specs.Answers.{Answer}
 use Rattle.cw_lex.specs.Lexing.{tokens_of}
 use Rattle.cw_names.specs.Names.{Entry}
 use Rattle.cw_names.specs.Words.{built_in_words}

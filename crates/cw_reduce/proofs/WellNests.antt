@@ -1,8 +1,8 @@
 -- The nest of nested answers has pieces of text in comments alone, comments in C text, and inner texts in comments.
 use Rattle.std.proofs.Common.{◌≡◌, Bool, true, false, not, subst, Some, List, [], ◌∷◌, refl, sym, ap}
-use Rattle.cw_lex.specs.Answers.{Answer, Token, Begin, Finish, Note, Seen}
-use Rattle.cw_lex.specs.declared.tokens.TokKind.{TokKind}
-use Rattle.cw_lex.specs.declared.tokens.TokKind.TheVariants as kind
+use Rattle.cw_rules.specs.Answers.{Answer, Token, Begin, Finish, Note, Seen}
+use Rattle.cw_rules.specs.declared.tokens.TokKind.{TokKind}
+use Rattle.cw_rules.specs.declared.tokens.TokKind.TheVariants as kind
 use Rattle.cw_lex.specs.Nested.{Level, InCode, InComment, after_token as level_token, after_begin as level_begin, after_finish as level_finish, levels_after, all_levels_after, IsNested}
 use Rattle.cw_lex.specs.Nest.{Nest, End, leaf, group, nests, first_nest, nest}
 use Rattle.cw_reduce.proofs.NestSizes.{some-levels, first-levels}

@@ -3,13 +3,13 @@ use Rattle.std.specs.Prelude.{◌≡◌, ℕ, Bool, true, false, List, [], ◌�
 use Rattle.cw_base.specs.declared.category.Cat.TheVariants as cat
 use Rattle.cw_base.specs.declared.flags.Flags.{Flags}
 use Rattle.cw_base.specs.declared.mode.MathMode.TheVariants.{Text}
-use Rattle.cw_lex.specs.Answers.{Answer, Token, Begin, Finish, Note, Seen, seen}
-use Rattle.cw_lex.specs.declared.codes.Code.TheVariants as code
+use Rattle.cw_rules.specs.Answers.{Answer, Token, Begin, Finish, Note, Seen, seen}
+use Rattle.cw_rules.specs.declared.codes.Code.TheVariants as code
 use Rattle.cw_lex.specs.declared.heads.Wanted.{Wanted}
 use Rattle.cw_lex.specs.declared.heads.Wanted.TheVariants as wants
-use Rattle.cw_lex.specs.declared.tokens.Tok.{Tok}
-use Rattle.cw_lex.specs.declared.tokens.TokKind.{TokKind}
-use Rattle.cw_lex.specs.declared.tokens.TokKind.TheVariants as kind
+use Rattle.cw_rules.specs.declared.tokens.Tok.{Tok}
+use Rattle.cw_rules.specs.declared.tokens.TokKind.{TokKind}
+use Rattle.cw_rules.specs.declared.tokens.TokKind.TheVariants as kind
 use Rattle.cw_lex.specs.Heads.{Head, Headless, Macro, Format, Silent, Named, head_behind}
 use Rattle.cw_names.specs.Names.{Entry}
 use Rattle.cw_trees.specs.declared.Control.TheVariants as control

@@ -1,7 +1,7 @@
 -- A text with its head, where the head was read from the scanner's answers.
 use Rattle.std.specs.Prelude.{◌≡◌, ℕ, List, [], ◌∷◌, Option, Some, None}
 use Rattle.cw_base.specs.declared.flags.Flags.{Flags}
-use Rattle.cw_lex.specs.Answers.{Answer}
+use Rattle.cw_rules.specs.Answers.{Answer}
 use Rattle.cw_lex.specs.Heads.{headed}
 use Rattle.cw_lex.specs.Nest.{nest}
 use Rattle.cw_names.specs.Names.{Entry}

@@ -1,12 +1,12 @@
 -- The answers over a text, in which section names have the answers of their inner texts.
 use Rattle.std.specs.Prelude.{Bool, true, false, List, [], ◌∷◌, ◌++◌, Option, Some, None}
-use Rattle.cw_lex.specs.Answers.{Answer, Token, Begin, Finish, Note, Seen}
+use Rattle.cw_rules.specs.Answers.{Answer, Token, Begin, Finish, Note, Seen}
 use Rattle.cw_lex.specs.Nested.{is_section_kind}
-use Rattle.cw_lex.specs.declared.codes.Code.TheVariants as code
-use Rattle.cw_lex.specs.declared.tokens.Lexed.{Lexed}
-use Rattle.cw_lex.specs.declared.tokens.Lexed.TheVariants as lexed
-use Rattle.cw_lex.specs.declared.tokens.TokKind.{TokKind}
-use Rattle.cw_lex.specs.declared.tokens.TokKind.TheVariants as kind
+use Rattle.cw_rules.specs.declared.codes.Code.TheVariants as code
+use Rattle.cw_rules.specs.declared.tokens.Lexed.{Lexed}
+use Rattle.cw_rules.specs.declared.tokens.Lexed.TheVariants as lexed
+use Rattle.cw_rules.specs.declared.tokens.TokKind.{TokKind}
+use Rattle.cw_rules.specs.declared.tokens.TokKind.TheVariants as kind
 use Rattle.cw_reduce.specs.Translating.{NameTexts}
 
 -- An inner text of a name begins and ends like one of a comment.

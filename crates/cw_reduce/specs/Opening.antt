@@ -1,11 +1,11 @@
 -- What is open while a C text is read, over the store in which its translation is built.
 use Rattle.std.specs.Prelude.{◌≡◌, ℕ, ◌+◌, ◌*◌, ◌<◌, ◌≤◌, true, List, [], ◌∷◌, ◌++◌, length, map, All, None}
 use Rattle.std.specs.List.{list_all}
-use Rattle.cw_lex.specs.declared.tokens.TokKind.{TokKind}
-use Rattle.cw_lex.specs.declared.tokens.TokKind.TheVariants as kind
-use Rattle.cw_lex.specs.Answers.{Answer, Token, Begin, Finish, Note, seen}
-use Rattle.cw_lex.specs.declared.tokens.Lexed.{Lexed}
-use Rattle.cw_lex.specs.declared.tokens.Lexed.TheVariants as lexed
+use Rattle.cw_rules.specs.declared.tokens.TokKind.{TokKind}
+use Rattle.cw_rules.specs.declared.tokens.TokKind.TheVariants as kind
+use Rattle.cw_rules.specs.Answers.{Answer, Token, Begin, Finish, Note, seen}
+use Rattle.cw_rules.specs.declared.tokens.Lexed.{Lexed}
+use Rattle.cw_rules.specs.declared.tokens.Lexed.TheVariants as lexed
 use Rattle.cw_base.specs.declared.flags.Flags.{Flags}
 use Rattle.cw_names.specs.Names.{Entry}
 use Rattle.cw_trees.specs.Joining.{Scrap, scrap_agrees}

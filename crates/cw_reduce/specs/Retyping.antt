@@ -1,7 +1,7 @@
 -- The names as a translation leaves them that ends for want of memory.
 use Rattle.std.specs.Prelude.{◌≡◌, List, [], ◌∷◌, ◌++◌}
 use Rattle.cw_base.specs.declared.flags.Flags.{Flags}
-use Rattle.cw_lex.specs.Answers.{Answer, Seen, Finish}
+use Rattle.cw_rules.specs.Answers.{Answer, Seen, Finish}
 use Rattle.cw_names.specs.Names.{Entry}
 use Rattle.cw_trees.specs.Joining.{Scrap}
 use Rattle.cw_table.specs.Productions.{productions}

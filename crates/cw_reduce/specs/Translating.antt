@@ -6,10 +6,10 @@ use Rattle.cw_base.specs.declared.category.Cat.TheVariants as cat
 use Rattle.cw_base.specs.declared.flags.Flags.{Flags}
 use Rattle.cw_base.specs.declared.mode.MathMode.{MathMode}
 use Rattle.cw_base.specs.declared.mode.MathMode.TheVariants.{Text, Maybe}
-use Rattle.cw_lex.specs.Answers.{Answer, Seen}
-use Rattle.cw_lex.specs.declared.codes.Code.TheVariants as code
-use Rattle.cw_lex.specs.declared.tokens.TokKind.{TokKind}
-use Rattle.cw_lex.specs.declared.tokens.TokKind.TheVariants as kind
+use Rattle.cw_rules.specs.Answers.{Answer, Seen}
+use Rattle.cw_rules.specs.declared.codes.Code.TheVariants as code
+use Rattle.cw_rules.specs.declared.tokens.TokKind.{TokKind}
+use Rattle.cw_rules.specs.declared.tokens.TokKind.TheVariants as kind
 use Rattle.cw_lex.specs.Heads.{Head, Headless, Macro, Format, Silent, Named, Headed, headed}
 use Rattle.cw_lex.specs.Nest.{Nest, End, Leaf, Group, nest}
 use Rattle.cw_names.specs.Names.{Entry}

@@ -1,11 +1,11 @@
 -- The tokens of a text that its translation shows: all that make a scrap or stand in a comment, but for the codes
 -- that only lay out and the end of a `#` line.
 use Rattle.std.specs.Prelude.{ℕ, Bool, true, false, List, [], ◌∷◌, ◌++◌, map}
-use Rattle.cw_lex.specs.Answers.{Answer, Seen}
-use Rattle.cw_lex.specs.declared.codes.Code.{Code}
-use Rattle.cw_lex.specs.declared.codes.Code.TheVariants as code
-use Rattle.cw_lex.specs.declared.tokens.TokKind.{TokKind}
-use Rattle.cw_lex.specs.declared.tokens.TokKind.TheVariants as kind
+use Rattle.cw_rules.specs.Answers.{Answer, Seen}
+use Rattle.cw_rules.specs.declared.codes.Code.{Code}
+use Rattle.cw_rules.specs.declared.codes.Code.TheVariants as code
+use Rattle.cw_rules.specs.declared.tokens.TokKind.{TokKind}
+use Rattle.cw_rules.specs.declared.tokens.TokKind.TheVariants as kind
 use Rattle.cw_lex.specs.Heads.{Head, Headless, Macro, Format, Silent, Named, Headed, headed}
 use Rattle.cw_lex.specs.Nest.{Nest, End, Leaf, Group, nest}
 

@@ -2,8 +2,9 @@
 ghost use Rattle.std.specs.Prelude.{◌≡◌, ℕ, ◌+◌, ◌^◌, ◌<◌, ◌≤◌, [], ◌∷◌, ◌++◌, length, true, option_map, IsSome, None};
 ghost use Rattle.std.specs.Prelude.{Some, IfOk, OnOk, OnErr};
 ghost use Rattle.cw_base.specs.declared.flags.Flags.{Flags};
-ghost use Rattle.cw_lex.specs.Answers.{Gives, Token as TokenAnswer, seen};
-ghost use Rattle.cw_lex.specs.Heads.{headed, headed_by, is_head_sign, named_headed, wanted_by, without_words};
+ghost use Rattle.cw_rules.specs.Answers.{Gives, Token as TokenAnswer, seen};
+ghost use Rattle.cw_lex.specs.Heads.{headed, headed_by, named_headed, wanted_by, without_words};
+ghost use Rattle.cw_rules.specs.Answers.{is_head_sign};
 ghost use Rattle.cw_lex.specs.Nest.{nest};
 ghost use Rattle.cw_lex.specs.Nested.{IsNested};
 ghost use Rattle.cw_scraps.specs.Changing.{Keeps};

@@ -1,6 +1,6 @@
 //! Which kinds of tokens make a scrap of their own.
 ghost use Rattle.std.specs.Prelude.{◌↔◌, IsTrue};
-ghost use Rattle.cw_lex.specs.declared.tokens.TokKind.TheVariants as kinds;
+ghost use Rattle.cw_rules.specs.declared.tokens.TokKind.TheVariants as kinds;
 ghost use Rattle.cw_scraps.specs.Leaves.{MakesLeaf};
 
 use cw_lex::{Code, TokKind};

@@ -7,7 +7,7 @@ ghost use Rattle.cw_table.specs.Rewriting.{State};
 ghost use Rattle.cw_table.specs.WalkCounts.{reservings, ticks};
 ghost use Rattle.cw_trees.specs.Joining.{whole};
 ghost use Rattle.cw_tokens.specs.Shapes.{unfolded};
-ghost use Rattle.cw_lex.specs.Answers.{Finish, Seen, seen};
+ghost use Rattle.cw_rules.specs.Answers.{Finish, Seen, seen};
 ghost use Rattle.cw_lex.specs.Lexing.{tokens_of};
 ghost use Rattle.cw_lex.specs.Nested.{begins_section_in, is_c_mode, until_section};
 ghost use Rattle.cw_scraps.specs.Applying.{state_of};

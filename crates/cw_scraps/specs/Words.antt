@@ -1,7 +1,7 @@
 -- The words of heads.
 use Rattle.std.specs.Prelude.{Bool, true, false}
-use Rattle.cw_lex.specs.declared.tokens.TokKind.{TokKind}
-use Rattle.cw_lex.specs.declared.tokens.TokKind.TheVariants as kind
+use Rattle.cw_rules.specs.declared.tokens.TokKind.{TokKind}
+use Rattle.cw_rules.specs.declared.tokens.TokKind.TheVariants as kind
 
 -- identifiers and signs
 abbrev pub is_word : TokKind → Bool

@@ -6,7 +6,7 @@ ghost use Rattle.std.specs.Option.{option_to_list};
 ghost use Rattle.cw_names.specs.Words.{hash_line_category};
 ghost use Rattle.cw_base.specs.declared.category.Cat.TheVariants as Cats;
 ghost use Rattle.cw_base.specs.declared.mode.MathMode.TheVariants as MathMode;
-ghost use Rattle.cw_lex.specs.declared.codes.Code.TheVariants as Code;
+ghost use Rattle.cw_rules.specs.declared.codes.Code.TheVariants as Code;
 ghost use Rattle.cw_tokens.specs.declared.token.Token.TheVariants as Token;
 ghost use Rattle.cw_scraps.specs.declared.line.LineEntry.{LineEntry};
 ghost use Rattle.cw_scraps.specs.Lines.{IsSoundLine};

@@ -7,9 +7,9 @@ use Rattle.cw_lines.specs.Line.{Line, LineState, fill, fill_by, fill_byte}
 use Rattle.cw_lines.specs.Writes.{HasPut, Puts}
 use Rattle.cw_lines.specs.WritesLaws.{puts-bytes, puts-none, puts-stop, puts-then}
 use Rattle.cw_lines.specs.declared.put_error.PutError.{PutError}
-use Rattle.cw_lex.specs.Answers.{Seen}
+use Rattle.cw_rules.specs.Answers.{Seen}
 use Rattle.cw_lex.specs.Nest.{is_text_kind}
-use Rattle.cw_lex.specs.declared.tokens.TokKind.{TokKind}
+use Rattle.cw_rules.specs.declared.tokens.TokKind.{TokKind}
 use Rattle.cw_texpart.specs.Inks.{Ink, Print, LineEnd, bytes_of, copied, end_if, ink_by, kind_inks, laid, prints, token_inks, token_inks_by}
 use Rattle.cw_texpart.specs.Laying.{held, held_behind, holds_bytes, inked}
 

@@ -8,7 +8,7 @@ use Rattle.std.proofs.lemmas.Result.{err_from_is_err_and}
 use Rattle.cw_base.specs.declared.flags.Flags.{Flags}
 use Rattle.cw_base.specs.declared.span.Span.{Span}
 use Rattle.cw_desk.specs.Told.{Told}
-use Rattle.cw_lex.specs.declared.tokens.Mode.TheVariants.{Inner}
+use Rattle.cw_rules.specs.declared.tokens.Mode.TheVariants.{Inner}
 use Rattle.cw_lines.specs.Line.{LineState, fill}
 use Rattle.cw_lines.specs.Writes.{HasPut, Puts}
 use Rattle.cw_lines.specs.WritesLaws.{adds-nothing, puts-bytes, puts-failed, puts-none, puts-stop, puts-then}

@@ -5,13 +5,12 @@ use Rattle.std.proofs.lemmas.List.{drop_all, length-take, take-take}
 use Rattle.std.proofs.lemmas.List.Elements.{All-nil, All-cons, All-weaker}
 use Rattle.cw_base.proofs.TestLaws.{one-failed-left, one-failed-right}
 use Rattle.cw_base.specs.declared.span.Span.{Span}
-use Rattle.cw_lex.specs.declared.codes.Code.{Code}
-use Rattle.cw_lex.specs.declared.codes.Code.TheVariants as at
-use Rattle.cw_lex.specs.declared.tokens.Mode.TheVariants as modes
-use Rattle.cw_lex.specs.declared.tokens.TokKind.{TokKind}
-use Rattle.cw_lex.specs.declared.tokens.TokKind.TheVariants as kinds
-use Rattle.cw_lex.specs.Answers.{Answer, Token, Begin, Finish, Note, Seen}
-use Rattle.cw_lex.specs.Heads.{has_sign}
+use Rattle.cw_rules.specs.declared.codes.Code.{Code}
+use Rattle.cw_rules.specs.declared.codes.Code.TheVariants as at
+use Rattle.cw_rules.specs.declared.tokens.Mode.TheVariants as modes
+use Rattle.cw_rules.specs.declared.tokens.TokKind.{TokKind}
+use Rattle.cw_rules.specs.declared.tokens.TokKind.TheVariants as kinds
+use Rattle.cw_rules.specs.Answers.{Answer, Token, Begin, Finish, Note, Seen, has_sign}
 use Rattle.cw_lex.specs.Lexing.{answers, answers_at, beginning, fresh_at, last_at, tokens_of}
 use Rattle.cw_lex.specs.Limbo.{is_name_kind}
 use Rattle.cw_lex.specs.Nested.{Level, InCode, InComment, after_token, after_begin, after_finish, levels_after, all_levels_after, is_section_kind, begins_section_in, CTextsAreNested}

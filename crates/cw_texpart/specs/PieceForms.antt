@@ -1,6 +1,6 @@
 -- Pieces of TeX parts, as they are handed on.
 use Rattle.std.specs.Prelude.{◌≡◌, List, [], ◌∷◌, Option, Some, None}
-use Rattle.cw_lex.specs.Answers.{seen}
+use Rattle.cw_rules.specs.Answers.{seen}
 use Rattle.cw_texpart.specs.declared.pieces.Piece.{Piece}
 use Rattle.cw_texpart.specs.declared.pieces.Piece.TheVariants as forms
 use Rattle.cw_texpart.specs.declared.pieces.Pieces.{Pieces}

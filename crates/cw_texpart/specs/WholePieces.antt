@@ -1,7 +1,7 @@
 -- The C texts in a TeX part are whole.
 use Rattle.std.specs.Prelude.{◌≡◌, ℕ, ◌≤◌, false, All, List, length}
 use Rattle.cw_base.specs.declared.span.Span.{Span}
-use Rattle.cw_lex.specs.declared.tokens.Mode.TheVariants as modes
+use Rattle.cw_rules.specs.declared.tokens.Mode.TheVariants as modes
 use Rattle.cw_lex.specs.Openings.{opens_part_in}
 use Rattle.cw_phase1.specs.declared.sections.Section.{Section}
 use Rattle.cw_phase1.specs.Whole.{IsWholeSection}

@@ -1,6 +1,6 @@
 //! What a token of limbo or of TeX text prints.
 ghost use Rattle.std.specs.Prelude.{◌≡◌};
-ghost use Rattle.cw_lex.specs.Answers.{seen};
+ghost use Rattle.cw_rules.specs.Answers.{seen};
 ghost use Rattle.cw_lex.specs.Nest.{is_text_kind};
 ghost use Rattle.cw_lines.specs.Writes.{CanWrite, Puts};
 ghost use Rattle.cw_texpart.specs.Inks.{kind_inks, prints, token_inks};

@@ -1,6 +1,6 @@
 //! The pieces of a TeX part: tokens that are copied, inner C texts, and section names that are cited.
 ghost use Rattle.std.specs.Prelude.{◌≡◌, ◌==◌, ◌-◌, ◌+◌, IfOk, OnOk};
-ghost use Rattle.cw_lex.specs.Answers.{seen};
+ghost use Rattle.cw_rules.specs.Answers.{seen};
 ghost use Rattle.cw_texpart.specs.PieceForms.{GivesPiece, piece_is, pieces_in};
 ghost use Rattle.cw_texpart.specs.TexParts.{outermost, pieces_of, token_piece};
 

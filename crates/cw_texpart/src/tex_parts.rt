@@ -1,8 +1,8 @@
 //! The head and the TeX part of a section.
 ghost use Rattle.std.specs.Prelude.{◌≡◌, ◌^◌, ◌-◌, ◌<◌, ◌≤◌, true, All, IfOk, Some, length, slice_get};
 ghost use Rattle.cw_base.specs.Web.{text_of};
-ghost use Rattle.cw_lex.specs.Answers.{seen};
-ghost use Rattle.cw_lex.specs.declared.tokens.Mode.TheVariants.{Inner};
+ghost use Rattle.cw_rules.specs.Answers.{seen};
+ghost use Rattle.cw_rules.specs.declared.tokens.Mode.TheVariants.{Inner};
 ghost use Rattle.cw_lines.specs.Writes.{CanWrite, Puts};
 ghost use Rattle.cw_phase1.specs.declared.sections.Section.{Section};
 ghost use Rattle.cw_reduce.specs.NameParts.{AreNamesOf};

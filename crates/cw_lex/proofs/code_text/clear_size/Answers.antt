@@ -1,8 +1,8 @@
 -- From each place before the next `>` or line's end the bytes run up to there, so the end is kept.
 use Rattle.std.proofs.Common.{arith, ap, ◌∙◌}
-use Rattle.cw_lex.specs.declared.classes.Class.TheVariants.{IncludeName}
-use Rattle.cw_lex.specs.Bytes.{run}
-use Rattle.cw_lex.proofs.Runs.{run-inside}
+use Rattle.cw_rules.specs.declared.classes.Class.TheVariants.{IncludeName}
+use Rattle.cw_rules.specs.Bytes.{run}
+use Rattle.cw_rules.proofs.Runs.{run-inside}
 use Rattle.cw_lex.proofs.code_text.clear_size.Goals as goal
 
 pub returns-clause-clear : goal.returns-clause-clear

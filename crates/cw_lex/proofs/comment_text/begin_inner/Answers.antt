@@ -1,9 +1,9 @@
 -- A bar in a comment's text is answered as the beginning of inner C text of that comment.
 use Rattle.std.proofs.Common.{ℕ, ◌+◌, List, true, drop, refl, sym, ap, ◌∙◌, arith}
 use Rattle.cw_lex.specs.declared.state.State.{State}
-use Rattle.cw_lex.specs.declared.tokens.TokKind.TheVariants as kinds
-use Rattle.cw_lex.specs.Answers.{Begin, token_of}
-use Rattle.cw_lex.specs.Coming.{bytes_at}
+use Rattle.cw_rules.specs.declared.tokens.TokKind.TheVariants as kinds
+use Rattle.cw_rules.specs.Answers.{Begin, token_of}
+use Rattle.cw_rules.specs.Cuttings.{bytes_at}
 use Rattle.cw_lex.proofs.Steps.{one-gives, token-here}
 use Rattle.cw_lex.proofs.States.{ready-top, top-within}
 use Rattle.cw_lex.proofs.comment_text.begin_inner.Goals as goal

@@ -1,10 +1,10 @@
 -- A bar finishes inner C text of a comment, whose own text goes on behind it.
 use Rattle.std.proofs.Common.{ℕ, ◌+◌, List, false, drop, sym, ap, ◌∙◌, arith}
 use Rattle.cw_lex.specs.declared.state.State.{State}
-use Rattle.cw_lex.specs.declared.tokens.TokKind.TheVariants as kinds
-use Rattle.cw_lex.specs.Answers.{Finish, token_of}
-use Rattle.cw_lex.specs.Tokens.{behind_inner}
-use Rattle.cw_lex.specs.Coming.{bytes_at}
+use Rattle.cw_rules.specs.declared.tokens.TokKind.TheVariants as kinds
+use Rattle.cw_rules.specs.Answers.{Finish, token_of}
+use Rattle.cw_rules.specs.Tokens.{behind_inner}
+use Rattle.cw_rules.specs.Cuttings.{bytes_at}
 use Rattle.cw_lex.proofs.Steps.{one-gives, token-here}
 use Rattle.cw_lex.proofs.States.{ready-top, top-within}
 use Rattle.cw_lex.proofs.comment_text.end_comment_inner.Goals as goal

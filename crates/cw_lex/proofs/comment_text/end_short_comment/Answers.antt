@@ -1,12 +1,12 @@
 -- A line's end finishes a short comment and isn't taken: what it ends around the comment comes next.
 use Rattle.std.proofs.Common.{ℕ, ◌≡◌, List, [], ◌∷◌, true, length, drop, refl, sym, ap, ◌∙◌, arith}
 use Rattle.cw_lex.specs.declared.state.State.{State}
-use Rattle.cw_lex.specs.Answers.{seen, before, Finish, note_answers, token_of}
-use Rattle.cw_lex.specs.Pending.{pending_notes}
+use Rattle.cw_rules.specs.Answers.{seen, before, Finish, note_answers, token_of}
+use Rattle.cw_rules.specs.Pending.{pending_notes}
 use Rattle.cw_lex.specs.Lexing.{last_at}
 use Rattle.cw_lex.proofs.Notes.{one-note, one-inside}
-use Rattle.cw_lex.specs.Tokens.{line_end}
-use Rattle.cw_lex.specs.Coming.{is_code, found_at}
+use Rattle.cw_rules.specs.Tokens.{line_end, is_code}
+use Rattle.cw_lex.specs.Coming.{found_at}
 use Rattle.cw_lex.proofs.Steps.{zero-gives}
 use Rattle.cw_lex.proofs.States.{ready-pop, top-nested}
 use Rattle.cw_lex.proofs.Lines.{found-newline}

@@ -1,11 +1,11 @@
 -- A bar finishes inner C text of TeX text, which goes on behind it.
 use Rattle.std.proofs.Common.{ℕ, ◌+◌, List, sym, ap, ◌∙◌, arith}
-use Rattle.cw_lex.specs.declared.parts.Part.TheVariants as parts
+use Rattle.cw_rules.specs.declared.parts.Part.TheVariants as parts
 use Rattle.cw_lex.specs.declared.state.State.{State}
-use Rattle.cw_lex.specs.declared.tokens.TokKind.TheVariants as kinds
-use Rattle.cw_lex.specs.Answers.{Finish, token_of}
-use Rattle.cw_lex.specs.Tokens.{behind_inner}
-use Rattle.cw_lex.specs.Coming.{bytes_at}
+use Rattle.cw_rules.specs.declared.tokens.TokKind.TheVariants as kinds
+use Rattle.cw_rules.specs.Answers.{Finish, token_of}
+use Rattle.cw_rules.specs.Tokens.{behind_inner}
+use Rattle.cw_rules.specs.Cuttings.{bytes_at}
 use Rattle.cw_lex.proofs.Steps.{one-gives, token-here}
 use Rattle.cw_lex.proofs.comment_text.end_tex_inner.Goals as goal
 

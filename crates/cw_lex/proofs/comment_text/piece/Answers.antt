@@ -1,15 +1,15 @@
 -- A piece of a comment takes the bytes up to where it stops; its notes follow, and the open braces are kept.
 use Rattle.std.proofs.Common.{ℕ, ◌≡◌, ◌≤◌, ◌<◌, ◌-◌, List, ◌∷◌, false, drop, refl, sym, ◌∙◌, arith}
 use Rattle.cw_lex.specs.declared.state.State.{State}
-use Rattle.cw_lex.specs.declared.tokens.TokKind.TheVariants as kinds
-use Rattle.cw_lex.specs.Answers.{Token, note_answers, token_of}
-use Rattle.cw_lex.specs.Pending.{no_notes, body_notes}
-use Rattle.cw_lex.specs.Bodies.{ended}
+use Rattle.cw_rules.specs.declared.tokens.TokKind.TheVariants as kinds
+use Rattle.cw_rules.specs.Answers.{Token, note_answers, token_of}
+use Rattle.cw_rules.specs.Pending.{no_notes, body_notes}
+use Rattle.cw_rules.specs.Bodies.{ended}
 use Rattle.cw_lex.proofs.Steps.{step-gives}
 use Rattle.cw_lex.proofs.States.{ready-top, top-within}
 use Rattle.cw_lex.proofs.Pieces.{piece_found, piece-found, piece-some}
-use Rattle.cw_lex.specs.declared.bodies.Inside.{Inside}
-use Rattle.cw_lex.specs.declared.bodies.Body.TheVariants as bodies
+use Rattle.cw_rules.specs.declared.bodies.Inside.{Inside}
+use Rattle.cw_rules.specs.declared.bodies.Body.TheVariants as bodies
 use Rattle.cw_lex.proofs.comment_text.piece.Goals as goal
 
 pub returns-clause-gives : goal.returns-clause-gives

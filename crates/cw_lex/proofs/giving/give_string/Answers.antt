@@ -1,9 +1,10 @@
 -- A string takes its bytes; its notes follow, and then the C text goes on as it did.
 use Rattle.std.proofs.Common.{ℕ, ◌+◌, ◌<◌, List, ◌∷◌, length, drop, sym, ap, ◌∙◌, arith}
-use Rattle.cw_lex.specs.Answers.{Token, note_answers, token_of}
-use Rattle.cw_lex.specs.Pending.{pending_notes}
-use Rattle.cw_lex.specs.Tokens.{one, moved, passed, in_hash_line}
-use Rattle.cw_lex.specs.Coming.{where_of, bytes_at, cut_of}
+use Rattle.cw_rules.specs.Answers.{Token, note_answers, token_of}
+use Rattle.cw_rules.specs.Pending.{pending_notes}
+use Rattle.cw_rules.specs.Tokens.{one, moved, passed, in_hash_line}
+use Rattle.cw_lex.specs.Coming.{where_of}
+use Rattle.cw_rules.specs.Cuttings.{bytes_at, cut_of}
 use Rattle.cw_lex.specs.declared.state.State.{State}
 use Rattle.cw_lex.proofs.Steps.{step-gives, token-here, AllWithin-more}
 use Rattle.cw_lex.proofs.States.{depth-part, nested-part}

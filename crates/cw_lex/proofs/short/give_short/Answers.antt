@@ -1,8 +1,8 @@
 -- An identifier, constant or sign takes its bytes, and the C text goes on as it did.
 use Rattle.std.proofs.Common.{ℕ, ◌+◌, ◌-◌, ◌<◌, List, length, drop, ap, ◌∙◌, arith}
 use Rattle.cw_lex.specs.declared.state.State.{State}
-use Rattle.cw_lex.specs.Answers.{Token, token_of}
-use Rattle.cw_lex.specs.Tokens.{moved, passed, in_hash_line}
+use Rattle.cw_rules.specs.Answers.{Token, token_of}
+use Rattle.cw_rules.specs.Tokens.{moved, passed, in_hash_line}
 use Rattle.cw_lex.specs.Coming.{where_of}
 use Rattle.cw_lex.proofs.Steps.{one-gives, token-here, AllWithin-more}
 use Rattle.cw_lex.proofs.States.{depth-part, nested-part}

@@ -1,8 +1,8 @@
 -- Letters and digits in a row, from a letter on, are a short token unless they are the word that includes a file.
 use Rattle.std.proofs.Common.{◌&&◌, ap, sym, ◌∙◌}
-use Rattle.cw_lex.specs.declared.classes.Class.TheVariants.{Word}
-use Rattle.cw_lex.specs.Bytes.{run}
-use Rattle.cw_lex.specs.Tokens.{in_hash_line, is_include}
+use Rattle.cw_rules.specs.declared.classes.Class.TheVariants.{Word}
+use Rattle.cw_rules.specs.Bytes.{run}
+use Rattle.cw_rules.specs.Tokens.{in_hash_line, is_include}
 use Rattle.cw_lex.proofs.ShortTokens.{word-short}
 use Rattle.cw_lex.proofs.short.identifier.Goals as goal
 

@@ -1,6 +1,6 @@
 -- A constant that begins with a digit is a short token.
 use Rattle.std.proofs.Common.{ap, ◌∙◌, arith}
-use Rattle.cw_lex.specs.Constants.{constant}
+use Rattle.cw_rules.specs.Constants.{constant}
 use Rattle.cw_lex.proofs.ShortTokens.{number-short}
 use Rattle.cw_lex.proofs.short.number.Goals as goal
 

@@ -1,7 +1,7 @@
 -- One definition goes behind another.
 use Rattle.std.proofs.Common.{◌≡◌, true, false, not, refl, sym, ap, subst, All, List, length, arith}
 use Rattle.std.proofs.lemmas.List.Elements.{All-filter, All-head, All-tail}
-use Rattle.cw_lex.specs.declared.tokens.Mode.TheVariants.{Definition as Definitions}
+use Rattle.cw_rules.specs.declared.tokens.Mode.TheVariants.{Definition as Definitions}
 use Rattle.cw_lines.specs.WritesLaws.{can-after}
 use Rattle.cw_part.specs.declared.definitions.Definition.{Definition}
 use Rattle.cw_part.specs.DefinitionForms.{ahead, loud}

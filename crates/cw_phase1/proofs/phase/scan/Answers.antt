@@ -1,10 +1,10 @@
 -- Each answer keeps what holds while the answers come.
 use Rattle.std.proofs.Common.{◌≤◌, ◌∙◌, ap, refl, subst, length, List, ℕ}
 use Rattle.cw_base.specs.Web.{text_of}
-use Rattle.cw_lex.specs.Answers.{seen}
-use Rattle.cw_lex.specs.Order.{Covers}
+use Rattle.cw_rules.specs.Answers.{seen}
+use Rattle.cw_rules.specs.Order.{Covers}
 use Rattle.cw_lex.specs.Lexing.{tokens_of}
-use Rattle.cw_lex.specs.declared.tokens.Mode.TheVariants as modes
+use Rattle.cw_rules.specs.declared.tokens.Mode.TheVariants as modes
 use Rattle.cw_phase1.specs.Holding.{held_of}
 use Rattle.cw_phase1.proofs.Underway.{Underway, start, is-token, section-fits, ready-settles, token-step, begin-step, finish-step, note-step, scanned, waiting-kept}
 use Rattle.cw_phase1.proofs.phase.scan.Goals as goal

@@ -2,7 +2,7 @@
 use Rattle.std.proofs.Common.{◌≡◌, ◌^◌, [], ◌++◌, refl, sym, ap, ◌∙◌, subst}
 use Rattle.std.specs.Result.{IfOk, OnOk, OnErr}
 use Rattle.cw_base.specs.declared.flags.Flags.{Flags}
-use Rattle.cw_lex.specs.Answers.{seen}
+use Rattle.cw_rules.specs.Answers.{seen}
 use Rattle.cw_lex.specs.Heads.{Headed, named_headed}
 use Rattle.cw_lex.specs.Nest.{nest}
 use Rattle.cw_reduce.specs.HeadReading.{NamesWithin, answers_ahead, read_made, words_in}

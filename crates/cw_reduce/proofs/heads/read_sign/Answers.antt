@@ -1,7 +1,7 @@
 -- A section name with its sign heads a C part; without one it heads nothing, and what was read is handed on.
 use Rattle.std.proofs.Common.{◌^◌, ◌<◌, arith, rules, ap, subst, sym, ◌∙◌}
-use Rattle.cw_lex.specs.Answers.{seen}
-use Rattle.cw_lex.specs.declared.tokens.Lexed.TheVariants as lexed
+use Rattle.cw_rules.specs.Answers.{seen}
+use Rattle.cw_rules.specs.declared.tokens.Lexed.TheVariants as lexed
 use Rattle.cw_lex.proofs.HeadNests.{nested-behind}
 use Rattle.cw_reduce.specs.Opening.{StartsBelow}
 use Rattle.cw_reduce.proofs.HeadFinds.{ahead-of, signed, token-nested, unsigned-other, unsigned-signs, unsigned-token}

@@ -1,6 +1,6 @@
 -- A word that the head wants is one word more; the first answer that is none ends the words.
 use Rattle.std.proofs.Common.{◌<◌, ◌++◌, length, ap, sym, ◌∙◌}
-use Rattle.cw_lex.specs.declared.tokens.Lexed.TheVariants as lexed
+use Rattle.cw_rules.specs.declared.tokens.Lexed.TheVariants as lexed
 use Rattle.cw_reduce.specs.HeadReading.{NamesWithin, answer_words}
 use Rattle.cw_reduce.specs.Opening.{answers_in}
 use Rattle.cw_reduce.proofs.AnswerSteps.{on-err}

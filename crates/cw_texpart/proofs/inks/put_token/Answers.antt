@@ -1,6 +1,6 @@
 -- A piece of text is copied, and another token has bytes of its own.
 use Rattle.std.proofs.Common.{sym, ◌∙◌}
-use Rattle.cw_lex.specs.Answers.{seen}
+use Rattle.cw_rules.specs.Answers.{seen}
 use Rattle.cw_lines.specs.WritesLaws.{puts-bytes}
 use Rattle.cw_texpart.specs.Laying.{holds_bytes}
 use Rattle.cw_texpart.proofs.LayingLaws.{code-inked, text-inked}

@@ -1,7 +1,7 @@
 -- One answer prints behind another.
 use Rattle.std.proofs.Common.{Bool, ap, sym}
-use Rattle.cw_lex.specs.Answers.{Token, seen}
-use Rattle.cw_lex.specs.declared.tokens.Mode.TheVariants as modes
+use Rattle.cw_rules.specs.Answers.{Token, seen}
+use Rattle.cw_rules.specs.declared.tokens.Mode.TheVariants as modes
 use Rattle.cw_lines.specs.WritesLaws.{can-after, puts-bytes}
 use Rattle.cw_texpart.specs.Inks.{answer_inks, end_if, inks, laid}
 use Rattle.cw_texpart.specs.Limbo.{scanned}

@@ -1,6 +1,6 @@
 -- What the answers so far print is put.
 use Rattle.std.proofs.Common.{length}
-use Rattle.cw_lex.specs.declared.tokens.Mode.TheVariants as modes
+use Rattle.cw_rules.specs.declared.tokens.Mode.TheVariants as modes
 use Rattle.cw_texpart.specs.Inks.{inks}
 use Rattle.cw_texpart.specs.Limbo.{scanned}
 use Rattle.cw_texpart.proofs.LayingLaws.{Inking}

@@ -1,5 +1,5 @@
 -- Each kind of piece prints as it says.
-use Rattle.cw_lex.specs.Answers.{seen}
+use Rattle.cw_rules.specs.Answers.{seen}
 use Rattle.cw_texpart.specs.Inks.{token_inks}
 use Rattle.cw_texpart.specs.Laying.{holds_bytes}
 use Rattle.cw_texpart.proofs.WeavingLaws.{weaves-piece, weaves-plain, weaves-printed}

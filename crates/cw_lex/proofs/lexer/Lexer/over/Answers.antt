@@ -1,9 +1,9 @@
 -- The answers stand on the scanned bytes, one behind another, with only white space between them.
 use Rattle.std.proofs.Common.{List, sym, subst}
-use Rattle.cw_lex.specs.Answers.{Answer}
-use Rattle.cw_lex.specs.Order.{Covers, AreWithin}
+use Rattle.cw_rules.specs.Answers.{Answer}
+use Rattle.cw_rules.specs.Order.{Covers, AreWithin}
 use Rattle.cw_lex.proofs.Covering.{tokens-cover}
-use Rattle.cw_lex.proofs.Within.{tokens-within}
+use Rattle.cw_lex.proofs.TokensWithin.{tokens-within}
 use Rattle.cw_lex.proofs.lexer.Lexer.over.Goals as goal
 
 pub returns-clause-covers : goal.returns-clause-covers

@@ -1,7 +1,7 @@
 -- A token, a beginning or an end does to what is open what the definition says of it; a note does nothing.
 use Rattle.std.proofs.Common.{[], sym, subst}
 use Rattle.std.proofs.lemmas.Result.{on_ok_weaker}
-use Rattle.cw_lex.specs.Answers.{seen}
+use Rattle.cw_rules.specs.Answers.{seen}
 use Rattle.cw_reduce.specs.Opening.{answers_in, progress_of, HasCome}
 use Rattle.cw_reduce.specs.Retyping.{NamesAmong}
 use Rattle.cw_reduce.specs.Reading.{after_answers}

@@ -3,7 +3,7 @@ use Rattle.std.proofs.Common.{[], ◌∷◌, refl, ap, ◌∙◌}
 use Rattle.std.proofs.lemmas.Result.{on_ok_weaker}
 use Rattle.cw_scraps.proofs.Changings.{tied-idle}
 use Rattle.cw_reduce.specs.declared.gathering.CommentPart.TheVariants as part
-use Rattle.cw_lex.specs.Answers.{Finish}
+use Rattle.cw_rules.specs.Answers.{Finish}
 use Rattle.cw_scraps.specs.Leaves.{entry_of}
 use Rattle.cw_reduce.specs.Opening.{with_entry, with_part, progress_of}
 use Rattle.cw_reduce.proofs.FinishSteps.{open-line, open-lists, text-bound, text-step, text-names, same-names, comment-step}

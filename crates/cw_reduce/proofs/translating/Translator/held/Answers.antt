@@ -1,6 +1,6 @@
 -- A section name begins, its inner texts are read, and it ends: these are the answers that it stands for.
 use Rattle.std.proofs.Common.{◌≡◌, ◌+◌, ◌≤◌, [], ◌∷◌, subst, arith}
-use Rattle.cw_lex.specs.Answers.{Finish}
+use Rattle.cw_rules.specs.Answers.{Finish}
 use Rattle.cw_scraps.specs.Changing.{Keeps}
 use Rattle.cw_scraps.proofs.Applied.{keeps-trans}
 use Rattle.cw_reduce.specs.NameParts.{parts_by_kind}

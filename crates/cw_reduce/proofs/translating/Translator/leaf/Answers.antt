@@ -1,7 +1,7 @@
 -- The scrap of a token goes behind those of the innermost C text, and its line stays sound.
 use Rattle.std.proofs.Common.{refl}
 use Rattle.std.proofs.lemmas.Result.{on_ok_weaker}
-use Rattle.cw_lex.specs.Answers.{seen}
+use Rattle.cw_rules.specs.Answers.{seen}
 use Rattle.cw_scraps.proofs.Changings.{tied-idle}
 use Rattle.cw_reduce.proofs.LeafSteps.{leaf-step}
 use Rattle.cw_reduce.proofs.translating.Translator.leaf.Goals as goal

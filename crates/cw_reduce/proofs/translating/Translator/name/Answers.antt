@@ -1,6 +1,6 @@
 -- The name that a place is paired with is kept, and its text is short enough to be read.
 use Rattle.std.proofs.Common.{[], sym, ◌∙◌}
-use Rattle.cw_lex.specs.Answers.{seen}
+use Rattle.cw_rules.specs.Answers.{seen}
 use Rattle.cw_reduce.specs.declared.holders.Holder.TheVariants as holder
 use Rattle.cw_reduce.specs.NameParts.{name_texts, parts_by_kind}
 use Rattle.cw_reduce.specs.Naming.{held_answers, token_answers}

@@ -1,0 +1,35 @@
+-- Bytes of a class in a row, and texts at the beginning of others.
+use Rattle.std.proofs.Common.{◌≡◌, ℕ, zero, suc, ◌+◌, ◌-◌, ◌<◌, ◌≤◌, Bool, true, false, List, [], ◌∷◌, length, drop, refl, sym, ap, ◌∙◌, arith}
+use Rattle.std.proofs.lemmas.List.{drop-drop, drop_all}
+use Rattle.cw_rules.specs.declared.classes.Class.{Class}
+use Rattle.cw_rules.specs.Bytes.{is_in, run, begins_with}
+use Rattle.cw_rules.proofs.Runs.{drop-here}
+
+run-drop : (class : Class) (bytes : List ℕ) (n : ℕ) → n ≤ run class bytes → run class (drop n bytes) ≡ run class bytes - n
+run-drop class bytes zero h = omega arith
+run-drop class [] (suc n) h = absurd (omega arith)
+run-drop class (b ∷ bs) (suc n) h = by (is_in class b) refl (run-drop class bs n)
+  where
+    by : (t : Bool) → is_in class b ≡ t → (n ≤ run class bs → run class (drop n bs) ≡ run class bs - n) → run class (drop (suc n) (b ∷ bs)) ≡ run class (b ∷ bs) - suc n
+    by true e rest =
+        let more : run class (b ∷ bs) ≡ 1 + run class bs = ap (λ t. elim t [ true ↦ 1 + run class bs | false ↦ 0 ]) e in
+        let inner : n ≤ run class bs = omega arith in
+        let same = rest inner in
+        omega arith
+    by false e rest =
+        let none : run class (b ∷ bs) ≡ 0 = ap (λ t. elim t [ true ↦ 1 + run class bs | false ↦ 0 ]) e in
+        absurd (omega arith)
+
+-- a place inside the run
+pub run-inside : (class : Class) (text : List ℕ) (from size place : ℕ) → size ≡ run class (drop from text) → from ≤ place → place ≤ from + size
+    → run class (drop place text) ≡ (from + size) - place
+run-inside class text from size place e low high =
+    let split : from + (place - from) ≡ place = omega arith in
+    ap (λ k. run class (drop k text)) (sym split)
+    ∙ ap (run class) (sym (drop-drop (place - from) from text))
+    ∙ run-drop class (drop from text) (place - from) (omega arith)
+    ∙ omega arith
+
+-- a text that is too short to begin with another
+pub begins_with-short : (wanted bytes : List ℕ) (k : ℕ) → k < length wanted → length bytes ≤ k → begins_with (drop k wanted) (drop k bytes) ≡ false
+begins_with-short wanted bytes k h g = (λ i. begins_with (drop-here wanted k h i) (drop_all k bytes g i))

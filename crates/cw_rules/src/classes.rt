@@ -1,0 +1,152 @@
+//! Classes of bytes, and runs of bytes of one class.
+ghost use Rattle.std.specs.Prelude.{◌≡◌, ◌≤◌, ◌+◌, ℕ, List, length, drop};
+ghost use Rattle.cw_rules.specs.Bytes.{is_in, is_letter, is_letter_of, run, begins, begins_with};
+
+/// A set of bytes, of which a token may take as many as stand in a row.
+#[derive(Clone, Copy)]
+pub(crate) enum Class {
+    /// The blanks.
+    Blank,
+    /// Blanks and line ends.
+    White,
+    /// What an identifier goes on with: letters and digits.
+    Word,
+    Digit,
+    HexDigit,
+    /// The letters that may stand behind a constant.
+    Suffix,
+    /// What limbo copies: all but `@`.
+    LimboText,
+    /// What TeX text copies: all but `@` and bars.
+    TexText,
+    /// What an include name may hold: all but `>` and line ends.
+    IncludeName,
+}
+
+impl Class {
+    pub(crate) fn has(self, byte: u8) -> bool
+        ensures { result ≡ is_in self byte }
+    {
+        match self {
+            Class::Blank => is_blank(byte),
+            Class::White => byte == b'\n' || is_blank(byte),
+            Class::Word => is_word(byte),
+            Class::Digit => is_digit(byte),
+            Class::HexDigit => {
+                is_digit(byte) || (97 <= byte && byte <= 102) || (65 <= byte && byte <= 70)
+            }
+            Class::Suffix => {
+                is_letter_of(117, byte) || is_letter_of(108, byte) || is_letter_of(102, byte)
+            }
+            Class::LimboText => byte != b'@',
+            Class::TexText => !(byte == b'@' || byte == b'|'),
+            Class::IncludeName => !(byte == b'>' || byte == b'\n'),
+        }
+    }
+}
+
+// Whether a byte is a letter or a digit, for each byte: one look takes the place of five tests.
+static WORD_BYTES: [bool; 256] = [
+    false, false, false, false, false, false, false, false, false, false, false, false, false,
+    false, false, false, false, false, false, false, false, false, false, false, false, false,
+    false, false, false, false, false, false, false, false, false, false, true, false, false,
+    false, false, false, false, false, false, false, false, false, true, true, true, true, true,
+    true, true, true, true, true, false, false, false, false, false, false, false, true, true,
+    true, true, true, true, true, true, true, true, true, true, true, true, true, true, true, true,
+    true, true, true, true, true, true, true, true, false, false, false, false, true, false, true,
+    true, true, true, true, true, true, true, true, true, true, true, true, true, true, true, true,
+    true, true, true, true, true, true, true, true, true, false, false, false, false, false, true,
+    true, true, true, true, true, true, true, true, true, true, true, true, true, true, true, true,
+    true, true, true, true, true, true, true, true, true, true, true, true, true, true, true, true,
+    true, true, true, true, true, true, true, true, true, true, true, true, true, true, true, true,
+    true, true, true, true, true, true, true, true, true, true, true, true, true, true, true, true,
+    true, true, true, true, true, true, true, true, true, true, true, true, true, true, true, true,
+    true, true, true, true, true, true, true, true, true, true, true, true, true, true, true, true,
+    true, true, true, true, true, true, true, true, true, true, true, true, true, true, true, true,
+    true, true, true, true, true, true, true, true, true, true, true, true, true, true, true,
+];
+
+/// Whether an identifier may go on with the byte.
+#[inline(always)]
+pub(crate) fn is_word(byte: u8) -> bool
+    ensures { result ≡ is_in Class.Word byte }
+{
+    WORD_BYTES[byte as usize]
+}
+
+pub(crate) fn is_blank(byte: u8) -> bool
+    ensures { result ≡ is_in Class.Blank byte }
+{
+    byte == 32 || byte == 9 || byte == 11 || byte == 12 || byte == 13
+}
+
+pub(crate) fn is_digit(byte: u8) -> bool
+    ensures { result ≡ is_in Class.Digit byte }
+{
+    48 <= byte && byte <= 57
+}
+
+pub(crate) fn is_letter(byte: u8) -> bool
+    ensures { result ≡ is_letter byte }
+{
+    (97 <= byte && byte <= 122)
+        || (65 <= byte && byte <= 90)
+        || byte == 95
+        || byte == 36
+        || 128 <= byte
+}
+
+/// Whether the byte is a letter in either case, given in lower case.
+pub(crate) fn is_letter_of(small: u8, byte: u8) -> bool
+    ensures { result ≡ is_letter_of small byte }
+{
+    byte == small || byte as u32 + 32 == small as u32
+}
+
+/// How many bytes of the class stand in a row at the beginning.
+pub(crate) fn run(class: Class, bytes: &[u8]) -> usize
+    ensures value { result ≡ run class bytes.now }
+    ensures within { result ≤ length bytes.now }
+{
+    let mut n = 0;
+    while n < bytes.len() && class.has(bytes[n]) {
+        n += 1;
+    }
+    n
+}
+
+/// The bytes from a place on.
+pub(crate) fn from(bytes: &[u8], at: usize) -> &[u8]
+    requires { at ≤ length bytes.now }
+    ensures value { result.now ≡ drop at bytes.now }
+    ensures length { length result.now + at ≡ length bytes.now }
+{
+    &bytes[at..]
+}
+
+/// Whether the bytes begin with this one.
+pub(crate) fn begins(wanted: u8, bytes: &[u8]) -> bool
+    ensures { result ≡ begins wanted bytes.now }
+{
+    match bytes {
+        [] => false,
+        [byte, ..] => *byte == wanted,
+    }
+}
+
+/// Whether the bytes begin with these.
+pub(crate) fn begins_with(wanted: &[u8], bytes: &[u8]) -> bool
+    ensures { result ≡ begins_with wanted.now bytes.now }
+{
+    let mut k = 0;
+    while k < wanted.len() {
+        if k >= bytes.len() {
+            return false;
+        }
+        if bytes[k] != wanted[k] {
+            return false;
+        }
+        k += 1;
+    }
+    true
+}

@@ -1,0 +1,154 @@
+//! The parts of a text in which the scanner may stand.
+ghost use Rattle.std.specs.Prelude.{◌≡◌, true};
+ghost use Rattle.cw_rules.specs.Tokens.{in_hash_line, behind_include, passed, first_depth};
+ghost use Rattle.cw_rules.specs.Tokens.{is_code_part};
+
+use crate::{Code, Sign};
+
+/// What is scanned where no comment is open, with what the head of a definition still wants.
+#[derive(Clone, Copy)]
+pub(crate) enum Part {
+    Limbo,
+    Tex,
+    /// Inner C text of TeX text.
+    TexInner,
+    /// The first byte of a C part, where its code or its head may stand.
+    Begin,
+    /// A C part: in a `#` line or not, and directly behind the word `include` there or not.
+    Plain {
+        hash_line: bool,
+        include: bool,
+    },
+    /// The C text of a definition.
+    Definition,
+    /// C text between bars, scanned by itself.
+    Inner,
+    /// Behind the name that begins a C part, whose sign is wanted.
+    Head,
+    /// Behind a `@d` at this place, whose name is wanted.
+    MacroName {
+        code: usize,
+    },
+    /// Behind that name, where a `(` stands.
+    MacroParen {
+        code: usize,
+    },
+    /// Behind that `(`.
+    Parameters {
+        code: usize,
+    },
+    /// Behind an `@f` or `@s` at this place, whose first or second name is wanted.
+    FormatName {
+        code: usize,
+        second: bool,
+        limbo: bool,
+    },
+}
+
+/// A comment that is open.
+#[derive(Clone, Copy)]
+pub(crate) struct Opened {
+    pub start: usize,
+    pub long: bool,
+    /// How many braces are open in its text.
+    pub braces: usize,
+    /// Whether inner C text is open in it.
+    pub inner: bool,
+}
+
+/// What begins at a byte of C text, but for white space, the `#` of a `#` line and an include name.
+#[derive(Clone, Copy)]
+pub(crate) enum Start {
+    Identifier,
+    Constant,
+    /// A string with this quote.
+    Quoted(u8),
+    LongComment,
+    ShortComment,
+    Code(Code),
+    /// The bar that ends inner C text.
+    EndOfInner,
+    Sign(Sign),
+    OtherByte,
+}
+
+impl Part {
+    /// Whether C text goes on where no comment is open.
+    pub(crate) fn is_code(self) -> bool
+        ensures { result ≡ is_code_part self }
+    {
+        matches!(
+            self,
+            Part::Begin | Part::Plain { .. } | Part::Definition | Part::TexInner | Part::Inner
+        )
+    }
+
+    pub(crate) fn in_hash_line(self) -> bool
+        ensures { result ≡ in_hash_line self }
+    {
+        match self {
+            Part::Plain { hash_line, .. } => hash_line,
+            _ => false,
+        }
+    }
+
+    pub(crate) fn behind_include(self) -> bool
+        ensures { result ≡ behind_include self }
+    {
+        match self {
+            Part::Plain { include, .. } => include,
+            _ => false,
+        }
+    }
+
+    // Whether the part stays the same behind a token of C text.
+    #[inline(always)]
+    fn is_passed(self) -> bool
+        ensures { result ≡ true → passed self ≡ self }
+    {
+        match self {
+            Part::Begin => false,
+            Part::Plain { include, .. } => !include,
+            _ => true,
+        }
+    }
+
+    /// The part behind a token of C text.
+    pub(crate) fn passed(self) -> Part
+        ensures value { result ≡ passed self }
+        ensures code { is_code_part result ≡ is_code_part self }
+    {
+        match self {
+            Part::Begin => Part::Plain {
+                hash_line: false,
+                include: false,
+            },
+            Part::Plain { hash_line, .. } => Part::Plain {
+                hash_line,
+                include: false,
+            },
+            _ => self,
+        }
+    }
+
+    /// Goes behind a token of C text. It writes only where the part changes, which is seldom.
+    #[inline(always)]
+    pub(crate) fn pass(&mut self)
+        ensures value { self.new ≡ passed self.old }
+        ensures code { is_code_part self.new ≡ is_code_part self.old }
+    {
+        if !self.is_passed() {
+            *self = self.passed();
+        }
+    }
+
+    /// The depth of C text in which no comment is open.
+    pub(crate) fn first_depth(self) -> usize
+        ensures { result ≡ first_depth self }
+    {
+        match self {
+            Part::TexInner | Part::Inner => 1,
+            _ => 0,
+        }
+    }
+}
