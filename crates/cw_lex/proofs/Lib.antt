@@ -1,23 +1,15 @@
--- The laws of the scanner: what tokens take, how answers are nested, and how parts are scanned by themselves.
-pub mod Inside
+-- The laws of the scanner: what its answers take, how they are nested, and how parts are scanned by themselves.
 pub mod Walk
 pub mod Stack
 pub mod Steps
-pub mod Void
-pub mod Cuts
 pub mod States
 pub mod Lines
 pub mod Notes
 pub mod Pieces
 pub mod White
-pub mod WordBytes
 pub mod ShortTokens
-pub mod Runs
 pub mod HeadSpaces
-pub mod Choices
-pub mod Taking
-pub mod Sizes
-pub mod Within
+pub mod TokensWithin
 pub mod Covering
 mod Rows
 pub mod Nesting
@@ -25,19 +17,9 @@ pub mod NoDefinitions
 pub mod TexNesting
 pub mod Nests
 pub mod HeadNests
-pub mod Ahead
-pub mod BodiesAhead
-pub mod RulesAhead
 pub mod PartScans
-pub mod BarsAhead
-pub mod BarBodies
-pub mod BarRules
-pub mod InnerTwins
 pub mod InnerScans
 pub mod LimboNames
-pub mod CodeStarts
-pub mod CodeTwins
 pub mod Openings
 pub mod InnerEnds
-pub mod NameEnds
 pub mod TexTexts

@@ -13,6 +13,7 @@ use Rattle.cw_lex.specs.Nest.{Nest, Leaf, leaf, group, nests, nest, first_nest}
 use Rattle.cw_lex.specs.Nested.{is_section_kind, is_section_answer, begins_section_in}
 use Rattle.cw_rules.specs.Signs.{all_signs, longest, spelling}
 use Rattle.cw_rules.specs.Tokens.{one, dropped_code, identifier, string, sign_or_other, passed, moved, in_hash_line, ends_at_bar, line_end, comment_end, inner_cut, inner_end, effect_in, code_by, code_token, in_code, start_of, section_code, is_name, is_quote, behind_word, is_include, may_head, is_head}
+use Rattle.cw_rules.proofs.CodeStarts.{is_definition_code}
 use Rattle.cw_rules.specs.declared.bodies.Noted.{Noted}
 use Rattle.cw_rules.specs.declared.classes.Class.TheVariants as classes
 use Rattle.cw_rules.specs.declared.codes.Code.{Code}
@@ -28,12 +29,6 @@ use Rattle.cw_rules.specs.declared.signs.Sign.{Sign}
 use Rattle.cw_rules.specs.declared.tokens.Mode.TheVariants as modes
 use Rattle.cw_rules.specs.declared.tokens.TokKind.{TokKind}
 use Rattle.cw_rules.specs.declared.tokens.TokKind.TheVariants as kind
-
-abbrev pub is_definition_code : Code → Bool
-is_definition_code code.Define = true
-is_definition_code code.Format = true
-is_definition_code code.SilentFormat = true
-is_definition_code _ = false
 
 abbrev pub is_definition : TokKind → Bool
 is_definition (kind.Code c) = is_definition_code c

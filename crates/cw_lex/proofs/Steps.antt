@@ -54,11 +54,6 @@ pub AllWithin-more : (m n : ℕ) (comments : List Opened) → m ≤ n → AllWit
 AllWithin-more m n [] h all = tt
 AllWithin-more m n (c ∷ comments) h all = (omega (arith, all.0), AllWithin-more m n comments h all.1)
 
--- the same behind the first byte, and behind the first two
-pub drop-two : (text : List ℕ) (place : ℕ) → drop 2 (bytes_at text place) ≡ drop (place + 2) text
-drop-two text place =
-    drop-drop 1 (place + 1) text ∙ ap (λ k. drop k text) (add_assoc place 1 1)
-
 -- a token at the scanner's place
 pub token-here : (text : List ℕ) (place size : ℕ) (kind : TokKind) (hash_line : Bool) (t : Seen) → place < length text
     → t ≡ token_of hash_line kind place size (drop place text) → token_of hash_line kind place size (bytes_at text place) ≡ t

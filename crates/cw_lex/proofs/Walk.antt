@@ -2,6 +2,7 @@
 use Rattle.std.proofs.Common.{◌≡◌, ℕ, zero, suc, ◌+◌, ◌<◌, ◌≤◌, Bool, true, List, [], ◌∷◌, ◌++◌, length, slice_index, take, drop, refl, sym, ap, ◌∙◌, arith, add-one, add-zero, zero-add, drop-cons, length-drop}
 use Rattle.std.proofs.lemmas.List.{drop-drop}
 use Rattle.std.proofs.Math.Seq.{take-nil}
+use Rattle.cw_rules.proofs.Runs.{drop-here}
 use Rattle.cw_rules.specs.Answers.{Answer, Where, Found}
 use Rattle.cw_lex.specs.Coming.{found_at}
 use Rattle.cw_lex.specs.Lexing.{still_fresh, joined, answers, fresh_after, last_after, fresh_at, last_at, answers_at}
@@ -30,10 +31,6 @@ last-more last [] (suc m) n = ap (last_after last) (take-nil n ∙ sym (take-nil
 last-more last (b ∷ text) (suc m) n =
     let e : suc m + n ≡ suc (m + n) = omega arith in
     last-more b text m n ∙ ap (λ k. last_after last (take k (b ∷ text))) (sym e)
-
--- a text from a place on, and the byte there
-pub drop-here : (text : List ℕ) (place : ℕ) → place < length text → drop place text ≡ slice_index text place ∷ drop (place + 1) text
-drop-here text place h = rw (add-one, drop-cons text place 0) refl
 
 -- what the bytes up to behind a place say
 pub fresh-here : (text : List ℕ) (place : ℕ) → place < length text → still_fresh (fresh_at text place) (slice_index text place) ≡ fresh_at text (place + 1)

@@ -8,13 +8,12 @@ use Rattle.cw_rules.specs.declared.tokens.Mode.{Mode}
 use Rattle.cw_rules.specs.declared.tokens.Mode.TheVariants as modes
 use Rattle.cw_rules.specs.declared.tokens.Lexed.{Lexed}
 use Rattle.cw_rules.specs.declared.tokens.Lexed.TheVariants as lexed
-use Rattle.cw_rules.specs.declared.cuttings.Cutting.{Cutting}
 use Rattle.cw_lex.specs.declared.state.Clear.{Clear}
 use Rattle.cw_lex.specs.declared.state.State.{State}
 use Rattle.cw_rules.specs.Bytes.{newline, backslash, is_in, run}
 use Rattle.cw_rules.specs.Answers.{Answer, Finish, Note, seen, Where, Cut, Found, note_answers}
 use Rattle.cw_rules.specs.Pending.{pending_notes, no_notes, IsInside}
-use Rattle.cw_rules.specs.Tokens.{in_hash_line, is_space, found}
+use Rattle.cw_rules.specs.Tokens.{in_hash_line, is_space, found, is_code_part, is_code, is_head_part}
 use Rattle.cw_lex.specs.Lexing.{answers_at, fresh_at, last_at}
 
 abbrev pub where_of : State → Where
@@ -23,41 +22,14 @@ where_of s = record { part = s.part; comments = s.comments }
 abbrev pub coming : List ℕ → State → List Answer
 coming text s = note_answers (pending_notes text s.pending) ++ answers_at text (where_of s) s.at
 
--- the bytes of a text from a place on, by the first of them
-abbrev pub bytes_at : List ℕ → ℕ → List ℕ
-bytes_at text place = slice_index text place ∷ drop (place + 1) text
-
 -- what begins at a place of a text
 abbrev pub found_at : List ℕ → Where → ℕ → Found
 found_at text w place = found w (fresh_at text place) (last_at text place) place (slice_index text place) (drop (place + 1) text)
-
--- what a token that is cut is to the rules
-abbrev pub cut_of : List ℕ → Cutting → Cut
-cut_of text cut = record { kind = cut.kind; size = cut.size; notes = pending_notes text cut.pending }
-
--- a token that is cut at a place lies in the text
-pub record IsCut (text : List ℕ) (place : ℕ) (cut : Cutting) : Type 0 where
-  pub some : 0 < cut.size
-  pub within : place + cut.size ≤ length text
-  pub inside : IsInside (length text) cut.pending.body
 
 -- the open braces of the comments are not more than the bytes before a place
 abbrev pub AllWithin : ℕ → List Opened → Type 0
 AllWithin n [] = Unit {0}
 AllWithin n (c ∷ comments) = (c.braces ≤ n) × AllWithin n comments
-
--- C text goes on in a part, or in the innermost comment.
-abbrev pub is_code_part : Part → Bool
-is_code_part parts.Begin = true
-is_code_part (parts.Plain hash_line include) = true
-is_code_part parts.Definition = true
-is_code_part parts.TexInner = true
-is_code_part parts.Inner = true
-is_code_part part = false
-
-abbrev pub is_code : Part → List Opened → Bool
-is_code part [] = is_code_part part
-is_code part (c ∷ comments) = c.inner
 
 -- each comment was opened in C text
 abbrev pub IsNested : Part → List Opened → Type 0
@@ -104,11 +76,6 @@ CutsOff old None new = old ≡ []
 CutsOff old (Some (lexed.Finish t)) new = old ≡ Finish (seen t) ∷ new
 CutsOff old (Some (lexed.Note kind place)) new = old ≡ Note kind place ∷ new
 CutsOff old (Some other) new = ⊥
-
--- the sign behind the name that begins a C part is wanted
-abbrev pub is_head_part : Part → List Opened → Bool
-is_head_part parts.Head [] = true
-is_head_part part comments = false
 
 -- A byte stands here that gives no answer: white space of C text, or a blank before the sign of a head.
 abbrev pub is_skipped : Part → List Opened → ℕ → ℕ → List ℕ → Bool

@@ -1,7 +1,7 @@
 -- The heads with which definitions and named C parts begin.
 use Rattle.std.specs.Prelude.{ℕ, Bool, true, false, ◌==◌, Option, Some, None, List, [], ◌∷◌}
 use Rattle.cw_base.specs.declared.span.Span.{Span}
-use Rattle.cw_rules.specs.Answers.{Answer, Token, Begin, Finish, Note, Seen}
+use Rattle.cw_rules.specs.Answers.{Answer, Token, Begin, Finish, Note, Seen, is_head_sign}
 use Rattle.cw_rules.specs.declared.codes.Code.TheVariants as code
 use Rattle.cw_lex.specs.declared.heads.Wanted.{Wanted}
 use Rattle.cw_lex.specs.declared.heads.Wanted.TheVariants as wants
@@ -52,19 +52,7 @@ wanted_by k = wants.Nothing
 
 -- ## The sign of a named C part
 
-abbrev pub is_head_sign : TokKind → Bool
-is_head_sign kind.HeadSign = true
-is_head_sign k = false
-
--- The sign stands behind a name, after the name's notes.
-abbrev pub has_sign : List Answer → Bool
-has_sign [] = false
-has_sign (Token token ∷ answers) = is_head_sign token.kind
-has_sign (Begin token ∷ answers) = false
-has_sign (Finish token ∷ answers) = false
-has_sign (Note note place ∷ answers) = has_sign answers
-
--- The answers behind that sign, where it stands.
+-- The answers behind the sign, where it stands.
 abbrev pub behind_sign : List Answer → Option (List Answer)
 behind_sign [] = None
 behind_sign (Token token ∷ answers) = elim (is_head_sign token.kind) [ true ↦ Some answers | false ↦ None ]

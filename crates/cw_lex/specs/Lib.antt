@@ -1,20 +1,9 @@
--- The definitions of the scanner: its tokens, how its answers stand and are nested, and where parts begin.
-pub mod Bytes
-pub mod Signs
-pub mod Constants
-pub mod Codes
-pub mod Bodies
-pub mod Names
-pub mod Answers
-pub mod Tokens
+-- The definitions of the scanner: how its answers follow from the rules, how they are nested, and where parts begin.
 pub mod Lexing
-pub mod Pending
 pub mod Stack
 pub mod Coming
 pub mod Short
-pub mod Effects
 pub mod Starts
-pub mod Order
 pub mod Nested
 pub mod Nest
 pub mod Heads

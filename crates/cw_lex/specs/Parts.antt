@@ -8,7 +8,7 @@ use Rattle.cw_rules.specs.declared.tokens.TokKind.TheVariants as kinds
 use Rattle.cw_rules.specs.Bytes.{at_sign, greater, bar, begins}
 use Rattle.cw_rules.specs.Codes.{begins_section}
 use Rattle.cw_rules.specs.Answers.{Answer, Begin, Finish, Where, Found, token_of}
-use Rattle.cw_rules.specs.Tokens.{found, all_cut}
+use Rattle.cw_rules.specs.Tokens.{found, all_cut, is_tex_inner}
 use Rattle.cw_lex.specs.Lexing.{still_fresh, joined, fresh_at, last_at, answers_at, beginning, tokens_of}
 
 abbrev pub followed : Found → (Where → ℕ → Option Where) → Option Where
@@ -80,10 +80,6 @@ PartsAreAnswered = (text : List ℕ) (start end : ℕ) (mode : Mode) → start �
     → tokens_of text start end mode ≡ part_answers text start end mode (end - 1)
 
 -- ## Inner C text of TeX text
-
-abbrev pub is_tex_inner : Part → Bool
-is_tex_inner parts.TexInner = true
-is_tex_inner part = false
 
 -- Where the bar stands that closes inner C text of TeX text, in which the scan of these bytes stands. It is the first
 -- token behind which the scan stands in inner text no more. None where a section code or the end of the bytes comes

@@ -18,20 +18,20 @@ ghost use Rattle.cw_rules.specs.Cuttings.{IsCut};
 ghost use Rattle.cw_lex.specs.Starts.{SignFits, CommentFits, CodeIs};
 ghost use Rattle.cw_rules.specs.Constants.{constant};
 
-use crate::classes::{Class, begins, begins_with, from, is_blank, is_digit, is_letter, run};
-use crate::codes::Effect;
 use crate::comment_text::{begin_comment, end_inner};
-use crate::constants::constant;
-use crate::cuttings::{Cutting, code_token, dropped_code, include_name, note_unless, plain};
 use crate::giving::{give, give_string, token};
-use crate::parts::{Opened, Part, Start};
-use crate::pending::Pending;
 use crate::plain::begins_c;
 use crate::short::is_quote;
-use crate::signs::sign_at;
 use crate::state::{Clear, State};
 use crate::{Code, Lexed, TokKind};
 use cw_base::NoteKind;
+use cw_rules::classes::{Class, begins, begins_with, from, is_blank, is_digit, is_letter, run};
+use cw_rules::codes::Effect;
+use cw_rules::constants::constant;
+use cw_rules::cuttings::{Cutting, code_token, dropped_code, include_name, note_unless, plain};
+use cw_rules::parts::{Opened, Part, Start};
+use cw_rules::pending::Pending;
+use cw_rules::signs::sign_at;
 
 /// The byte before a place.
 fn last_at(text: &[u8], at: usize) -> u8

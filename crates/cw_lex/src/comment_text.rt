@@ -14,15 +14,15 @@ ghost use Rattle.cw_lex.specs.Coming.{where_of, coming, found_at, IsReady, CanSt
 ghost use Rattle.cw_rules.specs.Cuttings.{bytes_at};
 ghost use Rattle.cw_rules.specs.Tokens.{is_code};
 
-use crate::bodies::{Body, Inside, walk};
-use crate::classes::{begins, from};
-use crate::cuttings::note_unless;
 use crate::giving::token;
-use crate::parts::{Opened, Part};
-use crate::pending::Pending;
 use crate::state::State;
 use crate::{Lexed, TokKind};
 use cw_base::NoteKind;
+use cw_rules::bodies::{Body, Inside, walk};
+use cw_rules::classes::{begins, from};
+use cw_rules::cuttings::note_unless;
+use cw_rules::parts::{Opened, Part};
+use cw_rules::pending::Pending;
 
 pub(crate) fn kind_of(long: bool) -> TokKind
     ensures { result ≡ comment_kind long }

@@ -1,7 +1,7 @@
 //! The open comments, as deep as inner C text may stand.
 ghost use Rattle.std.specs.Prelude.{◌≡◌, ◌<◌, ◌≤◌, [], ◌∷◌, length, drop, MatchOption};
 
-use crate::parts::Opened;
+use cw_rules::parts::Opened;
 use std::marker::Model;
 
 /// The comments that are open. They are seen with the innermost first.

@@ -10,16 +10,16 @@ ghost use Rattle.cw_rules.specs.Tokens.{section};
 ghost use Rattle.cw_lex.specs.Coming.{where_of, coming, found_at, CutsOff, IsReady, CanStep};
 ghost use Rattle.cw_rules.specs.Cuttings.{bytes_at};
 
-use crate::classes::from;
-use crate::codes::begins_section;
 use crate::comment_text::kind_of;
-use crate::cuttings::{note_unless, section_code};
 use crate::giving::{give, token};
-use crate::parts::{Opened, Part};
-use crate::pending::Pending;
 use crate::state::State;
 use crate::{Lexed, TokKind};
 use cw_base::NoteKind;
+use cw_rules::classes::from;
+use cw_rules::codes::begins_section;
+use cw_rules::cuttings::{note_unless, section_code};
+use cw_rules::parts::{Opened, Part};
+use cw_rules::pending::Pending;
 
 /// Whether a section code stands at a place.
 pub(crate) fn is_section_at(text: &[u8], at: usize) -> bool

@@ -7,11 +7,11 @@ ghost use Rattle.cw_rules.specs.Pending.{no_notes};
 ghost use Rattle.cw_lex.specs.Coming.{where_of, coming, found_at, IsNested, IsReady, CanStep};
 ghost use Rattle.cw_rules.specs.Cuttings.{bytes_at, cut_of, IsCut};
 
-use crate::cuttings::{Cutting, string};
-use crate::parts::Part;
 use crate::state::State;
 use crate::{Lexed, Tok, TokKind};
 use cw_base::{NoteKind, Span};
+use cw_rules::cuttings::{Cutting, string};
+use cw_rules::parts::Part;
 
 /// The token of this size at a place.
 pub(crate) fn token<'a>(

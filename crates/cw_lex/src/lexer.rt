@@ -14,20 +14,20 @@ ghost use Rattle.cw_rules.specs.Cuttings.{bytes_at};
 ghost use Rattle.cw_rules.specs.Tokens.{is_code, is_code_part};
 ghost use Rattle.cw_lex.specs.Coming.{IsSkipped, IsReady, CanStep};
 
-use crate::classes::{Class, begins_with, from, is_letter, run};
 use crate::code_text::{code_text, skip_white};
 use crate::comment_text::comment_text;
 use crate::comments::Comments;
-use crate::cuttings::{plain, section_code};
 use crate::ends::{cut_off, is_section_at};
 use crate::giving::{give, give_note, give_string};
-use crate::parts::Part;
-use crate::pending::Pending;
 use crate::plain::{format_name, head_text, limbo_text, macro_name, parameter, tex_text};
 use crate::short::{Quick, give_short, quick_at};
 use crate::state::{Clear, State};
 use crate::{Lexed, Mode, Sign, TokKind};
 use cw_base::NoteKind;
+use cw_rules::classes::{Class, begins_with, from, is_letter, run};
+use cw_rules::cuttings::{plain, section_code};
+use cw_rules::parts::Part;
+use cw_rules::pending::Pending;
 use std::marker::Model;
 
 /// A scanner over a part of a text. It is seen as the list of its answers that are still to come.

@@ -8,13 +8,13 @@ ghost use Rattle.cw_rules.specs.Bytes.{is_in, is_letter};
 ghost use Rattle.cw_lex.specs.Coming.{where_of, coming, found_at, IsReady, CanStep};
 ghost use Rattle.cw_rules.specs.Cuttings.{bytes_at};
 
-use crate::classes::{Class, begins, from, is_letter, run};
-use crate::codes::Effect;
-use crate::cuttings::{alone, code_token, dropped, dropped_code, is_head, plain};
 use crate::giving::{begin_tex_inner, give};
-use crate::parts::Part;
 use crate::state::State;
 use crate::{Code, Lexed, Sign, TokKind};
+use cw_rules::classes::{Class, begins, from, is_letter, run};
+use cw_rules::codes::Effect;
+use cw_rules::cuttings::{alone, code_token, dropped, dropped_code, is_head, plain};
+use cw_rules::parts::Part;
 
 /// Limbo.
 pub(crate) fn limbo_text<'a>(text: &'a [u8], state: &mut State) -> Lexed<'a>

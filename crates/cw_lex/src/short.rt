@@ -7,13 +7,13 @@ ghost use Rattle.cw_lex.specs.Coming.{where_of, coming, IsReady};
 ghost use Rattle.cw_rules.specs.Tokens.{is_code};
 ghost use Rattle.cw_lex.specs.Short.{IsShort, IsQuick, is_alone, is_lone, is_quote};
 
-use crate::classes::{Class, from, is_digit, is_word, run};
 use crate::code_text::is_include_word;
-use crate::constants::constant;
 use crate::giving::token;
-use crate::signs::sign_at;
 use crate::state::State;
 use crate::{Lexed, TokKind};
+use cw_rules::classes::{Class, from, is_digit, is_word, run};
+use cw_rules::constants::constant;
+use cw_rules::signs::sign_at;
 
 /// An identifier, a constant or a sign that lets the C text go on as it does.
 #[derive(Clone, Copy)]

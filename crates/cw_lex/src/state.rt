@@ -5,10 +5,10 @@ ghost use Rattle.cw_rules.specs.Tokens.{is_code, is_head_part};
 ghost use Rattle.cw_rules.specs.Effects.{stays};
 
 use crate::Code;
-use crate::codes::Effect;
 use crate::comments::Comments;
-use crate::parts::Part;
-use crate::pending::Pending;
+use cw_rules::codes::Effect;
+use cw_rules::parts::Part;
+use cw_rules::pending::Pending;
 
 /// A stretch of the text without `>` and line ends, up to the next of them or the text's end.
 #[derive(Clone, Copy)]

@@ -53,6 +53,13 @@ is_opener at.SectionName = true
 is_opener at.FileName = true
 is_opener code = false
 
+-- the codes with which definitions begin
+abbrev pub is_definition_code : Code → Bool
+is_definition_code at.Define = true
+is_definition_code at.Format = true
+is_definition_code at.SilentFormat = true
+is_definition_code code = false
+
 -- limbo, and a format definition in it
 abbrev pub is_limbo : Part → Bool
 is_limbo parts.Limbo = true

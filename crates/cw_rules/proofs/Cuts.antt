@@ -1,5 +1,6 @@
 -- Codes that are cut, by their rules.
-use Rattle.std.proofs.Common.{◌≡◌, ℕ, ◌+◌, true, List, ◌∷◌, ◌++◌, None, Some, drop, sym, ap, ◌∙◌, if◌then◌else◌}
+use Rattle.std.proofs.Common.{◌≡◌, ℕ, ◌+◌, true, List, ◌∷◌, ◌++◌, None, Some, drop, sym, ap, ◌∙◌, add_assoc, if◌then◌else◌}
+use Rattle.std.proofs.lemmas.List.{drop-drop}
 use Rattle.cw_base.specs.declared.notes.NoteKind.{NoteKind}
 use Rattle.cw_rules.specs.declared.bodies.Body.TheVariants as bodies
 use Rattle.cw_rules.specs.declared.bodies.Noted.{Noted}
@@ -13,7 +14,11 @@ use Rattle.cw_rules.specs.Answers.{Cut, plain, dropped}
 use Rattle.cw_rules.specs.Pending.{body_notes}
 use Rattle.cw_rules.specs.Tokens.{alone_size, string, control_text, control_text_of, section_name, section_name_of, control_or_plain, code_token, is_name, is_quote}
 use Rattle.cw_rules.specs.Cuttings.{bytes_at, cut_of}
-use Rattle.cw_rules.proofs.Cuts.{drop-two}
+
+-- the bytes behind the first two
+pub drop-two : (text : List ℕ) (place : ℕ) → drop 2 (bytes_at text place) ≡ drop (place + 2) text
+drop-two text place =
+    drop-drop 1 (place + 1) text ∙ ap (λ k. drop k text) (add_assoc place 1 1)
 
 pub control-cut : (text : List ℕ) (code : Code) (at : ℕ) (cut : Cut) → has_control_text code ≡ true
     → cut ≡ control_text_of code (at_start bodies.ControlText (at + 2)) (drop (at + 2) text) → cut ≡ control_or_plain code at (bytes_at text at)

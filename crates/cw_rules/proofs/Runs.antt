@@ -1,9 +1,12 @@
 -- Bytes of a class in a row, and texts at the beginning of others.
-use Rattle.std.proofs.Common.{◌≡◌, ℕ, zero, suc, ◌+◌, ◌-◌, ◌<◌, ◌≤◌, Bool, true, false, List, [], ◌∷◌, length, drop, refl, sym, ap, ◌∙◌, arith}
+use Rattle.std.proofs.Common.{◌≡◌, ℕ, zero, suc, ◌+◌, ◌-◌, ◌<◌, ◌≤◌, Bool, true, false, List, [], ◌∷◌, length, slice_index, drop, refl, sym, ap, ◌∙◌, arith, add-one, drop-cons}
 use Rattle.std.proofs.lemmas.List.{drop-drop, drop_all}
 use Rattle.cw_rules.specs.declared.classes.Class.{Class}
 use Rattle.cw_rules.specs.Bytes.{is_in, run, begins_with}
-use Rattle.cw_rules.proofs.Runs.{drop-here}
+
+-- a text from a place on, and the byte there
+pub drop-here : (text : List ℕ) (place : ℕ) → place < length text → drop place text ≡ slice_index text place ∷ drop (place + 1) text
+drop-here text place h = rw (add-one, drop-cons text place 0) refl
 
 run-drop : (class : Class) (bytes : List ℕ) (n : ℕ) → n ≤ run class bytes → run class (drop n bytes) ≡ run class bytes - n
 run-drop class bytes zero h = omega arith

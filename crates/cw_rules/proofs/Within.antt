@@ -1,4 +1,4 @@
--- The spans of all answers lie in the bytes that are scanned, whatever the text.
+-- What begins at a byte lies in the bytes that are left.
 use Rattle.std.proofs.Common.{◌≡◌, ℕ, zero, suc, ◌+◌, ◌-◌, ◌<◌, ◌≤◌, Bool, true, false, ◌&&◌, ◌||◌, not, ◌==◌, nat_lt, List, [], ◌∷◌, ◌++◌, length, drop, refl, sym, ap, ◌∙◌, arith, Option, Some, None, codes, subst, take, if◌then◌else◌, length-drop}
 use Rattle.std.proofs.lemmas.List.{length-take}
 use Rattle.cw_base.proofs.TestLaws.{both-right}
@@ -16,7 +16,6 @@ use Rattle.cw_rules.specs.declared.parts.Opened.{Opened}
 use Rattle.cw_rules.specs.declared.parts.Start.{Start}
 use Rattle.cw_rules.specs.declared.parts.Start.TheVariants as start
 use Rattle.cw_rules.specs.declared.signs.Sign.{Sign}
-use Rattle.cw_rules.specs.declared.tokens.Mode.{Mode}
 use Rattle.cw_rules.specs.declared.tokens.TokKind.TheVariants as kinds
 use Rattle.cw_rules.specs.Bytes.{newline, quote, hash, apostrophe, star, comma, slash, less, equals, right_paren, at_sign, bar, backslash, run, is_in, is_letter, begins, begins_with}
 use Rattle.cw_rules.specs.Signs.{all_signs, longest, spelling}
@@ -24,7 +23,6 @@ use Rattle.cw_rules.specs.Constants.{constant}
 use Rattle.cw_rules.specs.Codes.{code_at, begins_section, effect_in_limbo, effect_in_tex}
 use Rattle.cw_rules.specs.Bodies.{extent, noted, one_note, note_unless}
 use Rattle.cw_rules.specs.Answers.{Answer, Token, Begin, Finish, Note, Where, Cut, Found, before, note_answers, plain}
-use Rattle.cw_lex.specs.Lexing.{still_fresh, answers, fresh_at, last_at, beginning, tokens_of}
 use Rattle.cw_rules.specs.Order.{AreWithin}
 use Rattle.cw_rules.specs.Tokens.{in_hash_line, behind_include, takes_hash_line, is_space, is_deep, ends_at_bar, closes_on_line, moved, one, skipped_byte, comment_end, inner_cut, comment_cut, part_cut, inner_or_none, all_cut, section, passed, line_end, sign_or_other, start_of, effect_in, code_by, in_code, string, code_token, dropped_code, include_name, code_text, piece_start, piece, comment_closed, comment_text, limbo_by, limbo_text, tex_by, tex_text, head_text, behind_white, name_follows, macro_name, is_parameter, parameter_follows, parameter, format_name, behind_head, part_text, in_text, found}
 use Rattle.cw_rules.proofs.Sizes.{begins-some, begins_with-le, run-le, constant-le, AllFit, longest-fits, extent-le, identifier-le, string-le, include_name-le, control_or_plain-le, code_token-le, section_code-le}
@@ -38,14 +36,14 @@ notes-within : (low high : ℕ) (notes : List Noted) → AreWithin low high (not
 notes-within low high [] = tt
 notes-within low high (n ∷ notes) = notes-within low high notes
 
-append-within : (low high : ℕ) (xs ys : List Answer) → AreWithin low high xs → AreWithin low high ys → AreWithin low high (xs ++ ys)
+pub append-within : (low high : ℕ) (xs ys : List Answer) → AreWithin low high xs → AreWithin low high ys → AreWithin low high (xs ++ ys)
 append-within low high [] ys h g = g
 append-within low high (Token t ∷ xs) ys h g = (h.0, append-within low high xs ys h.1 g)
 append-within low high (Begin t ∷ xs) ys h g = (h.0, append-within low high xs ys h.1 g)
 append-within low high (Finish t ∷ xs) ys h g = (h.0, append-within low high xs ys h.1 g)
 append-within low high (Note kind place ∷ xs) ys h g = append-within low high xs ys h g
 
-wider : (low high first last : ℕ) (xs : List Answer) → first ≤ low → high ≤ last → AreWithin low high xs → AreWithin first last xs
+pub wider : (low high first last : ℕ) (xs : List Answer) → first ≤ low → high ≤ last → AreWithin low high xs → AreWithin first last xs
 wider low high first last [] l h g = tt
 wider low high first last (Token t ∷ xs) l h g = ((omega (arith, g.0.0), g.0.1, omega (arith, g.0.2)), wider low high first last xs l h g.1)
 wider low high first last (Begin t ∷ xs) l h g = ((omega (arith, g.0.0), g.0.1, omega (arith, g.0.2)), wider low high first last xs l h g.1)
@@ -100,7 +98,7 @@ part_cut-within parts.Definition place about left = tt
 part_cut-within parts.Inner place about left = tt
 part_cut-within parts.Head place about left = tt
 
-all_cut-within : (part : Part) (comments : List Opened) (place about left : ℕ) → AreWithin place (place + left) (all_cut part comments place about)
+pub all_cut-within : (part : Part) (comments : List Opened) (place about left : ℕ) → AreWithin place (place + left) (all_cut part comments place about)
 all_cut-within part [] place about left = part_cut-within part place about left
 all_cut-within part (c ∷ comments) place about left =
     let hash_line = in_hash_line part in
@@ -346,27 +344,3 @@ in_text-fits part (c ∷ comments) fresh last place byte bytes =
 pub found-fits : (w : Where) (fresh : Bool) (last place byte : ℕ) (bytes : List ℕ) → Fits place (suc (length bytes)) (found w fresh last place byte bytes)
 found-fits w fresh last place byte bytes =
     either place (suc (length bytes)) (byte == at_sign && begins_section bytes) _ _ (λ h. section-fits w place bytes) (λ h. in_text-fits w.part w.comments fresh last place byte bytes)
-
--- the answers from a place on
-all-within : (bytes : List ℕ) (w : Where) (fresh : Bool) (last place taken low : ℕ) → low ≤ place → taken ≤ length bytes → AreWithin low (place + length bytes) (answers bytes w fresh last place taken)
-all-within [] w fresh last place taken low l t =
-    wider place (place + 0) low (place + 0) (all_cut w.part w.comments place (place - 1)) l (omega arith) (all_cut-within w.part w.comments place (place - 1) 0)
-all-within (b ∷ bs) w fresh last place zero low l t =
-    let f = found w fresh last place b bs in
-    let h = found-fits w fresh last place b bs in
-    let rest = answers bs f.next (still_fresh fresh b) b (place + 1) f.more in
-    append-within low (place + suc (length bs)) f.answers rest
-    (wider place (place + suc (length bs)) low (place + suc (length bs)) f.answers l (omega arith) h.within)
-    (wider low ((place + 1) + length bs) low (place + suc (length bs)) rest (omega arith) (omega arith)
-    (all-within bs f.next (still_fresh fresh b) b (place + 1) f.more low (omega (arith, l)) (omega (arith, h.more))))
-all-within (b ∷ bs) w fresh last place (suc taken) low l t =
-    wider low ((place + 1) + length bs) low (place + suc (length bs)) (answers bs w (still_fresh fresh b) b (place + 1) taken) (omega arith) (omega arith)
-    (all-within bs w (still_fresh fresh b) b (place + 1) taken low (omega (arith, l)) (omega (arith, t)))
-
--- the tokens of a part of a text
-pub tokens-within : (text : List ℕ) (from end : ℕ) (mode : Mode) → from ≤ end → end ≤ length text → AreWithin from end (tokens_of text from end mode)
-tokens-within text from end mode order within =
-    let cut = take end text in
-    let size : from + length (drop from cut) ≤ end = omega (arith, length-drop from cut, length-take end text) in
-    wider from (from + length (drop from cut)) from end (tokens_of text from end mode) (omega arith) size
-    (all-within (drop from cut) (beginning mode) (fresh_at cut from) (last_at cut from) from 0 from (omega arith) (omega arith))

@@ -1,5 +1,5 @@
 -- What the scanner answers, and what the rules for tokens give.
-use Rattle.std.specs.Prelude.{◌≡◌, ℕ, ◌+◌, Bool, List, [], ◌∷◌, ◌++◌, take}
+use Rattle.std.specs.Prelude.{◌≡◌, ℕ, ◌+◌, Bool, true, false, List, [], ◌∷◌, ◌++◌, take}
 use Rattle.cw_base.specs.declared.notes.NoteKind.{NoteKind}
 use Rattle.cw_base.specs.declared.span.Span.{Span}
 use Rattle.cw_rules.specs.declared.bodies.Noted.{Noted}
@@ -73,3 +73,17 @@ plain kind size = record { kind = kind; size = size; notes = [] }
 abbrev pub dropped : NoteKind → ℕ → Cut → Cut
 dropped note place cut =
     record { kind = kinds.Dropped; size = cut.size; notes = record { kind = note; place = place } ∷ cut.notes }
+
+-- ## The sign of a named C part
+
+abbrev pub is_head_sign : TokKind → Bool
+is_head_sign kinds.HeadSign = true
+is_head_sign kind = false
+
+-- The sign stands behind a name, after the name's notes.
+abbrev pub has_sign : List Answer → Bool
+has_sign [] = false
+has_sign (Token token ∷ answers) = is_head_sign token.kind
+has_sign (Begin token ∷ answers) = false
+has_sign (Finish token ∷ answers) = false
+has_sign (Note note place ∷ answers) = has_sign answers

@@ -138,6 +138,28 @@ is_head place bytes = is_head_by (extent (at_start bodies.SectionName (place + 2
 
 -- ## What holds of a place
 
+-- C text goes on in a part, or in the innermost comment.
+abbrev pub is_code_part : Part → Bool
+is_code_part parts.Begin = true
+is_code_part (parts.Plain hash_line include) = true
+is_code_part parts.Definition = true
+is_code_part parts.TexInner = true
+is_code_part parts.Inner = true
+is_code_part part = false
+
+abbrev pub is_code : Part → List Opened → Bool
+is_code part [] = is_code_part part
+is_code part (c ∷ comments) = c.inner
+
+-- the sign behind the name that begins a C part is wanted
+abbrev pub is_head_part : Part → List Opened → Bool
+is_head_part parts.Head [] = true
+is_head_part part comments = false
+
+abbrev pub is_tex_inner : Part → Bool
+is_tex_inner parts.TexInner = true
+is_tex_inner part = false
+
 abbrev pub in_hash_line : Part → Bool
 in_hash_line (parts.Plain hash_line include) = hash_line
 in_hash_line part = false

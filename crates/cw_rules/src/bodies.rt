@@ -13,11 +13,14 @@ use cw_base::NoteKind;
 
 /// The inside of a token that ends at a byte of its own and whose bytes may have notes.
 #[derive(Clone, Copy)]
-pub(crate) enum Body {
+pub enum Body {
     /// A string with this quote.
     Quoted(u8),
+    /// An include name.
     IncludeName,
+    /// A control text.
     ControlText,
+    /// A section name.
     SectionName,
     /// A piece of a comment's text. `deep` says that inner C text would reach a depth above 20 there.
     Piece { long: bool, deep: bool },
@@ -25,10 +28,12 @@ pub(crate) enum Body {
 
 /// A place inside such a token.
 #[derive(Clone, Copy)]
-pub(crate) struct Inside {
+pub struct Inside {
+    /// What goes on there.
     pub body: Body,
     /// How many braces are open, in a comment.
     pub braces: usize,
+    /// How many bytes of the text stand before.
     pub place: usize,
     /// The byte before it.
     pub before: u8,
@@ -38,8 +43,10 @@ pub(crate) struct Inside {
 
 /// A note and the place of the byte that it is about.
 #[derive(Clone, Copy)]
-pub(crate) struct Noted {
+pub struct Noted {
+    /// What is told.
     pub kind: NoteKind,
+    /// The place of the byte.
     pub place: usize,
 }
 
@@ -57,8 +64,10 @@ pub(crate) struct Extent {
 
 /// Where a body stops, and the place of its first byte with a note, from which its notes are found.
 #[derive(Clone, Copy)]
-pub(crate) struct Walked {
+pub struct Walked {
+    /// Where the body stops.
     pub stop: Inside,
+    /// The place of its first byte with a note.
     pub notes: Option<Inside>,
 }
 
@@ -269,7 +278,7 @@ fn first_noted(notes: Option<Inside>, i: Inside, text: &[u8]) -> Option<Inside>
 
 /// Where the body stops in the text, and its notes.
 #[inline(always)]
-pub(crate) fn walk(inside: Inside, text: &[u8]) -> Walked
+pub fn walk(inside: Inside, text: &[u8]) -> Walked
     requires within { inside.place ≤ length text.now }
     requires braces { inside.braces ≤ inside.place }
     ensures stop { result.stop ≡ ended inside (drop inside.place text.now) }

@@ -4,14 +4,16 @@ ghost use Rattle.cw_rules.specs.Bytes.{is_in, is_letter, is_letter_of, run, begi
 
 /// A set of bytes, of which a token may take as many as stand in a row.
 #[derive(Clone, Copy)]
-pub(crate) enum Class {
+pub enum Class {
     /// The blanks.
     Blank,
     /// Blanks and line ends.
     White,
     /// What an identifier goes on with: letters and digits.
     Word,
+    /// The decimal digits.
     Digit,
+    /// The hexadecimal digits, with letters in either case.
     HexDigit,
     /// The letters that may stand behind a constant.
     Suffix,
@@ -24,6 +26,7 @@ pub(crate) enum Class {
 }
 
 impl Class {
+    // Whether the byte is in the set.
     pub(crate) fn has(self, byte: u8) -> bool
         ensures { result ≡ is_in self byte }
     {
@@ -68,25 +71,28 @@ static WORD_BYTES: [bool; 256] = [
 
 /// Whether an identifier may go on with the byte.
 #[inline(always)]
-pub(crate) fn is_word(byte: u8) -> bool
+pub fn is_word(byte: u8) -> bool
     ensures { result ≡ is_in Class.Word byte }
 {
     WORD_BYTES[byte as usize]
 }
 
-pub(crate) fn is_blank(byte: u8) -> bool
+/// Whether the byte is a blank.
+pub fn is_blank(byte: u8) -> bool
     ensures { result ≡ is_in Class.Blank byte }
 {
     byte == 32 || byte == 9 || byte == 11 || byte == 12 || byte == 13
 }
 
-pub(crate) fn is_digit(byte: u8) -> bool
+/// Whether the byte is a decimal digit.
+pub fn is_digit(byte: u8) -> bool
     ensures { result ≡ is_in Class.Digit byte }
 {
     48 <= byte && byte <= 57
 }
 
-pub(crate) fn is_letter(byte: u8) -> bool
+/// Whether an identifier may begin with the byte.
+pub fn is_letter(byte: u8) -> bool
     ensures { result ≡ is_letter byte }
 {
     (97 <= byte && byte <= 122)
@@ -104,7 +110,7 @@ pub(crate) fn is_letter_of(small: u8, byte: u8) -> bool
 }
 
 /// How many bytes of the class stand in a row at the beginning.
-pub(crate) fn run(class: Class, bytes: &[u8]) -> usize
+pub fn run(class: Class, bytes: &[u8]) -> usize
     ensures value { result ≡ run class bytes.now }
     ensures within { result ≤ length bytes.now }
 {
@@ -116,7 +122,7 @@ pub(crate) fn run(class: Class, bytes: &[u8]) -> usize
 }
 
 /// The bytes from a place on.
-pub(crate) fn from(bytes: &[u8], at: usize) -> &[u8]
+pub fn from(bytes: &[u8], at: usize) -> &[u8]
     requires { at ≤ length bytes.now }
     ensures value { result.now ≡ drop at bytes.now }
     ensures length { length result.now + at ≡ length bytes.now }
@@ -125,7 +131,7 @@ pub(crate) fn from(bytes: &[u8], at: usize) -> &[u8]
 }
 
 /// Whether the bytes begin with this one.
-pub(crate) fn begins(wanted: u8, bytes: &[u8]) -> bool
+pub fn begins(wanted: u8, bytes: &[u8]) -> bool
     ensures { result ≡ begins wanted bytes.now }
 {
     match bytes {
@@ -135,7 +141,7 @@ pub(crate) fn begins(wanted: u8, bytes: &[u8]) -> bool
 }
 
 /// Whether the bytes begin with these.
-pub(crate) fn begins_with(wanted: &[u8], bytes: &[u8]) -> bool
+pub fn begins_with(wanted: &[u8], bytes: &[u8]) -> bool
     ensures { result ≡ begins_with wanted.now bytes.now }
 {
     let mut k = 0;

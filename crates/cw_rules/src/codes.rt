@@ -75,7 +75,7 @@ pub enum Code {
 
 /// What a code does where it stands.
 #[derive(Clone, Copy)]
-pub(crate) enum Effect {
+pub enum Effect {
     /// It is a token of its own.
     Stands,
     /// It is dropped, with this note.
@@ -132,7 +132,7 @@ impl Code {
     }
 
     /// The code of the bytes behind an `@`.
-    pub(crate) fn at(bytes: &[u8]) -> Code
+    pub fn at(bytes: &[u8]) -> Code
         ensures { result ≡ code_at bytes.now }
     {
         match bytes {
@@ -141,13 +141,14 @@ impl Code {
         }
     }
 
-    pub(crate) fn is_section(self) -> bool
+    fn is_section(self) -> bool
         ensures { result ≡ is_section self }
     {
         matches!(self, Code::Section | Code::StarredSection)
     }
 
-    pub(crate) fn is_name(self) -> bool
+    /// Whether a section name stands behind the code.
+    pub fn is_name(self) -> bool
         ensures { result ≡ is_name self }
     {
         matches!(self, Code::SectionName | Code::FileName)
@@ -173,7 +174,8 @@ impl Code {
         )
     }
 
-    pub(crate) fn effect_in_limbo(self) -> Effect
+    /// What the code does in limbo.
+    pub fn effect_in_limbo(self) -> Effect
         ensures { result ≡ effect_in_limbo self }
     {
         match self {
@@ -183,7 +185,8 @@ impl Code {
         }
     }
 
-    pub(crate) fn effect_in_tex(self) -> Effect
+    /// What the code does in TeX text.
+    pub fn effect_in_tex(self) -> Effect
         ensures { result ≡ effect_in_tex self }
     {
         match self {
@@ -204,7 +207,8 @@ impl Code {
         }
     }
 
-    pub(crate) fn effect_in_c(self) -> Effect
+    /// What the code does in C text.
+    pub fn effect_in_c(self) -> Effect
         ensures value { result ≡ effect_in_c self }
         ensures stays { stays result ≡ true }
     {
@@ -217,7 +221,8 @@ impl Code {
         }
     }
 
-    pub(crate) fn effect_in_definition(self) -> Effect
+    /// What the code does in the C text of a definition.
+    pub fn effect_in_definition(self) -> Effect
         ensures { result ≡ effect_in_definition self }
     {
         match self {
@@ -228,7 +233,8 @@ impl Code {
         }
     }
 
-    pub(crate) fn effect_at_begin(self) -> Effect
+    /// What the code does where a C part begins.
+    pub fn effect_at_begin(self) -> Effect
         ensures { result ≡ effect_at_begin self }
     {
         match self {
@@ -239,7 +245,7 @@ impl Code {
 }
 
 /// Whether a section code stands behind an `@`.
-pub(crate) fn begins_section(bytes: &[u8]) -> bool
+pub fn begins_section(bytes: &[u8]) -> bool
     ensures { result ≡ begins_section bytes.now }
 {
     Code::at(bytes).is_section()

@@ -6,7 +6,7 @@ ghost use Rattle.cw_rules.specs.Constants.{constant};
 use crate::classes::{Class, begins, from, is_letter_of, run};
 
 /// How many bytes a constant takes at the beginning of these bytes, or 0 where none begins.
-pub(crate) fn constant(bytes: &[u8]) -> usize
+pub fn constant(bytes: &[u8]) -> usize
     ensures value { result ≡ constant bytes.now }
     ensures within { result ≤ length bytes.now }
 {

@@ -19,9 +19,12 @@ use cw_base::NoteKind;
 
 /// A token that is cut: what it is, how many bytes it has, and its notes.
 #[derive(Clone, Copy)]
-pub(crate) struct Cutting {
+pub struct Cutting {
+    /// What the token is.
     pub kind: TokKind,
+    /// How many bytes it has.
     pub size: usize,
+    /// The notes on it.
     pub pending: Pending,
 }
 
@@ -39,7 +42,7 @@ fn at_start(body: Body, place: usize) -> Inside
 }
 
 /// A note where something doesn't hold.
-pub(crate) fn note_unless(holds: bool, kind: NoteKind, place: usize) -> Option<Noted>
+pub fn note_unless(holds: bool, kind: NoteKind, place: usize) -> Option<Noted>
     ensures { result ≡ note_unless holds kind place }
 {
     if holds {
@@ -50,7 +53,7 @@ pub(crate) fn note_unless(holds: bool, kind: NoteKind, place: usize) -> Option<N
 }
 
 /// A token without notes.
-pub(crate) fn plain(kind: TokKind, size: usize) -> Cutting
+pub fn plain(kind: TokKind, size: usize) -> Cutting
     ensures { result ≡ record { kind = kind; size = size; pending = no_notes } }
 {
     Cutting {
@@ -62,7 +65,7 @@ pub(crate) fn plain(kind: TokKind, size: usize) -> Cutting
 
 /// A string, whose quote is the last of its first `opening` bytes.
 #[inline(always)]
-pub(crate) fn string(text: &[u8], at: usize, kind: TokKind, opening: usize, quote: u8) -> Cutting
+pub fn string(text: &[u8], at: usize, kind: TokKind, opening: usize, quote: u8) -> Cutting
     requires some { 0 < opening }
     requires within { at + opening ≤ length text.now }
     ensures same { cut_of text.now result ≡ string kind opening quote at (bytes_at text.now at) }
@@ -138,7 +141,7 @@ fn first(bytes: &[u8], size: usize) -> &[u8]
 }
 
 /// An include name, between whose `<` and `>` so many bytes stand.
-pub(crate) fn include_name(text: &[u8], at: usize, size: usize) -> Cutting
+pub fn include_name(text: &[u8], at: usize, size: usize) -> Cutting
     requires size { size ≡ run Class.IncludeName (drop (at + 1) text.now) }
     requires within { at + (size + 2) ≤ length text.now }
     ensures same { cut_of text.now result ≡ include_name at (bytes_at text.now at) }
@@ -157,7 +160,7 @@ pub(crate) fn include_name(text: &[u8], at: usize, size: usize) -> Cutting
 }
 
 /// A code with its name, string or control text.
-pub(crate) fn code_token(text: &[u8], at: usize, code: Code) -> Cutting
+pub fn code_token(text: &[u8], at: usize, code: Code) -> Cutting
     requires place { at < length text.now }
     requires code { code ≡ code_at (drop (at + 1) text.now) }
     ensures same { cut_of text.now result ≡ code_token code at (bytes_at text.now at) }
@@ -187,7 +190,7 @@ fn control_or_plain(text: &[u8], at: usize, code: Code) -> Cutting
 }
 
 /// A code that is its `@` and the byte behind it, where one is there.
-pub(crate) fn alone(text: &[u8], at: usize, code: Code) -> Cutting
+pub fn alone(text: &[u8], at: usize, code: Code) -> Cutting
     requires place { at < length text.now }
     ensures same { cut_of text.now result ≡ plain (TokKind.Code code) (alone_size (bytes_at text.now at)) }
     ensures first { result.pending.first ≡ None }
@@ -200,7 +203,7 @@ pub(crate) fn alone(text: &[u8], at: usize, code: Code) -> Cutting
 }
 
 /// A code that is dropped with its control text.
-pub(crate) fn dropped_code(text: &[u8], at: usize, code: Code, note: NoteKind) -> Cutting
+pub fn dropped_code(text: &[u8], at: usize, code: Code, note: NoteKind) -> Cutting
     requires place { at < length text.now }
     requires code { code ≡ code_at (drop (at + 1) text.now) }
     ensures same { cut_of text.now result ≡ dropped_code note code at (bytes_at text.now at) }
@@ -210,7 +213,7 @@ pub(crate) fn dropped_code(text: &[u8], at: usize, code: Code, note: NoteKind) -
 }
 
 /// The token as one that is dropped, with the note why before its own.
-pub(crate) fn dropped(cut: Cutting, note: NoteKind, at: usize) -> Cutting
+pub fn dropped(cut: Cutting, note: NoteKind, at: usize) -> Cutting
     ensures { result ≡ record {
       kind = TokKind.Dropped;
       size = cut.size;
@@ -233,7 +236,7 @@ pub(crate) fn dropped(cut: Cutting, note: NoteKind, at: usize) -> Cutting
 }
 
 /// Whether the name here begins a C part.
-pub(crate) fn is_head(text: &[u8], at: usize) -> bool
+pub fn is_head(text: &[u8], at: usize) -> bool
     requires { at + 2 ≤ length text.now }
     ensures { result ≡ is_head at (bytes_at text.now at) }
 {
@@ -273,7 +276,7 @@ fn head_sign_size(bytes: &[u8]) -> usize
 }
 
 /// A section code, with its depth and the blanks behind it.
-pub(crate) fn section_code(text: &[u8], at: usize) -> Cutting
+pub fn section_code(text: &[u8], at: usize) -> Cutting
     requires { at < length text.now }
     ensures same { cut_of text.now result ≡ section_code (bytes_at text.now at) }
     ensures fits { IsCut text.now at result }

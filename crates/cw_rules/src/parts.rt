@@ -7,8 +7,10 @@ use crate::{Code, Sign};
 
 /// What is scanned where no comment is open, with what the head of a definition still wants.
 #[derive(Clone, Copy)]
-pub(crate) enum Part {
+pub enum Part {
+    /// Limbo.
     Limbo,
+    /// TeX text.
     Tex,
     /// Inner C text of TeX text.
     TexInner,
@@ -47,8 +49,10 @@ pub(crate) enum Part {
 
 /// A comment that is open.
 #[derive(Clone, Copy)]
-pub(crate) struct Opened {
+pub struct Opened {
+    /// The place of its first byte.
     pub start: usize,
+    /// Whether it began with `/*`.
     pub long: bool,
     /// How many braces are open in its text.
     pub braces: usize,
@@ -58,23 +62,30 @@ pub(crate) struct Opened {
 
 /// What begins at a byte of C text, but for white space, the `#` of a `#` line and an include name.
 #[derive(Clone, Copy)]
-pub(crate) enum Start {
+pub enum Start {
+    /// An identifier.
     Identifier,
+    /// A constant.
     Constant,
     /// A string with this quote.
     Quoted(u8),
+    /// A comment with `/*`.
     LongComment,
+    /// A comment with `//`.
     ShortComment,
+    /// A control code.
     Code(Code),
     /// The bar that ends inner C text.
     EndOfInner,
+    /// A sign.
     Sign(Sign),
+    /// A byte that begins nothing else.
     OtherByte,
 }
 
 impl Part {
     /// Whether C text goes on where no comment is open.
-    pub(crate) fn is_code(self) -> bool
+    pub fn is_code(self) -> bool
         ensures { result ≡ is_code_part self }
     {
         matches!(
@@ -83,7 +94,8 @@ impl Part {
         )
     }
 
-    pub(crate) fn in_hash_line(self) -> bool
+    /// Whether a `#` line goes on.
+    pub fn in_hash_line(self) -> bool
         ensures { result ≡ in_hash_line self }
     {
         match self {
@@ -92,7 +104,8 @@ impl Part {
         }
     }
 
-    pub(crate) fn behind_include(self) -> bool
+    /// Whether the word `include` of a `#` line stands directly before.
+    pub fn behind_include(self) -> bool
         ensures { result ≡ behind_include self }
     {
         match self {
@@ -114,7 +127,7 @@ impl Part {
     }
 
     /// The part behind a token of C text.
-    pub(crate) fn passed(self) -> Part
+    pub fn passed(self) -> Part
         ensures value { result ≡ passed self }
         ensures code { is_code_part result ≡ is_code_part self }
     {
@@ -133,7 +146,7 @@ impl Part {
 
     /// Goes behind a token of C text. It writes only where the part changes, which is seldom.
     #[inline(always)]
-    pub(crate) fn pass(&mut self)
+    pub fn pass(&mut self)
         ensures value { self.new ≡ passed self.old }
         ensures code { is_code_part self.new ≡ is_code_part self.old }
     {
@@ -143,7 +156,7 @@ impl Part {
     }
 
     /// The depth of C text in which no comment is open.
-    pub(crate) fn first_depth(self) -> usize
+    pub fn first_depth(self) -> usize
         ensures { result ≡ first_depth self }
     {
         match self {

@@ -7,15 +7,20 @@ use crate::bodies::{Inside, Noted, next_noted};
 /// The notes of the last token that are still to be answered, in this order. Those of a body are found from
 /// a place inside it.
 #[derive(Clone, Copy)]
-pub(crate) struct Pending {
+pub struct Pending {
+    /// The first note.
     pub first: Option<Noted>,
+    /// The second note.
     pub second: Option<Noted>,
+    /// The place inside a body from which its notes are found.
     pub body: Option<Inside>,
+    /// The note behind those of the body.
     pub last: Option<Noted>,
 }
 
 impl Pending {
-    pub(crate) fn new() -> Pending
+    /// No note.
+    pub fn new() -> Pending
         ensures { result ≡ no_notes }
     {
         Pending {
@@ -28,14 +33,15 @@ impl Pending {
 
     /// Whether no note is left to look for.
     #[inline(always)]
-    pub(crate) fn is_quiet(&self) -> bool
-        ensures { result ≡ true → self.now ≡ no_notes }
+    pub fn is_quiet(&self) -> bool
+        ensures none { result ≡ true → self.now ≡ no_notes }
+        ensures only { self.now ≡ no_notes → result ≡ true }
     {
         self.first.is_none() && self.second.is_none() && self.body.is_none() && self.last.is_none()
     }
 
     /// The next note, which is taken out.
-    pub(crate) fn next(&mut self, text: &[u8]) -> Option<Noted>
+    pub fn next(&mut self, text: &[u8]) -> Option<Noted>
         requires { IsInside (length text.now) self.old.body }
         ensures value { MatchOption result (pending_notes text.now self.old ≡
             []) (λ n. pending_notes text.now self.old ≡ n ∷ pending_notes text.now self.new) }

@@ -85,7 +85,7 @@ pub enum Sign {
 
 /// The longest sign that a byte and the bytes behind it begin with.
 #[inline(always)]
-pub(crate) fn sign_at(byte: u8, rest: &[u8]) -> Option<Sign>
+pub fn sign_at(byte: u8, rest: &[u8]) -> Option<Sign>
     ensures value { result ≡ longest all_signs (byte ∷ rest.now) }
     ensures within { IfSome result (λ sign. length (spelling sign) ≤ length rest.now + 1) }
 {
@@ -165,7 +165,7 @@ pub(crate) fn sign_at(byte: u8, rest: &[u8]) -> Option<Sign>
 
 impl Sign {
     /// How many bytes its spelling has.
-    pub(crate) fn size(self) -> usize
+    pub fn size(self) -> usize
         ensures value { result ≡ length (spelling self) }
         ensures some { 0 < result }
     {

@@ -42,6 +42,7 @@ pub enum TokKind {
 /// One token.
 #[derive(Clone, Copy)]
 pub struct Tok<'a> {
+    /// What it is.
     pub kind: TokKind,
     /// The bytes of the token.
     pub text: &'a [u8],

@@ -1,0 +1,20 @@
+-- The laws of single rules: what a token takes, and when it is the same where the text ends before it or goes on.
+pub mod Choices
+pub mod Inside
+pub mod Runs
+pub mod Cuts
+pub mod Void
+pub mod WordBytes
+pub mod Sizes
+pub mod Within
+pub mod Taking
+pub mod Ahead
+pub mod BodiesAhead
+pub mod RulesAhead
+pub mod BarsAhead
+pub mod BarBodies
+pub mod BarRules
+pub mod InnerTwins
+pub mod NameEnds
+pub mod CodeStarts
+pub mod CodeTwins
