@@ -1,12 +1,11 @@
 //! Indexes and section lists of small webs, by calls.
-ghost use Rattle.std.specs.Prelude.{IfOk, IsTrue};
 ghost use Rattle.cw_base.specs.declared.event.Out.TheVariants.{Idx};
-ghost use Rattle.cw_desk.specs.Meaning.{is_open};
 ghost use Rattle.cw_lines.specs.Writes.{CanWrite};
 ghost use Rattle.cw_reduce.specs.NameParts.{AreNamesOf};
 
-use cw_base::{Bytes, Event, Flags, Kept, Memory, Out, Place, Steps, Web};
-use cw_desk::{Desk, MadeOut, MemDesk};
+use crate::small_webs::{book_of, desk_with, web_of, written};
+use cw_base::{Flags, Kept, Memory, Out, Steps, Web};
+use cw_desk::Desk;
 use cw_index::{are_names_whole, compare_entries, write_closing, write_index, write_names};
 use cw_lines::{LineOut, PutError};
 use cw_names::{EntryKind, Names};
@@ -15,57 +14,6 @@ use cw_texpart::Counts;
 use std::alloc::Global;
 use std::cmp::Ordering;
 use std::test::Fail;
-
-// One line more, where the web has room for it.
-fn add(web: &mut Web, line: &[u8]) -> Result<(), Memory> {
-    if web.file_count() == 0 || web.text().len() + line.len() >= 16_777_216 {
-        return Ok(());
-    }
-    if line.iter().all(|byte| *byte != 10) {
-        web.add_line(line, Place { file: 0, line: 1 }, false)?;
-    }
-    Ok(())
-}
-
-fn web_of(alloc: Global, lines: &[&[u8]]) -> Result<Web, Memory> {
-    let mut web = Web::new_in(alloc);
-    web.add_file(b"t.w")?;
-    for line in lines {
-        add(&mut web, line)?;
-    }
-    Ok(web)
-}
-
-// A desk on which the index is made.
-fn desk_with_index(alloc: Global) -> Result<MemDesk, Memory>
-    ensures { IfOk result (λ desk. IsTrue (is_open desk.outputs Idx)) }
-{
-    let mut desk = MemDesk::new_in(alloc);
-    match desk.make(Out::Idx, b"idx") {
-        MadeOut::Done => Ok(desk),
-        _ => Err(Memory),
-    }
-}
-
-// All bytes that were written.
-fn written(alloc: Global, journal: &[Event]) -> Result<Bytes, Memory> {
-    let mut text = Bytes::new_in(alloc);
-    for event in journal {
-        if let Event::Byte(_, byte) = event {
-            text.push(*byte)?;
-        }
-    }
-    Ok(text)
-}
-
-// The book of a web.
-fn book_of(alloc: Global, web: &Web) -> Result<Book, Memory>
-    ensures { IfOk result (λ book. AreNamesOf book.sec_names book.name_uses) }
-{
-    let _text = web.text();
-    let book = phase_one(alloc, web)?;
-    Ok(book)
-}
 
 #[test]
 fn an_entry_stands_before_another(rt: HostRuntime) -> Result<(), Fail> {
@@ -91,7 +39,7 @@ fn an_index_is_written(rt: HostRuntime) -> Result<(), Fail> {
     ];
     let web = web_of(rt.alloc(), lines)?;
     let book = phase_one(rt.alloc(), &web)?;
-    let mut desk = desk_with_index(rt.alloc())?;
+    let mut desk = desk_with(rt.alloc(), Out::Idx)?;
     let mut out = LineOut::new_in(rt.alloc(), Out::Idx);
     let counts = write_index(rt.alloc(), &web, &book, &mut out, &mut desk)?;
     assert_eq!(rt; counts.scraps, 0);
@@ -134,7 +82,7 @@ fn a_section_list_is_written(rt: HostRuntime) -> Result<(), Fail> {
     ];
     let web = web_of(rt.alloc(), lines)?;
     let mut book = book_of(rt.alloc(), &web)?;
-    let mut desk = desk_with_index(rt.alloc())?;
+    let mut desk = desk_with(rt.alloc(), Out::Idx)?;
     let mut out = LineOut::new_in(rt.alloc(), Out::Idx);
     let counts = list_names(rt.alloc(), &web, &mut book, &mut out, &mut desk)?;
     assert_eq!(rt; counts.scraps, 4);

@@ -1,16 +1,16 @@
 //! Tests of the joiner: names, signs and runs are printed, and inner texts have a blank for a run.
-ghost use Rattle.std.specs.Prelude.{ℕ, IfOk, IsTrue, List, OnOk};
+ghost use Rattle.std.specs.Prelude.{ℕ, List, OnOk};
 ghost use Rattle.std.specs.Bool.{OnTrue};
 ghost use Rattle.cw_base.specs.declared.event.Out.TheVariants.{Tex};
-ghost use Rattle.cw_desk.specs.Meaning.{is_open};
 ghost use Rattle.cw_desk.specs.Mem.{tell};
 ghost use Rattle.cw_lines.specs.Writes.{CanWrite};
 ghost use Rattle.cw_trees.specs.Printing.{Printable};
 ghost use Rattle.cw_join.specs.Standing.{Stands};
 ghost use Rattle.cw_join.specs.Tokens.{CanCome};
 
-use cw_base::{Bytes, Event, Memory, Out};
-use cw_desk::{Desk, MadeOut, MemDesk};
+use crate::small_webs::{desk_with, written};
+use cw_base::Out;
+use cw_desk::MemDesk;
 use cw_join::{FlatToken, Joiner};
 use cw_lines::{LineOut, PutError};
 use cw_names::{EntryKind, NameId, Names};
@@ -18,28 +18,6 @@ use cw_tokens::FlatItem;
 use cw_trees::Control;
 use std::alloc::Global;
 use std::test::Fail;
-
-/// A desk on which the TeX file is made.
-fn desk_with_tex(alloc: Global) -> Result<MemDesk, Memory>
-    ensures { IfOk result (λ desk. IsTrue (is_open desk.outputs Tex)) }
-{
-    let mut desk = MemDesk::new_in(alloc);
-    match desk.make(Out::Tex, b"tex") {
-        MadeOut::Done => Ok(desk),
-        _ => Err(Memory),
-    }
-}
-
-/// All bytes that were written.
-fn written(alloc: Global, journal: &[Event]) -> Result<Bytes, Memory> {
-    let mut text = Bytes::new_in(alloc);
-    for event in journal {
-        if let Event::Byte(_, byte) = event {
-            text.push(*byte)?;
-        }
-    }
-    Ok(text)
-}
 
 /// Whether an item may come wherever it stands.
 fn is_plain(item: FlatItem, names: usize) -> bool
@@ -129,7 +107,7 @@ const INNER_TEXT: [(FlatItem, &[u8]); 4] = [
 
 #[test]
 fn names_signs_and_runs_are_printed(rt: HostRuntime) -> Result<(), Fail> {
-    let mut desk = desk_with_tex(rt.alloc())?;
+    let mut desk = desk_with(rt.alloc(), Out::Tex)?;
     let mut out = LineOut::new_in(rt.alloc(), Out::Tex);
     let mut names = Names::with_words(rt.alloc())?;
     names.find_or_add(EntryKind::Ident, b"_next_of$")?;
@@ -147,7 +125,7 @@ fn names_signs_and_runs_are_printed(rt: HostRuntime) -> Result<(), Fail> {
 
 #[test]
 fn inner_text_prints_a_blank_for_a_run(rt: HostRuntime) -> Result<(), Fail> {
-    let mut desk = desk_with_tex(rt.alloc())?;
+    let mut desk = desk_with(rt.alloc(), Out::Tex)?;
     let mut out = LineOut::new_in(rt.alloc(), Out::Tex);
     let names = Names::with_words(rt.alloc())?;
     push_each(true, &INNER_TEXT, &names, &mut out, &mut desk)?;

@@ -11,5 +11,6 @@ mod part_tests;
 mod phase_tests;
 #[cfg(test)]
 mod section_name_tests;
+pub mod small_webs;
 #[cfg(test)]
 mod tex_part_tests;

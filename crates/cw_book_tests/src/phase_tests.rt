@@ -1,35 +1,10 @@
 //! The first phase of worked webs, by calls.
-use cw_base::{Memory, NoteKind, Place, Span, Web};
+use crate::small_webs::web_of;
+use cw_base::{NoteKind, Span};
 use cw_phase1::phase_one;
 use cw_secnames::SecId;
 use std::alloc::Global;
 use std::test::Fail;
-
-// One line more, where the web has room for it.
-fn add(web: &mut Web, line: &[u8], number: u32) -> Result<(), Memory> {
-    if web.file_count() == 0 || web.text().len() + line.len() >= 16_777_216 {
-        return Ok(());
-    }
-    if line.iter().all(|byte| *byte != 10) {
-        let place = Place {
-            file: 0,
-            line: number,
-        };
-        web.add_line(line, place, false)?;
-    }
-    Ok(())
-}
-
-fn web_of(alloc: Global, lines: &[&[u8]]) -> Result<Web, Memory> {
-    let mut web = Web::new_in(alloc);
-    web.add_file(b"t.w")?;
-    let mut number = 0u32;
-    for line in lines {
-        number = number.wrapping_add(1);
-        add(&mut web, line, number)?;
-    }
-    Ok(web)
-}
 
 #[test]
 fn a_prefix_of_two_names(rt: HostRuntime) -> Result<(), Fail> {

@@ -1,68 +1,16 @@
 //! Limbo, and the heads and TeX parts of small webs, by calls.
-ghost use Rattle.std.specs.Prelude.{IfOk, IsTrue};
 ghost use Rattle.cw_base.specs.declared.event.Out.TheVariants.{Tex};
-ghost use Rattle.cw_desk.specs.Meaning.{is_open};
 ghost use Rattle.cw_lines.specs.Writes.{CanWrite};
 ghost use Rattle.cw_reduce.specs.NameParts.{AreNamesOf};
 
-use cw_base::{Bytes, Event, Flags, Kept, Memory, Out, Place, Steps, Web};
-use cw_desk::{Desk, MadeOut, MemDesk};
+use crate::small_webs::{book_of, desk_with, web_of, written};
+use cw_base::{Flags, Kept, Memory, Out, Steps, Web};
+use cw_desk::Desk;
 use cw_lines::{LineOut, PutError};
 use cw_phase1::{Book, phase_one};
 use cw_texpart::{Counts, copy_limbo, copy_tex, is_whole};
 use std::alloc::Global;
 use std::test::Fail;
-
-// One line more, where the web has room for it.
-fn add(web: &mut Web, line: &[u8]) -> Result<(), Memory> {
-    if web.file_count() == 0 || web.text().len() + line.len() >= 16_777_216 {
-        return Ok(());
-    }
-    if line.iter().all(|byte| *byte != 10) {
-        web.add_line(line, Place { file: 0, line: 1 }, false)?;
-    }
-    Ok(())
-}
-
-fn web_of(alloc: Global, lines: &[&[u8]]) -> Result<Web, Memory> {
-    let mut web = Web::new_in(alloc);
-    web.add_file(b"t.w")?;
-    for line in lines {
-        add(&mut web, line)?;
-    }
-    Ok(web)
-}
-
-// A desk on which the TeX file is made.
-fn desk_with_tex(alloc: Global) -> Result<MemDesk, Memory>
-    ensures { IfOk result (λ desk. IsTrue (is_open desk.outputs Tex)) }
-{
-    let mut desk = MemDesk::new_in(alloc);
-    match desk.make(Out::Tex, b"tex") {
-        MadeOut::Done => Ok(desk),
-        _ => Err(Memory),
-    }
-}
-
-// All bytes that were written.
-fn written(alloc: Global, journal: &[Event]) -> Result<Bytes, Memory> {
-    let mut text = Bytes::new_in(alloc);
-    for event in journal {
-        if let Event::Byte(_, byte) = event {
-            text.push(*byte)?;
-        }
-    }
-    Ok(text)
-}
-
-// The book of a web.
-fn book_of(alloc: Global, web: &Web) -> Result<Book, Memory>
-    ensures { IfOk result (λ book. AreNamesOf book.sec_names book.name_uses) }
-{
-    let _text = web.text();
-    let book = phase_one(alloc, web)?;
-    Ok(book)
-}
 
 // Puts the head and the TeX part of the first section, where the C texts in it are whole.
 fn put_first<D: Desk>(
@@ -92,7 +40,7 @@ fn limbo_is_copied(rt: HostRuntime) -> Result<(), Fail> {
     let lines: &[&[u8]] = &[b"% a@@b", b"@l", b"@q c@>", b"", b"@ A"];
     let web = web_of(rt.alloc(), lines)?;
     let book = phase_one(rt.alloc(), &web)?;
-    let mut desk = desk_with_tex(rt.alloc())?;
+    let mut desk = desk_with(rt.alloc(), Out::Tex)?;
     let mut out = LineOut::new_in(rt.alloc(), Out::Tex);
     let counts = copy_limbo(rt.alloc(), &web, &book, &mut out, &mut desk)?;
     assert_eq!(rt; counts.scraps, 0);
@@ -113,7 +61,7 @@ fn a_section_is_copied(rt: HostRuntime) -> Result<(), Fail> {
     ];
     let web = web_of(rt.alloc(), lines)?;
     let mut book = book_of(rt.alloc(), &web)?;
-    let mut desk = desk_with_tex(rt.alloc())?;
+    let mut desk = desk_with(rt.alloc(), Out::Tex)?;
     let mut out = LineOut::new_in(rt.alloc(), Out::Tex);
     let counts = put_first(rt.alloc(), &web, &mut book, &mut out, &mut desk)?;
     assert_eq!(rt; counts.scraps, 6);

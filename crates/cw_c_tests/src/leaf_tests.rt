@@ -1,5 +1,5 @@
 //! Tests that make the scrap of each kind of token once.
-ghost use Rattle.std.specs.Prelude.{◌≡◌, ◌^◌, ◌<◌, length};
+ghost use Rattle.std.specs.Prelude.{◌^◌, ◌<◌, length};
 ghost use Rattle.cw_rules.specs.declared.tokens.TokKind.TheVariants as TokKind;
 ghost use Rattle.cw_scraps.specs.Leaves.{MakesLeaf};
 

@@ -21,3 +21,4 @@ mod test_printing;
 mod translate_tests;
 #[cfg(test)]
 mod walk_tests;
+pub mod worked_lines;

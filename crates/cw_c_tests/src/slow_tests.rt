@@ -4,7 +4,7 @@ ghost use Rattle.std.specs.Prelude.{OnOk};
 ghost use Rattle.cw_scraps.specs.Lines.{IsSoundLine};
 
 use crate::row_tests::produce;
-use crate::walk_tests::add_all;
+use crate::worked_lines::add_all;
 use cw_base::{Cat, Flags, Kept, Memory, Steps};
 use cw_names::Names;
 use cw_reduce::reduce;

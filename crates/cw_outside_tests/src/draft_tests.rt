@@ -1,8 +1,4 @@
 //! What no clause says of drafts: that the calls succeed, and what becomes of real files.
-ghost use Rattle.std.specs.Prelude.{IfOk, IsTrue};
-ghost use Rattle.cw_base.specs.declared.event.Out.TheVariants.{Tex};
-ghost use Rattle.cw_desk.specs.File.{tell};
-ghost use Rattle.cw_desk.specs.Meaning.{has_draft, is_open};
 
 use cw_base::{Event, Out};
 use cw_desk::{Batch, CountDesk, Desk, FileDesk, Flushed, MadeOut, MemDesk, QuietDesk, Taken};

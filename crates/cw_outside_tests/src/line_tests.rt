@@ -1,26 +1,13 @@
 //! Tests of lines: a long name is cut, a put that fails is a fault, and a byte that ends no line is pending.
-ghost use Rattle.std.specs.Prelude.{◌≡◌, IfOk, IsTrue, OnOk};
-ghost use Rattle.cw_base.specs.declared.event.Out.TheVariants.{Tex};
-ghost use Rattle.cw_desk.specs.Meaning.{is_open};
+ghost use Rattle.std.specs.Prelude.{OnOk};
 ghost use Rattle.cw_desk.specs.Mem.{tell};
 ghost use Rattle.cw_lines.specs.Writes.{CanWrite};
 
-use cw_base::{Bytes, Event, Memory, Out};
-use cw_desk::{Desk, MadeOut, MemDesk};
+use crate::desks::{desk_with_tex, written};
+use cw_base::Out;
+use cw_desk::MemDesk;
 use cw_lines::{LineOut, PutError, write_all};
-use std::alloc::Global;
 use std::test::Fail;
-
-/// A desk on which the TeX file is made.
-fn desk_with_tex(alloc: Global) -> Result<MemDesk, Memory>
-    ensures { IfOk result (λ desk. IsTrue (is_open desk.outputs Tex)) }
-{
-    let mut desk = MemDesk::new_in(alloc);
-    match desk.make(Out::Tex, b"tex") {
-        MadeOut::Done => Ok(desk),
-        _ => Err(Memory),
-    }
-}
 
 /// Puts bytes on a line, which can be written on afterwards.
 fn put_bytes(line: &mut LineOut, bytes: &[u8], desk: &mut MemDesk) -> Result<(), PutError>
@@ -29,17 +16,6 @@ fn put_bytes(line: &mut LineOut, bytes: &[u8], desk: &mut MemDesk) -> Result<(),
 {
     line.put_all(bytes, desk)?;
     Ok(())
-}
-
-/// All bytes that were written.
-fn written(alloc: Global, journal: &[Event]) -> Result<Bytes, Memory> {
-    let mut text = Bytes::new_in(alloc);
-    for event in journal {
-        if let Event::Byte(_, byte) = event {
-            text.push(*byte)?;
-        }
-    }
-    Ok(text)
 }
 
 #[test]

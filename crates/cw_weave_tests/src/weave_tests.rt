@@ -1,6 +1,6 @@
 //! Whole runs over small webs and command lines, and over desks that fail.
 use crate::{FOO, HELLO, journal_text, weave, web_desk, web_told};
-use cw_base::{Exit, Out};
+use cw_base::Exit;
 use cw_desk::MemDesk;
 use std::test::Fail;
 

@@ -3,7 +3,7 @@ use Rattle.std.proofs.Common.{◌≤◌, ◌^◌, ap, length, arith}
 use Rattle.std.proofs.lemmas.List.Elements.{All-weaker}
 use Rattle.cw_base.specs.Web.{text_of}
 use Rattle.cw_secnames.specs.Kept.{SecName}
-use Rattle.cw_book_tests.proofs.part_tests.book_of.Goals as goal
+use Rattle.cw_book_tests.proofs.small_webs.book_of.Goals as goal
 
 pub returns : goal.returns
 returns c =
