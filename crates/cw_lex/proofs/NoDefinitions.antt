@@ -1,5 +1,5 @@
 -- Over a C part and inner C text no definition begins.
-use Rattle.std.proofs.Common.{◌≡◌, ℕ, ◌+◌, ◌-◌, Bool, true, false, not, ◌&&◌, ◌||◌, Option, Some, None, List, [], ◌∷◌, ◌++◌, drop, length, refl, sym, ◌∙◌, ap}
+use Rattle.std.proofs.Common.{◌≡◌, ℕ, Bool, true, false, not, ◌&&◌, ◌||◌, Option, Some, None, List, [], ◌∷◌, ◌++◌, drop, length, refl, sym, ◌∙◌, ap}
 use Rattle.std.specs.Prelude.{if◌then◌else◌, ◌==◌, nat_lt}
 use Rattle.std.specs.List.{list_any}
 use Rattle.cw_base.proofs.TestLaws.{both-right, one-failed-left, one-failed-right}
@@ -15,7 +15,6 @@ use Rattle.cw_rules.specs.Signs.{all_signs, longest, spelling}
 use Rattle.cw_rules.specs.Tokens.{one, dropped_code, identifier, string, sign_or_other, passed, moved, in_hash_line, ends_at_bar, line_end, comment_end, inner_cut, inner_end, effect_in, code_by, code_token, in_code, start_of, section_code, is_name, is_quote, behind_word, is_include, may_head, is_head}
 use Rattle.cw_rules.proofs.CodeStarts.{is_definition_code}
 use Rattle.cw_rules.specs.declared.bodies.Noted.{Noted}
-use Rattle.cw_rules.specs.declared.classes.Class.TheVariants as classes
 use Rattle.cw_rules.specs.declared.codes.Code.{Code}
 use Rattle.cw_rules.specs.declared.codes.Code.TheVariants as code
 use Rattle.cw_rules.specs.declared.codes.Effect.{Effect}
@@ -26,7 +25,6 @@ use Rattle.cw_rules.specs.declared.parts.Part.TheVariants as parts
 use Rattle.cw_rules.specs.declared.parts.Start.{Start}
 use Rattle.cw_rules.specs.declared.parts.Start.TheVariants as start
 use Rattle.cw_rules.specs.declared.signs.Sign.{Sign}
-use Rattle.cw_rules.specs.declared.tokens.Mode.TheVariants as modes
 use Rattle.cw_rules.specs.declared.tokens.TokKind.{TokKind}
 use Rattle.cw_rules.specs.declared.tokens.TokKind.TheVariants as kind
 

@@ -1,5 +1,5 @@
 -- The tokens of a part of a text lie in it.
-use Rattle.std.proofs.Common.{◌≡◌, ℕ, zero, suc, ◌+◌, ◌-◌, ◌≤◌, Bool, List, [], ◌∷◌, ◌++◌, length, drop, take, arith, length-drop}
+use Rattle.std.proofs.Common.{ℕ, zero, suc, ◌+◌, ◌-◌, ◌≤◌, Bool, List, [], ◌∷◌, length, drop, take, arith, length-drop}
 use Rattle.std.proofs.lemmas.List.{length-take}
 use Rattle.cw_rules.specs.declared.tokens.Mode.{Mode}
 use Rattle.cw_rules.specs.Answers.{Where}

@@ -11,9 +11,9 @@ use Rattle.cw_rules.specs.declared.tokens.Lexed.TheVariants as lexed
 use Rattle.cw_lex.specs.declared.state.Clear.{Clear}
 use Rattle.cw_lex.specs.declared.state.State.{State}
 use Rattle.cw_rules.specs.Bytes.{newline, backslash, is_in, run}
-use Rattle.cw_rules.specs.Answers.{Answer, Finish, Note, seen, Where, Cut, Found, note_answers}
+use Rattle.cw_rules.specs.Answers.{Answer, Finish, Note, seen, Where, Found, note_answers}
 use Rattle.cw_rules.specs.Pending.{pending_notes, no_notes, IsInside}
-use Rattle.cw_rules.specs.Tokens.{in_hash_line, is_space, found, is_code_part, is_code, is_head_part}
+use Rattle.cw_rules.specs.Tokens.{in_hash_line, is_space, found, is_code, is_head_part}
 use Rattle.cw_lex.specs.Lexing.{answers_at, fresh_at, last_at}
 
 abbrev pub where_of : State → Where

@@ -1,5 +1,5 @@
 -- The heads with which definitions and named C parts begin.
-use Rattle.std.specs.Prelude.{ℕ, Bool, true, false, ◌==◌, Option, Some, None, List, [], ◌∷◌}
+use Rattle.std.specs.Prelude.{ℕ, true, false, ◌==◌, Option, Some, None, List, [], ◌∷◌}
 use Rattle.cw_base.specs.declared.span.Span.{Span}
 use Rattle.cw_rules.specs.Answers.{Answer, Token, Begin, Finish, Note, Seen, is_head_sign}
 use Rattle.cw_rules.specs.declared.codes.Code.TheVariants as code
