@@ -28,4 +28,3 @@ pub use span::Span;
 pub use steps::{Kept, Ledger, Silent, Steps};
 pub use web::{LineInfo, Web};
 pub use words::Words;
-

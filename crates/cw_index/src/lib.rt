@@ -17,4 +17,3 @@ pub use index::write_index;
 pub use laws::whole_names_law;
 pub use names::write_names;
 pub use whole::are_names_whole;
-

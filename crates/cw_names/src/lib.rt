@@ -10,4 +10,3 @@ mod xrefs;
 pub use entry::{EntryKind, NameId};
 pub use names::Names;
 pub use xrefs::{Occurrence, SectionRef, Xrefs};
-

@@ -12,4 +12,3 @@ pub use footnotes::put_use_footnotes;
 pub use laws::whole_rest_law;
 pub use sections::weave_section;
 pub use whole::is_whole_rest;
-

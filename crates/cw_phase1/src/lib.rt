@@ -21,4 +21,3 @@ pub use laws::whole_law;
 pub use phase::phase_one;
 pub use roles::{Part, Role, Standing};
 pub use sections::{Depth, Section};
-

@@ -104,7 +104,10 @@ fn digits(bytes: &[u8]) -> usize
     ensures value { result ≡ length (take_while is_digit bytes.now) }
     ensures within { result ≤ length bytes.now }
 {
-    bytes.iter().take_while(|byte| byte.is_ascii_digit()).count()
+    bytes
+        .iter()
+        .take_while(|byte| byte.is_ascii_digit())
+        .count()
 }
 
 // The depth that stands at a place.

@@ -17,4 +17,3 @@ mod tokens;
 mod walk;
 
 pub use printing::print_list;
-

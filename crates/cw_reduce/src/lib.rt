@@ -17,4 +17,3 @@ pub use laws::translation_laws;
 pub use translating::{Translated, translate};
 pub use uncut::{is_plain_c, is_uncut};
 pub use walk::{Reduced, reduce};
-

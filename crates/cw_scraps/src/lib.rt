@@ -21,4 +21,3 @@ pub use leaves::{Leaf, scrap_of};
 pub use line::{LineEntry, Part, ScrapLine};
 pub use marks::Marks;
 pub use words::word_token;
-

@@ -11,4 +11,3 @@ pub use kinds::{Earliest, Entered, RefKind, SecId, SecKind};
 pub use name_uses::NameUses;
 pub use parts::next_part;
 pub use sec_names::SecNames;
-

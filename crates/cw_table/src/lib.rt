@@ -19,4 +19,3 @@ pub use masks::{first_production, may_fit};
 pub use productions::{ROW_COUNT, table};
 pub use ranks::rank;
 pub use types::{Action, Choice, Piece, Pieces, Row, RowNo, RowResult, Table};
-

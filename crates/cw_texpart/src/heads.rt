@@ -78,11 +78,7 @@ pub fn put_number<D: Desk>(
 }
 
 // Puts what stands behind the number of a section.
-fn put_changed_mark<D: Desk>(
-    changed: bool,
-    out: &mut LineOut,
-    desk: &mut D,
-) -> Result<(), PutError>
+fn put_changed_mark<D: Desk>(changed: bool, out: &mut LineOut, desk: &mut D) -> Result<(), PutError>
     requires can { CanWrite (D.told desk.old) out.old }
     ensures { Puts (changed_mark changed) out.old out.new (D.told desk.old) (D.told desk.new) result }
 {

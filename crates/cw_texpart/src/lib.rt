@@ -20,4 +20,3 @@ pub use limbo::copy_limbo;
 pub use tex_parts::copy_tex;
 pub use texts::{CText, TranslatedText, print_text, translate_text};
 pub use whole::is_whole;
-

@@ -11,4 +11,3 @@ mod walk;
 pub use flat::{FlatItem, FlatTokens};
 pub use store::TokenStore;
 pub use token::{ListId, Token};
-
