@@ -19,8 +19,8 @@ ghost use Rattle.cw_reduce.specs.Reduction.{GrowsByProductions, IsFirst, words_o
 
 use cw_base::{Flags, Ledger, Memory, Steps};
 use cw_names::Names;
-use cw_scraps::{Marks, PRODUCTION_TOKENS, ScrapLine};
-use cw_table::{ROW_COUNT, RowAtHand, RowNo, first_production, may_fit, step_back};
+use cw_scraps::{Marks, PRODUCTION_TOKENS, Production, ScrapLine};
+use cw_table::{ROW_COUNT, RowNo, first_production, may_fit, step_back};
 use cw_tokens::TokenStore;
 
 /// What was done to a line of scraps.
@@ -75,7 +75,8 @@ pub fn reduce<L: Ledger>(
     while place < line.len() {
         match row_at(line, place, steps) {
             Some(row) => {
-                produce(row, place, flags, line, names, marks, store, steps)?;
+                let production = Production { row, place, flags };
+                produce(&production, line, names, marks, store, steps)?;
                 productions += 1;
                 place = place.saturating_sub(distance(row));
             }
@@ -120,27 +121,26 @@ fn distance(row: RowNo) -> usize
 
 // One production at a place, where its row fits, with the room that it needs.
 pub(crate) fn produce<L: Ledger>(
-    row: RowNo,
-    place: usize,
-    flags: &Flags,
+    production: &Production,
     line: &mut ScrapLine,
     names: &mut Names,
     marks: &mut Marks,
     store: &mut TokenStore,
     steps: &mut Steps<L>,
 ) -> Result<(), Memory>
-    requires from_one { 1 ≤ row.number }
-    requires to_last { row.number ≤ ROW_COUNT }
-    requires fits { row_fits (row_of productions row.number)
-        (drop place (cats_of (scraps_of store.old.lists line.old))) ≡ true }
+    requires from_one { 1 ≤ production.now.row.number }
+    requires to_last { production.now.row.number ≤ ROW_COUNT }
+    requires fits { row_fits (row_of productions production.now.row.number)
+        (drop production.now.place (cats_of (scraps_of store.old.lists line.old))) ≡ true }
     requires sound { IsSoundLine store.old names.old line.old }
     ensures state { MatchResult result (λ _. state_of store.new.lists line.new marks.new names.new ≡
-        rewrite flags.now (row_of productions row.number) place (state_of store.old.lists line.old marks.old names.old))
+        rewrite production.now.flags.now (row_of productions production.now.row.number) production.now.place
+        (state_of store.old.lists line.old marks.old names.old))
         (λ _. state_of store.new.lists line.new marks.new names.new ≡ state_of store.old.lists line.old marks.old
         names.old) }
     ensures steps { MatchResult result (λ _. steps.new ≡ steps.old +
-        right_of_new flags.now (row_of productions row.number) place (state_of store.old.lists line.old marks.old
-        names.old)) (λ _. steps.new ≡ steps.old) }
+        right_of_new production.now.flags.now (row_of productions production.now.row.number) production.now.place
+        (state_of store.old.lists line.old marks.old names.old)) (λ _. steps.new ≡ steps.old) }
     ensures words { words_of names.new ≡ words_of names.old }
     ensures sound { IsSoundLine store.new names.new line.new }
     ensures others { Keeps store.old.lists store.new.lists (roots_of line.old) (roots_of line.new) }
@@ -149,7 +149,6 @@ pub(crate) fn produce<L: Ledger>(
 {
     store.reserve(PRODUCTION_TOKENS)?;
     marks.reserve(1)?;
-    let row = RowAtHand::of(row);
-    line.apply_row(&row, place, flags, names, marks, store, steps);
+    line.apply_row(production, names, marks, store, steps);
     Ok(())
 }

@@ -3,6 +3,7 @@ ghost use Rattle.std.specs.Prelude.{◌≡◌, ◌+◌, ◌<◌, ◌≤◌, ◌+
 ghost use Rattle.std.specs.Option.{option_to_list};
 ghost use Rattle.cw_names.specs.declared.NameId.{NameId};
 ghost use Rattle.cw_table.specs.Fitting.{row_fits};
+ghost use Rattle.cw_table.specs.Productions.{productions};
 ghost use Rattle.cw_table.specs.Rows.{row_of};
 ghost use Rattle.cw_table.specs.Sound.{row_is_sound};
 ghost use Rattle.cw_table.specs.Rewriting.{cats_of};
@@ -13,11 +14,32 @@ use crate::PRODUCTION_TOKENS;
 use crate::line::ScrapLine;
 use crate::marks::Marks;
 use crate::producing::produce;
-use crate::reserving::{named_ident, reserve_named, turn_right};
+use crate::reserving::{Turning, named_ident, reserve_named, turn_right};
 use cw_base::{Cat, Flags, Ledger, Steps};
 use cw_names::{NameId, Names};
 use cw_table::{ROW_COUNT, RowAtHand, RowNo, Table};
 use cw_tokens::TokenStore;
+
+/// A production: the number of its row, its place on a line, and the flags that choose between translations.
+#[derive(Clone, Copy)]
+pub struct Production<'a> {
+    /// The number of its row.
+    pub row: RowNo,
+    /// The place of the first scrap that the row looks at.
+    pub place: usize,
+    /// The flags that choose between translations.
+    pub flags: &'a Flags,
+}
+
+/// A production whose row is at hand, with the scraps that the row names.
+#[derive(Clone, Copy)]
+struct AtHand<'a> {
+    row: &'a RowAtHand,
+    place: usize,
+    flags: &'a Flags,
+    underline: Option<u8>,
+    reserve: Option<u8>,
+}
 
 impl ScrapLine {
     /// Does the production of a number at a place, with its marks and its reserving, by the flags that
@@ -47,36 +69,60 @@ impl ScrapLine {
             (work store.new self.new marks.new names.new steps.new) }
     {
         let _same = table.row(row);
-        let row = RowAtHand::of(row);
-        self.apply_row(&row, place, flags, names, marks, store, steps);
+        self.apply_row(
+            &Production { row, place, flags },
+            names,
+            marks,
+            store,
+            steps,
+        );
     }
 
-    /// The same for a row at hand.
+    /// The same for a production of the program's own data.
     #[inline(always)]
     pub fn apply_row<L: Ledger>(
         &mut self,
-        row: &RowAtHand,
-        place: usize,
-        flags: &Flags,
+        production: &Production,
         names: &mut Names,
         marks: &mut Marks,
         store: &mut TokenStore,
         steps: &mut Steps<L>,
     )
-        requires row { row_is_sound row.now ≡ true }
-        requires fits { row_fits row.now (drop place (cats_of (scraps_of store.old.lists self.old))) ≡ true }
+        requires from_one { 1 ≤ production.now.row.number }
+        requires to_last { production.now.row.number ≤ ROW_COUNT }
+        requires fits { row_fits (row_of productions production.now.row.number)
+            (drop production.now.place (cats_of (scraps_of store.old.lists self.old))) ≡ true }
         requires sound { IsSoundLine store.old names.old self.old }
         requires room { PRODUCTION_TOKENS ≤ store.old.spare }
         requires free { 0 < marks.old.spare }
-        ensures { IsApplied flags.now row.now place
+        ensures { IsApplied production.now.flags.now (row_of productions production.now.row.number) production.now.place
             (work store.old self.old marks.old names.old steps.old)
             (work store.new self.new marks.new names.new steps.new) }
     {
-        match (row.underline(), row.reserve()) {
-            (None, None) => self.apply_naming(
-                row, place, None, None, flags, names, marks, store, steps,
-            ),
-            _ => self.apply_marking(row, place, flags, names, marks, store, steps),
+        let row = RowAtHand::of(production.row);
+        let underline = row.underline();
+        let reserve = row.reserve();
+        match (underline, reserve) {
+            (None, None) => {
+                let at_hand = AtHand {
+                    row: &row,
+                    place: production.place,
+                    flags: production.flags,
+                    underline: None,
+                    reserve: None,
+                };
+                self.apply_naming(&at_hand, names, marks, store, steps);
+            }
+            _ => {
+                let at_hand = AtHand {
+                    row: &row,
+                    place: production.place,
+                    flags: production.flags,
+                    underline,
+                    reserve,
+                };
+                self.apply_marking(&at_hand, names, marks, store, steps);
+            }
         }
     }
 
@@ -84,28 +130,25 @@ impl ScrapLine {
     #[inline(never)]
     fn apply_marking<L: Ledger>(
         &mut self,
-        row: &RowAtHand,
-        place: usize,
-        flags: &Flags,
+        production: &AtHand,
         names: &mut Names,
         marks: &mut Marks,
         store: &mut TokenStore,
         steps: &mut Steps<L>,
     )
-        requires row { row_is_sound row.now ≡ true }
-        requires fits { row_fits row.now (drop place (cats_of (scraps_of store.old.lists self.old))) ≡ true }
+        requires underline { production.now.underline ≡ production.now.row.now.action.underline }
+        requires reserve { production.now.reserve ≡ production.now.row.now.action.reserve }
+        requires row { row_is_sound production.now.row.now ≡ true }
+        requires fits { row_fits production.now.row.now
+            (drop production.now.place (cats_of (scraps_of store.old.lists self.old))) ≡ true }
         requires sound { IsSoundLine store.old names.old self.old }
         requires room { PRODUCTION_TOKENS ≤ store.old.spare }
         requires free { 0 < marks.old.spare }
-        ensures { IsApplied flags.now row.now place
+        ensures { IsApplied production.now.flags.now production.now.row.now production.now.place
             (work store.old self.old marks.old names.old steps.old)
             (work store.new self.new marks.new names.new steps.new) }
     {
-        let underline = row.underline();
-        let reserve = row.reserve();
-        self.apply_naming(
-            row, place, underline, reserve, flags, names, marks, store, steps,
-        );
+        self.apply_naming(production, names, marks, store, steps);
     }
 
     /// The same, where the two scraps that the row names are given: of a row that names none no more is
@@ -113,33 +156,37 @@ impl ScrapLine {
     #[inline(always)]
     fn apply_naming<L: Ledger>(
         &mut self,
-        row: &RowAtHand,
-        place: usize,
-        underline: Option<u8>,
-        reserve: Option<u8>,
-        flags: &Flags,
+        production: &AtHand,
         names: &mut Names,
         marks: &mut Marks,
         store: &mut TokenStore,
         steps: &mut Steps<L>,
     )
-        requires underline { underline ≡ row.now.action.underline }
-        requires reserve { reserve ≡ row.now.action.reserve }
-        requires row { row_is_sound row.now ≡ true }
-        requires fits { row_fits row.now (drop place (cats_of (scraps_of store.old.lists self.old))) ≡ true }
+        requires underline { production.now.underline ≡ production.now.row.now.action.underline }
+        requires reserve { production.now.reserve ≡ production.now.row.now.action.reserve }
+        requires row { row_is_sound production.now.row.now ≡ true }
+        requires fits { row_fits production.now.row.now
+            (drop production.now.place (cats_of (scraps_of store.old.lists self.old))) ≡ true }
         requires sound { IsSoundLine store.old names.old self.old }
         requires room { PRODUCTION_TOKENS ≤ store.old.spare }
         requires free { 0 < marks.old.spare }
-        ensures { IsApplied flags.now row.now place
+        ensures { IsApplied production.now.flags.now production.now.row.now production.now.place
             (work store.old self.old marks.old names.old steps.old)
             (work store.new self.new marks.new names.new steps.new) }
     {
-        let marked = named_ident(self, place, underline, names, store);
+        let row = production.row;
+        let place = production.place;
+        let reserve = production.reserve;
+        let marked = named_ident(self, place, production.underline, names, store);
         let reserved = reserve_named(self, place, reserve, names, store);
-        produce(self, place, row, flags, store);
+        produce(self, place, row, production.flags, store);
         let _length = self.len();
         let right = place + row.offset() as usize + 1;
-        turn_right(self, right, reserve, reserved, names, store, steps);
+        let turning = Turning {
+            named: reserve,
+            name: reserved,
+        };
+        turn_right(self, right, turning, names, store, steps);
         mark(marked, marks);
         retype(reserved, names);
     }

@@ -16,6 +16,7 @@ mod words;
 /// The most tokens that a production adds to the store of a line, whatever its scraps are.
 pub const PRODUCTION_TOKENS: usize = 24;
 
+pub use applying::Production;
 pub use laws::mode_law;
 pub use leaves::{Leaf, scrap_of};
 pub use line::{LineEntry, Part, ScrapLine};

@@ -127,30 +127,39 @@ pub fn reserve_right<L: Ledger>(
     }
 }
 
+/// What turns the scraps to the right of a production: the scrap that its row names, if it names one, and the name
+/// that was reserved in it.
+#[derive(Clone, Copy)]
+pub struct Turning {
+    /// The scrap that the row names.
+    pub named: Option<u8>,
+    /// The name that was reserved in it.
+    pub name: Option<NameId>,
+}
+
 /// The same, where the row names a scrap; else nothing changes.
 pub fn turn_right<L: Ledger>(
     line: &mut ScrapLine,
     start: usize,
-    named: Option<u8>,
-    name: Option<NameId>,
+    turning: Turning,
     names: &Names,
     store: &mut TokenStore,
     steps: &mut Steps<L>,
 )
     requires start { start ≤ length line.old }
-    requires unnamed { named ≡ None → name ≡ None }
+    requires unnamed { turning.named ≡ None → turning.name ≡ None }
     requires idle { store.old.building ≡ None }
     requires roots { AreRoots store.old.lists (roots_of line.old) }
     ensures scraps { scraps_of store.new.lists line.new ≡ take start (scraps_of store.old.lists line.old) ++
-        map (named_by name) (drop start (scraps_of store.old.lists line.old)) }
+        map (named_by turning.name) (drop start (scraps_of store.old.lists line.old)) }
     ensures same_roots { roots_of line.new ≡ roots_of line.old }
     ensures lists { Changes store.old.lists store.new.lists (roots_of line.old) }
     ensures idle { store.new.building ≡ None }
     ensures spare { store.new.spare ≡ store.old.spare }
-    ensures steps { steps.new ≡ steps.old + looked_at named (length line.old - start) }
+    ensures steps { steps.new ≡ steps.old + looked_at turning.named (length line.old - start) }
 {
-    match named {
-        Some(_) => reserve_right(line, start, name, names, store, steps),
+    match turning.named {
+        Some(_) => reserve_right(line, start, turning.name, names, store, steps),
         None => {}
     }
 }

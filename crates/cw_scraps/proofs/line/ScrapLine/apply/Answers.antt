@@ -1,4 +1,4 @@
--- The row at hand is the row of that number in the table, so its production is that of the table's row.
+-- The row of that number in the table is the one of the program's own data.
 use Rattle.std.proofs.Common.{◌≡◌}
 use Rattle.cw_table.specs.Productions.{productions}
 use Rattle.cw_table.specs.Rows.{row_of}
@@ -8,9 +8,9 @@ use Rattle.cw_scraps.proofs.line.ScrapLine.apply.Goals as goal
 pub apply_row-requires-clause-fits : goal.apply_row-requires-clause-fits
 apply_row-requires-clause-fits g c =
     let same : row_of c.args.table.now c.args.row.number ≡ row_of productions c.args.row.number = same-row _ _ _ c.row-same.ensures.number c.row-same.ensures.same in
-    rw (c.of-row.ensures.row, ← same) c.requires.fits
+    rw (← same) c.requires.fits
 
 pub returns : goal.returns
 returns g c =
     let same : row_of c.args.table.now c.args.row.number ≡ row_of productions c.args.row.number = same-row _ _ _ c.row-same.ensures.number c.row-same.ensures.same in
-    rw (same, ← c.of-row.ensures.row) c.apply_row.ensures
+    rw same c.apply_row.ensures
