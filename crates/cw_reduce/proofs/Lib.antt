@@ -33,3 +33,4 @@ pub mod HeadMakes
 pub mod HeadFinds
 pub mod HeadLists
 pub mod HeadSteps
+mod WorkLaws

@@ -13,3 +13,4 @@ pub mod Holders
 pub mod Naming
 pub mod HeadReading
 pub mod Heading
+pub mod Working

@@ -1,6 +1,5 @@
 //! A text behind its head, where the head is read.
 ghost use Rattle.std.specs.Prelude.{◌≡◌, ◌≤◌, ◌+◌, ◌*◌, ◌^◌, [], ◌∷◌, ◌++◌, length, IfOk, OnOk, OnErr, None};
-ghost use Rattle.cw_lex.specs.Nest.{nest};
 ghost use Rattle.cw_lex.specs.Nested.{IsNested};
 ghost use Rattle.cw_tokens.specs.Shapes.{unfolded};
 ghost use Rattle.cw_scraps.specs.Changing.{Keeps};
@@ -12,23 +11,21 @@ ghost use Rattle.cw_reduce.specs.declared.holders.Holder.TheVariants as Holders;
 ghost use Rattle.cw_reduce.specs.HeadReading.{answers_ahead, head_line, name_ahead};
 ghost use Rattle.cw_reduce.specs.Heading.{NamesOfHead, NamesOfHeaded, NamesOfHeld, after_head, after_held, head_begun};
 ghost use Rattle.cw_reduce.specs.Heading.{headed_text};
-ghost use Rattle.cw_reduce.specs.NameParts.{AreNamesOf, name_texts};
+ghost use Rattle.cw_reduce.specs.NameParts.{AreNamesOf};
 ghost use Rattle.cw_reduce.specs.Naming.{with_texts};
-ghost use Rattle.cw_reduce.specs.Opening.{HasCome, IsTranslated, IsTranslating, StartsBelow, all_roots, answers_in};
-ghost use Rattle.cw_reduce.specs.Opening.{progress_of};
+ghost use Rattle.cw_reduce.specs.Opening.{IsTranslated, IsTranslating, StartsBelow, all_roots};
 ghost use Rattle.cw_reduce.specs.Reading.{after_answers};
 ghost use Rattle.cw_reduce.specs.Retyping.{NamesAmong};
 ghost use Rattle.cw_reduce.specs.Translating.{begin};
+ghost use Rattle.cw_reduce.specs.Working.{HasComeOver, IsSameWork, progress_over, texts_in};
 
 use crate::heads::{Beginning, HeadRead};
 use crate::holders::Holder;
 use crate::translating::{Translated, Translator};
-use cw_base::{Cat, Flags, Ledger, MathMode, Memory, Steps};
+use crate::work::{Context, Work};
+use cw_base::{Cat, Ledger, MathMode, Memory};
 use cw_lex::{Lexed, Lexer};
-use cw_names::Names;
-use cw_scraps::{Marks, ScrapLine};
-use cw_secnames::{NameUses, SecNames};
-use cw_tokens::TokenStore;
+use cw_scraps::ScrapLine;
 use std::alloc::Global;
 
 /// The scrap of a head, where it has one.
@@ -63,46 +60,31 @@ impl Translator {
         &mut self,
         number: u32,
         sign: u32,
-        sec_names: &SecNames,
-        uses: &NameUses,
-        alloc: Global,
-        flags: &Flags,
-        names: &mut Names,
-        store: &mut TokenStore,
-        marks: &mut Marks,
-        steps: &mut Steps<L>,
+        context: &Context,
+        work: &mut Work<L>,
     ) -> Result<(), Memory>
-        requires kept { AreNamesOf sec_names.now uses.now }
-        requires translating { IsTranslating store.old names.old self.old }
-        ensures translating { OnOk result (IsTranslating store.new names.new self.new) }
-        ensures come { OnOk result (HasCome flags.now self.old steps.old store.new.lists names.new marks.new self.new
-            steps.new (after_held flags.now (name_texts sec_names.now uses.now number) (Holders.Head number sign)
-            (progress_of store.old.lists names.old marks.old self.old []))) }
-        ensures keeps { OnOk result (Keeps store.old.lists store.new.lists (all_roots self.old.nesting)
-            (all_roots self.new.nesting)) }
-        ensures names { OnErr result (NamesOfHeld flags.now (name_texts sec_names.now uses.now number)
-            (Holders.Head number sign) (progress_of store.old.lists names.old marks.old self.old []) names.new) }
-        ensures bound { steps.new ≤ steps.old + limit_in flags.now
-            (after_held flags.now (name_texts sec_names.now uses.now number) (Holders.Head number sign)
-            (progress_of store.old.lists names.old marks.old self.old [])).known.ended }
-        ensures idle { store.new.building ≡ None }
+        requires kept { AreNamesOf context.now.sec_names.now context.now.uses.now }
+        requires translating { IsTranslating work.old.store.now work.old.names.now self.old }
+        ensures translating { OnOk result (IsTranslating work.new.store.now work.new.names.now self.new) }
+        ensures come { OnOk result (HasComeOver context.now.flags.now self.old work.old self.new work.new
+            (after_held context.now.flags.now (texts_in context.now number) (Holders.Head number sign)
+            (progress_over work.old self.old))) }
+        ensures keeps { OnOk result (Keeps work.old.store.now.lists work.new.store.now.lists
+            (all_roots self.old.nesting) (all_roots self.new.nesting)) }
+        ensures names { OnErr result (NamesOfHeld context.now.flags.now (texts_in context.now number)
+            (Holders.Head number sign) (progress_over work.old self.old) work.new.names.now) }
+        ensures bound { work.new.steps.now ≤ work.old.steps.now +
+            limit_in context.now.flags.now (after_held context.now.flags.now (texts_in context.now number)
+            (Holders.Head number sign) (progress_over work.old self.old)).known.ended }
+        ensures same { IsSameWork work.old work.new }
+        ensures idle { work.new.store.now.building ≡ None }
     {
-        match uses.at(number) {
+        match context.uses.at(number) {
             None => Ok(()),
             Some(id) => {
-                let kind = sec_names.kind(id);
-                let text = sec_names.text(id);
-                self.held(
-                    Holder::Head(number, sign),
-                    kind,
-                    text,
-                    alloc,
-                    flags,
-                    names,
-                    store,
-                    marks,
-                    steps,
-                )
+                let kind = context.sec_names.kind(id);
+                let text = context.sec_names.text(id);
+                self.kept_name(Holder::Head(number, sign), kind, text, context, work)
             }
         }
     }
@@ -111,36 +93,26 @@ impl Translator {
     fn head_name<L: Ledger>(
         &mut self,
         head: HeadRead,
-        sec_names: &SecNames,
-        uses: &NameUses,
-        alloc: Global,
-        flags: &Flags,
-        names: &mut Names,
-        store: &mut TokenStore,
-        marks: &mut Marks,
-        steps: &mut Steps<L>,
+        context: &Context,
+        work: &mut Work<L>,
     ) -> Result<(), Memory>
-        requires kept { AreNamesOf sec_names.now uses.now }
-        requires translating { IsTranslating store.old names.old self.old }
-        ensures translating { OnOk result (IsTranslating store.new names.new self.new) }
-        ensures come { OnOk result (HasCome flags.now self.old steps.old store.new.lists names.new marks.new self.new
-            steps.new (after_head flags.now (name_texts sec_names.now uses.now) head
-            (progress_of store.old.lists names.old marks.old self.old []))) }
-        ensures keeps { OnOk result (Keeps store.old.lists store.new.lists (all_roots self.old.nesting)
-            (all_roots self.new.nesting)) }
-        ensures names { OnErr result (NamesOfHead flags.now (name_texts sec_names.now uses.now) head
-            (progress_of store.old.lists names.old marks.old self.old []) names.new) }
-        ensures bound { steps.new ≤ steps.old + limit_in flags.now
-            (after_head flags.now (name_texts sec_names.now uses.now) head (progress_of store.old.lists names.old
-            marks.old self.old [])).known.ended }
-        ensures idle { store.new.building ≡ None }
+        requires kept { AreNamesOf context.now.sec_names.now context.now.uses.now }
+        requires translating { IsTranslating work.old.store.now work.old.names.now self.old }
+        ensures translating { OnOk result (IsTranslating work.new.store.now work.new.names.now self.new) }
+        ensures come { OnOk result (HasComeOver context.now.flags.now self.old work.old self.new work.new
+            (after_head context.now.flags.now (texts_in context.now) head (progress_over work.old self.old))) }
+        ensures keeps { OnOk result (Keeps work.old.store.now.lists work.new.store.now.lists
+            (all_roots self.old.nesting) (all_roots self.new.nesting)) }
+        ensures names { OnErr result (NamesOfHead context.now.flags.now (texts_in context.now) head
+            (progress_over work.old self.old) work.new.names.now) }
+        ensures bound { work.new.steps.now ≤ work.old.steps.now +
+            limit_in context.now.flags.now (after_head context.now.flags.now (texts_in context.now) head
+            (progress_over work.old self.old)).known.ended }
+        ensures same { IsSameWork work.old work.new }
+        ensures idle { work.new.store.now.building ≡ None }
     {
         match head {
-            HeadRead::Named(number, sign) => {
-                self.name_with_sign(
-                    number, sign, sec_names, uses, alloc, flags, names, store, marks, steps,
-                )
-            }
+            HeadRead::Named(number, sign) => self.name_with_sign(number, sign, context, work),
             HeadRead::Dead(_) | HeadRead::None => Ok(()),
         }
     }
@@ -149,44 +121,29 @@ impl Translator {
     fn name_ahead<L: Ledger>(
         &mut self,
         begun: &Beginning,
-        sec_names: &SecNames,
-        uses: &NameUses,
-        alloc: Global,
-        flags: &Flags,
-        names: &mut Names,
-        store: &mut TokenStore,
-        marks: &mut Marks,
-        steps: &mut Steps<L>,
+        context: &Context,
+        work: &mut Work<L>,
     ) -> Result<(), Memory>
         requires start { StartsBelow (2 ^ 32) (name_ahead begun.now.name) }
-        requires kept { AreNamesOf sec_names.now uses.now }
-        requires translating { IsTranslating store.old names.old self.old }
-        ensures translating { OnOk result (IsTranslating store.new names.new self.new) }
-        ensures come { OnOk result (HasCome flags.now self.old steps.old store.new.lists names.new marks.new self.new
-            steps.new (after_answers flags.now (with_texts (name_texts sec_names.now uses.now)
-            (name_ahead begun.now.name)) (progress_of store.old.lists names.old marks.old self.old []))) }
-        ensures keeps { OnOk result (Keeps store.old.lists store.new.lists (all_roots self.old.nesting)
-            (all_roots self.new.nesting)) }
-        ensures names { OnErr result (NamesAmong flags.now (with_texts (name_texts sec_names.now uses.now)
-            (name_ahead begun.now.name)) (progress_of store.old.lists names.old marks.old self.old []) names.new) }
-        ensures bound { steps.new ≤ steps.old + limit_in flags.now
-            (after_answers flags.now (with_texts (name_texts sec_names.now uses.now) (name_ahead begun.now.name))
-            (progress_of store.old.lists names.old marks.old self.old [])).known.ended }
-        ensures idle { store.new.building ≡ None }
+        requires kept { AreNamesOf context.now.sec_names.now context.now.uses.now }
+        requires translating { IsTranslating work.old.store.now work.old.names.now self.old }
+        ensures translating { OnOk result (IsTranslating work.new.store.now work.new.names.now self.new) }
+        ensures come { OnOk result (HasComeOver context.now.flags.now self.old work.old self.new work.new
+            (after_answers context.now.flags.now (with_texts (texts_in context.now) (name_ahead begun.now.name))
+            (progress_over work.old self.old))) }
+        ensures keeps { OnOk result (Keeps work.old.store.now.lists work.new.store.now.lists
+            (all_roots self.old.nesting) (all_roots self.new.nesting)) }
+        ensures names { OnErr result (NamesAmong context.now.flags.now (with_texts (texts_in context.now)
+            (name_ahead begun.now.name)) (progress_over work.old self.old) work.new.names.now) }
+        ensures bound { work.new.steps.now ≤ work.old.steps.now +
+            limit_in context.now.flags.now (after_answers context.now.flags.now (with_texts (texts_in context.now)
+            (name_ahead begun.now.name)) (progress_over work.old self.old)).known.ended }
+        ensures same { IsSameWork work.old work.new }
+        ensures idle { work.new.store.now.building ≡ None }
     {
         match begun.name {
             None => Ok(()),
-            Some(token) => self.named_answer(
-                &Lexed::Token(token),
-                sec_names,
-                uses,
-                alloc,
-                flags,
-                names,
-                store,
-                marks,
-                steps,
-            ),
+            Some(token) => self.named_answer(&Lexed::Token(token), context, work),
         }
     }
 
@@ -195,49 +152,29 @@ impl Translator {
         &mut self,
         begun: &Beginning,
         lexer: &mut Lexer,
-        sec_names: &SecNames,
-        uses: &NameUses,
-        alloc: Global,
-        flags: &Flags,
-        names: &mut Names,
-        store: &mut TokenStore,
-        marks: &mut Marks,
-        steps: &mut Steps<L>,
+        context: &Context,
+        work: &mut Work<L>,
     ) -> Result<(), Memory>
         requires start { StartsBelow (2 ^ 32) (answers_ahead begun.now ++ lexer.old) }
-        requires kept { AreNamesOf sec_names.now uses.now }
-        requires translating { IsTranslating store.old names.old self.old }
-        ensures translating { OnOk result (IsTranslating store.new names.new self.new) }
-        ensures come { OnOk result (HasCome flags.now self.old steps.old store.new.lists names.new marks.new self.new
-            steps.new (after_answers flags.now (with_texts (name_texts sec_names.now uses.now)
-            (answers_ahead begun.now ++ lexer.old)) (progress_of store.old.lists names.old marks.old self.old []))) }
-        ensures keeps { OnOk result (Keeps store.old.lists store.new.lists (all_roots self.old.nesting)
-            (all_roots self.new.nesting)) }
-        ensures names { OnErr result (NamesAmong flags.now (with_texts (name_texts sec_names.now uses.now)
-            (answers_ahead begun.now ++ lexer.old)) (progress_of store.old.lists names.old marks.old self.old [])
-            names.new) }
-        ensures bound { steps.new ≤ steps.old + limit_in flags.now
-            (after_answers flags.now (with_texts (name_texts sec_names.now uses.now) (answers_ahead begun.now ++
-            lexer.old)) (progress_of store.old.lists names.old marks.old self.old [])).known.ended }
-        ensures idle { store.new.building ≡ None }
+        requires kept { AreNamesOf context.now.sec_names.now context.now.uses.now }
+        requires translating { IsTranslating work.old.store.now work.old.names.now self.old }
+        ensures translating { OnOk result (IsTranslating work.new.store.now work.new.names.now self.new) }
+        ensures come { OnOk result (HasComeOver context.now.flags.now self.old work.old self.new work.new
+            (after_answers context.now.flags.now (with_texts (texts_in context.now) (answers_ahead begun.now ++
+            lexer.old)) (progress_over work.old self.old))) }
+        ensures keeps { OnOk result (Keeps work.old.store.now.lists work.new.store.now.lists
+            (all_roots self.old.nesting) (all_roots self.new.nesting)) }
+        ensures names { OnErr result (NamesAmong context.now.flags.now (with_texts (texts_in context.now)
+            (answers_ahead begun.now ++ lexer.old)) (progress_over work.old self.old) work.new.names.now) }
+        ensures bound { work.new.steps.now ≤ work.old.steps.now +
+            limit_in context.now.flags.now (after_answers context.now.flags.now (with_texts (texts_in context.now)
+            (answers_ahead begun.now ++ lexer.old)) (progress_over work.old self.old)).known.ended }
+        ensures same { IsSameWork work.old work.new }
+        ensures idle { work.new.store.now.building ≡ None }
     {
-        self.name_ahead(
-            begun, sec_names, uses, alloc, flags, names, store, marks, steps,
-        )?;
-        self.named_answer(
-            &begun.next,
-            sec_names,
-            uses,
-            alloc,
-            flags,
-            names,
-            store,
-            marks,
-            steps,
-        )?;
-        self.read_named(
-            lexer, sec_names, uses, alloc, flags, names, store, marks, steps,
-        )
+        self.name_ahead(begun, context, work)?;
+        self.named_answer(&begun.next, context, work)?;
+        self.read_named(lexer, context, work)
     }
 
     /// A text with its head.
@@ -245,40 +182,30 @@ impl Translator {
         &mut self,
         begun: &Beginning,
         lexer: &mut Lexer,
-        sec_names: &SecNames,
-        uses: &NameUses,
-        alloc: Global,
-        flags: &Flags,
-        names: &mut Names,
-        store: &mut TokenStore,
-        marks: &mut Marks,
-        steps: &mut Steps<L>,
+        context: &Context,
+        work: &mut Work<L>,
     ) -> Result<(), Memory>
         requires start { StartsBelow (2 ^ 32) (answers_ahead begun.now ++ lexer.old) }
-        requires kept { AreNamesOf sec_names.now uses.now }
-        requires translating { IsTranslating store.old names.old self.old }
-        ensures translating { OnOk result (IsTranslating store.new names.new self.new) }
-        ensures come { OnOk result (HasCome flags.now self.old steps.old store.new.lists names.new marks.new self.new
-            steps.new (after_answers flags.now (with_texts (name_texts sec_names.now uses.now)
-            (answers_ahead begun.now ++ lexer.old)) (after_head flags.now (name_texts sec_names.now uses.now)
-            begun.now.head (progress_of store.old.lists names.old marks.old self.old [])))) }
-        ensures keeps { OnOk result (Keeps store.old.lists store.new.lists (all_roots self.old.nesting)
-            (all_roots self.new.nesting)) }
-        ensures names { OnErr result (NamesOfHeaded flags.now (name_texts sec_names.now uses.now) begun.now.head
-            (answers_ahead begun.now ++ lexer.old) (progress_of store.old.lists names.old marks.old self.old [])
-            names.new) }
-        ensures bound { steps.new ≤ steps.old + limit_in flags.now
-            (after_answers flags.now (with_texts (name_texts sec_names.now uses.now) (answers_ahead begun.now ++
-            lexer.old)) (after_head flags.now (name_texts sec_names.now uses.now) begun.now.head
-            (progress_of store.old.lists names.old marks.old self.old []))).known.ended }
-        ensures idle { store.new.building ≡ None }
+        requires kept { AreNamesOf context.now.sec_names.now context.now.uses.now }
+        requires translating { IsTranslating work.old.store.now work.old.names.now self.old }
+        ensures translating { OnOk result (IsTranslating work.new.store.now work.new.names.now self.new) }
+        ensures come { OnOk result (HasComeOver context.now.flags.now self.old work.old self.new work.new
+            (after_answers context.now.flags.now (with_texts (texts_in context.now) (answers_ahead begun.now ++
+            lexer.old)) (after_head context.now.flags.now (texts_in context.now) begun.now.head
+            (progress_over work.old self.old)))) }
+        ensures keeps { OnOk result (Keeps work.old.store.now.lists work.new.store.now.lists
+            (all_roots self.old.nesting) (all_roots self.new.nesting)) }
+        ensures names { OnErr result (NamesOfHeaded context.now.flags.now (texts_in context.now) begun.now.head
+            (answers_ahead begun.now ++ lexer.old) (progress_over work.old self.old) work.new.names.now) }
+        ensures bound { work.new.steps.now ≤ work.old.steps.now +
+            limit_in context.now.flags.now (after_answers context.now.flags.now (with_texts (texts_in context.now)
+            (answers_ahead begun.now ++ lexer.old)) (after_head context.now.flags.now (texts_in context.now)
+            begun.now.head (progress_over work.old self.old))).known.ended }
+        ensures same { IsSameWork work.old work.new }
+        ensures idle { work.new.store.now.building ≡ None }
     {
-        self.head_name(
-            begun.head, sec_names, uses, alloc, flags, names, store, marks, steps,
-        )?;
-        self.read_behind(
-            begun, lexer, sec_names, uses, alloc, flags, names, store, marks, steps,
-        )
+        self.head_name(begun.head, context, work)?;
+        self.read_behind(begun, lexer, context, work)
     }
 }
 
@@ -286,38 +213,34 @@ impl Translator {
 pub(crate) fn translate_headed<L: Ledger>(
     begun: &Beginning,
     lexer: &mut Lexer,
-    sec_names: &SecNames,
-    uses: &NameUses,
-    alloc: Global,
-    flags: &Flags,
-    names: &mut Names,
-    store: &mut TokenStore,
-    marks: &mut Marks,
-    steps: &mut Steps<L>,
+    context: &Context,
+    work: &mut Work<L>,
 ) -> Result<Translated, Memory>
-    requires sound { IsSoundLine store.old names.old (head_line begun.now.head) }
+    requires sound { IsSoundLine work.old.store.now work.old.names.now (head_line begun.now.head) }
     requires start { StartsBelow (2 ^ 32) (answers_ahead begun.now ++ lexer.old) }
     requires nested { IsNested (answers_ahead begun.now ++ lexer.old) }
-    requires kept { AreNamesOf sec_names.now uses.now }
-    ensures text { IfOk result (λ done. IsTranslated flags.now store.new.lists names.new marks.new done steps.old
-        steps.new (headed_text flags.now (name_texts sec_names.now uses.now) store.old.lists begun.now.head
-        (answers_ahead begun.now ++ lexer.old) (begin names.old (marked_names marks.old)))) }
+    requires kept { AreNamesOf context.now.sec_names.now context.now.uses.now }
+    ensures text { IfOk result (λ done. IsTranslated context.now.flags.now work.new.store.now.lists work.new.names.now
+        work.new.marks.now done work.old.steps.now work.new.steps.now (headed_text context.now.flags.now
+        (texts_in context.now) work.old.store.now.lists begun.now.head (answers_ahead begun.now ++ lexer.old)
+        (begin work.old.names.now (marked_names work.old.marks.now)))) }
     ensures few { IfOk result (λ done. done.productions ≤ 8 * done.scraps) }
-    ensures named { IfOk result (λ done. IsNamedBelow (length names.new) (unfolded store.new.lists done.list.index)) }
-    ensures root { IfOk result (λ done. AreRoots store.new.lists (done.list.index ∷ [])) }
-    ensures keeps { IfOk result (λ done. Keeps store.old.lists store.new.lists (roots_of (head_line begun.now.head))
-        (done.list.index ∷ [])) }
-    ensures refused { OnErr result (NamesOfHeaded flags.now (name_texts sec_names.now uses.now) begun.now.head
-        (answers_ahead begun.now ++ lexer.old) (head_begun store.old.lists begun.now.head
-        (begin names.old (marked_names marks.old))) names.new) }
-    ensures bound { steps.new ≤ steps.old + limit_in flags.now
-        (headed_text flags.now (name_texts sec_names.now uses.now) store.old.lists begun.now.head
-        (answers_ahead begun.now ++ lexer.old) (begin names.old (marked_names marks.old))).known.ended }
-    ensures idle { store.new.building ≡ None }
+    ensures named { IfOk result (λ done. IsNamedBelow (length work.new.names.now) (unfolded work.new.store.now.lists
+        done.list.index)) }
+    ensures root { IfOk result (λ done. AreRoots work.new.store.now.lists (done.list.index ∷ [])) }
+    ensures keeps { IfOk result (λ done. Keeps work.old.store.now.lists work.new.store.now.lists
+        (roots_of (head_line begun.now.head)) (done.list.index ∷ [])) }
+    ensures refused { OnErr result (NamesOfHeaded context.now.flags.now (texts_in context.now) begun.now.head
+        (answers_ahead begun.now ++ lexer.old) (head_begun work.old.store.now.lists begun.now.head
+        (begin work.old.names.now (marked_names work.old.marks.now))) work.new.names.now) }
+    ensures bound { work.new.steps.now ≤ work.old.steps.now +
+        limit_in context.now.flags.now (headed_text context.now.flags.now (texts_in context.now)
+        work.old.store.now.lists begun.now.head (answers_ahead begun.now ++ lexer.old)
+        (begin work.old.names.now (marked_names work.old.marks.now))).known.ended }
+    ensures same { IsSameWork work.old work.new }
+    ensures idle { work.new.store.now.building ≡ None }
 {
-    let mut translator = Translator::with_head(begun.head, alloc)?;
-    translator.read_headed(
-        begun, lexer, sec_names, uses, alloc, flags, names, store, marks, steps,
-    )?;
-    translator.end(alloc, flags, names, store, marks, steps)
+    let mut translator = Translator::with_head(begun.head, context.alloc)?;
+    translator.read_headed(begun, lexer, context, work)?;
+    translator.end(context, work)
 }

@@ -12,6 +12,7 @@ mod nesting;
 mod translating;
 mod uncut;
 mod walk;
+mod work;
 
 pub use laws::translation_laws;
 pub use translating::{Translated, translate};

@@ -1,5 +1,5 @@
 //! The translation of a C text.
-ghost use Rattle.std.specs.Prelude.{◌≡◌, ℕ, ◌+◌, ◌*◌, ◌^◌, ◌<◌, ◌≤◌, ◌⊎◌, List, [], ◌∷◌, length, true, false, IfOk};
+ghost use Rattle.std.specs.Prelude.{◌≡◌, ◌+◌, ◌*◌, ◌^◌, ◌<◌, ◌≤◌, ◌⊎◌, List, [], ◌∷◌, length, true, false, IfOk};
 ghost use Rattle.std.specs.Prelude.{OnOk, OnErr, None};
 ghost use Rattle.cw_table.specs.Normal.{count, normal};
 ghost use Rattle.cw_table.specs.Productions.{productions};
@@ -23,8 +23,9 @@ ghost use Rattle.cw_reduce.specs.Opening.{HasCome, HasEnded, IsTranslating, Star
 ghost use Rattle.cw_reduce.specs.Opening.{begun_by, progress_of};
 ghost use Rattle.cw_reduce.specs.Reading.{after_answers, after_finish, after_token, begun, last_scraps};
 ghost use Rattle.cw_reduce.specs.Reduction.{words_of};
-ghost use Rattle.cw_reduce.specs.Retyping.{NamesAmong, NamesOnTheWay, Retypes, RetypesIn};
+ghost use Rattle.cw_reduce.specs.Retyping.{NamesAmong, Retypes, RetypesIn};
 ghost use Rattle.cw_reduce.specs.Translating.{state_in, translated, with_categories};
+ghost use Rattle.cw_reduce.specs.Working.{HasComeOver, IsSameWork, progress_over};
 
 use crate::gathering::{CommentPart, put_together};
 use crate::headed::translate_headed;
@@ -34,6 +35,7 @@ use crate::kinds::makes_leaf;
 use crate::nesting::{CommentText, Nesting, Open};
 use crate::uncut::ends_text;
 use crate::walk::reduce;
+use crate::work::{Context, Work};
 use cw_base::{Flags, Ledger, Memory, Span, Steps};
 use cw_lex::{Lexed, Lexer, Mode, Tok, TokKind};
 use cw_names::Names;
@@ -259,31 +261,34 @@ impl Translator {
     pub(crate) fn answer<L: Ledger>(
         &mut self,
         answer: &Lexed,
-        alloc: Global,
-        flags: &Flags,
-        names: &mut Names,
-        store: &mut TokenStore,
-        marks: &mut Marks,
-        steps: &mut Steps<L>,
+        context: &Context,
+        work: &mut Work<L>,
     ) -> Result<(), Memory>
-        requires translating { IsTranslating store.old names.old self.old }
+        requires translating { IsTranslating work.old.store.now work.old.names.now self.old }
         requires start { StartsBelow (2 ^ 32) (answers_in answer.now) }
-        ensures translating { OnOk result (IsTranslating store.new names.new self.new) }
-        ensures come { OnOk result (HasCome flags.now self.old steps.old store.new.lists names.new marks.new self.new
-            steps.new (after_answers flags.now (answers_in answer.now) (progress_of store.old.lists names.old marks.old
-            self.old []))) }
-        ensures keeps { OnOk result (Keeps store.old.lists store.new.lists (all_roots self.old.nesting)
-            (all_roots self.new.nesting)) }
-        ensures names { NamesAmong flags.now (answers_in answer.now) (progress_of store.old.lists names.old marks.old
-            self.old []) names.new }
-        ensures bound { steps.new ≤ steps.old + limit_in flags.now (after_answers flags.now (answers_in answer.now)
-            (progress_of store.old.lists names.old marks.old self.old [])).known.ended }
-        ensures idle { store.new.building ≡ None }
+        ensures translating { OnOk result (IsTranslating work.new.store.now work.new.names.now self.new) }
+        ensures come { OnOk result (HasComeOver context.now.flags.now self.old work.old self.new work.new
+            (after_answers context.now.flags.now (answers_in answer.now) (progress_over work.old self.old))) }
+        ensures keeps { OnOk result (Keeps work.old.store.now.lists work.new.store.now.lists
+            (all_roots self.old.nesting) (all_roots self.new.nesting)) }
+        ensures names { NamesAmong context.now.flags.now (answers_in answer.now) (progress_over work.old self.old)
+            work.new.names.now }
+        ensures bound { work.new.steps.now ≤ work.old.steps.now +
+            limit_in context.now.flags.now (after_answers context.now.flags.now (answers_in answer.now)
+            (progress_over work.old self.old)).known.ended }
+        ensures same { IsSameWork work.old work.new }
+        ensures idle { work.new.store.now.building ≡ None }
     {
         match answer {
-            Lexed::Token(token) => self.token(token, names, store),
-            Lexed::Begin(token) => self.begin(token, alloc),
-            Lexed::Finish(_) => self.finish(flags, names, store, marks, steps),
+            Lexed::Token(token) => self.token(token, work.names, work.store),
+            Lexed::Begin(token) => self.begin(token, context.alloc),
+            Lexed::Finish(_) => self.finish(
+                context.flags,
+                work.names,
+                work.store,
+                work.marks,
+                work.steps,
+            ),
             Lexed::Note(..) | Lexed::End => Ok(()),
         }
     }
@@ -292,63 +297,65 @@ impl Translator {
     pub(crate) fn read<L: Ledger>(
         &mut self,
         lexer: &mut Lexer,
-        alloc: Global,
-        flags: &Flags,
-        names: &mut Names,
-        store: &mut TokenStore,
-        marks: &mut Marks,
-        steps: &mut Steps<L>,
+        context: &Context,
+        work: &mut Work<L>,
     ) -> Result<(), Memory>
-        requires translating { IsTranslating store.old names.old self.old }
+        requires translating { IsTranslating work.old.store.now work.old.names.now self.old }
         requires start { StartsBelow (2 ^ 32) lexer.old }
-        ensures translating { OnOk result (IsTranslating store.new names.new self.new) }
-        ensures come { OnOk result (HasCome flags.now self.old steps.old store.new.lists names.new marks.new self.new
-            steps.new (after_answers flags.now (until_section lexer.old) (progress_of store.old.lists names.old
-            marks.old self.old []))) }
-        ensures keeps { OnOk result (Keeps store.old.lists store.new.lists (all_roots self.old.nesting)
-            (all_roots self.new.nesting)) }
-        ensures names { OnErr result (NamesAmong flags.now (until_section lexer.old)
-            (progress_of store.old.lists names.old marks.old self.old []) names.new) }
-        ensures bound { steps.new ≤ steps.old + limit_in flags.now (after_answers flags.now (until_section lexer.old)
-            (progress_of store.old.lists names.old marks.old self.old [])).known.ended }
-        ensures idle { store.new.building ≡ None }
+        ensures translating { OnOk result (IsTranslating work.new.store.now work.new.names.now self.new) }
+        ensures come { OnOk result (HasComeOver context.now.flags.now self.old work.old self.new work.new
+            (after_answers context.now.flags.now (until_section lexer.old) (progress_over work.old self.old))) }
+        ensures keeps { OnOk result (Keeps work.old.store.now.lists work.new.store.now.lists
+            (all_roots self.old.nesting) (all_roots self.new.nesting)) }
+        ensures names { OnErr result (NamesAmong context.now.flags.now (until_section lexer.old)
+            (progress_over work.old self.old) work.new.names.now) }
+        ensures bound { work.new.steps.now ≤ work.old.steps.now +
+            limit_in context.now.flags.now (after_answers context.now.flags.now (until_section lexer.old)
+            (progress_over work.old self.old)).known.ended }
+        ensures same { IsSameWork work.old work.new }
+        ensures idle { work.new.store.now.building ≡ None }
     {
         loop {
             let answer = lexer.next();
             if ends_text(&answer) {
                 return Ok(());
             }
-            self.answer(&answer, alloc, flags, names, store, marks, steps)?;
+            self.answer(&answer, context, work)?;
         }
     }
 
     /// The text ends: its scraps are reduced, and what is left is put together.
     pub(crate) fn end<L: Ledger>(
         mut self,
-        alloc: Global,
-        flags: &Flags,
-        names: &mut Names,
-        store: &mut TokenStore,
-        marks: &mut Marks,
-        steps: &mut Steps<L>,
+        context: &Context,
+        work: &mut Work<L>,
     ) -> Result<Translated, Memory>
-        requires translating { IsTranslating store.old names.old self }
-        ensures ended { IfOk result (λ done. HasEnded flags.now self steps.old store.new.lists names.new marks.new done
-            steps.new (progress_of store.old.lists names.old marks.old self [])) }
+        requires translating { IsTranslating work.old.store.now work.old.names.now self }
+        ensures ended { IfOk result (λ done. HasEnded context.now.flags.now self work.old.steps.now
+            work.new.store.now.lists work.new.names.now work.new.marks.now done work.new.steps.now
+            (progress_over work.old self)) }
         ensures few { IfOk result (λ done. done.productions ≤ 8 * done.scraps) }
-        ensures named { IfOk result (λ done. IsNamedBelow (length names.new)
-            (unfolded store.new.lists done.list.index)) }
-        ensures root { IfOk result (λ done. AreRoots store.new.lists (done.list.index ∷ [])) }
-        ensures keeps { IfOk result (λ done. Keeps store.old.lists store.new.lists (all_roots self.nesting)
-            (done.list.index ∷ [])) }
-        ensures retypes { let p = progress_of store.old.lists names.old marks.old self [] in RetypesIn flags.now
-            (last_scraps p.frames) p.known names.new }
-        ensures bound { let p = progress_of store.old.lists names.old marks.old self [] in steps.new ≤ steps.old +
-            text_limit flags.now (state_in (last_scraps p.frames) p.known) }
-        ensures idle { store.new.building ≡ None }
+        ensures named { IfOk result (λ done. IsNamedBelow (length work.new.names.now) (unfolded work.new.store.now.lists
+            done.list.index)) }
+        ensures root { IfOk result (λ done. AreRoots work.new.store.now.lists (done.list.index ∷ [])) }
+        ensures keeps { IfOk result (λ done. Keeps work.old.store.now.lists work.new.store.now.lists
+            (all_roots self.nesting) (done.list.index ∷ [])) }
+        ensures retypes { let p = progress_over work.old self in RetypesIn context.now.flags.now (last_scraps p.frames)
+            p.known work.new.names.now }
+        ensures bound { let p = progress_over work.old self in work.new.steps.now ≤ work.old.steps.now +
+            text_limit context.now.flags.now (state_in (last_scraps p.frames) p.known) }
+        ensures same { IsSameWork work.old work.new }
+        ensures idle { work.new.store.now.building ≡ None }
     {
-        let line = self.nesting.take_line(alloc);
-        let done = translate_line(line, flags, names, store, marks, steps)?;
+        let line = self.nesting.take_line(context.alloc);
+        let done = translate_line(
+            line,
+            context.flags,
+            work.names,
+            work.store,
+            work.marks,
+            work.steps,
+        )?;
         self.count(&done)?;
         Ok(Translated {
             list: done.list,
@@ -418,7 +425,17 @@ pub fn translate<L: Ledger>(
 {
     let mut lexer = Lexer::over(text, span.start, span.end, mode);
     let begun = read_head(&mut lexer, alloc, names, store)?;
-    translate_headed(
-        &begun, &mut lexer, sec_names, uses, alloc, flags, names, store, marks, steps,
-    )
+    let context = Context {
+        sec_names,
+        uses,
+        flags,
+        alloc,
+    };
+    let mut work = Work {
+        names,
+        store,
+        marks,
+        steps,
+    };
+    translate_headed(&begun, &mut lexer, &context, &mut work)
 }

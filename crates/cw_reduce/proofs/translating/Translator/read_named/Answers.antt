@@ -6,18 +6,20 @@ use Rattle.cw_reduce.specs.Opening.{answers_in, progress_of}
 use Rattle.cw_reduce.specs.Retyping.{NamesAmong}
 use Rattle.cw_reduce.proofs.AnswerSteps.{reads-few, reads-more, reads-fails, on-err, starts-next}
 use Rattle.cw_reduce.proofs.NameSteps.{with-texts-next}
+use Rattle.cw_reduce.proofs.WorkLaws.{same-work}
 use Rattle.cw_reduce.proofs.translating.Translator.read_named.Goals as goal
 
 pub loop-self-preserved : goal.loop-self-preserved
 loop-self-preserved g c = (
-  reads-more c.args.flags.now (with_texts (name_texts c.args.sec_names.now c.args.uses.now) c.args.lexer.now) c.args.store.now c.args.names.now c.args.marks.now c.args.self.now c.args.steps.now (with_texts (name_texts c.args.sec_names.now c.args.uses.now) c.loop-self.lexer) c.loop-self.store c.loop-self.names c.loop-self.marks c.loop-self.self c.loop-self.steps c.loop-self.invariant.0 (with_texts (name_texts c.args.sec_names.now c.args.uses.now) (answers_in c.next-answer.result)) (with_texts (name_texts c.args.sec_names.now c.args.uses.now) c.next-answer.new.self) (with-texts-next (name_texts c.args.sec_names.now c.args.uses.now) c.loop-self.lexer c.next-answer.new.self c.next-answer.result c.next-answer.ensures)
-      c.named_answer.new.store c.named_answer.new.names c.named_answer.new.marks c.named_answer.new.self c.named_answer.new.steps c.in_ok-named_answer.ensures.translating c.in_ok-named_answer.ensures.keeps c.in_ok-named_answer.ensures.come c.in_ok-named_answer.ensures.bound,
+  reads-more c.args.context.now.flags.now (with_texts (name_texts c.args.context.now.sec_names.now c.args.context.now.uses.now) c.args.lexer.now) c.args.work.now.store.now c.args.work.now.names.now c.args.work.now.marks.now c.args.self.now c.args.work.now.steps.now (with_texts (name_texts c.args.context.now.sec_names.now c.args.context.now.uses.now) c.loop-self.lexer) c.loop-self.work.store.now c.loop-self.work.names.now c.loop-self.work.marks.now c.loop-self.self c.loop-self.work.steps.now c.loop-self.invariant.0 (with_texts (name_texts c.args.context.now.sec_names.now c.args.context.now.uses.now) (answers_in c.next-answer.result)) (with_texts (name_texts c.args.context.now.sec_names.now c.args.context.now.uses.now) c.next-answer.new.self) (with-texts-next (name_texts c.args.context.now.sec_names.now c.args.context.now.uses.now) c.loop-self.lexer c.next-answer.new.self c.next-answer.result c.next-answer.ensures)
+      c.named_answer.new.work.store.now c.named_answer.new.work.names.now c.named_answer.new.work.marks.now c.named_answer.new.self c.named_answer.new.work.steps.now c.in_ok-named_answer.ensures.translating c.in_ok-named_answer.ensures.keeps c.in_ok-named_answer.ensures.come c.in_ok-named_answer.ensures.bound,
   (starts-next 4294967296 c.loop-self.lexer c.next-answer.new.self c.next-answer.result c.next-answer.ensures c.loop-self.invariant.1).1,
+  same-work _ _ _ c.loop-self.invariant.2 c.in_ok-named_answer.ensures.same,
 )
 
 pub returns-in_err-named_answer-clause-names : goal.returns-in_err-named_answer-clause-names
-returns-in_err-named_answer-clause-names g c = on-err c.from_residual.result (NamesAmong c.args.flags.now (with_texts (name_texts c.args.sec_names.now c.args.uses.now) c.args.lexer.now) (progress_of c.args.store.now.lists c.args.names.now c.args.marks.now c.args.self.now []) c.named_answer.new.names)
-    (reads-fails c.args.flags.now (with_texts (name_texts c.args.sec_names.now c.args.uses.now) c.args.lexer.now) c.args.store.now c.args.names.now c.args.marks.now c.args.self.now c.args.steps.now (with_texts (name_texts c.args.sec_names.now c.args.uses.now) c.loop-self.lexer) c.loop-self.store c.loop-self.names c.loop-self.marks c.loop-self.self c.loop-self.steps c.loop-self.invariant.0 (with_texts (name_texts c.args.sec_names.now c.args.uses.now) (answers_in c.next-answer.result)) (with_texts (name_texts c.args.sec_names.now c.args.uses.now) c.next-answer.new.self) (with-texts-next (name_texts c.args.sec_names.now c.args.uses.now) c.loop-self.lexer c.next-answer.new.self c.next-answer.result c.next-answer.ensures) c.named_answer.new.names c.in_err-named_answer.ensures.names)
+returns-in_err-named_answer-clause-names g c = on-err c.from_residual.result (NamesAmong c.args.context.now.flags.now (with_texts (name_texts c.args.context.now.sec_names.now c.args.context.now.uses.now) c.args.lexer.now) (progress_of c.args.work.now.store.now.lists c.args.work.now.names.now c.args.work.now.marks.now c.args.self.now []) c.named_answer.new.work.names.now)
+    (reads-fails c.args.context.now.flags.now (with_texts (name_texts c.args.context.now.sec_names.now c.args.context.now.uses.now) c.args.lexer.now) c.args.work.now.store.now c.args.work.now.names.now c.args.work.now.marks.now c.args.self.now c.args.work.now.steps.now (with_texts (name_texts c.args.context.now.sec_names.now c.args.context.now.uses.now) c.loop-self.lexer) c.loop-self.work.store.now c.loop-self.work.names.now c.loop-self.work.marks.now c.loop-self.self c.loop-self.work.steps.now c.loop-self.invariant.0 (with_texts (name_texts c.args.context.now.sec_names.now c.args.context.now.uses.now) (answers_in c.next-answer.result)) (with_texts (name_texts c.args.context.now.sec_names.now c.args.context.now.uses.now) c.next-answer.new.self) (with-texts-next (name_texts c.args.context.now.sec_names.now c.args.context.now.uses.now) c.loop-self.lexer c.next-answer.new.self c.next-answer.result c.next-answer.ensures) c.named_answer.new.work.names.now c.in_err-named_answer.ensures.names)
 
 pub returns-in_err-named_answer-clause-bound : goal.returns-in_err-named_answer-clause-bound
-returns-in_err-named_answer-clause-bound g c = reads-few c.args.flags.now (with_texts (name_texts c.args.sec_names.now c.args.uses.now) c.args.lexer.now) c.args.store.now c.args.names.now c.args.marks.now c.args.self.now c.args.steps.now (with_texts (name_texts c.args.sec_names.now c.args.uses.now) c.loop-self.lexer) c.loop-self.store c.loop-self.names c.loop-self.marks c.loop-self.self c.loop-self.steps c.loop-self.invariant.0 (with_texts (name_texts c.args.sec_names.now c.args.uses.now) (answers_in c.next-answer.result)) (with_texts (name_texts c.args.sec_names.now c.args.uses.now) c.next-answer.new.self) (with-texts-next (name_texts c.args.sec_names.now c.args.uses.now) c.loop-self.lexer c.next-answer.new.self c.next-answer.result c.next-answer.ensures) c.named_answer.new.steps c.in_err-named_answer.ensures.bound
+returns-in_err-named_answer-clause-bound g c = reads-few c.args.context.now.flags.now (with_texts (name_texts c.args.context.now.sec_names.now c.args.context.now.uses.now) c.args.lexer.now) c.args.work.now.store.now c.args.work.now.names.now c.args.work.now.marks.now c.args.self.now c.args.work.now.steps.now (with_texts (name_texts c.args.context.now.sec_names.now c.args.context.now.uses.now) c.loop-self.lexer) c.loop-self.work.store.now c.loop-self.work.names.now c.loop-self.work.marks.now c.loop-self.self c.loop-self.work.steps.now c.loop-self.invariant.0 (with_texts (name_texts c.args.context.now.sec_names.now c.args.context.now.uses.now) (answers_in c.next-answer.result)) (with_texts (name_texts c.args.context.now.sec_names.now c.args.context.now.uses.now) c.next-answer.new.self) (with-texts-next (name_texts c.args.context.now.sec_names.now c.args.context.now.uses.now) c.loop-self.lexer c.next-answer.new.self c.next-answer.result c.next-answer.ensures) c.named_answer.new.work.steps.now c.in_err-named_answer.ensures.bound

@@ -3,11 +3,12 @@ use Rattle.std.specs.Prelude.{length, ◌^◌}
 use Rattle.cw_reduce.specs.NameParts.{name_texts}
 use Rattle.cw_reduce.specs.Naming.{with_texts}
 use Rattle.cw_reduce.specs.Opening.{StartsBelow}
+use Rattle.cw_reduce.specs.Working.{IsSameWork}
 use Rattle.cw_reduce.proofs.AnswerSteps.{Reads}
 use Rattle.cw_reduce.proofs.translating.Translator.read_named.Given as goal
 
 abbrev pub invariant-loop-self : goal.invariant-loop-self
-invariant-loop-self g l = Reads l.flags (with_texts (name_texts l.sec_names l.uses) l.initial.lexer) l.initial.store l.initial.names l.initial.marks l.initial.self l.initial.steps (with_texts (name_texts l.sec_names l.uses) l.lexer) l.store l.names l.marks l.self l.steps × StartsBelow (2 ^ 32) l.lexer
+invariant-loop-self g l = Reads l.context.flags.now (with_texts (name_texts l.context.sec_names.now l.context.uses.now) l.initial.lexer) l.initial.work.store.now l.initial.work.names.now l.initial.work.marks.now l.initial.self l.initial.work.steps.now (with_texts (name_texts l.context.sec_names.now l.context.uses.now) l.lexer) l.work.store.now l.work.names.now l.work.marks.now l.self l.work.steps.now × StartsBelow (2 ^ 32) l.lexer × IsSameWork l.initial.work l.work
 
 abbrev pub decreases-loop-self : goal.decreases-loop-self
 decreases-loop-self g l = length l.lexer
