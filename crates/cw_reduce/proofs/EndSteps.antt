@@ -8,11 +8,10 @@ use Rattle.cw_table.specs.Productions.{productions}
 use Rattle.cw_table.specs.Rewriting.{State}
 use Rattle.cw_table.specs.WalkCounts.{ticks}
 use Rattle.cw_tokens.specs.declared.token.Token.{Token as StoredToken}
-use Rattle.cw_tokens.specs.Shapes.{unfolded}
 use Rattle.cw_tokens.specs.Stored.{StoredLists}
 use Rattle.cw_scraps.specs.Changing.{Keeps}
 use Rattle.cw_scraps.specs.Lines.{roots_of, IsOutside, IsSoundLine}
-use Rattle.cw_scraps.specs.Marking.{MarkList, marked_names}
+use Rattle.cw_scraps.specs.Marking.{MarkList}
 use Rattle.cw_reduce.specs.declared.nesting.Open.{Open}
 use Rattle.cw_reduce.specs.declared.nesting.Open.TheVariants.{CText, Comment}
 use Rattle.cw_reduce.specs.declared.translating.Translated.{Translated}
@@ -20,7 +19,7 @@ use Rattle.cw_reduce.specs.declared.translating.Translator.{Translator}
 use Rattle.cw_reduce.specs.Counting.{scraps_in, productions_in, ticks_in, text_limit, limit_in}
 use Rattle.cw_reduce.specs.Opening.{last_line, all_roots, IsTranslating, progress_of, HasCome, HasEnded, IsTranslated}
 use Rattle.cw_reduce.specs.Retyping.{NamesOnTheWay, later}
-use Rattle.cw_reduce.specs.Reading.{Progress, last_scraps, after_answer, after_answers, all_ended, begun}
+use Rattle.cw_reduce.specs.Reading.{Progress, last_scraps, after_answer, after_answers, all_ended}
 use Rattle.cw_reduce.specs.Translating.{Ended, state_in}
 use Rattle.cw_reduce.proofs.FinishSteps.{open-line}
 use Rattle.cw_reduce.proofs.LeafSteps.{empty-line}

@@ -1,5 +1,5 @@
 -- The words of a head are read from answers one after another.
-use Rattle.std.proofs.Common.{◌≡◌, ℕ, ◌+◌, ◌<◌, ◌≤◌, ◌^◌, length, arith, Bool, true, false, Option, Some, None, List, [], ◌∷◌, ◌++◌, option_map, refl, sym, ap, ◌∙◌, subst}
+use Rattle.std.proofs.Common.{◌≡◌, ℕ, ◌+◌, ◌<◌, ◌≤◌, ◌^◌, length, arith, Bool, true, Option, Some, None, List, [], ◌∷◌, ◌++◌, option_map, refl, sym, ap, ◌∙◌, subst}
 use Rattle.std.specs.List.{list_all}
 use Rattle.std.proofs.lemmas.List.{append_assoc, append-nil}
 use Rattle.cw_base.specs.declared.span.Span.{Span}
@@ -21,7 +21,7 @@ use Rattle.cw_scraps.specs.Words.{is_word}
 use Rattle.cw_table.proofs.ScrapFacts.{and-both}
 use Rattle.cw_reduce.specs.HeadReading.{NamesWithin, without_notes, answer_words}
 use Rattle.cw_reduce.specs.Opening.{StartsBelow, answers_in}
-use Rattle.cw_reduce.specs.Translating.{Spelled, spelled, spelled_behind, form_tokens, word_tokens}
+use Rattle.cw_reduce.specs.Translating.{spelled, spelled_behind, form_tokens, word_tokens}
 use Rattle.cw_reduce.proofs.AnswerSteps.{gives-is}
 
 -- ## Notes

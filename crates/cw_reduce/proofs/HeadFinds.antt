@@ -23,7 +23,7 @@ use Rattle.cw_reduce.specs.Translating.{Known, NameTexts, head_made, spelled, wi
 use Rattle.cw_reduce.specs.Opening.{StartsBelow, answers_in}
 use Rattle.cw_reduce.proofs.AnswerSteps.{gives-is}
 use Rattle.cw_reduce.proofs.HeadAnswers.{nests-notes, nested-notes, starts-notes}
-use Rattle.cw_reduce.proofs.HeadMakes.{Behind, behind}
+use Rattle.cw_reduce.proofs.HeadMakes.{behind}
 
 -- ## Definitions
 

@@ -1,6 +1,6 @@
 -- What the head of a definition makes.
-use Rattle.std.proofs.Common.{◌≡◌, ℕ, ◌≤◌, Bool, true, false, Option, Some, None, List, [], ◌∷◌, ◌++◌, length, refl, sym, ap, ◌∙◌, subst, arith}
-use Rattle.std.specs.List.{list_all, All}
+use Rattle.std.proofs.Common.{◌≡◌, ℕ, ◌≤◌, true, false, Some, None, List, [], ◌∷◌, ◌++◌, length, refl, sym, ap, ◌∙◌, subst, arith}
+use Rattle.std.specs.List.{list_all}
 use Rattle.std.proofs.lemmas.List.Elements.{All-head}
 use Rattle.cw_base.specs.declared.category.Cat.TheVariants as cat
 use Rattle.cw_base.specs.Flags.{start_flags}
@@ -15,31 +15,26 @@ use Rattle.cw_rules.specs.declared.tokens.TokKind.TheVariants as kind
 use Rattle.cw_lex.specs.Heads.{Head, Macro, Format, Silent, Headed, headed_by, head_words, wanted_by, without_words}
 use Rattle.cw_lex.specs.Nest.{Nest, Leaf as LeafNest, nest}
 use Rattle.cw_lex.specs.Nested.{IsNested}
-use Rattle.cw_lex.proofs.HeadNests.{nested-behind, words-leave}
 use Rattle.cw_names.specs.Names.{Entry}
 use Rattle.cw_trees.specs.declared.Control.TheVariants as control
 use Rattle.cw_trees.specs.Joining.{Scrap, scrap_agrees}
-use Rattle.cw_trees.specs.Tree.{Tree}
 use Rattle.cw_tokens.specs.declared.token.ListId.{ListId}
 use Rattle.cw_tokens.specs.declared.token.Token.{Token}
 use Rattle.cw_tokens.specs.declared.token.Token.TheVariants as token
 use Rattle.cw_tokens.specs.References.{IsTied}
-use Rattle.cw_tokens.specs.Shapes.{tree_in, trees_from, unfolded}
+use Rattle.cw_tokens.specs.Shapes.{trees_from, unfolded}
 use Rattle.cw_tokens.specs.Stored.{StoredLists}
 use Rattle.cw_tokens.proofs.Unfolding.{unfolded-new}
-use Rattle.cw_scraps.specs.declared.leaves.Leaf.{Leaf}
-use Rattle.cw_scraps.specs.declared.line.LineEntry.{LineEntry}
 use Rattle.cw_scraps.specs.Changing.{Keeps}
-use Rattle.cw_scraps.specs.Leaves.{LeafForm, HasForm}
 use Rattle.cw_scraps.specs.Lines.{scraps_of, roots_of, AreRoots, IsSoundLine}
 use Rattle.cw_scraps.proofs.LeafForms.{leaf-sound}
 use Rattle.cw_reduce.specs.declared.heads.HeadRead.{HeadRead}
 use Rattle.cw_reduce.specs.declared.heads.HeadRead.TheVariants as read
 use Rattle.cw_reduce.specs.Gathering.{refs_in}
-use Rattle.cw_reduce.specs.HeadReading.{IsLast, HasTokens, NamesWithin, answer_words, head_line, is_definition, macro_tokens, format_tokens, with_break, read_made, words_in, words_tokens}
-use Rattle.cw_reduce.specs.Translating.{NameTexts, Known, Made, one_scrap, with_names, spelled, first_word, later_words, dollared, dead, leaf_scrap, head_made}
+use Rattle.cw_reduce.specs.HeadReading.{IsLast, HasTokens, answer_words, head_line, is_definition, macro_tokens, format_tokens, with_break, read_made, words_in, words_tokens}
+use Rattle.cw_reduce.specs.Translating.{NameTexts, Known, Made, with_names, spelled, first_word, later_words, dollared, dead, leaf_scrap, head_made}
 use Rattle.cw_reduce.proofs.HeadAnswers.{word_kind, words-fit, words-same}
-use Rattle.cw_reduce.proofs.HeadReads.{HeadFits, reads-head, head-fits}
+use Rattle.cw_reduce.proofs.HeadReads.{HeadFits, reads-head}
 use Rattle.cw_reduce.proofs.HeadTokens.{AreNamed, spelled-named, spelled-grow, plain-refs, macro-named, format-named, break-behind, later-names, head-plain, head-tree, head-good}
 use Rattle.cw_reduce.proofs.LeafSteps.{empty-line, keeps-itself}
 use Rattle.cw_reduce.proofs.OpenLaws.{plain-keeps}

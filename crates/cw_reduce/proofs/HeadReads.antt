@@ -1,5 +1,5 @@
 -- Read from text, the leaves of heads end in text as well.
-use Rattle.std.proofs.Common.{◌≡◌, ℕ, Bool, true, false, ◌&&◌, Option, Some, None, List, [], ◌∷◌, ◌++◌, refl, sym, ap, ◌∙◌, subst}
+use Rattle.std.proofs.Common.{◌≡◌, ℕ, Bool, true, false, Option, Some, None, List, [], ◌∷◌, ◌++◌, refl, sym, ap, ◌∙◌, subst}
 use Rattle.std.specs.List.{list_all}
 use Rattle.std.proofs.lemmas.List.{append_assoc}
 use Rattle.cw_base.proofs.TestLaws.{both-left, both-right}
@@ -27,9 +27,9 @@ use Rattle.cw_table.proofs.ScrapFacts.{and-both}
 use Rattle.cw_tokens.specs.declared.token.Token.{Token}
 use Rattle.cw_tokens.specs.declared.token.Token.TheVariants as token
 use Rattle.cw_tokens.specs.Shapes.{tree_in}
-use Rattle.cw_scraps.specs.Leaves.{LeafForm, sign_mode, token_form, word_form, names_with}
+use Rattle.cw_scraps.specs.Leaves.{sign_mode, token_form, word_form, names_with}
 use Rattle.cw_reduce.specs.TranslationLaws.{InnersRead, ReadsInText}
-use Rattle.cw_reduce.specs.Translating.{Known, Made, before, spelled, form_tokens, word_tokens, first_word, later_words, dollared, dead, leaf_scrap, sign_behind, head_made, headed_made, leaf_of_name, made, begin, translated, end_of}
+use Rattle.cw_reduce.specs.Translating.{Known, spelled, form_tokens, word_tokens, first_word, later_words, dollared, dead, leaf_scrap, sign_behind, head_made, headed_made, leaf_of_name, made, begin, translated}
 use Rattle.cw_reduce.proofs.ReadLaws.{MadeReads, reads-nothing, reads-scrap, reads-beside, reads-end, reads-made, reads-leaf, reads-headed-name}
 
 -- Tokens that are read in a mode and stay in it, and hold no inner text.

@@ -32,7 +32,7 @@ use Rattle.cw_reduce.specs.declared.holders.Holder.TheVariants as holder
 use Rattle.cw_reduce.specs.declared.nesting.Open.TheVariants.{CText as OpenCText}
 use Rattle.cw_reduce.specs.declared.translating.Translated.{Translated}
 use Rattle.cw_reduce.specs.HeadReading.{head_line, read_made}
-use Rattle.cw_reduce.specs.Heading.{NamesOfHead, NamesOfHeaded, NamesOfHeld, in_name, behind, after_head, after_held, head_begun, headed_text}
+use Rattle.cw_reduce.specs.Heading.{NamesOfHeaded, NamesOfHeld, in_name, behind, after_head, after_held, head_begun, headed_text}
 use Rattle.cw_reduce.specs.NameParts.{name_texts, parts_by_kind}
 use Rattle.cw_reduce.specs.Naming.{held_answers, with_texts}
 use Rattle.cw_reduce.specs.declared.translating.Translator.{Translator}

@@ -1,5 +1,5 @@
 -- The scrap of what holds inner texts is as in a sound line.
-use Rattle.std.proofs.Common.{◌≡◌, ℕ, true, Option, Some, List, [], ◌∷◌, refl}
+use Rattle.std.proofs.Common.{◌≡◌, ℕ, true, List, [], ◌∷◌, refl}
 use Rattle.std.specs.List.{All}
 use Rattle.std.proofs.lemmas.List.Elements.{All-head, All-tail}
 use Rattle.cw_base.specs.declared.mode.MathMode.{MathMode}
@@ -10,7 +10,7 @@ use Rattle.cw_table.specs.Normal.{is_fine}
 use Rattle.cw_scraps.specs.Lines.{IsNamedBelow}
 use Rattle.cw_reduce.specs.declared.holders.Holder.{Holder}
 use Rattle.cw_reduce.specs.declared.holders.Holder.TheVariants as holder
-use Rattle.cw_reduce.specs.Holders.{held_scrap, held_tree, name_rest, name_tree}
+use Rattle.cw_reduce.specs.Holders.{held_scrap, held_tree, name_rest}
 use Rattle.cw_reduce.specs.Opening.{IsNamedItem}
 use Rattle.cw_reduce.specs.Translating.{CommentItem, Piece, InnerText, sign_behind}
 use Rattle.cw_reduce.proofs.GatherLaws.{comment-named, comment-agrees}

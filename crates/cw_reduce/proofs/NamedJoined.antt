@@ -1,5 +1,5 @@
 -- With section names as well, a translation on its way comes to the translation that is defined over the nest.
-use Rattle.std.proofs.Common.{◌≡◌, ℕ, Option, Some, None, List, [], ◌∷◌, ◌++◌, length, map, refl, sym, ◌∙◌, ap, subst, arith}
+use Rattle.std.proofs.Common.{◌≡◌, ℕ, Option, Some, None, List, [], ◌∷◌, ◌++◌, map, refl, sym, ◌∙◌, ap, arith}
 use Rattle.std.specs.List.{All, slice_get}
 use Rattle.std.specs.Prelude.{IfSome}
 use Rattle.std.proofs.lemmas.List.{append_assoc}
@@ -26,8 +26,8 @@ use Rattle.cw_trees.specs.declared.Control.TheVariants as control
 use Rattle.cw_trees.specs.Tree.{Tree, Empty, Then, Inner, Source, Sign}
 use Rattle.cw_reduce.specs.declared.holders.Holder.{Holder}
 use Rattle.cw_reduce.specs.declared.holders.Holder.TheVariants as holder
-use Rattle.cw_reduce.specs.Holders.{held_cat, held_mode, held_scrap, held_tree, name_rest, name_tree}
-use Rattle.cw_reduce.specs.NameParts.{name_texts, parts_by_kind, parts_of_name, texts_kept, texts_of_name}
+use Rattle.cw_reduce.specs.Holders.{held_cat, held_mode, held_tree, name_rest, name_tree}
+use Rattle.cw_reduce.specs.NameParts.{name_texts, parts_by_kind, texts_kept, texts_of_name}
 use Rattle.cw_reduce.specs.Naming.{held_answers, name_answers, text_answers, text_token, texts_answers, token_answers, with_texts}
 use Rattle.cw_reduce.specs.Reading.{Frame, CText, Comment, with_scrap, Progress, with_made, after_token, after_begin, after_finish, after_answers, all_ended, ended_in, with_held}
 use Rattle.cw_reduce.specs.Translating.{CommentItem, InnerText, Known, Made, nothing, before, end_of, token_made, made, no_name, plain_text, NameTexts, texts_made, texts_named, leaf_of_name}

@@ -1,7 +1,6 @@
 -- Read from text, the tree of a translation ends in text, and so does each inner text in it.
-use Rattle.std.proofs.Common.{◌≡◌, ℕ, ◌+◌, Bool, true, false, Option, Some, None, IfSome, List, [], ◌∷◌, ◌++◌, length, refl, sym, ap, ◌∙◌, subst, arith}
-use Rattle.std.specs.List.{All, list_all}
-use Rattle.std.proofs.lemmas.List.{append_assoc}
+use Rattle.std.proofs.Common.{◌≡◌, ℕ, ◌+◌, Bool, Option, Some, None, IfSome, List, [], ◌∷◌, refl, ap, ◌∙◌, arith}
+use Rattle.std.specs.List.{All}
 use Rattle.std.proofs.lemmas.List.Elements.{All-append, All-cons, All-head, All-tail}
 use Rattle.cw_base.specs.declared.category.Cat.{Cat}
 use Rattle.cw_base.specs.declared.category.Cat.TheVariants.{Dead, Exp, SectionScrap}
@@ -17,7 +16,7 @@ use Rattle.cw_lex.specs.Nest.{Nest, End, Leaf, Group, nest}
 use Rattle.cw_names.specs.declared.NameId.{NameId}
 use Rattle.cw_names.specs.declared.entry.EntryKind.TheVariants.{Ident as ident_kind}
 use Rattle.cw_names.specs.Names.{Entry, place_of}
-use Rattle.cw_trees.specs.Tree.{Tree, Empty, Then, Sub, Inner, Sign}
+use Rattle.cw_trees.specs.Tree.{Tree, Empty, Then, Sub, Sign}
 use Rattle.cw_trees.specs.declared.Control.TheVariants as control
 use Rattle.cw_trees.specs.Joining.{Scrap, scrap_agrees, Agrees, dollar_before, in_text, blank_and_whole, whole, reads, leads_on}
 use Rattle.cw_table.specs.Normal.{normal}
@@ -26,7 +25,7 @@ use Rattle.cw_tokens.specs.Shapes.{tree_in}
 use Rattle.cw_scraps.specs.Leaves.{LeafForm, code_form, word_form, token_form, names_with}
 use Rattle.cw_scraps.proofs.LeafForms.{IsGood, token-good}
 use Rattle.cw_reduce.specs.TranslationLaws.{InnersRead, ReadsInText}
-use Rattle.cw_reduce.specs.Translating.{leaf_scrap, CommentItem, Piece, InnerText, comment_rest, comment_scrap, Known, Made, beside, state_in, end_of, form_made, token_made, group_made, made, no_name, plain_text, texts_made, texts_named, scrap_of_name, leaf_of_name, with_names}
+use Rattle.cw_reduce.specs.Translating.{leaf_scrap, CommentItem, Piece, InnerText, comment_rest, comment_scrap, Known, Made, beside, state_in, end_of, form_made, token_made, group_made, made, no_name, plain_text, texts_made, texts_named, leaf_of_name, with_names}
 use Rattle.cw_reduce.proofs.GatherLaws.{comment-agrees}
 use Rattle.cw_reduce.proofs.InnersKept.{inners_of, AreRead, normal-read}
 

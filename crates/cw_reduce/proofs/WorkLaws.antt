@@ -1,5 +1,5 @@
 -- A translation that goes on works on what it began with.
-use Rattle.std.proofs.Common.{◌≡◌, ◌∙◌}
+use Rattle.std.proofs.Common.{◌∙◌}
 use Rattle.cw_reduce.specs.declared.work.Work.{Work}
 use Rattle.cw_reduce.specs.Working.{IsSameWork}
 

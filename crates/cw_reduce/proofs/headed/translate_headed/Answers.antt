@@ -1,12 +1,11 @@
 -- What a text with its head comes to is its translation, and want of memory leaves what was on the way to it.
-use Rattle.std.proofs.Common.{◌≡◌, ◌+◌, ◌≤◌, [], ◌∷◌, ◌++◌, ap, subst, arith}
+use Rattle.std.proofs.Common.{[], ◌∷◌, ◌++◌, ap, subst}
 use Rattle.std.proofs.lemmas.Result.{IfOk-weaker}
 use Rattle.cw_scraps.specs.Changing.{Keeps}
 use Rattle.cw_scraps.specs.Lines.{roots_of}
 use Rattle.cw_scraps.specs.Marking.{marked_names}
 use Rattle.cw_scraps.proofs.Applied.{keeps-trans}
 use Rattle.cw_reduce.specs.declared.translating.Translator.{Translator}
-use Rattle.cw_reduce.specs.Counting.{limit_in}
 use Rattle.cw_reduce.specs.HeadReading.{answers_ahead, head_line}
 use Rattle.cw_reduce.specs.Heading.{NamesOfHeaded, after_head, head_begun, headed_text}
 use Rattle.cw_reduce.specs.NameParts.{name_texts}

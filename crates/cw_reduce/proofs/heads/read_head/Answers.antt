@@ -1,5 +1,5 @@
 -- The code of a definition, or a section name, begins a head; before any other answer there is none.
-use Rattle.std.proofs.Common.{◌≡◌, ◌^◌, [], ◌++◌, refl, sym, ap, ◌∙◌, subst}
+use Rattle.std.proofs.Common.{◌≡◌, ◌^◌, [], ◌++◌, sym, ap, ◌∙◌, subst}
 use Rattle.std.specs.Result.{IfOk, OnOk, OnErr}
 use Rattle.cw_base.specs.declared.flags.Flags.{Flags}
 use Rattle.cw_rules.specs.Answers.{seen}
@@ -10,7 +10,6 @@ use Rattle.cw_reduce.specs.Opening.{StartsBelow}
 use Rattle.cw_reduce.specs.Translating.{Known, NameTexts, head_made, spelled, with_names}
 use Rattle.cw_reduce.proofs.HeadAnswers.{starts-notes}
 use Rattle.cw_reduce.proofs.HeadFinds.{headless-other, name-token, no-head, none-token, sign-made, sign-names, token-headed, token-nested}
-use Rattle.cw_reduce.proofs.HeadMakes.{none-makes}
 use Rattle.cw_reduce.proofs.LeafSteps.{empty-line, keeps-itself}
 use Rattle.cw_reduce.proofs.heads.read_head.Goals as goal
 

@@ -1,9 +1,7 @@
 -- The head that is read, and the text behind it, give the translation; the lists that the store held stay.
-use Rattle.std.proofs.Common.{◌≡◌, ◌+◌, ◌≤◌, [], ◌∷◌, ◌++◌, refl, ap, ◌∙◌, sym, subst, arith}
+use Rattle.std.proofs.Common.{◌≡◌, ◌+◌, ◌≤◌, [], ◌∷◌, ◌++◌, ap, ◌∙◌, sym, subst, arith}
 use Rattle.std.proofs.lemmas.Result.{IfOk-weaker}
 use Rattle.cw_lex.specs.Lexing.{tokens_of}
-use Rattle.cw_lex.specs.Heads.{headed}
-use Rattle.cw_lex.specs.Nest.{nest}
 use Rattle.cw_lex.specs.Nested.{IsNested}
 use Rattle.cw_lex.proofs.Nesting.{c-texts-nested}
 use Rattle.cw_tokens.specs.Shapes.{unfolded}
@@ -12,7 +10,7 @@ use Rattle.cw_scraps.specs.Lines.{roots_of}
 use Rattle.cw_scraps.specs.Marking.{marked_names}
 use Rattle.cw_scraps.proofs.Applied.{keeps-trans}
 use Rattle.cw_reduce.specs.Counting.{limit_in, productions_in, scraps_in, ticks_in}
-use Rattle.cw_reduce.specs.HeadReading.{NamesWithin, answers_ahead, head_line, words_in}
+use Rattle.cw_reduce.specs.HeadReading.{answers_ahead, head_line}
 use Rattle.cw_reduce.specs.Heading.{NamesOfHeaded, NamesOfText, behind_head, head_begun, headed_text, in_head}
 use Rattle.cw_reduce.specs.NameParts.{name_texts}
 use Rattle.cw_reduce.specs.Opening.{IsTranslated}

@@ -9,7 +9,7 @@ use Rattle.cw_reduce.specs.Naming.{text_answers, text_token}
 use Rattle.cw_reduce.specs.Opening.{all_roots, HasCome, IsTranslating, progress_of}
 use Rattle.cw_reduce.specs.Reading.{after_answers, after_finish}
 use Rattle.cw_reduce.specs.Retyping.{NamesAmong}
-use Rattle.cw_reduce.proofs.AnswerSteps.{last-come, last-fails, last-few, on-err, on-err-weaker, on-ok1, on-ok3, within-starts}
+use Rattle.cw_reduce.proofs.AnswerSteps.{last-come, last-fails, last-few, on-err, on-ok1, on-ok3, within-starts}
 use Rattle.cw_reduce.proofs.FinishSteps.{same-names}
 use Rattle.cw_reduce.proofs.NameSteps.{part_answers, text-opened, text-read, text-fails, text-few}
 use Rattle.cw_reduce.proofs.translating.Translator.inner_text.Goals as goal

@@ -1,11 +1,11 @@
 -- One inner text more is read, and behind its bar come those that are left.
-use Rattle.std.proofs.Common.{◌≡◌, ◌+◌, ◌≤◌, [], subst, arith}
+use Rattle.std.proofs.Common.{◌+◌, [], arith}
 use Rattle.cw_secnames.specs.Parts.{parts_at}
 use Rattle.cw_reduce.specs.NameParts.{parts_of_name}
 use Rattle.cw_reduce.specs.Naming.{text_answers, texts_answers}
 use Rattle.cw_reduce.specs.Opening.{progress_of}
 use Rattle.cw_reduce.specs.Retyping.{NamesAmong}
-use Rattle.cw_reduce.proofs.AnswerSteps.{reads-come, reads-few, reads-fails, reads-more, reads-spent, reads-start, on-err}
+use Rattle.cw_reduce.proofs.AnswerSteps.{reads-few, reads-fails, reads-more, on-err}
 use Rattle.cw_reduce.proofs.NameSteps.{all_part_answers, part_answers, part-next}
 use Rattle.cw_reduce.proofs.WorkLaws.{same-work}
 use Rattle.cw_reduce.proofs.translating.Translator.inner_texts.Goals as goal

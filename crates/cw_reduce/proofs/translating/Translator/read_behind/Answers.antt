@@ -1,12 +1,11 @@
 -- A name that was read ahead, the first answer behind it, and then all others are the answers behind the head.
-use Rattle.std.proofs.Common.{◌^◌, [], ◌++◌, subst}
-use Rattle.std.proofs.lemmas.List.{append_assoc}
+use Rattle.std.proofs.Common.{[], ◌++◌}
 use Rattle.cw_scraps.specs.Changing.{Keeps}
 use Rattle.cw_scraps.proofs.Applied.{keeps-trans}
 use Rattle.cw_reduce.specs.HeadReading.{name_ahead}
 use Rattle.cw_reduce.specs.NameParts.{name_texts}
 use Rattle.cw_reduce.specs.Naming.{with_texts}
-use Rattle.cw_reduce.specs.Opening.{HasCome, IsTranslating, StartsBelow, all_roots, answers_in, progress_of}
+use Rattle.cw_reduce.specs.Opening.{HasCome, IsTranslating, all_roots, answers_in, progress_of}
 use Rattle.cw_reduce.specs.Reading.{after_answers}
 use Rattle.cw_reduce.specs.Retyping.{NamesAmong}
 use Rattle.cw_reduce.proofs.AnswerSteps.{last-come, last-fails, last-few, on-err, on-err-weaker, on-ok1, on-ok3, reads-fails, reads-few, starts-split}

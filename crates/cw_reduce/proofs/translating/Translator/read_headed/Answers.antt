@@ -1,9 +1,8 @@
 -- What the head makes, and then the answers behind it, are the text with its head.
-use Rattle.std.proofs.Common.{◌+◌, ◌≤◌, [], ◌++◌, subst, arith}
+use Rattle.std.proofs.Common.{[], ◌++◌, subst, arith}
 use Rattle.std.proofs.lemmas.List.{append-nil}
 use Rattle.cw_scraps.specs.Changing.{Keeps}
 use Rattle.cw_scraps.proofs.Applied.{keeps-trans}
-use Rattle.cw_reduce.specs.Counting.{limit_in}
 use Rattle.cw_reduce.specs.HeadReading.{answers_ahead}
 use Rattle.cw_reduce.specs.Heading.{NamesOfHeaded, in_name, behind, after_head}
 use Rattle.cw_reduce.specs.NameParts.{name_texts}

@@ -1,1 +1,0 @@
--- An answer makes a piece, or none.
