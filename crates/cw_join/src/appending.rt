@@ -82,10 +82,10 @@ impl Joiner {
     {
         if !self.run.is_empty() {
             append_run(self.run, self.is_inner(), out)?;
+            self.run = Run::new();
         }
         append_item(item, names, out)?;
         self.depth = depth_behind(self.depth, item);
-        self.run = Run::new();
         Ok(())
     }
 }

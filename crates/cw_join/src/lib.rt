@@ -11,4 +11,5 @@ mod run;
 mod token;
 
 pub use joiner::Joiner;
+pub use naming::put_ident;
 pub use token::FlatToken;

@@ -18,7 +18,7 @@ pub(crate) fn text_of(names: &Names, name: NameId) -> &[u8]
 }
 
 /// Puts an identifier.
-pub(crate) fn put_ident<D: Desk>(
+pub fn put_ident<D: Desk>(
     name: &[u8],
     out: &mut LineOut,
     desk: &mut D,

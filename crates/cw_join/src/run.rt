@@ -19,12 +19,15 @@ pub(crate) enum Pause {
     BigBreak,
 }
 
-/// The strongest break or blank of a run, and whether it has a Cancel and a Backup.
+/// What is kept of a run: of one that has begun the strongest break or blank, and whether it has a Cancel and a Backup.
 #[derive(Clone, Copy)]
-pub(crate) struct Run {
-    pause: Pause,
-    cancelled: bool,
-    backed: bool,
+pub(crate) enum Run {
+    Empty,
+    Begun {
+        pause: Pause,
+        cancelled: bool,
+        backed: bool,
+    },
 }
 
 impl Pause {
@@ -73,6 +76,17 @@ impl Pause {
             Pause::BigBreak => b"\\7\n",
         }
     }
+
+    // The same in inner C text or outside.
+    fn bytes_in(self, inner: bool) -> &'static [u8]
+        ensures { result.now
+            ≡ pause_bytes inner (record { strength = strength_of self; cancelled = false; backed = false }) }
+    {
+        if !inner {
+            return self.bytes();
+        }
+        if self.strength() > 0 { b" " } else { b"" }
+    }
 }
 
 impl Run {
@@ -80,29 +94,37 @@ impl Run {
     pub(crate) fn new() -> Run
         ensures { state_of result ≡ record { strength = 0; cancelled = false; backed = false } }
     {
-        Run {
-            pause: Pause::Nothing,
-            cancelled: false,
-            backed: false,
-        }
+        Run::Empty
     }
 
-    /// Whether it prints nothing when it has ended.
+    /// Whether it has no control, and so prints nothing when it has ended.
     #[inline(always)]
     pub(crate) fn is_empty(self) -> bool
         ensures { OnTrue result (state_of self ≡ record { strength = 0; cancelled = false; backed = false }) }
     {
-        matches!(self.pause, Pause::Nothing) && !self.cancelled && !self.backed
+        matches!(self, Run::Empty)
     }
 
     /// The run with one control more.
+    #[inline(always)]
     pub(crate) fn with(self, control: Control) -> Run
         ensures { state_of result ≡ run_more (state_of self) control }
     {
-        Run {
-            pause: self.pause.stronger(Pause::of(control)),
-            cancelled: self.cancelled || is_cancel(control),
-            backed: self.backed || is_backup(control),
+        match self {
+            Run::Empty => Run::Begun {
+                pause: Pause::of(control),
+                cancelled: is_cancel(control),
+                backed: is_backup(control),
+            },
+            Run::Begun {
+                pause,
+                cancelled,
+                backed,
+            } => Run::Begun {
+                pause: pause.stronger(Pause::of(control)),
+                cancelled: cancelled || is_cancel(control),
+                backed: backed || is_backup(control),
+            },
         }
     }
 
@@ -110,20 +132,24 @@ impl Run {
     pub(crate) fn pause(self, inner: bool) -> &'static [u8]
         ensures { result.now ≡ pause_bytes inner (state_of self) }
     {
-        if self.cancelled {
-            return b"";
+        match self {
+            Run::Begun {
+                pause, cancelled, ..
+            } if !cancelled => pause.bytes_in(inner),
+            _ => b"",
         }
-        if !inner {
-            return self.pause.bytes();
-        }
-        if self.pause.strength() > 0 { b" " } else { b"" }
     }
 
     /// Whether it then moves the line to the left.
     pub(crate) fn backs(self, inner: bool) -> bool
         ensures { result ≡ backs inner (state_of self) }
     {
-        !inner && !self.cancelled && self.backed
+        match self {
+            Run::Begun {
+                cancelled, backed, ..
+            } => !inner && !cancelled && backed,
+            Run::Empty => false,
+        }
     }
 }
 

@@ -4,4 +4,5 @@ pub mod ScanLaws
 pub mod ComingLaws
 pub mod ShownLaws
 pub mod PrintingLaws
+pub mod NameLaws
 mod TokenRows

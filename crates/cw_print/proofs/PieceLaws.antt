@@ -1,12 +1,8 @@
 -- Of the pieces of a comment: what was printed, with what is to come.
-use Rattle.std.proofs.Common.{◌≡◌, ℕ, List, [], ◌∷◌, ◌++◌, ap, sym, ◌∙◌}
+use Rattle.std.proofs.Common.{◌≡◌, ℕ, suc, ◌+◌, ◌||◌, ◌&&◌, Bool, true, false, not, cond, List, [], ◌∷◌, ◌++◌, take, drop, refl, ap, sym, ◌∙◌, ◌==◌, arith}
+use Rattle.std.specs.List.{position_or_len}
 use Rattle.std.proofs.lemmas.List.{append_assoc}
-use Rattle.cw_print.specs.Comments.{Piece, then, piece}
-
--- The bytes so far and what is to come are those of the whole, and so are the open braces.
-pub record Prints (begun text : List ℕ) (open_first : ℕ) (out rest : List ℕ) (open_now : ℕ) : Type 0 where
-  pub bytes : out ++ (piece rest open_now).bytes ≡ begun ++ (piece text open_first).bytes
-  pub braces : (piece rest open_now).braces ≡ (piece text open_first).braces
+use Rattle.cw_print.specs.Comments.{Piece, Prints, blank_for, byte_piece, closed, is_special, joined, piece, prints, then}
 
 -- Some bytes more are printed.
 more : (begun text : List ℕ) (open_first : ℕ) (out rest : List ℕ) (open_now : ℕ) (p : Piece) (after bytes : List ℕ)
@@ -18,3 +14,82 @@ more begun text open_first out rest open_now p after bytes is appended so_far = 
       (ap (λ (q : Piece). out ++ q.bytes) (sym is) ∙ so_far.bytes);
   braces = ap (λ (q : Piece). q.braces) (sym is) ∙ so_far.braces;
 }
+
+-- ## Bytes that print themselves
+
+record AreOther (a b c d e : Bool) : Type 0 where
+  pub first : a ≡ false
+  pub second : b ≡ false
+  pub third : c ≡ false
+  pub fourth : d ≡ false
+  pub fifth : e ≡ false
+
+all-other : (a b c d e : Bool) → (a || (b || (c || (d || e)))) ≡ false → AreOther a b c d e
+all-other false false false false false is = record { first = refl; second = refl; third = refl; fourth = refl; fifth = refl }
+all-other true b c d e is = absurd (cc)
+all-other false true c d e is = absurd (cc)
+all-other false false true d e is = absurd (cc)
+all-other false false false true e is = absurd (cc)
+all-other false false false false true is = absurd (cc)
+
+byte-plain : (byte braces : ℕ) → is_special byte ≡ false → byte_piece byte braces ≡ prints (byte ∷ []) braces
+byte-plain byte braces is =
+    let o = all-other (byte == 10) (byte == 64) (byte == 92) (byte == 123) (byte == 125) is in
+    λ i. elim (o.second i) [
+      | true ↦ prints [] braces
+      | false ↦ elim (o.fourth i) [
+        | true ↦ prints (byte ∷ []) (suc braces)
+        | false ↦ elim (o.fifth i) [
+          | true ↦ closed braces
+          | false ↦ prints (elim (o.first i) [ true ↦ 32 | false ↦ byte ] ∷ []) braces
+        ]
+      ]
+    ]
+
+one-plain : (byte : ℕ) (bytes : List ℕ) (braces : ℕ) → is_special byte ≡ false
+    → piece (byte ∷ bytes) braces ≡ joined (prints (byte ∷ []) braces) (piece bytes braces)
+one-plain byte [] braces is = byte-plain byte braces is
+one-plain byte (next ∷ bytes) braces is =
+    let o = all-other (byte == 10) (byte == 64) (byte == 92) (byte == 123) (byte == 125) is in
+    λ i. elim (o.third i && not (next == 64)) [
+      | true ↦ then (prints (byte ∷ blank_for next ∷ []) braces) (piece bytes)
+      | false ↦ elim (o.second i && next == 64) [
+        | true ↦ then (prints (byte ∷ []) braces) (piece bytes)
+        | false ↦ then (byte-plain byte braces is i) (piece (next ∷ bytes))
+      ]
+    ]
+
+abbrev plain : List ℕ → ℕ
+plain text = position_or_len is_special text
+
+one-add : (n : ℕ) → 1 + n ≡ suc n
+one-add n = omega arith
+
+abbrev parted : List ℕ → ℕ → ℕ → Piece
+parted text braces n = joined (prints (take n text) braces) (piece (drop n text) braces)
+
+plain-by : (x : ℕ) (xs : List ℕ) (braces : ℕ) (b : Bool) → is_special x ≡ b → piece xs braces ≡ parted xs braces (plain xs)
+    → piece (x ∷ xs) braces ≡ parted (x ∷ xs) braces (cond (not b) (1 + plain xs) 0)
+plain-by x xs braces true is rest = refl
+plain-by x xs braces false is rest =
+    one-plain x xs braces is ∙ ap (λ (p : Piece). joined (prints (x ∷ []) braces) p) rest
+    ∙ ap (parted (x ∷ xs) braces) (sym (one-add (plain xs)))
+
+plain-front : (text : List ℕ) (braces : ℕ) → piece text braces ≡ parted text braces (plain text)
+plain-front [] braces = refl
+plain-front (x ∷ xs) braces = plain-by x xs braces (is_special x) refl (plain-front xs braces)
+
+-- the bytes before the first special one print themselves
+pub plain-printed : (begun text first rest : List ℕ) (size : ℕ) → size ≡ position_or_len is_special text → first ≡ take size text
+    → rest ≡ drop size text → (out : List ℕ) → out ≡ begun ++ first → (braces : ℕ) → Prints begun text braces out rest braces
+plain-printed begun text first rest size is front back out appended braces =
+    let front' : take (plain text) text ≡ first = sym (front ∙ ap (λ (n : ℕ). take n text) is) in
+    let back' : drop (plain text) text ≡ rest = sym (back ∙ ap (λ (n : ℕ). drop n text) is) in
+    let whole : piece text braces ≡ joined (prints first braces) (piece rest braces) =
+    plain-front text braces ∙ (λ i. joined (prints (front' i) braces) (piece (back' i) braces)) in
+    record {
+      bytes =
+          ap (λ (l : List ℕ). l ++ (piece rest braces).bytes) appended ∙ append_assoc begun first (piece rest braces).bytes
+          ∙ ap (λ (p : Piece). begun ++ p.bytes) (sym whole);
+      braces = ap (λ (p : Piece). p.braces) (sym whole);
+    }

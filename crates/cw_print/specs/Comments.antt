@@ -1,5 +1,5 @@
 -- The text of a comment, which is printed in pieces, between its inner texts.
-use Rattle.std.specs.Prelude.{ℕ, zero, suc, ◌&&◌, ◌==◌, Bool, true, false, not, List, [], ◌∷◌, ◌++◌}
+use Rattle.std.specs.Prelude.{◌≡◌, ℕ, zero, suc, ◌&&◌, ◌||◌, ◌==◌, Bool, true, false, not, List, [], ◌∷◌, ◌++◌}
 use Rattle.cw_print.specs.Texts.{is_at_pair}
 
 -- What bytes of a comment print, and how many of its braces are open behind them.
@@ -53,3 +53,12 @@ piece (byte ∷ next ∷ bytes) braces = elim (takes_next byte next) [
 abbrev pub closing_braces : ℕ → List ℕ
 closing_braces zero = 125 ∷ []
 closing_braces (suc braces) = 125 ∷ closing_braces braces
+
+-- a byte that does not print itself, or not whatever stands beside it
+abbrev pub is_special : ℕ → Bool
+is_special byte = byte == 10 || (byte == 64 || (byte == 92 || (byte == 123 || byte == 125)))
+
+-- The bytes so far and what is to come are those of the whole, and so are the open braces.
+pub record Prints (begun text : List ℕ) (open_first : ℕ) (out rest : List ℕ) (open_now : ℕ) : Type 0 where
+  pub bytes : out ++ (piece rest open_now).bytes ≡ begun ++ (piece text open_first).bytes
+  pub braces : (piece rest open_now).braces ≡ (piece text open_first).braces

@@ -1,5 +1,8 @@
 -- The printing of a C text, item by item.
 use Rattle.std.specs.Prelude.{◌≡◌, ℕ, ◌++◌, Bool, List, [], ◌∷◌}
+use Rattle.cw_names.specs.declared.entry.NameId.{NameId}
+use Rattle.cw_tokens.specs.declared.flat.FlatItem.{FlatItem}
+use Rattle.cw_tokens.specs.declared.flat.FlatItem.TheVariants.{Ident}
 use Rattle.cw_trees.specs.Flat.{Item}
 use Rattle.cw_trees.specs.Printing.{Printable}
 use Rattle.cw_join.specs.Standing.{Stands}
@@ -26,3 +29,7 @@ pub record IsBehind (s : Source) (inner : Bool) (items : List Item) (printer : P
   pub stand : printer.walk.stand ≡ stand_after s items outside
   pub same_inner : printer.joiner.inner ≡ inner
   pub stands : Stands printer.joiner (shown s items)
+
+-- the items are one identifier
+abbrev pub IsOnlyName : NameId → List FlatItem → Type 0
+IsOnlyName name items = (number : ℕ) × (items ≡ Ident name number ∷ [])

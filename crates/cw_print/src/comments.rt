@@ -1,6 +1,8 @@
 //! The text of a comment.
-ghost use Rattle.std.specs.Prelude.{◌≡◌, [], ◌∷◌, ◌++◌, ◌≤◌, ◌+◌, length, OnOk, IfOk, IfSome, IfNone};
-ghost use Rattle.cw_print.specs.Comments.{blank_for, byte_piece, takes_next, piece, closing_braces};
+ghost use Rattle.std.specs.Prelude.{◌≡◌, ℕ, [], ◌∷◌, ◌++◌, ◌≤◌, ◌+◌, length, OnOk, IfOk, IfSome, IfNone};
+ghost use Rattle.std.specs.List.{position_or_len};
+ghost use Rattle.cw_print.specs.Comments.{Prints, blank_for, byte_piece, closing_braces, is_special, piece};
+ghost use Rattle.cw_print.specs.Comments.{takes_next};
 
 use crate::texts::is_at_pair;
 use cw_base::{Bytes, Memory};
@@ -106,24 +108,56 @@ fn put_pair(out: &mut Bytes, first: u8, second: u8) -> Result<(), Memory>
     out.push(blank_for(second))
 }
 
+// Whether a byte of a comment doesn't print itself, or not whatever stands beside it.
+#[inline(always)]
+fn is_special(byte: u8) -> bool
+    ensures { result ≡ is_special byte }
+{
+    matches!(byte, b'\n' | b'@' | b'\\' | b'{' | b'}')
+}
+
+// How many bytes come before the first that is special.
+fn plain_size(text: &[u8]) -> usize
+    ensures size { result ≡ position_or_len is_special text.now }
+    ensures within { result ≤ length text.now }
+{
+    for (i, byte) in text.iter().enumerate() {
+        if is_special(*byte) {
+            return i;
+        }
+    }
+    text.len()
+}
+
+// Appends the plain bytes with which a text begins, and answers what stands behind them.
+fn put_plain<'a>(out: &mut Bytes, text: &'a [u8]) -> Result<&'a [u8], Memory>
+    ensures printed { IfOk result (λ rest. (braces : ℕ) → Prints out.old text.now braces out.new rest.now braces) }
+    ensures shorter { IfOk result (λ rest. length rest.now ≤ length text.now) }
+{
+    let (plain, rest) = text.split_at(plain_size(text));
+    out.append(plain)?;
+    Ok(rest)
+}
+
 /// Appends a piece of a comment's text in which so many braces are open, and answers how many are open behind it.
 pub(crate) fn put_piece(out: &mut Bytes, text: &[u8], braces: usize) -> Result<usize, Memory>
     ensures bytes { OnOk result (out.new ≡ out.old ++ (piece text.now braces).bytes) }
     ensures braces { IfOk result (λ after. after ≡ (piece text.now braces).braces) }
 {
-    let mut rest = text;
+    let mut rest = put_plain(out, text)?;
     let mut open = braces;
     while let Some(two) = two_at(rest) {
-        if takes_next(two.first, two.second) {
+        let behind = if takes_next(two.first, two.second) {
             put_pair(out, two.first, two.second)?;
-            rest = two.behind;
+            two.behind
         } else if is_at_pair(two.first, two.second) {
             out.push(two.first)?;
-            rest = two.behind;
+            two.behind
         } else {
             open = put_byte(out, two.first, open)?;
-            rest = two.others;
-        }
+            two.others
+        };
+        rest = put_plain(out, behind)?;
     }
     put_last(out, rest, open)
 }

@@ -14,6 +14,17 @@ fn is_escaped(byte: u8) -> bool
     }
 }
 
+/// Appends bytes one by one: of two or three that takes less than a copy of them together.
+#[inline(always)]
+pub(crate) fn put_few(out: &mut Bytes, bytes: &[u8]) -> Result<(), Memory>
+    ensures { OnOk result (out.new ≡ out.old ++ bytes.now) }
+{
+    for byte in bytes {
+        out.push(*byte)?;
+    }
+    Ok(())
+}
+
 #[inline(always)]
 pub(crate) fn put_escaped_byte(out: &mut Bytes, byte: u8) -> Result<(), Memory>
     ensures { OnOk result (out.new ≡ out.old ++ escaped_byte byte) }

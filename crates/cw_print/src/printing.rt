@@ -1,9 +1,9 @@
 //! The printing of a C text from its translation.
-ghost use Rattle.std.specs.Prelude.{◌≡◌, ◌&&◌, ◌≤◌, ◌<◌, ◌++◌, Bool, List, [], ◌∷◌, IfOk, OnOk, false, length};
+ghost use Rattle.std.specs.Prelude.{◌≡◌, ◌&&◌, ◌≤◌, ◌<◌, ◌++◌, Bool, List, [], ◌∷◌, IfOk, IfSome, OnOk, false, length};
 ghost use Rattle.cw_lex.specs.Lexing.{tokens_of};
 ghost use Rattle.cw_lex.specs.Nested.{begins_section_in};
 ghost use Rattle.cw_trees.specs.Flat.{Item};
-ghost use Rattle.cw_trees.specs.Printing.{printed};
+ghost use Rattle.cw_trees.specs.Printing.{ident_bytes, printed};
 ghost use Rattle.cw_tokens.specs.FlatItems.{item_is, items_are};
 ghost use Rattle.cw_tokens.specs.Shapes.{unfolded};
 ghost use Rattle.cw_scraps.specs.Lines.{IsNamedBelow};
@@ -11,17 +11,18 @@ ghost use Rattle.cw_lines.specs.Writes.{CanWrite, Puts};
 ghost use Rattle.cw_join.specs.Early.{added};
 ghost use Rattle.cw_join.specs.Tokens.{CanCome};
 ghost use Rattle.cw_print.specs.Coming.{AllMay, MayCome};
-ghost use Rattle.cw_print.specs.Printing.{IsBehind, shown, shown_next, source_of};
+ghost use Rattle.cw_print.specs.Printing.{IsBehind, IsOnlyName, shown, shown_next, source_of};
 ghost use Rattle.cw_print.specs.Sources.{source};
-ghost use Rattle.cw_print.specs.Walk.{Source, bracket, tree_bytes};
+ghost use Rattle.cw_print.specs.Walk.{Source, bracket, tree_bytes, wrapped};
 
 use crate::book_titles::is_first;
 use crate::walk::{Manner, TextWalk};
 use cw_base::{Bytes, Flags, Memory, Span};
 use cw_desk::Desk;
-use cw_join::Joiner;
+use cw_join::{Joiner, put_ident};
 use cw_lex::Mode;
 use cw_lines::{LineOut, PutError};
+use cw_names::NameId;
 use cw_phase1::Book;
 use cw_tokens::{FlatItem, FlatTokens, ListId, TokenStore};
 use std::alloc::Global;
@@ -68,6 +69,28 @@ impl<'a> Printer<'a> {
     // Appends what the next item prints behind those before it.
     #[inline(always)]
     fn print(&mut self, item: FlatItem, buffer: &mut Bytes) -> Result<(), Memory>
+        requires come { CanCome (length self.old.book.now.names) self.old.joiner.depth item }
+        ensures bytes { (s : Source) (inner : Bool) (items : List Item) → IsBehind s inner items self.old
+            → OnOk result (buffer.new ≡ buffer.old
+            ++ added inner (shown s items) (shown_next s items (item_is item))) }
+        ensures behind { (s : Source) (inner : Bool) (items : List Item) → IsBehind s inner items self.old
+            → OnOk result (IsBehind s inner (items ++ item_is item ∷ []) self.new) }
+    {
+        match item {
+            FlatItem::Source(number) => self.print_one(FlatItem::Source(number), buffer),
+            FlatItem::Ident(name, number) => self.print_one(FlatItem::Ident(name, number), buffer),
+            FlatItem::Reserved(name, number) => {
+                self.print_one(FlatItem::Reserved(name, number), buffer)
+            }
+            FlatItem::Control(control) => self.print_one(FlatItem::Control(control), buffer),
+            FlatItem::Open => self.print_one(FlatItem::Open, buffer),
+            FlatItem::Close => self.print_one(FlatItem::Close, buffer),
+        }
+    }
+
+    // The same, once for each kind of item, so that each is asked for its kind once.
+    #[inline(always)]
+    fn print_one(&mut self, item: FlatItem, buffer: &mut Bytes) -> Result<(), Memory>
         requires come { CanCome (length self.old.book.now.names) self.old.joiner.depth item }
         ensures bytes { (s : Source) (inner : Bool) (items : List Item) → IsBehind s inner items self.old
             → OnOk result (buffer.new ≡ buffer.old
@@ -150,6 +173,34 @@ fn put_bracket<D: Desk>(
     Ok(())
 }
 
+// The name of items that are one identifier.
+fn only_name(items: &FlatTokens) -> Option<NameId>
+    ensures { IfSome result (λ name. IsOnlyName name items.now) }
+{
+    if items.len() != 1 {
+        return None;
+    }
+    match items.item(0) {
+        FlatItem::Ident(name, _number) => Some(name),
+        _ => None,
+    }
+}
+
+// Prints a C text that is one identifier, of which no token has to be found.
+fn print_name<D: Desk>(
+    wraps: bool,
+    name: &[u8],
+    out: &mut LineOut,
+    desk: &mut D,
+) -> Result<(), PutError>
+    requires can { CanWrite (D.told desk.old) out.old }
+    ensures { Puts (wrapped wraps (ident_bytes name.now)) out.old out.new (D.told desk.old) (D.told desk.new) result }
+{
+    put_bracket(wraps, b"\\PB{", out, desk)?;
+    put_ident(name, out, desk)?;
+    put_bracket(wraps, b"}", out, desk)
+}
+
 /// Prints a C text from its translation, a list of the store. It scans the span once more to find the tokens of the
 /// list, and prints section names as the book keeps them. `section` is the present section, or 0 in the section list;
 /// with `inner` the text is itself inner C text.
@@ -187,6 +238,9 @@ pub fn print_list<D: Desk>(
     };
     let wraps = is_wrapped(inner, flags);
     let items = store.flat_trimmed(alloc, id)?;
+    if let Some(name) = only_name(&items) {
+        return print_name(wraps, book.names.text(name), out, desk);
+    }
     put_bracket(wraps, b"\\PB{", out, desk)?;
     print_items(alloc, c, inner, &items, out, desk)?;
     put_bracket(wraps, b"}", out, desk)

@@ -2,6 +2,7 @@
 ghost use Rattle.std.specs.Prelude.{◌≡◌, ◌++◌, OnOk};
 ghost use Rattle.cw_print.specs.Tokens.{sign_macro};
 
+use crate::escaping::put_few;
 use cw_base::{Bytes, Memory};
 use cw_lex::Sign;
 
@@ -51,13 +52,10 @@ pub(crate) fn sign_macro(sign: Sign) -> &'static [u8]
     }
 }
 
-/// Appends what a sign prints. Most print themselves.
+/// Appends what a sign prints.
 #[inline(always)]
 pub(crate) fn put_sign(out: &mut Bytes, sign: Sign) -> Result<(), Memory>
     ensures { OnOk result (out.new ≡ out.old ++ sign_macro sign) }
 {
-    match sign_macro(sign) {
-        [byte] => out.push(*byte),
-        bytes => out.append(bytes),
-    }
+    put_few(out, sign_macro(sign))
 }

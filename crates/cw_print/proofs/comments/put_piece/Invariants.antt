@@ -1,10 +1,10 @@
 -- What is put so far, with what the rest of the piece prints from its open braces on, is the piece.
 use Rattle.std.proofs.Common.{length}
-use Rattle.cw_print.proofs.PieceLaws.{Prints}
+use Rattle.cw_print.specs.Comments.{Prints}
 use Rattle.cw_print.proofs.comments.put_piece.Given as goal
 
 abbrev pub invariant-loop-two : goal.invariant-loop-two
-invariant-loop-two l = Prints l.initial.out l.text l.braces l.out l.rest l.open
+invariant-loop-two l = Prints l.fn.out l.text l.braces l.out l.rest l.open
 
 abbrev pub decreases-loop-two : goal.decreases-loop-two
 decreases-loop-two l = length l.rest

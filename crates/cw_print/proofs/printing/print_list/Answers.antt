@@ -2,20 +2,39 @@
 use Rattle.std.proofs.Common.{ℕ, Bool, ◌&&◌, List, ◌++◌, ap, ◌∙◌, sym, subst, length, codes}
 use Rattle.std.proofs.lemmas.List.{append_assoc}
 use Rattle.cw_trees.specs.Flat.{Item, flat, trimmed}
-use Rattle.cw_trees.specs.Printing.{printed}
+use Rattle.cw_trees.specs.Printing.{ident_bytes, printed}
 use Rattle.cw_trees.specs.Tree.{Tree}
 use Rattle.cw_tokens.specs.Shapes.{unfolded}
 use Rattle.cw_lines.specs.WritesLaws.{puts-bytes, puts-failing, puts-longer, puts-then}
 use Rattle.cw_print.specs.Coming.{AllMay, MayCome}
 use Rattle.cw_print.specs.Printing.{shown}
 use Rattle.cw_print.specs.Sources.{source}
-use Rattle.cw_print.specs.Walk.{Source, bracket}
+use Rattle.cw_print.specs.Walk.{Source, bracket, wrapped}
 use Rattle.cw_print.proofs.ComingLaws.{trimmed-may}
+use Rattle.cw_print.proofs.NameLaws.{only-named, only-printed, text-is}
 use Rattle.cw_print.proofs.PrintingLaws.{puts-nothing}
 use Rattle.cw_print.proofs.printing.print_list.Goals as goal
 
 pub returns-in_err-items : goal.returns-in_err-items
 returns-in_err-items g c = record { puts = puts-nothing _ _ _ c.from_residual.ensures.1 }
+
+pub text-requires : goal.text-requires
+text-requires g c =
+    only-named (length c.args.book.now.names) c.in-Some.name c.in_ok-items.items c.in-Some.ensures
+    (subst (λ (items : List Item). AllMay (MayCome (length c.args.book.now.names)) 0 items) (sym c.in_ok-items.ensures.items)
+    (trimmed-may (length c.args.book.now.names) (unfolded c.args.store.now.lists c.args.id.index) c.requires.named))
+
+pub returns-in-Some : goal.returns-in-Some
+returns-in-Some g c =
+    let s : Source = source c.args.text.now c.args.span c.args.mode c.args.book.now c.args.section c.args.flags.now.wrap in
+    record {
+      puts = puts-bytes
+          ((λ i. wrapped (c.is_wrapped-wraps.ensures i) (ident_bytes (text-is c.args.book.now.names c.in-Some.name.index c.text.result.now c.text.ensures i)))
+          ∙ ap (wrapped (c.args.inner && c.args.flags.now.wrap))
+          (sym (only-printed c.args.inner s c.in-Some.name c.in_ok-items.items c.in-Some.ensures)
+          ∙ ap (λ (items : List Item). printed c.args.inner (shown s items)) c.in_ok-items.ensures.items))
+          c.print_name.ensures;
+    }
 
 pub print_items-requires-clause-come : goal.print_items-requires-clause-come
 print_items-requires-clause-come g c =

@@ -9,7 +9,7 @@ use Rattle.cw_print.specs.Sources.{titles}
 use Rattle.cw_print.specs.Walk.{Title, title_in}
 use Rattle.cw_print.specs.Walked.{Walked}
 use Rattle.cw_print.proofs.PrintingLaws.{next-appended, next-stand, shown-more}
-use Rattle.cw_print.proofs.printing.Printer.print.Goals as goal
+use Rattle.cw_print.proofs.printing.Printer.print_one.Goals as goal
 
 pub returns-clause-bytes : goal.returns-clause-bytes
 returns-clause-bytes c = λ s inner items b.
