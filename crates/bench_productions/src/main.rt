@@ -84,73 +84,74 @@ fn first_row(line: &ScrapLine, place: usize, steps: &mut Steps<Silent>) -> Optio
     ])
 }
 
+// A line of scraps with all that productions change.
+#[derive(Drop)]
+struct Bench {
+    line: ScrapLine,
+    store: TokenStore,
+    names: Names,
+    marks: Marks,
+    steps: Steps<Silent>,
+}
+
 // The production whose instructions are counted.
 #[inline(never)]
-fn apply(
-    table: &Table<97>,
-    row: RowNo,
-    place: usize,
-    line: &mut ScrapLine,
-    names: &mut Names,
-    marks: &mut Marks,
-    store: &mut TokenStore,
-    steps: &mut Steps<Silent>,
-)
+fn apply(bench: &mut Bench, table: &Table<97>, row: RowNo, place: usize)
     requires from_one { 1 ≤ row.number }
     requires to_last { row.number ≤ ROW_COUNT }
-    requires fits { row_fits (row_of table.now row.number) (drop place (cats_of (scraps_of store.old.lists line.old))) ≡
-        true }
-    requires sound { IsSoundLine store.old names.old line.old }
-    requires room { 24 ≤ store.old.spare }
-    requires free { 0 < marks.old.spare }
-    ensures { IsSoundLine store.new names.new line.new }
+    requires fits { row_fits (row_of table.now row.number)
+        (drop place (cats_of (scraps_of bench.old.store.lists bench.old.line))) ≡ true }
+    requires sound { IsSoundLine bench.old.store bench.old.names bench.old.line }
+    requires room { 24 ≤ bench.old.store.spare }
+    requires free { 0 < bench.old.marks.spare }
+    ensures { IsSoundLine bench.new.store bench.new.names bench.new.line }
 {
     let flags = Flags::start();
-    line.apply(table, row, place, &flags, names, marks, store, steps);
+    bench.line.apply(
+        table,
+        row,
+        place,
+        &flags,
+        &mut bench.names,
+        &mut bench.marks,
+        &mut bench.store,
+        &mut bench.steps,
+    );
 }
 
 // The production by the first row that fits at a place, where there is one.
-fn once(
-    table: &Table<97>,
-    place: usize,
-    line: &mut ScrapLine,
-    names: &mut Names,
-    marks: &mut Marks,
-    store: &mut TokenStore,
-    steps: &mut Steps<Silent>,
-) -> Result<(), Memory>
+fn once(bench: &mut Bench, table: &Table<97>, place: usize) -> Result<(), Memory>
     requires table { table.now ≡ productions }
-    requires sound { IsSoundLine store.old names.old line.old }
-    ensures sound { OnOk result (IsSoundLine store.new names.new line.new) }
+    requires sound { IsSoundLine bench.old.store bench.old.names bench.old.line }
+    ensures sound { OnOk result (IsSoundLine bench.new.store bench.new.names bench.new.line) }
 {
-    if place >= line.len() {
+    if place >= bench.line.len() {
         return Ok(());
     }
-    store.reserve(24)?;
-    marks.reserve(1)?;
-    if let Some(row) = first_row(line, place, steps) {
-        apply(table, row, place, line, names, marks, store, steps);
+    bench.store.reserve(24)?;
+    bench.marks.reserve(1)?;
+    if let Some(row) = first_row(&bench.line, place, &mut bench.steps) {
+        apply(bench, table, row, place);
     }
     Ok(())
 }
 
 // How many scraps are left of so many after two productions in the middle.
 fn left(alloc: Global, count: usize) -> Result<usize, Memory> {
-    let mut line = ScrapLine::new_in(alloc);
-    let mut store = TokenStore::new_in(alloc);
-    let mut names = Names::with_words(alloc)?;
-    let mut marks = Marks::new_in(alloc);
-    let mut steps: Steps<Silent> = Steps::new();
+    let names = Names::with_words(alloc)?;
+    let mut bench = Bench {
+        line: ScrapLine::new_in(alloc),
+        store: TokenStore::new_in(alloc),
+        names,
+        marks: Marks::new_in(alloc),
+        steps: Steps::new(),
+    };
     let table = table();
-    add_all(count, &mut line, &mut store, &mut names)?;
+    add_all(count, &mut bench.line, &mut bench.store, &mut bench.names)?;
     let place = count / 4 * 2;
-    once(
-        &table, place, &mut line, &mut names, &mut marks, &mut store, &mut steps,
-    )?;
-    once(
-        &table, place, &mut line, &mut names, &mut marks, &mut store, &mut steps,
-    )?;
-    Ok(line.len())
+    once(&mut bench, &table, place)?;
+    once(&mut bench, &table, place)?;
+    Ok(bench.line.len())
 }
 
 fn main(rt: HostRuntime) -> io::Result<()> {

@@ -18,11 +18,7 @@ pub(crate) fn text_of(names: &Names, name: NameId) -> &[u8]
 }
 
 /// Puts an identifier.
-pub fn put_ident<D: Desk>(
-    name: &[u8],
-    out: &mut LineOut,
-    desk: &mut D,
-) -> Result<(), PutError>
+pub fn put_ident<D: Desk>(name: &[u8], out: &mut LineOut, desk: &mut D) -> Result<(), PutError>
     requires can { CanWrite (D.told desk.old) out.old }
     ensures { Puts (ident_bytes name.now) out.old out.new (D.told desk.old) (D.told desk.new) result }
 {

@@ -134,7 +134,9 @@ impl Run {
     {
         match self {
             Run::Begun {
-                pause, cancelled, ..
+                pause,
+                cancelled,
+                ..
             } if !cancelled => pause.bytes_in(inner),
             _ => b"",
         }
@@ -146,7 +148,9 @@ impl Run {
     {
         match self {
             Run::Begun {
-                cancelled, backed, ..
+                cancelled,
+                backed,
+                ..
             } => !inner && !cancelled && backed,
             Run::Empty => false,
         }
