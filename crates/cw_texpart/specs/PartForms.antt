@@ -1,6 +1,13 @@
 -- What a TeX part is printed from, as calls are given it.
-use Rattle.cw_texpart.specs.declared.tex_parts.TexPart.{TexPart}
+use Rattle.std.specs.Prelude.{ℕ, List}
+use Rattle.cw_base.specs.declared.flags.Flags.{Flags}
 use Rattle.cw_texpart.specs.Texts.{Lasting, Setting}
 
-abbrev pub setting_in : TexPart → Lasting → Setting
-setting_in t book = record { text = t.text.now; flags = t.flags.now; book = book; section = t.section }
+-- the web's text, the number of the section, and the flags
+pub record TexSetting : Type 0 where
+  pub text : List ℕ
+  pub section : ℕ
+  pub flags : Flags
+
+abbrev pub setting_in : TexSetting → Lasting → Setting
+setting_in t book = record { text = t.text; flags = t.flags; book = book; section = t.section }

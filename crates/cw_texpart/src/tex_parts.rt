@@ -19,22 +19,44 @@ use crate::copying::{end_line_if, holds_bytes};
 use crate::heads::put_head;
 use crate::inks::put_token;
 use crate::pieces::{Piece, Pieces};
-use crate::texts::print_text;
+use crate::texts::translate_into;
 use crate::{CText, Counts};
 use cw_base::{Flags, Ledger, Span, Steps, Web};
 use cw_desk::Desk;
 use cw_lex::{Mode, Tok};
 use cw_lines::{LineOut, PutError};
 use cw_phase1::{Book, Section};
+use cw_tokens::TokenStore;
 use std::alloc::Global;
+use std::marker::Model;
+use std::mem;
 
-// What a TeX part is printed with: the web's text, the number of its section, and the flags.
-#[derive(Clone, Copy)]
+// What a TeX part is printed with: the web's text, the number of its section, and the flags. Its C texts are translated
+// in one store, one after another, so that most of them take no memory for their lists.
+#[derive(Drop)]
 pub(crate) struct TexPart<'a> {
     text: &'a [u8],
     section: u32,
     flags: &'a Flags,
     alloc: Global,
+    store: TokenStore,
+}
+
+impl<'a> Model for TexPart<'a> {
+    ghost use Rattle.cw_texpart.specs.PartForms.{TexSetting};
+
+    ghost Value = { TexSetting };
+
+    ghost view = { λ t. record { text = t.text.now; section = t.section; flags = t.flags.now } };
+}
+
+impl<'a> TexPart<'a> {
+    // The store is lent for a text.
+    fn take_store(&mut self) -> TokenStore
+        ensures { self.new ≡ self.old }
+    {
+        mem::replace(&mut self.store, TokenStore::new_in(self.alloc))
+    }
 }
 
 // Puts a token that is copied.
@@ -56,7 +78,7 @@ fn put_copied<D: Desk>(
 
 // Puts the inner C text at a span.
 fn put_inner<D: Desk, L: Ledger>(
-    t: TexPart,
+    t: &mut TexPart,
     part: Span,
     book: &mut Book,
     out: &mut LineOut,
@@ -64,13 +86,14 @@ fn put_inner<D: Desk, L: Ledger>(
     steps: &mut Steps<L>,
 ) -> Result<Counts, PutError>
     requires can { CanWrite (D.told desk.old) out.old }
-    requires short { length t.text.now ≤ 2 ^ 24 }
-    requires whole { IsWhole t.text.now part }
+    requires short { length t.old.text ≤ 2 ^ 24 }
+    requires whole { IsWhole t.old.text part }
     requires kept { AreNamesOf book.old.sec_names book.old.name_uses }
-    ensures { Weaves (setting_in t.entry (lasting book.old))
-        (text_done (setting_in t.entry (lasting book.old)) Inner true part book.old.names)
+    ensures woven { Weaves (setting_in t.old (lasting book.old))
+        (text_done (setting_in t.old (lasting book.old)) Inner true part book.old.names)
         (record { book = book.old; line = out.old; told = D.told desk.old; steps = steps.old })
         (record { book = book.new; line = out.new; told = D.told desk.new; steps = steps.new }) result }
+    ensures same { t.new ≡ t.old }
 {
     let c = CText {
         text: t.text,
@@ -80,12 +103,17 @@ fn put_inner<D: Desk, L: Ledger>(
         section: t.section,
         flags: t.flags,
     };
-    print_text(t.alloc, c, book, out, desk, steps)
+    let store = t.take_store();
+    let translated = translate_into(store, t.alloc, c, book, steps)?;
+    translated.print(t.alloc, c, book, out, desk)?;
+    let counts = translated.counts();
+    t.store = translated.into_store();
+    Ok(counts)
 }
 
 // Puts the section name at a span, as inner C text. One that is ignored prints nothing.
 fn put_cited<D: Desk, L: Ledger>(
-    t: TexPart,
+    t: &mut TexPart,
     part: Span,
     book: &mut Book,
     out: &mut LineOut,
@@ -93,13 +121,14 @@ fn put_cited<D: Desk, L: Ledger>(
     steps: &mut Steps<L>,
 ) -> Result<Counts, PutError>
     requires can { CanWrite (D.told desk.old) out.old }
-    requires short { length t.text.now ≤ 2 ^ 24 }
-    requires whole { IsWhole t.text.now part }
+    requires short { length t.old.text ≤ 2 ^ 24 }
+    requires whole { IsWhole t.old.text part }
     requires kept { AreNamesOf book.old.sec_names book.old.name_uses }
-    ensures { Weaves (setting_in t.entry (lasting book.old))
-        (name_done (setting_in t.entry (lasting book.old)) true part book.old.names)
+    ensures woven { Weaves (setting_in t.old (lasting book.old))
+        (name_done (setting_in t.old (lasting book.old)) true part book.old.names)
         (record { book = book.old; line = out.old; told = D.told desk.old; steps = steps.old })
         (record { book = book.new; line = out.new; told = D.told desk.new; steps = steps.new }) result }
+    ensures same { t.new ≡ t.old }
 {
     match book.name_uses.at(part.start as u32) {
         None => Ok(Counts::none()),
@@ -109,7 +138,7 @@ fn put_cited<D: Desk, L: Ledger>(
 
 // Puts a piece.
 fn put_piece<D: Desk, L: Ledger>(
-    t: TexPart,
+    t: &mut TexPart,
     piece: Piece,
     book: &mut Book,
     out: &mut LineOut,
@@ -117,14 +146,15 @@ fn put_piece<D: Desk, L: Ledger>(
     steps: &mut Steps<L>,
 ) -> Result<Counts, PutError>
     requires can { CanWrite (D.told desk.old) out.old }
-    requires short { length t.text.now ≤ 2 ^ 24 }
-    requires whole { IsWholePiece t.text.now (piece_is piece) }
+    requires short { length t.old.text ≤ 2 ^ 24 }
+    requires whole { IsWholePiece t.old.text (piece_is piece) }
     requires kept { AreNamesOf book.old.sec_names book.old.name_uses }
-    ensures { Weaves (setting_in t.entry (lasting book.old))
+    ensures woven { Weaves (setting_in t.old (lasting book.old))
         (reprinted (inked (holds_bytes out.old))
-        (piece_done (setting_in t.entry (lasting book.old)) (piece_is piece.entry) book.old.names))
+        (piece_done (setting_in t.old (lasting book.old)) (piece_is piece.entry) book.old.names))
         (record { book = book.old; line = out.old; told = D.told desk.old; steps = steps.old })
         (record { book = book.new; line = out.new; told = D.told desk.new; steps = steps.new }) result }
+    ensures same { t.new ≡ t.old }
 {
     match piece {
         Piece::Copied(token) => put_copied(t.text, &token, out, desk),
@@ -135,7 +165,7 @@ fn put_piece<D: Desk, L: Ledger>(
 
 // Puts the TeX part that stands at a span, and ends its last line where that holds bytes.
 fn put_pieces<D: Desk, L: Ledger>(
-    t: TexPart,
+    t: &mut TexPart,
     part: Span,
     book: &mut Book,
     out: &mut LineOut,
@@ -143,12 +173,12 @@ fn put_pieces<D: Desk, L: Ledger>(
     steps: &mut Steps<L>,
 ) -> Result<Counts, PutError>
     requires can { CanWrite (D.told desk.old) out.old }
-    requires short { length t.text.now ≤ 2 ^ 24 }
-    requires whole { All (IsWholePiece t.text.now) (pieces_of t.text.now part) }
+    requires short { length t.old.text ≤ 2 ^ 24 }
+    requires whole { All (IsWholePiece t.old.text) (pieces_of t.old.text part) }
     requires kept { AreNamesOf book.old.sec_names book.old.name_uses }
-    ensures { Weaves (setting_in t.entry (lasting book.old))
+    ensures { Weaves (setting_in t.old (lasting book.old))
         (reprinted (laid (holds_bytes out.old))
-        (pieces_done (setting_in t.entry (lasting book.old)) (pieces_of t.entry.text.now part) book.old.names))
+        (pieces_done (setting_in t.old (lasting book.old)) (pieces_of t.old.text part) book.old.names))
         (record { book = book.old; line = out.old; told = D.told desk.old; steps = steps.old })
         (record { book = book.new; line = out.new; told = D.told desk.new; steps = steps.new }) result }
 {
@@ -172,7 +202,7 @@ fn put_pieces<D: Desk, L: Ledger>(
 
 // Puts the head of a section, and directly behind it its TeX part.
 fn put_section<D: Desk, L: Ledger>(
-    t: TexPart,
+    t: &mut TexPart,
     section: Section,
     book: &mut Book,
     out: &mut LineOut,
@@ -180,11 +210,11 @@ fn put_section<D: Desk, L: Ledger>(
     steps: &mut Steps<L>,
 ) -> Result<Counts, PutError>
     requires can { CanWrite (D.told desk.old) out.old }
-    requires short { length t.text.now ≤ 2 ^ 24 }
-    requires whole { All (IsWholePiece t.text.now) (pieces_of t.text.now section.tex) }
+    requires short { length t.old.text ≤ 2 ^ 24 }
+    requires whole { All (IsWholePiece t.old.text) (pieces_of t.old.text section.tex) }
     requires kept { AreNamesOf book.old.sec_names book.old.name_uses }
-    ensures { Weaves (setting_in t.entry (lasting book.old))
-        (tex_done (setting_in t.entry (lasting book.old)) section book.old.names)
+    ensures { Weaves (setting_in t.old (lasting book.old))
+        (tex_done (setting_in t.old (lasting book.old)) section book.old.names)
         (record { book = book.old; line = out.old; told = D.told desk.old; steps = steps.old })
         (record { book = book.new; line = out.new; told = D.told desk.new; steps = steps.new }) result }
 {
@@ -218,11 +248,12 @@ pub fn copy_tex<D: Desk, L: Ledger>(
 {
     let text = web.text();
     let head = book.section(section);
-    let t = TexPart {
+    let mut t = TexPart {
         text,
         section,
         flags,
         alloc,
+        store: TokenStore::new_in(alloc),
     };
-    put_section(t, head, book, out, desk, steps)
+    put_section(&mut t, head, book, out, desk, steps)
 }

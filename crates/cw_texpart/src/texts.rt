@@ -65,6 +65,11 @@ impl TranslatedText {
         self.counts
     }
 
+    /// The store, in which another text may be translated.
+    pub(crate) fn into_store(self) -> TokenStore {
+        self.store
+    }
+
     /// Prints this translation of a C text, with the book that it has left.
     pub fn print<D: Desk>(
         &self,
@@ -127,7 +132,31 @@ pub fn translate_text<L: Ledger>(
         ≡ (text_printed c.entry (lasting book.old) book.old.names).out) }
     ensures named { IfOk result (λ text. IsNamedBelow (length book.new.names) (tree_of text)) }
 {
-    let mut store = TokenStore::new_in(alloc);
+    translate_into(TokenStore::new_in(alloc), alloc, c, book, steps)
+}
+
+/// The same in a store that may have been used before.
+pub(crate) fn translate_into<L: Ledger>(
+    store: TokenStore,
+    alloc: Global,
+    c: CText,
+    book: &mut Book,
+    steps: &mut Steps<L>,
+) -> Result<TranslatedText, Memory>
+    requires order { c.span.start ≤ c.span.end }
+    requires within { c.span.end ≤ length c.text.now }
+    requires short { length c.text.now ≤ 2 ^ 24 }
+    requires c_text { is_c_mode c.mode ≡ true }
+    requires uncut { begins_section_in (tokens_of c.text.now c.span.start c.span.end c.mode) ≡ false }
+    requires kept { AreNamesOf book.old.sec_names book.old.name_uses }
+    ensures translates { Translates (setting_of c.entry (lasting book.old))
+        (text_printed c.entry (lasting book.old) book.old.names) book.old book.new steps.old steps.new result }
+    ensures printed { IfOk result (λ text. text_bytes c.entry book.new (tree_of text)
+        ≡ (text_printed c.entry (lasting book.old) book.old.names).out) }
+    ensures named { IfOk result (λ text. IsNamedBelow (length book.new.names) (tree_of text)) }
+{
+    let mut store = store;
+    store.reset();
     store.reserve(first_room(c.span))?;
     let mut marks = Marks::new_in(alloc);
     let done = translate(

@@ -1,5 +1,5 @@
 -- One piece goes behind another.
-use Rattle.std.proofs.Common.{◌≡◌, Bool, sym, ap, subst, All, List, length, arith}
+use Rattle.std.proofs.Common.{◌≡◌, ◌≤◌, ◌∙◌, Bool, refl, sym, ap, subst, All, List, length, arith, rules}
 use Rattle.std.proofs.lemmas.List.Elements.{All-head, All-tail}
 use Rattle.std.specs.Prelude.{Result}
 use Rattle.cw_lines.specs.WritesLaws.{can-after, puts-bytes}
@@ -7,34 +7,39 @@ use Rattle.cw_lines.specs.declared.put_error.PutError.{PutError}
 use Rattle.cw_names.specs.Names.{Entry}
 use Rattle.cw_reduce.specs.NameParts.{AreNamesOf}
 use Rattle.cw_texpart.specs.declared.counts.Counts.{Counts}
-use Rattle.cw_texpart.specs.declared.tex_parts.TexPart.{TexPart}
 use Rattle.cw_texpart.specs.Done.{reprinted}
 use Rattle.cw_texpart.specs.Inks.{end_if}
 use Rattle.cw_texpart.specs.Laying.{holds_bytes, inked}
-use Rattle.cw_texpart.specs.PartForms.{setting_in}
-use Rattle.cw_texpart.specs.PieceForms.{piece_is}
-use Rattle.cw_texpart.specs.TexParts.{IsWholePiece, TexPiece, piece_done}
+use Rattle.cw_texpart.specs.PartForms.{TexSetting, setting_in}
+use Rattle.cw_texpart.specs.PieceForms.{piece_is, pieces_in}
+use Rattle.cw_texpart.specs.TexParts.{IsWholePiece, TexPiece, piece_done, pieces_of}
 use Rattle.cw_texpart.specs.Texts.{Lasting}
 use Rattle.cw_texpart.specs.Weaving.{Press, Weaves}
 use Rattle.cw_texpart.proofs.PieceLaws.{ended, gave}
 use Rattle.cw_texpart.proofs.WeavingLaws.{weaving-as, weaving-begun, weaving-counts, weaving-end-refused, weaving-ended, weaving-next, weaving-refused, weaving-stopped}
 use Rattle.cw_texpart.proofs.tex_parts.put_pieces.Goals as goal
 
--- the same of what stays of a book
-moved : (t : TexPart) (holds : Bool) (piece : TexPiece) (names : List Entry) {l l' : Lasting} {old new : Press}
-    {result : Result Counts PutError} → l ≡ l'
+-- the same of what stays of a book and of what is fixed
+moved : {t t' : TexSetting} (holds : Bool) (piece : TexPiece) (names : List Entry) {l l' : Lasting} {old new : Press}
+    {result : Result Counts PutError} → t ≡ t' → l ≡ l'
     → Weaves (setting_in t l) (reprinted (inked holds) (piece_done (setting_in t l) piece names)) old new result
-    → Weaves (setting_in t l') (reprinted (inked holds) (piece_done (setting_in t l') piece names)) old new result
-moved t holds piece names {old = old} {new = new} {result = result} same woven =
-    subst (λ (l : Lasting). Weaves (setting_in t l)
-    (reprinted (inked holds) (piece_done (setting_in t l) piece names)) old new result) same woven
+    → Weaves (setting_in t' l') (reprinted (inked holds) (piece_done (setting_in t' l') piece names)) old new result
+moved {t = t} holds piece names {l' = l'} {old = old} {new = new} {result = result} fixed same woven =
+    subst (λ (t : TexSetting). Weaves (setting_in t l')
+    (reprinted (inked holds) (piece_done (setting_in t l') piece names)) old new result) fixed
+    (subst (λ (l : Lasting). Weaves (setting_in t l)
+    (reprinted (inked holds) (piece_done (setting_in t l) piece names)) old new result) same woven)
 
 pub all-init : goal.all-init
-all-init g c = record {
-  woven = weaving-counts c.none-counts.ensures.scraps c.none-counts.ensures.productions
-      (weaving-as (sym c.over-pieces.ensures) (weaving-begun _ _ _));
-  whole = subst (All (IsWholePiece c.args.t.text.now)) (sym c.over-pieces.ensures) c.requires.whole;
-}
+all-init g c =
+    let begun : pieces_in c.over-pieces.result ≡ pieces_of c.args.t.now.text c.args.part =
+    c.over-pieces.ensures ∙ ap (λ (s : TexSetting). pieces_of s.text c.args.part) c.t.view_is in
+    record {
+      woven = weaving-counts c.none-counts.ensures.scraps c.none-counts.ensures.productions
+          (weaving-as (sym begun) (weaving-begun _ _ _));
+      same = search rules;
+      whole = subst (All (IsWholePiece c.args.t.now.text)) (sym begun) c.requires.whole;
+    }
 
 pub returns-in_err-next : goal.returns-in_err-next
 returns-in_err-next g c = weaving-refused c.all.invariant.woven c.from_residual.ensures.1
@@ -42,10 +47,11 @@ returns-in_err-next g c = weaving-refused c.all.invariant.woven c.from_residual.
 pub put_piece-requires : goal.put_piece-requires
 put_piece-requires g c = record {
   can = can-after c.requires.can c.all.invariant.woven.put;
-  short = c.requires.short;
-  whole = All-head (IsWholePiece c.args.t.text.now) _ _
-      (subst (All (IsWholePiece c.args.t.text.now))
-      (gave _ _ c.in_ok-next.next c.in-Some.piece c.in_ok-next.ensures c.in-Some.is) c.all.invariant.whole);
+  short = subst (λ (s : TexSetting). length s.text ≤ 16777216) (sym c.all.invariant.same) c.requires.short;
+  whole = subst (λ (s : TexSetting). IsWholePiece s.text (piece_is c.in-Some.piece)) (sym c.all.invariant.same)
+      (All-head (IsWholePiece c.args.t.now.text) _ _
+      (subst (All (IsWholePiece c.args.t.now.text))
+      (gave _ _ c.in_ok-next.next c.in-Some.piece c.in_ok-next.ensures c.in-Some.is) c.all.invariant.whole));
   kept = subst (λ (l : Lasting). AreNamesOf l.sec_names l.name_uses) (sym c.all.invariant.woven.same) c.requires.kept;
 }
 
@@ -53,8 +59,8 @@ pub returns-in_err-more-in-Some : goal.returns-in_err-more-in-Some
 returns-in_err-more-in-Some g c =
     weaving-stopped (weaving-as
     (gave _ _ c.in_ok-next.next c.in-Some.piece c.in_ok-next.ensures c.in-Some.is) c.all.invariant.woven)
-    (moved c.args.t (holds_bytes c.all.out)
-    (piece_is c.in-Some.piece) c.all.book.names c.all.invariant.woven.same c.in_err-more-in-Some.ensures)
+    (moved (holds_bytes c.all.out)
+    (piece_is c.in-Some.piece) c.all.book.names c.all.invariant.same c.all.invariant.woven.same c.in_err-more-in-Some.ensures.woven)
     c.from_residual-in_err-more-in-Some.ensures.1
 
 pub returns-in_err-counts-in-Some : goal.returns-in_err-counts-in-Some
@@ -62,8 +68,8 @@ returns-in_err-counts-in-Some g c =
     weaving-refused
     (weaving-next (weaving-as
     (gave _ _ c.in_ok-next.next c.in-Some.piece c.in_ok-next.ensures c.in-Some.is) c.all.invariant.woven)
-    (moved c.args.t (holds_bytes c.all.out)
-    (piece_is c.in-Some.piece) c.all.book.names c.all.invariant.woven.same c.in_ok-more-in-Some.ensures))
+    (moved (holds_bytes c.all.out)
+    (piece_is c.in-Some.piece) c.all.book.names c.all.invariant.same c.all.invariant.woven.same c.in_ok-more-in-Some.ensures.woven))
     c.from_residual-in_err-counts-in-Some.ensures.1
 
 pub all-preserved : goal.all-preserved
@@ -71,10 +77,11 @@ all-preserved g c = record {
   woven = weaving-counts c.in_ok-counts-in-Some.ensures.scraps c.in_ok-counts-in-Some.ensures.productions
       (weaving-next (weaving-as
       (gave _ _ c.in_ok-next.next c.in-Some.piece c.in_ok-next.ensures c.in-Some.is) c.all.invariant.woven)
-      (moved c.args.t (holds_bytes c.all.out)
-      (piece_is c.in-Some.piece) c.all.book.names c.all.invariant.woven.same c.in_ok-more-in-Some.ensures));
-  whole = All-tail (IsWholePiece c.args.t.text.now) _ _
-      (subst (All (IsWholePiece c.args.t.text.now))
+      (moved (holds_bytes c.all.out)
+      (piece_is c.in-Some.piece) c.all.book.names c.all.invariant.same c.all.invariant.woven.same c.in_ok-more-in-Some.ensures.woven));
+  same = c.in_ok-more-in-Some.ensures.same ∙ c.all.invariant.same;
+  whole = All-tail (IsWholePiece c.args.t.now.text) _ _
+      (subst (All (IsWholePiece c.args.t.now.text))
       (gave _ _ c.in_ok-next.next c.in-Some.piece c.in_ok-next.ensures c.in-Some.is) c.all.invariant.whole);
 }
 

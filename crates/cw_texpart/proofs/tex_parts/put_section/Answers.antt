@@ -1,10 +1,11 @@
 -- The TeX part stands behind its head.
 use Rattle.std.proofs.Common.{Bool, ap, refl, ◌∙◌, arith}
-use Rattle.cw_lines.specs.WritesLaws.{can-after, puts-stop}
+use Rattle.cw_lines.specs.WritesLaws.{can-after, puts-bytes, puts-stop}
 use Rattle.cw_texpart.specs.Done.{reprinted}
+use Rattle.cw_texpart.specs.Heads.{head}
 use Rattle.cw_texpart.specs.Inks.{laid}
 use Rattle.cw_texpart.specs.Laying.{holds_bytes}
-use Rattle.cw_texpart.specs.PartForms.{setting_in}
+use Rattle.cw_texpart.specs.PartForms.{TexSetting, setting_in}
 use Rattle.cw_texpart.specs.TexParts.{pieces_done, pieces_of}
 use Rattle.cw_texpart.specs.Texts.{lasting}
 use Rattle.cw_texpart.proofs.LayingLaws.{holds-put}
@@ -13,7 +14,8 @@ use Rattle.cw_texpart.proofs.tex_parts.put_section.Goals as goal
 
 pub returns-in_err-put_head : goal.returns-in_err-put_head
 returns-in_err-put_head g c =
-    weaves-refused _ (puts-stop _ c.in_err-put_head.ensures c.from_residual.ensures.1) refl
+    weaves-refused _ (puts-stop _ (puts-bytes (ap (λ (s : TexSetting). head s.text s.section c.args.section) c.t.view_is)
+    c.in_err-put_head.ensures) c.from_residual.ensures.1) refl
     (omega arith) c.from_residual.ensures.1
 
 pub put_pieces-requires-clause-can : goal.put_pieces-requires-clause-can
@@ -21,11 +23,12 @@ put_pieces-requires-clause-can g c = can-after c.requires.can c.in_ok-put_head.e
 
 pub returns : goal.returns
 returns g c =
-    weaves-behind c.in_ok-put_head.ensures
+    let put = puts-bytes (ap (λ (s : TexSetting). head s.text s.section c.args.section) c.t.view_is) c.in_ok-put_head.ensures in
+    weaves-behind put
     (weaves-as
     (ap (λ (holds : Bool). reprinted (laid holds)
-    (pieces_done (setting_in c.args.t (lasting c.args.book.now))
-    (pieces_of c.args.t.text.now c.args.section.tex) c.args.book.now.names))
-    (holds-put c.in_ok-put_head.ensures ∙ head-holds
-    (holds_bytes c.args.out.now) c.args.t.text.now c.args.t.section c.args.section))
+    (pieces_done (setting_in c.args.t.now (lasting c.args.book.now))
+    (pieces_of c.args.t.now.text c.args.section.tex) c.args.book.now.names))
+    (holds-put put ∙ head-holds
+    (holds_bytes c.args.out.now) c.args.t.now.text c.args.t.now.section c.args.section))
     c.put_pieces.ensures)

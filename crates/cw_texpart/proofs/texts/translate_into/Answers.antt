@@ -3,7 +3,7 @@ use Rattle.std.proofs.Common.{ap, map, refl, arith}
 use Rattle.cw_scraps.specs.Marking.{marked_names}
 use Rattle.cw_texpart.specs.Texts.{lasting}
 use Rattle.cw_texpart.proofs.TextLaws.{Translating, text-bound, text-printed, text-translates, translates-refused}
-use Rattle.cw_texpart.proofs.texts.translate_text.Goals as goal
+use Rattle.cw_texpart.proofs.texts.translate_into.Goals as goal
 
 pub returns-in_err-reserve-clause-translates : goal.returns-in_err-reserve-clause-translates
 returns-in_err-reserve-clause-translates g c = translates-refused _ refl (omega arith) c.from_residual.ensures.1
