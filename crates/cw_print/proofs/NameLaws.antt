@@ -1,10 +1,10 @@
 -- A C text that is one identifier.
-use Rattle.std.proofs.Common.{◌≡◌, ℕ, ◌<◌, Bool, true, false, Option, Some, None, List, [], ◌∷◌, ◌++◌, ap, sym, subst, ◌∙◌, length, slice_get, arith}
+use Rattle.std.proofs.Common.{◌≡◌, ℕ, ◌<◌, Bool, true, false, Option, Some, List, [], ◌∷◌, ◌++◌, ap, sym, subst, ◌∙◌, length, slice_get, arith}
 use Rattle.std.specs.Prelude.{option_map, unwrap_or}
 use Rattle.std.proofs.lemmas.List.{append-nil}
 use Rattle.cw_names.specs.Names.{Entry}
 use Rattle.cw_names.specs.declared.entry.NameId.{NameId}
-use Rattle.cw_trees.specs.Flat.{Item, IdentItem}
+use Rattle.cw_trees.specs.Flat.{IdentItem}
 use Rattle.cw_trees.specs.Printing.{ident_bytes, printed}
 use Rattle.cw_tokens.specs.declared.flat.FlatItem.{FlatItem}
 use Rattle.cw_tokens.specs.FlatItems.{items_are}

@@ -1,5 +1,5 @@
 -- Of the tokens that a scan finds by their numbers.
-use Rattle.std.proofs.Common.{◌≡◌, ◌≢◌, ℕ, ◌+◌, ◌-◌, ◌^◌, ◌≤◌, ◌==◌, false, List, [], ◌∷◌, ◌∙◌, arith}
+use Rattle.std.proofs.Common.{◌≡◌, ◌≢◌, ℕ, ◌==◌, false, List, arith}
 use Rattle.cw_rules.specs.Answers.{Answer}
 use Rattle.cw_lex.specs.Nested.{until_section}
 use Rattle.cw_print.specs.Found.{numbered, IsAhead}

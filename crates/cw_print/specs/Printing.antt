@@ -1,5 +1,5 @@
 -- The printing of a C text, item by item.
-use Rattle.std.specs.Prelude.{◌≡◌, ℕ, ◌++◌, Bool, List, [], ◌∷◌}
+use Rattle.std.specs.Prelude.{◌≡◌, ℕ, Bool, List, [], ◌∷◌}
 use Rattle.cw_names.specs.declared.entry.NameId.{NameId}
 use Rattle.cw_tokens.specs.declared.flat.FlatItem.{FlatItem}
 use Rattle.cw_tokens.specs.declared.flat.FlatItem.TheVariants.{Ident}

@@ -1,5 +1,5 @@
 -- The bytes that the items of a flat list print, each by itself, in their order; and those of the whole list.
-use Rattle.std.specs.Prelude.{ℕ, ◌+◌, ◌-◌, ◌&&◌, Bool, true, false, List, [], ◌∷◌, ◌++◌, Option, Some, None, codes, decimal, drop, unwrap_or, slice_get, slice_range, option_map}
+use Rattle.std.specs.Prelude.{ℕ, ◌+◌, ◌-◌, ◌&&◌, Bool, true, false, List, [], ◌∷◌, ◌++◌, Option, Some, None, codes, decimal, drop, slice_range}
 use Rattle.cw_base.specs.declared.span.Span.{Span}
 use Rattle.cw_names.specs.Names.{Entry}
 use Rattle.cw_rules.specs.Answers.{Answer, Seen}

@@ -1,5 +1,5 @@
 -- The pieces of a TeX part, answer by answer.
-use Rattle.std.proofs.Common.{◌≡◌, ℕ, ◌-◌, ◌==◌, subst, List, [], ◌∷◌}
+use Rattle.std.proofs.Common.{◌≡◌, subst, List, [], ◌∷◌}
 use Rattle.std.specs.Prelude.{Option, Some, None}
 use Rattle.cw_texpart.specs.declared.pieces.Piece.{Piece}
 use Rattle.cw_texpart.specs.PieceForms.{GivesPiece, piece_is}

@@ -1,5 +1,5 @@
 -- One piece goes behind another.
-use Rattle.std.proofs.Common.{◌≡◌, ◌≤◌, ◌∙◌, Bool, refl, sym, ap, subst, All, List, length, arith, rules}
+use Rattle.std.proofs.Common.{◌≡◌, ◌≤◌, ◌∙◌, Bool, sym, ap, subst, All, List, length, arith, rules}
 use Rattle.std.proofs.lemmas.List.Elements.{All-head, All-tail}
 use Rattle.std.specs.Prelude.{Result}
 use Rattle.cw_lines.specs.WritesLaws.{can-after, puts-bytes}
