@@ -14,7 +14,8 @@ use std::alloc::Global;
 
 fn is_whole_name(text: &[u8], listed: Listed) -> bool
     requires { listed.place ≤ length text.now }
-    ensures { result ≡ true → IsWholeName text.now listed }
+    ensures whole { result ≡ true → IsWholeName text.now listed }
+    ensures only { IsWholeName text.now listed → result ≡ true }
 {
     let span = name_span(text, listed.place);
     if span.start > span.end || span.end > text.len() {
@@ -25,7 +26,8 @@ fn is_whole_name(text: &[u8], listed: Listed) -> bool
 
 fn are_whole(text: &[u8], listed: &[Listed]) -> bool
     requires { All (λ l. l.place ≤ length text.now) listed.now }
-    ensures { result ≡ true → All (IsWholeName text.now) listed.now }
+    ensures whole { result ≡ true → All (IsWholeName text.now) listed.now }
+    ensures only { All (IsWholeName text.now) listed.now → result ≡ true }
 {
     for one in listed {
         if !is_whole_name(text, *one) {
@@ -38,8 +40,10 @@ fn are_whole(text: &[u8], listed: &[Listed]) -> bool
 /// Whether the C text of each name of the section list is whole. It scans them; who knows it from elsewhere needs no
 /// look.
 pub fn are_names_whole(alloc: Global, web: &Web, book: &Book) -> Result<bool, Memory>
-    ensures { IfOk result (λ whole. whole ≡ true → All (IsWholeName (text_of web.now.lines))
+    ensures whole { IfOk result (λ whole. whole ≡ true → All (IsWholeName (text_of web.now.lines))
         (listed_names (text_of web.now.lines) book.now.sec_names book.now.name_uses)) }
+    ensures only { IfOk result (λ whole. All (IsWholeName (text_of web.now.lines))
+        (listed_names (text_of web.now.lines) book.now.sec_names book.now.name_uses) → whole ≡ true) }
 {
     let text = web.text();
     let listed = listed_names(alloc, text, &book.sec_names, &book.name_uses)?;
