@@ -1,5 +1,5 @@
 //! Tests that apply each production once.
-ghost use Rattle.std.specs.Prelude.{◌≡◌, ◌<◌, ◌≤◌, true, length, drop, IfSome, OnOk};
+ghost use Rattle.std.specs.Prelude.{◌≡◌, ◌<◌, ◌≤◌, true, length, drop, IfOk, IfSome, OnOk};
 ghost use Rattle.cw_table.specs.Fitting.{row_fits};
 ghost use Rattle.cw_table.specs.Productions.{productions};
 ghost use Rattle.cw_scraps.specs.Applying.{row_of};
@@ -250,27 +250,38 @@ fn first_row(line: &ScrapLine, place: usize, steps: &mut Steps<Kept>) -> Option<
     ])
 }
 
+// A line of scraps with all that productions change.
+#[derive(Drop)]
+pub(crate) struct Bench {
+    pub(crate) line: ScrapLine,
+    pub(crate) store: TokenStore,
+    pub(crate) names: Names,
+    pub(crate) marks: Marks,
+    pub(crate) steps: Steps<Kept>,
+}
+
 // The production by the first row that fits at a place. It answers the row's number, or 0 where none fits.
-pub(crate) fn produce(
-    place: usize,
-    flags: &Flags,
-    line: &mut ScrapLine,
-    names: &mut Names,
-    marks: &mut Marks,
-    store: &mut TokenStore,
-    steps: &mut Steps<Kept>,
-) -> Result<u8, Memory>
-    requires sound { IsSoundLine store.old names.old line.old }
-    ensures sound { OnOk result (IsSoundLine store.new names.new line.new) }
+pub(crate) fn produce(bench: &mut Bench, place: usize, flags: &Flags) -> Result<u8, Memory>
+    requires sound { IsSoundLine bench.old.store bench.old.names bench.old.line }
+    ensures sound { OnOk result (IsSoundLine bench.new.store bench.new.names bench.new.line) }
 {
-    if place >= line.len() {
+    if place >= bench.line.len() {
         return Ok(0);
     }
-    store.reserve(24)?;
-    marks.reserve(1)?;
-    match first_row(line, place, steps) {
+    bench.store.reserve(24)?;
+    bench.marks.reserve(1)?;
+    match first_row(&bench.line, place, &mut bench.steps) {
         Some(row) => {
-            line.apply(&table(), row, place, flags, names, marks, store, steps);
+            bench.line.apply(
+                &table(),
+                row,
+                place,
+                flags,
+                &mut bench.names,
+                &mut bench.marks,
+                &mut bench.store,
+                &mut bench.steps,
+            );
             Ok(row.number)
         }
         None => Ok(0),
@@ -351,6 +362,20 @@ struct Outcome {
     bytes: Vec<u8>,
 }
 
+// An empty line, where the first letters are names of these categories.
+fn bench_of(alloc: Global, cats: &[Cat]) -> Result<Bench, Memory>
+    ensures { IfOk result (λ bench. IsSoundLine bench.store bench.names bench.line) }
+{
+    let names = names_of(alloc, cats)?;
+    Ok(Bench {
+        line: ScrapLine::new_in(alloc),
+        store: TokenStore::new_in(alloc),
+        names,
+        marks: Marks::new_in(alloc),
+        steps: Steps::new(),
+    })
+}
+
 fn made_of(
     alloc: Global,
     cats: &[Cat],
@@ -358,32 +383,31 @@ fn made_of(
     underlined: Option<u8>,
     flags: &Flags,
 ) -> Result<Outcome, Memory> {
-    let mut line = ScrapLine::new_in(alloc);
-    let mut store = TokenStore::new_in(alloc);
-    let mut names = names_of(alloc, cats)?;
-    let mut marks = Marks::new_in(alloc);
-    let mut steps: Steps<Kept> = Steps::new();
+    let mut bench = bench_of(alloc, cats)?;
     add(
         TokKind::Identifier,
         b'z',
         9,
-        &mut line,
-        &mut store,
-        &mut names,
+        &mut bench.line,
+        &mut bench.store,
+        &mut bench.names,
     )?;
     let letters = b"abcd";
     let count = cats.len().min(letters.len());
-    add_words(&letters[..count], &mut line, &mut store, &mut names)?;
-    let row = produce(
-        1, flags, &mut line, &mut names, &mut marks, &mut store, &mut steps,
+    add_words(
+        &letters[..count],
+        &mut bench.line,
+        &mut bench.store,
+        &mut bench.names,
     )?;
+    let row = produce(&mut bench, 1, flags)?;
     let at = replaced.saturating_add(1);
-    let bytes = translation(alloc, &line, at, &store, &names)?;
+    let bytes = translation(alloc, &bench.line, at, &bench.store, &bench.names)?;
     Ok(Outcome {
         row,
-        left: line.len(),
-        cat: line.cat_at(at, &mut steps),
-        marked: are_marked(underlined, &marks, &mut names)?,
+        left: bench.line.len(),
+        cat: bench.line.cat_at(at, &mut bench.steps),
+        marked: are_marked(underlined, &bench.marks, &mut bench.names)?,
         bytes,
     })
 }
@@ -458,16 +482,22 @@ fn last_item(
 #[test]
 fn reserving_turns_scraps_to_the_right_alone(rt: HostRuntime) -> Result<(), Fail> {
     let alloc = rt.alloc();
-    let mut line = ScrapLine::new_in(alloc);
-    let mut store = TokenStore::new_in(alloc);
-    let mut names = names_of(alloc, &[Cat::Exp, Cat::Exp, Cat::StructLike, Cat::Semi])?;
-    let mut marks = Marks::new_in(alloc);
-    let mut steps: Steps<Kept> = Steps::new();
+    let mut bench = bench_of(alloc, &[Cat::Exp, Cat::Exp, Cat::StructLike, Cat::Semi])?;
     let flags = Flags::start();
-    add_words(b"acadab", &mut line, &mut store, &mut names)?;
-    let row = produce(
-        1, &flags, &mut line, &mut names, &mut marks, &mut store, &mut steps,
+    add_words(
+        b"acadab",
+        &mut bench.line,
+        &mut bench.store,
+        &mut bench.names,
     )?;
+    let row = produce(&mut bench, 1, &flags)?;
+    let Bench {
+        line,
+        store,
+        mut names,
+        marks,
+        mut steps,
+    } = bench;
     assert_eq!(rt; row, 41);
     assert_eq!(rt; steps.count(), 7);
     let left = last_item(alloc, &line, 0, &store, &names)?;
@@ -511,21 +541,19 @@ fn add_block(line: &mut ScrapLine, store: &mut TokenStore, names: &mut Names) ->
 #[test]
 fn a_block_takes_one_list_with_toggles_between_its_pieces(rt: HostRuntime) -> Result<(), Fail> {
     let alloc = rt.alloc();
-    let mut line = ScrapLine::new_in(alloc);
-    let mut store = TokenStore::new_in(alloc);
-    let mut names = Names::with_words(alloc)?;
-    let mut marks = Marks::new_in(alloc);
-    let mut steps: Steps<Kept> = Steps::new();
+    let mut bench = bench_of(alloc, &[])?;
     let flags = Flags::start();
-    add_block(&mut line, &mut store, &mut names)?;
-    let statement = produce(
-        1, &flags, &mut line, &mut names, &mut marks, &mut store, &mut steps,
-    )?;
-    store.reserve(24)?;
-    let room = store.spare();
-    let block = produce(
-        0, &flags, &mut line, &mut names, &mut marks, &mut store, &mut steps,
-    )?;
+    add_block(&mut bench.line, &mut bench.store, &mut bench.names)?;
+    let statement = produce(&mut bench, 1, &flags)?;
+    bench.store.reserve(24)?;
+    let room = bench.store.spare();
+    let block = produce(&mut bench, 0, &flags)?;
+    let Bench {
+        line,
+        store,
+        names,
+        ..
+    } = bench;
     assert_eq!(rt; statement, 8);
     assert_eq!(rt; block, 50);
     assert_eq!(rt; room.saturating_sub(store.spare()), 15);

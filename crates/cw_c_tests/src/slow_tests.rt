@@ -3,7 +3,7 @@
 ghost use Rattle.std.specs.Prelude.{OnOk};
 ghost use Rattle.cw_scraps.specs.Lines.{IsSoundLine};
 
-use crate::row_tests::produce;
+use crate::row_tests::{Bench, produce};
 use crate::worked_lines::add_all;
 use cw_base::{Cat, Flags, Kept, Memory, Steps};
 use cw_names::Names;
@@ -13,35 +13,13 @@ use cw_tokens::TokenStore;
 use std::alloc::Global;
 use std::test::Fail;
 
-// The production at a place, where a row fits there.
-fn produce_at(
-    place: usize,
-    line: &mut ScrapLine,
-    store: &mut TokenStore,
-    names: &mut Names,
-    marks: &mut Marks,
-    steps: &mut Steps<Kept>,
-) -> Result<bool, Memory>
-    requires sound { IsSoundLine store.old names.old line.old }
-    ensures sound { OnOk result (IsSoundLine store.new names.new line.new) }
-{
-    let row = produce(place, &Flags::start(), line, names, marks, store, steps)?;
-    Ok(row != 0)
-}
-
 // The leftmost production, if there is one.
-fn produce_leftmost(
-    line: &mut ScrapLine,
-    store: &mut TokenStore,
-    names: &mut Names,
-    marks: &mut Marks,
-    steps: &mut Steps<Kept>,
-) -> Result<bool, Memory>
-    requires sound { IsSoundLine store.old names.old line.old }
-    ensures sound { OnOk result (IsSoundLine store.new names.new line.new) }
+fn produce_leftmost(bench: &mut Bench) -> Result<bool, Memory>
+    requires sound { IsSoundLine bench.old.store bench.old.names bench.old.line }
+    ensures sound { OnOk result (IsSoundLine bench.new.store bench.new.names bench.new.line) }
 {
-    for place in 0..line.len() {
-        if produce_at(place, line, store, names, marks, steps)? {
+    for place in 0..bench.line.len() {
+        if produce(bench, place, &Flags::start())? != 0 {
             return Ok(true);
         }
     }
@@ -49,22 +27,16 @@ fn produce_leftmost(
 }
 
 // All productions of a line, of which there are at most eight for each scrap.
-fn produce_all(
-    line: &mut ScrapLine,
-    store: &mut TokenStore,
-    names: &mut Names,
-    marks: &mut Marks,
-    steps: &mut Steps<Kept>,
-) -> Result<u64, Memory>
-    requires sound { IsSoundLine store.old names.old line.old }
-    ensures sound { OnOk result (IsSoundLine store.new names.new line.new) }
+fn produce_all(bench: &mut Bench) -> Result<u64, Memory>
+    requires sound { IsSoundLine bench.old.store bench.old.names bench.old.line }
+    ensures sound { OnOk result (IsSoundLine bench.new.store bench.new.names bench.new.line) }
 {
-    for done in 0..8 * line.len() as u64 {
-        if !produce_leftmost(line, store, names, marks, steps)? {
+    for done in 0..8 * bench.line.len() as u64 {
+        if !produce_leftmost(bench)? {
             return Ok(done);
         }
     }
-    Ok(8 * line.len() as u64)
+    Ok(8 * bench.line.len() as u64)
 }
 
 // What is left of a line: its categories, and how many productions and marks there were.
@@ -94,14 +66,17 @@ fn left_of(
 }
 
 fn slowly(alloc: Global, tokens: &[u8]) -> Result<Left, Memory> {
-    let mut line = ScrapLine::new_in(alloc);
-    let mut store = TokenStore::new_in(alloc);
-    let mut names = Names::with_words(alloc)?;
-    let mut marks = Marks::new_in(alloc);
-    let mut steps: Steps<Kept> = Steps::new();
-    add_all(tokens, &mut line, &mut store, &mut names)?;
-    let productions = produce_all(&mut line, &mut store, &mut names, &mut marks, &mut steps)?;
-    left_of(alloc, &line, productions, marks.len())
+    let names = Names::with_words(alloc)?;
+    let mut bench = Bench {
+        line: ScrapLine::new_in(alloc),
+        store: TokenStore::new_in(alloc),
+        names,
+        marks: Marks::new_in(alloc),
+        steps: Steps::new(),
+    };
+    add_all(tokens, &mut bench.line, &mut bench.store, &mut bench.names)?;
+    let productions = produce_all(&mut bench)?;
+    left_of(alloc, &bench.line, productions, bench.marks.len())
 }
 
 fn by_walk(alloc: Global, tokens: &[u8]) -> Result<Left, Memory> {

@@ -3,4 +3,4 @@ use Rattle.cw_scraps.specs.Lines.{IsSoundLine}
 use Rattle.cw_c_tests.proofs.slow_tests.produce_leftmost.Given as goal
 
 abbrev pub invariant-loop-place : goal.invariant-loop-place
-invariant-loop-place l = IsSoundLine l.store l.names l.line
+invariant-loop-place l = IsSoundLine l.bench.store l.bench.names l.bench.line
