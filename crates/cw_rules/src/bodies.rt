@@ -168,11 +168,14 @@ impl Body {
     }
 }
 
-// Whether no body has a rule for this byte, but a string for its quote.
+// Whether no body has a rule for this byte, but a string for its quote. Most bytes are small letters.
 #[inline(always)]
 fn is_plain(byte: u8) -> bool
     ensures { result ≡ is_plain byte }
 {
+    if b'a' <= byte && byte <= b'z' {
+        return true;
+    }
     !matches!(
         byte,
         b'\n' | b'*' | b'>' | b'@' | b'\\' | b'{' | b'|' | b'}'
