@@ -1,5 +1,5 @@
 //! Runs, and what they told.
-ghost use Rattle.std.specs.Prelude.{◌≢◌};
+ghost use Rattle.std.specs.Prelude.{◌≡◌, ◌≢◌, [], IfOk};
 
 use cw_base::{Bytes, Event, Exit, Memory, Out, Silent, Steps, Words};
 use cw_desk::{Desk, MemDesk, QuietDesk};
@@ -101,8 +101,10 @@ pub fn web_desk(alloc: Global, web: &[u8], others: &[(&[u8], &[u8])]) -> Result<
     Ok(desk)
 }
 
-/// A desk with these files.
-pub fn desk_with(alloc: Global, files: &[(&[u8], &[u8])]) -> Result<MemDesk, Memory> {
+/// A desk with these files, of which none is opened.
+pub fn desk_with(alloc: Global, files: &[(&[u8], &[u8])]) -> Result<MemDesk, Memory>
+    ensures unread { IfOk result (λ desk. desk.rests ≡ []) }
+{
     let mut desk = MemDesk::new_in(alloc);
     for (name, bytes) in files {
         desk.add_file(name, bytes)?;
