@@ -1,0 +1,2 @@
+-- What the tests of parts need of sections.
+mod WholeRests
