@@ -52,6 +52,7 @@ impl Bytes {
     }
 
     /// Appends one byte. After `Memory` the text is as before.
+    #[inline(always)]
     pub fn push(&mut self, byte: u8) -> Result<(), Memory>
         ensures ok { OnOk result (self.new ≡ self.old ++ byte ∷ []) }
         ensures err { OnErr result (self.new ≡ self.old) }
