@@ -7,8 +7,9 @@ pub mod Lines
 pub mod Notes
 pub mod Pieces
 pub mod White
-pub mod ShortTokens
 pub mod HeadSpaces
+pub mod Calm
+pub mod ShortTokens
 pub mod TokensWithin
 pub mod Covering
 mod Rows

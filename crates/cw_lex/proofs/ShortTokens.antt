@@ -9,29 +9,30 @@ use Rattle.cw_rules.specs.declared.parts.Start.TheVariants as start
 use Rattle.cw_rules.specs.declared.signs.Sign.{Sign}
 use Rattle.cw_rules.specs.declared.tokens.TokKind.TheVariants as kinds
 use Rattle.cw_rules.specs.Answers.{Where, plain}
-use Rattle.cw_rules.specs.Bytes.{is_in, is_letter, is_letter_of, is_digit, begins_by, run}
+use Rattle.cw_rules.specs.Bytes.{is_in, is_letter, is_letter_of, is_digit, begins, begins_by, run}
 use Rattle.cw_rules.specs.Codes.{begins_section}
 use Rattle.cw_rules.specs.Constants.{hexadecimal, fraction, exponent, mantissa, decimal, number, constant}
 use Rattle.cw_rules.specs.Signs.{all_signs, longest, spelling}
 use Rattle.cw_lex.specs.Lexing.{fresh_at, last_at}
-use Rattle.cw_rules.specs.Tokens.{section, in_text, code_text, in_code, start_of, sign_or_other, is_space, is_include, behind_word, ends_at_bar, in_hash_line, passed, one, moved, is_code}
+use Rattle.cw_rules.specs.Tokens.{section, in_text, code_text, in_code, start_of, sign_or_other, is_space, is_include, behind_word, ends_at_bar, in_hash_line, behind_include, closes_on_line, passed, one, moved}
 use Rattle.cw_lex.specs.Coming.{found_at}
 use Rattle.cw_rules.specs.Cuttings.{bytes_at}
-use Rattle.cw_lex.specs.Short.{is_alone, is_lone, is_quote, IsShort, BeginsString}
+use Rattle.cw_lex.specs.Calm.{is_calm}
+use Rattle.cw_lex.specs.Short.{is_alone, is_lone, is_quote, IsShort, BeginsString, EndsInner}
 use Rattle.cw_lex.proofs.Lines.{in_text-code}
 use Rattle.cw_lex.proofs.White.{other-byte}
+use Rattle.cw_lex.proofs.Calm.{calm-code, calm-part}
 use Rattle.cw_lex.proofs.Steps.{bytes-here}
 use Rattle.cw_rules.proofs.Sizes.{run-le}
 use Rattle.std.proofs.lemmas.Bool.{lt-ltb, eqb-true}
 
--- a byte that begins no line's end, white space, code, `#` line or include name
+-- a byte that begins no line's end, white space, code or `#` line
 pub record IsStart (b : ℕ) : Type 0 where
   pub newline : (b == 10) ≡ false
   pub blank : is_in classes.Blank b ≡ false
   pub backslash : (b == 92) ≡ false
   pub at_sign : (b == 64) ≡ false
   pub hash : (b == 35) ≡ false
-  pub less : (b == 60) ≡ false
 
 and-false : (b : Bool) → (b && false) ≡ false
 and-false true = refl
@@ -40,21 +41,24 @@ and-false false = refl
 no-space : (part : Part) (b : ℕ) (bs : List ℕ) → IsStart b → is_space part b bs ≡ false
 no-space part b bs s = rw (s.blank, s.backslash) (and-false (in_hash_line part))
 
-code-start : (w : Where) (fresh : Bool) (last place b : ℕ) (bs : List ℕ) → IsStart b
+no-include : (part : Part) (b : ℕ) (bs : List ℕ) → behind_include part ≡ false → (b == 60 && (behind_include part && closes_on_line bs)) ≡ false
+no-include part b bs h = ap (λ t. b == 60 && (t && closes_on_line bs)) h ∙ and-false (b == 60)
+
+code-start : (w : Where) (fresh : Bool) (last place b : ℕ) (bs : List ℕ) → behind_include w.part ≡ false → IsStart b
     → code_text w fresh last place b bs ≡ in_code (start_of (ends_at_bar w.part w.comments) b bs) w place (b ∷ bs)
-code-start w fresh last place b bs s = rw (s.newline, no-space w.part b bs s, s.hash, s.less) refl
+code-start w fresh last place b bs h s = rw (s.newline, no-space w.part b bs s, s.hash, no-include w.part b bs h) refl
 
 -- what begins there is found by the rule of its start
-start-found : (text : List ℕ) (part : Part) (comments : List Opened) (place : ℕ) (kind : Start) → is_code part comments ≡ true
+start-found : (text : List ℕ) (part : Part) (comments : List Opened) (place : ℕ) (kind : Start) → is_calm part comments ≡ true
     → IsStart (slice_index text place) → start_of (ends_at_bar part comments) (slice_index text place) (drop (place + 1) text) ≡ kind
     → found_at text (record { part = part; comments = comments }) place ≡ in_code kind (record { part = part; comments = comments }) place (bytes_at text place)
-start-found text part comments place kind code s e =
+start-found text part comments place kind calm s e =
     let b = slice_index text place in
     let bs = drop (place + 1) text in
     let w : Where = record { part = part; comments = comments } in
     ap (λ t. if t && begins_section bs then section w place bs else in_text part comments (fresh_at text place) (last_at text place) place b bs) s.at_sign
-    ∙ in_text-code part comments (fresh_at text place) (last_at text place) place b bs code
-    ∙ code-start w (fresh_at text place) (last_at text place) place b bs s
+    ∙ in_text-code part comments (fresh_at text place) (last_at text place) place b bs (calm-code part comments calm)
+    ∙ code-start w (fresh_at text place) (last_at text place) place b bs (calm-part part comments calm).include s
     ∙ ap (λ k. in_code k w place (bytes_at text place)) e
 
 no-blank : (b : ℕ) → (b == 32) ≡ false → (b == 9) ≡ false → (b == 11) ≡ false → (b == 12) ≡ false → (b == 13) ≡ false → is_in classes.Blank b ≡ false
@@ -67,7 +71,6 @@ letter-starts b h = record {
   backslash = other-byte is_letter b 92 h refl;
   at_sign = other-byte is_letter b 64 h refl;
   hash = other-byte is_letter b 35 h refl;
-  less = other-byte is_letter b 60 h refl;
 }
 
 digit-starts : (b : ℕ) → is_in classes.Digit b ≡ true → IsStart b
@@ -77,7 +80,6 @@ digit-starts b h = record {
   backslash = other-byte (is_in classes.Digit) b 92 h refl;
   at_sign = other-byte (is_in classes.Digit) b 64 h refl;
   hash = other-byte (is_in classes.Digit) b 35 h refl;
-  less = other-byte (is_in classes.Digit) b 60 h refl;
 }
 
 abbrev begins_sign : List ℕ → ℕ → Bool
@@ -92,7 +94,6 @@ sign-starts b bs sign lone e =
       backslash = other-byte (begins_sign bs) b 92 h refl;
       at_sign = other-byte (begins_sign bs) b 64 h refl;
       hash = other-byte is_lone b 35 lone refl;
-      less = other-byte is_lone b 60 lone refl;
     }
 
 no-constant : (b : ℕ) (bs : List ℕ) → is_in classes.Digit b ≡ false → (b == 48) ≡ false → (b == 46) ≡ false → constant (b ∷ bs) ≡ 0
@@ -136,7 +137,6 @@ quote-starts b h = record {
   backslash = other-byte is_quote b 92 h refl;
   at_sign = other-byte is_quote b 64 h refl;
   hash = other-byte is_quote b 35 h refl;
-  less = other-byte is_quote b 60 h refl;
 }
 
 string-is : (bars : Bool) (b : ℕ) (bs : List ℕ) → is_letter b ≡ false → is_in classes.Digit b ≡ false → is_quote b ≡ true
@@ -151,10 +151,10 @@ word-passed part bytes h = ap (λ t. if t then parts.Plain true true else passed
 
 -- ## Tokens
 
-pub word-short : (text : List ℕ) (part : Part) (comments : List Opened) (place size : ℕ) → is_code part comments ≡ true → place < length text
-    → is_letter (slice_index text place) ≡ true → size ≡ run classes.Word (drop place text) → (in_hash_line part && is_include (drop place text)) ≡ false
+pub word-short : (text : List ℕ) (part : Part) (comments : List Opened) (place size : ℕ) → is_calm part comments ≡ true → place < length text
+    → is_letter (slice_index text place) ≡ true → size ≡ run classes.Word (drop place text)
     → IsShort text (record { part = part; comments = comments }) place (record { kind = kinds.Identifier; size = size })
-word-short text part comments place size code within letter e plainly =
+word-short text part comments place size calm within letter e =
     let w : Where = record { part = part; comments = comments } in
     let b = slice_index text place in
     let bs = drop (place + 1) text in
@@ -165,14 +165,14 @@ word-short text part comments place size code within letter e plainly =
       some = omega arith;
       within = omega (arith, e, run-le classes.Word (drop place text), length-drop place text);
       found =
-          start-found text part comments place start.Identifier code (letter-starts b letter) (letter-is (ends_at_bar part comments) b bs letter)
-          ∙ (λ i. one (in_hash_line part) (moved w (word-passed part (b ∷ bs) (ap (λ bytes. in_hash_line part && is_include bytes) (sym here) ∙ plainly) i)) place (b ∷ bs) (plain kinds.Identifier (sym same i)));
+          start-found text part comments place start.Identifier calm (letter-starts b letter) (letter-is (ends_at_bar part comments) b bs letter)
+          ∙ (λ i. one (in_hash_line part) (moved w (word-passed part (b ∷ bs) (ap (λ t. t && is_include (b ∷ bs)) (calm-part part comments calm).hash_line) i)) place (b ∷ bs) (plain kinds.Identifier (sym same i)));
     }
 
-pub number-short : (text : List ℕ) (part : Part) (comments : List Opened) (place size : ℕ) → is_code part comments ≡ true → place < length text
+pub number-short : (text : List ℕ) (part : Part) (comments : List Opened) (place size : ℕ) → is_calm part comments ≡ true → place < length text
     → is_letter (slice_index text place) ≡ false → is_in classes.Digit (slice_index text place) ≡ true → 0 < size → place + size ≤ length text → size ≡ constant (drop place text)
     → IsShort text (record { part = part; comments = comments }) place (record { kind = kinds.Constant; size = size })
-number-short text part comments place size code within letter digit some most e =
+number-short text part comments place size calm within letter digit some most e =
     let w : Where = record { part = part; comments = comments } in
     let b = slice_index text place in
     let bs = drop (place + 1) text in
@@ -181,16 +181,16 @@ number-short text part comments place size code within letter digit some most e 
       some = some;
       within = most;
       found =
-          start-found text part comments place start.Constant code (digit-starts b digit)
+          start-found text part comments place start.Constant calm (digit-starts b digit)
           (number-is (ends_at_bar part comments) b bs letter (lt-ltb 0 (constant (b ∷ bs)) (omega arith)))
           ∙ (λ i. one (in_hash_line part) (moved w (passed part)) place (b ∷ bs) (plain kinds.Constant (sym same i)));
     }
 
-lone-short : (text : List ℕ) (part : Part) (comments : List Opened) (place size : ℕ) (sign : Sign) → is_code part comments ≡ true → place < length text
+lone-short : (text : List ℕ) (part : Part) (comments : List Opened) (place size : ℕ) (sign : Sign) → is_calm part comments ≡ true → place < length text
     → is_letter (slice_index text place) ≡ false → is_in classes.Digit (slice_index text place) ≡ false → is_lone (slice_index text place) ≡ true
     → longest all_signs (bytes_at text place) ≡ Some sign → 0 < size → size ≡ length (spelling sign) → place + size ≤ length text
     → IsShort text (record { part = part; comments = comments }) place (record { kind = kinds.Sign sign; size = size })
-lone-short text part comments place size sign code within letter digit lone e some same most =
+lone-short text part comments place size sign calm within letter digit lone e some same most =
     let w : Where = record { part = part; comments = comments } in
     let b = slice_index text place in
     let bs = drop (place + 1) text in
@@ -198,7 +198,7 @@ lone-short text part comments place size sign code within letter digit lone e so
       some = some;
       within = most;
       found =
-          start-found text part comments place (start.Sign sign) code (sign-starts b bs sign lone e) (sign-is (ends_at_bar part comments) b bs sign letter digit lone e)
+          start-found text part comments place (start.Sign sign) calm (sign-starts b bs sign lone e) (sign-is (ends_at_bar part comments) b bs sign letter digit lone e)
           ∙ (λ i. one (in_hash_line part) (moved w (passed part)) place (b ∷ bs) (plain (kinds.Sign sign) (sym same i)));
     }
 
@@ -215,18 +215,18 @@ no-decimal bs h =
     ap (λ n. if nat_lt 0 n then n + run classes.Suffix (drop n (46 ∷ bs)) else 0) decimally
 
 dot-starts : IsStart 46
-dot-starts = record { newline = refl; blank = refl; backslash = refl; at_sign = refl; hash = refl; less = refl }
+dot-starts = record { newline = refl; blank = refl; backslash = refl; at_sign = refl; hash = refl }
 
 dot-is : (bars : Bool) (bs : List ℕ) (sign : Sign) → begins_by (is_in classes.Digit) bs ≡ false → longest all_signs (46 ∷ bs) ≡ Some sign
     → start_of bars 46 bs ≡ start.Sign sign
 dot-is bars bs sign h e =
     ap (λ n. if nat_lt 0 n then start.Constant else sign_or_other (longest all_signs (46 ∷ bs))) (no-decimal bs h) ∙ ap sign_or_other e
 
-dot-short : (text : List ℕ) (part : Part) (comments : List Opened) (place size : ℕ) (sign : Sign) → is_code part comments ≡ true
+dot-short : (text : List ℕ) (part : Part) (comments : List Opened) (place size : ℕ) (sign : Sign) → is_calm part comments ≡ true
     → slice_index text place ≡ 46 → begins_by (is_in classes.Digit) (drop (place + 1) text) ≡ false
     → longest all_signs (bytes_at text place) ≡ Some sign → 0 < size → size ≡ length (spelling sign) → place + size ≤ length text
     → IsShort text (record { part = part; comments = comments }) place (record { kind = kinds.Sign sign; size = size })
-dot-short text part comments place size sign code here digit e some same most =
+dot-short text part comments place size sign calm here digit e some same most =
     let w : Where = record { part = part; comments = comments } in
     let bs = drop (place + 1) text in
     let starts : IsStart (slice_index text place) = subst IsStart (sym here) dot-starts in
@@ -236,7 +236,7 @@ dot-short text part comments place size sign code here digit e some same most =
       some = some;
       within = most;
       found =
-          start-found text part comments place (start.Sign sign) code starts kind
+          start-found text part comments place (start.Sign sign) calm starts kind
           ∙ (λ i. one (in_hash_line part) (moved w (passed part)) place (bytes_at text place) (plain (kinds.Sign sign) (sym same i)));
     }
 
@@ -246,22 +246,62 @@ alone-by false true true h = absurd (cc)
 alone-by false true false h = inr (refl, refl)
 alone-by false false digit h = absurd (cc)
 
-pub sign-short : (text : List ℕ) (part : Part) (comments : List Opened) (place size : ℕ) (sign : Sign) → is_code part comments ≡ true → place < length text
+pub sign-short : (text : List ℕ) (part : Part) (comments : List Opened) (place size : ℕ) (sign : Sign) → is_calm part comments ≡ true → place < length text
     → is_letter (slice_index text place) ≡ false → is_in classes.Digit (slice_index text place) ≡ false
     → is_alone (slice_index text place) (drop (place + 1) text) ≡ true
     → longest all_signs (bytes_at text place) ≡ Some sign → 0 < size → size ≡ length (spelling sign) → place + size ≤ length text
     → IsShort text (record { part = part; comments = comments }) place (record { kind = kinds.Sign sign; size = size })
-sign-short text part comments place size sign code within letter digit alone e some same most =
+sign-short text part comments place size sign calm within letter digit alone e some same most =
     let b = slice_index text place in
     elim (alone-by (is_lone b) (b == 46) (begins_by (is_in classes.Digit) (drop (place + 1) text)) alone) [
-      | inl lone ↦ lone-short text part comments place size sign code within letter digit lone e some same most
-      | inr dotted ↦ dot-short text part comments place size sign code (eqb-true b 46 dotted.0) dotted.1 e some same most
+      | inl lone ↦ lone-short text part comments place size sign calm within letter digit lone e some same most
+      | inr dotted ↦ dot-short text part comments place size sign calm (eqb-true b 46 dotted.0) dotted.1 e some same most
     ]
 
-pub string-begins : (text : List ℕ) (part : Part) (comments : List Opened) (place : ℕ) → is_code part comments ≡ true → place < length text
+pub string-begins : (text : List ℕ) (part : Part) (comments : List Opened) (place : ℕ) → is_calm part comments ≡ true → place < length text
     → is_letter (slice_index text place) ≡ false → is_in classes.Digit (slice_index text place) ≡ false → is_quote (slice_index text place) ≡ true
     → BeginsString text (record { part = part; comments = comments }) place (slice_index text place)
-string-begins text part comments place code within letter digit quoted =
+string-begins text part comments place calm within letter digit quoted =
     let b = slice_index text place in
     let bs = drop (place + 1) text in
-    (within, start-found text part comments place (start.Quoted b) code (quote-starts b quoted) (string-is (ends_at_bar part comments) b bs letter digit quoted))
+    (within, start-found text part comments place (start.Quoted b) calm (quote-starts b quoted) (string-is (ends_at_bar part comments) b bs letter digit quoted))
+
+-- ## Bars
+
+bar-starts : IsStart 124
+bar-starts = record { newline = refl; blank = refl; backslash = refl; at_sign = refl; hash = refl }
+
+bar-kind : (bars : Bool) (bs : List ℕ)
+    → start_of bars 124 bs ≡ (if bars && not (begins 124 bs) then start.EndOfInner else sign_or_other (longest all_signs (124 ∷ bs)))
+bar-kind bars bs =
+    ap (λ n. if nat_lt 0 n then start.Constant else (if bars && not (begins 124 bs) then start.EndOfInner else sign_or_other (longest all_signs (124 ∷ bs))))
+    (no-constant 124 bs refl refl refl)
+
+bar-is : (text : List ℕ) (place : ℕ) (bars ends : Bool) → slice_index text place ≡ 124 → (bars && not (begins 124 (drop (place + 1) text))) ≡ ends
+    → start_of bars (slice_index text place) (drop (place + 1) text) ≡ (if ends then start.EndOfInner else sign_or_other (longest all_signs (bytes_at text place)))
+bar-is text place bars ends here e =
+    let bs = drop (place + 1) text in
+    ap (λ b. start_of bars b bs) here
+    ∙ bar-kind bars bs
+    ∙ (λ i. if e i then start.EndOfInner else sign_or_other (longest all_signs (sym here i ∷ bs)))
+
+pub inner-ends : (text : List ℕ) (part : Part) (comments : List Opened) (place : ℕ) → is_calm part comments ≡ true → place < length text
+    → slice_index text place ≡ 124 → (ends_at_bar part comments && not (begins 124 (drop (place + 1) text))) ≡ true
+    → EndsInner text (record { part = part; comments = comments }) place
+inner-ends text part comments place calm within here ends =
+    (within, start-found text part comments place start.EndOfInner calm (subst IsStart (sym here) bar-starts) (bar-is text place (ends_at_bar part comments) true here ends))
+
+pub bar-short : (text : List ℕ) (part : Part) (comments : List Opened) (place size : ℕ) (sign : Sign) → is_calm part comments ≡ true
+    → slice_index text place ≡ 124 → (ends_at_bar part comments && not (begins 124 (drop (place + 1) text))) ≡ false
+    → longest all_signs (bytes_at text place) ≡ Some sign → 0 < size → size ≡ length (spelling sign) → place + size ≤ length text
+    → IsShort text (record { part = part; comments = comments }) place (record { kind = kinds.Sign sign; size = size })
+bar-short text part comments place size sign calm here ends e some same most =
+    let w : Where = record { part = part; comments = comments } in
+    record {
+      some = some;
+      within = most;
+      found =
+          start-found text part comments place (start.Sign sign) calm (subst IsStart (sym here) bar-starts)
+          (bar-is text place (ends_at_bar part comments) false here ends ∙ ap sign_or_other e)
+          ∙ (λ i. one (in_hash_line part) (moved w (passed part)) place (bytes_at text place) (plain (kinds.Sign sign) (sym same i)));
+    }

@@ -2,6 +2,7 @@
 pub mod Lexing
 pub mod Stack
 pub mod Coming
+pub mod Calm
 pub mod Short
 pub mod Starts
 pub mod Nested

@@ -5,9 +5,9 @@ use Rattle.cw_rules.specs.declared.parts.Start.TheVariants as start
 use Rattle.cw_lex.specs.declared.short.Short.{Short}
 use Rattle.cw_lex.specs.declared.short.Quick.{Quick}
 use Rattle.cw_lex.specs.declared.short.Quick.TheVariants as quick
-use Rattle.cw_rules.specs.Bytes.{begins_by, is_in, quote, hash, apostrophe, dot, slash, less, bar}
+use Rattle.cw_rules.specs.Bytes.{begins_by, is_in, quote, hash, apostrophe, dot, slash, bar}
 use Rattle.cw_rules.specs.Answers.{Where, plain}
-use Rattle.cw_rules.specs.Tokens.{one, moved, passed, in_hash_line, in_code}
+use Rattle.cw_rules.specs.Tokens.{one, moved, passed, in_hash_line, in_code, inner_end}
 use Rattle.cw_lex.specs.Coming.{found_at}
 use Rattle.cw_rules.specs.Cuttings.{bytes_at}
 
@@ -17,9 +17,9 @@ pub record IsShort (text : List ℕ) (w : Where) (place : ℕ) (short : Short) :
   pub within : place + short.size ≤ length text
   pub found : found_at text w place ≡ one (in_hash_line w.part) (moved w (passed w.part)) place (bytes_at text place) (plain short.kind short.size)
 
--- a byte that begins no token but signs, where it begins a sign
+-- a byte that begins no token but signs, where it begins a sign and no include name is wanted
 abbrev pub is_lone : ℕ → Bool
-is_lone byte = not (byte == slash || byte == dot || byte == less || byte == bar || byte == hash)
+is_lone byte = not (byte == slash || byte == dot || byte == bar || byte == hash)
 
 -- the same of a byte with those behind it: a dot begins a constant before a digit
 abbrev pub is_alone : ℕ → List ℕ → Bool
@@ -30,10 +30,15 @@ abbrev pub BeginsString : List ℕ → Where → ℕ → ℕ → Type 0
 BeginsString text w place quote =
     (place < length text) × (found_at text w place ≡ in_code (start.Quoted quote) w place (bytes_at text place))
 
+-- a bar ends inner C text
+abbrev pub EndsInner : List ℕ → Where → ℕ → Type 0
+EndsInner text w place = (place < length text) × (found_at text w place ≡ inner_end w place (bytes_at text place))
+
 -- A look tells so of the token that begins at a place.
 abbrev pub IsQuick : List ℕ → Where → ℕ → Quick → Type 0
 IsQuick text w place (quick.Short short) = IsShort text w place short
 IsQuick text w place (quick.Quoted quote) = BeginsString text w place quote
+IsQuick text w place quick.EndOfInner = EndsInner text w place
 
 -- a byte that begins a string
 abbrev pub is_quote : ℕ → Bool

@@ -74,20 +74,6 @@ impl State {
             (drop (at + 1) text.now) }
     {
         let byte = text[at];
-        if byte == b'\n' || byte == b'\\' {
-            return self.is_white_line_end(text, at);
-        }
-        is_blank(byte)
-    }
-
-    // The same where a line's end or a backslash stands, which is seldom.
-    #[inline(never)]
-    fn is_white_line_end(&self, text: &[u8], at: usize) -> bool
-        requires { at < length text.now }
-        ensures { result ≡ is_white_here self.now.part self.now.comments (last_at text.now at) (slice_index text.now at)
-            (drop (at + 1) text.now) }
-    {
-        let byte = text[at];
         if byte == b'\n' {
             return !self.ends_line(last_at(text, at));
         }
@@ -97,7 +83,6 @@ impl State {
 }
 
 /// The place behind the white space.
-#[inline(always)]
 pub(crate) fn skip_white(text: &[u8], state: &State) -> usize
     requires within { state.now.at ≤ length text.now }
     requires code { is_code state.now.part state.now.comments ≡ true }
@@ -395,9 +380,8 @@ fn behind_word(part: Part, bytes: &[u8], size: usize) -> Part
     part.passed()
 }
 
-/// Whether an identifier of this size is the word `include` of a `#` line.
-#[inline(always)]
-pub(crate) fn is_include_word(part: Part, bytes: &[u8], size: usize) -> bool
+// Whether an identifier of this size is the word `include` of a `#` line.
+fn is_include_word(part: Part, bytes: &[u8], size: usize) -> bool
     requires { size ≡ run Class.Word bytes.now }
     ensures { result ≡ (in_hash_line part && is_include bytes.now) }
 {

@@ -57,6 +57,7 @@ pub(crate) fn begin_comment<'a>(text: &'a [u8], state: &mut State, long: bool) -
 }
 
 /// Answers that inner C text of TeX text or of a comment ends at its bar.
+#[inline(never)]
 pub(crate) fn end_inner<'a>(text: &'a [u8], state: &mut State) -> Lexed<'a>
     requires step { CanStep text.now state.old }
     requires found { found_at text.now (where_of state.old) state.old.at ≡ inner_end (where_of state.old) state.old.at

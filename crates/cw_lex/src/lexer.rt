@@ -8,20 +8,21 @@ ghost use Rattle.cw_rules.specs.Pending.{no_notes};
 ghost use Rattle.cw_lex.specs.Lexing.{tokens_of, fresh_at, last_at, answers_at};
 ghost use Rattle.cw_rules.specs.Tokens.{part_text, is_parameter};
 ghost use Rattle.cw_rules.specs.Bytes.{run, is_letter, begins_by};
-ghost use Rattle.cw_lex.specs.Short.{IsQuick, BeginsString};
+ghost use Rattle.cw_lex.specs.Short.{IsQuick, BeginsString, EndsInner};
+ghost use Rattle.cw_lex.specs.Calm.{IsCalm, IsSteady};
 ghost use Rattle.cw_lex.specs.Coming.{where_of, coming, found_at, beginning_part};
 ghost use Rattle.cw_rules.specs.Cuttings.{bytes_at};
 ghost use Rattle.cw_rules.specs.Tokens.{is_code, is_code_part};
 ghost use Rattle.cw_lex.specs.Coming.{IsSkipped, IsReady, CanStep};
 
 use crate::code_text::{code_text, skip_white};
-use crate::comment_text::comment_text;
+use crate::comment_text::{comment_text, end_inner};
 use crate::comments::Comments;
 use crate::ends::{cut_off, is_section_at};
 use crate::giving::{give, give_note, give_string};
 use crate::plain::{format_name, head_text, limbo_text, macro_name, parameter, tex_text};
 use crate::short::{Quick, give_short, quick_at};
-use crate::state::{Clear, State};
+use crate::state::{Clear, Stand, State};
 use crate::{Lexed, Mode, Sign, TokKind};
 use cw_base::NoteKind;
 use cw_rules::classes::{Class, begins_with, from, is_letter, run};
@@ -35,19 +36,20 @@ use std::marker::Model;
 pub struct Lexer<'a> {
     // The text up to the part's end.
     text: &'a [u8],
-    state: State,
+    stand: Stand,
 }
 
 impl<'a> Model for Lexer<'a> {
     ghost use Rattle.std.specs.Prelude.{List};
     ghost use Rattle.cw_rules.specs.Answers.{Answer};
-    ghost use Rattle.cw_lex.specs.Coming.{coming, IsReady};
+    ghost use Rattle.cw_lex.specs.Coming.{coming};
+    ghost use Rattle.cw_lex.specs.Calm.{IsSteady};
 
     ghost Value = { List Answer };
 
-    ghost view = { λ l. coming l.text.now l.state };
+    ghost view = { λ l. coming l.text.now l.stand.state };
 
-    ghost invariant = { λ l. IsReady l.text.now l.state };
+    ghost invariant = { λ l. IsSteady l.text.now l.stand };
 }
 
 impl<'a> Lexer<'a> {
@@ -70,7 +72,7 @@ impl<'a> Lexer<'a> {
     {
         Lexer {
             text: &text[..end],
-            state: State {
+            stand: Stand::new(State {
                 at: start,
                 part: beginning(mode),
                 comments: Comments::new(),
@@ -79,7 +81,7 @@ impl<'a> Lexer<'a> {
                     from: start + 1,
                     to: start,
                 },
-            },
+            }),
         }
     }
 
@@ -88,7 +90,7 @@ impl<'a> Lexer<'a> {
     pub fn next(&mut self) -> Lexed<'a>
         ensures { Gives self.old result self.new }
     {
-        advance(self.text, &mut self.state)
+        advance(self.text, &mut self.stand)
     }
 }
 
@@ -106,60 +108,87 @@ fn beginning(mode: Mode) -> Part
 
 // The next answer. Most are short tokens.
 #[inline(always)]
-fn advance<'a>(text: &'a [u8], state: &mut State) -> Lexed<'a>
-    requires ready { IsReady text.now state.old }
-    ensures gives { Gives (coming text.now state.old) result (coming text.now state.new) }
-    ensures ready { IsReady text.now state.new }
+fn advance<'a>(text: &'a [u8], stand: &mut Stand) -> Lexed<'a>
+    requires steady { IsSteady text.now stand.old }
+    ensures gives { Gives (coming text.now stand.old.state) result (coming text.now stand.new.state) }
+    ensures steady { IsSteady text.now stand.new }
 {
-    match next_quick(text, state) {
-        Some(Quick::Short(short)) => give_short(text, state, short),
-        Some(Quick::Quoted(quote)) => string_answer(text, state, quote),
-        None => other_answer(text, state),
+    match next_quick(text, stand) {
+        Some(Quick::Short(short)) => give_short(text, &mut stand.state, short),
+        Some(Quick::Quoted(quote)) => string_answer(text, stand, quote),
+        Some(Quick::EndOfInner) => end_answer(text, stand),
+        None => other_answer(text, stand),
     }
 }
 
 // A string has a name here, so that a short token needs no place in memory.
 #[inline(always)]
-fn string_answer<'a>(text: &'a [u8], state: &mut State, quote: u8) -> Lexed<'a>
-    requires ready { IsReady text.now state.old }
-    requires quiet { state.old.pending ≡ no_notes }
-    requires string { BeginsString text.now (where_of state.old) state.old.at quote }
-    ensures gives { Gives (coming text.now state.old) result (coming text.now state.new) }
-    ensures ready { IsReady text.now state.new }
+fn string_answer<'a>(text: &'a [u8], stand: &mut Stand, quote: u8) -> Lexed<'a>
+    requires steady { IsSteady text.now stand.old }
+    requires calm { IsCalm stand.old.state }
+    requires string { BeginsString text.now (where_of stand.old.state) stand.old.state.at quote }
+    ensures gives { Gives (coming text.now stand.old.state) result (coming text.now stand.new.state) }
+    ensures steady { IsSteady text.now stand.new }
 {
-    let answer = give_string(text, state, quote);
+    let answer = give_string(text, &mut stand.state, quote);
+    stand.calm = stand.state.is_calm();
+    answer
+}
+
+// The same for the end of inner C text, behind which none goes on.
+#[inline(always)]
+fn end_answer<'a>(text: &'a [u8], stand: &mut Stand) -> Lexed<'a>
+    requires steady { IsSteady text.now stand.old }
+    requires calm { IsCalm stand.old.state }
+    requires end { EndsInner text.now (where_of stand.old.state) stand.old.state.at }
+    ensures gives { Gives (coming text.now stand.old.state) result (coming text.now stand.new.state) }
+    ensures steady { IsSteady text.now stand.new }
+{
+    let answer = end_inner(text, &mut stand.state);
+    stand.calm = false;
     answer
 }
 
 // The same for any other answer.
 #[inline(always)]
-fn other_answer<'a>(text: &'a [u8], state: &mut State) -> Lexed<'a>
-    requires ready { IsReady text.now state.old }
-    ensures gives { Gives (coming text.now state.old) result (coming text.now state.new) }
-    ensures ready { IsReady text.now state.new }
+fn other_answer<'a>(text: &'a [u8], stand: &mut Stand) -> Lexed<'a>
+    requires steady { IsSteady text.now stand.old }
+    ensures gives { Gives (coming text.now stand.old.state) result (coming text.now stand.new.state) }
+    ensures steady { IsSteady text.now stand.new }
 {
-    let answer = any_answer(text, state);
+    let answer = any_answer(text, stand);
     answer
 }
 
-// The quick token that comes next, where one does and no note is left. The white space before it is skipped.
+// The quick token that comes next, where calm C text goes on. The white space before it is skipped.
 #[inline(always)]
-fn next_quick(text: &[u8], state: &mut State) -> Option<Quick>
-    requires ready { IsReady text.now state.old }
-    ensures quick { IfSome result (λ q. IsQuick text.now (where_of state.new) state.new.at q) }
-    ensures quiet { IfSome result (λ _. state.new.pending ≡ no_notes) }
-    ensures same { coming text.now state.new ≡ coming text.now state.old }
-    ensures ready { IsReady text.now state.new }
+fn next_quick(text: &[u8], stand: &mut Stand) -> Option<Quick>
+    requires steady { IsSteady text.now stand.old }
+    ensures quick { IfSome result (λ q. IsQuick text.now (where_of stand.new.state) stand.new.state.at q) }
+    ensures calm { IfSome result (λ _. IsCalm stand.new.state) }
+    ensures same { coming text.now stand.new.state ≡ coming text.now stand.old.state }
+    ensures steady { IsSteady text.now stand.new }
 {
-    if state.pending.is_quiet() && state.is_code() {
-        skip_in_code(text, state);
-        return quick_at(text, state);
+    if stand.calm {
+        skip_in_calm(text, &mut stand.state);
+        return quick_at(text, &stand.state);
     }
     None
 }
 
-// Goes behind the white space of C text.
+// Goes behind the white space of calm C text.
 #[inline(always)]
+fn skip_in_calm(text: &[u8], state: &mut State)
+    requires ready { IsReady text.now state.old }
+    requires calm { IsCalm state.old }
+    ensures same { coming text.now state.new ≡ coming text.now state.old }
+    ensures calm { IsCalm state.new }
+    ensures ready { IsReady text.now state.new }
+{
+    state.at += run(Class::White, from(text, state.at));
+}
+
+// Goes behind the white space of C text.
 fn skip_in_code(text: &[u8], state: &mut State)
     requires ready { IsReady text.now state.old }
     requires quiet { state.old.pending ≡ no_notes }
@@ -173,9 +202,20 @@ fn skip_in_code(text: &[u8], state: &mut State)
     state.at = skip_white(text, state);
 }
 
-// A note that is left, else what begins behind the white space.
+// Any answer, and whether the text is calm behind it.
 #[inline(never)]
-fn any_answer<'a>(text: &'a [u8], state: &mut State) -> Lexed<'a>
+fn any_answer<'a>(text: &'a [u8], stand: &mut Stand) -> Lexed<'a>
+    requires steady { IsSteady text.now stand.old }
+    ensures gives { Gives (coming text.now stand.old.state) result (coming text.now stand.new.state) }
+    ensures steady { IsSteady text.now stand.new }
+{
+    let answer = note_or_token(text, &mut stand.state);
+    stand.calm = stand.state.is_calm();
+    answer
+}
+
+// A note that is left, else what begins behind the white space.
+fn note_or_token<'a>(text: &'a [u8], state: &mut State) -> Lexed<'a>
     requires ready { IsReady text.now state.old }
     ensures gives { Gives (coming text.now state.old) result (coming text.now state.new) }
     ensures ready { IsReady text.now state.new }

@@ -1,17 +1,16 @@
 //! The quick tokens of C text, of which most of it consists.
-ghost use Rattle.std.specs.Prelude.{◌≡◌, ◌<◌, true, false, length, slice_index, IfSome};
+ghost use Rattle.std.specs.Prelude.{◌≡◌, ◌<◌, true, false, not, ◌&&◌, length, slice_index, IfSome};
 ghost use Rattle.cw_rules.specs.Answers.{Gives};
-ghost use Rattle.cw_rules.specs.Bytes.{begins_by, is_in, is_letter};
-ghost use Rattle.cw_rules.specs.Pending.{no_notes};
+ghost use Rattle.cw_rules.specs.Bytes.{begins, begins_by, is_in, is_letter};
+ghost use Rattle.cw_rules.specs.Tokens.{ends_at_bar};
 ghost use Rattle.cw_lex.specs.Coming.{where_of, coming, IsReady};
-ghost use Rattle.cw_rules.specs.Tokens.{is_code};
+ghost use Rattle.cw_lex.specs.Calm.{is_calm, IsCalm};
 ghost use Rattle.cw_lex.specs.Short.{IsShort, IsQuick, is_alone, is_lone, is_quote};
 
-use crate::code_text::is_include_word;
 use crate::giving::token;
 use crate::state::State;
 use crate::{Lexed, TokKind};
-use cw_rules::classes::{Class, from, is_digit, is_word, run};
+use cw_rules::classes::{Class, begins, from, is_digit, is_word, run};
 use cw_rules::constants::constant;
 use cw_rules::signs::sign_at;
 
@@ -28,51 +27,60 @@ pub(crate) enum Quick {
     Short(Short),
     /// A string with this quote.
     Quoted(u8),
+    /// The bar that ends inner C text.
+    EndOfInner,
 }
 
 /// The quick token that begins here. None is said of tokens for which more has to be looked at.
 #[inline(always)]
 pub(crate) fn quick_at(text: &[u8], state: &State) -> Option<Quick>
-    requires code { is_code state.now.part state.now.comments ≡ true }
+    requires calm { is_calm state.now.part state.now.comments ≡ true }
     ensures { IfSome result (IsQuick text.now (where_of state.now) state.now.at) }
 {
     if state.at >= text.len() {
         return None;
     }
     let byte = text[state.at];
-    if is_digit(byte) {
-        return number(text, state).map(Quick::Short);
-    }
     if is_word(byte) {
-        return identifier(text, state).map(Quick::Short);
+        return word(text, state);
     }
     match sign(text, state) {
         Some(short) => Some(Quick::Short(short)),
-        None => string(text, state),
+        None => seldom(text, state),
     }
 }
 
+// An identifier or a constant.
 #[inline(always)]
-fn identifier(text: &[u8], state: &State) -> Option<Short>
-    requires code { is_code state.now.part state.now.comments ≡ true }
+fn word(text: &[u8], state: &State) -> Option<Quick>
+    requires calm { is_calm state.now.part state.now.comments ≡ true }
+    requires place { state.now.at < length text.now }
+    requires word { is_in Class.Word (slice_index text.now state.now.at) ≡ true }
+    ensures { IfSome result (IsQuick text.now (where_of state.now) state.now.at) }
+{
+    if is_digit(text[state.at]) {
+        return number(text, state).map(Quick::Short);
+    }
+    Some(Quick::Short(identifier(text, state)))
+}
+
+#[inline(always)]
+fn identifier(text: &[u8], state: &State) -> Short
+    requires calm { is_calm state.now.part state.now.comments ≡ true }
     requires place { state.now.at < length text.now }
     requires letter { is_letter (slice_index text.now state.now.at) ≡ true }
-    ensures { IfSome result (IsShort text.now (where_of state.now) state.now.at) }
+    ensures { IsShort text.now (where_of state.now) state.now.at result }
 {
-    let bytes = from(text, state.at);
-    let size = run(Class::Word, bytes);
-    if is_include_word(state.part, bytes, size) {
-        return None;
-    }
-    Some(Short {
+    let size = run(Class::Word, from(text, state.at));
+    Short {
         kind: TokKind::Identifier,
         size,
-    })
+    }
 }
 
 #[inline(always)]
 fn number(text: &[u8], state: &State) -> Option<Short>
-    requires code { is_code state.now.part state.now.comments ≡ true }
+    requires calm { is_calm state.now.part state.now.comments ≡ true }
     requires place { state.now.at < length text.now }
     requires letter { is_letter (slice_index text.now state.now.at) ≡ false }
     requires digit { is_in Class.Digit (slice_index text.now state.now.at) ≡ true }
@@ -90,7 +98,7 @@ fn number(text: &[u8], state: &State) -> Option<Short>
 
 #[inline(always)]
 fn sign(text: &[u8], state: &State) -> Option<Short>
-    requires code { is_code state.now.part state.now.comments ≡ true }
+    requires calm { is_calm state.now.part state.now.comments ≡ true }
     requires place { state.now.at < length text.now }
     requires letter { is_letter (slice_index text.now state.now.at) ≡ false }
     requires digit { is_in Class.Digit (slice_index text.now state.now.at) ≡ false }
@@ -110,9 +118,10 @@ fn sign(text: &[u8], state: &State) -> Option<Short>
     }
 }
 
+// What begins here by a byte that seldom does.
 #[inline(always)]
-fn string(text: &[u8], state: &State) -> Option<Quick>
-    requires code { is_code state.now.part state.now.comments ≡ true }
+fn seldom(text: &[u8], state: &State) -> Option<Quick>
+    requires calm { is_calm state.now.part state.now.comments ≡ true }
     requires place { state.now.at < length text.now }
     requires letter { is_letter (slice_index text.now state.now.at) ≡ false }
     requires digit { is_in Class.Digit (slice_index text.now state.now.at) ≡ false }
@@ -122,7 +131,39 @@ fn string(text: &[u8], state: &State) -> Option<Quick>
     if is_quote(byte) {
         return Some(Quick::Quoted(byte));
     }
+    if byte == b'|' {
+        return bar(text, state);
+    }
     None
+}
+
+// What a bar begins: the end of inner C text, or a sign.
+#[inline(always)]
+fn bar(text: &[u8], state: &State) -> Option<Quick>
+    requires calm { is_calm state.now.part state.now.comments ≡ true }
+    requires place { state.now.at < length text.now }
+    requires bar { slice_index text.now state.now.at ≡ 124 }
+    ensures { IfSome result (IsQuick text.now (where_of state.now) state.now.at) }
+{
+    let rest = from(text, state.at + 1);
+    if ends_inner(state, rest) {
+        return Some(Quick::EndOfInner);
+    }
+    match sign_at(b'|', rest) {
+        Some(sign) => Some(Quick::Short(Short {
+            kind: TokKind::Sign(sign),
+            size: sign.size(),
+        })),
+        None => None,
+    }
+}
+
+// Whether a bar before these bytes ends inner C text.
+#[inline(always)]
+fn ends_inner(state: &State, rest: &[u8]) -> bool
+    ensures { result ≡ (ends_at_bar state.now.part state.now.comments && not (begins 124 rest.now)) }
+{
+    state.ends_at_bar() && !begins(b'|', rest)
 }
 
 /// Whether the byte begins a string.
@@ -133,12 +174,12 @@ pub(crate) fn is_quote(byte: u8) -> bool
     byte == b'"' || byte == 39
 }
 
-// Whether the byte begins no token but signs, where it begins a sign.
+// Whether the byte begins no token but signs, where it begins a sign and no include name is wanted.
 #[inline(always)]
 fn is_lone(byte: u8) -> bool
     ensures { result ≡ is_lone byte }
 {
-    !matches!(byte, b'/' | b'.' | b'<' | b'|' | b'#')
+    !matches!(byte, b'/' | b'.' | b'|' | b'#')
 }
 
 // The same of a byte with those behind it. A dot begins a constant before a digit.
@@ -163,19 +204,13 @@ fn begins_digit(bytes: &[u8]) -> bool
 #[inline(always)]
 pub(crate) fn give_short<'a>(text: &'a [u8], state: &mut State, short: Short) -> Lexed<'a>
     requires ready { IsReady text.now state.old }
-    requires quiet { state.old.pending ≡ no_notes }
+    requires calm { IsCalm state.old }
     requires short { IsShort text.now (where_of state.old) state.old.at short }
     ensures gives { Gives (coming text.now state.old) result (coming text.now state.new) }
     ensures ready { IsReady text.now state.new }
+    ensures calm { IsCalm state.new }
 {
-    let token = token(
-        text,
-        state.at,
-        short.size,
-        short.kind,
-        state.part.in_hash_line(),
-    );
+    let token = token(text, state.at, short.size, short.kind, false);
     state.at += short.size;
-    state.part.pass();
     Lexed::Token(token)
 }

@@ -3,6 +3,7 @@ ghost use Rattle.std.specs.Prelude.{◌≡◌, true, false, []};
 ghost use Rattle.cw_rules.specs.Tokens.{takes_hash_line, ends_at_bar, may_head, effect_in};
 ghost use Rattle.cw_rules.specs.Tokens.{is_code, is_head_part};
 ghost use Rattle.cw_rules.specs.Effects.{stays};
+ghost use Rattle.cw_lex.specs.Calm.{is_calm_part, is_calm, IsCalm};
 
 use crate::Code;
 use crate::comments::Comments;
@@ -28,7 +29,58 @@ pub(crate) struct State {
     pub clear: Clear,
 }
 
+/// Where a scanner stands, and whether the text is calm there.
+#[derive(Drop)]
+pub(crate) struct Stand {
+    pub state: State,
+    /// No note is left and calm C text goes on. Its tokens leave that so.
+    pub calm: bool,
+}
+
+impl Stand {
+    /// The same for a state.
+    pub(crate) fn new(state: State) -> Stand
+        ensures same { result.state ≡ state }
+        ensures calm { result.calm ≡ true → IsCalm result.state }
+    {
+        let calm = state.is_calm();
+        Stand { state, calm }
+    }
+}
+
+// Whether a part is C text that stays as it is behind each token.
+fn is_calm_part(part: Part) -> bool
+    ensures { result ≡ is_calm_part part }
+{
+    matches!(
+        part,
+        Part::Plain {
+            hash_line: false,
+            include: false,
+        } | Part::Definition
+            | Part::TexInner
+            | Part::Inner
+    )
+}
+
 impl State {
+    /// Whether no note is left and calm C text goes on.
+    pub(crate) fn is_calm(&self) -> bool
+        ensures { result ≡ true → IsCalm self.now }
+    {
+        self.is_calm_text() && self.pending.is_quiet()
+    }
+
+    // Whether C text goes on that stays as it is behind each token, and in which a line's end ends nothing.
+    fn is_calm_text(&self) -> bool
+        ensures { result ≡ is_calm self.now.part self.now.comments }
+    {
+        match self.comments.top() {
+            Some(comment) => is_calm_part(self.part) && comment.inner && comment.long,
+            None => is_calm_part(self.part),
+        }
+    }
+
     /// Whether C text goes on.
     pub(crate) fn is_code(&self) -> bool
         ensures { result ≡ is_code self.now.part self.now.comments }
