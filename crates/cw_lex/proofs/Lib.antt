@@ -10,6 +10,7 @@ pub mod White
 pub mod HeadSpaces
 pub mod Calm
 pub mod ShortTokens
+pub mod TexRuns
 pub mod TokensWithin
 pub mod Covering
 mod Rows

@@ -1,10 +1,10 @@
 //! Limbo, TeX text, and the heads of definitions and C parts.
-ghost use Rattle.std.specs.Prelude.{◌≡◌, ◌+◌, ◌<◌, ◌&&◌, [], false, true, length, drop, slice_index};
+ghost use Rattle.std.specs.Prelude.{◌≡◌, ◌+◌, ◌<◌, ◌≤◌, ◌&&◌, [], false, true, length, drop, slice_index};
 ghost use Rattle.cw_rules.specs.Answers.{Gives};
 ghost use Rattle.cw_rules.specs.Tokens.{limbo_text, tex_text, head_text, macro_name, format_name, parameter};
 ghost use Rattle.cw_rules.specs.Tokens.{parameter_follows, is_name, is_head};
 ghost use Rattle.cw_rules.specs.Codes.{code_at};
-ghost use Rattle.cw_rules.specs.Bytes.{is_in, is_letter};
+ghost use Rattle.cw_rules.specs.Bytes.{is_in, is_letter, run};
 ghost use Rattle.cw_lex.specs.Coming.{where_of, coming, found_at, IsReady, CanStep};
 ghost use Rattle.cw_rules.specs.Cuttings.{bytes_at};
 
@@ -15,6 +15,7 @@ use cw_rules::classes::{Class, begins, from, is_letter, run};
 use cw_rules::codes::Effect;
 use cw_rules::cuttings::{alone, code_token, dropped, dropped_code, is_head, plain};
 use cw_rules::parts::Part;
+use memchr::memchr2;
 
 /// Limbo.
 pub(crate) fn limbo_text<'a>(text: &'a [u8], state: &mut State) -> Lexed<'a>
@@ -65,7 +66,7 @@ pub(crate) fn tex_text<'a>(text: &'a [u8], state: &mut State) -> Lexed<'a>
         return begin_tex_inner(text, state);
     }
     if text[at] != b'@' {
-        let size = run(Class::TexText, from(text, at));
+        let size = tex_size(from(text, at));
         return give(text, state, part, false, plain(TokKind::Text, size));
     }
     let code = Code::at(from(text, at + 1));
@@ -98,6 +99,17 @@ pub(crate) fn tex_text<'a>(text: &'a [u8], state: &mut State) -> Lexed<'a>
             };
             give(text, state, next, false, plain(TokKind::Code(code), 2))
         }
+    }
+}
+
+// How many bytes stand before the first `@` or bar.
+fn tex_size(bytes: &[u8]) -> usize
+    ensures value { result ≡ run Class.TexText bytes.now }
+    ensures within { result ≤ length bytes.now }
+{
+    match memchr2(b'@', b'|', bytes) {
+        Some(size) => size,
+        None => bytes.len(),
     }
 }
 
