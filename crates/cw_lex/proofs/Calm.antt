@@ -1,15 +1,16 @@
 -- What holds of calm C text, and of its white space.
-use Rattle.std.proofs.Common.{◌≡◌, ℕ, ◌+◌, ◌<◌, Bool, true, false, true≢false, not, ◌&&◌, ◌||◌, ◌==◌, List, [], ◌∷◌, ◌++◌, slice_index, drop, refl, sym, ap, ◌∙◌, if◌then◌else◌}
+use Rattle.std.proofs.Common.{◌≡◌, ℕ, ◌+◌, Bool, true, false, true≢false, not, ◌&&◌, ◌||◌, ◌==◌, List, [], ◌∷◌, ◌++◌, slice_index, drop, refl, sym, ap, ◌∙◌, if◌then◌else◌, ◌-◌, length, arith}
+use Rattle.std.proofs.lemmas.List.{drop_all}
 use Rattle.cw_rules.specs.declared.classes.Class.TheVariants as classes
 use Rattle.cw_rules.specs.declared.parts.Part.{Part}
 use Rattle.cw_rules.specs.declared.parts.Part.TheVariants as parts
 use Rattle.cw_rules.specs.declared.parts.Opened.{Opened}
-use Rattle.cw_rules.specs.Answers.{Where, note_answers}
+use Rattle.cw_rules.specs.Answers.{note_answers}
 use Rattle.cw_rules.specs.Bytes.{is_in, run, begins}
 use Rattle.cw_rules.specs.Pending.{pending_notes}
-use Rattle.cw_rules.specs.Tokens.{is_code, is_code_part, is_space, in_hash_line, behind_include, passed}
+use Rattle.cw_rules.specs.Tokens.{is_code, is_code_part, is_space, in_hash_line, behind_include, passed, ends_at_bar, part_cut, all_cut}
 use Rattle.cw_lex.specs.declared.state.State.{State}
-use Rattle.cw_lex.specs.Lexing.{answers_at, last_at}
+use Rattle.cw_lex.specs.Lexing.{answers, answers_at, fresh_at, last_at}
 use Rattle.cw_lex.specs.Coming.{where_of, coming, ends_line, is_white_here}
 use Rattle.cw_lex.specs.Calm.{is_calm_part, is_calm}
 use Rattle.cw_lex.proofs.White.{white-found}
@@ -74,3 +75,33 @@ calm-coming text s size calm e =
     (skip-run text (where_of s) s.at size (λ p low high.
     let here = run-byte classes.White text s.at size p e low high in
     (here.0, white-found text s.part s.comments p (calm-code s.part s.comments calm) (calm-space s.part s.comments (last_at text p) (slice_index text p) (drop (p + 1) text) calm here.1))))
+
+-- at the end of the text nothing is open but inner C text, which a bar ends
+bar-around : (part : Part) (c : Opened) (comments : List Opened) → ends_at_bar part (c ∷ comments) ≡ true
+bar-around parts.TexInner c comments = refl
+bar-around _ c comments = refl
+
+part-uncut : (part : Part) (place about : ℕ) → is_calm_part part ≡ true → ends_at_bar part [] ≡ false → part_cut part place about ≡ []
+part-uncut parts.TexInner place about h e = absurd (true≢false e)
+part-uncut parts.Limbo place about h e = refl
+part-uncut parts.Tex place about h e = refl
+part-uncut parts.Begin place about h e = refl
+part-uncut (parts.Plain hash_line include) place about h e = refl
+part-uncut parts.Definition place about h e = refl
+part-uncut parts.Inner place about h e = refl
+part-uncut parts.Head place about h e = refl
+part-uncut (parts.MacroName code) place about h e = absurd (true≢false (sym h))
+part-uncut (parts.MacroParen code) place about h e = absurd (true≢false (sym h))
+part-uncut (parts.Parameters code) place about h e = absurd (true≢false (sym h))
+part-uncut (parts.FormatName code second limbo) place about h e = absurd (true≢false (sym h))
+
+calm-uncut : (part : Part) (comments : List Opened) (place about : ℕ) → is_calm part comments ≡ true → ends_at_bar part comments ≡ false
+    → all_cut part comments place about ≡ []
+calm-uncut part [] place about h e = part-uncut part place about h e
+calm-uncut part (c ∷ comments) place about h e = absurd (true≢false (sym (bar-around part c comments) ∙ e))
+
+pub calm-end : (text : List ℕ) (part : Part) (comments : List Opened) (place : ℕ) → is_calm part comments ≡ true → place ≡ length text
+    → ends_at_bar part comments ≡ false → answers_at text (record { part = part; comments = comments }) place ≡ []
+calm-end text part comments place calm end e =
+    ap (λ bs. answers bs (record { part = part; comments = comments }) (fresh_at text place) (last_at text place) place 0) (drop_all place text (omega (arith, end)))
+    ∙ calm-uncut part comments place (place - 1) calm e

@@ -1,5 +1,5 @@
 -- The quick tokens of C text.
-use Rattle.std.specs.Prelude.{◌≡◌, ℕ, ◌+◌, ◌<◌, ◌≤◌, Bool, not, ◌&&◌, ◌||◌, ◌==◌, List, length}
+use Rattle.std.specs.Prelude.{◌≡◌, ℕ, ◌+◌, ◌<◌, ◌≤◌, Bool, not, ◌&&◌, ◌||◌, ◌==◌, List, [], length}
 use Rattle.cw_rules.specs.declared.classes.Class.TheVariants.{Digit}
 use Rattle.cw_rules.specs.declared.parts.Start.TheVariants as start
 use Rattle.cw_lex.specs.declared.short.Short.{Short}
@@ -9,6 +9,7 @@ use Rattle.cw_rules.specs.Bytes.{begins_by, is_in, quote, hash, apostrophe, dot,
 use Rattle.cw_rules.specs.Answers.{Where, plain}
 use Rattle.cw_rules.specs.Tokens.{one, moved, passed, in_hash_line, in_code, inner_end}
 use Rattle.cw_lex.specs.Coming.{found_at}
+use Rattle.cw_lex.specs.Lexing.{answers_at}
 use Rattle.cw_rules.specs.Cuttings.{bytes_at}
 
 -- A token without notes begins at a place, behind which the C text goes on as it does.
@@ -39,6 +40,7 @@ abbrev pub IsQuick : List ℕ → Where → ℕ → Quick → Type 0
 IsQuick text w place (quick.Short short) = IsShort text w place short
 IsQuick text w place (quick.Quoted quote) = BeginsString text w place quote
 IsQuick text w place quick.EndOfInner = EndsInner text w place
+IsQuick text w place quick.End = answers_at text w place ≡ []
 
 -- a byte that begins a string
 abbrev pub is_quote : ℕ → Bool

@@ -117,6 +117,7 @@ fn advance<'a>(text: &'a [u8], stand: &mut Stand) -> Lexed<'a>
         Some(Quick::Short(short)) => give_short(text, &mut stand.state, short),
         Some(Quick::Quoted(quote)) => string_answer(text, stand, quote),
         Some(Quick::EndOfInner) => end_answer(text, stand),
+        Some(Quick::End) => Lexed::End,
         None => other_answer(text, stand),
     }
 }

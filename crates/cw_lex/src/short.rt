@@ -1,5 +1,5 @@
 //! The quick tokens of C text, of which most of it consists.
-ghost use Rattle.std.specs.Prelude.{◌≡◌, ◌<◌, true, false, not, ◌&&◌, length, slice_index, IfSome};
+ghost use Rattle.std.specs.Prelude.{◌≡◌, ◌<◌, ◌≤◌, true, false, not, ◌&&◌, length, slice_index, IfSome};
 ghost use Rattle.cw_rules.specs.Answers.{Gives};
 ghost use Rattle.cw_rules.specs.Bytes.{begins, begins_by, is_in, is_letter};
 ghost use Rattle.cw_rules.specs.Tokens.{ends_at_bar};
@@ -29,16 +29,19 @@ pub(crate) enum Quick {
     Quoted(u8),
     /// The bar that ends inner C text.
     EndOfInner,
+    /// The end of the text, where nothing is open.
+    End,
 }
 
 /// The quick token that begins here. None is said of tokens for which more has to be looked at.
 #[inline(always)]
 pub(crate) fn quick_at(text: &[u8], state: &State) -> Option<Quick>
     requires calm { is_calm state.now.part state.now.comments ≡ true }
+    requires within { state.now.at ≤ length text.now }
     ensures { IfSome result (IsQuick text.now (where_of state.now) state.now.at) }
 {
     if state.at >= text.len() {
-        return None;
+        return end(text, state);
     }
     let byte = text[state.at];
     if is_word(byte) {
@@ -48,6 +51,19 @@ pub(crate) fn quick_at(text: &[u8], state: &State) -> Option<Quick>
         Some(short) => Some(Quick::Short(short)),
         None => seldom(text, state),
     }
+}
+
+// The end of the text, where it ends no inner C text.
+#[inline(always)]
+fn end(text: &[u8], state: &State) -> Option<Quick>
+    requires calm { is_calm state.now.part state.now.comments ≡ true }
+    requires end { state.now.at ≡ length text.now }
+    ensures { IfSome result (IsQuick text.now (where_of state.now) state.now.at) }
+{
+    if state.ends_at_bar() {
+        return None;
+    }
+    Some(Quick::End)
 }
 
 // An identifier or a constant.
