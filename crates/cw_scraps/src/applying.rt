@@ -114,14 +114,9 @@ impl ScrapLine {
                 self.apply_naming(&at_hand, names, marks, store, steps);
             }
             _ => {
-                let at_hand = AtHand {
-                    row: &row,
-                    place: production.place,
-                    flags: production.flags,
-                    underline,
-                    reserve,
-                };
-                self.apply_marking(&at_hand, names, marks, store, steps);
+                // A copy, so that no other production needs a place in memory.
+                let production = *production;
+                self.apply_marking(&production, names, marks, store, steps);
             }
         }
     }
@@ -130,25 +125,32 @@ impl ScrapLine {
     #[inline(never)]
     fn apply_marking<L: Ledger>(
         &mut self,
-        production: &AtHand,
+        production: &Production,
         names: &mut Names,
         marks: &mut Marks,
         store: &mut TokenStore,
         steps: &mut Steps<L>,
     )
-        requires underline { production.now.underline ≡ production.now.row.now.action.underline }
-        requires reserve { production.now.reserve ≡ production.now.row.now.action.reserve }
-        requires row { row_is_sound production.now.row.now ≡ true }
-        requires fits { row_fits production.now.row.now
+        requires from_one { 1 ≤ production.now.row.number }
+        requires to_last { production.now.row.number ≤ ROW_COUNT }
+        requires fits { row_fits (row_of productions production.now.row.number)
             (drop production.now.place (cats_of (scraps_of store.old.lists self.old))) ≡ true }
         requires sound { IsSoundLine store.old names.old self.old }
         requires room { PRODUCTION_TOKENS ≤ store.old.spare }
         requires free { 0 < marks.old.spare }
-        ensures { IsApplied production.now.flags.now production.now.row.now production.now.place
+        ensures { IsApplied production.now.flags.now (row_of productions production.now.row.number) production.now.place
             (work store.old self.old marks.old names.old steps.old)
             (work store.new self.new marks.new names.new steps.new) }
     {
-        self.apply_naming(production, names, marks, store, steps);
+        let row = RowAtHand::of(production.row);
+        let at_hand = AtHand {
+            row: &row,
+            place: production.place,
+            flags: production.flags,
+            underline: row.underline(),
+            reserve: row.reserve(),
+        };
+        self.apply_naming(&at_hand, names, marks, store, steps);
     }
 
     /// The same, where the two scraps that the row names are given: of a row that names none no more is

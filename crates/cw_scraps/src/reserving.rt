@@ -100,6 +100,7 @@ fn reserve_bare(
 
 /// Turns the scraps from a place on into types that are exactly an identifier of this name. It counts
 /// one step for each.
+#[inline(never)]
 pub fn reserve_right<L: Ledger>(
     line: &mut ScrapLine,
     start: usize,
@@ -138,6 +139,7 @@ pub struct Turning {
 }
 
 /// The same, where the row names a scrap; else nothing changes.
+#[inline(always)]
 pub fn turn_right<L: Ledger>(
     line: &mut ScrapLine,
     start: usize,

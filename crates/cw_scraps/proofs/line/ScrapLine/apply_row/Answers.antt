@@ -3,6 +3,3 @@ use Rattle.cw_scraps.proofs.line.ScrapLine.apply_row.Goals as goal
 
 pub apply_naming-requires-clause-fits : goal.apply_naming-requires-clause-fits
 apply_naming-requires-clause-fits g c = rw c.of-row.ensures.row c.requires.fits
-
-pub apply_marking-requires-clause-fits : goal.apply_marking-requires-clause-fits
-apply_marking-requires-clause-fits g c = rw c.of-row.ensures.row c.requires.fits
