@@ -16,6 +16,7 @@ use Rattle.cw_lines.specs.WritesLaws.{adds-nothing, puts-bytes, puts-failed, put
 use Rattle.cw_lines.specs.declared.put_error.PutError.{PutError}
 use Rattle.cw_lines.specs.declared.put_error.PutError.TheVariants.{Memory}
 use Rattle.cw_join.specs.Early.{added, depth_behind, early, late}
+use Rattle.cw_join.specs.Standing.{Stands}
 use Rattle.cw_join.specs.Tokens.{CanCome, alone}
 use Rattle.cw_join.proofs.EarlyLaws.{added-behind, early-added, printed-is}
 use Rattle.cw_join.proofs.PrintedLaws.{printed-list}
@@ -24,6 +25,7 @@ use Rattle.cw_print.specs.Coming.{AllMay, MayCome}
 use Rattle.cw_print.specs.Printing.{IsBehind, shown, shown_next}
 use Rattle.cw_print.specs.Sources.{titles}
 use Rattle.cw_print.specs.Walk.{Source, Title, items_shown, outside, own_bytes, placed_shown, stand_after, title_in}
+use Rattle.cw_print.specs.Walked.{Walked, behind}
 use Rattle.cw_print.proofs.ComingLaws.{can-come, opened-most}
 use Rattle.cw_print.proofs.ShownLaws.{own-alone, placed-run, shown-append, stand-more}
 
@@ -97,6 +99,20 @@ module _ (s : Source) (inner : Bool) (items : List Item) (printer : Printer) (b 
   pub next-stand : (placed_shown printer.walk.fixed title (item_is item) printer.walk.stand).stand ≡ stand_after s (items ++ item_is item ∷ []) outside
   next-stand =
       (λ i. (placed_shown (b.fixed i) (same-title i) (item_is item) (b.stand i)).stand) ∙ sym (stand-more s items (item_is item) outside)
+
+  -- the printer stands behind it where its walk and its joiner do
+  pub next-behind : (next : Printer) → titles next.book.now ≡ s.titles → next.book.now.names ≡ s.names
+      → next.walk ≡ behind printer.walk (placed_shown printer.walk.fixed title (item_is item) printer.walk.stand)
+      → next.joiner.inner ≡ printer.joiner.inner → Stands next.joiner (shown s items ++ shown_next s items (item_is item) ∷ [])
+      → IsBehind s inner (items ++ item_is item ∷ []) next
+  next-behind next same_titles same_names walk same_inner stands = record {
+    titles = same_titles;
+    names = same_names;
+    fixed = ap (λ (w : Walked). w.fixed) walk ∙ b.fixed;
+    stand = ap (λ (w : Walked). w.stand) walk ∙ next-stand;
+    same_inner = same_inner ∙ b.same_inner;
+    stands = subst (λ (ps : List Printable). Stands next.joiner ps) (sym (shown-more s items (item_is item))) stands;
+  }
 
 -- ## First parts
 

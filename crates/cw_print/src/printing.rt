@@ -2,9 +2,10 @@
 ghost use Rattle.std.specs.Prelude.{◌≡◌, ◌&&◌, ◌≤◌, ◌<◌, ◌++◌, Bool, List, [], ◌∷◌, IfOk, IfSome, OnOk, false, length};
 ghost use Rattle.cw_lex.specs.Lexing.{tokens_of};
 ghost use Rattle.cw_lex.specs.Nested.{begins_section_in};
-ghost use Rattle.cw_trees.specs.Flat.{Item};
+ghost use Rattle.cw_trees.specs.Flat.{Item, Open as open_item, Close as close_item};
 ghost use Rattle.cw_trees.specs.Printing.{ident_bytes, printed};
 ghost use Rattle.cw_tokens.specs.FlatItems.{item_is, items_are};
+ghost use Rattle.cw_tokens.specs.declared.flat.FlatItem.TheVariants.{Open, Close};
 ghost use Rattle.cw_tokens.specs.Shapes.{unfolded};
 ghost use Rattle.cw_scraps.specs.Lines.{IsNamedBelow};
 ghost use Rattle.cw_lines.specs.Writes.{CanWrite, Puts};
@@ -66,7 +67,8 @@ impl<'a> Printer<'a> {
         }
     }
 
-    // Appends what the next item prints behind those before it.
+    // Appends what the next item prints behind those before it. The kind of an item is asked for once: a name prints
+    // the same everywhere, and only tokens of the text and controls are told by where they stand.
     #[inline(always)]
     fn print(&mut self, item: FlatItem, buffer: &mut Bytes) -> Result<(), Memory>
         requires come { CanCome (length self.old.book.now.names) self.old.joiner.depth item }
@@ -77,29 +79,57 @@ impl<'a> Printer<'a> {
             → OnOk result (IsBehind s inner (items ++ item_is item ∷ []) self.new) }
     {
         match item {
-            FlatItem::Source(number) => self.print_one(FlatItem::Source(number), buffer),
-            FlatItem::Ident(name, number) => self.print_one(FlatItem::Ident(name, number), buffer),
-            FlatItem::Reserved(name, number) => {
-                self.print_one(FlatItem::Reserved(name, number), buffer)
+            FlatItem::Source(number) => {
+                self.joiner
+                    .append(FlatItem::Source(number), &self.book.names, buffer)?;
+                self.walk.show_source(buffer, number, self.book)
             }
-            FlatItem::Control(control) => self.print_one(FlatItem::Control(control), buffer),
-            FlatItem::Open => self.print_one(FlatItem::Open, buffer),
-            FlatItem::Close => self.print_one(FlatItem::Close, buffer),
+            FlatItem::Control(control) => {
+                self.joiner
+                    .append(FlatItem::Control(control), &self.book.names, buffer)?;
+                self.walk.show_control(buffer, control)
+            }
+            FlatItem::Ident(name, number) => {
+                self.joiner
+                    .append(FlatItem::Ident(name, number), &self.book.names, buffer)?;
+                Ok(())
+            }
+            FlatItem::Reserved(name, number) => {
+                self.joiner
+                    .append(FlatItem::Reserved(name, number), &self.book.names, buffer)?;
+                Ok(())
+            }
+            FlatItem::Open => self.open(buffer),
+            FlatItem::Close => self.close(buffer),
         }
     }
 
-    // The same, once for each kind of item, so that each is asked for its kind once.
-    #[inline(always)]
-    fn print_one(&mut self, item: FlatItem, buffer: &mut Bytes) -> Result<(), Memory>
-        requires come { CanCome (length self.old.book.now.names) self.old.joiner.depth item }
+    // The same of the beginning of an inner text. Few items are one.
+    #[inline(never)]
+    fn open(&mut self, buffer: &mut Bytes) -> Result<(), Memory>
+        requires come { CanCome (length self.old.book.now.names) self.old.joiner.depth Open }
         ensures bytes { (s : Source) (inner : Bool) (items : List Item) → IsBehind s inner items self.old
-            → OnOk result (buffer.new ≡ buffer.old
-            ++ added inner (shown s items) (shown_next s items (item_is item))) }
+            → OnOk result (buffer.new ≡ buffer.old ++ added inner (shown s items) (shown_next s items open_item)) }
         ensures behind { (s : Source) (inner : Bool) (items : List Item) → IsBehind s inner items self.old
-            → OnOk result (IsBehind s inner (items ++ item_is item ∷ []) self.new) }
+            → OnOk result (IsBehind s inner (items ++ open_item ∷ []) self.new) }
     {
-        self.joiner.append(item, &self.book.names, buffer)?;
-        self.walk.show(buffer, item, self.book)
+        self.joiner
+            .append(FlatItem::Open, &self.book.names, buffer)?;
+        self.walk.put_bracket(buffer, b"\\PB{")
+    }
+
+    // The same of its end.
+    #[inline(never)]
+    fn close(&mut self, buffer: &mut Bytes) -> Result<(), Memory>
+        requires come { CanCome (length self.old.book.now.names) self.old.joiner.depth Close }
+        ensures bytes { (s : Source) (inner : Bool) (items : List Item) → IsBehind s inner items self.old
+            → OnOk result (buffer.new ≡ buffer.old ++ added inner (shown s items) (shown_next s items close_item)) }
+        ensures behind { (s : Source) (inner : Bool) (items : List Item) → IsBehind s inner items self.old
+            → OnOk result (IsBehind s inner (items ++ close_item ∷ []) self.new) }
+    {
+        self.joiner
+            .append(FlatItem::Close, &self.book.names, buffer)?;
+        self.walk.put_bracket(buffer, b"}")
     }
 }
 

@@ -3,10 +3,8 @@ ghost use Rattle.std.specs.Prelude.{◌≡◌, ◌≤◌, ◌++◌, None, OnOk, 
 ghost use Rattle.cw_rules.specs.Answers.{seen};
 ghost use Rattle.cw_lex.specs.Lexing.{tokens_of};
 ghost use Rattle.cw_lex.specs.Nested.{until_section};
-ghost use Rattle.cw_tokens.specs.FlatItems.{item_is};
 ghost use Rattle.cw_print.specs.Sources.{titles};
-ghost use Rattle.cw_print.specs.Walk.{bracket, control_shown, is_name, named_shown, outside, placed_shown};
-ghost use Rattle.cw_print.specs.Walk.{source_shown, title_in};
+ghost use Rattle.cw_print.specs.Walk.{bracket, control_shown, is_name, named_shown, outside, source_shown};
 ghost use Rattle.cw_print.specs.Walked.{behind};
 
 use crate::book_titles::title_at;
@@ -18,7 +16,6 @@ use crate::showing::put_found;
 use cw_base::{Bytes, Memory, Span};
 use cw_lex::{Code, Mode, Tok, TokKind};
 use cw_phase1::Book;
-use cw_tokens::FlatItem;
 use cw_trees::Control;
 use std::alloc::Global;
 use std::marker::Model;
@@ -77,32 +74,14 @@ impl<'a> TextWalk<'a> {
         }
     }
 
-    /// Appends what the next item prints by where it stands; names, and signs that print the same everywhere, print
-    /// nothing here. A section name prints as the book keeps it.
+    /// Appends what a token of the text prints by where it stands. A section name prints as the book keeps it.
     #[inline(always)]
-    pub(crate) fn show(
+    pub(crate) fn show_source(
         &mut self,
         out: &mut Bytes,
-        item: FlatItem,
+        number: u32,
         book: &'a Book,
     ) -> Result<(), Memory>
-        ensures bytes { OnOk result (out.new ≡ out.old
-            ++ (placed_shown self.old.fixed (title_in (titles book.now) (item_is item)) (item_is item)
-            self.old.stand).bytes) }
-        ensures stand { OnOk result (self.new ≡ behind self.old
-            (placed_shown self.old.fixed (title_in (titles book.now) (item_is item)) (item_is item) self.old.stand)) }
-    {
-        match item {
-            FlatItem::Source(number) => self.show_source(out, number, book),
-            FlatItem::Control(control) => self.show_control(out, control),
-            FlatItem::Open => self.put_bracket(out, b"\\PB{"),
-            FlatItem::Close => self.put_bracket(out, b"}"),
-            FlatItem::Ident(..) | FlatItem::Reserved(..) => Ok(()),
-        }
-    }
-
-    #[inline(always)]
-    fn show_source(&mut self, out: &mut Bytes, number: u32, book: &'a Book) -> Result<(), Memory>
         ensures bytes { OnOk result (out.new ≡ out.old
             ++ (source_shown self.old.fixed (titles book.now number) self.old.stand.name number self.old.stand).bytes) }
         ensures stand { OnOk result (self.new ≡ behind self.old
@@ -133,8 +112,9 @@ impl<'a> TextWalk<'a> {
         Ok(())
     }
 
+    /// Appends what a control prints by where it stands; signs that print the same everywhere print nothing here.
     #[inline(always)]
-    fn show_control(&mut self, out: &mut Bytes, control: Control) -> Result<(), Memory>
+    pub(crate) fn show_control(&mut self, out: &mut Bytes, control: Control) -> Result<(), Memory>
         ensures bytes { OnOk result (out.new ≡ out.old ++ (control_shown control self.old.stand).bytes) }
         ensures stand { OnOk result (self.new ≡ behind self.old (control_shown control self.old.stand)) }
     {
@@ -157,7 +137,8 @@ impl<'a> TextWalk<'a> {
         }
     }
 
-    fn put_bracket(&self, out: &mut Bytes, bytes: &[u8]) -> Result<(), Memory>
+    /// Appends the bytes that stand before or behind an inner text, where these are wrapped.
+    pub(crate) fn put_bracket(&self, out: &mut Bytes, bytes: &[u8]) -> Result<(), Memory>
         ensures { OnOk result (out.new ≡ out.old ++ bracket self.now.fixed.wraps bytes.now) }
     {
         if self.manner.wraps {
