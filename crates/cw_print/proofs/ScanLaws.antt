@@ -1,5 +1,5 @@
 -- Of the tokens that a scan finds by their numbers.
-use Rattle.std.proofs.Common.{◌≡◌, ◌≢◌, ℕ, ◌==◌, false, List, arith}
+use Rattle.std.proofs.Common.{◌≡◌, ◌≢◌, ℕ, ◌==◌, ◌<◌, false, List, arith}
 use Rattle.cw_rules.specs.Answers.{Answer}
 use Rattle.cw_lex.specs.Nested.{until_section}
 use Rattle.cw_print.specs.Found.{numbered, IsAhead}
@@ -11,3 +11,4 @@ other n number l = grind arith
 pub record Passes (number first : ℕ) (old : List Answer) (now : ℕ) (new : List Answer) : Type 0 where
   pub found : numbered number (until_section new) ≡ numbered number (until_section old)
   pub ahead : (all : List Answer) → IsAhead all first (until_section old) → IsAhead all now (until_section new)
+  pub above : number < now

@@ -64,7 +64,7 @@ impl<'a> Scan<'a> {
             self.lexer = Lexer::over(self.text, self.span.start, self.span.end, self.mode);
             self.from = 0;
         }
-        let (found, from) = find_ahead(&mut self.lexer, self.from, number);
+        let (found, from) = find_ahead(&mut self.lexer, number);
         self.from = from;
         found
     }
@@ -78,30 +78,30 @@ fn is_section(kind: TokKind) -> bool
 
 // Goes on to the token of a number, and answers it and from which number on all lie ahead behind it.
 #[inline(always)]
-fn find_ahead<'a>(lexer: &mut Lexer<'a>, from: usize, number: usize) -> (Option<Tok<'a>>, usize)
-    requires order { from ≤ number }
+fn find_ahead<'a>(lexer: &mut Lexer<'a>, number: usize) -> (Option<Tok<'a>>, usize)
     requires number { number < 2 ^ 32 }
     ensures found { option_map seen result.0 ≡ numbered number (until_section lexer.old) }
-    ensures ahead { (all : List Answer) → IsAhead all from (until_section lexer.old)
+    ensures ahead { (all : List Answer) → IsAhead all number (until_section lexer.old)
         → IsAhead all result.1 (until_section lexer.new) }
 {
-    let mut passed = from;
+    // Tokens before that of the number hide no number behind it.
+    let mut passed = number + 1;
     loop {
         match lexer.next() {
             Lexed::Token(token) => {
                 if is_section(token.kind) {
                     return (None, usize::MAX);
                 }
-                passed = passed.max(token.span.start.saturating_add(1));
                 if token.span.start == number {
                     return (Some(token), passed);
                 }
+                passed = passed.max(token.span.start.saturating_add(1));
             }
             Lexed::Begin(token) => {
-                passed = passed.max(token.span.start.saturating_add(1));
                 if token.span.start == number {
                     return (Some(token), passed);
                 }
+                passed = passed.max(token.span.start.saturating_add(1));
             }
             Lexed::Finish(_) | Lexed::Note(..) => {}
             Lexed::End => return (None, passed),

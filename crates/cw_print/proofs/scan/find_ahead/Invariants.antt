@@ -4,7 +4,7 @@ use Rattle.cw_print.proofs.ScanLaws.{Passes}
 use Rattle.cw_print.proofs.scan.find_ahead.Given as goal
 
 abbrev pub invariant-loop-token : goal.invariant-loop-token
-invariant-loop-token l = Passes l.number l.from l.initial.lexer l.passed l.lexer
+invariant-loop-token l = Passes l.number l.number l.initial.lexer l.passed l.lexer
 
 abbrev pub decreases-loop-token : goal.decreases-loop-token
 decreases-loop-token l = length l.lexer
