@@ -52,20 +52,20 @@ pub and-yes : (a b : Bool) → a ≡ true → b ≡ true → (a && b) ≡ true
 and-yes true b h k = k
 and-yes false b h k = absurd (cc)
 
-ranges : (mark k : ℕ) → k < 2 ^ 64 → range_contains pair_cmp (Included (mark, 0)) (Included (mark, 2 ^ 64 - 1)) (mark, k) ≡ true
+ranges : (mark k : ℕ) → k < 2 ^ 32 → range_contains pair_cmp (Included (mark, 0)) (Included (mark, 2 ^ 32 - 1)) (mark, k) ≡ true
 ranges mark k h =
     let tied : nat_cmp mark mark ≡ Equal = tied_itself nat_cmp_total mark in
-    and-yes (is_le (pair_cmp (mark, 0) (mark, k))) (not (is_lt (pair_cmp (mark, 2 ^ 64 - 1) (mark, k))))
+    and-yes (is_le (pair_cmp (mark, 0) (mark, k))) (not (is_lt (pair_cmp (mark, 2 ^ 32 - 1) (mark, k))))
     (ap (λ o. is_le (ordering_then o (nat_cmp 0 k))) tied ∙ low-by (nat_cmp 0 k) 0 k (omega arith) (ranked 0 k (nat_cmp 0 k) refl))
-    (ap (λ o. not (is_lt (ordering_then o (nat_cmp (2 ^ 64 - 1) k)))) tied
-    ∙ high-by (nat_cmp (2 ^ 64 - 1) k) (2 ^ 64 - 1) k (omega arith) (ranked (2 ^ 64 - 1) k (nat_cmp (2 ^ 64 - 1) k) refl))
+    (ap (λ o. not (is_lt (ordering_then o (nat_cmp (2 ^ 32 - 1) k)))) tied
+    ∙ high-by (nat_cmp (2 ^ 32 - 1) k) (2 ^ 32 - 1) k (omega arith) (ranked (2 ^ 32 - 1) k (nat_cmp (2 ^ 32 - 1) k) refl))
 
-in-range : (mark k : ℕ) → k < 2 ^ 64 → (pair : ℕ × ℕ) → is_at (pair_cmp (mark, k)) pair ≡ true
-    → range_contains pair_cmp (Included (mark, 0)) (Included (mark, 2 ^ 64 - 1)) pair ≡ true
+in-range : (mark k : ℕ) → k < 2 ^ 32 → (pair : ℕ × ℕ) → is_at (pair_cmp (mark, k)) pair ≡ true
+    → range_contains pair_cmp (Included (mark, 0)) (Included (mark, 2 ^ 32 - 1)) pair ≡ true
 in-range mark k h pair at =
     let each : (mark ≡ pair.0) × (k ≡ pair.1) = parts mark k pair at in
     let same : (mark, k) ≡ pair = ap (λ (a : ℕ). (a, k)) each.0 ∙ ap (λ (b : ℕ). (pair.0, b)) each.1 in
-    subst (λ p. range_contains pair_cmp (Included (mark, 0)) (Included (mark, 2 ^ 64 - 1)) p ≡ true) same (ranges mark k h)
+    subst (λ p. range_contains pair_cmp (Included (mark, 0)) (Included (mark, 2 ^ 32 - 1)) p ≡ true) same (ranges mark k h)
 
 pub or-yes : (a b : Bool) → (a || b) ≡ true → (a ≡ true) ⊎ (b ≡ true)
 or-yes true b h = inl refl
@@ -80,10 +80,10 @@ in-map mark k (pair ∷ pairs) h = elim (or-yes (is_at (pair_cmp (mark, k)) pair
   | inr later ↦ one-right (pair.1 == k) (is_in k (map (λ p. p.1) pairs)) (in-map mark k pairs later)
 ]
 
-pub is-at : (set : BTreeSet (ℕ × ℕ)) (mark k : ℕ) → k < 2 ^ 64 → Has set mark k → is_in k (positions_at mark set) ≡ true
+pub is-at : (set : BTreeSet (ℕ × ℕ)) (mark k : ℕ) → k < 2 ^ 32 → Has set mark k → is_in k (positions_at mark set) ≡ true
 is-at set mark k small h =
     in-map mark k _
-    (any-filter_same (is_at (pair_cmp (mark, k))) (range_contains pair_cmp (Included (mark, 0)) (Included (mark, 2 ^ 64 - 1))) true (in-range mark k small) set.keys ∙ h)
+    (any-filter_same (is_at (pair_cmp (mark, k))) (range_contains pair_cmp (Included (mark, 0)) (Included (mark, 2 ^ 32 - 1))) true (in-range mark k small) set.keys ∙ h)
 
 pub in-left : (k : ℕ) (xs ys : List ℕ) → is_in k xs ≡ true → is_in k (xs ++ ys) ≡ true
 in-left k xs ys h = list_any-append (λ other. other == k) xs ys ∙ one-left (is_in k xs) (is_in k ys) h
@@ -308,7 +308,7 @@ enter-more old marks more kind text k count mark new d e h byte shortest wholes 
       starts = starts-more marks more kind text k count mark grows e.starts (λ kept. subst (λ m. Has more.starts m k) is (has kept));
     }
 
-pub enter-last : (old marks more : Marks) (kind : SecKind) (text : List ℕ) (k count mark : ℕ) → k < 2 ^ 64 → more.shortest ≤ length text → Marking old marks kind text k count mark
+pub enter-last : (old marks more : Marks) (kind : SecKind) (text : List ℕ) (k count mark : ℕ) → k < 2 ^ 32 → more.shortest ≤ length text → Marking old marks kind text k count mark
     → length text ≤ count → HasAll marks.starts more.starts → Has more.wholes mark k → IsMarked more kind text k
 enter-last old marks more kind text k count mark small long e end grows has = record {
   small = small;

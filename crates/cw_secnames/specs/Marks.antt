@@ -16,7 +16,7 @@ first_mark Named = 0
 first_mark File = 1
 
 unfoldable pub next_mark : ℕ → ℕ → ℕ
-next_mark mark byte = (((mark + (byte + 1)) % 2 ^ 64) * 11400714819323198485) % 2 ^ 64
+next_mark mark byte = (((mark + (byte + 1)) % 2 ^ 32) * 2654435769) % 2 ^ 32
 
 abbrev pub mark_from : ℕ → List ℕ → ℕ
 mark_from mark [] = mark
@@ -50,7 +50,7 @@ HasAll set more = (mark k : ℕ) → Has set mark k → Has more mark k
 
 -- the positions under a mark
 abbrev pub positions_at : ℕ → BTreeSet (ℕ × ℕ) → List ℕ
-positions_at mark set = map (λ pair. pair.1) (keys_between pair_cmp (Included (mark, 0)) (Included (mark, 2 ^ 64 - 1)) set)
+positions_at mark set = map (λ pair. pair.1) (keys_between pair_cmp (Included (mark, 0)) (Included (mark, 2 ^ 32 - 1)) set)
 
 -- those of whole texts of so many bytes, where some name is as short
 abbrev pub wholes_at : Marks → ℕ → ℕ → List ℕ
@@ -61,7 +61,7 @@ is_in k positions = list_any (λ other. other == k) positions
 
 -- A name of this kind and text is found by its marks.
 pub record IsMarked (marks : Marks) (kind : SecKind) (text : List ℕ) (k : ℕ) : Type 0 where
-  pub small : k < 2 ^ 64
+  pub small : k < 2 ^ 32
   pub long : marks.shortest ≤ length text
   pub whole : Has marks.wholes (mark_of kind text) k
   pub starts : (count : ℕ) → count ≤ length text → is_kept_length count ≡ true → Has marks.starts (mark_of kind (take count text)) k

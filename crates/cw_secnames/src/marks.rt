@@ -28,15 +28,15 @@ use std::collections::BTreeSet;
 #[derive(Drop)]
 pub(crate) struct Marks {
     // The mark of each name's whole text.
-    wholes: BTreeSet<(u64, usize)>,
+    wholes: BTreeSet<(u32, u32)>,
     // The marks of what each name's text begins with.
-    starts: BTreeSet<(u64, usize)>,
+    starts: BTreeSet<(u32, u32)>,
     // No name's text has fewer bytes.
     shortest: usize,
     alloc: Global,
 }
 
-fn first_mark(kind: SecKind) -> u64
+fn first_mark(kind: SecKind) -> u32
     ensures { result ≡ first_mark kind }
 {
     match kind {
@@ -45,13 +45,13 @@ fn first_mark(kind: SecKind) -> u64
     }
 }
 
-// A factor that spreads the marks: an odd number near 2^64 divided by the golden ratio.
+// A factor that spreads the marks: an odd number near 2^32 divided by the golden ratio.
 #[tactic(auto, unfolding(crate::specs::Marks::next_mark))]
-fn next_mark(mark: u64, byte: u8) -> u64
+fn next_mark(mark: u32, byte: u8) -> u32
     ensures { result ≡ next_mark mark byte }
 {
-    mark.wrapping_add(u64::from(byte) + 1)
-        .wrapping_mul(11400714819323198485)
+    mark.wrapping_add(u32::from(byte) + 1)
+        .wrapping_mul(2654435769)
 }
 
 #[tactic(auto, unfolding(crate::specs::Marks::is_kept_length))]
@@ -69,7 +69,7 @@ fn is_kept_length(count: usize) -> bool
 }
 
 // A set keeps what it has, also where memory is wanted.
-fn put(set: &mut BTreeSet<(u64, usize)>, mark: u64, index: usize) -> Result<(), Memory>
+fn put(set: &mut BTreeSet<(u32, u32)>, mark: u32, index: u32) -> Result<(), Memory>
     ensures keeps { HasAll set.old set.new }
     ensures ok { OnOk result (Has set.new mark index) }
 {
@@ -79,10 +79,10 @@ fn put(set: &mut BTreeSet<(u64, usize)>, mark: u64, index: usize) -> Result<(), 
 
 // Puts a mark of what a name begins with, if its length is one of those that are kept.
 fn put_start(
-    set: &mut BTreeSet<(u64, usize)>,
+    set: &mut BTreeSet<(u32, u32)>,
     count: usize,
-    mark: u64,
-    index: usize,
+    mark: u32,
+    index: u32,
 ) -> Result<(), Memory>
     ensures keeps { HasAll set.old set.new }
     ensures ok { OnOk result (is_kept_length count ≡ true → Has set.new mark index) }
@@ -95,7 +95,7 @@ fn put_start(
 }
 
 // The last kept mark, after the mark of so many bytes.
-fn last_kept(count: usize, mark: u64, start: u64) -> u64
+fn last_kept(count: usize, mark: u32, start: u32) -> u32
     ensures { result ≡ last_kept count mark start }
 {
     if is_kept_length(count) { mark } else { start }
@@ -104,13 +104,13 @@ fn last_kept(count: usize, mark: u64, start: u64) -> u64
 // Adds the positions under a mark behind others.
 fn add_marked(
     positions: &mut Vec<usize>,
-    set: &BTreeSet<(u64, usize)>,
-    mark: u64,
+    set: &BTreeSet<(u32, u32)>,
+    mark: u32,
 ) -> Result<(), Memory>
     ensures { OnOk result (positions.new.items ≡ positions.old.items ++ positions_at mark set.now) }
 {
-    for pair in set.range((mark, 0)..=(mark, usize::MAX)) {
-        positions.push(pair.1)?;
+    for pair in set.range((mark, 0)..=(mark, u32::MAX)) {
+        positions.push(pair.1 as usize)?;
     }
     Ok(())
 }
@@ -125,8 +125,19 @@ impl Marks {
         }
     }
 
-    // Marks a name. What is marked stays so, also where memory is wanted.
+    // Marks a name. What is marked stays so, also where memory is wanted; it is for a position of more than 32 bits.
     pub(crate) fn enter(&mut self, kind: SecKind, text: &[u8], index: usize) -> Result<(), Memory>
+        ensures keeps { KeepsMarks self.old self.new }
+        ensures ok { OnOk result (IsMarked self.new kind text.now index) }
+    {
+        if index > 4294967295 {
+            return Err(Memory);
+        }
+        self.mark(kind, text, index as u32)
+    }
+
+    // The same at a position of 32 bits.
+    fn mark(&mut self, kind: SecKind, text: &[u8], index: u32) -> Result<(), Memory>
         ensures keeps { KeepsMarks self.old self.new }
         ensures ok { OnOk result (IsMarked self.new kind text.now index) }
     {
@@ -143,7 +154,7 @@ impl Marks {
 
     // Adds the positions of names whose text has so many bytes and this mark behind others. Nothing is looked for where
     // all names are longer.
-    fn add_wholes(&self, positions: &mut Vec<usize>, count: usize, mark: u64) -> Result<(), Memory>
+    fn add_wholes(&self, positions: &mut Vec<usize>, count: usize, mark: u32) -> Result<(), Memory>
         ensures { OnOk result (positions.new.items ≡ positions.old.items ++ wholes_at self.now count mark) }
     {
         if count < self.shortest {

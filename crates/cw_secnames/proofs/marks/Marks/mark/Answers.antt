@@ -1,7 +1,7 @@
 -- A name's marks, of one byte more at a time.
 use Rattle.std.proofs.Common.{◌≤◌, ◌≡◌, arith, refl, min, length, ℕ, ◌∙◌, sym}
 use Rattle.cw_secnames.proofs.Marked.{keeps-all, enter-first, enter-more, enter-last, no-more}
-use Rattle.cw_secnames.proofs.marks.Marks.enter.Goals as goal
+use Rattle.cw_secnames.proofs.marks.Marks.mark.Goals as goal
 
 pub returns-in_err-put_start-clause-keeps : goal.returns-in_err-put_start-clause-keeps
 returns-in_err-put_start-clause-keeps c = keeps-all _ _ (no-more _ _ _ c.min-self.ensures) (λ mark k h. h) c.put_start.ensures.keeps
