@@ -37,8 +37,8 @@ use std::marker::Model;
 #[derive(Drop)]
 pub(crate) struct Kept {
     kind: SecKind,
-    text: Vec<u8>,
     complete: bool,
+    text: Vec<u8>,
     defined: Vec<u32>,
     used: Vec<u32>,
     cited: Vec<u32>,
