@@ -1,10 +1,9 @@
 -- Entering a name looks at no references, and changes none.
-use Rattle.std.proofs.Common.{◌≡◌, ℕ, ◌+◌, ◌<◌, ◌==◌, Bool, true, false, List, [], ◌∷◌, ◌++◌, refl, arith}
+use Rattle.std.proofs.Common.{◌≡◌, ℕ, ◌+◌, ◌<◌, ◌==◌, Bool, true, false, List, [], ◌∷◌, refl, arith}
 use Rattle.std.specs.List.{filter}
 use Rattle.cw_secnames.specs.declared.kinds.RefKind.{RefKind}
 use Rattle.cw_secnames.specs.declared.kinds.RefKind.TheVariants.{Defined, Used, Cited}
 use Rattle.cw_secnames.specs.Kept.{SecName, Entering}
-use Rattle.cw_secnames.specs.declared.kinds.Earliest.TheVariants as earlies
 use Rattle.cw_secnames.specs.References.{Reference, is_of, sections_of, referred}
 
 -- All references are to names below a number.
