@@ -9,7 +9,7 @@ ghost use Rattle.cw_scraps.specs.Lines.{IsSoundLine};
 
 use cw_base::{Cat, Flags, Kept, MathMode, Memory, Span, Steps};
 use cw_lex::{Sign, Tok, TokKind};
-use cw_names::{EntryKind, Names};
+use cw_names::{EntryKind, NameId, Names};
 use cw_scraps::{Marks, ScrapLine, scrap_of};
 use cw_table::{ROW_COUNT, RowNo, first_production, table};
 use cw_tokens::{FlatItem, TokenStore};
@@ -478,50 +478,66 @@ fn last_item(
     Ok(last)
 }
 
+// The first place at which a line has another category than it should.
+fn first_other(line: &ScrapLine, cats: &[Cat]) -> Option<usize> {
+    let mut steps: Steps<Kept> = Steps::new();
+    for (i, cat) in cats.iter().enumerate() {
+        if line.cat_at(i, &mut steps) != *cat {
+            return Some(i);
+        }
+    }
+    None
+}
+
+// The last items of the scraps at three places.
+fn last_items(alloc: Global, bench: &Bench) -> Result<[Option<FlatItem>; 3], Memory>
+    requires sound { IsSoundLine bench.now.store bench.now.names bench.now.line }
+{
+    let left = last_item(alloc, &bench.line, 0, &bench.store, &bench.names)?;
+    let made = last_item(alloc, &bench.line, 1, &bench.store, &bench.names)?;
+    let right = last_item(alloc, &bench.line, 3, &bench.store, &bench.names)?;
+    Ok([left, made, right])
+}
+
+// Whether a name is a type, and the only one that was underlined.
+fn is_marked_type(bench: &Bench, name: NameId) -> bool
+    requires { name.index < length bench.now.names }
+{
+    let marks = &bench.marks;
+    marks.len() == 1 && marks.name(0) == name && bench.names.category(name) == Cat::RawInt
+}
+
 // `a struct a; a b`, and the declaration of a structure `a` in it: to its right each bare `a` is a type from now on.
 #[test]
 fn reserving_turns_scraps_to_the_right_alone(rt: HostRuntime) -> Result<(), Fail> {
     let alloc = rt.alloc();
     let mut bench = bench_of(alloc, &[Cat::Exp, Cat::Exp, Cat::StructLike, Cat::Semi])?;
-    let flags = Flags::start();
     add_words(
         b"acadab",
         &mut bench.line,
         &mut bench.store,
         &mut bench.names,
     )?;
-    let row = produce(&mut bench, 1, &flags)?;
-    let Bench {
-        line,
-        store,
-        mut names,
-        marks,
-        mut steps,
-    } = bench;
-    assert_eq!(rt; row, 41);
-    assert_eq!(rt; steps.count(), 7);
-    let left = last_item(alloc, &line, 0, &store, &names)?;
-    let made = last_item(alloc, &line, 1, &store, &names)?;
-    let right = last_item(alloc, &line, 3, &store, &names)?;
-    let name = names.find_or_add(EntryKind::Ident, b"a")?;
-    assert!(rt; left == Some(FlatItem::Ident(name, 0)));
-    assert!(rt; made == Some(FlatItem::Reserved(name, 2)));
-    assert!(rt; right == Some(FlatItem::Reserved(name, 4)));
-    assert!(rt; marks.len() == 1 && marks.name(0) == name);
-    assert!(rt; names.category(name) == Cat::RawInt);
-    for (i, cat) in [
+    let row = produce(&mut bench, 1, &Flags::start())?;
+    assert_eq!(rt; (row, bench.steps.count()), (41, 7));
+    let items = last_items(alloc, &bench)?;
+    let name = bench.names.find_or_add(EntryKind::Ident, b"a")?;
+    let wanted = [
+        FlatItem::Ident(name, 0),
+        FlatItem::Reserved(name, 2),
+        FlatItem::Reserved(name, 4),
+    ];
+    assert!(rt; items == wanted.map(Some));
+    assert!(rt; is_marked_type(&bench, name));
+    let cats = [
         Cat::Exp,
         Cat::DeclHead,
         Cat::Semi,
         Cat::RawInt,
         Cat::Exp,
         Cat::End,
-    ]
-    .iter()
-    .enumerate()
-    {
-        assert!(rt; line.cat_at(i, &mut steps) == *cat, "scrap {i}");
-    }
+    ];
+    assert_eq!(rt; first_other(&bench.line, &cats), None);
     Ok(())
 }
 
@@ -536,32 +552,33 @@ fn add_block(line: &mut ScrapLine, store: &mut TokenStore, names: &mut Names) ->
     add(TokKind::Sign(Sign::RightBrace), b'}', 3, line, store, names)
 }
 
+// Does the two productions of a block, and tells their rows and what the second took of the spare.
+fn produce_block(bench: &mut Bench) -> Result<(u8, u8, usize), Memory>
+    requires sound { IsSoundLine bench.old.store bench.old.names bench.old.line }
+    ensures sound { OnOk result (IsSoundLine bench.new.store bench.new.names bench.new.line) }
+{
+    let flags = Flags::start();
+    let statement = produce(bench, 1, &flags)?;
+    bench.store.reserve(24)?;
+    let room = bench.store.spare();
+    let block = produce(bench, 0, &flags)?;
+    Ok((statement, block, room.saturating_sub(bench.store.spare())))
+}
+
 // Its statement and then the block: one list of ten tokens, four toggles between them and its beginning take fifteen of
 // the spare.
 #[test]
 fn a_block_takes_one_list_with_toggles_between_its_pieces(rt: HostRuntime) -> Result<(), Fail> {
     let alloc = rt.alloc();
     let mut bench = bench_of(alloc, &[])?;
-    let flags = Flags::start();
     add_block(&mut bench.line, &mut bench.store, &mut bench.names)?;
-    let statement = produce(&mut bench, 1, &flags)?;
-    bench.store.reserve(24)?;
-    let room = bench.store.spare();
-    let block = produce(&mut bench, 0, &flags)?;
-    let Bench {
-        line,
-        store,
-        names,
-        ..
-    } = bench;
-    assert_eq!(rt; statement, 8);
-    assert_eq!(rt; block, 50);
-    assert_eq!(rt; room.saturating_sub(store.spare()), 15);
-    let bytes = translation(alloc, &line, 0, &store, &names)?;
+    assert_eq!(rt; produce_block(&mut bench)?, (8, 50, 15));
+    let bytes = translation(alloc, &bench.line, 0, &bench.store, &bench.names)?;
     assert!(rt; bytes.as_slice() == b"F$0>#F12FU$3<#F".as_slice());
-    assert!(rt; line.len() == 1);
-    let part = line.part_at(0);
-    assert_eq!(rt; part.list.index, 5);
-    assert!(rt; part.left == MathMode::Text && part.right == MathMode::Text);
+    assert_eq!(rt; bench.line.len(), 1);
+    let part = bench.line.part_at(0);
+    assert!(rt;
+        part.list.index == 5 && part.left == MathMode::Text && part.right == MathMode::Text
+    );
     Ok(())
 }

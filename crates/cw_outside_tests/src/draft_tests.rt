@@ -65,33 +65,44 @@ fn new_path(rt: HostRuntime, name: &str) -> Result<String, Fail> {
     Ok(format!(in rt.alloc(); "{}/cw_desk-{now}-{name}", folder.as_str())?)
 }
 
+/// Whether a file has this text.
+fn has_text(rt: HostRuntime, path: &str, text: &[u8]) -> Result<bool, Fail> {
+    Ok(fs::read(&rt, path)?.as_slice() == text)
+}
+
+/// Drafts a text over a file: whether both calls succeed.
+fn drafts_text<D: Desk>(desk: &mut D, path: &str, text: &[u8]) -> bool {
+    desk.draft(Out::Tex, path.as_bytes()) == MadeOut::Done
+        && desk.put(Out::Tex, text) == Taken::Bytes(text.len())
+}
+
 #[test]
-fn drafts_of_real_files(rt: HostRuntime) -> Result<(), Fail> {
-    let path = new_path(rt, "a.tex")?;
+fn a_kept_file_keeps_its_time_stamp(rt: HostRuntime) -> Result<(), Fail> {
+    let path = new_path(rt, "kept.tex")?;
     let draft = format!(in rt.alloc(); "{path}.new")?;
     fs::write(&rt, path.as_str(), "old")?;
     let before = fs::metadata(&rt, path.as_str())?.modified()?;
     let mut desk = FileDesk::new_in(rt, rt.alloc());
-    assert_eq!(rt; desk.draft(Out::Tex, path.as_bytes()), MadeOut::Done);
-    assert_eq!(rt; desk.put(Out::Tex, b"old"), Taken::Bytes(3));
-    assert_eq!(rt;
-        fs::read(&rt, draft.as_str())?.as_slice(),
-        b"old".as_slice()
-    );
+    assert!(rt; drafts_text(&mut desk, path.as_str(), b"old"));
+    assert!(rt; has_text(rt, draft.as_str(), b"old")?);
     assert_eq!(rt; desk.keep(Out::Tex), MadeOut::Done);
     assert!(rt; !fs::exists(&rt, draft.as_str())?, "no draft stays behind");
-    assert!(rt;
-        fs::metadata(&rt, path.as_str())?.modified()? == before,
-        "the time stamp stays"
-    );
-    assert_eq!(rt; desk.draft(Out::Tex, path.as_bytes()), MadeOut::Done);
-    assert_eq!(rt; desk.put(Out::Tex, b"new text"), Taken::Bytes(8));
-    assert_eq!(rt; fs::read(&rt, path.as_str())?.as_slice(), b"old".as_slice());
+    let after = fs::metadata(&rt, path.as_str())?.modified()?;
+    fs::remove_file(&rt, path.as_str())?;
+    assert!(rt; after == before, "the time stamp stays");
+    Ok(())
+}
+
+#[test]
+fn a_replaced_file_is_the_draft(rt: HostRuntime) -> Result<(), Fail> {
+    let path = new_path(rt, "replaced.tex")?;
+    let draft = format!(in rt.alloc(); "{path}.new")?;
+    fs::write(&rt, path.as_str(), "old")?;
+    let mut desk = FileDesk::new_in(rt, rt.alloc());
+    assert!(rt; drafts_text(&mut desk, path.as_str(), b"new text"));
+    assert!(rt; has_text(rt, path.as_str(), b"old")?);
     assert_eq!(rt; desk.replace(Out::Tex), MadeOut::Done);
-    assert_eq!(rt;
-        fs::read(&rt, path.as_str())?.as_slice(),
-        b"new text".as_slice()
-    );
+    assert!(rt; has_text(rt, path.as_str(), b"new text")?);
     assert!(rt; !fs::exists(&rt, draft.as_str())?, "no draft stays behind");
     fs::remove_file(&rt, path.as_str())?;
     Ok(())
@@ -102,11 +113,16 @@ fn drafts_that_the_system_refuses(rt: HostRuntime) -> Result<(), Fail> {
     let path = new_path(rt, "b.tex")?;
     let draft = format!(in rt.alloc(); "{path}.new")?;
     let mut desk = FileDesk::new_in(rt, rt.alloc());
-    assert_eq!(rt; desk.draft(Out::Idx, b"/no/such/folder/b"), MadeOut::Failed);
-    assert_eq!(rt; desk.draft(Out::Idx, b"\xff"), MadeOut::Failed);
-    assert_eq!(rt; desk.draft(Out::Scn, path.as_bytes()), MadeOut::Done);
+    let drafted = [
+        desk.draft(Out::Idx, b"/no/such/folder/b"),
+        desk.draft(Out::Idx, b"\xff"),
+        desk.draft(Out::Scn, path.as_bytes()),
+    ];
+    assert_eq!(rt; drafted, [MadeOut::Failed, MadeOut::Failed, MadeOut::Done]);
     fs::remove_file(&rt, draft.as_str())?;
-    assert_eq!(rt; desk.keep(Out::Scn), MadeOut::Failed);
-    assert_eq!(rt; desk.replace(Out::Scn), MadeOut::Failed);
+    assert_eq!(rt;
+        [desk.keep(Out::Scn), desk.replace(Out::Scn)],
+        [MadeOut::Failed; 2]
+    );
     Ok(())
 }
