@@ -1,5 +1,6 @@
 //! Webs of one C part: the section and the index, with flag x and without.
-use crate::told;
+use crate::expectations::expect;
+use crate::{FOO, web_told};
 use cw_base::{Bytes, Memory};
 use std::alloc::Global;
 use std::test::Fail;
@@ -84,19 +85,22 @@ ${}\\}{}$ \\&{bar};\\6
     (b"a.b;", b"\\Y\\B$\\|a.\\|b;$\\par\n", b""),
 ];
 
+/// What a run over a section of this C part tells.
+fn part_told(alloc: Global, text: &[u8], words: &[&[u8]]) -> Result<Bytes, Memory> {
+    let mut web = Bytes::from_slice(alloc, b"@ @c ")?;
+    web.append(text)?;
+    web.push(b'\n')?;
+    web_told(alloc, web.as_slice(), &[], words)
+}
+
 #[test]
 fn each_section_and_its_index(rt: HostRuntime) -> Result<(), Fail> {
+    let no_index = b"-x".as_slice();
     for (text, section, index) in ROWS {
-        let mut web = Bytes::from_slice(rt.alloc(), b"@ @c ")?;
-        web.append(text)?;
-        web.push(b'\n')?;
-        let files = [(b"foo.w".as_slice(), web.as_slice())];
-        let seen = told(rt.alloc(), &[b"foo".as_slice()], &files)?;
-        let wanted = whole(rt.alloc(), section, index, true)?;
-        assert_eq!(rt; seen.as_slice(), wanted.as_slice());
-        let seen = told(rt.alloc(), &[b"-x".as_slice(), b"foo".as_slice()], &files)?;
-        let wanted = whole(rt.alloc(), section, index, false)?;
-        assert_eq!(rt; seen.as_slice(), wanted.as_slice());
+        let seen = part_told(rt.alloc(), text, &[FOO])?;
+        expect(&rt, &seen, &whole(rt.alloc(), section, index, true)?);
+        let seen = part_told(rt.alloc(), text, &[no_index, FOO])?;
+        expect(&rt, &seen, &whole(rt.alloc(), section, index, false)?);
     }
     Ok(())
 }

@@ -1,5 +1,6 @@
 //! Webs with change files that end too soon, and with changed sections in each place where a number stands.
-use crate::told;
+use crate::FOO;
+use crate::expectations::expect_told;
 use std::test::Fail;
 
 /// A change file, and what a run over the web of two statements tells with it.
@@ -55,8 +56,7 @@ fn changes_that_end_too_soon(rt: HostRuntime) -> Result<(), Fail> {
             (b"foo.w".as_slice(), b"@ One.\n@c a;\nb;\n".as_slice()),
             (b"foo.ch".as_slice(), change),
         ];
-        let seen = told(rt.alloc(), &[b"foo".as_slice(), b"foo".as_slice()], &files)?;
-        assert_eq!(rt; seen.as_slice(), wanted);
+        expect_told(&rt, rt.alloc(), &[FOO, FOO], &files, wanted)?;
     }
     Ok(())
 }
@@ -100,9 +100,11 @@ fn each_number_of_a_changed_section(rt: HostRuntime) -> Result<(), Fail> {
         (b"foo.w".as_slice(), MARKED_WEB),
         (b"foo.ch".as_slice(), MARKED_CHANGE),
     ];
-    let seen = told(rt.alloc(), &[b"foo".as_slice(), b"foo".as_slice()], &files)?;
-    assert_eq!(rt;
-        seen.as_slice(),
+    expect_told(
+        &rt,
+        rt.alloc(),
+        &[FOO, FOO],
+        &files,
         b"[term]This is CWEAVE (profile 2)
 Writing the output file...
 [tex] is foo.tex
@@ -144,8 +146,6 @@ new
 \\U3\\*.
 [term]Done.
 (No errors were found.)
-Clean"
-            .as_slice()
-    );
-    Ok(())
+Clean",
+    )
 }

@@ -1,7 +1,7 @@
 //! The steps of whole runs, by a ledger that keeps them, and the largest sample.
-use crate::{desk_with, told};
-use cw_base::{Exit, Kept, Steps, Words};
-use cw_weave::weave_command;
+use crate::expectations::expect_told;
+use crate::{FOO, steps_of, web_desk};
+use cw_base::Exit;
 use std::test::Fail;
 
 // Five texts of one scrap each: `a` in TeX text; the name and its `b` in the C part; and both again in the list of
@@ -10,28 +10,24 @@ use std::test::Fail;
 #[test]
 fn each_call_counts_its_steps(rt: HostRuntime) -> Result<(), Fail> {
     let web: &[u8] = b"@ See |a|.\n@c @<N |b|@>\n";
-    let mut desk = desk_with(rt.alloc(), &[(b"foo.w".as_slice(), web)])?;
-    let mut words = Words::new_in(rt.alloc());
-    words.push(b"foo")?;
-    let mut steps = Steps::<Kept>::new();
-    let exit = weave_command(rt.alloc(), &words, &mut desk, &mut steps);
-    assert_eq!(rt; exit, Exit::Clean);
-    assert_eq!(rt; steps.count(), 28);
+    let mut desk = web_desk(rt.alloc(), web, &[])?;
+    let counted = steps_of(rt.alloc(), &[FOO], &mut desk)?;
+    assert_eq!(rt; counted, (Exit::Clean, 28));
     Ok(())
 }
 
 #[test]
 fn the_largest_sample(rt: HostRuntime) -> Result<(), Fail> {
     let words = [b"--sample".as_slice(), b"2000".as_slice()];
-    let seen = told(rt.alloc(), &words, &[])?;
-    assert_eq!(rt;
-        seen.as_slice(),
+    expect_told(
+        &rt,
+        rt.alloc(),
+        &words,
+        &[],
         b"[term]sections 2000
 scraps 58000
 productions 40000
 lines 18004
-Clean"
-            .as_slice()
-    );
-    Ok(())
+Clean",
+    )
 }

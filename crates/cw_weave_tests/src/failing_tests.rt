@@ -1,7 +1,8 @@
 //! Four webs, one of them over old files too, where each call fails in turn, a call moves one byte, or nothing fails.
-use crate::{append_journal, desk_with, weave, weave_quietly};
+use crate::expectations::{expect_faults, expect_told};
+use crate::{FOO, HELLO, Way, desk_with, told_by, weave_quietly};
 use cw_base::{Bytes, Exit, Memory, Words};
-use cw_desk::{MemDesk, QuietDesk};
+use cw_desk::QuietDesk;
 use std::alloc::Global;
 use std::test::Fail;
 
@@ -52,84 +53,56 @@ const KEPT: [(&[u8], &[u8]); 3] = [
     (b"foo.idx", b""),
 ];
 
-/// A desk for each run. The second has a change file, and the last has old files.
-fn desk_for(alloc: Global, web: usize) -> Result<MemDesk, Memory> {
-    match web {
-        0 => desk_with(
-            alloc,
-            &[(b"foo.w".as_slice(), b"% limbo\n@ Hello.\n".as_slice())],
-        ),
-        1 => desk_with(alloc, &CHANGED),
-        2 => desk_with(alloc, &NESTED),
-        3 => desk_with(alloc, &[(b"foo.w".as_slice(), GREETING)]),
-        _ => desk_with(alloc, &KEPT),
-    }
-}
+/// Runs: the words and the files of each.
+const RUNS: [([&[u8]; 3], &[(&[u8], &[u8])]); 5] = [
+    ([b"+b", FOO, b"-"], &[(b"foo.w", HELLO)]),
+    ([b"+b", FOO, FOO], &CHANGED),
+    ([b"+b", FOO, b"-"], &NESTED),
+    ([b"+b", FOO, b"-"], &[(b"foo.w", GREETING)]),
+    ([b"+k", FOO, b"-"], &KEPT),
+];
 
-fn run(alloc: Global, web: usize, desk: &mut MemDesk) -> Result<Exit, Memory> {
-    let change = if web == 1 {
-        b"foo".as_slice()
-    } else {
-        b"-".as_slice()
-    };
-    let flags = if web == 4 {
-        b"+k".as_slice()
-    } else {
-        b"+b".as_slice()
-    };
-    weave(alloc, &[flags, b"foo".as_slice(), change], desk)
-}
-
-fn journal_of(alloc: Global, desk: &MemDesk) -> Result<Bytes, Memory> {
-    let mut text = Bytes::new_in(alloc);
-    append_journal(&mut text, desk.journal())?;
-    Ok(text)
-}
-
-// A call that fails is the last one, and a first part of what the whole run tells is told.
 #[test]
 fn each_call_fails_in_turn(rt: HostRuntime) -> Result<(), Fail> {
-    for web in 0..5 {
-        let mut whole = desk_for(rt.alloc(), web)?;
-        run(rt.alloc(), web, &mut whole)?;
-        let all = journal_of(rt.alloc(), &whole)?;
-        for before in 0..whole.calls() {
-            let mut desk = desk_for(rt.alloc(), web)?;
-            desk.fail_at(before + 1)?;
-            let exit = run(rt.alloc(), web, &mut desk)?;
-            assert_eq!(rt; exit, Exit::Fault);
-            assert_eq!(rt; desk.calls(), before + 1, "no call follows");
-            let part = journal_of(rt.alloc(), &desk)?;
-            assert!(rt; all.as_slice().starts_with(part.as_slice()));
-        }
+    for (words, files) in RUNS {
+        expect_faults(&rt, rt.alloc(), Way::Direct, &words, files)?;
     }
     Ok(())
+}
+
+/// What a run tells in which a call moves one byte.
+fn told_bytewise(
+    alloc: Global,
+    words: &[&[u8]],
+    files: &[(&[u8], &[u8])],
+) -> Result<Bytes, Memory> {
+    let mut desk = desk_with(alloc, files)?;
+    desk.limit(1)?;
+    told_by(alloc, words, &mut desk)
 }
 
 #[test]
 fn a_byte_at_a_time(rt: HostRuntime) -> Result<(), Fail> {
-    for web in 0..5 {
-        let mut whole = desk_for(rt.alloc(), web)?;
-        let mut bytes = desk_for(rt.alloc(), web)?;
-        bytes.limit(1)?;
-        let first = run(rt.alloc(), web, &mut whole)?;
-        let second = run(rt.alloc(), web, &mut bytes)?;
-        assert_eq!(rt; first, second);
-        let all = journal_of(rt.alloc(), &whole)?;
-        let same = journal_of(rt.alloc(), &bytes)?;
-        assert_eq!(rt; all.as_slice(), same.as_slice());
+    for (words, files) in RUNS {
+        let bytewise = told_bytewise(rt.alloc(), &words, files)?;
+        expect_told(&rt, rt.alloc(), &words, files, bytewise.as_slice())?;
     }
     Ok(())
+}
+
+/// How a run over this web ends where nothing fails.
+fn quiet_exit(alloc: Global, words: &Words, web: &[u8]) -> Result<Exit, Memory> {
+    let mut desk = QuietDesk::new_in(alloc);
+    desk.add_file(b"foo.w", web)?;
+    Ok(weave_quietly(alloc, words, &mut desk))
 }
 
 #[test]
 fn a_web_cut_after_each_byte(rt: HostRuntime) -> Result<(), Fail> {
     let mut words = Words::new_in(rt.alloc());
-    words.push(b"foo")?;
+    words.push(FOO)?;
     for length in 0..GREETING.len() {
-        let mut desk = QuietDesk::new_in(rt.alloc());
-        desk.add_file(b"foo.w", &GREETING[..length])?;
-        let exit = weave_quietly(rt.alloc(), &words, &mut desk);
+        let exit = quiet_exit(rt.alloc(), &words, &GREETING[..length])?;
         assert!(rt; exit == Exit::Clean || exit == Exit::Errors);
     }
     Ok(())

@@ -1,10 +1,12 @@
 //! Runs with flag k: what is drafted over old files, and which of these are kept.
-use crate::{HELLO, journal_text, weave, web_desk};
-use cw_base::{Bytes, Exit, Memory};
+use crate::expectations::expect;
+use crate::{FOO, HELLO, journal_text, told_by, weave, web_desk};
+use cw_base::{Bytes, Memory};
 use std::alloc::Global;
+use std::process::Abort;
 use std::test::Fail;
 
-const KEEPING: [&[u8]; 2] = [b"+k", b"foo"];
+const KEEPING: [&[u8]; 2] = [b"+k", FOO];
 
 /// The TeX file of the web.
 const TEX: &[u8] = b"\\input cwebmac
@@ -72,53 +74,60 @@ fn changed(alloc: Global, at: usize) -> Result<Vec<u8>, Memory> {
 #[test]
 fn old_files_that_are_the_same(rt: HostRuntime) -> Result<(), Fail> {
     let kept = expected(rt.alloc(), b"[tex] is kept\n")?;
-    assert_eq!(rt; told_over(rt.alloc(), TEX)?.as_slice(), kept.as_slice());
+    expect(&rt, &told_over(rt.alloc(), TEX)?, &kept);
     Ok(())
 }
 
+/// A run over this old TeX file has to replace it.
+fn expect_replaced(rt: &impl Abort, alloc: Global, old: &[u8]) -> Result<(), Fail> {
+    let replaced = expected(alloc, b"[tex] is replaced\n")?;
+    expect(rt, &told_over(alloc, old)?, &replaced);
+    Ok(())
+}
+
+/// The old TeX file and more bytes.
+fn longer(alloc: Global, more: &[u8]) -> Result<Vec<u8>, Memory> {
+    let mut old = Vec::new(alloc);
+    old.extend_from_slice(TEX)?;
+    old.extend_from_slice(more)?;
+    Ok(old)
+}
+
 #[test]
-fn old_files_that_differ(rt: HostRuntime) -> Result<(), Fail> {
-    let replaced = expected(rt.alloc(), b"[tex] is replaced\n")?;
-    let mut longer = Vec::new(rt.alloc());
-    longer.extend_from_slice(TEX)?;
-    longer.push(b'\n')?;
-    assert_eq!(rt;
-        told_over(rt.alloc(), longer.as_slice())?.as_slice(),
-        replaced.as_slice()
-    );
+fn old_files_of_another_length(rt: HostRuntime) -> Result<(), Fail> {
+    expect_replaced(&rt, rt.alloc(), longer(rt.alloc(), b"\n")?.as_slice())?;
     let Some((_, shorter)) = TEX.split_last() else {
         return Err(Fail::from("the file has no byte"));
     };
-    assert_eq!(rt;
-        told_over(rt.alloc(), shorter)?.as_slice(),
-        replaced.as_slice()
-    );
-    assert_eq!(rt; told_over(rt.alloc(), b"")?.as_slice(), replaced.as_slice());
+    expect_replaced(&rt, rt.alloc(), shorter)?;
+    expect_replaced(&rt, rt.alloc(), b"")
+}
+
+#[test]
+fn old_files_with_another_byte(rt: HostRuntime) -> Result<(), Fail> {
     for at in 0..TEX.len() {
-        let old = changed(rt.alloc(), at)?;
-        assert_eq!(rt;
-            told_over(rt.alloc(), old.as_slice())?.as_slice(),
-            replaced.as_slice()
-        );
+        expect_replaced(&rt, rt.alloc(), changed(rt.alloc(), at)?.as_slice())?;
     }
     Ok(())
 }
 
 // The call that puts the draft of the list in its place is the third from the end.
-#[test]
-fn a_draft_that_stays_a_draft(rt: HostRuntime) -> Result<(), Fail> {
+fn told_without_replacing(alloc: Global) -> Result<Bytes, Memory> {
     let others = [
         (b"foo.tex".as_slice(), TEX),
         (b"foo.idx".as_slice(), b"".as_slice()),
     ];
-    let mut whole = web_desk(rt.alloc(), HELLO, &others)?;
-    weave(rt.alloc(), &KEEPING, &mut whole)?;
-    let mut desk = web_desk(rt.alloc(), HELLO, &others)?;
+    let mut whole = web_desk(alloc, HELLO, &others)?;
+    weave(alloc, &KEEPING, &mut whole)?;
+    let mut desk = web_desk(alloc, HELLO, &others)?;
     desk.fail_at(whole.calls().saturating_sub(2))?;
-    let exit = weave(rt.alloc(), &KEEPING, &mut desk)?;
-    assert_eq!(rt; exit, Exit::Fault);
-    let text = journal_text(rt.alloc(), desk.journal())?;
-    let end = b"[idx] is kept\n[scn] is drafted for foo.scn\n".as_slice();
+    told_by(alloc, &KEEPING, &mut desk)
+}
+
+#[test]
+fn a_draft_that_stays_a_draft(rt: HostRuntime) -> Result<(), Fail> {
+    let text = told_without_replacing(rt.alloc())?;
+    let end = b"[idx] is kept\n[scn] is drafted for foo.scn\nFault".as_slice();
     assert!(rt; text.as_slice().ends_with(end));
     Ok(())
 }
@@ -127,13 +136,6 @@ fn a_draft_that_stays_a_draft(rt: HostRuntime) -> Result<(), Fail> {
 #[test]
 fn an_old_file_is_no_input(rt: HostRuntime) -> Result<(), Fail> {
     let more = vec![in rt.alloc(); b'x'; 8_388_609]?;
-    let mut old = Vec::new(rt.alloc());
-    old.extend_from_slice(TEX)?;
-    old.extend_from_slice(more.as_slice())?;
-    let replaced = expected(rt.alloc(), b"[tex] is replaced\n")?;
-    assert_eq!(rt;
-        told_over(rt.alloc(), old.as_slice())?.as_slice(),
-        replaced.as_slice()
-    );
-    Ok(())
+    let old = longer(rt.alloc(), more.as_slice())?;
+    expect_replaced(&rt, rt.alloc(), old.as_slice())
 }

@@ -1,22 +1,21 @@
 //! Webs as deep, as long and with as many statements as they may be.
-use crate::weave;
-use cw_base::{Bytes, Event, Exit, Memory, Out};
-use cw_desk::MemDesk;
+use crate::{FOO, terminal_told};
+use cw_base::{Bytes, Memory};
 use std::alloc::Global;
+use std::process::Abort;
 use std::test::Fail;
 
-/// What a run over a web prints on the terminal, and how it ends.
-fn terminal(alloc: Global, words: &[&[u8]], web: &[u8]) -> Result<(Bytes, Exit), Memory> {
-    let mut desk = MemDesk::new_in(alloc);
-    desk.add_file(b"foo.w", web)?;
-    let exit = weave(alloc, words, &mut desk)?;
-    let mut text = Bytes::new_in(alloc);
-    for event in desk.journal() {
-        if let Event::Byte(Out::Term, byte) = event {
-            text.push(*byte)?;
-        }
-    }
-    Ok((text, exit))
+/// A run over this web has to print what is wanted on the terminal, and to end as it says.
+fn expect_terminal(
+    rt: &impl Abort,
+    alloc: Global,
+    words: &[&[u8]],
+    web: &Bytes,
+    wanted: &[u8],
+) -> Result<(), Fail> {
+    let seen = terminal_told(alloc, words, web.as_slice())?;
+    assert_eq!(rt; seen.as_slice(), wanted);
+    Ok(())
 }
 
 /// A statement with a comment that has C text with a comment, and so on to this depth.
@@ -38,24 +37,23 @@ Writing the output file...
 Writing the index...
 Done.
 (No errors were found.)
-";
+Clean";
 
 #[test]
 fn twenty_texts_deep(rt: HostRuntime) -> Result<(), Fail> {
     let web = nested(rt.alloc(), 20)?;
-    let (text, exit) = terminal(rt.alloc(), &[b"foo".as_slice()], web.as_slice())?;
-    assert_eq!(rt; text.as_slice(), CLEAN);
-    assert_eq!(rt; exit, Exit::Clean);
-    Ok(())
+    expect_terminal(&rt, rt.alloc(), &[FOO], &web, CLEAN)
 }
 
 // Both bars of the text that would be too deep are bytes.
 #[test]
 fn one_text_too_deep(rt: HostRuntime) -> Result<(), Fail> {
     let web = nested(rt.alloc(), 21)?;
-    let (text, exit) = terminal(rt.alloc(), &[b"foo".as_slice()], web.as_slice())?;
-    assert_eq!(rt;
-        text.as_slice(),
+    expect_terminal(
+        &rt,
+        rt.alloc(),
+        &[FOO],
+        &web,
         b"This is CWEAVE (profile 2)
 ! C text is nested too deeply (l. 1 of foo.w)
 ! C text is nested too deeply (l. 1 of foo.w)
@@ -63,24 +61,28 @@ Writing the output file...
 Writing the index...
 Done.
 (Pardon me, but I think I spotted something wrong.)
-"
-            .as_slice()
-    );
-    assert_eq!(rt; exit, Exit::Errors);
-    Ok(())
+Errors",
+    )
+}
+
+/// A section with so many statements on one line.
+fn statements(alloc: Global, count: usize) -> Result<Bytes, Memory> {
+    let mut web = Bytes::from_slice(alloc, b"@ @c ")?;
+    for _ in 0..count {
+        web.append(b"a;")?;
+    }
+    web.push(b'\n')?;
+    Ok(web)
 }
 
 #[test]
 fn many_statements_on_one_line(rt: HostRuntime) -> Result<(), Fail> {
-    let mut web = Bytes::from_slice(rt.alloc(), b"@ @c ")?;
-    for _ in 0..500000 {
-        web.append(b"a;")?;
-    }
-    web.push(b'\n')?;
-    let words = [b"-x".as_slice(), b"+s".as_slice(), b"foo".as_slice()];
-    let (text, exit) = terminal(rt.alloc(), &words, web.as_slice())?;
-    assert_eq!(rt;
-        text.as_slice(),
+    let web = statements(rt.alloc(), 500_000)?;
+    expect_terminal(
+        &rt,
+        rt.alloc(),
+        &[b"-x".as_slice(), b"+s".as_slice(), FOO],
+        &web,
         b"This is CWEAVE (profile 2)
 Writing the output file...
 Done.
@@ -89,25 +91,29 @@ scraps 1000000
 productions 999999
 lines 500005
 (No errors were found.)
-"
-            .as_slice()
-    );
-    assert_eq!(rt; exit, Exit::Clean);
-    Ok(())
+Clean",
+    )
+}
+
+fn add_line(web: &mut Bytes, length: usize) -> Result<(), Memory> {
+    for _ in 0..length {
+        web.push(b'a')?;
+    }
+    web.push(b'\n')
+}
+
+/// A section of 8,388,608 bytes.
+fn longest(alloc: Global) -> Result<Bytes, Memory> {
+    let mut web = Bytes::from_slice(alloc, b"@ ")?;
+    add_line(&mut web, 61)?;
+    for _ in 1..131_072 {
+        add_line(&mut web, 63)?;
+    }
+    Ok(web)
 }
 
 #[test]
 fn a_web_as_long_as_it_may_be(rt: HostRuntime) -> Result<(), Fail> {
-    let mut web = Bytes::from_slice(rt.alloc(), b"@ ")?;
-    for line in 0..131072 {
-        let length = if line == 0 { 61 } else { 63 };
-        for _ in 0..length {
-            web.push(b'a')?;
-        }
-        web.push(b'\n')?;
-    }
-    let (text, exit) = terminal(rt.alloc(), &[b"foo".as_slice()], web.as_slice())?;
-    assert_eq!(rt; text.as_slice(), CLEAN);
-    assert_eq!(rt; exit, Exit::Clean);
-    Ok(())
+    let web = longest(rt.alloc())?;
+    expect_terminal(&rt, rt.alloc(), &[FOO], &web, CLEAN)
 }

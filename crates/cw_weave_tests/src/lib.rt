@@ -10,6 +10,8 @@ mod counted_tests;
 #[cfg(test)]
 mod desk_failing_tests;
 #[cfg(test)]
+mod expectations;
+#[cfg(test)]
 mod failing_tests;
 #[cfg(test)]
 mod forty_sections;
@@ -36,6 +38,6 @@ mod small_section_tests;
 mod weave_tests;
 
 pub use runs::{
-    FOO, HELLO, append_journal, desk_with, journal_text, told, told_by, weave, weave_quietly,
-    web_desk, web_told,
+    FOO, HELLO, Way, append_journal, desk_with, ends_at, journal_text, steps_of, terminal_told,
+    told, told_by, told_in, weave, weave_gathered, weave_quietly, web_desk, web_told,
 };

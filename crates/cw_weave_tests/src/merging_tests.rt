@@ -1,5 +1,6 @@
 //! Whole runs over webs with change files and included files.
-use crate::{FOO, told_by, web_desk, web_told};
+use crate::expectations::{expect_calls, expect_web};
+use crate::{FOO, web_desk};
 use std::test::Fail;
 
 const FOO_CH: &[u8] = b"foo.ch";
@@ -8,14 +9,12 @@ const CHANGED: &[u8] = b"@ One.\n@c a;\nb;\n";
 
 #[test]
 fn a_change(rt: HostRuntime) -> Result<(), Fail> {
-    let text = web_told(
+    expect_web(
+        &rt,
         rt.alloc(),
         CHANGED,
         &[(FOO_CH, b"@x\n@c a;\nc;\n@y\n@c z;\n@z\n".as_slice())],
         &[FOO, FOO],
-    )?;
-    assert_eq!(rt;
-        text.as_slice(),
         b"[term]This is CWEAVE (profile 2)
 ! 1 of the preceding lines did not match (l. 4 of foo.ch)
 Writing the output file...
@@ -33,22 +32,18 @@ Writing the output file...
 [scn] is foo.scn
 [term]Done.
 (Pardon me, but I think I spotted something wrong.)
-Errors"
-            .as_slice()
-    );
-    Ok(())
+Errors",
+    )
 }
 
 #[test]
 fn an_ended_change(rt: HostRuntime) -> Result<(), Fail> {
-    let text = web_told(
+    expect_web(
+        &rt,
         rt.alloc(),
         CHANGED,
         &[(FOO_CH, b"@x\n@c a;\n".as_slice())],
         &[FOO, FOO],
-    )?;
-    assert_eq!(rt;
-        text.as_slice(),
         b"[term]This is CWEAVE (profile 2)
 ! Change file ended before @y (l. 2 of foo.ch)
 Writing the output file...
@@ -66,24 +61,23 @@ b;
 [scn] is foo.scn
 [term]Done.
 (Pardon me, but I think I spotted something wrong.)
-Errors"
-            .as_slice()
-    );
-    Ok(())
+Errors",
+    )
 }
 
 #[test]
 fn no_change_file(rt: HostRuntime) -> Result<(), Fail> {
-    let text = web_told(rt.alloc(), CHANGED, &[], &[FOO, b"bar".as_slice()])?;
-    assert_eq!(rt;
-        text.as_slice(),
+    expect_web(
+        &rt,
+        rt.alloc(),
+        CHANGED,
+        &[],
+        &[FOO, b"bar".as_slice()],
         b"[term]This is CWEAVE (profile 2)
 ! Cannot open change file bar
 (That was a fatal error, my friend.)
-Errors"
-            .as_slice()
-    );
-    Ok(())
+Errors",
+    )
 }
 
 /// What a run prints and writes whose book is one section.
@@ -123,17 +117,26 @@ fn nested(last: &[u8]) -> [(&[u8], &[u8]); 11] {
 
 #[test]
 fn ten_files_deep(rt: HostRuntime) -> Result<(), Fail> {
-    let text = web_told(rt.alloc(), b"@i f1\n", &nested(b"@ Deep.\n"), &[FOO])?;
-    assert_eq!(rt; text.as_slice(), DEEP);
-    Ok(())
+    expect_web(
+        &rt,
+        rt.alloc(),
+        b"@i f1\n",
+        &nested(b"@ Deep.\n"),
+        &[FOO],
+        DEEP,
+    )
 }
 
 #[test]
 fn eleven_files_deep(rt: HostRuntime) -> Result<(), Fail> {
     let mut desk = web_desk(rt.alloc(), b"@i f1\n", &nested(b"@i f11\n@ Deep.\n"))?;
-    let text = told_by(rt.alloc(), &[FOO], &mut desk)?;
-    assert_eq!(rt;
-        text.as_slice(),
+    // Three calls for each of eleven files, six lines on the terminal, seven of the TeX file, and three outputs. The
+    // eleventh file is not opened.
+    expect_calls(
+        &rt,
+        rt.alloc(),
+        &mut desk,
+        &[FOO],
         b"[term]This is CWEAVE (profile 2)
 ! Too many nested includes (l. 1 of f10)
 Writing the output file...
@@ -150,17 +153,15 @@ Writing the output file...
 [scn] is foo.scn
 [term]Done.
 (Pardon me, but I think I spotted something wrong.)
-Errors"
-            .as_slice()
-    );
-    // Three calls for each of eleven files, six lines on the terminal, seven of the TeX file, and three outputs.
-    assert_eq!(rt; desk.calls(), 49, "the eleventh file is not opened");
-    Ok(())
+Errors",
+        49,
+    )
 }
 
 #[test]
 fn notes_of_merging(rt: HostRuntime) -> Result<(), Fail> {
-    let text = web_told(
+    expect_web(
+        &rt,
         rt.alloc(),
         b"@i missing\n@i\n@ One.\na\nb\nd\n",
         &[(
@@ -191,9 +192,6 @@ f
                 .as_slice(),
         )],
         &[FOO, FOO],
-    )?;
-    assert_eq!(rt;
-        text.as_slice(),
         b"[term]This is CWEAVE (profile 2)
 ! Where is the matching @x? (l. 1 of foo.ch)
 ! No old line in this change (l. 3 of foo.ch)
@@ -219,22 +217,18 @@ new
 [scn] is foo.scn
 [term]Done.
 (Pardon me, but I think I spotted something wrong.)
-Errors"
-            .as_slice()
-    );
-    Ok(())
+Errors",
+    )
 }
 
 #[test]
 fn new_lines_without_an_end(rt: HostRuntime) -> Result<(), Fail> {
-    let text = web_told(
+    expect_web(
+        &rt,
         rt.alloc(),
         b"@ One.\na\n",
         &[(FOO_CH, b"@x\na\n@y\nnew\n".as_slice())],
         &[FOO, FOO],
-    )?;
-    assert_eq!(rt;
-        text.as_slice(),
         b"[term]This is CWEAVE (profile 2)
 ! Change file ended before @z (l. 4 of foo.ch)
 Writing the output file...
@@ -252,8 +246,6 @@ new
 [scn] is foo.scn
 [term]Done.
 (Pardon me, but I think I spotted something wrong.)
-Errors"
-            .as_slice()
-    );
-    Ok(())
+Errors",
+    )
 }

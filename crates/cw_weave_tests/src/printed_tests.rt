@@ -1,20 +1,19 @@
 //! Whole runs over webs with one of each printed token: constants, strings, comments, other bytes, heads, and section
 //! names with inner texts.
-use crate::{FOO, web_told};
+use crate::FOO;
+use crate::expectations::expect_web;
 use std::test::Fail;
 
 const CHANGE: &[u8] = b"@x\n@ @<A |1| b@>=x;\n@y\n@ @<A |1| b@>=y;\n@z\n";
 
 #[test]
 fn tokens_and_a_changed_name(rt: HostRuntime) -> Result<(), Fail> {
-    let text = web_told(
+    expect_web(
+        &rt,
         rt.alloc(),
         b"@ @c f(0x1f,\"a b\"); /* {x} */ @<A |1| b@>;\n@ @<A |1| b@>=x;\n",
         &[(b"foo.ch".as_slice(), CHANGE)],
         &[b"-x".as_slice(), FOO, b"foo.ch".as_slice()],
-    )?;
-    assert_eq!(rt;
-        text.as_slice(),
         b"[term]This is CWEAVE (profile 2)
 Writing the output file...
 [tex] is foo.tex
@@ -33,22 +32,18 @@ Writing the output file...
 \\end
 [term]Done.
 (No errors were found.)
-Clean"
-            .as_slice()
-    );
-    Ok(())
+Clean",
+    )
 }
 
 #[test]
 fn heads_and_a_name_with_two_inner_texts(rt: HostRuntime) -> Result<(), Fail> {
-    let text = web_told(
+    expect_web(
+        &rt,
         rt.alloc(),
         b"@ @d f(a,b) a+b\n@f x int\n@c @<A |1| b |2| c@>;\n@ @<A |1| b |2| c@>=\na_b=`;\n",
         &[],
         &[b"-x".as_slice(), FOO],
-    )?;
-    assert_eq!(rt;
-        text.as_slice(),
         b"[term]This is CWEAVE (profile 2)
 Writing the output file...
 [tex] is foo.tex
@@ -68,8 +63,31 @@ $\\\\{a\\_b}\\K\\.{`};$\\par
 \\end
 [term]Done.
 (No errors were found.)
-Clean"
-            .as_slice()
-    );
-    Ok(())
+Clean",
+    )
+}
+
+// A lone number sign is a sign, a lone backslash is printed as a byte, and the comment gets the brace that it lacks.
+#[test]
+fn a_number_sign_a_backslash_and_an_open_brace(rt: HostRuntime) -> Result<(), Fail> {
+    expect_web(
+        &rt,
+        rt.alloc(),
+        b"@ @c a#b\\; /* {x */\n",
+        &[],
+        &[b"-x".as_slice(), FOO],
+        b"[term]This is CWEAVE (profile 2)
+! Missing } in comment (l. 1 of foo.w)
+Writing the output file...
+[tex] is foo.tex
+[tex]\\input cwebmac
+\\M{1}
+\\Y\\B$\\|a\\#\\|b\\.{\\\\};{}$\\C{ {x }}\\par
+\\fi
+
+\\end
+[term]Done.
+(Pardon me, but I think I spotted something wrong.)
+Errors",
+    )
 }

@@ -1,8 +1,8 @@
 //! Runs, and what they told.
 ghost use Rattle.std.specs.Prelude.{◌≡◌, ◌≢◌, [], IfOk};
 
-use cw_base::{Bytes, Event, Exit, Memory, Out, Silent, Steps, Words};
-use cw_desk::{Desk, MemDesk, QuietDesk};
+use cw_base::{Bytes, Event, Exit, Kept, Memory, Out, Silent, Steps, Words};
+use cw_desk::{Batch, Desk, Flushed, MemDesk, QuietDesk};
 use cw_weave::weave_command;
 use std::alloc::Global;
 
@@ -20,7 +20,50 @@ pub fn weave<D: Desk>(alloc: Global, words: &[&[u8]], desk: &mut D) -> Result<Ex
     Ok(weave_command(alloc, &list, desk, &mut Steps::<Silent>::new()))
 }
 
-/// The same over a desk on which nothing fails: a fault can't come.
+/// Weaves over a batch of the desk, as the program does: what waits at the end is handed on, but not after a failure.
+pub fn weave_gathered(alloc: Global, words: &[&[u8]], desk: &mut MemDesk) -> Result<Exit, Memory> {
+    let mut batch = Batch::new_in(alloc, desk);
+    let exit = weave(alloc, words, &mut batch)?;
+    if exit == Exit::Fault || exit == Exit::Memory {
+        let _below = batch.discard();
+        return Ok(exit);
+    }
+    let (flushed, _below) = batch.finish();
+    Ok(match flushed {
+        Flushed::Done => exit,
+        Flushed::Failed => Exit::Fault,
+        Flushed::Memory => Exit::Memory,
+    })
+}
+
+/// How a run calls its desk: for each line, or for many together.
+#[derive(Clone, Copy, Debug, PartialEq, Eq)]
+pub enum Way {
+    /// By the desk itself.
+    Direct,
+    /// By a batch of it.
+    Gathered,
+}
+
+impl Way {
+    /// Weaves what these words ask for.
+    pub fn weave(self, alloc: Global, words: &[&[u8]], desk: &mut MemDesk) -> Result<Exit, Memory> {
+        match self {
+            Way::Direct => weave(alloc, words, desk),
+            Way::Gathered => weave_gathered(alloc, words, desk),
+        }
+    }
+}
+
+/// How a run over a desk ends, and how many steps it counts.
+pub fn steps_of(alloc: Global, words: &[&[u8]], desk: &mut MemDesk) -> Result<(Exit, u64), Memory> {
+    let list = list_of(alloc, words)?;
+    let mut steps = Steps::<Kept>::new();
+    let exit = weave_command(alloc, &list, desk, &mut steps);
+    Ok((exit, steps.count()))
+}
+
+/// How a run ends over a desk on which nothing fails: a fault can't come.
 pub fn weave_quietly(alloc: Global, words: &Words, desk: &mut QuietDesk) -> Exit
     ensures { result ≢ Exit.Fault }
 {
@@ -114,10 +157,50 @@ pub fn desk_with(alloc: Global, files: &[(&[u8], &[u8])]) -> Result<MemDesk, Mem
 
 /// What a run over a desk tells: its journal, and behind it how it ended.
 pub fn told_by(alloc: Global, words: &[&[u8]], desk: &mut MemDesk) -> Result<Bytes, Memory> {
-    let exit = weave(alloc, words, desk)?;
+    told_in(Way::Direct, alloc, words, desk)
+}
+
+/// The same where the desk is called in this way.
+pub fn told_in(
+    way: Way,
+    alloc: Global,
+    words: &[&[u8]],
+    desk: &mut MemDesk,
+) -> Result<Bytes, Memory> {
+    let exit = way.weave(alloc, words, desk)?;
     let mut text = journal_text(alloc, desk.journal())?;
     text.append(exit_name(exit))?;
     Ok(text)
+}
+
+/// What a run over `foo.w` with these bytes prints on the terminal, and behind it how it ended.
+pub fn terminal_told(alloc: Global, words: &[&[u8]], web: &[u8]) -> Result<Bytes, Memory> {
+    let mut desk = web_desk(alloc, web, &[])?;
+    let exit = weave(alloc, words, &mut desk)?;
+    let mut text = Bytes::new_in(alloc);
+    for event in desk.journal() {
+        if let Event::Byte(Out::Term, byte) = event {
+            text.push(*byte)?;
+        }
+    }
+    text.append(exit_name(exit))?;
+    Ok(text)
+}
+
+/// Whether a run over this desk ends with a fault where its call of this number fails, without a further call, and
+/// has told a beginning of this.
+pub fn ends_at(
+    way: Way,
+    alloc: Global,
+    words: &[&[u8]],
+    desk: &mut MemDesk,
+    call: u64,
+    all: &[u8],
+) -> Result<bool, Memory> {
+    desk.fail_at(call)?;
+    let exit = way.weave(alloc, words, desk)?;
+    let part = journal_text(alloc, desk.journal())?;
+    Ok(exit == Exit::Fault && desk.calls() == call && all.starts_with(part.as_slice()))
 }
 
 /// What a run over these files tells.

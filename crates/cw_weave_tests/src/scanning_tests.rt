@@ -1,30 +1,13 @@
 //! Whole runs over webs that make notes of scanning, one by one and in order.
-use cw_base::{Bytes, Event, Exit, Memory, Out, Silent, Steps, Words};
-use cw_desk::MemDesk;
-use cw_weave::weave_command;
+use crate::expectations::expect;
+use crate::{FOO, terminal_told};
+use cw_base::{Bytes, Memory};
 use std::alloc::Global;
+use std::process::Abort;
 use std::test::Fail;
 
-/// What weaving this web prints on the terminal, where notes of an error are its status, else nothing.
-fn terminal(alloc: Global, web: &[u8]) -> Result<Bytes, Memory> {
-    let mut desk = MemDesk::new_in(alloc);
-    desk.add_file(b"foo.w", web)?;
-    let mut words = Words::new_in(alloc);
-    words.push(b"foo")?;
-    let exit = weave_command(alloc, &words, &mut desk, &mut Steps::<Silent>::new());
-    let mut text = Bytes::new_in(alloc);
-    if exit == Exit::Errors {
-        for event in desk.journal() {
-            if let Event::Byte(Out::Term, byte) = event {
-                text.push(*byte)?;
-            }
-        }
-    }
-    Ok(text)
-}
-
-/// The same from the notes alone.
-fn expected(alloc: Global, notes: &[u8]) -> Result<Bytes, Memory> {
+/// What a run prints on the terminal that makes these notes, which are of errors.
+fn noted(alloc: Global, notes: &[u8]) -> Result<Bytes, Memory> {
     let mut text = Bytes::new_in(alloc);
     text.append(b"This is CWEAVE (profile 2)\n")?;
     text.append(notes)?;
@@ -33,9 +16,16 @@ fn expected(alloc: Global, notes: &[u8]) -> Result<Bytes, Memory> {
 Writing the index...
 Done.
 (Pardon me, but I think I spotted something wrong.)
-",
+Errors",
     )?;
     Ok(text)
+}
+
+/// A run over this web has to make these notes.
+fn expect_notes(rt: &impl Abort, alloc: Global, web: &[u8], notes: &[u8]) -> Result<(), Fail> {
+    let seen = terminal_told(alloc, &[FOO], web)?;
+    expect(rt, &seen, &noted(alloc, notes)?);
+    Ok(())
 }
 
 // One web for each note that limbo and TeX text can make, with its line.
@@ -76,9 +66,7 @@ fn each_note_of_scanning(rt: HostRuntime) -> Result<(), Fail> {
         ),
     ];
     for (web, note) in rows {
-        let seen = terminal(rt.alloc(), web)?;
-        let wanted = expected(rt.alloc(), note)?;
-        assert_eq!(rt; seen.as_slice(), wanted.as_slice());
+        expect_notes(&rt, rt.alloc(), web, note)?;
     }
     Ok(())
 }
@@ -86,16 +74,15 @@ fn each_note_of_scanning(rt: HostRuntime) -> Result<(), Fail> {
 // Notes stand in the order of the text, behind those of reading.
 #[test]
 fn notes_in_order(rt: HostRuntime) -> Result<(), Fail> {
-    let seen = terminal(rt.alloc(), b"@i\na@tb\n@ c@3\n@t d@,@> e\n")?;
-    let wanted = expected(
+    expect_notes(
+        &rt,
         rt.alloc(),
+        b"@i\na@tb\n@ c@3\n@t d@,@> e\n",
         b"! Include file name not given (l. 1 of foo.w)
 ! Double @ should be used in limbo (l. 2 of foo.w)
 ! Unknown control code (l. 3 of foo.w)
 ! You can't do that in TeX text (l. 4 of foo.w)
 ! Control codes are forbidden in control text (l. 4 of foo.w)
 ",
-    )?;
-    assert_eq!(rt; seen.as_slice(), wanted.as_slice());
-    Ok(())
+    )
 }

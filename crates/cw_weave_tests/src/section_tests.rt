@@ -1,5 +1,6 @@
 //! Webs of sections: what a TeX part, definitions, names and footnotes print, and their indexes and section lists.
-use crate::told;
+use crate::FOO;
+use crate::expectations::expect_web;
 use cw_base::{Bytes, Memory};
 use std::alloc::Global;
 use std::test::Fail;
@@ -265,9 +266,7 @@ Clean",
 #[test]
 fn each_web_and_its_files(rt: HostRuntime) -> Result<(), Fail> {
     for (web, wanted) in ROWS {
-        let files = [(b"foo.w".as_slice(), web)];
-        let seen = told(rt.alloc(), &[b"foo".as_slice()], &files)?;
-        assert_eq!(rt; seen.as_slice(), wanted);
+        expect_web(&rt, rt.alloc(), web, &[], &[FOO], wanted)?;
     }
     Ok(())
 }
@@ -296,11 +295,9 @@ fn without_index(alloc: Global, told: &[u8]) -> Result<Bytes, Memory> {
 #[test]
 fn each_web_without_its_index(rt: HostRuntime) -> Result<(), Fail> {
     for (web, wanted) in ROWS {
-        let files = [(b"foo.w".as_slice(), web)];
-        let words = [b"-x".as_slice(), b"foo".as_slice()];
-        let seen = told(rt.alloc(), &words, &files)?;
+        let words = [b"-x".as_slice(), FOO];
         let wanted = without_index(rt.alloc(), wanted)?;
-        assert_eq!(rt; seen.as_slice(), wanted.as_slice());
+        expect_web(&rt, rt.alloc(), web, &[], &words, wanted.as_slice())?;
     }
     Ok(())
 }

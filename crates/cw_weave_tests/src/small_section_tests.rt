@@ -1,15 +1,19 @@
 //! Whole runs over webs with C parts, definitions and section names, their indexes and their section lists.
+use crate::expectations::expect_web;
 use crate::{FOO, web_told};
-use cw_base::Memory;
+use cw_base::{Bytes, Memory};
 use itoa::Buffer;
 use std::alloc::Global;
 use std::test::Fail;
 
 #[test]
 fn a_declaration_with_its_index(rt: HostRuntime) -> Result<(), Fail> {
-    let text = web_told(rt.alloc(), b"@ @c int a=b+c, *d;\n", &[], &[FOO])?;
-    assert_eq!(rt;
-        text.as_slice(),
+    expect_web(
+        &rt,
+        rt.alloc(),
+        b"@ @c int a=b+c, *d;\n",
+        &[],
+        &[FOO],
         b"[term]This is CWEAVE (profile 2)
 Writing the output file...
 [tex] is foo.tex
@@ -28,23 +32,19 @@ Writing the output file...
 [scn] is foo.scn
 [term]Done.
 (No errors were found.)
-Clean"
-            .as_slice()
-    );
-    Ok(())
+Clean",
+    )
 }
 
 #[test]
 fn lines_that_had_to_be_broken(rt: HostRuntime) -> Result<(), Fail> {
-    let text = web_told(
+    expect_web(
+        &rt,
         rt.alloc(),
         b"@ @c aaaaaaaaaaaaaaaaaaaaaaaaaaaaaaaaaaaaaaaaaaaaaaaaaaaaaaaaaaaaaaaaaaaaaaaaaaaaaaaaaaaaaaaaaaaaaaaaaaaa\
 aaaaaaaaaaaaaaaaaaaaaaaaaaaaaaaaaaaaaaaaaaaaaaaaaaaaaaaaaaaaaaaaaaaaaaaaaaaaaaaaaaaaaaaaaaaaaaaaaaaa\n",
         &[],
         &[b"-x".as_slice(), FOO],
-    )?;
-    assert_eq!(rt;
-        text.as_slice(),
         b"[term]This is CWEAVE (profile 2)
 Writing the output file...
 [tex] is foo.tex
@@ -61,22 +61,18 @@ aaaaaaaaaaaaaaaaaaaaaaaaaaaaaaaaaaaaaaaaaaaaa}\\par
 ! Line had to be broken (output l. 4 of foo.tex)
 ! Line had to be broken (output l. 5 of foo.tex)
 (Did you see the warning message above?)
-Clean"
-            .as_slice()
-    );
-    Ok(())
+Clean",
+    )
 }
 
 #[test]
 fn statistics_with_an_index(rt: HostRuntime) -> Result<(), Fail> {
-    let text = web_told(
+    expect_web(
+        &rt,
         rt.alloc(),
         b"@ @c int i;\n@ @c i=i+1;\n",
         &[],
         &[b"+s".as_slice(), FOO],
-    )?;
-    assert_eq!(rt;
-        text.as_slice(),
         b"[term]This is CWEAVE (profile 2)
 Writing the output file...
 [tex] is foo.tex
@@ -102,15 +98,14 @@ scraps 9
 productions 7
 lines 12
 (No errors were found.)
-Clean"
-            .as_slice()
-    );
-    Ok(())
+Clean",
+    )
 }
 
 #[test]
 fn an_ordinary_web(rt: HostRuntime) -> Result<(), Fail> {
-    let text = web_told(
+    expect_web(
+        &rt,
         rt.alloc(),
         b"\\def\\title{Hello}
 @* Hello. This program greets |n| times.
@@ -129,9 +124,6 @@ printf(\"Hello\\n\"); /* |i| is unused */
 ",
         &[],
         &[FOO],
-    )?;
-    assert_eq!(rt;
-        text.as_slice(),
         b"[term]This is CWEAVE (profile 2)
 Writing the output file...
 [tex] is foo.tex
@@ -168,22 +160,18 @@ ${}\\{\\1{}$\\6
 \\U1.
 [term]Done.
 (No errors were found.)
-Clean"
-            .as_slice()
-    );
-    Ok(())
+Clean",
+    )
 }
 
 #[test]
 fn conflicting_names_and_a_format(rt: HostRuntime) -> Result<(), Fail> {
-    let text = web_told(
+    expect_web(
+        &rt,
         rt.alloc(),
         b"@ @<Read@>= x;\n@ @<Read b@>= y;\n@ @f foo int\n@c foo x; /* b |x /* c |y| */| */\n",
         &[],
         &[b"-e".as_slice(), FOO],
-    )?;
-    assert_eq!(rt;
-        text.as_slice(),
         b"[term]This is CWEAVE (profile 2)
 ! Name conflicts with another (l. 2 of foo.w)
 ! Never used: <Read>
@@ -217,10 +205,8 @@ Writing the output file...
 [scn]\\I\\X1:Read\\X
 [term]Done.
 (Pardon me, but I think I spotted something wrong.)
-Errors"
-            .as_slice()
-    );
-    Ok(())
+Errors",
+    )
 }
 
 fn add_section(web: &mut Vec<u8>, number: u32) -> Result<(), Memory> {
@@ -253,16 +239,16 @@ fn forty(alloc: Global) -> Result<Vec<u8>, Memory> {
     Ok(web)
 }
 
+/// What the run over forty sections tells, with statistics.
+fn forty_told(alloc: Global) -> Result<Bytes, Memory> {
+    let words = [b"-e".as_slice(), b"+s".as_slice(), FOO];
+    web_told(alloc, forty(alloc)?.as_slice(), &[], &words)
+}
+
 // Each section has 29 scraps, 20 productions and 9 lines. The section list counts for none of them.
 #[test]
 fn forty_sections(rt: HostRuntime) -> Result<(), Fail> {
-    let web = forty(rt.alloc())?;
-    let text = web_told(
-        rt.alloc(),
-        web.as_slice(),
-        &[],
-        &[b"-e".as_slice(), b"+s".as_slice(), FOO],
-    )?;
+    let text = forty_told(rt.alloc())?;
     assert!(rt;
         text.as_slice().ends_with(b"[term]Done.
 sections 40
