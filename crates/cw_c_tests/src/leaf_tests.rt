@@ -45,9 +45,19 @@ fn first_list(alloc: Global, store: &TokenStore, id: ListId) -> Result<Vec<FlatI
     Ok(items)
 }
 
-fn is(found: (Cat, MathMode, Vec<FlatItem>), cat: Cat, mode: MathMode, items: &[FlatItem]) -> bool {
-    let (found_cat, found_mode, found_items) = found;
-    found_cat == cat && found_mode == mode && found_items.as_slice() == items
+// Whether that scrap has this category and mode, and its list these items.
+fn is_leaf(
+    alloc: Global,
+    kind: TokKind,
+    text: &[u8],
+    hash_line: bool,
+    wanted: (Cat, MathMode, &[FlatItem]),
+) -> Result<bool, Memory>
+    requires { MakesLeaf kind }
+{
+    let (cat, mode, items) = leaf(alloc, kind, text, hash_line)?;
+    let (wanted_cat, wanted_mode, wanted_items) = wanted;
+    Ok(cat == wanted_cat && mode == wanted_mode && items.as_slice() == wanted_items)
 }
 
 const SOURCE: FlatItem = FlatItem::Source(3);
@@ -95,8 +105,9 @@ const SIGNS: [(Sign, Cat, MathMode); 37] = [
 #[test]
 fn each_sign_has_its_category_and_mode(rt: HostRuntime) -> Result<(), Fail> {
     for (sign, cat, mode) in SIGNS {
-        let found = leaf(rt.alloc(), TokKind::Sign(sign), b"", false)?;
-        assert!(rt; is(found, cat, mode, &[SOURCE]), "{sign:?}");
+        let wanted = (cat, mode, [SOURCE].as_slice());
+        let is_right = is_leaf(rt.alloc(), TokKind::Sign(sign), b"", false, wanted)?;
+        assert!(rt; is_right, "{sign:?}");
     }
     Ok(())
 }
@@ -118,21 +129,26 @@ const STRINGS: [&[u8]; 9] = [
     b"\"\xC3\xA9\"",
 ];
 
+const EXPRESSION: (Cat, MathMode, &[FlatItem]) = (Cat::Exp, MathMode::Maybe, &[SOURCE]);
+
 #[test]
 fn constants_and_strings_are_expressions(rt: HostRuntime) -> Result<(), Fail> {
-    let one = [SOURCE];
     for text in CONSTANTS {
-        let found = leaf(rt.alloc(), TokKind::Constant, text, false)?;
-        assert!(rt; is(found, Cat::Exp, MathMode::Maybe, &one));
+        assert!(rt; is_leaf(rt.alloc(), TokKind::Constant, text, false, EXPRESSION)?);
     }
     for text in STRINGS {
-        let found = leaf(rt.alloc(), TokKind::Quoted, text, false)?;
-        assert!(rt; is(found, Cat::Exp, MathMode::Maybe, &one));
+        assert!(rt; is_leaf(rt.alloc(), TokKind::Quoted, text, false, EXPRESSION)?);
     }
-    let found = leaf(rt.alloc(), TokKind::IncludeName, b"<stdio.h>", true)?;
-    assert!(rt; is(found, Cat::Exp, MathMode::Maybe, &one));
-    let found = leaf(rt.alloc(), TokKind::OtherByte, b"$", false)?;
-    assert!(rt; is(found, Cat::Exp, MathMode::Maybe, &one));
+    assert!(rt;
+        is_leaf(
+            rt.alloc(),
+            TokKind::IncludeName,
+            b"<stdio.h>",
+            true,
+            EXPRESSION
+        )?
+    );
+    assert!(rt; is_leaf(rt.alloc(), TokKind::OtherByte, b"$", false, EXPRESSION)?);
     Ok(())
 }
 
@@ -208,18 +224,19 @@ const CODES: [(u8, Cat, MathMode, &[FlatItem]); 13] = [
 #[test]
 fn each_code_is_laid_out_or_passed_on(rt: HostRuntime) -> Result<(), Fail> {
     for (byte, cat, mode, items) in CODES {
-        let found = leaf(rt.alloc(), TokKind::Code(code_of(byte)), b"", false)?;
-        assert!(rt; is(found, cat, mode, items), "code {byte}");
+        let kind = TokKind::Code(code_of(byte));
+        let is_right = is_leaf(rt.alloc(), kind, b"", false, (cat, mode, items))?;
+        assert!(rt; is_right, "code {byte}");
     }
     Ok(())
 }
 
 #[test]
 fn a_line_of_the_preprocessor_is_put_on_a_line_of_its_own(rt: HostRuntime) -> Result<(), Fail> {
-    let found = leaf(rt.alloc(), TokKind::HashLine, b"#", true)?;
-    assert!(rt; is(found, Cat::Lproc, MathMode::Text, &[BREAK, SOURCE]));
-    let found = leaf(rt.alloc(), TokKind::HashLineEnd, b"\n", true)?;
-    assert!(rt; is(found, Cat::Rproc, MathMode::Text, &[BREAK]));
+    let begin: (_, _, &[FlatItem]) = (Cat::Lproc, MathMode::Text, &[BREAK, SOURCE]);
+    assert!(rt; is_leaf(rt.alloc(), TokKind::HashLine, b"#", true, begin)?);
+    let end: (_, _, &[FlatItem]) = (Cat::Rproc, MathMode::Text, &[BREAK]);
+    assert!(rt; is_leaf(rt.alloc(), TokKind::HashLineEnd, b"\n", true, end)?);
     Ok(())
 }
 
@@ -254,13 +271,21 @@ const WORDS: [(&[u8], Cat, Cat); 27] = [
     (b"defined", Cat::Exp, Cat::SizeofLike),
 ];
 
+// The category and the mode of a word's scrap.
+fn word_leaf(alloc: Global, word: &[u8], hash_line: bool) -> Result<(Cat, MathMode), Memory> {
+    let (cat, mode, _) = leaf(alloc, TokKind::Identifier, word, hash_line)?;
+    Ok((cat, mode))
+}
+
 #[test]
 fn a_word_is_reserved_in_its_place_only(rt: HostRuntime) -> Result<(), Fail> {
     for (word, outside, inside) in WORDS {
-        let found = leaf(rt.alloc(), TokKind::Identifier, word, false)?;
-        assert!(rt; found.0 == outside && found.1 == MathMode::Maybe);
-        let found = leaf(rt.alloc(), TokKind::Identifier, word, true)?;
-        assert!(rt; found.0 == inside && found.1 == MathMode::Maybe);
+        let found = [
+            word_leaf(rt.alloc(), word, false)?,
+            word_leaf(rt.alloc(), word, true)?,
+        ];
+        let wanted = [(outside, MathMode::Maybe), (inside, MathMode::Maybe)];
+        assert!(rt; found == wanted);
     }
     Ok(())
 }

@@ -432,19 +432,16 @@ fn first_wrong(
     Ok(0)
 }
 
+const ROWS: [&[(u8, &[Cat], usize, usize, Cat, &[u8])]; 9] = [
+    &FROM_1, &FROM_13, &FROM_25, &FROM_37, &FROM_49, &FROM_61, &FROM_73, &FROM_83, &FROM_93,
+];
+
 #[test]
 fn each_production_makes_what_its_row_says(rt: HostRuntime) -> Result<(), Fail> {
-    let alloc = rt.alloc();
     let flags = Flags::start();
-    assert_eq!(rt; first_wrong(alloc, &FROM_1, &flags)?, 0);
-    assert_eq!(rt; first_wrong(alloc, &FROM_13, &flags)?, 0);
-    assert_eq!(rt; first_wrong(alloc, &FROM_25, &flags)?, 0);
-    assert_eq!(rt; first_wrong(alloc, &FROM_37, &flags)?, 0);
-    assert_eq!(rt; first_wrong(alloc, &FROM_49, &flags)?, 0);
-    assert_eq!(rt; first_wrong(alloc, &FROM_61, &flags)?, 0);
-    assert_eq!(rt; first_wrong(alloc, &FROM_73, &flags)?, 0);
-    assert_eq!(rt; first_wrong(alloc, &FROM_83, &flags)?, 0);
-    assert_eq!(rt; first_wrong(alloc, &FROM_93, &flags)?, 0);
+    for rows in ROWS {
+        assert_eq!(rt; first_wrong(rt.alloc(), rows, &flags)?, 0);
+    }
     Ok(())
 }
 

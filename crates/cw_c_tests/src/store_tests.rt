@@ -8,7 +8,7 @@ ghost use Rattle.cw_tokens.specs.Shapes.{shape, ref_of};
 
 use cw_base::{Cat, MathMode, Memory};
 use cw_names::{NameId, Names};
-use cw_tokens::{FlatItem, ListId, Token, TokenStore};
+use cw_tokens::{FlatItem, FlatTokens, ListId, Token, TokenStore};
 use cw_trees::Control;
 use std::alloc::Global;
 use std::test::Fail;
@@ -63,6 +63,19 @@ fn pair(store: &mut TokenStore, first: Token, second: Token) -> ListId
     store.finish()
 }
 
+// Whether a list that is laid flat has these items.
+fn has_items(flat: &FlatTokens, wanted: &[FlatItem]) -> bool {
+    if flat.len() != wanted.len() {
+        return false;
+    }
+    for (i, item) in wanted.iter().enumerate() {
+        if flat.item(i) != *item {
+            return false;
+        }
+    }
+    true
+}
+
 #[test]
 fn a_list_inside_another_is_laid_flat_and_reserved_in_place(rt: HostRuntime) -> Result<(), Fail> {
     let alloc = rt.alloc();
@@ -74,15 +87,19 @@ fn a_list_inside_another_is_laid_flat_and_reserved_in_place(rt: HostRuntime) -> 
     let inside = word(&mut store, name);
     let outside = around(&mut store, Token::List(inside));
     assert_eq!(rt; room - store.spare(), 6);
-    assert!(rt; store.first_ident(outside, &names) == Some(name));
-    assert!(rt; store.bare_name(outside).is_none());
-    assert!(rt; store.reserve_ident(outside, &names) == Some(name));
-    assert!(rt; store.first_ident(outside, &names).is_none());
-    let flat = store.flat(alloc, outside)?;
-    assert_eq!(rt; flat.len(), 3);
-    assert!(rt; flat.item(0) == FlatItem::Control(Control::Break));
-    assert!(rt; flat.item(1) == FlatItem::Reserved(name, 7));
-    assert!(rt; flat.item(2) == FlatItem::Source(9));
+    let found = [
+        store.first_ident(outside, &names),
+        store.bare_name(outside),
+        store.reserve_ident(outside, &names),
+        store.first_ident(outside, &names),
+    ];
+    assert!(rt; found == [Some(name), None, Some(name), None]);
+    let wanted = [
+        FlatItem::Control(Control::Break),
+        FlatItem::Reserved(name, 7),
+        FlatItem::Source(9),
+    ];
+    assert!(rt; has_items(&store.flat(alloc, outside)?, &wanted));
     Ok(())
 }
 
@@ -95,11 +112,15 @@ fn an_inner_text_stands_between_brackets_and_is_not_searched(rt: HostRuntime) ->
     let inside = word(&mut store, NameId { index: 50 });
     let outside = around(&mut store, Token::Inner(inside));
     assert!(rt; store.first_ident(outside, &names).is_none());
+    let wanted = [
+        FlatItem::Open,
+        FlatItem::Control(Control::Break),
+        FlatItem::Ident(NameId { index: 50 }, 7),
+        FlatItem::Close,
+        FlatItem::Source(9),
+    ];
     let flat = store.flat(alloc, outside)?;
-    assert_eq!(rt; flat.len(), 5);
-    assert!(rt; flat.item(0) == FlatItem::Open);
-    assert!(rt; flat.item(3) == FlatItem::Close);
-    assert!(rt; !flat.is_empty());
+    assert!(rt; !flat.is_empty() && has_items(&flat, &wanted));
     Ok(())
 }
 
@@ -110,30 +131,18 @@ fn a_search_stops_at_a_word_like_case_and_at_the_mark(rt: HostRuntime) -> Result
     let name = NameId { index: 50 };
     let mut store = TokenStore::new_in(alloc);
     store.reserve(12)?;
-    let id = pair(
-        &mut store,
-        Token::Reserved(name, 1, Cat::CaseLike),
-        Token::Ident(name, 2),
-    );
-    assert!(rt; store.first_ident(id, &names).is_none());
-    let id = pair(
-        &mut store,
-        Token::Control(Control::Inserted),
-        Token::Ident(name, 2),
-    );
-    assert!(rt; store.first_ident(id, &names).is_none());
-    let id = pair(
-        &mut store,
-        Token::Reserved(name, 1, Cat::RawInt),
-        Token::Ident(name, 2),
-    );
-    assert!(rt; store.first_ident(id, &names) == Some(name));
-    let id = pair(
-        &mut store,
-        Token::Control(Control::Wall),
-        Token::Ident(name, 2),
-    );
-    assert!(rt; store.first_ident(id, &names) == Some(name));
+    let word = Token::Ident(name, 2);
+    let case = pair(&mut store, Token::Reserved(name, 1, Cat::CaseLike), word);
+    let mark = pair(&mut store, Token::Control(Control::Inserted), word);
+    let kind = pair(&mut store, Token::Reserved(name, 1, Cat::RawInt), word);
+    let wall = pair(&mut store, Token::Control(Control::Wall), word);
+    let found = [
+        store.first_ident(case, &names),
+        store.first_ident(mark, &names),
+        store.first_ident(kind, &names),
+        store.first_ident(wall, &names),
+    ];
+    assert!(rt; found == [None, None, Some(name), Some(name)]);
     Ok(())
 }
 
@@ -145,9 +154,9 @@ fn a_store_that_is_emptied_keeps_its_room(rt: HostRuntime) -> Result<(), Fail> {
     let _list = word(&mut store, NameId { index: 50 });
     store.begin();
     store.reset();
-    assert_eq!(rt; room - store.spare(), 4);
-    assert!(rt; store.reserve(usize::MAX) == Err(Memory));
-    assert!(rt; store.spare() + 4 == room);
+    let emptied = store.spare();
+    let refused = store.reserve(usize::MAX) == Err(Memory);
+    assert!(rt; refused && emptied + 4 == room && store.spare() == emptied);
     Ok(())
 }
 
@@ -163,8 +172,7 @@ fn a_store_that_was_refused_room_is_as_before_and_can_ask_again(
     store.reserve(3)?;
     let room = store.spare();
     let list = word(&mut store, NameId { index: 50 });
-    assert_eq!(rt; list.index, 0);
-    assert_eq!(rt; room - store.spare(), 3);
+    assert_eq!(rt; (list.index, room - store.spare()), (0, 3));
     Ok(())
 }
 
@@ -177,11 +185,13 @@ fn an_inner_text_is_trimmed_by_itself(rt: HostRuntime) -> Result<(), Fail> {
     let outside = around(&mut store, Token::Inner(inside));
     let mut flat = store.flat(alloc, outside)?;
     flat.trim();
-    assert_eq!(rt; flat.len(), 4);
-    assert!(rt; flat.item(0) == FlatItem::Open);
-    assert!(rt; flat.item(1) == FlatItem::Ident(NameId { index: 50 }, 7));
-    assert!(rt; flat.item(2) == FlatItem::Close);
-    assert!(rt; flat.item(3) == FlatItem::Source(9));
+    let wanted = [
+        FlatItem::Open,
+        FlatItem::Ident(NameId { index: 50 }, 7),
+        FlatItem::Close,
+        FlatItem::Source(9),
+    ];
+    assert!(rt; has_items(&flat, &wanted));
     Ok(())
 }
 
@@ -217,8 +227,7 @@ fn one_walk_trims_as_two_do(rt: HostRuntime) -> Result<(), Fail> {
     let inside = word(&mut store, name);
     let outside = around(&mut store, Token::List(inside));
     assert!(rt; is_trimmed_alike(&store, alloc, outside)?);
-    let flat = store.flat_trimmed(alloc, outside)?;
-    assert_eq!(rt; flat.len(), 2);
-    assert!(rt; flat.item(0) == FlatItem::Ident(name, 7));
+    let wanted = [FlatItem::Ident(name, 7), FlatItem::Source(9)];
+    assert!(rt; has_items(&store.flat_trimmed(alloc, outside)?, &wanted));
     Ok(())
 }

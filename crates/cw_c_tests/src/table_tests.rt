@@ -15,12 +15,19 @@ fn first_of(set: CatSet) -> Cat {
 #[test]
 fn distances_are_the_least_safe_ones(rt: HostRuntime) {
     let table = table();
-    assert_eq!(rt; table.distance(RowNo { number: 37 }), 1);
-    assert_eq!(rt; table.distance(RowNo { number: 6 }), 2);
-    assert_eq!(rt; table.distance(RowNo { number: 58 }), 3);
-    assert_eq!(rt; table.distance(RowNo { number: 82 }), 0);
-    assert_eq!(rt; table.distance(RowNo { number: 69 }), 1);
-    for (number, distance) in [(93, 2), (94, 2), (95, 1), (96, 0), (97, 1)] {
+    let distances = [
+        (37, 1),
+        (6, 2),
+        (58, 3),
+        (82, 0),
+        (69, 1),
+        (93, 2),
+        (94, 2),
+        (95, 1),
+        (96, 0),
+        (97, 1),
+    ];
+    for (number, distance) in distances {
         assert_eq!(rt; table.distance(RowNo { number }), distance);
     }
 }
@@ -72,18 +79,20 @@ fn each_row_is_found_by_its_own_tests(rt: HostRuntime) {
 #[test]
 fn rows_are_as_written(rt: HostRuntime) {
     let table = table();
-    assert!(rt; table.is_sound());
     let row = table.row(RowNo { number: 58 });
+    assert!(rt; table.is_sound());
     assert!(rt; row.tests[0].has(Cat::IfClause) && !row.tests[0].has(Cat::IfLike));
-    assert!(rt; row.action.usual.pieces[11] == Piece::Scrap(3));
-    assert!(rt; row.action.usual.count == 12);
+    assert!(rt; row.action.usual.pieces[11] == Piece::Scrap(3) && row.action.usual.count == 12);
 }
 
 #[test]
 fn ranks(rt: HostRuntime) {
-    assert_eq!(rt; rank(Cat::RawInt), 3);
-    assert_eq!(rt; rank(Cat::SectionScrap), 2);
-    assert_eq!(rt; rank(Cat::Exp), 1);
-    assert_eq!(rt; rank(Cat::Dot), 1);
-    assert_eq!(rt; rank(Cat::Dead), 0);
+    let ranks = [
+        rank(Cat::RawInt),
+        rank(Cat::SectionScrap),
+        rank(Cat::Exp),
+        rank(Cat::Dot),
+        rank(Cat::Dead),
+    ];
+    assert_eq!(rt; ranks, [3, 2, 1, 1, 0]);
 }

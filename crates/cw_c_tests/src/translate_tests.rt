@@ -268,20 +268,20 @@ const SAMPLES: [Sample; 15] = [
     },
 ];
 
+// What a sample prints, how many scraps it has, and in how many productions it is reduced.
+fn told(alloc: Global, sample: &Sample) -> Result<(Bytes, u64, u64), Memory> {
+    let outcome = translated(alloc, sample.text, sample.mode)?;
+    let bytes = printed(alloc, sample.text, &outcome)?;
+    Ok((bytes, outcome.done.scraps, outcome.done.productions))
+}
+
 #[test]
 fn worked_texts_have_their_bytes_and_counts(rt: HostRuntime) -> Result<(), Fail> {
     for (i, sample) in SAMPLES.iter().enumerate() {
-        let outcome = translated(rt.alloc(), sample.text, sample.mode)?;
-        let bytes = printed(rt.alloc(), sample.text, &outcome)?;
+        let (bytes, scraps, productions) = told(rt.alloc(), sample)?;
         assert_eq!(rt; bytes.as_slice(), sample.bytes, "text {i}");
-        assert_eq!(rt; outcome.done.scraps, sample.scraps, "scraps of text {i}");
-        if let Some(productions) = sample.productions {
-            assert_eq!(rt;
-                outcome.done.productions,
-                productions,
-                "productions of text {i}"
-            );
-        }
+        let wanted = (sample.scraps, sample.productions.unwrap_or(productions));
+        assert_eq!(rt; (scraps, productions), wanted, "counts of text {i}");
     }
     Ok(())
 }
@@ -311,29 +311,40 @@ fn repeated(
     Ok(text)
 }
 
-#[test]
-fn what_stays_at_the_left_is_not_looked_at_again(rt: HostRuntime) -> Result<(), Fail> {
-    let text = repeated(rt.alloc(), b")", 200, b"a;", 200)?;
-    let outcome = translated(rt.alloc(), &text, Mode::CPart)?;
-    assert_eq!(rt; outcome.done.scraps, 600);
-    assert_eq!(rt; outcome.done.productions, 399);
-    assert_eq!(rt; outcome.steps, 4796);
+fn blanks(items: &FlatTokens) -> u64 {
     let mut blanks = 0u64;
-    for i in 0..outcome.items.len() {
-        if outcome.items.item(i) == FlatItem::Control(Control::Blank) {
+    for i in 0..items.len() {
+        if items.item(i) == FlatItem::Control(Control::Blank) {
             blanks = blanks.wrapping_add(1);
         }
     }
-    // so 201 scraps are left
-    assert_eq!(rt; blanks, 200);
+    blanks
+}
+
+// The scraps of a C part, its productions and steps, and the blanks of its translation.
+fn counts(alloc: Global, text: &[u8]) -> Result<[u64; 4], Memory> {
+    let outcome = translated(alloc, text, Mode::CPart)?;
+    let done = &outcome.done;
+    Ok([
+        done.scraps,
+        done.productions,
+        outcome.steps,
+        blanks(&outcome.items),
+    ])
+}
+
+#[test]
+fn what_stays_at_the_left_is_not_looked_at_again(rt: HostRuntime) -> Result<(), Fail> {
+    let text = repeated(rt.alloc(), b")", 200, b"a;", 200)?;
+    // With 200 blanks between them, 201 scraps are left.
+    assert_eq!(rt; counts(rt.alloc(), &text)?, [600, 399, 4796, 200]);
     Ok(())
 }
 
 #[test]
 fn a_text_of_a_million_scraps_is_one_scrap(rt: HostRuntime) -> Result<(), Fail> {
     let text = repeated(rt.alloc(), b"", 0, b"a;", 500000)?;
-    let outcome = translated(rt.alloc(), &text, Mode::CPart)?;
-    assert_eq!(rt; outcome.done.scraps, 1000000);
-    assert_eq!(rt; outcome.done.productions, 999999);
+    let [scraps, productions, ..] = counts(rt.alloc(), &text)?;
+    assert_eq!(rt; (scraps, productions), (1000000, 999999));
     Ok(())
 }

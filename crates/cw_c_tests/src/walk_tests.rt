@@ -61,41 +61,37 @@ fn reduced(
 #[test]
 fn a_declaration_is_one_scrap_with_two_marks(rt: HostRuntime) -> Result<(), Fail> {
     let done = reduced(rt.alloc(), b"Ta=b+c,*d;", 1, b"", 0)?;
-    assert_eq!(rt; done.scraps, 1);
-    assert_eq!(rt; done.productions, 10);
-    assert_eq!(rt; done.marks, 2);
+    assert_eq!(rt; (done.scraps, done.productions, done.marks), (1, 10, 2));
     Ok(())
 }
 
 #[test]
 fn nested_choices_are_one_scrap(rt: HostRuntime) -> Result<(), Fail> {
     let done = reduced(rt.alloc(), b"I(a)b;EI(c){d;}Ee;", 1, b"", 0)?;
-    assert_eq!(rt; done.scraps, 1);
-    assert_eq!(rt; done.productions, 12);
+    assert_eq!(rt; (done.scraps, done.productions), (1, 12));
     Ok(())
 }
 
 #[test]
 fn what_stays_at_the_left_is_not_looked_at_again(rt: HostRuntime) -> Result<(), Fail> {
     let done = reduced(rt.alloc(), b")", 200, b"a;", 200)?;
-    assert_eq!(rt; done.scraps, 201);
-    assert_eq!(rt; done.productions, 399);
-    assert_eq!(rt; done.steps, 4796);
+    assert_eq!(rt;
+        (done.scraps, done.productions, done.steps),
+        (201, 399, 4796)
+    );
     Ok(())
 }
 
 #[test]
 fn a_million_scraps_become_one(rt: HostRuntime) -> Result<(), Fail> {
     let done = reduced(rt.alloc(), b"a;", 500000, b"", 0)?;
-    assert_eq!(rt; done.scraps, 1);
-    assert_eq!(rt; done.productions, 999999);
+    assert_eq!(rt; (done.scraps, done.productions), (1, 999999));
     Ok(())
 }
 
 #[test]
 fn a_line_without_scraps_stays(rt: HostRuntime) -> Result<(), Fail> {
     let done = reduced(rt.alloc(), b"", 1, b"", 0)?;
-    assert_eq!(rt; done.scraps, 0);
-    assert_eq!(rt; done.steps, 0);
+    assert_eq!(rt; (done.scraps, done.steps), (0, 0));
     Ok(())
 }

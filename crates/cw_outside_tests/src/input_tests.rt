@@ -159,54 +159,69 @@ fn load_sizes(
 
 #[test]
 fn the_limit_on_bytes(rt: HostRuntime) -> Result<(), Fail> {
-    let alloc = rt.alloc();
-    assert_eq!(rt; load_sizes(alloc, 8_388_604, 0, 0)?, Ok(8_388_605));
-    assert_eq!(rt;
-        load_sizes(alloc, 8_388_605, 0, 0)?,
-        Err(LoadError::TooLong)
-    );
-    assert_eq!(rt; load_sizes(alloc, 8_388_000, 604, 0)?, Ok(8_388_001));
-    assert_eq!(rt;
-        load_sizes(alloc, 8_388_000, 605, 0)?,
-        Err(LoadError::TooLong)
-    );
-    assert_eq!(rt; load_sizes(alloc, 1, 1, 8_388_602)?, Ok(8_388_605));
-    assert_eq!(rt;
-        load_sizes(alloc, 1, 1, 8_388_603)?,
-        Err(LoadError::TooLong)
-    );
+    let rows = [
+        ([8_388_604, 0, 0], Ok(8_388_605)),
+        ([8_388_605, 0, 0], Err(LoadError::TooLong)),
+        ([8_388_000, 604, 0], Ok(8_388_001)),
+        ([8_388_000, 605, 0], Err(LoadError::TooLong)),
+        ([1, 1, 8_388_602], Ok(8_388_605)),
+        ([1, 1, 8_388_603], Err(LoadError::TooLong)),
+    ];
+    for ([web, change, included], wanted) in rows {
+        assert_eq!(rt; load_sizes(rt.alloc(), web, change, included)?, wanted);
+    }
     Ok(())
+}
+
+// How loading a web ends over a desk that has `foo.web` alone.
+fn load_alone(alloc: Global, web: &[u8], change: Option<&[u8]>) -> Result<Option<LoadError>, Fail> {
+    let mut desk = MemDesk::new_in(alloc);
+    desk.add_file(b"foo.web", b"@i a\n")?;
+    Ok(load(alloc, &mut desk, web, change).err())
+}
+
+// How loading a web ends whose call of this number fails.
+fn load_failing(alloc: Global, call: u64) -> Result<Option<LoadError>, Fail> {
+    let mut desk = MemDesk::new_in(alloc);
+    desk.add_file(b"foo.web", b"@i a\n")?;
+    desk.add_file(b"foo.ch", b"@x\n")?;
+    desk.add_file(b"a", b"last")?;
+    desk.fail_at(call)?;
+    Ok(load(alloc, &mut desk, b"foo", Some(b"foo")).err())
 }
 
 #[test]
 fn errors_of_the_desk(rt: HostRuntime) -> Result<(), Fail> {
-    let alloc = rt.alloc();
-    let mut desk = MemDesk::new_in(alloc);
-    desk.add_file(b"foo.web", b"@i a\n")?;
+    let answers = [
+        load_alone(rt.alloc(), b"bar", None)?,
+        load_alone(rt.alloc(), b"foo", Some(b"foo."))?,
+    ];
     assert_eq!(rt;
-        load(alloc, &mut desk, b"bar", None).err(),
-        Some(LoadError::NoWeb)
-    );
-    assert_eq!(rt;
-        load(alloc, &mut desk, b"foo", Some(b"foo.")).err(),
-        Some(LoadError::NoChange)
+        answers,
+        [Some(LoadError::NoWeb), Some(LoadError::NoChange)]
     );
     for call in 1..12 {
-        let mut desk = MemDesk::new_in(alloc);
-        desk.add_file(b"foo.web", b"@i a\n")?;
-        desk.add_file(b"foo.ch", b"@x\n")?;
-        desk.add_file(b"a", b"last")?;
-        desk.fail_at(call)?;
-        let answer = load(alloc, &mut desk, b"foo", Some(b"foo")).err();
         // Opening foo.w and foo.web, two reads, the same of foo.ch and of a: ten calls.
         let wanted = if call <= 10 {
             Some(LoadError::Fault)
         } else {
             None
         };
-        assert_eq!(rt; answer, wanted, "at call {call}");
+        assert_eq!(rt; load_failing(rt.alloc(), call)?, wanted, "at call {call}");
     }
     Ok(())
+}
+
+// Whether a command weaves `d/foo.w` into `out.tex`, with the banner and without the index and the statistics.
+fn is_as_asked(command: &Command) -> bool {
+    match command {
+        Command::Weave(line) => line.flags.banner
+            && !line.flags.index
+            && !line.flags.stats
+            && line.web.as_slice() == b"d/foo.w".as_slice()
+            && line.outputs.tex.as_slice() == b"out.tex".as_slice(),
+        _ => false,
+    }
 }
 
 #[test]
@@ -218,14 +233,7 @@ fn command_lines(rt: HostRuntime) -> Result<(), Fail> {
     words.push(b"+b")?;
     words.push(b"foo")?;
     words.push(b"out")?;
-    match read_command(alloc, &words)? {
-        Command::Weave(line) => {
-            assert!(rt; line.flags.banner && !line.flags.index && !line.flags.stats);
-            assert_eq!(rt; line.web.as_slice(), b"d/foo.w".as_slice());
-            assert_eq!(rt; line.outputs.tex.as_slice(), b"out.tex".as_slice());
-        }
-        _ => assert!(rt; false),
-    }
+    assert!(rt; is_as_asked(&read_command(alloc, &words)?));
     words.push(b"more")?;
     assert!(rt; matches!(read_command(alloc, &words)?, Command::Usage(_)));
     Ok(())

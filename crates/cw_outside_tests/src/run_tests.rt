@@ -42,17 +42,17 @@ fn web_of(alloc: Global, name: &[u8]) -> Result<Web, Memory>
     Ok(web)
 }
 
-fn says(text: Result<(), PutError>) -> bool {
-    text == Ok(())
+fn say_lines(desk: &mut MemDesk) -> Result<(), PutError> {
+    say(desk, Message::Banner)?;
+    say_if(desk, false, Message::WritingOutput)?;
+    say_if(desk, true, Message::WritingIndex)?;
+    say(desk, Message::Done)
 }
 
 #[test]
 fn lines(rt: HostRuntime) -> Result<(), Fail> {
     let mut desk = MemDesk::new_in(rt.alloc());
-    assert!(rt; says(say(&mut desk, Message::Banner)));
-    assert!(rt; says(say_if(&mut desk, false, Message::WritingOutput)));
-    assert!(rt; says(say_if(&mut desk, true, Message::WritingIndex)));
-    assert!(rt; says(say(&mut desk, Message::Done)));
+    say_lines(&mut desk)?;
     let text = printed(rt.alloc(), &desk)?;
     assert_eq!(rt;
         text.as_slice(),
@@ -65,12 +65,17 @@ Done.
     Ok(())
 }
 
+fn stop_thrice(alloc: Global, desk: &mut MemDesk) -> Result<[Exit; 3], PutError> {
+    let too_long = stop(desk, Message::TooLong)?;
+    let no_web = stop_without_web(alloc, desk, b"foo")?;
+    let no_change = stop_without_change(alloc, desk, b"bar")?;
+    Ok([too_long, no_web, no_change])
+}
+
 #[test]
 fn stops(rt: HostRuntime) -> Result<(), Fail> {
     let mut desk = MemDesk::new_in(rt.alloc());
-    assert!(rt; stop(&mut desk, Message::TooLong) == Ok(Exit::Errors));
-    assert!(rt; stop_without_web(rt.alloc(), &mut desk, b"foo") == Ok(Exit::Errors));
-    assert!(rt; stop_without_change(rt.alloc(), &mut desk, b"bar") == Ok(Exit::Errors));
+    assert_eq!(rt; stop_thrice(rt.alloc(), &mut desk)?, [Exit::Errors; 3]);
     let text = printed(rt.alloc(), &desk)?;
     assert_eq!(rt;
         text.as_slice(),
@@ -86,9 +91,8 @@ fn stops(rt: HostRuntime) -> Result<(), Fail> {
     Ok(())
 }
 
-#[test]
-fn notes(rt: HostRuntime) -> Result<(), Fail> {
-    let alloc = rt.alloc();
+/// What three notes are printed as.
+fn printed_notes(alloc: Global) -> Result<Bytes, Fail> {
     let mut desk = MemDesk::new_in(alloc);
     let web = web_of(alloc, b"foo.w")?;
     let mut names = SecNames::new_in(alloc);
@@ -103,8 +107,13 @@ fn notes(rt: HostRuntime) -> Result<(), Fail> {
         web: &web,
         names: &names,
     };
-    assert!(rt; says(print_notes(noted, &notes, &mut desk)));
-    let text = printed(alloc, &desk)?;
+    print_notes(noted, &notes, &mut desk)?;
+    Ok(printed(alloc, &desk)?)
+}
+
+#[test]
+fn notes(rt: HostRuntime) -> Result<(), Fail> {
+    let text = printed_notes(rt.alloc())?;
     assert_eq!(rt;
         text.as_slice(),
         b"! 3 of the preceding lines did not match (l. 7 of foo.w)
@@ -116,15 +125,19 @@ fn notes(rt: HostRuntime) -> Result<(), Fail> {
     Ok(())
 }
 
-#[test]
-fn broken_lines(rt: HostRuntime) -> Result<(), Fail> {
-    let alloc = rt.alloc();
+/// What is printed of a line that had to be broken.
+fn printed_broken(alloc: Global) -> Result<Bytes, Fail> {
     let mut desk = MemDesk::new_in(alloc);
     let mut lines = begin_file(alloc, &mut desk, Out::Tex, b"foo.tex", false)?;
     let long = vec![in alloc; b'a'; 100]?;
-    assert!(rt; says(lines.put_all(long.as_slice(), &mut desk)));
-    assert!(rt; says(print_broken(alloc, b"foo.tex", &lines, &mut desk)));
-    let text = printed(alloc, &desk)?;
+    lines.put_all(long.as_slice(), &mut desk)?;
+    print_broken(alloc, b"foo.tex", &lines, &mut desk)?;
+    Ok(printed(alloc, &desk)?)
+}
+
+#[test]
+fn broken_lines(rt: HostRuntime) -> Result<(), Fail> {
+    let text = printed_broken(rt.alloc())?;
     let end = b"! Line had to be broken (output l. 1 of foo.tex)\n".as_slice();
     assert!(rt; text.as_slice().ends_with(end));
     Ok(())
@@ -143,16 +156,16 @@ fn is_kept(alloc: Global, name: &[u8]) -> Result<bool, Fail> {
 
 #[test]
 fn old_files(rt: HostRuntime) -> Result<(), Fail> {
-    assert!(rt; is_kept(rt.alloc(), b"a.idx")?);
-    assert!(rt; !is_kept(rt.alloc(), b"b.idx")?);
-    assert!(rt; !is_kept(rt.alloc(), b"c.idx")?);
+    let kept = [
+        is_kept(rt.alloc(), b"a.idx")?,
+        is_kept(rt.alloc(), b"b.idx")?,
+        is_kept(rt.alloc(), b"c.idx")?,
+    ];
+    assert_eq!(rt; kept, [true, false, false]);
     Ok(())
 }
 
-#[test]
-fn endings(rt: HostRuntime) -> Result<(), Fail> {
-    let alloc = rt.alloc();
-    let mut desk = MemDesk::new_in(alloc);
+fn close_thrice(alloc: Global, desk: &mut MemDesk) -> Result<[Exit; 3], PutError> {
     let totals = Totals {
         sections: 3,
         scraps: 87,
@@ -162,12 +175,20 @@ fn endings(rt: HostRuntime) -> Result<(), Fail> {
     let flags = Flags::start();
     let harmless = [note(NoteKind::NeverUsed, 0, 0)];
     let error = [note(NoteKind::LinesDiffer, 1, 1)];
-    assert!(rt; says(say_statistics(alloc, true, totals, &mut desk)));
-    assert!(rt; says(say_statistics(alloc, false, totals, &mut desk)));
-    assert!(rt; close(&mut desk, &flags, Judgement::of(&[], &[])) == Ok(Exit::Clean));
-    assert!(rt; close(&mut desk, &flags, Judgement::of(&[], &harmless)) == Ok(Exit::Clean));
-    assert!(rt; close(&mut desk, &flags, Judgement::of(&error, &harmless)) == Ok(Exit::Errors));
-    let text = printed(alloc, &desk)?;
+    say_statistics(alloc, true, totals, desk)?;
+    say_statistics(alloc, false, totals, desk)?;
+    let clean = close(desk, &flags, Judgement::of(&[], &[]))?;
+    let warned = close(desk, &flags, Judgement::of(&[], &harmless))?;
+    let failed = close(desk, &flags, Judgement::of(&error, &harmless))?;
+    Ok([clean, warned, failed])
+}
+
+#[test]
+fn endings(rt: HostRuntime) -> Result<(), Fail> {
+    let mut desk = MemDesk::new_in(rt.alloc());
+    let exits = close_thrice(rt.alloc(), &mut desk)?;
+    assert_eq!(rt; exits, [Exit::Clean, Exit::Clean, Exit::Errors]);
+    let text = printed(rt.alloc(), &desk)?;
     assert_eq!(rt;
         text.as_slice(),
         b"sections 3

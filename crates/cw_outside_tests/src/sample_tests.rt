@@ -16,7 +16,7 @@ if (a>2) { b+=2; c(2,a); } else while (b) b--;
 "
             .as_slice()
     );
-    assert_eq!(rt; web.line_count(), 6);
-    assert_eq!(rt; web.line(5).place.line, 6);
+    let count = web.line_count();
+    assert!(rt; count == 6 && web.line(5).place.line == 6);
     Ok(())
 }

@@ -1,2 +1,0 @@
--- What the tests of parts need of sections.
-mod WholeRests
