@@ -4,7 +4,7 @@ ghost use Rattle.cw_lines.specs.Writes.{CanWrite};
 ghost use Rattle.cw_reduce.specs.NameParts.{AreNamesOf};
 
 use crate::small_webs::{book_of, desk_with, web_of, written};
-use cw_base::{Flags, Kept, Memory, Out, Steps, Web};
+use cw_base::{Bytes, Flags, Kept, Memory, Out, Steps, Web};
 use cw_desk::Desk;
 use cw_index::{are_names_whole, compare_entries, write_closing, write_index, write_names};
 use cw_lines::{LineOut, PutError};
@@ -22,11 +22,28 @@ fn an_entry_stands_before_another(rt: HostRuntime) -> Result<(), Fail> {
     let small = names.find_or_add(EntryKind::Roman, b"ab")?;
     let digit = names.find_or_add(EntryKind::Ident, b"a1")?;
     if capital.index < names.len() && small.index < names.len() && digit.index < names.len() {
-        assert!(rt; compare_entries(&names, capital, small) == Ordering::Less);
-        assert!(rt; compare_entries(&names, digit, small) == Ordering::Greater);
-        assert!(rt; compare_entries(&names, small, small) == Ordering::Equal);
+        assert_eq!(rt;
+            [
+                compare_entries(&names, capital, small),
+                compare_entries(&names, digit, small),
+                compare_entries(&names, small, small)
+            ],
+            [Ordering::Less, Ordering::Greater, Ordering::Equal]
+        );
     }
     Ok(())
+}
+
+// The index of a web and what closes its book, and the scraps and productions that are counted for them.
+fn index_of(alloc: Global, lines: &[&[u8]]) -> Result<(Bytes, u64, u64), Fail> {
+    let web = web_of(alloc, lines)?;
+    let book = phase_one(alloc, &web)?;
+    let mut desk = desk_with(alloc, Out::Idx)?;
+    let mut out = LineOut::new_in(alloc, Out::Idx);
+    let index = write_index(alloc, &web, &book, &mut out, &mut desk)?;
+    let closing = write_closing(&book, &Flags::start(), &mut out, &mut desk)?;
+    let text = written(alloc, desk.journal())?;
+    Ok((text, index.scraps, closing.productions))
 }
 
 #[test]
@@ -37,15 +54,8 @@ fn an_index_is_written(rt: HostRuntime) -> Result<(), Fail> {
         b"@ Two.".as_slice(),
         b"@c x1=main; @.t_t@>".as_slice(),
     ];
-    let web = web_of(rt.alloc(), lines)?;
-    let book = phase_one(rt.alloc(), &web)?;
-    let mut desk = desk_with(rt.alloc(), Out::Idx)?;
-    let mut out = LineOut::new_in(rt.alloc(), Out::Idx);
-    let counts = write_index(rt.alloc(), &web, &book, &mut out, &mut desk)?;
-    assert_eq!(rt; counts.scraps, 0);
-    let counts = write_closing(&book, &Flags::start(), &mut out, &mut desk)?;
-    assert_eq!(rt; counts.productions, 0);
-    let text = written(rt.alloc(), desk.journal())?;
+    let (text, scraps, productions) = index_of(rt.alloc(), lines)?;
+    assert_eq!(rt; (scraps, productions), (0, 0));
     let wanted: &[u8] =
         b"\\I\\.{EOF}, \\[1].\n\\I\\\\{main}, 1, 2.\n\\I\\.{t_t}, 2.\n\\I\\\\{x1}, 2.\n\\inx\n\\fin\n\\con\n";
     assert_eq!(rt; text.as_slice(), wanted);
@@ -71,6 +81,16 @@ fn list_names<D: Desk>(
     write_names(alloc, web, book, &Flags::start(), out, desk, &mut steps)
 }
 
+// The section list of a web, and the scraps that are counted for it.
+fn section_list_of(alloc: Global, lines: &[&[u8]]) -> Result<(Bytes, u64), Fail> {
+    let web = web_of(alloc, lines)?;
+    let mut book = book_of(alloc, &web)?;
+    let mut desk = desk_with(alloc, Out::Idx)?;
+    let mut out = LineOut::new_in(alloc, Out::Idx);
+    let counts = list_names(alloc, &web, &mut book, &mut out, &mut desk)?;
+    Ok((written(alloc, desk.journal())?, counts.scraps))
+}
+
 #[test]
 fn a_section_list_is_written(rt: HostRuntime) -> Result<(), Fail> {
     let lines: &[&[u8]] = &[
@@ -80,13 +100,8 @@ fn a_section_list_is_written(rt: HostRuntime) -> Result<(), Fail> {
         b"@ Three.".as_slice(),
         b"@(B@>=x; @<b|n|@>".as_slice(),
     ];
-    let web = web_of(rt.alloc(), lines)?;
-    let mut book = book_of(rt.alloc(), &web)?;
-    let mut desk = desk_with(rt.alloc(), Out::Idx)?;
-    let mut out = LineOut::new_in(rt.alloc(), Out::Idx);
-    let counts = list_names(rt.alloc(), &web, &mut book, &mut out, &mut desk)?;
-    assert_eq!(rt; counts.scraps, 4);
-    let text = written(rt.alloc(), desk.journal())?;
+    let (text, scraps) = section_list_of(rt.alloc(), lines)?;
+    assert_eq!(rt; scraps, 4);
     let wanted: &[u8] =
         b"\\I\\X0:B\\X\n\\U2.\n\\I\\X3:\\.{B}\\X\n\\I\\X2:b\\PB{\\|n}\\X\n\\Q1.\n\\U3.\n";
     assert_eq!(rt; text.as_slice(), wanted);

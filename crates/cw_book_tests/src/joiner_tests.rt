@@ -9,7 +9,7 @@ ghost use Rattle.cw_join.specs.Standing.{Stands};
 ghost use Rattle.cw_join.specs.Tokens.{CanCome};
 
 use crate::small_webs::{desk_with, written};
-use cw_base::Out;
+use cw_base::{Bytes, Out};
 use cw_desk::MemDesk;
 use cw_join::{FlatToken, Joiner};
 use cw_lines::{LineOut, PutError};
@@ -105,17 +105,22 @@ const INNER_TEXT: [(FlatItem, &[u8]); 4] = [
     (FlatItem::Source(1), b"b"),
 ];
 
-#[test]
-fn names_signs_and_runs_are_printed(rt: HostRuntime) -> Result<(), Fail> {
-    let mut desk = desk_with(rt.alloc(), Out::Tex)?;
-    let mut out = LineOut::new_in(rt.alloc(), Out::Tex);
-    let mut names = Names::with_words(rt.alloc())?;
+/// What a text prints that is no inner one.
+fn printed(alloc: Global) -> Result<Bytes, Fail> {
+    let mut desk = desk_with(alloc, Out::Tex)?;
+    let mut out = LineOut::new_in(alloc, Out::Tex);
+    let mut names = Names::with_words(alloc)?;
     names.find_or_add(EntryKind::Ident, b"_next_of$")?;
     names.find_or_add(EntryKind::Ident, b"x")?;
     names.find_or_add(EntryKind::Ident, b"EOF")?;
     push_each(false, &TEXT, &names, &mut out, &mut desk)?;
     out.end_line(&mut desk)?;
-    let text = written(rt.alloc(), desk.journal())?;
+    Ok(written(alloc, desk.journal())?)
+}
+
+#[test]
+fn names_signs_and_runs_are_printed(rt: HostRuntime) -> Result<(), Fail> {
+    let text = printed(rt.alloc())?;
     assert_eq!(rt;
         text.as_slice(),
         b"\\\\{\\_next\\_of\\$}\\1\\6\n\\4${}\\|x\\K\\.{EOF}{}$;\n".as_slice()
@@ -123,15 +128,20 @@ fn names_signs_and_runs_are_printed(rt: HostRuntime) -> Result<(), Fail> {
     Ok(())
 }
 
-#[test]
-fn inner_text_prints_a_blank_for_a_run(rt: HostRuntime) -> Result<(), Fail> {
-    let mut desk = desk_with(rt.alloc(), Out::Tex)?;
-    let mut out = LineOut::new_in(rt.alloc(), Out::Tex);
-    let names = Names::with_words(rt.alloc())?;
+/// What an inner text prints, and one without items behind it.
+fn printed_inside(alloc: Global) -> Result<Bytes, Fail> {
+    let mut desk = desk_with(alloc, Out::Tex)?;
+    let mut out = LineOut::new_in(alloc, Out::Tex);
+    let names = Names::with_words(alloc)?;
     push_each(true, &INNER_TEXT, &names, &mut out, &mut desk)?;
     finish_none(&mut out, &mut desk)?;
     out.end_line(&mut desk)?;
-    let text = written(rt.alloc(), desk.journal())?;
+    Ok(written(alloc, desk.journal())?)
+}
+
+#[test]
+fn inner_text_prints_a_blank_for_a_run(rt: HostRuntime) -> Result<(), Fail> {
+    let text = printed_inside(rt.alloc())?;
     assert_eq!(rt; text.as_slice(), b"a b\n".as_slice());
     Ok(())
 }

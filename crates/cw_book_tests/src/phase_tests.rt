@@ -1,53 +1,73 @@
 //! The first phase of worked webs, by calls.
 use crate::small_webs::web_of;
-use cw_base::{NoteKind, Span};
-use cw_phase1::phase_one;
+use cw_base::{Memory, NoteKind, Span};
+use cw_phase1::{Book, phase_one};
 use cw_secnames::SecId;
 use std::alloc::Global;
 use std::test::Fail;
 
+fn book(alloc: Global, lines: &[&[u8]]) -> Result<Book, Memory> {
+    let web = web_of(alloc, lines)?;
+    phase_one(alloc, &web)
+}
+
+/// The name and the C part of the second section, where there is one.
+fn second_section(book: &Book) -> Option<(Option<SecId>, Span)> {
+    if book.section_count() < 2 {
+        return None;
+    }
+    let second = book.section(2);
+    Some((second.name, second.c_part))
+}
+
+/// Whether the notes are of a prefix of several names in the third line and of the second name, which isn't used.
+fn are_of_a_prefix_and_a_name(book: &Book) -> bool {
+    match book.notes() {
+        [first, second] => first.kind == NoteKind::AmbiguousPrefix
+            && first.place.line == 3
+            && second.kind == NoteKind::NeverUsed
+            && second.value == 1,
+        _ => false,
+    }
+}
+
 #[test]
 fn a_prefix_of_two_names(rt: HostRuntime) -> Result<(), Fail> {
-    let web = web_of(
-        rt.alloc(),
-        &[
-            b"@ @<Read a@>= x;".as_slice(),
-            b"@ @<Read b@>= y;".as_slice(),
-            b"@ @c @<Read...@>;".as_slice(),
-        ],
-    )?;
-    let book = phase_one(rt.alloc(), &web)?;
-    let (first, next) = (SecId { index: 0 }, SecId { index: 1 });
-    assert_eq!(rt; book.section_count(), 3);
-    assert_eq!(rt; book.limbo().end, 0);
-    if book.section_count() > 1 {
-        let second = book.section(2);
-        assert_eq!(rt; second.name, Some(next));
-        assert_eq!(rt; second.c_part, Span { start: 19, end: 34 });
-    }
-    assert_eq!(rt; book.sec_names.len(), 2);
-    assert_eq!(rt; book.name_uses.at(2), Some(first));
-    assert_eq!(rt; book.name_uses.at(19), Some(next));
-    assert_eq!(rt; book.name_uses.at(39), Some(first));
-    assert_eq!(rt; book.name_uses.at(3), None);
-    let notes = book.notes();
-    assert_eq!(rt; notes.len(), 2);
-    assert!(rt; notes[0].kind == NoteKind::AmbiguousPrefix && notes[0].place.line == 3);
-    assert!(rt; notes[1].kind == NoteKind::NeverUsed && notes[1].value == 1);
+    let lines: &[&[u8]] = &[
+        b"@ @<Read a@>= x;",
+        b"@ @<Read b@>= y;",
+        b"@ @c @<Read...@>;",
+    ];
+    let book = book(rt.alloc(), lines)?;
+    let (first, next) = (Some(SecId { index: 0 }), Some(SecId { index: 1 }));
+    let uses = &book.name_uses;
+    assert_eq!(rt;
+        (book.section_count(), book.limbo().end, book.sec_names.len()),
+        (3, 0, 2)
+    );
+    let c_part = Span { start: 19, end: 34 };
+    assert_eq!(rt; second_section(&book), Some((next, c_part)));
+    assert_eq!(rt;
+        [uses.at(2), uses.at(19), uses.at(39), uses.at(3)],
+        [first, next, first, None]
+    );
+    assert!(rt; are_of_a_prefix_and_a_name(&book));
     Ok(())
+}
+
+/// Whether the notes are of these kinds.
+fn are_of_kinds(book: &Book, kinds: &[NoteKind]) -> bool {
+    let notes = book.notes();
+    notes.len() == kinds.len()
+        && notes
+            .iter()
+            .zip(kinds.iter())
+            .all(|(note, kind)| note.kind == *kind)
 }
 
 #[test]
 fn notes_come_in_order(rt: HostRuntime) -> Result<(), Fail> {
-    let web = web_of(
-        rt.alloc(),
-        &[
-            b"@ @<Read@>=".as_slice(),
-            b"@c @<Read @^b".as_slice(),
-            b"@ @<@>@<Wr...@>@(Read@>".as_slice(),
-        ],
-    )?;
-    let book = phase_one(rt.alloc(), &web)?;
+    let lines: &[&[u8]] = &[b"@ @<Read@>=", b"@c @<Read @^b", b"@ @<@>@<Wr...@>@(Read@>"];
     let kinds = [
         NoteKind::CodeInCText,
         NoteKind::NameUnended,
@@ -57,12 +77,6 @@ fn notes_come_in_order(rt: HostRuntime) -> Result<(), Fail> {
         NoteKind::NameIncomplete,
         NoteKind::NeverDefined,
     ];
-    assert_eq!(rt; book.notes().len(), kinds.len());
-    assert!(rt;
-        book.notes()
-            .iter()
-            .zip(kinds.iter())
-            .all(|(note, kind)| note.kind == *kind)
-    );
+    assert!(rt; are_of_kinds(&book(rt.alloc(), lines)?, &kinds));
     Ok(())
 }

@@ -1,124 +1,179 @@
 //! Worked names, by calls.
-use cw_base::Span;
+use cw_base::{Memory, Span};
 use cw_secnames::{Entered, NameUses, RefKind, SecId, SecKind, SecNames, next_part};
 use std::test::Fail;
+
+const FIRST: SecId = SecId { index: 0 };
+
+const SECOND: SecId = SecId { index: 1 };
+
+const NAMED: Option<SecKind> = Some(SecKind::Named);
+
+const FILE: Option<SecKind> = Some(SecKind::File);
+
+/// Enters texts one after another, a whole name of a kind or a prefix. The number of the first that is answered
+/// otherwise.
+fn first_other(
+    names: &mut SecNames,
+    rows: &[(Option<SecKind>, &[u8], Entered)],
+) -> Result<Option<usize>, Memory> {
+    for (i, (kind, text, wanted)) in rows.iter().enumerate() {
+        if text.is_empty() {
+            return Ok(Some(i));
+        }
+        let answer = match kind {
+            Some(kind) => names.enter(*kind, text)?,
+            None => names.enter_prefix(text)?,
+        };
+        if answer != *wanted {
+            return Ok(Some(i));
+        }
+    }
+    Ok(None)
+}
+
+/// Whether a name is kept so.
+fn is_kept(names: &SecNames, id: SecId, kind: SecKind, text: &[u8], complete: bool) -> bool {
+    id.index < names.len()
+        && names.kind(id) == kind
+        && names.text(id) == text
+        && names.complete(id) == complete
+}
 
 #[test]
 fn a_prefix_grows_to_its_name(rt: HostRuntime) -> Result<(), Fail> {
     let mut names = SecNames::new_in(rt.alloc());
-    let first = SecId { index: 0 };
-    assert_eq!(rt; names.enter_prefix(b"Re")?, Entered::New(first));
-    assert_eq!(rt; names.enter_prefix(b"Rea")?, Entered::Known(first));
-    assert!(rt; !names.complete(first));
-    assert_eq!(rt;
-        names.enter(SecKind::Named, b"Read")?,
-        Entered::Known(first)
-    );
-    assert!(rt; names.complete(first));
-    assert_eq!(rt; names.text(first), b"Read".as_slice());
-    assert_eq!(rt;
-        names.enter(SecKind::Named, b"Rea")?,
-        Entered::Conflict(first)
-    );
-    assert_eq!(rt;
-        names.enter(SecKind::File, b"Rea")?,
-        Entered::New(SecId { index: 1 })
-    );
-    assert_eq!(rt; names.kind(SecId { index: 1 }), SecKind::File);
-    assert_eq!(rt; names.len(), 2);
+    let prefixes: [(_, &[u8], _); 2] = [
+        (None, b"Re", Entered::New(FIRST)),
+        (None, b"Rea", Entered::Known(FIRST)),
+    ];
+    assert_eq!(rt; first_other(&mut names, &prefixes)?, None);
+    assert!(rt; is_kept(&names, FIRST, SecKind::Named, b"Rea", false));
+    let whole: [(_, &[u8], _); 3] = [
+        (NAMED, b"Read", Entered::Known(FIRST)),
+        (NAMED, b"Rea", Entered::Conflict(FIRST)),
+        (FILE, b"Rea", Entered::New(SECOND)),
+    ];
+    assert_eq!(rt; first_other(&mut names, &whole)?, None);
+    assert!(rt; is_kept(&names, FIRST, SecKind::Named, b"Read", true));
+    assert!(rt; is_kept(&names, SECOND, SecKind::File, b"Rea", true) && names.len() == 2);
     Ok(())
+}
+
+/// Notes references one after another.
+fn refer_all(names: &mut SecNames, references: &[(SecId, RefKind, u32)]) -> Result<(), Memory> {
+    for (id, how, section) in references {
+        if id.index < names.len() {
+            names.add_ref(*id, *how, *section)?;
+        }
+    }
+    Ok(())
+}
+
+/// Whether a name is defined, used and cited in these sections.
+fn is_referred(names: &SecNames, id: SecId, wanted: [&[u32]; 3]) -> bool {
+    let [defined, used, cited] = wanted;
+    id.index < names.len()
+        && names.defined_in(id) == defined
+        && names.used_in(id) == used
+        && names.cited_in(id) == cited
 }
 
 #[test]
 fn a_prefix_of_two_names_is_ambiguous(rt: HostRuntime) -> Result<(), Fail> {
     let mut names = SecNames::new_in(rt.alloc());
-    let (first, next) = (SecId { index: 0 }, SecId { index: 1 });
-    assert_eq!(rt;
-        names.enter(SecKind::Named, b"Read a")?,
-        Entered::New(first)
-    );
-    assert_eq!(rt; names.enter(SecKind::Named, b"Read b")?, Entered::New(next));
-    assert_eq!(rt;
-        names.enter_prefix(b"Read")?,
-        Entered::Ambiguous(first, next)
-    );
-    names.add_ref(first, RefKind::Defined, 1)?;
-    names.add_ref(next, RefKind::Defined, 2)?;
-    names.add_ref(first, RefKind::Used, 3)?;
-    names.add_ref(first, RefKind::Used, 3)?;
-    names.add_ref(next, RefKind::Cited, 3)?;
-    assert_eq!(rt; names.used_in(first), [3].as_slice());
-    assert_eq!(rt; names.defined_in(first), [1].as_slice());
-    assert_eq!(rt; names.cited_in(next), [3].as_slice());
-    assert!(rt; names.used_in(next).is_empty());
+    let rows: [(_, &[u8], _); 3] = [
+        (NAMED, b"Read a", Entered::New(FIRST)),
+        (NAMED, b"Read b", Entered::New(SECOND)),
+        (None, b"Read", Entered::Ambiguous(FIRST, SECOND)),
+    ];
+    assert_eq!(rt; first_other(&mut names, &rows)?, None);
+    let references = [
+        (FIRST, RefKind::Defined, 1),
+        (SECOND, RefKind::Defined, 2),
+        (FIRST, RefKind::Used, 3),
+        (FIRST, RefKind::Used, 3),
+        (SECOND, RefKind::Cited, 3),
+    ];
+    refer_all(&mut names, &references)?;
+    assert!(rt; is_referred(&names, FIRST, [&[1], &[3], &[]]));
+    assert!(rt; is_referred(&names, SECOND, [&[2], &[], &[3]]));
     Ok(())
 }
 
-#[test]
-fn names_are_found_behind_many_others(rt: HostRuntime) -> Result<(), Fail> {
-    let mut names = SecNames::new_in(rt.alloc());
+/// Enters `Read 000 of them` up to `Read 299 of them`: whether each is new.
+fn enter_many(names: &mut SecNames) -> Result<bool, Memory> {
     let mut text = *b"Read 000 of them";
     for count in 0..300u16 {
         text[5] = b'0' + (count / 100) as u8;
         text[6] = b'0' + (count / 10 % 10) as u8;
         text[7] = b'0' + (count % 10) as u8;
-        assert_eq!(rt;
-            names.enter(SecKind::Named, &text)?,
-            Entered::New(SecId {
-                index: usize::from(count)
-            })
-        );
+        let answer = names.enter(SecKind::Named, &text)?;
+        let index = usize::from(count);
+        if answer != Entered::New(SecId { index }) {
+            return Ok(false);
+        }
     }
-    assert_eq!(rt;
-        names.enter(SecKind::Named, b"Read 217 of them")?,
-        Entered::Known(SecId { index: 217 })
-    );
-    assert_eq!(rt;
-        names.enter_prefix(b"Read 217")?,
-        Entered::Known(SecId { index: 217 })
-    );
-    assert_eq!(rt;
-        names.enter_prefix(b"Read 21")?,
-        Entered::Ambiguous(SecId { index: 210 }, SecId { index: 211 })
-    );
-    assert_eq!(rt;
-        names.enter(SecKind::Named, b"Read 299 of them all")?,
-        Entered::Conflict(SecId { index: 299 })
-    );
-    assert_eq!(rt;
-        names.enter_prefix(b"Read 3")?,
-        Entered::New(SecId { index: 300 })
-    );
-    assert_eq!(rt;
-        names.enter_prefix(b"Read 333")?,
-        Entered::Known(SecId { index: 300 })
-    );
-    assert_eq!(rt; names.text(SecId { index: 300 }), b"Read 333".as_slice());
-    assert_eq!(rt;
-        names.enter(SecKind::Named, b"Read 333 of them")?,
-        Entered::Known(SecId { index: 300 })
-    );
+    Ok(true)
+}
+
+const LAST: SecId = SecId { index: 300 };
+
+/// What is answered behind three hundred names.
+const BEHIND_MANY: [(Option<SecKind>, &[u8], Entered); 6] = [
+    (
+        NAMED,
+        b"Read 217 of them",
+        Entered::Known(SecId { index: 217 }),
+    ),
+    (None, b"Read 217", Entered::Known(SecId { index: 217 })),
+    (
+        None,
+        b"Read 21",
+        Entered::Ambiguous(SecId { index: 210 }, SecId { index: 211 }),
+    ),
+    (
+        NAMED,
+        b"Read 299 of them all",
+        Entered::Conflict(SecId { index: 299 }),
+    ),
+    (None, b"Read 3", Entered::New(LAST)),
+    (None, b"Read 333", Entered::Known(LAST)),
+];
+
+#[test]
+fn names_are_found_behind_many_others(rt: HostRuntime) -> Result<(), Fail> {
+    let mut names = SecNames::new_in(rt.alloc());
+    assert!(rt; enter_many(&mut names)?);
+    assert_eq!(rt; first_other(&mut names, &BEHIND_MANY)?, None);
+    assert!(rt; is_kept(&names, LAST, SecKind::Named, b"Read 333", false));
+    let grown: [(_, &[u8], _); 1] = [(NAMED, b"Read 333 of them", Entered::Known(LAST))];
+    assert_eq!(rt; first_other(&mut names, &grown)?, None);
     Ok(())
 }
 
 #[test]
 fn a_name_is_found_at_its_place(rt: HostRuntime) -> Result<(), Fail> {
     let mut uses = NameUses::new_in(rt.alloc());
-    let (first, next) = (SecId { index: 0 }, SecId { index: 1 });
-    uses.add(2, next)?;
-    uses.add(19, first)?;
-    assert_eq!(rt; uses.at(2), Some(next));
-    assert_eq!(rt; uses.at(19), Some(first));
-    assert_eq!(rt; uses.at(18), None);
-    assert_eq!(rt; uses.at(20), None);
+    uses.add(2, SECOND)?;
+    uses.add(19, FIRST)?;
+    assert_eq!(rt;
+        [uses.at(2), uses.at(19), uses.at(18), uses.at(20)],
+        [Some(SECOND), Some(FIRST), None, None]
+    );
     Ok(())
 }
 
 #[test]
 fn parts_stand_between_bars(rt: HostRuntime) -> Result<(), Fail> {
     let text = b"Do |x+|y||z| it";
-    assert_eq!(rt; next_part(text, 0), Some(Span { start: 4, end: 6 }));
-    assert_eq!(rt; next_part(text, 7), Some(Span { start: 9, end: 9 }));
-    assert_eq!(rt; next_part(text, 10), None);
+    assert_eq!(rt;
+        [next_part(text, 0), next_part(text, 7), next_part(text, 10)],
+        [
+            Some(Span { start: 4, end: 6 }),
+            Some(Span { start: 9, end: 9 }),
+            None
+        ]
+    );
     Ok(())
 }

@@ -4,7 +4,7 @@ ghost use Rattle.cw_lines.specs.Writes.{CanWrite};
 ghost use Rattle.cw_reduce.specs.NameParts.{AreNamesOf};
 
 use crate::small_webs::{book_of, desk_with, web_of, written};
-use cw_base::{Flags, Kept, Memory, Out, Steps, Web};
+use cw_base::{Bytes, Flags, Kept, Memory, Out, Steps, Web};
 use cw_desk::Desk;
 use cw_lines::{LineOut, PutError};
 use cw_phase1::{Book, phase_one};
@@ -35,19 +35,35 @@ fn put_first<D: Desk>(
     copy_tex(alloc, web, book, 1, &Flags::start(), out, desk, &mut steps)
 }
 
+// What limbo prints, and the scraps that are counted for it.
+fn limbo_of(alloc: Global, lines: &[&[u8]]) -> Result<(Bytes, u64), Fail> {
+    let web = web_of(alloc, lines)?;
+    let book = phase_one(alloc, &web)?;
+    let mut desk = desk_with(alloc, Out::Tex)?;
+    let mut out = LineOut::new_in(alloc, Out::Tex);
+    let counts = copy_limbo(alloc, &web, &book, &mut out, &mut desk)?;
+    Ok((written(alloc, desk.journal())?, counts.scraps))
+}
+
 #[test]
 fn limbo_is_copied(rt: HostRuntime) -> Result<(), Fail> {
     let lines: &[&[u8]] = &[b"% a@@b", b"@l", b"@q c@>", b"", b"@ A"];
-    let web = web_of(rt.alloc(), lines)?;
-    let book = phase_one(rt.alloc(), &web)?;
-    let mut desk = desk_with(rt.alloc(), Out::Tex)?;
-    let mut out = LineOut::new_in(rt.alloc(), Out::Tex);
-    let counts = copy_limbo(rt.alloc(), &web, &book, &mut out, &mut desk)?;
-    assert_eq!(rt; counts.scraps, 0);
-    let text = written(rt.alloc(), desk.journal())?;
+    let (text, scraps) = limbo_of(rt.alloc(), lines)?;
+    assert_eq!(rt; scraps, 0);
     let wanted: &[u8] = b"\\input cwebmac\n% a@b\n\\ATL\n\n";
     assert_eq!(rt; text.as_slice(), wanted);
     Ok(())
+}
+
+// What the head and the TeX part of the first section print, and the scraps and productions in them.
+fn first_of(alloc: Global, lines: &[&[u8]]) -> Result<(Bytes, u64, u64), Fail> {
+    let web = web_of(alloc, lines)?;
+    let mut book = book_of(alloc, &web)?;
+    let mut desk = desk_with(alloc, Out::Tex)?;
+    let mut out = LineOut::new_in(alloc, Out::Tex);
+    let counts = put_first(alloc, &web, &mut book, &mut out, &mut desk)?;
+    let text = written(alloc, desk.journal())?;
+    Ok((text, counts.scraps, counts.productions))
 }
 
 #[test]
@@ -59,14 +75,8 @@ fn a_section_is_copied(rt: HostRuntime) -> Result<(), Fail> {
         b"See |f(n)|",
         b"and @<A|n|@>.",
     ];
-    let web = web_of(rt.alloc(), lines)?;
-    let mut book = book_of(rt.alloc(), &web)?;
-    let mut desk = desk_with(rt.alloc(), Out::Tex)?;
-    let mut out = LineOut::new_in(rt.alloc(), Out::Tex);
-    let counts = put_first(rt.alloc(), &web, &mut book, &mut out, &mut desk)?;
-    assert_eq!(rt; counts.scraps, 6);
-    assert_eq!(rt; counts.productions, 3);
-    let text = written(rt.alloc(), desk.journal())?;
+    let (text, scraps, productions) = first_of(rt.alloc(), lines)?;
+    assert_eq!(rt; (scraps, productions), (6, 3));
     let wanted: &[u8] =
         b"\\N{7}{1}Deep@.\n\nSee \\PB{\\|f(\\|n)}\nand \\PB{\\X0:A\\PB{\\|n}\\X}.\n";
     assert_eq!(rt; text.as_slice(), wanted);

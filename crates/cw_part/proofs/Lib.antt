@@ -1,7 +1,7 @@
 -- The laws of sections behind their TeX parts: paragraphs, footnotes, and definitions that are whole.
 pub mod WovenLaws
 mod ParagraphLaws
-mod SectionLaws
+pub mod SectionLaws
 mod PutLaws
 mod FootnoteLaws
 mod Rows
