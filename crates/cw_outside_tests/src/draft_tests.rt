@@ -80,7 +80,8 @@ fn has_text(rt: HostRuntime, path: &str, text: &[u8]) -> Result<bool, Fail> {
 
 /// Drafts a text over a file: whether both calls succeed.
 fn drafts_text<D: Desk>(desk: &mut D, path: &str, text: &[u8]) -> bool {
-    desk.draft(Out::Tex, path.as_bytes()) == MadeOut::Done
+    !text.is_empty()
+        && desk.draft(Out::Tex, path.as_bytes()) == MadeOut::Done
         && desk.put(Out::Tex, text) == Taken::Bytes(text.len())
 }
 
