@@ -9,50 +9,50 @@ use Rattle.cw_print.specs.Sources.{titles}
 use Rattle.cw_print.proofs.PrintingLaws.{next-appended, next-behind}
 use Rattle.cw_print.proofs.printing.Printer.print.Goals as goal
 
-pub returns-in-Source-clause-bytes : goal.returns-in-Source-clause-bytes
-returns-in-Source-clause-bytes c = rw c.in-Source.is (λ s inner items b.
+pub returns-in_ok-append-in-Source-clause-bytes : goal.returns-in_ok-append-in-Source-clause-bytes
+returns-in_ok-append-in-Source-clause-bytes c = rw c.in-Source.is (λ s inner items b.
     on_ok_weaker c.show_source.result
     (next-appended s inner items c.args.self.now b (flat_item.Source c.in-Source.number) (titles c.args.self.now.book.now c.in-Source.number) refl
     c.args.buffer.now c.append-in-Source.new.out c.show_source.new.out (c.in_ok-append-in-Source.ensures.bytes (shown s items) b.stands))
     c.show_source.ensures.bytes)
 
-pub returns-in-Source-clause-behind : goal.returns-in-Source-clause-behind
-returns-in-Source-clause-behind c = rw c.in-Source.is (λ s inner items b.
+pub returns-in_ok-append-in-Source-clause-behind : goal.returns-in_ok-append-in-Source-clause-behind
+returns-in_ok-append-in-Source-clause-behind c = rw c.in-Source.is (λ s inner items b.
     on_ok_weaker c.show_source.result
     (λ walk. next-behind s inner items c.args.self.now b (flat_item.Source c.in-Source.number) (titles c.args.self.now.book.now c.in-Source.number) refl _ b.titles b.names walk
     c.in_ok-append-in-Source.ensures.inner (c.in_ok-append-in-Source.ensures.stands (shown s items) (shown_next s items (item_is (flat_item.Source c.in-Source.number))) b.stands refl))
     c.show_source.ensures.stand)
 
-pub returns-in-Control-clause-bytes : goal.returns-in-Control-clause-bytes
-returns-in-Control-clause-bytes c = rw c.in-Control.is (λ s inner items b.
+pub returns-in_ok-append-in-Control-clause-bytes : goal.returns-in_ok-append-in-Control-clause-bytes
+returns-in_ok-append-in-Control-clause-bytes c = rw c.in-Control.is (λ s inner items b.
     on_ok_weaker c.show_control.result
     (next-appended s inner items c.args.self.now b (flat_item.Control c.in-Control.control) None refl
     c.args.buffer.now c.append-in-Control.new.out c.show_control.new.out (c.in_ok-append-in-Control.ensures.bytes (shown s items) b.stands))
     c.show_control.ensures.bytes)
 
-pub returns-in-Control-clause-behind : goal.returns-in-Control-clause-behind
-returns-in-Control-clause-behind c = rw c.in-Control.is (λ s inner items b.
+pub returns-in_ok-append-in-Control-clause-behind : goal.returns-in_ok-append-in-Control-clause-behind
+returns-in_ok-append-in-Control-clause-behind c = rw c.in-Control.is (λ s inner items b.
     on_ok_weaker c.show_control.result
     (λ walk. next-behind s inner items c.args.self.now b (flat_item.Control c.in-Control.control) None refl _ b.titles b.names walk
     c.in_ok-append-in-Control.ensures.inner (c.in_ok-append-in-Control.ensures.stands (shown s items) (shown_next s items (item_is (flat_item.Control c.in-Control.control))) b.stands refl))
     c.show_control.ensures.stand)
 
-pub returns-in-Ident-clause-bytes : goal.returns-in-Ident-clause-bytes
-returns-in-Ident-clause-bytes c = rw c.in-Ident.is (λ s inner items b.
+pub returns-in_ok-append-in-Ident-clause-bytes : goal.returns-in_ok-append-in-Ident-clause-bytes
+returns-in_ok-append-in-Ident-clause-bytes c = rw c.in-Ident.is (λ s inner items b.
     next-appended s inner items c.args.self.now b (flat_item.Ident c.in-Ident.name c.in-Ident.number) None refl
     c.args.buffer.now c.append-in-Ident.new.out c.append-in-Ident.new.out (c.in_ok-append-in-Ident.ensures.bytes (shown s items) b.stands) (sym (append-nil c.append-in-Ident.new.out)))
 
-pub returns-in-Ident-clause-behind : goal.returns-in-Ident-clause-behind
-returns-in-Ident-clause-behind c = rw c.in-Ident.is (λ s inner items b.
+pub returns-in_ok-append-in-Ident-clause-behind : goal.returns-in_ok-append-in-Ident-clause-behind
+returns-in_ok-append-in-Ident-clause-behind c = rw c.in-Ident.is (λ s inner items b.
     next-behind s inner items c.args.self.now b (flat_item.Ident c.in-Ident.name c.in-Ident.number) None refl _ b.titles b.names refl
     c.in_ok-append-in-Ident.ensures.inner (c.in_ok-append-in-Ident.ensures.stands (shown s items) (shown_next s items (item_is (flat_item.Ident c.in-Ident.name c.in-Ident.number))) b.stands refl))
 
-pub returns-in-Reserved-clause-bytes : goal.returns-in-Reserved-clause-bytes
-returns-in-Reserved-clause-bytes c = rw c.in-Reserved.is (λ s inner items b.
+pub returns-in_ok-append-in-Reserved-clause-bytes : goal.returns-in_ok-append-in-Reserved-clause-bytes
+returns-in_ok-append-in-Reserved-clause-bytes c = rw c.in-Reserved.is (λ s inner items b.
     next-appended s inner items c.args.self.now b (flat_item.Reserved c.in-Reserved.name c.in-Reserved.number) None refl
     c.args.buffer.now c.append-in-Reserved.new.out c.append-in-Reserved.new.out (c.in_ok-append-in-Reserved.ensures.bytes (shown s items) b.stands) (sym (append-nil c.append-in-Reserved.new.out)))
 
-pub returns-in-Reserved-clause-behind : goal.returns-in-Reserved-clause-behind
-returns-in-Reserved-clause-behind c = rw c.in-Reserved.is (λ s inner items b.
+pub returns-in_ok-append-in-Reserved-clause-behind : goal.returns-in_ok-append-in-Reserved-clause-behind
+returns-in_ok-append-in-Reserved-clause-behind c = rw c.in-Reserved.is (λ s inner items b.
     next-behind s inner items c.args.self.now b (flat_item.Reserved c.in-Reserved.name c.in-Reserved.number) None refl _ b.titles b.names refl
     c.in_ok-append-in-Reserved.ensures.inner (c.in_ok-append-in-Reserved.ensures.stands (shown s items) (shown_next s items (item_is (flat_item.Reserved c.in-Reserved.name c.in-Reserved.number))) b.stands refl))
