@@ -1,9 +1,10 @@
 -- Inks are printed one after another.
-use Rattle.std.proofs.Common.{◌≡◌, ℕ, suc, ◌+◌, ◌-◌, ◌<◌, ◌≤◌, ◌≢◌, ◌==◌, ◌||◌, Bool, true, false, not, refl, sym, ap, ◌∙◌, List, [], ◌∷◌, ◌++◌, append_assoc, length, take, drop, get_or, arith, ne_eqb, length-drop}
+use Rattle.std.proofs.Common.{◌≡◌, ℕ, suc, ◌+◌, ◌-◌, ◌<◌, ◌≤◌, ◌≢◌, ◌==◌, ◌||◌, Bool, true, false, not, refl, sym, ap, ◌∙◌, List, [], ◌∷◌, ◌++◌, append_assoc, length, take, drop, get_or, arith, ne_eqb, length-drop, take-take, subst}
 use Rattle.std.specs.Prelude.{Result, Ok, Err, IsErrAnd, min, nat_lt, slice_range}
-use Rattle.std.proofs.lemmas.List.{append-nil, drop_more, length-take}
+use Rattle.std.proofs.lemmas.List.{append-nil, drop-drop, drop-take, drop_more, length-take, take-append-drop}
+use Rattle.std.proofs.lemmas.List.Elements.{All-head, All-tail}
 use Rattle.cw_desk.specs.Told.{Told}
-use Rattle.cw_lines.specs.Line.{Line, LineState, fill, fill_by, fill_byte}
+use Rattle.cw_lines.specs.Line.{HasNoLineEnd, Line, LineState, fill, fill_by, fill_byte}
 use Rattle.cw_lines.specs.Writes.{HasPut, Puts}
 use Rattle.cw_lines.specs.WritesLaws.{puts-bytes, puts-none, puts-stop, puts-then}
 use Rattle.cw_lines.specs.declared.put_error.PutError.{PutError}
@@ -185,9 +186,76 @@ copy-none text at end past =
     ap (copied text at) (nothing-in (slice_range text at end)
     (omega (arith, length-take (end - at) (drop at text), length-drop at text)))
 
+-- a span of the text is two spans, one behind the other
+slice-split : (text : List ℕ) (at stop end : ℕ) → at ≤ stop → stop ≤ end
+    → slice_range text at end ≡ slice_range text at stop ++ slice_range text stop end
+slice-split text at stop end from to =
+    let all : List ℕ = slice_range text at end in
+    let n : ℕ = stop - at in
+    let m : ℕ = end - stop in
+    let within : n ≤ end - at = omega arith in
+    let sum : end - at ≡ n + m = omega arith in
+    let here : at + n ≡ stop = omega arith in
+    sym (take-append-drop n all) ∙
+    ap (λ (first : List ℕ). first ++ drop n all) (take-take n (end - at) (drop at text) within) ∙
+    ap (λ (rest : List ℕ). take n (drop at text) ++ rest)
+    (ap (λ (k : ℕ). drop n (take k (drop at text))) sum ∙ drop-take n m (drop at text)
+    ∙ ap (take m) (drop-drop n at text ∙ ap (λ (k : ℕ). drop k text) here))
+
+-- bytes without a line's end are printed as they stand
+copied-run : (text : List ℕ) (at : ℕ) (bytes rest : List ℕ) → HasNoLineEnd bytes
+    → copied text at (bytes ++ rest) ≡ prints bytes ++ copied text (at + length bytes) rest
+copied-run text at [] rest none =
+    let here : at ≡ at + 0 = omega arith in
+    ap (λ (n : ℕ). copied text n rest) here
+copied-run text at (byte ∷ bytes) rest none =
+    let plain : (byte == 10) ≡ false = ne_eqb byte 10 (All-head (λ (b : ℕ). b ≢ 10) byte bytes none) in
+    let size : at + 1 + length bytes ≡ at + suc (length bytes) = omega arith in
+    ap (λ (end : Bool). ink_by end text at byte ∷ copied text (at + 1) (bytes ++ rest)) plain ∙
+    ap (λ (more : List Ink). Print byte ∷ more)
+    (copied-run text (at + 1) bytes rest (All-tail (λ (b : ℕ). b ≢ 10) byte bytes none)
+    ∙ ap (λ (n : ℕ). prints bytes ++ copied text n rest) size)
+
+pub copy-line : (text : List ℕ) (at stop end : ℕ) → at ≤ stop → stop ≤ end → stop ≤ length text
+    → HasNoLineEnd (slice_range text at stop)
+    → copied text at (slice_range text at end)
+    ≡ prints (slice_range text at stop) ++ copied text stop (slice_range text stop end)
+copy-line text at stop end from to within none =
+    let size : at + length (slice_range text at stop) ≡ stop =
+    omega (arith, length-take (stop - at) (drop at text), length-drop at text) in
+    ap (copied text at) (slice-split text at stop end from to)
+    ∙ copied-run text at (slice_range text at stop) (slice_range text stop end) none
+    ∙ ap (λ (n : ℕ). prints (slice_range text at stop) ++ copied text n (slice_range text stop end)) size
+
+-- what a longer span begins with, as a span
+pub line-free : (text : List ℕ) (at size end : ℕ) → at + size ≤ end → HasNoLineEnd (take size (slice_range text at end))
+    → HasNoLineEnd (slice_range text at (at + size))
+line-free text at size end within none =
+    let so_many : at + size - at ≡ size = omega arith in
+    let low : size ≤ end - at = omega arith in
+    subst HasNoLineEnd
+    (sym (ap (λ (n : ℕ). take n (drop at text)) so_many ∙ sym (take-take size (end - at) (drop at text) low))) none
+
 pub inked-prints : (holds : Bool) (bytes : List ℕ) → inked holds (prints bytes) ≡ bytes
 inked-prints holds [] = refl
 inked-prints holds (byte ∷ bytes) = ap (λ (rest : List ℕ). byte ∷ rest) (inked-prints (not (byte == 10)) bytes)
+
+-- bytes that are printed as they stand
+pub line-put : {T : Type 0} {bytes : List ℕ} {old new : LineState} {before now : Told} {result : Result T PutError}
+    → Puts bytes old new before now result
+    → Puts (inked (holds_bytes old) (prints bytes)) old new before now result
+line-put {bytes = bytes} {old = old} put = puts-bytes (sym (inked-prints (holds_bytes old) bytes)) put
+
+-- Bytes without a line's end are copied, and then the line's end behind them.
+pub inking-line : {T : Type 0} (text : List ℕ) (at stop end : ℕ) {all : List Ink} {old mid new : LineState}
+    {before between now : Told} {value : T} → at ≤ stop → stop ≤ end → stop ≤ length text
+    → HasNoLineEnd (slice_range text at stop)
+    → Inking (copied text at (slice_range text at end)) all old mid before between
+    → Puts {T = T} (slice_range text at stop) mid new between now (Ok value)
+    → Inking (copied text stop (slice_range text stop end)) all old new before now
+inking-line text at stop end from to within none i put =
+    inking-next (prints (slice_range text at stop)) (inking-as (copy-line text at stop end from to within none) i)
+    (line-put put)
 
 -- what a token prints, by whether it is a piece of text
 pub text-inked : (holds : Bool) (text : List ℕ) (kind : TokKind) (token : Seen) → is_text_kind kind ≡ true

@@ -1,5 +1,5 @@
 -- What contracts see of a C text that is translated and not yet printed.
-use Rattle.std.specs.Prelude.{◌≡◌, ℕ, ◌+◌, ◌≤◌, List, ◌++◌, Result, IfOk, OnOk}
+use Rattle.std.specs.Prelude.{◌≡◌, ℕ, ◌+◌, ◌≤◌, List, ◌++◌, Result, Ok, Err, IfOk, OnOk}
 use Rattle.cw_base.specs.declared.memory.Memory.{Memory}
 use Rattle.cw_phase1.specs.declared.book.Book.{Book}
 use Rattle.cw_reduce.specs.Counting.{limit_in, productions_in, scraps_in, ticks_in}
@@ -7,6 +7,7 @@ use Rattle.cw_tokens.specs.Shapes.{unfolded}
 use Rattle.cw_tokens.specs.declared.token.Token.{Token}
 use Rattle.cw_trees.specs.Tree.{Tree}
 use Rattle.cw_texpart.specs.declared.counts.Counts.{Counts}
+use Rattle.cw_texpart.specs.declared.texts.Translated.{Translated}
 use Rattle.cw_texpart.specs.Done.{Done}
 use Rattle.cw_texpart.specs.Texts.{Setting, lasting}
 use Rattle.cw_texpart.specs.Weaving.{underlined}
@@ -19,6 +20,14 @@ pub record TranslatedState : Type 0 where
 
 abbrev pub tree_of : TranslatedState → Tree
 tree_of text = unfolded text.lists text.root
+
+-- a text that is translated into a store, with the lists there
+abbrev pub in_store : List (List Token) → Translated → TranslatedState
+in_store lists text = record { lists = lists; root = text.list.index; counts = text.counts }
+
+abbrev pub stored : List (List Token) → Result Translated Memory → Result TranslatedState Memory
+stored lists (Ok text) = Ok (in_store lists text)
+stored lists (Err error) = Err error
 
 -- The call translated this piece and printed nothing of it: it left its names, added its marks to the occurrences and
 -- counted its C texts. Where it was refused, the names may have other categories.

@@ -1,5 +1,6 @@
-//! The copying of a web's text: byte by byte, but not each line's end.
-ghost use Rattle.std.specs.Prelude.{◌≡◌, ◌==◌, ◌<◌, ◌||◌, [], ◌∷◌, length, slice_index};
+//! The copying of a web's text: line by line, but not each line's end.
+ghost use Rattle.std.specs.Prelude.{◌≡◌, ◌==◌, ◌<◌, ◌≤◌, ◌||◌, [], ◌∷◌, length, slice_index, take};
+ghost use Rattle.cw_lines.specs.Line.{HasNoLineEnd};
 ghost use Rattle.cw_lines.specs.Writes.{CanWrite, Puts};
 ghost use Rattle.cw_texpart.specs.Inks.{bytes_of, copied, end_if, ends_empty_line, ink_by};
 ghost use Rattle.cw_texpart.specs.Laying.{holds_bytes, inked};
@@ -7,6 +8,7 @@ ghost use Rattle.cw_texpart.specs.Laying.{holds_bytes, inked};
 use cw_base::Span;
 use cw_desk::Desk;
 use cw_lines::{LineOut, PutError};
+use memchr::memchr;
 
 /// Copies the bytes of a span of the web's text, as far as they are there.
 pub(crate) fn copy<D: Desk>(
@@ -22,10 +24,26 @@ pub(crate) fn copy<D: Desk>(
     let end = span.end.min(text.len());
     let mut at = span.start;
     while at < end {
-        copy_byte(text, at, out, desk)?;
-        at += 1;
+        let stop = at + line_size(&text[at..end]);
+        out.put_all(&text[at..stop], desk)?;
+        if stop == end {
+            return Ok(());
+        }
+        copy_byte(text, stop, out, desk)?;
+        at = stop + 1;
     }
     Ok(())
+}
+
+// How many bytes come before the first line's end.
+fn line_size(bytes: &[u8]) -> usize
+    ensures within { result ≤ length bytes.now }
+    ensures none { HasNoLineEnd (take result bytes.now) }
+{
+    match memchr(b'\n', bytes) {
+        Some(size) => size,
+        None => bytes.len(),
+    }
 }
 
 // Copies one byte. A line's end is printed where the line of the book holds bytes, or where its line of the web is

@@ -42,6 +42,7 @@ impl<'a> Pieces<'a> {
     }
 
     /// The next piece; `Memory` where no memory could hold so many open texts.
+    #[inline(always)]
     pub(crate) fn next(&mut self) -> Result<Option<Piece<'a>>, Memory>
         ensures { IfOk result (λ piece. GivesPiece (pieces_in self.old) piece (pieces_in self.new)) }
     {

@@ -26,10 +26,10 @@ use cw_desk::Desk;
 use cw_lex::{Mode, Tok};
 use cw_lines::{LineOut, PutError};
 use cw_phase1::{Book, Section};
+use cw_print::print_list;
 use cw_tokens::TokenStore;
 use std::alloc::Global;
 use std::marker::Model;
-use std::mem;
 
 // What a TeX part is printed with: the web's text, the number of its section, and the flags. Its C texts are translated
 // in one store, one after another, so that most of them take no memory for their lists.
@@ -48,15 +48,6 @@ impl<'a> Model for TexPart<'a> {
     ghost Value = { TexSetting };
 
     ghost view = { λ t. record { text = t.text.now; section = t.section; flags = t.flags.now } };
-}
-
-impl<'a> TexPart<'a> {
-    // The store is lent for a text.
-    fn take_store(&mut self) -> TokenStore
-        ensures { self.new ≡ self.old }
-    {
-        mem::replace(&mut self.store, TokenStore::new_in(self.alloc))
-    }
 }
 
 // Puts a token that is copied.
@@ -103,12 +94,22 @@ fn put_inner<D: Desk, L: Ledger>(
         section: t.section,
         flags: t.flags,
     };
-    let store = t.take_store();
-    let translated = translate_into(store, t.alloc, c, book, steps)?;
-    translated.print(t.alloc, c, book, out, desk)?;
-    let counts = translated.counts();
-    t.store = translated.into_store();
-    Ok(counts)
+    let translated = translate_into(&mut t.store, t.alloc, c, book, steps)?;
+    print_list(
+        t.alloc,
+        c.text,
+        c.span,
+        c.mode,
+        book,
+        c.section,
+        c.flags,
+        &t.store,
+        translated.list,
+        c.inner,
+        out,
+        desk,
+    )?;
+    Ok(translated.counts)
 }
 
 // Puts the section name at a span, as inner C text. One that is ignored prints nothing.

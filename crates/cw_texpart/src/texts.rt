@@ -1,5 +1,5 @@
 //! The C texts of a book, which are translated and printed one by one.
-ghost use Rattle.std.specs.Prelude.{◌≡◌, ◌^◌, ◌≤◌, ◌++◌, false, length, true, IfOk, OnOk};
+ghost use Rattle.std.specs.Prelude.{◌≡◌, ◌^◌, ◌<◌, ◌≤◌, ◌++◌, false, length, true, IfOk, OnOk};
 ghost use Rattle.cw_lex.specs.Lexing.{tokens_of};
 ghost use Rattle.cw_lex.specs.Nested.{begins_section_in, is_c_mode};
 ghost use Rattle.cw_lines.specs.Writes.{CanWrite, Puts};
@@ -8,7 +8,7 @@ ghost use Rattle.cw_scraps.specs.Marking.{marked_names};
 ghost use Rattle.cw_scraps.specs.Lines.{IsNamedBelow};
 ghost use Rattle.cw_texpart.specs.Printing.{setting_of, text_bytes, text_printed};
 ghost use Rattle.cw_texpart.specs.Texts.{lasting};
-ghost use Rattle.cw_texpart.specs.Translation.{Translates, tree_of};
+ghost use Rattle.cw_texpart.specs.Translation.{Translates, in_store, stored, tree_of};
 ghost use Rattle.cw_texpart.specs.Weaving.{Weaves, underlined};
 
 use crate::Counts;
@@ -46,6 +46,13 @@ pub struct TranslatedText {
     counts: Counts,
 }
 
+/// A C text that is translated into a store: the list of its tree there, and what was counted.
+#[derive(Clone, Copy)]
+pub(crate) struct Translated {
+    pub list: ListId,
+    pub counts: Counts,
+}
+
 impl Model for TranslatedText {
     ghost use Rattle.std.specs.Prelude.{◌<◌, length};
     ghost use Rattle.cw_texpart.specs.Translation.{TranslatedState};
@@ -63,11 +70,6 @@ impl TranslatedText {
         ensures { result ≡ self.now.counts }
     {
         self.counts
-    }
-
-    /// The store, in which another text may be translated.
-    pub(crate) fn into_store(self) -> TokenStore {
-        self.store
     }
 
     /// Prints this translation of a C text, with the book that it has left.
@@ -111,6 +113,19 @@ fn first_room(span: Span) -> usize
     (span.end - span.start).min(4096) + 16
 }
 
+// Makes room for the lists of a text. Where there is too little, an inner text gets some for those behind it too.
+fn make_room(store: &mut TokenStore, span: Span, inner: bool) -> Result<(), Memory>
+    requires order { span.start ≤ span.end }
+    ensures lists { store.new.lists ≡ store.old.lists }
+    ensures building { store.new.building ≡ store.old.building }
+{
+    let room = first_room(span);
+    if room <= store.spare() {
+        return Ok(());
+    }
+    store.reserve(if inner { room.max(64) } else { room })
+}
+
 /// Translates a C text without printing it. Its marks go to the book's occurrences, and the book's names get the
 /// categories behind it.
 pub fn translate_text<L: Ledger>(
@@ -132,17 +147,23 @@ pub fn translate_text<L: Ledger>(
         ≡ (text_printed c.entry (lasting book.old) book.old.names).out) }
     ensures named { IfOk result (λ text. IsNamedBelow (length book.new.names) (tree_of text)) }
 {
-    translate_into(TokenStore::new_in(alloc), alloc, c, book, steps)
+    let mut store = TokenStore::new_in(alloc);
+    let text = translate_into(&mut store, alloc, c, book, steps)?;
+    Ok(TranslatedText {
+        store,
+        list: text.list,
+        counts: text.counts,
+    })
 }
 
 /// The same in a store that may have been used before.
 pub(crate) fn translate_into<L: Ledger>(
-    store: TokenStore,
+    store: &mut TokenStore,
     alloc: Global,
     c: CText,
     book: &mut Book,
     steps: &mut Steps<L>,
-) -> Result<TranslatedText, Memory>
+) -> Result<Translated, Memory>
     requires order { c.span.start ≤ c.span.end }
     requires within { c.span.end ≤ length c.text.now }
     requires short { length c.text.now ≤ 2 ^ 24 }
@@ -150,14 +171,16 @@ pub(crate) fn translate_into<L: Ledger>(
     requires uncut { begins_section_in (tokens_of c.text.now c.span.start c.span.end c.mode) ≡ false }
     requires kept { AreNamesOf book.old.sec_names book.old.name_uses }
     ensures translates { Translates (setting_of c.entry (lasting book.old))
-        (text_printed c.entry (lasting book.old) book.old.names) book.old book.new steps.old steps.new result }
-    ensures printed { IfOk result (λ text. text_bytes c.entry book.new (tree_of text)
+        (text_printed c.entry (lasting book.old) book.old.names) book.old book.new steps.old steps.new
+        (stored store.new.lists result) }
+    ensures printed { IfOk result (λ text. text_bytes c.entry book.new (tree_of (in_store store.new.lists text))
         ≡ (text_printed c.entry (lasting book.old) book.old.names).out) }
-    ensures named { IfOk result (λ text. IsNamedBelow (length book.new.names) (tree_of text)) }
+    ensures named { IfOk result
+        (λ text. IsNamedBelow (length book.new.names) (tree_of (in_store store.new.lists text))) }
+    ensures there { IfOk result (λ text. text.list.index < length store.new.lists) }
 {
-    let mut store = store;
     store.reset();
-    store.reserve(first_room(c.span))?;
+    make_room(store, c.span, c.inner)?;
     let mut marks = Marks::new_in(alloc);
     let done = translate(
         alloc,
@@ -167,14 +190,13 @@ pub(crate) fn translate_into<L: Ledger>(
         &mut book.names,
         &book.sec_names,
         &book.name_uses,
-        &mut store,
+        store,
         &mut marks,
         c.flags,
         steps,
     )?;
     note_marks(&marks, c.section, &mut book.xrefs)?;
-    Ok(TranslatedText {
-        store,
+    Ok(Translated {
         list: done.list,
         counts: Counts {
             scraps: done.scraps,
