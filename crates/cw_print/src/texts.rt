@@ -1,8 +1,8 @@
 //! The bytes of strings, include names and control texts.
-ghost use Rattle.std.specs.Prelude.{◌≡◌, ◌++◌, OnOk, drop};
-ghost use Rattle.cw_print.specs.Escaping.{escaped, typewriter};
+ghost use Rattle.std.specs.Prelude.{◌≡◌, ◌++◌, OnOk};
+ghost use Rattle.cw_print.specs.Escaping.{escaped};
 ghost use Rattle.cw_print.specs.Texts.{is_continued, is_pair, is_at_pair, string, include_name, is_text_end};
-ghost use Rattle.cw_print.specs.Texts.{text_to_end, control_text};
+ghost use Rattle.cw_print.specs.Texts.{text_to_end};
 
 use crate::escaping::{put_escaped, put_escaped_byte};
 use cw_base::{Bytes, Memory};

@@ -1,5 +1,5 @@
 //! Section names as they are printed.
-ghost use Rattle.std.specs.Prelude.{◌≡◌, ◌++◌, OnOk, decimal};
+ghost use Rattle.std.specs.Prelude.{◌≡◌, ◌++◌, OnOk};
 ghost use Rattle.cw_print.specs.Walk.{front, section_number};
 ghost use Rattle.cw_print.specs.Titles.{title_of};
 

@@ -1,6 +1,5 @@
 //! The bytes of tokens.
-ghost use Rattle.std.specs.Prelude.{◌≡◌, ◌++◌, OnOk, codes, drop};
-ghost use Rattle.cw_print.specs.Escaping.{braced, typewriter};
+ghost use Rattle.std.specs.Prelude.{◌≡◌, ◌++◌, OnOk, drop};
 ghost use Rattle.cw_print.specs.Tokens.{code_bytes, token_bytes};
 
 use crate::constants::put_constant;

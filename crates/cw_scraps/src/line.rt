@@ -1,6 +1,6 @@
 //! A line of scraps: the two ends of one vector, with a gap between them.
-ghost use Rattle.std.specs.Prelude.{◌≡◌, ◌≢◌, ℕ, ◌+◌, ◌-◌, ◌^◌, ◌<◌, ◌≤◌, ◌↔◌, [], ◌∷◌, ◌++◌, length, take, drop, set};
-ghost use Rattle.std.specs.Prelude.{get_or, IsTrue, OnOk, OnErr, Some, slice_get, slice_index_or};
+ghost use Rattle.std.specs.Prelude.{◌≡◌, ◌≢◌, ◌+◌, ◌-◌, ◌^◌, ◌<◌, ◌≤◌, ◌↔◌, [], ◌∷◌, ◌++◌, length, take, drop, set};
+ghost use Rattle.std.specs.Prelude.{IsTrue, OnOk, OnErr, slice_index_or};
 ghost use Rattle.cw_base.specs.declared.category.Cat.TheVariants.{End};
 ghost use Rattle.cw_scraps.specs.Gap.{around, IsGap};
 ghost use Rattle.cw_scraps.specs.Lines.{no_entry};
