@@ -173,41 +173,33 @@ fn the_limit_on_bytes(rt: HostRuntime) -> Result<(), Fail> {
     Ok(())
 }
 
-// How loading a web ends over a desk that has `foo.web` alone.
-fn load_alone(alloc: Global, web: &[u8], change: Option<&[u8]>) -> Result<Option<LoadError>, Fail> {
-    let mut desk = MemDesk::new_in(alloc);
-    desk.add_file(b"foo.web", b"@i a\n")?;
-    Ok(load(alloc, &mut desk, web, change).err())
-}
-
-// How loading a web ends whose call of this number fails.
-fn load_failing(alloc: Global, call: u64) -> Result<Option<LoadError>, Fail> {
-    let mut desk = MemDesk::new_in(alloc);
-    desk.add_file(b"foo.web", b"@i a\n")?;
-    desk.add_file(b"foo.ch", b"@x\n")?;
-    desk.add_file(b"a", b"last")?;
-    desk.fail_at(call)?;
-    Ok(load(alloc, &mut desk, b"foo", Some(b"foo")).err())
-}
-
 #[test]
 fn errors_of_the_desk(rt: HostRuntime) -> Result<(), Fail> {
-    let answers = [
-        load_alone(rt.alloc(), b"bar", None)?,
-        load_alone(rt.alloc(), b"foo", Some(b"foo."))?,
-    ];
+    let alloc = rt.alloc();
+    let mut desk = MemDesk::new_in(alloc);
+    desk.add_file(b"foo.web", b"@i a\n")?;
     assert_eq!(rt;
-        answers,
-        [Some(LoadError::NoWeb), Some(LoadError::NoChange)]
+        load(alloc, &mut desk, b"bar", None).err(),
+        Some(LoadError::NoWeb)
+    );
+    assert_eq!(rt;
+        load(alloc, &mut desk, b"foo", Some(b"foo.")).err(),
+        Some(LoadError::NoChange)
     );
     for call in 1..12 {
+        let mut desk = MemDesk::new_in(alloc);
+        desk.add_file(b"foo.web", b"@i a\n")?;
+        desk.add_file(b"foo.ch", b"@x\n")?;
+        desk.add_file(b"a", b"last")?;
+        desk.fail_at(call)?;
+        let answer = load(alloc, &mut desk, b"foo", Some(b"foo")).err();
         // Opening foo.w and foo.web, two reads, the same of foo.ch and of a: ten calls.
         let wanted = if call <= 10 {
             Some(LoadError::Fault)
         } else {
             None
         };
-        assert_eq!(rt; load_failing(rt.alloc(), call)?, wanted, "at call {call}");
+        assert_eq!(rt; answer, wanted, "at call {call}");
     }
     Ok(())
 }
