@@ -1,5 +1,5 @@
 //! A desk over a desk that hands bytes on in few calls.
-ghost use Rattle.std.specs.Prelude.{◌≡◌, ◌≢◌, ◌<◌, ◌≤◌, ◌+◌, ◌-◌, ◌++◌, ◌↔◌, IsTrue, IfOk, OnErr, OnOk, drop, take};
+ghost use Rattle.std.specs.Prelude.{◌≡◌, ◌≢◌, ◌<◌, ◌≤◌, ◌+◌, ◌-◌, ◌++◌, IsTrue, IfOk, OnErr, take};
 ghost use Rattle.std.specs.Prelude.{length, min, []};
 ghost use Rattle.cw_base.specs.declared.event.Out.TheVariants.{Term};
 ghost use Rattle.cw_desk.specs.Batch.{HandsOn, IsGathered, PutsFirst, Gathers, tell};

@@ -1,14 +1,13 @@
 //! What ends at a section code and at the end of the text.
-ghost use Rattle.std.specs.Prelude.{◌≡◌, ◌≤◌, ◌<◌, ◌+◌, ◌-◌, ◌∷◌, ◌++◌, [], true, false, ◌==◌, ◌&&◌, length, drop};
+ghost use Rattle.std.specs.Prelude.{◌≡◌, ◌<◌, ◌+◌, ◌-◌, ◌∷◌, ◌++◌, [], true, false, ◌==◌, ◌&&◌, length, drop};
 ghost use Rattle.std.specs.Prelude.{slice_index, Some, MatchOption};
-ghost use Rattle.cw_rules.specs.Answers.{Gives, note_answers};
+ghost use Rattle.cw_rules.specs.Answers.{note_answers};
 ghost use Rattle.cw_rules.specs.Codes.{begins_section};
 ghost use Rattle.cw_rules.specs.Pending.{pending_notes, no_notes};
 ghost use Rattle.cw_rules.specs.Bodies.{note_unless};
-ghost use Rattle.cw_rules.specs.Tokens.{all_cut, inner_cut, comment_cut, part_cut, inner_or_none, in_hash_line};
+ghost use Rattle.cw_rules.specs.Tokens.{all_cut};
 ghost use Rattle.cw_rules.specs.Tokens.{section};
-ghost use Rattle.cw_lex.specs.Coming.{where_of, coming, found_at, CutsOff, IsReady, CanStep};
-ghost use Rattle.cw_rules.specs.Cuttings.{bytes_at};
+ghost use Rattle.cw_lex.specs.Coming.{CutsOff, IsReady};
 
 use crate::comment_text::kind_of;
 use crate::giving::{give, token};

@@ -5,13 +5,12 @@ ghost use Rattle.cw_rules.specs.Answers.{Gives};
 ghost use Rattle.cw_rules.specs.Codes.{begins_section};
 ghost use Rattle.cw_rules.specs.Order.{Covers, AreWithin};
 ghost use Rattle.cw_rules.specs.Pending.{no_notes};
-ghost use Rattle.cw_lex.specs.Lexing.{tokens_of, fresh_at, last_at, answers_at};
+ghost use Rattle.cw_lex.specs.Lexing.{tokens_of, fresh_at, last_at};
 ghost use Rattle.cw_rules.specs.Tokens.{part_text, is_parameter};
 ghost use Rattle.cw_rules.specs.Bytes.{run, is_letter, begins_by};
 ghost use Rattle.cw_lex.specs.Short.{IsQuick, BeginsString, EndsInner};
 ghost use Rattle.cw_lex.specs.Calm.{IsCalm, IsSteady};
 ghost use Rattle.cw_lex.specs.Coming.{where_of, coming, found_at, beginning_part};
-ghost use Rattle.cw_rules.specs.Cuttings.{bytes_at};
 ghost use Rattle.cw_rules.specs.Tokens.{is_code, is_code_part};
 ghost use Rattle.cw_lex.specs.Coming.{IsSkipped, IsReady, CanStep};
 

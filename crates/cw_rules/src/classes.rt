@@ -1,5 +1,5 @@
 //! Classes of bytes, and runs of bytes of one class.
-ghost use Rattle.std.specs.Prelude.{◌≡◌, ◌≤◌, ◌+◌, ℕ, List, length, drop};
+ghost use Rattle.std.specs.Prelude.{◌≡◌, ◌≤◌, ◌+◌, length, drop};
 ghost use Rattle.cw_rules.specs.Bytes.{is_in, is_letter, is_letter_of, run, begins, begins_with};
 
 /// A set of bytes, of which a token may take as many as stand in a row.

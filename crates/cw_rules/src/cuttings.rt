@@ -1,5 +1,5 @@
 //! Tokens as they are cut where they begin, each with the notes that it may have.
-ghost use Rattle.std.specs.Prelude.{◌≡◌, ◌<◌, ◌≤◌, ◌+◌, None, Some, length, drop, take, not};
+ghost use Rattle.std.specs.Prelude.{◌≡◌, ◌<◌, ◌≤◌, ◌+◌, None, Some, length, drop, take};
 ghost use Rattle.cw_rules.specs.Bytes.{run};
 ghost use Rattle.cw_rules.specs.Bodies.{at_start, extent, note_unless};
 ghost use Rattle.cw_rules.specs.Pending.{no_notes};
