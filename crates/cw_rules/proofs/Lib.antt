@@ -4,7 +4,7 @@ pub mod Inside
 pub mod Runs
 pub mod Cuts
 pub mod Void
-pub mod WordBytes
+pub mod ByteTables
 pub mod Sizes
 pub mod Within
 pub mod Taking

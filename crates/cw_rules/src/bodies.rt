@@ -168,18 +168,33 @@ impl Body {
     }
 }
 
-// Whether no body has a rule for this byte, but a string for its quote. Most bytes are small letters.
+// Whether no body has a rule for a byte, but a string for its quote: one look takes the place of ten tests.
+static PLAIN_BYTES: [bool; 256] = [
+    true, true, true, true, true, true, true, true, true, true, false, true, true, true, true,
+    true, true, true, true, true, true, true, true, true, true, true, true, true, true, true, true,
+    true, true, true, true, true, true, true, true, true, true, true, false, true, true, true,
+    true, true, true, true, true, true, true, true, true, true, true, true, true, true, true, true,
+    false, true, false, true, true, true, true, true, true, true, true, true, true, true, true,
+    true, true, true, true, true, true, true, true, true, true, true, true, true, true, true,
+    false, true, true, true, true, true, true, true, true, true, true, true, true, true, true,
+    true, true, true, true, true, true, true, true, true, true, true, true, true, true, true, true,
+    false, false, false, true, true, true, true, true, true, true, true, true, true, true, true,
+    true, true, true, true, true, true, true, true, true, true, true, true, true, true, true, true,
+    true, true, true, true, true, true, true, true, true, true, true, true, true, true, true, true,
+    true, true, true, true, true, true, true, true, true, true, true, true, true, true, true, true,
+    true, true, true, true, true, true, true, true, true, true, true, true, true, true, true, true,
+    true, true, true, true, true, true, true, true, true, true, true, true, true, true, true, true,
+    true, true, true, true, true, true, true, true, true, true, true, true, true, true, true, true,
+    true, true, true, true, true, true, true, true, true, true, true, true, true, true, true, true,
+    true, true, true, true, true, true,
+];
+
+// Whether no body has a rule for this byte, but a string for its quote.
 #[inline(always)]
 fn is_plain(byte: u8) -> bool
     ensures { result ≡ is_plain byte }
 {
-    if b'a' <= byte && byte <= b'z' {
-        return true;
-    }
-    !matches!(
-        byte,
-        b'\n' | b'*' | b'>' | b'@' | b'\\' | b'{' | b'|' | b'}'
-    )
+    PLAIN_BYTES[byte as usize]
 }
 
 #[inline(always)]

@@ -32,7 +32,7 @@ impl Class {
     {
         match self {
             Class::Blank => is_blank(byte),
-            Class::White => byte == b'\n' || is_blank(byte),
+            Class::White => is_white(byte),
             Class::Word => is_word(byte),
             Class::Digit => is_digit(byte),
             Class::HexDigit => {
@@ -69,12 +69,44 @@ static WORD_BYTES: [bool; 256] = [
     true, true, true, true, true, true, true, true, true, true, true, true, true, true, true,
 ];
 
+// The same of blanks and line ends.
+static WHITE_BYTES: [bool; 256] = [
+    false, false, false, false, false, false, false, false, false, true, true, true, true, true,
+    false, false, false, false, false, false, false, false, false, false, false, false, false,
+    false, false, false, false, false, true, false, false, false, false, false, false, false,
+    false, false, false, false, false, false, false, false, false, false, false, false, false,
+    false, false, false, false, false, false, false, false, false, false, false, false, false,
+    false, false, false, false, false, false, false, false, false, false, false, false, false,
+    false, false, false, false, false, false, false, false, false, false, false, false, false,
+    false, false, false, false, false, false, false, false, false, false, false, false, false,
+    false, false, false, false, false, false, false, false, false, false, false, false, false,
+    false, false, false, false, false, false, false, false, false, false, false, false, false,
+    false, false, false, false, false, false, false, false, false, false, false, false, false,
+    false, false, false, false, false, false, false, false, false, false, false, false, false,
+    false, false, false, false, false, false, false, false, false, false, false, false, false,
+    false, false, false, false, false, false, false, false, false, false, false, false, false,
+    false, false, false, false, false, false, false, false, false, false, false, false, false,
+    false, false, false, false, false, false, false, false, false, false, false, false, false,
+    false, false, false, false, false, false, false, false, false, false, false, false, false,
+    false, false, false, false, false, false, false, false, false, false, false, false, false,
+    false, false, false, false, false, false, false, false, false, false, false, false, false,
+    false, false, false, false, false, false, false, false,
+];
+
 /// Whether an identifier may go on with the byte.
 #[inline(always)]
 pub fn is_word(byte: u8) -> bool
     ensures { result ≡ is_in Class.Word byte }
 {
     WORD_BYTES[byte as usize]
+}
+
+// Whether the byte is a blank or a line's end.
+#[inline(always)]
+fn is_white(byte: u8) -> bool
+    ensures { result ≡ is_in Class.White byte }
+{
+    WHITE_BYTES[byte as usize]
 }
 
 /// Whether the byte is a blank.
