@@ -1,6 +1,6 @@
 -- What the hash table says of the list of entries.
-use Rattle.std.proofs.Common.{◌≡◌, ℕ, zero, suc, ◌+◌, ◌<◌, Bool, true, false, List, [], ◌∷◌, ◌++◌, length, map, Some, None, refl, sym, ap, ◌∙◌, arith, length-append, not, cond, nat_lt, ◌≤◌, if◌then◌else◌}
-use Rattle.std.specs.List.{position, position_or_len}
+use Rattle.std.proofs.Common.{◌≡◌, ℕ, zero, suc, ◌+◌, ◌<◌, Bool, true, false, List, [], ◌∷◌, ◌++◌, length, map, Some, None, refl, sym, ap, ◌∙◌, arith, length-append, not, cond, nat_lt, ◌≤◌, if◌then◌else◌, slice_get, subst, IsTrue}
+use Rattle.std.specs.List.{position, position_or_len, IsDistinct, AllByRecursion}
 use Rattle.std.proofs.lemmas.List.{length-map}
 use Rattle.std.proofs.lemmas.List.Sums.{prefix_len-le-length}
 use Rattle.std.proofs.lemmas.Bool.{ltb-false, lt-ltb, le-ltb}
@@ -15,6 +15,7 @@ use Rattle.cw_names.specs.contracts.entry.KeyPartialEq.TheImpl.{eq-value}
 use Rattle.cw_names.specs.Names.{Entry, is_entry, place_of, with_entry, with_category}
 use Rattle.cw_names.specs.declared.entry.Wanted.{Wanted}
 use Rattle.cw_names.specs.Inside.{entry_of, is_wanted}
+use Rattle.cw_names.specs.Wanting.{alike}
 
 -- what `==` says of two keys
 abbrev pub key_eq : Key → Key → Bool
@@ -121,3 +122,31 @@ module _ (es : List (Key × Cat)) (names : List Entry) (view : map entry_of es �
   length-new h k p q =
       let place : place_of k.kind k.text.items (map entry_of es) ≡ length es = sym (place-keys k es) ∙ place-names k p q ∙ sym h in
       omega (arith, ap length (insert_entry-last k es place), length-append (map entry_of es) (entry_of (k, Exp) ∷ []), length-map es entry_of)
+
+-- what is said of each item is said of the one at a place
+said-at : {X : Type 0} (P : X → Type 0) (es : List (X × Cat)) (i : ℕ) (e : X × Cat) → AllByRecursion P (keys_of es) → slice_get es i ≡ Some e → P e.0
+said-at P [] i e all is = cc
+said-at {X = X} P (x ∷ es) zero e all is = let same : x ≡ e = cc in subst (λ (y : X × Cat). P y.0) same all.0
+said-at P (x ∷ es) (suc i) e all is = said-at P es i e all.1 is
+
+-- a key that is wanted stands at its place: none before it is wanted, since no two keys are equal
+pub wanted-place : (wanted : Wanted) (es : List (Key × Cat)) (i : ℕ) (e : Key × Cat) → IsDistinct key_eq (keys_of es) → slice_get es i ≡ Some e → IsTrue (is_wanted wanted e.0)
+    → i ≡ place_of wanted.kind wanted.text.now (map entry_of es)
+unfolding IsDistinct
+wanted-place wanted [] i e distinct is here = cc
+wanted-place wanted (x ∷ es) zero e distinct is here =
+    let same : x ≡ e = cc in
+    let found : is_wanted wanted x.0 ≡ true = ap (λ (y : Key × Cat). is_wanted wanted y.0) same ∙ here in
+    sym (ap (λ b. cond (not b) (1 + place_of wanted.kind wanted.text.now (map entry_of es)) 0) found)
+wanted-place wanted (x ∷ es) (suc i) e distinct is here = by (is_wanted wanted x.0) refl (wanted-place wanted es i e distinct.1 is here)
+  where
+    by : (b : Bool) → is_wanted wanted x.0 ≡ b → i ≡ place_of wanted.kind wanted.text.now (map entry_of es) → suc i ≡ place_of wanted.kind wanted.text.now (map entry_of (x ∷ es))
+    by true found later =
+        let differ : key_eq x.0 e.0 ≡ false = said-at (λ other. key_eq x.0 other ≡ false) es i e distinct.0 is in
+        let equal : is_entry wanted.kind wanted.text.now (entry_of e) ≡ is_entry x.0.kind x.0.text.items (entry_of e) =
+        alike (λ kind text. is_entry kind text (entry_of e)) wanted x.0 found in
+        absurd (let wrong : false ≡ true = sym differ ∙ key_eq-is x.0 e ∙ sym equal ∙ here in cc)
+    by false other later =
+        let counted : place_of wanted.kind wanted.text.now (map entry_of (x ∷ es)) ≡ 1 + place_of wanted.kind wanted.text.now (map entry_of es) =
+        ap (λ b. cond (not b) (1 + place_of wanted.kind wanted.text.now (map entry_of es)) 0) other in
+        omega (arith, counted, later)

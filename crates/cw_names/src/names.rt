@@ -1,6 +1,6 @@
 //! The list of names: what is found by its kind and text, and the category that it has now.
 ghost use Rattle.std.specs.Prelude.{◌≡◌, ◌≢◌, ◌<◌, ◌↔◌, [], length, Some, map, slice_get, IsOk, IsTrue, IfOk, OnOk};
-ghost use Rattle.std.specs.Prelude.{OnErr};
+ghost use Rattle.std.specs.Prelude.{IfSome, OnErr};
 ghost use Rattle.std.specs.Option.{option_map};
 ghost use Rattle.cw_names.specs.Names.{Entry, AreDistinct, place_of, with_entry, with_category};
 ghost use Rattle.cw_names.specs.Words.{BeginsWithWords, built_in_words};
@@ -9,16 +9,33 @@ use crate::entry::{Key, Wanted};
 use crate::words::{WORDS, table_of};
 use crate::{EntryKind, NameId};
 use cw_base::{Cat, Memory};
-use indexmap::IndexMap;
+use indexmap::{Equivalent, IndexMap};
 use std::alloc::Global;
 use std::marker::Model;
 
 /// Names in order of first appearance, the built-in words first. No two have the same kind and text. An entry is
-/// found by its kind and text through a hash table.
+/// found by its kind and text through a hash table, unless it stands where texts like it were found last.
 #[derive(Drop)]
 pub struct Names {
     categories: IndexMap<Key, Cat>,
+    // The position of a name that was found, for each slot. Whatever it says, the name there is looked at.
+    recent: Vec<usize>,
     alloc: Global,
+}
+
+// How many slots there are: a power of two.
+const SLOTS: usize = 512;
+
+// The slot of a text, by three of its bytes and its length.
+fn slot_of(text: &[u8]) -> usize {
+    let count = text.len();
+    if count == 0 {
+        return 0;
+    }
+    let first = text[0] as usize;
+    let middle = text[count / 2] as usize;
+    let last = text[count - 1] as usize;
+    (first ^ (middle << 2) ^ (last << 4) ^ (count << 5)) % SLOTS
 }
 
 impl Model for Names {
@@ -40,7 +57,12 @@ impl Names {
         ensures { IfOk result (λ names. names ≡ built_in_words) }
     {
         let categories = table_of(alloc, &WORDS)?;
-        Ok(Names { categories, alloc })
+        let recent = vec![in alloc; 0; SLOTS]?;
+        Ok(Names {
+            categories,
+            recent,
+            alloc,
+        })
     }
 
     /// The entry of this kind and text. A new one is last and has the category exp; a present one keeps
@@ -52,9 +74,55 @@ impl Names {
         ensures ok { OnOk result (self.new ≡ with_entry kind text.now self.old) }
         ensures err { OnErr result (self.new ≡ self.old) }
     {
-        match self.categories.get_index_of(Wanted { kind, text }) {
+        let slot = slot_of(text);
+        match self.recent_at(slot, kind, text) {
             Some(index) => Ok(NameId { index }),
+            None => self.look_up(slot, kind, text),
+        }
+    }
+
+    // The entry of this kind and text, if it was found last among those of its slot.
+    #[inline(always)]
+    fn recent_at(&self, slot: usize, kind: EntryKind, text: &[u8]) -> Option<usize>
+        ensures place { IfSome result (λ index. index ≡ place_of kind text.now self.now) }
+        ensures within { IfSome result (λ index. index < length self.now) }
+    {
+        let index = *self.recent.get(slot)?;
+        if index >= self.categories.len() {
+            return None;
+        }
+        let (key, _) = self.categories.get_index(index)?;
+        let wanted = Wanted { kind, text };
+        if wanted.equivalent(key) {
+            Some(index)
+        } else {
+            None
+        }
+    }
+
+    // The entry of this kind and text, through the hash table.
+    #[inline(never)]
+    fn look_up(&mut self, slot: usize, kind: EntryKind, text: &[u8]) -> Result<NameId, Memory>
+        ensures id { IfOk result (λ id. id.index ≡ place_of kind text.now self.old) }
+        ensures within { IfOk result (λ id. id.index < length self.new) }
+        ensures present { place_of kind text.now self.old < length self.old → IsOk result }
+        ensures ok { OnOk result (self.new ≡ with_entry kind text.now self.old) }
+        ensures err { OnErr result (self.new ≡ self.old) }
+    {
+        match self.categories.get_index_of(Wanted { kind, text }) {
+            Some(index) => {
+                self.remember(slot, index);
+                Ok(NameId { index })
+            }
             None => self.add(kind, text),
+        }
+    }
+
+    fn remember(&mut self, slot: usize, index: usize)
+        ensures { self.new ≡ self.old }
+    {
+        if let Some(recent) = self.recent.get_mut(slot) {
+            *recent = index;
         }
     }
 

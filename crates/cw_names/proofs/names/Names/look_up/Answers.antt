@@ -6,7 +6,7 @@ use Rattle.cw_names.specs.Names.{place_of}
 use Rattle.cw_names.specs.Inside.{entry_of}
 use Rattle.cw_names.specs.declared.entry.NameId.{NameId}
 use Rattle.cw_names.proofs.Lookup.{found-place, new-last, with_entry-present}
-use Rattle.cw_names.proofs.names.Names.find_or_add.Goals as goal
+use Rattle.cw_names.proofs.names.Names.look_up.Goals as goal
 
 pub returns-in-Some-clause-id : goal.returns-in-Some-clause-id
 returns-in-Some-clause-id c =
@@ -20,7 +20,7 @@ returns-in-Some-clause-ok c =
     (record { kind = c.args.kind; text = c.args.text }) refl refl
     c.in-Some.index c.in-Some.ensures.index in
     let size : length c.self.inside.categories.entries ≡ length c.args.self.now = sym (length-map c.self.inside.categories.entries entry_of) ∙ ap length c.self.view_is in
-    sym (with_entry-present c.self.inside.categories.entries c.args.self.now c.self.view_is c.args.kind c.args.text.now (omega (arith, c.in-Some.ensures.within)))
+    c.remember.ensures ∙ sym (with_entry-present c.self.inside.categories.entries c.args.self.now c.self.view_is c.args.kind c.args.text.now (omega (arith, c.in-Some.ensures.within)))
 
 pub add-requires : goal.add-requires
 add-requires c = record { new = new-last c.self.inside.categories.entries c.args.self.now c.self.view_is c.args.kind c.args.text.now (record { kind = c.args.kind; text = c.args.text }) refl refl (sym c.in-None.ensures.index) }
