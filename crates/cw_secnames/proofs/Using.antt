@@ -15,7 +15,7 @@ apart a b h = grind arith
 
 pub at-first : (place : ℕ) (pairs : List Pair) (i : ℕ) (d : Pair) → i < length pairs
     → ((k : ℕ) → k < i → (get_or pairs k d).place < place) → (get_or pairs i d).place ≡ place
-    → name_at place (map use_of pairs) ≡ Some (get_or pairs i d).id.index
+    → name_at place (map use_of pairs) ≡ Some (get_or pairs i d).name
 at-first place [] i d h below e = absurd (omega arith)
 at-first place (p ∷ pairs) zero d h below e = rw (eq-eqb p.place place e, name_at) refl
 at-first place (p ∷ pairs) (suc i) d h below e =

@@ -4,7 +4,7 @@ use Rattle.cw_secnames.specs.declared.name_uses.Pair.{Pair}
 use Rattle.cw_secnames.specs.Uses.{NameUse}
 
 abbrev pub use_of : Pair → NameUse
-use_of p = record { place = p.place; name = p.id.index }
+use_of p = record { place = p.place; name = p.name }
 
 -- The pairs stand by ascending place.
 abbrev pub AreAscending : List Pair → Type 0

@@ -5,6 +5,7 @@ mod kinds;
 mod marks;
 mod name_uses;
 mod parts;
+mod referrers;
 mod sec_names;
 
 pub use kinds::{Earliest, Entered, RefKind, SecId, SecKind};

@@ -9,11 +9,11 @@ use cw_base::Memory;
 use std::alloc::Global;
 use std::marker::Model;
 
-/// A place in the web, and the name that stands there.
+/// A place in the web, and the position of the name that stands there.
 #[derive(Clone, Copy)]
 pub(crate) struct Pair {
     place: u32,
-    id: SecId,
+    name: u32,
 }
 
 /// The names that the section names in a web stand for, by ascending place.
@@ -44,13 +44,18 @@ impl NameUses {
         }
     }
 
-    /// Appends one pair. After `Memory` the pairs are as before.
+    /// Appends one pair. After `Memory` the pairs are as before; it is also for a name whose position takes more than
+    /// 32 bits.
     pub fn add(&mut self, place: u32, id: SecId) -> Result<(), Memory>
         requires { All (λ u. u.place < place) self.old }
         ensures ok { OnOk result (self.new ≡ self.old ++ record { place = place; name = id.index } ∷ []) }
         ensures err { OnErr result (self.new ≡ self.old) }
     {
-        self.pairs.push(Pair { place, id })?;
+        if id.index > 4294967295 {
+            return Err(Memory);
+        }
+        let name = id.index as u32;
+        self.pairs.push(Pair { place, name })?;
         Ok(())
     }
 
@@ -62,7 +67,9 @@ impl NameUses {
         if first < self.pairs.len() {
             let pair = self.pairs[first];
             if pair.place == place {
-                return Some(pair.id);
+                return Some(SecId {
+                    index: pair.name as usize,
+                });
             }
         }
         None

@@ -21,13 +21,14 @@ ghost use Rattle.cw_secnames.specs.Kept.{
   unreferred,
   with_text,
 };
-ghost use Rattle.cw_secnames.specs.References.{with_number, with_reference, with_section};
+ghost use Rattle.cw_secnames.specs.References.{with_reference, with_section};
 ghost use Rattle.cw_secnames.specs.Inside.{IsWithin, name_of};
 ghost use Rattle.cw_secnames.specs.Asked.{chosen, is_below, is_lesser, kind_asked, passes, passes_at};
 ghost use Rattle.cw_secnames.specs.Marks.{HoldNear};
 ghost use Rattle.cw_secnames.specs.declared.kinds.SecKind.TheVariants.{Named};
 
 use crate::marks::Marks;
+use crate::referrers::Referrers;
 use crate::{Earliest, Entered, RefKind, SecId, SecKind};
 use cw_base::Memory;
 use std::alloc::Global;
@@ -39,9 +40,9 @@ pub(crate) struct Kept {
     kind: SecKind,
     complete: bool,
     text: Vec<u8>,
-    defined: Vec<u32>,
-    used: Vec<u32>,
-    cited: Vec<u32>,
+    defined: Referrers,
+    used: Referrers,
+    cited: Referrers,
 }
 
 /// The kept names, in order of entry.
@@ -107,18 +108,6 @@ fn begins_properly(first: &[u8], text: &[u8]) -> bool
     first.len() < text.len() && begins(first, text)
 }
 
-// Adds a section behind others, unless it is the last of them already.
-fn add_section(sections: &mut Vec<u32>, section: u32) -> Result<(), Memory>
-    ensures ok { OnOk result (sections.new.items ≡ with_number section sections.old.items) }
-    ensures err { OnErr result (sections.new.items ≡ sections.old.items) }
-{
-    if !sections.is_empty() && sections[sections.len() - 1] == section {
-        return Ok(());
-    }
-    sections.push(section)?;
-    Ok(())
-}
-
 impl Kept {
     fn passes(&self, asked: Asked, text: &[u8]) -> bool
         ensures { result ≡ passes asked text.now (name_of self.now) }
@@ -151,14 +140,14 @@ impl Kept {
     }
 
     // A section more that refers to the name.
-    fn add_ref(&mut self, how: RefKind, section: u32) -> Result<(), Memory>
+    fn add_ref(&mut self, alloc: Global, how: RefKind, section: u32) -> Result<(), Memory>
         ensures ok { OnOk result (name_of self.new ≡ with_section how section (name_of self.old)) }
         ensures err { OnErr result (name_of self.new ≡ name_of self.old) }
     {
         match how {
-            RefKind::Defined => add_section(&mut self.defined, section)?,
-            RefKind::Used => add_section(&mut self.used, section)?,
-            RefKind::Cited => add_section(&mut self.cited, section)?,
+            RefKind::Defined => self.defined.add(alloc, section)?,
+            RefKind::Used => self.used.add(alloc, section)?,
+            RefKind::Cited => self.cited.add(alloc, section)?,
         }
         Ok(())
     }
@@ -295,9 +284,9 @@ impl SecNames {
             kind,
             text,
             complete,
-            defined: Vec::new(self.alloc),
-            used: Vec::new(self.alloc),
-            cited: Vec::new(self.alloc),
+            defined: Referrers::Nobody,
+            used: Referrers::Nobody,
+            cited: Referrers::Nobody,
         })?;
         Ok(SecId { index })
     }
@@ -392,7 +381,7 @@ impl SecNames {
         ensures len { OnOk result (length self.new ≡ length self.old) }
         ensures err { OnErr result (self.new ≡ self.old) }
     {
-        self.names[id.index].add_ref(how, section)?;
+        self.names[id.index].add_ref(self.alloc, how, section)?;
         Ok(())
     }
 

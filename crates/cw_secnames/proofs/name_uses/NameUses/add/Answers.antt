@@ -8,5 +8,5 @@ use Rattle.cw_secnames.proofs.name_uses.NameUses.add.Goals as goal
 pub invariant_of-self-2 : goal.invariant_of-self-2
 invariant_of-self-2 c =
     subst AreAscending (sym c.in_ok-push.ensures.items)
-    (ascending-more c.self.inside.pairs.items (record { place = c.args.place; id = c.args.id }) c.self.invariant
+    (ascending-more c.self.inside.pairs.items (record { place = c.args.place; name = c.args.id.index }) c.self.invariant
     (subst (All (λ (u : NameUse). u.place < c.args.place)) (sym c.self.view_is) c.requires))

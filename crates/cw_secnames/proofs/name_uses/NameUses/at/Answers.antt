@@ -20,11 +20,11 @@ returns-then-pair-place c =
     subst (λ pairs. IsPoint c.args.place pairs c.partition_point-first.result) c.deref.ensures.value there in
     let within : c.partition_point-first.result < length c.self.inside.pairs.items =
     omega (arith, c.if-first-len.true, c.len.ensures, c.self.inside.pairs.ok.0) in
-    let found : name_at c.args.place (map use_of c.self.inside.pairs.items) ≡ Some (get_or c.self.inside.pairs.items c.partition_point-first.result c.index-pair.result.now).id.index =
+    let found : name_at c.args.place (map use_of c.self.inside.pairs.items) ≡ Some (get_or c.self.inside.pairs.items c.partition_point-first.result c.index-pair.result.now).name =
     at-first c.args.place c.self.inside.pairs.items c.partition_point-first.result c.index-pair.result.now within
     (point-below c.args.place c.self.inside.pairs.items c.partition_point-first.result c.index-pair.result.now point)
     (ap (λ (p : Pair). p.place) (sym c.index-pair.ensures) ∙ c.if-pair-place.true) in
-    ap (λ (p : Pair). Some p.id) c.index-pair.ensures ∙
+    ap (λ (p : Pair). Some (id p.name)) c.index-pair.ensures ∙
     (sym (ap (option_map id) found) ∙ ap (λ uses. option_map id (name_at c.args.place uses)) c.self.view_is)
 
 pub returns-else-pair-place : goal.returns-else-pair-place
@@ -47,7 +47,7 @@ returns-else-first-len c =
     IsPartitionPoint-from_clause (λ (p : Pair). ltb p.place c.args.place) _ _ c.partition_point-first.ensures.partitioned (parted c.args.place c.deref.result.now ascending) (λ a r q k. search rules) in
     let point : IsPoint c.args.place c.self.inside.pairs.items c.partition_point-first.result =
     subst (λ pairs. IsPoint c.args.place pairs c.partition_point-first.result) c.deref.ensures.value there in
-    let no_pair : Pair = record { place = 0; id = record { index = 0 } } in
+    let no_pair : Pair = record { place = 0; name = 0 } in
     sym (ap (option_map id) (nowhere-by c.args.place c.self.inside.pairs.items c.partition_point-first.result no_pair c.self.invariant point
     (λ within same. omega (arith, c.if-first-len.false, c.len.ensures, c.self.inside.pairs.ok.0))))
     ∙ ap (λ uses. option_map id (name_at c.args.place uses)) c.self.view_is

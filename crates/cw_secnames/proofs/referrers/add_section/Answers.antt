@@ -1,8 +1,8 @@
 -- A section is added behind the last one, unless it is that one.
 use Rattle.std.proofs.Common.{◌<◌, ◌-◌, ◌∙◌, sym, ap, length, get_or, ◌==◌}
 use Rattle.cw_secnames.proofs.References.{at-last, behind-last, behind-none, is-some, is-none}
-use Rattle.cw_secnames.proofs.sec_names.add_section.Goals as goal
-use Rattle.cw_secnames.proofs.sec_names.add_section.Goals.{else-not-is_empty-via-then-not-is_empty+else-index-section, else-not-is_empty-via-else-not-is_empty}
+use Rattle.cw_secnames.proofs.referrers.add_section.Goals as goal
+use Rattle.cw_secnames.proofs.referrers.add_section.Goals.{else-not-is_empty-via-then-not-is_empty+else-index-section, else-not-is_empty-via-else-not-is_empty}
 
 pub returns-then-index-section-clause-ok : goal.returns-then-index-section-clause-ok
 returns-then-index-section-clause-ok c =
