@@ -94,7 +94,7 @@ all-referred references answers =
     add-all [] references (kept_after [] answers)
 
 pub of-kept : (items : List Referring) (n k : ℕ) (d : Referring) → All (λ (r : Reference). r.name < n) (map referring_of items) → k < length items
-    → (get_or items k d).id.index < n
+    → (get_or items k d).name < n
 of-kept [] n k d a h = absurd (omega arith)
 of-kept (r ∷ items) n zero d a h = a zero (referring_of d) (omega arith)
 of-kept (r ∷ items) n (suc k) d a h = of-kept items n k d (λ j e l. a (suc j) e (omega arith)) (omega arith)

@@ -2,6 +2,7 @@
 pub mod Texts
 pub mod Entering
 pub mod Roles
+pub mod Packed
 pub mod Words
 pub mod Uses
 pub mod Places

@@ -3,4 +3,4 @@ use Rattle.cw_secnames.specs.References.{Reference}
 use Rattle.cw_phase1.specs.declared.named.Referring.{Referring}
 
 abbrev pub referring_of : Referring → Reference
-referring_of r = record { name = r.id.index; how = r.how; section = r.section }
+referring_of r = record { name = r.name; how = r.how; section = r.section }

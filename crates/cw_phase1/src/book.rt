@@ -2,7 +2,8 @@
 ghost use Rattle.std.specs.Prelude.{◌≡◌, ◌<◌, ◌≤◌, ◌-◌, ◌+◌, ◌^◌, Some, length, slice_get};
 
 use crate::note_list::NoteList;
-use crate::sections::{Section, SectionList};
+use crate::packed::SectionList;
+use crate::sections::Section;
 use cw_base::{Note, Span};
 use cw_names::{Names, Xrefs};
 use cw_secnames::{NameUses, SecNames};
@@ -45,7 +46,7 @@ impl Outline {
     pub fn section_count(&self) -> u32
         ensures { result ≡ length self.now.sections }
     {
-        self.sections.as_slice().len() as u32
+        self.sections.len() as u32
     }
 
     /// The text before the first section.
@@ -68,7 +69,7 @@ impl Outline {
         requires last { n ≤ length self.now.sections }
         ensures { slice_get self.now.sections (n - 1) ≡ Some result }
     {
-        self.sections.as_slice()[n as usize - 1]
+        self.sections.at(n as usize - 1)
     }
 }
 

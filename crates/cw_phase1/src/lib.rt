@@ -7,6 +7,7 @@ mod held;
 mod laws;
 mod named;
 mod note_list;
+mod packed;
 mod phase;
 mod places;
 mod placing;

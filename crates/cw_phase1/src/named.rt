@@ -1,23 +1,24 @@
 //! For which names the section names in a web stand, and how their sections refer to them.
-ghost use Rattle.std.specs.Prelude.{◌≡◌, ◌<◌, ◌^◌, [], ◌∷◌, ◌++◌, All, IfSome, OnOk, length, map};
+ghost use Rattle.std.specs.Prelude.{◌≡◌, ◌<◌, ◌^◌, [], ◌∷◌, ◌++◌, All, IfOk, IfSome, OnOk, length, map};
 ghost use Rattle.cw_secnames.specs.References.{Reference};
 ghost use Rattle.cw_phase1.specs.Placing.{placed_of};
 ghost use Rattle.cw_phase1.specs.Referring.{referring_of};
 ghost use Rattle.cw_phase1.specs.Telling.{named_told};
 
 use crate::Role;
+use crate::packed::short;
 use crate::placing::Placed;
 use cw_base::Memory;
 use cw_secnames::{NameUses, RefKind, SecId};
 use std::alloc::Global;
 use std::marker::Model;
 
-/// A section refers to a name.
+/// A section refers to the name at a position.
 #[derive(Clone, Copy)]
 pub(crate) struct Referring {
-    pub id: SecId,
-    pub how: RefKind,
+    name: u32,
     pub section: u32,
+    pub how: RefKind,
 }
 
 /// References in the order of the web.
@@ -41,6 +42,23 @@ impl Model for References {
 pub(crate) struct Named {
     pub uses: NameUses,
     pub references: References,
+}
+
+impl Referring {
+    fn to(id: SecId, how: RefKind, section: u32) -> Result<Referring, Memory>
+        ensures { IfOk result (λ r. referring_of r ≡ record { name = id.index; how = how; section = section }) }
+    {
+        let name = short(id.index)?;
+        Ok(Referring { name, section, how })
+    }
+
+    pub(crate) fn id(&self) -> SecId
+        ensures { result.index ≡ self.now.name }
+    {
+        SecId {
+            index: self.name as usize,
+        }
+    }
 }
 
 impl References {
@@ -86,11 +104,8 @@ impl Named {
         if let Some(id) = p.name {
             self.uses.add(p.token.span.start as u32, id)?;
             if let Role::Name(how) = p.role {
-                self.references.add(Referring {
-                    id,
-                    how,
-                    section: p.section,
-                })?;
+                let reference = Referring::to(id, how, p.section)?;
+                self.references.add(reference)?;
             }
         }
         Ok(())

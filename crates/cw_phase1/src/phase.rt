@@ -80,7 +80,7 @@ fn refer(names: &mut SecNames, references: &References) -> Result<(), Memory>
     ensures len { OnOk result (length names.new ≡ length names.old) }
 {
     for reference in references.as_slice() {
-        names.add_ref(reference.id, reference.how, reference.section)?;
+        names.add_ref(reference.id(), reference.how, reference.section)?;
     }
     Ok(())
 }

@@ -1,11 +1,12 @@
 //! The sections of a web: their heads, and the spans of their parts.
-ghost use Rattle.std.specs.Prelude.{◌≡◌, ◌+◌, ◌^◌, ◌<◌, ◌≤◌, [], ◌∷◌, ◌++◌, List, None, length, drop, take_while, OnOk};
+ghost use Rattle.std.specs.Prelude.{◌≡◌, ◌+◌, ◌^◌, ◌<◌, ◌≤◌, [], List, None, length, drop, take_while, OnOk};
 ghost use Rattle.cw_rules.specs.Answers.{seen};
 ghost use Rattle.cw_rules.specs.Bytes.{is_digit};
 ghost use Rattle.cw_phase1.specs.Placing.{placed_of};
 ghost use Rattle.cw_phase1.specs.Sections.{depth_at, ends_definitions, ends_tex, is_section_code, is_starred};
 ghost use Rattle.cw_phase1.specs.Outlining.{closed_at, closing, opened, or_else, or_here, section_told, with_token};
 
+use crate::packed::SectionList;
 use crate::places::holds_changed;
 use crate::placing::Placed;
 use crate::{Part, Role};
@@ -13,7 +14,6 @@ use cw_base::{Memory, Span, Web};
 use cw_lex::{Code, Tok, TokKind};
 use cw_secnames::SecId;
 use std::alloc::Global;
-use std::marker::Model;
 
 /// How deep a starred section stands. A section that isn't starred has depth 0.
 #[derive(Clone, Copy, PartialEq, Eq, Debug)]
@@ -53,50 +53,12 @@ pub(crate) struct Open {
     name: Option<SecId>,
 }
 
-/// Sections in a row.
-#[derive(Drop)]
-pub(crate) struct SectionList {
-    items: Vec<Section>,
-}
-
-impl Model for SectionList {
-    ghost use Rattle.std.specs.Prelude.{List};
-    ghost use Rattle.cw_phase1.specs.declared.sections.Section.{Section};
-
-    ghost Value = { List Section };
-
-    ghost view = { λ s. s.items.items };
-}
-
 /// The sections that came: those that ended, the one that is open, and where limbo ended.
 #[derive(Drop)]
 pub(crate) struct Sections {
     pub closed: SectionList,
     pub open_one: Option<Open>,
     pub limbo_end: Option<usize>,
-}
-
-impl SectionList {
-    pub(crate) fn new_in(alloc: Global) -> SectionList
-        ensures { result ≡ [] }
-    {
-        SectionList {
-            items: Vec::new(alloc),
-        }
-    }
-
-    pub(crate) fn push(&mut self, section: Section) -> Result<(), Memory>
-        ensures { OnOk result (self.new ≡ self.old ++ section ∷ []) }
-    {
-        self.items.push(section)?;
-        Ok(())
-    }
-
-    pub(crate) fn as_slice(&self) -> &[Section]
-        ensures { result.now ≡ self.now }
-    {
-        self.items.as_slice()
-    }
 }
 
 /// How many digits bytes begin with.

@@ -1,0 +1,35 @@
+-- How the sections lie in memory.
+use Rattle.std.specs.Prelude.{ℕ, Option}
+use Rattle.std.specs.Option.{option_map}
+use Rattle.cw_base.specs.declared.span.Span.{Span}
+use Rattle.cw_secnames.specs.declared.kinds.SecId.{SecId}
+use Rattle.cw_secnames.specs.Kept.{id}
+use Rattle.cw_phase1.specs.declared.packed.Row.{Row}
+use Rattle.cw_phase1.specs.declared.packed.RowDepth.{RowDepth}
+use Rattle.cw_phase1.specs.declared.packed.RowDepth.TheVariants as rows
+use Rattle.cw_phase1.specs.declared.packed.ShortSpan.{ShortSpan}
+use Rattle.cw_phase1.specs.declared.sections.Depth.{Depth}
+use Rattle.cw_phase1.specs.declared.sections.Depth.TheVariants.{Minus, Zero, Digits}
+use Rattle.cw_phase1.specs.declared.sections.Section.{Section}
+
+abbrev pub span_of : ShortSpan → Span
+span_of s = record { start = s.start; «end» = s.«end» }
+
+abbrev pub depth_of : RowDepth → Depth
+depth_of rows.Minus = Minus
+depth_of rows.Zero = Zero
+depth_of (rows.Digits s) = Digits (span_of s)
+
+abbrev pub name_of : Option ℕ → Option SecId
+name_of name = option_map id name
+
+abbrev pub section_of : Row → Section
+section_of r = record {
+  starred = r.starred;
+  depth = depth_of r.depth;
+  tex = span_of r.tex;
+  definitions = span_of r.definitions;
+  c_part = span_of r.c_part;
+  name = name_of r.name;
+  changed = r.changed;
+}

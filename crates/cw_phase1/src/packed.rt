@@ -1,0 +1,192 @@
+//! Sections in a row, as they lie in memory: with places of 32 bits.
+ghost use Rattle.std.specs.Prelude.{◌≡◌, ◌<◌, [], ◌∷◌, ◌++◌, Some, IfOk, OnOk, length, slice_get};
+ghost use Rattle.cw_phase1.specs.Packed.{depth_of, name_of, section_of, span_of};
+
+use crate::{Depth, Section};
+use cw_base::{Memory, Span};
+use cw_secnames::SecId;
+use std::alloc::Global;
+use std::marker::Model;
+
+/// A span of a text that has fewer than 2^32 bytes.
+#[derive(Clone, Copy)]
+pub(crate) struct ShortSpan {
+    start: u32,
+    end: u32,
+}
+
+/// The depth of a section.
+#[derive(Clone, Copy)]
+pub(crate) enum RowDepth {
+    Minus,
+    Zero,
+    Digits(ShortSpan),
+}
+
+/// A section in less than half of the memory.
+#[derive(Clone, Copy)]
+pub(crate) struct Row {
+    tex: ShortSpan,
+    definitions: ShortSpan,
+    c_part: ShortSpan,
+    depth: RowDepth,
+    name: Option<u32>,
+    starred: bool,
+    changed: bool,
+}
+
+/// Sections in a row.
+#[derive(Drop)]
+pub(crate) struct SectionList {
+    rows: Vec<Row>,
+}
+
+impl Model for SectionList {
+    ghost use Rattle.std.specs.Prelude.{List, map};
+    ghost use Rattle.cw_phase1.specs.declared.sections.Section.{Section};
+    ghost use Rattle.cw_phase1.specs.Packed.{section_of};
+
+    ghost Value = { List Section };
+
+    ghost view = { λ s. map section_of s.rows.items };
+}
+
+/// A number in 32 bits; there is no room for a greater one.
+pub(crate) fn short(number: usize) -> Result<u32, Memory>
+    ensures { IfOk result (λ n. n ≡ number) }
+{
+    if number > 4294967295 {
+        return Err(Memory);
+    }
+    Ok(number as u32)
+}
+
+impl ShortSpan {
+    fn of(span: Span) -> Result<ShortSpan, Memory>
+        ensures { IfOk result (λ s. span_of s ≡ span) }
+    {
+        let start = short(span.start)?;
+        let end = short(span.end)?;
+        Ok(ShortSpan { start, end })
+    }
+
+    fn span(self) -> Span
+        ensures { result ≡ span_of self }
+    {
+        Span {
+            start: self.start as usize,
+            end: self.end as usize,
+        }
+    }
+}
+
+impl RowDepth {
+    fn of(depth: Depth) -> Result<RowDepth, Memory>
+        ensures { IfOk result (λ d. depth_of d ≡ depth) }
+    {
+        match depth {
+            Depth::Minus => Ok(RowDepth::Minus),
+            Depth::Zero => Ok(RowDepth::Zero),
+            Depth::Digits(span) => {
+                let digits = ShortSpan::of(span)?;
+                Ok(RowDepth::Digits(digits))
+            }
+        }
+    }
+
+    fn depth(self) -> Depth
+        ensures { result ≡ depth_of self }
+    {
+        match self {
+            RowDepth::Minus => Depth::Minus,
+            RowDepth::Zero => Depth::Zero,
+            RowDepth::Digits(span) => Depth::Digits(span.span()),
+        }
+    }
+}
+
+// The position of a name in 32 bits.
+fn short_name(name: Option<SecId>) -> Result<Option<u32>, Memory>
+    ensures { IfOk result (λ n. name_of n ≡ name) }
+{
+    match name {
+        None => Ok(None),
+        Some(id) => {
+            let index = short(id.index)?;
+            Ok(Some(index))
+        }
+    }
+}
+
+fn name_of(name: Option<u32>) -> Option<SecId>
+    ensures { result ≡ name_of name }
+{
+    match name {
+        None => None,
+        Some(index) => Some(SecId {
+            index: index as usize,
+        }),
+    }
+}
+
+impl Row {
+    fn of(section: &Section) -> Result<Row, Memory>
+        ensures { IfOk result (λ row. section_of row ≡ section.now) }
+    {
+        Ok(Row {
+            tex: ShortSpan::of(section.tex)?,
+            definitions: ShortSpan::of(section.definitions)?,
+            c_part: ShortSpan::of(section.c_part)?,
+            depth: RowDepth::of(section.depth)?,
+            name: short_name(section.name)?,
+            starred: section.starred,
+            changed: section.changed,
+        })
+    }
+
+    fn section(&self) -> Section
+        ensures { result ≡ section_of self.now }
+    {
+        Section {
+            starred: self.starred,
+            depth: self.depth.depth(),
+            tex: self.tex.span(),
+            definitions: self.definitions.span(),
+            c_part: self.c_part.span(),
+            name: name_of(self.name),
+            changed: self.changed,
+        }
+    }
+}
+
+impl SectionList {
+    pub(crate) fn new_in(alloc: Global) -> SectionList
+        ensures { result ≡ [] }
+    {
+        SectionList {
+            rows: Vec::new(alloc),
+        }
+    }
+
+    pub(crate) fn push(&mut self, section: Section) -> Result<(), Memory>
+        ensures { OnOk result (self.new ≡ self.old ++ section ∷ []) }
+    {
+        let row = Row::of(&section)?;
+        self.rows.push(row)?;
+        Ok(())
+    }
+
+    pub(crate) fn len(&self) -> usize
+        ensures { result ≡ length self.now }
+    {
+        self.rows.len()
+    }
+
+    /// The section at a position.
+    pub(crate) fn at(&self, index: usize) -> Section
+        requires { index < length self.now }
+        ensures { slice_get self.now index ≡ Some result }
+    {
+        self.rows[index].section()
+    }
+}
