@@ -4,6 +4,7 @@ pub mod Entering
 pub mod Finding
 pub mod Marked
 pub mod Nearest
+pub mod NamedMarks
 pub mod References
 pub mod Using
 pub mod PartLaws

@@ -8,3 +8,4 @@ pub mod Marks
 pub mod Asked
 pub mod InsideUses
 pub mod ReferenceLaws
+pub mod NameMarks

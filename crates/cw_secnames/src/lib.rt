@@ -3,6 +3,7 @@
 
 mod kinds;
 mod marks;
+mod name_marks;
 mod name_uses;
 mod parts;
 mod referrers;

@@ -27,7 +27,7 @@ ghost use Rattle.cw_secnames.specs.Asked.{chosen, is_below, is_lesser, kind_aske
 ghost use Rattle.cw_secnames.specs.Marks.{HoldNear};
 ghost use Rattle.cw_secnames.specs.declared.kinds.SecKind.TheVariants.{Named};
 
-use crate::marks::Marks;
+use crate::name_marks::NameMarks;
 use crate::referrers::Referrers;
 use crate::{Earliest, Entered, RefKind, SecId, SecKind};
 use cw_base::Memory;
@@ -47,11 +47,12 @@ pub(crate) struct Kept {
 
 /// The kept names, in order of entry.
 ///
-/// A name is looked for among those that its text begins or that begin it, and not among all names.
+/// A name is looked for among those that its text begins or that begin it, and not among all names, until the memory for
+/// that is given back.
 #[derive(Drop)]
 pub struct SecNames {
     names: Vec<Kept>,
-    marks: Marks,
+    marks: NameMarks,
     alloc: Global,
 }
 
@@ -59,13 +60,13 @@ impl Model for SecNames {
     ghost use Rattle.std.specs.Prelude.{List, map};
     ghost use Rattle.cw_secnames.specs.Kept.{SecName};
     ghost use Rattle.cw_secnames.specs.Inside.{name_of};
-    ghost use Rattle.cw_secnames.specs.Marks.{AreMarked};
+    ghost use Rattle.cw_secnames.specs.NameMarks.{AreMarkedNames};
 
     ghost Value = { List SecName };
 
     ghost view = { λ n. map name_of n.names.items };
 
-    ghost invariant = { λ n. AreMarked n.marks 0 (map name_of n.names.items) };
+    ghost invariant = { λ n. AreMarkedNames n.marks 0 (map name_of n.names.items) };
 }
 
 // What is asked of a name.
@@ -167,7 +168,7 @@ impl SecNames {
     {
         SecNames {
             names: Vec::new(alloc),
-            marks: Marks::new_in(alloc),
+            marks: NameMarks::new_in(alloc),
             alloc,
         }
     }
@@ -176,7 +177,7 @@ impl SecNames {
     fn near(&self, kind: SecKind, text: &[u8]) -> Result<Vec<usize>, Memory>
         ensures { IfOk result (λ near. HoldNear near.items kind text.now 0 self.now) }
     {
-        let near = self.marks.near(kind, text)?;
+        let near = self.marks.near(kind, text, self.names.len())?;
         Ok(near)
     }
 
@@ -383,6 +384,14 @@ impl SecNames {
     {
         self.names[id.index].add_ref(self.alloc, how, section)?;
         Ok(())
+    }
+
+    /// Gives the memory back that only entering needs: for when all names came. Entering stays possible, and then takes
+    /// time with the number of names.
+    pub fn release(&mut self)
+        ensures { self.new ≡ self.old }
+    {
+        self.marks.release();
     }
 
     /// How many names are kept.

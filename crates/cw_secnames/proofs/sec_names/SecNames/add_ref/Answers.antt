@@ -2,8 +2,8 @@
 use Rattle.std.proofs.Common.{◌≡◌, ◌∙◌, ap, sym, subst, rules, length}
 use Rattle.cw_secnames.specs.References.{with_reference, with_section}
 use Rattle.cw_secnames.specs.Inside.{name_of}
-use Rattle.cw_secnames.specs.Marks.{AreMarked}
-use Rattle.cw_secnames.proofs.Nearest.{marked-with_reference}
+use Rattle.cw_secnames.specs.NameMarks.{AreMarkedNames}
+use Rattle.cw_secnames.proofs.NamedMarks.{named-with_reference}
 use Rattle.cw_secnames.proofs.Finding.{same-map, reference-map, length-with_reference}
 use Rattle.cw_secnames.proofs.sec_names.SecNames.add_ref.Goals as goal
 
@@ -24,12 +24,12 @@ returns-clause-len c = ap length (returns-clause-ok c) ∙ length-with_reference
 
 pub invariant_of-self : goal.invariant_of-self
 invariant_of-self c =
-    subst (AreMarked c.self.inside.marks 0)
+    subst (AreMarkedNames c.self.inside.marks 0)
     (sym (same-map c.self.inside.names.items c.args.id.index _ c.add_ref.new.self (c.in_err-add_ref.ensures.err ∙ ap name_of c.index_mut.ensures.value))) c.self.invariant
 
 pub invariant_of-self-2 : goal.invariant_of-self-2
 invariant_of-self-2 c =
-    subst (AreMarked c.self.inside.marks 0)
+    subst (AreMarkedNames c.self.inside.marks 0)
     (sym (reference-map c.self.inside.names.items c.args.id.index _ c.add_ref.new.self c.args.how c.args.section
     (c.in_ok-add_ref.ensures.ok ∙ ap (λ n. with_section c.args.how c.args.section (name_of n)) c.index_mut.ensures.value)))
-    (marked-with_reference c.self.inside.marks 0 c.args.id.index c.args.how c.args.section _ c.self.invariant)
+    (named-with_reference c.self.inside.marks 0 c.args.id.index c.args.how c.args.section _ c.self.invariant)

@@ -1,11 +1,11 @@
 -- All names are marked.
-use Rattle.std.proofs.Common.{subst, map}
-use Rattle.cw_secnames.specs.Marks.{HoldNear}
-use Rattle.cw_secnames.specs.Inside.{name_of}
-use Rattle.cw_secnames.proofs.Nearest.{holds}
+use Rattle.std.proofs.Common.{◌∙◌, ap, length, subst, sym}
+use Rattle.cw_secnames.specs.NameMarks.{AreMarkedNames}
+use Rattle.cw_secnames.proofs.Finding.{length-named}
 use Rattle.cw_secnames.proofs.sec_names.SecNames.near.Goals as goal
 
 pub returns : goal.returns
 returns c =
-    subst (HoldNear c.in_ok-near.near.items c.args.kind c.args.text.now 0) c.self.view_is
-    (holds c.self.inside.marks c.in_ok-near.near.items c.args.kind c.args.text.now 0 (map name_of c.self.inside.names.items) c.self.invariant c.in_ok-near.ensures)
+    c.in_ok-near.ensures c.args.self.now
+    (sym (ap length c.self.view_is) ∙ length-named c.self.inside.names.items ∙ sym c.self.inside.names.ok.0 ∙ sym c.len.ensures)
+    (subst (AreMarkedNames c.self.inside.marks 0) c.self.view_is c.self.invariant)

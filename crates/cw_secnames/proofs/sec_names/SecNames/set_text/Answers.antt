@@ -2,7 +2,8 @@
 use Rattle.std.proofs.Common.{◌∙◌, ap, sym, refl, length, arith}
 use Rattle.cw_secnames.specs.Kept.{with_text}
 use Rattle.cw_secnames.specs.declared.sec_names.Kept.{Kept}
-use Rattle.cw_secnames.proofs.Nearest.{marked-more, marked-set, marked-as, same-kind}
+use Rattle.cw_secnames.proofs.NamedMarks.{named-more, named-set}
+use Rattle.cw_secnames.proofs.Nearest.{marked-as, same-kind}
 use Rattle.cw_secnames.proofs.Finding.{with_text-map, length-with_text, length-named}
 use Rattle.cw_secnames.proofs.sec_names.SecNames.set_text.Goals as goal
 
@@ -15,15 +16,15 @@ pub returns-clause-len : goal.returns-clause-len
 returns-clause-len c = ap length (returns-clause-ok c) ∙ length-with_text c.args.index c.args.text.now c.args.complete c.args.self.now
 
 pub invariant_of-self : goal.invariant_of-self
-invariant_of-self c = marked-more _ _ 0 _ c.enter.ensures.keeps c.self.invariant
+invariant_of-self c = named-more _ _ 0 _ c.enter.ensures.keeps c.self.invariant
 
 pub invariant_of-self-in_err-text : goal.invariant_of-self-in_err-text
-invariant_of-self-in_err-text c = marked-more _ _ 0 _ c.enter.ensures.keeps c.self.invariant
+invariant_of-self-in_err-text c = named-more _ _ 0 _ c.enter.ensures.keeps c.self.invariant
 
 pub invariant_of-self-2 : goal.invariant_of-self-2
 invariant_of-self-2 c =
-    marked-set _ 0 c.self.inside.names.items c.args.index _ (marked-more _ _ 0 _ c.enter.ensures.keeps c.self.invariant)
-    (marked-as _ _ _ _ _ _ _
+    named-set _ 0 c.self.inside.names.items c.args.index _ (named-more _ _ 0 _ c.enter.ensures.keeps c.self.invariant)
+    (λ live. marked-as _ _ _ _ _ _ _
     (ap (λ (x : Kept). x.kind) c.index.ensures ∙ (same-kind c.self.inside.names.items c.args.index _ _
     (omega (arith, length-named c.self.inside.names.items, ap length c.self.view_is, c.requires)) ∙ sym (ap (λ (x : Kept). x.kind) c.index_mut-name.ensures.value)))
-    c.in_ok-text.ensures.items refl c.in_ok-enter.ensures.ok)
+    c.in_ok-text.ensures.items refl (c.in_ok-enter.ensures.ok live))
