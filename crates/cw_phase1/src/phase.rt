@@ -172,6 +172,7 @@ fn make_book(web: &Web, held: Held) -> Result<Book, Memory>
         end: or_else(sections.limbo_end, size),
     };
     let mut sec_names = kept;
+    sec_names.release();
     refer(&mut sec_names, &references)?;
     let mut notes = notes;
     note_names(&sec_names, &mut notes)?;
