@@ -1,11 +1,16 @@
 -- How a kept name lies in memory.
-use Rattle.std.specs.Prelude.{ℕ, ◌<◌, List, [], ◌∷◌}
+use Rattle.std.specs.Prelude.{ℕ, ◌<◌, List, [], ◌∷◌, Option, Some, None}
+use Rattle.std.specs.Global.{Box}
 use Rattle.cw_secnames.specs.declared.kinds.Earliest.{Earliest}
 use Rattle.cw_secnames.specs.declared.kinds.Earliest.TheVariants.{Nobody, One, Several}
+use Rattle.cw_secnames.specs.declared.kinds.RefKind.{RefKind}
+use Rattle.cw_secnames.specs.declared.kinds.RefKind.TheVariants.{Defined, Used, Cited}
+use Rattle.cw_secnames.specs.declared.referrers.NameReferrers.{NameReferrers}
 use Rattle.cw_secnames.specs.declared.referrers.Referrers.{Referrers}
 use Rattle.cw_secnames.specs.declared.referrers.Referrers.TheVariants as referrers
 use Rattle.cw_secnames.specs.declared.sec_names.Kept.{Kept}
 use Rattle.cw_secnames.specs.Kept.{SecName}
+use Rattle.cw_secnames.specs.References.{with_number}
 
 -- the sections that refer to a name in one way
 abbrev pub numbers_of : Referrers → List ℕ
@@ -13,14 +18,41 @@ numbers_of referrers.Nobody = []
 numbers_of (referrers.One n) = n ∷ []
 numbers_of (referrers.More sections) = sections.value.items
 
+-- those of each way
+pub record Lists : Type 0 where
+  pub defined : List ℕ
+  pub used : List ℕ
+  pub cited : List ℕ
+
+abbrev pub no_lists : Lists
+no_lists = record { defined = []; used = []; cited = [] }
+
+abbrev pub lists_of : NameReferrers → Lists
+lists_of r = record { defined = numbers_of r.defined; used = numbers_of r.used; cited = numbers_of r.cited }
+
+abbrev pub with_in : RefKind → ℕ → Lists → Lists
+with_in Defined section l = record l { defined = with_number section l.defined }
+with_in Used section l = record l { used = with_number section l.used }
+with_in Cited section l = record l { cited = with_number section l.cited }
+
+abbrev pub listed : RefKind → Lists → List ℕ
+listed Defined l = l.defined
+listed Used l = l.used
+listed Cited l = l.cited
+
+-- those of a name; one to which nothing refers has none
+abbrev pub kept_lists : Option (Box NameReferrers) → Lists
+kept_lists None = no_lists
+kept_lists (Some referrers) = lists_of referrers.value
+
 abbrev pub name_of : Kept → SecName
 name_of n = record {
   kind = n.kind;
   text = n.text.items;
   complete = n.complete;
-  defined = numbers_of n.defined;
-  used = numbers_of n.used;
-  cited = numbers_of n.cited;
+  defined = (kept_lists n.referrers).defined;
+  used = (kept_lists n.referrers).used;
+  cited = (kept_lists n.referrers).cited;
 }
 
 -- the earliest names are among so many

@@ -1,8 +1,9 @@
 //! The sections that refer to a name in one way.
 ghost use Rattle.std.specs.Prelude.{◌≡◌, IfOk, OnOk, OnErr, [], ◌∷◌};
 ghost use Rattle.cw_secnames.specs.References.{with_number};
-ghost use Rattle.cw_secnames.specs.Inside.{numbers_of};
+ghost use Rattle.cw_secnames.specs.Inside.{listed, lists_of, no_lists, numbers_of, with_in};
 
+use crate::RefKind;
 use cw_base::Memory;
 use std::alloc::Global;
 use std::slice::from_ref;
@@ -62,6 +63,49 @@ impl Referrers {
             Referrers::Nobody => &[],
             Referrers::One(section) => from_ref(section),
             Referrers::More(sections) => sections.as_slice(),
+        }
+    }
+}
+
+/// The sections that define, use and cite a name.
+#[derive(Drop)]
+pub(crate) struct NameReferrers {
+    defined: Referrers,
+    used: Referrers,
+    cited: Referrers,
+}
+
+impl NameReferrers {
+    pub(crate) fn none() -> NameReferrers
+        ensures { lists_of result ≡ no_lists }
+    {
+        NameReferrers {
+            defined: Referrers::Nobody,
+            used: Referrers::Nobody,
+            cited: Referrers::Nobody,
+        }
+    }
+
+    /// Adds a section that refers to the name in one way. After `Memory` they are as before.
+    pub(crate) fn add(&mut self, alloc: Global, how: RefKind, section: u32) -> Result<(), Memory>
+        ensures ok { OnOk result (lists_of self.new ≡ with_in how section (lists_of self.old)) }
+        ensures err { OnErr result (lists_of self.new ≡ lists_of self.old) }
+    {
+        match how {
+            RefKind::Defined => self.defined.add(alloc, section)?,
+            RefKind::Used => self.used.add(alloc, section)?,
+            RefKind::Cited => self.cited.add(alloc, section)?,
+        }
+        Ok(())
+    }
+
+    pub(crate) fn listed(&self, how: RefKind) -> &[u32]
+        ensures { result.now ≡ listed how (lists_of self.now) }
+    {
+        match how {
+            RefKind::Defined => self.defined.as_slice(),
+            RefKind::Used => self.used.as_slice(),
+            RefKind::Cited => self.cited.as_slice(),
         }
     }
 }

@@ -22,13 +22,13 @@ ghost use Rattle.cw_secnames.specs.Kept.{
   with_text,
 };
 ghost use Rattle.cw_secnames.specs.References.{with_reference, with_section};
-ghost use Rattle.cw_secnames.specs.Inside.{IsWithin, name_of};
+ghost use Rattle.cw_secnames.specs.Inside.{IsWithin, kept_lists, listed, name_of};
 ghost use Rattle.cw_secnames.specs.Asked.{chosen, is_below, is_lesser, kind_asked, passes, passes_at};
 ghost use Rattle.cw_secnames.specs.Marks.{HoldNear};
 ghost use Rattle.cw_secnames.specs.declared.kinds.SecKind.TheVariants.{Named};
 
 use crate::name_marks::NameMarks;
-use crate::referrers::Referrers;
+use crate::referrers::NameReferrers;
 use crate::{Earliest, Entered, RefKind, SecId, SecKind};
 use cw_base::Memory;
 use std::alloc::Global;
@@ -40,9 +40,8 @@ pub(crate) struct Kept {
     kind: SecKind,
     complete: bool,
     text: Vec<u8>,
-    defined: Referrers,
-    used: Referrers,
-    cited: Referrers,
+    // While nothing refers to the name there is none.
+    referrers: Option<Box<NameReferrers>>,
 }
 
 /// The kept names, in order of entry.
@@ -145,12 +144,25 @@ impl Kept {
         ensures ok { OnOk result (name_of self.new ≡ with_section how section (name_of self.old)) }
         ensures err { OnErr result (name_of self.new ≡ name_of self.old) }
     {
-        match how {
-            RefKind::Defined => self.defined.add(alloc, section)?,
-            RefKind::Used => self.used.add(alloc, section)?,
-            RefKind::Cited => self.cited.add(alloc, section)?,
+        match &mut self.referrers {
+            Some(referrers) => referrers.add(alloc, how, section),
+            None => {
+                let mut referrers = NameReferrers::none();
+                referrers.add(alloc, how, section)?;
+                self.referrers = Some(Box::new(alloc, referrers)?);
+                Ok(())
+            }
         }
-        Ok(())
+    }
+
+    // The sections that refer to the name in one way.
+    fn listed(&self, how: RefKind) -> &[u32]
+        ensures { result.now ≡ listed how (kept_lists self.now.referrers) }
+    {
+        match &self.referrers {
+            Some(referrers) => referrers.listed(how),
+            None => &[],
+        }
     }
 
     fn is_candidate(&self, prefix: &[u8]) -> bool
@@ -285,9 +297,7 @@ impl SecNames {
             kind,
             text,
             complete,
-            defined: Referrers::Nobody,
-            used: Referrers::Nobody,
-            cited: Referrers::Nobody,
+            referrers: None,
         })?;
         Ok(SecId { index })
     }
@@ -429,7 +439,7 @@ impl SecNames {
         requires { id.index < length self.now }
         ensures { shown (λ n. n.defined) id.index self.now ≡ Some result.now }
     {
-        self.names[id.index].defined.as_slice()
+        self.names[id.index].listed(RefKind::Defined)
     }
 
     /// The sections that use a name, ascending.
@@ -437,7 +447,7 @@ impl SecNames {
         requires { id.index < length self.now }
         ensures { shown (λ n. n.used) id.index self.now ≡ Some result.now }
     {
-        self.names[id.index].used.as_slice()
+        self.names[id.index].listed(RefKind::Used)
     }
 
     /// The sections that cite a name in their TeX parts, ascending.
@@ -445,6 +455,6 @@ impl SecNames {
         requires { id.index < length self.now }
         ensures { shown (λ n. n.cited) id.index self.now ≡ Some result.now }
     {
-        self.names[id.index].cited.as_slice()
+        self.names[id.index].listed(RefKind::Cited)
     }
 }
