@@ -19,23 +19,26 @@ use std::marker::Model;
 pub struct Names {
     categories: IndexMap<Key, Cat>,
     // The position of a name that was found, for each slot. Whatever it says, the name there is looked at.
-    recent: Vec<usize>,
+    recent: Vec<u32>,
     alloc: Global,
 }
 
 // How many slots there are: a power of two.
-const SLOTS: usize = 512;
+const SLOTS: usize = 4096;
 
-// The slot of a text, by three of its bytes and its length.
+// The slot of a text, by its first byte and its last three. The factor spreads them: an odd number near 2^32 divided by
+// the golden ratio.
 fn slot_of(text: &[u8]) -> usize {
     let count = text.len();
     if count == 0 {
         return 0;
     }
-    let first = text[0] as usize;
-    let middle = text[count / 2] as usize;
-    let last = text[count - 1] as usize;
-    (first ^ (middle << 2) ^ (last << 4) ^ (count << 5)) % SLOTS
+    let first = u32::from(text[0]);
+    let third = u32::from(text[count.saturating_sub(3)]);
+    let second = u32::from(text[count.saturating_sub(2)]);
+    let last = u32::from(text[count - 1]);
+    let bytes = first << 24 | third << 16 | second << 8 | last;
+    (bytes.wrapping_mul(2654435769) >> 20) as usize
 }
 
 impl Model for Names {
@@ -87,7 +90,7 @@ impl Names {
         ensures place { IfSome result (λ index. index ≡ place_of kind text.now self.now) }
         ensures within { IfSome result (λ index. index < length self.now) }
     {
-        let index = *self.recent.get(slot)?;
+        let index = *self.recent.get(slot)? as usize;
         if index >= self.categories.len() {
             return None;
         }
@@ -121,8 +124,11 @@ impl Names {
     fn remember(&mut self, slot: usize, index: usize)
         ensures { self.new ≡ self.old }
     {
+        if index > 4294967295 {
+            return;
+        }
         if let Some(recent) = self.recent.get_mut(slot) {
-            *recent = index;
+            *recent = index as u32;
         }
     }
 

@@ -34,6 +34,9 @@ use cw_base::Memory;
 use std::alloc::Global;
 use std::marker::Model;
 
+// So many names need much memory for finding them.
+const MANY: usize = 10000;
+
 /// A name with its references.
 #[derive(Drop)]
 pub(crate) struct Kept {
@@ -396,12 +399,14 @@ impl SecNames {
         Ok(())
     }
 
-    /// Gives the memory back that only entering needs: for when all names came. Entering stays possible, and then takes
-    /// time with the number of names.
+    /// Gives the memory back that only entering needs, where it is much: for when all names came. Entering stays
+    /// possible, and then takes time with the number of names.
     pub fn release(&mut self)
         ensures { self.new ≡ self.old }
     {
-        self.marks.release();
+        if self.names.len() >= MANY {
+            self.marks.release();
+        }
     }
 
     /// How many names are kept.
