@@ -11,7 +11,7 @@ use Rattle.cw_tokens.specs.declared.walk.Part.TheVariants.{Leaf as leaf_part, Be
 use Rattle.cw_tokens.specs.Shapes.{Shape, Plain, Below, InnerBelow, shape, ref_of, item_of, tree_in, trees_from, unfolded}
 use Rattle.cw_tokens.specs.References.{token_ref, refers, IsTied, Reach, here, next}
 use Rattle.cw_tokens.specs.Stored.{no_link, IsLinked}
-use Rattle.cw_tokens.specs.FlatItems.{item_is, items_are, IsOnly, IsPart, closing, closing_at, flat_from, to_come, Flattens}
+use Rattle.cw_tokens.specs.FlatItems.{item_is, items_are, IsPart, closing, closing_at, flat_from, to_come, Flattens}
 use Rattle.cw_tokens.proofs.Linking.{refers-within}
 use Rattle.cw_tokens.proofs.Unfolding.{unfold-is, reach-le}
 use Rattle.cw_tokens.proofs.Searching.{drop-at}
@@ -54,18 +54,6 @@ inner-ref (Plain leaf) x e = absurd e
 inner-ref (Below y) x e = absurd e
 inner-ref (InnerBelow y) x e = ap InnerBelow e
 
--- a list that is one token, laid flat
-only-first : (ls : List (List Token)) (s : Shape) (item : FlatItem) → IsPart s (leaf_part item) → flat (item_of (trees_from [] ls) s (tree_in (trees_from [] ls) [])) ≡ item_is item ∷ []
-only-first ls (Plain leaf) item e = ap (λ x. x ∷ []) e
-only-first ls (Below x) item e = absurd e
-only-first ls (InnerBelow x) item e = absurd e
-
-only-flat : (ls : List (List Token)) (x : ℕ) (below : List Token) (item : FlatItem) → below ≡ get_or ls x [] → IsOnly below item → flat_from ls x 0 ≡ item_is item ∷ []
-only-flat ls x [] item is only = absurd only
-only-flat ls x (t ∷ []) item is only =
-    ap (λ ts. flat (tree_in (trees_from [] ls) (drop 0 ts))) (sym is) ∙ only-first ls (shape t) item only
-only-flat ls x (t ∷ u ∷ ts) item is only = absurd only
-
 module _ (ls : List (List Token)) (root l p : ℕ) (all : List Item) (t : Token) (at : slice_get (get_or ls l []) p ≡ Some t) where
   pub flattens-leaf : (given : List Item) (item : FlatItem) → Flattens ls root l p given all → IsPart (shape t) (leaf_part item) → Flattens ls root l (p + 1) (given ++ item_is item ∷ []) all
   flattens-leaf given item f is = record {
@@ -99,27 +87,6 @@ module _ (ls : List (List Token)) (root l p : ℕ) (all : List Item) (t : Token)
             ∙ f.is)))));
         inside = omega arith;
         within = omega arith;
-      }
-
-  -- a list below it that is one token, passed in one step
-  pub flattens-only : (given : List Item) (x : ℕ) (below : List Token) (item : FlatItem) → IsTied ls → Flattens ls root l p given all → IsPart (shape t) (below_part x)
-      → below ≡ get_or ls x [] → IsOnly below item → Flattens ls root l (p + 1) (given ++ item_is item ∷ []) all
-  flattens-only given x below item tied f is read only =
-      let s : shape t ≡ Below x = below-ref (shape t) x is in
-      let r : refers ls l p ≡ Some x = ap token_ref at ∙ ap ref_of s in
-      let low : x < l = tied.earlier l p x r in
-      let in_store : l < length ls = f.inside in
-      let inside : x < length ls = omega arith in
-      let one : flat (unfolded ls x) ≡ item_is item ∷ [] = sym (flat-start ls x tied inside) ∙ only-flat ls x below item read only in
-      record {
-        way = f.way;
-        is = append-cons given (flat_from ls l (p + 1) ++ to_come ls root l f.way) (item_is item)
-            ∙ (ap (λ (xs : List Item). given ++ ((xs ++ flat_from ls l (p + 1)) ++ to_come ls root l f.way)) (sym one)
-            ∙ (ap (λ w. given ++ (flat (item_of (trees_from [] ls) w (tree_in (trees_from [] ls) (drop (p + 1) (get_or ls l [])))) ++ to_come ls root l f.way)) (sym s)
-            ∙ (ap (λ xs. given ++ (xs ++ to_come ls root l f.way)) (sym (flat-at ls l p t at))
-            ∙ f.is)));
-        inside = f.inside;
-        within = let lt : p < length (get_or ls l []) = slice_get_within (get_or ls l []) p t at in omega arith;
       }
 
   pub flattens-inner : (given : List Item) (x : ℕ) → IsTied ls → Flattens ls root l p given all → IsPart (shape t) (inner_part x) → Flattens ls root x 0 (given ++ open_item ∷ []) all

@@ -1,72 +1,235 @@
 -- The walk that lays a tree flat and trims it.
-use Rattle.std.proofs.Common.{◌≡◌, ℕ, ◌+◌, ◌-◌, ◌<◌, ◌≤◌, List, [], ◌∷◌, ◌++◌, length, Some, get_or, refl, ap, ◌∙◌}
+use Rattle.std.proofs.Common.{◌≡◌, ℕ, zero, suc, ◌+◌, ◌-◌, ◌<◌, ◌≤◌, List, [], ◌∷◌, ◌++◌, length, reverse, slice_index_or, take, drop, Option, Some, None, Result, OnOk, get_or, refl, sym, ap, ◌∙◌, subst, arith}
 use Rattle.std.specs.List.{slice_get}
-use Rattle.cw_trees.specs.Flat.{Item, Open as open_item, flat, trimmed}
+use Rattle.std.proofs.lemmas.List.{append_assoc, append-nil, reverse-append, take_all}
+use Rattle.cw_trees.specs.Flat.{Item, Open as open_item, Close as close_item, flat, trimmed}
+use Rattle.cw_trees.specs.Tree.{Tree, Empty}
 use Rattle.cw_tokens.specs.declared.token.Token.{Token}
+use Rattle.cw_tokens.specs.declared.flat.Above.{Above}
 use Rattle.cw_tokens.specs.declared.flat.FlatItem.{FlatItem}
-use Rattle.cw_tokens.specs.declared.store.Link.{Link}
 use Rattle.cw_tokens.specs.declared.walk.Part.TheVariants.{Leaf as leaf_part, Below as below_part, InnerBelow as inner_part}
-use Rattle.cw_tokens.specs.Shapes.{shape, unfolded}
-use Rattle.cw_tokens.specs.References.{IsTied}
-use Rattle.cw_tokens.specs.Stored.{no_link}
-use Rattle.cw_tokens.specs.FlatItems.{item_is, IsOnly, IsPart, closing, Flattens}
+use Rattle.cw_tokens.specs.Shapes.{Shape, Plain, Below, InnerBelow, shape, ref_of, item_of, tree_in, trees_from, unfolded}
+use Rattle.cw_tokens.specs.References.{token_ref, IsTied}
+use Rattle.cw_tokens.specs.Ahead.{AboveWithin, GoesAbove, MayStandFor, ReferWithin, RefersWithin, closing_of, flat_above, size_of}
+use Rattle.cw_tokens.specs.FlatItems.{item_is, IsPart}
 use Rattle.cw_tokens.specs.Trimming.{Trims, StandsFor}
-use Rattle.cw_tokens.proofs.Flattening.{Ups, flattens-start, flattens-leaf, flattens-below, flattens-only, flattens-inner, flattens-end, up-flattens}
+use Rattle.cw_tokens.specs.Walking.{size}
+use Rattle.cw_tokens.proofs.Flattening.{below-ref, inner-ref}
+use Rattle.cw_tokens.proofs.Unfolding.{unfold-is}
 
--- items were given of the walk, and those that stay of them are kept; the list at hand is read
-pub record TrimsFlat (lists : List (List Token)) (root list place : ℕ) (items : List Token) (trims : Trims) (all : List Item) : Type 0 where
+-- the first of some tokens, and those behind it
+pub first-is : (ts : List Token) (d : Token) → 1 ≤ length ts → ts ≡ slice_index_or ts 0 d ∷ take (length ts - 1) (drop 1 ts)
+first-is [] d h = absurd (omega arith)
+first-is (t ∷ ts) d h = ap (λ us. t ∷ us) (sym (take_all (length (t ∷ ts) - 1) ts (omega arith)))
+
+pub one-is : (ts : List Token) (d : Token) → 1 ≤ length ts → length ts < 2 → slice_index_or ts 0 d ∷ [] ≡ ts
+one-is [] d h k = absurd (omega arith)
+one-is (t ∷ []) d h k = refl
+one-is (t ∷ u ∷ ts) d h k = absurd (omega arith)
+
+pub none-is : (ts : List Token) → length ts < 1 → ts ≡ []
+none-is [] h = refl
+none-is (t ∷ ts) h = absurd (omega arith)
+
+pub last-first : (ups old : List Above) (up : Above) → old ≡ ups ++ up ∷ [] → reverse old ≡ up ∷ reverse ups
+last-first ups old up e = ap reverse e ∙ reverse-append ups (up ∷ [])
+
+-- a token laid flat before others
+item-joined : (trees : List Tree) (s : Shape) (rest : Tree) → flat (item_of trees s rest) ≡ flat (item_of trees s Empty) ++ flat rest
+item-joined trees (Plain leaf) rest = refl
+item-joined trees (Below x) rest = ap (λ xs. xs ++ flat rest) (sym (append-nil (flat (get_or trees x Empty))))
+item-joined trees (InnerBelow x) rest =
+    ap (λ xs. open_item ∷ xs) (sym (append_assoc (flat (get_or trees x Empty)) (close_item ∷ []) (flat rest)))
+
+item-size : (trees : List Tree) (s : Shape) (rest : Tree) → size (item_of trees s rest) ≤ size (item_of trees s Empty) + size rest
+item-size trees (Plain leaf) rest = omega arith
+item-size trees (Below x) rest = omega arith
+item-size trees (InnerBelow x) rest = omega arith
+
+-- how far below a token the list may stand to which it refers
+abbrev pub below-of : Option ℕ → ℕ
+below-of None = 0
+below-of (Some x) = suc x
+
+below-less : (o : Option ℕ) (x : ℕ) → ((y : ℕ) → o ≡ Some y → y < x) → below-of o < suc x
+below-less None x h = omega arith
+below-less (Some y) x h = let low : y < x = h y refl in omega arith
+
+pub stands-itself : (ls : List (List Token)) (token : Token) → RefersWithin (length ls) token → MayStandFor ls token token
+stands-itself ls token within = record { same = λ rest. refl; smaller = λ rest. omega arith; within = within }
+
+module _ (ls : List (List Token)) (tied : IsTied ls) where
+  -- the one token of a list stands for it
+  module _ (x : ℕ) (only : Token) (lt : x < length ls) (one : only ∷ [] ≡ get_or ls x []) where
+    only-earlier : (y : ℕ) → ref_of (shape only) ≡ Some y → y < x
+    only-earlier y e = tied.earlier x 0 y (ap (λ ts. token_ref (slice_get ts 0)) (sym one) ∙ e)
+
+    only-tree : get_or (trees_from [] ls) x Empty ≡ item_of (trees_from [] ls) (shape only) Empty
+    only-tree = unfold-is ls x tied lt ∙ ap (tree_in (trees_from [] ls)) (sym one)
+
+    pub only-less : (s : Shape) → s ≡ Below x → below-of (ref_of (shape only)) < below-of (ref_of s)
+    only-less s e = subst (λ (r : Shape). below-of (ref_of (shape only)) < below-of (ref_of r)) (sym e) (below-less (ref_of (shape only)) x only-earlier)
+
+    pub only-stands : (token at : Token) → MayStandFor ls token at → shape at ≡ Below x → MayStandFor ls token only
+    only-stands token at m e = record {
+      same = λ rest.
+          item-joined (trees_from [] ls) (shape only) rest
+          ∙ (ap (λ (t : Tree). flat t ++ flat rest) (sym only-tree)
+          ∙ (ap (λ (s : Shape). flat (item_of (trees_from [] ls) s rest)) (sym e)
+          ∙ m.same rest));
+      smaller = λ rest.
+          let a : size (get_or (trees_from [] ls) x Empty) ≡ size (item_of (trees_from [] ls) (shape only) Empty) = ap size only-tree in
+          let b : size (item_of (trees_from [] ls) (shape at) rest) ≡ size (item_of (trees_from [] ls) (Below x) rest) = ap (λ (s : Shape). size (item_of (trees_from [] ls) s rest)) e in
+          omega (arith, a, b, item-size (trees_from [] ls) (shape only) rest, m.smaller rest);
+      within = λ y r. let low : y < x = only-earlier y r in omega arith;
+    }
+
+  refer-within : (count : ℕ) (ts : List Token) → ((q x : ℕ) → token_ref (slice_get ts q) ≡ Some x → x < count) → ReferWithin count ts
+  refer-within count [] h = tt {0}
+  refer-within count (t ∷ ts) h = (λ x e. h 0 x e, refer-within count ts (λ q x e. h (suc q) x e))
+
+  list-within : (x : ℕ) (ts : List Token) → x < length ls → ts ≡ get_or ls x [] → ReferWithin (length ls) ts
+  list-within x ts lt e = refer-within (length ls) ts (λ q y r.
+      let low : y < x = tied.earlier x q y (ap (λ us. token_ref (slice_get us q)) (sym e) ∙ r) in omega arith)
+
+  list-tree : (x : ℕ) (ts : List Token) → x < length ls → ts ≡ get_or ls x [] → get_or (trees_from [] ls) x Empty ≡ tree_in (trees_from [] ls) ts
+  list-tree x ts lt e = unfold-is ls x tied lt ∙ ap (tree_in (trees_from [] ls)) (sym e)
+
+-- items were given of the walk, and those that stay of them are kept; the others are to come
+pub record TrimsAhead (lists : List (List Token)) (rest : List Token) (above : List Above) (trims : Trims) (all : List Item) : Type 0 where
   pub given : List Item
-  pub flattens : Flattens lists root list place given all
+  pub is : given ++ (flat (tree_in (trees_from [] lists) rest) ++ flat_above lists above) ≡ all
   pub stands : StandsFor trims given
-  pub here : items ≡ get_or lists list []
+  pub within : ReferWithin (length lists) rest
+  pub others : AboveWithin (length lists) above
 
-pub trims-start : (ls : List (List Token)) (root : ℕ) (items : List Token) (trims : Trims) → IsTied ls → root < length ls → StandsFor trims [] → items ≡ get_or ls root [] → TrimsFlat ls root root 0 items trims (flat (unfolded ls root))
-trims-start ls root items trims tied lt stands here = record { given = []; flattens = flattens-start ls root [] tied lt; stands = stands; here = here }
-
-module _ (ls : List (List Token)) (root l p : ℕ) (items : List Token) (trims : Trims) (all : List Item) (t : Token) (at : slice_get (get_or ls l []) p ≡ Some t) (w : TrimsFlat ls root l p items trims all) where
-  pub trims-leaf : (new : Trims) (item : FlatItem) → IsPart (shape t) (leaf_part item) → ((given : List Item) → StandsFor trims given → StandsFor new (given ++ item_is item ∷ [])) → TrimsFlat ls root l (p + 1) items new all
-  trims-leaf new item is push = record {
-    given = w.given ++ item_is item ∷ [];
-    flattens = flattens-leaf ls root l p all t at w.given item w.flattens is;
-    stands = push w.given w.stands;
-    here = w.here;
-  }
-
-  pub trims-below : (x : ℕ) (below : List Token) → IsTied ls → IsPart (shape t) (below_part x) → below ≡ get_or ls x [] → TrimsFlat ls root x 0 below trims all
-  trims-below x below tied is here = record {
-    given = w.given;
-    flattens = flattens-below ls root l p all t at w.given x tied w.flattens is;
-    stands = w.stands;
-    here = here;
-  }
-
-  pub trims-only : (x : ℕ) (below : List Token) (new : Trims) (item : FlatItem) → IsTied ls → IsPart (shape t) (below_part x) → below ≡ get_or ls x [] → IsOnly below item
-      → ((given : List Item) → StandsFor trims given → StandsFor new (given ++ item_is item ∷ [])) → TrimsFlat ls root l (p + 1) items new all
-  trims-only x below new item tied is read only push = record {
-    given = w.given ++ item_is item ∷ [];
-    flattens = flattens-only ls root l p all t at w.given x below item tied w.flattens is read only;
-    stands = push w.given w.stands;
-    here = w.here;
-  }
-
-  pub trims-inner : (x : ℕ) (below : List Token) (new : Trims) → IsTied ls → IsPart (shape t) (inner_part x) → below ≡ get_or ls x [] → ((given : List Item) → StandsFor trims given → StandsFor new (given ++ open_item ∷ [])) → TrimsFlat ls root x 0 below new all
-  trims-inner x below new tied is here push = record {
-    given = w.given ++ open_item ∷ [];
-    flattens = flattens-inner ls root l p all t at w.given x tied w.flattens is;
-    stands = push w.given w.stands;
-    here = here;
-  }
-
-pub trims-up : (ls : List (List Token)) (links : List Link) (root x p : ℕ) (items above : List Token) (trims new : Trims) (all : List Item) (k : Link) (b : Token) (w : TrimsFlat ls root x p items trims all) → Ups ls links root x w.given all → k ≡ get_or links x no_link
-    → slice_get (get_or ls k.list []) (k.place - 1) ≡ Some b → above ≡ get_or ls k.list [] → ((given : List Item) → StandsFor trims given → StandsFor new (given ++ closing (shape b))) → TrimsFlat ls root k.list k.place above new all
-trims-up ls links root x p items above trims new all k b w u e at here push = record {
-  given = w.given ++ closing (shape b);
-  flattens = up-flattens ls links root x w.given all (w.given ++ closing (shape b)) k b u e at refl;
-  stands = push w.given w.stands;
-  here = here;
+pub ahead-start : (ls : List (List Token)) (root : ℕ) (items : List Token) (trims : Trims) → IsTied ls → root < length ls → StandsFor trims [] → items ≡ get_or ls root []
+    → TrimsAhead ls items [] trims (flat (unfolded ls root))
+ahead-start ls root items trims tied lt stands e = record {
+  given = [];
+  is = append-nil (flat (tree_in (trees_from [] ls) items)) ∙ ap flat (sym (list-tree ls tied root items lt e));
+  stands = stands;
+  within = list-within ls tied root items lt e;
+  others = tt {0};
 }
 
--- at the end of the root
-pub trims-end : (ls : List (List Token)) (root p : ℕ) (items : List Token) (trims : Trims) (all kept : List Item) → IsTied ls → TrimsFlat ls root root p items trims all → length (get_or ls root []) ≤ p
-    → ((given : List Item) → StandsFor trims given → kept ≡ trimmed given) → kept ≡ trimmed all
-trims-end ls root p items trims all kept tied w end done = done w.given w.stands ∙ ap trimmed (flattens-end ls root p w.given all tied w.flattens end)
+pub at-first : (ls : List (List Token)) (rest : List Token) (d : Token) (above : List Above) (trims : Trims) (all : List Item) → TrimsAhead ls rest above trims all → 1 ≤ length rest
+    → TrimsAhead ls (slice_index_or rest 0 d ∷ take (length rest - 1) (drop 1 rest)) above trims all
+at-first ls rest d above trims all w h = subst (λ ts. TrimsAhead ls ts above trims all) (first-is rest d h) w
+
+pub less-first : (ls : List (List Token)) (rest : List Token) (d : Token) (n k : ℕ) → 1 ≤ length rest
+    → n < size (tree_in (trees_from [] ls) (slice_index_or rest 0 d ∷ take (length rest - 1) (drop 1 rest))) + k → n < size (tree_in (trees_from [] ls) rest) + k
+less-first ls rest d n k h lt = subst (λ ts. n < size (tree_in (trees_from [] ls) ts) + k) (sym (first-is rest d h)) lt
+
+append-cons : (xs ys : List Item) (x : Item) → (xs ++ x ∷ []) ++ ys ≡ xs ++ x ∷ ys
+append-cons xs ys x = append_assoc xs (x ∷ []) ys
+
+module _ (ls : List (List Token)) (t : Token) (behind : List Token) (above : List Above) (trims : Trims) (all : List Item) (w : TrimsAhead ls (t ∷ behind) above trims all) (u : Token) (m : MayStandFor ls t u) where
+  -- what is to come, by the token that stands for the first
+  by-other : w.given ++ (flat (item_of (trees_from [] ls) (shape u) (tree_in (trees_from [] ls) behind)) ++ flat_above ls above) ≡ all
+  by-other = ap (λ xs. w.given ++ (xs ++ flat_above ls above)) (m.same (tree_in (trees_from [] ls) behind)) ∙ w.is
+
+  pub ahead-leaf : (new : Trims) (item : FlatItem) → IsPart (shape u) (leaf_part item) → ((given : List Item) → StandsFor trims given → StandsFor new (given ++ item_is item ∷ [])) → TrimsAhead ls behind above new all
+  ahead-leaf new item is push = record {
+    given = w.given ++ item_is item ∷ [];
+    is = append-cons w.given (flat (tree_in (trees_from [] ls) behind) ++ flat_above ls above) (item_is item)
+        ∙ (ap (λ xs. w.given ++ (xs ++ flat_above ls above)) (sym (first (shape u) is))
+        ∙ by-other);
+    stands = push w.given w.stands;
+    within = w.within.1;
+    others = w.others;
+  }
+    where
+      first : (s : Shape) → IsPart s (leaf_part item) → flat (item_of (trees_from [] ls) s (tree_in (trees_from [] ls) behind)) ≡ item_is item ∷ flat (tree_in (trees_from [] ls) behind)
+      first (Plain leaf) e = ap (λ x. x ∷ flat (tree_in (trees_from [] ls) behind)) e
+      first (Below x) e = absurd e
+      first (InnerBelow x) e = absurd e
+
+  pub leaf-less : (item : FlatItem) → IsPart (shape u) (leaf_part item) → size (tree_in (trees_from [] ls) behind) + size_of ls above < size (item_of (trees_from [] ls) (shape t) (tree_in (trees_from [] ls) behind)) + size_of ls above
+  leaf-less item is = omega (arith, less (shape u) is, m.smaller (tree_in (trees_from [] ls) behind))
+    where
+      less : (s : Shape) → IsPart s (leaf_part item) → size (tree_in (trees_from [] ls) behind) < size (item_of (trees_from [] ls) s (tree_in (trees_from [] ls) behind))
+      less (Plain leaf) e = omega arith
+      less (Below x) e = absurd e
+      less (InnerBelow x) e = absurd e
+
+  module _ (x : ℕ) (below : List Token) (tied : IsTied ls) (read : below ≡ get_or ls x []) (new : List Above) where
+    pub below-inside : IsPart (shape u) (below_part x) → x < length ls
+    below-inside is = m.within x (ap ref_of (below-ref (shape u) x is))
+
+    pub inner-inside : IsPart (shape u) (inner_part x) → x < length ls
+    inner-inside is = m.within x (ap ref_of (inner-ref (shape u) x is))
+
+    pub ahead-below : IsPart (shape u) (below_part x) → GoesAbove behind 0 above new → TrimsAhead ls below new trims all
+    ahead-below is up = record {
+      given = w.given;
+      is = ap (λ xs. w.given ++ (flat (tree_in (trees_from [] ls) below) ++ xs)) (up.items ls)
+          ∙ (ap (λ (t : Tree). w.given ++ (flat t ++ (flat (tree_in (trees_from [] ls) behind) ++ flat_above ls above))) (sym (list-tree ls tied x below (below-inside is) read))
+          ∙ (ap (λ xs. w.given ++ xs) (sym (append_assoc (flat (unfolded ls x)) (flat (tree_in (trees_from [] ls) behind)) (flat_above ls above)))
+          ∙ (ap (λ (s : Shape). w.given ++ (flat (item_of (trees_from [] ls) s (tree_in (trees_from [] ls) behind)) ++ flat_above ls above)) (sym (below-ref (shape u) x is))
+          ∙ by-other)));
+      stands = w.stands;
+      within = list-within ls tied x below (below-inside is) read;
+      others = up.within (length ls) w.within.1 w.others;
+    }
+
+    pub ahead-inner : (after : Trims) → IsPart (shape u) (inner_part x) → GoesAbove behind 1 above new → ((given : List Item) → StandsFor trims given → StandsFor after (given ++ open_item ∷ [])) → TrimsAhead ls below new after all
+    ahead-inner after is up push = record {
+      given = w.given ++ open_item ∷ [];
+      is = ap (λ xs. (w.given ++ open_item ∷ []) ++ (flat (tree_in (trees_from [] ls) below) ++ xs)) (up.items ls)
+          ∙ (append-cons w.given (flat (tree_in (trees_from [] ls) below) ++ (close_item ∷ (flat (tree_in (trees_from [] ls) behind) ++ flat_above ls above))) open_item
+          ∙ (ap (λ (t : Tree). w.given ++ open_item ∷ (flat t ++ (close_item ∷ (flat (tree_in (trees_from [] ls) behind) ++ flat_above ls above)))) (sym (list-tree ls tied x below (inner-inside is) read))
+          ∙ (ap (λ xs. w.given ++ open_item ∷ xs) (sym (append_assoc (flat (unfolded ls x)) (close_item ∷ flat (tree_in (trees_from [] ls) behind)) (flat_above ls above)))
+          ∙ (ap (λ (s : Shape). w.given ++ (flat (item_of (trees_from [] ls) s (tree_in (trees_from [] ls) behind)) ++ flat_above ls above)) (sym (inner-ref (shape u) x is))
+          ∙ by-other))));
+      stands = push w.given w.stands;
+      within = list-within ls tied x below (inner-inside is) read;
+      others = up.within (length ls) w.within.1 w.others;
+    }
+
+    below-less-of : x < length ls → (s : Shape) (closes : ℕ) → size (item_of (trees_from [] ls) s (tree_in (trees_from [] ls) behind)) ≡ 2 + (size (unfolded ls x) + size (tree_in (trees_from [] ls) behind)) → s ≡ shape u → GoesAbove behind closes above new
+        → size (tree_in (trees_from [] ls) below) + size_of ls new < size (item_of (trees_from [] ls) (shape t) (tree_in (trees_from [] ls) behind)) + size_of ls above
+    below-less-of inside s closes e same up =
+        let a : size (unfolded ls x) ≡ size (tree_in (trees_from [] ls) below) = ap size (list-tree ls tied x below inside read) in
+        let b : size (item_of (trees_from [] ls) s (tree_in (trees_from [] ls) behind)) ≡ size (item_of (trees_from [] ls) (shape u) (tree_in (trees_from [] ls) behind)) = ap (λ (s : Shape). size (item_of (trees_from [] ls) s (tree_in (trees_from [] ls) behind))) same in
+        omega (arith, a, b, e, up.larger ls, m.smaller (tree_in (trees_from [] ls) behind))
+
+    pub below-smaller : IsPart (shape u) (below_part x) → GoesAbove behind 0 above new → size (tree_in (trees_from [] ls) below) + size_of ls new < size (item_of (trees_from [] ls) (shape t) (tree_in (trees_from [] ls) behind)) + size_of ls above
+    below-smaller is up = below-less-of (below-inside is) (Below x) 0 refl (sym (below-ref (shape u) x is)) up
+
+    pub inner-smaller : IsPart (shape u) (inner_part x) → GoesAbove behind 1 above new → size (tree_in (trees_from [] ls) below) + size_of ls new < size (item_of (trees_from [] ls) (shape t) (tree_in (trees_from [] ls) behind)) + size_of ls above
+    inner-smaller is up = below-less-of (inner-inside is) (InnerBelow x) 1 refl (sym (inner-ref (shape u) x is)) up
+
+-- a list has ended, and the one above it goes on
+pub ahead-up : (ls : List (List Token)) (up : Above) (ups : List Above) (trims new : Trims) (all : List Item) → TrimsAhead ls [] (up ∷ ups) trims all
+    → ((given : List Item) → StandsFor trims given → StandsFor new (given ++ closing_of up.closes)) → TrimsAhead ls up.rest.now ups new all
+ahead-up ls up ups trims new all w push = record {
+  given = w.given ++ closing_of up.closes;
+  is = append_assoc w.given (closing_of up.closes) (flat (tree_in (trees_from [] ls) up.rest.now) ++ flat_above ls ups) ∙ w.is;
+  stands = push w.given w.stands;
+  within = w.others.0;
+  others = w.others.1;
+}
+
+pub ahead-popped : (ls : List (List Token)) (rest : List Token) (old ups : List Above) (up : Above) (trims new : Trims) (all : List Item) → TrimsAhead ls rest (reverse old) trims all
+    → length rest < 1 → old ≡ ups ++ up ∷ [] → ((given : List Item) → StandsFor trims given → StandsFor new (given ++ closing_of up.closes)) → TrimsAhead ls up.rest.now (reverse ups) new all
+ahead-popped ls rest old ups up trims new all w none last push =
+    ahead-up ls up (reverse ups) trims new all
+    (subst (λ ts. TrimsAhead ls ts (up ∷ reverse ups) trims all) (none-is rest none)
+    (subst (λ above. TrimsAhead ls rest above trims all) (last-first ups old up last) w)) push
+
+pub less-popped : (ls : List (List Token)) (rest : List Token) (old ups : List Above) (up : Above) → old ≡ ups ++ up ∷ []
+    → size (tree_in (trees_from [] ls) up.rest.now) + size_of ls (reverse ups) < size (tree_in (trees_from [] ls) rest) + size_of ls (reverse old)
+less-popped ls rest old ups up last =
+    let e : size_of ls (reverse old) ≡ 1 + (size (tree_in (trees_from [] ls) up.rest.now) + size_of ls (reverse ups)) = ap (size_of ls) (last-first ups old up last) in
+    omega (arith, e)
+
+-- all have ended
+pub ahead-end : (ls : List (List Token)) (trims : Trims) (all kept : List Item) → TrimsAhead ls [] [] trims all → ((given : List Item) → StandsFor trims given → kept ≡ trimmed given) → kept ≡ trimmed all
+ahead-end ls trims all kept w done = done w.given w.stands ∙ ap trimmed (sym (append-nil w.given) ∙ w.is)
+
+-- a bracket closes
+pub closes-one : {E : Type 0} (closes : ℕ) (result : Result Unit E) (old new : Trims) → (closes ≡ 0 → ⊥) → OnOk result ((given : List Item) → StandsFor old given → StandsFor new (given ++ close_item ∷ []))
+    → OnOk result ((given : List Item) → StandsFor old given → StandsFor new (given ++ closing_of closes))
+closes-one zero result old new h k = absurd (h refl)
+closes-one (suc n) result old new h k = k

@@ -28,11 +28,6 @@ IsPart (below list) (Below id) = list ≡ id
 IsPart (inner_below list) (InnerBelow id) = list ≡ id
 IsPart _ _ = ⊥
 
--- the tokens of a list are one, which is this item
-abbrev pub IsOnly : List Token → FlatItem → Type 0
-IsOnly (token ∷ []) item = IsPart (shape token) (Leaf item)
-IsOnly _ item = ⊥
-
 -- what closes behind the list to which a token refers
 abbrev pub closing : Shape → List Item
 closing (Plain leaf) = []

@@ -7,3 +7,4 @@ pub mod Walking
 pub mod Reserving
 pub mod FlatItems
 pub mod Trimming
+pub mod Ahead

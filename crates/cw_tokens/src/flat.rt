@@ -1,10 +1,12 @@
 //! A tree laid flat: its items in order, as they stand or trimmed in the same walk.
 ghost use Rattle.std.specs.Prelude.{◌≡◌, ◌+◌, ◌-◌, ◌<◌, ◌≤◌, List, ◌++◌, length, IfOk, IfSome, OnOk, Some, IsTrue, ◌↔◌};
-ghost use Rattle.std.specs.Prelude.{slice_get};
+ghost use Rattle.std.specs.Prelude.{reverse, slice_get};
 ghost use Rattle.cw_trees.specs.Flat.{Item, flat, trimmed};
 ghost use Rattle.cw_tokens.specs.Shapes.{shape, unfolded};
 ghost use Rattle.cw_tokens.specs.Stored.{cut, last_end, IsAscending, IsLinked};
-ghost use Rattle.cw_tokens.specs.FlatItems.{items_are, closing, IsOnly};
+ghost use Rattle.cw_tokens.specs.FlatItems.{items_are, closing};
+ghost use Rattle.cw_tokens.specs.Ahead.{GoesAbove, MayStandFor, RefersWithin, closing_of};
+ghost use Rattle.cw_tokens.specs.References.{IsTied};
 ghost use Rattle.cw_tokens.specs.Trimming.{StandsFor};
 
 use crate::store::Link;
@@ -148,91 +150,96 @@ fn close(token: Token, out: &mut Vec<FlatItem>) -> Result<(), Memory>
     Ok(())
 }
 
+// What is still to come of a list while one below it is walked: the tokens behind the one that refers to that list, and
+// how many inner texts end before them, none or one. A number, since a bool is copied with bytes that mean nothing.
+#[derive(Clone, Copy)]
+struct Above<'a> {
+    rest: &'a [Token],
+    closes: usize,
+}
+
 /// Lays the tree of a list flat and trims it in the same walk.
 pub fn flatten_trimmed(
     tokens: &[Token],
     ends: &[usize],
-    links: &[Link],
     root: usize,
     alloc: Global,
 ) -> Result<FlatTokens, Memory>
     requires ascending { IsAscending 0 ends.now }
     requires within { last_end 0 ends.now ≤ length tokens.now }
-    requires linked { IsLinked (cut 0 ends.now tokens.now) links.now }
-    requires links { length links.now ≡ length ends.now }
+    requires tied { IsTied (cut 0 ends.now tokens.now) }
     requires root { root < length ends.now }
     ensures { IfOk result (λ items. items_are items ≡ trimmed (flat (unfolded (cut 0 ends.now tokens.now) root))) }
 {
     let mut out = Trimmer::with_room(alloc, tokens.len())?;
-    let mut list = root;
-    let mut place = 0;
-    let mut items = list_at(tokens, ends, list);
+    let mut above: Vec<Above> = Vec::new(alloc);
+    let mut rest = list_at(tokens, ends, root);
     loop {
-        if place < items.len() {
-            match part_of(items[place]) {
+        match rest {
+            [token, behind @ ..] => match part_of(alone_below(tokens, ends, *token)) {
                 Part::Leaf(item) => {
                     out.push(item)?;
-                    place += 1;
+                    rest = behind;
                 }
                 Part::Below(below) => {
-                    let inside = list_at(tokens, ends, below);
-                    // Most lists are one token.
-                    match only_item(inside) {
-                        Some(item) => {
-                            out.push(item)?;
-                            place += 1;
-                        }
-                        None => {
-                            list = below;
-                            place = 0;
-                            items = inside;
-                        }
-                    }
+                    put_above(&mut above, behind, 0)?;
+                    rest = list_at(tokens, ends, below);
                 }
                 Part::InnerBelow(below) => {
                     out.push(FlatItem::Open)?;
-                    list = below;
-                    place = 0;
-                    items = list_at(tokens, ends, list);
+                    put_above(&mut above, behind, 1)?;
+                    rest = list_at(tokens, ends, below);
                 }
-            }
-        } else if list == root {
-            return Ok(out.done());
-        } else {
-            let up = link_at(links, list);
-            close_trimmed(token_before(tokens, ends, up), &mut out)?;
-            list = up.list;
-            place = up.place;
-            items = list_at(tokens, ends, list);
+            },
+            [] => match above.pop() {
+                Some(up) => {
+                    close_trimmed(up.closes, &mut out)?;
+                    rest = up.rest;
+                }
+                None => return Ok(out.done()),
+            },
         }
     }
 }
 
-/// The item of a list that is one token with no list below it.
+/// The token that is laid flat in place of another: of a list that is one token that one, as most lists are.
 #[inline(always)]
-fn only_item(tokens: &[Token]) -> Option<FlatItem>
-    ensures { IfSome result (IsOnly tokens.now) }
+fn alone_below(tokens: &[Token], ends: &[usize], token: Token) -> Token
+    requires ascending { IsAscending 0 ends.now }
+    requires within { last_end 0 ends.now ≤ length tokens.now }
+    requires tied { IsTied (cut 0 ends.now tokens.now) }
+    requires stored { RefersWithin (length ends.now) token }
+    ensures { MayStandFor (cut 0 ends.now tokens.now) token result }
 {
-    if tokens.len() != 1 {
-        return None;
+    let mut at = token;
+    while let Token::List(below) = at {
+        let [only] = list_at(tokens, ends, below.index) else {
+            return at;
+        };
+        at = *only;
     }
-    match part_of(tokens[0]) {
-        Part::Leaf(item) => Some(item),
-        Part::Below(_) | Part::InnerBelow(_) => None,
-    }
+    at
 }
 
-/// The same as `close` where the items are trimmed.
-fn close_trimmed(token: Token, out: &mut Trimmer) -> Result<(), Memory>
-    ensures { OnOk result ((given : List Item) → StandsFor out.old given
-        → StandsFor out.new (given ++ closing (shape token))) }
+/// Puts what is still to come of a list above the one below it. Of a list that ends with that one nothing is to come.
+#[inline(always)]
+fn put_above<'a>(above: &mut Vec<Above<'a>>, rest: &'a [Token], closes: usize) -> Result<(), Memory>
+    ensures { OnOk result (GoesAbove rest.now closes (reverse above.old.items) (reverse above.new.items)) }
 {
-    match token {
-        Token::Inner(_) => out.push(FlatItem::Close),
-        Token::Source(..)
-        | Token::Ident(..)
-        | Token::Reserved(..)
-        | Token::Control(_)
-        | Token::List(_) => Ok(()),
+    if closes == 0 && rest.is_empty() {
+        return Ok(());
     }
+    above.push(Above { rest, closes })?;
+    Ok(())
+}
+
+/// Closes the bracket of an inner text that has ended, where the items are trimmed.
+fn close_trimmed(closes: usize, out: &mut Trimmer) -> Result<(), Memory>
+    ensures { OnOk result ((given : List Item) → StandsFor out.old given
+        → StandsFor out.new (given ++ closing_of closes)) }
+{
+    if closes == 0 {
+        return Ok(());
+    }
+    out.push(FlatItem::Close)
 }

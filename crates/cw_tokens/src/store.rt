@@ -199,7 +199,7 @@ impl TokenStore {
         requires list { id.index < length self.now.lists }
         ensures items { IfOk result (λ items. items_are items ≡ trimmed (flat (unfolded self.now.lists id.index))) }
     {
-        flatten_trimmed(&self.tokens, &self.ends, &self.links, id.index, alloc)
+        flatten_trimmed(&self.tokens, &self.ends, id.index, alloc)
     }
 
     /// The name of the first identifier of a list's tree. A reserved word like `case` and the mark

@@ -1,16 +1,17 @@
 -- The trimmer stands for the items that the walk has given; with those to come they are all of the tree.
-use Rattle.std.proofs.Common.{◌+◌, length}
+use Rattle.std.proofs.Common.{[], ◌+◌, reverse}
 use Rattle.cw_trees.specs.Flat.{flat}
-use Rattle.cw_tokens.specs.Shapes.{unfolded}
+use Rattle.cw_tokens.specs.Ahead.{size_of}
+use Rattle.cw_tokens.specs.Shapes.{tree_in, trees_from, unfolded}
 use Rattle.cw_tokens.specs.Stored.{cut}
-use Rattle.cw_tokens.specs.Walking.{size_from, size_above}
-use Rattle.cw_tokens.proofs.TrimmedWalk.{TrimsFlat}
+use Rattle.cw_tokens.specs.Walking.{size}
+use Rattle.cw_tokens.proofs.TrimmedWalk.{TrimsAhead}
 use Rattle.cw_tokens.proofs.flat.flatten_trimmed.Given as goal
 
-abbrev pub invariant-loop-place : goal.invariant-loop-place
-invariant-loop-place l = TrimsFlat (cut 0 l.ends l.tokens) l.root l.list l.place l.items l.out (flat (unfolded (cut 0 l.ends l.tokens) l.root))
+abbrev pub invariant-loop-rest : goal.invariant-loop-rest
+invariant-loop-rest l = TrimsAhead (cut 0 l.ends l.tokens) l.rest (reverse l.above.items) l.out (flat (unfolded (cut 0 l.ends l.tokens) l.root))
 
-abbrev pub decreases-loop-place : goal.decreases-loop-place
-decreases-loop-place l =
+abbrev pub decreases-loop-rest : goal.decreases-loop-rest
+decreases-loop-rest l =
     let lists = cut 0 l.ends l.tokens in
-    size_from lists l.list l.place + size_above lists l.links l.root (length lists) l.list
+    size (tree_in (trees_from [] lists) l.rest) + size_of lists (reverse l.above.items)

@@ -1,5 +1,5 @@
--- The root is a list of the store and all lists are linked, so its tree can be trimmed as it is laid flat.
-use Rattle.cw_tokens.proofs.Linking.{linked-lists}
+-- The root is a list of the store and all lists are linked, and so tied, so its tree can be trimmed as it is laid flat.
+use Rattle.cw_tokens.proofs.Linking.{linked-lists, linked-tied}
 use Rattle.cw_tokens.proofs.Storing.{kept-view}
 use Rattle.cw_tokens.proofs.store.TokenStore.flat_trimmed.Goals as goal
 
@@ -8,5 +8,5 @@ flatten_trimmed-requires-clause-root c =
     let k = kept-view _ _ _ _ _ _ c.self.view_is c.requires.list in
     rw c.deref-2.ensures.value k.in_ends
 
-pub flatten_trimmed-requires-clause-linked : goal.flatten_trimmed-requires-clause-linked
-flatten_trimmed-requires-clause-linked c = rw (c.deref.ensures.value, c.deref-2.ensures.value, c.deref-3.ensures.value) (linked-lists _ _ _ c.self.invariant.linked)
+pub flatten_trimmed-requires-clause-tied : goal.flatten_trimmed-requires-clause-tied
+flatten_trimmed-requires-clause-tied c = rw (c.deref.ensures.value, c.deref-2.ensures.value) (linked-tied _ _ (linked-lists _ _ _ c.self.invariant.linked))
