@@ -61,13 +61,23 @@ impl<'a> Scan<'a> {
     {
         let number = number as usize;
         if number < self.from {
-            self.lexer = Lexer::over(self.text, self.span.start, self.span.end, self.mode);
+            begin_anew(&mut self.lexer, self.text, self.span, self.mode);
             self.from = 0;
         }
         let (found, from) = find_ahead(&mut self.lexer, number);
         self.from = from;
         found
     }
+}
+
+// Has a scanner begin its span anew. It stands apart, so that a token that lies ahead takes no room for another scanner.
+#[inline(never)]
+fn begin_anew<'a>(lexer: &mut Lexer<'a>, text: &'a [u8], span: Span, mode: Mode)
+    requires order { span.start ≤ span.end }
+    requires within { span.end ≤ length text.now }
+    ensures { lexer.new ≡ tokens_of text.now span.start span.end mode }
+{
+    *lexer = Lexer::over(text, span.start, span.end, mode);
 }
 
 fn is_section(kind: TokKind) -> bool
