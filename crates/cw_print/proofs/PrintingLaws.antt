@@ -22,7 +22,7 @@ use Rattle.cw_join.proofs.EarlyLaws.{added-behind, early-added, printed-is}
 use Rattle.cw_join.proofs.PrintedLaws.{printed-list}
 use Rattle.cw_print.specs.declared.printing.Printer.{Printer}
 use Rattle.cw_print.specs.Coming.{AllMay, MayCome}
-use Rattle.cw_print.specs.Printing.{IsBehind, shown, shown_next}
+use Rattle.cw_print.specs.Printing.{IsBehind, IsMidway, Midway, PrintsOn, shown, shown_next}
 use Rattle.cw_print.specs.Sources.{titles}
 use Rattle.cw_print.specs.Walk.{Source, Title, items_shown, outside, own_bytes, placed_shown, stand_after, title_in}
 use Rattle.cw_print.specs.Walked.{Walked, behind}
@@ -153,12 +153,6 @@ puts-part inner s items n begun is =
 
 -- ## Midway
 
--- The printer stands behind the first i items, and the others may come.
-pub record Midway (s : Source) (inner : Bool) (items : List Item) (i : ℕ) (printer : Printer) : Type 0 where
-  pub behind : IsBehind s inner (take i items) printer
-  pub come : AllMay (MayCome (length s.names)) (depth_behind (shown s (take i items))) (drop i items)
-  pub shallow : depth_behind (shown s (take i items)) ≤ i
-
 module _ (items : List FlatItem) (i : ℕ) (item : FlatItem) (is : slice_get items i ≡ Some item) where
   there : slice_get (items_are items) i ≡ Some (item_is item)
   there = slice_get-map item_is items i ∙ ap (λ (o : Option FlatItem). option_map item_is o) is
@@ -211,22 +205,48 @@ pub record Waiting (inner : Bool) (s : Source) (items : List Item) (i : ℕ) (bu
   pub put : HasPut done old new before now
   pub all : done ++ buffer ≡ early inner (shown s (take i items))
 
-module _ (items : List FlatItem) (i : ℕ) (item : FlatItem) (is : slice_get items i ≡ Some item) (inner : Bool) (s : Source)
-    {old new : LineState} {before now : Told} where
-  -- one item more waits
-  pub waits-more : (buffer more : List ℕ) → Waiting inner s (items_are items) i buffer old new before now
-      → more ≡ buffer ++ added inner (shown s (take i (items_are items))) (shown_next s (take i (items_are items)) (item_is item))
-      → Waiting inner s (items_are items) (i + 1) more old new before now
-  waits-more buffer more w grown =
-      let next : List ℕ = added inner (shown s (take i (items_are items))) (shown_next s (take i (items_are items)) (item_is item)) in
-      record {
-        done = w.done;
-        put = w.put;
-        all = ap (λ (l : List ℕ). w.done ++ l) grown ∙ sym (append_assoc w.done buffer next)
-            ∙ ap (λ (l : List ℕ). l ++ next) w.all
+-- the items up to a place were printed, of those from another on
+abbrev pub Printed : (items : List Item) (from i : ℕ) (first printer : Printer) (old new : List ℕ) → Type 0
+Printed items from i first printer old new = (s : Source) (inner : Bool) → Midway s inner items from first → Midway s inner items i printer × PrintsOn s inner items from i old new
+
+pub printed-none : (items : List Item) (from : ℕ) (printer : Printer) (old : List ℕ) → Printed items from from printer printer old old
+printed-none items from printer old = λ s inner m. (m, λ done e. e)
+
+module _ (items : List FlatItem) (i : ℕ) (item : FlatItem) (is : slice_get items i ≡ Some item) (from : ℕ) (first printer : Printer) (old buffer : List ℕ)
+    (printed_so : Printed (items_are items) from i first printer old buffer) where
+  -- the next item may come
+  pub printed-comes : IsMidway (items_are items) from first → i < 18446744073709551615 → CanCome (length printer.book.now.names) printer.joiner.depth item
+  printed-comes some small = next-comes items i item is some.s some.inner printer (printed_so some.s some.inner some.midway).0 small
+
+  -- one item more
+  pub printed-more : (next : Printer) (new : List ℕ)
+      → ((s : Source) (inner : Bool) (before : List Item) → IsBehind s inner before printer → new ≡ buffer ++ added inner (shown s before) (shown_next s before (item_is item)))
+      → ((s : Source) (inner : Bool) (before : List Item) → IsBehind s inner before printer → IsBehind s inner (before ++ item_is item ∷ []) next)
+      → Printed (items_are items) from (i + 1) first next old new
+  printed-more next new bytes behind = λ s inner m.
+      let k = printed_so s inner m in
+      let before : List Item = take i (items_are items) in
+      let one : List ℕ = added inner (shown s (take i (items_are items))) (shown_next s (take i (items_are items)) (item_is item)) in (
+        midway-next items i item is s inner printer k.0 next (behind s inner before k.0.behind),
+        λ done e.
+            ap (λ (l : List ℕ). done ++ l) (bytes s inner before k.0.behind) ∙ sym (append_assoc done buffer one)
+            ∙ ap (λ (l : List ℕ). l ++ one) (k.1 done e)
             ∙ early-more inner s (take i (items_are items)) (item_is item)
-            ∙ ap (λ (l : List Item). early inner (shown s l)) (sym (taken items i item is));
-      }
+            ∙ ap (λ (l : List Item). early inner (shown s l)) (sym (taken items i item is)),
+      )
+
+-- all items up to the last place are printed
+module _ (items : List Item) (from i to : ℕ) (first printer : Printer) (old new : List ℕ) (printed_so : Printed items from i first printer old new) (is : i ≡ to) (s : Source) (inner : Bool) (m : Midway s inner items from first) where
+  pub printed-midway : Midway s inner items to printer
+  printed-midway = subst (λ (n : ℕ). Midway s inner items n printer) is (printed_so s inner m).0
+
+  pub printed-bytes : PrintsOn s inner items from to old new
+  printed-bytes = subst (λ (n : ℕ). PrintsOn s inner items from n old new) is (printed_so s inner m).1
+
+-- more waits
+pub waits-on : (inner : Bool) (s : Source) (items : List Item) (from to : ℕ) (buffer more : List ℕ) {old new : LineState} {before now : Told}
+    → Waiting inner s items from buffer old new before now → PrintsOn s inner items from to buffer more → Waiting inner s items to more old new before now
+waits-on inner s items from to buffer more w prints = record { done = w.done; put = w.put; all = prints w.done w.all }
 
 -- what waits is put
 pub waits-none : (inner : Bool) (s : Source) (items : List Item) (i : ℕ) (buffer left : List ℕ) {old mid new : LineState} {a b c : Told}

@@ -5,14 +5,17 @@ ghost use Rattle.cw_lex.specs.Nested.{begins_section_in};
 ghost use Rattle.cw_trees.specs.Flat.{Item, Open as open_item, Close as close_item};
 ghost use Rattle.cw_trees.specs.Printing.{ident_bytes, printed};
 ghost use Rattle.cw_tokens.specs.FlatItems.{item_is, items_are};
-ghost use Rattle.cw_tokens.specs.declared.flat.FlatItem.TheVariants.{Open, Close};
+ghost use Rattle.cw_tokens.specs.declared.flat.FlatItem.TheVariants.{Source as FlatSource, Ident as FlatIdent};
+ghost use Rattle.cw_tokens.specs.declared.flat.FlatItem.TheVariants.{Reserved as FlatReserved};
+ghost use Rattle.cw_tokens.specs.declared.flat.FlatItem.TheVariants.{Control as FlatControl, Open, Close};
 ghost use Rattle.cw_tokens.specs.Shapes.{unfolded};
 ghost use Rattle.cw_scraps.specs.Lines.{IsNamedBelow};
 ghost use Rattle.cw_lines.specs.Writes.{CanWrite, Puts};
 ghost use Rattle.cw_join.specs.Early.{added};
 ghost use Rattle.cw_join.specs.Tokens.{CanCome};
 ghost use Rattle.cw_print.specs.Coming.{AllMay, MayCome};
-ghost use Rattle.cw_print.specs.Printing.{IsBehind, IsOnlyName, shown, shown_next, source_of};
+ghost use Rattle.cw_print.specs.Printing.{IsBehind, IsMidway, IsOnlyName, Midway, PrintsOn, shown};
+ghost use Rattle.cw_print.specs.Printing.{shown_next, source_of};
 ghost use Rattle.cw_print.specs.Sources.{source};
 ghost use Rattle.cw_print.specs.Walk.{Source, bracket, tree_bytes, wrapped};
 
@@ -26,6 +29,7 @@ use cw_lines::{LineOut, PutError};
 use cw_names::NameId;
 use cw_phase1::Book;
 use cw_tokens::{FlatItem, FlatTokens, ListId, TokenStore};
+use cw_trees::Control;
 use std::alloc::Global;
 
 // A C text: where it stands, and the book and the section in which it is printed.
@@ -67,41 +71,94 @@ impl<'a> Printer<'a> {
         }
     }
 
-    // Appends what the next item prints behind those before it. The kind of an item is asked for once: a name prints
-    // the same everywhere, and only tokens of the text and controls are told by where they stand.
+    // Appends what some items print, of which the first stands at a place. The match stands in the loop, since a function
+    // for one item grows too large to be put in line.
+    fn print(
+        &mut self,
+        items: &FlatTokens,
+        from: usize,
+        to: usize,
+        buffer: &mut Bytes,
+    ) -> Result<(), Memory>
+        requires order { from ≤ to }
+        requires within { to ≤ length items.now }
+        requires midway { IsMidway (items_are items.now) from self.old }
+        ensures bytes { (s : Source) (inner : Bool) → Midway s inner (items_are items.now) from self.old
+            → OnOk result (PrintsOn s inner (items_are items.now) from to buffer.old buffer.new) }
+        ensures midway { (s : Source) (inner : Bool) → Midway s inner (items_are items.now) from self.old
+            → OnOk result (Midway s inner (items_are items.now) to self.new) }
+    {
+        for i in from..to {
+            match items.item(i) {
+                FlatItem::Source(number) => self.source(number, buffer)?,
+                FlatItem::Control(control) => self.control(control, buffer)?,
+                FlatItem::Ident(name, number) => self.ident(name, number, buffer)?,
+                FlatItem::Reserved(name, number) => self.reserved(name, number, buffer)?,
+                FlatItem::Open => self.open(buffer)?,
+                FlatItem::Close => self.close(buffer)?,
+            }
+        }
+        Ok(())
+    }
+
+    // Appends what a token of the text prints behind the items before it.
     #[inline(always)]
-    fn print(&mut self, item: FlatItem, buffer: &mut Bytes) -> Result<(), Memory>
-        requires come { CanCome (length self.old.book.now.names) self.old.joiner.depth item }
+    fn source(&mut self, number: u32, buffer: &mut Bytes) -> Result<(), Memory>
+        requires come { CanCome (length self.old.book.now.names) self.old.joiner.depth (FlatSource number) }
         ensures bytes { (s : Source) (inner : Bool) (items : List Item) → IsBehind s inner items self.old
             → OnOk result (buffer.new ≡ buffer.old
-            ++ added inner (shown s items) (shown_next s items (item_is item))) }
+            ++ added inner (shown s items) (shown_next s items (item_is (FlatSource number)))) }
         ensures behind { (s : Source) (inner : Bool) (items : List Item) → IsBehind s inner items self.old
-            → OnOk result (IsBehind s inner (items ++ item_is item ∷ []) self.new) }
+            → OnOk result (IsBehind s inner (items ++ item_is (FlatSource number) ∷ []) self.new) }
     {
-        match item {
-            FlatItem::Source(number) => {
-                self.joiner
-                    .append(FlatItem::Source(number), &self.book.names, buffer)?;
-                self.walk.show_source(buffer, number, self.book)
-            }
-            FlatItem::Control(control) => {
-                self.joiner
-                    .append(FlatItem::Control(control), &self.book.names, buffer)?;
-                self.walk.show_control(buffer, control)
-            }
-            FlatItem::Ident(name, number) => {
-                self.joiner
-                    .append(FlatItem::Ident(name, number), &self.book.names, buffer)?;
-                Ok(())
-            }
-            FlatItem::Reserved(name, number) => {
-                self.joiner
-                    .append(FlatItem::Reserved(name, number), &self.book.names, buffer)?;
-                Ok(())
-            }
-            FlatItem::Open => self.open(buffer),
-            FlatItem::Close => self.close(buffer),
-        }
+        self.joiner
+            .append(FlatItem::Source(number), &self.book.names, buffer)?;
+        self.walk.show_source(buffer, number, self.book)
+    }
+
+    // The same of a control.
+    #[inline(always)]
+    fn control(&mut self, control: Control, buffer: &mut Bytes) -> Result<(), Memory>
+        requires come { CanCome (length self.old.book.now.names) self.old.joiner.depth (FlatControl control) }
+        ensures bytes { (s : Source) (inner : Bool) (items : List Item) → IsBehind s inner items self.old
+            → OnOk result (buffer.new ≡ buffer.old
+            ++ added inner (shown s items) (shown_next s items (item_is (FlatControl control)))) }
+        ensures behind { (s : Source) (inner : Bool) (items : List Item) → IsBehind s inner items self.old
+            → OnOk result (IsBehind s inner (items ++ item_is (FlatControl control) ∷ []) self.new) }
+    {
+        self.joiner
+            .append(FlatItem::Control(control), &self.book.names, buffer)?;
+        self.walk.show_control(buffer, control)
+    }
+
+    // The same of an identifier, which prints the same everywhere.
+    #[inline(always)]
+    fn ident(&mut self, name: NameId, number: u32, buffer: &mut Bytes) -> Result<(), Memory>
+        requires come { CanCome (length self.old.book.now.names) self.old.joiner.depth (FlatIdent name number) }
+        ensures bytes { (s : Source) (inner : Bool) (items : List Item) → IsBehind s inner items self.old
+            → OnOk result (buffer.new ≡ buffer.old
+            ++ added inner (shown s items) (shown_next s items (item_is (FlatIdent name number)))) }
+        ensures behind { (s : Source) (inner : Bool) (items : List Item) → IsBehind s inner items self.old
+            → OnOk result (IsBehind s inner (items ++ item_is (FlatIdent name number) ∷ []) self.new) }
+    {
+        self.joiner
+            .append(FlatItem::Ident(name, number), &self.book.names, buffer)?;
+        Ok(())
+    }
+
+    // The same of a reserved word.
+    #[inline(always)]
+    fn reserved(&mut self, name: NameId, number: u32, buffer: &mut Bytes) -> Result<(), Memory>
+        requires come { CanCome (length self.old.book.now.names) self.old.joiner.depth (FlatReserved name number) }
+        ensures bytes { (s : Source) (inner : Bool) (items : List Item) → IsBehind s inner items self.old
+            → OnOk result (buffer.new ≡ buffer.old
+            ++ added inner (shown s items) (shown_next s items (item_is (FlatReserved name number)))) }
+        ensures behind { (s : Source) (inner : Bool) (items : List Item) → IsBehind s inner items self.old
+            → OnOk result (IsBehind s inner (items ++ item_is (FlatReserved name number) ∷ []) self.new) }
+    {
+        self.joiner
+            .append(FlatItem::Reserved(name, number), &self.book.names, buffer)?;
+        Ok(())
     }
 
     // The same of the beginning of an inner text. Few items are one.
@@ -133,14 +190,14 @@ impl<'a> Printer<'a> {
     }
 }
 
-// So many bytes go to the line together.
-const FULL: usize = 4096;
+// What so many items print goes to the line together.
+const TOGETHER: usize = 1024;
 
 // A buffer with room for what most texts of so many items print.
 fn empty_buffer(alloc: Global, items: usize) -> Result<Bytes, Memory>
     ensures { IfOk result (λ bytes. bytes ≡ []) }
 {
-    let room = items.min(FULL / 8) * 8 + 64;
+    let room = items.min(TOGETHER) * 4 + 64;
     Ok(Bytes::from_vec(Vec::with_capacity(alloc, room)?))
 }
 
@@ -170,13 +227,15 @@ fn print_items<D: Desk>(
 {
     let mut printer = Printer::over(alloc, c, inner);
     let mut buffer = empty_buffer(alloc, items.len())?;
-    for i in 0..items.len() {
-        printer.print(items.item(i), &mut buffer)?;
-        if buffer.len() >= FULL {
-            out.put_all(buffer.as_slice(), desk)?;
-            buffer = cleared(buffer);
-        }
+    let mut at = 0;
+    while items.len() - at > TOGETHER {
+        let to = at + TOGETHER;
+        printer.print(items, at, to, &mut buffer)?;
+        out.put_all(buffer.as_slice(), desk)?;
+        buffer = cleared(buffer);
+        at = to;
     }
+    printer.print(items, at, items.len(), &mut buffer)?;
     printer.joiner.append_end(&mut buffer)?;
     out.put_all(buffer.as_slice(), desk)
 }

@@ -1,11 +1,16 @@
 -- The printer stands behind the items so far; what they print early is put, or waits.
+use Rattle.std.proofs.Common.{◌-◌, ◌≤◌, length}
 use Rattle.cw_tokens.specs.FlatItems.{items_are}
-use Rattle.cw_print.specs.Printing.{source_of}
-use Rattle.cw_print.proofs.PrintingLaws.{Midway, Waiting}
+use Rattle.cw_print.specs.Printing.{Midway, source_of}
+use Rattle.cw_print.proofs.PrintingLaws.{Waiting}
 use Rattle.cw_print.proofs.printing.print_items.Given as goal
 
-abbrev pub invariant-loop-i : goal.invariant-loop-i
-invariant-loop-i g l = let told = g.D.Desk.told in record {
-  midway : Midway (source_of l.c) l.inner (items_are l.items) l.i l.printer;
-  waiting : Waiting l.inner (source_of l.c) (items_are l.items) l.i l.buffer l.fn.out l.out (told l.fn.desk) (told l.desk);
+abbrev pub invariant-loop-at : goal.invariant-loop-at
+invariant-loop-at g l = let told = g.D.Desk.told in record {
+  within : l.at ≤ length l.items;
+  midway : Midway (source_of l.c) l.inner (items_are l.items) l.at l.printer;
+  waiting : Waiting l.inner (source_of l.c) (items_are l.items) l.at l.buffer l.fn.out l.out (told l.fn.desk) (told l.desk);
 }
+
+abbrev pub decreases-loop-at : goal.decreases-loop-at
+decreases-loop-at g l = length l.items - l.at

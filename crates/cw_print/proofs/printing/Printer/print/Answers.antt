@@ -1,70 +1,80 @@
--- What an item prints by where it stands goes behind what the joiner prints of it; a name prints no more.
-use Rattle.std.proofs.Common.{List, None, refl, ap, sym, ◌∙◌, subst}
-use Rattle.std.proofs.lemmas.List.{append-nil}
-use Rattle.std.proofs.lemmas.Result.{on_ok_weaker}
-use Rattle.cw_trees.specs.Printing.{Printable}
-use Rattle.cw_tokens.specs.declared.flat.FlatItem.{FlatItem}
-use Rattle.cw_tokens.specs.declared.flat.FlatItem.TheVariants as flat_item
-use Rattle.cw_tokens.specs.FlatItems.{item_is}
-use Rattle.cw_join.specs.Standing.{Stands}
-use Rattle.cw_print.specs.Printing.{shown, shown_next}
-use Rattle.cw_print.specs.Sources.{titles}
-use Rattle.cw_print.specs.Walked.{Walked}
-use Rattle.cw_print.proofs.PrintingLaws.{next-appended, next-behind, next-stand, shown-more}
+-- Each kind of item is printed behind those before it.
+use Rattle.std.proofs.Common.{◌∙◌, ap, Some, arith}
+use Rattle.cw_tokens.specs.FlatItems.{items_are}
+use Rattle.cw_print.proofs.PrintingLaws.{printed-bytes, printed-comes, printed-midway, printed-more, printed-none}
 use Rattle.cw_print.proofs.printing.Printer.print.Goals as goal
+use Rattle.cw_print.proofs.printing.Printer.print.Goals.{in-Source+in_ok-source-in-Source, in-Control+in_ok-control-in-Control, in-Ident+in_ok-ident-in-Ident}
+use Rattle.cw_print.proofs.printing.Printer.print.Goals.{in-Reserved+in_ok-reserved-in-Reserved, in-Open+in_ok-open-in-Open, in-Close+in_ok-close-in-Close}
 
-pub returns-in_ok-append-in-Source-clause-bytes : goal.returns-in_ok-append-in-Source-clause-bytes
-returns-in_ok-append-in-Source-clause-bytes c = rw c.in-Source.is (λ s inner items b.
-    on_ok_weaker c.show_source.result
-    (next-appended s inner items c.args.self.now b (flat_item.Source c.in-Source.number) (titles c.args.self.now.book.now c.in-Source.number) refl
-    c.args.buffer.now c.append.new.out c.show_source.new.out (c.in_ok-append-in-Source.ensures.bytes (shown s items) b.stands))
-    c.show_source.ensures.bytes)
+pub loop-i-init : goal.loop-i-init
+loop-i-init c = printed-none (items_are c.args.items.now) c.args.from c.args.self.now c.args.buffer.now
 
-pub returns-in_ok-append-in-Source-clause-behind : goal.returns-in_ok-append-in-Source-clause-behind
-returns-in_ok-append-in-Source-clause-behind c = rw c.in-Source.is (λ s inner items b.
-    let item : FlatItem = flat_item.Source c.in-Source.number in
-    on_ok_weaker c.show_source.result
-    (λ walk. record {
-      titles = b.titles;
-      names = b.names;
-      fixed = ap (λ (w : Walked). w.fixed) walk ∙ b.fixed;
-      stand = ap (λ (w : Walked). w.stand) walk ∙ next-stand s inner items c.args.self.now b item (titles c.args.self.now.book.now c.in-Source.number) refl;
-      same_inner = c.in_ok-append-in-Source.ensures.inner ∙ b.same_inner;
-      stands = subst (λ (ps : List Printable). Stands c.append.new.self ps) (sym (shown-more s items (item_is item)))
-          (c.in_ok-append-in-Source.ensures.stands (shown s items) (shown_next s items (item_is item)) b.stands refl);
-    })
-    c.show_source.ensures.stand)
+pub source-requires : goal.source-requires
+source-requires c = record {
+  come = printed-comes c.args.items.now c.loop-i.i _ (c.item.ensures ∙ ap Some c.in-Source.is) c.args.from c.args.self.now c.loop-i.self
+      c.args.buffer.now c.loop-i.buffer c.loop-i.invariant c.requires.midway (omega arith);
+}
 
-pub returns-in_ok-append-in-Control-clause-bytes : goal.returns-in_ok-append-in-Control-clause-bytes
-returns-in_ok-append-in-Control-clause-bytes c = rw c.in-Control.is (λ s inner items b.
-    on_ok_weaker c.show_control.result
-    (next-appended s inner items c.args.self.now b (flat_item.Control c.in-Control.control) None refl
-    c.args.buffer.now c.append-in-Control.new.out c.show_control.new.out (c.in_ok-append-in-Control.ensures.bytes (shown s items) b.stands))
-    c.show_control.ensures.bytes)
+pub control-requires : goal.control-requires
+control-requires c = record {
+  come = printed-comes c.args.items.now c.loop-i.i _ (c.item.ensures ∙ ap Some c.in-Control.is) c.args.from c.args.self.now c.loop-i.self
+      c.args.buffer.now c.loop-i.buffer c.loop-i.invariant c.requires.midway (omega arith);
+}
 
-pub returns-in_ok-append-in-Control-clause-behind : goal.returns-in_ok-append-in-Control-clause-behind
-returns-in_ok-append-in-Control-clause-behind c = rw c.in-Control.is (λ s inner items b.
-    on_ok_weaker c.show_control.result
-    (λ walk. next-behind s inner items c.args.self.now b (flat_item.Control c.in-Control.control) None refl _ b.titles b.names walk
-    c.in_ok-append-in-Control.ensures.inner (c.in_ok-append-in-Control.ensures.stands (shown s items) (shown_next s items (item_is (flat_item.Control c.in-Control.control))) b.stands refl))
-    c.show_control.ensures.stand)
+pub ident-requires : goal.ident-requires
+ident-requires c = record {
+  come = printed-comes c.args.items.now c.loop-i.i _ (c.item.ensures ∙ ap Some c.in-Ident.is) c.args.from c.args.self.now c.loop-i.self
+      c.args.buffer.now c.loop-i.buffer c.loop-i.invariant c.requires.midway (omega arith);
+}
 
-pub returns-in_ok-append-in-Ident-clause-bytes : goal.returns-in_ok-append-in-Ident-clause-bytes
-returns-in_ok-append-in-Ident-clause-bytes c = rw c.in-Ident.is (λ s inner items b.
-    next-appended s inner items c.args.self.now b (flat_item.Ident c.in-Ident.name c.in-Ident.number) None refl
-    c.args.buffer.now c.append-in-Ident.new.out c.append-in-Ident.new.out (c.in_ok-append-in-Ident.ensures.bytes (shown s items) b.stands) (sym (append-nil c.append-in-Ident.new.out)))
+pub reserved-requires : goal.reserved-requires
+reserved-requires c = record {
+  come = printed-comes c.args.items.now c.loop-i.i _ (c.item.ensures ∙ ap Some c.in-Reserved.is) c.args.from c.args.self.now c.loop-i.self
+      c.args.buffer.now c.loop-i.buffer c.loop-i.invariant c.requires.midway (omega arith);
+}
 
-pub returns-in_ok-append-in-Ident-clause-behind : goal.returns-in_ok-append-in-Ident-clause-behind
-returns-in_ok-append-in-Ident-clause-behind c = rw c.in-Ident.is (λ s inner items b.
-    next-behind s inner items c.args.self.now b (flat_item.Ident c.in-Ident.name c.in-Ident.number) None refl _ b.titles b.names refl
-    c.in_ok-append-in-Ident.ensures.inner (c.in_ok-append-in-Ident.ensures.stands (shown s items) (shown_next s items (item_is (flat_item.Ident c.in-Ident.name c.in-Ident.number))) b.stands refl))
+pub open-requires : goal.open-requires
+open-requires c = record {
+  come = printed-comes c.args.items.now c.loop-i.i _ (c.item.ensures ∙ ap Some c.in-Open.is) c.args.from c.args.self.now c.loop-i.self
+      c.args.buffer.now c.loop-i.buffer c.loop-i.invariant c.requires.midway (omega arith);
+}
 
-pub returns-in_ok-append-in-Reserved-clause-bytes : goal.returns-in_ok-append-in-Reserved-clause-bytes
-returns-in_ok-append-in-Reserved-clause-bytes c = rw c.in-Reserved.is (λ s inner items b.
-    next-appended s inner items c.args.self.now b (flat_item.Reserved c.in-Reserved.name c.in-Reserved.number) None refl
-    c.args.buffer.now c.append-in-Reserved.new.out c.append-in-Reserved.new.out (c.in_ok-append-in-Reserved.ensures.bytes (shown s items) b.stands) (sym (append-nil c.append-in-Reserved.new.out)))
+pub close-requires : goal.close-requires
+close-requires c = record {
+  come = printed-comes c.args.items.now c.loop-i.i _ (c.item.ensures ∙ ap Some c.in-Close.is) c.args.from c.args.self.now c.loop-i.self
+      c.args.buffer.now c.loop-i.buffer c.loop-i.invariant c.requires.midway (omega arith);
+}
 
-pub returns-in_ok-append-in-Reserved-clause-behind : goal.returns-in_ok-append-in-Reserved-clause-behind
-returns-in_ok-append-in-Reserved-clause-behind c = rw c.in-Reserved.is (λ s inner items b.
-    next-behind s inner items c.args.self.now b (flat_item.Reserved c.in-Reserved.name c.in-Reserved.number) None refl _ b.titles b.names refl
-    c.in_ok-append-in-Reserved.ensures.inner (c.in_ok-append-in-Reserved.ensures.stands (shown s items) (shown_next s items (item_is (flat_item.Reserved c.in-Reserved.name c.in-Reserved.number))) b.stands refl))
+pub loop-i-preserved : goal.loop-i-preserved
+loop-i-preserved c = elim c.match-item.branch [
+  | in-Source+in_ok-source-in-Source w ↦
+      rw w.self-is (rw w.buffer-is (printed-more c.args.items.now c.loop-i.i _ (c.item.ensures ∙ ap Some w.in-Source.is) c.args.from c.args.self.now
+      c.loop-i.self c.args.buffer.now c.loop-i.buffer c.loop-i.invariant w.source.new.self w.source.new.buffer
+      w.in_ok-source-in-Source.ensures.bytes w.in_ok-source-in-Source.ensures.behind))
+  | in-Control+in_ok-control-in-Control w ↦
+      rw w.self-is (rw w.buffer-is (printed-more c.args.items.now c.loop-i.i _ (c.item.ensures ∙ ap Some w.in-Control.is) c.args.from c.args.self.now
+      c.loop-i.self c.args.buffer.now c.loop-i.buffer c.loop-i.invariant w.control.new.self w.control.new.buffer
+      w.in_ok-control-in-Control.ensures.bytes w.in_ok-control-in-Control.ensures.behind))
+  | in-Ident+in_ok-ident-in-Ident w ↦
+      rw w.self-is (rw w.buffer-is (printed-more c.args.items.now c.loop-i.i _ (c.item.ensures ∙ ap Some w.in-Ident.is) c.args.from c.args.self.now
+      c.loop-i.self c.args.buffer.now c.loop-i.buffer c.loop-i.invariant w.ident.new.self w.ident.new.buffer
+      w.in_ok-ident-in-Ident.ensures.bytes w.in_ok-ident-in-Ident.ensures.behind))
+  | in-Reserved+in_ok-reserved-in-Reserved w ↦
+      rw w.self-is (rw w.buffer-is (printed-more c.args.items.now c.loop-i.i _ (c.item.ensures ∙ ap Some w.in-Reserved.is) c.args.from c.args.self.now
+      c.loop-i.self c.args.buffer.now c.loop-i.buffer c.loop-i.invariant w.reserved.new.self w.reserved.new.buffer
+      w.in_ok-reserved-in-Reserved.ensures.bytes w.in_ok-reserved-in-Reserved.ensures.behind))
+  | in-Open+in_ok-open-in-Open w ↦
+      rw w.self-is (rw w.buffer-is (printed-more c.args.items.now c.loop-i.i _ (c.item.ensures ∙ ap Some w.in-Open.is) c.args.from c.args.self.now
+      c.loop-i.self c.args.buffer.now c.loop-i.buffer c.loop-i.invariant w.open.new.self w.open.new.buffer
+      w.in_ok-open-in-Open.ensures.bytes w.in_ok-open-in-Open.ensures.behind))
+  | in-Close+in_ok-close-in-Close w ↦
+      rw w.self-is (rw w.buffer-is (printed-more c.args.items.now c.loop-i.i _ (c.item.ensures ∙ ap Some w.in-Close.is) c.args.from c.args.self.now
+      c.loop-i.self c.args.buffer.now c.loop-i.buffer c.loop-i.invariant w.close.new.self w.close.new.buffer
+      w.in_ok-close-in-Close.ensures.bytes w.in_ok-close-in-Close.ensures.behind))
+]
+
+pub returns-clause-bytes : goal.returns-clause-bytes
+returns-clause-bytes c = λ s inner m. printed-bytes (items_are c.args.items.now) c.args.from c.loop-i.i c.args.to c.args.self.now c.loop-i.self c.args.buffer.now c.loop-i.buffer c.loop-i.invariant (omega arith) s inner m
+
+pub returns-clause-midway : goal.returns-clause-midway
+returns-clause-midway c = λ s inner m. printed-midway (items_are c.args.items.now) c.args.from c.loop-i.i c.args.to c.args.self.now c.loop-i.self c.args.buffer.now c.loop-i.buffer c.loop-i.invariant (omega arith) s inner m
