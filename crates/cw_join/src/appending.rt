@@ -1,10 +1,10 @@
 //! The joining of items behind bytes in memory, which go to a line together.
-ghost use Rattle.std.specs.Prelude.{◌≡◌, ◌∷◌, ◌++◌, [], List, OnOk, OnErr, length};
+ghost use Rattle.std.specs.Prelude.{◌≡◌, ◌∷◌, ◌++◌, [], false, List, OnOk, OnErr, length};
 ghost use Rattle.cw_trees.specs.Printing.{Printable, opened};
 ghost use Rattle.cw_tokens.specs.FlatItems.{item_is};
 ghost use Rattle.cw_join.specs.Appending.{StaysBefore};
 ghost use Rattle.cw_join.specs.Early.{added, late, run_front};
-ghost use Rattle.cw_join.specs.Runs.{run_more, run_state, state_back, state_of};
+ghost use Rattle.cw_join.specs.Runs.{pause_bytes, run_more, run_state, state_back, state_of, strength_of};
 ghost use Rattle.cw_join.specs.Standing.{Stands};
 ghost use Rattle.cw_join.specs.Stretches.{is_inner};
 ghost use Rattle.cw_join.specs.Tokens.{CanCome, IsNamed, alone, control_bytes, item_bytes};
@@ -13,7 +13,7 @@ use crate::joiner::{Joiner, depth_behind, step};
 use crate::names_behind::{append_few, append_ident, append_reserved};
 use crate::naming::text_of;
 use crate::pieces::sign;
-use crate::run::{Run, indent, run_control};
+use crate::run::{Pause, Run, indent, run_control};
 use cw_base::{Bytes, Memory};
 use cw_names::Names;
 use cw_tokens::FlatItem;
@@ -96,8 +96,37 @@ fn append_run(run: Run, inner: bool, out: &mut Bytes) -> Result<(), Memory>
     ensures bytes { OnOk result (out.new ≡ out.old ++ state_back inner (state_of run)) }
     ensures stays { OnErr result (StaysBefore out.old out.new) }
 {
+    match run {
+        Run::Begun {
+            pause,
+            cancelled: false,
+            backed: false,
+        } => append_pause(pause, inner, out),
+        _ => append_rare_run(run, inner, out),
+    }
+}
+
+// The same of a run that may have a Cancel or a Backup. Few have one.
+#[inline(never)]
+fn append_rare_run(run: Run, inner: bool, out: &mut Bytes) -> Result<(), Memory>
+    ensures bytes { OnOk result (out.new ≡ out.old ++ state_back inner (state_of run)) }
+    ensures stays { OnErr result (StaysBefore out.old out.new) }
+{
     append_few(run.pause(inner), out)?;
     append_few(step(run.backs(inner)), out)
+}
+
+// Appends a break or a blank. Most are blanks.
+#[inline(always)]
+fn append_pause(pause: Pause, inner: bool, out: &mut Bytes) -> Result<(), Memory>
+    ensures bytes { OnOk result (out.new ≡ out.old
+        ++ pause_bytes inner (record { strength = strength_of pause; cancelled = false; backed = false })) }
+    ensures stays { OnErr result (StaysBefore out.old out.new) }
+{
+    match pause {
+        Pause::Blank => append_few(b" ", out),
+        _ => append_few(pause.bytes_in(inner), out),
+    }
 }
 
 // Appends the bytes of a name or of a sign.

@@ -77,8 +77,8 @@ impl Pause {
         }
     }
 
-    // The same in inner C text or outside.
-    fn bytes_in(self, inner: bool) -> &'static [u8]
+    /// The same in inner C text or outside.
+    pub(crate) fn bytes_in(self, inner: bool) -> &'static [u8]
         ensures { result.now
             ≡ pause_bytes inner (record { strength = strength_of self; cancelled = false; backed = false }) }
     {
