@@ -176,19 +176,32 @@ pub fn flatten_trimmed(
     let mut rest = list_at(tokens, ends, root);
     loop {
         match rest {
-            [token, behind @ ..] => match part_of(alone_below(tokens, ends, *token)) {
-                Part::Leaf(item) => {
-                    out.push(item)?;
+            [token, behind @ ..] => match alone_below(tokens, ends, *token) {
+                // An arm for each kind, so that the trimmer needn't ask for it again.
+                Token::Source(number, _) => {
+                    out.push(FlatItem::Source(number))?;
                     rest = behind;
                 }
-                Part::Below(below) => {
-                    put_above(&mut above, behind, 0)?;
-                    rest = list_at(tokens, ends, below);
+                Token::Ident(name, number) => {
+                    out.push(FlatItem::Ident(name, number))?;
+                    rest = behind;
                 }
-                Part::InnerBelow(below) => {
+                Token::Reserved(name, number, _) => {
+                    out.push(FlatItem::Reserved(name, number))?;
+                    rest = behind;
+                }
+                Token::Control(control) => {
+                    out.push(FlatItem::Control(control))?;
+                    rest = behind;
+                }
+                Token::List(below) => {
+                    put_above(&mut above, behind, 0)?;
+                    rest = list_at(tokens, ends, below.index);
+                }
+                Token::Inner(below) => {
                     out.push(FlatItem::Open)?;
                     put_above(&mut above, behind, 1)?;
-                    rest = list_at(tokens, ends, below);
+                    rest = list_at(tokens, ends, below.index);
                 }
             },
             [] => match above.pop() {

@@ -86,6 +86,7 @@ fn end_gap(items: &mut Vec<FlatItem>, gap: usize, next: FlatItem)
 }
 
 // Takes the breaks out of the gap with which the items end.
+#[inline(always)]
 fn take_breaks(items: &mut Vec<FlatItem>, gap: usize)
     requires { gap ≤ length items.old.items }
     ensures within { gap ≤ length items.new.items }
@@ -97,6 +98,7 @@ fn take_breaks(items: &mut Vec<FlatItem>, gap: usize)
 }
 
 // Moves the items of a gap to its front that are no breaks, and says where they end.
+#[inline(always)]
 fn keep_unbroken(items: &mut [FlatItem], gap: usize) -> usize
     requires { gap ≤ length items.old }
     ensures within { result ≤ length items.new }
