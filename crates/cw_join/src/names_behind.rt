@@ -18,7 +18,7 @@ pub(crate) fn append_ident(name: &[u8], out: &mut Bytes) -> Result<(), Memory>
     }
     append_few(font(name), out)?;
     append_name(name, out)?;
-    out.push(b'}')
+    append_few(b"}", out)
 }
 
 /// Appends a reserved word.
