@@ -8,6 +8,7 @@ mod names_behind;
 mod naming;
 mod pieces;
 mod run;
+mod short_names;
 mod token;
 
 pub use joiner::Joiner;

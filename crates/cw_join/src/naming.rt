@@ -5,6 +5,7 @@ ghost use Rattle.cw_trees.specs.Printing.{ident_bytes, is_lower, name_bytes, res
 ghost use Rattle.cw_lines.specs.Writes.{CanWrite, Puts};
 ghost use Rattle.cw_join.specs.Tokens.{BeginsMarked, font_bytes, is_marked, text_at};
 
+use crate::short_names::{LONGEST, short_ident};
 use cw_desk::Desk;
 use cw_lines::{LineOut, PutError};
 use cw_names::{NameId, Names};
@@ -22,9 +23,8 @@ pub fn put_ident<D: Desk>(name: &[u8], out: &mut LineOut, desk: &mut D) -> Resul
     requires can { CanWrite (D.told desk.old) out.old }
     ensures { Puts (ident_bytes name.now) out.old out.new (D.told desk.old) (D.told desk.new) result }
 {
-    if name.len() == 1 {
-        out.put_all(b"\\|", desk)?;
-        return put_name(name, out, desk);
+    if name.len() <= LONGEST {
+        return out.put_all(short_ident(name).as_slice(), desk);
     }
     put_word(font(name), name, out, desk)
 }
