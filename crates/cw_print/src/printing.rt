@@ -71,8 +71,8 @@ impl<'a> Printer<'a> {
         }
     }
 
-    // Appends what some items print, of which the first stands at a place. The match stands in the loop, since a function
-    // for one item grows too large to be put in line.
+    // Appends what some items print, of which the first stands at a place. The match stands in the loop, since a
+    // function for one item grows too large to be put in line.
     fn print(
         &mut self,
         items: &FlatTokens,

@@ -70,7 +70,7 @@ impl<'a> Scan<'a> {
     }
 }
 
-// Has a scanner begin its span anew. It stands apart, so that a token that lies ahead takes no room for another scanner.
+// Has a scanner begin its span anew. It stands apart, so that a token that lies ahead takes no room for another.
 #[inline(never)]
 fn begin_anew<'a>(lexer: &mut Lexer<'a>, text: &'a [u8], span: Span, mode: Mode)
     requires order { span.start ≤ span.end }
