@@ -1,5 +1,7 @@
 -- The walk that lays a tree flat and trims it.
-use Rattle.std.proofs.Common.{◌≡◌, ℕ, zero, suc, ◌+◌, ◌-◌, ◌<◌, ◌≤◌, List, [], ◌∷◌, ◌++◌, length, reverse, slice_index_or, take, drop, Option, Some, None, Result, OnOk, get_or, refl, sym, ap, ◌∙◌, subst, arith}
+use Rattle.std.proofs.Common.{◌≡◌, ℕ, zero, suc, ◌+◌, ◌-◌, ◌<◌, ◌≤◌, List, [], ◌∷◌, ◌++◌, length, reverse}
+use Rattle.std.proofs.Common.{slice_index_or, take, drop, Option, Some, None, Result, OnOk, get_or, refl, sym, ap, ◌∙◌}
+use Rattle.std.proofs.Common.{subst, arith}
 use Rattle.std.specs.List.{slice_get}
 use Rattle.std.proofs.lemmas.List.{append_assoc, append-nil, reverse-append, take_all}
 use Rattle.cw_trees.specs.Flat.{Item, Open as open_item, Close as close_item, flat, trimmed}
@@ -7,10 +9,13 @@ use Rattle.cw_trees.specs.Tree.{Tree, Empty}
 use Rattle.cw_tokens.specs.declared.token.Token.{Token}
 use Rattle.cw_tokens.specs.declared.flat.Above.{Above}
 use Rattle.cw_tokens.specs.declared.flat.FlatItem.{FlatItem}
-use Rattle.cw_tokens.specs.declared.walk.Part.TheVariants.{Leaf as leaf_part, Below as below_part, InnerBelow as inner_part}
-use Rattle.cw_tokens.specs.Shapes.{Shape, Plain, Below, InnerBelow, shape, ref_of, item_of, tree_in, trees_from, unfolded}
+use Rattle.cw_tokens.specs.declared.walk.Part.TheVariants.{Leaf as leaf_part, Below as below_part}
+use Rattle.cw_tokens.specs.declared.walk.Part.TheVariants.{InnerBelow as inner_part}
+use Rattle.cw_tokens.specs.Shapes.{Shape, Plain, Below, InnerBelow, shape, ref_of, item_of, tree_in, trees_from}
+use Rattle.cw_tokens.specs.Shapes.{unfolded}
 use Rattle.cw_tokens.specs.References.{token_ref, IsTied}
-use Rattle.cw_tokens.specs.Ahead.{AboveWithin, GoesAbove, MayStandFor, ReferWithin, RefersWithin, closing_of, flat_above, size_of}
+use Rattle.cw_tokens.specs.Ahead.{AboveWithin, GoesAbove, MayStandFor, ReferWithin, RefersWithin, closing_of}
+use Rattle.cw_tokens.specs.Ahead.{flat_above, size_of}
 use Rattle.cw_tokens.specs.FlatItems.{item_is, IsPart}
 use Rattle.cw_tokens.specs.Trimming.{Trims, StandsFor}
 use Rattle.cw_tokens.specs.Walking.{size}
@@ -18,7 +23,8 @@ use Rattle.cw_tokens.proofs.Flattening.{below-ref, inner-ref}
 use Rattle.cw_tokens.proofs.Unfolding.{unfold-is}
 
 -- the first of some tokens, and those behind it
-pub first-is : (ts : List Token) (d : Token) → 1 ≤ length ts → ts ≡ slice_index_or ts 0 d ∷ take (length ts - 1) (drop 1 ts)
+pub first-is : (ts : List Token) (d : Token) → 1 ≤ length ts → ts
+    ≡ slice_index_or ts 0 d ∷ take (length ts - 1) (drop 1 ts)
 first-is [] d h = absurd (omega arith)
 first-is (t ∷ ts) d h = ap (λ us. t ∷ us) (sym (take_all (length (t ∷ ts) - 1) ts (omega arith)))
 
@@ -35,13 +41,15 @@ pub last-first : (ups old : List Above) (up : Above) → old ≡ ups ++ up ∷ [
 last-first ups old up e = ap reverse e ∙ reverse-append ups (up ∷ [])
 
 -- a token laid flat before others
-item-joined : (trees : List Tree) (s : Shape) (rest : Tree) → flat (item_of trees s rest) ≡ flat (item_of trees s Empty) ++ flat rest
+item-joined : (trees : List Tree) (s : Shape) (rest : Tree) → flat (item_of trees s rest) ≡ flat (item_of trees s Empty)
+    ++ flat rest
 item-joined trees (Plain leaf) rest = refl
 item-joined trees (Below x) rest = ap (λ xs. xs ++ flat rest) (sym (append-nil (flat (get_or trees x Empty))))
 item-joined trees (InnerBelow x) rest =
     ap (λ xs. open_item ∷ xs) (sym (append_assoc (flat (get_or trees x Empty)) (close_item ∷ []) (flat rest)))
 
-item-size : (trees : List Tree) (s : Shape) (rest : Tree) → size (item_of trees s rest) ≤ size (item_of trees s Empty) + size rest
+item-size : (trees : List Tree) (s : Shape) (rest : Tree)
+    → size (item_of trees s rest) ≤ size (item_of trees s Empty) + size rest
 item-size trees (Plain leaf) rest = omega arith
 item-size trees (Below x) rest = omega arith
 item-size trees (InnerBelow x) rest = omega arith
@@ -55,7 +63,8 @@ below-less : (o : Option ℕ) (x : ℕ) → ((y : ℕ) → o ≡ Some y → y < 
 below-less None x h = omega arith
 below-less (Some y) x h = let low : y < x = h y refl in omega arith
 
-pub stands-itself : (ls : List (List Token)) (token : Token) → RefersWithin (length ls) token → MayStandFor ls token token
+pub stands-itself : (ls : List (List Token)) (token : Token) → RefersWithin (length ls) token
+    → MayStandFor ls token token
 stands-itself ls token within = record { same = λ rest. refl; smaller = λ rest. omega arith; within = within }
 
 module _ (ls : List (List Token)) (tied : IsTied ls) where
@@ -68,7 +77,8 @@ module _ (ls : List (List Token)) (tied : IsTied ls) where
     only-tree = unfold-is ls x tied lt ∙ ap (tree_in (trees_from [] ls)) (sym one)
 
     pub only-less : (s : Shape) → s ≡ Below x → below-of (ref_of (shape only)) < below-of (ref_of s)
-    only-less s e = subst (λ (r : Shape). below-of (ref_of (shape only)) < below-of (ref_of r)) (sym e) (below-less (ref_of (shape only)) x only-earlier)
+    only-less s e = subst (λ (r : Shape). below-of (ref_of (shape only)) < below-of (ref_of r)) (sym e)
+        (below-less (ref_of (shape only)) x only-earlier)
 
     pub only-stands : (token at : Token) → MayStandFor ls token at → shape at ≡ Below x → MayStandFor ls token only
     only-stands token at m e = record {
@@ -78,13 +88,16 @@ module _ (ls : List (List Token)) (tied : IsTied ls) where
           ∙ (ap (λ (s : Shape). flat (item_of (trees_from [] ls) s rest)) (sym e)
           ∙ m.same rest));
       smaller = λ rest.
-          let a : size (get_or (trees_from [] ls) x Empty) ≡ size (item_of (trees_from [] ls) (shape only) Empty) = ap size only-tree in
-          let b : size (item_of (trees_from [] ls) (shape at) rest) ≡ size (item_of (trees_from [] ls) (Below x) rest) = ap (λ (s : Shape). size (item_of (trees_from [] ls) s rest)) e in
+          let a : size (get_or (trees_from [] ls) x Empty) ≡ size (item_of (trees_from [] ls) (shape only) Empty) =
+          ap size only-tree in
+          let b : size (item_of (trees_from [] ls) (shape at) rest) ≡ size (item_of (trees_from [] ls) (Below x) rest) =
+          ap (λ (s : Shape). size (item_of (trees_from [] ls) s rest)) e in
           omega (arith, a, b, item-size (trees_from [] ls) (shape only) rest, m.smaller rest);
       within = λ y r. let low : y < x = only-earlier y r in omega arith;
     }
 
-  refer-within : (count : ℕ) (ts : List Token) → ((q x : ℕ) → token_ref (slice_get ts q) ≡ Some x → x < count) → ReferWithin count ts
+  refer-within : (count : ℕ) (ts : List Token) → ((q x : ℕ) → token_ref (slice_get ts q) ≡ Some x → x < count)
+      → ReferWithin count ts
   refer-within count [] h = tt {0}
   refer-within count (t ∷ ts) h = (λ x e. h 0 x e, refer-within count ts (λ q x e. h (suc q) x e))
 
@@ -92,18 +105,21 @@ module _ (ls : List (List Token)) (tied : IsTied ls) where
   list-within x ts lt e = refer-within (length ls) ts (λ q y r.
       let low : y < x = tied.earlier x q y (ap (λ us. token_ref (slice_get us q)) (sym e) ∙ r) in omega arith)
 
-  list-tree : (x : ℕ) (ts : List Token) → x < length ls → ts ≡ get_or ls x [] → get_or (trees_from [] ls) x Empty ≡ tree_in (trees_from [] ls) ts
+  list-tree : (x : ℕ) (ts : List Token) → x < length ls → ts ≡ get_or ls x [] → get_or (trees_from [] ls) x Empty
+      ≡ tree_in (trees_from [] ls) ts
   list-tree x ts lt e = unfold-is ls x tied lt ∙ ap (tree_in (trees_from [] ls)) (sym e)
 
 -- items were given of the walk, and those that stay of them are kept; the others are to come
-pub record TrimsAhead (lists : List (List Token)) (rest : List Token) (above : List Above) (trims : Trims) (all : List Item) : Type 0 where
+pub record TrimsAhead (lists : List (List Token)) (rest : List Token) (above : List Above) (trims : Trims)
+    (all : List Item) : Type 0 where
   pub given : List Item
   pub is : given ++ (flat (tree_in (trees_from [] lists) rest) ++ flat_above lists above) ≡ all
   pub stands : StandsFor trims given
   pub within : ReferWithin (length lists) rest
   pub others : AboveWithin (length lists) above
 
-pub ahead-start : (ls : List (List Token)) (root : ℕ) (items : List Token) (trims : Trims) → IsTied ls → root < length ls → StandsFor trims [] → items ≡ get_or ls root []
+pub ahead-start : (ls : List (List Token)) (root : ℕ) (items : List Token) (trims : Trims) → IsTied ls
+    → root < length ls → StandsFor trims [] → items ≡ get_or ls root []
     → TrimsAhead ls items [] trims (flat (unfolded ls root))
 ahead-start ls root items trims tied lt stands e = record {
   given = [];
@@ -113,23 +129,29 @@ ahead-start ls root items trims tied lt stands e = record {
   others = tt {0};
 }
 
-pub at-first : (ls : List (List Token)) (rest : List Token) (d : Token) (above : List Above) (trims : Trims) (all : List Item) → TrimsAhead ls rest above trims all → 1 ≤ length rest
+pub at-first : (ls : List (List Token)) (rest : List Token) (d : Token) (above : List Above) (trims : Trims)
+    (all : List Item) → TrimsAhead ls rest above trims all → 1 ≤ length rest
     → TrimsAhead ls (slice_index_or rest 0 d ∷ take (length rest - 1) (drop 1 rest)) above trims all
 at-first ls rest d above trims all w h = subst (λ ts. TrimsAhead ls ts above trims all) (first-is rest d h) w
 
 pub less-first : (ls : List (List Token)) (rest : List Token) (d : Token) (n k : ℕ) → 1 ≤ length rest
-    → n < size (tree_in (trees_from [] ls) (slice_index_or rest 0 d ∷ take (length rest - 1) (drop 1 rest))) + k → n < size (tree_in (trees_from [] ls) rest) + k
+    → n < size (tree_in (trees_from [] ls) (slice_index_or rest 0 d ∷ take (length rest - 1) (drop 1 rest))) + k
+    → n < size (tree_in (trees_from [] ls) rest) + k
 less-first ls rest d n k h lt = subst (λ ts. n < size (tree_in (trees_from [] ls) ts) + k) (sym (first-is rest d h)) lt
 
 append-cons : (xs ys : List Item) (x : Item) → (xs ++ x ∷ []) ++ ys ≡ xs ++ x ∷ ys
 append-cons xs ys x = append_assoc xs (x ∷ []) ys
 
-module _ (ls : List (List Token)) (t : Token) (behind : List Token) (above : List Above) (trims : Trims) (all : List Item) (w : TrimsAhead ls (t ∷ behind) above trims all) (u : Token) (m : MayStandFor ls t u) where
+module _ (ls : List (List Token)) (t : Token) (behind : List Token) (above : List Above) (trims : Trims)
+    (all : List Item) (w : TrimsAhead ls (t ∷ behind) above trims all) (u : Token) (m : MayStandFor ls t u) where
   -- what is to come, by the token that stands for the first
-  by-other : w.given ++ (flat (item_of (trees_from [] ls) (shape u) (tree_in (trees_from [] ls) behind)) ++ flat_above ls above) ≡ all
+  by-other : w.given ++ (flat (item_of (trees_from [] ls) (shape u) (tree_in (trees_from [] ls) behind))
+      ++ flat_above ls above) ≡ all
   by-other = ap (λ xs. w.given ++ (xs ++ flat_above ls above)) (m.same (tree_in (trees_from [] ls) behind)) ∙ w.is
 
-  pub ahead-leaf : (new : Trims) (item : FlatItem) → IsPart (shape u) (leaf_part item) → ((given : List Item) → StandsFor trims given → StandsFor new (given ++ item_is item ∷ [])) → TrimsAhead ls behind above new all
+  pub ahead-leaf : (new : Trims) (item : FlatItem) → IsPart (shape u) (leaf_part item)
+      → ((given : List Item) → StandsFor trims given → StandsFor new (given ++ item_is item ∷ []))
+      → TrimsAhead ls behind above new all
   ahead-leaf new item is push = record {
     given = w.given ++ item_is item ∷ [];
     is = append-cons w.given (flat (tree_in (trees_from [] ls) behind) ++ flat_above ls above) (item_is item)
@@ -140,15 +162,21 @@ module _ (ls : List (List Token)) (t : Token) (behind : List Token) (above : Lis
     others = w.others;
   }
     where
-      first : (s : Shape) → IsPart s (leaf_part item) → flat (item_of (trees_from [] ls) s (tree_in (trees_from [] ls) behind)) ≡ item_is item ∷ flat (tree_in (trees_from [] ls) behind)
+      first : (s : Shape) → IsPart s (leaf_part item)
+          → flat (item_of (trees_from [] ls) s (tree_in (trees_from [] ls) behind))
+          ≡ item_is item ∷ flat (tree_in (trees_from [] ls) behind)
       first (Plain leaf) e = ap (λ x. x ∷ flat (tree_in (trees_from [] ls) behind)) e
       first (Below x) e = absurd e
       first (InnerBelow x) e = absurd e
 
-  pub leaf-less : (item : FlatItem) → IsPart (shape u) (leaf_part item) → size (tree_in (trees_from [] ls) behind) + size_of ls above < size (item_of (trees_from [] ls) (shape t) (tree_in (trees_from [] ls) behind)) + size_of ls above
+  pub leaf-less : (item : FlatItem) → IsPart (shape u) (leaf_part item)
+      → size (tree_in (trees_from [] ls) behind) + size_of ls above < size
+      (item_of (trees_from [] ls) (shape t) (tree_in (trees_from [] ls) behind)) + size_of ls above
   leaf-less item is = omega (arith, less (shape u) is, m.smaller (tree_in (trees_from [] ls) behind))
     where
-      less : (s : Shape) → IsPart s (leaf_part item) → size (tree_in (trees_from [] ls) behind) < size (item_of (trees_from [] ls) s (tree_in (trees_from [] ls) behind))
+      less : (s : Shape) → IsPart s (leaf_part item)
+          → size (tree_in (trees_from [] ls) behind) < size
+          (item_of (trees_from [] ls) s (tree_in (trees_from [] ls) behind))
       less (Plain leaf) e = omega arith
       less (Below x) e = absurd e
       less (InnerBelow x) e = absurd e
@@ -164,72 +192,105 @@ module _ (ls : List (List Token)) (t : Token) (behind : List Token) (above : Lis
     ahead-below is up = record {
       given = w.given;
       is = ap (λ xs. w.given ++ (flat (tree_in (trees_from [] ls) below) ++ xs)) (up.items ls)
-          ∙ (ap (λ (t : Tree). w.given ++ (flat t ++ (flat (tree_in (trees_from [] ls) behind) ++ flat_above ls above))) (sym (list-tree ls tied x below (below-inside is) read))
-          ∙ (ap (λ xs. w.given ++ xs) (sym (append_assoc (flat (unfolded ls x)) (flat (tree_in (trees_from [] ls) behind)) (flat_above ls above)))
-          ∙ (ap (λ (s : Shape). w.given ++ (flat (item_of (trees_from [] ls) s (tree_in (trees_from [] ls) behind)) ++ flat_above ls above)) (sym (below-ref (shape u) x is))
+          ∙ (ap (λ (t : Tree). w.given ++ (flat t ++ (flat (tree_in (trees_from [] ls) behind) ++ flat_above ls above)))
+          (sym (list-tree ls tied x below (below-inside is) read))
+          ∙ (ap (λ xs. w.given ++ xs) (sym
+          (append_assoc (flat (unfolded ls x)) (flat (tree_in (trees_from [] ls) behind)) (flat_above ls above)))
+          ∙ (ap (λ (s : Shape). w.given ++ (flat (item_of (trees_from [] ls) s (tree_in (trees_from [] ls) behind))
+          ++ flat_above ls above)) (sym (below-ref (shape u) x is))
           ∙ by-other)));
       stands = w.stands;
       within = list-within ls tied x below (below-inside is) read;
       others = up.within (length ls) w.within.1 w.others;
     }
 
-    pub ahead-inner : (after : Trims) → IsPart (shape u) (inner_part x) → GoesAbove behind 1 above new → ((given : List Item) → StandsFor trims given → StandsFor after (given ++ open_item ∷ [])) → TrimsAhead ls below new after all
+    pub ahead-inner : (after : Trims) → IsPart (shape u) (inner_part x) → GoesAbove behind 1 above new
+        → ((given : List Item) → StandsFor trims given → StandsFor after (given ++ open_item ∷ []))
+        → TrimsAhead ls below new after all
     ahead-inner after is up push = record {
       given = w.given ++ open_item ∷ [];
       is = ap (λ xs. (w.given ++ open_item ∷ []) ++ (flat (tree_in (trees_from [] ls) below) ++ xs)) (up.items ls)
-          ∙ (append-cons w.given (flat (tree_in (trees_from [] ls) below) ++ (close_item ∷ (flat (tree_in (trees_from [] ls) behind) ++ flat_above ls above))) open_item
-          ∙ (ap (λ (t : Tree). w.given ++ open_item ∷ (flat t ++ (close_item ∷ (flat (tree_in (trees_from [] ls) behind) ++ flat_above ls above)))) (sym (list-tree ls tied x below (inner-inside is) read))
-          ∙ (ap (λ xs. w.given ++ open_item ∷ xs) (sym (append_assoc (flat (unfolded ls x)) (close_item ∷ flat (tree_in (trees_from [] ls) behind)) (flat_above ls above)))
-          ∙ (ap (λ (s : Shape). w.given ++ (flat (item_of (trees_from [] ls) s (tree_in (trees_from [] ls) behind)) ++ flat_above ls above)) (sym (inner-ref (shape u) x is))
+          ∙ (append-cons w.given (flat (tree_in (trees_from [] ls) below)
+          ++ (close_item ∷ (flat (tree_in (trees_from [] ls) behind) ++ flat_above ls above))) open_item
+          ∙ (ap (λ (t : Tree). w.given ++ open_item ∷ (flat t
+          ++ (close_item ∷ (flat (tree_in (trees_from [] ls) behind) ++ flat_above ls above))))
+          (sym (list-tree ls tied x below (inner-inside is) read))
+          ∙ (ap (λ xs. w.given ++ open_item ∷ xs)
+          (sym (append_assoc (flat (unfolded ls x)) (close_item ∷ flat (tree_in (trees_from [] ls) behind))
+          (flat_above ls above)))
+          ∙ (ap (λ (s : Shape). w.given ++ (flat (item_of (trees_from [] ls) s (tree_in (trees_from [] ls) behind))
+          ++ flat_above ls above)) (sym (inner-ref (shape u) x is))
           ∙ by-other))));
       stands = push w.given w.stands;
       within = list-within ls tied x below (inner-inside is) read;
       others = up.within (length ls) w.within.1 w.others;
     }
 
-    below-less-of : x < length ls → (s : Shape) (closes : ℕ) → size (item_of (trees_from [] ls) s (tree_in (trees_from [] ls) behind)) ≡ 2 + (size (unfolded ls x) + size (tree_in (trees_from [] ls) behind)) → s ≡ shape u → GoesAbove behind closes above new
-        → size (tree_in (trees_from [] ls) below) + size_of ls new < size (item_of (trees_from [] ls) (shape t) (tree_in (trees_from [] ls) behind)) + size_of ls above
+    below-less-of : x < length ls → (s : Shape) (closes : ℕ)
+        → size (item_of (trees_from [] ls) s (tree_in (trees_from [] ls) behind))
+        ≡ 2 + (size (unfolded ls x) + size (tree_in (trees_from [] ls) behind)) → s ≡ shape u
+        → GoesAbove behind closes above new
+        → size (tree_in (trees_from [] ls) below) + size_of ls new < size
+        (item_of (trees_from [] ls) (shape t) (tree_in (trees_from [] ls) behind)) + size_of ls above
     below-less-of inside s closes e same up =
-        let a : size (unfolded ls x) ≡ size (tree_in (trees_from [] ls) below) = ap size (list-tree ls tied x below inside read) in
-        let b : size (item_of (trees_from [] ls) s (tree_in (trees_from [] ls) behind)) ≡ size (item_of (trees_from [] ls) (shape u) (tree_in (trees_from [] ls) behind)) = ap (λ (s : Shape). size (item_of (trees_from [] ls) s (tree_in (trees_from [] ls) behind))) same in
+        let a : size (unfolded ls x) ≡ size (tree_in (trees_from [] ls) below) =
+        ap size (list-tree ls tied x below inside read) in
+        let b : size (item_of (trees_from [] ls) s (tree_in (trees_from [] ls) behind))
+        ≡ size (item_of (trees_from [] ls) (shape u) (tree_in (trees_from [] ls) behind)) =
+        ap (λ (s : Shape). size (item_of (trees_from [] ls) s (tree_in (trees_from [] ls) behind))) same in
         omega (arith, a, b, e, up.larger ls, m.smaller (tree_in (trees_from [] ls) behind))
 
-    pub below-smaller : IsPart (shape u) (below_part x) → GoesAbove behind 0 above new → size (tree_in (trees_from [] ls) below) + size_of ls new < size (item_of (trees_from [] ls) (shape t) (tree_in (trees_from [] ls) behind)) + size_of ls above
+    pub below-smaller : IsPart (shape u) (below_part x) → GoesAbove behind 0 above new
+        → size (tree_in (trees_from [] ls) below) + size_of ls new < size
+        (item_of (trees_from [] ls) (shape t) (tree_in (trees_from [] ls) behind)) + size_of ls above
     below-smaller is up = below-less-of (below-inside is) (Below x) 0 refl (sym (below-ref (shape u) x is)) up
 
-    pub inner-smaller : IsPart (shape u) (inner_part x) → GoesAbove behind 1 above new → size (tree_in (trees_from [] ls) below) + size_of ls new < size (item_of (trees_from [] ls) (shape t) (tree_in (trees_from [] ls) behind)) + size_of ls above
+    pub inner-smaller : IsPart (shape u) (inner_part x) → GoesAbove behind 1 above new
+        → size (tree_in (trees_from [] ls) below) + size_of ls new < size
+        (item_of (trees_from [] ls) (shape t) (tree_in (trees_from [] ls) behind)) + size_of ls above
     inner-smaller is up = below-less-of (inner-inside is) (InnerBelow x) 1 refl (sym (inner-ref (shape u) x is)) up
 
 -- a list has ended, and the one above it goes on
-pub ahead-up : (ls : List (List Token)) (up : Above) (ups : List Above) (trims new : Trims) (all : List Item) → TrimsAhead ls [] (up ∷ ups) trims all
-    → ((given : List Item) → StandsFor trims given → StandsFor new (given ++ closing_of up.closes)) → TrimsAhead ls up.rest.now ups new all
+pub ahead-up : (ls : List (List Token)) (up : Above) (ups : List Above) (trims new : Trims) (all : List Item)
+    → TrimsAhead ls [] (up ∷ ups) trims all
+    → ((given : List Item) → StandsFor trims given → StandsFor new (given ++ closing_of up.closes))
+    → TrimsAhead ls up.rest.now ups new all
 ahead-up ls up ups trims new all w push = record {
   given = w.given ++ closing_of up.closes;
-  is = append_assoc w.given (closing_of up.closes) (flat (tree_in (trees_from [] ls) up.rest.now) ++ flat_above ls ups) ∙ w.is;
+  is = append_assoc w.given (closing_of up.closes) (flat (tree_in (trees_from [] ls) up.rest.now) ++ flat_above ls ups)
+      ∙ w.is;
   stands = push w.given w.stands;
   within = w.others.0;
   others = w.others.1;
 }
 
-pub ahead-popped : (ls : List (List Token)) (rest : List Token) (old ups : List Above) (up : Above) (trims new : Trims) (all : List Item) → TrimsAhead ls rest (reverse old) trims all
-    → length rest < 1 → old ≡ ups ++ up ∷ [] → ((given : List Item) → StandsFor trims given → StandsFor new (given ++ closing_of up.closes)) → TrimsAhead ls up.rest.now (reverse ups) new all
+pub ahead-popped : (ls : List (List Token)) (rest : List Token) (old ups : List Above) (up : Above) (trims new : Trims)
+    (all : List Item) → TrimsAhead ls rest (reverse old) trims all
+    → length rest < 1 → old ≡ ups ++ up ∷ []
+    → ((given : List Item) → StandsFor trims given → StandsFor new (given ++ closing_of up.closes))
+    → TrimsAhead ls up.rest.now (reverse ups) new all
 ahead-popped ls rest old ups up trims new all w none last push =
     ahead-up ls up (reverse ups) trims new all
     (subst (λ ts. TrimsAhead ls ts (up ∷ reverse ups) trims all) (none-is rest none)
     (subst (λ above. TrimsAhead ls rest above trims all) (last-first ups old up last) w)) push
 
-pub less-popped : (ls : List (List Token)) (rest : List Token) (old ups : List Above) (up : Above) → old ≡ ups ++ up ∷ []
-    → size (tree_in (trees_from [] ls) up.rest.now) + size_of ls (reverse ups) < size (tree_in (trees_from [] ls) rest) + size_of ls (reverse old)
+pub less-popped : (ls : List (List Token)) (rest : List Token) (old ups : List Above) (up : Above) → old ≡ ups
+    ++ up ∷ []
+    → size (tree_in (trees_from [] ls) up.rest.now) + size_of ls (reverse ups) < size (tree_in (trees_from [] ls) rest)
+    + size_of ls (reverse old)
 less-popped ls rest old ups up last =
-    let e : size_of ls (reverse old) ≡ 1 + (size (tree_in (trees_from [] ls) up.rest.now) + size_of ls (reverse ups)) = ap (size_of ls) (last-first ups old up last) in
+    let e : size_of ls (reverse old) ≡ 1 + (size (tree_in (trees_from [] ls) up.rest.now) + size_of ls (reverse ups)) =
+    ap (size_of ls) (last-first ups old up last) in
     omega (arith, e)
 
 -- all have ended
-pub ahead-end : (ls : List (List Token)) (trims : Trims) (all kept : List Item) → TrimsAhead ls [] [] trims all → ((given : List Item) → StandsFor trims given → kept ≡ trimmed given) → kept ≡ trimmed all
+pub ahead-end : (ls : List (List Token)) (trims : Trims) (all kept : List Item) → TrimsAhead ls [] [] trims all
+    → ((given : List Item) → StandsFor trims given → kept ≡ trimmed given) → kept ≡ trimmed all
 ahead-end ls trims all kept w done = done w.given w.stands ∙ ap trimmed (sym (append-nil w.given) ∙ w.is)
 
 -- a bracket closes
-pub closes-one : {E : Type 0} (closes : ℕ) (result : Result Unit E) (old new : Trims) → (closes ≡ 0 → ⊥) → OnOk result ((given : List Item) → StandsFor old given → StandsFor new (given ++ close_item ∷ []))
+pub closes-one : {E : Type 0} (closes : ℕ) (result : Result Unit E) (old new : Trims) → (closes ≡ 0 → ⊥)
+    → OnOk result ((given : List Item) → StandsFor old given → StandsFor new (given ++ close_item ∷ []))
     → OnOk result ((given : List Item) → StandsFor old given → StandsFor new (given ++ closing_of closes))
 closes-one zero result old new h k = absurd (h refl)
 closes-one (suc n) result old new h k = k

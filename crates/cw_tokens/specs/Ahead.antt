@@ -21,8 +21,10 @@ AboveWithin count (up ∷ ups) = ReferWithin count up.rest.now × AboveWithin co
 
 -- in the place of a token another gives the same items, and is no more to walk
 pub record MayStandFor (lists : List (List Token)) (token other : Token) : Type 0 where
-  pub same : (rest : Tree) → flat (item_of (trees_from [] lists) (shape other) rest) ≡ flat (item_of (trees_from [] lists) (shape token) rest)
-  pub smaller : (rest : Tree) → size (item_of (trees_from [] lists) (shape other) rest) ≤ size (item_of (trees_from [] lists) (shape token) rest)
+  pub same : (rest : Tree) → flat (item_of (trees_from [] lists) (shape other) rest)
+      ≡ flat (item_of (trees_from [] lists) (shape token) rest)
+  pub smaller : (rest : Tree) → size (item_of (trees_from [] lists) (shape other) rest) ≤ size
+      (item_of (trees_from [] lists) (shape token) rest)
   pub within : RefersWithin (length lists) other
 
 -- the brackets of so many inner texts that end together, of which there is one at most
@@ -33,7 +35,8 @@ closing_of (suc n) = close_item ∷ []
 -- what is to come of the lists above, the innermost first
 abbrev pub flat_above : List (List Token) → List Above → List Item
 flat_above lists [] = []
-flat_above lists (up ∷ ups) = closing_of up.closes ++ (flat (tree_in (trees_from [] lists) up.rest.now) ++ flat_above lists ups)
+flat_above lists (up ∷ ups) = closing_of up.closes ++ (flat (tree_in (trees_from [] lists) up.rest.now)
+    ++ flat_above lists ups)
 
 abbrev pub size_of : List (List Token) → List Above → ℕ
 size_of lists [] = 0
@@ -41,6 +44,8 @@ size_of lists (up ∷ ups) = 1 + (size (tree_in (trees_from [] lists) up.rest.no
 
 -- the rest of a list went above: it is to come before what stood there
 pub record GoesAbove (rest : List Token) (closes : ℕ) (old new : List Above) : Type 0 where
-  pub items : (lists : List (List Token)) → flat_above lists new ≡ closing_of closes ++ (flat (tree_in (trees_from [] lists) rest) ++ flat_above lists old)
-  pub larger : (lists : List (List Token)) → size_of lists new ≤ 1 + (size (tree_in (trees_from [] lists) rest) + size_of lists old)
+  pub items : (lists : List (List Token)) → flat_above lists new ≡ closing_of closes
+      ++ (flat (tree_in (trees_from [] lists) rest) ++ flat_above lists old)
+  pub larger : (lists : List (List Token))
+      → size_of lists new ≤ 1 + (size (tree_in (trees_from [] lists) rest) + size_of lists old)
   pub within : (count : ℕ) → ReferWithin count rest → AboveWithin count old → AboveWithin count new

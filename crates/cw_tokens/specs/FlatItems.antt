@@ -1,6 +1,8 @@
 -- A tree laid flat: the items that a call of `flat` gives, and how far the walk has come.
-use Rattle.std.specs.Prelude.{◌≡◌, ℕ, ◌+◌, ◌<◌, ◌≤◌, List, [], ◌∷◌, ◌++◌, length, map, Option, Some, None, drop, get_or, slice_get}
-use Rattle.cw_trees.specs.Flat.{Item, SourceItem, IdentItem, ReservedItem, SignItem, Open as open_item, Close as close_item, flat, leaf_item}
+use Rattle.std.specs.Prelude.{◌≡◌, ℕ, ◌+◌, ◌<◌, ◌≤◌, List, [], ◌∷◌, ◌++◌, length, map, Option, Some, None, drop, get_or}
+use Rattle.std.specs.Prelude.{slice_get}
+use Rattle.cw_trees.specs.Flat.{Item, SourceItem, IdentItem, ReservedItem, SignItem, Open as open_item}
+use Rattle.cw_trees.specs.Flat.{Close as close_item, flat, leaf_item}
 use Rattle.cw_tokens.specs.declared.token.Token.{Token}
 use Rattle.cw_tokens.specs.declared.flat.FlatItem.{FlatItem}
 use Rattle.cw_tokens.specs.declared.flat.FlatItem.TheVariants.{Source, Ident, Reserved, Control, Open, Close}
@@ -44,7 +46,8 @@ flat_from lists l p = flat (tree_in (trees_from [] lists) (drop p (get_or lists 
 -- what stands behind a list on the way up to the root
 abbrev pub to_come : (lists : List (List Token)) (root l : ℕ) → Reach lists root l → List Item
 to_come lists root l here = []
-to_come lists root m (next l p x e way) = closing_at (slice_get (get_or lists l []) p) ++ (flat_from lists l (p + 1) ++ to_come lists root l way)
+to_come lists root m (next l p x e way) = closing_at (slice_get (get_or lists l []) p)
+    ++ (flat_from lists l (p + 1) ++ to_come lists root l way)
 
 -- the items that were given and those still to come are all
 pub record Flattens (lists : List (List Token)) (root list place : ℕ) (given all : List Item) : Type 0 where

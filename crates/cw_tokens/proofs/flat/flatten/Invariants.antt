@@ -9,7 +9,8 @@ use Rattle.cw_tokens.proofs.Flattening.{ReadsFlat}
 use Rattle.cw_tokens.proofs.flat.flatten.Given as goal
 
 abbrev pub invariant-loop-place : goal.invariant-loop-place
-invariant-loop-place l = ReadsFlat (cut 0 l.ends l.tokens) l.root l.list l.place l.items (items_are l.out.items) (items_are l.initial.out.items ++ flat (unfolded (cut 0 l.ends l.tokens) l.root))
+invariant-loop-place l = ReadsFlat (cut 0 l.ends l.tokens) l.root l.list l.place l.items (items_are l.out.items)
+    (items_are l.initial.out.items ++ flat (unfolded (cut 0 l.ends l.tokens) l.root))
 
 abbrev pub decreases-loop-place : goal.decreases-loop-place
 decreases-loop-place l =

@@ -9,7 +9,8 @@ use Rattle.cw_tokens.proofs.TrimmedWalk.{TrimsAhead}
 use Rattle.cw_tokens.proofs.flat.flatten_trimmed.Given as goal
 
 abbrev pub invariant-loop-rest : goal.invariant-loop-rest
-invariant-loop-rest l = TrimsAhead (cut 0 l.ends l.tokens) l.rest (reverse l.above.items) l.out (flat (unfolded (cut 0 l.ends l.tokens) l.root))
+invariant-loop-rest l = TrimsAhead (cut 0 l.ends l.tokens) l.rest (reverse l.above.items) l.out
+    (flat (unfolded (cut 0 l.ends l.tokens) l.root))
 
 abbrev pub decreases-loop-rest : goal.decreases-loop-rest
 decreases-loop-rest l =

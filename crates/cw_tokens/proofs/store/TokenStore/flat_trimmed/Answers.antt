@@ -9,4 +9,5 @@ flatten_trimmed-requires-clause-root c =
     rw c.deref-2.ensures.value k.in_ends
 
 pub flatten_trimmed-requires-clause-tied : goal.flatten_trimmed-requires-clause-tied
-flatten_trimmed-requires-clause-tied c = rw (c.deref.ensures.value, c.deref-2.ensures.value) (linked-tied _ _ (linked-lists _ _ _ c.self.invariant.linked))
+flatten_trimmed-requires-clause-tied c = rw (c.deref.ensures.value, c.deref-2.ensures.value)
+    (linked-tied _ _ (linked-lists _ _ _ c.self.invariant.linked))
