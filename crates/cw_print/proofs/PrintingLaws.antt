@@ -1,7 +1,9 @@
 -- The printing of a list, item by item: what was printed, and what may still come.
-use Rattle.std.proofs.Common.{◌≡◌, ℕ, suc, ◌+◌, ◌<◌, ◌≤◌, Bool, Option, Some, None, Err, Ok, List, [], ◌∷◌, ◌++◌, length, take, drop, slice_get, refl, ap, sym, ◌∙◌, subst, arith}
+use Rattle.std.proofs.Common.{◌≡◌, ℕ, suc, ◌+◌, ◌<◌, ◌≤◌, Bool, Option, Some, None, Err, Ok, List, [], ◌∷◌, ◌++◌}
+use Rattle.std.proofs.Common.{length, take, drop, slice_get, refl, ap, sym, ◌∙◌, subst, arith}
 use Rattle.std.specs.Prelude.{Result, IsErrAnd, ⊤, option_map}
-use Rattle.std.proofs.lemmas.List.{append-nil, append_assoc, drop_all, drop_more, length-map, take-append-drop, take_all, take_more}
+use Rattle.std.proofs.lemmas.List.{append-nil, append_assoc, drop_all, drop_more, length-map, take-append-drop}
+use Rattle.std.proofs.lemmas.List.{take_all, take_more}
 use Rattle.std.proofs.lemmas.List.Sums.{fold_push}
 use Rattle.std.proofs.lemmas.Option.{get_or_from_slice_get, slice_get-map, slice_get_within}
 use Rattle.cw_desk.specs.Told.{Told}
@@ -32,12 +34,14 @@ use Rattle.cw_print.proofs.ShownLaws.{own-alone, placed-run, shown-append, stand
 -- Memory was refused before anything was written.
 pub puts-nothing : {U : Type 0} (bytes : List ℕ) (line : LineState) (told : Told) {result : Result U PutError}
     → IsErrAnd result (λ found. found ≡ Memory) → Puts bytes line line told told result
-puts-nothing bytes line told is = puts-failed Memory (fill line.line bytes) refl refl is (adds-nothing _ told is (λ e. absurd (cc)))
+puts-nothing bytes line told is = puts-failed Memory (fill line.line bytes) refl refl is
+    (adds-nothing _ told is (λ e. absurd (cc)))
 
 -- the bytes were put, whatever the call answered
 pub has-put : {T : Type 0} {bytes : List ℕ} {old new : LineState} {before now : Told} {value : T}
     → Puts {T = T} bytes old new before now (Ok value) → HasPut bytes old new before now
-has-put {bytes = bytes} {new = new} {now = now} puts = puts-bytes (append-nil bytes) (puts-then puts (puts-none new now (tt {0})))
+has-put {bytes = bytes} {new = new} {now = now} puts =
+    puts-bytes (append-nil bytes) (puts-then puts (puts-none new now (tt {0})))
 
 -- Memory is refused, and nothing more is written.
 puts-refused : (bytes : List ℕ) {line : LineState} {told : Told} → Puts {T = ⊤} bytes line line told told (Err Memory)
@@ -46,17 +50,20 @@ puts-refused bytes {line = line} {told = told} = puts-nothing bytes line told re
 -- ## What is printed
 
 -- one item more
-pub shown-more : (s : Source) (items : List Item) (item : Item) → shown s (items ++ item ∷ []) ≡ shown s items ++ shown_next s items item ∷ []
+pub shown-more : (s : Source) (items : List Item) (item : Item) → shown s (items ++ item ∷ []) ≡ shown s items
+    ++ shown_next s items item ∷ []
 shown-more s items item = shown-append s items (item ∷ []) outside
 
 early-more : (inner : Bool) (s : Source) (items : List Item) (item : Item)
-    → early inner (shown s items) ++ added inner (shown s items) (shown_next s items item) ≡ early inner (shown s (items ++ item ∷ []))
+    → early inner (shown s items) ++ added inner (shown s items) (shown_next s items item)
+    ≡ early inner (shown s (items ++ item ∷ []))
 early-more inner s items item =
     sym (early-added inner (shown s items) (shown_next s items item)) ∙ ap (early inner) (sym (shown-more s items item))
 
 -- ## One item
 
-module _ (s : Source) (inner : Bool) (items : List Item) (printer : Printer) (b : IsBehind s inner items printer) (item : FlatItem)
+module _ (s : Source) (inner : Bool) (items : List Item) (printer : Printer) (b : IsBehind s inner items printer)
+    (item : FlatItem)
     (title : Option Title) (titled : title ≡ title_in (titles printer.book.now) (item_is item)) where
   same-title : title ≡ title_in s.titles (item_is item)
   same-title = titled ∙ ap (λ (t : ℕ → Option Title). title_in t (item_is item)) b.titles
@@ -71,7 +78,8 @@ module _ (s : Source) (inner : Bool) (items : List Item) (printer : Printer) (b 
   added_with bytes = added printer.joiner.inner (shown s items) (record { item = item_is item; bytes = bytes })
 
   -- what it prints by where it stands comes behind what the joiner prints of it
-  placed-behind : (sign : Option Control) → run_sign (item_is item) ≡ sign → added_with own ++ placed ≡ added_with (own ++ placed)
+  placed-behind : (sign : Option Control) → run_sign (item_is item) ≡ sign → added_with own ++ placed
+      ≡ added_with (own ++ placed)
   placed-behind None is = sym (added-behind printer.joiner.inner (shown s items) (item_is item) own placed is)
   placed-behind (Some control) is =
       let none : placed ≡ [] = placed-run printer.walk.fixed title item printer.walk.stand control is in
@@ -85,10 +93,12 @@ module _ (s : Source) (inner : Bool) (items : List Item) (printer : Printer) (b 
       ∙ placed-behind (run_sign (item_is item)) refl
       ∙ (λ i. added (b.same_inner i) (shown s items) (record {
         item = item_is item;
-        bytes = own_bytes (b.names i) (item_is item) ++ (placed_shown (b.fixed i) (same-title i) (item_is item) (b.stand i)).bytes;
+        bytes = own_bytes (b.names i) (item_is item)
+            ++ (placed_shown (b.fixed i) (same-title i) (item_is item) (b.stand i)).bytes;
       }))
 
-  pub next-appended : (before mid after : List ℕ) → mid ≡ before ++ added printer.joiner.inner (shown s items) (alone printer.book.now.names item)
+  pub next-appended : (before mid after : List ℕ) → mid ≡ before
+      ++ added printer.joiner.inner (shown s items) (alone printer.book.now.names item)
       → after ≡ mid ++ placed → after ≡ before ++ added inner (shown s items) (shown_next s items (item_is item))
   next-appended before mid after by_joiner by_place =
       by_place ∙ ap (λ (l : List ℕ). l ++ placed) by_joiner
@@ -96,14 +106,17 @@ module _ (s : Source) (inner : Bool) (items : List Item) (printer : Printer) (b 
       ∙ ap (λ (l : List ℕ). before ++ l) next-added
 
   -- where the printing stands behind it
-  pub next-stand : (placed_shown printer.walk.fixed title (item_is item) printer.walk.stand).stand ≡ stand_after s (items ++ item_is item ∷ []) outside
+  pub next-stand : (placed_shown printer.walk.fixed title (item_is item) printer.walk.stand).stand
+      ≡ stand_after s (items ++ item_is item ∷ []) outside
   next-stand =
-      (λ i. (placed_shown (b.fixed i) (same-title i) (item_is item) (b.stand i)).stand) ∙ sym (stand-more s items (item_is item) outside)
+      (λ i. (placed_shown (b.fixed i) (same-title i) (item_is item) (b.stand i)).stand)
+      ∙ sym (stand-more s items (item_is item) outside)
 
   -- the printer stands behind it where its walk and its joiner do
   pub next-behind : (next : Printer) → titles next.book.now ≡ s.titles → next.book.now.names ≡ s.names
       → next.walk ≡ behind printer.walk (placed_shown printer.walk.fixed title (item_is item) printer.walk.stand)
-      → next.joiner.inner ≡ printer.joiner.inner → Stands next.joiner (shown s items ++ shown_next s items (item_is item) ∷ [])
+      → next.joiner.inner ≡ printer.joiner.inner
+      → Stands next.joiner (shown s items ++ shown_next s items (item_is item) ∷ [])
       → IsBehind s inner (items ++ item_is item ∷ []) next
   next-behind next same_titles same_names walk same_inner stands = record {
     titles = same_titles;
@@ -122,29 +135,37 @@ record BeginsEarly (inner : Bool) (ps all : List Printable) : Type 0 where
   pub is : early inner all ≡ early inner ps ++ rest
 
 begins-early : (inner : Bool) (ps qs : List Printable) → BeginsEarly inner ps (ps ++ qs)
-begins-early inner ps [] = record { rest = []; is = ap (early inner) (append-nil ps) ∙ sym (append-nil (early inner ps)) }
+begins-early inner ps [] = record {
+  rest = [];
+  is = ap (early inner) (append-nil ps)
+      ∙ sym (append-nil (early inner ps));
+}
 begins-early inner ps (q ∷ qs) =
     let more : BeginsEarly inner (ps ++ q ∷ []) ((ps ++ q ∷ []) ++ qs) = begins-early inner (ps ++ q ∷ []) qs in
     record {
       rest = added inner ps q ++ more.rest;
       is =
           ap (early inner) (sym (append_assoc ps (q ∷ []) qs)) ∙ more.is
-          ∙ ap (λ (l : List ℕ). l ++ more.rest) (early-added inner ps q) ∙ append_assoc (early inner ps) (added inner ps q) more.rest;
+          ∙ ap (λ (l : List ℕ). l ++ more.rest) (early-added inner ps q)
+          ∙ append_assoc (early inner ps) (added inner ps q) more.rest;
     }
 
 pub printed-by : (inner : Bool) (ps : List Printable) → early inner ps ++ late inner ps ≡ printed inner ps
 printed-by inner ps = sym (printed-list inner ps ∙ printed-is inner ps)
 
 -- a failure in the first n items is one in the list
-pub puts-part : {T U : Type 0} (inner : Bool) (s : Source) (items : List Item) (n : ℕ) {old new : LineState} {before now : Told} {error : PutError}
+pub puts-part : {T U : Type 0} (inner : Bool) (s : Source) (items : List Item) (n : ℕ) {old new : LineState}
+    {before now : Told} {error : PutError}
     {result : Result U PutError} → Puts {T = T} (early inner (shown s (take n items))) old new before now (Err error)
     → IsErrAnd result (λ found. found ≡ error) → Puts (printed inner (shown s items)) old new before now result
 puts-part inner s items n begun is =
-    let parts : shown s items ≡ shown s (take n items) ++ items_shown s (drop n items) (stand_after s (take n items) outside) =
+    let parts : shown s items ≡ shown s (take n items)
+    ++ items_shown s (drop n items) (stand_after s (take n items) outside) =
     ap (shown s) (sym (take-append-drop n items)) ∙ shown-append s (take n items) (drop n items) outside in
     let first : BeginsEarly inner (shown s (take n items)) (shown s items) =
     subst (λ (all : List Printable). BeginsEarly inner (shown s (take n items)) all) (sym parts)
-    (begins-early inner (shown s (take n items)) (items_shown s (drop n items) (stand_after s (take n items) outside))) in
+    (begins-early inner (shown s (take n items))
+    (items_shown s (drop n items) (stand_after s (take n items) outside))) in
     puts-bytes
     (sym (append_assoc (early inner (shown s (take n items))) first.rest (late inner (shown s items)))
     ∙ ap (λ (l : List ℕ). l ++ late inner (shown s items)) (sym first.is)
@@ -162,11 +183,13 @@ module _ (items : List FlatItem) (i : ℕ) (item : FlatItem) (is : slice_get ite
 
   pub taken : take (i + 1) (items_are items) ≡ take i (items_are items) ++ item_is item ∷ []
   taken = take_more (items_are items) i (item_is item) inside
-      ∙ ap (λ (x : Item). take i (items_are items) ++ x ∷ []) (get_or_from_slice_get (items_are items) i (item_is item) (item_is item) there)
+      ∙ ap (λ (x : Item). take i (items_are items)
+      ++ x ∷ []) (get_or_from_slice_get (items_are items) i (item_is item) (item_is item) there)
 
   dropped : drop i (items_are items) ≡ item_is item ∷ drop (i + 1) (items_are items)
   dropped = drop_more (items_are items) i (item_is item) inside
-      ∙ ap (λ (x : Item). x ∷ drop (i + 1) (items_are items)) (get_or_from_slice_get (items_are items) i (item_is item) (item_is item) there)
+      ∙ ap (λ (x : Item). x ∷ drop (i + 1) (items_are items)) (get_or_from_slice_get (items_are items) i (item_is item)
+      (item_is item) there)
 
   module _ (s : Source) (inner : Bool) (printer : Printer) (midway : Midway s inner (items_are items) i printer) where
     abbrev depth : ℕ
@@ -195,38 +218,48 @@ module _ (items : List FlatItem) (i : ℕ) (item : FlatItem) (is : slice_get ite
         let shallow : depth ≤ i = midway.shallow in
         record {
           behind = subst (λ (l : List Item). IsBehind s inner l next) (sym taken) behind;
-          come = subst (λ (d : ℕ). AllMay (MayCome (length s.names)) d (drop (i + 1) (items_are items))) (sym deeper) coming.1;
+          come = subst (λ (d : ℕ). AllMay (MayCome (length s.names)) d (drop (i + 1) (items_are items))) (sym deeper)
+              coming.1;
           shallow = subst (λ (d : ℕ). d ≤ i + 1) (sym deeper) (omega arith);
         }
 
 -- What is put and what waits are what the first i items print early.
-pub record Waiting (inner : Bool) (s : Source) (items : List Item) (i : ℕ) (buffer : List ℕ) (old new : LineState) (before now : Told) : Type 0 where
+pub record Waiting (inner : Bool) (s : Source) (items : List Item) (i : ℕ) (buffer : List ℕ) (old new : LineState)
+    (before now : Told) : Type 0 where
   pub done : List ℕ
   pub put : HasPut done old new before now
   pub all : done ++ buffer ≡ early inner (shown s (take i items))
 
 -- the items up to a place were printed, of those from another on
 abbrev pub Printed : (items : List Item) (from i : ℕ) (first printer : Printer) (old new : List ℕ) → Type 0
-Printed items from i first printer old new = (s : Source) (inner : Bool) → Midway s inner items from first → Midway s inner items i printer × PrintsOn s inner items from i old new
+Printed items from i first printer old new = (s : Source) (inner : Bool) → Midway s inner items from first
+    → Midway s inner items i printer × PrintsOn s inner items from i old new
 
-pub printed-none : (items : List Item) (from : ℕ) (printer : Printer) (old : List ℕ) → Printed items from from printer printer old old
+pub printed-none : (items : List Item) (from : ℕ) (printer : Printer) (old : List ℕ)
+    → Printed items from from printer printer old old
 printed-none items from printer old = λ s inner m. (m, λ done e. e)
 
-module _ (items : List FlatItem) (i : ℕ) (item : FlatItem) (is : slice_get items i ≡ Some item) (from : ℕ) (first printer : Printer) (old buffer : List ℕ)
+module _ (items : List FlatItem) (i : ℕ) (item : FlatItem) (is : slice_get items i
+    ≡ Some item) (from : ℕ) (first printer : Printer) (old buffer : List ℕ)
     (printed_so : Printed (items_are items) from i first printer old buffer) where
   -- the next item may come
-  pub printed-comes : IsMidway (items_are items) from first → i < 18446744073709551615 → CanCome (length printer.book.now.names) printer.joiner.depth item
-  printed-comes some small = next-comes items i item is some.s some.inner printer (printed_so some.s some.inner some.midway).0 small
+  pub printed-comes : IsMidway (items_are items) from first → i < 18446744073709551615
+      → CanCome (length printer.book.now.names) printer.joiner.depth item
+  printed-comes some small = next-comes items i item is some.s some.inner printer
+      (printed_so some.s some.inner some.midway).0 small
 
   -- one item more
   pub printed-more : (next : Printer) (new : List ℕ)
-      → ((s : Source) (inner : Bool) (before : List Item) → IsBehind s inner before printer → new ≡ buffer ++ added inner (shown s before) (shown_next s before (item_is item)))
-      → ((s : Source) (inner : Bool) (before : List Item) → IsBehind s inner before printer → IsBehind s inner (before ++ item_is item ∷ []) next)
+      → ((s : Source) (inner : Bool) (before : List Item) → IsBehind s inner before printer → new ≡ buffer
+      ++ added inner (shown s before) (shown_next s before (item_is item)))
+      → ((s : Source) (inner : Bool) (before : List Item) → IsBehind s inner before printer
+      → IsBehind s inner (before ++ item_is item ∷ []) next)
       → Printed (items_are items) from (i + 1) first next old new
   printed-more next new bytes behind = λ s inner m.
       let k = printed_so s inner m in
       let before : List Item = take i (items_are items) in
-      let one : List ℕ = added inner (shown s (take i (items_are items))) (shown_next s (take i (items_are items)) (item_is item)) in (
+      let one : List ℕ = added inner (shown s (take i (items_are items)))
+      (shown_next s (take i (items_are items)) (item_is item)) in (
         midway-next items i item is s inner printer k.0 next (behind s inner before k.0.behind),
         λ done e.
             ap (λ (l : List ℕ). done ++ l) (bytes s inner before k.0.behind) ∙ sym (append_assoc done buffer one)
@@ -236,7 +269,9 @@ module _ (items : List FlatItem) (i : ℕ) (item : FlatItem) (is : slice_get ite
       )
 
 -- all items up to the last place are printed
-module _ (items : List Item) (from i to : ℕ) (first printer : Printer) (old new : List ℕ) (printed_so : Printed items from i first printer old new) (is : i ≡ to) (s : Source) (inner : Bool) (m : Midway s inner items from first) where
+module _ (items : List Item) (from i to : ℕ) (first printer : Printer) (old new : List ℕ)
+    (printed_so : Printed items from i first printer old new) (is : i ≡ to) (s : Source) (inner : Bool)
+    (m : Midway s inner items from first) where
   pub printed-midway : Midway s inner items to printer
   printed-midway = subst (λ (n : ℕ). Midway s inner items n printer) is (printed_so s inner m).0
 
@@ -244,13 +279,17 @@ module _ (items : List Item) (from i to : ℕ) (first printer : Printer) (old ne
   printed-bytes = subst (λ (n : ℕ). PrintsOn s inner items from n old new) is (printed_so s inner m).1
 
 -- more waits
-pub waits-on : (inner : Bool) (s : Source) (items : List Item) (from to : ℕ) (buffer more : List ℕ) {old new : LineState} {before now : Told}
-    → Waiting inner s items from buffer old new before now → PrintsOn s inner items from to buffer more → Waiting inner s items to more old new before now
+pub waits-on : (inner : Bool) (s : Source) (items : List Item) (from to : ℕ) (buffer more : List ℕ)
+    {old new : LineState} {before now : Told}
+    → Waiting inner s items from buffer old new before now → PrintsOn s inner items from to buffer more
+    → Waiting inner s items to more old new before now
 waits-on inner s items from to buffer more w prints = record { done = w.done; put = w.put; all = prints w.done w.all }
 
 -- what waits is put
-pub waits-none : (inner : Bool) (s : Source) (items : List Item) (i : ℕ) (buffer left : List ℕ) {old mid new : LineState} {a b c : Told}
-    → Waiting inner s items i buffer old mid a b → HasPut buffer mid new b c → left ≡ [] → Waiting inner s items i left old new a c
+pub waits-none : (inner : Bool) (s : Source) (items : List Item) (i : ℕ) (buffer left : List ℕ)
+    {old mid new : LineState} {a b c : Told}
+    → Waiting inner s items i buffer old mid a b → HasPut buffer mid new b c → left ≡ []
+    → Waiting inner s items i left old new a c
 waits-none inner s items i buffer left w put none = record {
   done = w.done ++ buffer;
   put = has-put (puts-then w.put put);
@@ -258,17 +297,21 @@ waits-none inner s items i buffer left w put none = record {
 }
 
 -- memory is refused while bytes wait
-pub stops-waiting : {U : Type 0} (inner : Bool) (s : Source) (items : List Item) (i : ℕ) (buffer : List ℕ) {old new : LineState} {before now : Told}
+pub stops-waiting : {U : Type 0} (inner : Bool) (s : Source) (items : List Item) (i : ℕ) (buffer : List ℕ)
+    {old new : LineState} {before now : Told}
     {result : Result U PutError} → Waiting inner s items i buffer old new before now
     → IsErrAnd result (λ found. found ≡ Memory) → Puts (printed inner (shown s items)) old new before now result
 stops-waiting inner s items i buffer w is =
     puts-part inner s items i (puts-bytes w.all (puts-then w.put (puts-refused buffer))) is
 
 -- what waits is put, and fails
-pub fails-waiting : {T U : Type 0} (inner : Bool) (s : Source) (items : List Item) (i : ℕ) (buffer : List ℕ) {old mid new : LineState} {a b c : Told}
-    {error : PutError} {result : Result U PutError} → Waiting inner s items i buffer old mid a b → Puts {T = T} buffer mid new b c (Err error)
+pub fails-waiting : {T U : Type 0} (inner : Bool) (s : Source) (items : List Item) (i : ℕ) (buffer : List ℕ)
+    {old mid new : LineState} {a b c : Told}
+    {error : PutError} {result : Result U PutError} → Waiting inner s items i buffer old mid a b
+    → Puts {T = T} buffer mid new b c (Err error)
     → IsErrAnd result (λ found. found ≡ error) → Puts (printed inner (shown s items)) old new a c result
-fails-waiting inner s items i buffer w failed is = puts-part inner s items i (puts-bytes w.all (puts-then w.put failed)) is
+fails-waiting inner s items i buffer w failed is = puts-part inner s items i (puts-bytes w.all (puts-then w.put failed))
+    is
 
 -- ## The beginning and the end
 
@@ -281,21 +324,25 @@ module _ (items : List FlatItem) (n : ℕ) (all : length items ≤ n) where
   short = let same = length-map items item_is in omega arith
 
   -- no inner text is open at the end
-  pub midway-ended : (s : Source) (inner : Bool) (printer : Printer) → Midway s inner (items_are items) n printer → printer.joiner.depth ≡ 0
+  pub midway-ended : (s : Source) (inner : Bool) (printer : Printer) → Midway s inner (items_are items) n printer
+      → printer.joiner.depth ≡ 0
   midway-ended s inner printer midway =
       midway.behind.stands.depth
-      ∙ subst (λ (rest : List Item). AllMay (MayCome (length s.names)) (depth_behind (shown s (take n (items_are items)))) rest)
+      ∙ subst (λ (rest : List Item). AllMay (MayCome (length s.names))
+      (depth_behind (shown s (take n (items_are items)))) rest)
       (drop_all n (items_are items) short) midway.come
 
   -- what waits, and what is left
-  pub puts-all : {U : Type 0} (inner : Bool) (s : Source) (buffer rest : List ℕ) {old mid new : LineState} {a b c : Told} {result : Result U PutError}
+  pub puts-all : {U : Type 0} (inner : Bool) (s : Source) (buffer rest : List ℕ) {old mid new : LineState}
+      {a b c : Told} {result : Result U PutError}
       → Waiting inner s (items_are items) n buffer old mid a b
       → rest ≡ buffer ++ late inner (shown s (take n (items_are items)))
       → Puts rest mid new b c result
       → Puts (printed inner (shown s (items_are items))) old new a c result
   puts-all inner s buffer rest w left put =
       puts-bytes
-      (ap (λ (l : List ℕ). w.done ++ l) left ∙ sym (append_assoc w.done buffer (late inner (shown s (take n (items_are items)))))
+      (ap (λ (l : List ℕ). w.done ++ l) left
+      ∙ sym (append_assoc w.done buffer (late inner (shown s (take n (items_are items)))))
       ∙ ap (λ (l : List ℕ). l ++ late inner (shown s (take n (items_are items)))) w.all
       ∙ printed-by inner (shown s (take n (items_are items)))
       ∙ ap (λ (l : List Item). printed inner (shown s l)) (take_all n (items_are items) short))

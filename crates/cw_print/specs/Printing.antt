@@ -50,4 +50,5 @@ pub record IsMidway (items : List Item) (i : ℕ) (printer : Printer) : Type 0 w
 
 -- Bytes that end what the items up to one place print early have become those that end what the items up to another do.
 abbrev pub PrintsOn : Source → Bool → List Item → ℕ → ℕ → List ℕ → List ℕ → Type 0
-PrintsOn s inner items from to old new = (done : List ℕ) → done ++ old ≡ early inner (shown s (take from items)) → done ++ new ≡ early inner (shown s (take to items))
+PrintsOn s inner items from to old new = (done : List ℕ) → done ++ old ≡ early inner (shown s (take from items)) → done
+    ++ new ≡ early inner (shown s (take to items))

@@ -21,15 +21,18 @@ returns-in_err-items g c = record { puts = puts-nothing _ _ _ c.from_residual.en
 pub text-requires : goal.text-requires
 text-requires g c =
     only-named (length c.args.book.now.names) c.in-Some.name c.in_ok-items.items c.in-Some.ensures
-    (subst (λ (items : List Item). AllMay (MayCome (length c.args.book.now.names)) 0 items) (sym c.in_ok-items.ensures.items)
+    (subst (λ (items : List Item). AllMay (MayCome (length c.args.book.now.names)) 0 items)
+    (sym c.in_ok-items.ensures.items)
     (trimmed-may (length c.args.book.now.names) (unfolded c.args.store.now.lists c.args.id.index) c.requires.named))
 
 pub returns-in-Some : goal.returns-in-Some
 returns-in-Some g c =
-    let s : Source = source c.args.text.now c.args.span c.args.mode c.args.book.now c.args.section c.args.flags.now.wrap in
+    let s : Source = source c.args.text.now c.args.span c.args.mode c.args.book.now c.args.section
+    c.args.flags.now.wrap in
     record {
       puts = puts-bytes
-          ((λ i. wrapped (c.is_wrapped-wraps.ensures i) (ident_bytes (text-is c.args.book.now.names c.in-Some.name.index c.text.result.now c.text.ensures i)))
+          ((λ i. wrapped (c.is_wrapped-wraps.ensures i)
+          (ident_bytes (text-is c.args.book.now.names c.in-Some.name.index c.text.result.now c.text.ensures i)))
           ∙ ap (wrapped (c.args.inner && c.args.flags.now.wrap))
           (sym (only-printed c.args.inner s c.in-Some.name c.in_ok-items.items c.in-Some.ensures)
           ∙ ap (λ (items : List Item). printed c.args.inner (shown s items)) c.in_ok-items.ensures.items))
@@ -38,14 +41,17 @@ returns-in-Some g c =
 
 pub print_items-requires-clause-come : goal.print_items-requires-clause-come
 print_items-requires-clause-come g c =
-    subst (λ (items : List Item). AllMay (MayCome (length c.args.book.now.names)) 0 items) (sym c.in_ok-items.ensures.items)
+    subst (λ (items : List Item). AllMay (MayCome (length c.args.book.now.names)) 0 items)
+    (sym c.in_ok-items.ensures.items)
     (trimmed-may (length c.args.book.now.names) (unfolded c.args.store.now.lists c.args.id.index) c.requires.named)
 
 pub returns-in_err-put_bracket : goal.returns-in_err-put_bracket
 returns-in_err-put_bracket g c =
-    let s : Source = source c.args.text.now c.args.span c.args.mode c.args.book.now c.args.section c.args.flags.now.wrap in
+    let s : Source = source c.args.text.now c.args.span c.args.mode c.args.book.now c.args.section
+    c.args.flags.now.wrap in
     let tree : Tree = unfolded c.args.store.now.lists c.args.id.index in
-    let later : List ℕ = printed c.args.inner (shown s (trimmed (flat tree))) ++ bracket (c.args.inner && c.args.flags.now.wrap) (codes "}") in
+    let later : List ℕ = printed c.args.inner (shown s (trimmed (flat tree)))
+    ++ bracket (c.args.inner && c.args.flags.now.wrap) (codes "}") in
     record {
       puts = puts-failing (ap (λ (b : Bool). bracket b (codes "\\PB{") ++ later) c.is_wrapped-wraps.ensures)
           (puts-longer later c.in_err-put_bracket.ensures) c.from_residual-in_err-put_bracket.ensures.1;
@@ -53,23 +59,28 @@ returns-in_err-put_bracket g c =
 
 pub returns-in_err-print_items : goal.returns-in_err-print_items
 returns-in_err-print_items g c =
-    let s : Source = source c.args.text.now c.args.span c.args.mode c.args.book.now c.args.section c.args.flags.now.wrap in
+    let s : Source = source c.args.text.now c.args.span c.args.mode c.args.book.now c.args.section
+    c.args.flags.now.wrap in
     let tree : Tree = unfolded c.args.store.now.lists c.args.id.index in
     let wraps : Bool = c.args.inner && c.args.flags.now.wrap in
     record {
       puts = puts-failing
-          ((λ i. (bracket (c.is_wrapped-wraps.ensures i) (codes "\\PB{") ++ printed c.args.inner (shown s (c.in_ok-items.ensures.items i))) ++ bracket wraps (codes "}"))
-          ∙ append_assoc (bracket wraps (codes "\\PB{")) (printed c.args.inner (shown s (trimmed (flat tree)))) (bracket wraps (codes "}")))
+          ((λ i. (bracket (c.is_wrapped-wraps.ensures i) (codes "\\PB{")
+          ++ printed c.args.inner (shown s (c.in_ok-items.ensures.items i))) ++ bracket wraps (codes "}"))
+          ∙ append_assoc (bracket wraps (codes "\\PB{")) (printed c.args.inner (shown s (trimmed (flat tree))))
+          (bracket wraps (codes "}")))
           (puts-longer (bracket wraps (codes "}")) (puts-then c.in_ok-put_bracket.ensures c.in_err-print_items.ensures))
           c.from_residual-in_err-print_items.ensures.1;
     }
 
 pub returns : goal.returns
 returns g c =
-    let s : Source = source c.args.text.now c.args.span c.args.mode c.args.book.now c.args.section c.args.flags.now.wrap in
+    let s : Source = source c.args.text.now c.args.span c.args.mode c.args.book.now c.args.section
+    c.args.flags.now.wrap in
     record {
       puts = puts-bytes
           (λ i. bracket (c.is_wrapped-wraps.ensures i) (codes "\\PB{")
-          ++ (printed c.args.inner (shown s (c.in_ok-items.ensures.items i)) ++ bracket (c.is_wrapped-wraps.ensures i) (codes "}")))
+          ++ (printed c.args.inner (shown s (c.in_ok-items.ensures.items i))
+          ++ bracket (c.is_wrapped-wraps.ensures i) (codes "}")))
           (puts-then c.in_ok-put_bracket.ensures (puts-then c.in_ok-print_items.ensures c.put_bracket-2.ensures));
     }

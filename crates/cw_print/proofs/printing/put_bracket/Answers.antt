@@ -5,7 +5,8 @@ use Rattle.cw_print.specs.Walk.{bracket}
 use Rattle.cw_print.proofs.printing.put_bracket.Goals as goal
 
 pub returns-then-wraps : goal.returns-then-wraps
-returns-then-wraps g c = puts-bytes (ap (λ (b : Bool). bracket b c.args.bytes.now) (sym c.if-wraps.true)) c.put_all.ensures.puts
+returns-then-wraps g c = puts-bytes (ap (λ (b : Bool). bracket b c.args.bytes.now) (sym c.if-wraps.true))
+    c.put_all.ensures.puts
 
 pub returns : goal.returns
 returns g c =

@@ -17,7 +17,8 @@ returns-clause-bytes c = λ s inner items b.
 pub returns-clause-behind : goal.returns-clause-behind
 returns-clause-behind c = λ s inner items b.
     on_ok_weaker c.show_control.result
-    (λ walk. next-behind s inner items c.args.self.now b (flat_item.Control c.args.control) None refl _ b.titles b.names walk
+    (λ walk. next-behind s inner items c.args.self.now b (flat_item.Control c.args.control) None refl _ b.titles b.names
+    walk
     c.in_ok-append.ensures.inner (c.in_ok-append.ensures.stands (shown s items)
     (shown_next s items (item_is (flat_item.Control c.args.control))) b.stands refl))
     c.show_control.ensures.stand

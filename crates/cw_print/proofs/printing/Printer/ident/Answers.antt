@@ -15,6 +15,7 @@ returns-clause-bytes c = λ s inner items b.
 
 pub returns-clause-behind : goal.returns-clause-behind
 returns-clause-behind c = λ s inner items b.
-    next-behind s inner items c.args.self.now b (flat_item.Ident c.args.name c.args.number) None refl _ b.titles b.names refl
+    next-behind s inner items c.args.self.now b (flat_item.Ident c.args.name c.args.number) None refl _ b.titles b.names
+    refl
     c.in_ok-append.ensures.inner (c.in_ok-append.ensures.stands (shown s items)
     (shown_next s items (item_is (flat_item.Ident c.args.name c.args.number))) b.stands refl)

@@ -18,5 +18,6 @@ pub returns-clause-behind : goal.returns-clause-behind
 returns-clause-behind c = λ s inner items b.
     on_ok_weaker c.put_bracket.result
     (λ _done. next-behind s inner items c.args.self.now b flat_item.Open None refl _ b.titles b.names refl
-    c.in_ok-append.ensures.inner (c.in_ok-append.ensures.stands (shown s items) (shown_next s items (item_is flat_item.Open)) b.stands refl))
+    c.in_ok-append.ensures.inner (c.in_ok-append.ensures.stands (shown s items)
+    (shown_next s items (item_is flat_item.Open)) b.stands refl))
     c.put_bracket.ensures

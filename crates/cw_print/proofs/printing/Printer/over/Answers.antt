@@ -10,7 +10,8 @@ returns c = record {
   names = refl;
   fixed = λ i. record {
     answers = (c.over.ensures.answers
-        ∙ until-none (tokens_of c.args.c.text.now c.args.c.span.start c.args.c.span.«end» c.args.c.mode) c.requires.uncut) i;
+        ∙ until-none (tokens_of c.args.c.text.now c.args.c.span.start c.args.c.span.«end» c.args.c.mode)
+        c.requires.uncut) i;
     wraps = c.over.ensures.wraps i;
     first = (c.over.ensures.first ∙ c.is_first.ensures) i;
   };
