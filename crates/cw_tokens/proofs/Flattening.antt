@@ -1,5 +1,6 @@
 -- The walk that lays a tree flat.
-use Rattle.std.proofs.Common.{◌≡◌, ℕ, zero, suc, ◌+◌, ◌-◌, ◌<◌, ◌≤◌, List, [], ◌∷◌, ◌++◌, length, Option, Some, None, drop, get_or, refl, sym, ap, ◌∙◌, subst, add-one, arith}
+use Rattle.std.proofs.Common.{◌≡◌, ℕ, zero, suc, ◌+◌, ◌-◌, ◌<◌, ◌≤◌, List, [], ◌∷◌, ◌++◌, length, Option, Some, None}
+use Rattle.std.proofs.Common.{drop, get_or, refl, sym, ap, ◌∙◌, subst, add-one, arith}
 use Rattle.std.specs.List.{slice_get}
 use Rattle.std.proofs.lemmas.List.{drop_all, append_assoc, append-nil, map_push}
 use Rattle.std.proofs.lemmas.Option.{slice_get_within}
@@ -7,8 +8,10 @@ use Rattle.cw_trees.specs.Flat.{Item, Open as open_item, Close as close_item, fl
 use Rattle.cw_tokens.specs.declared.token.Token.{Token}
 use Rattle.cw_tokens.specs.declared.flat.FlatItem.{FlatItem}
 use Rattle.cw_tokens.specs.declared.store.Link.{Link}
-use Rattle.cw_tokens.specs.declared.walk.Part.TheVariants.{Leaf as leaf_part, Below as below_part, InnerBelow as inner_part}
-use Rattle.cw_tokens.specs.Shapes.{Shape, Plain, Below, InnerBelow, shape, ref_of, item_of, tree_in, trees_from, unfolded}
+use Rattle.cw_tokens.specs.declared.walk.Part.TheVariants.{Leaf as leaf_part, Below as below_part}
+use Rattle.cw_tokens.specs.declared.walk.Part.TheVariants.{InnerBelow as inner_part}
+use Rattle.cw_tokens.specs.Shapes.{Shape, Plain, Below, InnerBelow, shape, ref_of, item_of, tree_in, trees_from}
+use Rattle.cw_tokens.specs.Shapes.{unfolded}
 use Rattle.cw_tokens.specs.References.{token_ref, refers, IsTied, Reach, here, next}
 use Rattle.cw_tokens.specs.Stored.{no_link, IsLinked}
 use Rattle.cw_tokens.specs.FlatItems.{item_is, items_are, IsPart, closing, closing_at, flat_from, to_come, Flattens}
@@ -17,12 +20,16 @@ use Rattle.cw_tokens.proofs.Unfolding.{unfold-is, reach-le}
 use Rattle.cw_tokens.proofs.Searching.{drop-at}
 
 -- how far the walk has come, and the list at hand is read
-pub record ReadsFlat (lists : List (List Token)) (root list place : ℕ) (items : List Token) (given all : List Item) : Type 0 where
+pub record ReadsFlat (lists : List (List Token)) (root list place : ℕ) (items : List Token) (given all : List Item) :
+    Type 0 where
   pub flattens : Flattens lists root list place given all
   pub here : items ≡ get_or lists list []
 
-flat-at : (ls : List (List Token)) (l p : ℕ) (t : Token) → slice_get (get_or ls l []) p ≡ Some t → flat_from ls l p ≡ flat (item_of (trees_from [] ls) (shape t) (tree_in (trees_from [] ls) (drop (p + 1) (get_or ls l []))))
-flat-at ls l p t e = ap (λ us. flat (tree_in (trees_from [] ls) us)) (drop-at (get_or ls l []) p t e) ∙ ap (λ i. flat (item_of (trees_from [] ls) (shape t) (tree_in (trees_from [] ls) (drop i (get_or ls l []))))) (sym (add-one p))
+flat-at : (ls : List (List Token)) (l p : ℕ) (t : Token) → slice_get (get_or ls l []) p ≡ Some t → flat_from ls l p
+    ≡ flat (item_of (trees_from [] ls) (shape t) (tree_in (trees_from [] ls) (drop (p + 1) (get_or ls l []))))
+flat-at ls l p t e = ap (λ us. flat (tree_in (trees_from [] ls) us)) (drop-at (get_or ls l []) p t e)
+    ∙ ap (λ i. flat (item_of (trees_from [] ls) (shape t) (tree_in (trees_from [] ls) (drop i (get_or ls l [])))))
+    (sym (add-one p))
 
 flat-end : (ls : List (List Token)) (l p : ℕ) → length (get_or ls l []) ≤ p → flat_from ls l p ≡ []
 flat-end ls l p h = ap (λ us. flat (tree_in (trees_from [] ls) us)) (drop_all p (get_or ls l []) h)
@@ -30,13 +37,15 @@ flat-end ls l p h = ap (λ us. flat (tree_in (trees_from [] ls) us)) (drop_all p
 flat-start : (ls : List (List Token)) (l : ℕ) → IsTied ls → l < length ls → flat_from ls l 0 ≡ flat (unfolded ls l)
 flat-start ls l tied h = ap flat (sym (unfold-is ls l tied h))
 
-pub items-push : (items : List FlatItem) (item : FlatItem) → items_are (items ++ item ∷ []) ≡ items_are items ++ item_is item ∷ []
+pub items-push : (items : List FlatItem) (item : FlatItem) → items_are (items ++ item ∷ []) ≡ items_are items
+    ++ item_is item ∷ []
 items-push items item = map_push item_is items item
 
 append-cons : (xs ys : List Item) (x : Item) → (xs ++ x ∷ []) ++ ys ≡ xs ++ x ∷ ys
 append-cons xs ys x = append_assoc xs (x ∷ []) ys
 
-pub flattens-start : (ls : List (List Token)) (root : ℕ) (given : List Item) → IsTied ls → root < length ls → Flattens ls root root 0 given (given ++ flat (unfolded ls root))
+pub flattens-start : (ls : List (List Token)) (root : ℕ) (given : List Item) → IsTied ls → root < length ls
+    → Flattens ls root root 0 given (given ++ flat (unfolded ls root))
 flattens-start ls root given tied lt = record {
   way = here;
   is = ap (λ xs. given ++ xs) (append-nil (flat_from ls root 0) ∙ flat-start ls root tied lt);
@@ -54,8 +63,10 @@ inner-ref (Plain leaf) x e = absurd e
 inner-ref (Below y) x e = absurd e
 inner-ref (InnerBelow y) x e = ap InnerBelow e
 
-module _ (ls : List (List Token)) (root l p : ℕ) (all : List Item) (t : Token) (at : slice_get (get_or ls l []) p ≡ Some t) where
-  pub flattens-leaf : (given : List Item) (item : FlatItem) → Flattens ls root l p given all → IsPart (shape t) (leaf_part item) → Flattens ls root l (p + 1) (given ++ item_is item ∷ []) all
+module _ (ls : List (List Token)) (root l p : ℕ) (all : List Item) (t : Token) (at : slice_get (get_or ls l []) p
+    ≡ Some t) where
+  pub flattens-leaf : (given : List Item) (item : FlatItem) → Flattens ls root l p given all
+      → IsPart (shape t) (leaf_part item) → Flattens ls root l (p + 1) (given ++ item_is item ∷ []) all
   flattens-leaf given item f is = record {
     way = f.way;
     is = append-cons given (flat_from ls l (p + 1) ++ to_come ls root l f.way) (item_is item)
@@ -65,12 +76,15 @@ module _ (ls : List (List Token)) (root l p : ℕ) (all : List Item) (t : Token)
     within = let lt : p < length (get_or ls l []) = slice_get_within (get_or ls l []) p t at in omega arith;
   }
     where
-      first : (s : Shape) → IsPart s (leaf_part item) → flat (item_of (trees_from [] ls) s (tree_in (trees_from [] ls) (drop (p + 1) (get_or ls l [])))) ≡ item_is item ∷ flat_from ls l (p + 1)
+      first : (s : Shape) → IsPart s (leaf_part item)
+          → flat (item_of (trees_from [] ls) s (tree_in (trees_from [] ls) (drop (p + 1) (get_or ls l []))))
+          ≡ item_is item ∷ flat_from ls l (p + 1)
       first (Plain leaf) e = ap (λ x. x ∷ flat_from ls l (p + 1)) e
       first (Below x) e = absurd e
       first (InnerBelow x) e = absurd e
 
-  pub flattens-below : (given : List Item) (x : ℕ) → IsTied ls → Flattens ls root l p given all → IsPart (shape t) (below_part x) → Flattens ls root x 0 given all
+  pub flattens-below : (given : List Item) (x : ℕ) → IsTied ls → Flattens ls root l p given all
+      → IsPart (shape t) (below_part x) → Flattens ls root x 0 given all
   flattens-below given x tied f is =
       let s : shape t ≡ Below x = below-ref (shape t) x is in
       let r : refers ls l p ≡ Some x = ap token_ref at ∙ ap ref_of s in
@@ -78,18 +92,24 @@ module _ (ls : List (List Token)) (root l p : ℕ) (all : List Item) (t : Token)
       let in_store : l < length ls = f.inside in
       record {
         way = next l p x r f.way;
-        is = ap (λ o. given ++ (flat_from ls x 0 ++ (closing_at o ++ (flat_from ls l (p + 1) ++ to_come ls root l f.way)))) at
-            ∙ (ap (λ w. given ++ (flat_from ls x 0 ++ (closing w ++ (flat_from ls l (p + 1) ++ to_come ls root l f.way)))) s
-            ∙ (ap (λ xs. given ++ (xs ++ (flat_from ls l (p + 1) ++ to_come ls root l f.way))) (flat-start ls x tied (omega arith))
-            ∙ (ap (λ xs. given ++ xs) (sym (append_assoc (flat (unfolded ls x)) (flat_from ls l (p + 1)) (to_come ls root l f.way)))
-            ∙ (ap (λ w. given ++ (flat (item_of (trees_from [] ls) w (tree_in (trees_from [] ls) (drop (p + 1) (get_or ls l [])))) ++ to_come ls root l f.way)) (sym s)
+        is = ap (λ o. given ++ (flat_from ls x 0
+            ++ (closing_at o ++ (flat_from ls l (p + 1) ++ to_come ls root l f.way)))) at
+            ∙ (ap (λ w. given ++ (flat_from ls x 0
+            ++ (closing w ++ (flat_from ls l (p + 1) ++ to_come ls root l f.way)))) s
+            ∙ (ap (λ xs. given ++ (xs ++ (flat_from ls l (p + 1) ++ to_come ls root l f.way)))
+            (flat-start ls x tied (omega arith))
+            ∙ (ap (λ xs. given ++ xs) (sym (append_assoc (flat (unfolded ls x)) (flat_from ls l (p + 1))
+            (to_come ls root l f.way)))
+            ∙ (ap (λ w. given ++ (flat (item_of (trees_from [] ls) w
+            (tree_in (trees_from [] ls) (drop (p + 1) (get_or ls l [])))) ++ to_come ls root l f.way)) (sym s)
             ∙ (ap (λ xs. given ++ (xs ++ to_come ls root l f.way)) (sym (flat-at ls l p t at))
             ∙ f.is)))));
         inside = omega arith;
         within = omega arith;
       }
 
-  pub flattens-inner : (given : List Item) (x : ℕ) → IsTied ls → Flattens ls root l p given all → IsPart (shape t) (inner_part x) → Flattens ls root x 0 (given ++ open_item ∷ []) all
+  pub flattens-inner : (given : List Item) (x : ℕ) → IsTied ls → Flattens ls root l p given all
+      → IsPart (shape t) (inner_part x) → Flattens ls root x 0 (given ++ open_item ∷ []) all
   flattens-inner given x tied f is =
       let s : shape t ≡ InnerBelow x = inner-ref (shape t) x is in
       let r : refers ls l p ≡ Some x = ap token_ref at ∙ ap ref_of s in
@@ -97,12 +117,21 @@ module _ (ls : List (List Token)) (root l p : ℕ) (all : List Item) (t : Token)
       let in_store : l < length ls = f.inside in
       record {
         way = next l p x r f.way;
-        is = append-cons given (flat_from ls x 0 ++ (closing_at (slice_get (get_or ls l []) p) ++ (flat_from ls l (p + 1) ++ to_come ls root l f.way))) open_item
-            ∙ (ap (λ o. given ++ open_item ∷ (flat_from ls x 0 ++ (closing_at o ++ (flat_from ls l (p + 1) ++ to_come ls root l f.way)))) at
-            ∙ (ap (λ w. given ++ open_item ∷ (flat_from ls x 0 ++ (closing w ++ (flat_from ls l (p + 1) ++ to_come ls root l f.way)))) s
-            ∙ (ap (λ xs. given ++ open_item ∷ (xs ++ (close_item ∷ (flat_from ls l (p + 1) ++ to_come ls root l f.way)))) (flat-start ls x tied (omega arith))
-            ∙ (ap (λ xs. given ++ open_item ∷ xs) (sym (append_assoc (flat (unfolded ls x)) (close_item ∷ flat_from ls l (p + 1)) (to_come ls root l f.way)))
-            ∙ (ap (λ w. given ++ (flat (item_of (trees_from [] ls) w (tree_in (trees_from [] ls) (drop (p + 1) (get_or ls l [])))) ++ to_come ls root l f.way)) (sym s)
+        is = append-cons given (flat_from ls x 0
+            ++ (closing_at (slice_get (get_or ls l []) p) ++ (flat_from ls l (p + 1) ++ to_come ls root l f.way)))
+            open_item
+            ∙ (ap (λ o. given ++ open_item ∷ (flat_from ls x 0
+            ++ (closing_at o ++ (flat_from ls l (p + 1) ++ to_come ls root l f.way)))) at
+            ∙ (ap (λ w. given ++ open_item ∷ (flat_from ls x 0
+            ++ (closing w ++ (flat_from ls l (p + 1) ++ to_come ls root l f.way)))) s
+            ∙ (ap (λ xs. given ++ open_item ∷ (xs
+            ++ (close_item ∷ (flat_from ls l (p + 1) ++ to_come ls root l f.way))))
+            (flat-start ls x tied (omega arith))
+            ∙ (ap (λ xs. given ++ open_item ∷ xs)
+            (sym (append_assoc (flat (unfolded ls x)) (close_item ∷ flat_from ls l (p + 1))
+            (to_come ls root l f.way)))
+            ∙ (ap (λ w. given ++ (flat (item_of (trees_from [] ls) w
+            (tree_in (trees_from [] ls) (drop (p + 1) (get_or ls l [])))) ++ to_come ls root l f.way)) (sym s)
             ∙ (ap (λ xs. given ++ (xs ++ to_come ls root l f.way)) (sym (flat-at ls l p t at))
             ∙ f.is))))));
         inside = omega arith;
@@ -128,10 +157,14 @@ ref-token [] p x e = absurd (none e)
 ref-token (t ∷ ts) zero x e = (t, refl)
 ref-token (t ∷ ts) (suc p) x e = ref-token ts p x e
 
-pub flattens-up : (ls : List (List Token)) (links : List Link) (root x p : ℕ) (given all : List Item) → IsLinked ls links → Flattens ls root x p given all → length (get_or ls x []) ≤ p → (x ≡ root → ⊥) → Ups ls links root x given all
-flattens-up ls links root x p given all linked f end apart = go x f.way apart (ap (λ xs. given ++ (xs ++ to_come ls root x f.way)) (sym (flat-end ls x p end)) ∙ f.is)
+pub flattens-up : (ls : List (List Token)) (links : List Link) (root x p : ℕ) (given all : List Item)
+    → IsLinked ls links → Flattens ls root x p given all → length (get_or ls x []) ≤ p → (x ≡ root → ⊥)
+    → Ups ls links root x given all
+flattens-up ls links root x p given all linked f end apart =
+    go x f.way apart (ap (λ xs. given ++ (xs ++ to_come ls root x f.way)) (sym (flat-end ls x p end)) ∙ f.is)
   where
-    go : (y : ℕ) (way : Reach ls root y) → (y ≡ root → ⊥) → given ++ to_come ls root y way ≡ all → Ups ls links root y given all
+    go : (y : ℕ) (way : Reach ls root y) → (y ≡ root → ⊥) → given ++ to_come ls root y way ≡ all
+        → Ups ls links root y given all
     go y here a e = absurd (a refl)
     go y (next l q m r way) a e =
         let tok : (t : Token) × (slice_get (get_or ls l []) q ≡ Some t) = ref-token (get_or ls l []) q y r in
@@ -147,14 +180,16 @@ flattens-up ls links root x p given all linked f end apart = go x f.way apart (a
           rest = record {
             way = way;
             is = append_assoc given (closing (shape tok.0)) (flat_from ls l (q + 1) ++ to_come ls root l way)
-                ∙ (ap (λ o. given ++ (closing_at o ++ (flat_from ls l (q + 1) ++ to_come ls root l way))) (sym tok.1) ∙ e);
+                ∙ (ap (λ o. given ++ (closing_at o ++ (flat_from ls l (q + 1) ++ to_come ls root l way))) (sym tok.1)
+                ∙ e);
             inside = refers-within ls l q y r;
             within = omega arith;
           };
         }
 
 -- at the end of the root all is given
-pub flattens-end : (ls : List (List Token)) (root p : ℕ) (given all : List Item) → IsTied ls → Flattens ls root root p given all → length (get_or ls root []) ≤ p → given ≡ all
+pub flattens-end : (ls : List (List Token)) (root p : ℕ) (given all : List Item) → IsTied ls
+    → Flattens ls root root p given all → length (get_or ls root []) ≤ p → given ≡ all
 flattens-end ls root p given all tied f end =
     sym (append-nil given)
     ∙ (ap (λ xs. given ++ xs) (sym (nothing root f.way refl))
@@ -173,21 +208,27 @@ pub record UpStep (ls : List (List Token)) (k : Link) : Type 0 where
   pub some : 0 < k.place
   pub within : k.place ≤ length (get_or ls k.list [])
 
-pub up-step : (ls : List (List Token)) (links : List Link) (root x : ℕ) (given all : List Item) (k : Link) → Ups ls links root x given all → k ≡ get_or links x no_link → UpStep ls k
+pub up-step : (ls : List (List Token)) (links : List Link) (root x : ℕ) (given all : List Item) (k : Link)
+    → Ups ls links root x given all → k ≡ get_or links x no_link → UpStep ls k
 up-step ls links root x given all k u e = subst (λ (j : Link). UpStep ls j) (sym (e ∙ u.link)) (record {
   inside = u.inside;
   some = omega arith;
   within = let lt : u.place < length (get_or ls u.list []) = u.below in omega arith;
 })
 
-pub up-flattens : (ls : List (List Token)) (links : List Link) (root x : ℕ) (given all new : List Item) (k : Link) (b : Token) → Ups ls links root x given all → k ≡ get_or links x no_link
-    → slice_get (get_or ls k.list []) (k.place - 1) ≡ Some b → new ≡ given ++ closing (shape b) → Flattens ls root k.list k.place new all
+pub up-flattens : (ls : List (List Token)) (links : List Link) (root x : ℕ) (given all new : List Item) (k : Link)
+    (b : Token) → Ups ls links root x given all → k ≡ get_or links x no_link
+    → slice_get (get_or ls k.list []) (k.place - 1) ≡ Some b → new ≡ given ++ closing (shape b)
+    → Flattens ls root k.list k.place new all
 up-flattens ls links root x given all new k b u e at is =
     let same : k ≡ record { list = u.list; place = u.place + 1 } = e ∙ u.link in
-    let read : slice_get (get_or ls u.list []) ((u.place + 1) - 1) ≡ Some b = subst (λ (j : Link). slice_get (get_or ls j.list []) (j.place - 1) ≡ Some b) same at in
+    let read : slice_get (get_or ls u.list []) ((u.place + 1) - 1)
+    ≡ Some b = subst (λ (j : Link). slice_get (get_or ls j.list []) (j.place - 1) ≡ Some b) same at in
     let n : (u.place + 1) - 1 ≡ u.place = omega arith in
     let token : b ≡ u.token = some-is b u.token (sym read ∙ (ap (slice_get (get_or ls u.list [])) n ∙ u.at)) in
-    subst (λ (j : Link). Flattens ls root j.list j.place new all) (sym same) (subst (λ (xs : List Item). Flattens ls root u.list (u.place + 1) xs all) (sym (is ∙ ap (λ t. given ++ closing (shape t)) token)) u.rest)
+    subst (λ (j : Link). Flattens ls root j.list j.place new all) (sym same)
+    (subst (λ (xs : List Item). Flattens ls root u.list (u.place + 1) xs all)
+    (sym (is ∙ ap (λ t. given ++ closing (shape t)) token)) u.rest)
   where
     some-is : (a c : Token) → Some a ≡ Some c → a ≡ c
     some-is a c g = cc
