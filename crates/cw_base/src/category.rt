@@ -1,5 +1,5 @@
 //! The categories of scraps, and sets of categories.
-ghost use Rattle.std.specs.Prelude.{not, ◌≡◌, ◌≤◌, ℕ, ◌^◌};
+ghost use Rattle.std.specs.Prelude.{not, ◌≡◌, ◌≤◌, ◌^◌};
 ghost use Rattle.cw_base.specs.Category.{in_set, leaves, meet, number_of, some_of};
 
 /// What kind of thing a scrap is to the productions. `End` is of tests only: it stands past the last

@@ -1,6 +1,5 @@
 //! The collation: the order of the entries of the index.
 ghost use Rattle.std.specs.Prelude.{◌≡◌, ◌<◌, Some, length, slice_get};
-ghost use Rattle.std.specs.Ordering.{nat_cmp};
 ghost use Rattle.cw_names.specs.Names.{Entry};
 ghost use Rattle.cw_index.specs.Collation.{class_of, class_cmp, classes_cmp, entry_cmp, kind_place, text_cmp};
 ghost use Rattle.cw_index.specs.Headings.{collated_cmp};

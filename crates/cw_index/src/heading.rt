@@ -1,11 +1,10 @@
 //! The headings of the index: its entries, as they are sorted and printed.
-ghost use Rattle.std.specs.Prelude.{◌≡◌, ℕ, List, [], ◌∷◌, ◌++◌, IfOk, OnOk, map, length, refl};
-ghost use Rattle.std.specs.BTreeSet.{insert_key};
+ghost use Rattle.std.specs.Prelude.{refl};
 ghost use Rattle.std.specs.Cmp;
 ghost use Rattle.std.specs.Ordering.{as_partial_cmp, eq_by_cmp, on};
 ghost use Rattle.cw_index.specs.Collation.{entry_cmp};
 ghost use Rattle.cw_index.specs.CollationLaws.{entry_cmp-total};
-ghost use Rattle.cw_index.specs.Headings.{entry_of, row_of};
+ghost use Rattle.cw_index.specs.Headings.{entry_of};
 
 use crate::collation::Collated;
 use cw_base::Cat;

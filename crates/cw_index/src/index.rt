@@ -3,7 +3,6 @@ ghost use Rattle.std.specs.Prelude.{◌≡◌, ◌<◌, [], ◌∷◌, All, IfOk
 ghost use Rattle.std.specs.List.{flat_map};
 ghost use Rattle.cw_join.specs.Tokens.{text_at};
 ghost use Rattle.cw_lines.specs.Writes.{CanWrite, Puts};
-ghost use Rattle.cw_names.specs.Names.{Entry};
 ghost use Rattle.cw_print.specs.Escaping.{braced};
 ghost use Rattle.cw_print.specs.Sources.{is_changed};
 ghost use Rattle.cw_print.specs.Walk.{section_number};

@@ -1,5 +1,5 @@
 //! Whether the C texts of the section list are whole: no section code cuts them.
-ghost use Rattle.std.specs.Prelude.{◌≡◌, ◌^◌, ◌≤◌, All, IfOk, length, true};
+ghost use Rattle.std.specs.Prelude.{◌≡◌, ◌≤◌, All, IfOk, length, true};
 ghost use Rattle.cw_base.specs.Web.{text_of};
 ghost use Rattle.cw_index.specs.NameList.{IsWholeName};
 ghost use Rattle.cw_index.specs.Standing.{listed_names};

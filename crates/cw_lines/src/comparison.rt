@@ -1,8 +1,8 @@
 //! The old file of an output, compared with the bytes that are written.
-ghost use Rattle.std.specs.Prelude.{◌≡◌, ◌↔◌, ◌<◌, ◌≤◌, ◌++◌, ℕ, List, [], IfOk, IsErrOf, IsTrue, OnOk, Some, length};
+ghost use Rattle.std.specs.Prelude.{◌≡◌, ◌↔◌, ◌<◌, ◌≤◌, ◌++◌, ℕ, List, [], IfOk, IsTrue, OnOk, Some, length};
 ghost use Rattle.std.specs.Prelude.{take, true};
 ghost use Rattle.std.specs.Bool.{OnFalse, OnTrue};
-ghost use Rattle.cw_desk.specs.Meaning.{Files, Rose};
+ghost use Rattle.cw_desk.specs.Meaning.{Files};
 ghost use Rattle.cw_lines.specs.Compared.{Compares, left, left_behind, left_by};
 ghost use Rattle.cw_lines.specs.Writes.{Writes};
 

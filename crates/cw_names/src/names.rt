@@ -1,5 +1,5 @@
 //! The list of names: what is found by its kind and text, and the category that it has now.
-ghost use Rattle.std.specs.Prelude.{◌≡◌, ◌≢◌, ◌<◌, ◌↔◌, [], length, Some, map, slice_get, IsOk, IsTrue, IfOk, OnOk};
+ghost use Rattle.std.specs.Prelude.{◌≡◌, ◌≢◌, ◌<◌, ◌↔◌, length, Some, map, slice_get, IsOk, IsTrue, IfOk, OnOk};
 ghost use Rattle.std.specs.Prelude.{IfSome, OnErr};
 ghost use Rattle.std.specs.Option.{option_map};
 ghost use Rattle.cw_names.specs.Names.{Entry, AreDistinct, place_of, with_entry, with_category};

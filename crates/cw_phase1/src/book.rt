@@ -1,5 +1,5 @@
 //! The book that the first phase makes of a web.
-ghost use Rattle.std.specs.Prelude.{◌≡◌, ◌<◌, ◌≤◌, ◌-◌, ◌+◌, ◌^◌, Some, length, slice_get};
+ghost use Rattle.std.specs.Prelude.{◌≡◌, ◌<◌, ◌≤◌, ◌-◌, ◌^◌, Some, length, slice_get};
 
 use crate::note_list::NoteList;
 use crate::packed::SectionList;

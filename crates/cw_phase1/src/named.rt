@@ -1,5 +1,5 @@
 //! For which names the section names in a web stand, and how their sections refer to them.
-ghost use Rattle.std.specs.Prelude.{◌≡◌, ◌<◌, ◌^◌, [], ◌∷◌, ◌++◌, All, IfOk, IfSome, OnOk, length, map};
+ghost use Rattle.std.specs.Prelude.{◌≡◌, ◌<◌, ◌^◌, [], ◌∷◌, ◌++◌, All, IfOk, IfSome, OnOk, map};
 ghost use Rattle.cw_secnames.specs.References.{Reference};
 ghost use Rattle.cw_phase1.specs.Placing.{placed_of};
 ghost use Rattle.cw_phase1.specs.Referring.{referring_of};

@@ -1,5 +1,5 @@
 //! The places of bytes of the merged text, and its changed lines.
-ghost use Rattle.std.specs.Prelude.{◌≡◌, ◌+◌, ◌<◌, ◌≤◌, length, slice_index_or};
+ghost use Rattle.std.specs.Prelude.{◌≡◌, ◌+◌, ◌<◌, length, slice_index_or};
 ghost use Rattle.cw_base.specs.Web.{MergedLine};
 ghost use Rattle.cw_phase1.specs.Places.{place_in};
 ghost use Rattle.cw_phase1.specs.LinePlaces.{offset, IsLineOf};

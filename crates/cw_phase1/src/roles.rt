@@ -1,5 +1,5 @@
 //! What a token is in its place: its section, its part, and its role there.
-ghost use Rattle.std.specs.Prelude.{◌≡◌, ◌<◌, Bool, true, false};
+ghost use Rattle.std.specs.Prelude.{◌≡◌, ◌<◌, true, false};
 ghost use Rattle.cw_phase1.specs.Roles.{
   code_step,
   defining,

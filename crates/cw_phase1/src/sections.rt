@@ -1,5 +1,5 @@
 //! The sections of a web: their heads, and the spans of their parts.
-ghost use Rattle.std.specs.Prelude.{◌≡◌, ◌+◌, ◌^◌, ◌<◌, ◌≤◌, [], List, None, length, drop, take_while, OnOk};
+ghost use Rattle.std.specs.Prelude.{◌≡◌, ◌+◌, ◌^◌, ◌<◌, ◌≤◌, [], None, length, drop, take_while, OnOk};
 ghost use Rattle.cw_rules.specs.Answers.{seen};
 ghost use Rattle.cw_rules.specs.Bytes.{is_digit};
 ghost use Rattle.cw_phase1.specs.Placing.{placed_of};

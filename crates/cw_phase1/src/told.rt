@@ -1,6 +1,5 @@
 //! What is told of the tokens that came.
-ghost use Rattle.std.specs.Prelude.{◌≡◌, ◌+◌, ◌<◌, ◌^◌, [], All, IfOk, IfSome, OnOk, None, false, length};
-ghost use Rattle.cw_names.specs.Words.{built_in_words};
+ghost use Rattle.std.specs.Prelude.{◌≡◌, ◌<◌, ◌^◌, All, IfOk, IfSome, OnOk, length};
 ghost use Rattle.cw_phase1.specs.Placing.{placed_of};
 ghost use Rattle.cw_phase1.specs.Telling.{IsKnown, told_step, told_start};
 

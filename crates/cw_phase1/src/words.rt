@@ -1,10 +1,10 @@
 //! The identifiers and index entries that came, and where they occur.
-ghost use Rattle.std.specs.Prelude.{◌≡◌, ◌<◌, ◌++◌, [], ◌∷◌, false, None, Some, length, IfOk, OnOk, IfSome};
-ghost use Rattle.cw_names.specs.Names.{place_of, with_entry};
+ghost use Rattle.std.specs.Prelude.{◌≡◌, ◌<◌, ◌++◌, [], ◌∷◌, false, None, Some, length, IfOk, OnOk};
+ghost use Rattle.cw_names.specs.Names.{with_entry};
 ghost use Rattle.cw_names.specs.Words.{built_in_words};
 ghost use Rattle.cw_phase1.specs.Placing.{placed_of};
 ghost use Rattle.cw_phase1.specs.Texts.{entry_text};
-ghost use Rattle.cw_phase1.specs.Words.{name_id, with_format, mention, occurrence};
+ghost use Rattle.cw_phase1.specs.Words.{name_id, with_format, occurrence};
 ghost use Rattle.cw_phase1.specs.Telling.{IsKnown, word_occurrence, word_told};
 
 use crate::Role;

@@ -1,5 +1,5 @@
 //! A tree laid flat: its items in order, as they stand or trimmed in the same walk.
-ghost use Rattle.std.specs.Prelude.{◌≡◌, ◌+◌, ◌-◌, ◌<◌, ◌≤◌, List, ◌++◌, length, IfOk, IfSome, OnOk, Some, IsTrue, ◌↔◌};
+ghost use Rattle.std.specs.Prelude.{◌≡◌, ◌+◌, ◌-◌, ◌<◌, ◌≤◌, List, ◌++◌, length, IfOk, OnOk, Some, IsTrue, ◌↔◌};
 ghost use Rattle.std.specs.Prelude.{reverse, slice_get};
 ghost use Rattle.cw_trees.specs.Flat.{Item, flat, trimmed};
 ghost use Rattle.cw_tokens.specs.Shapes.{shape, unfolded};

@@ -8,7 +8,7 @@ ghost use Rattle.cw_tokens.specs.Shapes.{shape, ref_of, unfolded};
 ghost use Rattle.cw_tokens.specs.FlatItems.{items_are};
 ghost use Rattle.cw_tokens.specs.Walking.{found_name};
 ghost use Rattle.cw_tokens.specs.Reserving.{Reserves, ReservesToken};
-ghost use Rattle.cw_tokens.specs.Stored.{StoredLists, MayBePushed, all_lists, last_end, linked};
+ghost use Rattle.cw_tokens.specs.Stored.{StoredLists, MayBePushed, all_lists, linked};
 ghost use Rattle.cw_tokens.specs.References.{IsTied};
 
 use crate::flat::{FlatTokens, flatten, flatten_trimmed};

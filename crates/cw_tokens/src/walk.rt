@@ -1,5 +1,5 @@
 //! Walks through a tree in its store: the lists and links that they read, and the search for an identifier.
-ghost use Rattle.std.specs.Prelude.{◌≡◌, ℕ, ◌+◌, ◌-◌, ◌<◌, ◌≤◌, [], ◌∷◌, length, get_or, MatchOption, drop, take};
+ghost use Rattle.std.specs.Prelude.{◌≡◌, ◌+◌, ◌-◌, ◌<◌, ◌≤◌, [], ◌∷◌, length, get_or, MatchOption, drop, take};
 ghost use Rattle.std.specs.Prelude.{slice_get};
 ghost use Rattle.cw_trees.specs.Tree.{first_ident};
 ghost use Rattle.cw_tokens.specs.Shapes.{shape, unfolded};
