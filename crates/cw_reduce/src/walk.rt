@@ -86,23 +86,36 @@ pub fn reduce<L: Ledger>(
     Ok(Reduced { productions })
 }
 
-// The first row that fits at a place. It counts four steps, also where two categories tell that none fits.
+// The first row that fits at a place, where the line is opened. It counts four steps.
+#[inline(always)]
 pub(crate) fn row_at<L: Ledger>(
-    line: &ScrapLine,
+    line: &mut ScrapLine,
     place: usize,
     steps: &mut Steps<L>,
 ) -> Option<RowNo>
+    requires { place < length line.old }
+    ensures first { MatchOption result (first_of productions (drop place (entry_cats line.old)) ≡
+        None) (λ row. IsFirst (drop place (entry_cats line.old)) row.number) }
+    ensures same { line.new ≡ line.old }
+    ensures steps { steps.new ≡ steps.old + 4 }
+{
+    line.open(place);
+    first_row(line, place, steps)
+}
+
+// The same in a line that is only read. It counts four steps, also where two categories tell that none fits.
+#[inline(always)]
+fn first_row<L: Ledger>(line: &ScrapLine, place: usize, steps: &mut Steps<L>) -> Option<RowNo>
     requires { place < length line.now }
     ensures first { MatchOption result (first_of productions (drop place (entry_cats line.now)) ≡
         None) (λ row. IsFirst (drop place (entry_cats line.now)) row.number) }
     ensures steps { steps.new ≡ steps.old + 4 }
 {
-    let _length = line.len();
-    let first = line.cat_at(place, steps);
-    let second = line.cat_at(place + 1, steps);
+    let first = line.cat_behind(place, 0, steps);
+    let second = line.cat_behind(place, 1, steps);
     if may_fit(first, second) {
-        let third = line.cat_at(place + 2, steps);
-        let fourth = line.cat_at(place + 3, steps);
+        let third = line.cat_behind(place, 2, steps);
+        let fourth = line.cat_behind(place, 3, steps);
         return first_production([first, second, third, fourth]);
     }
     steps.tick();

@@ -110,6 +110,28 @@ impl ScrapLine {
         read_cat(&self.items, self.left, self.right, i)
     }
 
+    /// Moves the gap to a scrap. The scraps stay, and those from this one on then lie one behind another.
+    #[inline(always)]
+    pub fn open(&mut self, place: usize)
+        requires { place < length self.old }
+        ensures { self.new ≡ self.old }
+    {
+        self.right = gap_to(&mut self.items, self.left, self.right, place);
+        self.left = place;
+    }
+
+    /// The category of the scrap so many behind one that is there, or `End` past the last one. It counts one step, and
+    /// is quick where the line is open at the place.
+    #[inline(always)]
+    pub fn cat_behind<L: Ledger>(&self, place: usize, k: u8, counter: &mut Steps<L>) -> Cat
+        requires { place < length self.now }
+        ensures cat { result ≡ (slice_index_or self.now (place + k) no_entry).cat }
+        ensures steps { counter.new ≡ counter.old + 1 }
+    {
+        counter.tick();
+        read_cat_behind(&self.items, self.left, self.right, place, k)
+    }
+
     /// The translation of a scrap.
     pub fn part_at(&self, i: usize) -> Part
         requires { i < length self.now }
@@ -131,13 +153,13 @@ impl ScrapLine {
         read(&self.items, self.left, self.right, i)
     }
 
-    /// A scrap that is there.
-    #[inline]
-    pub(crate) fn inside(&self, i: usize) -> LineEntry
-        requires { i < length self.now }
-        ensures { result ≡ slice_index_or self.now i no_entry }
+    /// The scrap so many behind a place, which is there. It is quick where the line is open at the place.
+    #[inline(always)]
+    pub(crate) fn behind(&self, place: usize, k: u8) -> LineEntry
+        requires { place + k < length self.now }
+        ensures { result ≡ slice_index_or self.now (place + k) no_entry }
     {
-        read_inside(&self.items, self.left, self.right, i)
+        read_behind(&self.items, self.left, self.right, place, k)
     }
 
     /// Writes a scrap over another.
@@ -154,15 +176,16 @@ impl ScrapLine {
     }
 
     /// Replaces as many scraps, from a place on, by one.
+    #[inline(always)]
     pub(crate) fn replace(&mut self, at: usize, count: usize, entry: LineEntry)
         requires some { 0 < count }
         requires within { at + count ≤ length self.old }
         ensures { self.new ≡ take at self.old ++ entry ∷ drop (at + count) self.old }
     {
-        let gap = open_gap(&mut self.items, self.left, self.right, at, at + count);
-        self.items[at] = entry;
-        self.left = at + 1;
-        self.right = gap;
+        let last = gap_to(&mut self.items, self.left, self.right, at) + (count - 1);
+        self.items[last] = entry;
+        self.left = at;
+        self.right = last;
     }
 }
 
@@ -219,26 +242,97 @@ fn read_inside(items: &[LineEntry], left: usize, right: usize, i: usize) -> Line
     }
 }
 
-/// Opens the gap over the scraps from one place up to another, which go, and answers where it then ends. Only
-/// scraps between the gap and them are moved, and none where it is empty.
-fn open_gap(items: &mut [LineEntry], left: usize, right: usize, from: usize, to: usize) -> usize
+/// The category of the scrap so many behind one that is there, or `End` past the last one.
+#[inline(always)]
+fn read_cat_behind(items: &[LineEntry], left: usize, right: usize, place: usize, k: u8) -> Cat
+    requires gap { IsGap left right items.now }
+    requires there { place < length (around left right items.now) }
+    ensures { result ≡ (slice_index_or (around left right items.now) (place + k) no_entry).cat }
+{
+    if place < left {
+        return read_cat(items, left, right, place + k as usize);
+    }
+    if k == 0 || (k as usize) < items.len() - (right + (place - left)) {
+        read_behind(items, left, right, place, k).cat
+    } else {
+        Cat::End
+    }
+}
+
+/// The scrap so many behind a place, which is there.
+#[inline(always)]
+fn read_behind(items: &[LineEntry], left: usize, right: usize, place: usize, k: u8) -> LineEntry
+    requires gap { IsGap left right items.now }
+    requires inside { place + k < length (around left right items.now) }
+    ensures { result ≡ slice_index_or (around left right items.now) (place + k) no_entry }
+{
+    if place < left {
+        return read_inside(items, left, right, place + k as usize);
+    }
+    items[right + (place - left) + k as usize]
+}
+
+/// Moves the gap to a place, and answers where it then ends. Mostly it moves over one scrap, or back over two.
+#[inline(always)]
+fn gap_to(items: &mut [LineEntry], left: usize, right: usize, to: usize) -> usize
     requires gap { IsGap left right items.old }
-    requires order { from ≤ to }
     requires within { to + (right - left) ≤ length items.old }
-    ensures before { take from items.new ≡ take from (around left right items.old) }
-    ensures behind { drop result items.new ≡ drop to (around left right items.old) }
+    ensures around { around to result items.new ≡ around left right items.old }
     ensures size { result ≡ to + (right - left) }
 {
-    if left == right {
-        return to;
+    if to == left + 1 {
+        move_on(items, left, right);
+        return right + 1;
     }
-    if left < from {
-        return move_right(items, left, right, from) + (to - from);
+    if to == left {
+        return right;
     }
+    if to < left {
+        if left - to == 2 {
+            move_back(items, left, right);
+            move_back(items, left - 1, right - 1);
+            return right - 2;
+        }
+        if left - to == 1 {
+            move_back(items, left, right);
+            return right - 1;
+        }
+    }
+    move_far(items, left, right, to)
+}
+
+/// Moves the gap over the next scrap.
+#[inline(always)]
+fn move_on(items: &mut [LineEntry], left: usize, right: usize)
+    requires gap { IsGap left right items.old }
+    requires within { right < length items.old }
+    ensures { around (left + 1) (right + 1) items.new ≡ around left right items.old }
+{
+    items[left] = items[right];
+}
+
+/// Moves the gap back over the last scrap.
+#[inline(always)]
+fn move_back(items: &mut [LineEntry], left: usize, right: usize)
+    requires gap { IsGap left right items.old }
+    requires some { 0 < left }
+    ensures { around (left - 1) (right - 1) items.new ≡ around left right items.old }
+{
+    items[right - 1] = items[left - 1];
+}
+
+/// Moves the gap to any place, and answers where it then ends.
+#[inline(never)]
+fn move_far(items: &mut [LineEntry], left: usize, right: usize, to: usize) -> usize
+    requires gap { IsGap left right items.old }
+    requires within { to + (right - left) ≤ length items.old }
+    ensures around { around to result items.new ≡ around left right items.old }
+    ensures size { result ≡ to + (right - left) }
+{
     if to < left {
         return move_left(items, left, right, to);
     }
-    right + (to - left)
+    move_right(items, left, right, to)
 }
 
 fn move_left(items: &mut [LineEntry], left: usize, right: usize, to: usize) -> usize

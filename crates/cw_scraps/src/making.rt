@@ -44,7 +44,7 @@ pub fn make(
     let other = takes_others(row, flags, line, place);
     match alone(row, other) {
         Some(k) => {
-            let entry = line.inside(place + k as usize);
+            let entry = line.behind(place, k);
             LineEntry {
                 cat,
                 list: entry.list,

@@ -125,7 +125,7 @@ pub fn scrap_insert(line: &ScrapLine, place: usize, k: u8) -> Insert
     ensures { result ≡ inserting (drop place line.now) (Scrap k) }
 {
     let _length = line.len();
-    let entry = line.inside(place + k as usize);
+    let entry = line.behind(place, k);
     Insert {
         token: Token::List(entry.list),
         left: entry.left,
@@ -140,7 +140,7 @@ pub fn math_scrap_insert(line: &ScrapLine, place: usize, k: u8) -> Insert
     ensures { result ≡ inserting (drop place line.now) (MathScrap k) }
 {
     let _length = line.len();
-    let entry = line.inside(place + k as usize);
+    let entry = line.behind(place, k);
     in_math(Token::List(entry.list), entry.left, entry.right)
 }
 
@@ -204,6 +204,6 @@ pub fn result_cat(outcome: RowResult, line: &ScrapLine, place: usize) -> Cat
     let _length = line.len();
     match outcome {
         RowResult::Is(cat) => cat,
-        RowResult::SameAs(k) => line.inside(place + k as usize).cat,
+        RowResult::SameAs(k) => line.behind(place, k).cat,
     }
 }

@@ -15,12 +15,6 @@ takes_others-other-requires c =
     let f = fits-at c.args.flags.now c.args.row.now (drop c.args.place c.args.line.now) c.requires.sound c.requires.fits in
     place-inside _ _ _ _ f
 
-pub overflow_add-place : goal.overflow_add-place
-overflow_add-place c =
-    let f = fits-at c.args.flags.now c.args.row.now (drop c.args.place c.args.line.now) c.requires.sound c.requires.fits in
-    let inside : c.args.place + c.in-Some.k < length c.args.line.now = behind _ _ c.in-Some.k (kept-there _ _ _ c.in-Some.k f (ap (alone c.args.row.now.replaced) (sym c.takes_others-other.ensures) ∙ sym c.in-Some.ensures)) in
-    omega (arith, c.len-length.ensures, c.len-length.type_inv)
-
 pub join-part-requires-clause-place : goal.join-part-requires-clause-place
 join-part-requires-clause-place c =
     let f = fits-at c.args.flags.now c.args.row.now (drop c.args.place c.args.line.now) c.requires.sound c.requires.fits in
@@ -33,9 +27,9 @@ join-part-requires-clause-run c =
     rw c.takes_others-other.ensures (run-at _ _ _ f)
 
 pub returns-in-Some : goal.returns-in-Some
-returns-in-Some c = kept c.in-Some.k (ap (alone c.args.row.now.replaced) (sym c.takes_others-other.ensures) ∙ sym c.in-Some.ensures) refl (kept-is c.args.line.now c.args.place c.in-Some.k _ _ _ (rw c.outcome.ensures at c.result_cat-cat.ensures) c.inside-entry.ensures)
+returns-in-Some c = kept c.in-Some.k (ap (alone c.args.row.now.replaced) (sym c.takes_others-other.ensures) ∙ sym c.in-Some.ensures) refl (kept-is c.args.line.now c.args.place c.in-Some.k _ _ _ (rw c.outcome.ensures at c.result_cat-cat.ensures) c.behind-entry.ensures)
 
-pub inside-entry-requires : goal.inside-entry-requires
-inside-entry-requires c =
+pub behind-entry-requires : goal.behind-entry-requires
+behind-entry-requires c =
     let f = fits-at c.args.flags.now c.args.row.now (drop c.args.place c.args.line.now) c.requires.sound c.requires.fits in
     behind _ _ c.in-Some.k (kept-there _ _ _ c.in-Some.k f (ap (alone c.args.row.now.replaced) (sym c.takes_others-other.ensures) ∙ sym c.in-Some.ensures))

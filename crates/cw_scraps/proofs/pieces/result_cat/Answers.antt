@@ -3,4 +3,4 @@ use Rattle.cw_scraps.proofs.RowPieces.{same-cat}
 use Rattle.cw_scraps.proofs.pieces.result_cat.Goals as goal
 
 pub returns-in-SameAs : goal.returns-in-SameAs
-returns-in-SameAs c = same-cat _ _ _ _ _ c.inside.ensures c.in-SameAs.is
+returns-in-SameAs c = same-cat _ _ _ _ _ c.behind.ensures c.in-SameAs.is
