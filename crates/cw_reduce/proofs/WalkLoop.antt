@@ -27,8 +27,8 @@ use Rattle.cw_scraps.specs.Marking.{MarkList}
 use Rattle.cw_scraps.proofs.Applied.{keeps-trans}
 use Rattle.cw_scraps.proofs.Productions.{cats-same}
 use Rattle.cw_scraps.proofs.Reservings.{length-scraps}
-use Rattle.cw_reduce.specs.Reduction.{GrowsByProductions, IsFirst, words_of}
-use Rattle.cw_reduce.proofs.WalkSteps.{Walks, Rewrites, rewrites, GoesOn, goes-on, WalkEnds, walk-ends, walk-reaches}
+use Rattle.cw_reduce.specs.Reduction.{GrowsByProductions, IsFirst, PassesOver, stays, goes-on, words_of}
+use Rattle.cw_reduce.proofs.WalkSteps.{Walks, Rewrites, rewrites, GoesOn, goes-on as goes-further, WalkEnds, walk-ends, walk-reaches}
 
 -- what holds at each turn; the first values are those with which the reducer was called
 pub record InLoop (f : Flags) (line0 : List LineEntry) (store0 : StoredLists) (names0 : List Entry) (marks0 : MarkList) (steps0 : ℕ) (line : List LineEntry) (store : StoredLists) (names : List Entry) (marks : MarkList) (steps place done : ℕ) : Type 0 where
@@ -94,8 +94,13 @@ module _ (f : Flags) (line0 : List LineEntry) (store0 : StoredLists) (names0 : L
 
   pub passes : (steps' : ℕ) → place < length line → first_of productions (drop place (entry_cats line)) ≡ None → steps' ≡ steps + 4 → InLoop f line0 store0 names0 marks0 steps0 line store names marks steps' (place + 1) done
   passes steps' inside none s =
-      let g : GoesOn f (state_of store0.lists line0 marks0 names0) (state_of store.lists line marks names) place done steps0 steps = goes-on f (state_of store0.lists line0 marks0 names0) (state_of store.lists line marks names) place done steps0 steps h.walks (omega (arith, length-scraps store.lists line)) (ap (λ cs. first_of productions (drop place cs)) (cats-same store.lists line) ∙ none) in
+      let g : GoesOn f (state_of store0.lists line0 marks0 names0) (state_of store.lists line marks names) place done steps0 steps = goes-further f (state_of store0.lists line0 marks0 names0) (state_of store.lists line marks names) place done steps0 steps h.walks (omega (arith, length-scraps store.lists line)) (ap (λ cs. first_of productions (drop place cs)) (cats-same store.lists line) ∙ none) in
       record { walks = rw s g.next; sound = h.sound; keeps = h.keeps; words = h.words; grown = h.grown; short = h.short }
+
+  -- where the pointer may have gone on by one
+  pub passes-over : (place' steps' : ℕ) → PassesOver line place steps place' steps' → InLoop f line0 store0 names0 marks0 steps0 line store names marks steps' place' done
+  passes-over place' steps' (stays p s) = rw (p, s) h
+  passes-over place' steps' (goes-on p s inside none) = rw p (passes steps' inside none s)
 
   pub ends : length line ≤ place → WalkEnds f (state_of store0.lists line0 marks0 names0) (state_of store.lists line marks names) done steps0 steps
   ends past = walk-ends f (state_of store0.lists line0 marks0 names0) (state_of store.lists line marks names) place done steps0 steps h.walks (omega (arith, length-scraps store.lists line))
@@ -111,3 +116,8 @@ module _ (f : Flags) (line0 : List LineEntry) (store0 : StoredLists) (names0 : L
 
   pub few : length line ≤ place → done ≤ 8 * length line0
   few past = omega (arith, (ends past).number, count-most productions f (state_of store0.lists line0 marks0 names0), length-scraps store0.lists line0)
+
+-- what is left of the walk when the pointer may have gone on by one
+pub less-over : (line : List LineEntry) (place steps place' steps' : ℕ) (state : State) → PassesOver line place steps place' steps' → walk_left place' state ≤ walk_left place state
+less-over line place steps place' steps' state (stays p s) = omega (arith, p)
+less-over line place steps place' steps' state (goes-on p s inside none) = omega (arith, p)

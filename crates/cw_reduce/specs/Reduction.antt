@@ -1,5 +1,5 @@
 -- What the reducer's contracts say.
-use Rattle.std.specs.Prelude.{◌≡◌, ℕ, ◌+◌, ◌*◌, ◌≤◌, List, map, Some}
+use Rattle.std.specs.Prelude.{◌≡◌, ℕ, ◌+◌, ◌*◌, ◌<◌, ◌≤◌, List, length, map, drop, Some, None}
 use Rattle.cw_base.specs.declared.category.Cat.{Cat}
 use Rattle.cw_base.specs.declared.flags.Flags.{Flags}
 use Rattle.cw_names.specs.declared.entry.EntryKind.{EntryKind}
@@ -13,6 +13,8 @@ use Rattle.cw_table.specs.declared.productions.TheConstants.{ROW_COUNT}
 use Rattle.cw_tokens.specs.declared.token.Token.{Token}
 use Rattle.cw_tokens.specs.Counting.{token_count}
 use Rattle.cw_scraps.specs.declared.TheConstants.{PRODUCTION_TOKENS}
+use Rattle.cw_scraps.specs.declared.line.LineEntry.{LineEntry}
+use Rattle.cw_scraps.specs.Inserting.{entry_cats}
 
 -- the names without their categories
 abbrev pub words_of : List Entry → List (EntryKind × List ℕ)
@@ -31,3 +33,8 @@ pub record GrowsByProductions (flags : Flags) (old : State) (old_lists : List (L
   pub within : done ≤ count productions flags old
   pub is : new ≡ steps productions flags done old
   pub few : token_count lists ≤ token_count old_lists + PRODUCTION_TOKENS * done
+
+-- A pointer stays where it is, or goes on by one where no row fits, for which four steps are counted.
+pub data PassesOver (line : List LineEntry) (place steps place' steps' : ℕ) : Type 0 where
+  stays : place' ≡ place → steps' ≡ steps → PassesOver line place steps place' steps'
+  goes-on : place' ≡ place + 1 → steps' ≡ steps + 4 → place < length line → first_of productions (drop place (entry_cats line)) ≡ None → PassesOver line place steps place' steps'

@@ -107,12 +107,12 @@ impl Model for Nesting {
 }
 
 impl Nesting {
-    /// Nothing is open.
-    pub(crate) fn new_in(alloc: Global) -> Nesting
-        ensures { result ≡ [] }
+    /// This alone is open.
+    pub(crate) fn of(inner: Open, alloc: Global) -> Nesting
+        ensures { result ≡ inner ∷ [] }
     {
         Nesting {
-            innermost: None,
+            innermost: Some(inner),
             outer: Vec::new(alloc),
         }
     }

@@ -110,10 +110,8 @@ impl Translator {
     pub(crate) fn over(line: ScrapLine, alloc: Global) -> Result<Translator, Memory>
         ensures { IfOk result (λ t. t ≡ record { nesting = CTexts.CText line ∷ []; scraps = 0; productions = 0 }) }
     {
-        let mut nesting = Nesting::new_in(alloc);
-        nesting.begin(Open::CText(line))?;
         Ok(Translator {
-            nesting,
+            nesting: Nesting::of(Open::CText(line), alloc),
             scraps: 0,
             productions: 0,
         })

@@ -15,12 +15,12 @@ ghost use Rattle.cw_scraps.specs.Applying.{state_of};
 ghost use Rattle.cw_scraps.specs.Changing.{Keeps};
 ghost use Rattle.cw_scraps.specs.Inserting.{entry_cats};
 ghost use Rattle.cw_scraps.specs.Lines.{IsSoundLine, roots_of, scraps_of};
-ghost use Rattle.cw_reduce.specs.Reduction.{GrowsByProductions, IsFirst, words_of};
+ghost use Rattle.cw_reduce.specs.Reduction.{GrowsByProductions, IsFirst, PassesOver, words_of};
 
 use cw_base::{Flags, Ledger, Memory, Steps};
 use cw_names::Names;
 use cw_scraps::{Marks, PRODUCTION_TOKENS, Production, ScrapLine};
-use cw_table::{ROW_COUNT, RowNo, first_production, may_fit, step_back};
+use cw_table::{ROW_COUNT, RowNo, first_of_four, may_fit, step_back};
 use cw_tokens::TokenStore;
 
 /// What was done to a line of scraps.
@@ -79,6 +79,7 @@ pub fn reduce<L: Ledger>(
                 produce(&production, line, names, marks, store, steps)?;
                 productions += 1;
                 place = place.saturating_sub(distance(row));
+                place = look_from(line, place, steps);
             }
             None => place += 1,
         }
@@ -116,11 +117,33 @@ fn first_row<L: Ledger>(line: &ScrapLine, place: usize, steps: &mut Steps<L>) ->
     if may_fit(first, second) {
         let third = line.cat_behind(place, 2, steps);
         let fourth = line.cat_behind(place, 3, steps);
-        return first_production([first, second, third, fourth]);
+        return first_of_four(first, second, third, fourth);
     }
     steps.tick();
     steps.tick();
     None
+}
+
+// The place at which the next look-up is worth while: behind one at which two categories tell that no row fits, for
+// which four steps are counted, or the place itself.
+#[inline(always)]
+fn look_from<L: Ledger>(line: &ScrapLine, place: usize, steps: &mut Steps<L>) -> usize
+    ensures { PassesOver line.now place steps.old result steps.new }
+{
+    let _length = line.len();
+    match line.pair_at(place) {
+        Some((first, second)) => {
+            if may_fit(first, second) {
+                return place;
+            }
+            steps.tick();
+            steps.tick();
+            steps.tick();
+            steps.tick();
+            place + 1
+        }
+        None => place,
+    }
 }
 
 // How far the pointer goes back after a row.
@@ -161,7 +184,6 @@ pub(crate) fn produce<L: Ledger>(
     ensures refused { OnErr result (store.new.lists ≡ store.old.lists) }
 {
     store.reserve(PRODUCTION_TOKENS)?;
-    marks.reserve(1)?;
-    line.apply_row(production, names, marks, store, steps);
+    line.apply_in_room(production, names, marks, store, steps)?;
     Ok(())
 }

@@ -38,6 +38,14 @@ use Rattle.cw_scraps.proofs.Keeping.{keeps-modes, keeps-named, search-named}
 use Rattle.cw_scraps.proofs.Productions.{cats-same}
 use Rattle.cw_scraps.proofs.Reservings.{length-scraps}
 
+-- where a name is marked, the row names a scrap in which it is looked for
+pub marked-named : (named : Option ℕ) (scraps : List Scrap) (name : Option NameId) (id : NameId) (spare : ℕ) → ((k : ℕ) → named ≡ Some k → 0 < spare) → name ≡ found_name (search_in named scraps) → name ≡ Some id → 0 < spare
+marked-named None scraps name id spare free is e = absurd (none (sym is ∙ e))
+  where
+    none : ◌≡◌ {A = Option NameId} None (Some id) → ⊥
+    none k = cc
+marked-named (Some k) scraps name id spare free is e = free k refl
+
 -- no name turns no scrap
 map-none : (xs : List Scrap) → map (named_by None) xs ≡ xs
 map-none [] = refl

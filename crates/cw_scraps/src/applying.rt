@@ -1,5 +1,5 @@
 //! One production on a line of scraps, with its marks and its reserving.
-ghost use Rattle.std.specs.Prelude.{◌≡◌, ◌+◌, ◌<◌, ◌≤◌, ◌++◌, true, length, drop};
+ghost use Rattle.std.specs.Prelude.{◌≡◌, ℕ, ◌+◌, ◌<◌, ◌≤◌, ◌++◌, true, length, drop, Some, OnOk, OnErr};
 ghost use Rattle.std.specs.Option.{option_to_list};
 ghost use Rattle.cw_names.specs.declared.NameId.{NameId};
 ghost use Rattle.cw_table.specs.Fitting.{row_fits};
@@ -15,7 +15,7 @@ use crate::line::ScrapLine;
 use crate::marks::Marks;
 use crate::producing::produce;
 use crate::reserving::{Turning, named_ident, reserve_named, turn_right};
-use cw_base::{Cat, Flags, Ledger, Steps};
+use cw_base::{Cat, Flags, Ledger, Memory, Steps};
 use cw_names::{NameId, Names};
 use cw_table::{ROW_COUNT, RowAtHand, RowNo, Table};
 use cw_tokens::TokenStore;
@@ -79,7 +79,6 @@ impl ScrapLine {
     }
 
     /// The same for a production of the program's own data.
-    #[inline(always)]
     pub fn apply_row<L: Ledger>(
         &mut self,
         production: &Production,
@@ -99,6 +98,34 @@ impl ScrapLine {
             (work store.old self.old marks.old names.old steps.old)
             (work store.new self.new marks.new names.new steps.new) }
     {
+        self.apply_marking(production, names, marks, store, steps);
+    }
+
+    /// The same, where room for the name that the row may mark is made first. After `Memory` nothing has changed.
+    #[inline(always)]
+    pub fn apply_in_room<L: Ledger>(
+        &mut self,
+        production: &Production,
+        names: &mut Names,
+        marks: &mut Marks,
+        store: &mut TokenStore,
+        steps: &mut Steps<L>,
+    ) -> Result<(), Memory>
+        requires from_one { 1 ≤ production.now.row.number }
+        requires to_last { production.now.row.number ≤ ROW_COUNT }
+        requires fits { row_fits (row_of productions production.now.row.number)
+            (drop production.now.place (cats_of (scraps_of store.old.lists self.old))) ≡ true }
+        requires sound { IsSoundLine store.old names.old self.old }
+        requires room { PRODUCTION_TOKENS ≤ store.old.spare }
+        ensures applied { OnOk result (IsApplied production.now.flags.now (row_of productions production.now.row.number)
+            production.now.place (work store.old self.old marks.old names.old steps.old)
+            (work store.new self.new marks.new names.new steps.new)) }
+        ensures line { OnErr result (self.new ≡ self.old) }
+        ensures names { OnErr result (names.new ≡ names.old) }
+        ensures marks { OnErr result (marks.new ≡ marks.old) }
+        ensures store { OnErr result (store.new ≡ store.old) }
+        ensures steps { OnErr result (steps.new ≡ steps.old) }
+    {
         let row = RowAtHand::of(production.row);
         let underline = row.underline();
         let reserve = row.reserve();
@@ -114,11 +141,13 @@ impl ScrapLine {
                 self.apply_naming(&at_hand, names, marks, store, steps);
             }
             _ => {
+                marks.reserve(1)?;
                 // A copy, so that no other production needs a place in memory.
                 let production = *production;
                 self.apply_marking(&production, names, marks, store, steps);
             }
         }
+        Ok(())
     }
 
     /// The same, kept apart since few rows mark or reserve.
@@ -171,7 +200,7 @@ impl ScrapLine {
             (drop production.now.place (cats_of (scraps_of store.old.lists self.old))) ≡ true }
         requires sound { IsSoundLine store.old names.old self.old }
         requires room { PRODUCTION_TOKENS ≤ store.old.spare }
-        requires free { 0 < marks.old.spare }
+        requires free { (k : ℕ) → production.now.underline ≡ Some k → 0 < marks.old.spare }
         ensures { IsApplied production.now.flags.now production.now.row.now production.now.place
             (work store.old self.old marks.old names.old steps.old)
             (work store.new self.new marks.new names.new steps.new) }
@@ -196,7 +225,7 @@ impl ScrapLine {
 
 /// Marks a name, if there is one.
 fn mark(name: Option<NameId>, marks: &mut Marks)
-    requires { 0 < marks.old.spare }
+    requires { (id : NameId) → name ≡ Some id → 0 < marks.old.spare }
     ensures names { marks.new.names ≡ marks.old.names ++ option_to_list name }
     ensures spare { marks.old.spare ≤ marks.new.spare + 1 }
 {

@@ -1,6 +1,6 @@
 //! A line of scraps: the two ends of one vector, with a gap between them.
 ghost use Rattle.std.specs.Prelude.{◌≡◌, ◌≢◌, ◌+◌, ◌-◌, ◌^◌, ◌<◌, ◌≤◌, ◌↔◌, [], ◌∷◌, ◌++◌, length, take, drop, set};
-ghost use Rattle.std.specs.Prelude.{IsTrue, OnOk, OnErr, slice_index_or};
+ghost use Rattle.std.specs.Prelude.{IsTrue, IfSome, OnOk, OnErr, slice_index_or};
 ghost use Rattle.cw_base.specs.declared.category.Cat.TheVariants.{End};
 ghost use Rattle.cw_scraps.specs.Gap.{around, IsGap};
 ghost use Rattle.cw_scraps.specs.Lines.{no_entry};
@@ -130,6 +130,21 @@ impl ScrapLine {
     {
         counter.tick();
         read_cat_behind(&self.items, self.left, self.right, place, k)
+    }
+
+    /// The categories of two scraps, one behind the other, where both of them lie before the gap.
+    #[inline(always)]
+    pub fn pair_at(&self, place: usize) -> Option<(Cat, Cat)>
+        ensures there { IfSome result (λ pair. place + 1 < length self.now) }
+        ensures first { IfSome result (λ pair. pair.0 ≡ (slice_index_or self.now place no_entry).cat) }
+        ensures second { IfSome result (λ pair. pair.1 ≡ (slice_index_or self.now (place + 1) no_entry).cat) }
+    {
+        if place < self.left && self.left - place > 1 {
+            let first = read_inside(&self.items, self.left, self.right, place);
+            let second = read_inside(&self.items, self.left, self.right, place + 1);
+            return Some((first.cat, second.cat));
+        }
+        None
     }
 
     /// The translation of a scrap.

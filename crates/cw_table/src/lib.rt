@@ -15,7 +15,7 @@ mod types;
 pub use at_hand::RowAtHand;
 pub use back::step_back;
 pub use laws::{distance_laws, rewriting_laws, walk_laws};
-pub use masks::{first_production, may_fit};
+pub use masks::{first_of_four, first_production, may_fit};
 pub use productions::{ROW_COUNT, table};
 pub use ranks::rank;
 pub use types::{Action, Choice, Piece, Pieces, Row, RowNo, RowResult, Table};

@@ -20,7 +20,18 @@ pub fn first_production(window: [Cat; 4]) -> Option<RowNo>
     ensures from_one { IfSome result (λ row. 1 ≤ row.number) }
     ensures to_last { IfSome result (λ row. row.number ≤ ROW_COUNT) }
 {
-    let fitting = mask(window[0], 0) & mask(window[1], 1) & mask(window[2], 2) & mask(window[3], 3);
+    first_of_four(window[0], window[1], window[2], window[3])
+}
+
+/// The same of four categories that stand in no array.
+#[inline(always)]
+pub fn first_of_four(first: Cat, second: Cat, third: Cat, fourth: Cat) -> Option<RowNo>
+    ensures first { result ≡ option_map (λ row. row.number) (first_of productions (first ∷ second ∷ third ∷ fourth ∷
+        [])) }
+    ensures from_one { IfSome result (λ row. 1 ≤ row.number) }
+    ensures to_last { IfSome result (λ row. row.number ≤ ROW_COUNT) }
+{
+    let fitting = mask(first, 0) & mask(second, 1) & mask(third, 2) & mask(fourth, 3);
     if fitting == 0 {
         None
     } else {

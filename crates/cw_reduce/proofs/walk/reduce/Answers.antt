@@ -3,7 +3,7 @@ use Rattle.std.proofs.Common.{arith}
 use Rattle.cw_scraps.proofs.Applied.{keeps-trans}
 use Rattle.cw_scraps.specs.Applying.{state_of}
 use Rattle.cw_scraps.specs.Lines.{roots_of}
-use Rattle.cw_reduce.proofs.WalkLoop.{Turn, turn, Stops, stops, passes, ends, light, few}
+use Rattle.cw_reduce.proofs.WalkLoop.{Turn, turn, Stops, stops, passes, passes-over, less-over, ends, light, few}
 use Rattle.cw_reduce.proofs.walk.reduce.Goals as goal
 
 pub produce-requires-clause-fits : goal.produce-requires-clause-fits
@@ -40,12 +40,12 @@ overflow_add-productions g c =
 pub loop-place-smaller-in-Some : goal.loop-place-smaller-in-Some
 loop-place-smaller-in-Some g c =
     let t : Turn c.args.flags.now c.args.line.now c.args.store.now c.args.names.now c.args.marks.now c.args.steps.now c.loop-place.line c.loop-place.store c.loop-place.names c.loop-place.marks c.loop-place.steps c.loop-place.place c.loop-place.productions c.in-Some.row.number = turn c.args.flags.now c.args.line.now c.args.store.now c.args.names.now c.args.marks.now c.args.steps.now c.loop-place.line c.loop-place.store c.loop-place.names c.loop-place.marks c.loop-place.steps c.loop-place.place c.loop-place.productions c.loop-place.invariant c.in-Some.row.number (omega (arith, c.len.ensures.length)) c.in-Some.ensures.first in
-    t.less (state_of c.produce.new.store.lists c.produce.new.line c.produce.new.marks c.produce.new.names) c.distance.result c.saturating_sub-place.result (rw c.row_at.ensures.same at c.in_ok-produce-in-Some.ensures.state) c.distance.ensures c.saturating_sub-place.ensures
+    omega (arith, less-over _ _ _ _ _ (state_of c.produce.new.store.lists c.produce.new.line c.produce.new.marks c.produce.new.names) c.look_from-place.ensures, t.less (state_of c.produce.new.store.lists c.produce.new.line c.produce.new.marks c.produce.new.names) c.distance.result c.saturating_sub-place.result (rw c.row_at.ensures.same at c.in_ok-produce-in-Some.ensures.state) c.distance.ensures c.saturating_sub-place.ensures)
 
 pub loop-place-preserved-in-Some : goal.loop-place-preserved-in-Some
 loop-place-preserved-in-Some g c =
     let t : Turn c.args.flags.now c.args.line.now c.args.store.now c.args.names.now c.args.marks.now c.args.steps.now c.loop-place.line c.loop-place.store c.loop-place.names c.loop-place.marks c.loop-place.steps c.loop-place.place c.loop-place.productions c.in-Some.row.number = turn c.args.flags.now c.args.line.now c.args.store.now c.args.names.now c.args.marks.now c.args.steps.now c.loop-place.line c.loop-place.store c.loop-place.names c.loop-place.marks c.loop-place.steps c.loop-place.place c.loop-place.productions c.loop-place.invariant c.in-Some.row.number (omega (arith, c.len.ensures.length)) c.in-Some.ensures.first in
-    t.next c.distance.result c.saturating_sub-place.result c.distance.ensures c.saturating_sub-place.ensures c.produce.new.line c.produce.new.store c.produce.new.names c.produce.new.marks c.produce.new.steps (rw c.row_at.ensures.same at c.in_ok-produce-in-Some.ensures.state) (omega (arith, (rw c.row_at.ensures.same at c.in_ok-produce-in-Some.ensures.steps), c.in-Some.ensures.steps)) c.in_ok-produce-in-Some.ensures.sound (rw c.row_at.ensures.same at c.in_ok-produce-in-Some.ensures.others) c.in_ok-produce-in-Some.ensures.words c.in_ok-produce-in-Some.ensures.tokens
+    passes-over _ _ _ _ _ _ _ _ _ _ _ _ _ (t.next c.distance.result c.saturating_sub-place.result c.distance.ensures c.saturating_sub-place.ensures c.produce.new.line c.produce.new.store c.produce.new.names c.produce.new.marks c.produce.new.steps (rw c.row_at.ensures.same at c.in_ok-produce-in-Some.ensures.state) (omega (arith, (rw c.row_at.ensures.same at c.in_ok-produce-in-Some.ensures.steps), c.in-Some.ensures.steps)) c.in_ok-produce-in-Some.ensures.sound (rw c.row_at.ensures.same at c.in_ok-produce-in-Some.ensures.others) c.in_ok-produce-in-Some.ensures.words c.in_ok-produce-in-Some.ensures.tokens) _ _ c.look_from-place.ensures
 
 pub loop-place-preserved : goal.loop-place-preserved
 loop-place-preserved g c = rw c.row_at.ensures.same (passes c.args.flags.now c.args.line.now c.args.store.now c.args.names.now c.args.marks.now c.args.steps.now c.loop-place.line c.loop-place.store c.loop-place.names c.loop-place.marks c.loop-place.steps c.loop-place.place c.loop-place.productions c.loop-place.invariant c.row_at.new.steps (omega (arith, c.len.ensures.length)) c.in-None.ensures.first c.in-None.ensures.steps)

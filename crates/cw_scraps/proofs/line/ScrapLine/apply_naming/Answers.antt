@@ -4,7 +4,7 @@ use Rattle.cw_table.specs.Rewriting.{search_in}
 use Rattle.cw_scraps.specs.Lines.{scraps_of}
 use Rattle.cw_scraps.specs.Applying.{retyped, retyped_by}
 use Rattle.cw_scraps.proofs.Fits.{fits-at, behind}
-use Rattle.cw_scraps.proofs.Applied.{fits-line, right-inside, reserved-there, applies, retyped-is, state-is, sound-after, ticked-is}
+use Rattle.cw_scraps.proofs.Applied.{marked-named, fits-line, right-inside, reserved-there, applies, retyped-is, state-is, sound-after, ticked-is}
 use Rattle.cw_scraps.proofs.line.ScrapLine.apply_naming.Goals as goal
 
 pub named_ident-marked-requires-clause-named : goal.named_ident-marked-requires-clause-named
@@ -36,6 +36,9 @@ pub turn_right-requires-clause-start : goal.turn_right-requires-clause-start
 turn_right-requires-clause-start g c =
     let f = fits-at c.args.production.now.flags.now c.args.production.now.row.now (drop c.args.production.now.place c.args.self.now) c.requires.row (fits-line c.args.production.now.row.now c.args.store.now.lists c.args.self.now c.args.production.now.place c.requires.fits) in
     rw c.offset.ensures (right-inside c.args.production.now.flags.now c.args.production.now.row.now c.args.production.now.place c.reserve_named-reserved.new.store.lists c.args.self.now c.produce.new.store.lists c.produce.new.line f c.produce.ensures.replaced)
+
+pub mark-requires : goal.mark-requires
+mark-requires g c = λ id e. marked-named c.args.production.now.underline _ c.named_ident-marked.result id _ c.requires.free c.named_ident-marked.ensures e
 
 pub retype-requires : goal.retype-requires
 retype-requires g c = λ id e. reserved-there c.args.names.now c.args.production.now.row.now.action.reserve c.args.production.now.place (scraps_of c.args.store.now.lists c.args.self.now) c.reserve_named-reserved.result id c.requires.sound.named (rw c.requires.reserve at c.reserve_named-reserved.ensures.name) e

@@ -1,5 +1,0 @@
--- The row at hand is that of the production's number.
-use Rattle.cw_scraps.proofs.line.ScrapLine.apply_row.Goals as goal
-
-pub apply_naming-requires-clause-fits : goal.apply_naming-requires-clause-fits
-apply_naming-requires-clause-fits g c = rw c.of-row.ensures.row c.requires.fits
