@@ -115,8 +115,9 @@ fn first_row<L: Ledger>(line: &ScrapLine, place: usize, steps: &mut Steps<L>) ->
     let first = line.cat_behind(place, 0, steps);
     let second = line.cat_behind(place, 1, steps);
     if may_fit(first, second) {
-        let third = line.cat_behind(place, 2, steps);
+        // Where the fourth is there the third needs no test.
         let fourth = line.cat_behind(place, 3, steps);
+        let third = line.cat_behind(place, 2, steps);
         return first_of_four(first, second, third, fourth);
     }
     steps.tick();
