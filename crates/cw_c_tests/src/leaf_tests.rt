@@ -290,25 +290,29 @@ fn a_word_is_reserved_in_its_place_only(rt: HostRuntime) -> Result<(), Fail> {
     Ok(())
 }
 
-#[test]
-fn words_are_tokens_by_themselves(rt: HostRuntime) -> Result<(), Fail> {
-    let mut names = Names::with_words(rt.alloc())?;
+// The tokens of a comma and of a word that is reserved.
+fn words_of(alloc: Global) -> Result<(Token, Token), Memory> {
+    let mut names = Names::with_words(alloc)?;
     let comma = Tok {
         kind: TokKind::Sign(Sign::Comma),
         text: b",",
         span: Span { start: 3, end: 4 },
         hash_line: false,
     };
-    let token = word_token(&comma, &mut names)?;
-    assert_eq!(rt; token, Token::Source(3, MathMode::Math));
     let word = Tok {
         kind: TokKind::Identifier,
         text: b"int",
         span: Span { start: 5, end: 8 },
         hash_line: false,
     };
-    let token = word_token(&word, &mut names)?;
-    let is_reserved = matches!(token, Token::Reserved(_, 5, Cat::RawInt));
-    assert!(rt; is_reserved);
+    let sign = word_token(&comma, &mut names)?;
+    Ok((sign, word_token(&word, &mut names)?))
+}
+
+#[test]
+fn words_are_tokens_by_themselves(rt: HostRuntime) -> Result<(), Fail> {
+    let (comma, word) = words_of(rt.alloc())?;
+    assert_eq!(rt; comma, Token::Source(3, MathMode::Math));
+    assert!(rt; matches!(word, Token::Reserved(_, 5, Cat::RawInt)));
     Ok(())
 }

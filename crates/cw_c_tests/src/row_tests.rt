@@ -504,10 +504,9 @@ fn is_marked_type(bench: &Bench, name: NameId) -> bool
     marks.len() == 1 && marks.name(0) == name && bench.names.category(name) == Cat::RawInt
 }
 
-// `a struct a; a b`, and the declaration of a structure `a` in it: to its right each bare `a` is a type from now on.
-#[test]
-fn reserving_turns_scraps_to_the_right_alone(rt: HostRuntime) -> Result<(), Fail> {
-    let alloc = rt.alloc();
+// What `a struct a; a b` becomes by the declaration of a structure `a` in it: the row and the steps; whether the last
+// items are as wanted, and the name is a type; and the first other category.
+fn reserved(alloc: Global) -> Result<((u8, u64), [bool; 2], Option<usize>), Memory> {
     let mut bench = bench_of(alloc, &[Cat::Exp, Cat::Exp, Cat::StructLike, Cat::Semi])?;
     add_words(
         b"acadab",
@@ -516,7 +515,7 @@ fn reserving_turns_scraps_to_the_right_alone(rt: HostRuntime) -> Result<(), Fail
         &mut bench.names,
     )?;
     let row = produce(&mut bench, 1, &Flags::start())?;
-    assert_eq!(rt; (row, bench.steps.count()), (41, 7));
+    let steps = bench.steps.count();
     let items = last_items(alloc, &bench)?;
     let name = bench.names.find_or_add(EntryKind::Ident, b"a")?;
     let wanted = [
@@ -524,8 +523,7 @@ fn reserving_turns_scraps_to_the_right_alone(rt: HostRuntime) -> Result<(), Fail
         FlatItem::Reserved(name, 2),
         FlatItem::Reserved(name, 4),
     ];
-    assert!(rt; items == wanted.map(Some));
-    assert!(rt; is_marked_type(&bench, name));
+    let are_turned = items == wanted.map(Some);
     let cats = [
         Cat::Exp,
         Cat::DeclHead,
@@ -534,7 +532,20 @@ fn reserving_turns_scraps_to_the_right_alone(rt: HostRuntime) -> Result<(), Fail
         Cat::Exp,
         Cat::End,
     ];
-    assert_eq!(rt; first_other(&bench.line, &cats), None);
+    let other = first_other(&bench.line, &cats);
+    Ok((
+        (row, steps),
+        [are_turned, is_marked_type(&bench, name)],
+        other,
+    ))
+}
+
+// To its right each bare `a` is a type from now on.
+#[test]
+fn reserving_turns_scraps_to_the_right_alone(rt: HostRuntime) -> Result<(), Fail> {
+    let (counts, turned, other) = reserved(rt.alloc())?;
+    assert_eq!(rt; counts, (41, 7));
+    assert_eq!(rt; (turned, other), ([true; 2], None));
     Ok(())
 }
 
@@ -562,20 +573,34 @@ fn produce_block(bench: &mut Bench) -> Result<(u8, u8, usize), Memory>
     Ok((statement, block, room.saturating_sub(bench.store.spare())))
 }
 
+// The list and the modes of the one scrap of a line.
+fn only_scrap(line: &ScrapLine) -> Option<(usize, MathMode, MathMode)> {
+    if line.len() != 1 {
+        return None;
+    }
+    let part = line.part_at(0);
+    Some((part.list.index, part.left, part.right))
+}
+
+// What is produced of `{a;}`; whether its translation is as wanted; and the scrap that is left.
+fn made_block(
+    alloc: Global,
+) -> Result<((u8, u8, usize), bool, Option<(usize, MathMode, MathMode)>), Memory> {
+    let mut bench = bench_of(alloc, &[])?;
+    add_block(&mut bench.line, &mut bench.store, &mut bench.names)?;
+    let produced = produce_block(&mut bench)?;
+    let bytes = translation(alloc, &bench.line, 0, &bench.store, &bench.names)?;
+    let is_laid = bytes.as_slice() == b"F$0>#F12FU$3<#F".as_slice();
+    Ok((produced, is_laid, only_scrap(&bench.line)))
+}
+
 // Its statement and then the block: one list of ten tokens, four toggles between them and its beginning take fifteen of
 // the spare.
 #[test]
 fn a_block_takes_one_list_with_toggles_between_its_pieces(rt: HostRuntime) -> Result<(), Fail> {
-    let alloc = rt.alloc();
-    let mut bench = bench_of(alloc, &[])?;
-    add_block(&mut bench.line, &mut bench.store, &mut bench.names)?;
-    assert_eq!(rt; produce_block(&mut bench)?, (8, 50, 15));
-    let bytes = translation(alloc, &bench.line, 0, &bench.store, &bench.names)?;
-    assert!(rt; bytes.as_slice() == b"F$0>#F12FU$3<#F".as_slice());
-    assert_eq!(rt; bench.line.len(), 1);
-    let part = bench.line.part_at(0);
-    assert!(rt;
-        part.list.index == 5 && part.left == MathMode::Text && part.right == MathMode::Text
-    );
+    let (produced, is_laid, scrap) = made_block(rt.alloc())?;
+    assert_eq!(rt; produced, (8, 50, 15));
+    assert!(rt; is_laid);
+    assert_eq!(rt; scrap, Some((5, MathMode::Text, MathMode::Text)));
     Ok(())
 }

@@ -104,6 +104,11 @@ fn agree(one: &Left, other: &Left) -> bool {
         && one.marks == other.marks
 }
 
+// Whether the walk leaves of a line what the slow program does.
+fn ends_alike(alloc: Global, text: &[u8]) -> Result<bool, Memory> {
+    Ok(agree(&slowly(alloc, text)?, &by_walk(alloc, text)?))
+}
+
 #[test]
 fn the_walk_ends_as_the_slow_program(rt: HostRuntime) -> Result<(), Fail> {
     let texts: [&[u8]; 6] = [
@@ -115,7 +120,7 @@ fn the_walk_ends_as_the_slow_program(rt: HostRuntime) -> Result<(), Fail> {
         b"{I(a){b;}E{c;}}}",
     ];
     for text in texts {
-        assert!(rt; agree(&slowly(rt.alloc(), text)?, &by_walk(rt.alloc(), text)?));
+        assert!(rt; ends_alike(rt.alloc(), text)?);
     }
     Ok(())
 }

@@ -76,42 +76,50 @@ fn has_items(flat: &FlatTokens, wanted: &[FlatItem]) -> bool {
     true
 }
 
-#[test]
-fn a_list_inside_another_is_laid_flat_and_reserved_in_place(rt: HostRuntime) -> Result<(), Fail> {
-    let alloc = rt.alloc();
+// The room that two lists take, what searches answer and reservings, and whether the outer list is laid flat.
+fn list_inside_another(
+    alloc: Global,
+    name: NameId,
+) -> Result<(usize, [Option<NameId>; 4], bool), Memory> {
     let names = Names::with_words(alloc)?;
-    let name = NameId { index: 50 };
     let mut store = TokenStore::new_in(alloc);
     store.reserve(6)?;
     let room = store.spare();
     let inside = word(&mut store, name);
     let outside = around(&mut store, Token::List(inside));
-    assert_eq!(rt; room - store.spare(), 6);
+    let taken = room - store.spare();
     let found = [
         store.first_ident(outside, &names),
         store.bare_name(outside),
         store.reserve_ident(outside, &names),
         store.first_ident(outside, &names),
     ];
-    assert!(rt; found == [Some(name), None, Some(name), None]);
     let wanted = [
         FlatItem::Control(Control::Break),
         FlatItem::Reserved(name, 7),
         FlatItem::Source(9),
     ];
-    assert!(rt; has_items(&store.flat(alloc, outside)?, &wanted));
-    Ok(())
+    let is_flat = has_items(&store.flat(alloc, outside)?, &wanted);
+    Ok((taken, found, is_flat))
 }
 
 #[test]
-fn an_inner_text_stands_between_brackets_and_is_not_searched(rt: HostRuntime) -> Result<(), Fail> {
-    let alloc = rt.alloc();
+fn a_list_inside_another_is_laid_flat_and_reserved_in_place(rt: HostRuntime) -> Result<(), Fail> {
+    let name = NameId { index: 50 };
+    let seen = list_inside_another(rt.alloc(), name)?;
+    assert_eq!(rt; seen, (6, [Some(name), None, Some(name), None], true));
+    Ok(())
+}
+
+// What is found in a list around an inner text, whether it is empty when it is laid flat, and whether it has its items
+// then.
+fn list_around_inner_text(alloc: Global) -> Result<(Option<NameId>, bool, bool), Memory> {
     let names = Names::with_words(alloc)?;
     let mut store = TokenStore::new_in(alloc);
     store.reserve(6)?;
     let inside = word(&mut store, NameId { index: 50 });
     let outside = around(&mut store, Token::Inner(inside));
-    assert!(rt; store.first_ident(outside, &names).is_none());
+    let found = store.first_ident(outside, &names);
     let wanted = [
         FlatItem::Open,
         FlatItem::Control(Control::Break),
@@ -120,15 +128,19 @@ fn an_inner_text_stands_between_brackets_and_is_not_searched(rt: HostRuntime) ->
         FlatItem::Source(9),
     ];
     let flat = store.flat(alloc, outside)?;
-    assert!(rt; !flat.is_empty() && has_items(&flat, &wanted));
-    Ok(())
+    Ok((found, flat.is_empty(), has_items(&flat, &wanted)))
 }
 
 #[test]
-fn a_search_stops_at_a_word_like_case_and_at_the_mark(rt: HostRuntime) -> Result<(), Fail> {
-    let alloc = rt.alloc();
+fn an_inner_text_stands_between_brackets_and_is_not_searched(rt: HostRuntime) -> Result<(), Fail> {
+    let seen = list_around_inner_text(rt.alloc())?;
+    assert_eq!(rt; seen, (None, false, true));
+    Ok(())
+}
+
+// What is found behind a word like `case`, behind the mark, behind a word like `int` and behind a wall.
+fn first_idents(alloc: Global, name: NameId) -> Result<[Option<NameId>; 4], Memory> {
     let names = Names::with_words(alloc)?;
-    let name = NameId { index: 50 };
     let mut store = TokenStore::new_in(alloc);
     store.reserve(12)?;
     let word = Token::Ident(name, 2);
@@ -136,19 +148,26 @@ fn a_search_stops_at_a_word_like_case_and_at_the_mark(rt: HostRuntime) -> Result
     let mark = pair(&mut store, Token::Control(Control::Inserted), word);
     let kind = pair(&mut store, Token::Reserved(name, 1, Cat::RawInt), word);
     let wall = pair(&mut store, Token::Control(Control::Wall), word);
-    let found = [
+    Ok([
         store.first_ident(case, &names),
         store.first_ident(mark, &names),
         store.first_ident(kind, &names),
         store.first_ident(wall, &names),
-    ];
-    assert!(rt; found == [None, None, Some(name), Some(name)]);
-    Ok(())
+    ])
 }
 
 #[test]
-fn a_store_that_is_emptied_keeps_its_room(rt: HostRuntime) -> Result<(), Fail> {
-    let mut store = TokenStore::new_in(rt.alloc());
+fn a_search_stops_at_a_word_like_case_and_at_the_mark(rt: HostRuntime) -> Result<(), Fail> {
+    let name = NameId { index: 50 };
+    let found = first_idents(rt.alloc(), name)?;
+    assert_eq!(rt; found, [None, None, Some(name), Some(name)]);
+    Ok(())
+}
+
+// Whether too much room is refused, whether a store that is emptied has all its room but for one list's beginning, and
+// whether it has it behind the refusal.
+fn emptied(alloc: Global) -> Result<[bool; 3], Memory> {
+    let mut store = TokenStore::new_in(alloc);
     store.reserve(5)?;
     let room = store.spare();
     let _list = word(&mut store, NameId { index: 50 });
@@ -156,8 +175,27 @@ fn a_store_that_is_emptied_keeps_its_room(rt: HostRuntime) -> Result<(), Fail> {
     store.reset();
     let emptied = store.spare();
     let refused = store.reserve(usize::MAX) == Err(Memory);
-    assert!(rt; refused && emptied + 4 == room && store.spare() == emptied);
+    Ok([refused, emptied + 4 == room, store.spare() == emptied])
+}
+
+#[test]
+fn a_store_that_is_emptied_keeps_its_room(rt: HostRuntime) -> Result<(), Fail> {
+    assert_eq!(rt; emptied(rt.alloc())?, [true; 3]);
     Ok(())
+}
+
+// The room of a store that was refused room, the first list of a store that asks again, and the room that it takes.
+fn asked_again(alloc: Global) -> Result<[usize; 3], Memory> {
+    let mut store = TokenStore::new_in(alloc);
+    let refused = if store.reserve(3).is_err() {
+        store.spare()
+    } else {
+        0
+    };
+    store.reserve(3)?;
+    let room = store.spare();
+    let list = word(&mut store, NameId { index: 50 });
+    Ok([refused, list.index, room - store.spare()])
 }
 
 // Run with `rt try --test --fail-alloc N` for N from 1 to 3, each of the three vectors is refused once.
@@ -165,20 +203,12 @@ fn a_store_that_is_emptied_keeps_its_room(rt: HostRuntime) -> Result<(), Fail> {
 fn a_store_that_was_refused_room_is_as_before_and_can_ask_again(
     rt: HostRuntime,
 ) -> Result<(), Fail> {
-    let mut store = TokenStore::new_in(rt.alloc());
-    if store.reserve(3).is_err() {
-        assert_eq!(rt; store.spare(), 0);
-    }
-    store.reserve(3)?;
-    let room = store.spare();
-    let list = word(&mut store, NameId { index: 50 });
-    assert_eq!(rt; (list.index, room - store.spare()), (0, 3));
+    assert_eq!(rt; asked_again(rt.alloc())?, [0, 0, 3]);
     Ok(())
 }
 
-#[test]
-fn an_inner_text_is_trimmed_by_itself(rt: HostRuntime) -> Result<(), Fail> {
-    let alloc = rt.alloc();
+// Whether a list around an inner text has its items when it is trimmed.
+fn is_trimmed_around_inner_text(alloc: Global) -> Result<bool, Memory> {
     let mut store = TokenStore::new_in(alloc);
     store.reserve(6)?;
     let inside = word(&mut store, NameId { index: 50 });
@@ -191,7 +221,12 @@ fn an_inner_text_is_trimmed_by_itself(rt: HostRuntime) -> Result<(), Fail> {
         FlatItem::Close,
         FlatItem::Source(9),
     ];
-    assert!(rt; has_items(&flat, &wanted));
+    Ok(has_items(&flat, &wanted))
+}
+
+#[test]
+fn an_inner_text_is_trimmed_by_itself(rt: HostRuntime) -> Result<(), Fail> {
+    assert!(rt; is_trimmed_around_inner_text(rt.alloc())?);
     Ok(())
 }
 
@@ -213,21 +248,27 @@ fn is_trimmed_alike(store: &TokenStore, alloc: Global, id: ListId) -> Result<boo
     Ok(true)
 }
 
-#[test]
-fn one_walk_trims_as_two_do(rt: HostRuntime) -> Result<(), Fail> {
-    let alloc = rt.alloc();
+// Whether one walk trims an inner text, a list around it and a list around another as two walks do; and whether it
+// gives the items of the last.
+fn are_trimmed_alike(alloc: Global) -> Result<[bool; 4], Memory> {
     let name = NameId { index: 50 };
     let mut store = TokenStore::new_in(alloc);
     store.reserve(12)?;
     let inside = word(&mut store, name);
     let outside = around(&mut store, Token::Inner(inside));
-    assert!(rt; is_trimmed_alike(&store, alloc, inside)?);
-    assert!(rt; is_trimmed_alike(&store, alloc, outside)?);
+    let inner = is_trimmed_alike(&store, alloc, inside)?;
+    let around_inner = is_trimmed_alike(&store, alloc, outside)?;
     store.reset();
     let inside = word(&mut store, name);
     let outside = around(&mut store, Token::List(inside));
-    assert!(rt; is_trimmed_alike(&store, alloc, outside)?);
+    let around_list = is_trimmed_alike(&store, alloc, outside)?;
     let wanted = [FlatItem::Ident(name, 7), FlatItem::Source(9)];
-    assert!(rt; has_items(&store.flat_trimmed(alloc, outside)?, &wanted));
+    let has_wanted = has_items(&store.flat_trimmed(alloc, outside)?, &wanted);
+    Ok([inner, around_inner, around_list, has_wanted])
+}
+
+#[test]
+fn one_walk_trims_as_two_do(rt: HostRuntime) -> Result<(), Fail> {
+    assert_eq!(rt; are_trimmed_alike(rt.alloc())?, [true; 4]);
     Ok(())
 }

@@ -63,14 +63,8 @@ fn each_row_is_found_by_its_own_tests(rt: HostRuntime) {
             first_of(row.tests[2]),
             first_of(row.tests[3]),
         ];
-        assert!(rt;
-            table.first_at(window) == Some(RowNo { number }),
-            "production {number}"
-        );
-        assert!(rt;
-            first_production(window) == Some(RowNo { number }),
-            "production {number}"
-        );
+        let found = [table.first_at(window), first_production(window)];
+        assert_eq!(rt; found, [Some(RowNo { number }); 2]);
     }
 }
 

@@ -9,6 +9,7 @@ use cw_secnames::{NameUses, SecNames};
 use cw_tokens::{FlatItem, FlatTokens, TokenStore};
 use cw_trees::Control;
 use std::alloc::{AllocError, Global};
+use std::process::Abort;
 use std::test::Fail;
 
 // The translation of a text, with the flags and names of the start, and all that it was made with.
@@ -275,21 +276,36 @@ fn told(alloc: Global, sample: &Sample) -> Result<(Bytes, u64, u64), Memory> {
     Ok((bytes, outcome.done.scraps, outcome.done.productions))
 }
 
+// A sample has to print its bytes. The answer is how many scraps it has, and in how many productions it is reduced.
+fn expect_bytes(
+    rt: &impl Abort,
+    alloc: Global,
+    sample: &Sample,
+    i: usize,
+) -> Result<(u64, u64), Memory> {
+    let (bytes, scraps, productions) = told(alloc, sample)?;
+    assert_eq!(rt; bytes.as_slice(), sample.bytes, "text {i}");
+    Ok((scraps, productions))
+}
+
 #[test]
 fn worked_texts_have_their_bytes_and_counts(rt: HostRuntime) -> Result<(), Fail> {
     for (i, sample) in SAMPLES.iter().enumerate() {
-        let (bytes, scraps, productions) = told(rt.alloc(), sample)?;
-        assert_eq!(rt; bytes.as_slice(), sample.bytes, "text {i}");
+        let (scraps, productions) = expect_bytes(&rt, rt.alloc(), sample, i)?;
         let wanted = (sample.scraps, sample.productions.unwrap_or(productions));
         assert_eq!(rt; (scraps, productions), wanted, "counts of text {i}");
     }
     Ok(())
 }
 
+// The marks of a C part.
+fn marks_of(alloc: Global, text: &[u8]) -> Result<usize, Memory> {
+    Ok(translated(alloc, text, Mode::CPart)?.marks)
+}
+
 #[test]
 fn a_declaration_has_two_marks(rt: HostRuntime) -> Result<(), Fail> {
-    let outcome = translated(rt.alloc(), b"int a=b+c, *d;", Mode::CPart)?;
-    assert_eq!(rt; outcome.marks, 2);
+    assert_eq!(rt; marks_of(rt.alloc(), b"int a=b+c, *d;")?, 2);
     Ok(())
 }
 
@@ -333,18 +349,28 @@ fn counts(alloc: Global, text: &[u8]) -> Result<[u64; 4], Memory> {
     ])
 }
 
+// The counts of 200 parentheses and then 200 statements.
+fn counts_with_parentheses(alloc: Global) -> Result<[u64; 4], Memory> {
+    let text = repeated(alloc, b")", 200, b"a;", 200)?;
+    counts(alloc, &text)
+}
+
 #[test]
 fn what_stays_at_the_left_is_not_looked_at_again(rt: HostRuntime) -> Result<(), Fail> {
-    let text = repeated(rt.alloc(), b")", 200, b"a;", 200)?;
     // With 200 blanks between them, 201 scraps are left.
-    assert_eq!(rt; counts(rt.alloc(), &text)?, [600, 399, 4796, 200]);
+    assert_eq!(rt; counts_with_parentheses(rt.alloc())?, [600, 399, 4796, 200]);
     Ok(())
+}
+
+// The counts of half a million statements.
+fn counts_of_statements(alloc: Global) -> Result<[u64; 4], Memory> {
+    let text = repeated(alloc, b"", 0, b"a;", 500000)?;
+    counts(alloc, &text)
 }
 
 #[test]
 fn a_text_of_a_million_scraps_is_one_scrap(rt: HostRuntime) -> Result<(), Fail> {
-    let text = repeated(rt.alloc(), b"", 0, b"a;", 500000)?;
-    let [scraps, productions, ..] = counts(rt.alloc(), &text)?;
+    let [scraps, productions, ..] = counts_of_statements(rt.alloc())?;
     assert_eq!(rt; (scraps, productions), (1000000, 999999));
     Ok(())
 }

@@ -1,27 +1,38 @@
 //! Tests of texts, words, ledgers, notes, exits and flags.
-use cw_base::{Bytes, Exit, Flags, Grade, Kept, NoteKind, Silent, Steps, Words};
+use cw_base::{Bytes, Exit, Flags, Grade, Kept, Memory, NoteKind, Silent, Steps, Words};
+use std::alloc::Global;
 use std::test::Fail;
+
+/// Whether a text has the bytes that it was made and grown of, how long it is when it was taken apart and made again,
+/// and whether a new one is empty.
+fn grown(alloc: Global) -> Result<(bool, usize, bool), Memory> {
+    let mut text = Bytes::from_slice(alloc, b"we")?;
+    text.push(b'b')?;
+    text.append(b" of C")?;
+    let is_grown = text.as_slice() == b"web of C".as_slice();
+    let text = Bytes::from_vec(text.into_vec());
+    Ok((is_grown, text.len(), Bytes::new_in(alloc).is_empty()))
+}
 
 #[test]
 fn bytes_grow(rt: HostRuntime) -> Result<(), Fail> {
-    let mut text = Bytes::from_slice(rt.alloc(), b"we")?;
-    text.push(b'b')?;
-    text.append(b" of C")?;
-    assert_eq!(rt; text.as_slice(), b"web of C".as_slice());
-    let text = Bytes::from_vec(text.into_vec());
-    assert_eq!(rt; text.len(), 8);
-    assert!(rt; Bytes::new_in(rt.alloc()).is_empty());
+    assert_eq!(rt; grown(rt.alloc())?, (true, 8, true));
     Ok(())
+}
+
+/// Whether a list of words begins empty, its length with two, and whether the second is found.
+fn kept_words(alloc: Global) -> Result<(bool, usize, bool), Memory> {
+    let mut words = Words::new_in(alloc);
+    let begins_empty = words.is_empty();
+    words.push(b"-bp")?;
+    words.push(b"foo")?;
+    let is_kept = words.word(1) == b"foo".as_slice();
+    Ok((begins_empty, words.len(), is_kept))
 }
 
 #[test]
 fn words_are_kept_in_order(rt: HostRuntime) -> Result<(), Fail> {
-    let mut words = Words::new_in(rt.alloc());
-    let begins_empty = words.is_empty();
-    words.push(b"-bp")?;
-    words.push(b"foo")?;
-    assert!(rt; begins_empty && words.len() == 2);
-    assert_eq!(rt; words.word(1), b"foo".as_slice());
+    assert_eq!(rt; kept_words(rt.alloc())?, (true, 2, true));
     Ok(())
 }
 

@@ -1,90 +1,166 @@
 //! What no clause says of desks: that calls succeed, and what the system answers.
-use cw_base::{Event, Out};
+ghost use Rattle.std.specs.Prelude.{◌<◌, length};
+
+use cw_base::{Event, Memory, Out};
 use cw_desk::{
     Batch, CountDesk, Desk, Fetched, FileDesk, Flushed, MadeOut, MemDesk, Opened, QuietDesk, Taken,
 };
 use std::alloc::Global;
 use std::test::Fail;
 
-#[test]
-fn a_desk_in_memory(rt: HostRuntime) -> Result<(), Fail> {
-    let mut desk = MemDesk::new_in(rt.alloc());
+/// Makes an output and puts bytes to it. The answer is that of the put, or that of a making that did not succeed.
+fn make_and_put<D: Desk>(
+    desk: &mut D,
+    out: Out,
+    name: &[u8],
+    bytes: &[u8],
+) -> Result<Taken, MadeOut>
+    requires some { 0 < length bytes.now }
+{
+    match desk.make(out, name) {
+        MadeOut::Done => Ok(desk.put(out, bytes)),
+        made => Err(made),
+    }
+}
+
+/// What a desk answers that has no file `b`, and whose file `a` is read until a call fails; and the bytes of the first
+/// read.
+fn read_until_failing(desk: &mut MemDesk) -> Result<(Opened, [Fetched; 4], [u8; 3]), Fail> {
+    let missing = desk.open(b"b");
+    let Opened::File(id) = desk.open(b"a") else {
+        return Err(Fail::from("it has no file"));
+    };
+    let mut buffer = [0u8; 8];
+    let first = desk.read(id, &mut buffer);
+    let bytes = [buffer[0], buffer[1], buffer[2]];
+    let second = desk.read(id, &mut buffer);
+    let third = desk.read(id, &mut buffer);
+    let fourth = desk.read(id, &mut buffer);
+    Ok((missing, [first, second, third, fourth], bytes))
+}
+
+/// A desk with two files of one name, which gives three bytes at first, and whose fifth call fails.
+fn failing_desk(alloc: Global) -> Result<MemDesk, Memory> {
+    let mut desk = MemDesk::new_in(alloc);
     desk.add_file(b"a", b"old")?;
     desk.add_file(b"a", b"bytes")?;
     desk.limit(3)?;
     desk.limit(9)?;
     desk.fail_at(5)?;
-    assert_eq!(rt; desk.open(b"b"), Opened::Missing);
-    let Opened::File(id) = desk.open(b"a") else {
-        return Err(Fail::from("it has no file"));
-    };
-    let mut buffer = [0u8; 8];
-    assert_eq!(rt; desk.read(id, &mut buffer), Fetched::Got(3));
-    assert_eq!(rt; &buffer[..3], b"byt".as_slice());
-    assert_eq!(rt; desk.read(id, &mut buffer), Fetched::Got(2));
-    assert_eq!(rt; desk.read(id, &mut buffer), Fetched::Failed);
-    assert_eq!(rt; desk.read(id, &mut buffer), Fetched::End);
-    assert_eq!(rt; desk.make(Out::Tex, b"a.tex"), MadeOut::Done);
-    assert_eq!(rt; desk.put(Out::Tex, b"x"), Taken::Bytes(1));
-    assert_eq!(rt; desk.calls(), 8);
-    assert!(rt;
-        matches!(
-        desk.journal(),
+    Ok(desk)
+}
+
+fn is_made_and_written(journal: &[Event]) -> bool {
+    matches!(
+        journal,
         [Event::Made(Out::Tex, name), Event::Byte(Out::Tex, b'x')] if name.as_slice() == b"a.tex".as_slice()
     )
-    );
+}
+
+/// The answer of a desk that is written to, how often it was called, and whether its journal has that and no more.
+fn write_in_memory(desk: &mut MemDesk) -> (Result<Taken, MadeOut>, u64, bool) {
+    let taken = make_and_put(desk, Out::Tex, b"a.tex", b"x");
+    (taken, desk.calls(), is_made_and_written(desk.journal()))
+}
+
+#[test]
+fn a_desk_in_memory(rt: HostRuntime) -> Result<(), Fail> {
+    let (read, written) = {
+        let mut desk = failing_desk(rt.alloc())?;
+        (read_until_failing(&mut desk)?, write_in_memory(&mut desk))
+    };
+    let reads = [
+        Fetched::Got(3),
+        Fetched::Got(2),
+        Fetched::Failed,
+        Fetched::End,
+    ];
+    assert_eq!(rt; read, (Opened::Missing, reads, *b"byt"));
+    assert_eq!(rt; written, (Ok(Taken::Bytes(1)), 8, true));
     Ok(())
 }
 
 #[test]
 fn a_desk_that_keeps_nothing(rt: HostRuntime) -> Result<(), Fail> {
     let mut desk = CountDesk::new();
-    assert_eq!(rt; desk.open(b"a"), Opened::Missing);
-    assert_eq!(rt; desk.make(Out::Tex, b"a.tex"), MadeOut::Done);
-    assert_eq!(rt; desk.put(Out::Tex, b"xyz"), Taken::Bytes(3));
-    assert_eq!(rt; desk.put(Out::Term, b"!"), Taken::Bytes(1));
+    let missing = desk.open(b"a");
+    let tex = make_and_put(&mut desk, Out::Tex, b"a.tex", b"xyz");
+    let term = desk.put(Out::Term, b"!");
+    let wanted = [Ok(Taken::Bytes(3)), Ok(Taken::Bytes(1))];
+    assert_eq!(rt; (missing, [tex, Ok(term)]), (Opened::Missing, wanted));
     Ok(())
 }
 
-#[test]
-fn a_desk_on_which_nothing_fails(rt: HostRuntime) -> Result<(), Fail> {
-    let mut desk = QuietDesk::new_in(rt.alloc());
-    desk.add_file(b"a", b"bytes")?;
-    desk.limit(2)?;
-    assert_eq!(rt; desk.open(b"b"), Opened::Missing);
+/// What a desk answers that has no file `b`, and whose file `a` is read once; and the bytes of that read.
+fn read_quietly(desk: &mut QuietDesk) -> Result<(Opened, Fetched, [u8; 2]), Fail> {
+    let missing = desk.open(b"b");
     let Opened::File(id) = desk.open(b"a") else {
         return Err(Fail::from("it has no file"));
     };
     let mut buffer = [0u8; 8];
-    assert_eq!(rt; desk.read(id, &mut buffer), Fetched::Got(2));
-    assert_eq!(rt; &buffer[..2], b"by".as_slice());
-    assert_eq!(rt; desk.make(Out::Tex, b"a.tex"), MadeOut::Done);
-    assert_eq!(rt; desk.put(Out::Tex, b"xyz"), Taken::Bytes(2));
-    assert_eq!(rt; desk.calls(), 5);
-    assert_eq!(rt; desk.journal().len(), 3);
+    let fetched = desk.read(id, &mut buffer);
+    Ok((missing, fetched, [buffer[0], buffer[1]]))
+}
+
+/// A desk with a file that gives and takes two bytes at a time.
+fn slow_desk(alloc: Global) -> Result<QuietDesk, Memory> {
+    let mut desk = QuietDesk::new_in(alloc);
+    desk.add_file(b"a", b"bytes")?;
+    desk.limit(2)?;
+    Ok(desk)
+}
+
+/// The answer of a desk that is written to, how often it was called, and how long its journal is.
+fn write_quietly(desk: &mut QuietDesk) -> (Result<Taken, MadeOut>, u64, usize) {
+    let taken = make_and_put(desk, Out::Tex, b"a.tex", b"xyz");
+    (taken, desk.calls(), desk.journal().len())
+}
+
+#[test]
+fn a_desk_on_which_nothing_fails(rt: HostRuntime) -> Result<(), Fail> {
+    let (read, written) = {
+        let mut desk = slow_desk(rt.alloc())?;
+        (read_quietly(&mut desk)?, write_quietly(&mut desk))
+    };
+    assert_eq!(rt; read, (Opened::Missing, Fetched::Got(2), *b"by"));
+    assert_eq!(rt; written, (Ok(Taken::Bytes(2)), 5, 3));
     Ok(())
+}
+
+/// What is answered for two paths that lead nowhere, to two reads of an empty file, and to one of a file of zeros.
+fn read_files(desk: &mut FileDesk) -> Result<([Opened; 2], [Fetched; 3]), Fail> {
+    let missing = [desk.open(b"/no/such/file"), desk.open(b"\xff")];
+    let mut buffer = [0u8; 8];
+    let Opened::File(empty) = desk.open(b"/dev/null") else {
+        return Err(Fail::from("it has no empty file"));
+    };
+    let ends = [desk.read(empty, &mut buffer), desk.read(empty, &mut buffer)];
+    let Opened::File(zeros) = desk.open(b"/dev/zero") else {
+        return Err(Fail::from("it has no zeros"));
+    };
+    let fetched = desk.read(zeros, &mut buffer);
+    Ok((missing, [ends[0], ends[1], fetched]))
+}
+
+/// What is answered where bytes are put to a file that takes all, to one of no path, and to one that takes none.
+fn write_files(desk: &mut FileDesk) -> [Result<Taken, MadeOut>; 3] {
+    [
+        make_and_put(desk, Out::Tex, b"/dev/null", b"x"),
+        make_and_put(desk, Out::Idx, b"\xff", b"x"),
+        make_and_put(desk, Out::Idx, b"/dev/full", b"x"),
+    ]
 }
 
 #[test]
 fn a_desk_of_real_files(rt: HostRuntime) -> Result<(), Fail> {
-    let mut desk = FileDesk::new_in(rt, rt.alloc());
-    let mut buffer = [0u8; 8];
-    assert_eq!(rt; desk.open(b"/no/such/file"), Opened::Missing);
-    assert_eq!(rt; desk.open(b"\xff"), Opened::Missing);
-    let Opened::File(empty) = desk.open(b"/dev/null") else {
-        return Err(Fail::from("it has no file"));
+    let (read, written) = {
+        let mut desk = FileDesk::new_in(rt, rt.alloc());
+        (read_files(&mut desk)?, write_files(&mut desk))
     };
-    assert_eq!(rt; desk.read(empty, &mut buffer), Fetched::End);
-    assert_eq!(rt; desk.read(empty, &mut buffer), Fetched::End);
-    let Opened::File(zeros) = desk.open(b"/dev/zero") else {
-        return Err(Fail::from("it has no file"));
-    };
-    assert_eq!(rt; desk.read(zeros, &mut buffer), Fetched::Got(8));
-    assert_eq!(rt; desk.make(Out::Tex, b"/dev/null"), MadeOut::Done);
-    assert_eq!(rt; desk.put(Out::Tex, b"x"), Taken::Bytes(1));
-    assert_eq!(rt; desk.make(Out::Idx, b"\xff"), MadeOut::Failed);
-    assert_eq!(rt; desk.make(Out::Idx, b"/dev/full"), MadeOut::Done);
-    assert_eq!(rt; desk.put(Out::Idx, b"x"), Taken::Failed);
+    let reads = [Fetched::End, Fetched::End, Fetched::Got(8)];
+    assert_eq!(rt; read, ([Opened::Missing; 2], reads));
+    let writes = [Ok(Taken::Bytes(1)), Err(MadeOut::Failed), Ok(Taken::Failed)];
+    assert_eq!(rt; written, writes);
     Ok(())
 }
 
@@ -108,7 +184,7 @@ fn read_and_write<D: Desk>(desk: &mut D) -> bool {
         && desk.put(Out::Tex, b"v") == Taken::Bytes(1)
 }
 
-fn desk_with_a_file(alloc: Global) -> Result<MemDesk, Fail> {
+fn desk_with_a_file(alloc: Global) -> Result<MemDesk, Memory> {
     let mut desk = MemDesk::new_in(alloc);
     desk.add_file(b"a", b"bytes")?;
     Ok(desk)
@@ -139,60 +215,106 @@ fn is_same_journal(journal: &[Event], other: &[Event]) -> bool {
             .all(|(event, other)| is_same_event(event, other))
 }
 
+/// Reads and writes through a batch, and tells whether each call succeeded, that at its end included.
+fn read_and_write_in_batch(alloc: Global, below: &mut MemDesk) -> bool {
+    let mut batch = Batch::new_in(alloc, below);
+    let succeeded = read_and_write(&mut batch);
+    let (flushed, _below) = batch.finish();
+    succeeded && flushed == Flushed::Done
+}
+
+/// Whether the calls succeed without a batch and through one, and whether the same is written; and how many calls there
+/// are.
+fn both_ways(alloc: Global) -> Result<([bool; 3], [u64; 2]), Memory> {
+    let mut plain = desk_with_a_file(alloc)?;
+    let mut below = desk_with_a_file(alloc)?;
+    let plainly = read_and_write(&mut plain);
+    let batched = read_and_write_in_batch(alloc, &mut below);
+    let alike = is_same_journal(plain.journal(), below.journal());
+    Ok(([plainly, batched, alike], [plain.calls(), below.calls()]))
+}
+
 #[test]
 fn a_batch_writes_the_same_in_fewer_calls(rt: HostRuntime) -> Result<(), Fail> {
-    let mut plain = desk_with_a_file(rt.alloc())?;
-    assert!(rt; read_and_write(&mut plain));
-    let mut below = desk_with_a_file(rt.alloc())?;
-    let mut batch = Batch::new_in(rt.alloc(), &mut below);
-    assert!(rt; read_and_write(&mut batch));
-    let (flushed, below) = batch.finish();
-    assert!(rt; flushed == Flushed::Done);
-    assert!(rt; is_same_journal(plain.journal(), below.journal()));
-    assert_eq!(rt; plain.calls(), 11);
-    assert_eq!(rt; below.calls(), 10);
+    assert_eq!(rt; both_ways(rt.alloc())?, ([true; 3], [11, 10]));
     Ok(())
+}
+
+/// Reads and writes through a batch, up to a call that does not succeed, and tells how its last flush ends.
+fn flushed_at_end(alloc: Global, below: &mut MemDesk) -> Flushed {
+    let mut batch = Batch::new_in(alloc, below);
+    if read_and_write(&mut batch) {
+        let (flushed, _below) = batch.finish();
+        return flushed;
+    }
+    let _below = batch.discard();
+    Flushed::Failed
+}
+
+/// The same where a call of the desk below fails, and how many calls of it there are.
+fn flushed_where_call_fails(alloc: Global, call: u64) -> Result<(Flushed, u64), Memory> {
+    let mut below = desk_with_a_file(alloc)?;
+    below.fail_at(call)?;
+    let flushed = flushed_at_end(alloc, &mut below);
+    Ok((flushed, below.calls()))
 }
 
 #[test]
 fn nothing_follows_a_flush_that_failed(rt: HostRuntime) -> Result<(), Fail> {
     for call in 1..=10u64 {
-        let mut below = desk_with_a_file(rt.alloc())?;
-        below.fail_at(call)?;
-        let mut batch = Batch::new_in(rt.alloc(), &mut below);
-        let below = if read_and_write(&mut batch) {
-            let (flushed, below) = batch.finish();
-            assert!(rt; flushed == Flushed::Failed);
-            below
-        } else {
-            batch.discard()
-        };
-        assert_eq!(rt; below.calls(), call);
+        let seen = flushed_where_call_fails(rt.alloc(), call)?;
+        assert_eq!(rt; seen, (Flushed::Failed, call));
     }
     Ok(())
 }
 
+/// Puts bytes to an output three times.
+fn put_thrice<D: Desk>(desk: &mut D, bytes: &[u8]) -> Result<[Taken; 3], MadeOut>
+    requires some { 0 < length bytes.now }
+{
+    match desk.make(Out::Tex, b"a.tex") {
+        MadeOut::Done => Ok([
+            desk.put(Out::Tex, bytes),
+            desk.put(Out::Tex, bytes),
+            desk.put(Out::Tex, bytes),
+        ]),
+        made => Err(made),
+    }
+}
+
+/// The same through a batch that is not ended.
+fn put_thrice_in_batch(alloc: Global, below: &mut MemDesk) -> Result<[Taken; 3], MadeOut> {
+    let mut batch = Batch::new_in(alloc, below);
+    let taken = put_thrice(&mut batch, &[b'x'; 20000]);
+    let _below = batch.discard();
+    taken
+}
+
+/// What the batch answers, and how many calls and events there are below it.
+fn filled(alloc: Global) -> (Result<[Taken; 3], MadeOut>, u64, usize) {
+    let mut below = MemDesk::new_in(alloc);
+    let taken = put_thrice_in_batch(alloc, &mut below);
+    (taken, below.calls(), below.journal().len())
+}
+
 #[test]
 fn a_full_buffer_is_handed_on(rt: HostRuntime) -> Result<(), Fail> {
-    let bytes = [b'x'; 20000];
-    let mut below = MemDesk::new_in(rt.alloc());
-    let mut batch = Batch::new_in(rt.alloc(), &mut below);
-    assert_eq!(rt; batch.make(Out::Tex, b"a.tex"), MadeOut::Done);
-    assert_eq!(rt; batch.put(Out::Tex, &bytes), Taken::Bytes(20000));
-    assert_eq!(rt; batch.put(Out::Tex, &bytes), Taken::Bytes(12768));
-    assert_eq!(rt; batch.put(Out::Tex, &bytes), Taken::Bytes(20000));
-    let below = batch.discard();
-    assert_eq!(rt; below.calls(), 2);
-    assert_eq!(rt; below.journal().len(), 32769);
+    let wanted = [20000, 12768, 20000].map(Taken::Bytes);
+    assert_eq!(rt; filled(rt.alloc()), (Ok(wanted), 2, 32769));
     Ok(())
+}
+
+/// What a batch answers over a device that takes nothing, and how its end does.
+fn put_to_full_device(rt: HostRuntime) -> (Result<Taken, MadeOut>, Flushed) {
+    let mut batch = Batch::new_in(rt.alloc(), FileDesk::new_in(rt, rt.alloc()));
+    let taken = make_and_put(&mut batch, Out::Tex, b"/dev/full", b"x");
+    let (flushed, _) = batch.finish();
+    (taken, flushed)
 }
 
 #[test]
 fn a_full_device_fails_at_the_end(rt: HostRuntime) -> Result<(), Fail> {
-    let mut batch = Batch::new_in(rt.alloc(), FileDesk::new_in(rt, rt.alloc()));
-    assert_eq!(rt; batch.make(Out::Tex, b"/dev/full"), MadeOut::Done);
-    assert_eq!(rt; batch.put(Out::Tex, b"x"), Taken::Bytes(1));
-    let (flushed, _) = batch.finish();
-    assert!(rt; flushed == Flushed::Failed);
+    let wanted = (Ok(Taken::Bytes(1)), Flushed::Failed);
+    assert_eq!(rt; put_to_full_device(rt), wanted);
     Ok(())
 }

@@ -1,11 +1,13 @@
 //! Desks on which the TeX file is made, and what was written on them.
-ghost use Rattle.std.specs.Prelude.{IfOk, IsTrue};
+ghost use Rattle.std.specs.Prelude.{◌≡◌, [], IfOk, IsTrue};
 ghost use Rattle.cw_base.specs.declared.event.Out.TheVariants.{Tex};
 ghost use Rattle.cw_desk.specs.Meaning.{is_open};
 
 use cw_base::{Bytes, Event, Memory, Out};
 use cw_desk::{Desk, MadeOut, MemDesk};
 use std::alloc::Global;
+#[cfg(test)]
+use std::process::Abort;
 
 /// A desk on which the TeX file is made.
 pub fn desk_with_tex(alloc: Global) -> Result<MemDesk, Memory>
@@ -16,6 +18,23 @@ pub fn desk_with_tex(alloc: Global) -> Result<MemDesk, Memory>
         MadeOut::Done => Ok(desk),
         _ => Err(Memory),
     }
+}
+
+/// A desk with these files, of which none is opened.
+pub fn desk_with(alloc: Global, files: &[(&[u8], &[u8])]) -> Result<MemDesk, Memory>
+    ensures unread { IfOk result (λ desk. desk.rests ≡ []) }
+{
+    let mut desk = MemDesk::new_in(alloc);
+    for (name, bytes) in files {
+        desk.add_file(name, bytes)?;
+    }
+    Ok(desk)
+}
+
+/// What was written has to be what is wanted.
+#[cfg(test)]
+pub(crate) fn expect(rt: &impl Abort, seen: &Bytes, wanted: &[u8]) {
+    assert_eq!(rt; seen.as_slice(), wanted);
 }
 
 /// All bytes that were written.

@@ -1,7 +1,8 @@
 //! What no clause says of drafts: that the calls succeed, and what becomes of real files.
 
-use cw_base::{Event, Out};
+use cw_base::{Event, Memory, Out};
 use cw_desk::{Batch, CountDesk, Desk, FileDesk, Flushed, MadeOut, MemDesk, QuietDesk, Taken};
+use std::alloc::Global;
 use std::fs;
 use std::test::Fail;
 use std::time::{SystemTime, UNIX_EPOCH};
@@ -28,32 +29,60 @@ fn is_drafted_twice(journal: &[Event]) -> bool {
     )
 }
 
+/// Whether the calls succeed on a desk in memory, and whether its journal tells of them.
+fn in_memory(alloc: Global) -> [bool; 2] {
+    let mut desk = MemDesk::new_in(alloc);
+    let succeeded = draft_twice(&mut desk);
+    [succeeded, is_drafted_twice(desk.journal())]
+}
+
+/// The same of a desk on which nothing fails.
+fn quietly(alloc: Global) -> [bool; 2] {
+    let mut desk = QuietDesk::new_in(alloc);
+    let succeeded = draft_twice(&mut desk);
+    [succeeded, is_drafted_twice(desk.journal())]
+}
+
+/// Whether the calls succeed through a batch, that at its end included.
+fn draft_in_batch(alloc: Global, below: &mut MemDesk) -> bool {
+    let mut batch = Batch::new_in(alloc, below);
+    let succeeded = draft_twice(&mut batch);
+    let (flushed, _below) = batch.finish();
+    succeeded && flushed == Flushed::Done
+}
+
+/// The same, and whether the journal of the desk below tells of them.
+fn through_batch(alloc: Global) -> [bool; 2] {
+    let mut below = MemDesk::new_in(alloc);
+    let succeeded = draft_in_batch(alloc, &mut below);
+    [succeeded, is_drafted_twice(below.journal())]
+}
+
 #[test]
-fn drafts_in_memory(rt: HostRuntime) -> Result<(), Fail> {
-    let mut desk = MemDesk::new_in(rt.alloc());
-    assert!(rt; draft_twice(&mut desk));
-    assert!(rt; is_drafted_twice(desk.journal()));
-    let mut quiet = QuietDesk::new_in(rt.alloc());
-    assert!(rt; draft_twice(&mut quiet));
-    assert!(rt; is_drafted_twice(quiet.journal()));
-    assert!(rt; draft_twice(&mut CountDesk::new()));
-    let mut below = MemDesk::new_in(rt.alloc());
-    let mut batch = Batch::new_in(rt.alloc(), &mut below);
-    assert!(rt; draft_twice(&mut batch));
-    let (flushed, below) = batch.finish();
-    assert!(rt; flushed == Flushed::Done);
-    assert!(rt; is_drafted_twice(below.journal()));
-    Ok(())
+fn drafts_in_memory(rt: HostRuntime) {
+    let counted = draft_twice(&mut CountDesk::new());
+    let seen = [
+        in_memory(rt.alloc()),
+        quietly(rt.alloc()),
+        through_batch(rt.alloc()),
+        [counted, true],
+    ];
+    assert_eq!(rt; seen, [[true; 2]; 4]);
+}
+
+/// Whether drafts succeed where a call fails, and how many calls and events there are.
+fn where_call_fails(alloc: Global, call: u64) -> Result<(bool, u64, u64), Memory> {
+    let mut desk = MemDesk::new_in(alloc);
+    desk.fail_at(call)?;
+    let succeeded = draft_twice(&mut desk);
+    Ok((succeeded, desk.calls(), desk.journal().len() as u64))
 }
 
 #[test]
 fn each_call_on_a_draft_fails(rt: HostRuntime) -> Result<(), Fail> {
     for call in 1..=5u64 {
-        let mut desk = MemDesk::new_in(rt.alloc());
-        desk.fail_at(call)?;
-        assert!(rt; !draft_twice(&mut desk));
-        assert_eq!(rt; desk.calls(), call);
-        assert_eq!(rt; desk.journal().len() as u64, call - 1);
+        let seen = where_call_fails(rt.alloc(), call)?;
+        assert_eq!(rt; seen, (false, call, call - 1));
     }
     Ok(())
 }
@@ -65,48 +94,116 @@ fn new_path(rt: HostRuntime, name: &str) -> Result<String, Fail> {
     Ok(format!(in rt.alloc(); "{}/cw_desk-{now}-{name}", folder.as_str())?)
 }
 
+fn has_bytes(rt: HostRuntime, path: &str, wanted: &[u8]) -> Result<bool, Fail> {
+    let bytes = fs::read(&rt, path)?;
+    Ok(bytes.as_slice() == wanted)
+}
+
+/// The answers to a put and to the end of a draft, and whether a file had the bytes that it should between them.
+type Ended = (Taken, bool, MadeOut);
+
+/// Drafts the bytes that a file has, and keeps the file. The draft has them before.
+fn keep(rt: HostRuntime, desk: &mut FileDesk, path: &str, draft: &str) -> Result<Ended, Fail> {
+    if desk.draft(Out::Tex, path.as_bytes()) != MadeOut::Done {
+        return Err(Fail::from("there is no draft to keep the file"));
+    }
+    let taken = desk.put(Out::Tex, b"old");
+    let drafted = has_bytes(rt, draft, b"old")?;
+    Ok((taken, drafted, desk.keep(Out::Tex)))
+}
+
+/// Drafts other bytes, and replaces the file, which is as it was until then.
+fn replace(rt: HostRuntime, desk: &mut FileDesk, path: &str) -> Result<Ended, Fail> {
+    if desk.draft(Out::Tex, path.as_bytes()) != MadeOut::Done {
+        return Err(Fail::from("there is no draft to replace the file"));
+    }
+    let taken = desk.put(Out::Tex, b"new text");
+    let unchanged = has_bytes(rt, path, b"old")?;
+    Ok((taken, unchanged, desk.replace(Out::Tex)))
+}
+
+/// What keeping a file answers; that no draft stays behind, and that the file's time stamp stays.
+fn keep_file(
+    rt: HostRuntime,
+    desk: &mut FileDesk,
+    path: &str,
+    draft: &str,
+) -> Result<(Ended, [bool; 2]), Fail> {
+    let before = fs::metadata(&rt, path)?.modified()?;
+    let kept = keep(rt, desk, path, draft)?;
+    let gone = !fs::exists(&rt, draft)?;
+    let after = fs::metadata(&rt, path)?.modified()?;
+    Ok((kept, [gone, after == before]))
+}
+
+/// What replacing a file answers; that it has the new bytes, and that no draft stays behind.
+fn replace_file(
+    rt: HostRuntime,
+    desk: &mut FileDesk,
+    path: &str,
+    draft: &str,
+) -> Result<(Ended, [bool; 2]), Fail> {
+    let replaced = replace(rt, desk, path)?;
+    let renewed = has_bytes(rt, path, b"new text")?;
+    Ok((replaced, [renewed, !fs::exists(&rt, draft)?]))
+}
+
+/// The same for a file of the old bytes.
+fn keep_and_replace(
+    rt: HostRuntime,
+    path: &str,
+    draft: &str,
+) -> Result<[(Ended, [bool; 2]); 2], Fail> {
+    fs::write(&rt, path, "old")?;
+    let mut desk = FileDesk::new_in(rt, rt.alloc());
+    let kept = keep_file(rt, &mut desk, path, draft)?;
+    let replaced = replace_file(rt, &mut desk, path, draft)?;
+    fs::remove_file(&rt, path)?;
+    Ok([kept, replaced])
+}
+
+/// The path of a draft.
+fn draft_of(rt: HostRuntime, path: &str) -> Result<String, Fail> {
+    Ok(format!(in rt.alloc(); "{path}.new")?)
+}
+
 #[test]
 fn drafts_of_real_files(rt: HostRuntime) -> Result<(), Fail> {
     let path = new_path(rt, "a.tex")?;
-    let draft = format!(in rt.alloc(); "{path}.new")?;
-    fs::write(&rt, path.as_str(), "old")?;
-    let before = fs::metadata(&rt, path.as_str())?.modified()?;
-    let mut desk = FileDesk::new_in(rt, rt.alloc());
-    assert_eq!(rt; desk.draft(Out::Tex, path.as_bytes()), MadeOut::Done);
-    assert_eq!(rt; desk.put(Out::Tex, b"old"), Taken::Bytes(3));
-    assert_eq!(rt;
-        fs::read(&rt, draft.as_str())?.as_slice(),
-        b"old".as_slice()
-    );
-    assert_eq!(rt; desk.keep(Out::Tex), MadeOut::Done);
-    assert!(rt; !fs::exists(&rt, draft.as_str())?, "no draft stays behind");
-    assert!(rt;
-        fs::metadata(&rt, path.as_str())?.modified()? == before,
-        "the time stamp stays"
-    );
-    assert_eq!(rt; desk.draft(Out::Tex, path.as_bytes()), MadeOut::Done);
-    assert_eq!(rt; desk.put(Out::Tex, b"new text"), Taken::Bytes(8));
-    assert_eq!(rt; fs::read(&rt, path.as_str())?.as_slice(), b"old".as_slice());
-    assert_eq!(rt; desk.replace(Out::Tex), MadeOut::Done);
-    assert_eq!(rt;
-        fs::read(&rt, path.as_str())?.as_slice(),
-        b"new text".as_slice()
-    );
-    assert!(rt; !fs::exists(&rt, draft.as_str())?, "no draft stays behind");
-    fs::remove_file(&rt, path.as_str())?;
+    let draft = draft_of(rt, path.as_str())?;
+    let seen = keep_and_replace(rt, path.as_str(), draft.as_str())?;
+    let wanted = [3, 8].map(|size| ((Taken::Bytes(size), true, MadeOut::Done), [true; 2]));
+    assert_eq!(rt; seen, wanted);
     Ok(())
+}
+
+/// The answers for a folder that is missing, for a path that is none, and for a draft that is gone before it is kept or
+/// replaces its file.
+fn refused_drafts(
+    rt: HostRuntime,
+    desk: &mut FileDesk,
+    path: &str,
+    draft: &str,
+) -> Result<[MadeOut; 4], Fail> {
+    let no_folder = desk.draft(Out::Idx, b"/no/such/folder/b");
+    let no_path = desk.draft(Out::Idx, b"\xff");
+    if desk.draft(Out::Scn, path.as_bytes()) != MadeOut::Done {
+        return Err(Fail::from("there is no draft"));
+    }
+    fs::remove_file(&rt, draft)?;
+    let kept = desk.keep(Out::Scn);
+    if kept == MadeOut::Done {
+        return Err(Fail::from("a draft is kept that is gone"));
+    }
+    Ok([no_folder, no_path, kept, desk.replace(Out::Scn)])
 }
 
 #[test]
 fn drafts_that_the_system_refuses(rt: HostRuntime) -> Result<(), Fail> {
     let path = new_path(rt, "b.tex")?;
-    let draft = format!(in rt.alloc(); "{path}.new")?;
+    let draft = draft_of(rt, path.as_str())?;
     let mut desk = FileDesk::new_in(rt, rt.alloc());
-    assert_eq!(rt; desk.draft(Out::Idx, b"/no/such/folder/b"), MadeOut::Failed);
-    assert_eq!(rt; desk.draft(Out::Idx, b"\xff"), MadeOut::Failed);
-    assert_eq!(rt; desk.draft(Out::Scn, path.as_bytes()), MadeOut::Done);
-    fs::remove_file(&rt, draft.as_str())?;
-    assert_eq!(rt; desk.keep(Out::Scn), MadeOut::Failed);
-    assert_eq!(rt; desk.replace(Out::Scn), MadeOut::Failed);
+    let seen = refused_drafts(rt, &mut desk, path.as_str(), draft.as_str())?;
+    assert_eq!(rt; seen, [MadeOut::Failed; 4]);
     Ok(())
 }

@@ -1,6 +1,7 @@
 //! Reading over files in memory.
 
-use cw_base::{Bytes, Note, Web, Words};
+use crate::desks::desk_with;
+use cw_base::{Bytes, Memory, Note, Web, Words};
 use cw_desk::MemDesk;
 use cw_input::{Command, LoadError, load, read_command};
 use std::alloc::Global;
@@ -39,102 +40,153 @@ fn show_note(alloc: Global, web: &Web, note: Note, out: &mut Bytes) -> Result<()
     Ok(())
 }
 
-// The web `foo` on a desk, with a change file where there is a word for one.
-fn expect(
+// What is shown of the web `foo` among these files, with a change file where there is a word for one.
+fn loaded(alloc: Global, files: &[(&[u8], &[u8])], change: Option<&[u8]>) -> Result<Bytes, Fail> {
+    let mut desk = desk_with(alloc, files)?;
+    let web = load(alloc, &mut desk, b"foo", change)?;
+    shown(alloc, &web)
+}
+
+fn expect_loaded(
     rt: &impl Abort,
     alloc: Global,
-    desk: MemDesk,
+    files: &[(&[u8], &[u8])],
     change: Option<&[u8]>,
     wanted: &[u8],
 ) -> Result<(), Fail> {
-    let mut desk = desk;
-    let web = load(alloc, &mut desk, b"foo", change)?;
-    let text = shown(alloc, &web)?;
+    let text = loaded(alloc, files, change)?;
     assert_eq!(rt; text.as_slice(), wanted);
     Ok(())
 }
 
-// The web of three lines, changed by this file.
-fn expect_changed(
-    rt: &impl Abort,
-    alloc: Global,
-    change: &[u8],
-    wanted: &[u8],
-) -> Result<(), Fail> {
-    let mut desk = MemDesk::new_in(alloc);
-    desk.add_file(b"foo.w", b"@ One.\n@c a;\nb;\n")?;
-    desk.add_file(b"foo.ch", change)?;
-    expect(rt, alloc, desk, Some(b"foo"), wanted)
-}
+// Change files for a web of three lines, and what is shown of the changed web.
+const CHANGES: [(&[u8], &[u8]); 5] = [
+    // The second old line differs.
+    (
+        b"@x\n@c a;\nc;\n@y\n@c z;\n@z\n",
+        b"@ One.\n@c z;\n1 foo.w\n5* foo.ch\n! 1 of the preceding lines did not match (l. 4 of foo.ch)\n",
+    ),
+    // The file ends among the old lines, and the next line is marked.
+    (
+        b"@x\n@c a;\n",
+        b"@ One.\nb;\n1 foo.w\n3* foo.w\n! 0 Change file ended before @y (l. 2 of foo.ch)\n",
+    ),
+    // The web ends among the old lines, and the group after it is met by no line.
+    (
+        b"@y\n@x\n\nb; \t\nc;\n@x\nd;\n@y\n@x\ne;\n@z\n@z\n@x\n@z\nf;\n@y\n@z\n",
+        b"@ One.
+@c a;
+e;
+1 foo.w
+2 foo.w
+10* foo.ch
+! 0 Where is the matching @x? (l. 1 of foo.ch)
+! 0 Web ended during a change (l. 5 of foo.ch)
+! 0 Where is the matching @y? (l. 6 of foo.ch)
+! 0 Where is the matching @z? (l. 9 of foo.ch)
+! 0 Where is the matching @x? (l. 12 of foo.ch)
+! 0 Where is the matching @y? (l. 14 of foo.ch)
+! 0 Change did not match (l. 15 of foo.ch)
+",
+    ),
+    // A group without old lines, and one that the file's end leaves without new lines.
+    (
+        b"@x\n@y\nnew\n@z\n@x\n@ One.\n@y\nnewer\n",
+        b"newer
+@c a;
+b;
+8* foo.ch
+2 foo.w
+3 foo.w
+! 0 No old line in this change (l. 2 of foo.ch)
+! 0 Change file ended before @z (l. 8 of foo.ch)
+",
+    ),
+    // A group that takes the whole web away.
+    (b"@x\n@ One.\n@c a;\nb;\n@y\n@z", b""),
+];
 
 #[test]
 fn change_groups(rt: HostRuntime) -> Result<(), Fail> {
-    let alloc = rt.alloc();
-    // The second old line differs.
-    expect_changed(
-        &rt,
-        alloc,
-        b"@x\n@c a;\nc;\n@y\n@c z;\n@z\n",
-        b"@ One.\n@c z;\n1 foo.w\n5* foo.ch\n! 1 of the preceding lines did not match (l. 4 of foo.ch)\n",
-    )?;
-    // The file ends among the old lines, and the next line is marked.
-    expect_changed(
-        &rt,
-        alloc,
-        b"@x\n@c a;\n",
-        b"@ One.\nb;\n1 foo.w\n3* foo.w\n! 0 Change file ended before @y (l. 2 of foo.ch)\n",
-    )?;
-    // The web ends among the old lines, and the group after it is met by no line.
-    expect_changed(
-        &rt,
-        alloc,
-        b"@y\n@x\n\nb; \t\nc;\n@x\nd;\n@y\n@x\ne;\n@z\n@z\n@x\n@z\nf;\n@y\n@z\n",
-        b"@ One.\n@c a;\ne;\n1 foo.w\n2 foo.w\n10* foo.ch\n! 0 Where is the matching @x? (l. 1 of foo.ch)\n! 0 Web ended during a change (l. 5 of foo.ch)\n! 0 Where is the matching @y? (l. 6 of foo.ch)\n! 0 Where is the matching @z? (l. 9 of foo.ch)\n! 0 Where is the matching @x? (l. 12 of foo.ch)\n! 0 Where is the matching @y? (l. 14 of foo.ch)\n! 0 Change did not match (l. 15 of foo.ch)\n",
-    )?;
-    // A group without old lines, and one that the file's end leaves without new lines.
-    expect_changed(
-        &rt,
-        alloc,
-        b"@x\n@y\nnew\n@z\n@x\n@ One.\n@y\nnewer\n",
-        b"newer\n@c a;\nb;\n8* foo.ch\n2 foo.w\n3 foo.w\n! 0 No old line in this change (l. 2 of foo.ch)\n! 0 Change file ended before @z (l. 8 of foo.ch)\n",
-    )?;
-    // A group that takes the whole web away.
-    expect_changed(&rt, alloc, b"@x\n@ One.\n@c a;\nb;\n@y\n@z", b"")
+    for (change, wanted) in CHANGES {
+        let files: [(&[u8], &[u8]); 2] = [(b"foo.w", b"@ One.\n@c a;\nb;\n"), (b"foo.ch", change)];
+        expect_loaded(&rt, rt.alloc(), &files, Some(b"foo"), wanted)?;
+    }
+    Ok(())
 }
+
+// A group reaches over the end of a file, an include line is a match line, and new lines include.
+const INCLUDED: [(&[u8], &[u8]); 5] = [
+    (
+        b"foo.web",
+        b"one\n@i \"b c\" more\n@include\ntwo\n@i b\n@I\n",
+    ),
+    (b"b c", b"x\ny"),
+    (b"b", b"z\n"),
+    (
+        b"foo.ch",
+        b"@x\ny\n@include\n@y\n@i b\n@i d\n@z\n@x\n@i b\n@y\nnew\n@z\n",
+    ),
+    (b"d", b"@y\n@i b\n@i nothing\n@z\n"),
+];
+
+// A file that includes itself is opened ten times.
+const IN_ITSELF: [(&[u8], &[u8]); 2] = [(b"foo.w", b"@i a\n"), (b"a", b"@i a\nlast\n")];
 
 #[test]
 fn included_files(rt: HostRuntime) -> Result<(), Fail> {
-    let alloc = rt.alloc();
-    let mut desk = MemDesk::new_in(alloc);
-    desk.add_file(
-        b"foo.web",
-        b"one\n@i \"b c\" more\n@include\ntwo\n@i b\n@I\n",
-    )?;
-    desk.add_file(b"b c", b"x\ny")?;
-    desk.add_file(b"b", b"z\n")?;
-    desk.add_file(
-        b"foo.ch",
-        b"@x\ny\n@include\n@y\n@i b\n@i d\n@z\n@x\n@i b\n@y\nnew\n@z\n",
-    )?;
-    desk.add_file(b"d", b"@y\n@i b\n@i nothing\n@z\n")?;
-    // A group reaches over the end of a file, an include line is a match line, and new lines include.
-    expect(
+    expect_loaded(
         &rt,
-        alloc,
-        desk,
+        rt.alloc(),
+        &INCLUDED,
         Some(b"foo"),
-        b"one\nx\nz\n@y\nz\n@z\ntwo\nnew\n1 foo.web\n1 b c\n1* b\n1* d\n1* b\n4* d\n4 foo.web\n11* foo.ch\n! 0 Cannot open include file (l. 3 of d)\n! 0 Include file name not given (l. 6 of foo.web)\n",
+        b"one
+x
+z
+@y
+z
+@z
+two
+new
+1 foo.web
+1 b c
+1* b
+1* d
+1* b
+4* d
+4 foo.web
+11* foo.ch
+! 0 Cannot open include file (l. 3 of d)
+! 0 Include file name not given (l. 6 of foo.web)
+",
     )?;
-    let mut desk = MemDesk::new_in(alloc);
-    desk.add_file(b"foo.w", b"@i a\n")?;
-    desk.add_file(b"a", b"@i a\nlast\n")?;
-    // A file that includes itself is opened ten times.
-    expect(
+    expect_loaded(
         &rt,
-        alloc,
-        desk,
+        rt.alloc(),
+        &IN_ITSELF,
         Some(b"-"),
-        b"last\nlast\nlast\nlast\nlast\nlast\nlast\nlast\nlast\nlast\n2 a\n2 a\n2 a\n2 a\n2 a\n2 a\n2 a\n2 a\n2 a\n2 a\n! 0 Too many nested includes (l. 1 of a)\n",
+        b"last
+last
+last
+last
+last
+last
+last
+last
+last
+last
+2 a
+2 a
+2 a
+2 a
+2 a
+2 a
+2 a
+2 a
+2 a
+2 a
+! 0 Too many nested includes (l. 1 of a)
+",
     )
 }
 
@@ -173,33 +225,42 @@ fn the_limit_on_bytes(rt: HostRuntime) -> Result<(), Fail> {
     Ok(())
 }
 
+// The errors for a web and for a change file that are missing.
+fn errors_of_names(alloc: Global) -> Result<[Option<LoadError>; 2], Memory> {
+    let mut desk = desk_with(alloc, &[(b"foo.web", b"@i a\n")])?;
+    let no_web = load(alloc, &mut desk, b"bar", None).err();
+    let no_change = load(alloc, &mut desk, b"foo", Some(b"foo.")).err();
+    Ok([no_web, no_change])
+}
+
+const FILES: [(&[u8], &[u8]); 3] = [
+    (b"foo.web", b"@i a\n"),
+    (b"foo.ch", b"@x\n"),
+    (b"a", b"last"),
+];
+
+// The error where a call of the desk fails.
+fn error_where_call_fails(alloc: Global, call: u64) -> Result<Option<LoadError>, Memory> {
+    let mut desk = desk_with(alloc, &FILES)?;
+    desk.fail_at(call)?;
+    Ok(load(alloc, &mut desk, b"foo", Some(b"foo")).err())
+}
+
 #[test]
 fn errors_of_the_desk(rt: HostRuntime) -> Result<(), Fail> {
-    let alloc = rt.alloc();
-    let mut desk = MemDesk::new_in(alloc);
-    desk.add_file(b"foo.web", b"@i a\n")?;
-    assert_eq!(rt;
-        load(alloc, &mut desk, b"bar", None).err(),
-        Some(LoadError::NoWeb)
-    );
-    assert_eq!(rt;
-        load(alloc, &mut desk, b"foo", Some(b"foo.")).err(),
-        Some(LoadError::NoChange)
-    );
+    let wanted = [LoadError::NoWeb, LoadError::NoChange].map(Some);
+    assert_eq!(rt; errors_of_names(rt.alloc())?, wanted);
     for call in 1..12 {
-        let mut desk = MemDesk::new_in(alloc);
-        desk.add_file(b"foo.web", b"@i a\n")?;
-        desk.add_file(b"foo.ch", b"@x\n")?;
-        desk.add_file(b"a", b"last")?;
-        desk.fail_at(call)?;
-        let answer = load(alloc, &mut desk, b"foo", Some(b"foo")).err();
         // Opening foo.w and foo.web, two reads, the same of foo.ch and of a: ten calls.
         let wanted = if call <= 10 {
             Some(LoadError::Fault)
         } else {
             None
         };
-        assert_eq!(rt; answer, wanted, "at call {call}");
+        assert_eq!(rt;
+            (call, error_where_call_fails(rt.alloc(), call)?),
+            (call, wanted)
+        );
     }
     Ok(())
 }
@@ -216,17 +277,21 @@ fn is_as_asked(command: &Command) -> bool {
     }
 }
 
+// What a command line of these words asks for.
+fn command_of(alloc: Global, line: &[&[u8]]) -> Result<Command, Memory> {
+    let mut words = Words::new_in(alloc);
+    for word in line {
+        words.push(word)?;
+    }
+    read_command(alloc, &words)
+}
+
+const LINE: [&[u8]; 6] = [b"-bx", b"d/foo.w", b"+b", b"foo", b"out", b"more"];
+
 #[test]
 fn command_lines(rt: HostRuntime) -> Result<(), Fail> {
-    let alloc = rt.alloc();
-    let mut words = Words::new_in(alloc);
-    words.push(b"-bx")?;
-    words.push(b"d/foo.w")?;
-    words.push(b"+b")?;
-    words.push(b"foo")?;
-    words.push(b"out")?;
-    assert!(rt; is_as_asked(&read_command(alloc, &words)?));
-    words.push(b"more")?;
-    assert!(rt; matches!(read_command(alloc, &words)?, Command::Usage(_)));
+    let asked = is_as_asked(&command_of(rt.alloc(), &LINE[..5])?);
+    let refused = matches!(command_of(rt.alloc(), &LINE)?, Command::Usage(_));
+    assert_eq!(rt; [asked, refused], [true, true]);
     Ok(())
 }

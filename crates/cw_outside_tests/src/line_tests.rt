@@ -3,8 +3,8 @@ ghost use Rattle.std.specs.Prelude.{OnOk};
 ghost use Rattle.cw_desk.specs.Mem.{tell};
 ghost use Rattle.cw_lines.specs.Writes.{CanWrite};
 
-use crate::desks::{desk_with_tex, written};
-use cw_base::{Bytes, Out};
+use crate::desks::{desk_with_tex, expect, written};
+use cw_base::{Bytes, Memory, Out};
 use cw_desk::MemDesk;
 use cw_lines::{LineOut, PutError, write_all};
 use std::alloc::Global;
@@ -19,26 +19,37 @@ fn put_bytes(line: &mut LineOut, bytes: &[u8], desk: &mut MemDesk) -> Result<(),
     Ok(())
 }
 
-/// The lines of a file with a long name, all that was written, and whether the last line had begun before its end.
-fn long_name(alloc: Global) -> Result<(LineOut, Bytes, bool), Fail> {
+/// Puts a long name on a line, ends the line, and tells whether it had begun before.
+fn put_long_name(alloc: Global, line: &mut LineOut, desk: &mut MemDesk) -> Result<bool, Fail>
+    requires can { CanWrite (tell desk.old) line.old }
+{
+    let name = vec![in alloc; b'a'; 200]?;
+    put_bytes(line, b"\\M{1}\n\\Y\\B\\\\{", desk)?;
+    put_bytes(line, name.as_slice(), desk)?;
+    put_bytes(line, b"}\\par\n\\fi", desk)?;
+    let begun = !line.is_empty();
+    line.end_line(desk)?;
+    write_all(desk, Out::Term, b"Done.\n")?;
+    Ok(begun)
+}
+
+/// All that is written then; whether the third and the fourth line are broken, and whether the line was begun and is
+/// ended; and the number of lines.
+fn long_name(alloc: Global) -> Result<(Bytes, [bool; 3], u64), Fail> {
     let mut desk = desk_with_tex(alloc)?;
     let mut line = LineOut::new_in(alloc, Out::Tex);
-    let name = vec![in alloc; b'a'; 200]?;
-    put_bytes(&mut line, b"\\M{1}\n\\Y\\B\\\\{", &mut desk)?;
-    put_bytes(&mut line, name.as_slice(), &mut desk)?;
-    put_bytes(&mut line, b"}\\par\n\\fi", &mut desk)?;
-    let begun = !line.is_empty();
-    line.end_line(&mut desk)?;
-    write_all(&mut desk, Out::Term, b"Done.\n")?;
+    let begun = put_long_name(alloc, &mut line, &mut desk)?;
+    let broken = line.broken() == [3, 4].as_slice();
     let text = written(alloc, desk.journal())?;
-    Ok((line, text, begun))
+    Ok((text, [broken, begun, line.is_empty()], line.lines()))
 }
 
 #[test]
 fn a_long_name_is_cut(rt: HostRuntime) -> Result<(), Fail> {
-    let (line, text, begun) = long_name(rt.alloc())?;
-    assert_eq!(rt;
-        text.as_slice(),
+    let (text, lines, count) = long_name(rt.alloc())?;
+    expect(
+        &rt,
+        &text,
         b"\\M{1}
 \\Y\\B%
 \\\\{aaaaaaaaaaaaaaaaaaaaaaaaaaaaaaaaaaaaaaaaaaaaaaaaaaaaaaaaaaaaaaaaaaaaaaaaaaaa%
@@ -46,32 +57,42 @@ aaaaaaaaaaaaaaaaaaaaaaaaaaaaaaaaaaaaaaaaaaaaaaaaaaaaaaaaaaaaaaaaaaaaaaaaaaaaaaa%
 aaaaaaaaaaaaaaaaaaaaaaaaaaaaaaaaaaaaaaaaaaaaa}\\par
 \\fi
 Done.
-"
-            .as_slice()
+",
     );
-    assert_eq!(rt; line.broken(), [3, 4].as_slice());
-    assert!(rt; begun && line.is_empty() && line.lines() == 6);
+    assert_eq!(rt; (lines, count), ([true; 3], 6));
     Ok(())
+}
+
+/// Whether a put is a fault where the third call fails; how many calls there are, and what is written.
+fn put_with_fault(alloc: Global) -> Result<(bool, u64, Bytes), Memory> {
+    let mut desk = desk_with_tex(alloc)?;
+    desk.limit(2)?;
+    desk.fail_at(3)?;
+    let mut line = LineOut::new_in(alloc, Out::Tex);
+    let failed = line.put_all(b"abc\nd\n", &mut desk) == Err(PutError::Fault);
+    let text = written(alloc, desk.journal())?;
+    Ok((failed, desk.calls(), text))
 }
 
 #[test]
 fn a_failing_put_is_a_fault(rt: HostRuntime) -> Result<(), Fail> {
-    let mut desk = desk_with_tex(rt.alloc())?;
-    desk.limit(2)?;
-    desk.fail_at(3)?;
-    let mut line = LineOut::new_in(rt.alloc(), Out::Tex);
-    let failed = line.put_all(b"abc\nd\n", &mut desk) == Err(PutError::Fault);
-    assert!(rt; failed && desk.calls() == 3, "no call follows");
-    let text = written(rt.alloc(), desk.journal())?;
-    assert_eq!(rt; text.as_slice(), b"ab".as_slice());
+    let (failed, calls, text) = put_with_fault(rt.alloc())?;
+    expect(&rt, &text, b"ab");
+    assert!(rt; failed && calls == 3, "no call follows");
     Ok(())
+}
+
+/// Whether a line has begun by its first byte, and how many calls there were.
+fn put_one_byte(alloc: Global) -> Result<(bool, u64), Fail> {
+    let mut desk = desk_with_tex(alloc)?;
+    let mut line = LineOut::new_in(alloc, Out::Tex);
+    line.put(b'a', &mut desk)?;
+    Ok((!line.is_empty(), desk.calls()))
 }
 
 #[test]
 fn one_byte_is_pending(rt: HostRuntime) -> Result<(), Fail> {
-    let mut desk = desk_with_tex(rt.alloc())?;
-    let mut line = LineOut::new_in(rt.alloc(), Out::Tex);
-    line.put(b'a', &mut desk)?;
-    assert!(rt; !line.is_empty() && desk.calls() == 1, "no line is ended");
+    let seen = put_one_byte(rt.alloc())?;
+    assert_eq!(rt; seen, (true, 1), "no line is ended");
     Ok(())
 }

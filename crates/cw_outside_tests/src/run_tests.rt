@@ -1,6 +1,7 @@
 //! What no clause says: that the calls succeed, and the lines that they print.
 ghost use Rattle.std.specs.Prelude.{◌<◌, IfOk, length};
 
+use crate::desks::expect;
 use cw_base::{Bytes, Event, Exit, Flags, Memory, Note, NoteKind, Out, Place, Web};
 use cw_desk::MemDesk;
 use cw_lines::PutError;
@@ -49,18 +50,22 @@ fn say_lines(desk: &mut MemDesk) -> Result<(), PutError> {
     say(desk, Message::Done)
 }
 
+fn printed_lines(alloc: Global) -> Result<Bytes, Fail> {
+    let mut desk = MemDesk::new_in(alloc);
+    say_lines(&mut desk)?;
+    Ok(printed(alloc, &desk)?)
+}
+
 #[test]
 fn lines(rt: HostRuntime) -> Result<(), Fail> {
-    let mut desk = MemDesk::new_in(rt.alloc());
-    say_lines(&mut desk)?;
-    let text = printed(rt.alloc(), &desk)?;
-    assert_eq!(rt;
-        text.as_slice(),
+    let text = printed_lines(rt.alloc())?;
+    expect(
+        &rt,
+        &text,
         b"This is CWEAVE (profile 2)
 Writing the index...
 Done.
-"
-            .as_slice()
+",
     );
     Ok(())
 }
@@ -72,21 +77,27 @@ fn stop_thrice(alloc: Global, desk: &mut MemDesk) -> Result<[Exit; 3], PutError>
     Ok([too_long, no_web, no_change])
 }
 
+/// How three runs end that are stopped, and what they say.
+fn stopped(alloc: Global) -> Result<([Exit; 3], Bytes), Fail> {
+    let mut desk = MemDesk::new_in(alloc);
+    let exits = stop_thrice(alloc, &mut desk)?;
+    Ok((exits, printed(alloc, &desk)?))
+}
+
 #[test]
 fn stops(rt: HostRuntime) -> Result<(), Fail> {
-    let mut desk = MemDesk::new_in(rt.alloc());
-    assert_eq!(rt; stop_thrice(rt.alloc(), &mut desk)?, [Exit::Errors; 3]);
-    let text = printed(rt.alloc(), &desk)?;
-    assert_eq!(rt;
-        text.as_slice(),
+    let (exits, text) = stopped(rt.alloc())?;
+    assert_eq!(rt; exits, [Exit::Errors; 3]);
+    expect(
+        &rt,
+        &text,
         b"! Input is longer than 8388608 bytes
 (That was a fatal error, my friend.)
 ! Cannot open web file foo
 (That was a fatal error, my friend.)
 ! Cannot open change file bar
 (That was a fatal error, my friend.)
-"
-            .as_slice()
+",
     );
     Ok(())
 }
@@ -114,13 +125,13 @@ fn printed_notes(alloc: Global) -> Result<Bytes, Fail> {
 #[test]
 fn notes(rt: HostRuntime) -> Result<(), Fail> {
     let text = printed_notes(rt.alloc())?;
-    assert_eq!(rt;
-        text.as_slice(),
+    expect(
+        &rt,
+        &text,
         b"! 3 of the preceding lines did not match (l. 7 of foo.w)
 ! Never used: <Read it>
 ! Never defined: <>
-"
-            .as_slice()
+",
     );
     Ok(())
 }
@@ -183,14 +194,20 @@ fn close_thrice(alloc: Global, desk: &mut MemDesk) -> Result<[Exit; 3], PutError
     Ok([clean, warned, failed])
 }
 
+/// How three runs end, and what they say.
+fn closed(alloc: Global) -> Result<([Exit; 3], Bytes), Fail> {
+    let mut desk = MemDesk::new_in(alloc);
+    let exits = close_thrice(alloc, &mut desk)?;
+    Ok((exits, printed(alloc, &desk)?))
+}
+
 #[test]
 fn endings(rt: HostRuntime) -> Result<(), Fail> {
-    let mut desk = MemDesk::new_in(rt.alloc());
-    let exits = close_thrice(rt.alloc(), &mut desk)?;
+    let (exits, text) = closed(rt.alloc())?;
     assert_eq!(rt; exits, [Exit::Clean, Exit::Clean, Exit::Errors]);
-    let text = printed(rt.alloc(), &desk)?;
-    assert_eq!(rt;
-        text.as_slice(),
+    expect(
+        &rt,
+        &text,
         b"sections 3
 scraps 87
 productions 60
@@ -198,8 +215,7 @@ lines 31
 (No errors were found.)
 (Did you see the warning message above?)
 (Pardon me, but I think I spotted something wrong.)
-"
-            .as_slice()
+",
     );
     Ok(())
 }

@@ -4,4 +4,7 @@ use Rattle.cw_scraps.proofs.Reservings.{entry-there}
 use Rattle.cw_c_tests.proofs.row_tests.translation.Goals as goal
 
 pub flat-requires : goal.flat-requires
-flat-requires c = rw c.part_at.ensures (record { list = entry-there c.args.store.now.lists c.args.line.now c.args.i c.requires.sound.roots (omega (arith, c.len.ensures.length)) })
+flat-requires c = rw c.part_at.ensures (record {
+  list = entry-there c.args.store.now.lists c.args.line.now c.args.i
+      c.requires.sound.roots (omega (arith, c.len.ensures.length));
+})

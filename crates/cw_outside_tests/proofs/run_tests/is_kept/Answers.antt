@@ -9,6 +9,7 @@ use Rattle.cw_outside_tests.proofs.run_tests.is_kept.Goals as goal
 pub end_file-requires : goal.end_file-requires
 end_file-requires c = record {
   opened = (can-after c.in_ok-lines.ensures.begun.can c.in_ok-put_all.ensures.puts).old_file;
-  draft = λ asked. subst (λ (outputs : Outputs). IsTrue (has_draft outputs Idx)) (sym c.in_ok-put_all.ensures.puts.writes.adds.same.same_outputs)
+  draft = λ asked. subst (λ (outputs : Outputs). IsTrue (has_draft outputs Idx))
+      (sym c.in_ok-put_all.ensures.puts.writes.adds.same.same_outputs)
       (c.in_ok-lines.ensures.begun.draft asked);
 }
