@@ -31,27 +31,42 @@ fn are_of_a_prefix_and_a_name(book: &Book) -> bool {
     }
 }
 
-#[test]
-fn a_prefix_of_two_names(rt: HostRuntime) -> Result<(), Fail> {
+/// What is known of a book whose third section cites two names by what they begin with.
+#[derive(Clone, Copy)]
+struct Seen {
+    /// The sections, the end of limbo, and the section names.
+    counts: (u32, usize, usize),
+    second: Option<(Option<SecId>, Span)>,
+    /// The names at four places.
+    uses: [Option<SecId>; 4],
+    are_noted: bool,
+}
+
+fn prefix_of_two_names(alloc: Global) -> Result<Seen, Memory> {
     let lines: &[&[u8]] = &[
         b"@ @<Read a@>= x;",
         b"@ @<Read b@>= y;",
         b"@ @c @<Read...@>;",
     ];
-    let book = book(rt.alloc(), lines)?;
-    let (first, next) = (Some(SecId { index: 0 }), Some(SecId { index: 1 }));
+    let book = book(alloc, lines)?;
     let uses = &book.name_uses;
-    assert_eq!(rt;
-        (book.section_count(), book.limbo().end, book.sec_names.len()),
-        (3, 0, 2)
-    );
+    Ok(Seen {
+        counts: (book.section_count(), book.limbo().end, book.sec_names.len()),
+        second: second_section(&book),
+        uses: [uses.at(2), uses.at(19), uses.at(39), uses.at(3)],
+        are_noted: are_of_a_prefix_and_a_name(&book),
+    })
+}
+
+#[test]
+fn a_prefix_of_two_names(rt: HostRuntime) -> Result<(), Fail> {
+    let seen = prefix_of_two_names(rt.alloc())?;
+    let (first, next) = (Some(SecId { index: 0 }), Some(SecId { index: 1 }));
+    assert_eq!(rt; seen.counts, (3, 0, 2));
     let c_part = Span { start: 19, end: 34 };
-    assert_eq!(rt; second_section(&book), Some((next, c_part)));
-    assert_eq!(rt;
-        [uses.at(2), uses.at(19), uses.at(39), uses.at(3)],
-        [first, next, first, None]
-    );
-    assert!(rt; are_of_a_prefix_and_a_name(&book));
+    assert_eq!(rt; seen.second, Some((next, c_part)));
+    assert_eq!(rt; seen.uses, [first, next, first, None]);
+    assert!(rt; seen.are_noted);
     Ok(())
 }
 
@@ -63,6 +78,11 @@ fn are_of_kinds(book: &Book, kinds: &[NoteKind]) -> bool {
             .iter()
             .zip(kinds.iter())
             .all(|(note, kind)| note.kind == *kind)
+}
+
+/// The same of the book of these lines.
+fn has_notes(alloc: Global, lines: &[&[u8]], kinds: &[NoteKind]) -> Result<bool, Memory> {
+    Ok(are_of_kinds(&book(alloc, lines)?, kinds))
 }
 
 #[test]
@@ -77,6 +97,6 @@ fn notes_come_in_order(rt: HostRuntime) -> Result<(), Fail> {
         NoteKind::NameIncomplete,
         NoteKind::NeverDefined,
     ];
-    assert!(rt; are_of_kinds(&book(rt.alloc(), lines)?, &kinds));
+    assert!(rt; has_notes(rt.alloc(), lines, &kinds)?);
     Ok(())
 }

@@ -1,6 +1,7 @@
 //! Worked names, by calls.
 use cw_base::{Memory, Span};
 use cw_secnames::{Entered, NameUses, RefKind, SecId, SecKind, SecNames, next_part};
+use std::alloc::Global;
 use std::test::Fail;
 
 const FIRST: SecId = SecId { index: 0 };
@@ -40,23 +41,35 @@ fn is_kept(names: &SecNames, id: SecId, kind: SecKind, text: &[u8], complete: bo
         && names.complete(id) == complete
 }
 
-#[test]
-fn a_prefix_grows_to_its_name(rt: HostRuntime) -> Result<(), Fail> {
-    let mut names = SecNames::new_in(rt.alloc());
+/// Enters two prefixes, and then the name that they begin and two others. The answers that are otherwise, whether the
+/// names are kept, and how many there are.
+fn grown_prefix(alloc: Global) -> Result<([Option<usize>; 2], [bool; 3], usize), Memory> {
+    let mut names = SecNames::new_in(alloc);
     let prefixes: [(_, &[u8], _); 2] = [
         (None, b"Re", Entered::New(FIRST)),
         (None, b"Rea", Entered::Known(FIRST)),
     ];
-    assert_eq!(rt; first_other(&mut names, &prefixes)?, None);
-    assert!(rt; is_kept(&names, FIRST, SecKind::Named, b"Rea", false));
     let whole: [(_, &[u8], _); 3] = [
         (NAMED, b"Read", Entered::Known(FIRST)),
         (NAMED, b"Rea", Entered::Conflict(FIRST)),
         (FILE, b"Rea", Entered::New(SECOND)),
     ];
-    assert_eq!(rt; first_other(&mut names, &whole)?, None);
-    assert!(rt; is_kept(&names, FIRST, SecKind::Named, b"Read", true));
-    assert!(rt; is_kept(&names, SECOND, SecKind::File, b"Rea", true) && names.len() == 2);
+    let other_prefix = first_other(&mut names, &prefixes)?;
+    let begun = is_kept(&names, FIRST, SecKind::Named, b"Rea", false);
+    let other_name = first_other(&mut names, &whole)?;
+    let kept = [
+        begun,
+        is_kept(&names, FIRST, SecKind::Named, b"Read", true),
+        is_kept(&names, SECOND, SecKind::File, b"Rea", true),
+    ];
+    Ok(([other_prefix, other_name], kept, names.len()))
+}
+
+#[test]
+fn a_prefix_grows_to_its_name(rt: HostRuntime) -> Result<(), Fail> {
+    let (others, kept, count) = grown_prefix(rt.alloc())?;
+    assert_eq!(rt; others, [None; 2]);
+    assert_eq!(rt; (kept, count), ([true; 3], 2));
     Ok(())
 }
 
@@ -79,15 +92,15 @@ fn is_referred(names: &SecNames, id: SecId, wanted: [&[u32]; 3]) -> bool {
         && names.cited_in(id) == cited
 }
 
-#[test]
-fn a_prefix_of_two_names_is_ambiguous(rt: HostRuntime) -> Result<(), Fail> {
-    let mut names = SecNames::new_in(rt.alloc());
+/// Enters two names and what both begin with, and notes where they are referred to. The answer that is otherwise, and
+/// whether each is referred to so.
+fn ambiguous_prefix(alloc: Global) -> Result<(Option<usize>, [bool; 2]), Memory> {
+    let mut names = SecNames::new_in(alloc);
     let rows: [(_, &[u8], _); 3] = [
         (NAMED, b"Read a", Entered::New(FIRST)),
         (NAMED, b"Read b", Entered::New(SECOND)),
         (None, b"Read", Entered::Ambiguous(FIRST, SECOND)),
     ];
-    assert_eq!(rt; first_other(&mut names, &rows)?, None);
     let references = [
         (FIRST, RefKind::Defined, 1),
         (SECOND, RefKind::Defined, 2),
@@ -95,9 +108,18 @@ fn a_prefix_of_two_names_is_ambiguous(rt: HostRuntime) -> Result<(), Fail> {
         (FIRST, RefKind::Used, 3),
         (SECOND, RefKind::Cited, 3),
     ];
+    let other = first_other(&mut names, &rows)?;
     refer_all(&mut names, &references)?;
-    assert!(rt; is_referred(&names, FIRST, [&[1], &[3], &[]]));
-    assert!(rt; is_referred(&names, SECOND, [&[2], &[], &[3]]));
+    let referred = [
+        is_referred(&names, FIRST, [&[1], &[3], &[]]),
+        is_referred(&names, SECOND, [&[2], &[], &[3]]),
+    ];
+    Ok((other, referred))
+}
+
+#[test]
+fn a_prefix_of_two_names_is_ambiguous(rt: HostRuntime) -> Result<(), Fail> {
+    assert_eq!(rt; ambiguous_prefix(rt.alloc())?, (None, [true; 2]));
     Ok(())
 }
 
@@ -141,26 +163,35 @@ const BEHIND_MANY: [(Option<SecKind>, &[u8], Entered); 6] = [
     (None, b"Read 333", Entered::Known(LAST)),
 ];
 
+/// Whether three hundred names are new and a prefix behind them is kept, and the answers there that are otherwise.
+fn behind_many_others(alloc: Global) -> Result<([bool; 2], [Option<usize>; 2]), Memory> {
+    let mut names = SecNames::new_in(alloc);
+    let grown: [(_, &[u8], _); 1] = [(NAMED, b"Read 333 of them", Entered::Known(LAST))];
+    let are_new = enter_many(&mut names)?;
+    let other = first_other(&mut names, &BEHIND_MANY)?;
+    let kept = is_kept(&names, LAST, SecKind::Named, b"Read 333", false);
+    let other_grown = first_other(&mut names, &grown)?;
+    Ok(([are_new, kept], [other, other_grown]))
+}
+
 #[test]
 fn names_are_found_behind_many_others(rt: HostRuntime) -> Result<(), Fail> {
-    let mut names = SecNames::new_in(rt.alloc());
-    assert!(rt; enter_many(&mut names)?);
-    assert_eq!(rt; first_other(&mut names, &BEHIND_MANY)?, None);
-    assert!(rt; is_kept(&names, LAST, SecKind::Named, b"Read 333", false));
-    let grown: [(_, &[u8], _); 1] = [(NAMED, b"Read 333 of them", Entered::Known(LAST))];
-    assert_eq!(rt; first_other(&mut names, &grown)?, None);
+    assert_eq!(rt; behind_many_others(rt.alloc())?, ([true; 2], [None; 2]));
     Ok(())
+}
+
+/// The names at two places where they stand, and at two others.
+fn names_at_places(alloc: Global) -> Result<[Option<SecId>; 4], Memory> {
+    let mut uses = NameUses::new_in(alloc);
+    uses.add(2, SECOND)?;
+    uses.add(19, FIRST)?;
+    Ok([uses.at(2), uses.at(19), uses.at(18), uses.at(20)])
 }
 
 #[test]
 fn a_name_is_found_at_its_place(rt: HostRuntime) -> Result<(), Fail> {
-    let mut uses = NameUses::new_in(rt.alloc());
-    uses.add(2, SECOND)?;
-    uses.add(19, FIRST)?;
-    assert_eq!(rt;
-        [uses.at(2), uses.at(19), uses.at(18), uses.at(20)],
-        [Some(SECOND), Some(FIRST), None, None]
-    );
+    let found = names_at_places(rt.alloc())?;
+    assert_eq!(rt; found, [Some(SECOND), Some(FIRST), None, None]);
     Ok(())
 }
 

@@ -7,6 +7,8 @@ use cw_base::{Bytes, Event, Memory, Out, Place, Web};
 use cw_desk::{Desk, MadeOut, MemDesk};
 use cw_phase1::{Book, phase_one};
 use std::alloc::Global;
+#[cfg(test)]
+use std::process::Abort;
 
 // One line more, where the web has room for it.
 fn add(web: &mut Web, line: &[u8], number: u32) -> Result<(), Memory> {
@@ -53,6 +55,12 @@ pub fn desk_with(alloc: Global, out: Out) -> Result<MemDesk, Memory>
         MadeOut::Done => Ok(desk),
         _ => Err(Memory),
     }
+}
+
+/// What was written has to be what is wanted.
+#[cfg(test)]
+pub(crate) fn expect(rt: &impl Abort, seen: &Bytes, wanted: &[u8]) {
+    assert_eq!(rt; seen.as_slice(), wanted);
 }
 
 /// All bytes that were written.
