@@ -19,14 +19,13 @@ use crate::copying::{end_line_if, holds_bytes};
 use crate::heads::put_head;
 use crate::inks::put_token;
 use crate::pieces::{Piece, Pieces};
-use crate::texts::translate_into;
+use crate::texts::{StoredTree, translate_into};
 use crate::{CText, Counts};
 use cw_base::{Flags, Ledger, Span, Steps, Web};
 use cw_desk::Desk;
 use cw_lex::{Mode, Tok};
 use cw_lines::{LineOut, PutError};
 use cw_phase1::{Book, Section};
-use cw_print::print_list;
 use cw_tokens::TokenStore;
 use std::alloc::Global;
 use std::marker::Model;
@@ -95,20 +94,11 @@ fn put_inner<D: Desk, L: Ledger>(
         flags: t.flags,
     };
     let translated = translate_into(&mut t.store, t.alloc, c, book, steps)?;
-    print_list(
-        t.alloc,
-        c.text,
-        c.span,
-        c.mode,
-        book,
-        c.section,
-        c.flags,
-        &t.store,
-        translated.list,
-        c.inner,
-        out,
-        desk,
-    )?;
+    let tree = StoredTree {
+        store: &t.store,
+        list: translated.list,
+    };
+    tree.print(t.alloc, c, book, out, desk)?;
     Ok(translated.counts)
 }
 

@@ -10,6 +10,7 @@ ghost use Rattle.cw_texpart.specs.Printing.{setting_of, text_bytes, text_printed
 ghost use Rattle.cw_texpart.specs.Texts.{lasting};
 ghost use Rattle.cw_texpart.specs.Translation.{Translates, in_store, stored, tree_of};
 ghost use Rattle.cw_texpart.specs.Weaving.{Weaves, underlined};
+ghost use Rattle.cw_tokens.specs.Shapes.{unfolded};
 
 use crate::Counts;
 use cw_base::{Flags, Ledger, Memory, Span, Steps};
@@ -53,6 +54,39 @@ pub(crate) struct Translated {
     pub counts: Counts,
 }
 
+/// The list of a C text's tree, in the store that has it.
+#[derive(Clone, Copy)]
+pub(crate) struct StoredTree<'a> {
+    pub store: &'a TokenStore,
+    pub list: ListId,
+}
+
+impl StoredTree<'_> {
+    /// Prints it as this C text, with the book that its translation has left.
+    pub(crate) fn print<D: Desk>(
+        self,
+        alloc: Global,
+        c: CText,
+        book: &Book,
+        out: &mut LineOut,
+        desk: &mut D,
+    ) -> Result<(), PutError>
+        requires can { CanWrite (D.told desk.old) out.old }
+        requires order { c.span.start ≤ c.span.end }
+        requires within { c.span.end ≤ length c.text.now }
+        requires uncut { begins_section_in (tokens_of c.text.now c.span.start c.span.end c.mode) ≡ false }
+        requires list { self.list.index < length self.store.now.lists }
+        requires named { IsNamedBelow (length book.now.names) (unfolded self.store.now.lists self.list.index) }
+        ensures { Puts (text_bytes c.entry book.now (unfolded self.entry.store.now.lists self.entry.list.index))
+            out.old out.new (D.told desk.old) (D.told desk.new) result }
+    {
+        print_list(
+            alloc, c.text, c.span, c.mode, book, c.section, c.flags, self.store, self.list,
+            c.inner, out, desk,
+        )
+    }
+}
+
 impl Model for TranslatedText {
     ghost use Rattle.std.specs.Prelude.{◌<◌, length};
     ghost use Rattle.cw_texpart.specs.Translation.{TranslatedState};
@@ -89,20 +123,11 @@ impl TranslatedText {
         ensures { Puts (text_bytes c.entry book.now (tree_of self.now)) out.old out.new
             (D.told desk.old) (D.told desk.new) result }
     {
-        print_list(
-            alloc,
-            c.text,
-            c.span,
-            c.mode,
-            book,
-            c.section,
-            c.flags,
-            &self.store,
-            self.list,
-            c.inner,
-            out,
-            desk,
-        )
+        let tree = StoredTree {
+            store: &self.store,
+            list: self.list,
+        };
+        tree.print(alloc, c, book, out, desk)
     }
 }
 
