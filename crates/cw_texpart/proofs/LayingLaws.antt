@@ -1,5 +1,7 @@
 -- Inks are printed one after another.
-use Rattle.std.proofs.Common.{◌≡◌, ℕ, suc, ◌+◌, ◌-◌, ◌<◌, ◌≤◌, ◌≢◌, ◌==◌, ◌||◌, Bool, true, false, not, refl, sym, ap, ◌∙◌, List, [], ◌∷◌, ◌++◌, append_assoc, length, take, drop, get_or, arith, ne_eqb, length-drop, take-take, subst}
+use Rattle.std.proofs.Common.{◌≡◌, ℕ, suc, ◌+◌, ◌-◌, ◌<◌, ◌≤◌, ◌≢◌, ◌==◌, ◌||◌, Bool, true, false, not, refl, sym, ap}
+use Rattle.std.proofs.Common.{◌∙◌, List, [], ◌∷◌, ◌++◌, append_assoc, length, take, drop, get_or, arith, ne_eqb}
+use Rattle.std.proofs.Common.{length-drop, take-take, subst}
 use Rattle.std.specs.Prelude.{Result, Ok, Err, IsErrAnd, min, nat_lt, slice_range}
 use Rattle.std.proofs.lemmas.List.{append-nil, drop-drop, drop-take, drop_more, length-take, take-append-drop}
 use Rattle.std.proofs.lemmas.List.Elements.{All-head, All-tail}
@@ -11,7 +13,8 @@ use Rattle.cw_lines.specs.declared.put_error.PutError.{PutError}
 use Rattle.cw_rules.specs.Answers.{Seen}
 use Rattle.cw_lex.specs.Nest.{is_text_kind}
 use Rattle.cw_rules.specs.declared.tokens.TokKind.{TokKind}
-use Rattle.cw_texpart.specs.Inks.{Ink, Print, LineEnd, bytes_of, copied, end_if, ink_by, kind_inks, laid, prints, token_inks, token_inks_by}
+use Rattle.cw_texpart.specs.Inks.{Ink, Print, LineEnd, bytes_of, copied, end_if, ink_by, kind_inks, laid, prints}
+use Rattle.cw_texpart.specs.Inks.{token_inks, token_inks_by}
 use Rattle.cw_texpart.specs.Laying.{held, held_behind, holds_bytes, inked}
 
 -- ## Bytes

@@ -1,5 +1,6 @@
 -- A C text is translated, its marks are noted, and then it is printed.
-use Rattle.std.proofs.Common.{◌≡◌, ℕ, ◌+◌, ◌≤◌, ◌≢◌, refl, sym, ap, ◌∙◌, subst, ne_eqb, List, [], ◌∷◌, ◌++◌, append_assoc, length, map, take}
+use Rattle.std.proofs.Common.{◌≡◌, ℕ, ◌+◌, ◌≤◌, ◌≢◌, refl, sym, ap, ◌∙◌, subst, ne_eqb, List, [], ◌∷◌, ◌++◌}
+use Rattle.std.proofs.Common.{append_assoc, length, map, take}
 use Rattle.std.specs.Prelude.{Err, IsErrAnd, Ok, Result, Some, slice_get}
 use Rattle.std.proofs.lemmas.List.{append-nil, map-append, take_all, take_more}
 use Rattle.std.proofs.lemmas.Option.{get_or_from_slice_get, slice_get_within}

@@ -1,5 +1,6 @@
 -- Pieces of a book are woven one after another.
-use Rattle.std.proofs.Common.{◌≡◌, ℕ, ◌+◌, ◌≤◌, ◌==◌, Bool, true, false, refl, sym, ap, ◌∙◌, subst, List, [], ◌∷◌, ◌++◌, append_assoc, length, codes, arith}
+use Rattle.std.proofs.Common.{◌≡◌, ℕ, ◌+◌, ◌≤◌, ◌==◌, Bool, true, false, refl, sym, ap, ◌∙◌, subst, List, [], ◌∷◌, ◌++◌}
+use Rattle.std.proofs.Common.{append_assoc, length, codes, arith}
 use Rattle.std.specs.Prelude.{Result, Ok, Err, IfOk, IsErrAnd, Option, Some, None}
 use Rattle.std.specs.Option.{option_map}
 use Rattle.std.proofs.lemmas.List.{append-nil, map-append}
@@ -32,7 +33,8 @@ use Rattle.cw_texpart.specs.PieceForms.{piece_is}
 use Rattle.cw_texpart.specs.TexParts.{TexPiece, piece_done, pieces_done}
 use Rattle.cw_texpart.specs.Texts.{Setting, lasting, name_done_by, text_done}
 use Rattle.cw_texpart.specs.Weaving.{Press, Weaves, mark_at, underlined}
-use Rattle.cw_texpart.proofs.LayingLaws.{Inking, as-put, held_behind-append, inks-then, inked-prints, laid-append, lays-ended, lays-stopped}
+use Rattle.cw_texpart.proofs.LayingLaws.{Inking, as-put, held_behind-append, inks-then, inked-prints, laid-append}
+use Rattle.cw_texpart.proofs.LayingLaws.{lays-ended, lays-stopped}
 
 -- ## One call
 

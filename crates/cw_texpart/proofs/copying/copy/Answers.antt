@@ -4,7 +4,8 @@ use Rattle.std.specs.Prelude.{min, slice_range}
 use Rattle.cw_lines.specs.Line.{HasNoLineEnd}
 use Rattle.cw_lines.specs.WritesLaws.{can-after}
 use Rattle.cw_texpart.specs.Inks.{bytes_of, copied, ink_by, prints}
-use Rattle.cw_texpart.proofs.LayingLaws.{copy-line, copy-next, copy-none, inking-as, inking-begun, inking-ended, inking-line, inking-next, inking-stopped, line-free, line-put}
+use Rattle.cw_texpart.proofs.LayingLaws.{copy-line, copy-next, copy-none, inking-as, inking-begun, inking-ended}
+use Rattle.cw_texpart.proofs.LayingLaws.{inking-line, inking-next, inking-stopped, line-free, line-put}
 use Rattle.cw_texpart.proofs.copying.copy.Goals as goal
 
 pub loop-at-init : goal.loop-at-init

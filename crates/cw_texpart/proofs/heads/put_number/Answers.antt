@@ -14,4 +14,5 @@ returns-in_err-put_all g c =
 pub returns : goal.returns
 returns g c =
     let e : c.as_bytes.result.now ≡ decimal c.args.number = search rules in
-    puts-bytes (ap (λ (bytes : List ℕ). bytes ++ changed_mark c.args.changed) e) (puts-then c.in_ok-put_all.ensures.puts c.put_changed_mark.ensures)
+    puts-bytes (ap (λ (bytes : List ℕ). bytes ++ changed_mark c.args.changed) e) (puts-then c.in_ok-put_all.ensures.puts
+    c.put_changed_mark.ensures)

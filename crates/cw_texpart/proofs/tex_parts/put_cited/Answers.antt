@@ -9,7 +9,8 @@ use Rattle.cw_texpart.proofs.tex_parts.put_cited.Goals as goal
 
 pub returns-in-None-clause-woven : goal.returns-in-None-clause-woven
 returns-in-None-clause-woven g c =
-    weaves-as (sym (ignored id (setting_in c.args.t.now (lasting c.args.book.now)) true c.args.part c.args.book.now.names
+    weaves-as (sym (ignored id (setting_in c.args.t.now (lasting c.args.book.now)) true c.args.part
+    c.args.book.now.names
     (name_at c.args.part.start c.args.book.now.name_uses) c.in-None.ensures))
     (weaves-nothing c.none.ensures.scraps c.none.ensures.productions)
 

@@ -16,7 +16,8 @@ use Rattle.cw_texpart.specs.TexParts.{IsWholePiece, TexPiece, piece_done, pieces
 use Rattle.cw_texpart.specs.Texts.{Lasting}
 use Rattle.cw_texpart.specs.Weaving.{Press, Weaves}
 use Rattle.cw_texpart.proofs.PieceLaws.{ended, gave}
-use Rattle.cw_texpart.proofs.WeavingLaws.{weaving-as, weaving-begun, weaving-counts, weaving-end-refused, weaving-ended, weaving-next, weaving-refused, weaving-stopped}
+use Rattle.cw_texpart.proofs.WeavingLaws.{weaving-as, weaving-begun, weaving-counts, weaving-end-refused, weaving-ended}
+use Rattle.cw_texpart.proofs.WeavingLaws.{weaving-next, weaving-refused, weaving-stopped}
 use Rattle.cw_texpart.proofs.tex_parts.put_pieces.Goals as goal
 
 -- the same of what stays of a book and of what is fixed
@@ -60,7 +61,8 @@ returns-in_err-more-in-Some g c =
     weaving-stopped (weaving-as
     (gave _ _ c.in_ok-next.next c.in-Some.piece c.in_ok-next.ensures c.in-Some.is) c.all.invariant.woven)
     (moved (holds_bytes c.all.out)
-    (piece_is c.in-Some.piece) c.all.book.names c.all.invariant.same c.all.invariant.woven.same c.in_err-more-in-Some.ensures.woven)
+    (piece_is c.in-Some.piece) c.all.book.names c.all.invariant.same c.all.invariant.woven.same
+    c.in_err-more-in-Some.ensures.woven)
     c.from_residual-in_err-more-in-Some.ensures.1
 
 pub returns-in_err-counts-in-Some : goal.returns-in_err-counts-in-Some
@@ -69,7 +71,8 @@ returns-in_err-counts-in-Some g c =
     (weaving-next (weaving-as
     (gave _ _ c.in_ok-next.next c.in-Some.piece c.in_ok-next.ensures c.in-Some.is) c.all.invariant.woven)
     (moved (holds_bytes c.all.out)
-    (piece_is c.in-Some.piece) c.all.book.names c.all.invariant.same c.all.invariant.woven.same c.in_ok-more-in-Some.ensures.woven))
+    (piece_is c.in-Some.piece) c.all.book.names c.all.invariant.same c.all.invariant.woven.same
+    c.in_ok-more-in-Some.ensures.woven))
     c.from_residual-in_err-counts-in-Some.ensures.1
 
 pub all-preserved : goal.all-preserved
@@ -78,7 +81,8 @@ all-preserved g c = record {
       (weaving-next (weaving-as
       (gave _ _ c.in_ok-next.next c.in-Some.piece c.in_ok-next.ensures c.in-Some.is) c.all.invariant.woven)
       (moved (holds_bytes c.all.out)
-      (piece_is c.in-Some.piece) c.all.book.names c.all.invariant.same c.all.invariant.woven.same c.in_ok-more-in-Some.ensures.woven));
+      (piece_is c.in-Some.piece) c.all.book.names c.all.invariant.same c.all.invariant.woven.same
+      c.in_ok-more-in-Some.ensures.woven));
   same = c.in_ok-more-in-Some.ensures.same ∙ c.all.invariant.same;
   whole = All-tail (IsWholePiece c.args.t.now.text) _ _
       (subst (All (IsWholePiece c.args.t.now.text))

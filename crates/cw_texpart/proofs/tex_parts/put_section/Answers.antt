@@ -14,7 +14,8 @@ use Rattle.cw_texpart.proofs.tex_parts.put_section.Goals as goal
 
 pub returns-in_err-put_head : goal.returns-in_err-put_head
 returns-in_err-put_head g c =
-    weaves-refused _ (puts-stop _ (puts-bytes (ap (λ (s : TexSetting). head s.text s.section c.args.section) c.t.view_is)
+    weaves-refused _ (puts-stop _ (puts-bytes (ap (λ (s : TexSetting). head s.text s.section c.args.section)
+    c.t.view_is)
     c.in_err-put_head.ensures) c.from_residual.ensures.1) refl
     (omega arith) c.from_residual.ensures.1
 
@@ -23,7 +24,8 @@ put_pieces-requires-clause-can g c = can-after c.requires.can c.in_ok-put_head.e
 
 pub returns : goal.returns
 returns g c =
-    let put = puts-bytes (ap (λ (s : TexSetting). head s.text s.section c.args.section) c.t.view_is) c.in_ok-put_head.ensures in
+    let put = puts-bytes (ap (λ (s : TexSetting). head s.text s.section c.args.section) c.t.view_is)
+    c.in_ok-put_head.ensures in
     weaves-behind put
     (weaves-as
     (ap (λ (holds : Bool). reprinted (laid holds)
