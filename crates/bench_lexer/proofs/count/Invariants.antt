@@ -1,6 +1,0 @@
--- Each answer leaves one less to come.
-use Rattle.std.proofs.Common.{length}
-use Rattle.bench_lexer.proofs.count.Given as goal
-
-abbrev pub decreases-loop-answers : goal.decreases-loop-answers
-decreases-loop-answers l = length l.lexer
