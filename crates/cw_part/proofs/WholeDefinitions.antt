@@ -1,5 +1,6 @@
 -- The definitions of a whole part are whole.
-use Rattle.std.proofs.Common.{◌≡◌, ℕ, ◌<◌, ◌≤◌, Bool, true, false, ◌||◌, List, [], ◌∷◌, ◌++◌, Option, Some, None, All, length, take, refl, sym, ap, subst, ◌∙◌, arith, append_assoc, ◌⊎◌, inl, inr}
+use Rattle.std.proofs.Common.{◌≡◌, ℕ, ◌<◌, ◌≤◌, Bool, true, false, ◌||◌, List, [], ◌∷◌, ◌++◌, Option, Some, None, All}
+use Rattle.std.proofs.Common.{length, take, refl, sym, ap, subst, ◌∙◌, arith, append_assoc, ◌⊎◌, inl, inr}
 use Rattle.std.specs.List.{list_any}
 use Rattle.std.proofs.lemmas.List.{take_all, take-take, length-take}
 use Rattle.std.proofs.lemmas.List.Elements.{All-nil, All-cons, All-weaker}
@@ -25,15 +26,18 @@ use Rattle.cw_texpart.specs.Limbo.{scanned}
 
 -- ## Section codes among answers
 
-code-tokens : (answers : List Answer) → begins_section_in answers ≡ list_any (λ (t : Seen). is_section_kind t.kind) (tokens_in answers)
+code-tokens : (answers : List Answer) → begins_section_in answers ≡ list_any (λ (t : Seen). is_section_kind t.kind)
+    (tokens_in answers)
 code-tokens [] = refl
 code-tokens (Token t ∷ answers) = ap (λ b. is_section_kind t.kind || b) (code-tokens answers)
 code-tokens (Begin t ∷ answers) = code-tokens answers
 code-tokens (Finish t ∷ answers) = code-tokens answers
 code-tokens (Note kind place ∷ answers) = code-tokens answers
 
-same-codes : (xs ys : List Answer) → tokens_in xs ≡ tokens_in ys → begins_section_in ys ≡ false → begins_section_in xs ≡ false
-same-codes xs ys e h = code-tokens xs ∙ ap (list_any (λ (t : Seen). is_section_kind t.kind)) e ∙ sym (code-tokens ys) ∙ h
+same-codes : (xs ys : List Answer) → tokens_in xs ≡ tokens_in ys → begins_section_in ys ≡ false → begins_section_in xs ≡
+    false
+same-codes xs ys e h = code-tokens xs ∙ ap (list_any (λ (t : Seen). is_section_kind t.kind)) e ∙ sym (code-tokens ys) ∙
+    h
 
 tokens-append : (xs ys : List Answer) → tokens_in (xs ++ ys) ≡ tokens_in xs ++ tokens_in ys
 tokens-append [] ys = refl
@@ -43,17 +47,20 @@ tokens-append (Finish t ∷ xs) ys = tokens-append xs ys
 tokens-append (Note kind place ∷ xs) ys = tokens-append xs ys
 
 -- A text that ends before a token has no section code where none comes before the token.
-uncut-before : (text : List ℕ) (start : ℕ) (mode : Mode) (answers : List Answer) (t : Seen) → EndsBefore text start mode answers t → begins_section_in answers ≡ false
+uncut-before : (text : List ℕ) (start : ℕ) (mode : Mode) (answers : List Answer) (t : Seen) →
+    EndsBefore text start mode answers t → begins_section_in answers ≡ false
     → begins_section_in (tokens_of text start t.span.start mode) ≡ false
 uncut-before text start mode answers t e h =
     same-codes (tokens_of text start t.span.start mode) answers
-    (ap tokens_in e.alone ∙ tokens-append e.body e.cut ∙ ap (λ l. tokens_in e.body ++ l) (e.cut_tokens ∙ sym e.rest_tokens) ∙ sym (tokens-append e.body e.rest) ∙ ap tokens_in (sym e.whole)) h
+    (ap tokens_in e.alone ∙ tokens-append e.body e.cut ∙ ap (λ l. tokens_in e.body ++
+    l) (e.cut_tokens ∙ sym e.rest_tokens) ∙ sym (tokens-append e.body e.rest) ∙ ap tokens_in (sym e.whole)) h
 
 uncut-left : (xs ys : List Answer) → begins_section_in (xs ++ ys) ≡ false → begins_section_in xs ≡ false
 uncut-left [] ys h = refl
 uncut-left (x ∷ xs) ys h = by (is_section_answer x) h (uncut-left xs ys)
   where
-    by : (b : Bool) → (b || begins_section_in (xs ++ ys)) ≡ false → (begins_section_in (xs ++ ys) ≡ false → begins_section_in xs ≡ false) → (b || begins_section_in xs) ≡ false
+    by : (b : Bool) → (b || begins_section_in (xs ++ ys)) ≡ false → (begins_section_in (xs ++ ys) ≡ false →
+        begins_section_in xs ≡ false) → (b || begins_section_in xs) ≡ false
     by true k rec = absurd cc
     by false k rec = rec k
 
@@ -61,7 +68,8 @@ uncut-right : (xs ys : List Answer) → begins_section_in (xs ++ ys) ≡ false �
 uncut-right [] ys h = h
 uncut-right (x ∷ xs) ys h = by (is_section_answer x) h (uncut-right xs ys)
   where
-    by : (b : Bool) → (b || begins_section_in (xs ++ ys)) ≡ false → (begins_section_in (xs ++ ys) ≡ false → begins_section_in ys ≡ false) → begins_section_in ys ≡ false
+    by : (b : Bool) → (b || begins_section_in (xs ++ ys)) ≡ false → (begins_section_in (xs ++ ys) ≡ false →
+        begins_section_in ys ≡ false) → begins_section_in ys ≡ false
     by true k rec = absurd cc
     by false k rec = rec k
 
@@ -76,9 +84,27 @@ record Told (kind : TokKind) (start : ℕ) : Type 0 where
   so : (begun_by kind start ≡ None) ⊎ ((b : Begun) × (begun_by kind start ≡ Some b) × Begins kind start b)
 
 told-code : (code : Code) (start : ℕ) → Told (kinds.Code code) start
-told-code at.Define start = record { so = inr (record { start = start; silent = false }, refl, record { at = refl; opened = λ h. refl }) }
-told-code at.Format start = record { so = inr (record { start = start; silent = false }, refl, record { at = refl; opened = λ h. refl }) }
-told-code at.SilentFormat start = record { so = inr (record { start = start; silent = true }, refl, record { at = refl; opened = λ h. refl }) }
+told-code at.Define start = record {
+  so = inr (
+    record { start = start; silent = false },
+    refl,
+    record { at = refl; opened = λ h. refl },
+  );
+}
+told-code at.Format start = record {
+  so = inr (
+    record { start = start; silent = false },
+    refl,
+    record { at = refl; opened = λ h. refl },
+  );
+}
+told-code at.SilentFormat start = record {
+  so = inr (
+    record { start = start; silent = true },
+    refl,
+    record { at = refl; opened = λ h. refl },
+  );
+}
 told-code _ start = record { so = inl refl }
 
 told : (kind : TokKind) (start : ℕ) → Told kind start
@@ -105,46 +131,77 @@ module _ (openings : TextsEndAtOpenings) (text : List ℕ) where
   scan start = answers_at text (begun modes.Definition) start
 
   -- the text up to the next definition, or to the end
-  up-to-next : (start : ℕ) (xs ys : List Answer) → start ≤ length text → scan start ≡ xs ++ ys → begins_section_in (xs ++ ys) ≡ false → AreWithin 0 (length text) ys
+  up-to-next : (start : ℕ) (xs ys : List Answer) → start ≤ length text → scan start ≡ xs ++ ys →
+      begins_section_in (xs ++ ys) ≡ false → AreWithin 0 (length text) ys
       → IsGood text start (beginning (length text) (definitions_of (length text) ys))
   up-to-next start xs [] l e h a = record {
     order = l;
     within = omega arith;
-    uncut = ap (λ l. begins_section_in (answers_at l (begun modes.Definition) start)) (take_all (length text) text (omega arith)) ∙ ap begins_section_in e ∙ h;
+    uncut = ap (λ l. begins_section_in (answers_at l (begun modes.Definition) start))
+        (take_all (length text) text (omega arith)) ∙ ap begins_section_in e ∙ h;
   }
   up-to-next start xs (Token t ∷ ys) l e h a =
-      by (told t.kind t.span.start).so (up-to-next start (xs ++ Token t ∷ []) ys l (e ∙ sym (append_assoc xs (Token t ∷ []) ys)) (ap begins_section_in (append_assoc xs (Token t ∷ []) ys) ∙ h) a.1)
+      by (told t.kind t.span.start).so (up-to-next start (xs ++ Token t ∷ []) ys l
+      (e ∙ sym (append_assoc xs (Token t ∷ []) ys)) (ap begins_section_in (append_assoc xs (Token t ∷ []) ys) ∙ h)
+      a.1)
     where
-      by : (begun_by t.kind t.span.start ≡ None) ⊎ ((b : Begun) × (begun_by t.kind t.span.start ≡ Some b) × Begins t.kind t.span.start b)
-          → IsGood text start (beginning (length text) (definitions_of (length text) ys)) → IsGood text start (next_by (length text) (begun_by t.kind t.span.start) ys)
+      by : (begun_by t.kind t.span.start ≡ None) ⊎ ((b : Begun) × (begun_by t.kind t.span.start ≡ Some b) ×
+          Begins t.kind t.span.start b)
+          → IsGood text start (beginning (length text) (definitions_of (length text) ys)) →
+          IsGood text start (next_by (length text) (begun_by t.kind t.span.start) ys)
       by (inl none) rec = subst (λ (o : Option Begun). IsGood text start (next_by (length text) o ys)) (sym none) rec
       by (inr some) rec =
-          let law = openings text start modes.Definition modes.Definition xs t ys refl e (some.2.opened (has_sign ys)) in
+          let law = openings text start modes.Definition modes.Definition xs t ys refl e
+          (some.2.opened (has_sign ys)) in
           subst (λ (o : Option Begun). IsGood text start (next_by (length text) o ys)) (sym some.1)
           (subst (λ n. IsGood text start n) (sym some.2.at)
-          (record { order = law.0.order; within = omega (arith, a.0.1, a.0.2); uncut = uncut-before text start modes.Definition xs t law.0 (uncut-left xs (Token t ∷ ys) h) }))
-  up-to-next start xs (Begin t ∷ ys) l e h a = up-to-next start (xs ++ Begin t ∷ []) ys l (e ∙ sym (append_assoc xs (Begin t ∷ []) ys)) (ap begins_section_in (append_assoc xs (Begin t ∷ []) ys) ∙ h) a.1
-  up-to-next start xs (Finish t ∷ ys) l e h a = up-to-next start (xs ++ Finish t ∷ []) ys l (e ∙ sym (append_assoc xs (Finish t ∷ []) ys)) (ap begins_section_in (append_assoc xs (Finish t ∷ []) ys) ∙ h) a.1
-  up-to-next start xs (Note kind place ∷ ys) l e h a = up-to-next start (xs ++ Note kind place ∷ []) ys l (e ∙ sym (append_assoc xs (Note kind place ∷ []) ys)) (ap begins_section_in (append_assoc xs (Note kind place ∷ []) ys) ∙ h) a
+          (record {
+            order = law.0.order;
+            within = omega (arith, a.0.1, a.0.2);
+            uncut = uncut-before text start modes.Definition xs t law.0 (uncut-left xs (Token t ∷ ys) h);
+          }))
+  up-to-next start xs (Begin t ∷ ys) l e h a = up-to-next start (xs ++ Begin t ∷ []) ys l
+      (e ∙ sym (append_assoc xs (Begin t ∷ []) ys)) (ap begins_section_in (append_assoc xs (Begin t ∷ []) ys) ∙ h) a.1
+  up-to-next start xs (Finish t ∷ ys) l e h a = up-to-next start (xs ++ Finish t ∷ []) ys l
+      (e ∙ sym (append_assoc xs (Finish t ∷ []) ys)) (ap begins_section_in (append_assoc xs (Finish t ∷ []) ys) ∙ h) a.1
+  up-to-next start xs (Note kind place ∷ ys) l e h a = up-to-next start (xs ++ Note kind place ∷ []) ys l
+      (e ∙ sym (append_assoc xs (Note kind place ∷ []) ys)) (ap begins_section_in (append_assoc xs (Note kind place ∷
+      []) ys) ∙ h) a
 
-  each : (start : ℕ) (xs ys : List Answer) → scan start ≡ xs ++ ys → begins_section_in (xs ++ ys) ≡ false → AreWithin 0 (length text) ys → All (IsGoodDefinition text) (definitions_of (length text) ys)
+  each : (start : ℕ) (xs ys : List Answer) → scan start ≡ xs ++ ys → begins_section_in (xs ++ ys) ≡ false →
+      AreWithin 0 (length text) ys → All (IsGoodDefinition text) (definitions_of (length text) ys)
   each start xs [] e h a = All-nil (IsGoodDefinition text)
   each start xs (Token t ∷ ys) e h a =
-      by (told t.kind t.span.start).so (each start (xs ++ Token t ∷ []) ys (e ∙ sym (append_assoc xs (Token t ∷ []) ys)) (ap begins_section_in (append_assoc xs (Token t ∷ []) ys) ∙ h) a.1)
+      by (told t.kind t.span.start).so (each start (xs ++ Token t ∷ []) ys (e ∙ sym (append_assoc xs (Token t ∷ []) ys))
+      (ap begins_section_in (append_assoc xs (Token t ∷ []) ys) ∙ h) a.1)
     where
-      by : (begun_by t.kind t.span.start ≡ None) ⊎ ((b : Begun) × (begun_by t.kind t.span.start ≡ Some b) × Begins t.kind t.span.start b)
-          → All (IsGoodDefinition text) (definitions_of (length text) ys) → All (IsGoodDefinition text) (with_begun (begun_by t.kind t.span.start) (length text) (definitions_of (length text) ys))
-      by (inl none) rec = subst (λ (o : Option Begun). All (IsGoodDefinition text) (with_begun o (length text) (definitions_of (length text) ys))) (sym none) rec
+      by : (begun_by t.kind t.span.start ≡ None) ⊎ ((b : Begun) × (begun_by t.kind t.span.start ≡ Some b) ×
+          Begins t.kind t.span.start b)
+          → All (IsGoodDefinition text) (definitions_of (length text) ys) →
+          All (IsGoodDefinition text) (with_begun (begun_by t.kind t.span.start) (length text)
+          (definitions_of (length text) ys))
+      by (inl none) rec = subst (λ (o : Option Begun). All (IsGoodDefinition text)
+          (with_begun o (length text) (definitions_of (length text) ys))) (sym none) rec
       by (inr some) rec =
           let b = some.0 in
-          let law = openings text start modes.Definition modes.Definition xs t ys refl e (some.2.opened (has_sign ys)) in
+          let law = openings text start modes.Definition modes.Definition xs t ys refl e
+          (some.2.opened (has_sign ys)) in
           let d = ended_at (beginning (length text) (definitions_of (length text) ys)) b in
-          let good = up-to-next t.span.start (Token t ∷ []) ys (omega (arith, a.0.1, a.0.2)) (sym law.1) (uncut-right xs (Token t ∷ ys) h) a.1 in
-          subst (λ (o : Option Begun). All (IsGoodDefinition text) (with_begun o (length text) (definitions_of (length text) ys))) (sym some.1)
-          (All-cons (IsGoodDefinition text) d (definitions_of (length text) ys) (subst (λ n. IsGood text n (beginning (length text) (definitions_of (length text) ys))) (sym some.2.at) good) rec)
-  each start xs (Begin t ∷ ys) e h a = each start (xs ++ Begin t ∷ []) ys (e ∙ sym (append_assoc xs (Begin t ∷ []) ys)) (ap begins_section_in (append_assoc xs (Begin t ∷ []) ys) ∙ h) a.1
-  each start xs (Finish t ∷ ys) e h a = each start (xs ++ Finish t ∷ []) ys (e ∙ sym (append_assoc xs (Finish t ∷ []) ys)) (ap begins_section_in (append_assoc xs (Finish t ∷ []) ys) ∙ h) a.1
-  each start xs (Note kind place ∷ ys) e h a = each start (xs ++ Note kind place ∷ []) ys (e ∙ sym (append_assoc xs (Note kind place ∷ []) ys)) (ap begins_section_in (append_assoc xs (Note kind place ∷ []) ys) ∙ h) a
+          let good = up-to-next t.span.start (Token t ∷ []) ys (omega (arith, a.0.1, a.0.2)) (sym law.1)
+          (uncut-right xs (Token t ∷ ys) h) a.1 in
+          subst (λ (o : Option Begun). All (IsGoodDefinition text)
+          (with_begun o (length text) (definitions_of (length text) ys))) (sym some.1)
+          (All-cons (IsGoodDefinition text) d (definitions_of (length text) ys)
+          (subst (λ n. IsGood text n (beginning (length text) (definitions_of (length text) ys))) (sym some.2.at)
+          good) rec)
+  each start xs (Begin t ∷ ys) e h a = each start (xs ++ Begin t ∷ []) ys (e ∙ sym (append_assoc xs (Begin t ∷ []) ys))
+      (ap begins_section_in (append_assoc xs (Begin t ∷ []) ys) ∙ h) a.1
+  each start xs (Finish t ∷ ys) e h a = each start (xs ++ Finish t ∷
+      []) ys (e ∙ sym (append_assoc xs (Finish t ∷ []) ys)) (ap begins_section_in (append_assoc xs (Finish t ∷ []) ys) ∙
+      h) a.1
+  each start xs (Note kind place ∷ ys) e h a = each start (xs ++ Note kind place ∷
+      []) ys (e ∙ sym (append_assoc xs (Note kind place ∷ []) ys))
+      (ap begins_section_in (append_assoc xs (Note kind place ∷ []) ys) ∙ h) a
 
 -- the spans of answers are within a wider stretch
 wider : (low from to : ℕ) (answers : List Answer) → low ≤ from → AreWithin from to answers → AreWithin low to answers
@@ -155,14 +212,16 @@ wider low from to (Finish t ∷ answers) l a = ((omega (arith, a.0.0), a.0.1, a.
 wider low from to (Note kind place ∷ answers) l a = wider low from to answers l a
 
 -- a part of the text's beginning is a part of the text
-in-text : (text : List ℕ) (end : ℕ) (d : Definition) → end ≤ length text → IsGoodDefinition (take end text) d → IsWholeDefinition text d
+in-text : (text : List ℕ) (end : ℕ) (d : Definition) → end ≤ length text → IsGoodDefinition (take end text) d →
+    IsWholeDefinition text d
 in-text text end d l g =
     let size : length (take end text) ≡ end = omega (arith, length-take end text, l) in
     let fits : d.span.«end» ≤ end = omega (arith, g.within, size) in
     record {
       order = g.order;
       within = omega (arith, fits, l);
-      uncut = ap (λ t. begins_section_in (answers_at t (begun modes.Definition) d.span.start)) (sym (take-take d.span.«end» end text fits)) ∙ g.uncut;
+      uncut = ap (λ t. begins_section_in (answers_at t (begun modes.Definition) d.span.start))
+          (sym (take-take d.span.«end» end text fits)) ∙ g.uncut;
     }
 
 pub definitions-whole : TextsEndAtOpenings → DefinitionsAreWhole
@@ -171,10 +230,13 @@ definitions-whole openings text part w =
     let cut = take end text in
     let size : length cut ≡ end = omega (arith, length-take end text, w.within) in
     let answers = scanned modes.Definition text part in
-    let within : AreWithin 0 (length cut) answers = subst (λ n. AreWithin 0 n answers) (sym size) (wider 0 part.start end answers (omega arith) (tokens-within text part.start end modes.Definition w.order w.within)) in
+    let within : AreWithin 0 (length cut) answers = subst (λ n. AreWithin 0 n answers) (sym size)
+    (wider 0 part.start end answers (omega arith) (tokens-within text part.start end modes.Definition w.order
+    w.within)) in
     let good = each openings cut part.start [] answers refl w.uncut within in
     subst (λ n. All (IsWholeDefinition text) (definitions_of n answers)) size
-    (All-weaker (IsGoodDefinition cut) (IsWholeDefinition text) (λ d g. in-text text end d w.within g) (definitions_of (length cut) answers) good)
+    (All-weaker (IsGoodDefinition cut) (IsWholeDefinition text) (λ d g. in-text text end d w.within g)
+    (definitions_of (length cut) answers) good)
 
 pub rests-whole : TextsEndAtOpenings → RestsAreWhole
 rests-whole openings text section w =
