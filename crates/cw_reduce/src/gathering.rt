@@ -1,5 +1,5 @@
 //! The lists that a translation makes beside productions: those of comments, and of scraps that are left.
-ghost use Rattle.std.specs.Prelude.{◌≡◌, ℕ, ◌+◌, ◌<◌, ◌≤◌, ◌++◌, length, map, IsSome, None, IfOk, OnErr, option_map};
+ghost use Rattle.std.specs.Prelude.{◌≡◌, ◌+◌, ◌<◌, ◌≤◌, ◌++◌, length, map, IsSome, None, IfOk, OnErr, option_map};
 ghost use Rattle.cw_trees.specs.Joining.{whole};
 ghost use Rattle.cw_tokens.specs.declared.token.Token.TheVariants.{«List» as ListOf};
 ghost use Rattle.cw_tokens.specs.Shapes.{unfolded};

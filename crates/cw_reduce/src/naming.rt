@@ -1,5 +1,5 @@
 //! Section names in a text: what a name stands for is translated where the name stands.
-ghost use Rattle.std.specs.Prelude.{◌≡◌, ◌≤◌, ◌<◌, ◌+◌, ◌^◌, [], ◌∷◌, ◌++◌, All, length, true, OnOk, OnErr, None};
+ghost use Rattle.std.specs.Prelude.{◌≡◌, ◌≤◌, ◌<◌, ◌+◌, ◌^◌, All, length, true, OnOk, OnErr, None};
 ghost use Rattle.cw_rules.specs.Answers.{seen};
 ghost use Rattle.cw_rules.specs.declared.tokens.Mode.TheVariants.{Inner};
 ghost use Rattle.cw_lex.specs.Lexing.{tokens_of};

@@ -1,5 +1,5 @@
 //! The scrap that stands in place of those that a production replaces.
-ghost use Rattle.std.specs.Prelude.{◌≡◌, ◌+◌, ◌<◌, ◌≤◌, true, length, drop};
+ghost use Rattle.std.specs.Prelude.{◌≡◌, ◌<◌, ◌≤◌, true, length, drop};
 ghost use Rattle.cw_table.specs.Fitting.{row_fits};
 ghost use Rattle.cw_table.specs.Rows.{pieces_by};
 ghost use Rattle.cw_table.specs.Sound.{row_is_sound};
