@@ -3,7 +3,18 @@ ghost use Rattle.std.specs.Prelude.{◌≡◌, ◌+◌, ◌<◌, ◌≤◌, fals
 ghost use Rattle.cw_rules.specs.Answers.{seen, Token, Note as NoteAnswer};
 ghost use Rattle.cw_rules.specs.Answers.{is_head_sign};
 ghost use Rattle.cw_phase1.specs.Entering.{is_unended, note_on};
-ghost use Rattle.cw_phase1.specs.Holding.{begun_held, ended_held, held_of, held_step, is_name, name_held, plain_held, remark_of, remark_put, settled};
+ghost use Rattle.cw_phase1.specs.Holding.{
+  begun_held,
+  ended_held,
+  held_of,
+  held_step,
+  is_name,
+  name_held,
+  plain_held,
+  remark_of,
+  remark_put,
+  settled,
+};
 ghost use Rattle.cw_phase1.specs.Ready.{CanSettle, CanTell, IsToken, WaitingIsKept, held_start};
 
 use crate::entering::{enter, kept_id};

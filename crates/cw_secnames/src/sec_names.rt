@@ -49,8 +49,8 @@ pub(crate) struct Kept {
 
 /// The kept names, in order of entry.
 ///
-/// A name is looked for among those that its text begins or that begin it, and not among all names, until the memory for
-/// that is given back.
+/// A name is looked for among those that its text begins or that begin it, and not among all names, until the memory
+/// for that is given back.
 #[derive(Drop)]
 pub struct SecNames {
     names: Vec<Kept>,
