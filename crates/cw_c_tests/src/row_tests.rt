@@ -12,7 +12,7 @@ use cw_lex::{Sign, Tok, TokKind};
 use cw_names::{EntryKind, NameId, Names};
 use cw_scraps::{Marks, ScrapLine, scrap_of};
 use cw_table::{ROW_COUNT, RowNo, first_production, table};
-use cw_tokens::{FlatItem, TokenStore};
+use cw_tokens::{FlatItem, FlatTokens, TokenStore};
 use cw_trees::Control;
 use std::alloc::Global;
 use std::test::Fail;
@@ -217,20 +217,24 @@ fn add_words(
     Ok(())
 }
 
+// The name of a letter gets a category; by `End` it keeps its own.
+fn set_letter(names: &mut Names, letter: u8, cat: Cat) -> Result<(), Memory> {
+    let name = names.find_or_add(EntryKind::Ident, &[letter])?;
+    if cat != Cat::End {
+        names.set_category(name, cat);
+    }
+    Ok(())
+}
+
 // The letters from `a` on get these categories, and `z` that of a scrap that no row joins to the right.
-fn names_of(alloc: Global, cats: &[Cat]) -> Result<Names, Memory> {
-    let mut names = Names::with_words(alloc)?;
-    let name = names.find_or_add(EntryKind::Ident, b"z")?;
-    names.set_category(name, Cat::Dead);
+fn set_letters(names: &mut Names, cats: &[Cat]) -> Result<(), Memory> {
+    set_letter(names, b'z', Cat::Dead)?;
     let mut letter = b'a';
     for cat in cats {
-        let name = names.find_or_add(EntryKind::Ident, &[letter])?;
-        if *cat != Cat::End {
-            names.set_category(name, *cat);
-        }
+        set_letter(names, letter, *cat)?;
         letter = letter.wrapping_add(1);
     }
-    Ok(names)
+    Ok(())
 }
 
 // The first row that fits at a place.
@@ -321,24 +325,35 @@ fn sign(control: Control) -> u8 {
     }
 }
 
-// The translation of a scrap.
-fn translation(
+// Whether items are shown by these bytes.
+fn are_shown(items: &FlatTokens, bytes: &[u8]) -> bool {
+    if items.len() != bytes.len() {
+        return false;
+    }
+    for (i, byte) in bytes.iter().enumerate() {
+        if shown(items.item(i)) != *byte {
+            return false;
+        }
+    }
+    true
+}
+
+// Whether these bytes show the translation of a scrap.
+fn is_translation(
     alloc: Global,
     line: &ScrapLine,
     i: usize,
     store: &TokenStore,
     names: &Names,
-) -> Result<Vec<u8>, Memory>
+    bytes: &[u8],
+) -> Result<bool, Memory>
     requires sound { IsSoundLine store.now names.now line.now }
 {
-    let mut bytes = Vec::new(alloc);
-    if i < line.len() {
-        let flat = store.flat(alloc, line.part_at(i).list)?;
-        for k in 0..flat.len() {
-            bytes.push(shown(flat.item(k)))?;
-        }
+    if i >= line.len() {
+        return Ok(false);
     }
-    Ok(bytes)
+    let items = store.flat(alloc, line.part_at(i).list)?;
+    Ok(are_shown(&items, bytes))
 }
 
 // Whether the names that were underlined are that of one letter, or none.
@@ -352,21 +367,12 @@ fn are_marked(scrap: Option<u8>, marks: &Marks, names: &mut Names) -> Result<boo
     }
 }
 
-// What a production makes of the scraps of these categories, behind one that no row joins.
-#[derive(Drop)]
-struct Outcome {
-    row: u8,
-    left: usize,
-    cat: Cat,
-    marked: bool,
-    bytes: Vec<u8>,
-}
-
 // An empty line, where the first letters are names of these categories.
 fn bench_of(alloc: Global, cats: &[Cat]) -> Result<Bench, Memory>
     ensures { IfOk result (λ bench. IsSoundLine bench.store bench.names bench.line) }
 {
-    let names = names_of(alloc, cats)?;
+    let mut names = Names::with_words(alloc)?;
+    set_letters(&mut names, cats)?;
     Ok(Bench {
         line: ScrapLine::new_in(alloc),
         store: TokenStore::new_in(alloc),
@@ -376,14 +382,11 @@ fn bench_of(alloc: Global, cats: &[Cat]) -> Result<Bench, Memory>
     })
 }
 
-fn made_of(
-    alloc: Global,
-    cats: &[Cat],
-    replaced: usize,
-    underlined: Option<u8>,
-    flags: &Flags,
-) -> Result<Outcome, Memory> {
-    let mut bench = bench_of(alloc, cats)?;
+// A scrap that no row joins, and a scrap of each of the first letters behind it.
+fn add_scraps(bench: &mut Bench, count: usize) -> Result<(), Memory>
+    requires sound { IsSoundLine bench.old.store bench.old.names bench.old.line }
+    ensures sound { OnOk result (IsSoundLine bench.new.store bench.new.names bench.new.line) }
+{
     add(
         TokKind::Identifier,
         b'z',
@@ -393,23 +396,61 @@ fn made_of(
         &mut bench.names,
     )?;
     let letters = b"abcd";
-    let count = cats.len().min(letters.len());
     add_words(
-        &letters[..count],
+        &letters[..count.min(letters.len())],
         &mut bench.line,
         &mut bench.store,
         &mut bench.names,
-    )?;
-    let row = produce(&mut bench, 1, flags)?;
+    )
+}
+
+// What a production makes: its row, the scraps that are left, the category of the new one, and whether what was
+// underlined and the translation are as wanted.
+#[derive(Clone, Copy)]
+struct Outcome {
+    row: u8,
+    left: usize,
+    cat: Cat,
+    is_marked: bool,
+    is_laid: bool,
+}
+
+// What is made of a scrap of each of the first letters, behind one that no row joins. It is wanted that a row makes
+// this translation of the scraps from a place on.
+fn made_in(
+    alloc: Global,
+    bench: &mut Bench,
+    count: usize,
+    wanted: (u8, usize, &[u8]),
+    flags: &Flags,
+) -> Result<Outcome, Memory>
+    requires sound { IsSoundLine bench.old.store bench.old.names bench.old.line }
+{
+    let (wanted_row, replaced, bytes) = wanted;
+    add_scraps(bench, count)?;
+    let row = produce(bench, 1, flags)?;
     let at = replaced.saturating_add(1);
-    let bytes = translation(alloc, &bench.line, at, &bench.store, &bench.names)?;
+    let is_laid = is_translation(alloc, &bench.line, at, &bench.store, &bench.names, bytes)?;
+    let cat = bench.line.cat_at(at, &mut bench.steps);
+    let is_marked = are_marked(underlined(wanted_row), &bench.marks, &mut bench.names)?;
     Ok(Outcome {
         row,
         left: bench.line.len(),
-        cat: bench.line.cat_at(at, &mut bench.steps),
-        marked: are_marked(underlined, &bench.marks, &mut bench.names)?,
-        bytes,
+        cat,
+        is_marked,
+        is_laid,
     })
+}
+
+// What is made of scraps of these categories.
+fn made_of(
+    alloc: Global,
+    cats: &[Cat],
+    wanted: (u8, usize, &[u8]),
+    flags: &Flags,
+) -> Result<Outcome, Memory> {
+    let mut bench = bench_of(alloc, cats)?;
+    made_in(alloc, &mut bench, cats.len(), wanted, flags)
 }
 
 // The number of the first of these productions that makes something else than its row says, or 0.
@@ -419,12 +460,12 @@ fn first_wrong(
     flags: &Flags,
 ) -> Result<u8, Memory> {
     for (row, cats, replaced, left, cat, bytes) in rows {
-        let done = made_of(alloc, cats, *replaced, underlined(*row), flags)?;
+        let done = made_of(alloc, cats, (*row, *replaced, bytes), flags)?;
         let same = done.row == *row
             && done.left == left.wrapping_add(1)
             && done.cat == *cat
-            && done.marked
-            && done.bytes.as_slice() == *bytes;
+            && done.is_marked
+            && done.is_laid;
         if !same {
             return Ok(*row);
         }
@@ -436,12 +477,20 @@ const ROWS: [&[(u8, &[Cat], usize, usize, Cat, &[u8])]; 9] = [
     &FROM_1, &FROM_13, &FROM_25, &FROM_37, &FROM_49, &FROM_61, &FROM_73, &FROM_83, &FROM_93,
 ];
 
+// The first such number of all productions, or 0.
+fn first_wrong_of_all(alloc: Global, flags: &Flags) -> Result<u8, Memory> {
+    for rows in &ROWS {
+        let row = first_wrong(alloc, rows, flags)?;
+        if row != 0 {
+            return Ok(row);
+        }
+    }
+    Ok(0)
+}
+
 #[test]
 fn each_production_makes_what_its_row_says(rt: HostRuntime) -> Result<(), Fail> {
-    let flags = Flags::start();
-    for rows in ROWS {
-        assert_eq!(rt; first_wrong(rt.alloc(), rows, &flags)?, 0);
-    }
+    assert_eq!(rt; first_wrong_of_all(rt.alloc(), &Flags::start())?, 0);
     Ok(())
 }
 
@@ -504,26 +553,28 @@ fn is_marked_type(bench: &Bench, name: NameId) -> bool
     marks.len() == 1 && marks.name(0) == name && bench.names.category(name) == Cat::RawInt
 }
 
-// What `a struct a; a b` becomes by the declaration of a structure `a` in it: the row and the steps; whether the last
-// items are as wanted, and the name is a type; and the first other category.
-fn reserved(alloc: Global) -> Result<((u8, u64), [bool; 2], Option<usize>), Memory> {
-    let mut bench = bench_of(alloc, &[Cat::Exp, Cat::Exp, Cat::StructLike, Cat::Semi])?;
+// What is made of `a struct a; a b` in a line: the row and the steps; whether the last items are as wanted, and the
+// name is a type; and the first other category.
+type Reserved = ((u8, u64), [bool; 2], Option<usize>);
+
+fn reserved_in(alloc: Global, bench: &mut Bench) -> Result<Reserved, Memory>
+    requires sound { IsSoundLine bench.old.store bench.old.names bench.old.line }
+{
     add_words(
         b"acadab",
         &mut bench.line,
         &mut bench.store,
         &mut bench.names,
     )?;
-    let row = produce(&mut bench, 1, &Flags::start())?;
+    let row = produce(bench, 1, &Flags::start())?;
     let steps = bench.steps.count();
-    let items = last_items(alloc, &bench)?;
+    let items = last_items(alloc, bench)?;
     let name = bench.names.find_or_add(EntryKind::Ident, b"a")?;
     let wanted = [
-        FlatItem::Ident(name, 0),
-        FlatItem::Reserved(name, 2),
-        FlatItem::Reserved(name, 4),
+        Some(FlatItem::Ident(name, 0)),
+        Some(FlatItem::Reserved(name, 2)),
+        Some(FlatItem::Reserved(name, 4)),
     ];
-    let are_turned = items == wanted.map(Some);
     let cats = [
         Cat::Exp,
         Cat::DeclHead,
@@ -535,17 +586,21 @@ fn reserved(alloc: Global) -> Result<((u8, u64), [bool; 2], Option<usize>), Memo
     let other = first_other(&bench.line, &cats);
     Ok((
         (row, steps),
-        [are_turned, is_marked_type(&bench, name)],
+        [items == wanted, is_marked_type(bench, name)],
         other,
     ))
+}
+
+// What it becomes by the declaration of a structure `a` in it.
+fn reserved(alloc: Global) -> Result<Reserved, Memory> {
+    let mut bench = bench_of(alloc, &[Cat::Exp, Cat::Exp, Cat::StructLike, Cat::Semi])?;
+    reserved_in(alloc, &mut bench)
 }
 
 // To its right each bare `a` is a type from now on.
 #[test]
 fn reserving_turns_scraps_to_the_right_alone(rt: HostRuntime) -> Result<(), Fail> {
-    let (counts, turned, other) = reserved(rt.alloc())?;
-    assert_eq!(rt; counts, (41, 7));
-    assert_eq!(rt; (turned, other), ([true; 2], None));
+    assert_eq!(rt; reserved(rt.alloc())?, ((41, 7), [true; 2], None));
     Ok(())
 }
 
@@ -583,24 +638,42 @@ fn only_scrap(line: &ScrapLine) -> Option<(usize, MathMode, MathMode)> {
 }
 
 // What is produced of `{a;}`; whether its translation is as wanted; and the scrap that is left.
-fn made_block(
-    alloc: Global,
-) -> Result<((u8, u8, usize), bool, Option<(usize, MathMode, MathMode)>), Memory> {
-    let mut bench = bench_of(alloc, &[])?;
+type Block = (
+    (u8, u8, usize),
+    bool,
+    Option<(usize, MathMode, MathMode)>,
+);
+
+fn made_block_in(alloc: Global, bench: &mut Bench) -> Result<Block, Memory>
+    requires sound { IsSoundLine bench.old.store bench.old.names bench.old.line }
+{
     add_block(&mut bench.line, &mut bench.store, &mut bench.names)?;
-    let produced = produce_block(&mut bench)?;
-    let bytes = translation(alloc, &bench.line, 0, &bench.store, &bench.names)?;
-    let is_laid = bytes.as_slice() == b"F$0>#F12FU$3<#F".as_slice();
+    let produced = produce_block(bench)?;
+    let is_laid = is_translation(
+        alloc,
+        &bench.line,
+        0,
+        &bench.store,
+        &bench.names,
+        b"F$0>#F12FU$3<#F",
+    )?;
     Ok((produced, is_laid, only_scrap(&bench.line)))
+}
+
+fn made_block(alloc: Global) -> Result<Block, Memory> {
+    let mut bench = bench_of(alloc, &[])?;
+    made_block_in(alloc, &mut bench)
 }
 
 // Its statement and then the block: one list of ten tokens, four toggles between them and its beginning take fifteen of
 // the spare.
 #[test]
 fn a_block_takes_one_list_with_toggles_between_its_pieces(rt: HostRuntime) -> Result<(), Fail> {
-    let (produced, is_laid, scrap) = made_block(rt.alloc())?;
-    assert_eq!(rt; produced, (8, 50, 15));
-    assert!(rt; is_laid);
-    assert_eq!(rt; scrap, Some((5, MathMode::Text, MathMode::Text)));
+    let wanted = (
+        (8, 50, 15),
+        true,
+        Some((5, MathMode::Text, MathMode::Text)),
+    );
+    assert_eq!(rt; made_block(rt.alloc())?, wanted);
     Ok(())
 }

@@ -1,7 +1,7 @@
 -- The list of a scrap of a sound line lies in the store, so that its translation can be shown.
 use Rattle.std.proofs.Common.{arith}
 use Rattle.cw_scraps.proofs.Reservings.{entry-there}
-use Rattle.cw_c_tests.proofs.row_tests.translation.Goals as goal
+use Rattle.cw_c_tests.proofs.row_tests.is_translation.Goals as goal
 
 pub flat-requires : goal.flat-requires
 flat-requires c = rw c.part_at.ensures (record {
