@@ -1,24 +1,27 @@
 //! Tests that make the scrap of each kind of token once.
-ghost use Rattle.std.specs.Prelude.{◌^◌, ◌<◌, length};
+ghost use Rattle.std.specs.Prelude.{◌≡◌, ◌^◌, ◌<◌, true};
 ghost use Rattle.cw_rules.specs.declared.tokens.TokKind.TheVariants as TokKind;
 ghost use Rattle.cw_scraps.specs.Leaves.{MakesLeaf};
+ghost use Rattle.cw_scraps.specs.Words.{is_word};
 
+use crate::store_tests::is_flat;
 use cw_base::{Cat, MathMode, Memory, Span};
 use cw_lex::{Code, Sign, Tok, TokKind};
 use cw_names::Names;
 use cw_scraps::{scrap_of, word_token};
-use cw_tokens::{FlatItem, ListId, Token, TokenStore};
+use cw_tokens::{FlatItem, Token, TokenStore};
 use cw_trees::Control;
 use std::alloc::Global;
 use std::test::Fail;
 
-// The scrap of a token at place 3, and the items of its list.
+// The category and the mode of the scrap of a token at place 3, and whether its list has these items.
 fn leaf(
     alloc: Global,
     kind: TokKind,
     text: &[u8],
     hash_line: bool,
-) -> Result<(Cat, MathMode, Vec<FlatItem>), Memory>
+    items: &[FlatItem],
+) -> Result<(Cat, MathMode, bool), Memory>
     requires { MakesLeaf kind }
 {
     let mut names = Names::with_words(alloc)?;
@@ -30,19 +33,8 @@ fn leaf(
         hash_line,
     };
     let leaf = scrap_of(&token, &mut names, &mut store)?;
-    let flat = first_list(alloc, &store, leaf.list)?;
-    Ok((leaf.cat, leaf.left, flat))
-}
-
-fn first_list(alloc: Global, store: &TokenStore, id: ListId) -> Result<Vec<FlatItem>, Memory>
-    requires { id.index < length store.now.lists }
-{
-    let flat = store.flat(alloc, id)?;
-    let mut items = Vec::new(alloc);
-    for i in 0..flat.len() {
-        items.push(flat.item(i))?;
-    }
-    Ok(items)
+    let is_flat = is_flat(alloc, &store, leaf.list, items)?;
+    Ok((leaf.cat, leaf.left, is_flat))
 }
 
 // Whether that scrap has this category and mode, and its list these items.
@@ -55,9 +47,8 @@ fn is_leaf(
 ) -> Result<bool, Memory>
     requires { MakesLeaf kind }
 {
-    let (cat, mode, items) = leaf(alloc, kind, text, hash_line)?;
-    let (wanted_cat, wanted_mode, wanted_items) = wanted;
-    Ok(cat == wanted_cat && mode == wanted_mode && items.as_slice() == wanted_items)
+    let (cat, mode, items) = wanted;
+    Ok(leaf(alloc, kind, text, hash_line, items)? == (cat, mode, true))
 }
 
 const SOURCE: FlatItem = FlatItem::Source(3);
@@ -102,13 +93,20 @@ const SIGNS: [(Sign, Cat, MathMode); 37] = [
     (Sign::Ellipsis, Cat::RawInt, MathMode::Math),
 ];
 
+// The first sign with another scrap.
+fn first_other_sign(alloc: Global) -> Result<Option<Sign>, Memory> {
+    for (sign, cat, mode) in &SIGNS {
+        let wanted: (_, _, &[FlatItem]) = (*cat, *mode, &[SOURCE]);
+        if !is_leaf(alloc, TokKind::Sign(*sign), b"", false, wanted)? {
+            return Ok(Some(*sign));
+        }
+    }
+    Ok(None)
+}
+
 #[test]
 fn each_sign_has_its_category_and_mode(rt: HostRuntime) -> Result<(), Fail> {
-    for (sign, cat, mode) in SIGNS {
-        let wanted = (cat, mode, [SOURCE].as_slice());
-        let is_right = is_leaf(rt.alloc(), TokKind::Sign(sign), b"", false, wanted)?;
-        assert!(rt; is_right, "{sign:?}");
-    }
+    assert_eq!(rt; first_other_sign(rt.alloc())?, None);
     Ok(())
 }
 
@@ -131,24 +129,32 @@ const STRINGS: [&[u8]; 9] = [
 
 const EXPRESSION: (Cat, MathMode, &[FlatItem]) = (Cat::Exp, MathMode::Maybe, &[SOURCE]);
 
+// The first of the texts of such tokens that isn't an expression.
+fn first_other_text(
+    alloc: Global,
+    kind: TokKind,
+    texts: &[&[u8]],
+    hash_line: bool,
+) -> Result<Option<usize>, Memory>
+    requires { MakesLeaf kind }
+{
+    for (i, text) in texts.iter().enumerate() {
+        if !is_leaf(alloc, kind, text, hash_line, EXPRESSION)? {
+            return Ok(Some(i));
+        }
+    }
+    Ok(None)
+}
+
 #[test]
 fn constants_and_strings_are_expressions(rt: HostRuntime) -> Result<(), Fail> {
-    for text in CONSTANTS {
-        assert!(rt; is_leaf(rt.alloc(), TokKind::Constant, text, false, EXPRESSION)?);
-    }
-    for text in STRINGS {
-        assert!(rt; is_leaf(rt.alloc(), TokKind::Quoted, text, false, EXPRESSION)?);
-    }
-    assert!(rt;
-        is_leaf(
-            rt.alloc(),
-            TokKind::IncludeName,
-            b"<stdio.h>",
-            true,
-            EXPRESSION
-        )?
-    );
-    assert!(rt; is_leaf(rt.alloc(), TokKind::OtherByte, b"$", false, EXPRESSION)?);
+    let others = [
+        first_other_text(rt.alloc(), TokKind::Constant, &CONSTANTS, false)?,
+        first_other_text(rt.alloc(), TokKind::Quoted, &STRINGS, false)?,
+        first_other_text(rt.alloc(), TokKind::IncludeName, &[b"<stdio.h>"], true)?,
+        first_other_text(rt.alloc(), TokKind::OtherByte, &[b"$"], false)?,
+    ];
+    assert_eq!(rt; others, [None; 4]);
     Ok(())
 }
 
@@ -221,22 +227,32 @@ const CODES: [(u8, Cat, MathMode, &[FlatItem]); 13] = [
     (b'h', Cat::Insert, MathMode::Text, &[BREAK, SOURCE, BREAK]),
 ];
 
+// The byte of the first code with another scrap.
+fn first_other_code(alloc: Global) -> Result<Option<u8>, Memory> {
+    for (byte, cat, mode, items) in &CODES {
+        let kind = TokKind::Code(code_of(*byte));
+        if !is_leaf(alloc, kind, b"", false, (*cat, *mode, items))? {
+            return Ok(Some(*byte));
+        }
+    }
+    Ok(None)
+}
+
 #[test]
 fn each_code_is_laid_out_or_passed_on(rt: HostRuntime) -> Result<(), Fail> {
-    for (byte, cat, mode, items) in CODES {
-        let kind = TokKind::Code(code_of(byte));
-        let is_right = is_leaf(rt.alloc(), kind, b"", false, (cat, mode, items))?;
-        assert!(rt; is_right, "code {byte}");
-    }
+    assert_eq!(rt; first_other_code(rt.alloc())?, None);
     Ok(())
 }
 
 #[test]
 fn a_line_of_the_preprocessor_is_put_on_a_line_of_its_own(rt: HostRuntime) -> Result<(), Fail> {
     let begin: (_, _, &[FlatItem]) = (Cat::Lproc, MathMode::Text, &[BREAK, SOURCE]);
-    assert!(rt; is_leaf(rt.alloc(), TokKind::HashLine, b"#", true, begin)?);
     let end: (_, _, &[FlatItem]) = (Cat::Rproc, MathMode::Text, &[BREAK]);
-    assert!(rt; is_leaf(rt.alloc(), TokKind::HashLineEnd, b"\n", true, end)?);
+    let are_right = [
+        is_leaf(rt.alloc(), TokKind::HashLine, b"#", true, begin)?,
+        is_leaf(rt.alloc(), TokKind::HashLineEnd, b"\n", true, end)?,
+    ];
+    assert_eq!(rt; are_right, [true; 2]);
     Ok(())
 }
 
@@ -273,45 +289,55 @@ const WORDS: [(&[u8], Cat, Cat); 27] = [
 
 // The category and the mode of a word's scrap.
 fn word_leaf(alloc: Global, word: &[u8], hash_line: bool) -> Result<(Cat, MathMode), Memory> {
-    let (cat, mode, _) = leaf(alloc, TokKind::Identifier, word, hash_line)?;
+    let (cat, mode, _) = leaf(alloc, TokKind::Identifier, word, hash_line, &[])?;
     Ok((cat, mode))
+}
+
+// The first word with another category or mode, outside `#` lines or in them.
+fn first_other_word(alloc: Global) -> Result<Option<usize>, Memory> {
+    for (i, (word, outside, inside)) in WORDS.iter().enumerate() {
+        let found = [
+            word_leaf(alloc, word, false)?,
+            word_leaf(alloc, word, true)?,
+        ];
+        if found != [(*outside, MathMode::Maybe), (*inside, MathMode::Maybe)] {
+            return Ok(Some(i));
+        }
+    }
+    Ok(None)
 }
 
 #[test]
 fn a_word_is_reserved_in_its_place_only(rt: HostRuntime) -> Result<(), Fail> {
-    for (word, outside, inside) in WORDS {
-        let found = [
-            word_leaf(rt.alloc(), word, false)?,
-            word_leaf(rt.alloc(), word, true)?,
-        ];
-        let wanted = [(outside, MathMode::Maybe), (inside, MathMode::Maybe)];
-        assert!(rt; found == wanted);
-    }
+    assert_eq!(rt; first_other_word(rt.alloc())?, None);
     Ok(())
 }
 
-// The tokens of a comma and of a word that is reserved.
-fn words_of(alloc: Global) -> Result<(Token, Token), Memory> {
+// The token of a sign or a word, by itself.
+fn token_of(alloc: Global, kind: TokKind, text: &[u8], span: Span) -> Result<Token, Memory>
+    requires kind { is_word kind ≡ true }
+    requires start { span.start < 2 ^ 32 }
+{
     let mut names = Names::with_words(alloc)?;
-    let comma = Tok {
-        kind: TokKind::Sign(Sign::Comma),
-        text: b",",
-        span: Span { start: 3, end: 4 },
+    let token = Tok {
+        kind,
+        text,
+        span,
         hash_line: false,
     };
-    let word = Tok {
-        kind: TokKind::Identifier,
-        text: b"int",
-        span: Span { start: 5, end: 8 },
-        hash_line: false,
-    };
-    let sign = word_token(&comma, &mut names)?;
-    Ok((sign, word_token(&word, &mut names)?))
+    word_token(&token, &mut names)
 }
 
 #[test]
 fn words_are_tokens_by_themselves(rt: HostRuntime) -> Result<(), Fail> {
-    let (comma, word) = words_of(rt.alloc())?;
+    let sign = TokKind::Sign(Sign::Comma);
+    let comma = token_of(rt.alloc(), sign, b",", Span { start: 3, end: 4 })?;
+    let word = token_of(
+        rt.alloc(),
+        TokKind::Identifier,
+        b"int",
+        Span { start: 5, end: 8 },
+    )?;
     assert_eq!(rt; comma, Token::Source(3, MathMode::Math));
     assert!(rt; matches!(word, Token::Reserved(_, 5, Cat::RawInt)));
     Ok(())

@@ -1,39 +1,57 @@
 //! Tests of names that are found again, of the words known from the start, and of the sections of names.
+ghost use Rattle.std.specs.Prelude.{◌<◌, length};
+
 use cw_base::{Cat, Memory};
 use cw_names::{EntryKind, NameId, Names, SectionRef, Xrefs};
 use std::alloc::Global;
 use std::test::Fail;
 
-// How many names there are at the start, and where three are found; the categories of two, before and behind a change;
-// and whether the second is roman, and the first built in.
-fn found_again(alloc: Global) -> Result<([usize; 4], [Cat; 3], [bool; 2]), Memory> {
-    let mut names = Names::with_words(alloc)?;
+// The categories of two names before and behind a change of the first, and whether the first is built in.
+fn changed(names: &mut Names, first: NameId, second: NameId) -> ([Cat; 3], bool)
+    requires first { first.index < length names.old }
+    requires second { second.index < length names.old }
+{
+    let begun = names.category(first);
+    names.set_category(first, Cat::RawInt);
+    let cats = [begun, names.category(first), names.category(second)];
+    (cats, names.is_built_in(first))
+}
+
+// How many names there are, and where three are found; whether the second is roman; and what a change of the first
+// gives.
+type Found = ([usize; 4], bool, ([Cat; 3], bool));
+
+fn found_in(names: &mut Names) -> Result<Found, Memory> {
     let count = names.len();
     let x = names.find_or_add(EntryKind::Ident, b"x")?;
     let roman = names.find_or_add(EntryKind::Roman, b"x")?;
     let again = names.find_or_add(EntryKind::Ident, b"x")?;
     let is_roman = names.text(roman) == b"x".as_slice() && names.kind(roman) == EntryKind::Roman;
-    let begun = names.category(x);
-    names.set_category(x, Cat::RawInt);
-    let cats = [begun, names.category(x), names.category(roman)];
     let places = [count, x.index, roman.index, again.index];
-    Ok((places, cats, [is_roman, names.is_built_in(x)]))
+    Ok((places, is_roman, changed(names, x, roman)))
+}
+
+// The same for the names at the start.
+fn found_again(alloc: Global) -> Result<Found, Memory> {
+    let mut names = Names::with_words(alloc)?;
+    found_in(&mut names)
 }
 
 #[test]
 fn names_are_found_again(rt: HostRuntime) -> Result<(), Fail> {
-    let (places, cats, kinds) = found_again(rt.alloc())?;
-    assert_eq!(rt; places, [49, 49, 50, 49]);
-    assert_eq!(rt; cats, [Cat::Exp, Cat::RawInt, Cat::Exp]);
-    assert_eq!(rt; kinds, [true, false]);
+    let wanted = (
+        [49, 49, 50, 49],
+        true,
+        ([Cat::Exp, Cat::RawInt, Cat::Exp], false),
+    );
+    assert_eq!(rt; found_again(rt.alloc())?, wanted);
     Ok(())
 }
 
 const WORDS: [&[u8]; 4] = [b"struct", b"_Generic", b"restrict", b"endif"];
 
 // The categories of words that are built in.
-fn built_in(alloc: Global) -> Result<[Cat; 4], Memory> {
-    let mut names = Names::with_words(alloc)?;
+fn built_in(names: &mut Names) -> Result<[Cat; 4], Memory> {
     let mut found = [Cat::End; 4];
     for (i, text) in WORDS.iter().enumerate() {
         let word = names.find_or_add(EntryKind::Ident, text)?;
@@ -44,10 +62,15 @@ fn built_in(alloc: Global) -> Result<[Cat; 4], Memory> {
     Ok(found)
 }
 
+fn built_in_at_start(alloc: Global) -> Result<[Cat; 4], Memory> {
+    let mut names = Names::with_words(alloc)?;
+    built_in(&mut names)
+}
+
 #[test]
 fn words_are_there_from_the_start(rt: HostRuntime) -> Result<(), Fail> {
     assert_eq!(rt;
-        built_in(rt.alloc())?,
+        built_in_at_start(rt.alloc())?,
         [Cat::StructLike, Cat::SizeofLike, Cat::ConstLike, Cat::Exp]
     );
     Ok(())
@@ -71,14 +94,13 @@ fn note_all(xrefs: &mut Xrefs, x: NameId, y: NameId) -> Result<(), Memory> {
 
 // Whether the sections of the first name are as wanted, how many a second and a third name have, and how many
 // occurrences there are.
-fn noted_sections(alloc: Global) -> Result<(bool, [usize; 3]), Memory> {
-    let mut xrefs = Xrefs::new_in(alloc);
+fn noted_in(xrefs: &mut Xrefs) -> Result<(bool, [usize; 3]), Memory> {
     let (x, y, other) = (
         NameId { index: 49 },
         NameId { index: 50 },
         NameId { index: 3 },
     );
-    note_all(&mut xrefs, x, y)?;
+    note_all(xrefs, x, y)?;
     let wanted = [(1, false), (3, true), (7, false)].map(|(section, underlined)| SectionRef {
         section,
         underlined,
@@ -89,6 +111,11 @@ fn noted_sections(alloc: Global) -> Result<(bool, [usize; 3]), Memory> {
         xrefs.occurrences().len(),
     ];
     Ok((xrefs.sections_of(x) == wanted.as_slice(), counts))
+}
+
+fn noted_sections(alloc: Global) -> Result<(bool, [usize; 3]), Memory> {
+    let mut xrefs = Xrefs::new_in(alloc);
+    noted_in(&mut xrefs)
 }
 
 #[test]

@@ -638,11 +638,7 @@ fn only_scrap(line: &ScrapLine) -> Option<(usize, MathMode, MathMode)> {
 }
 
 // What is produced of `{a;}`; whether its translation is as wanted; and the scrap that is left.
-type Block = (
-    (u8, u8, usize),
-    bool,
-    Option<(usize, MathMode, MathMode)>,
-);
+type Block = ((u8, u8, usize), bool, Option<(usize, MathMode, MathMode)>);
 
 fn made_block_in(alloc: Global, bench: &mut Bench) -> Result<Block, Memory>
     requires sound { IsSoundLine bench.old.store bench.old.names bench.old.line }
@@ -669,11 +665,7 @@ fn made_block(alloc: Global) -> Result<Block, Memory> {
 // the spare.
 #[test]
 fn a_block_takes_one_list_with_toggles_between_its_pieces(rt: HostRuntime) -> Result<(), Fail> {
-    let wanted = (
-        (8, 50, 15),
-        true,
-        Some((5, MathMode::Text, MathMode::Text)),
-    );
+    let wanted = ((8, 50, 15), true, Some((5, MathMode::Text, MathMode::Text)));
     assert_eq!(rt; made_block(rt.alloc())?, wanted);
     Ok(())
 }

@@ -76,31 +76,55 @@ fn has_items(flat: &FlatTokens, wanted: &[FlatItem]) -> bool {
     true
 }
 
-// The room that two lists take, what searches answer and reservings, and whether the outer list is laid flat.
-fn list_inside_another(
+// Whether a list has these items when it is laid flat.
+pub(crate) fn is_flat(
     alloc: Global,
+    store: &TokenStore,
+    id: ListId,
+    wanted: &[FlatItem],
+) -> Result<bool, Memory>
+    requires list { id.index < length store.now.lists }
+{
+    let flat = store.flat(alloc, id)?;
+    Ok(has_items(&flat, wanted))
+}
+
+// The room that two lists take, what searches answer and reservings, and whether the outer list is laid flat.
+fn list_in_list(
+    alloc: Global,
+    store: &mut TokenStore,
+    names: &Names,
     name: NameId,
-) -> Result<(usize, [Option<NameId>; 4], bool), Memory> {
-    let names = Names::with_words(alloc)?;
-    let mut store = TokenStore::new_in(alloc);
+) -> Result<(usize, [Option<NameId>; 4], bool), Memory>
+    requires empty { store.old.lists ≡ [] }
+    requires idle { store.old.building ≡ None }
+{
     store.reserve(6)?;
     let room = store.spare();
-    let inside = word(&mut store, name);
-    let outside = around(&mut store, Token::List(inside));
+    let inside = word(store, name);
+    let outside = around(store, Token::List(inside));
     let taken = room - store.spare();
     let found = [
-        store.first_ident(outside, &names),
+        store.first_ident(outside, names),
         store.bare_name(outside),
-        store.reserve_ident(outside, &names),
-        store.first_ident(outside, &names),
+        store.reserve_ident(outside, names),
+        store.first_ident(outside, names),
     ];
     let wanted = [
         FlatItem::Control(Control::Break),
         FlatItem::Reserved(name, 7),
         FlatItem::Source(9),
     ];
-    let is_flat = has_items(&store.flat(alloc, outside)?, &wanted);
-    Ok((taken, found, is_flat))
+    Ok((taken, found, is_flat(alloc, store, outside, &wanted)?))
+}
+
+fn list_inside_another(
+    alloc: Global,
+    name: NameId,
+) -> Result<(usize, [Option<NameId>; 4], bool), Memory> {
+    let names = Names::with_words(alloc)?;
+    let mut store = TokenStore::new_in(alloc);
+    list_in_list(alloc, &mut store, &names, name)
 }
 
 #[test]
@@ -113,13 +137,18 @@ fn a_list_inside_another_is_laid_flat_and_reserved_in_place(rt: HostRuntime) -> 
 
 // What is found in a list around an inner text, whether it is empty when it is laid flat, and whether it has its items
 // then.
-fn list_around_inner_text(alloc: Global) -> Result<(Option<NameId>, bool, bool), Memory> {
-    let names = Names::with_words(alloc)?;
-    let mut store = TokenStore::new_in(alloc);
+fn inner_in_list(
+    alloc: Global,
+    store: &mut TokenStore,
+    names: &Names,
+) -> Result<(Option<NameId>, bool, bool), Memory>
+    requires empty { store.old.lists ≡ [] }
+    requires idle { store.old.building ≡ None }
+{
     store.reserve(6)?;
-    let inside = word(&mut store, NameId { index: 50 });
-    let outside = around(&mut store, Token::Inner(inside));
-    let found = store.first_ident(outside, &names);
+    let inside = word(store, NameId { index: 50 });
+    let outside = around(store, Token::Inner(inside));
+    let found = store.first_ident(outside, names);
     let wanted = [
         FlatItem::Open,
         FlatItem::Control(Control::Break),
@@ -127,8 +156,14 @@ fn list_around_inner_text(alloc: Global) -> Result<(Option<NameId>, bool, bool),
         FlatItem::Close,
         FlatItem::Source(9),
     ];
-    let flat = store.flat(alloc, outside)?;
-    Ok((found, flat.is_empty(), has_items(&flat, &wanted)))
+    let is_empty = store.flat(alloc, outside)?.is_empty();
+    Ok((found, is_empty, is_flat(alloc, store, outside, &wanted)?))
+}
+
+fn list_around_inner_text(alloc: Global) -> Result<(Option<NameId>, bool, bool), Memory> {
+    let names = Names::with_words(alloc)?;
+    let mut store = TokenStore::new_in(alloc);
+    inner_in_list(alloc, &mut store, &names)
 }
 
 #[test]
@@ -139,21 +174,31 @@ fn an_inner_text_stands_between_brackets_and_is_not_searched(rt: HostRuntime) ->
 }
 
 // What is found behind a word like `case`, behind the mark, behind a word like `int` and behind a wall.
+fn found_in(
+    store: &mut TokenStore,
+    names: &Names,
+    name: NameId,
+) -> Result<[Option<NameId>; 4], Memory>
+    requires idle { store.old.building ≡ None }
+{
+    store.reserve(12)?;
+    let word = Token::Ident(name, 2);
+    let case = pair(store, Token::Reserved(name, 1, Cat::CaseLike), word);
+    let mark = pair(store, Token::Control(Control::Inserted), word);
+    let kind = pair(store, Token::Reserved(name, 1, Cat::RawInt), word);
+    let wall = pair(store, Token::Control(Control::Wall), word);
+    Ok([
+        store.first_ident(case, names),
+        store.first_ident(mark, names),
+        store.first_ident(kind, names),
+        store.first_ident(wall, names),
+    ])
+}
+
 fn first_idents(alloc: Global, name: NameId) -> Result<[Option<NameId>; 4], Memory> {
     let names = Names::with_words(alloc)?;
     let mut store = TokenStore::new_in(alloc);
-    store.reserve(12)?;
-    let word = Token::Ident(name, 2);
-    let case = pair(&mut store, Token::Reserved(name, 1, Cat::CaseLike), word);
-    let mark = pair(&mut store, Token::Control(Control::Inserted), word);
-    let kind = pair(&mut store, Token::Reserved(name, 1, Cat::RawInt), word);
-    let wall = pair(&mut store, Token::Control(Control::Wall), word);
-    Ok([
-        store.first_ident(case, &names),
-        store.first_ident(mark, &names),
-        store.first_ident(kind, &names),
-        store.first_ident(wall, &names),
-    ])
+    found_in(&mut store, &names, name)
 }
 
 #[test]
@@ -166,16 +211,22 @@ fn a_search_stops_at_a_word_like_case_and_at_the_mark(rt: HostRuntime) -> Result
 
 // Whether too much room is refused, whether a store that is emptied has all its room but for one list's beginning, and
 // whether it has it behind the refusal.
-fn emptied(alloc: Global) -> Result<[bool; 3], Memory> {
-    let mut store = TokenStore::new_in(alloc);
+fn empty(store: &mut TokenStore) -> Result<[bool; 3], Memory>
+    requires idle { store.old.building ≡ None }
+{
     store.reserve(5)?;
     let room = store.spare();
-    let _list = word(&mut store, NameId { index: 50 });
+    let _list = word(store, NameId { index: 50 });
     store.begin();
     store.reset();
     let emptied = store.spare();
     let refused = store.reserve(usize::MAX) == Err(Memory);
     Ok([refused, emptied + 4 == room, store.spare() == emptied])
+}
+
+fn emptied(alloc: Global) -> Result<[bool; 3], Memory> {
+    let mut store = TokenStore::new_in(alloc);
+    empty(&mut store)
 }
 
 #[test]
@@ -185,8 +236,9 @@ fn a_store_that_is_emptied_keeps_its_room(rt: HostRuntime) -> Result<(), Fail> {
 }
 
 // The room of a store that was refused room, the first list of a store that asks again, and the room that it takes.
-fn asked_again(alloc: Global) -> Result<[usize; 3], Memory> {
-    let mut store = TokenStore::new_in(alloc);
+fn ask_again(store: &mut TokenStore) -> Result<[usize; 3], Memory>
+    requires idle { store.old.building ≡ None }
+{
     let refused = if store.reserve(3).is_err() {
         store.spare()
     } else {
@@ -194,8 +246,13 @@ fn asked_again(alloc: Global) -> Result<[usize; 3], Memory> {
     };
     store.reserve(3)?;
     let room = store.spare();
-    let list = word(&mut store, NameId { index: 50 });
+    let list = word(store, NameId { index: 50 });
     Ok([refused, list.index, room - store.spare()])
+}
+
+fn asked_again(alloc: Global) -> Result<[usize; 3], Memory> {
+    let mut store = TokenStore::new_in(alloc);
+    ask_again(&mut store)
 }
 
 // Run with `rt try --test --fail-alloc N` for N from 1 to 3, each of the three vectors is refused once.
@@ -207,27 +264,59 @@ fn a_store_that_was_refused_room_is_as_before_and_can_ask_again(
     Ok(())
 }
 
-// Whether a list around an inner text has its items when it is trimmed.
-fn is_trimmed_around_inner_text(alloc: Global) -> Result<bool, Memory> {
-    let mut store = TokenStore::new_in(alloc);
-    store.reserve(6)?;
-    let inside = word(&mut store, NameId { index: 50 });
-    let outside = around(&mut store, Token::Inner(inside));
-    let mut flat = store.flat(alloc, outside)?;
+// Whether a list has these items when it is laid flat and trimmed.
+fn is_trimmed(
+    alloc: Global,
+    store: &TokenStore,
+    id: ListId,
+    wanted: &[FlatItem],
+) -> Result<bool, Memory>
+    requires list { id.index < length store.now.lists }
+{
+    let mut flat = store.flat(alloc, id)?;
     flat.trim();
+    Ok(has_items(&flat, wanted))
+}
+
+// Whether a list around an inner text has its items when it is trimmed.
+fn trim_around_inner_text(alloc: Global, store: &mut TokenStore) -> Result<bool, Memory>
+    requires empty { store.old.lists ≡ [] }
+    requires idle { store.old.building ≡ None }
+{
+    store.reserve(6)?;
+    let inside = word(store, NameId { index: 50 });
+    let outside = around(store, Token::Inner(inside));
     let wanted = [
         FlatItem::Open,
         FlatItem::Ident(NameId { index: 50 }, 7),
         FlatItem::Close,
         FlatItem::Source(9),
     ];
-    Ok(has_items(&flat, &wanted))
+    is_trimmed(alloc, store, outside, &wanted)
+}
+
+fn is_trimmed_around_inner_text(alloc: Global) -> Result<bool, Memory> {
+    let mut store = TokenStore::new_in(alloc);
+    trim_around_inner_text(alloc, &mut store)
 }
 
 #[test]
 fn an_inner_text_is_trimmed_by_itself(rt: HostRuntime) -> Result<(), Fail> {
     assert!(rt; is_trimmed_around_inner_text(rt.alloc())?);
     Ok(())
+}
+
+// Whether two lists that are laid flat have the same items.
+fn are_alike(one: &FlatTokens, other: &FlatTokens) -> bool {
+    if one.len() != other.len() {
+        return false;
+    }
+    for i in 0..one.len() {
+        if one.item(i) != other.item(i) {
+            return false;
+        }
+    }
+    true
 }
 
 // Whether the one walk gives what the others give one after the other.
@@ -237,34 +326,33 @@ fn is_trimmed_alike(store: &TokenStore, alloc: Global, id: ListId) -> Result<boo
     let mut flat = store.flat(alloc, id)?;
     flat.trim();
     let trimmed = store.flat_trimmed(alloc, id)?;
-    if trimmed.len() != flat.len() {
-        return Ok(false);
-    }
-    for i in 0..flat.len() {
-        if trimmed.item(i) != flat.item(i) {
-            return Ok(false);
-        }
-    }
-    Ok(true)
+    Ok(are_alike(&trimmed, &flat))
 }
 
 // Whether one walk trims an inner text, a list around it and a list around another as two walks do; and whether it
 // gives the items of the last.
-fn are_trimmed_alike(alloc: Global) -> Result<[bool; 4], Memory> {
+fn trim_alike(alloc: Global, store: &mut TokenStore) -> Result<[bool; 4], Memory>
+    requires empty { store.old.lists ≡ [] }
+    requires idle { store.old.building ≡ None }
+{
     let name = NameId { index: 50 };
-    let mut store = TokenStore::new_in(alloc);
     store.reserve(12)?;
-    let inside = word(&mut store, name);
-    let outside = around(&mut store, Token::Inner(inside));
-    let inner = is_trimmed_alike(&store, alloc, inside)?;
-    let around_inner = is_trimmed_alike(&store, alloc, outside)?;
+    let inside = word(store, name);
+    let outside = around(store, Token::Inner(inside));
+    let inner = is_trimmed_alike(store, alloc, inside)?;
+    let around_inner = is_trimmed_alike(store, alloc, outside)?;
     store.reset();
-    let inside = word(&mut store, name);
-    let outside = around(&mut store, Token::List(inside));
-    let around_list = is_trimmed_alike(&store, alloc, outside)?;
+    let inside = word(store, name);
+    let outside = around(store, Token::List(inside));
+    let around_list = is_trimmed_alike(store, alloc, outside)?;
     let wanted = [FlatItem::Ident(name, 7), FlatItem::Source(9)];
     let has_wanted = has_items(&store.flat_trimmed(alloc, outside)?, &wanted);
     Ok([inner, around_inner, around_list, has_wanted])
+}
+
+fn are_trimmed_alike(alloc: Global) -> Result<[bool; 4], Memory> {
+    let mut store = TokenStore::new_in(alloc);
+    trim_alike(alloc, &mut store)
 }
 
 #[test]

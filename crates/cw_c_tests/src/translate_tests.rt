@@ -1,4 +1,7 @@
 //! Worked C texts, translated by calls.
+ghost use Rattle.std.specs.Prelude.{◌≡◌, ◌<◌, length, IfOk};
+ghost use Rattle.cw_reduce.specs.NameParts.{AreNamesOf};
+
 use crate::test_printing::{put_run, put_sign, run_control, trimmed};
 use cw_base::{Bytes, Flags, Kept, Memory, Span, Steps};
 use cw_lex::Mode;
@@ -12,17 +15,39 @@ use std::alloc::{AllocError, Global};
 use std::process::Abort;
 use std::test::Fail;
 
-// The translation of a text, with the flags and names of the start, and all that it was made with.
+// All that a text is translated with.
 #[derive(Drop)]
-struct Outcome {
-    done: Translated,
-    items: FlatTokens,
+struct Desk {
     names: Names,
-    marks: usize,
-    steps: u64,
+    sec_names: SecNames,
+    uses: NameUses,
+    store: TokenStore,
+    marks: Marks,
+    steps: Steps<Kept>,
 }
 
-fn translated(alloc: Global, text: &[u8], mode: Mode) -> Result<Outcome, Memory> {
+// The names of the start, and nothing else.
+fn desk_of(alloc: Global) -> Result<Desk, Memory>
+    ensures kept { IfOk result (λ desk. AreNamesOf desk.sec_names desk.uses) }
+    ensures idle { IfOk result (λ desk. desk.store.building ≡ None) }
+{
+    let names = Names::with_words(alloc)?;
+    Ok(Desk {
+        names,
+        sec_names: SecNames::new_in(alloc),
+        uses: NameUses::new_in(alloc),
+        store: TokenStore::new_in(alloc),
+        marks: Marks::new_in(alloc),
+        steps: Steps::new(),
+    })
+}
+
+// The translation of a text, with the flags of the start.
+fn translated(alloc: Global, desk: &mut Desk, text: &[u8], mode: Mode) -> Result<Translated, Memory>
+    requires kept { AreNamesOf desk.old.sec_names desk.old.uses }
+    requires idle { desk.old.store.building ≡ None }
+    ensures list { IfOk result (λ done. done.list.index < length desk.new.store.lists) }
+{
     if text.len() > 16777216 {
         return Err(Memory);
     }
@@ -33,31 +58,19 @@ fn translated(alloc: Global, text: &[u8], mode: Mode) -> Result<Outcome, Memory>
     if !is_plain_c(mode) || !is_uncut(text, span, mode) {
         return Err(Memory);
     }
-    let mut names = Names::with_words(alloc)?;
-    let mut store = TokenStore::new_in(alloc);
-    let mut marks = Marks::new_in(alloc);
-    let mut steps: Steps<Kept> = Steps::new();
-    let done = translate(
+    translate(
         alloc,
         text,
         span,
         mode,
-        &mut names,
-        &SecNames::new_in(alloc),
-        &NameUses::new_in(alloc),
-        &mut store,
-        &mut marks,
+        &mut desk.names,
+        &desk.sec_names,
+        &desk.uses,
+        &mut desk.store,
+        &mut desk.marks,
         &Flags::start(),
-        &mut steps,
-    )?;
-    let items = store.flat(alloc, done.list)?;
-    Ok(Outcome {
-        done,
-        items,
-        names,
-        marks: marks.len(),
-        steps: steps.count(),
-    })
+        &mut desk.steps,
+    )
 }
 
 // A piece of a comment's text goes on up to a bar or the comment's end.
@@ -131,24 +144,47 @@ fn depth_after(depth: usize, item: FlatItem) -> usize {
     }
 }
 
-// The bytes of a translation. In the inner texts here no run prints anything.
-fn printed(alloc: Global, text: &[u8], outcome: &Outcome) -> Result<Bytes, Memory> {
-    let mut out = Bytes::new_in(alloc);
+// An item goes into the run, or is printed behind it. In the inner texts here no run prints anything.
+fn print_item(
+    out: &mut Bytes,
+    run: &mut Vec<Control>,
+    depth: usize,
+    item: FlatItem,
+    text: &[u8],
+    names: &Names,
+) -> Result<(), Memory> {
+    if let Some(control) = run_control(item) {
+        run.push(control)?;
+        return Ok(());
+    }
+    if depth == 0 {
+        put_run(out, run)?;
+    }
+    run.clear();
+    put_item(out, item, text, names)
+}
+
+fn print_items(
+    alloc: Global,
+    out: &mut Bytes,
+    items: &[FlatItem],
+    text: &[u8],
+    names: &Names,
+) -> Result<(), Memory> {
     let mut run = Vec::new(alloc);
     let mut depth = 0;
-    for item in &trimmed(alloc, &outcome.items)? {
-        if let Some(control) = run_control(*item) {
-            run.push(control)?;
-        } else {
-            if depth == 0 {
-                put_run(&mut out, &run)?;
-            }
-            run.clear();
-            put_item(&mut out, *item, text, &outcome.names)?;
-            depth = depth_after(depth, *item);
-        }
+    for item in items {
+        print_item(out, &mut run, depth, *item, text, names)?;
+        depth = depth_after(depth, *item);
     }
-    put_run(&mut out, &run)?;
+    put_run(out, &run)
+}
+
+// The bytes of a translation.
+fn printed(alloc: Global, text: &[u8], items: &FlatTokens, names: &Names) -> Result<Bytes, Memory> {
+    let items = trimmed(alloc, items)?;
+    let mut out = Bytes::new_in(alloc);
+    print_items(alloc, &mut out, &items, text, names)?;
     Ok(out)
 }
 
@@ -179,14 +215,16 @@ const SAMPLES: [Sample; 15] = [
     Sample {
         text: b"if(a)b;else if(c){d;}else e;",
         mode: Mode::CPart,
-        bytes: b"\\&{if} (\\|a)\\1\\5\\|b;\\2\\6\n\\&{else} \\&{if} (\\|c)\\5${}\\{\\1{}$\\6\n\\|d;\\6\n\\4${}\\}\\2{}$\\6\n\\&{else}\\1\\5\\|e;\\2",
+        bytes: b"\\&{if} (\\|a)\\1\\5\\|b;\\2\\6\n\\&{else} \
+            \\&{if} (\\|c)\\5${}\\{\\1{}$\\6\n\\|d;\\6\n\\4${}\\}\\2{}$\\6\n\\&{else}\\1\\5\\|e;\\2",
         scraps: 18,
         productions: Some(12),
     },
     Sample {
         text: b"typedef struct foo{int x;} bar; bar y;",
         mode: Mode::CPart,
-        bytes: b"\\&{typedef} \\&{struct} \\&{foo} ${}\\{\\1{}$\\6\n\\&{int} \\|x;\\2\\6\n${}\\}{}$ \\&{bar};\\6\n\\&{bar} \\|y;",
+        bytes: b"\\&{typedef} \\&{struct} \\&{foo} ${}\\{\\1{}$\\6\n\\&{int} \\|x;\\2\\6\n\
+            ${}\\}{}$ \\&{bar};\\6\n\\&{bar} \\|y;",
         scraps: 13,
         productions: None,
     },
@@ -270,10 +308,19 @@ const SAMPLES: [Sample; 15] = [
 ];
 
 // What a sample prints, how many scraps it has, and in how many productions it is reduced.
+fn told_on(alloc: Global, desk: &mut Desk, sample: &Sample) -> Result<(Bytes, u64, u64), Memory>
+    requires kept { AreNamesOf desk.old.sec_names desk.old.uses }
+    requires idle { desk.old.store.building ≡ None }
+{
+    let done = translated(alloc, desk, sample.text, sample.mode)?;
+    let items = desk.store.flat(alloc, done.list)?;
+    let bytes = printed(alloc, sample.text, &items, &desk.names)?;
+    Ok((bytes, done.scraps, done.productions))
+}
+
 fn told(alloc: Global, sample: &Sample) -> Result<(Bytes, u64, u64), Memory> {
-    let outcome = translated(alloc, sample.text, sample.mode)?;
-    let bytes = printed(alloc, sample.text, &outcome)?;
-    Ok((bytes, outcome.done.scraps, outcome.done.productions))
+    let mut desk = desk_of(alloc)?;
+    told_on(alloc, &mut desk, sample)
 }
 
 // A sample has to print its bytes. The answer is how many scraps it has, and in how many productions it is reduced.
@@ -300,7 +347,9 @@ fn worked_texts_have_their_bytes_and_counts(rt: HostRuntime) -> Result<(), Fail>
 
 // The marks of a C part.
 fn marks_of(alloc: Global, text: &[u8]) -> Result<usize, Memory> {
-    Ok(translated(alloc, text, Mode::CPart)?.marks)
+    let mut desk = desk_of(alloc)?;
+    translated(alloc, &mut desk, text, Mode::CPart)?;
+    Ok(desk.marks.len())
 }
 
 #[test]
@@ -338,15 +387,19 @@ fn blanks(items: &FlatTokens) -> u64 {
 }
 
 // The scraps of a C part, its productions and steps, and the blanks of its translation.
+fn counts_on(alloc: Global, desk: &mut Desk, text: &[u8]) -> Result<[u64; 4], Memory>
+    requires kept { AreNamesOf desk.old.sec_names desk.old.uses }
+    requires idle { desk.old.store.building ≡ None }
+{
+    let done = translated(alloc, desk, text, Mode::CPart)?;
+    let items = desk.store.flat(alloc, done.list)?;
+    let steps = desk.steps.count();
+    Ok([done.scraps, done.productions, steps, blanks(&items)])
+}
+
 fn counts(alloc: Global, text: &[u8]) -> Result<[u64; 4], Memory> {
-    let outcome = translated(alloc, text, Mode::CPart)?;
-    let done = &outcome.done;
-    Ok([
-        done.scraps,
-        done.productions,
-        outcome.steps,
-        blanks(&outcome.items),
-    ])
+    let mut desk = desk_of(alloc)?;
+    counts_on(alloc, &mut desk, text)
 }
 
 // The counts of 200 parentheses and then 200 statements.

@@ -2,5 +2,7 @@
 use Rattle.cw_scraps.proofs.LeafForms.{list-there}
 use Rattle.cw_c_tests.proofs.leaf_tests.leaf.Goals as goal
 
-pub first_list-requires : goal.first_list-requires
-first_list-requires c = list-there _ _ _ _ _ _ _ _ c.requires c.in_ok-leaf.ensures.form
+pub is_flat-requires : goal.is_flat-requires
+is_flat-requires c = record {
+  list = list-there _ _ _ _ _ _ _ _ c.requires c.in_ok-leaf.ensures.form;
+}
