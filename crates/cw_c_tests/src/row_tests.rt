@@ -367,19 +367,26 @@ fn are_marked(scrap: Option<u8>, marks: &Marks, names: &mut Names) -> Result<boo
     }
 }
 
+// An empty line with these names.
+pub(crate) fn bench_with(alloc: Global, names: Names) -> Bench
+    ensures { IsSoundLine result.store result.names result.line }
+{
+    Bench {
+        line: ScrapLine::new_in(alloc),
+        store: TokenStore::new_in(alloc),
+        names,
+        marks: Marks::new_in(alloc),
+        steps: Steps::new(),
+    }
+}
+
 // An empty line, where the first letters are names of these categories.
 fn bench_of(alloc: Global, cats: &[Cat]) -> Result<Bench, Memory>
     ensures { IfOk result (λ bench. IsSoundLine bench.store bench.names bench.line) }
 {
     let mut names = Names::with_words(alloc)?;
     set_letters(&mut names, cats)?;
-    Ok(Bench {
-        line: ScrapLine::new_in(alloc),
-        store: TokenStore::new_in(alloc),
-        names,
-        marks: Marks::new_in(alloc),
-        steps: Steps::new(),
-    })
+    Ok(bench_with(alloc, names))
 }
 
 // A scrap that no row joins, and a scrap of each of the first letters behind it.

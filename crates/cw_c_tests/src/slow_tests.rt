@@ -1,15 +1,13 @@
 //! The slow program of the definition, which looks for the least place again from the left before each production,
 //! beside `reduce`.
-ghost use Rattle.std.specs.Prelude.{OnOk};
+ghost use Rattle.std.specs.Prelude.{OnOk, IfOk};
 ghost use Rattle.cw_scraps.specs.Lines.{IsSoundLine};
 
-use crate::row_tests::{Bench, produce};
+use crate::row_tests::{Bench, bench_with, produce};
 use crate::worked_lines::add_all;
-use cw_base::{Cat, Flags, Kept, Memory, Steps};
+use cw_base::{Flags, Kept, Memory, Steps};
 use cw_names::Names;
 use cw_reduce::reduce;
-use cw_scraps::{Marks, ScrapLine};
-use cw_tokens::TokenStore;
 use std::alloc::Global;
 use std::test::Fail;
 
@@ -39,74 +37,73 @@ fn produce_all(bench: &mut Bench) -> Result<u64, Memory>
     Ok(8 * bench.line.len() as u64)
 }
 
-// What is left of a line: its categories, and how many productions and marks there were.
-#[derive(Drop)]
-struct Left {
-    cats: Vec<Cat>,
-    productions: u64,
-    marks: usize,
-}
-
-fn left_of(
-    alloc: Global,
-    line: &ScrapLine,
-    productions: u64,
-    marks: usize,
-) -> Result<Left, Memory> {
-    let mut cats = Vec::new(alloc);
-    let mut steps: Steps<Kept> = Steps::new();
-    for i in 0..line.len() {
-        cats.push(line.cat_at(i, &mut steps))?;
-    }
-    Ok(Left {
-        cats,
-        productions,
-        marks,
-    })
-}
-
-fn slowly(alloc: Global, tokens: &[u8]) -> Result<Left, Memory> {
-    let names = Names::with_words(alloc)?;
-    let mut bench = Bench {
-        line: ScrapLine::new_in(alloc),
-        store: TokenStore::new_in(alloc),
-        names,
-        marks: Marks::new_in(alloc),
-        steps: Steps::new(),
-    };
+fn slowly(bench: &mut Bench, tokens: &[u8]) -> Result<u64, Memory>
+    requires sound { IsSoundLine bench.old.store bench.old.names bench.old.line }
+{
     add_all(tokens, &mut bench.line, &mut bench.store, &mut bench.names)?;
-    let productions = produce_all(&mut bench)?;
-    left_of(alloc, &bench.line, productions, bench.marks.len())
+    produce_all(bench)
 }
 
-fn by_walk(alloc: Global, tokens: &[u8]) -> Result<Left, Memory> {
-    let mut line = ScrapLine::new_in(alloc);
-    let mut store = TokenStore::new_in(alloc);
-    let mut names = Names::with_words(alloc)?;
-    let mut marks = Marks::new_in(alloc);
-    let mut steps: Steps<Kept> = Steps::new();
-    add_all(tokens, &mut line, &mut store, &mut names)?;
+fn by_walk(bench: &mut Bench, tokens: &[u8]) -> Result<u64, Memory>
+    requires sound { IsSoundLine bench.old.store bench.old.names bench.old.line }
+{
+    add_all(tokens, &mut bench.line, &mut bench.store, &mut bench.names)?;
     let done = reduce(
-        &mut line,
-        &mut store,
-        &mut names,
-        &mut marks,
+        &mut bench.line,
+        &mut bench.store,
+        &mut bench.names,
+        &mut bench.marks,
         &Flags::start(),
-        &mut steps,
+        &mut bench.steps,
     )?;
-    left_of(alloc, &line, done.productions, marks.len())
+    Ok(done.productions)
 }
 
-// Whether the same is left of two lines.
-fn agree(one: &Left, other: &Left) -> bool {
-    one.cats.as_slice() == other.cats.as_slice()
-        && one.productions == other.productions
-        && one.marks == other.marks
+// Whether two lines have the same categories, and the same number of marks was made.
+fn agree(one: &Bench, other: &Bench) -> bool {
+    if one.line.len() != other.line.len() || one.marks.len() != other.marks.len() {
+        return false;
+    }
+    let mut steps: Steps<Kept> = Steps::new();
+    for i in 0..one.line.len() {
+        if one.line.cat_at(i, &mut steps) != other.line.cat_at(i, &mut steps) {
+            return false;
+        }
+    }
+    true
 }
 
-// Whether the walk leaves of a line what the slow program does.
+// An empty line with the names of the start.
+pub(crate) fn bench_of_words(alloc: Global) -> Result<Bench, Memory>
+    ensures { IfOk result (λ bench. IsSoundLine bench.store bench.names bench.line) }
+{
+    let names = Names::with_words(alloc)?;
+    Ok(bench_with(alloc, names))
+}
+
+// Whether the walk leaves of a line what the slow program does, in as many productions.
+fn end_alike(slow: &mut Bench, walked: &mut Bench, text: &[u8]) -> Result<bool, Memory>
+    requires slow { IsSoundLine slow.old.store slow.old.names slow.old.line }
+    requires walked { IsSoundLine walked.old.store walked.old.names walked.old.line }
+{
+    let productions = [slowly(slow, text)?, by_walk(walked, text)?];
+    Ok(productions[0] == productions[1] && agree(slow, walked))
+}
+
 fn ends_alike(alloc: Global, text: &[u8]) -> Result<bool, Memory> {
-    Ok(agree(&slowly(alloc, text)?, &by_walk(alloc, text)?))
+    let mut slow = bench_of_words(alloc)?;
+    let mut walked = bench_of_words(alloc)?;
+    end_alike(&mut slow, &mut walked, text)
+}
+
+// The first text of which they leave something else.
+fn first_other(alloc: Global, texts: &[&[u8]]) -> Result<Option<usize>, Memory> {
+    for (i, text) in texts.iter().enumerate() {
+        if !ends_alike(alloc, text)? {
+            return Ok(Some(i));
+        }
+    }
+    Ok(None)
 }
 
 #[test]
@@ -119,8 +116,6 @@ fn the_walk_ends_as_the_slow_program(rt: HostRuntime) -> Result<(), Fail> {
         b"T*a;Tb;c=(a+b)*a;",
         b"{I(a){b;}E{c;}}}",
     ];
-    for text in texts {
-        assert!(rt; ends_alike(rt.alloc(), text)?);
-    }
+    assert_eq!(rt; first_other(rt.alloc(), &texts)?, None);
     Ok(())
 }

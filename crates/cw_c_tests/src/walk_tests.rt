@@ -1,12 +1,12 @@
 //! Worked lines of scraps, reduced by calls.
+ghost use Rattle.std.specs.Prelude.{OnOk};
 ghost use Rattle.cw_scraps.specs.Lines.{IsSoundLine};
 
+use crate::row_tests::Bench;
+use crate::slow_tests::bench_of_words;
 use crate::worked_lines::add_all;
-use cw_base::{Flags, Kept, Memory, Steps};
-use cw_names::Names;
+use cw_base::{Flags, Memory};
 use cw_reduce::reduce;
-use cw_scraps::{Marks, ScrapLine};
-use cw_tokens::TokenStore;
 use std::alloc::Global;
 use std::test::Fail;
 
@@ -19,23 +19,34 @@ struct Outcome {
     marks: usize,
 }
 
-fn finish(
-    line: &mut ScrapLine,
-    store: &mut TokenStore,
-    names: &mut Names,
-    alloc: Global,
-) -> Result<Outcome, Memory>
-    requires sound { IsSoundLine store.old names.old line.old }
+fn finish(bench: &mut Bench) -> Result<Outcome, Memory>
+    requires sound { IsSoundLine bench.old.store bench.old.names bench.old.line }
 {
-    let mut marks = Marks::new_in(alloc);
-    let mut steps: Steps<Kept> = Steps::new();
-    let reduced = reduce(line, store, names, &mut marks, &Flags::start(), &mut steps)?;
+    let reduced = reduce(
+        &mut bench.line,
+        &mut bench.store,
+        &mut bench.names,
+        &mut bench.marks,
+        &Flags::start(),
+        &mut bench.steps,
+    )?;
     Ok(Outcome {
-        scraps: line.len(),
+        scraps: bench.line.len(),
         productions: reduced.productions,
-        steps: steps.count(),
-        marks: marks.len(),
+        steps: bench.steps.count(),
+        marks: bench.marks.len(),
     })
+}
+
+// The scraps of these tokens, so many times.
+fn add_times(bench: &mut Bench, tokens: &[u8], times: usize) -> Result<(), Memory>
+    requires sound { IsSoundLine bench.old.store bench.old.names bench.old.line }
+    ensures sound { OnOk result (IsSoundLine bench.new.store bench.new.names bench.new.line) }
+{
+    for _time in 0..times {
+        add_all(tokens, &mut bench.line, &mut bench.store, &mut bench.names)?;
+    }
+    Ok(())
 }
 
 // A line of these tokens, so many times the first and then so many times the second, is reduced.
@@ -46,16 +57,10 @@ fn reduced(
     second: &[u8],
     second_times: usize,
 ) -> Result<Outcome, Memory> {
-    let mut line = ScrapLine::new_in(alloc);
-    let mut store = TokenStore::new_in(alloc);
-    let mut names = Names::with_words(alloc)?;
-    for _first in 0..first_times {
-        add_all(first, &mut line, &mut store, &mut names)?;
-    }
-    for _second in 0..second_times {
-        add_all(second, &mut line, &mut store, &mut names)?;
-    }
-    finish(&mut line, &mut store, &mut names, alloc)
+    let mut bench = bench_of_words(alloc)?;
+    add_times(&mut bench, first, first_times)?;
+    add_times(&mut bench, second, second_times)?;
+    finish(&mut bench)
 }
 
 #[test]
