@@ -52,8 +52,8 @@ fn notes_on_comments(rt: HostRuntime) {
     assert!(rt; notes_only(Mode::TexText, b"|a", NoteKind::BarMissing, 1));
     assert!(rt; notes_only(Mode::TexText, b"|a@ b", NoteKind::BarMissing, 2));
     assert!(rt; notes_only(Mode::CPart, b"//|a\n", NoteKind::BarMissing, 4));
-    let deep =
-        b"|/*|/*|/*|/*|/*|/*|/*|/*|/*|/*|/*|/*|/*|/*|/*|/*|/*|/*|/*|/*|*/|*/|*/|*/|*/|*/|*/|*/|*/|*/|*/|*/|*/|*/|*/|*/|*/|*/|*/|*/|";
+    let deep = b"|/*|/*|/*|/*|/*|/*|/*|/*|/*|/*|/*|/*|/*|/*|/*|/*|/*|/*|/*|/*\
+        |*/|*/|*/|*/|*/|*/|*/|*/|*/|*/|*/|*/|*/|*/|*/|*/|*/|*/|*/|*/|";
     assert!(rt; notes_only(Mode::TexText, deep, NoteKind::TooDeep, 60));
 }
 
