@@ -9,7 +9,7 @@ ghost use Rattle.cw_join.specs.Standing.{Stands};
 ghost use Rattle.cw_join.specs.Tokens.{CanCome};
 
 use crate::small_webs::{desk_with, written};
-use cw_base::{Bytes, Out};
+use cw_base::{Bytes, Memory, Out};
 use cw_desk::MemDesk;
 use cw_join::{FlatToken, Joiner};
 use cw_lines::{LineOut, PutError};
@@ -81,6 +81,27 @@ fn finish_none(out: &mut LineOut, desk: &mut MemDesk) -> Result<(), PutError>
     Ok(())
 }
 
+/// Pushes the items of a text. Behind an inner one it finishes a text without items.
+fn push_text(
+    inner: bool,
+    items: &[(FlatItem, &[u8])],
+    names: &Names,
+    out: &mut LineOut,
+    desk: &mut MemDesk,
+) -> Result<(), PutError>
+    requires can { CanWrite (tell desk.old) out.old }
+    ensures can { OnOk result (CanWrite (tell desk.new) out.new) }
+{
+    push_each(inner, items, names, out, desk)?;
+    if inner {
+        return finish_none(out, desk);
+    }
+    Ok(())
+}
+
+/// The first three names behind the built-in words.
+const IDENTIFIERS: [&[u8]; 3] = [b"_next_of$", b"x", b"EOF"];
+
 /// Names, signs and runs; the names are the first three behind the built-in words.
 const TEXT: [(FlatItem, &[u8]); 13] = [
     (FlatItem::Ident(NameId { index: 49 }, 0), b""),
@@ -105,22 +126,33 @@ const INNER_TEXT: [(FlatItem, &[u8]); 4] = [
     (FlatItem::Source(1), b"b"),
 ];
 
-/// What a text prints that is no inner one.
-fn printed(alloc: Global) -> Result<Bytes, Fail> {
+/// The built-in words, and these identifiers behind them.
+fn names_with(alloc: Global, identifiers: &[&[u8]]) -> Result<Names, Memory> {
+    let mut names = Names::with_words(alloc)?;
+    for identifier in identifiers {
+        names.find_or_add(EntryKind::Ident, identifier)?;
+    }
+    Ok(names)
+}
+
+/// What a text prints; behind an inner one, a text without items.
+fn printed(
+    alloc: Global,
+    inner: bool,
+    identifiers: &[&[u8]],
+    items: &[(FlatItem, &[u8])],
+) -> Result<Bytes, Fail> {
     let mut desk = desk_with(alloc, Out::Tex)?;
     let mut out = LineOut::new_in(alloc, Out::Tex);
-    let mut names = Names::with_words(alloc)?;
-    names.find_or_add(EntryKind::Ident, b"_next_of$")?;
-    names.find_or_add(EntryKind::Ident, b"x")?;
-    names.find_or_add(EntryKind::Ident, b"EOF")?;
-    push_each(false, &TEXT, &names, &mut out, &mut desk)?;
+    let names = names_with(alloc, identifiers)?;
+    push_text(inner, items, &names, &mut out, &mut desk)?;
     out.end_line(&mut desk)?;
     Ok(written(alloc, desk.journal())?)
 }
 
 #[test]
 fn names_signs_and_runs_are_printed(rt: HostRuntime) -> Result<(), Fail> {
-    let text = printed(rt.alloc())?;
+    let text = printed(rt.alloc(), false, &IDENTIFIERS, &TEXT)?;
     assert_eq!(rt;
         text.as_slice(),
         b"\\\\{\\_next\\_of\\$}\\1\\6\n\\4${}\\|x\\K\\.{EOF}{}$;\n".as_slice()
@@ -128,20 +160,9 @@ fn names_signs_and_runs_are_printed(rt: HostRuntime) -> Result<(), Fail> {
     Ok(())
 }
 
-/// What an inner text prints, and one without items behind it.
-fn printed_inside(alloc: Global) -> Result<Bytes, Fail> {
-    let mut desk = desk_with(alloc, Out::Tex)?;
-    let mut out = LineOut::new_in(alloc, Out::Tex);
-    let names = Names::with_words(alloc)?;
-    push_each(true, &INNER_TEXT, &names, &mut out, &mut desk)?;
-    finish_none(&mut out, &mut desk)?;
-    out.end_line(&mut desk)?;
-    Ok(written(alloc, desk.journal())?)
-}
-
 #[test]
 fn inner_text_prints_a_blank_for_a_run(rt: HostRuntime) -> Result<(), Fail> {
-    let text = printed_inside(rt.alloc())?;
+    let text = printed(rt.alloc(), true, &[], &INNER_TEXT)?;
     assert_eq!(rt; text.as_slice(), b"a b\n".as_slice());
     Ok(())
 }
