@@ -1,15 +1,15 @@
 //! Indexes and section lists of small webs, by calls.
-ghost use Rattle.cw_base.specs.declared.event.Out.TheVariants.{Idx};
 ghost use Rattle.cw_lines.specs.Writes.{CanWrite};
 ghost use Rattle.cw_reduce.specs.NameParts.{AreNamesOf};
 
-use crate::small_webs::{book_of, desk_with, expect, web_of, written};
-use cw_base::{Bytes, Flags, Kept, Memory, Out, Steps, Web};
+use crate::pieces::{Piece, printed};
+use crate::small_webs::expect;
+use cw_base::{Flags, Kept, Memory, Out, Steps, Web};
 use cw_desk::Desk;
 use cw_index::{are_names_whole, compare_entries, write_closing, write_index, write_names};
 use cw_lines::{LineOut, PutError};
 use cw_names::{EntryKind, Names};
-use cw_phase1::{Book, phase_one};
+use cw_phase1::Book;
 use cw_texpart::Counts;
 use std::alloc::Global;
 use std::cmp::Ordering;
@@ -38,16 +38,22 @@ fn an_entry_stands_before_another(rt: HostRuntime) -> Result<(), Fail> {
     Ok(())
 }
 
-// The index of a web and what closes its book, and the scraps and productions that are counted for them.
-fn index_of(alloc: Global, lines: &[&[u8]]) -> Result<(Bytes, u64, u64), Fail> {
-    let web = web_of(alloc, lines)?;
-    let book = phase_one(alloc, &web)?;
-    let mut desk = desk_with(alloc, Out::Idx)?;
-    let mut out = LineOut::new_in(alloc, Out::Idx);
-    let index = write_index(alloc, &web, &book, &mut out, &mut desk)?;
-    let closing = write_closing(&book, &Flags::start(), &mut out, &mut desk)?;
-    let text = written(alloc, desk.journal())?;
-    Ok((text, index.scraps, closing.productions))
+// Puts the index and what closes the book. The scraps are those of the index, and the productions those of what closes.
+pub(crate) fn put_index<D: Desk>(
+    alloc: Global,
+    web: &Web,
+    book: &Book,
+    out: &mut LineOut,
+    desk: &mut D,
+) -> Result<Counts, PutError>
+    requires can { CanWrite (D.told desk.old) out.old }
+{
+    let index = write_index(alloc, web, book, out, desk)?;
+    let closing = write_closing(book, &Flags::start(), out, desk)?;
+    Ok(Counts {
+        scraps: index.scraps,
+        productions: closing.productions,
+    })
 }
 
 #[test]
@@ -58,16 +64,16 @@ fn an_index_is_written(rt: HostRuntime) -> Result<(), Fail> {
         b"@ Two.".as_slice(),
         b"@c x1=main; @.t_t@>".as_slice(),
     ];
-    let (text, scraps, productions) = index_of(rt.alloc(), lines)?;
+    let (text, counts) = printed(rt.alloc(), lines, Piece::Index, Out::Idx)?;
     let wanted: &[u8] =
         b"\\I\\.{EOF}, \\[1].\n\\I\\\\{main}, 1, 2.\n\\I\\.{t_t}, 2.\n\\I\\\\{x1}, 2.\n\\inx\n\\fin\n\\con\n";
     expect(&rt, &text, wanted);
-    assert_eq!(rt; (scraps, productions), (0, 0));
+    assert_eq!(rt; counts, (0, 0));
     Ok(())
 }
 
 // The section list, once its C texts were found whole.
-fn list_names<D: Desk>(
+pub(crate) fn list_names<D: Desk>(
     alloc: Global,
     web: &Web,
     book: &mut Book,
@@ -85,16 +91,6 @@ fn list_names<D: Desk>(
     write_names(alloc, web, book, &Flags::start(), out, desk, &mut steps)
 }
 
-// The section list of a web, and the scraps that are counted for it.
-fn section_list_of(alloc: Global, lines: &[&[u8]]) -> Result<(Bytes, u64), Fail> {
-    let web = web_of(alloc, lines)?;
-    let mut book = book_of(alloc, &web)?;
-    let mut desk = desk_with(alloc, Out::Idx)?;
-    let mut out = LineOut::new_in(alloc, Out::Idx);
-    let counts = list_names(alloc, &web, &mut book, &mut out, &mut desk)?;
-    Ok((written(alloc, desk.journal())?, counts.scraps))
-}
-
 #[test]
 fn a_section_list_is_written(rt: HostRuntime) -> Result<(), Fail> {
     let lines: &[&[u8]] = &[
@@ -104,7 +100,7 @@ fn a_section_list_is_written(rt: HostRuntime) -> Result<(), Fail> {
         b"@ Three.".as_slice(),
         b"@(B@>=x; @<b|n|@>".as_slice(),
     ];
-    let (text, scraps) = section_list_of(rt.alloc(), lines)?;
+    let (text, (scraps, _)) = printed(rt.alloc(), lines, Piece::SectionList, Out::Idx)?;
     assert_eq!(rt; scraps, 4);
     let wanted: &[u8] =
         b"\\I\\X0:B\\X\n\\U2.\n\\I\\X3:\\.{B}\\X\n\\I\\X2:b\\PB{\\|n}\\X\n\\Q1.\n\\U3.\n";

@@ -10,6 +10,8 @@ mod part_tests;
 #[cfg(test)]
 mod phase_tests;
 #[cfg(test)]
+mod pieces;
+#[cfg(test)]
 mod section_name_tests;
 pub mod small_webs;
 #[cfg(test)]

@@ -1,0 +1,67 @@
+//! Pieces of the books of small webs, and what each prints.
+ghost use Rattle.cw_lines.specs.Writes.{CanWrite};
+ghost use Rattle.cw_reduce.specs.NameParts.{AreNamesOf};
+
+use crate::index_tests::{list_names, put_index};
+use crate::part_tests::put_rest;
+use crate::small_webs::{book_of, desk_with, web_of, written};
+use crate::tex_part_tests::put_first;
+use cw_base::{Bytes, Out, Web};
+use cw_desk::Desk;
+use cw_lines::{LineOut, PutError};
+use cw_phase1::Book;
+use cw_texpart::{Counts, copy_limbo};
+use std::alloc::Global;
+use std::test::Fail;
+
+/// A piece of a book.
+#[derive(Clone, Copy)]
+pub(crate) enum Piece {
+    /// What stands before the first section.
+    Limbo,
+    /// The head and the TeX part of the first section.
+    Start,
+    /// What stands behind the TeX part of that section.
+    Rest,
+    /// The index, and what closes the book.
+    Index,
+    /// The section list.
+    SectionList,
+}
+
+// Puts a piece on a line.
+fn put_piece<D: Desk>(
+    alloc: Global,
+    web: &Web,
+    book: &mut Book,
+    piece: Piece,
+    out: &mut LineOut,
+    desk: &mut D,
+) -> Result<Counts, PutError>
+    requires can { CanWrite (D.told desk.old) out.old }
+    requires kept { AreNamesOf book.old.sec_names book.old.name_uses }
+{
+    match piece {
+        Piece::Limbo => copy_limbo(alloc, web, book, out, desk),
+        Piece::Start => put_first(alloc, web, book, out, desk),
+        Piece::Rest => put_rest(alloc, web, book, out, desk),
+        Piece::Index => put_index(alloc, web, book, out, desk),
+        Piece::SectionList => list_names(alloc, web, book, out, desk),
+    }
+}
+
+/// What a piece of a web's book prints on an output, and the scraps and productions that are counted for it.
+pub(crate) fn printed(
+    alloc: Global,
+    lines: &[&[u8]],
+    piece: Piece,
+    output: Out,
+) -> Result<(Bytes, (u64, u64)), Fail> {
+    let web = web_of(alloc, lines)?;
+    let mut book = book_of(alloc, &web)?;
+    let mut desk = desk_with(alloc, output)?;
+    let mut out = LineOut::new_in(alloc, output);
+    let counts = put_piece(alloc, &web, &mut book, piece, &mut out, &mut desk)?;
+    let text = written(alloc, desk.journal())?;
+    Ok((text, (counts.scraps, counts.productions)))
+}
