@@ -1,4 +1,4 @@
-# make try      weaves examples/hello.w without any proof, in about a minute at most
+# make try      weaves examples/hello.w without any proof, in about half a minute
 # make hello    proves and builds cweave, and weaves examples/hello.w
 # make book     weaves, compiles and typesets the examples, as far as ctangle, cc and TeX are there
 # make install  puts cweave into PREFIX/bin and its man page into PREFIX/share/man/man1; make uninstall takes both away
