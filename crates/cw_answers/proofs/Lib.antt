@@ -1,0 +1,2 @@
+-- The proofs of kept answers: what stands while they come.
+mod Standing

@@ -1,0 +1,2 @@
+-- The definitions of kept answers: what each stands for over the text.
+pub mod Kept

@@ -1,0 +1,80 @@
+//! An answer of the scanner, without the bytes of the text.
+ghost use Rattle.std.specs.Prelude.{◌≡◌, ◌≤◌, ◌∷◌, List, length, IfOk};
+ghost use Rattle.cw_rules.specs.Answers.{Answer, Gives, seen};
+ghost use Rattle.cw_answers.specs.Kept.{seen_at, answer_at, IsWithin, LiesIn, StandsIn};
+
+use cw_base::{Memory, NoteKind, Span};
+use cw_lex::{Lexed, Tok, TokKind};
+
+/// A token, by where its bytes lie in the text.
+#[derive(Clone, Copy)]
+pub(crate) struct Stretch {
+    kind: TokKind,
+    hash_line: bool,
+    start: u32,
+    end: u32,
+}
+
+/// An answer of the scanner, by where its bytes lie in the text.
+#[derive(Clone, Copy)]
+pub(crate) enum Kept {
+    Token(Stretch),
+    Begin(Stretch),
+    Finish(Stretch),
+    Note(NoteKind, usize),
+}
+
+impl Stretch {
+    /// Where a token of the text lies. `Memory` where that is beyond 2^32: no such text can be kept.
+    #[inline(always)]
+    pub(crate) fn of(text: &[u8], token: &Tok) -> Result<Stretch, Memory>
+        requires { StandsIn text.now (seen token.now) }
+        ensures same { IfOk result (λ s. seen_at text.now s ≡ seen token.now) }
+        ensures within { IfOk result (λ s. LiesIn (length text.now) s) }
+    {
+        let Ok(start) = u32::try_from(token.span.start) else {
+            return Err(Memory);
+        };
+        let Ok(end) = u32::try_from(token.span.end) else {
+            return Err(Memory);
+        };
+        Ok(Stretch {
+            kind: token.kind,
+            hash_line: token.hash_line,
+            start,
+            end,
+        })
+    }
+
+    /// The token itself.
+    #[inline(always)]
+    fn token<'a>(&self, text: &'a [u8]) -> Tok<'a>
+        requires { LiesIn (length text.now) self.now }
+        ensures { seen result ≡ seen_at text.now self.now }
+    {
+        let start = self.start as usize;
+        let end = self.end as usize;
+        Tok {
+            kind: self.kind,
+            text: &text[start..end],
+            span: Span { start, end },
+            hash_line: self.hash_line,
+        }
+    }
+}
+
+impl Kept {
+    /// The answer itself.
+    #[inline(always)]
+    pub(crate) fn answer<'a>(&self, text: &'a [u8]) -> Lexed<'a>
+        requires { IsWithin (length text.now) self.now }
+        ensures { (rest : List Answer) → Gives (answer_at text.now self.now ∷ rest) result rest }
+    {
+        match self {
+            Kept::Token(stretch) => Lexed::Token(stretch.token(text)),
+            Kept::Begin(stretch) => Lexed::Begin(stretch.token(text)),
+            Kept::Finish(stretch) => Lexed::Finish(stretch.token(text)),
+            Kept::Note(kind, place) => Lexed::Note(*kind, *place),
+        }
+    }
+}
