@@ -1,5 +1,5 @@
 //! All answers of a scan, and going through them again.
-ghost use Rattle.std.specs.Prelude.{◌≡◌, ◌≤◌, [], length, OnOk};
+ghost use Rattle.std.specs.Prelude.{◌≡◌, ◌≤◌, [], drop, length, OnOk};
 ghost use Rattle.cw_rules.specs.Answers.{Gives};
 ghost use Rattle.cw_lex.specs.Lexing.{tokens_of};
 
@@ -66,10 +66,19 @@ impl<'a> Answers<'a> {
     pub fn again(&self) -> Again<'_, 'a>
         ensures { result ≡ self.now }
     {
+        self.behind(0)
+    }
+
+    /// The answers behind so many.
+    #[inline(always)]
+    pub fn behind(&self, place: usize) -> Again<'_, 'a>
+        requires { place ≤ length self.now }
+        ensures { result ≡ drop place self.now }
+    {
         Again {
             text: self.text,
             kept: self.kept.as_slice(),
-            place: 0,
+            place,
         }
     }
 }
@@ -96,6 +105,14 @@ impl<'s, 'a> Model for Again<'s, 'a> {
 }
 
 impl<'s, 'a> Again<'s, 'a> {
+    /// How many answers are still to come.
+    #[inline(always)]
+    pub fn left(&self) -> usize
+        ensures { result ≡ length self.now }
+    {
+        self.kept.len() - self.place
+    }
+
     /// The next answer.
     #[inline(always)]
     pub fn next(&mut self) -> Lexed<'a>
