@@ -3,7 +3,13 @@ use Rattle.std.proofs.Common.{◌≡◌, ◌∙◌, sym, ap, ℕ, zero, suc, Boo
 use Rattle.std.specs.Prelude.{slice_get}
 use Rattle.std.specs.List.{list_all}
 use Rattle.cw_base.specs.declared.category.Cat.{Cat}
-use Rattle.cw_base.specs.declared.category.Cat.TheVariants.{RawInt, ConstLike, Cast, IntLike, IfClause, SectionScrap, Exp, DeclHead, ElseLike, IfHead, Semi, RawUbin, Unop, Binop, Ubinop, Question, Lpar, Rpar, Lbrace, Rbrace, Comma, Colon, StructLike, CaseLike, ForLike, DoLike, IfLike, DefineLike, SizeofLike, TypedefLike, Decl, FnDecl, Function, Stmt, Tag, StructHead, ElseHead, Lproc, Rproc, Insert, BeginArg, EndArg, Dead, Dot, End}
+use Rattle.cw_base.specs.declared.category.Cat.TheVariants.{RawInt, ConstLike, Cast, IntLike, IfClause, SectionScrap}
+use Rattle.cw_base.specs.declared.category.Cat.TheVariants.{Exp, DeclHead, ElseLike, IfHead, Semi, RawUbin, Unop, Binop}
+use Rattle.cw_base.specs.declared.category.Cat.TheVariants.{Ubinop, Question, Lpar, Rpar, Lbrace, Rbrace, Comma, Colon}
+use Rattle.cw_base.specs.declared.category.Cat.TheVariants.{StructLike, CaseLike, ForLike, DoLike, IfLike, DefineLike}
+use Rattle.cw_base.specs.declared.category.Cat.TheVariants.{SizeofLike, TypedefLike, Decl, FnDecl, Function, Stmt, Tag}
+use Rattle.cw_base.specs.declared.category.Cat.TheVariants.{StructHead, ElseHead, Lproc, Rproc, Insert, BeginArg}
+use Rattle.cw_base.specs.declared.category.Cat.TheVariants.{EndArg, Dead, Dot, End}
 use Rattle.cw_base.specs.Category.{all_cats, number_of}
 use Rattle.cw_base.proofs.TestLaws.{both-left, both-right}
 
@@ -54,7 +60,8 @@ place-of Dead = refl
 place-of Dot = refl
 place-of End = refl
 
-pub each-of : {X : Type 0} (p : X → Bool) (xs : List X) (i : ℕ) (x : X) → list_all p xs ≡ true → slice_get xs i ≡ Some x → p x ≡ true
+pub each-of : {X : Type 0} (p : X → Bool) (xs : List X) (i : ℕ) (x : X) → list_all p xs ≡ true → slice_get xs i ≡ Some x
+    → p x ≡ true
 each-of p [] i x h e = absurd cc
 each-of p (y ∷ ys) zero x h e = let same : y ≡ x = cc in ap p (sym same) ∙ both-left _ _ h
 each-of p (y ∷ ys) (suc i) x h e = each-of p ys i x (both-right _ _ h) e

@@ -1,12 +1,15 @@
 -- Sets of categories by their bits.
-use Rattle.std.proofs.Common.{◌≡◌, ◌≢◌, ◌<◌, ◌≤◌, ◌+◌, ◌-◌, ◌*◌, ◌^◌, ◌∙◌, sym, ap, ℕ, zero, suc, Bool, true, false, List, [], ◌∷◌, length, map, get_or, Option, Some, refl, arith, add-zero, zero-add, min, w64, not, eqb, ◌⊎◌, inl, inr, ◌&&◌, ◌||◌, ltb}
+use Rattle.std.proofs.Common.{◌≡◌, ◌≢◌, ◌<◌, ◌≤◌, ◌+◌, ◌-◌, ◌*◌, ◌^◌, ◌∙◌, sym, ap, ℕ, zero, suc, Bool, true, false}
+use Rattle.std.proofs.Common.{List, [], ◌∷◌, length, map, get_or, Option, Some, refl, arith, add-zero, zero-add, min}
+use Rattle.std.proofs.Common.{w64, not, eqb, ◌⊎◌, inl, inr, ◌&&◌, ◌||◌, ltb}
 use Rattle.std.specs.Prelude.{bit_and, slice_get}
 use Rattle.std.specs.List.{list_any}
 use Rattle.std.specs.Int.{bit_at, bit_not, trailing_zeros}
 use Rattle.std.proofs.lemmas.Bool.{ltb-true, lt-ltb}
 use Rattle.std.proofs.lemmas.Bool.Decides.{leb_tells}
 use Rattle.std.proofs.Math.Dec.{eqb-suc-zero}
-use Rattle.std.proofs.lemmas.Nat.Bits.{and_pow, bit_at-lt, bit_at-trailing_zeros, bit_at-zero, bit_at_and, bit_at_not, bit_at_ones, bit_at_ones_above}
+use Rattle.std.proofs.lemmas.Nat.Bits.{and_pow, bit_at-lt, bit_at-trailing_zeros, bit_at-zero, bit_at_and, bit_at_not}
+use Rattle.std.proofs.lemmas.Nat.Bits.{bit_at_ones, bit_at_ones_above}
 use Rattle.std.proofs.lemmas.Nat.{and_le_r, pow_pos}
 use Rattle.std.proofs.lemmas.List.{get_or-map}
 use Rattle.std.proofs.lemmas.Option.{slice_get_within}
@@ -25,7 +28,8 @@ any-found p (x ∷ xs) h = go (p x) refl (any-found p xs)
     go true e rest = (x, e)
     go false e rest = rest (ap (λ b. b || list_any p xs) (sym e) ∙ h)
 
-pub any-at : {X : Type 0} (p : X → Bool) (xs : List X) (i : ℕ) (x : X) → slice_get xs i ≡ Some x → p x ≡ true → list_any p xs ≡ true
+pub any-at : {X : Type 0} (p : X → Bool) (xs : List X) (i : ℕ) (x : X) → slice_get xs i ≡ Some x → p x ≡ true
+    → list_any p xs ≡ true
 any-at p [] i x e h = absurd cc
 any-at p (y ∷ ys) zero x e h = let same : x ≡ y = cc in one-left _ _ (ap p (sym same) ∙ h)
 any-at p (y ∷ ys) (suc i) x e h = one-right _ _ (any-at p ys i x e h)
@@ -79,7 +83,8 @@ common s t = bit_and (bit_and s.bits t.bits) (2 ^ (number_of End + 1) - 1)
 common-by : (s t : CatSet) (c : Cat) → in_set s c ≡ true → in_set t c ≡ true → 0 < common s t
 common-by s t c hs ht =
     let small : number_of c < number_of End + 1 = slice_get_within all_cats (number_of c) c (place-of c) in
-    let one : bit_at (common s t) (number_of c) ≡ 1 = rw (bit_at_and, bit_at_and, bit-of s c hs, bit-of t c ht, bit_at_ones (number_of End + 1) (number_of c) small) refl in
+    let one : bit_at (common s t) (number_of c) ≡ 1 = rw (bit_at_and, bit_at_and, bit-of s c hs, bit-of t c ht,
+        bit_at_ones (number_of End + 1) (number_of c) small) refl in
     go (common s t) one
   where
     go : (m : ℕ) → bit_at m (number_of c) ≡ 1 → 0 < m
@@ -91,13 +96,16 @@ below_or a b = elim (leb_tells b a) [ inl h ↦ inr h.1 | inr h ↦ inl h.1 ]
 
 common-cat : (s t : CatSet) → 0 < common s t → meet s t ≡ true
 common-cat s t h =
-    let small : common s t ≤ 2 ^ (number_of End + 1) - 1 = and_le_r (bit_and s.bits t.bits) (2 ^ (number_of End + 1) - 1) in
+    let small : common s t ≤ 2 ^ (number_of End + 1) - 1 =
+        and_le_r (bit_and s.bits t.bits) (2 ^ (number_of End + 1) - 1) in
     let lowest = bit_at-trailing_zeros w64 (common s t) h (omega arith) in
     found (trailing_zeros w64 (common s t)) lowest.1
   where
     found : (n : ℕ) → bit_at (common s t) n ≡ 1 → meet s t ≡ true
     found n one =
-        let bits : min (min (bit_at s.bits n) (bit_at t.bits n)) (bit_at (2 ^ (number_of End + 1) - 1) n) ≡ 1 = ap (λ m. min m (bit_at (2 ^ (number_of End + 1) - 1) n)) (sym (bit_at_and s.bits t.bits n)) ∙ sym (bit_at_and (bit_and s.bits t.bits) (2 ^ (number_of End + 1) - 1) n) ∙ one in
+        let bits : min (min (bit_at s.bits n) (bit_at t.bits n)) (bit_at (2 ^ (number_of End + 1) - 1) n)
+            ≡ 1 = ap (λ m. min m (bit_at (2 ^ (number_of End + 1) - 1) n)) (sym (bit_at_and s.bits t.bits n))
+            ∙ sym (bit_at_and (bit_and s.bits t.bits) (2 ^ (number_of End + 1) - 1) n) ∙ one in
         let hs : bit_at s.bits n ≡ 1 = omega (arith, bit_at-lt s.bits n) in
         let ht : bit_at t.bits n ≡ 1 = omega (arith, bit_at-lt t.bits n) in
         let inside : n < number_of End + 1 = elim (below_or n (number_of End + 1)) [
@@ -133,7 +141,8 @@ any-same p q [] h = refl
 any-same p q (x ∷ xs) h = ap (λ b. b || list_any p xs) (h x) ∙ ap (λ b. q x || b) (any-same p q xs h)
 
 -- the set of the categories that a set lacks
-in-complement : (t : CatSet) (c : Cat) → t.bits < 2 ^ 64 → in_set (record { bits = bit_not w64 t.bits }) c ≡ not (in_set t c)
+in-complement : (t : CatSet) (c : Cat) → t.bits < 2 ^ 64 → in_set (record { bits = bit_not w64 t.bits }) c
+    ≡ not (in_set t c)
 in-complement t c fits = go (in_set t c) (in_set (record { bits = bit_not w64 t.bits }) c) refl refl
   where
     small : number_of c < number_of End + 1
@@ -143,7 +152,8 @@ in-complement t c fits = go (in_set t c) (in_set (record { bits = bit_not w64 t.
     turned = bit_at_not w64 t.bits (number_of c) fits (omega (arith, small))
 
     go : (a b : Bool) → in_set t c ≡ a → in_set (record { bits = bit_not w64 t.bits }) c ≡ b → b ≡ not a
-    go true true ea eb = absurd (omega (arith, turned, bit-of t c ea, bit-of (record { bits = bit_not w64 t.bits }) c eb))
+    go true true ea eb =
+        absurd (omega (arith, turned, bit-of t c ea, bit-of (record { bits = bit_not w64 t.bits }) c eb))
     go true false ea eb = refl
     go false true ea eb = refl
     go false false ea eb =

@@ -1,6 +1,9 @@
 -- The table of lines and the text say the same as the list of lines.
-use Rattle.std.proofs.Common.{◌≡◌, ℕ, ◌+◌, ◌-◌, ◌<◌, ◌≤◌, List, [], ◌∷◌, ◌++◌, length, take, drop, get_or, slice_index, slice_index_or, slice_range, refl, ap, ◌∙◌, sym, suc, arith, append_assoc, length-append, length-drop, length-take, drop-drop, take-append-drop}
-use Rattle.std.proofs.lemmas.List.{drop_all, drop_more, drop-append-le, take-append-le, get_or_append_left, get_or_at, length-take-le, drop_at, take_at}
+use Rattle.std.proofs.Common.{◌≡◌, ℕ, ◌+◌, ◌-◌, ◌<◌, ◌≤◌, List, [], ◌∷◌, ◌++◌, length, take, drop, get_or, slice_index}
+use Rattle.std.proofs.Common.{slice_index_or, slice_range, refl, ap, ◌∙◌, sym, suc, arith, append_assoc, length-append}
+use Rattle.std.proofs.Common.{length-drop, length-take, drop-drop, take-append-drop}
+use Rattle.std.proofs.lemmas.List.{drop_all, drop_more, drop-append-le, take-append-le, get_or_append_left, get_or_at}
+use Rattle.std.proofs.lemmas.List.{length-take-le, drop_at, take_at}
 use Rattle.cw_base.specs.declared.web.LineInfo.{LineInfo}
 use Rattle.cw_base.specs.Web.{MergedLine, text_of, info_from, infos_of}
 use Rattle.cw_base.specs.WebLayout.{read_line, read_lines, Covers}
@@ -13,12 +16,15 @@ length-read_lines text (info ∷ infos) = ap suc (length-read_lines text infos)
 drop_parts : (text : List ℕ) (from to : ℕ) → from ≤ to → drop from text ≡ slice_range text from to ++ drop to text
 drop_parts text from to le =
     let joined : from + (to - from) ≡ to = omega arith in
-    sym (take-append-drop (to - from) (drop from text)) ∙ ap (λ rest. slice_range text from to ++ rest) (drop-drop (to - from) from text ∙ ap (λ i. drop i text) joined)
+    sym (take-append-drop (to - from) (drop from text))
+        ∙ ap (λ rest. slice_range text from to ++ rest) (drop-drop (to - from) from text ∙ ap (λ i. drop i text) joined)
 
-pub text_of-read_lines : (text : List ℕ) (from : ℕ) (infos : List LineInfo) → Covers text from infos → text_of (read_lines text infos) ≡ drop from text
+pub text_of-read_lines : (text : List ℕ) (from : ℕ) (infos : List LineInfo) → Covers text from infos
+    → text_of (read_lines text infos) ≡ drop from text
 text_of-read_lines text from [] at = sym (drop_all from text (omega arith))
 text_of-read_lines text from (info ∷ infos) (start, ends, within, code, rest) =
-    ap (λ more. slice_range text info.start info.«end» ++ 10 ∷ more) (text_of-read_lines text (info.«end» + 1) infos rest)
+    ap (λ more. slice_range text info.start info.«end» ++ 10 ∷ more) (text_of-read_lines text (info.«end» + 1) infos
+        rest)
     ∙ ap (λ byte. slice_range text info.start info.«end» ++ byte ∷ drop (info.«end» + 1) text) (sym code)
     ∙ ap (λ more. slice_range text info.start info.«end» ++ more) (sym (drop_more text info.«end» 0 within))
     ∙ sym (drop_parts text info.start info.«end» ends)
@@ -27,34 +33,43 @@ text_of-read_lines text from (info ∷ infos) (start, ends, within, code, rest) 
 length-slice_range : (text : List ℕ) (from to : ℕ) → to ≤ length text → length (slice_range text from to) ≡ to - from
 length-slice_range text from to le = omega (arith, length-take (to - from) (drop from text), length-drop from text)
 
-same_info : (info : LineInfo) (start stop : ℕ) → start ≡ info.start → stop ≡ info.«end» → record { start = start; «end» = stop; place = info.place; changed = info.changed } ≡ info
+same_info : (info : LineInfo) (start stop : ℕ) → start ≡ info.start → stop ≡ info.«end»
+    → record { start = start; «end» = stop; place = info.place; changed = info.changed } ≡ info
 same_info info start stop s e =
     ap (λ i. record { start = i; «end» = stop; place = info.place; changed = info.changed }) s
     ∙ ap (λ i. record { start = info.start; «end» = i; place = info.place; changed = info.changed }) e
 
-pub infos_of-read_lines : (text : List ℕ) (from : ℕ) (infos : List LineInfo) → Covers text from infos → infos_of from (read_lines text infos) ≡ infos
+pub infos_of-read_lines : (text : List ℕ) (from : ℕ) (infos : List LineInfo) → Covers text from infos
+    → infos_of from (read_lines text infos) ≡ infos
 infos_of-read_lines text from [] at = refl
 infos_of-read_lines text from (info ∷ infos) (start, ends, within, code, rest) =
-    let stop : from + length (slice_range text info.start info.«end») ≡ info.«end» = omega (arith, length-slice_range text info.start info.«end» (omega arith)) in
+    let stop : from + length (slice_range text info.start info.«end») ≡ info.«end» =
+        omega (arith, length-slice_range text info.start info.«end» (omega arith)) in
     ap (λ i. info_from from (read_line text info) ∷ infos_of (i + 1) (read_lines text infos)) stop
     ∙ ap (λ more. info_from from (read_line text info) ∷ more) (infos_of-read_lines text (info.«end» + 1) infos rest)
-    ∙ ap (λ first. first ∷ infos) (same_info info from (from + length (slice_range text info.start info.«end»)) (sym start) stop)
+    ∙ ap (λ first. first ∷ infos) (same_info info from (from + length (slice_range text info.start info.«end»))
+        (sym start) stop)
 
 -- more text behind changes no line
-slice_range-more : (text more : List ℕ) (from to : ℕ) → from ≤ to → to ≤ length text → slice_range (text ++ more) from to ≡ slice_range text from to
+slice_range-more : (text more : List ℕ) (from to : ℕ) → from ≤ to → to ≤ length text
+    → slice_range (text ++ more) from to ≡ slice_range text from to
 slice_range-more text more from to le within =
     ap (λ rest. take (to - from) rest) (drop-append-le from text more (omega arith))
     ∙ take-append-le (to - from) (drop from text) more (omega (arith, length-drop from text))
 
-pub read_lines-more : (text more : List ℕ) (from : ℕ) (infos : List LineInfo) → Covers text from infos → read_lines (text ++ more) infos ≡ read_lines text infos
+pub read_lines-more : (text more : List ℕ) (from : ℕ) (infos : List LineInfo) → Covers text from infos
+    → read_lines (text ++ more) infos ≡ read_lines text infos
 read_lines-more text more from [] at = refl
 read_lines-more text more from (info ∷ infos) (start, ends, within, code, rest) =
-    ap (λ part. record { text = part; place = info.place; changed = info.changed } ∷ read_lines (text ++ more) infos) (slice_range-more text more info.start info.«end» ends (omega arith))
+    ap (λ part. record { text = part; place = info.place; changed = info.changed } ∷ read_lines (text ++ more) infos)
+        (slice_range-more text more info.start info.«end» ends (omega arith))
     ∙ ap (λ lines. read_line text info ∷ lines) (read_lines-more text more (info.«end» + 1) infos rest)
 
-pub read_lines-append : (text : List ℕ) (first second : List LineInfo) → read_lines text (first ++ second) ≡ read_lines text first ++ read_lines text second
+pub read_lines-append : (text : List ℕ) (first second : List LineInfo) → read_lines text (first ++ second)
+    ≡ read_lines text first ++ read_lines text second
 read_lines-append text [] second = refl
-read_lines-append text (info ∷ infos) second = ap (λ lines. read_line text info ∷ lines) (read_lines-append text infos second)
+read_lines-append text (info ∷ infos) second = ap (λ lines. read_line text info ∷ lines)
+    (read_lines-append text infos second)
 
 -- one line more, behind all others
 pub Covers-more : (text line : List ℕ) (from : ℕ) (infos : List LineInfo) (info : LineInfo)
@@ -71,12 +86,14 @@ Covers-more text line from (first ∷ infos) info starts ends (start, stops, wit
   start,
   stops,
   omega (arith, length-append (text ++ line) (10 ∷ []), length-append text line),
-  ap (λ bytes. get_or bytes first.«end» 0) (append_assoc text line (10 ∷ [])) ∙ get_or_append_left text (line ++ 10 ∷ []) 0 first.«end» within ∙ code,
+  ap (λ bytes. get_or bytes first.«end» 0) (append_assoc text line (10 ∷ []))
+      ∙ get_or_append_left text (line ++ 10 ∷ []) 0 first.«end» within ∙ code,
   Covers-more text line (first.«end» + 1) infos info starts ends rest,
 )
 
 -- the line that is read there
-pub read_line-more : (text line : List ℕ) (info : LineInfo) → info.start ≡ length text → info.«end» ≡ length text + length line
+pub read_line-more : (text line : List ℕ) (info : LineInfo) → info.start ≡ length text → info.«end»
+    ≡ length text + length line
     → read_line (text ++ line ++ 10 ∷ []) info ≡ record { text = line; place = info.place; changed = info.changed }
 read_line-more text line info starts ends =
     let size : info.«end» - info.start ≡ length line = omega arith in
@@ -89,9 +106,11 @@ read_line-more text line info starts ends =
 
 pub read_lines-push : (text line : List ℕ) (infos : List LineInfo) (info : LineInfo)
     → info.start ≡ length text → info.«end» ≡ length text + length line → Covers text 0 infos
-    → read_lines (text ++ line ++ 10 ∷ []) (infos ++ info ∷ []) ≡ read_lines text infos ++ record { text = line; place = info.place; changed = info.changed } ∷ []
+    → read_lines (text ++ line ++ 10 ∷ []) (infos ++ info ∷ [])
+        ≡ read_lines text infos ++ record { text = line; place = info.place; changed = info.changed } ∷ []
 read_lines-push text line infos info starts ends covers =
     read_lines-append (text ++ line ++ 10 ∷ []) infos (info ∷ [])
     ∙ ap (λ lines. lines ++ read_line (text ++ line ++ 10 ∷ []) info ∷ [])
-    (ap (λ bytes. read_lines bytes infos) (append_assoc text line (10 ∷ [])) ∙ read_lines-more text (line ++ 10 ∷ []) 0 infos covers)
+    (ap (λ bytes. read_lines bytes infos) (append_assoc text line (10 ∷ []))
+        ∙ read_lines-more text (line ++ 10 ∷ []) 0 infos covers)
     ∙ ap (λ last. read_lines text infos ++ last ∷ []) (read_line-more text line info starts ends)

@@ -3,7 +3,13 @@ use Rattle.std.specs.Prelude.{ℕ, ◌+◌, ◌-◌, ◌^◌, Bool, true, false,
 use Rattle.std.specs.List.{list_any}
 use Rattle.cw_base.specs.declared.category.Cat.{Cat}
 use Rattle.cw_base.specs.declared.category.CatSet.{CatSet}
-use Rattle.cw_base.specs.declared.category.Cat.TheVariants.{RawInt, ConstLike, Cast, IntLike, IfClause, SectionScrap, Exp, DeclHead, ElseLike, IfHead, Semi, RawUbin, Unop, Binop, Ubinop, Question, Lpar, Rpar, Lbrace, Rbrace, Comma, Colon, StructLike, CaseLike, ForLike, DoLike, IfLike, DefineLike, SizeofLike, TypedefLike, Decl, FnDecl, Function, Stmt, Tag, StructHead, ElseHead, Lproc, Rproc, Insert, BeginArg, EndArg, Dead, Dot, End}
+use Rattle.cw_base.specs.declared.category.Cat.TheVariants.{RawInt, ConstLike, Cast, IntLike, IfClause, SectionScrap}
+use Rattle.cw_base.specs.declared.category.Cat.TheVariants.{Exp, DeclHead, ElseLike, IfHead, Semi, RawUbin, Unop, Binop}
+use Rattle.cw_base.specs.declared.category.Cat.TheVariants.{Ubinop, Question, Lpar, Rpar, Lbrace, Rbrace, Comma, Colon}
+use Rattle.cw_base.specs.declared.category.Cat.TheVariants.{StructLike, CaseLike, ForLike, DoLike, IfLike, DefineLike}
+use Rattle.cw_base.specs.declared.category.Cat.TheVariants.{SizeofLike, TypedefLike, Decl, FnDecl, Function, Stmt, Tag}
+use Rattle.cw_base.specs.declared.category.Cat.TheVariants.{StructHead, ElseHead, Lproc, Rproc, Insert, BeginArg}
+use Rattle.cw_base.specs.declared.category.Cat.TheVariants.{EndArg, Dead, Dot, End}
 
 -- every category in the order of its number, and End, which stands past the last scrap
 abbrev pub all_cats : List Cat

@@ -3,7 +3,16 @@ use Rattle.std.specs.Prelude.{ℕ, List, codes}
 use Rattle.cw_base.specs.declared.notes.Grade.{Grade}
 use Rattle.cw_base.specs.declared.notes.Grade.TheVariants.{Harmless, Error}
 use Rattle.cw_base.specs.declared.notes.NoteKind.{NoteKind}
-use Rattle.cw_base.specs.declared.notes.NoteKind.TheVariants.{IncludeMissing, IncludeUnnamed, IncludeTooDeep, NoMatchingX, NoMatchingY, NoMatchingZ, NoOldLine, EndedBeforeY, EndedBeforeZ, LinesDiffer, WebEnded, ChangeUnmatched, UnknownCode, CodeInLimbo, CodeInTexText, CodeInCText, AtInString, StringUnended, ControlTextUnended, CodeInControlText, NameUnended, CodeInName, NameEmpty, AmbiguousPrefix, NameConflict, CommentUnended, AtInComment, ExtraBrace, MissingBrace, BarMissing, TooDeep, ImproperMacro, ImproperFormat, NameIncomplete, NeverDefined, NeverUsed, LineBroken}
+use Rattle.cw_base.specs.declared.notes.NoteKind.TheVariants.{IncludeMissing, IncludeUnnamed, IncludeTooDeep}
+use Rattle.cw_base.specs.declared.notes.NoteKind.TheVariants.{NoMatchingX, NoMatchingY, NoMatchingZ, NoOldLine}
+use Rattle.cw_base.specs.declared.notes.NoteKind.TheVariants.{EndedBeforeY, EndedBeforeZ, LinesDiffer, WebEnded}
+use Rattle.cw_base.specs.declared.notes.NoteKind.TheVariants.{ChangeUnmatched, UnknownCode, CodeInLimbo, CodeInTexText}
+use Rattle.cw_base.specs.declared.notes.NoteKind.TheVariants.{CodeInCText, AtInString, StringUnended}
+use Rattle.cw_base.specs.declared.notes.NoteKind.TheVariants.{ControlTextUnended, CodeInControlText, NameUnended}
+use Rattle.cw_base.specs.declared.notes.NoteKind.TheVariants.{CodeInName, NameEmpty, AmbiguousPrefix, NameConflict}
+use Rattle.cw_base.specs.declared.notes.NoteKind.TheVariants.{CommentUnended, AtInComment, ExtraBrace, MissingBrace}
+use Rattle.cw_base.specs.declared.notes.NoteKind.TheVariants.{BarMissing, TooDeep, ImproperMacro, ImproperFormat}
+use Rattle.cw_base.specs.declared.notes.NoteKind.TheVariants.{NameIncomplete, NeverDefined, NeverUsed, LineBroken}
 
 abbrev pub grade_of : NoteKind → Grade
 grade_of NeverDefined = Harmless

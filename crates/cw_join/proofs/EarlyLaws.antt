@@ -1,12 +1,14 @@
 -- What is printed early, item by item, and what is left for the end.
-use Rattle.std.proofs.Common.{◌≡◌, ℕ, Bool, refl, ap, sym, ◌∙◌, List, [], ◌∷◌, ◌++◌, Option, Some, None, fold, drop, length}
+use Rattle.std.proofs.Common.{◌≡◌, ℕ, Bool, refl, ap, sym, ◌∙◌, List, [], ◌∷◌, ◌++◌, Option, Some, None, fold, drop}
+use Rattle.std.proofs.Common.{length}
 use Rattle.std.proofs.lemmas.List.{append-nil, append_assoc}
 use Rattle.cw_trees.specs.declared.Control.{Control}
 use Rattle.cw_trees.specs.Flat.{Item, SourceItem, IdentItem, ReservedItem, SignItem, Open, Close}
 use Rattle.cw_trees.specs.Printing.{Printable, run_sign, run_bytes, opened}
 use Rattle.cw_join.specs.Stretches.{Stretch, Other, with_control, stretches, stretch_bytes, printed_list, is_inner}
 use Rattle.cw_join.specs.Early.{early_bytes, early, late, added, run_back, run_front, run_with, depth_behind, last_run}
-use Rattle.cw_join.proofs.RunLaws.{run_before, one-more, run-parts, front-append, early-ends, early-goes_on, all-ends, all-goes_on, front-none}
+use Rattle.cw_join.proofs.RunLaws.{run_before, one-more, run-parts, front-append, early-ends, early-goes_on, all-ends}
+use Rattle.cw_join.proofs.RunLaws.{all-goes_on, front-none}
 
 -- what one item more prints, behind a run and where so many inner texts are open
 abbrev pub step_of : Option Control → Bool → ℕ → List Control → Printable → List ℕ
@@ -21,9 +23,11 @@ run_from run ps = fold run_with run ps
 
 abbrev early_from : Bool → ℕ → List Control → List Printable → List ℕ
 early_from inner depth run [] = []
-early_from inner depth run (p ∷ ps) = step_of (run_sign p.item) inner depth run p ++ early_from inner (opened depth p.item) (run_with run p) ps
+early_from inner depth run (p ∷ ps) = step_of (run_sign p.item) inner depth run p
+    ++ early_from inner (opened depth p.item) (run_with run p) ps
 
-pub same-depth : (depth : ℕ) (item : Item) (control : Control) → run_sign item ≡ Some control → opened depth item ≡ depth
+pub same-depth : (depth : ℕ) (item : Item) (control : Control) → run_sign item ≡ Some control → opened depth item
+    ≡ depth
 same-depth depth (SignItem sign) control is = refl
 same-depth depth (SourceItem number) control is = refl
 same-depth depth (IdentItem name number) control is = refl
@@ -32,16 +36,21 @@ same-depth depth Open control is = absurd (cc)
 same-depth depth Close control is = absurd (cc)
 
 early_from-more : (inner : Bool) (depth : ℕ) (run : List Control) (ps : List Printable) (p : Printable)
-    → early_from inner depth run (ps ++ p ∷ []) ≡ early_from inner depth run ps ++ step_of (run_sign p.item) inner (depth_from depth ps) (run_from run ps) p
+    → early_from inner depth run (ps ++ p ∷ []) ≡ early_from inner depth run ps ++ step_of (run_sign p.item) inner
+        (depth_from depth ps) (run_from run ps) p
 early_from-more inner depth run [] p = append-nil (step_of (run_sign p.item) inner depth run p)
 early_from-more inner depth run (q ∷ ps) p =
-    ap (λ (l : List ℕ). step_of (run_sign q.item) inner depth run q ++ l) (early_from-more inner (opened depth q.item) (run_with run q) ps p)
-    ∙ sym (append_assoc (step_of (run_sign q.item) inner depth run q) (early_from inner (opened depth q.item) (run_with run q) ps) (step_of (run_sign p.item) inner (depth_from depth (q ∷ ps)) (run_from run (q ∷ ps)) p))
+    ap (λ (l : List ℕ). step_of (run_sign q.item) inner depth run q ++ l)
+        (early_from-more inner (opened depth q.item) (run_with run q) ps p)
+    ∙ sym (append_assoc (step_of (run_sign q.item) inner depth run q)
+        (early_from inner (opened depth q.item) (run_with run q) ps)
+        (step_of (run_sign p.item) inner (depth_from depth (q ∷ ps)) (run_from run (q ∷ ps)) p))
 
 -- behind a run
 module _ (inner : Bool) where
   abbrev EarlyIs : List Printable → Type 0
-  EarlyIs ps = (depth : ℕ) (run : List Control) → early_bytes inner depth (run_before run (stretches ps)) ≡ run_front (is_inner inner depth) run ++ early_from inner depth run ps
+  EarlyIs ps = (depth : ℕ) (run : List Control) → early_bytes inner depth (run_before run (stretches ps))
+      ≡ run_front (is_inner inner depth) run ++ early_from inner depth run ps
 
   abbrev cut : Option Control → Printable → List Stretch → List Stretch
   cut sign p ss = elim sign [ Some control ↦ with_control control ss | None ↦ Other p ∷ ss ]
@@ -49,19 +58,25 @@ module _ (inner : Bool) where
   abbrev run_on : Option Control → List Control → List Control
   run_on sign run = elim sign [ Some control ↦ run ++ control ∷ [] | None ↦ [] ]
 
-  early-step : (p : Printable) (ps : List Printable) (sign : Option Control) → run_sign p.item ≡ sign → EarlyIs ps → (depth : ℕ) (run : List Control)
-      → early_bytes inner depth (run_before run (cut sign p (stretches ps))) ≡ run_front (is_inner inner depth) run ++ (step_of sign inner depth run p ++ early_from inner (opened depth p.item) (run_on sign run) ps)
+  early-step : (p : Printable) (ps : List Printable) (sign : Option Control) → run_sign p.item ≡ sign → EarlyIs ps
+      → (depth : ℕ) (run : List Control)
+      → early_bytes inner depth (run_before run (cut sign p (stretches ps))) ≡ run_front (is_inner inner depth) run
+          ++ (step_of sign inner depth run p ++ early_from inner (opened depth p.item) (run_on sign run) ps)
   early-step p ps (Some control) is rest depth run =
       ap (early_bytes inner depth) (sym (one-more run control (stretches ps)))
       ∙ rest depth (run ++ control ∷ [])
-      ∙ ap (λ (l : List ℕ). l ++ early_from inner depth (run ++ control ∷ []) ps) (front-append (is_inner inner depth) run (control ∷ []))
-      ∙ append_assoc (run_front (is_inner inner depth) run) (run_front (is_inner inner depth) (control ∷ [])) (early_from inner depth (run ++ control ∷ []) ps)
-      ∙ ap (λ (d : ℕ). run_front (is_inner inner depth) run ++ (run_front (is_inner inner depth) (control ∷ []) ++ early_from inner d (run ++ control ∷ []) ps)) (sym (same-depth depth p.item control is))
+      ∙ ap (λ (l : List ℕ). l ++ early_from inner depth (run ++ control ∷ []) ps)
+          (front-append (is_inner inner depth) run (control ∷ []))
+      ∙ append_assoc (run_front (is_inner inner depth) run) (run_front (is_inner inner depth) (control ∷ []))
+          (early_from inner depth (run ++ control ∷ []) ps)
+      ∙ ap (λ (d : ℕ). run_front (is_inner inner depth) run ++ (run_front (is_inner inner depth) (control ∷ [])
+          ++ early_from inner d (run ++ control ∷ []) ps)) (sym (same-depth depth p.item control is))
   early-step p ps None is rest depth run =
       let b : Bool = is_inner inner depth in
       let later : List ℕ = early_from inner (opened depth p.item) [] ps in
       early-goes_on inner depth run p (stretches ps)
-      ∙ ap (λ (l : List ℕ). run_bytes b run ++ (p.bytes ++ l)) (rest (opened depth p.item) [] ∙ ap (λ (l : List ℕ). l ++ later) (front-none (is_inner inner (opened depth p.item))))
+      ∙ ap (λ (l : List ℕ). run_bytes b run ++ (p.bytes ++ l)) (rest (opened depth p.item) []
+          ∙ ap (λ (l : List ℕ). l ++ later) (front-none (is_inner inner (opened depth p.item))))
       ∙ ap (λ (l : List ℕ). l ++ (p.bytes ++ later)) (run-parts b run)
       ∙ append_assoc (run_front b run) (run_back b run) (p.bytes ++ later)
       ∙ ap (λ (l : List ℕ). run_front b run ++ l) (sym (append_assoc (run_back b run) p.bytes later))
@@ -72,11 +87,15 @@ module _ (inner : Bool) where
 
   abbrev AllIs : List Printable → Type 0
   AllIs ps = (depth : ℕ) (run : List Control) → stretch_bytes inner depth (run_before run (stretches ps))
-      ≡ run_front (is_inner inner depth) run ++ (early_from inner depth run ps ++ run_back (is_inner inner (depth_from depth ps)) (run_from run ps))
+      ≡ run_front (is_inner inner depth) run ++ (early_from inner depth run ps
+          ++ run_back (is_inner inner (depth_from depth ps)) (run_from run ps))
 
-  all-step : (p : Printable) (ps : List Printable) (sign : Option Control) → run_sign p.item ≡ sign → AllIs ps → (depth : ℕ) (run : List Control)
+  all-step : (p : Printable) (ps : List Printable) (sign : Option Control) → run_sign p.item ≡ sign → AllIs ps
+      → (depth : ℕ) (run : List Control)
       → stretch_bytes inner depth (run_before run (cut sign p (stretches ps)))
-      ≡ run_front (is_inner inner depth) run ++ ((step_of sign inner depth run p ++ early_from inner (opened depth p.item) (run_on sign run) ps) ++ run_back (is_inner inner (depth_from (opened depth p.item) ps)) (run_from (run_on sign run) ps))
+      ≡ run_front (is_inner inner depth) run
+          ++ ((step_of sign inner depth run p ++ early_from inner (opened depth p.item) (run_on sign run) ps)
+          ++ run_back (is_inner inner (depth_from (opened depth p.item) ps)) (run_from (run_on sign run) ps))
   all-step p ps (Some control) is rest depth run =
       let b : Bool = is_inner inner depth in
       let one : List ℕ = run_front b (control ∷ []) in
@@ -93,36 +112,44 @@ module _ (inner : Bool) where
       let later : List ℕ = early_from inner (opened depth p.item) [] ps in
       let back : List ℕ = run_back (is_inner inner (depth_from (opened depth p.item) ps)) (run_from [] ps) in
       all-goes_on inner depth run p (stretches ps)
-      ∙ ap (λ (l : List ℕ). run_bytes b run ++ (p.bytes ++ l)) (rest (opened depth p.item) [] ∙ ap (λ (l : List ℕ). l ++ (later ++ back)) (front-none (is_inner inner (opened depth p.item))))
+      ∙ ap (λ (l : List ℕ). run_bytes b run ++ (p.bytes ++ l)) (rest (opened depth p.item) []
+          ∙ ap (λ (l : List ℕ). l ++ (later ++ back)) (front-none (is_inner inner (opened depth p.item))))
       ∙ ap (λ (l : List ℕ). l ++ (p.bytes ++ (later ++ back))) (run-parts b run)
       ∙ append_assoc (run_front b run) (run_back b run) (p.bytes ++ (later ++ back))
       ∙ ap (λ (l : List ℕ). run_front b run ++ l)
-      (sym (append_assoc (run_back b run) p.bytes (later ++ back)) ∙ sym (append_assoc (run_back b run ++ p.bytes) later back))
+      (sym (append_assoc (run_back b run) p.bytes (later ++ back))
+          ∙ sym (append_assoc (run_back b run ++ p.bytes) later back))
 
   all-is : (ps : List Printable) → AllIs ps
   all-is [] depth run = all-ends inner depth run ∙ run-parts (is_inner inner depth) run
   all-is (p ∷ ps) depth run = all-step p ps (run_sign p.item) refl (all-is ps) depth run
 
 early-whole : (inner : Bool) (ps : List Printable) → early inner ps ≡ early_from inner 0 [] ps
-early-whole inner ps = early-is inner ps 0 [] ∙ ap (λ (l : List ℕ). l ++ early_from inner 0 [] ps) (front-none (is_inner inner 0))
+early-whole inner ps = early-is inner ps 0 [] ∙ ap (λ (l : List ℕ). l ++ early_from inner 0 [] ps)
+    (front-none (is_inner inner 0))
 
 -- One item more prints what its step prints.
-early-more : (inner : Bool) (ps : List Printable) (p : Printable) → early inner (ps ++ p ∷ []) ≡ early inner ps ++ step_of (run_sign p.item) inner (depth_behind ps) (last_run ps) p
+early-more : (inner : Bool) (ps : List Printable) (p : Printable) → early inner (ps ++ p ∷ [])
+    ≡ early inner ps ++ step_of (run_sign p.item) inner (depth_behind ps) (last_run ps) p
 early-more inner ps p =
     early-whole inner (ps ++ p ∷ [])
     ∙ early_from-more inner 0 [] ps p
-    ∙ ap (λ (l : List ℕ). l ++ step_of (run_sign p.item) inner (depth_behind ps) (last_run ps) p) (sym (early-whole inner ps))
+    ∙ ap (λ (l : List ℕ). l ++ step_of (run_sign p.item) inner (depth_behind ps) (last_run ps) p)
+        (sym (early-whole inner ps))
 
 drop-behind : (xs ys : List ℕ) → drop (length xs) (xs ++ ys) ≡ ys
 drop-behind [] ys = refl
 drop-behind (x ∷ xs) ys = drop-behind xs ys
 
-pub added-is : (inner : Bool) (ps : List Printable) (p : Printable) → added inner ps p ≡ step_of (run_sign p.item) inner (depth_behind ps) (last_run ps) p
+pub added-is : (inner : Bool) (ps : List Printable) (p : Printable) → added inner ps p
+    ≡ step_of (run_sign p.item) inner (depth_behind ps) (last_run ps) p
 added-is inner ps p =
-    ap (drop (length (early inner ps))) (early-more inner ps p) ∙ drop-behind (early inner ps) (step_of (run_sign p.item) inner (depth_behind ps) (last_run ps) p)
+    ap (drop (length (early inner ps))) (early-more inner ps p)
+        ∙ drop-behind (early inner ps) (step_of (run_sign p.item) inner (depth_behind ps) (last_run ps) p)
 
 -- What is printed early with one item more.
-pub early-added : (inner : Bool) (ps : List Printable) (p : Printable) → early inner (ps ++ p ∷ []) ≡ early inner ps ++ added inner ps p
+pub early-added : (inner : Bool) (ps : List Printable) (p : Printable) → early inner (ps ++ p ∷ [])
+    ≡ early inner ps ++ added inner ps p
 early-added inner ps p = early-more inner ps p ∙ ap (λ (l : List ℕ). early inner ps ++ l) (sym (added-is inner ps p))
 
 -- What is printed early and what is printed late are all.
@@ -134,7 +161,8 @@ printed-is inner ps =
 
 -- What an item that is in no run prints behind its own bytes comes last.
 pub added-behind : (inner : Bool) (ps : List Printable) (item : Item) (own more : List ℕ) → run_sign item ≡ None
-    → added inner ps (record { item = item; bytes = own ++ more }) ≡ added inner ps (record { item = item; bytes = own }) ++ more
+    → added inner ps (record { item = item; bytes = own ++ more })
+        ≡ added inner ps (record { item = item; bytes = own }) ++ more
 added-behind inner ps item own more is =
     let step : List ℕ → Option Control → List ℕ =
     λ bytes o. step_of o inner (depth_behind ps) (last_run ps) (record { item = item; bytes = bytes }) in

@@ -1,5 +1,6 @@
 -- The pieces of a name.
-use Rattle.std.proofs.Common.{◌≡◌, ◌≢◌, ℕ, suc, ◌+◌, ◌<◌, eqb, Bool, true, false, not, cond, codes, List, [], ◌∷◌, ◌++◌, length, take, drop, refl, sym, ap, subst, ◌∙◌, arith}
+use Rattle.std.proofs.Common.{◌≡◌, ◌≢◌, ℕ, suc, ◌+◌, ◌<◌, eqb, Bool, true, false, not, cond, codes, List, [], ◌∷◌, ◌++◌}
+use Rattle.std.proofs.Common.{length, take, drop, refl, sym, ap, subst, ◌∙◌, arith}
 use Rattle.std.specs.List.{list_any, position_or_len}
 use Rattle.std.proofs.lemmas.Bool.{eqb-true, eq-eqb}
 use Rattle.std.proofs.lemmas.List.{append_assoc}
@@ -30,8 +31,10 @@ plain xs = position_or_len is_marked xs
 one-add : (n : ℕ) → 1 + n ≡ suc n
 one-add n = omega arith
 
-plain-by : (x : ℕ) (xs : List ℕ) (b : Bool) → is_marked x ≡ b → take (plain xs) xs ++ name_bytes (drop (plain xs) xs) ≡ name_bytes xs
-    → take (cond (not b) (1 + plain xs) 0) (x ∷ xs) ++ name_bytes (drop (cond (not b) (1 + plain xs) 0) (x ∷ xs)) ≡ name_bytes (x ∷ xs)
+plain-by : (x : ℕ) (xs : List ℕ) (b : Bool) → is_marked x ≡ b → take (plain xs) xs ++ name_bytes (drop (plain xs) xs)
+    ≡ name_bytes xs
+    → take (cond (not b) (1 + plain xs) 0) (x ∷ xs) ++ name_bytes (drop (cond (not b) (1 + plain xs) 0) (x ∷ xs))
+        ≡ name_bytes (x ∷ xs)
 plain-by x xs true is rest = refl
 plain-by x xs false is rest =
     ap (λ (n : ℕ). take n (x ∷ xs) ++ name_bytes (drop n (x ∷ xs))) (one-add (plain xs))
@@ -43,7 +46,8 @@ plain-front : (xs : List ℕ) → take (plain xs) xs ++ name_bytes (drop (plain 
 plain-front [] = refl
 plain-front (x ∷ xs) = plain-by x xs (is_marked x) refl (plain-front xs)
 
-begins-by : (x : ℕ) (xs : List ℕ) (b : Bool) → is_marked x ≡ b → BeginsMarked (drop (plain xs) xs) → BeginsMarked (drop (cond (not b) (1 + plain xs) 0) (x ∷ xs))
+begins-by : (x : ℕ) (xs : List ℕ) (b : Bool) → is_marked x ≡ b → BeginsMarked (drop (plain xs) xs)
+    → BeginsMarked (drop (cond (not b) (1 + plain xs) 0) (x ∷ xs))
 begins-by x xs true is rest = is
 begins-by x xs false is rest = subst (λ (n : ℕ). BeginsMarked (drop n (x ∷ xs))) (sym (one-add (plain xs))) rest
 
@@ -52,16 +56,21 @@ plain-begins [] = tt
 plain-begins (x ∷ xs) = begins-by x xs (is_marked x) refl (plain-begins xs)
 
 -- the first part of a name and its rest
-pub name-parts : (name first rest : List ℕ) (size : ℕ) → size ≡ position_or_len is_marked name → first ≡ take size name → rest ≡ drop size name
+pub name-parts : (name first rest : List ℕ) (size : ℕ) → size ≡ position_or_len is_marked name → first ≡ take size name
+    → rest ≡ drop size name
     → first ++ name_bytes rest ≡ name_bytes name
 name-parts name first rest size is front back =
-    (λ i. front i ++ name_bytes (back i)) ∙ ap (λ (n : ℕ). take n name ++ name_bytes (drop n name)) is ∙ plain-front name
+    (λ i. front i ++ name_bytes (back i)) ∙ ap (λ (n : ℕ). take n name ++ name_bytes (drop n name)) is
+        ∙ plain-front name
 
-pub name-begins : (name rest : List ℕ) (size : ℕ) → size ≡ position_or_len is_marked name → rest ≡ drop size name → BeginsMarked rest
-name-begins name rest size is back = subst BeginsMarked (sym (back ∙ ap (λ (n : ℕ). drop n name) is)) (plain-begins name)
+pub name-begins : (name rest : List ℕ) (size : ℕ) → size ≡ position_or_len is_marked name → rest ≡ drop size name
+    → BeginsMarked rest
+name-begins name rest size is back = subst BeginsMarked (sym (back ∙ ap (λ (n : ℕ). drop n name) is))
+    (plain-begins name)
 
 -- a byte with a backslash, and the bytes before the next one
-piece-is : (rest : List ℕ) (size : ℕ) → BeginsMarked rest → 0 < length rest → size ≡ 1 + position_or_len is_marked (drop 1 rest)
+piece-is : (rest : List ℕ) (size : ℕ) → BeginsMarked rest → 0 < length rest
+    → size ≡ 1 + position_or_len is_marked (drop 1 rest)
     → (92 ∷ take size rest) ++ name_bytes (drop size rest) ≡ name_bytes rest
 piece-is [] size begins some is = absurd (omega arith)
 piece-is (x ∷ xs) size begins some is =
@@ -69,14 +78,17 @@ piece-is (x ∷ xs) size begins some is =
     ∙ ap (λ (l : List ℕ). 92 ∷ x ∷ l) (plain-front xs)
     ∙ ap (λ (b : Bool). (elim b [ true ↦ 92 ∷ x ∷ [] | false ↦ x ∷ [] ]) ++ name_bytes xs) (sym begins)
 
-pub piece-begins : (rest behind : List ℕ) (size : ℕ) → 0 < length rest → size ≡ 1 + position_or_len is_marked (drop 1 rest) → behind ≡ drop size rest → BeginsMarked behind
+pub piece-begins : (rest behind : List ℕ) (size : ℕ) → 0 < length rest
+    → size ≡ 1 + position_or_len is_marked (drop 1 rest) → behind ≡ drop size rest → BeginsMarked behind
 piece-begins [] behind size some is back = absurd (omega arith)
 piece-begins (x ∷ xs) behind size some is back =
     subst BeginsMarked (sym (back ∙ ap (λ (n : ℕ). drop n (x ∷ xs)) (is ∙ one-add (plain xs)))) (plain-begins xs)
 
 -- one piece more
-pub pieces-more : (done bytes rest piece behind : List ℕ) (size : ℕ) → done ++ name_bytes rest ≡ name_bytes bytes → BeginsMarked rest → 0 < length rest
-    → size ≡ 1 + position_or_len is_marked (drop 1 rest) → piece ≡ take size rest → behind ≡ drop size rest → (done ++ (92 ∷ piece)) ++ name_bytes behind ≡ name_bytes bytes
+pub pieces-more : (done bytes rest piece behind : List ℕ) (size : ℕ) → done ++ name_bytes rest ≡ name_bytes bytes
+    → BeginsMarked rest → 0 < length rest
+    → size ≡ 1 + position_or_len is_marked (drop 1 rest) → piece ≡ take size rest → behind ≡ drop size rest
+        → (done ++ (92 ∷ piece)) ++ name_bytes behind ≡ name_bytes bytes
 pieces-more done bytes rest piece behind size put begins some is front back =
     (λ i. (done ++ (92 ∷ front i)) ++ name_bytes (back i))
     ∙ append_assoc done (92 ∷ take size rest) (name_bytes (drop size rest))
@@ -86,16 +98,20 @@ pieces-more done bytes rest piece behind size put begins some is front back =
 -- the fonts of identifiers
 pub ident-short : (name : List ℕ) → length name ≡ 1 → ident_bytes name ≡ codes "\\|" ++ name_bytes name
 ident-short name one =
-    ap (λ (b : Bool). elim b [ true ↦ codes "\\|" ++ name_bytes name | false ↦ long_ident_bytes name ]) (eq-eqb (length name) 1 one)
+    ap (λ (b : Bool). elim b [ true ↦ codes "\\|" ++ name_bytes name | false ↦ long_ident_bytes name ])
+        (eq-eqb (length name) 1 one)
 
 long-by : (b : Bool) (name : List ℕ)
-    → (elim b [ true ↦ codes "\\\\{" ++ name_bytes name ++ codes "}" | false ↦ codes "\\.{" ++ name_bytes name ++ codes "}" ]) ≡ font_bytes b ++ name_bytes name ++ codes "}"
+    → (elim b [ true ↦ codes "\\\\{" ++ name_bytes name ++ codes "}"
+        | false ↦ codes "\\.{" ++ name_bytes name ++ codes "}" ]) ≡ font_bytes b ++ name_bytes name ++ codes "}"
 long-by true name = refl
 long-by false name = refl
 
-pub ident-long : (name : List ℕ) → length name ≢ 1 → ident_bytes name ≡ font_bytes (list_any is_lower name) ++ name_bytes name ++ codes "}"
+pub ident-long : (name : List ℕ) → length name ≢ 1 → ident_bytes name ≡ font_bytes (list_any is_lower name)
+    ++ name_bytes name ++ codes "}"
 ident-long name other = go (eqb (length name) 1) refl ∙ long-by (list_any is_lower name) name
   where
-    go : (b : Bool) → eqb (length name) 1 ≡ b → (elim b [ true ↦ codes "\\|" ++ name_bytes name | false ↦ long_ident_bytes name ]) ≡ long_ident_bytes name
+    go : (b : Bool) → eqb (length name) 1 ≡ b → (elim b [ true ↦ codes "\\|" ++ name_bytes name
+        | false ↦ long_ident_bytes name ]) ≡ long_ident_bytes name
     go true is = absurd (other (eqb-true (length name) 1 is))
     go false is = refl

@@ -10,7 +10,8 @@ abbrev pub run_before : List Control → List Stretch → List Stretch
 run_before [] ss = ss
 run_before (control ∷ run) ss = with_control control (run_before run ss)
 
-pub one-more : (run : List Control) (control : Control) (ss : List Stretch) → run_before (run ++ control ∷ []) ss ≡ run_before run (with_control control ss)
+pub one-more : (run : List Control) (control : Control) (ss : List Stretch) → run_before (run ++ control ∷ []) ss
+    ≡ run_before run (with_control control ss)
 one-more [] control ss = refl
 one-more (first ∷ run) control ss = ap (with_control first) (one-more run control ss)
 
@@ -18,7 +19,8 @@ before-none : (control : Control) (run : List Control) → run_before (control �
 before-none control [] = refl
 before-none control (next ∷ run) = ap (with_control control) (before-none next run)
 
-before-other : (control : Control) (run : List Control) (p : Printable) (ss : List Stretch) → run_before (control ∷ run) (Other p ∷ ss) ≡ Run (control ∷ run) ∷ Other p ∷ ss
+before-other : (control : Control) (run : List Control) (p : Printable) (ss : List Stretch)
+    → run_before (control ∷ run) (Other p ∷ ss) ≡ Run (control ∷ run) ∷ Other p ∷ ss
 before-other control [] p ss = refl
 before-other control (next ∷ run) p ss = ap (with_control control) (before-other next run p ss)
 
@@ -37,28 +39,37 @@ front-none false = refl
 
 indents-append : (xs ys : List Control) → indents (xs ++ ys) ≡ indents xs ++ indents ys
 indents-append [] ys = refl
-indents-append (x ∷ xs) ys = ap (λ (l : List ℕ). indent_bytes x ++ l) (indents-append xs ys) ∙ sym (append_assoc (indent_bytes x) (indents xs) (indents ys))
+indents-append (x ∷ xs) ys = ap (λ (l : List ℕ). indent_bytes x ++ l) (indents-append xs ys)
+    ∙ sym (append_assoc (indent_bytes x) (indents xs) (indents ys))
 
-pub front-append : (inner : Bool) (xs ys : List Control) → run_front inner (xs ++ ys) ≡ run_front inner xs ++ run_front inner ys
+pub front-append : (inner : Bool) (xs ys : List Control) → run_front inner (xs ++ ys)
+    ≡ run_front inner xs ++ run_front inner ys
 front-append true xs ys = refl
 front-append false xs ys = indents-append xs ys
 
 -- a run, and then nothing more or an item that ends it
 module _ (inner : Bool) (depth : ℕ) where
-  pub early-ends : (run : List Control) → early_bytes inner depth (run_before run []) ≡ run_front (is_inner inner depth) run
+  pub early-ends : (run : List Control) → early_bytes inner depth (run_before run [])
+      ≡ run_front (is_inner inner depth) run
   early-ends [] = sym (front-none (is_inner inner depth))
   early-ends (control ∷ run) = ap (early_bytes inner depth) (before-none control run)
 
   pub early-goes_on : (run : List Control) (p : Printable) (ss : List Stretch)
-      → early_bytes inner depth (run_before run (Other p ∷ ss)) ≡ run_bytes (is_inner inner depth) run ++ (p.bytes ++ early_bytes inner (opened depth p.item) ss)
-  early-goes_on [] p ss = ap (λ (run : List ℕ). run ++ (p.bytes ++ early_bytes inner (opened depth p.item) ss)) (sym (run-none (is_inner inner depth)))
+      → early_bytes inner depth (run_before run (Other p ∷ ss)) ≡ run_bytes (is_inner inner depth) run
+          ++ (p.bytes ++ early_bytes inner (opened depth p.item) ss)
+  early-goes_on [] p ss = ap (λ (run : List ℕ). run ++ (p.bytes ++ early_bytes inner (opened depth p.item) ss))
+      (sym (run-none (is_inner inner depth)))
   early-goes_on (control ∷ run) p ss = ap (early_bytes inner depth) (before-other control run p ss)
 
-  pub all-ends : (run : List Control) → stretch_bytes inner depth (run_before run []) ≡ run_bytes (is_inner inner depth) run
+  pub all-ends : (run : List Control) → stretch_bytes inner depth (run_before run [])
+      ≡ run_bytes (is_inner inner depth) run
   all-ends [] = sym (run-none (is_inner inner depth))
-  all-ends (control ∷ run) = ap (stretch_bytes inner depth) (before-none control run) ∙ append-nil (run_bytes (is_inner inner depth) (control ∷ run))
+  all-ends (control ∷ run) = ap (stretch_bytes inner depth) (before-none control run)
+      ∙ append-nil (run_bytes (is_inner inner depth) (control ∷ run))
 
   pub all-goes_on : (run : List Control) (p : Printable) (ss : List Stretch)
-      → stretch_bytes inner depth (run_before run (Other p ∷ ss)) ≡ run_bytes (is_inner inner depth) run ++ (p.bytes ++ stretch_bytes inner (opened depth p.item) ss)
-  all-goes_on [] p ss = ap (λ (run : List ℕ). run ++ (p.bytes ++ stretch_bytes inner (opened depth p.item) ss)) (sym (run-none (is_inner inner depth)))
+      → stretch_bytes inner depth (run_before run (Other p ∷ ss)) ≡ run_bytes (is_inner inner depth) run
+          ++ (p.bytes ++ stretch_bytes inner (opened depth p.item) ss)
+  all-goes_on [] p ss = ap (λ (run : List ℕ). run ++ (p.bytes ++ stretch_bytes inner (opened depth p.item) ss))
+      (sym (run-none (is_inner inner depth)))
   all-goes_on (control ∷ run) p ss = ap (stretch_bytes inner depth) (before-other control run p ss)

@@ -2,7 +2,8 @@
 use Rattle.std.specs.Prelude.{ℕ, ◌++◌, Bool, true, false, List, [], ◌∷◌, Some, None, length, drop, fold}
 use Rattle.std.specs.List.{list_any}
 use Rattle.cw_trees.specs.declared.Control.{Control}
-use Rattle.cw_trees.specs.Printing.{Printable, backup_bytes, break_bytes, indents, inner_run, is_cancel, opened, run_bytes, run_sign, strongest}
+use Rattle.cw_trees.specs.Printing.{Printable, backup_bytes, break_bytes, indents, inner_run, is_cancel, opened}
+use Rattle.cw_trees.specs.Printing.{run_bytes, run_sign, strongest}
 use Rattle.cw_join.specs.Stretches.{Stretch, Run, Other, stretches, is_inner}
 
 -- what a run prints at once: its indents, which are left out in inner C text

@@ -1,5 +1,6 @@
 -- What an item prints where it is in no run.
-use Rattle.std.specs.Prelude.{◌≡◌, ℕ, ◌<◌, ◌||◌, Bool, codes, eqb, true, false, List, [], ◌∷◌, option_map, slice_get, unwrap_or}
+use Rattle.std.specs.Prelude.{◌≡◌, ℕ, ◌<◌, ◌||◌, Bool, codes, eqb, true, false, List, [], ◌∷◌, option_map, slice_get}
+use Rattle.std.specs.Prelude.{unwrap_or}
 use Rattle.cw_names.specs.Names.{Entry}
 use Rattle.cw_tokens.specs.declared.flat.FlatItem.{FlatItem}
 use Rattle.cw_tokens.specs.declared.flat.FlatItem.TheVariants.{Source, Ident, Reserved, Control, Open, Close}

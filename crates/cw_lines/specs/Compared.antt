@@ -36,7 +36,8 @@ abbrev pub left_behind : List ℕ → Option (List ℕ) → Option (List ℕ)
 left_behind bytes None = None
 left_behind bytes (Some text) = behind bytes text
 
--- Over a desk that tells its files: what was left begins with these bytes, and what is behind them is left now; or it doesn't begin
+-- Over a desk that tells its files: what was left begins with these bytes, and what is behind them is left now; or it
+-- doesn't begin
 -- with them, and nothing is left.
 pub record Compares (bytes : List ℕ) (old new : Option OldFile) (before now : Told) : Type 0 where
   pub rest : (files : Files) → before.files ≡ Some files → left now new ≡ left_behind bytes (left before old)

@@ -1,10 +1,13 @@
 -- Laws of comparing: no bytes, more bytes after some, the bytes with which a text begins, and bytes that differ.
-use Rattle.std.specs.Prelude.{◌≡◌, ◌↔◌, ◌==◌, ◌≤◌, ◌<◌, ◌+◌, ◌-◌, ℕ, zero, suc, Bool, true, false, cond, not, nat_eq, List, [], ◌∷◌, ◌++◌, Option, Some, None, IsTrue, length, take, drop}
+use Rattle.std.specs.Prelude.{◌≡◌, ◌↔◌, ◌==◌, ◌≤◌, ◌<◌, ◌+◌, ◌-◌, ℕ, zero, suc, Bool, true, false, cond, not, nat_eq}
+use Rattle.std.specs.Prelude.{List, [], ◌∷◌, ◌++◌, Option, Some, None, IsTrue, length, take, drop}
 use Rattle.std.specs.Bool.{OnFalse, OnTrue}
 use Rattle.std.specs.Cmp.Lexicographic.{bytes_decides, pointwise}
-use Rattle.std.proofs.Common.{refl, sym, ap, ◌∙◌, subst, append_assoc, arith, length-append, length-drop, eq-eqb, inl, inr}
+use Rattle.std.proofs.Common.{refl, sym, ap, ◌∙◌, subst, append_assoc, arith, length-append, length-drop, eq-eqb, inl}
+use Rattle.std.proofs.Common.{inr}
 use Rattle.std.proofs.lemmas.Bool.Decides.{eqb_tells}
-use Rattle.std.proofs.lemmas.List.{drop_all, drop-take, length-take, length-take-le, take-append-drop, take-append-le, take_all}
+use Rattle.std.proofs.lemmas.List.{drop_all, drop-take, length-take, length-take-le, take-append-drop, take-append-le}
+use Rattle.std.proofs.lemmas.List.{take_all}
 use Rattle.cw_desk.specs.Meaning.{Files}
 use Rattle.cw_desk.specs.Told.{Told}
 use Rattle.cw_lines.specs.Compared.{OldFile, Compares, Shortens, behind, left, left_behind, left_by}
@@ -28,14 +31,16 @@ behind-append [] ys text = refl
 behind-append (x ∷ xs) ys [] = refl
 behind-append (x ∷ xs) ys (first ∷ rest) = stripped-append (x == first) xs ys rest (behind-append xs ys rest)
 
-pub left_behind-append : (xs ys : List ℕ) (rest : Option (List ℕ)) → left_behind (xs ++ ys) rest ≡ left_behind ys (left_behind xs rest)
+pub left_behind-append : (xs ys : List ℕ) (rest : Option (List ℕ)) → left_behind (xs ++ ys) rest
+    ≡ left_behind ys (left_behind xs rest)
 left_behind-append xs ys None = refl
 left_behind-append xs ys (Some text) = behind-append xs ys text
 
 -- behind the bytes with which it begins
 pub behind-begun : (xs rest : List ℕ) → behind xs (xs ++ rest) ≡ Some rest
 behind-begun [] rest = refl
-behind-begun (x ∷ xs) rest = ap (λ (same : Bool). cond same (behind xs (xs ++ rest)) None) (eq-eqb x x refl) ∙ behind-begun xs rest
+behind-begun (x ∷ xs) rest = ap (λ (same : Bool). cond same (behind xs (xs ++ rest)) None) (eq-eqb x x refl)
+    ∙ behind-begun xs rest
 
 -- a text that doesn't begin with them
 stripped-other : (x y : ℕ) (xs ys : List ℕ) → (x ≡ y → behind xs ys ≡ None) → cond (x == y) (behind xs ys) None ≡ None
@@ -45,12 +50,14 @@ stripped-other x y xs ys same =
       | inr is ↦ ap (λ (b : Bool). cond b (behind xs ys) None) is.0
     ]
 
-pub behind-other : (xs ys : List ℕ) (count : ℕ) → count ≤ length xs → count ≤ length ys → (take count ys ≡ take count xs → ⊥) → behind xs ys ≡ None
+pub behind-other : (xs ys : List ℕ) (count : ℕ) → count ≤ length xs → count ≤ length ys
+    → (take count ys ≡ take count xs → ⊥) → behind xs ys ≡ None
 behind-other xs ys zero within inside other = absurd (other refl)
 behind-other [] ys (suc count) within inside other = absurd (omega arith)
 behind-other (x ∷ xs) [] (suc count) within inside other = refl
 behind-other (x ∷ xs) (y ∷ ys) (suc count) within inside other =
-    stripped-other x y xs ys (λ same. behind-other xs ys count (omega arith) (omega arith) (λ rest. other (λ i. sym same i ∷ rest i)))
+    stripped-other x y xs ys (λ same. behind-other xs ys count (omega arith) (omega arith)
+        (λ rest. other (λ i. sym same i ∷ rest i)))
 
 -- a text that has ended begins with no byte
 pub behind-ended : (xs : List ℕ) → 0 < length xs → behind xs [] ≡ None
@@ -63,14 +70,16 @@ same-text [] text is = ap (option_or text) is
 same-text (x ∷ xs) [] is = absurd cc
 same-text (x ∷ xs) (first ∷ rest) is =
     elim (eqb_tells x first) [
-      | inl same ↦ λ i. sym same.1 i ∷ same-text xs rest (sym (ap (λ (b : Bool). cond b (behind xs rest) None) same.0) ∙ is) i
+      | inl same ↦ λ i. sym same.1 i ∷ same-text xs rest (sym (ap (λ (b : Bool). cond b (behind xs rest) None) same.0)
+          ∙ is) i
       | inr other ↦ absurd (let none = sym (ap (λ (b : Bool). cond b (behind xs rest) None) other.0) ∙ is in cc)
     ]
 
 -- ## What is ahead
 
 -- as many bytes as there are ahead are compared
-pub left-checked : (same agrees : Bool) (bytes ahead rest : List ℕ) (count : ℕ) → agrees ≡ true → count ≤ length bytes → count ≤ length ahead
+pub left-checked : (same agrees : Bool) (bytes ahead rest : List ℕ) (count : ℕ) → agrees ≡ true → count ≤ length bytes
+    → count ≤ length ahead
     → same ≡ pointwise nat_eq (take count ahead) (take count bytes)
     → left_by same (drop count ahead ++ rest) ≡ left_behind (take count bytes) (left_by agrees (ahead ++ rest))
 left-checked true agrees bytes ahead rest count agreed within inside test =
@@ -81,28 +90,35 @@ left-checked true agrees bytes ahead rest count agreed within inside test =
     ∙ ap (λ (begun : List ℕ). behind (take count bytes) (begun ++ (drop count ahead ++ rest))) is
     ∙ behind-begun (take count bytes) (drop count ahead ++ rest))
 left-checked false agrees bytes ahead rest count agreed within inside test =
-    let differ : take count ahead ≡ take count bytes → ⊥ = λ is. absurd (let told = (bytes_decides (take count ahead) (take count bytes)).1 is in cc) in
+    let differ : take count ahead ≡ take count bytes
+        → ⊥ = λ is. absurd (let told = (bytes_decides (take count ahead) (take count bytes)).1 is in cc) in
     let size : length (take count bytes) ≡ count = length-take-le count bytes within in
     let first : take count (ahead ++ rest) ≡ take count ahead = take-append-le count ahead rest inside in
-    let whole : take count (take count bytes) ≡ take count bytes = take_all count (take count bytes) (omega (arith, size)) in
+    let whole : take count (take count bytes) ≡ take count bytes =
+        take_all count (take count bytes) (omega (arith, size)) in
     sym (ap (λ (b : Bool). left_behind (take count bytes) (left_by b (ahead ++ rest))) agreed
-    ∙ behind-other (take count bytes) (ahead ++ rest) count (omega (arith, size)) (omega (arith, inside, length-append ahead rest))
+    ∙ behind-other (take count bytes) (ahead ++ rest) count (omega (arith, size))
+        (omega (arith, inside, length-append ahead rest))
     (λ is. differ (sym first ∙ is ∙ whole)))
 
 -- a file that has ended agrees with no byte more
 pub left-ended : (bytes : List ℕ) (agrees : Bool) (ahead rest : List ℕ) → 0 < length bytes → ahead ≡ [] → rest ≡ []
     → left_behind bytes (left_by agrees (ahead ++ rest)) ≡ None
-left-ended bytes true ahead rest some none ended = ap (λ (text : List ℕ). behind bytes (text ++ rest)) none ∙ ap (behind bytes) ended ∙ behind-ended bytes some
+left-ended bytes true ahead rest some none ended = ap (λ (text : List ℕ). behind bytes (text ++ rest)) none
+    ∙ ap (behind bytes) ended ∙ behind-ended bytes some
 left-ended bytes false ahead rest some none ended = refl
 
 -- what is ahead, between where it begins and where it ends
 pub ahead-none : (buffer : List ℕ) (start end : ℕ) → end ≤ start → drop start (take end buffer) ≡ []
 ahead-none buffer start end spent = drop_all start (take end buffer) (omega (arith, length-take end buffer, spent))
 
-pub ahead-some : (buffer : List ℕ) (start end : ℕ) → start < end → end ≤ length buffer → 0 < length (drop start (take end buffer))
-ahead-some buffer start end some within = omega (arith, length-drop start (take end buffer), length-take-le end buffer within, some)
+pub ahead-some : (buffer : List ℕ) (start end : ℕ) → start < end → end ≤ length buffer
+    → 0 < length (drop start (take end buffer))
+ahead-some buffer start end some within = omega (arith, length-drop start (take end buffer),
+    length-take-le end buffer within, some)
 
-pub ahead-range : (buffer : List ℕ) (start end : ℕ) → start ≤ end → take (end - start) (drop start buffer) ≡ drop start (take end buffer)
+pub ahead-range : (buffer : List ℕ) (start end : ℕ) → start ≤ end → take (end - start) (drop start buffer)
+    ≡ drop start (take end buffer)
 ahead-range buffer start end order =
     let sum : start + (end - start) ≡ end = omega arith in
     sym (drop-take start (end - start) buffer) ∙ ap (λ (n : ℕ). drop start (take n buffer)) sum
@@ -117,14 +133,17 @@ left-more agrees [] rest some is = absurd (omega arith)
 left-more true (byte ∷ ahead) rest some is = absurd (let none : byte ∷ ahead ++ rest ≡ [] = ap (option_or []) is in cc)
 left-more false (byte ∷ ahead) rest some is = absurd cc
 
-pub left-read : (some agrees : Bool) (ahead rest more unread : List ℕ) → agrees ≡ true → ahead ≡ [] → rest ≡ more ++ unread
-    → OnTrue some (0 < length more) → OnFalse some (rest ≡ []) → IsTrue (not some) ↔ (left_by agrees (ahead ++ rest) ≡ Some [])
+pub left-read : (some agrees : Bool) (ahead rest more unread : List ℕ) → agrees ≡ true → ahead ≡ []
+    → rest ≡ more ++ unread
+    → OnTrue some (0 < length more) → OnFalse some (rest ≡ [])
+        → IsTrue (not some) ↔ (left_by agrees (ahead ++ rest) ≡ Some [])
 left-read true agrees ahead rest more unread agreed none read longer ended =
     let is : left_by agrees (ahead ++ rest) ≡ left_by agrees (more ++ unread) =
     ap (λ (text : List ℕ). left_by agrees (text ++ rest)) none ∙ ap (left_by agrees) read in
     ((λ no. absurd cc), (λ whole. absurd (left-more agrees more unread longer (sym is ∙ whole))))
 left-read false agrees ahead rest more unread agreed none read longer ended =
-    ((λ yes. ap (λ (b : Bool). left_by b (ahead ++ rest)) agreed ∙ ap (λ (text : List ℕ). Some (text ++ rest)) none ∙ ap (λ (text : List ℕ). Some text) ended), (λ whole. refl))
+    ((λ yes. ap (λ (b : Bool). left_by b (ahead ++ rest)) agreed ∙ ap (λ (text : List ℕ). Some (text ++ rest)) none
+        ∙ ap (λ (text : List ℕ). Some text) ended), (λ whole. refl))
 
 -- ## Comparing
 
@@ -134,23 +153,31 @@ compares-none old told = record { rest = λ files is. sym (left_behind-none (lef
 pub compares-then : {xs ys : List ℕ} {first second third : Option OldFile} {a b c : Told} → b.files ≡ a.files
     → Compares xs first second a b → Compares ys second third b c → Compares (xs ++ ys) first third a c
 compares-then {xs = xs} {ys = ys} {first = first} {a = a} same begun ended = record {
-  rest = λ files is. ended.rest files (same ∙ is) ∙ ap (left_behind ys) (begun.rest files is) ∙ sym (left_behind-append xs ys (left a first));
+  rest = λ files is. ended.rest files (same ∙ is) ∙ ap (left_behind ys) (begun.rest files is)
+      ∙ sym (left_behind-append xs ys (left a first));
 }
 
-pub compares-bytes : {xs ys : List ℕ} {old new : Option OldFile} {a b : Told} → xs ≡ ys → Compares xs old new a b → Compares ys old new a b
-compares-bytes {old = old} {new = new} {a = a} {b = b} same compares = subst (λ (bytes : List ℕ). Compares bytes old new a b) same compares
+pub compares-bytes : {xs ys : List ℕ} {old new : Option OldFile} {a b : Told} → xs ≡ ys → Compares xs old new a b
+    → Compares ys old new a b
+compares-bytes {old = old} {new = new} {a = a} {b = b} same compares =
+    subst (λ (bytes : List ℕ). Compares bytes old new a b) same compares
 
 -- the same file afterwards
-pub compares-as : {xs ys : List ℕ} {old new other : Option OldFile} {a b : Told} → xs ≡ ys → new ≡ other → Compares xs old new a b → Compares ys old other a b
+pub compares-as : {xs ys : List ℕ} {old new other : Option OldFile} {a b : Told} → xs ≡ ys → new ≡ other
+    → Compares xs old new a b → Compares ys old other a b
 compares-as {xs = xs} {old = old} {other = other} {a = a} {b = b} same is compares =
-    subst (λ (bytes : List ℕ). Compares bytes old other a b) same (subst (λ (file : Option OldFile). Compares xs old file a b) is compares)
+    subst (λ (bytes : List ℕ). Compares bytes old other a b) same
+        (subst (λ (file : Option OldFile). Compares xs old file a b) is compares)
 
 -- bytes were compared, then more was read, and more bytes were compared
-pub compares-more : {first : List ℕ} (more : List ℕ) {old mid : OldFile} (read : OldFile) {new : OldFile} {a b c : Told} → b.files ≡ a.files
+pub compares-more : {first : List ℕ} (more : List ℕ) {old mid : OldFile} (read : OldFile) {new : OldFile} {a b c : Told}
+    → b.files ≡ a.files
     → Compares first (Some old) (Some mid) a b
-    → ((files : Files) → b.files ≡ Some files → left_behind more (left c (Some read)) ≡ left_behind more (left b (Some mid)))
+    → ((files : Files) → b.files ≡ Some files → left_behind more (left c (Some read))
+        ≡ left_behind more (left b (Some mid)))
     → new.id ≡ read.id
-    → ((rest : List ℕ) → left_by new.agrees (new.ahead ++ rest) ≡ left_behind more (left_by read.agrees (read.ahead ++ rest)))
+    → ((rest : List ℕ) → left_by new.agrees (new.ahead ++ rest)
+        ≡ left_behind more (left_by read.agrees (read.ahead ++ rest)))
     → Compares (first ++ more) (Some old) (Some new) a c
 compares-more {first = first} more {old = old} read {new = new} {a = a} {c = c} same begun reads file checks = record {
   rest = λ files is.
@@ -168,10 +195,12 @@ compares-nothing bytes a b = record { rest = λ files is. refl }
 pub shortens-none : (file : Option ℕ) {a b : Told} → b.rest ≡ a.rest → Shortens file a b
 shortens-none file same = record { unread = λ files is id named. ([], sym (λ i. same i id)) }
 
-pub shortens-then : {file : Option ℕ} {a b c : Told} → b.files ≡ a.files → Shortens file a b → Shortens file b c → Shortens file a c
+pub shortens-then : {file : Option ℕ} {a b c : Told} → b.files ≡ a.files → Shortens file a b → Shortens file b c
+    → Shortens file a c
 shortens-then {c = c} same begun ended = record {
   unread = λ files is id named.
       let first = begun.unread files is id named in
       let second = ended.unread files (same ∙ is) id named in
-      (first.0 ++ second.0, first.1 ∙ ap (λ (rest : List ℕ). first.0 ++ rest) second.1 ∙ sym (append_assoc first.0 second.0 (c.rest id)));
+      (first.0 ++ second.0, first.1 ∙ ap (λ (rest : List ℕ). first.0 ++ rest) second.1
+          ∙ sym (append_assoc first.0 second.0 (c.rest id)));
 }

@@ -1,23 +1,28 @@
--- Laws of cutting: a piece of at most 80 bytes is no line yet; of a longer one the first 80 bytes are divided, and the rest is cut likewise.
-use Rattle.std.specs.Prelude.{◌≡◌, ℕ, zero, suc, ◌+◌, ◌-◌, ◌<◌, ◌≤◌, ◌&&◌, Bool, true, false, nat_lt, nat_le, List, [], ◌∷◌, ◌++◌, Option, Some, None, length, take, drop, if◌then◌else◌}
+-- Laws of cutting: a piece of at most 80 bytes is no line yet; of a longer one the first 80 bytes are divided, and the
+-- rest is cut likewise.
+use Rattle.std.specs.Prelude.{◌≡◌, ℕ, zero, suc, ◌+◌, ◌-◌, ◌<◌, ◌≤◌, ◌&&◌, Bool, true, false, nat_lt, nat_le, List, []}
+use Rattle.std.specs.Prelude.{◌∷◌, ◌++◌, Option, Some, None, length, take, drop, if◌then◌else◌}
 use Rattle.std.proofs.Common.{refl, sym, ap, ◌∙◌, inl, inr, arith, length-append, length-drop}
 use Rattle.std.proofs.lemmas.List.{take_at, drop_at, length-take-le}
 use Rattle.std.proofs.lemmas.Bool.{cases_lt}
 use Rattle.std.proofs.lemmas.Bool.Decides.{nat_tests}
 use Rattle.std.proofs.lemmas.Option.{none-some}
-use Rattle.cw_lines.specs.Cut.{last_below, last_of, is_break, is_command, has_comment, comment_mark, divide_at, divide_by, divide, with_line, cut_long, cut_turns, cut_piece}
+use Rattle.cw_lines.specs.Cut.{last_below, last_of, is_break, is_command, has_comment, comment_mark, divide_at}
+use Rattle.cw_lines.specs.Cut.{divide_by, divide, with_line, cut_long, cut_turns, cut_piece}
 
 -- What was found is below n, and passes.
 pub record Found (passes : ℕ → Bool) (n i : ℕ) : Type 0 where
   pub below : i < n
   pub passing : passes i ≡ true
 
-found-step : (passes : ℕ → Bool) (n i : ℕ) (here : Bool) → passes n ≡ here → (if here then Some n else last_below passes n) ≡ Some i
+found-step : (passes : ℕ → Bool) (n i : ℕ) (here : Bool) → passes n ≡ here
+    → (if here then Some n else last_below passes n) ≡ Some i
     → (last_below passes n ≡ Some i → Found passes n i) → Found passes (suc n) i
 found-step passes n i true passing found earlier =
     let same : n ≡ i = cc in record { below = omega arith; passing = ap passes (sym same) ∙ passing }
 found-step passes n i false passing found earlier =
-    let before : Found passes n i = earlier found in record { below = let b : i < n = before.below in omega arith; passing = before.passing }
+    let before : Found passes n i = earlier found in
+        record { below = let b : i < n = before.below in omega arith; passing = before.passing }
 
 pub last_below-found : (passes : ℕ → Bool) (n i : ℕ) → last_below passes n ≡ Some i → Found passes n i
 last_below-found passes zero i found = absurd (none-some i found)
@@ -47,11 +52,14 @@ mark_short true = omega arith
 mark_short false = omega arith
 
 -- A division of a full line leaves a shorter rest.
-divide_at-short : (line : List ℕ) (i : ℕ) (ending : List ℕ) (broken : Bool) → length line ≡ 80 → 2 ≤ i → length (divide_at line i ending broken).rest < 80
+divide_at-short : (line : List ℕ) (i : ℕ) (ending : List ℕ) (broken : Bool) → length line ≡ 80 → 2 ≤ i
+    → length (divide_at line i ending broken).rest < 80
 divide_at-short line i ending broken full far =
-    omega (arith, mark_short (has_comment (take i line)), length-append (comment_mark (has_comment (take i line))) (drop i line), length-drop i line)
+    omega (arith, mark_short (has_comment (take i line)), length-append (comment_mark (has_comment (take i line)))
+        (drop i line), length-drop i line)
 
-divide_by-short : (break command : Option ℕ) (line : List ℕ) → length line ≡ 80 → ((i : ℕ) → break ≡ Some i → 0 < i) → ((i : ℕ) → command ≡ Some i → 2 ≤ i)
+divide_by-short : (break command : Option ℕ) (line : List ℕ) → length line ≡ 80 → ((i : ℕ) → break ≡ Some i → 0 < i)
+    → ((i : ℕ) → command ≡ Some i → 2 ≤ i)
     → length (divide_by break command line).rest < 80
 divide_by-short (Some i) command line full breaks commands =
     let inside : 0 < i = breaks i refl in divide_at-short line (i + 1) [] false full (omega arith)
@@ -72,21 +80,28 @@ not_longer piece short = grind (arith, nat_tests)
 longer : (piece : List ℕ) → 80 < length piece → nat_lt 80 (length piece) ≡ true
 longer piece long = grind (arith, nat_tests)
 
-cut_turns-short : (turns : ℕ) (piece : List ℕ) → length piece ≤ 80 → cut_turns turns piece ≡ record { lines = []; pending = piece }
+cut_turns-short : (turns : ℕ) (piece : List ℕ) → length piece ≤ 80 → cut_turns turns piece
+    ≡ record { lines = []; pending = piece }
 cut_turns-short zero piece short = refl
 cut_turns-short (suc turns) piece short =
-    ap (λ b. cut_long b piece (divide (take 80 piece)) (cut_turns turns ((divide (take 80 piece)).rest ++ drop 80 piece))) (not_longer piece short)
+    ap (λ b. cut_long b piece (divide (take 80 piece))
+        (cut_turns turns ((divide (take 80 piece)).rest ++ drop 80 piece))) (not_longer piece short)
 
 cut_turns-long : (turns : ℕ) (piece : List ℕ) → 80 < length piece
-    → cut_turns (suc turns) piece ≡ with_line (divide (take 80 piece)).first (cut_turns turns ((divide (take 80 piece)).rest ++ drop 80 piece))
+    → cut_turns (suc turns) piece ≡ with_line (divide (take 80 piece)).first
+        (cut_turns turns ((divide (take 80 piece)).rest ++ drop 80 piece))
 cut_turns-long turns piece long =
-    ap (λ b. cut_long b piece (divide (take 80 piece)) (cut_turns turns ((divide (take 80 piece)).rest ++ drop 80 piece))) (longer piece long)
+    ap (λ b. cut_long b piece (divide (take 80 piece))
+        (cut_turns turns ((divide (take 80 piece)).rest ++ drop 80 piece))) (longer piece long)
 
-rest_shorter : (piece : List ℕ) → 80 < length piece → length ((divide (take 80 piece)).rest ++ drop 80 piece) < length piece
+rest_shorter : (piece : List ℕ) → 80 < length piece → length ((divide (take 80 piece)).rest ++ drop 80 piece)
+    < length piece
 rest_shorter piece long =
-    omega (arith, divide-short (take 80 piece) (length-take-le 80 piece (omega arith)), length-append (divide (take 80 piece)).rest (drop 80 piece), length-drop 80 piece)
+    omega (arith, divide-short (take 80 piece) (length-take-le 80 piece (omega arith)),
+        length-append (divide (take 80 piece)).rest (drop 80 piece), length-drop 80 piece)
 
-pub cut_turns-enough : (n m : ℕ) (piece : List ℕ) → length piece ≤ 80 + n → length piece ≤ 80 + m → cut_turns n piece ≡ cut_turns m piece
+pub cut_turns-enough : (n m : ℕ) (piece : List ℕ) → length piece ≤ 80 + n → length piece ≤ 80 + m → cut_turns n piece
+    ≡ cut_turns m piece
 cut_turns-enough zero m piece first second = sym (cut_turns-short m piece (omega arith))
 cut_turns-enough (suc n) zero piece first second = cut_turns-short (suc n) piece (omega arith)
 cut_turns-enough (suc n) (suc m) piece first second =
@@ -110,17 +125,21 @@ cut_piece-long line byte rest full =
     let piece : List ℕ = line ++ byte ∷ rest in
     let next : List ℕ = (divide line).rest ++ byte ∷ rest in
     let long : length piece ≡ 81 + length rest = omega (arith, length-append line (byte ∷ rest)) in
-    let less : length next ≤ 80 + length rest = omega (arith, divide-short line full, length-append (divide line).rest (byte ∷ rest)) in
+    let less : length next ≤ 80 + length rest = omega (arith, divide-short line full, length-append (divide line).rest
+        (byte ∷ rest)) in
     let turns : length piece - 80 ≡ suc (length rest) = omega arith in
     ap (λ n. cut_turns n piece) turns
     ∙ cut_turns-long (length rest) piece (omega arith)
-    ∙ ap (λ (full_line : List ℕ). with_line (divide full_line).first (cut_turns (length rest) ((divide full_line).rest ++ drop 80 piece))) (take_at line (byte ∷ rest) 80 full)
-    ∙ ap (λ (behind : List ℕ). with_line (divide line).first (cut_turns (length rest) ((divide line).rest ++ behind))) (drop_at line (byte ∷ rest) 80 full)
+    ∙ ap (λ (full_line : List ℕ). with_line (divide full_line).first
+        (cut_turns (length rest) ((divide full_line).rest ++ drop 80 piece))) (take_at line (byte ∷ rest) 80 full)
+    ∙ ap (λ (behind : List ℕ). with_line (divide line).first (cut_turns (length rest) ((divide line).rest ++ behind)))
+        (drop_at line (byte ∷ rest) 80 full)
     ∙ ap (with_line (divide line).first) (cut_turns-enough (length rest) (length next - 80) next less (omega arith))
 
 -- A piece that is longer than a line: its first 80 bytes are divided, and the rest is cut likewise.
 pub cut_piece-longer : (piece : List ℕ) → 80 < length piece
-    → cut_piece piece ≡ with_line (divide (take 80 piece)).first (cut_piece ((divide (take 80 piece)).rest ++ drop 80 piece))
+    → cut_piece piece ≡ with_line (divide (take 80 piece)).first
+        (cut_piece ((divide (take 80 piece)).rest ++ drop 80 piece))
 cut_piece-longer piece long =
     let rest : List ℕ = (divide (take 80 piece)).rest ++ drop 80 piece in
     let turns : ℕ = length piece - 81 in
@@ -128,4 +147,5 @@ cut_piece-longer piece long =
     let less : length rest < length piece = rest_shorter piece long in
     ap (λ n. cut_turns n piece) one_more
     ∙ cut_turns-long turns piece long
-    ∙ ap (with_line (divide (take 80 piece)).first) (cut_turns-enough turns (length rest - 80) rest (omega arith) (omega arith))
+    ∙ ap (with_line (divide (take 80 piece)).first) (cut_turns-enough turns (length rest - 80) rest (omega arith)
+        (omega arith))

@@ -1,7 +1,9 @@
 -- Laws of calls that emit events: nothing, more after some, and a failure that ends the rest.
-use Rattle.std.specs.Prelude.{◌≢◌, ◌↔◌, ◌==◌, ◌&&◌, Bool, true, false, cond, bytes_eq, IsErrAnd, IfOk, IsTrue, OnErr, OnOk}
+use Rattle.std.specs.Prelude.{◌≢◌, ◌↔◌, ◌==◌, ◌&&◌, Bool, true, false, cond, bytes_eq, IsErrAnd, IfOk, IsTrue, OnErr}
+use Rattle.std.specs.Prelude.{OnOk}
 use Rattle.std.specs.FinMap.{get}
-use Rattle.std.proofs.Common.{◌≡◌, ℕ, ◌≤◌, List, [], ◌∷◌, ◌++◌, Option, Some, None, Result, Ok, Err, refl, sym, ap, ◌∙◌, subst, arith}
+use Rattle.std.proofs.Common.{◌≡◌, ℕ, ◌≤◌, List, [], ◌∷◌, ◌++◌, Option, Some, None, Result, Ok, Err, refl, sym, ap, ◌∙◌}
+use Rattle.std.proofs.Common.{subst, arith}
 use Rattle.std.proofs.lemmas.List.{append-nil}
 use Rattle.std.proofs.lemmas.Result.{IfOk-weaker, on_ok_weaker, on_err_weaker, err_from_is_err_and}
 use Rattle.cw_base.specs.declared.event.Event.{Event}
@@ -25,19 +27,24 @@ use Rattle.cw_lines.specs.WritesLaws.{adds-nothing, puts-new, puts-new_compared}
 use Rattle.cw_lines.specs.declared.put_error.PutError.{PutError}
 use Rattle.cw_lines.specs.declared.put_error.PutError.TheVariants.{Memory}
 use Rattle.cw_run.specs.Emits.{Emits, EmitsBy, Faults, Run, Runs, RunsBy}
-use Rattle.cw_run.specs.Files.{IsBegun, OutFile, answered, begun, file_events, fresh, is_end, is_same, old_text, settled, settled_if}
+use Rattle.cw_run.specs.Files.{IsBegun, OutFile, answered, begun, file_events, fresh, is_end, is_same, old_text}
+use Rattle.cw_run.specs.Files.{settled, settled_if}
 
-is_err : {T E : Type 0} (result : Result T E) (error : E) → IsErrAnd result (λ found. found ≡ error) → result ≡ Err error
+is_err : {T E : Type 0} (result : Result T E) (error : E) → IsErrAnd result (λ found. found ≡ error)
+    → result ≡ Err error
 is_err result error is = let p = err_from_is_err_and result is in p.1 ∙ ap Err p.2
 
 rose-later : (a b c : ℕ) → a ≤ b → Rose b c → Rose a c
 rose-later a b c kept rose = grind arith
 
 -- a call that only prints
-pub adds-emits : {T : Type 0} {events : List Event} {a b : Told} {result : Result T PutError} → Adds events a b result → Emits events a b result
-adds-emits adds = record { ok = adds.ok; err = adds.err; same_files = adds.same.same_files; kept = adds.same.faults_kept; fault = adds.fault }
+pub adds-emits : {T : Type 0} {events : List Event} {a b : Told} {result : Result T PutError} → Adds events a b result
+    → Emits events a b result
+adds-emits adds = record { ok = adds.ok; err = adds.err; same_files = adds.same.same_files;
+    kept = adds.same.faults_kept; fault = adds.fault }
 
-pub writes-emits : {T : Type 0} {file : Option ℕ} {events : List Event} {a b : Told} {result : Result T PutError} → Writes file events a b result → Emits events a b result
+pub writes-emits : {T : Type 0} {file : Option ℕ} {events : List Event} {a b : Told} {result : Result T PutError}
+    → Writes file events a b result → Emits events a b result
 writes-emits writes = record {
   ok = writes.adds.ok;
   err = writes.adds.err;
@@ -47,11 +54,14 @@ writes-emits writes = record {
 }
 
 pub emits-none : {T : Type 0} (told : Told) (value : T) → Emits [] told told (Ok value)
-emits-none told value = record { ok = sym (grown-none told.journal); err = tt; same_files = refl; kept = omega arith; fault = λ e. cc }
+emits-none told value = record { ok = sym (grown-none told.journal); err = tt; same_files = refl; kept = omega arith;
+    fault = λ e. cc }
 
 -- another answer after the same events
-pub emits-value : {T U : Type 0} {events : List Event} {a b : Told} {value : T} (other : U) → Emits {T = T} events a b (Ok value) → Emits {T = U} events a b (Ok other)
-emits-value other done = record { ok = done.ok; err = tt; same_files = done.same_files; kept = done.kept; fault = λ e. cc }
+pub emits-value : {T U : Type 0} {events : List Event} {a b : Told} {value : T} (other : U)
+    → Emits {T = T} events a b (Ok value) → Emits {T = U} events a b (Ok other)
+emits-value other done = record { ok = done.ok; err = tt; same_files = done.same_files; kept = done.kept;
+    fault = λ e. cc }
 
 pub emits-then : {T U : Type 0} {first second : List Event} {a b c : Told} {value : T} {result : Result U PutError}
     → Emits {T = T} first a b (Ok value) → Emits second b c result → Emits (first ++ second) a c result
@@ -63,15 +73,20 @@ emits-then {first = first} {second = second} {a = a} {b = b} {c = c} {result = r
   fault = λ is. rose-later a.faults b.faults c.faults begun.kept (ended.fault is);
 }
 
-pub emits-stop : {T U : Type 0} {first : List Event} (second : List Event) {a b : Told} {error : PutError} {result : Result U PutError}
-    → Emits {T = T} first a b (Err error) → IsErrAnd result (λ found. found ≡ error) → Emits (first ++ second) a b result
+pub emits-stop : {T U : Type 0} {first : List Event} (second : List Event) {a b : Told} {error : PutError}
+    {result : Result U PutError}
+    → Emits {T = T} first a b (Err error) → IsErrAnd result (λ found. found ≡ error)
+        → Emits (first ++ second) a b result
 emits-stop {U = U} {first = first} second {a = a} {b = b} {error = error} {result = result} begun is =
     let stopped : Emits {T = U} (first ++ second) a b (Err error) =
-    record { ok = tt; err = part-first second begun.err; same_files = begun.same_files; kept = begun.kept; fault = λ e. begun.fault cc } in
+    record { ok = tt; err = part-first second begun.err; same_files = begun.same_files; kept = begun.kept;
+        fault = λ e. begun.fault cc } in
     subst (λ (r : Result U PutError). Emits (first ++ second) a b r) (sym (is_err result error is)) stopped
 
-pub emits-events : {T : Type 0} {first second : List Event} {a b : Told} {result : Result T PutError} → first ≡ second → Emits first a b result → Emits second a b result
-emits-events {a = a} {b = b} {result = result} same emits = subst (λ (events : List Event). Emits events a b result) same emits
+pub emits-events : {T : Type 0} {first second : List Event} {a b : Told} {result : Result T PutError} → first ≡ second
+    → Emits first a b result → Emits second a b result
+emits-events {a = a} {b = b} {result = result} same emits = subst (λ (events : List Event). Emits events a b result)
+    same emits
 
 -- the same failure of a call around it
 pub emits-fail : {T U : Type 0} {events : List Event} {a b : Told} {error : PutError} {result : Result U PutError}
@@ -79,55 +94,69 @@ pub emits-fail : {T U : Type 0} {events : List Event} {a b : Told} {error : PutE
 emits-fail {events = events} begun is = emits-events (append-nil events) (emits-stop [] begun is)
 
 -- memory was refused before anything was emitted
-pub emits-nothing : {T : Type 0} (events : List Event) (told : Told) {result : Result T PutError} → IsErrAnd result (λ found. found ≡ Memory) → Emits events told told result
+pub emits-nothing : {T : Type 0} (events : List Event) (told : Told) {result : Result T PutError}
+    → IsErrAnd result (λ found. found ≡ Memory) → Emits events told told result
 emits-nothing events told is = adds-emits (adds-nothing events told is (λ e. absurd cc))
 
 -- ## Faults alone
 
-pub emits-faults : {T : Type 0} {events : List Event} {a b : Told} {result : Result T PutError} → Emits events a b result → Faults a b result
+pub emits-faults : {T : Type 0} {events : List Event} {a b : Told} {result : Result T PutError}
+    → Emits events a b result → Faults a b result
 emits-faults done = record { kept = done.kept; fault = done.fault }
 
-pub faults-then : {T : Type 0} {a b c : Told} {result : Result T PutError} → a.faults ≤ b.faults → Faults b c result → Faults a c result
+pub faults-then : {T : Type 0} {a b c : Told} {result : Result T PutError} → a.faults ≤ b.faults → Faults b c result
+    → Faults a c result
 faults-then {a = a} {b = b} {c = c} kept done = record {
   kept = let x : b.faults ≤ c.faults = done.kept in omega arith;
   fault = λ is. rose-later a.faults b.faults c.faults kept (done.fault is);
 }
 
-faults-as : {T U : Type 0} {a b : Told} {error : PutError} {result : Result U PutError} → Faults {T = T} a b (Err error) → IsErrAnd result (λ found. found ≡ error) → Faults a b result
+faults-as : {T U : Type 0} {a b : Told} {error : PutError} {result : Result U PutError} → Faults {T = T} a b (Err error)
+    → IsErrAnd result (λ found. found ≡ error) → Faults a b result
 faults-as {U = U} {a = a} {b = b} {error = error} {result = result} done is =
     let refused : Faults {T = U} a b (Err error) = record { kept = done.kept; fault = λ e. done.fault cc } in
     subst (λ (r : Result U PutError). Faults a b r) (sym (is_err result error is)) refused
 
 -- ## Events that depend on the files
 
-pub emits-by : {T : Type 0} {events : List Event} {a b : Told} {result : Result T PutError} → Emits events a b result → EmitsBy (λ named. events) a b result
+pub emits-by : {T : Type 0} {events : List Event} {a b : Told} {result : Result T PutError} → Emits events a b result
+    → EmitsBy (λ named. events) a b result
 emits-by done = record { emits = λ files is. done; faults = emits-faults done }
 
-pub emits_by-then : {T U : Type 0} {first second : NamedFiles → List Event} {a b c : Told} {value : T} {result : Result U PutError}
-    → EmitsBy {T = T} first a b (Ok value) → EmitsBy second b c result → EmitsBy (λ named. first named ++ second named) a c result
+pub emits_by-then : {T U : Type 0} {first second : NamedFiles → List Event} {a b c : Told} {value : T}
+    {result : Result U PutError}
+    → EmitsBy {T = T} first a b (Ok value) → EmitsBy second b c result
+        → EmitsBy (λ named. first named ++ second named) a c result
 emits_by-then begun ended = record {
   emits = λ files is. let done = begun.emits files is in emits-then done (ended.emits files (done.same_files ∙ is));
   faults = faults-then begun.faults.kept ended.faults;
 }
 
-pub emits_by-stop : {T U : Type 0} {first : NamedFiles → List Event} (second : NamedFiles → List Event) {a b : Told} {error : PutError} {result : Result U PutError}
-    → EmitsBy {T = T} first a b (Err error) → IsErrAnd result (λ found. found ≡ error) → EmitsBy (λ named. first named ++ second named) a b result
+pub emits_by-stop : {T U : Type 0} {first : NamedFiles → List Event} (second : NamedFiles → List Event) {a b : Told}
+    {error : PutError} {result : Result U PutError}
+    → EmitsBy {T = T} first a b (Err error) → IsErrAnd result (λ found. found ≡ error)
+        → EmitsBy (λ named. first named ++ second named) a b result
 emits_by-stop second begun is = record {
   emits = λ files there. emits-stop _ (begun.emits files there) is;
   faults = faults-as begun.faults is;
 }
 
-pub emits_by-events : {T : Type 0} {first second : NamedFiles → List Event} {a b : Told} {result : Result T PutError} → ((named : NamedFiles) → first named ≡ second named)
+pub emits_by-events : {T : Type 0} {first second : NamedFiles → List Event} {a b : Told} {result : Result T PutError}
+    → ((named : NamedFiles) → first named ≡ second named)
     → EmitsBy first a b result → EmitsBy second a b result
-emits_by-events same done = record { emits = λ files is. emits-events (same (get files)) (done.emits files is); faults = done.faults }
+emits_by-events same done = record { emits = λ files is. emits-events (same (get files)) (done.emits files is);
+    faults = done.faults }
 
 -- the same failure of a call around it
-pub emits_by-fail : {T U : Type 0} {events : NamedFiles → List Event} {a b : Told} {error : PutError} {result : Result U PutError}
+pub emits_by-fail : {T U : Type 0} {events : NamedFiles → List Event} {a b : Told} {error : PutError}
+    {result : Result U PutError}
     → EmitsBy {T = T} events a b (Err error) → IsErrAnd result (λ found. found ≡ error) → EmitsBy events a b result
-emits_by-fail done is = record { emits = λ files there. emits-fail (done.emits files there) is; faults = faults-as done.faults is }
+emits_by-fail done is = record { emits = λ files there. emits-fail (done.emits files there) is;
+    faults = faults-as done.faults is }
 
 -- another answer after the same events
-pub emits_by-value : {T U : Type 0} {events : NamedFiles → List Event} {a b : Told} {value : T} (other : U) → EmitsBy {T = T} events a b (Ok value)
+pub emits_by-value : {T U : Type 0} {events : NamedFiles → List Event} {a b : Told} {value : T} (other : U)
+    → EmitsBy {T = T} events a b (Ok value)
     → EmitsBy {T = U} events a b (Ok other)
 emits_by-value other done = record {
   emits = λ files is. emits-value other (done.emits files is);
@@ -137,8 +166,10 @@ emits_by-value other done = record {
 -- ## An output file
 
 -- a call that begins or ends an output
-pub turns-emits : {done : Outputs} {event : Event} {a b : Told} (made : MadeOut) → Turns done event made a b → Emits (event ∷ []) a b (answered made)
-turns-emits Done turns = record { ok = turns.journal; err = tt; same_files = turns.same_files; kept = turns.faults_kept; fault = λ e. cc }
+pub turns-emits : {done : Outputs} {event : Event} {a b : Told} (made : MadeOut) → Turns done event made a b
+    → Emits (event ∷ []) a b (answered made)
+turns-emits Done turns = record { ok = turns.journal; err = tt; same_files = turns.same_files; kept = turns.faults_kept;
+    fault = λ e. cc }
 turns-emits Failed turns = record {
   ok = tt;
   err = part-same _ (turns.journal ∙ grown-none _);
@@ -155,15 +186,19 @@ turns-emits no_memory turns = record {
 }
 
 -- an output that was made or drafted can be written
-pub made-opens : (out : Out) {event : Event} {a b : Told} (made : MadeOut) → Turns (with_output out a.outputs) event made a b
+pub made-opens : (out : Out) {event : Event} {a b : Told} (made : MadeOut)
+    → Turns (with_output out a.outputs) event made a b
     → OnOk (answered made) (IsTrue (is_open b.outputs out))
-made-opens out {a = a} Done turns = subst (λ (outputs : Outputs). IsTrue (is_open outputs out)) (sym turns.outputs) (made-is_open out a.outputs)
+made-opens out {a = a} Done turns = subst (λ (outputs : Outputs). IsTrue (is_open outputs out)) (sym turns.outputs)
+    (made-is_open out a.outputs)
 made-opens out Failed turns = tt
 made-opens out no_memory turns = tt
 
-pub draft-opens : (out : Out) {event : Event} {a b : Told} (made : MadeOut) → Turns (with_draft out a.outputs) event made a b
+pub draft-opens : (out : Out) {event : Event} {a b : Told} (made : MadeOut)
+    → Turns (with_draft out a.outputs) event made a b
     → OnOk (answered made) (IsTrue (is_open b.outputs out))
-draft-opens out {a = a} Done turns = subst (λ (outputs : Outputs). IsTrue (is_open outputs out)) (sym turns.outputs) (drafted-is_open out a.outputs)
+draft-opens out {a = a} Done turns = subst (λ (outputs : Outputs). IsTrue (is_open outputs out)) (sym turns.outputs)
+    (drafted-is_open out a.outputs)
 draft-opens out Failed turns = tt
 draft-opens out no_memory turns = tt
 
@@ -173,9 +208,11 @@ drafted-has_draft Tex outputs file = refl
 drafted-has_draft Idx outputs file = refl
 drafted-has_draft Scn outputs file = refl
 
-pub draft-drafts : (out : Out) {event : Event} {a b : Told} (made : MadeOut) → out ≢ Term → Turns (with_draft out a.outputs) event made a b
+pub draft-drafts : (out : Out) {event : Event} {a b : Told} (made : MadeOut) → out ≢ Term
+    → Turns (with_draft out a.outputs) event made a b
     → OnOk (answered made) (IsTrue (has_draft b.outputs out))
-draft-drafts out {a = a} Done file turns = subst (λ (outputs : Outputs). IsTrue (has_draft outputs out)) (sym turns.outputs) (drafted-has_draft out a.outputs file)
+draft-drafts out {a = a} Done file turns = subst (λ (outputs : Outputs). IsTrue (has_draft outputs out))
+    (sym turns.outputs) (drafted-has_draft out a.outputs file)
 draft-drafts out Failed file turns = tt
 draft-drafts out no_memory file turns = tt
 
@@ -193,7 +230,8 @@ end-is false None is = refl
 end-is false (Some []) is = is.1 refl
 end-is false (Some (byte ∷ rest)) is = refl
 
-stripped-same : (same : Bool) (xs ys : List ℕ) → is_end (behind xs ys) ≡ bytes_eq xs ys → is_end (cond same (behind xs ys) None) ≡ (same && bytes_eq xs ys)
+stripped-same : (same : Bool) (xs ys : List ℕ) → is_end (behind xs ys) ≡ bytes_eq xs ys
+    → is_end (cond same (behind xs ys) None) ≡ (same && bytes_eq xs ys)
 stripped-same true xs ys is = is
 stripped-same false xs ys is = refl
 
@@ -208,15 +246,20 @@ pub end-same : (bytes : List ℕ) (old : Option (List ℕ)) → is_end (left_beh
 end-same bytes None = refl
 end-same bytes (Some text) = behind-same bytes text
 
-settled-same : (keep : Bool) (out : Out) (bytes : List ℕ) {rest : Option (List ℕ)} (old : Option (List ℕ)) → (IsTrue keep → rest ≡ left_behind bytes old)
+settled-same : (keep : Bool) (out : Out) (bytes : List ℕ) {rest : Option (List ℕ)} (old : Option (List ℕ))
+    → (IsTrue keep → rest ≡ left_behind bytes old)
     → settled_if keep (is_end rest) out ≡ settled_if keep (is_same old bytes) out
 settled-same false out bytes old is = refl
-settled-same true out bytes old is = ap (λ (same : Bool). settled same out ∷ []) (ap is_end (is refl) ∙ end-same bytes old)
+settled-same true out bytes old is = ap (λ (same : Bool). settled same out ∷ []) (ap is_end (is refl)
+    ∙ end-same bytes old)
 
 -- A file is begun, bytes are put to its lines, and it is ended.
-pub emits_by-file : {S T U : Type 0} (keep : Bool) (f : OutFile) {old new : LineState} {a b c d : Told} {lines : S} {value : T} {result : Result U PutError}
-    → Emits {T = S} (begun keep f.out f.name ∷ []) a b (Ok lines) → IsBegun keep f.out f.name old a b → Puts {T = T} f.bytes old new b c (Ok value)
-    → ((files : Files) → c.files ≡ Some files → Emits (settled_if keep (is_end (left c new.compared)) f.out) c d result) → Faults c d result
+pub emits_by-file : {S T U : Type 0} (keep : Bool) (f : OutFile) {old new : LineState} {a b c d : Told} {lines : S}
+    {value : T} {result : Result U PutError}
+    → Emits {T = S} (begun keep f.out f.name ∷ []) a b (Ok lines) → IsBegun keep f.out f.name old a b
+        → Puts {T = T} f.bytes old new b c (Ok value)
+    → ((files : Files) → c.files ≡ Some files → Emits (settled_if keep (is_end (left c new.compared)) f.out) c d result)
+        → Faults c d result
     → EmitsBy (file_events keep f) a d result
 emits_by-file keep f {old = old} {new = new} {b = b} {c = c} made is put ended faults =
     let lines = writes-emits (puts-new f.out is.line put) in
@@ -225,13 +268,17 @@ emits_by-file keep f {old = old} {new = new} {b = b} {c = c} made is put ended f
           let still : c.files ≡ Some files = lines.same_files ∙ made.same_files ∙ there in
           let bytes : List ℕ = written (cut f.bytes).lines in
           let rest : IsTrue keep → left c new.compared ≡ left_behind bytes (get files f.name) =
-          λ asked. (puts-new_compared f.out is.line put).rest files (made.same_files ∙ there) ∙ ap (left_behind bytes) (is.old files there asked) in
-          emits-then made (emits-then lines (emits-events (settled-same keep f.out bytes (get files f.name) rest) (ended files still)));
+          λ asked. (puts-new_compared f.out is.line put).rest files (made.same_files ∙ there)
+              ∙ ap (left_behind bytes) (is.old files there asked) in
+          emits-then made (emits-then lines (emits-events (settled-same keep f.out bytes (get files f.name) rest)
+              (ended files still)));
       faults = faults-then {b = b} made.kept (faults-then {b = c} lines.kept faults);
     }
 
-pub file-refused : {S T U : Type 0} (keep : Bool) (f : OutFile) {old new : LineState} {a b c : Told} {lines : S} {error : PutError} {result : Result U PutError}
-    → Emits {T = S} (begun keep f.out f.name ∷ []) a b (Ok lines) → IsBegun keep f.out f.name old a b → Puts {T = T} f.bytes old new b c (Err error)
+pub file-refused : {S T U : Type 0} (keep : Bool) (f : OutFile) {old new : LineState} {a b c : Told} {lines : S}
+    {error : PutError} {result : Result U PutError}
+    → Emits {T = S} (begun keep f.out f.name ∷ []) a b (Ok lines) → IsBegun keep f.out f.name old a b
+        → Puts {T = T} f.bytes old new b c (Err error)
     → IsErrAnd result (λ found. found ≡ error) → EmitsBy (file_events keep f) a c result
 file-refused keep f {b = b} made is put err =
     let lines = writes-emits (puts-new f.out is.line put) in
@@ -240,8 +287,10 @@ file-refused keep f {b = b} made is put err =
       faults = faults-then {b = b} made.kept (faults-as (emits-faults lines) err);
     }
 
-pub file-not_begun : {T U : Type 0} (keep : Bool) (f : OutFile) {a b : Told} {error : PutError} {result : Result U PutError}
-    → Emits {T = T} (begun keep f.out f.name ∷ []) a b (Err error) → IsErrAnd result (λ found. found ≡ error) → EmitsBy (file_events keep f) a b result
+pub file-not_begun : {T U : Type 0} (keep : Bool) (f : OutFile) {a b : Told} {error : PutError}
+    {result : Result U PutError}
+    → Emits {T = T} (begun keep f.out f.name ∷ []) a b (Err error) → IsErrAnd result (λ found. found ≡ error)
+        → EmitsBy (file_events keep f) a b result
 file-not_begun keep f made err = record {
   emits = λ files there. emits-stop _ made err;
   faults = faults-as (emits-faults made) err;
@@ -249,70 +298,89 @@ file-not_begun keep f made err = record {
 
 -- ## The same of runs
 
-pub runs-then : {T : Type 0} {first rest : List Event} {exit : Exit} {a b c : Told} {value : T} {result : Result Exit PutError}
-    → Emits {T = T} first a b (Ok value) → Runs (record { rest = rest; exit = exit }) b c result → Runs (record { rest = first ++ rest; exit = exit }) a c result
+pub runs-then : {T : Type 0} {first rest : List Event} {exit : Exit} {a b c : Told} {value : T}
+    {result : Result Exit PutError}
+    → Emits {T = T} first a b (Ok value) → Runs (record { rest = rest; exit = exit }) b c result
+        → Runs (record { rest = first ++ rest; exit = exit }) a c result
 runs-then begun ended = record { emits = emits-then begun ended.emits; exit = ended.exit }
 
-pub runs-stop : {T : Type 0} {first : List Event} (rest : List Event) (exit : Exit) {a b : Told} {error : PutError} {result : Result Exit PutError}
-    → Emits {T = T} first a b (Err error) → IsErrAnd result (λ found. found ≡ error) → Runs (record { rest = first ++ rest; exit = exit }) a b result
+pub runs-stop : {T : Type 0} {first : List Event} (rest : List Event) (exit : Exit) {a b : Told} {error : PutError}
+    {result : Result Exit PutError}
+    → Emits {T = T} first a b (Err error) → IsErrAnd result (λ found. found ≡ error)
+        → Runs (record { rest = first ++ rest; exit = exit }) a b result
 runs-stop rest exit {error = error} {result = result} begun is = record {
   emits = emits-stop rest begun is;
   exit = subst (λ (r : Result Exit PutError). IfOk r (λ e. e ≡ exit)) (sym (is_err result error is)) tt;
 }
 
 -- the same failure of a call around it
-pub runs-fail : {T : Type 0} {events : List Event} (exit : Exit) {a b : Told} {error : PutError} {result : Result Exit PutError}
-    → Emits {T = T} events a b (Err error) → IsErrAnd result (λ found. found ≡ error) → Runs (record { rest = events; exit = exit }) a b result
+pub runs-fail : {T : Type 0} {events : List Event} (exit : Exit) {a b : Told} {error : PutError}
+    {result : Result Exit PutError}
+    → Emits {T = T} events a b (Err error) → IsErrAnd result (λ found. found ≡ error)
+        → Runs (record { rest = events; exit = exit }) a b result
 runs-fail exit {error = error} {result = result} begun is = record {
   emits = emits-fail begun is;
   exit = subst (λ (r : Result Exit PutError). IfOk r (λ e. e ≡ exit)) (sym (is_err result error is)) tt;
 }
 
 -- memory was refused before anything was emitted
-pub runs-nothing : (run : Run) (told : Told) {result : Result Exit PutError} → IsErrAnd result (λ found. found ≡ Memory) → Runs run told told result
+pub runs-nothing : (run : Run) (told : Told) {result : Result Exit PutError} → IsErrAnd result (λ found. found ≡ Memory)
+    → Runs run told told result
 runs-nothing run told {result = result} is = record {
   emits = emits-nothing run.rest told is;
   exit = subst (λ (r : Result Exit PutError). IfOk r (λ e. e ≡ run.exit)) (sym (is_err result Memory is)) tt;
 }
 
 -- the events of a run, and its status
-pub runs-end : {T : Type 0} {events : List Event} {a b : Told} {value : T} (exit : Exit) → Emits {T = T} events a b (Ok value)
+pub runs-end : {T : Type 0} {events : List Event} {a b : Told} {value : T} (exit : Exit)
+    → Emits {T = T} events a b (Ok value)
     → Runs (record { rest = events; exit = exit }) a b (Ok exit)
 runs-end exit done = record { emits = emits-value exit done; exit = refl }
 
 -- the run that is known
-pub runs-known : {known run : Run} {a b : Told} {result : Result Exit PutError} → known ≡ run → Runs known a b result → Runs run a b result
+pub runs-known : {known run : Run} {a b : Told} {result : Result Exit PutError} → known ≡ run → Runs known a b result
+    → Runs run a b result
 runs-known {a = a} {b = b} {result = result} same runs = subst (λ (run : Run). Runs run a b result) same runs
 
 -- ## Runs whose events depend on the files
 
-pub runs-by : {run : Run} {a b : Told} {result : Result Exit PutError} → Runs run a b result → RunsBy (λ named. run) a b result
-runs-by {run = run} {result = result} runs = record { emits = emits-by runs.emits; exit = IfOk-weaker result (λ e. e ≡ run.exit) (λ e. (named : NamedFiles) → e ≡ run.exit) (λ e is named. is) runs.exit }
+pub runs-by : {run : Run} {a b : Told} {result : Result Exit PutError} → Runs run a b result
+    → RunsBy (λ named. run) a b result
+runs-by {run = run} {result = result} runs = record { emits = emits-by runs.emits; exit = IfOk-weaker result (λ e. e
+    ≡ run.exit) (λ e. (named : NamedFiles) → e ≡ run.exit) (λ e is named. is) runs.exit }
 
-pub runs_by-then : {T : Type 0} {first rest : NamedFiles → List Event} {exit : Exit} {a b c : Told} {value : T} {result : Result Exit PutError}
+pub runs_by-then : {T : Type 0} {first rest : NamedFiles → List Event} {exit : Exit} {a b c : Told} {value : T}
+    {result : Result Exit PutError}
     → EmitsBy {T = T} first a b (Ok value) → RunsBy (λ named. record { rest = rest named; exit = exit }) b c result
     → RunsBy (λ named. record { rest = first named ++ rest named; exit = exit }) a c result
 runs_by-then begun ended = record { emits = emits_by-then begun ended.emits; exit = ended.exit }
 
-pub runs_by-stop : {T : Type 0} {first : NamedFiles → List Event} (rest : NamedFiles → List Event) (exit : Exit) {a b : Told} {error : PutError} {result : Result Exit PutError}
+pub runs_by-stop : {T : Type 0} {first : NamedFiles → List Event} (rest : NamedFiles → List Event) (exit : Exit)
+    {a b : Told} {error : PutError} {result : Result Exit PutError}
     → EmitsBy {T = T} first a b (Err error) → IsErrAnd result (λ found. found ≡ error)
     → RunsBy (λ named. record { rest = first named ++ rest named; exit = exit }) a b result
 runs_by-stop rest exit {error = error} {result = result} begun is = record {
   emits = emits_by-stop rest begun is;
-  exit = subst (λ (r : Result Exit PutError). IfOk r (λ e. (named : NamedFiles) → e ≡ exit)) (sym (is_err result error is)) tt;
+  exit = subst (λ (r : Result Exit PutError). IfOk r (λ e. (named : NamedFiles) → e ≡ exit))
+      (sym (is_err result error is)) tt;
 }
 
 -- memory was refused before anything was emitted
-pub runs_by-nothing : (run : NamedFiles → Run) (told : Told) {result : Result Exit PutError} → IsErrAnd result (λ found. found ≡ Memory) → RunsBy run told told result
+pub runs_by-nothing : (run : NamedFiles → Run) (told : Told) {result : Result Exit PutError}
+    → IsErrAnd result (λ found. found ≡ Memory) → RunsBy run told told result
 runs_by-nothing run told {result = result} is = record {
-  emits = record { emits = λ files there. emits-nothing (run (get files)).rest told is; faults = emits-faults (emits-nothing [] told is) };
-  exit = subst (λ (r : Result Exit PutError). IfOk r (λ e. (named : NamedFiles) → e ≡ (run named).exit)) (sym (is_err result Memory is)) tt;
+  emits = record { emits = λ files there. emits-nothing (run (get files)).rest told is;
+      faults = emits-faults (emits-nothing [] told is) };
+  exit = subst (λ (r : Result Exit PutError). IfOk r (λ e. (named : NamedFiles) → e ≡ (run named).exit))
+      (sym (is_err result Memory is)) tt;
 }
 
 -- its status, whatever files there are
-pub runs_by-exit : {run : NamedFiles → Run} {a b : Told} {result : Result Exit PutError} (named : NamedFiles) → RunsBy run a b result → IfOk result (λ e. e ≡ (run named).exit)
+pub runs_by-exit : {run : NamedFiles → Run} {a b : Told} {result : Result Exit PutError} (named : NamedFiles)
+    → RunsBy run a b result → IfOk result (λ e. e ≡ (run named).exit)
 runs_by-exit {run = run} {result = result} named runs =
-    IfOk-weaker result (λ e. (named : NamedFiles) → e ≡ (run named).exit) (λ e. e ≡ (run named).exit) (λ e same. same named) runs.exit
+    IfOk-weaker result (λ e. (named : NamedFiles) → e ≡ (run named).exit) (λ e. e ≡ (run named).exit)
+        (λ e same. same named) runs.exit
 
 -- over the files that are told
 pub runs_by-over : {run : NamedFiles → Run} {a b : Told} {result : Result Exit PutError} → RunsBy run a b result
@@ -323,13 +391,17 @@ runs_by-over runs files is = record {
 }
 
 -- after a call that only reads
-pub runs-after : {run : Run} {a b c : Told} {result : Result Exit PutError} → OnlyReads a b → Runs run b c result → Runs run a c result
+pub runs-after : {run : Run} {a b c : Told} {result : Result Exit PutError} → OnlyReads a b → Runs run b c result
+    → Runs run a c result
 runs-after {run = run} {a = a} {b = b} {c = c} {result = result} read runs = record {
   emits = record {
-    ok = subst (λ (journal : Option (List Event)). OnOk result (c.journal ≡ grown journal run.rest)) read.same_journal runs.emits.ok;
-    err = subst (λ (journal : Option (List Event)). OnErr result (GrownByPart journal c.journal run.rest)) read.same_journal runs.emits.err;
+    ok = subst (λ (journal : Option (List Event)). OnOk result (c.journal ≡ grown journal run.rest)) read.same_journal
+        runs.emits.ok;
+    err = subst (λ (journal : Option (List Event)). OnErr result (GrownByPart journal c.journal run.rest))
+        read.same_journal runs.emits.err;
     same_files = runs.emits.same_files ∙ read.same_files;
-    kept = let x : a.faults ≤ b.faults = read.faults_kept in let y : b.faults ≤ c.faults = runs.emits.kept in omega arith;
+    kept = let x : a.faults ≤ b.faults = read.faults_kept in let y : b.faults ≤ c.faults = runs.emits.kept in
+        omega arith;
     fault = λ is. rose-later a.faults b.faults c.faults read.faults_kept (runs.emits.fault is);
   };
   exit = runs.exit;

@@ -1,5 +1,6 @@
 -- The output files of a run.
-use Rattle.std.specs.Prelude.{◌≡◌, ℕ, Bool, true, false, List, [], ◌∷◌, ◌++◌, Option, Some, None, Result, Ok, Err, IsTrue, length, map, bytes_eq}
+use Rattle.std.specs.Prelude.{◌≡◌, ℕ, Bool, true, false, List, [], ◌∷◌, ◌++◌, Option, Some, None, Result, Ok, Err}
+use Rattle.std.specs.Prelude.{IsTrue, length, map, bytes_eq}
 use Rattle.std.specs.FinMap.{get}
 use Rattle.std.specs.List.{flat_map}
 use Rattle.cw_base.specs.declared.event.Event.{Event}
@@ -46,7 +47,8 @@ abbrev pub is_same : Option (List ℕ) → List ℕ → Bool
 is_same None bytes = false
 is_same (Some old) bytes = bytes_eq bytes old
 
--- It is begun, and its lines are written; a draft of it ends as kept where the file of its name has just these lines, else as
+-- It is begun, and its lines are written; a draft of it ends as kept where the file of its name has just these lines,
+-- else as
 -- replaced.
 abbrev pub file_events : Bool → OutFile → NamedFiles → List Event
 file_events keep f named =
@@ -55,7 +57,8 @@ file_events keep f named =
 
 -- ## How it is begun and ended
 
--- An output was begun: nothing was put to its lines yet, and they may be written. Where it is a draft, the whole file of its name,
+-- An output was begun: nothing was put to its lines yet, and they may be written. Where it is a draft, the whole file
+-- of its name,
 -- if there is one, is left to compare.
 pub record IsBegun (keep : Bool) (out : Out) (name : List ℕ) (lines : LineState) (before now : Told) : Type 0 where
   pub line : lines.line ≡ new_line out

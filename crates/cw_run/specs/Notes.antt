@@ -1,10 +1,12 @@
 -- The notes of a run, as they are printed.
-use Rattle.std.specs.Prelude.{ℕ, Bool, true, false, List, [], ◌∷◌, ◌++◌, Option, Some, None, codes, slice_get, slice_index_or, decimal}
+use Rattle.std.specs.Prelude.{ℕ, Bool, true, false, List, [], ◌∷◌, ◌++◌, Option, Some, None, codes, slice_get}
+use Rattle.std.specs.Prelude.{slice_index_or, decimal}
 use Rattle.std.specs.List.{flat_map}
 use Rattle.cw_base.specs.declared.event.Event.{Event}
 use Rattle.cw_base.specs.declared.notes.Note.{Note}
 use Rattle.cw_base.specs.declared.notes.NoteKind.{NoteKind}
-use Rattle.cw_base.specs.declared.notes.NoteKind.TheVariants.{LinesDiffer, LineBroken, NameIncomplete, NeverDefined, NeverUsed}
+use Rattle.cw_base.specs.declared.notes.NoteKind.TheVariants.{LinesDiffer, LineBroken, NameIncomplete, NeverDefined}
+use Rattle.cw_base.specs.declared.notes.NoteKind.TheVariants.{NeverUsed}
 use Rattle.cw_base.specs.Notes.{message_of}
 use Rattle.cw_secnames.specs.Kept.{SecName}
 use Rattle.cw_run.specs.Saying.{says}
@@ -18,7 +20,8 @@ words_of kind value = message_of kind
 
 abbrev pub place_line : List (List ℕ) → Note → List ℕ
 place_line files note =
-    codes "! " ++ words_of note.kind note.value ++ codes " (l. " ++ decimal note.place.line ++ codes " of " ++ slice_index_or files note.place.file [] ++ codes ")"
+    codes "! " ++ words_of note.kind note.value ++ codes " (l. " ++ decimal note.place.line ++ codes " of "
+        ++ slice_index_or files note.place.file [] ++ codes ")"
 
 -- ## Notes on section names tell their texts
 
@@ -51,4 +54,5 @@ note_events files kept notes = flat_map (λ note. says (note_line files kept not
 -- ## Lines that had no good place to be cut
 
 abbrev pub broken_line : List ℕ → ℕ → List ℕ
-broken_line name number = codes "! " ++ message_of LineBroken ++ codes " (output l. " ++ decimal number ++ codes " of " ++ name ++ codes ")"
+broken_line name number = codes "! " ++ message_of LineBroken ++ codes " (output l. " ++ decimal number ++ codes " of "
+    ++ name ++ codes ")"

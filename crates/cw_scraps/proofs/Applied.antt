@@ -1,8 +1,10 @@
 -- One production as a whole.
-use Rattle.std.proofs.Common.{◌≡◌, ℕ, zero, suc, ◌+◌, ◌-◌, ◌<◌, ◌≤◌, true, List, [], ◌∷◌, ◌++◌, length, map, take, drop, set, Option, Some, None, unwrap_or, refl, sym, ap, ◌∙◌, arith}
+use Rattle.std.proofs.Common.{◌≡◌, ℕ, zero, suc, ◌+◌, ◌-◌, ◌<◌, ◌≤◌, true, List, [], ◌∷◌, ◌++◌, length, map, take, drop}
+use Rattle.std.proofs.Common.{set, Option, Some, None, unwrap_or, refl, sym, ap, ◌∙◌, arith}
 use Rattle.std.specs.List.{All, list_all}
 use Rattle.std.specs.Option.{option_to_list}
-use Rattle.std.proofs.lemmas.List.{map-append, drop-map, append_assoc, take_at, drop_at, take-append-drop, length-append, length-take, length-take-le, length-drop}
+use Rattle.std.proofs.lemmas.List.{map-append, drop-map, append_assoc, take_at, drop_at, take-append-drop}
+use Rattle.std.proofs.lemmas.List.{length-append, length-take, length-take-le, length-drop}
 use Rattle.std.proofs.lemmas.List.Elements.{All-drop}
 use Rattle.cw_base.specs.declared.category.Cat.TheVariants.{RawInt}
 use Rattle.cw_base.specs.declared.flags.Flags.{Flags}
@@ -13,7 +15,8 @@ use Rattle.cw_trees.specs.Joining.{Scrap}
 use Rattle.cw_table.specs.declared.types.Row.{Row}
 use Rattle.cw_table.specs.Fitting.{row_fits}
 use Rattle.cw_table.specs.Normal.{is_fine}
-use Rattle.cw_table.specs.Rewriting.{cats_of, new_scrap, search_in, reserved_at, named_right, named_scrap, rewrite_from, found_names, with_type, rewrite}
+use Rattle.cw_table.specs.Rewriting.{cats_of, new_scrap, search_in, reserved_at, named_right, named_scrap, rewrite_from}
+use Rattle.cw_table.specs.Rewriting.{found_names, with_type, rewrite}
 use Rattle.cw_table.proofs.Falling.{falls, Falls}
 use Rattle.cw_table.proofs.ScrapFacts.{at-length}
 use Rattle.cw_tokens.specs.declared.token.Token.{Token}
@@ -39,7 +42,8 @@ use Rattle.cw_scraps.proofs.Productions.{cats-same}
 use Rattle.cw_scraps.proofs.Reservings.{length-scraps}
 
 -- where a name is marked, the row names a scrap in which it is looked for
-pub marked-named : (named : Option ℕ) (scraps : List Scrap) (name : Option NameId) (id : NameId) (spare : ℕ) → ((k : ℕ) → named ≡ Some k → 0 < spare) → name ≡ found_name (search_in named scraps) → name ≡ Some id → 0 < spare
+pub marked-named : (named : Option ℕ) (scraps : List Scrap) (name : Option NameId) (id : NameId) (spare : ℕ)
+    → ((k : ℕ) → named ≡ Some k → 0 < spare) → name ≡ found_name (search_in named scraps) → name ≡ Some id → 0 < spare
 marked-named None scraps name id spare free is e = absurd (none (sym is ∙ e))
   where
     none : ◌≡◌ {A = Option NameId} None (Some id) → ⊥
@@ -51,8 +55,10 @@ map-none : (xs : List Scrap) → map (named_by None) xs ≡ xs
 map-none [] = refl
 map-none (x ∷ xs) = ap (λ ys. x ∷ ys) (map-none xs)
 
-pub unturned : (name : Option NameId) (xs : List Scrap) (start : ℕ) → name ≡ None → xs ≡ take start xs ++ map (named_by name) (drop start xs)
-unturned name xs start e = sym (ap (λ n. take start xs ++ map (named_by n) (drop start xs)) e ∙ (ap (λ ys. take start xs ++ ys) (map-none (drop start xs)) ∙ take-append-drop start xs))
+pub unturned : (name : Option NameId) (xs : List Scrap) (start : ℕ) → name ≡ None
+    → xs ≡ take start xs ++ map (named_by name) (drop start xs)
+unturned name xs start e = sym (ap (λ n. take start xs ++ map (named_by n) (drop start xs)) e
+    ∙ (ap (λ ys. take start xs ++ ys) (map-none (drop start xs)) ∙ take-append-drop start xs))
 
 right-is : (s : Search) (xs : List Scrap) → map (named_by (found_name s)) xs ≡ named_right s xs
 right-is (Found name) xs = same xs
@@ -64,8 +70,11 @@ right-is Stopped xs = map-none xs
 right-is Nothing xs = map-none xs
 
 -- the row fits the entries as it fits their scraps
-pub fits-line : (row : Row) (lists : List (List Token)) (line : List LineEntry) (place : ℕ) → row_fits row (drop place (cats_of (scraps_of lists line))) ≡ true → row_fits row (entry_cats (drop place line)) ≡ true
-fits-line row lists line place h = ap (row_fits row) (sym (ap (drop place) (cats-same lists line) ∙ drop-map (λ entry. entry.cat) place line)) ∙ h
+pub fits-line : (row : Row) (lists : List (List Token)) (line : List LineEntry) (place : ℕ)
+    → row_fits row (drop place (cats_of (scraps_of lists line))) ≡ true → row_fits row (entry_cats (drop place line))
+    ≡ true
+fits-line row lists line place h = ap (row_fits row) (sym (ap (drop place) (cats-same lists line)
+    ∙ drop-map (λ entry. entry.cat) place line)) ∙ h
 
 pub keeps-changed : (old new : List (List Token)) (rs : List ℕ) → IsTied old → Changes old new rs → Keeps old new rs rs
 keeps-changed old new rs tied ch = record {
@@ -84,22 +93,31 @@ keeps-trans a b d rs ss ts x y = record {
 }
 
 -- the new scrap stands in the line, so the scraps to the right begin in it
-pub right-inside : (flags : Flags) (row : Row) (place : ℕ) (lists : List (List Token)) (line : List LineEntry) (new : List (List Token)) (after : List LineEntry) → FitsAt flags row (drop place line) → Replaces flags row place lists line new after → place + row.offset + 1 ≤ length after
+pub right-inside : (flags : Flags) (row : Row) (place : ℕ) (lists : List (List Token)) (line : List LineEntry)
+    (new : List (List Token)) (after : List LineEntry) → FitsAt flags row (drop place line)
+    → Replaces flags row place lists line new after → place + row.offset + 1 ≤ length after
 right-inside flags row place lists line new after f r =
     let some : 1 ≤ row.replaced = f.some in
     let inside : row.offset + row.replaced ≤ length (drop place line) = f.inside in
     let count : length after + row.replaced ≡ length line + 1 = r.count in
     omega (arith, length-drop place line)
 
-pub record Applies (flags : Flags) (row : Row) (place : ℕ) (old : List (List Token)) (line : List LineEntry) (new : List (List Token)) (after : List LineEntry) : Type 0 where
-  pub scraps : scraps_of new after ≡ take place (scraps_of old line) ++ rewrite_from flags row (drop place (scraps_of old line))
+pub record Applies (flags : Flags) (row : Row) (place : ℕ) (old : List (List Token)) (line : List LineEntry)
+    (new : List (List Token)) (after : List LineEntry) : Type 0 where
+  pub scraps : scraps_of new after ≡ take place (scraps_of old line)
+      ++ rewrite_from flags row (drop place (scraps_of old line))
   pub roots : AreRoots new (roots_of after)
   pub keeps : Keeps old new (roots_of line) (roots_of after)
   pub few : token_count new ≤ token_count old + 24
 
-module _ (flags : Flags) (row : Row) (place : ℕ) (l0 l1 l2 l3 : List (List Token)) (line0 line1 line2 : List LineEntry) (reserved : Option NameId) (f : FitsAt flags row (drop place line0)) (tied : IsTied l0) (tied2 : IsTied l2)
-    (e1 : scraps_of l1 line0 ≡ take place (scraps_of l0 line0) ++ reserved_at row.action.reserve (drop place (scraps_of l0 line0))) (ch1 : Changes l0 l1 (roots_of line0)) (r : Replaces flags row place l1 line0 l2 line1)
-    (e3 : scraps_of l3 line2 ≡ take (place + row.offset + 1) (scraps_of l2 line1) ++ map (named_by reserved) (drop (place + row.offset + 1) (scraps_of l2 line1))) (same : roots_of line2 ≡ roots_of line1) (ch3 : Changes l2 l3 (roots_of line1))
+module _ (flags : Flags) (row : Row) (place : ℕ) (l0 l1 l2 l3 : List (List Token)) (line0 line1 line2 : List LineEntry)
+    (reserved : Option NameId) (f : FitsAt flags row (drop place line0)) (tied : IsTied l0) (tied2 : IsTied l2)
+    (e1 : scraps_of l1 line0 ≡ take place (scraps_of l0 line0) ++ reserved_at row.action.reserve
+        (drop place (scraps_of l0 line0))) (ch1 : Changes l0 l1 (roots_of line0))
+        (r : Replaces flags row place l1 line0 l2 line1)
+    (e3 : scraps_of l3 line2 ≡ take (place + row.offset + 1) (scraps_of l2 line1) ++ map (named_by reserved)
+        (drop (place + row.offset + 1) (scraps_of l2 line1))) (same : roots_of line2 ≡ roots_of line1)
+        (ch3 : Changes l2 l3 (roots_of line1))
     (name : reserved ≡ found_name (search_in row.action.reserve (drop place (scraps_of l0 line0)))) where
   abbrev front : List Scrap
   front = take place (scraps_of l0 line0)
@@ -111,10 +129,12 @@ module _ (flags : Flags) (row : Row) (place : ℕ) (l0 l1 l2 l3 : List (List Tok
   rest = drop (row.offset + row.replaced) (reserved_at row.action.reserve (drop place (scraps_of l0 line0)))
 
   front-length : length front ≡ place
-  front-length = length-take-le place (scraps_of l0 line0) (let h : place < length line0 = place-inside flags row line0 place f in omega (arith, length-scraps l0 line0))
+  front-length = length-take-le place (scraps_of l0 line0) (let h : place < length line0 = place-inside flags row line0
+      place f in omega (arith, length-scraps l0 line0))
 
   named-length : length named ≡ length (drop place line0)
-  named-length = at-length row.action.reserve (drop place (scraps_of l0 line0)) ∙ omega (arith, length-drop place (scraps_of l0 line0), length-drop place line0, length-scraps l0 line0)
+  named-length = at-length row.action.reserve (drop place (scraps_of l0 line0))
+      ∙ omega (arith, length-drop place (scraps_of l0 line0), length-drop place line0, length-scraps l0 line0)
 
   -- up to the new scrap
   abbrev head : List Scrap
@@ -132,25 +152,32 @@ module _ (flags : Flags) (row : Row) (place : ℕ) (l0 l1 l2 l3 : List (List Tok
   head-length : length head ≡ place + row.offset + 1
   head-length =
       let inside : row.offset + row.replaced ≤ length (drop place line0) = f.inside in
-      omega (arith, front-length, named-length, length-append front (take row.offset named ++ new_scrap flags row named ∷ []), length-append (take row.offset named) (new_scrap flags row named ∷ []), length-take row.offset named)
+      omega (arith, front-length, named-length, length-append front (take row.offset named ++ new_scrap flags row named
+          ∷ []), length-append (take row.offset named) (new_scrap flags row named ∷ []), length-take row.offset named)
 
   scraps-are : scraps_of l3 line2 ≡ front ++ rewrite_from flags row (drop place (scraps_of l0 line0))
   scraps-are =
       e3
-      ∙ (ap (λ xs. take (place + row.offset + 1) xs ++ map (named_by reserved) (drop (place + row.offset + 1) xs)) replaced-is
-      ∙ (ap (λ xs. xs ++ map (named_by reserved) (drop (place + row.offset + 1) (head ++ rest))) (take_at head rest (place + row.offset + 1) head-length)
+      ∙ (ap (λ xs. take (place + row.offset + 1) xs ++ map (named_by reserved) (drop (place + row.offset + 1) xs))
+          replaced-is
+      ∙ (ap (λ xs. xs ++ map (named_by reserved) (drop (place + row.offset + 1) (head ++ rest)))
+          (take_at head rest (place + row.offset + 1) head-length)
       ∙ (ap (λ xs. head ++ map (named_by reserved) xs) (drop_at head rest (place + row.offset + 1) head-length)
       ∙ (ap (λ n. head ++ map (named_by n) rest) name
       ∙ (ap (λ xs. head ++ xs) (right-is (search_in row.action.reserve (drop place (scraps_of l0 line0))) rest)
-      ∙ (append_assoc front (take row.offset named ++ new_scrap flags row named ∷ []) (named_right (search_in row.action.reserve (drop place (scraps_of l0 line0))) rest)
-      ∙ ap (λ xs. front ++ xs) (append_assoc (take row.offset named) (new_scrap flags row named ∷ []) (named_right (search_in row.action.reserve (drop place (scraps_of l0 line0))) rest))))))))
+      ∙ (append_assoc front (take row.offset named ++ new_scrap flags row named ∷ [])
+          (named_right (search_in row.action.reserve (drop place (scraps_of l0 line0))) rest)
+      ∙ ap (λ xs. front ++ xs) (append_assoc (take row.offset named) (new_scrap flags row named ∷ [])
+          (named_right (search_in row.action.reserve (drop place (scraps_of l0 line0))) rest))))))))
 
   pub applies : Applies flags row place l0 line0 l3 line2
   applies = record {
     scraps = scraps-are;
     roots = rw same (roots-stay l2 l3 (roots_of line1) (roots_of line1) ch3 r.roots);
-    keeps = rw same (keeps-trans l0 l1 l3 (roots_of line0) (roots_of line0) (roots_of line1) (keeps-changed l0 l1 (roots_of line0) tied ch1)
-        (keeps-trans l1 l2 l3 (roots_of line0) (roots_of line1) (roots_of line1) r.keeps (keeps-changed l2 l3 (roots_of line1) tied2 ch3)));
+    keeps = rw same (keeps-trans l0 l1 l3 (roots_of line0) (roots_of line0) (roots_of line1)
+        (keeps-changed l0 l1 (roots_of line0) tied ch1)
+        (keeps-trans l1 l2 l3 (roots_of line0) (roots_of line1) (roots_of line1) r.keeps
+            (keeps-changed l2 l3 (roots_of line1) tied2 ch3)));
     few =
         let more : token_count l2 ≤ token_count l1 + 24 = r.few in
         let before : token_count l1 ≡ token_count l0 = ch1.same_count in
@@ -159,13 +186,18 @@ module _ (flags : Flags) (row : Row) (place : ℕ) (l0 l1 l2 l3 : List (List Tok
   }
 
 -- the steps that were counted, where a row reserves
-pub ticked-is : (given reserve : Option ℕ) (line1 line2 : List LineEntry) (start start' steps steps' : ℕ) → given ≡ reserve → start ≡ start' → roots_of line2 ≡ roots_of line1 → steps' ≡ steps + looked_at given (length line1 - start) → steps' ≡ steps + looked_at reserve (length line2 - start')
+pub ticked-is : (given reserve : Option ℕ) (line1 line2 : List LineEntry) (start start' steps steps' : ℕ)
+    → given ≡ reserve → start ≡ start' → roots_of line2 ≡ roots_of line1
+    → steps' ≡ steps + looked_at given (length line1 - start)
+    → steps' ≡ steps + looked_at reserve (length line2 - start')
 ticked-is given reserve line1 line2 start start' steps steps' n s same e =
     let long : length line1 ≡ length line2 = sym (length-roots line1) ∙ (ap length (sym same) ∙ length-roots line2) in
-    e ∙ (ap (λ r. steps + looked_at r (length line1 - start)) n ∙ (ap (λ m. steps + looked_at reserve (m - start)) long ∙ ap (λ m. steps + looked_at reserve (length line2 - m)) s))
+    e ∙ (ap (λ r. steps + looked_at r (length line1 - start)) n ∙ (ap (λ m. steps + looked_at reserve (m - start)) long
+        ∙ ap (λ m. steps + looked_at reserve (length line2 - m)) s))
 
 -- the row of a number is the same in a table as among the productions
-pub same-row : (rows : List Row) (n : ℕ) (row : Row) → row_numbered rows n ≡ Some row → row_numbered productions n ≡ Some row → row_of rows n ≡ row_of productions n
+pub same-row : (rows : List Row) (n : ℕ) (row : Row) → row_numbered rows n ≡ Some row → row_numbered productions n
+    ≡ Some row → row_of rows n ≡ row_of productions n
 same-row rows n row a b = ap (λ (o : Option Row). unwrap_or o no_row) (a ∙ sym b)
 
 -- names and marks
@@ -174,16 +206,21 @@ some-found (Found name) id e = ap (λ (o : Option NameId). Found (elim o [ Some 
 some-found Stopped id e = absurd (let k : ◌≡◌ {A = Option NameId} None (Some id) = e in cc)
 some-found Nothing id e = absurd (let k : ◌≡◌ {A = Option NameId} None (Some id) = e in cc)
 
-pub reserved-there : (names : List Entry) (reserve : Option ℕ) (place : ℕ) (scraps : List Scrap) (reserved : Option NameId) (id : NameId) → All (λ scrap. IsNamedBelow (length names) scrap.tree) scraps → reserved ≡ found_name (search_in reserve (drop place scraps)) → reserved ≡ Some id → id.index < length names
+pub reserved-there : (names : List Entry) (reserve : Option ℕ) (place : ℕ) (scraps : List Scrap)
+    (reserved : Option NameId) (id : NameId) → All (λ scrap. IsNamedBelow (length names) scrap.tree) scraps → reserved
+    ≡ found_name (search_in reserve (drop place scraps)) → reserved ≡ Some id → id.index < length names
 reserved-there names reserve place scraps reserved id all is e =
-    search-named (length names) reserve (drop place scraps) id.index (All-drop (λ scrap. IsNamedBelow (length names) scrap.tree) place scraps all) (some-found (search_in reserve (drop place scraps)) id (sym is ∙ e))
+    search-named (length names) reserve (drop place scraps) id.index
+        (All-drop (λ scrap. IsNamedBelow (length names) scrap.tree) place scraps all)
+        (some-found (search_in reserve (drop place scraps)) id (sym is ∙ e))
 
 pub retyped-is : (s : Search) (names : List Entry) → retyped_by (found_name s) names ≡ retyped s names
 retyped-is (Found name) names = refl
 retyped-is Stopped names = refl
 retyped-is Nothing names = refl
 
-cats-retyped : (n : ℕ) (names : List Entry) → categories (with_category n RawInt names) ≡ set (categories names) n RawInt
+cats-retyped : (n : ℕ) (names : List Entry) → categories (with_category n RawInt names)
+    ≡ set (categories names) n RawInt
 cats-retyped n [] = refl
 cats-retyped zero (e ∷ names) = refl
 cats-retyped (suc n) (e ∷ names) = ap (λ cs. e.category ∷ cs) (cats-retyped n names)
@@ -209,22 +246,40 @@ marks-found Stopped = refl
 marks-found Nothing = refl
 
 -- the state as a whole
-pub state-is : (flags : Flags) (row : Row) (place : ℕ) (old : List (List Token)) (line : List LineEntry) (marks : MarkList) (names : List Entry) (new : List (List Token)) (after : List LineEntry) (marks' : MarkList) (names' : List Entry) (marked : Option NameId)
-    → Applies flags row place old line new after → marks'.names ≡ marks.names ++ option_to_list marked → marked ≡ found_name (search_in row.action.underline (drop place (scraps_of old line))) → names' ≡ retyped (search_in row.action.reserve (drop place (scraps_of old line))) names
+pub state-is : (flags : Flags) (row : Row) (place : ℕ) (old : List (List Token)) (line : List LineEntry)
+    (marks : MarkList) (names : List Entry) (new : List (List Token)) (after : List LineEntry) (marks' : MarkList)
+    (names' : List Entry) (marked : Option NameId)
+    → Applies flags row place old line new after → marks'.names ≡ marks.names ++ option_to_list marked
+        → marked ≡ found_name (search_in row.action.underline (drop place (scraps_of old line)))
+        → names' ≡ retyped (search_in row.action.reserve (drop place (scraps_of old line))) names
     → state_of new after marks' names' ≡ rewrite flags row place (state_of old line marks names)
 state-is flags row place old line marks names new after marks' names' marked a m n e =
     ap (λ ss. record { scraps = ss; marks = marked_names marks'; cats = categories names' }) a.scraps
-    ∙ (ap (λ ms. record { scraps = take place (scraps_of old line) ++ rewrite_from flags row (drop place (scraps_of old line)); marks = ms; cats = categories names' })
-    (ap (map (λ (id : NameId). id.index)) m ∙ (map-append (λ (id : NameId). id.index) marks.names (option_to_list marked) ∙ ap (λ xs. marked_names marks ++ xs) (ap (λ o. map (λ (id : NameId). id.index) (option_to_list o)) n ∙ marks-found (search_in row.action.underline (drop place (scraps_of old line))))))
-    ∙ ap (λ cs. record { scraps = take place (scraps_of old line) ++ rewrite_from flags row (drop place (scraps_of old line)); marks = marked_names marks ++ found_names (search_in row.action.underline (drop place (scraps_of old line))); cats = cs })
+    ∙ (ap (λ ms. record { scraps = take place (scraps_of old line)
+        ++ rewrite_from flags row (drop place (scraps_of old line)); marks = ms; cats = categories names' })
+    (ap (map (λ (id : NameId). id.index)) m
+        ∙ (map-append (λ (id : NameId). id.index) marks.names (option_to_list marked)
+        ∙ ap (λ xs. marked_names marks ++ xs) (ap (λ o. map (λ (id : NameId). id.index) (option_to_list o)) n
+        ∙ marks-found (search_in row.action.underline (drop place (scraps_of old line))))))
+    ∙ ap (λ cs. record { scraps = take place (scraps_of old line)
+        ++ rewrite_from flags row (drop place (scraps_of old line)); marks = marked_names marks
+        ++ found_names (search_in row.action.underline (drop place (scraps_of old line))); cats = cs })
     (ap categories e ∙ categories-are (search_in row.action.reserve (drop place (scraps_of old line))) names))
 
-pub sound-after : (flags : Flags) (row : Row) (place : ℕ) (old new : StoredLists) (line after : List LineEntry) (names names' : List Entry) → FitsAt flags row (drop place line) → row_fits row (drop place (cats_of (scraps_of old.lists line))) ≡ true
-    → IsSoundLine old names line → Applies flags row place old.lists line new.lists after → new.building ≡ None → names' ≡ retyped (search_in row.action.reserve (drop place (scraps_of old.lists line))) names → IsSoundLine new names' after
+pub sound-after : (flags : Flags) (row : Row) (place : ℕ) (old new : StoredLists) (line after : List LineEntry)
+    (names names' : List Entry) → FitsAt flags row (drop place line)
+    → row_fits row (drop place (cats_of (scraps_of old.lists line))) ≡ true
+    → IsSoundLine old names line → Applies flags row place old.lists line new.lists after → new.building ≡ None
+        → names' ≡ retyped (search_in row.action.reserve (drop place (scraps_of old.lists line))) names
+        → IsSoundLine new names' after
 sound-after flags row place old new line after names names' f fits sound a idle e =
-    let same : length names' ≡ length names = ap length e ∙ length-retyped (search_in row.action.reserve (drop place (scraps_of old.lists line))) names in
-    let short : place ≤ length (scraps_of old.lists line) = let h : place < length line = place-inside flags row line place f in omega (arith, length-scraps old.lists line) in
-    let fall : Falls flags row place (record { scraps = scraps_of old.lists line; marks = []; cats = [] }) = falls flags row place (record { scraps = scraps_of old.lists line; marks = []; cats = [] }) f.is_sound fits sound.fine short in
+    let same : length names' ≡ length names = ap length e
+        ∙ length-retyped (search_in row.action.reserve (drop place (scraps_of old.lists line))) names in
+    let short : place ≤ length (scraps_of old.lists line) = let h : place < length line =
+        place-inside flags row line place f in omega (arith, length-scraps old.lists line) in
+    let fall : Falls flags row place (record { scraps = scraps_of old.lists line; marks = []; cats = [] }) =
+        falls flags row place (record { scraps = scraps_of old.lists line; marks = []; cats = [] }) f.is_sound fits
+        sound.fine short in
     record {
       idle = idle;
       roots = a.roots;

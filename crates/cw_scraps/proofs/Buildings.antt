@@ -1,5 +1,6 @@
 -- One piece more goes into the list that is being built.
-use Rattle.std.proofs.Common.{◌≡◌, ℕ, zero, suc, ◌+◌, ◌-◌, ◌*◌, ◌<◌, ◌≤◌, List, [], ◌∷◌, ◌++◌, length, map, drop, get_or, Option, Some, None, inl, inr, refl, sym, ap, ◌∙◌, subst, option_map, arith}
+use Rattle.std.proofs.Common.{◌≡◌, ℕ, zero, suc, ◌+◌, ◌-◌, ◌*◌, ◌<◌, ◌≤◌, List, [], ◌∷◌, ◌++◌, length, map, drop}
+use Rattle.std.proofs.Common.{get_or, Option, Some, None, inl, inr, refl, sym, ap, ◌∙◌, subst, option_map, arith}
 use Rattle.std.proofs.lemmas.List.{append_assoc, append-nil, length-append, length_push, drop_more}
 use Rattle.std.proofs.lemmas.Option.{get_or_from_slice_get}
 use Rattle.std.specs.Prelude.{slice_get}
@@ -18,7 +19,8 @@ use Rattle.cw_tokens.proofs.Linking.{refers-more, pushed-ref}
 use Rattle.cw_scraps.specs.declared.line.LineEntry.{LineEntry}
 use Rattle.cw_scraps.specs.declared.pieces.Insert.{Insert}
 use Rattle.cw_scraps.specs.Lines.{no_entry, roots_of, AreRoots}
-use Rattle.cw_scraps.specs.Inserting.{math_insert, inserting, IsPieceWithin, toggle, toggled, tokens_of, left_of, right_after, IsRun}
+use Rattle.cw_scraps.specs.Inserting.{math_insert, inserting, IsPieceWithin, toggle, toggled, tokens_of, left_of}
+use Rattle.cw_scraps.specs.Inserting.{right_after, IsRun}
 use Rattle.cw_scraps.specs.Building.{Joins}
 
 pub root-entry : (es : List LineEntry) (k : ℕ) → get_or (roots_of es) k 0 ≡ (get_or es k no_entry).list.index
@@ -32,16 +34,21 @@ length-roots (e ∷ es) = ap suc (length-roots es)
 
 -- a list that is begun refers to nothing
 pub unreferred-begun : (lists : List (List Token)) (x : ℕ) → IsUnreferred lists x → IsUnreferred (lists ++ [] ∷ []) x
-unreferred-begun lists x free l p e = elim (refers-more lists [] l p x e) [ inl k ↦ free l p k | inr k ↦ absurd (empty k.1) ]
+unreferred-begun lists x free l p e = elim (refers-more lists [] l p x e) [ inl k ↦ free l p k
+    | inr k ↦ absurd (empty k.1) ]
   where
     empty : ◌≡◌ {A = Option ℕ} None (Some x) → ⊥
     empty k = cc
 
 -- a token that refers to another list, or to none
-pub unreferred-pushed : (lists : List (List Token)) (ts : List Token) (t : Token) (x : ℕ) → (ref_of (shape t) ≡ Some x → ⊥) → IsUnreferred (lists ++ ts ∷ []) x → IsUnreferred (lists ++ (ts ++ t ∷ []) ∷ []) x
-unreferred-pushed lists ts t x other free l p e = elim (pushed-ref lists ts t l p x e) [ inl k ↦ free l p k | inr k ↦ other k.2 ]
+pub unreferred-pushed : (lists : List (List Token)) (ts : List Token) (t : Token) (x : ℕ)
+    → (ref_of (shape t) ≡ Some x → ⊥) → IsUnreferred (lists ++ ts ∷ []) x
+    → IsUnreferred (lists ++ (ts ++ t ∷ []) ∷ []) x
+unreferred-pushed lists ts t x other free l p e = elim (pushed-ref lists ts t l p x e) [ inl k ↦ free l p k
+    | inr k ↦ other k.2 ]
 
-pub unreferred-toggled : (lists : List (List Token)) (ts : List Token) (mode left : MathMode) (x : ℕ) → IsUnreferred (lists ++ ts ∷ []) x → IsUnreferred (lists ++ (ts ++ toggle mode left) ∷ []) x
+pub unreferred-toggled : (lists : List (List Token)) (ts : List Token) (mode left : MathMode) (x : ℕ)
+    → IsUnreferred (lists ++ ts ∷ []) x → IsUnreferred (lists ++ (ts ++ toggle mode left) ∷ []) x
 unreferred-toggled lists ts Math Text x free = unreferred-pushed lists ts _ x (λ e. absurd (none e)) free
   where
     none : ◌≡◌ {A = Option ℕ} None (Some x) → ⊥
@@ -77,12 +84,17 @@ math-token token Math r = refl
 
 -- a piece is a scrap of the line or a sign
 pub data Kind (entries : List LineEntry) (p : Piece) : Type 0 where
-  scrap : (k : ℕ) → ((rest : List Piece) → scraps_in (p ∷ rest) ≡ k ∷ scraps_in rest) → ref_of (shape (inserting entries p).token) ≡ Some (get_or entries k no_entry).list.index → ((place count : ℕ) → place + k < count → IsPieceWithin place count p) → Kind entries p
-  sign : ((rest : List Piece) → scraps_in (p ∷ rest) ≡ scraps_in rest) → ref_of (shape (inserting entries p).token) ≡ None → ((place count : ℕ) → IsPieceWithin place count p) → Kind entries p
+  scrap : (k : ℕ) → ((rest : List Piece) → scraps_in (p ∷ rest) ≡ k ∷ scraps_in rest)
+      → ref_of (shape (inserting entries p).token) ≡ Some (get_or entries k no_entry).list.index
+      → ((place count : ℕ) → place + k < count → IsPieceWithin place count p) → Kind entries p
+  sign : ((rest : List Piece) → scraps_in (p ∷ rest) ≡ scraps_in rest) → ref_of (shape (inserting entries p).token)
+      ≡ None → ((place count : ℕ) → IsPieceWithin place count p) → Kind entries p
 
 pub kind : (entries : List LineEntry) (p : Piece) → Kind entries p
 kind entries (piece.Scrap k) = scrap k (λ rest. refl) refl (λ place count h. h)
-kind entries (piece.MathScrap k) = scrap k (λ rest. refl) (ap (λ t. ref_of (shape t)) (math-token (ListOf (get_or entries k no_entry).list) (get_or entries k no_entry).left (get_or entries k no_entry).right)) (λ place count h. h)
+kind entries (piece.MathScrap k) = scrap k (λ rest. refl)
+    (ap (λ t. ref_of (shape t)) (math-token (ListOf (get_or entries k no_entry).list) (get_or entries k no_entry).left
+    (get_or entries k no_entry).right)) (λ place count h. h)
 kind entries _ = sign (λ rest. refl) refl (λ place count. tt)
 
 -- the run goes on behind its first scrap
@@ -105,8 +117,10 @@ goes k first (suc m) rest e = record { fewer = m; more_is = refl; first_is = hea
     tail : k ∷ rest ≡ first ∷ numbers_from (suc first) m → rest ≡ numbers_from (suc first) m
     tail h = cc
 
-pub joins-start : (lists : List (List Token)) (entries : List LineEntry) (pieces : List Piece) (spare : ℕ) (store : StoredLists) → store.lists ≡ lists → store.building ≡ Some [] → store.spare + 1 ≡ spare
-    → IsRun pieces (length entries) → AreRoots lists (roots_of entries) → Joins lists entries pieces spare 0 Maybe Maybe store
+pub joins-start : (lists : List (List Token)) (entries : List LineEntry) (pieces : List Piece) (spare : ℕ)
+    (store : StoredLists) → store.lists ≡ lists → store.building ≡ Some [] → store.spare + 1 ≡ spare
+    → IsRun pieces (length entries) → AreRoots lists (roots_of entries)
+        → Joins lists entries pieces spare 0 Maybe Maybe store
 joins-start lists entries pieces spare store same is spent run roots = record {
   done = [];
   is = is;
@@ -118,19 +132,28 @@ joins-start lists entries pieces spare store same is spent run roots = record {
   left_is = refl;
   right_is = refl;
   rest = run;
-  fresh = λ k low high. unreferred-begun lists (get_or (roots_of entries) k 0) (roots.free k (let h : run.first + run.more ≤ length entries = run.within in omega (arith, length-roots entries)));
+  fresh = λ k low high. unreferred-begun lists (get_or (roots_of entries) k 0)
+      (roots.free k (let h : run.first + run.more ≤ length entries = run.within in
+      omega (arith, length-roots entries)));
 }
 
 -- What one turn asks, and what it leaves.
-pub record JoinsMore (lists : List (List Token)) (entries : List LineEntry) (pieces : List Piece) (spare i : ℕ) (left mode : MathMode) (p : Piece) (place count : ℕ) (toggled pushed : StoredLists) : Type 0 where
+pub record JoinsMore (lists : List (List Token)) (entries : List LineEntry) (pieces : List Piece) (spare i : ℕ)
+    (left mode : MathMode) (p : Piece) (place count : ℕ) (toggled pushed : StoredLists) : Type 0 where
   pub within : IsPieceWithin place count p
   pub may : MayBePushed toggled (inserting entries p).token
-  pub next : Joins lists entries pieces spare (i + 1) (first_mode left (inserting entries p).left) (after mode (inserting entries p).left (inserting entries p).right) pushed
+  pub next : Joins lists entries pieces spare (i + 1) (first_mode left (inserting entries p).left)
+      (after mode (inserting entries p).left (inserting entries p).right) pushed
 
-module _ (lists : List (List Token)) (entries : List LineEntry) (pieces : List Piece) (spare i : ℕ) (left mode : MathMode) (store : StoredLists) (j : Joins lists entries pieces spare i left mode store) (p : Piece)
-    (at : drop i pieces ≡ p ∷ drop (i + 1) pieces) (roots : AreRoots lists (roots_of entries)) (place count : ℕ) (long : count ≡ place + length entries) (toggled pushed : StoredLists)
-    (t_building : toggled.building ≡ option_map (λ tokens. tokens ++ toggle mode (inserting entries p).left) store.building) (t_lists : toggled.lists ≡ store.lists) (t_spare : toggled.spare + length (toggle mode (inserting entries p).left) ≡ store.spare)
-    (p_building : pushed.building ≡ option_map (λ tokens. tokens ++ (inserting entries p).token ∷ []) toggled.building) (p_lists : pushed.lists ≡ toggled.lists) (p_spare : pushed.spare + 1 ≡ toggled.spare) where
+module _ (lists : List (List Token)) (entries : List LineEntry) (pieces : List Piece) (spare i : ℕ)
+    (left mode : MathMode) (store : StoredLists) (j : Joins lists entries pieces spare i left mode store) (p : Piece)
+    (at : drop i pieces ≡ p ∷ drop (i + 1) pieces) (roots : AreRoots lists (roots_of entries)) (place count : ℕ)
+        (long : count ≡ place + length entries) (toggled pushed : StoredLists)
+    (t_building : toggled.building ≡ option_map (λ tokens. tokens ++ toggle mode (inserting entries p).left)
+        store.building) (t_lists : toggled.lists ≡ store.lists) (t_spare : toggled.spare
+        + length (toggle mode (inserting entries p).left) ≡ store.spare)
+    (p_building : pushed.building ≡ option_map (λ tokens. tokens ++ (inserting entries p).token ∷ []) toggled.building)
+        (p_lists : pushed.lists ≡ toggled.lists) (p_spare : pushed.spare + 1 ≡ toggled.spare) where
   abbrev ins : Insert
   ins = inserting entries p
 
@@ -147,10 +170,13 @@ module _ (lists : List (List Token)) (entries : List LineEntry) (pieces : List P
   all-lists x free = rw (toggled-is, t_lists, j.same) free
 
   -- what doesn't depend on the kind of the piece
-  tokens-next : (with_toggle ++ ins.token ∷ []) ++ tokens_of (after mode ins.left ins.right) (map (inserting entries) (drop (i + 1) pieces)) ≡ tokens_of Maybe (map (inserting entries) pieces)
+  tokens-next : (with_toggle ++ ins.token ∷ []) ++ tokens_of (after mode ins.left ins.right)
+      (map (inserting entries) (drop (i + 1) pieces)) ≡ tokens_of Maybe (map (inserting entries) pieces)
   tokens-next =
-      append_assoc with_toggle (ins.token ∷ []) (tokens_of (after mode ins.left ins.right) (map (inserting entries) (drop (i + 1) pieces)))
-      ∙ (append_assoc j.done (toggle mode ins.left) (ins.token ∷ tokens_of (after mode ins.left ins.right) (map (inserting entries) (drop (i + 1) pieces)))
+      append_assoc with_toggle (ins.token ∷ []) (tokens_of (after mode ins.left ins.right)
+          (map (inserting entries) (drop (i + 1) pieces)))
+      ∙ (append_assoc j.done (toggle mode ins.left) (ins.token ∷ tokens_of (after mode ins.left ins.right)
+          (map (inserting entries) (drop (i + 1) pieces)))
       ∙ (ap (λ ps. j.done ++ tokens_of mode (map (inserting entries) ps)) (sym at) ∙ j.tokens))
 
   first-first : (a b d : MathMode) → first_mode (first_mode a b) d ≡ first_mode a (first_mode b d)
@@ -158,10 +184,13 @@ module _ (lists : List (List Token)) (entries : List LineEntry) (pieces : List P
   first-first Text b d = refl
   first-first Math b d = refl
 
-  left-next : first_mode (first_mode left ins.left) (left_of (map (inserting entries) (drop (i + 1) pieces))) ≡ left_of (map (inserting entries) pieces)
-  left-next = first-first left ins.left (left_of (map (inserting entries) (drop (i + 1) pieces))) ∙ (ap (λ ps. first_mode left (left_of (map (inserting entries) ps))) (sym at) ∙ j.left_is)
+  left-next : first_mode (first_mode left ins.left) (left_of (map (inserting entries) (drop (i + 1) pieces)))
+      ≡ left_of (map (inserting entries) pieces)
+  left-next = first-first left ins.left (left_of (map (inserting entries) (drop (i + 1) pieces)))
+      ∙ (ap (λ ps. first_mode left (left_of (map (inserting entries) ps))) (sym at) ∙ j.left_is)
 
-  right-next : right_after (after mode ins.left ins.right) (map (inserting entries) (drop (i + 1) pieces)) ≡ right_after Maybe (map (inserting entries) pieces)
+  right-next : right_after (after mode ins.left ins.right) (map (inserting entries) (drop (i + 1) pieces))
+      ≡ right_after Maybe (map (inserting entries) pieces)
   right-next = ap (λ ps. right_after mode (map (inserting entries) ps)) (sym at) ∙ j.right_is
 
   few-next : (n : ℕ) → i ≡ n → length (with_toggle ++ ins.token ∷ []) ≤ 2 * (i + 1) - 1
@@ -171,12 +200,15 @@ module _ (lists : List (List Token)) (entries : List LineEntry) (pieces : List P
       omega (arith, length_push with_toggle ins.token, length-append j.done (toggle mode ins.left), ap length none)
   few-next (suc n) e =
       let short : length j.done ≤ 2 * i - 1 = j.few in
-      omega (arith, length_push with_toggle ins.token, length-append j.done (toggle mode ins.left), toggle-short mode ins.left)
+      omega (arith, length_push with_toggle ins.token, length-append j.done (toggle mode ins.left),
+          toggle-short mode ins.left)
 
   spent-next : pushed.spare + length (with_toggle ++ ins.token ∷ []) + 1 ≡ spare
-  spent-next = let s : store.spare + length j.done + 1 ≡ spare = j.spent in omega (arith, length_push with_toggle ins.token, length-append j.done (toggle mode ins.left))
+  spent-next = let s : store.spare + length j.done + 1 ≡ spare =
+      j.spent in omega (arith, length_push with_toggle ins.token, length-append j.done (toggle mode ins.left))
 
-  next-with : (run : IsRun (drop (i + 1) pieces) (length entries)) → ((k : ℕ) → run.first ≤ k → k < run.first + run.more → IsUnreferred (lists ++ (with_toggle ++ ins.token ∷ []) ∷ []) (get_or (roots_of entries) k 0))
+  next-with : (run : IsRun (drop (i + 1) pieces) (length entries)) → ((k : ℕ) → run.first ≤ k → k < run.first + run.more
+      → IsUnreferred (lists ++ (with_toggle ++ ins.token ∷ []) ∷ []) (get_or (roots_of entries) k 0))
       → Joins lists entries pieces spare (i + 1) (first_mode left ins.left) (after mode ins.left ins.right) pushed
   next-with run free = record {
     done = with_toggle ++ ins.token ∷ [];
@@ -192,8 +224,10 @@ module _ (lists : List (List Token)) (entries : List LineEntry) (pieces : List P
     fresh = free;
   }
 
-  still-free : (k : ℕ) → j.rest.first ≤ k → k < j.rest.first + j.rest.more → IsUnreferred (lists ++ with_toggle ∷ []) (get_or (roots_of entries) k 0)
-  still-free k low high = unreferred-toggled lists j.done mode ins.left (get_or (roots_of entries) k 0) (j.fresh k low high)
+  still-free : (k : ℕ) → j.rest.first ≤ k → k < j.rest.first + j.rest.more
+      → IsUnreferred (lists ++ with_toggle ∷ []) (get_or (roots_of entries) k 0)
+  still-free k low high = unreferred-toggled lists j.done mode ins.left (get_or (roots_of entries) k 0)
+      (j.fresh k low high)
 
   pub joins-more : JoinsMore lists entries pieces spare i left mode p place count toggled pushed
   joins-more = go (kind entries p)
@@ -206,15 +240,18 @@ module _ (lists : List (List Token)) (entries : List LineEntry) (pieces : List P
 
       go : Kind entries p → JoinsMore lists entries pieces spare i left mode p place count toggled pushed
       go (sign skip ref within) =
-          let run : scraps_in (drop (i + 1) pieces) ≡ numbers_from j.rest.first j.rest.more = sym (ap scraps_in at ∙ skip (drop (i + 1) pieces)) ∙ j.rest.run in
+          let run : scraps_in (drop (i + 1) pieces) ≡ numbers_from j.rest.first j.rest.more =
+              sym (ap scraps_in at ∙ skip (drop (i + 1) pieces)) ∙ j.rest.run in
           record {
             within = within place count;
             may = λ x e. absurd (none-some x (sym ref ∙ e));
             next = next-with (record { first = j.rest.first; more = j.rest.more; run = run; within = j.rest.within })
-                (λ k low high. unreferred-pushed lists with_toggle ins.token (get_or (roots_of entries) k 0) (λ e. none-some (get_or (roots_of entries) k 0) (sym ref ∙ e)) (still-free k low high));
+                (λ k low high. unreferred-pushed lists with_toggle ins.token (get_or (roots_of entries) k 0)
+                    (λ e. none-some (get_or (roots_of entries) k 0) (sym ref ∙ e)) (still-free k low high));
           }
       go (scrap k skip ref within) =
-          let g : Goes k j.rest.first j.rest.more (scraps_in (drop (i + 1) pieces)) = goes k j.rest.first j.rest.more (scraps_in (drop (i + 1) pieces)) (sym (ap scraps_in at ∙ skip (drop (i + 1) pieces)) ∙ j.rest.run) in
+          let g : Goes k j.rest.first j.rest.more (scraps_in (drop (i + 1) pieces)) = goes k j.rest.first j.rest.more
+              (scraps_in (drop (i + 1) pieces)) (sym (ap scraps_in at ∙ skip (drop (i + 1) pieces)) ∙ j.rest.run) in
           let first : k ≡ j.rest.first = g.first_is in
           let more : j.rest.more ≡ suc g.fewer = g.more_is in
           let all : j.rest.first + j.rest.more ≤ length entries = j.rest.within in
@@ -224,52 +261,73 @@ module _ (lists : List (List Token)) (entries : List LineEntry) (pieces : List P
           record {
             within = within place count (omega arith);
             may = λ x e.
-                let same : (get_or entries k no_entry).list.index ≡ x = some-is (get_or entries k no_entry).list.index x (sym ref ∙ e) in
+                let same : (get_or entries k no_entry).list.index ≡ x =
+                    some-is (get_or entries k no_entry).list.index x (sym ref ∙ e) in
                 let is : get_or (roots_of entries) k 0 ≡ x = root ∙ same in (
                   subst (λ y. y < length toggled.lists) is (rw (t_lists, j.same) (roots.there k in_roots)),
-                  all-lists x (subst (λ y. IsUnreferred (lists ++ with_toggle ∷ []) y) is (still-free k (omega arith) (omega arith))),
+                  all-lists x (subst (λ y. IsUnreferred (lists ++ with_toggle ∷ []) y) is
+                      (still-free k (omega arith) (omega arith))),
                 );
             next = next-with (record { first = suc j.rest.first; more = g.fewer; run = g.run; within = omega arith })
                 (λ m low high.
                 let in_m : m < length (roots_of entries) = omega (arith, length-roots entries) in
                 unreferred-pushed lists with_toggle ins.token (get_or (roots_of entries) m 0)
                 (λ e.
-                let same : (get_or entries k no_entry).list.index ≡ get_or (roots_of entries) m 0 = some-is (get_or entries k no_entry).list.index (get_or (roots_of entries) m 0) (sym ref ∙ e) in
+                let same : (get_or entries k no_entry).list.index ≡ get_or (roots_of entries) m 0 =
+                    some-is (get_or entries k no_entry).list.index (get_or (roots_of entries) m 0) (sym ref ∙ e) in
                 let twice : k ≡ m = roots.apart k m in_roots in_m (root ∙ same) in
                 omega arith)
                 (still-free m (omega arith) (omega arith)));
           }
 
-pub joins-put : (lists : List (List Token)) (entries : List LineEntry) (pieces : List Piece) (spare i : ℕ) (left mode : MathMode) (store : StoredLists) → Joins lists entries pieces spare i left mode store → (p : Piece)
-    → drop i pieces ≡ p ∷ drop (i + 1) pieces → AreRoots lists (roots_of entries) → 2 ≤ store.spare → MayBePushed (toggled mode (inserting entries p).left store) (inserting entries p).token
+pub joins-put : (lists : List (List Token)) (entries : List LineEntry) (pieces : List Piece) (spare i : ℕ)
+    (left mode : MathMode) (store : StoredLists) → Joins lists entries pieces spare i left mode store → (p : Piece)
+    → drop i pieces ≡ p ∷ drop (i + 1) pieces → AreRoots lists (roots_of entries) → 2 ≤ store.spare
+        → MayBePushed (toggled mode (inserting entries p).left store) (inserting entries p).token
 joins-put lists entries pieces spare i left mode store j p at roots room =
     let short : length (toggle mode (inserting entries p).left) ≤ 1 = toggle-short mode (inserting entries p).left in
     let before : StoredLists = toggled mode (inserting entries p).left store in
-    let pushed : StoredLists = record { lists = before.lists; building = option_map (λ tokens. tokens ++ (inserting entries p).token ∷ []) before.building; spare = before.spare - 1 } in
-    (joins-more lists entries pieces spare i left mode store j p at roots 0 (0 + length entries) refl before pushed refl refl (omega arith) refl refl (omega arith)).may
+    let pushed : StoredLists = record { lists = before.lists;
+        building = option_map (λ tokens. tokens ++ (inserting entries p).token ∷ []) before.building; spare =
+        before.spare - 1 } in
+    (joins-more lists entries pieces spare i left mode store j p at roots 0 (0 + length entries) refl before pushed refl
+        refl (omega arith) refl refl (omega arith)).may
 
-pub joins-next : (lists : List (List Token)) (entries : List LineEntry) (pieces : List Piece) (spare i : ℕ) (left mode : MathMode) (store : StoredLists) → Joins lists entries pieces spare i left mode store → (p : Piece)
+pub joins-next : (lists : List (List Token)) (entries : List LineEntry) (pieces : List Piece) (spare i : ℕ)
+    (left mode : MathMode) (store : StoredLists) → Joins lists entries pieces spare i left mode store → (p : Piece)
     → drop i pieces ≡ p ∷ drop (i + 1) pieces → AreRoots lists (roots_of entries) → (new : StoredLists)
-    → new.building ≡ option_map (λ tokens. tokens ++ (inserting entries p).token ∷ []) (toggled mode (inserting entries p).left store).building → new.lists ≡ store.lists
+    → new.building ≡ option_map (λ tokens. tokens ++ (inserting entries p).token ∷ [])
+        (toggled mode (inserting entries p).left store).building → new.lists ≡ store.lists
     → new.spare + 1 + length (toggle mode (inserting entries p).left) ≡ store.spare
-    → Joins lists entries pieces spare (i + 1) (first_mode left (inserting entries p).left) (after mode (inserting entries p).left (inserting entries p).right) new
+    → Joins lists entries pieces spare (i + 1) (first_mode left (inserting entries p).left)
+        (after mode (inserting entries p).left (inserting entries p).right) new
 joins-next lists entries pieces spare i left mode store j p at roots new nb nl ns =
-    (joins-more lists entries pieces spare i left mode store j p at roots 0 (0 + length entries) refl (toggled mode (inserting entries p).left store) new refl refl (omega arith) nb nl (omega arith)).next
+    (joins-more lists entries pieces spare i left mode store j p at roots 0 (0 + length entries) refl
+        (toggled mode (inserting entries p).left store) new refl refl (omega arith) nb nl (omega arith)).next
 
-pub joins-within : (lists : List (List Token)) (entries : List LineEntry) (pieces : List Piece) (spare i : ℕ) (left mode : MathMode) (store : StoredLists) → Joins lists entries pieces spare i left mode store → (p : Piece)
-    → drop i pieces ≡ p ∷ drop (i + 1) pieces → AreRoots lists (roots_of entries) → (place count : ℕ) → count ≡ place + length entries → 2 ≤ store.spare → IsPieceWithin place count p
+pub joins-within : (lists : List (List Token)) (entries : List LineEntry) (pieces : List Piece) (spare i : ℕ)
+    (left mode : MathMode) (store : StoredLists) → Joins lists entries pieces spare i left mode store → (p : Piece)
+    → drop i pieces ≡ p ∷ drop (i + 1) pieces → AreRoots lists (roots_of entries) → (place count : ℕ)
+        → count ≡ place + length entries → 2 ≤ store.spare → IsPieceWithin place count p
 joins-within lists entries pieces spare i left mode store j p at roots place count long room =
     let short : length (toggle mode (inserting entries p).left) ≤ 1 = toggle-short mode (inserting entries p).left in
-    let toggled : StoredLists = record { lists = store.lists; building = option_map (λ tokens. tokens ++ toggle mode (inserting entries p).left) store.building; spare = store.spare - length (toggle mode (inserting entries p).left) } in
-    let pushed : StoredLists = record { lists = toggled.lists; building = option_map (λ tokens. tokens ++ (inserting entries p).token ∷ []) toggled.building; spare = toggled.spare - 1 } in
-    (joins-more lists entries pieces spare i left mode store j p at roots place count long toggled pushed refl refl (omega arith) refl refl (omega arith)).within
+    let toggled : StoredLists = record { lists = store.lists;
+        building = option_map (λ tokens. tokens ++ toggle mode (inserting entries p).left) store.building; spare =
+        store.spare - length (toggle mode (inserting entries p).left) } in
+    let pushed : StoredLists = record { lists = toggled.lists;
+        building = option_map (λ tokens. tokens ++ (inserting entries p).token ∷ []) toggled.building; spare =
+        toggled.spare - 1 } in
+    (joins-more lists entries pieces spare i left mode store j p at roots place count long toggled pushed refl refl
+        (omega arith) refl refl (omega arith)).within
 
 -- the piece of a number
-pub piece-at : (ps : List Piece) (i : ℕ) (p : Piece) → i < length ps → slice_get ps i ≡ Some p → drop i ps ≡ p ∷ drop (i + 1) ps
+pub piece-at : (ps : List Piece) (i : ℕ) (p : Piece) → i < length ps → slice_get ps i ≡ Some p → drop i ps
+    ≡ p ∷ drop (i + 1) ps
 piece-at ps i p h at = drop_more ps i p h ∙ ap (λ q. q ∷ drop (i + 1) ps) (get_or_from_slice_get ps i p p at)
 
 -- a list that is done
-pub record JoinsEnd (lists : List (List Token)) (entries : List LineEntry) (pieces : List Piece) (spare : ℕ) (left mode : MathMode) (store : StoredLists) : Type 0 where
+pub record JoinsEnd (lists : List (List Token)) (entries : List LineEntry) (pieces : List Piece) (spare : ℕ)
+    (left mode : MathMode) (store : StoredLists) : Type 0 where
   pub built : store.building ≡ Some (tokens_of Maybe (map (inserting entries) pieces))
   pub left_is : left ≡ left_of (map (inserting entries) pieces)
   pub right_is : mode ≡ right_after Maybe (map (inserting entries) pieces)

@@ -1,5 +1,6 @@
 -- Steps that change no reference.
-use Rattle.std.proofs.Common.{◌≡◌, ℕ, zero, suc, ◌<◌, ◌≤◌, List, [], ◌∷◌, length, get_or, None, inl, inr, refl, sym, ap, ◌∙◌, subst, arith}
+use Rattle.std.proofs.Common.{◌≡◌, ℕ, zero, suc, ◌<◌, ◌≤◌, List, [], ◌∷◌, length, get_or, None, inl, inr, refl, sym, ap}
+use Rattle.std.proofs.Common.{◌∙◌, subst, arith}
 use Rattle.cw_tokens.specs.declared.token.Token.{Token}
 use Rattle.cw_tokens.specs.Shapes.{unfolded}
 use Rattle.cw_tokens.specs.References.{refers, IsTied, Reach, here, next}
@@ -11,11 +12,13 @@ use Rattle.cw_scraps.specs.declared.line.LineEntry.{LineEntry}
 use Rattle.cw_scraps.specs.Lines.{seen, AreRoots, IsOutside}
 use Rattle.cw_scraps.specs.Changing.{Changes}
 
-pub reach-same : (old new : List (List Token)) → ((l p : ℕ) → refers new l p ≡ refers old l p) → (a b : ℕ) → Reach old a b → Reach new a b
+pub reach-same : (old new : List (List Token)) → ((l p : ℕ) → refers new l p ≡ refers old l p) → (a b : ℕ)
+    → Reach old a b → Reach new a b
 reach-same old new same a b here = here
 reach-same old new same a b (next l p n e r) = next l p b (same l p ∙ e) (reach-same old new same a l r)
 
-pub reach-back : (old new : List (List Token)) → ((l p : ℕ) → refers new l p ≡ refers old l p) → (a b : ℕ) → Reach new a b → Reach old a b
+pub reach-back : (old new : List (List Token)) → ((l p : ℕ) → refers new l p ≡ refers old l p) → (a b : ℕ)
+    → Reach new a b → Reach old a b
 reach-back old new same a b r = reach-same new old (λ l p. sym (same l p)) a b r
 
 pub tied-same : (old new : List (List Token)) → ((l p : ℕ) → refers new l p ≡ refers old l p) → IsTied old → IsTied new
@@ -26,19 +29,22 @@ tied-same old new same t = record {
 
 pub roots-stay : (old new : List (List Token)) (rs ts : List ℕ) → Changes old new ts → AreRoots old rs → AreRoots new rs
 roots-stay old new rs ts ch r = record {
-  there = λ i h. let a : get_or rs i 0 < length old = r.there i h in let e : length new ≡ length old = ch.same_length in omega arith;
+  there = λ i h. let a : get_or rs i 0 < length old = r.there i h in let e : length new ≡ length old = ch.same_length in
+      omega arith;
   free = λ i h l p e. r.free i h l p (sym (ch.same_refs l p) ∙ e);
   apart = r.apart;
 }
 
-pub outside-stay : (old new : List (List Token)) (rs ts : List ℕ) (k : ℕ) → Changes old new ts → IsOutside old rs k → IsOutside new rs k
+pub outside-stay : (old new : List (List Token)) (rs ts : List ℕ) (k : ℕ) → Changes old new ts → IsOutside old rs k
+    → IsOutside new rs k
 outside-stay old new rs ts k ch o = record {
   there = let a : k < length old = o.there in let e : length new ≡ length old = ch.same_length in omega arith;
   above = λ i h r. o.above i h (reach-back old new ch.same_refs k (get_or rs i 0) r);
   below = λ i h r. o.below i h (reach-back old new ch.same_refs (get_or rs i 0) k r);
 }
 
-pub outside-reach : (ls : List (List Token)) (rs : List ℕ) (k j : ℕ) → IsTied ls → IsOutside ls rs k → Reach ls k j → IsOutside ls rs j
+pub outside-reach : (ls : List (List Token)) (rs : List ℕ) (k j : ℕ) → IsTied ls → IsOutside ls rs k → Reach ls k j
+    → IsOutside ls rs j
 outside-reach ls rs k j tied o r = record {
   there = let a : k < length ls = o.there in let b : j ≤ k = reach-le ls k j tied r in omega arith;
   above = λ i h s. o.above i h (reach-trans ls k j (get_or rs i 0) r s);
@@ -46,8 +52,10 @@ outside-reach ls rs k j tied o r = record {
 }
 
 -- a tree outside stays
-pub trees-outside : (old new : List (List Token)) (rs : List ℕ) (k : ℕ) → IsTied old → Changes old new rs → IsOutside old rs k → unfolded new k ≡ unfolded old k
-trees-outside old new rs k tied ch o = sym (unfolded-same old new k tied (tied-same old new ch.same_refs tied) (sym ch.same_length) (λ j r. sym (ch.others j (outside-reach old rs k j tied o r))))
+pub trees-outside : (old new : List (List Token)) (rs : List ℕ) (k : ℕ) → IsTied old → Changes old new rs
+    → IsOutside old rs k → unfolded new k ≡ unfolded old k
+trees-outside old new rs k tied ch o = sym (unfolded-same old new k tied (tied-same old new ch.same_refs tied)
+    (sym ch.same_length) (λ j r. sym (ch.others j (outside-reach old rs k j tied o r))))
 
 pub changes-none : (ls : List (List Token)) (rs : List ℕ) → Changes ls ls rs
 changes-none ls rs = record { others = λ k o. refl; same_length = refl; same_refs = λ l p. refl; same_count = refl }
@@ -60,35 +68,45 @@ changes-trans a b d rs x y = record {
   same_count = y.same_count ∙ x.same_count;
 }
 
-pub changes-more : (old new : List (List Token)) (rs : List ℕ) (i : ℕ) → i < length rs → Changes old new (get_or rs i 0 ∷ []) → Changes old new rs
+pub changes-more : (old new : List (List Token)) (rs : List ℕ) (i : ℕ) → i < length rs
+    → Changes old new (get_or rs i 0 ∷ []) → Changes old new rs
 changes-more old new rs i h ch = record {
-  others = λ k o. ch.others k (record { there = o.there; above = λ j g r. o.above i h (one j g r); below = λ j g r. o.below i h (two j g r) });
+  others = λ k o. ch.others k (record { there = o.there; above = λ j g r. o.above i h (one j g r);
+      below = λ j g r. o.below i h (two j g r) });
   same_length = ch.same_length;
   same_refs = ch.same_refs;
   same_count = ch.same_count;
 }
   where
-    one : {k : ℕ} (j : ℕ) → j < length (get_or rs i 0 ∷ []) → Reach old k (get_or (get_or rs i 0 ∷ []) j 0) → Reach old k (get_or rs i 0)
+    one : {k : ℕ} (j : ℕ) → j < length (get_or rs i 0 ∷ []) → Reach old k (get_or (get_or rs i 0 ∷ []) j 0)
+        → Reach old k (get_or rs i 0)
     one zero g r = r
     one (suc j) g r = absurd (omega arith)
 
-    two : {k : ℕ} (j : ℕ) → j < length (get_or rs i 0 ∷ []) → Reach old (get_or (get_or rs i 0 ∷ []) j 0) k → Reach old (get_or rs i 0) k
+    two : {k : ℕ} (j : ℕ) → j < length (get_or rs i 0 ∷ []) → Reach old (get_or (get_or rs i 0 ∷ []) j 0) k
+        → Reach old (get_or rs i 0) k
     two zero g r = r
     two (suc j) g r = absurd (omega arith)
 
 -- one root stands in the tree of no other
-pub root-outside : (ls : List (List Token)) (rs : List ℕ) (i m : ℕ) → IsTied ls → AreRoots ls rs → i < length rs → m < length rs → (m ≡ i → ⊥) → IsOutside ls (get_or rs i 0 ∷ []) (get_or rs m 0)
+pub root-outside : (ls : List (List Token)) (rs : List ℕ) (i m : ℕ) → IsTied ls → AreRoots ls rs → i < length rs
+    → m < length rs → (m ≡ i → ⊥) → IsOutside ls (get_or rs i 0 ∷ []) (get_or rs m 0)
 root-outside ls rs i m tied roots hi hm apart = record {
   there = roots.there m hm;
-  above = λ j g r. apart (roots.apart m i hm hi (unreferred-reach ls tied (get_or rs m 0) (get_or rs i 0) (roots.free i hi) (one j g r)));
-  below = λ j g r. apart (roots.apart m i hm hi (sym (unreferred-reach ls tied (get_or rs i 0) (get_or rs m 0) (roots.free m hm) (two j g r))));
+  above = λ j g r. apart (roots.apart m i hm hi (unreferred-reach ls tied (get_or rs m 0) (get_or rs i 0)
+      (roots.free i hi) (one j g r)));
+  below = λ j g r. apart
+      (roots.apart m i hm hi (sym (unreferred-reach ls tied (get_or rs i 0) (get_or rs m 0) (roots.free m hm)
+      (two j g r))));
 }
   where
-    one : (j : ℕ) → j < length (get_or rs i 0 ∷ []) → Reach ls (get_or rs m 0) (get_or (get_or rs i 0 ∷ []) j 0) → Reach ls (get_or rs m 0) (get_or rs i 0)
+    one : (j : ℕ) → j < length (get_or rs i 0 ∷ []) → Reach ls (get_or rs m 0) (get_or (get_or rs i 0 ∷ []) j 0)
+        → Reach ls (get_or rs m 0) (get_or rs i 0)
     one zero g r = r
     one (suc j) g r = absurd (omega arith)
 
-    two : (j : ℕ) → j < length (get_or rs i 0 ∷ []) → Reach ls (get_or (get_or rs i 0 ∷ []) j 0) (get_or rs m 0) → Reach ls (get_or rs i 0) (get_or rs m 0)
+    two : (j : ℕ) → j < length (get_or rs i 0 ∷ []) → Reach ls (get_or (get_or rs i 0 ∷ []) j 0) (get_or rs m 0)
+        → Reach ls (get_or rs i 0) (get_or rs m 0)
     two zero g r = r
     two (suc j) g r = absurd (omega arith)
 
@@ -101,7 +119,8 @@ reserves-changes old new root r = record {
 }
 
 -- what is seen of an entry
-pub seen-same : (old new : List (List Token)) (e : LineEntry) → unfolded new e.list.index ≡ unfolded old e.list.index → seen new e ≡ seen old e
+pub seen-same : (old new : List (List Token)) (e : LineEntry) → unfolded new e.list.index ≡ unfolded old e.list.index
+    → seen new e ≡ seen old e
 seen-same old new e h = ap (λ t. record { cat = e.cat; tree = t; left = e.left; right = e.right }) h
 
 pub tied-idle : (s : StoredLists) → s.building ≡ None → IsTied (all_lists s) → IsTied s.lists

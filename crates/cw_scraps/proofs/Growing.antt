@@ -1,5 +1,6 @@
 -- A new list takes the place of some roots, to which it refers.
-use Rattle.std.proofs.Common.{◌≡◌, ℕ, ◌+◌, ◌<◌, ◌≤◌, List, [], ◌∷◌, ◌++◌, length, map, take, drop, get_or, Some, ◌⊎◌, inl, inr, refl, sym, ap, ◌∙◌, subst, arith}
+use Rattle.std.proofs.Common.{◌≡◌, ℕ, ◌+◌, ◌<◌, ◌≤◌, List, [], ◌∷◌, ◌++◌, length, map, take, drop, get_or, Some, ◌⊎◌}
+use Rattle.std.proofs.Common.{inl, inr, refl, sym, ap, ◌∙◌, subst, arith}
 use Rattle.std.specs.List.{slice_get}
 use Rattle.std.proofs.lemmas.List.{length_push, map-append, take-map, drop-map, drop_more, take-append-drop}
 use Rattle.cw_tokens.specs.declared.token.Token.{Token}
@@ -17,7 +18,8 @@ pub record FromRoot (rs : List ℕ) (at n x : ℕ) : Type 0 where
   pub below_n : place < n
   pub is : x ≡ get_or rs place 0
 
-module _ (old : List (List Token)) (ts : List Token) (rs : List ℕ) (at n : ℕ) (order : at ≤ n) (fits : n ≤ length rs) (tied : IsTied old) (roots : AreRoots old rs)
+module _ (old : List (List Token)) (ts : List Token) (rs : List ℕ) (at n : ℕ) (order : at ≤ n) (fits : n ≤ length rs)
+    (tied : IsTied old) (roots : AreRoots old rs)
     (refs : (p x : ℕ) → token_ref (slice_get ts p) ≡ Some x → FromRoot rs at n x) where
   abbrev new : List (List Token)
   new = old ++ ts ∷ []
@@ -29,7 +31,8 @@ module _ (old : List (List Token)) (ts : List Token) (rs : List ℕ) (at n : ℕ
   old-ref l p x h e = sym (refers-old old ts l p h) ∙ e
 
   -- what a list refers to is an earlier one, or one of the roots
-  pub refers-cases : (l p x : ℕ) → refers new l p ≡ Some x → (refers old l p ≡ Some x) ⊎ ((l ≡ length old) × FromRoot rs at n x)
+  pub refers-cases : (l p x : ℕ) → refers new l p ≡ Some x → (refers old l p ≡ Some x)
+      ⊎ ((l ≡ length old) × FromRoot rs at n x)
   refers-cases l p x e = elim (refers-more old ts l p x e) [ inl k ↦ inl k | inr k ↦ inr (k.0, refs p x k.1) ]
 
   root-below : (i : ℕ) → i < n → get_or rs i 0 < length old
@@ -47,7 +50,8 @@ module _ (old : List (List Token)) (ts : List Token) (rs : List ℕ) (at n : ℕ
       | mid a f ↦ free-new l p (e ∙ ap Some f)
       | high j a b f s ↦ free-root j b (inr a) l p (e ∙ ap Some f)
     ];
-    apart = λ i j hi hj e. same i j (splice rs at n (length old) i order fits hi) (splice rs at n (length old) j order fits hj) e;
+    apart = λ i j hi hj e. same i j (splice rs at n (length old) i order fits hi)
+        (splice rs at n (length old) j order fits hj) e;
   }
     where
       free-root : (i : ℕ) → i < length rs → (i < at) ⊎ (n ≤ i) → (l p : ℕ) → refers new l p ≡ Some (get_or rs i 0) → ⊥
@@ -63,7 +67,8 @@ module _ (old : List (List Token)) (ts : List Token) (rs : List ℕ) (at n : ℕ
 
       free-new : (l p : ℕ) → refers new l p ≡ Some (length old) → ⊥
       free-new l p e = elim (refers-cases l p (length old) e) [
-        | inl k ↦ (let a : length old < l = tied.earlier l p (length old) k in let b : l < length old = refers-within old l p (length old) k in omega arith)
+        | inl k ↦ (let a : length old < l = tied.earlier l p (length old) k in
+            let b : l < length old = refers-within old l p (length old) k in omega arith)
         | inr k ↦
             let f : FromRoot rs at n (length old) = k.1 in
             let b : get_or rs f.place 0 < length old = root-below f.place f.below_n in
@@ -71,17 +76,25 @@ module _ (old : List (List Token)) (ts : List Token) (rs : List ℕ) (at n : ℕ
             omega arith
       ]
 
-      same : (i j : ℕ) → Spliced rs at n (length old) i (get_or (spliced rs at n (length old)) i 0) → Spliced rs at n (length old) j (get_or (spliced rs at n (length old)) j 0)
+      same : (i j : ℕ) → Spliced rs at n (length old) i (get_or (spliced rs at n (length old)) i 0)
+          → Spliced rs at n (length old) j (get_or (spliced rs at n (length old)) j 0)
           → get_or (spliced rs at n (length old)) i 0 ≡ get_or (spliced rs at n (length old)) j 0 → i ≡ j
       same i j (low a e) (low b f) q = roots.apart i j (omega arith) (omega arith) (sym e ∙ (q ∙ f))
-      same i j (low a e) (mid b f) q = let h : get_or rs i 0 < length old = root-below i (omega arith) in let k : get_or rs i 0 ≡ length old = sym e ∙ (q ∙ f) in absurd (omega arith)
-      same i j (low a e) (high v b w f s) q = let k : i ≡ v = roots.apart i v (omega arith) w (sym e ∙ (q ∙ f)) in absurd (omega arith)
-      same i j (mid a e) (low b f) q = let h : get_or rs j 0 < length old = root-below j (omega arith) in let k : get_or rs j 0 ≡ length old = sym f ∙ (sym q ∙ e) in absurd (omega arith)
+      same i j (low a e) (mid b f) q = let h : get_or rs i 0 < length old = root-below i (omega arith) in
+          let k : get_or rs i 0 ≡ length old = sym e ∙ (q ∙ f) in absurd (omega arith)
+      same i j (low a e) (high v b w f s) q = let k : i ≡ v = roots.apart i v (omega arith) w (sym e ∙ (q ∙ f)) in
+          absurd (omega arith)
+      same i j (mid a e) (low b f) q = let h : get_or rs j 0 < length old = root-below j (omega arith) in
+          let k : get_or rs j 0 ≡ length old = sym f ∙ (sym q ∙ e) in absurd (omega arith)
       same i j (mid a e) (mid b f) q = omega arith
-      same i j (mid a e) (high v b w f s) q = let h : get_or rs v 0 < length old = roots.there v w in let k : get_or rs v 0 ≡ length old = sym f ∙ (sym q ∙ e) in absurd (omega arith)
-      same i j (high u a w e s) (low b f) q = let k : u ≡ j = roots.apart u j w (omega arith) (sym e ∙ (q ∙ f)) in absurd (omega arith)
-      same i j (high u a w e s) (mid b f) q = let h : get_or rs u 0 < length old = roots.there u w in let k : get_or rs u 0 ≡ length old = sym e ∙ (q ∙ f) in absurd (omega arith)
-      same i j (high u a w e s) (high v b x f t) q = let k : u ≡ v = roots.apart u v w x (sym e ∙ (q ∙ f)) in omega arith
+      same i j (mid a e) (high v b w f s) q = let h : get_or rs v 0 < length old = roots.there v w in
+          let k : get_or rs v 0 ≡ length old = sym f ∙ (sym q ∙ e) in absurd (omega arith)
+      same i j (high u a w e s) (low b f) q = let k : u ≡ j = roots.apart u j w (omega arith) (sym e ∙ (q ∙ f)) in
+          absurd (omega arith)
+      same i j (high u a w e s) (mid b f) q = let h : get_or rs u 0 < length old = roots.there u w in
+          let k : get_or rs u 0 ≡ length old = sym e ∙ (q ∙ f) in absurd (omega arith)
+      same i j (high u a w e s) (high v b x f t) q = let k : u ≡ v = roots.apart u v w x (sym e ∙ (q ∙ f)) in
+          omega arith
 
   reach-old : (a b : ℕ) → a < length old → Reach new a b → Reach old a b
   reach-old a b h here = here
@@ -91,7 +104,8 @@ module _ (old : List (List Token)) (ts : List Token) (rs : List ℕ) (at n : ℕ
       next l p b (old-ref l p b (omega arith) e) back
 
   -- from the new list the way goes on from one of its roots
-  reach-first : (k : ℕ) → Reach new (length old) k → (k ≡ length old) ⊎ ((i : ℕ) × (at ≤ i) × (i < n) × Reach new (get_or rs i 0) k)
+  reach-first : (k : ℕ) → Reach new (length old) k
+      → (k ≡ length old) ⊎ ((i : ℕ) × (at ≤ i) × (i < n) × Reach new (get_or rs i 0) k)
   reach-first k here = inl refl
   reach-first k (next l p m e r) = elim (reach-first l r) [
     | inl d ↦ elim (refers-cases l p k e) [
@@ -114,10 +128,12 @@ module _ (old : List (List Token)) (ts : List Token) (rs : List ℕ) (at n : ℕ
       | high j a b e s ↦ o.above j b (reach-old k (get_or rs j 0) o.there (subst (λ x. Reach new k x) e r))
     ];
     below = λ i h r. elim (splice rs at n (length old) i order fits h) [
-      | low a e ↦ o.below i (omega arith) (reach-old (get_or rs i 0) k (root-below i (omega arith)) (subst (λ x. Reach new x k) e r))
+      | low a e ↦ o.below i (omega arith) (reach-old (get_or rs i 0) k (root-below i (omega arith))
+          (subst (λ x. Reach new x k) e r))
       | mid a e ↦ elim (reach-first k (subst (λ x. Reach new x k) e r)) [
         | inl d ↦ (let t : k < length old = o.there in omega arith)
-        | inr s ↦ o.below s.0 (let u : s.0 < n = s.2 in omega arith) (reach-old (get_or rs s.0 0) k (root-below s.0 s.2) s.3)
+        | inr s ↦ o.below s.0 (let u : s.0 < n = s.2 in omega arith) (reach-old (get_or rs s.0 0) k (root-below s.0 s.2)
+            s.3)
       ]
       | high j a b e s ↦ o.below j b (reach-old (get_or rs j 0) k (roots.there j b) (subst (λ x. Reach new x k) e r))
     ];
@@ -127,16 +143,20 @@ module _ (old : List (List Token)) (ts : List Token) (rs : List ℕ) (at n : ℕ
   pub grown-free : (k : ℕ) → IsOutside old rs k → IsUnreferred old k → IsUnreferred new k
   grown-free k o u l p e = elim (refers-cases l p k e) [
     | inl q ↦ u l p q
-    | inr q ↦ o.below q.1.place (let h : q.1.place < n = q.1.below_n in omega arith) (subst (λ x. Reach old x k) q.1.is here)
+    | inr q ↦ o.below q.1.place (let h : q.1.place < n = q.1.below_n in omega arith)
+        (subst (λ x. Reach old x k) q.1.is here)
   ]
 
 -- the lists of a line in which entries are replaced
-pub roots-replaced : (line : List LineEntry) (at n : ℕ) (made : LineEntry) → roots_of (take at line ++ made ∷ drop n line) ≡ spliced (roots_of line) at n made.list.index
+pub roots-replaced : (line : List LineEntry) (at n : ℕ) (made : LineEntry)
+    → roots_of (take at line ++ made ∷ drop n line) ≡ spliced (roots_of line) at n made.list.index
 roots-replaced line at n made =
     map-append (λ entry. entry.list.index) (take at line) (made ∷ drop n line)
-    ∙ (ap (λ xs. xs ++ made.list.index ∷ map (λ entry. entry.list.index) (drop n line)) (sym (take-map (λ entry. entry.list.index) at line))
+    ∙ (ap (λ xs. xs ++ made.list.index ∷ map (λ entry. entry.list.index) (drop n line))
+        (sym (take-map (λ entry. entry.list.index) at line))
     ∙ ap (λ xs. take at (roots_of line) ++ made.list.index ∷ xs) (sym (drop-map (λ entry. entry.list.index) n line)))
 
 -- where a root takes its own place nothing changes
 pub same-spliced : (rs : List ℕ) (at x : ℕ) → at < length rs → x ≡ get_or rs at 0 → spliced rs at (at + 1) x ≡ rs
-same-spliced rs at x h e = ap (λ y. take at rs ++ y ∷ drop (at + 1) rs) e ∙ (ap (λ ys. take at rs ++ ys) (sym (drop_more rs at 0 h)) ∙ take-append-drop at rs)
+same-spliced rs at x h e = ap (λ y. take at rs ++ y ∷ drop (at + 1) rs) e
+    ∙ (ap (λ ys. take at rs ++ ys) (sym (drop_more rs at 0 h)) ∙ take-append-drop at rs)

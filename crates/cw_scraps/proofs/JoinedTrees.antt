@@ -1,9 +1,11 @@
 -- The tokens of a new list have the joined tree.
-use Rattle.std.proofs.Common.{◌≡◌, ℕ, suc, ◌+◌, ◌≤◌, List, [], ◌∷◌, ◌++◌, length, map, get_or, refl, sym, ap, ◌∙◌, arith}
+use Rattle.std.proofs.Common.{◌≡◌, ℕ, suc, ◌+◌, ◌≤◌, List, [], ◌∷◌, ◌++◌, length, map, get_or, refl, sym, ap, ◌∙◌}
+use Rattle.std.proofs.Common.{arith}
 use Rattle.cw_base.specs.declared.mode.MathMode.{MathMode}
 use Rattle.cw_base.specs.declared.mode.MathMode.TheVariants.{Text, Math, Maybe}
 use Rattle.cw_trees.specs.Tree.{Sign, Tree, Then, Sub}
-use Rattle.cw_trees.specs.Joining.{Scrap, no_scrap, Joined, Whole, Mark, needs, after, first_mode, toggled, joined_tree, joined_left, joined_right}
+use Rattle.cw_trees.specs.Joining.{Scrap, no_scrap, Joined, Whole, Mark, needs, after, first_mode, toggled, joined_tree}
+use Rattle.cw_trees.specs.Joining.{joined_left, joined_right}
 use Rattle.cw_table.specs.declared.types.Piece.{Piece}
 use Rattle.cw_table.specs.declared.types.Piece.TheVariants as piece
 use Rattle.cw_table.specs.Sound.{scraps_in, numbers_from}
@@ -36,7 +38,8 @@ pub record Matches (trees : List Tree) (i : Insert) (j : Joined) : Type 0 where
   pub left : i.left ≡ left_mode j
   pub right : i.right ≡ right_mode j
 
-toggle-tree : (trees : List Tree) (mode left : MathMode) (ts : List Token) → tree_in trees (toggle mode left ++ ts) ≡ toggled mode left (tree_in trees ts)
+toggle-tree : (trees : List Tree) (mode left : MathMode) (ts : List Token) → tree_in trees (toggle mode left ++ ts)
+    ≡ toggled mode left (tree_in trees ts)
 toggle-tree trees Math Text ts = refl
 toggle-tree trees Text Math ts = refl
 toggle-tree trees Math Math ts = refl
@@ -46,7 +49,9 @@ toggle-tree trees Text Maybe ts = refl
 toggle-tree trees Maybe left ts = refl
 
 -- one piece more in front
-cons-tree : (mode : MathMode) (j : Joined) (js : List Joined) → toggled mode (left_mode j) (joined_item j (joined_tree (after mode (left_mode j) (right_mode j)) js)) ≡ joined_tree mode (j ∷ js)
+cons-tree : (mode : MathMode) (j : Joined) (js : List Joined)
+    → toggled mode (left_mode j) (joined_item j (joined_tree (after mode (left_mode j) (right_mode j)) js))
+    ≡ joined_tree mode (j ∷ js)
 cons-tree mode (Whole tree left right) js = refl
 cons-tree mode (Mark control) js = refl
 
@@ -54,11 +59,14 @@ cons-left : (j : Joined) (js : List Joined) → first_mode (left_mode j) (joined
 cons-left (Whole tree left right) js = refl
 cons-left (Mark control) js = refl
 
-cons-right : (mode : MathMode) (j : Joined) (js : List Joined) → joined_right (after mode (left_mode j) (right_mode j)) js ≡ joined_right mode (j ∷ js)
+cons-right : (mode : MathMode) (j : Joined) (js : List Joined)
+    → joined_right (after mode (left_mode j) (right_mode j)) js ≡ joined_right mode (j ∷ js)
 cons-right mode (Whole tree left right) js = refl
 cons-right mode (Mark control) js = refl
 
-math-matches : (trees : List Tree) (token : Token) (tree : Tree) (l r : MathMode) → ((rest : Tree) → item_of trees (shape token) rest ≡ Sub tree rest) → Matches trees (math_insert token l r) (math_piece tree l r)
+math-matches : (trees : List Tree) (token : Token) (tree : Tree) (l r : MathMode)
+    → ((rest : Tree) → item_of trees (shape token) rest ≡ Sub tree rest)
+    → Matches trees (math_insert token l r) (math_piece tree l r)
 math-matches trees token tree Maybe Maybe h = record { item = h; left = refl; right = refl }
 math-matches trees token tree Maybe Text h = record { item = h; left = refl; right = refl }
 math-matches trees token tree Maybe Math h = record { item = h; left = refl; right = refl }
@@ -69,49 +77,77 @@ module _ (lists : List (List Token)) (entries : List LineEntry) where
   abbrev trees : List Tree
   trees = trees_from [] lists
 
-  matches : (p : Piece) → IsPieceWithin 0 (length entries) p → Matches trees (inserting entries p) (joined_of (scraps_of lists entries) p)
+  matches : (p : Piece) → IsPieceWithin 0 (length entries) p
+      → Matches trees (inserting entries p) (joined_of (scraps_of lists entries) p)
   matches (piece.Scrap k) h =
-      let e : get_or (scraps_of lists entries) k no_scrap ≡ seen lists (get_or entries k no_entry) = seen-get lists entries k (omega arith) in
+      let e : get_or (scraps_of lists entries) k no_scrap ≡ seen lists (get_or entries k no_entry) =
+          seen-get lists entries k (omega arith) in
       record {
         item = λ rest. ap (λ s. joined_item (as_piece s) rest) (sym e);
         left = ap (λ (s : Scrap). s.left) (sym e);
         right = ap (λ (s : Scrap). s.right) (sym e);
       }
   matches (piece.MathScrap k) h =
-      let e : get_or (scraps_of lists entries) k no_scrap ≡ seen lists (get_or entries k no_entry) = seen-get lists entries k (omega arith) in
-      rw e (math-matches trees (ListOf (get_or entries k no_entry).list) (unfolded lists (get_or entries k no_entry).list.index) (get_or entries k no_entry).left (get_or entries k no_entry).right (λ rest. refl))
+      let e : get_or (scraps_of lists entries) k no_scrap ≡ seen lists (get_or entries k no_entry) =
+          seen-get lists entries k (omega arith) in
+      rw e (math-matches trees (ListOf (get_or entries k no_entry).list)
+          (unfolded lists (get_or entries k no_entry).list.index) (get_or entries k no_entry).left
+          (get_or entries k no_entry).right (λ rest. refl))
   matches _ h = record { item = λ rest. refl; left = refl; right = refl }
 
   -- the pieces of a run are all of the line
   pub record Joint (mode : MathMode) (pieces : List Piece) : Type 0 where
-    pub tree : tree_in trees (tokens_of mode (map (inserting entries) pieces)) ≡ joined_tree mode (map (joined_of (scraps_of lists entries)) pieces)
+    pub tree : tree_in trees (tokens_of mode (map (inserting entries) pieces))
+        ≡ joined_tree mode (map (joined_of (scraps_of lists entries)) pieces)
     pub left : left_of (map (inserting entries) pieces) ≡ joined_left (map (joined_of (scraps_of lists entries)) pieces)
-    pub right : right_after mode (map (inserting entries) pieces) ≡ joined_right mode (map (joined_of (scraps_of lists entries)) pieces)
+    pub right : right_after mode (map (inserting entries) pieces)
+        ≡ joined_right mode (map (joined_of (scraps_of lists entries)) pieces)
 
-  joint-cons : (mode : MathMode) (p : Piece) (pieces : List Piece) → Matches trees (inserting entries p) (joined_of (scraps_of lists entries) p)
-      → Joint (after mode (left_mode (joined_of (scraps_of lists entries) p)) (right_mode (joined_of (scraps_of lists entries) p))) pieces → Joint mode (p ∷ pieces)
+  joint-cons : (mode : MathMode) (p : Piece) (pieces : List Piece)
+      → Matches trees (inserting entries p) (joined_of (scraps_of lists entries) p)
+      → Joint (after mode (left_mode (joined_of (scraps_of lists entries) p))
+          (right_mode (joined_of (scraps_of lists entries) p))) pieces → Joint mode (p ∷ pieces)
   joint-cons mode p pieces m rest =
       let j : Joined = joined_of (scraps_of lists entries) p in
       record {
-        tree = ap (λ l. tree_in trees (toggle mode l ++ (inserting entries p).token ∷ tokens_of (after mode l (inserting entries p).right) (map (inserting entries) pieces))) m.left
-            ∙ (ap (λ r. tree_in trees (toggle mode (left_mode (joined_of (scraps_of lists entries) p)) ++ (inserting entries p).token ∷ tokens_of (after mode (left_mode (joined_of (scraps_of lists entries) p)) r) (map (inserting entries) pieces))) m.right
-            ∙ (toggle-tree trees mode (left_mode (joined_of (scraps_of lists entries) p)) ((inserting entries p).token ∷ tokens_of (after mode (left_mode (joined_of (scraps_of lists entries) p)) (right_mode (joined_of (scraps_of lists entries) p))) (map (inserting entries) pieces))
-            ∙ (ap (toggled mode (left_mode (joined_of (scraps_of lists entries) p))) (m.item (tree_in trees (tokens_of (after mode (left_mode (joined_of (scraps_of lists entries) p)) (right_mode (joined_of (scraps_of lists entries) p))) (map (inserting entries) pieces))) ∙ ap (joined_item (joined_of (scraps_of lists entries) p)) rest.tree)
-            ∙ cons-tree mode (joined_of (scraps_of lists entries) p) (map (joined_of (scraps_of lists entries)) pieces))));
-        left = ap (λ l. first_mode l (left_of (map (inserting entries) pieces))) m.left ∙ (ap (first_mode (left_mode (joined_of (scraps_of lists entries) p))) rest.left ∙ cons-left (joined_of (scraps_of lists entries) p) (map (joined_of (scraps_of lists entries)) pieces));
+        tree = ap (λ l. tree_in trees (toggle mode l ++ (inserting entries p).token
+            ∷ tokens_of (after mode l (inserting entries p).right) (map (inserting entries) pieces))) m.left
+            ∙ (ap (λ r. tree_in trees (toggle mode (left_mode (joined_of (scraps_of lists entries) p))
+                ++ (inserting entries p).token ∷ tokens_of
+                (after mode (left_mode (joined_of (scraps_of lists entries) p)) r) (map (inserting entries) pieces)))
+                m.right
+            ∙ (toggle-tree trees mode (left_mode (joined_of (scraps_of lists entries) p)) ((inserting entries p).token
+                ∷ tokens_of (after mode (left_mode (joined_of (scraps_of lists entries) p))
+                (right_mode (joined_of (scraps_of lists entries) p))) (map (inserting entries) pieces))
+            ∙ (ap (toggled mode (left_mode (joined_of (scraps_of lists entries) p)))
+                (m.item (tree_in trees (tokens_of (after mode (left_mode (joined_of (scraps_of lists entries) p))
+                (right_mode (joined_of (scraps_of lists entries) p))) (map (inserting entries) pieces)))
+                ∙ ap (joined_item (joined_of (scraps_of lists entries) p)) rest.tree)
+            ∙ cons-tree mode (joined_of (scraps_of lists entries) p)
+                (map (joined_of (scraps_of lists entries)) pieces))));
+        left = ap (λ l. first_mode l (left_of (map (inserting entries) pieces))) m.left
+            ∙ (ap (first_mode (left_mode (joined_of (scraps_of lists entries) p))) rest.left
+            ∙ cons-left (joined_of (scraps_of lists entries) p) (map (joined_of (scraps_of lists entries)) pieces));
         right = ap (λ l. right_after (after mode l (inserting entries p).right) (map (inserting entries) pieces)) m.left
-            ∙ (ap (λ r. right_after (after mode (left_mode (joined_of (scraps_of lists entries) p)) r) (map (inserting entries) pieces)) m.right
-            ∙ (rest.right ∙ cons-right mode (joined_of (scraps_of lists entries) p) (map (joined_of (scraps_of lists entries)) pieces)));
+            ∙ (ap (λ r. right_after (after mode (left_mode (joined_of (scraps_of lists entries) p)) r)
+                (map (inserting entries) pieces)) m.right
+            ∙ (rest.right ∙ cons-right mode (joined_of (scraps_of lists entries) p)
+                (map (joined_of (scraps_of lists entries)) pieces)));
       }
 
-  pub joint : (mode : MathMode) (pieces : List Piece) (first more : ℕ) → scraps_in pieces ≡ numbers_from first more → first + more ≤ length entries → Joint mode pieces
+  pub joint : (mode : MathMode) (pieces : List Piece) (first more : ℕ) → scraps_in pieces ≡ numbers_from first more
+      → first + more ≤ length entries → Joint mode pieces
   joint mode [] first more run h = record { tree = refl; left = refl; right = refl }
   joint mode (p ∷ pieces) first more run h = go (kind entries p) (λ n f m r w. joint n pieces f m r w)
     where
-      go : Kind entries p → ((n : MathMode) (f m : ℕ) → scraps_in pieces ≡ numbers_from f m → f + m ≤ length entries → Joint n pieces) → Joint mode (p ∷ pieces)
-      go (sign skip ref within) rec = joint-cons mode p pieces (matches p (within 0 (length entries))) (rec _ first more (sym (skip pieces) ∙ run) h)
+      go : Kind entries p → ((n : MathMode) (f m : ℕ) → scraps_in pieces ≡ numbers_from f m → f + m ≤ length entries
+          → Joint n pieces) → Joint mode (p ∷ pieces)
+      go (sign skip ref within) rec = joint-cons mode p pieces (matches p (within 0 (length entries)))
+          (rec _ first more (sym (skip pieces) ∙ run) h)
       go (scrap k skip ref within) rec =
-          let g : Goes k first more (scraps_in pieces) = goes k first more (scraps_in pieces) (sym (skip pieces) ∙ run) in
+          let g : Goes k first more (scraps_in pieces) = goes k first more (scraps_in pieces) (sym (skip pieces)
+              ∙ run) in
           let at : k ≡ first = g.first_is in
           let size : more ≡ suc g.fewer = g.more_is in
-          joint-cons mode p pieces (matches p (within 0 (length entries) (omega arith))) (rec _ (suc first) g.fewer g.run (omega arith))
+          joint-cons mode p pieces (matches p (within 0 (length entries) (omega arith)))
+              (rec _ (suc first) g.fewer g.run (omega arith))

@@ -1,8 +1,10 @@
 -- What one production keeps of every scrap.
-use Rattle.std.proofs.Common.{◌≡◌, ℕ, ◌+◌, ◌<◌, Bool, true, false, ◌&&◌, List, [], ◌∷◌, ◌++◌, length, map, take, drop, get_or, Option, Some, None, ◌⊎◌, inl, inr, refl, sym, ap, subst}
+use Rattle.std.proofs.Common.{◌≡◌, ℕ, ◌+◌, ◌<◌, Bool, true, false, ◌&&◌, List, [], ◌∷◌, ◌++◌, length, map, take, drop}
+use Rattle.std.proofs.Common.{get_or, Option, Some, None, ◌⊎◌, inl, inr, refl, sym, ap, subst}
 use Rattle.std.specs.List.{All}
 use Rattle.std.proofs.lemmas.List.{get_or_past}
-use Rattle.std.proofs.lemmas.List.Elements.{All-append, All-take, All-drop, All-set, All-map, All-cons, All-head, All-tail}
+use Rattle.std.proofs.lemmas.List.Elements.{All-append, All-take, All-drop, All-set, All-map, All-cons, All-head}
+use Rattle.std.proofs.lemmas.List.Elements.{All-tail}
 use Rattle.std.proofs.lemmas.Bool.{cases_lt}
 use Rattle.cw_base.specs.declared.category.Cat.{Cat}
 use Rattle.cw_base.specs.declared.category.Cat.TheVariants.{RawInt, CaseLike}
@@ -11,20 +13,27 @@ use Rattle.cw_trees.specs.declared.Control.TheVariants.{Inserted}
 use Rattle.cw_base.specs.declared.flags.Flags.{Flags}
 use Rattle.cw_base.specs.declared.mode.MathMode.{MathMode}
 use Rattle.cw_base.specs.declared.mode.MathMode.TheVariants.{Text, Math, Maybe}
-use Rattle.cw_trees.specs.Tree.{Leaf, Source, Ident, Reserved, Sign, Tree, Empty, Then, Sub, Inner, bare_name, Search, Found, Stopped, Nothing, or_else, search_word, search_sign, search_leaf, first_ident, reserved_leaf, reserve_first}
-use Rattle.cw_trees.specs.Joining.{Scrap, no_scrap, scrap_agrees, Joined, Whole, Mark, needs, after, toggled, joined_tree, join, Agrees}
+use Rattle.cw_trees.specs.Tree.{Leaf, Source, Ident, Reserved, Sign, Tree, Empty, Then, Sub, Inner, bare_name, Search}
+use Rattle.cw_trees.specs.Tree.{Found, Stopped, Nothing, or_else, search_word, search_sign, search_leaf, first_ident}
+use Rattle.cw_trees.specs.Tree.{reserved_leaf, reserve_first}
+use Rattle.cw_trees.specs.Joining.{Scrap, no_scrap, scrap_agrees, Joined, Whole, Mark, needs, after, toggled}
+use Rattle.cw_trees.specs.Joining.{joined_tree, join, Agrees}
 use Rattle.cw_table.specs.declared.types.Piece.{Piece}
 use Rattle.cw_table.specs.declared.types.Piece.TheVariants as piece
 use Rattle.cw_table.specs.declared.types.Row.{Row}
 use Rattle.cw_table.specs.Rows.{result_at}
 use Rattle.cw_table.specs.Sound.{is_exp}
-use Rattle.cw_table.specs.Rewriting.{cats_of, row_pieces, math_piece, joined_of, alone, with_cat, new_from, new_scrap, search_in, reserved_in, reserved_at, is_name, named_scrap, named_right, rewrite_from}
+use Rattle.cw_table.specs.Rewriting.{cats_of, row_pieces, math_piece, joined_of, alone, with_cat, new_from, new_scrap}
+use Rattle.cw_table.specs.Rewriting.{search_in, reserved_in, reserved_at, is_name, named_scrap, named_right}
+use Rattle.cw_table.specs.Rewriting.{rewrite_from}
 use Rattle.cw_scraps.specs.Lines.{leaf_named_below, IsNamedBelow}
 use Rattle.cw_scraps.specs.Modes.{piece_agrees}
 use Rattle.cw_scraps.proofs.ModeLaw.{join-agrees, agrees-same, reserve-reads}
 
-module _ (P : Scrap → Type 0) (none : P no_scrap) (reserves : (s : Scrap) → P s → P (reserved_in s)) (recats : (cat : Cat) (s : Scrap) → P s → P (with_cat cat s))
-    (joins : (cat : Cat) (scraps : List Scrap) (pieces : List Piece) → All P scraps → P (join cat (map (joined_of scraps) pieces))) where
+module _ (P : Scrap → Type 0) (none : P no_scrap) (reserves : (s : Scrap) → P s → P (reserved_in s))
+    (recats : (cat : Cat) (s : Scrap) → P s → P (with_cat cat s))
+    (joins : (cat : Cat) (scraps : List Scrap) (pieces : List Piece) → All P scraps
+        → P (join cat (map (joined_of scraps) pieces))) where
   at : (scraps : List Scrap) (k : ℕ) → All P scraps → P (get_or scraps k no_scrap)
   at scraps k all = elim (cases_lt k (length scraps)) [
     | inl h ↦ all k no_scrap h
@@ -33,32 +42,53 @@ module _ (P : Scrap → Type 0) (none : P no_scrap) (reserves : (s : Scrap) → 
 
   in_named : (named : Option ℕ) (scraps : List Scrap) → All P scraps → All P (reserved_at named scraps)
   in_named None scraps all = all
-  in_named (Some k) scraps all = All-set P scraps k (reserved_in (get_or scraps k no_scrap)) (reserves (get_or scraps k no_scrap) (at scraps k all)) all
+  in_named (Some k) scraps all = All-set P scraps k (reserved_in (get_or scraps k no_scrap))
+      (reserves (get_or scraps k no_scrap) (at scraps k all)) all
 
-  in_new : (o : Option ℕ) (cat : Cat) (n : ℕ) (pieces : List Piece) (scraps : List Scrap) → alone n pieces ≡ o → All P scraps → P (new_from cat n pieces scraps)
-  in_new (Some k) cat n pieces scraps e all = subst P (sym (ap (λ (q : Option ℕ). elim q [ Some m ↦ with_cat cat (get_or scraps m no_scrap) | None ↦ join cat (map (joined_of scraps) pieces) ]) e)) (recats cat (get_or scraps k no_scrap) (at scraps k all))
-  in_new None cat n pieces scraps e all = subst P (sym (ap (λ (q : Option ℕ). elim q [ Some m ↦ with_cat cat (get_or scraps m no_scrap) | None ↦ join cat (map (joined_of scraps) pieces) ]) e)) (joins cat scraps pieces all)
+  in_new : (o : Option ℕ) (cat : Cat) (n : ℕ) (pieces : List Piece) (scraps : List Scrap) → alone n pieces ≡ o
+      → All P scraps → P (new_from cat n pieces scraps)
+  in_new (Some k) cat n pieces scraps e all = subst P
+      (sym (ap (λ (q : Option ℕ). elim q [ Some m ↦ with_cat cat (get_or scraps m no_scrap)
+      | None ↦ join cat (map (joined_of scraps) pieces) ]) e)) (recats cat (get_or scraps k no_scrap) (at scraps k all))
+  in_new None cat n pieces scraps e all =
+      subst P (sym (ap (λ (q : Option ℕ). elim q [ Some m ↦ with_cat cat (get_or scraps m no_scrap)
+      | None ↦ join cat (map (joined_of scraps) pieces) ]) e)) (joins cat scraps pieces all)
 
-  in_scrap : (b : Bool) (name : ℕ) (s : Scrap) → (is_exp s.cat && is_name name (bare_name s.tree)) ≡ b → P s → P (named_scrap name s)
+  in_scrap : (b : Bool) (name : ℕ) (s : Scrap) → (is_exp s.cat && is_name name (bare_name s.tree)) ≡ b → P s
+      → P (named_scrap name s)
   in_scrap true name s e h = rw (e, named_scrap) (recats RawInt (reserved_in s) (reserves s h))
   in_scrap false name s e h = rw (e, named_scrap) h
 
   in_right : (found : Search) (scraps : List Scrap) → All P scraps → All P (named_right found scraps)
-  in_right (Found name) scraps all = All-map P (named_scrap name) scraps (λ k d h. in_scrap (is_exp (get_or scraps k d).cat && is_name name (bare_name (get_or scraps k d).tree)) name (get_or scraps k d) refl (all k d h))
+  in_right (Found name) scraps all = All-map P (named_scrap name) scraps
+      (λ k d h. in_scrap (is_exp (get_or scraps k d).cat && is_name name (bare_name (get_or scraps k d).tree)) name
+      (get_or scraps k d) refl (all k d h))
   in_right Stopped scraps all = all
   in_right Nothing scraps all = all
 
-  pub keeps-all : (flags : Flags) (row : Row) (place : ℕ) (scraps : List Scrap) → All P scraps → All P (take place scraps ++ rewrite_from flags row (drop place scraps))
+  pub keeps-all : (flags : Flags) (row : Row) (place : ℕ) (scraps : List Scrap) → All P scraps
+      → All P (take place scraps ++ rewrite_from flags row (drop place scraps))
   keeps-all flags row place scraps all =
       let rest : All P (drop place scraps) = All-drop P place scraps all in
-      let named : All P (reserved_at row.action.reserve (drop place scraps)) = in_named row.action.reserve (drop place scraps) rest in
+      let named : All P (reserved_at row.action.reserve (drop place scraps)) =
+          in_named row.action.reserve (drop place scraps) rest in
       let qs : List Scrap = reserved_at row.action.reserve (drop place scraps) in
       All-append P (take place scraps) (rewrite_from flags row (drop place scraps)) (All-take P place scraps all)
-      (All-append P (take row.offset (reserved_at row.action.reserve (drop place scraps))) (new_scrap flags row (reserved_at row.action.reserve (drop place scraps)) ∷ named_right (search_in row.action.reserve (drop place scraps)) (drop (row.offset + row.replaced) (reserved_at row.action.reserve (drop place scraps))))
+      (All-append P (take row.offset (reserved_at row.action.reserve (drop place scraps)))
+          (new_scrap flags row (reserved_at row.action.reserve (drop place scraps))
+          ∷ named_right (search_in row.action.reserve (drop place scraps))
+          (drop (row.offset + row.replaced) (reserved_at row.action.reserve (drop place scraps))))
       (All-take P row.offset (reserved_at row.action.reserve (drop place scraps)) named)
-      (All-cons P (new_scrap flags row (reserved_at row.action.reserve (drop place scraps))) (named_right (search_in row.action.reserve (drop place scraps)) (drop (row.offset + row.replaced) (reserved_at row.action.reserve (drop place scraps))))
-      (in_new (alone row.replaced (row_pieces flags row (cats_of (reserved_at row.action.reserve (drop place scraps))))) (result_at row.result (cats_of (reserved_at row.action.reserve (drop place scraps)))) row.replaced (row_pieces flags row (cats_of (reserved_at row.action.reserve (drop place scraps)))) (reserved_at row.action.reserve (drop place scraps)) refl named)
-      (in_right (search_in row.action.reserve (drop place scraps)) (drop (row.offset + row.replaced) (reserved_at row.action.reserve (drop place scraps))) (All-drop P (row.offset + row.replaced) (reserved_at row.action.reserve (drop place scraps)) named))))
+      (All-cons P (new_scrap flags row (reserved_at row.action.reserve (drop place scraps)))
+          (named_right (search_in row.action.reserve (drop place scraps))
+          (drop (row.offset + row.replaced) (reserved_at row.action.reserve (drop place scraps))))
+      (in_new (alone row.replaced (row_pieces flags row (cats_of (reserved_at row.action.reserve (drop place scraps)))))
+          (result_at row.result (cats_of (reserved_at row.action.reserve (drop place scraps)))) row.replaced
+          (row_pieces flags row (cats_of (reserved_at row.action.reserve (drop place scraps))))
+          (reserved_at row.action.reserve (drop place scraps)) refl named)
+      (in_right (search_in row.action.reserve (drop place scraps))
+          (drop (row.offset + row.replaced) (reserved_at row.action.reserve (drop place scraps)))
+          (All-drop P (row.offset + row.replaced) (reserved_at row.action.reserve (drop place scraps)) named))))
 
 -- modes
 all-at : (P : Scrap → Type 0) → P no_scrap → (scraps : List Scrap) (k : ℕ) → All P scraps → P (get_or scraps k no_scrap)
@@ -76,13 +106,17 @@ math-agrees tree Math r h = h
 
 agrees-piece : (scraps : List Scrap) (p : Piece) → All scrap_agrees scraps → piece_agrees (joined_of scraps p)
 agrees-piece scraps (piece.Scrap k) all = all-at scrap_agrees (λ m. refl) scraps k all
-agrees-piece scraps (piece.MathScrap k) all = math-agrees (get_or scraps k no_scrap).tree (get_or scraps k no_scrap).left (get_or scraps k no_scrap).right (all-at scrap_agrees (λ m. refl) scraps k all)
+agrees-piece scraps (piece.MathScrap k) all = math-agrees (get_or scraps k no_scrap).tree
+    (get_or scraps k no_scrap).left (get_or scraps k no_scrap).right (all-at scrap_agrees (λ m. refl) scraps k all)
 agrees-piece scraps _ all = λ m. refl
 
-agrees-pieces : (scraps : List Scrap) (pieces : List Piece) → All scrap_agrees scraps → All piece_agrees (map (joined_of scraps) pieces)
-agrees-pieces scraps pieces all = All-map piece_agrees (joined_of scraps) pieces (λ k d h. agrees-piece scraps (get_or pieces k d) all)
+agrees-pieces : (scraps : List Scrap) (pieces : List Piece) → All scrap_agrees scraps
+    → All piece_agrees (map (joined_of scraps) pieces)
+agrees-pieces scraps pieces all = All-map piece_agrees (joined_of scraps) pieces
+    (λ k d h. agrees-piece scraps (get_or pieces k d) all)
 
-pub keeps-modes : (flags : Flags) (row : Row) (place : ℕ) (scraps : List Scrap) → All scrap_agrees scraps → All scrap_agrees (take place scraps ++ rewrite_from flags row (drop place scraps))
+pub keeps-modes : (flags : Flags) (row : Row) (place : ℕ) (scraps : List Scrap) → All scrap_agrees scraps
+    → All scrap_agrees (take place scraps ++ rewrite_from flags row (drop place scraps))
 keeps-modes flags row place scraps all = keeps-all scrap_agrees (λ m. refl)
     (λ s h. agrees-same (reserve_first s.tree) s.tree s.left s.right (reserve-reads s.tree) h)
     (λ cat s h. h)
@@ -96,12 +130,15 @@ reserved-leaf-named n (Ident name number) h = h
 reserved-leaf-named n (Reserved name number cat) h = h
 reserved-leaf-named n (Sign control) h = h
 
-then-named : (s : Search) (n : ℕ) (leaf : Leaf) (rest : Tree) → search_leaf leaf ≡ s → IsNamedBelow n (Then leaf rest) → IsNamedBelow n (reserve_first rest) → IsNamedBelow n (reserve_first (Then leaf rest))
+then-named : (s : Search) (n : ℕ) (leaf : Leaf) (rest : Tree) → search_leaf leaf ≡ s → IsNamedBelow n (Then leaf rest)
+    → IsNamedBelow n (reserve_first rest) → IsNamedBelow n (reserve_first (Then leaf rest))
 then-named (Found name) n leaf rest e h r = rw (e, reserve_first) (reserved-leaf-named n leaf h.0, h.1)
 then-named Stopped n leaf rest e h r = rw (e, reserve_first) h
 then-named Nothing n leaf rest e h r = rw (e, reserve_first) (h.0, r)
 
-sub-named : (s : Search) (n : ℕ) (tree rest : Tree) → first_ident tree ≡ s → IsNamedBelow n (Sub tree rest) → IsNamedBelow n (reserve_first tree) → IsNamedBelow n (reserve_first rest) → IsNamedBelow n (reserve_first (Sub tree rest))
+sub-named : (s : Search) (n : ℕ) (tree rest : Tree) → first_ident tree ≡ s → IsNamedBelow n (Sub tree rest)
+    → IsNamedBelow n (reserve_first tree) → IsNamedBelow n (reserve_first rest)
+    → IsNamedBelow n (reserve_first (Sub tree rest))
 sub-named (Found name) n tree rest e h t r = rw (e, reserve_first) (t, h.1)
 sub-named Stopped n tree rest e h t r = rw (e, reserve_first) h
 sub-named Nothing n tree rest e h t r = rw (e, reserve_first) (h.0, r)
@@ -109,7 +146,8 @@ sub-named Nothing n tree rest e h t r = rw (e, reserve_first) (h.0, r)
 reserve-named : (n : ℕ) (t : Tree) → IsNamedBelow n t → IsNamedBelow n (reserve_first t)
 reserve-named n Empty h = h
 reserve-named n (Then leaf rest) h = then-named (search_leaf leaf) n leaf rest refl h (reserve-named n rest h.1)
-reserve-named n (Sub tree rest) h = sub-named (first_ident tree) n tree rest refl h (reserve-named n tree h.0) (reserve-named n rest h.1)
+reserve-named n (Sub tree rest) h = sub-named (first_ident tree) n tree rest refl h (reserve-named n tree h.0)
+    (reserve-named n rest h.1)
 reserve-named n (Inner tree rest) h = (h.0, reserve-named n rest h.1)
 
 toggled-named : (n : ℕ) (m l : MathMode) (tree : Tree) → IsNamedBelow n tree → IsNamedBelow n (toggled m l tree)
@@ -127,8 +165,12 @@ piece_named n (Mark control) = Unit {0}
 
 joined-named : (n : ℕ) (m : MathMode) (js : List Joined) → All (piece_named n) js → IsNamedBelow n (joined_tree m js)
 joined-named n m [] all = tt
-joined-named n m (Whole tree l r ∷ js) all = toggled-named n m l (Sub tree (joined_tree (after m l r) js)) (All-head (piece_named n) (Whole tree l r) js all, joined-named n (after m l r) js (All-tail (piece_named n) (Whole tree l r) js all))
-joined-named n m (Mark c ∷ js) all = toggled-named n m (needs c) (Then (Sign c) (joined_tree (after m (needs c) (needs c)) js)) (tt, joined-named n (after m (needs c) (needs c)) js (All-tail (piece_named n) (Mark c) js all))
+joined-named n m (Whole tree l r ∷ js) all = toggled-named n m l (Sub tree (joined_tree (after m l r) js))
+    (All-head (piece_named n) (Whole tree l r) js all, joined-named n (after m l r) js
+    (All-tail (piece_named n) (Whole tree l r) js all))
+joined-named n m (Mark c ∷ js) all = toggled-named n m (needs c)
+    (Then (Sign c) (joined_tree (after m (needs c) (needs c)) js)) (tt, joined-named n (after m (needs c) (needs c)) js
+    (All-tail (piece_named n) (Mark c) js all))
 
 math-named : (n : ℕ) (tree : Tree) (l r : MathMode) → IsNamedBelow n tree → piece_named n (math_piece tree l r)
 math-named n tree Maybe Maybe h = h
@@ -137,16 +179,22 @@ math-named n tree Maybe Math h = h
 math-named n tree Text r h = h
 math-named n tree Math r h = h
 
-named-piece : (n : ℕ) (scraps : List Scrap) (p : Piece) → All (λ s. IsNamedBelow n s.tree) scraps → piece_named n (joined_of scraps p)
+named-piece : (n : ℕ) (scraps : List Scrap) (p : Piece) → All (λ s. IsNamedBelow n s.tree) scraps
+    → piece_named n (joined_of scraps p)
 named-piece n scraps (piece.Scrap k) all = all-at (λ s. IsNamedBelow n s.tree) tt scraps k all
-named-piece n scraps (piece.MathScrap k) all = math-named n (get_or scraps k no_scrap).tree (get_or scraps k no_scrap).left (get_or scraps k no_scrap).right (all-at (λ s. IsNamedBelow n s.tree) tt scraps k all)
+named-piece n scraps (piece.MathScrap k) all = math-named n (get_or scraps k no_scrap).tree
+    (get_or scraps k no_scrap).left (get_or scraps k no_scrap).right (all-at (λ s. IsNamedBelow n s.tree) tt scraps k
+    all)
 named-piece n scraps _ all = tt
 
-pub keeps-named : (n : ℕ) (flags : Flags) (row : Row) (place : ℕ) (scraps : List Scrap) → All (λ s. IsNamedBelow n s.tree) scraps → All (λ s. IsNamedBelow n s.tree) (take place scraps ++ rewrite_from flags row (drop place scraps))
+pub keeps-named : (n : ℕ) (flags : Flags) (row : Row) (place : ℕ) (scraps : List Scrap)
+    → All (λ s. IsNamedBelow n s.tree) scraps → All (λ s. IsNamedBelow n s.tree)
+    (take place scraps ++ rewrite_from flags row (drop place scraps))
 keeps-named n flags row place scraps all = keeps-all (λ s. IsNamedBelow n s.tree) tt
     (λ s h. reserve-named n s.tree h)
     (λ cat s h. h)
-    (λ cat ss pieces h. joined-named n Maybe (map (joined_of ss) pieces) (All-map (piece_named n) (joined_of ss) pieces (λ k d lt. named-piece n ss (get_or pieces k d) h)))
+    (λ cat ss pieces h. joined-named n Maybe (map (joined_of ss) pieces) (All-map (piece_named n) (joined_of ss) pieces
+        (λ k d lt. named-piece n ss (get_or pieces k d) h)))
     flags row place scraps all
 
 -- the first identifier of a tree is one of its names
@@ -174,10 +222,14 @@ or-found Nothing t name e = inr e
 
 pub found-named : (n : ℕ) (t : Tree) (name : ℕ) → IsNamedBelow n t → first_ident t ≡ Found name → name < n
 found-named n Empty name h e = absurd (let k : Nothing ≡ Found name = e in cc)
-found-named n (Then leaf rest) name h e = elim (or-found (search_leaf leaf) (first_ident rest) name e) [ inl k ↦ leaf-found n leaf name h.0 k | inr k ↦ found-named n rest name h.1 k ]
-found-named n (Sub tree rest) name h e = elim (or-found (first_ident tree) (first_ident rest) name e) [ inl k ↦ found-named n tree name h.0 k | inr k ↦ found-named n rest name h.1 k ]
+found-named n (Then leaf rest) name h e = elim (or-found (search_leaf leaf) (first_ident rest) name e) [ inl k ↦
+    leaf-found n leaf name h.0 k | inr k ↦ found-named n rest name h.1 k ]
+found-named n (Sub tree rest) name h e = elim (or-found (first_ident tree) (first_ident rest) name e) [ inl k ↦
+    found-named n tree name h.0 k | inr k ↦ found-named n rest name h.1 k ]
 found-named n (Inner tree rest) name h e = found-named n rest name h.1 e
 
-pub search-named : (n : ℕ) (named : Option ℕ) (scraps : List Scrap) (name : ℕ) → All (λ s. IsNamedBelow n s.tree) scraps → search_in named scraps ≡ Found name → name < n
+pub search-named : (n : ℕ) (named : Option ℕ) (scraps : List Scrap) (name : ℕ) → All (λ s. IsNamedBelow n s.tree) scraps
+    → search_in named scraps ≡ Found name → name < n
 search-named n None scraps name all e = absurd (let k : Nothing ≡ Found name = e in cc)
-search-named n (Some k) scraps name all e = found-named n (get_or scraps k no_scrap).tree name (all-at (λ s. IsNamedBelow n s.tree) tt scraps k all) e
+search-named n (Some k) scraps name all e = found-named n (get_or scraps k no_scrap).tree name
+    (all-at (λ s. IsNamedBelow n s.tree) tt scraps k all) e

@@ -5,8 +5,10 @@ use Rattle.std.proofs.lemmas.List.Elements.{All-head, All-tail}
 use Rattle.cw_base.specs.declared.mode.MathMode.{MathMode}
 use Rattle.cw_base.specs.declared.mode.MathMode.TheVariants.{Text, Math, Maybe}
 use Rattle.cw_trees.specs.declared.Control.{Control}
-use Rattle.cw_trees.specs.Tree.{Leaf, Source, Ident, Reserved, Sign, Tree, Empty, Then, Sub, Inner, Search, Found, Stopped, Nothing, search_leaf, first_ident, reserved_leaf, reserve_first}
-use Rattle.cw_trees.specs.Joining.{Joined, Whole, Mark, needs, after, first_mode, toggled, joined_tree, joined_left, joined_right, stays, reads_sign, reads_leaf, leads_on, reads, Agrees}
+use Rattle.cw_trees.specs.Tree.{Leaf, Source, Ident, Reserved, Sign, Tree, Empty, Then, Sub, Inner, Search, Found}
+use Rattle.cw_trees.specs.Tree.{Stopped, Nothing, search_leaf, first_ident, reserved_leaf, reserve_first}
+use Rattle.cw_trees.specs.Joining.{Joined, Whole, Mark, needs, after, first_mode, toggled, joined_tree, joined_left}
+use Rattle.cw_trees.specs.Joining.{joined_right, stays, reads_sign, reads_leaf, leads_on, reads, Agrees}
 use Rattle.cw_scraps.specs.Modes.{IsSteady, piece_agrees, JoinsAgree}
 
 -- a mode that is told
@@ -169,26 +171,37 @@ join-agrees (Whole tree l r ∷ js) all = go (told l) (join-agrees js (All-tail 
     here : Agrees tree l r
     here = All-head piece_agrees (Whole tree l r) js all
 
-    go : Told l → Agrees (joined_tree Maybe js) (joined_left js) (joined_right Maybe js) → Agrees (joined_tree Maybe (Whole tree l r ∷ js)) (joined_left (Whole tree l r ∷ js)) (joined_right Maybe (Whole tree l r ∷ js))
+    go : Told l → Agrees (joined_tree Maybe js) (joined_left js) (joined_right Maybe js)
+        → Agrees (joined_tree Maybe (Whole tree l r ∷ js)) (joined_left (Whole tree l r ∷ js))
+        (joined_right Maybe (Whole tree l r ∷ js))
     go (is_told tl) rec =
         let w : Leads tree l r = leads tree l r tl here in
         let f : FromTold r js = from-told r js w.told (All-tail piece_agrees (Whole tree l r) js all) in
         let next : after Maybe l r ≡ r = after-told Maybe l r tl in
-        rw (first-told l (joined_left js) tl, next) (agrees-told (Sub tree (joined_tree r js)) l (joined_right r js) tl f.told_right (ap (λ o. leads_on o (reads (joined_tree r js))) w.reading ∙ f.reading))
+        rw (first-told l (joined_left js) tl, next) (agrees-told (Sub tree (joined_tree r js)) l (joined_right r js) tl
+            f.told_right (ap (λ o. leads_on o (reads (joined_tree r js))) w.reading ∙ f.reading))
     go (is_maybe e) rec =
         let h : Agrees tree Maybe r = subst (λ n. Agrees tree n r) e here in
-        rw e (agrees-same (Sub tree (joined_tree Maybe js)) (joined_tree Maybe js) (joined_left js) (joined_right Maybe js) (λ m. ap (λ o. leads_on o (reads (joined_tree Maybe js))) (maybe-reads tree r h m)) rec)
-join-agrees (Mark c ∷ js) all = go (needs c) refl (told (needs c)) (join-agrees js (All-tail piece_agrees (Mark c) js all))
+        rw e (agrees-same (Sub tree (joined_tree Maybe js)) (joined_tree Maybe js) (joined_left js)
+            (joined_right Maybe js) (λ m. ap (λ o. leads_on o (reads (joined_tree Maybe js))) (maybe-reads tree r h m))
+            rec)
+join-agrees (Mark c ∷ js) all = go (needs c) refl (told (needs c))
+    (join-agrees js (All-tail piece_agrees (Mark c) js all))
   where
     here : IsSteady c
     here = All-head piece_agrees (Mark c) js all
 
-    go : (n : MathMode) → needs c ≡ n → Told n → Agrees (joined_tree Maybe js) (joined_left js) (joined_right Maybe js) → Agrees (joined_tree Maybe (Mark c ∷ js)) (joined_left (Mark c ∷ js)) (joined_right Maybe (Mark c ∷ js))
+    go : (n : MathMode) → needs c ≡ n → Told n → Agrees (joined_tree Maybe js) (joined_left js) (joined_right Maybe js)
+        → Agrees (joined_tree Maybe (Mark c ∷ js)) (joined_left (Mark c ∷ js)) (joined_right Maybe (Mark c ∷ js))
     go n e (is_told tn) rec =
         let f : FromTold n js = from-told n js tn (All-tail piece_agrees (Mark c) js all) in
-        rw (e, first-told n (joined_left js) tn, after-told Maybe n n tn) (agrees-told (Then (Sign c) (joined_tree n js)) n (joined_right n js) tn f.told_right (ap (λ o. leads_on o (reads (joined_tree n js))) (steady-reads c n here e tn) ∙ f.reading))
+        rw (e, first-told n (joined_left js) tn, after-told Maybe n n tn)
+            (agrees-told (Then (Sign c) (joined_tree n js)) n (joined_right n js) tn f.told_right
+            (ap (λ o. leads_on o (reads (joined_tree n js))) (steady-reads c n here e tn) ∙ f.reading))
     go n e (is_maybe d) rec =
-        rw (e, d) (agrees-same (Then (Sign c) (joined_tree Maybe js)) (joined_tree Maybe js) (joined_left js) (joined_right Maybe js) (λ m. ap (λ o. leads_on o (reads (joined_tree Maybe js))) (here m ∙ ap (λ k. stays k m) (e ∙ d))) rec)
+        rw (e, d) (agrees-same (Then (Sign c) (joined_tree Maybe js)) (joined_tree Maybe js) (joined_left js)
+            (joined_right Maybe js) (λ m. ap (λ o. leads_on o (reads (joined_tree Maybe js))) (here m
+            ∙ ap (λ k. stays k m) (e ∙ d))) rec)
 
 -- an identifier and a reserved word need no mode
 reserved-leaf-reads : (leaf : Leaf) (m : MathMode) → reads_leaf (reserved_leaf leaf) m ≡ reads_leaf leaf m
@@ -197,22 +210,33 @@ reserved-leaf-reads (Ident name number) m = refl
 reserved-leaf-reads (Reserved name number cat) m = refl
 reserved-leaf-reads (Sign control) m = refl
 
-same-leads : (o : Option MathMode) (f g : MathMode → Option MathMode) → ((m : MathMode) → f m ≡ g m) → leads_on o f ≡ leads_on o g
+same-leads : (o : Option MathMode) (f g : MathMode → Option MathMode) → ((m : MathMode) → f m ≡ g m) → leads_on o f
+    ≡ leads_on o g
 same-leads None f g h = refl
 same-leads (Some m) f g h = h m
 
-reserve-then-reads : (s : Search) (leaf : Leaf) (rest : Tree) (m : MathMode) → search_leaf leaf ≡ s → ((n : MathMode) → reads (reserve_first rest) n ≡ reads rest n) → reads (reserve_first (Then leaf rest)) m ≡ reads (Then leaf rest) m
-reserve-then-reads (Found name) leaf rest m e rec = rw (e, reserve_first) (ap (λ o. leads_on o (reads rest)) (reserved-leaf-reads leaf m))
+reserve-then-reads : (s : Search) (leaf : Leaf) (rest : Tree) (m : MathMode) → search_leaf leaf ≡ s
+    → ((n : MathMode) → reads (reserve_first rest) n ≡ reads rest n) → reads (reserve_first (Then leaf rest)) m
+    ≡ reads (Then leaf rest) m
+reserve-then-reads (Found name) leaf rest m e rec =
+    rw (e, reserve_first) (ap (λ o. leads_on o (reads rest)) (reserved-leaf-reads leaf m))
 reserve-then-reads Stopped leaf rest m e rec = rw (e, reserve_first) refl
-reserve-then-reads Nothing leaf rest m e rec = rw (e, reserve_first) (same-leads (reads_leaf leaf m) (reads (reserve_first rest)) (reads rest) rec)
+reserve-then-reads Nothing leaf rest m e rec = rw (e, reserve_first)
+    (same-leads (reads_leaf leaf m) (reads (reserve_first rest)) (reads rest) rec)
 
-reserve-sub-reads : (s : Search) (tree rest : Tree) (m : MathMode) → first_ident tree ≡ s → ((n : MathMode) → reads (reserve_first tree) n ≡ reads tree n) → ((n : MathMode) → reads (reserve_first rest) n ≡ reads rest n) → reads (reserve_first (Sub tree rest)) m ≡ reads (Sub tree rest) m
-reserve-sub-reads (Found name) tree rest m e here rec = rw (e, reserve_first) (ap (λ o. leads_on o (reads rest)) (here m))
+reserve-sub-reads : (s : Search) (tree rest : Tree) (m : MathMode) → first_ident tree ≡ s
+    → ((n : MathMode) → reads (reserve_first tree) n ≡ reads tree n)
+    → ((n : MathMode) → reads (reserve_first rest) n ≡ reads rest n) → reads (reserve_first (Sub tree rest)) m
+    ≡ reads (Sub tree rest) m
+reserve-sub-reads (Found name) tree rest m e here rec =
+    rw (e, reserve_first) (ap (λ o. leads_on o (reads rest)) (here m))
 reserve-sub-reads Stopped tree rest m e here rec = rw (e, reserve_first) refl
-reserve-sub-reads Nothing tree rest m e here rec = rw (e, reserve_first) (same-leads (reads tree m) (reads (reserve_first rest)) (reads rest) rec)
+reserve-sub-reads Nothing tree rest m e here rec =
+    rw (e, reserve_first) (same-leads (reads tree m) (reads (reserve_first rest)) (reads rest) rec)
 
 pub reserve-reads : (t : Tree) (m : MathMode) → reads (reserve_first t) m ≡ reads t m
 reserve-reads Empty m = refl
 reserve-reads (Then leaf rest) m = reserve-then-reads (search_leaf leaf) leaf rest m refl (λ n. reserve-reads rest n)
-reserve-reads (Sub tree rest) m = reserve-sub-reads (first_ident tree) tree rest m refl (λ n. reserve-reads tree n) (λ n. reserve-reads rest n)
+reserve-reads (Sub tree rest) m = reserve-sub-reads (first_ident tree) tree rest m refl (λ n. reserve-reads tree n)
+    (λ n. reserve-reads rest n)
 reserve-reads (Inner tree rest) m = reserve-reads rest m

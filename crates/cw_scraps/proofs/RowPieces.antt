@@ -1,5 +1,6 @@
 -- What the pieces of a row read of a line.
-use Rattle.std.proofs.Common.{◌≡◌, ℕ, zero, suc, ◌+◌, List, [], ◌∷◌, length, drop, get_or, None, refl, sym, ap, ◌∙◌, arith}
+use Rattle.std.proofs.Common.{◌≡◌, ℕ, zero, suc, ◌+◌, List, [], ◌∷◌, length, drop, get_or, None, refl, sym, ap, ◌∙◌}
+use Rattle.std.proofs.Common.{arith}
 use Rattle.std.proofs.lemmas.List.{get_or-drop}
 use Rattle.cw_base.specs.declared.category.Cat.TheVariants.{End}
 use Rattle.cw_table.specs.declared.types.Piece.{Piece}
@@ -17,7 +18,9 @@ cats-entry [] k = refl
 cats-entry (e ∷ es) zero = refl
 cats-entry (e ∷ es) (suc k) = cats-entry es k
 
-pub same-cat : (line : List LineEntry) (place k : ℕ) (outcome : RowResult) (entry : LineEntry) → entry ≡ get_or line (place + k) no_entry → outcome ≡ SameAs k → entry.cat ≡ result_at outcome (entry_cats (drop place line))
+pub same-cat : (line : List LineEntry) (place k : ℕ) (outcome : RowResult) (entry : LineEntry)
+    → entry ≡ get_or line (place + k) no_entry → outcome ≡ SameAs k → entry.cat
+    ≡ result_at outcome (entry_cats (drop place line))
 same-cat line place k outcome entry e is =
     ap (λ (x : LineEntry). x.cat) (e ∙ sym (get_or-drop place line k no_entry))
     ∙ (sym (cats-entry (drop place line) k) ∙ ap (λ o. result_at o (entry_cats (drop place line))) (sym is))

@@ -24,7 +24,8 @@ categories names = map (λ name. name.category) names
 
 -- what productions work on, as definitions see it
 abbrev pub state_of : List (List Token) → List LineEntry → MarkList → List Entry → State
-state_of lists line marks names = record { scraps = scraps_of lists line; marks = marked_names marks; cats = categories names }
+state_of lists line marks names = record { scraps = scraps_of lists line; marks = marked_names marks;
+    cats = categories names }
 
 -- the name that a search finds has become a type
 abbrev pub retyped : Search → List Entry → List Entry
@@ -57,8 +58,10 @@ work store line marks names steps = record { store = store; line = line; marks =
 -- of the replaced scraps hold, and as much room is taken at most; and a row that reserves counts one step for each
 -- scrap to the right of the new one.
 pub record IsApplied (flags : Flags) (row : Row) (place : ℕ) (old new : Work) : Type 0 where
-  pub state : state_of new.store.lists new.line new.marks new.names ≡ rewrite flags row place (state_of old.store.lists old.line old.marks old.names)
-  pub retypes : new.names ≡ retyped (search_in row.action.reserve (drop place (scraps_of old.store.lists old.line))) old.names
+  pub state : state_of new.store.lists new.line new.marks new.names
+      ≡ rewrite flags row place (state_of old.store.lists old.line old.marks old.names)
+  pub retypes : new.names ≡ retyped (search_in row.action.reserve (drop place (scraps_of old.store.lists old.line)))
+      old.names
   pub sound : IsSoundLine new.store new.names new.line
   pub others : Keeps old.store.lists new.store.lists (roots_of old.line) (roots_of new.line)
   pub few : token_count new.store.lists ≤ token_count old.store.lists + PRODUCTION_TOKENS

@@ -11,15 +11,20 @@ use Rattle.cw_scraps.specs.declared.line.LineEntry.{LineEntry}
 use Rattle.cw_scraps.specs.Lines.{roots_of}
 use Rattle.cw_scraps.specs.Inserting.{inserting, tokens_of, left_of, right_after, IsRun}
 
-pub record Joins (lists : List (List Token)) (entries : List LineEntry) (pieces : List Piece) (spare i : ℕ) (left mode : MathMode) (store : StoredLists) : Type 0 where
+pub record Joins (lists : List (List Token)) (entries : List LineEntry) (pieces : List Piece) (spare i : ℕ)
+    (left mode : MathMode) (store : StoredLists) : Type 0 where
   pub done : List Token
   pub is : store.building ≡ Some done
   pub same : store.lists ≡ lists
   pub spent : store.spare + length done + 1 ≡ spare
   pub few : length done ≤ 2 * i - 1
   pub start : i ≡ 0 → mode ≡ Maybe
-  pub tokens : done ++ tokens_of mode (map (inserting entries) (drop i pieces)) ≡ tokens_of Maybe (map (inserting entries) pieces)
-  pub left_is : first_mode left (left_of (map (inserting entries) (drop i pieces))) ≡ left_of (map (inserting entries) pieces)
-  pub right_is : right_after mode (map (inserting entries) (drop i pieces)) ≡ right_after Maybe (map (inserting entries) pieces)
+  pub tokens : done ++ tokens_of mode (map (inserting entries) (drop i pieces))
+      ≡ tokens_of Maybe (map (inserting entries) pieces)
+  pub left_is : first_mode left (left_of (map (inserting entries) (drop i pieces)))
+      ≡ left_of (map (inserting entries) pieces)
+  pub right_is : right_after mode (map (inserting entries) (drop i pieces))
+      ≡ right_after Maybe (map (inserting entries) pieces)
   pub rest : IsRun (drop i pieces) (length entries)
-  pub fresh : (k : ℕ) → rest.first ≤ k → k < rest.first + rest.more → IsUnreferred (lists ++ done ∷ []) (get_or (roots_of entries) k 0)
+  pub fresh : (k : ℕ) → rest.first ≤ k → k < rest.first + rest.more
+      → IsUnreferred (lists ++ done ∷ []) (get_or (roots_of entries) k 0)

@@ -55,7 +55,8 @@ math_insert token left right = record { token = token; left = left; right = righ
 -- what a piece puts into the list, where these entries stand from the row's place on
 abbrev pub inserting : List LineEntry → Piece → Insert
 inserting entries (piece.Scrap k) = entry_insert (get_or entries k no_entry)
-inserting entries (piece.MathScrap k) = math_insert (ListOf (get_or entries k no_entry).list) (get_or entries k no_entry).left (get_or entries k no_entry).right
+inserting entries (piece.MathScrap k) = math_insert (ListOf (get_or entries k no_entry).list)
+    (get_or entries k no_entry).left (get_or entries k no_entry).right
 inserting entries sign = control_insert (sign_of sign)
 
 -- a scrap among the pieces is one of the line
@@ -71,7 +72,8 @@ toggle _ _ = []
 
 -- a store after the toggle between two modes
 abbrev pub toggled : MathMode → MathMode → StoredLists → StoredLists
-toggled mode left s = record { lists = s.lists; building = option_map (λ tokens. tokens ++ toggle mode left) s.building; spare = s.spare - length (toggle mode left) }
+toggled mode left s = record { lists = s.lists; building = option_map (λ tokens. tokens ++ toggle mode left) s.building;
+    spare = s.spare - length (toggle mode left) }
 
 abbrev pub tokens_of : MathMode → List Insert → List Token
 tokens_of mode [] = []

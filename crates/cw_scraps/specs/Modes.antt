@@ -3,7 +3,8 @@ use Rattle.std.specs.Prelude.{◌≡◌, List, All}
 use Rattle.cw_base.specs.declared.mode.MathMode.{MathMode}
 use Rattle.cw_base.specs.declared.mode.MathMode.TheVariants.{Maybe}
 use Rattle.cw_trees.specs.declared.Control.{Control}
-use Rattle.cw_trees.specs.Joining.{Joined, Whole, Mark, needs, stays, reads_sign, Agrees, joined_tree, joined_left, joined_right}
+use Rattle.cw_trees.specs.Joining.{Joined, Whole, Mark, needs, stays, reads_sign, Agrees, joined_tree, joined_left}
+use Rattle.cw_trees.specs.Joining.{joined_right}
 
 -- a control that leads from no mode to another: every one but the toggles and the dollar
 abbrev pub IsSteady : Control → Type 0
@@ -16,4 +17,5 @@ piece_agrees (Mark control) = IsSteady control
 -- Of all such pieces: either both modes are Maybe and nothing in the tree needs a mode, or neither is Maybe and
 -- the tree leads from the left one to the right one.
 abbrev pub JoinsAgree : Type 0
-JoinsAgree = (pieces : List Joined) → All piece_agrees pieces → Agrees (joined_tree Maybe pieces) (joined_left pieces) (joined_right Maybe pieces)
+JoinsAgree = (pieces : List Joined) → All piece_agrees pieces
+    → Agrees (joined_tree Maybe pieces) (joined_left pieces) (joined_right Maybe pieces)

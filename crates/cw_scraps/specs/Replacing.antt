@@ -13,10 +13,13 @@ use Rattle.cw_trees.specs.Joining.{Scrap}
 
 -- the scraps from a place on, where what a row replaces has become one
 abbrev pub replaced_from : Flags → Row → List Scrap → List Scrap
-replaced_from flags row scraps = take row.offset scraps ++ new_scrap flags row scraps ∷ drop (row.offset + row.replaced) scraps
+replaced_from flags row scraps = take row.offset scraps ++ new_scrap flags row scraps ∷ drop (row.offset + row.replaced)
+    scraps
 
-pub record Replaces (flags : Flags) (row : Row) (place : ℕ) (old_lists : List (List Token)) (old : List LineEntry) (lists : List (List Token)) (line : List LineEntry) : Type 0 where
-  pub scraps : scraps_of lists line ≡ take place (scraps_of old_lists old) ++ replaced_from flags row (drop place (scraps_of old_lists old))
+pub record Replaces (flags : Flags) (row : Row) (place : ℕ) (old_lists : List (List Token)) (old : List LineEntry)
+    (lists : List (List Token)) (line : List LineEntry) : Type 0 where
+  pub scraps : scraps_of lists line ≡ take place (scraps_of old_lists old) ++ replaced_from flags row
+      (drop place (scraps_of old_lists old))
   pub roots : AreRoots lists (roots_of line)
   pub keeps : Keeps old_lists lists (roots_of old) (roots_of line)
   pub count : length line + row.replaced ≡ length old + 1

@@ -14,8 +14,11 @@ named_by None scrap = scrap
 named_by (Some name) scrap = named_scrap name.index scrap
 
 -- the scraps from one place up to another are turned
-pub record Turns (name : Option NameId) (old_lists : List (List Token)) (old : List LineEntry) (start i : ℕ) (lists : List (List Token)) (line : List LineEntry) : Type 0 where
-  pub done : (m : ℕ) → start ≤ m → m < i → seen lists (get_or line m no_entry) ≡ named_by name (seen old_lists (get_or old m no_entry))
-  pub same : (m : ℕ) → m < length old → (m < start) ⊎ (i ≤ m) → seen lists (get_or line m no_entry) ≡ seen old_lists (get_or old m no_entry)
+pub record Turns (name : Option NameId) (old_lists : List (List Token)) (old : List LineEntry) (start i : ℕ)
+    (lists : List (List Token)) (line : List LineEntry) : Type 0 where
+  pub done : (m : ℕ) → start ≤ m → m < i → seen lists (get_or line m no_entry)
+      ≡ named_by name (seen old_lists (get_or old m no_entry))
+  pub same : (m : ℕ) → m < length old → (m < start) ⊎ (i ≤ m) → seen lists (get_or line m no_entry)
+      ≡ seen old_lists (get_or old m no_entry)
   pub roots : roots_of line ≡ roots_of old
   pub changes : Changes old_lists lists (roots_of old)

@@ -1,5 +1,7 @@
 -- Names in memory, and the first that pass a test.
-use Rattle.std.proofs.Common.{◌≡◌, ℕ, zero, suc, ◌+◌, ◌<◌, ◌≤◌, ◌&&◌, Bool, true, false, not, nat_lt, List, [], ◌∷◌, Option, Some, None, map, length, drop, take, ◌-◌, length-drop, cond, refl, ap, ◌∙◌, sym, subst, get_or, add-zero, zero-add, arith}
+use Rattle.std.proofs.Common.{◌≡◌, ℕ, zero, suc, ◌+◌, ◌<◌, ◌≤◌, ◌&&◌, Bool, true, false, not, nat_lt, List, [], ◌∷◌}
+use Rattle.std.proofs.Common.{Option, Some, None, map, length, drop, take, ◌-◌, length-drop, cond, refl, ap, ◌∙◌, sym}
+use Rattle.std.proofs.Common.{subst, get_or, add-zero, zero-add, arith}
 use borrow.Author.Tests.{lt-ltb, ltb-true}
 use Rattle.cw_secnames.specs.declared.kinds.Earliest.TheVariants.{Nobody, One, Several}
 use Rattle.cw_secnames.specs.declared.kinds.RefKind.{RefKind}
@@ -19,19 +21,23 @@ length-named (x ∷ xs) = ap suc (length-named xs)
 
 pub with_text-map : (xs : List Kept) (i : ℕ) (d old : Kept) (t : Vec ℕ) (text : List ℕ) (complete : Bool)
     → old ≡ get_or xs i d → t.items ≡ text
-    → map name_of (slice_set xs i (record old { text = t; complete = complete })) ≡ with_text i text complete (map name_of xs)
+    → map name_of (slice_set xs i (record old { text = t; complete = complete }))
+        ≡ with_text i text complete (map name_of xs)
 with_text-map [] i d old t text complete same h = refl
 with_text-map (x ∷ xs) zero d old t text complete same h = rw (same, h) refl
-with_text-map (x ∷ xs) (suc i) d old t text complete same h = ap (λ rest. name_of x ∷ rest) (with_text-map xs i d old t text complete same h)
+with_text-map (x ∷ xs) (suc i) d old t text complete same h =
+    ap (λ rest. name_of x ∷ rest) (with_text-map xs i d old t text complete same h)
 
 -- ## A name changed in memory
 
-pub length-with_text : (i : ℕ) (text : List ℕ) (complete : Bool) (names : List SecName) → length (with_text i text complete names) ≡ length names
+pub length-with_text : (i : ℕ) (text : List ℕ) (complete : Bool) (names : List SecName)
+    → length (with_text i text complete names) ≡ length names
 length-with_text i text complete [] = refl
 length-with_text zero text complete (n ∷ names) = refl
 length-with_text (suc i) text complete (n ∷ names) = ap suc (length-with_text i text complete names)
 
-pub length-with_reference : (i : ℕ) (how : RefKind) (section : ℕ) (names : List SecName) → length (with_reference i how section names) ≡ length names
+pub length-with_reference : (i : ℕ) (how : RefKind) (section : ℕ) (names : List SecName)
+    → length (with_reference i how section names) ≡ length names
 length-with_reference i how section [] = refl
 length-with_reference zero how section (n ∷ names) = refl
 length-with_reference (suc i) how section (n ∷ names) = ap suc (length-with_reference i how section names)
@@ -56,8 +62,10 @@ shorter-by : (b : Bool) (x : Kept) (prefix : List ℕ) (rest : List SecName) →
 shorter-by true x prefix rest f e h = absurd (cc)
 shorter-by false x prefix rest f e h =
     ap (λ (c : Bool). record (name_of x) { text = prefix; complete = c } ∷ rest) (sym e) ∙
-    sym (let test : is_shorter prefix (name_of x) ≡ true = rw (e, lt-ltb (length x.text.items) (length prefix) h) refl in
-    ap (λ (t : Bool). elim t as (λ _. List SecName) [ true ↦ record (name_of x) { text = prefix } ∷ rest | false ↦ name_of x ∷ rest ]) test)
+    sym (let test : is_shorter prefix (name_of x) ≡ true = rw (e, lt-ltb (length x.text.items) (length prefix) h)
+        refl in
+    ap (λ (t : Bool). elim t as (λ _. List SecName) [ true ↦ record (name_of x) { text = prefix } ∷ rest
+        | false ↦ name_of x ∷ rest ]) test)
 
 pub grown-shorter : (prefix : List ℕ) (xs : List Kept) (i : ℕ) (d : Kept)
     → (get_or xs i d).complete ≡ false → length (get_or xs i d).text.items < length prefix
@@ -79,7 +87,8 @@ still : (complete : Bool) → (not complete && false) ≡ false
 still true = refl
 still false = refl
 
-pub grown-longer : (prefix : List ℕ) (xs : List Kept) (i : ℕ) (d : Kept) → length prefix ≤ length (get_or xs i d).text.items
+pub grown-longer : (prefix : List ℕ) (xs : List Kept) (i : ℕ) (d : Kept)
+    → length prefix ≤ length (get_or xs i d).text.items
     → map name_of xs ≡ grown prefix i (map name_of xs)
 grown-longer prefix [] i d h = refl
 grown-longer prefix (x ∷ xs) zero d h = rw (not-below _ _ h, still x.complete, grown) refl
@@ -105,7 +114,8 @@ first-by false test n names k j h below rest =
     let one : (k + 1) + j ≡ k + (1 + j) = omega arith in
     record {
       positions =
-          (let open_one : positions_from k test (n ∷ names) ≡ positions_from (k + 1) test names = rw (h, positions_from) refl in open_one) ∙
+          (let open_one : positions_from k test (n ∷ names) ≡ positions_from (k + 1) test names = rw (h, positions_from)
+              refl in open_one) ∙
           (f.positions ∙ (ap (λ m. m ∷ positions_from (m + 1) test (drop (j + 1) names)) one ∙
           ap (λ rest. (k + (1 + j)) ∷ positions_from ((k + (1 + j)) + 1) test rest) (sym (dropped n names j))));
       below = below;
@@ -114,10 +124,12 @@ first-by false test n names k j h below rest =
 is_first : (test : SecName → Bool) (names : List SecName) (k : ℕ) → position_or_len test names < length names
     → IsFirst test names k (position_or_len test names)
 is_first test [] k h = absurd (omega arith)
-is_first test (n ∷ names) k h = first-by (test n) test n names k (position_or_len test names) refl h (is_first test names (k + 1))
+is_first test (n ∷ names) k h = first-by (test n) test n names k (position_or_len test names) refl h
+    (is_first test names (k + 1))
 
 nobody-by : (t : Bool) (test : SecName → Bool) (n : SecName) (names : List SecName) (k j : ℕ) → test n ≡ t
-    → (cond (not t) (1 + j) 0 < suc (length names) → ⊥) → ((j < length names → ⊥) → positions_from (k + 1) test names ≡ [])
+    → (cond (not t) (1 + j) 0 < suc (length names) → ⊥) → ((j < length names → ⊥) → positions_from (k + 1) test names
+        ≡ [])
     → positions_from k test (n ∷ names) ≡ []
 nobody-by true test n names k j h none rest = absurd (none (omega arith))
 nobody-by false test n names k j h none rest =
@@ -126,7 +138,8 @@ nobody-by false test n names k j h none rest =
 nobody : (test : SecName → Bool) (names : List SecName) (k : ℕ) → (position_or_len test names < length names → ⊥)
     → positions_from k test names ≡ []
 nobody test [] k h = refl
-nobody test (n ∷ names) k h = nobody-by (test n) test n names k (position_or_len test names) refl h (nobody test names (k + 1))
+nobody test (n ∷ names) k h = nobody-by (test n) test n names k (position_or_len test names) refl h
+    (nobody test names (k + 1))
 
 some-by : (b : Bool) (p n i : ℕ) → nat_lt p n ≡ b → cond b (Some p) None ≡ Some i → (p ≡ i) × (p < n)
 some-by true p n i h e = (cc, ltb-true p n h)
@@ -136,15 +149,18 @@ none-by : (b : Bool) (p n : ℕ) → nat_lt p n ≡ b → cond b (Some p) None �
 none-by true p n h e below = cc
 none-by false p n h e below = let wrong : nat_lt p n ≡ true = lt-ltb p n below in cc
 
-pub found-first : (test : SecName → Bool) (names : List SecName) (k i : ℕ) → position test names ≡ Some i → IsFirst test names k i
+pub found-first : (test : SecName → Bool) (names : List SecName) (k i : ℕ) → position test names ≡ Some i
+    → IsFirst test names k i
 found-first test names k i h =
     let s : (position_or_len test names ≡ i) × (position_or_len test names < length names) =
     some-by (nat_lt (position_or_len test names) (length names)) (position_or_len test names) (length names) i refl h in
     subst (IsFirst test names k) s.0 (is_first test names k s.1)
 
-pub found-nobody : (test : SecName → Bool) (names : List SecName) (k : ℕ) → position test names ≡ None → positions_from k test names ≡ []
+pub found-nobody : (test : SecName → Bool) (names : List SecName) (k : ℕ) → position test names ≡ None
+    → positions_from k test names ≡ []
 found-nobody test names k h =
-    nobody test names k (none-by (nat_lt (position_or_len test names) (length names)) (position_or_len test names) (length names) refl h)
+    nobody test names k (none-by (nat_lt (position_or_len test names) (length names)) (position_or_len test names)
+        (length names) refl h)
 
 pub earliest-nobody : (test : SecName → Bool) (names : List SecName) → position test names ≡ None
     → Nobody ≡ earliest (positions_from 0 test names)
@@ -173,26 +189,32 @@ moved-none : (i : ℕ) (o : Option ℕ) → option_map (λ more. i + more) o ≡
 moved-none i None h = refl
 moved-none i (Some more) h = absurd (cc)
 
-moved-some : (i k : ℕ) (o : Option ℕ) → option_map (λ more. i + more) o ≡ Some k → (more : ℕ) × (o ≡ Some more) × (i + more ≡ k)
+moved-some : (i k : ℕ) (o : Option ℕ) → option_map (λ more. i + more) o ≡ Some k → (more : ℕ) × (o ≡ Some more)
+    × (i + more ≡ k)
 moved-some i k None h = absurd (cc)
 moved-some i k (Some more) h = (more, refl, cc)
 
-pub from-nobody : (test : SecName → Bool) (names : List SecName) → option_map (λ more. 0 + more) (position test (drop 0 names)) ≡ None
+pub from-nobody : (test : SecName → Bool) (names : List SecName)
+    → option_map (λ more. 0 + more) (position test (drop 0 names)) ≡ None
     → Nobody ≡ earliest (positions_from 0 test names)
 from-nobody test names h = earliest-nobody test names (moved-none 0 (position test names) h)
 
-first-from : (test : SecName → Bool) (names : List SecName) (i : ℕ) → option_map (λ more. 0 + more) (position test (drop 0 names)) ≡ Some i
+first-from : (test : SecName → Bool) (names : List SecName) (i : ℕ)
+    → option_map (λ more. 0 + more) (position test (drop 0 names)) ≡ Some i
     → position test names ≡ Some i
 first-from test names i h =
     let m = moved-some 0 i (position test names) h in
     m.1 ∙ ap (λ k. Some k) (sym (zero-add m.0) ∙ m.2)
 
-pub from-one : (test : SecName → Bool) (names : List SecName) (i : ℕ) → option_map (λ more. 0 + more) (position test (drop 0 names)) ≡ Some i
+pub from-one : (test : SecName → Bool) (names : List SecName) (i : ℕ)
+    → option_map (λ more. 0 + more) (position test (drop 0 names)) ≡ Some i
     → option_map (λ more. (i + 1) + more) (position test (drop (i + 1) names)) ≡ None
     → One i ≡ earliest (positions_from 0 test names)
-from-one test names i h none = earliest-one test names i (first-from test names i h) (moved-none (i + 1) (position test (drop (i + 1) names)) none)
+from-one test names i h none = earliest-one test names i (first-from test names i h)
+    (moved-none (i + 1) (position test (drop (i + 1) names)) none)
 
-pub from-several : (test : SecName → Bool) (names : List SecName) (i next : ℕ) → option_map (λ more. 0 + more) (position test (drop 0 names)) ≡ Some i
+pub from-several : (test : SecName → Bool) (names : List SecName) (i next : ℕ)
+    → option_map (λ more. 0 + more) (position test (drop 0 names)) ≡ Some i
     → option_map (λ more. (i + 1) + more) (position test (drop (i + 1) names)) ≡ Some next
     → Several i next ≡ earliest (positions_from 0 test names)
 from-several test names i next h more =

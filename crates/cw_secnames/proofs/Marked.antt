@@ -1,5 +1,8 @@
 -- The positions that are found by marks hold those of all names near a text.
-use Rattle.std.proofs.Common.{nat_lt, ◌≡◌, ℕ, zero, suc, ◌+◌, ◌-◌, ◌^◌, ◌<◌, ◌≤◌, ◌&&◌, ◌||◌, ◌==◌, ◌⊎◌, inl, inr, Bool, true, false, not, nat_eq, List, [], ◌∷◌, ◌++◌, map, length, take, get_or, cond, refl, ap, ◌∙◌, sym, subst, arith, min, length-take, take_all, take-take, eq-eqb, nat_cmp, is_eq, is_lt, is_le, Ordering, Less, Equal, Greater}
+use Rattle.std.proofs.Common.{nat_lt, ◌≡◌, ℕ, zero, suc, ◌+◌, ◌-◌, ◌^◌, ◌<◌, ◌≤◌, ◌&&◌, ◌||◌, ◌==◌, ◌⊎◌, inl, inr, Bool}
+use Rattle.std.proofs.Common.{true, false, not, nat_eq, List, [], ◌∷◌, ◌++◌, map, length, take, get_or, cond, refl, ap}
+use Rattle.std.proofs.Common.{◌∙◌, sym, subst, arith, min, length-take, take_all, take-take, eq-eqb, nat_cmp, is_eq}
+use Rattle.std.proofs.Common.{is_lt, is_le, Ordering, Less, Equal, Greater}
 use Rattle.std.proofs.lemmas.Bool.{ltb-true}
 use Rattle.std.specs.Ordering.{ordering_then, MatchOrdering}
 use Rattle.std.specs.List.{list_any}
@@ -16,7 +19,8 @@ use Rattle.cw_base.proofs.TestLaws.{one-left, one-right}
 use Rattle.cw_secnames.specs.declared.kinds.SecKind.{SecKind}
 use Rattle.cw_secnames.specs.declared.marks.Marks.{Marks}
 use Rattle.cw_secnames.specs.Kept.{begins}
-use Rattle.cw_secnames.specs.Marks.{first_mark, next_mark, mark_from, mark_of, is_kept_length, last_kept, pair_cmp, Has, HasAll, positions_at, is_in, wholes_at, IsMarked, KeepsMarks, IsNear}
+use Rattle.cw_secnames.specs.Marks.{first_mark, next_mark, mark_from, mark_of, is_kept_length, last_kept, pair_cmp, Has}
+use Rattle.cw_secnames.specs.Marks.{HasAll, positions_at, is_in, wholes_at, IsMarked, KeepsMarks, IsNear}
 
 -- ## What a set has under a mark
 
@@ -33,7 +37,8 @@ both false b h = absurd (cc)
 parts : (mark k : ℕ) (pair : ℕ × ℕ) → is_at (pair_cmp (mark, k)) pair ≡ true → (mark ≡ pair.0) × (k ≡ pair.1)
 parts mark k pair h =
     let each : (is_eq (nat_cmp mark pair.0) ≡ true) × (is_eq (nat_cmp k pair.1) ≡ true) =
-    both (is_eq (nat_cmp mark pair.0)) (is_eq (nat_cmp k pair.1)) (tied_then (nat_cmp mark pair.0) (nat_cmp k pair.1) ∙ h) in (
+    both (is_eq (nat_cmp mark pair.0)) (is_eq (nat_cmp k pair.1)) (tied_then (nat_cmp mark pair.0) (nat_cmp k pair.1)
+        ∙ h) in (
       same-by (nat_cmp mark pair.0) mark pair.0 each.0 (ranked mark pair.0 (nat_cmp mark pair.0) refl),
       same-by (nat_cmp k pair.1) k pair.1 each.1 (ranked k pair.1 (nat_cmp k pair.1) refl),
     )
@@ -52,28 +57,34 @@ pub and-yes : (a b : Bool) → a ≡ true → b ≡ true → (a && b) ≡ true
 and-yes true b h k = k
 and-yes false b h k = absurd (cc)
 
-ranges : (mark k : ℕ) → k < 2 ^ 32 → range_contains pair_cmp (Included (mark, 0)) (Included (mark, 2 ^ 32 - 1)) (mark, k) ≡ true
+ranges : (mark k : ℕ) → k < 2 ^ 32 → range_contains pair_cmp (Included (mark, 0)) (Included (mark, 2 ^ 32 - 1))
+    (mark, k) ≡ true
 ranges mark k h =
     let tied : nat_cmp mark mark ≡ Equal = tied_itself nat_cmp_total mark in
     and-yes (is_le (pair_cmp (mark, 0) (mark, k))) (not (is_lt (pair_cmp (mark, 2 ^ 32 - 1) (mark, k))))
-    (ap (λ o. is_le (ordering_then o (nat_cmp 0 k))) tied ∙ low-by (nat_cmp 0 k) 0 k (omega arith) (ranked 0 k (nat_cmp 0 k) refl))
+    (ap (λ o. is_le (ordering_then o (nat_cmp 0 k))) tied
+        ∙ low-by (nat_cmp 0 k) 0 k (omega arith) (ranked 0 k (nat_cmp 0 k) refl))
     (ap (λ o. not (is_lt (ordering_then o (nat_cmp (2 ^ 32 - 1) k)))) tied
-    ∙ high-by (nat_cmp (2 ^ 32 - 1) k) (2 ^ 32 - 1) k (omega arith) (ranked (2 ^ 32 - 1) k (nat_cmp (2 ^ 32 - 1) k) refl))
+    ∙ high-by (nat_cmp (2 ^ 32 - 1) k) (2 ^ 32 - 1) k (omega arith) (ranked (2 ^ 32 - 1) k (nat_cmp (2 ^ 32 - 1) k)
+        refl))
 
 in-range : (mark k : ℕ) → k < 2 ^ 32 → (pair : ℕ × ℕ) → is_at (pair_cmp (mark, k)) pair ≡ true
     → range_contains pair_cmp (Included (mark, 0)) (Included (mark, 2 ^ 32 - 1)) pair ≡ true
 in-range mark k h pair at =
     let each : (mark ≡ pair.0) × (k ≡ pair.1) = parts mark k pair at in
     let same : (mark, k) ≡ pair = ap (λ (a : ℕ). (a, k)) each.0 ∙ ap (λ (b : ℕ). (pair.0, b)) each.1 in
-    subst (λ p. range_contains pair_cmp (Included (mark, 0)) (Included (mark, 2 ^ 32 - 1)) p ≡ true) same (ranges mark k h)
+    subst (λ p. range_contains pair_cmp (Included (mark, 0)) (Included (mark, 2 ^ 32 - 1)) p ≡ true) same
+        (ranges mark k h)
 
 pub or-yes : (a b : Bool) → (a || b) ≡ true → (a ≡ true) ⊎ (b ≡ true)
 or-yes true b h = inl refl
 or-yes false b h = inr h
 
-in-map : (mark k : ℕ) (pairs : List (ℕ × ℕ)) → list_any (is_at (pair_cmp (mark, k))) pairs ≡ true → is_in k (map (λ pair. pair.1) pairs) ≡ true
+in-map : (mark k : ℕ) (pairs : List (ℕ × ℕ)) → list_any (is_at (pair_cmp (mark, k))) pairs ≡ true
+    → is_in k (map (λ pair. pair.1) pairs) ≡ true
 in-map mark k [] h = absurd (cc)
-in-map mark k (pair ∷ pairs) h = elim (or-yes (is_at (pair_cmp (mark, k)) pair) (list_any (is_at (pair_cmp (mark, k))) pairs) h) [
+in-map mark k (pair ∷ pairs) h =
+    elim (or-yes (is_at (pair_cmp (mark, k)) pair) (list_any (is_at (pair_cmp (mark, k))) pairs) h) [
   | inl at ↦
       let e : (mark ≡ pair.0) × (k ≡ pair.1) = parts mark k pair at in
       one-left (pair.1 == k) (is_in k (map (λ p. p.1) pairs)) (eq-eqb pair.1 k (sym e.1))
@@ -83,7 +94,8 @@ in-map mark k (pair ∷ pairs) h = elim (or-yes (is_at (pair_cmp (mark, k)) pair
 pub is-at : (set : BTreeSet (ℕ × ℕ)) (mark k : ℕ) → k < 2 ^ 32 → Has set mark k → is_in k (positions_at mark set) ≡ true
 is-at set mark k small h =
     in-map mark k _
-    (any-filter_same (is_at (pair_cmp (mark, k))) (range_contains pair_cmp (Included (mark, 0)) (Included (mark, 2 ^ 32 - 1))) true (in-range mark k small) set.keys ∙ h)
+    (any-filter_same (is_at (pair_cmp (mark, k))) (range_contains pair_cmp (Included (mark, 0))
+        (Included (mark, 2 ^ 32 - 1))) true (in-range mark k small) set.keys ∙ h)
 
 pub in-left : (k : ℕ) (xs ys : List ℕ) → is_in k xs ≡ true → is_in k (xs ++ ys) ≡ true
 in-left k xs ys h = list_any-append (λ other. other == k) xs ys ∙ one-left (is_in k xs) (is_in k ys) h
@@ -96,8 +108,10 @@ cond-yes true c h = refl
 cond-yes false c h = h
 
 pub keeps-old : (old new : BTreeSet (ℕ × ℕ)) (pair : ℕ × ℕ)
-    → ((q : ℕ × ℕ) → contains pair_cmp new q ≡ cond (is_at (pair_cmp pair) q) true (contains pair_cmp old q)) → HasAll old new
-keeps-old old new pair h mark k has = h (mark, k) ∙ cond-yes (is_at (pair_cmp pair) (mark, k)) (contains pair_cmp old (mark, k)) has
+    → ((q : ℕ × ℕ) → contains pair_cmp new q ≡ cond (is_at (pair_cmp pair) q) true (contains pair_cmp old q))
+        → HasAll old new
+keeps-old old new pair h mark k has = h (mark, k) ∙ cond-yes (is_at (pair_cmp pair) (mark, k))
+    (contains pair_cmp old (mark, k)) has
 
 pub keeps-same : (old new : BTreeSet (ℕ × ℕ)) → new.keys ≡ old.keys → HasAll old new
 keeps-same old new h mark k has = ap (list_any (is_at (pair_cmp (mark, k)))) h ∙ has
@@ -123,7 +137,8 @@ pub record Found (marks : Marks) (kind : SecKind) (text : List ℕ) (count mark 
   pub start_is : start ≡ mark_of kind (take at text)
   pub shorter : (before k : ℕ) → before < count → IsMarked marks kind (take before text) k → is_in k near ≡ true
 
-pub found-first : (marks : Marks) (kind : SecKind) (text : List ℕ) (mark start : ℕ) (near : List ℕ) → mark ≡ first_mark kind → start ≡ first_mark kind
+pub found-first : (marks : Marks) (kind : SecKind) (text : List ℕ) (mark start : ℕ) (near : List ℕ)
+    → mark ≡ first_mark kind → start ≡ first_mark kind
     → Found marks kind text 0 mark start near
 unfolding is_kept_length
 found-first marks kind text mark start near is same = record {
@@ -140,7 +155,8 @@ below-or : (a b : ℕ) → a < b + 1 → (a < b) ⊎ (a ≡ b)
 below-or a b h = grind arith
 
 -- a text with so many bytes is found under its mark
-found-here : (short : Bool) (marks : Marks) (kind : SecKind) (text : List ℕ) (count k mark : ℕ) → nat_lt count marks.shortest ≡ short
+found-here : (short : Bool) (marks : Marks) (kind : SecKind) (text : List ℕ) (count k mark : ℕ)
+    → nat_lt count marks.shortest ≡ short
     → mark ≡ mark_of kind (take count text) → IsMarked marks kind (take count text) k
     → is_in k (elim short as (λ _. List ℕ) [ true ↦ [] | false ↦ positions_at mark marks.wholes ]) ≡ true
 found-here true marks kind text count k mark below is m =
@@ -160,12 +176,14 @@ shorter-more marks kind text count mark near is f before k h m = elim (below-or 
   | inl below ↦ in-left k near (wholes_at marks count mark) (f before k below m)
   | inr same ↦
       in-right k near (wholes_at marks count mark)
-      (found-here (nat_lt count marks.shortest) marks kind text count k mark refl is (subst (λ n. IsMarked marks kind (take n text) k) same m))
+      (found-here (nat_lt count marks.shortest) marks kind text count k mark refl is
+          (subst (λ n. IsMarked marks kind (take n text) k) same m))
 ]
 
 pub found-more : (marks : Marks) (kind : SecKind) (text : List ℕ) (count mark start d : ℕ) (near : List ℕ)
     → Found marks kind text count mark start near → count < length text
-    → Found marks kind text (count + 1) (next_mark mark (get_or text count d)) start (near ++ wholes_at marks count mark)
+    → Found marks kind text (count + 1) (next_mark mark (get_or text count d)) start
+        (near ++ wholes_at marks count mark)
 found-more marks kind text count mark start d near f h = record {
   mark_is = ap (λ m. next_mark m (get_or text count d)) f.mark_is ∙ sym (mark-more (first_mark kind) text count d h);
   at = f.at;
@@ -176,7 +194,8 @@ found-more marks kind text count mark start d near f h = record {
   shorter = shorter-more marks kind text count mark near f.mark_is f.shorter;
 }
 
-kept-by : (b : Bool) (marks : Marks) (kind : SecKind) (text : List ℕ) (count mark start : ℕ) (near : List ℕ) → is_kept_length count ≡ b
+kept-by : (b : Bool) (marks : Marks) (kind : SecKind) (text : List ℕ) (count mark start : ℕ) (near : List ℕ)
+    → is_kept_length count ≡ b
     → Found marks kind text count mark start near
     → Found marks kind text count mark (elim b as (λ _. ℕ) [ true ↦ mark | false ↦ start ]) near
 kept-by true marks kind text count mark start near kept f = record {
@@ -197,7 +216,8 @@ pub found-next : (marks : Marks) (kind : SecKind) (text : List ℕ) (count mark 
     → Found marks kind text (count + 1) new next more
 found-next marks kind text count mark start new next d near more f h is last all =
     rw (all, last, is)
-    (kept-by (is_kept_length (count + 1)) marks kind text (count + 1) (next_mark mark (get_or text count d)) start (near ++ wholes_at marks count mark) refl
+    (kept-by (is_kept_length (count + 1)) marks kind text (count + 1) (next_mark mark (get_or text count d)) start
+        (near ++ wholes_at marks count mark) refl
     (found-more marks kind text count mark start d near f h))
 
 -- ## What is found in the end
@@ -207,7 +227,8 @@ begins-take first text h = same_text first (take (length first) text) (sym h)
 
 not-longer : (first text : List ℕ) → begins first text ≡ true → length first ≤ length text
 not-longer first text h =
-    let e : length first ≡ min (length first) (length text) = ap length (begins-take first text h) ∙ length-take (length first) text in
+    let e : length first ≡ min (length first) (length text) = ap length (begins-take first text h)
+        ∙ length-take (length first) text in
     omega arith
 
 longer : (marks : Marks) (kind : SecKind) (text other : List ℕ) (k at : ℕ) → IsMarked marks kind other k
@@ -224,27 +245,31 @@ decide : (a b : ℕ) → a ≤ b → (a < b) ⊎ (a ≡ b)
 decide a b h = grind arith
 
 pub begins-self : (text other : List ℕ) → other ≡ text → begins text other ≡ true
-begins-self text other h = subst (λ t. begins text t ≡ true) (sym h) (ap (pointwise nat_eq text) (take_all (length text) text (omega arith)) ∙ nat_list_eq_equiv.refl text)
+begins-self text other h = subst (λ t. begins text t ≡ true) (sym h)
+    (ap (pointwise nat_eq text) (take_all (length text) text (omega arith)) ∙ nat_list_eq_equiv.refl text)
 
 found-all : (marks : Marks) (kind : SecKind) (text other : List ℕ) (mark start k : ℕ) (near : List ℕ)
     → Found marks kind text (length text) mark start near → IsMarked marks kind other k → IsNear other text
     → is_in k (near ++ positions_at start marks.starts) ≡ true
 found-all marks kind text other mark start k near f m h =
     let more = λ (begun : begins text other ≡ true). in-right k near (positions_at start marks.starts)
-    (subst (λ s. is_in k (positions_at s marks.starts) ≡ true) (sym f.start_is) (longer marks kind text other k f.at m begun f.at_most f.kept)) in
+    (subst (λ s. is_in k (positions_at s marks.starts) ≡ true) (sym f.start_is)
+        (longer marks kind text other k f.at m begun f.at_most f.kept)) in
     elim (or-yes (begins other text) (begins text other) h) [
       | inl first ↦ elim (decide (length other) (length text) (not-longer other text first)) [
         | inl below ↦
             in-left k near (positions_at start marks.starts)
             (f.shorter (length other) k below (subst (λ t. IsMarked marks kind t k) (begins-take other text first) m))
         | inr same ↦
-            more (begins-self text other (begins-take other text first ∙ (ap (λ n. take n text) same ∙ take_all (length text) text (omega arith))))
+            more (begins-self text other (begins-take other text first
+                ∙ (ap (λ n. take n text) same ∙ take_all (length text) text (omega arith))))
       ]
       | inr begun ↦ more begun
     ]
 
 pub found-end : (marks : Marks) (kind : SecKind) (text other : List ℕ) (count mark start k : ℕ) (near : List ℕ)
-    → Found marks kind text count mark start near → length text ≤ count → IsMarked marks kind other k → IsNear other text
+    → Found marks kind text count mark start near → length text ≤ count → IsMarked marks kind other k
+        → IsNear other text
     → is_in k (near ++ positions_at start marks.starts) ≡ true
 found-end marks kind text other count mark start k near f end m h =
     let within : count ≤ length text = f.within in
@@ -253,7 +278,8 @@ found-end marks kind text other count mark start k near f end m h =
 
 -- ## What a name is marked by
 
-pub keeps-all : (marks more : Marks) → more.shortest ≤ marks.shortest → HasAll marks.wholes more.wholes → HasAll marks.starts more.starts → KeepsMarks marks more
+pub keeps-all : (marks more : Marks) → more.shortest ≤ marks.shortest → HasAll marks.wholes more.wholes
+    → HasAll marks.starts more.starts → KeepsMarks marks more
 keeps-all marks more low wholes starts kind text k m = record {
   small = m.small;
   long = let long : marks.shortest ≤ length text = m.long in omega arith;
@@ -269,8 +295,10 @@ pub record Marking (old marks : Marks) (kind : SecKind) (text : List ℕ) (k cou
   pub keeps : HasAll old.starts marks.starts
   pub starts : (at : ℕ) → at ≤ count → is_kept_length at ≡ true → Has marks.starts (mark_of kind (take at text)) k
 
-pub enter-first : (old marks : Marks) (kind : SecKind) (text : List ℕ) (k mark : ℕ) → mark ≡ first_mark kind → marks.shortest ≡ min old.shortest (length text)
-    → HasAll old.wholes marks.wholes → HasAll old.starts marks.starts → (is_kept_length 0 ≡ true → Has marks.starts mark k) → Marking old marks kind text k 0 mark
+pub enter-first : (old marks : Marks) (kind : SecKind) (text : List ℕ) (k mark : ℕ) → mark ≡ first_mark kind
+    → marks.shortest ≡ min old.shortest (length text)
+    → HasAll old.wholes marks.wholes → HasAll old.starts marks.starts
+        → (is_kept_length 0 ≡ true → Has marks.starts mark k) → Marking old marks kind text k 0 mark
 enter-first old marks kind text k mark is shortest wholes keeps has = record {
   mark_is = is;
   shortest = shortest;
@@ -294,9 +322,11 @@ starts-more marks more kind text k count mark grows starts has at h kept = elim 
       subst (λ n. Has more.starts (mark_of kind (take n text)) k) (sym same) (has here)
 ]
 
-pub enter-more : (old marks more : Marks) (kind : SecKind) (text : List ℕ) (k count mark new d : ℕ) → Marking old marks kind text k count mark
+pub enter-more : (old marks more : Marks) (kind : SecKind) (text : List ℕ) (k count mark new d : ℕ)
+    → Marking old marks kind text k count mark
     → count < length text → new ≡ next_mark mark (get_or text count d) → more.shortest ≡ marks.shortest
-    → HasAll marks.wholes more.wholes → HasAll marks.starts more.starts → (is_kept_length (count + 1) ≡ true → Has more.starts new k) → Marking old more kind text k (count + 1) new
+    → HasAll marks.wholes more.wholes → HasAll marks.starts more.starts
+        → (is_kept_length (count + 1) ≡ true → Has more.starts new k) → Marking old more kind text k (count + 1) new
 enter-more old marks more kind text k count mark new d e h byte shortest wholes grows has =
     let is : new ≡ mark_of kind (take (count + 1) text) =
     byte ∙ (ap (λ m. next_mark m (get_or text count d)) e.mark_is ∙ sym (mark-more (first_mark kind) text count d h)) in
@@ -305,10 +335,12 @@ enter-more old marks more kind text k count mark new d e h byte shortest wholes 
       shortest = shortest ∙ e.shortest;
       wholes = λ m j h. wholes m j (e.wholes m j h);
       keeps = λ m j h. grows m j (e.keeps m j h);
-      starts = starts-more marks more kind text k count mark grows e.starts (λ kept. subst (λ m. Has more.starts m k) is (has kept));
+      starts = starts-more marks more kind text k count mark grows e.starts
+          (λ kept. subst (λ m. Has more.starts m k) is (has kept));
     }
 
-pub enter-last : (old marks more : Marks) (kind : SecKind) (text : List ℕ) (k count mark : ℕ) → k < 2 ^ 32 → more.shortest ≤ length text → Marking old marks kind text k count mark
+pub enter-last : (old marks more : Marks) (kind : SecKind) (text : List ℕ) (k count mark : ℕ) → k < 2 ^ 32
+    → more.shortest ≤ length text → Marking old marks kind text k count mark
     → length text ≤ count → HasAll marks.starts more.starts → Has more.wholes mark k → IsMarked more kind text k
 enter-last old marks more kind text k count mark small long e end grows has = record {
   small = small;

@@ -1,5 +1,9 @@
 -- The earliest name that passes is the least position, among those near a text, of a name that passes.
-use Rattle.std.proofs.Common.{◌≡◌, ℕ, zero, suc, ◌+◌, ◌-◌, ◌<◌, ◌≤◌, ◌&&◌, ◌||◌, ◌==◌, ◌⊎◌, inl, inr, Bool, true, false, not, nat_lt, nat_le, nat_eq, List, [], ◌∷◌, ◌++◌, Option, Some, None, IfSome, slice_set, option_map, map, length, drop, take, get_or, cond, refl, ap, ◌∙◌, sym, subst, arith, add-zero, zero-add, length-drop, get_or-drop, eqb-true, lt-ltb, ltb-true, ltb-false, le-ltb, leb-true, le-leb}
+use Rattle.std.proofs.Common.{◌≡◌, ℕ, zero, suc, ◌+◌, ◌-◌, ◌<◌, ◌≤◌, ◌&&◌, ◌||◌, ◌==◌, ◌⊎◌, inl, inr, Bool, true, false}
+use Rattle.std.proofs.Common.{not, nat_lt, nat_le, nat_eq, List, [], ◌∷◌, ◌++◌, Option, Some, None, IfSome, slice_set}
+use Rattle.std.proofs.Common.{option_map, map, length, drop, take, get_or, cond, refl, ap, ◌∙◌, sym, subst, arith}
+use Rattle.std.proofs.Common.{add-zero, zero-add, length-drop, get_or-drop, eqb-true, lt-ltb, ltb-true, ltb-false}
+use Rattle.std.proofs.Common.{le-ltb, leb-true, le-leb}
 use Rattle.std.specs.List.{position, position_or_len}
 use Rattle.std.specs.Cmp.Lexicographic.{same_text, pointwise}
 use Rattle.std.proofs.lemmas.List.Sums.{position_or_len_is}
@@ -22,21 +26,26 @@ use Rattle.cw_secnames.proofs.Marked.{both, and-yes, or-yes, begins-self}
 
 -- ## All names are marked
 
-pub marked-more : (marks more : Marks) (k : ℕ) (names : List SecName) → KeepsMarks marks more → AreMarked marks k names → AreMarked more k names
+pub marked-more : (marks more : Marks) (k : ℕ) (names : List SecName) → KeepsMarks marks more → AreMarked marks k names
+    → AreMarked more k names
 marked-more marks more k [] keeps h = tt
-marked-more marks more k (n ∷ names) keeps h = (keeps n.kind n.text k h.0, marked-more marks more (k + 1) names keeps h.1)
+marked-more marks more k (n ∷ names) keeps h = (keeps n.kind n.text k h.0, marked-more marks more (k + 1) names keeps
+    h.1)
 
-marked-by : (marks : Marks) (k : ℕ) (how : RefKind) (section : ℕ) (n : SecName) (names : List SecName) → AreMarked marks k (n ∷ names)
+marked-by : (marks : Marks) (k : ℕ) (how : RefKind) (section : ℕ) (n : SecName) (names : List SecName)
+    → AreMarked marks k (n ∷ names)
     → AreMarked marks k (with_section how section n ∷ names)
 marked-by marks k Defined section n names h = h
 marked-by marks k Used section n names h = h
 marked-by marks k Cited section n names h = h
 
-pub marked-with_reference : (marks : Marks) (k i : ℕ) (how : RefKind) (section : ℕ) (names : List SecName) → AreMarked marks k names
+pub marked-with_reference : (marks : Marks) (k i : ℕ) (how : RefKind) (section : ℕ) (names : List SecName)
+    → AreMarked marks k names
     → AreMarked marks k (with_reference i how section names)
 marked-with_reference marks k i how section [] h = tt
 marked-with_reference marks k zero how section (n ∷ names) h = marked-by marks k how section n names h
-marked-with_reference marks k (suc i) how section (n ∷ names) h = (h.0, marked-with_reference marks (k + 1) i how section names h.1)
+marked-with_reference marks k (suc i) how section (n ∷ names) h =
+    (h.0, marked-with_reference marks (k + 1) i how section names h.1)
 
 -- ## The names near a text
 
@@ -46,31 +55,43 @@ same File File h = refl
 same Named File h = absurd (cc)
 same File Named h = absurd (cc)
 
-pub holds : (marks : Marks) (near : List ℕ) (kind : SecKind) (text : List ℕ) (k : ℕ) (names : List SecName) → AreMarked marks k names
-    → ((other : List ℕ) (k : ℕ) → IsMarked marks kind other k → IsNear other text → is_in k near ≡ true) → HoldNear near kind text k names
+pub holds : (marks : Marks) (near : List ℕ) (kind : SecKind) (text : List ℕ) (k : ℕ) (names : List SecName)
+    → AreMarked marks k names
+    → ((other : List ℕ) (k : ℕ) → IsMarked marks kind other k → IsNear other text → is_in k near ≡ true)
+        → HoldNear near kind text k names
 holds marks near kind text k [] h f = tt
 holds marks near kind text k (n ∷ names) h f = (
   λ is.
-      let each : (same_kind kind n.kind ≡ true) × (IsNear n.text text) = both (same_kind kind n.kind) (begins n.text text || begins text n.text) is in
+      let each : (same_kind kind n.kind ≡ true) × (IsNear n.text text) =
+          both (same_kind kind n.kind) (begins n.text text || begins text n.text) is in
       f n.text k (subst (λ kind. IsMarked marks kind n.text k) (same kind n.kind each.0) h.0) each.1,
   holds marks near kind text (k + 1) names h.1 f,
 )
 
-begun : (kind : SecKind) (text : List ℕ) (n : SecName) → same_kind kind n.kind ≡ true → begins n.text text ≡ true → is_near kind text n ≡ true
-begun kind text n h k = and-yes (same_kind kind n.kind) (begins n.text text || begins text n.text) h (one-left (begins n.text text) (begins text n.text) k)
+begun : (kind : SecKind) (text : List ℕ) (n : SecName) → same_kind kind n.kind ≡ true → begins n.text text ≡ true
+    → is_near kind text n ≡ true
+begun kind text n h k = and-yes (same_kind kind n.kind) (begins n.text text || begins text n.text) h
+    (one-left (begins n.text text) (begins text n.text) k)
 
-begins-it : (kind : SecKind) (text : List ℕ) (n : SecName) → same_kind kind n.kind ≡ true → begins text n.text ≡ true → is_near kind text n ≡ true
-begins-it kind text n h k = and-yes (same_kind kind n.kind) (begins n.text text || begins text n.text) h (one-right (begins n.text text) (begins text n.text) k)
+begins-it : (kind : SecKind) (text : List ℕ) (n : SecName) → same_kind kind n.kind ≡ true → begins text n.text ≡ true
+    → is_near kind text n ≡ true
+begins-it kind text n h k = and-yes (same_kind kind n.kind) (begins n.text text || begins text n.text) h
+    (one-right (begins n.text text) (begins text n.text) k)
 
 -- a name that passes is near
-passes-near : (asked : Asked) (text : List ℕ) (n : SecName) → passes asked text n ≡ true → is_near (kind_asked asked) text n ≡ true
+passes-near : (asked : Asked) (text : List ℕ) (n : SecName) → passes asked text n ≡ true
+    → is_near (kind_asked asked) text n ≡ true
 passes-near (Whole kind) text n h =
-    let a : (n.complete ≡ true) × ((same_kind kind n.kind && pointwise nat_eq text n.text) ≡ true) = both n.complete (same_kind kind n.kind && pointwise nat_eq text n.text) h in
-    let b : (same_kind kind n.kind ≡ true) × (pointwise nat_eq text n.text ≡ true) = both (same_kind kind n.kind) (pointwise nat_eq text n.text) a.1 in
+    let a : (n.complete ≡ true) × ((same_kind kind n.kind && pointwise nat_eq text n.text) ≡ true) =
+        both n.complete (same_kind kind n.kind && pointwise nat_eq text n.text) h in
+    let b : (same_kind kind n.kind ≡ true) × (pointwise nat_eq text n.text ≡ true) =
+        both (same_kind kind n.kind) (pointwise nat_eq text n.text) a.1 in
     begins-it kind text n b.0 (begins-self text n.text (sym (same_text text n.text (sym b.1))))
 passes-near (Growing kind) text n h =
-    let a : (not n.complete ≡ true) × ((same_kind kind n.kind && begins n.text text) ≡ true) = both (not n.complete) (same_kind kind n.kind && begins n.text text) h in
-    let b : (same_kind kind n.kind ≡ true) × (begins n.text text ≡ true) = both (same_kind kind n.kind) (begins n.text text) a.1 in
+    let a : (not n.complete ≡ true) × ((same_kind kind n.kind && begins n.text text) ≡ true) =
+        both (not n.complete) (same_kind kind n.kind && begins n.text text) h in
+    let b : (same_kind kind n.kind ≡ true) × (begins n.text text ≡ true) =
+        both (same_kind kind n.kind) (begins n.text text) a.1 in
     begun kind text n b.0 b.1
 passes-near (Conflicting kind) text n h =
     let a : (same_kind kind n.kind ≡ true) × ((begins_properly n.text text || begins_properly text n.text) ≡ true) =
@@ -87,18 +108,22 @@ passes-near Candidate text n h =
       | inr one ↦ begun Named text n a.0 (both (not n.complete) (begins n.text text) one).1
     ]
 
-pub is-held : (near : List ℕ) (asked : Asked) (text : List ℕ) (j : ℕ) (names : List SecName) (k : ℕ) → HoldNear near (kind_asked asked) text j names
+pub is-held : (near : List ℕ) (asked : Asked) (text : List ℕ) (j : ℕ) (names : List SecName) (k : ℕ)
+    → HoldNear near (kind_asked asked) text j names
     → passes_at (passes asked text) names k ≡ true → is_in (j + k) near ≡ true
 is-held near asked text j [] k h p =
-    let a : (nat_lt k 0 ≡ true) × (passes asked text (get_or [] k (unreferred Named [] false)) ≡ true) = both (nat_lt k 0) _ p in
+    let a : (nat_lt k 0 ≡ true) × (passes asked text (get_or [] k (unreferred Named [] false)) ≡ true) =
+        both (nat_lt k 0) _ p in
     let none : k < 0 = ltb-true k 0 a.0 in
     absurd (omega arith)
 is-held near asked text j (n ∷ names) zero h p =
-    let a : (nat_lt 0 (suc (length names)) ≡ true) × (passes asked text n ≡ true) = both (nat_lt 0 (suc (length names))) (passes asked text n) p in
+    let a : (nat_lt 0 (suc (length names)) ≡ true) × (passes asked text n ≡ true) =
+        both (nat_lt 0 (suc (length names))) (passes asked text n) p in
     subst (λ i. is_in i near ≡ true) (sym (add-zero j)) (h.0 (passes-near asked text n a.1))
 is-held near asked text j (n ∷ names) (suc k) h p =
     let at : SecName = get_or names k (unreferred Named [] false) in
-    let a : (nat_lt (suc k) (suc (length names)) ≡ true) × (passes asked text at ≡ true) = both (nat_lt (suc k) (suc (length names))) (passes asked text at) p in
+    let a : (nat_lt (suc k) (suc (length names)) ≡ true) × (passes asked text at ≡ true) =
+        both (nat_lt (suc k) (suc (length names))) (passes asked text at) p in
     let below : suc k < suc (length names) = ltb-true (suc k) (suc (length names)) a.0 in
     let one : (j + 1) + k ≡ j + suc k = omega arith in
     subst (λ i. is_in i near ≡ true) one
@@ -118,34 +143,42 @@ AtMost (Some least) k = least ≤ k
 abbrev lesser : (SecName → Bool) → List SecName → ℕ → Option ℕ → ℕ → Option ℕ
 lesser test names from least k = chosen (is_lesser test names from least k) k least
 
-sound-by : (b : Bool) (test : SecName → Bool) (names : List SecName) (from k : ℕ) (least : Option ℕ) → is_lesser test names from least k ≡ b
+sound-by : (b : Bool) (test : SecName → Bool) (names : List SecName) (from k : ℕ) (least : Option ℕ)
+    → is_lesser test names from least k ≡ b
     → Sound test names from least → Sound test names from (chosen b k least)
 sound-by true test names from k least h s =
-    let a : (nat_le from k ≡ true) × ((is_below k least && passes_at test names k) ≡ true) = both (nat_le from k) (is_below k least && passes_at test names k) h in
+    let a : (nat_le from k ≡ true) × ((is_below k least && passes_at test names k) ≡ true) =
+        both (nat_le from k) (is_below k least && passes_at test names k) h in
     (leb-true from k a.0, (both (is_below k least) (passes_at test names k) a.1).1)
 sound-by false test names from k least h s = s
 
-pub sound : (test : SecName → Bool) (names : List SecName) (from : ℕ) (least : Option ℕ) (positions : List ℕ) → Sound test names from least
+pub sound : (test : SecName → Bool) (names : List SecName) (from : ℕ) (least : Option ℕ) (positions : List ℕ)
+    → Sound test names from least
     → Sound test names from (least_of test names from least positions)
 sound test names from least [] s = s
 sound test names from least (k ∷ positions) s =
-    sound test names from (lesser test names from least k) positions (sound-by (is_lesser test names from least k) test names from k least refl s)
+    sound test names from (lesser test names from least k) positions (sound-by (is_lesser test names from least k) test
+        names from k least refl s)
 
-keeps-by : (b : Bool) (k j : ℕ) (least : Option ℕ) → (b ≡ true → is_below j least ≡ true) → AtMost least k → AtMost (chosen b j least) k
+keeps-by : (b : Bool) (k j : ℕ) (least : Option ℕ) → (b ≡ true → is_below j least ≡ true) → AtMost least k
+    → AtMost (chosen b j least) k
 keeps-by false k j least below h = h
 keeps-by true k j None below h = absurd h
 keeps-by true k j (Some least) below h =
     let less : j < least = ltb-true j least (below refl) in omega arith
 
-keeps : (test : SecName → Bool) (names : List SecName) (from k j : ℕ) (least : Option ℕ) → AtMost least k → AtMost (lesser test names from least j) k
+keeps : (test : SecName → Bool) (names : List SecName) (from k j : ℕ) (least : Option ℕ) → AtMost least k
+    → AtMost (lesser test names from least j) k
 keeps test names from k j least h =
     keeps-by (is_lesser test names from least j) k j least
     (λ e.
-    let a : (nat_le from j ≡ true) × ((is_below j least && passes_at test names j) ≡ true) = both (nat_le from j) (is_below j least && passes_at test names j) e in
+    let a : (nat_le from j ≡ true) × ((is_below j least && passes_at test names j) ≡ true) =
+        both (nat_le from j) (is_below j least && passes_at test names j) e in
     (both (is_below j least) (passes_at test names j) a.1).0)
     h
 
-here-below : (b : Bool) (k : ℕ) (least : Option ℕ) → (b ≡ false → is_below k least ≡ false) → AtMost (chosen b k least) k
+here-below : (b : Bool) (k : ℕ) (least : Option ℕ) → (b ≡ false → is_below k least ≡ false)
+    → AtMost (chosen b k least) k
 here-below true k least h = omega arith
 here-below false k None h = absurd (let e : true ≡ false = h refl in cc)
 here-below false k (Some least) h = ltb-false k least (h refl)
@@ -154,13 +187,17 @@ and-no : (a b c : Bool) → a ≡ true → c ≡ true → (a && (b && c)) ≡ fa
 and-no a true c h k e = absurd (let f : (a && (true && c)) ≡ true = and-yes a c h k in cc)
 and-no a false c h k e = refl
 
-here : (test : SecName → Bool) (names : List SecName) (from k : ℕ) (least : Option ℕ) → from ≤ k → passes_at test names k ≡ true
+here : (test : SecName → Bool) (names : List SecName) (from k : ℕ) (least : Option ℕ) → from ≤ k
+    → passes_at test names k ≡ true
     → AtMost (lesser test names from least k) k
 here test names from k least h p =
-    here-below (is_lesser test names from least k) k least (and-no (nat_le from k) (is_below k least) (passes_at test names k) (le-leb from k h) p)
+    here-below (is_lesser test names from least k) k least
+        (and-no (nat_le from k) (is_below k least) (passes_at test names k) (le-leb from k h) p)
 
-pub at-most : (test : SecName → Bool) (names : List SecName) (from : ℕ) (least : Option ℕ) (positions : List ℕ) (k : ℕ) → from ≤ k
-    → passes_at test names k ≡ true → (is_in k positions ≡ true) ⊎ AtMost least k → AtMost (least_of test names from least positions) k
+pub at-most : (test : SecName → Bool) (names : List SecName) (from : ℕ) (least : Option ℕ) (positions : List ℕ) (k : ℕ)
+    → from ≤ k
+    → passes_at test names k ≡ true → (is_in k positions ≡ true) ⊎ AtMost least k
+        → AtMost (least_of test names from least positions) k
 at-most test names from least [] k h p (inl e) = absurd (cc)
 at-most test names from least [] k h p (inr e) = e
 at-most test names from least (j ∷ positions) k h p (inr e) =
@@ -182,11 +219,13 @@ not-true false h = refl
 abbrev nobody : SecName
 nobody = unreferred Named [] false
 
-passes-behind : (test : SecName → Bool) (names : List SecName) (from k : ℕ) → k < length (drop from names) → test (get_or (drop from names) k nobody) ≡ true
+passes-behind : (test : SecName → Bool) (names : List SecName) (from k : ℕ) → k < length (drop from names)
+    → test (get_or (drop from names) k nobody) ≡ true
     → passes_at test names (from + k) ≡ true
 passes-behind test names from k h e =
     let long : length (drop from names) ≡ length names - from = length-drop from names in
-    and-yes (nat_lt (from + k) (length names)) (test (get_or names (from + k) nobody)) (lt-ltb (from + k) (length names) (omega arith))
+    and-yes (nat_lt (from + k) (length names)) (test (get_or names (from + k) nobody))
+        (lt-ltb (from + k) (length names) (omega arith))
     (ap test (sym (get_or-drop from names k nobody)) ∙ e)
 
 at-end : (p n : ℕ) → p ≡ n → cond (nat_lt p n) (Some p) None ≡ None
@@ -201,11 +240,14 @@ pub least-is : (test : SecName → Bool) (names : List SecName) (from : ℕ) (r 
 least-is test names from None s h =
     let place : position_or_len test (drop from names) ≡ length (drop from names) =
     position_or_len_is test (drop from names) (length (drop from names)) nobody (omega arith)
-    (λ k below. not-true (test (get_or (drop from names) k nobody)) (λ e. h (from + k) (omega arith) (passes-behind test names from k below e)))
+    (λ k below. not-true (test (get_or (drop from names) k nobody))
+        (λ e. h (from + k) (omega arith) (passes-behind test names from k below e)))
     (λ below. absurd (omega arith)) in
-    ap (option_map (λ more. from + more)) (sym (at-end (position_or_len test (drop from names)) (length (drop from names)) place))
+    ap (option_map (λ more. from + more)) (sym (at-end (position_or_len test (drop from names))
+        (length (drop from names)) place))
 least-is test names from (Some i) s h =
-    let a : (nat_lt i (length names) ≡ true) × (test (get_or names i nobody) ≡ true) = both (nat_lt i (length names)) (test (get_or names i nobody)) s.1 in
+    let a : (nat_lt i (length names) ≡ true) × (test (get_or names i nobody) ≡ true) =
+        both (nat_lt i (length names)) (test (get_or names i nobody)) s.1 in
     let low : from ≤ i = s.0 in
     let high : i < length names = ltb-true i (length names) a.0 in
     let long : length (drop from names) ≡ length names - from = length-drop from names in
@@ -216,36 +258,48 @@ least-is test names from (Some i) s h =
     let most : i ≤ from + k = h (from + k) (omega arith) (passes-behind test names from k (omega arith) e) in
     omega arith))
     (λ below. ap test (get_or-drop from names (i - from) nobody ∙ ap (λ j. get_or names j nobody) back) ∙ a.1) in
-    ap Some (sym back) ∙ ap (option_map (λ more. from + more)) (sym (at-some (position_or_len test (drop from names)) (length (drop from names)) (i - from) place (omega arith)))
+    ap Some (sym back) ∙ ap (option_map (λ more. from + more))
+        (sym (at-some (position_or_len test (drop from names)) (length (drop from names)) (i - from) place
+        (omega arith)))
 
 -- what is least among the positions near a text is the first of all names
-pub least-first : (near : List ℕ) (asked : Asked) (text : List ℕ) (names : List SecName) (from : ℕ) → HoldNear near (kind_asked asked) text 0 names
-    → least_of (passes asked text) names from None near ≡ option_map (λ more. from + more) (position (passes asked text) (drop from names))
+pub least-first : (near : List ℕ) (asked : Asked) (text : List ℕ) (names : List SecName) (from : ℕ)
+    → HoldNear near (kind_asked asked) text 0 names
+    → least_of (passes asked text) names from None near
+        ≡ option_map (λ more. from + more) (position (passes asked text) (drop from names))
 least-first near asked text names from h =
-    least-is (passes asked text) names from (least_of (passes asked text) names from None near) (sound (passes asked text) names from None near tt)
-    (λ k low p. at-most (passes asked text) names from None near k low p (inl (subst (λ i. is_in i near ≡ true) (zero-add k) (is-held near asked text 0 names k h p))))
+    least-is (passes asked text) names from (least_of (passes asked text) names from None near)
+        (sound (passes asked text) names from None near tt)
+    (λ k low p. at-most (passes asked text) names from None near k low p
+        (inl (subst (λ i. is_in i near ≡ true) (zero-add k) (is-held near asked text 0 names k h p))))
 
 pub from-first : (o : Option ℕ) → option_map (λ more. 0 + more) o ≡ o
 from-first None = refl
 from-first (Some k) = ap Some (zero-add k)
 
 -- a position more
-least-more : (test : SecName → Bool) (names : List SecName) (from : ℕ) (least : Option ℕ) (near : List ℕ) (i : ℕ) → i < length near
-    → least_of test names from least (take (i + 1) near) ≡ lesser test names from (least_of test names from least (take i near)) (get_or near i 0)
+least-more : (test : SecName → Bool) (names : List SecName) (from : ℕ) (least : Option ℕ) (near : List ℕ) (i : ℕ)
+    → i < length near
+    → least_of test names from least (take (i + 1) near)
+        ≡ lesser test names from (least_of test names from least (take i near)) (get_or near i 0)
 least-more test names from least [] i h = absurd (omega arith)
 least-more test names from least (k ∷ near) zero h = refl
 least-more test names from least (k ∷ near) (suc i) h =
     let one : suc i + 1 ≡ suc (i + 1) = omega arith in
-    ap (λ n. least_of test names from least (take n (k ∷ near))) one ∙ least-more test names from (lesser test names from least k) near i (omega arith)
+    ap (λ n. least_of test names from least (take n (k ∷ near))) one
+        ∙ least-more test names from (lesser test names from least k) near i (omega arith)
 
-pub least-next : (test : SecName → Bool) (names : List SecName) (from : ℕ) (near : List ℕ) (i : ℕ) (less : Bool) (best next : Option ℕ)
-    → i < length near → best ≡ least_of test names from None (take i near) → less ≡ is_lesser test names from best (get_or near i 0)
+pub least-next : (test : SecName → Bool) (names : List SecName) (from : ℕ) (near : List ℕ) (i : ℕ) (less : Bool)
+    (best next : Option ℕ)
+    → i < length near → best ≡ least_of test names from None (take i near)
+        → less ≡ is_lesser test names from best (get_or near i 0)
     → next ≡ chosen less (get_or near i 0) best → next ≡ least_of test names from None (take (i + 1) near)
 least-next test names from near i less best next h is goes chooses =
     chooses ∙ (ap (λ b. chosen b (get_or near i 0) best) goes ∙
     (ap (λ b. lesser test names from b (get_or near i 0)) is ∙ sym (least-more test names from None near i h)))
 
-sound-within : (test : SecName → Bool) (names : List SecName) (from : ℕ) (r : Option ℕ) → Sound test names from r → IfSome r (λ k. k < length names)
+sound-within : (test : SecName → Bool) (names : List SecName) (from : ℕ) (r : Option ℕ) → Sound test names from r
+    → IfSome r (λ k. k < length names)
 sound-within test names from None s = tt
 sound-within test names from (Some k) s =
     ltb-true k (length names) (both (nat_lt k (length names)) (test (get_or names k (unreferred Named [] false))) s.1).0
@@ -273,7 +327,8 @@ marked-set marks k (x ∷ xs) (suc i) new h m =
     let one : k + suc i ≡ (k + 1) + i = omega arith in
     (h.0, marked-set marks (k + 1) xs i new h.1 (subst (IsMarked marks new.kind new.text.items) one m))
 
-pub marked-as : (marks : Marks) (kind other : SecKind) (text items : List ℕ) (k j : ℕ) → kind ≡ other → items ≡ text → k ≡ j → IsMarked marks kind text k
+pub marked-as : (marks : Marks) (kind other : SecKind) (text items : List ℕ) (k j : ℕ) → kind ≡ other → items ≡ text
+    → k ≡ j → IsMarked marks kind text k
     → IsMarked marks other items (0 + j)
 marked-as marks kind other text items k j e f g m =
     subst (IsMarked marks other items) (sym (zero-add j)) (subst (IsMarked marks other items) g
@@ -284,18 +339,23 @@ same-kind [] i a b h = absurd (omega arith)
 same-kind (x ∷ xs) zero a b h = refl
 same-kind (x ∷ xs) (suc i) a b h = same-kind xs i a b (omega arith)
 
-named-at : (xs : List Kept) (k : ℕ) (d : Kept) (e : SecName) → k < length xs → get_or (map name_of xs) k e ≡ name_of (get_or xs k d)
+named-at : (xs : List Kept) (k : ℕ) (d : Kept) (e : SecName) → k < length xs → get_or (map name_of xs) k e
+    ≡ name_of (get_or xs k d)
 named-at [] k d e h = absurd (omega arith)
 named-at (x ∷ xs) zero d e h = refl
 named-at (x ∷ xs) (suc k) d e h = named-at xs k d e (omega arith)
 
-pub passes-there : (test : SecName → Bool) (xs : List Kept) (names : List SecName) (k : ℕ) (x : Kept) → map name_of xs ≡ names → k < length xs
+pub passes-there : (test : SecName → Bool) (xs : List Kept) (names : List SecName) (k : ℕ) (x : Kept) → map name_of xs
+    ≡ names → k < length xs
     → x ≡ get_or xs k x → test (name_of x) ≡ passes_at test names k
 passes-there test xs names k x view h is =
-    let some : nat_lt k (length (map name_of xs)) ≡ true = lt-ltb k (length (map name_of xs)) (subst (λ n. k < n) (sym (length-named xs)) h) in
+    let some : nat_lt k (length (map name_of xs)) ≡ true =
+        lt-ltb k (length (map name_of xs)) (subst (λ n. k < n) (sym (length-named xs)) h) in
     subst (λ names. test (name_of x) ≡ passes_at test names k) view
     (sym (ap (λ b. b && test (get_or (map name_of xs) k (unreferred Named [] false))) some ∙
     ap test (named-at xs k x (unreferred Named [] false) h ∙ ap name_of (sym is))))
 
-pub passes-not : (test : SecName → Bool) (names : List SecName) (k : ℕ) → length names ≤ k → false ≡ passes_at test names k
-passes-not test names k h = sym (ap (λ b. b && test (get_or names k (unreferred Named [] false))) (le-ltb k (length names) h))
+pub passes-not : (test : SecName → Bool) (names : List SecName) (k : ℕ) → length names ≤ k
+    → false ≡ passes_at test names k
+passes-not test names k h = sym (ap (λ b. b && test (get_or names k (unreferred Named [] false)))
+    (le-ltb k (length names) h))

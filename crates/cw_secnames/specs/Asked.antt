@@ -1,5 +1,6 @@
 -- What is asked of the names near a text.
-use Rattle.std.specs.Prelude.{ℕ, Bool, true, false, ◌&&◌, nat_lt, nat_le, List, [], ◌∷◌, length, Option, Some, None, get_or}
+use Rattle.std.specs.Prelude.{ℕ, Bool, true, false, ◌&&◌, nat_lt, nat_le, List, [], ◌∷◌, length, Option, Some, None}
+use Rattle.std.specs.Prelude.{get_or}
 use Rattle.cw_secnames.specs.declared.kinds.SecKind.{SecKind}
 use Rattle.cw_secnames.specs.declared.kinds.SecKind.TheVariants.{Named}
 use Rattle.cw_secnames.specs.declared.sec_names.Asked.{Asked}

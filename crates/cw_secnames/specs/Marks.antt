@@ -1,5 +1,6 @@
 -- Marks: numbers by which the names near a text are found.
-use Rattle.std.specs.Prelude.{◌≡◌, ℕ, ◌+◌, ◌-◌, ◌*◌, ◌^◌, ◌%◌, ◌<◌, ◌≤◌, Bool, true, false, ◌&&◌, ◌||◌, ◌==◌, nat_lt, List, [], ◌∷◌, length, take, map}
+use Rattle.std.specs.Prelude.{◌≡◌, ℕ, ◌+◌, ◌-◌, ◌*◌, ◌^◌, ◌%◌, ◌<◌, ◌≤◌, Bool, true, false, ◌&&◌, ◌||◌, ◌==◌, nat_lt}
+use Rattle.std.specs.Prelude.{List, [], ◌∷◌, length, take, map}
 use Rattle.std.specs.List.{list_any}
 use Rattle.std.specs.Ordering.{nat_cmp, ordering_then}
 use Rattle.std.specs.declared.cmp.Ordering.{Ordering}
@@ -50,7 +51,8 @@ HasAll set more = (mark k : ℕ) → Has set mark k → Has more mark k
 
 -- the positions under a mark
 abbrev pub positions_at : ℕ → BTreeSet (ℕ × ℕ) → List ℕ
-positions_at mark set = map (λ pair. pair.1) (keys_between pair_cmp (Included (mark, 0)) (Included (mark, 2 ^ 32 - 1)) set)
+positions_at mark set = map (λ pair. pair.1) (keys_between pair_cmp (Included (mark, 0)) (Included (mark, 2 ^ 32 - 1))
+    set)
 
 -- those of whole texts of so many bytes, where some name is as short
 abbrev pub wholes_at : Marks → ℕ → ℕ → List ℕ
@@ -64,10 +66,12 @@ pub record IsMarked (marks : Marks) (kind : SecKind) (text : List ℕ) (k : ℕ)
   pub small : k < 2 ^ 32
   pub long : marks.shortest ≤ length text
   pub whole : Has marks.wholes (mark_of kind text) k
-  pub starts : (count : ℕ) → count ≤ length text → is_kept_length count ≡ true → Has marks.starts (mark_of kind (take count text)) k
+  pub starts : (count : ℕ) → count ≤ length text → is_kept_length count ≡ true
+      → Has marks.starts (mark_of kind (take count text)) k
 
 abbrev pub KeepsMarks : Marks → Marks → Type 0
-KeepsMarks marks more = (kind : SecKind) (text : List ℕ) (k : ℕ) → IsMarked marks kind text k → IsMarked more kind text k
+KeepsMarks marks more = (kind : SecKind) (text : List ℕ) (k : ℕ) → IsMarked marks kind text k
+    → IsMarked more kind text k
 
 -- all names from a position on
 abbrev pub AreMarked : Marks → ℕ → List SecName → Type 0
@@ -84,4 +88,5 @@ IsNear other text = (begins other text || begins text other) ≡ true
 -- The positions hold those of all names near a text.
 abbrev pub HoldNear : List ℕ → SecKind → List ℕ → ℕ → List SecName → Type 0
 HoldNear positions kind text k [] = Unit {0}
-HoldNear positions kind text k (n ∷ names) = (is_near kind text n ≡ true → is_in k positions ≡ true) × HoldNear positions kind text (k + 1) names
+HoldNear positions kind text k (n ∷ names) = (is_near kind text n ≡ true → is_in k positions ≡ true)
+    × HoldNear positions kind text (k + 1) names

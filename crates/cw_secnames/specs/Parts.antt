@@ -1,5 +1,6 @@
 -- The parts of a name's text that stand between bars: its inner texts.
-use Rattle.std.specs.Prelude.{◌≡◌, ℕ, zero, suc, ◌+◌, ◌<◌, ◌≤◌, Bool, true, false, ◌==◌, List, [], ◌∷◌, Option, Some, None, drop, length, option_map, if◌then◌else◌}
+use Rattle.std.specs.Prelude.{◌≡◌, ℕ, zero, suc, ◌+◌, ◌<◌, ◌≤◌, Bool, true, false, ◌==◌, List, [], ◌∷◌, Option, Some}
+use Rattle.std.specs.Prelude.{None, drop, length, option_map, if◌then◌else◌}
 use Rattle.cw_base.specs.declared.span.Span.{Span}
 
 abbrev pub bar : ℕ
@@ -30,7 +31,8 @@ abbrev pub parts_from : List ℕ → ℕ → ℕ → List Span
 parts_from [] place taken = []
 parts_from (byte ∷ bytes) place (suc taken) = parts_from bytes (place + 1) taken
 parts_from (byte ∷ bytes) place zero =
-    if byte == bar then part_here (size_to_bar false bytes) (place + 1) (parts_from bytes (place + 1)) else parts_from bytes (place + 1) 0
+    if byte == bar then part_here (size_to_bar false bytes) (place + 1) (parts_from bytes (place + 1)) else parts_from
+        bytes (place + 1) 0
 
 abbrev pub inner_parts : List ℕ → List Span
 inner_parts text = parts_from text 0 0

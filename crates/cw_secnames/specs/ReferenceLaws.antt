@@ -1,5 +1,6 @@
 -- Laws of references: one reference more.
-use Rattle.std.proofs.Common.{◌≡◌, ℕ, zero, suc, ◌+◌, ◌<◌, ◌==◌, Bool, true, false, List, [], ◌∷◌, ◌++◌, map, refl, ap, ◌∙◌, sym, arith}
+use Rattle.std.proofs.Common.{◌≡◌, ℕ, zero, suc, ◌+◌, ◌<◌, ◌==◌, Bool, true, false, List, [], ◌∷◌, ◌++◌, map, refl, ap}
+use Rattle.std.proofs.Common.{◌∙◌, sym, arith}
 use Rattle.std.specs.List.{filter}
 use Rattle.std.proofs.lemmas.Bool.{eq-eqb}
 use Rattle.std.proofs.Common.{add-zero}
@@ -8,9 +9,11 @@ use Rattle.std.proofs.lemmas.List.Elements.{filter-append}
 use Rattle.cw_secnames.specs.declared.kinds.RefKind.{RefKind}
 use Rattle.cw_secnames.specs.declared.kinds.RefKind.TheVariants.{Defined, Used, Cited}
 use Rattle.cw_secnames.specs.Kept.{SecName}
-use Rattle.cw_secnames.specs.References.{Reference, once, with_number, is_of, same_way, sections_of, referred, with_section, with_reference}
+use Rattle.cw_secnames.specs.References.{Reference, once, with_number, is_of, same_way, sections_of, referred}
+use Rattle.cw_secnames.specs.References.{with_section, with_reference}
 
-front-by : (t : Bool) (n a b c : ℕ) (ns : List ℕ) → with_number n (a ∷ once (c ∷ ns)) ≡ a ∷ with_number n (once (c ∷ ns))
+front-by : (t : Bool) (n a b c : ℕ) (ns : List ℕ) → with_number n (a ∷ once (c ∷ ns))
+    ≡ a ∷ with_number n (once (c ∷ ns))
     → with_number n (a ∷ elim t as (λ _. List ℕ) [ true ↦ once (c ∷ ns) | false ↦ b ∷ once (c ∷ ns) ])
     ≡ a ∷ with_number n (elim t as (λ _. List ℕ) [ true ↦ once (c ∷ ns) | false ↦ b ∷ once (c ∷ ns) ])
 front-by true n a b c ns h = h
@@ -39,7 +42,8 @@ section_numbers references = map (λ r. r.section) references
 pub sections-more : (name : ℕ) (how : RefKind) (references : List Reference) (r : Reference) → is_of name how r ≡ true
     → sections_of name how (references ++ r ∷ []) ≡ with_number r.section (sections_of name how references)
 sections-more name how references r h =
-    rw (filter-append (is_of name how) references (r ∷ []), h, map-append (λ (r : Reference). r.section) (filter (is_of name how) references) (r ∷ []))
+    rw (filter-append (is_of name how) references (r ∷ []), h, map-append (λ (r : Reference). r.section)
+        (filter (is_of name how) references) (r ∷ []))
     (once-more r.section (map (λ r. r.section) (filter (is_of name how) references)))
 
 pub sections-same : (name : ℕ) (how : RefKind) (references : List Reference) (r : Reference) → is_of name how r ≡ false
@@ -104,7 +108,8 @@ head-more references Cited section k n = let r : Reference = record { name = k; 
 
 -- The names from a position on, with a reference to the name at another.
 with_last : List Reference → RefKind → ℕ → ℕ → List SecName → ℕ → List SecName
-with_last references how section k names name = referred (references ++ record { name = name; how = how; section = section } ∷ []) k names
+with_last references how section k names name = referred
+    (references ++ record { name = name; how = how; section = section } ∷ []) k names
 
 -- The name at a position gets one reference more.
 pub referred-more : (references : List Reference) (how : RefKind) (section : ℕ) (k i : ℕ) (names : List SecName)

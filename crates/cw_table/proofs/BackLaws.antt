@@ -23,9 +23,11 @@ back-are = refl
 some_row : Row
 some_row = replaces_all 0 [] (SameAs 0) (joins [])
 
-pub back-at : (n : ℕ) → 1 ≤ n → n ≤ ROW_COUNT → IfSome (row_numbered productions n) (λ r. get_or BACK (n - 1) 0 ≡ least productions r)
+pub back-at : (n : ℕ) → 1 ≤ n → n ≤ ROW_COUNT → IfSome (row_numbered productions n) (λ r. get_or BACK (n - 1) 0
+    ≡ least productions r)
 back-at n from to =
-    let found : row_numbered productions n ≡ Some (get_or productions (n - 1) some_row) = numbered-row productions productions n some_row refl refl from (omega (arith, productions-length)) in
+    let found : row_numbered productions n ≡ Some (get_or productions (n - 1) some_row) =
+        numbered-row productions productions n some_row refl refl from (omega (arith, productions-length)) in
     let is : get_or BACK (n - 1) 0 ≡ least productions (get_or productions (n - 1) some_row) =
     ap (λ xs. get_or xs (n - 1) 0) (sym back-are)
     ∙ get_or-map (least productions) productions (n - 1) some_row 0 (omega (arith, productions-length)) in
@@ -33,4 +35,5 @@ back-at n from to =
 
 pub back-at-most : (n : ℕ) → 1 ≤ n → n ≤ ROW_COUNT → get_or BACK (n - 1) 0 ≤ 3
 back-at-most n from to =
-    leb-true _ _ (each-of (λ b. leb b 3) BACK (n - 1) (get_or BACK (n - 1) 0) refl (slice_get-get_or BACK (n - 1) 0 (omega arith)))
+    leb-true _ _ (each-of (λ b. leb b 3) BACK (n - 1) (get_or BACK (n - 1) 0) refl
+        (slice_get-get_or BACK (n - 1) 0 (omega arith)))

@@ -1,5 +1,6 @@
 -- What the program's data has of a production is what its row has.
-use Rattle.std.proofs.Common.{◌≡◌, ◌<◌, ◌≤◌, ◌+◌, ◌-◌, ◌∙◌, sym, ap, ℕ, List, [], length, get_or, take, unwrap_or, Option, Some, None, Bool, true, false, eqb, refl, arith, eqb-true}
+use Rattle.std.proofs.Common.{◌≡◌, ◌<◌, ◌≤◌, ◌+◌, ◌-◌, ◌∙◌, sym, ap, ℕ, List, [], length, get_or, take, unwrap_or}
+use Rattle.std.proofs.Common.{Option, Some, None, Bool, true, false, eqb, refl, arith, eqb-true}
 use Rattle.std.specs.Prelude.{slice_get}
 use Rattle.std.proofs.lemmas.List.{get_or-take, length-take, length-take-le}
 use Rattle.std.proofs.lemmas.Option.{slice_get-get_or}
@@ -46,27 +47,32 @@ row-at i lt =
     let at : slice_get productions i ≡ Some (row_at i) =
     ap (λ rows. slice_get rows i) (sym zipped-is)
     ∙ zipped-get TESTS USUAL OTHER HEADS i [] [] [] no_head (omega arith) (omega arith) (omega arith) (omega arith) in
-    let numbered : row_numbered productions (i + 1) ≡ Some (row_at i) = numbered-at productions 1 i (i + 1) (row_at i) (omega arith) productions-numbered at in
+    let numbered : row_numbered productions (i + 1) ≡ Some (row_at i) =
+        numbered-at productions 1 i (i + 1) (row_at i) (omega arith) productions-numbered at in
     sym (ap (λ (o : Option Row). unwrap_or o no_row) numbered)
 
 -- the row of a number is sound
 pub row-sound : (n : ℕ) → 1 ≤ n → n ≤ ROW_COUNT → row_is_sound (row_of productions n) ≡ true
 row-sound n from to =
-    let found : row_numbered productions n ≡ Some (get_or productions (n - 1) no_row) = numbered-row productions productions n no_row refl refl from (omega (arith, productions-length)) in
+    let found : row_numbered productions n ≡ Some (get_or productions (n - 1) no_row) =
+        numbered-row productions productions n no_row refl refl from (omega (arith, productions-length)) in
     ap row_is_sound (ap (λ (o : Option Row). unwrap_or o no_row) found)
     ∙ numbered-sound productions (n - 1) no_row refl (omega (arith, productions-length))
 
 -- each translation has twelve places
 usual-places : (i : ℕ) → i < ROW_COUNT → length (get_or USUAL i []) ≡ 12
 usual-places i lt =
-    eqb-true _ _ (each-of (λ ps. eqb (length ps) 12) USUAL i (get_or USUAL i []) refl (slice_get-get_or USUAL i [] (omega arith)))
+    eqb-true _ _ (each-of (λ ps. eqb (length ps) 12) USUAL i (get_or USUAL i []) refl
+        (slice_get-get_or USUAL i [] (omega arith)))
 
 other-places : (i : ℕ) → i < ROW_COUNT → length (get_or OTHER i []) ≡ 12
 other-places i lt =
-    eqb-true _ _ (each-of (λ ps. eqb (length ps) 12) OTHER i (get_or OTHER i []) refl (slice_get-get_or OTHER i [] (omega arith)))
+    eqb-true _ _ (each-of (λ ps. eqb (length ps) 12) OTHER i (get_or OTHER i []) refl
+        (slice_get-get_or OTHER i [] (omega arith)))
 
 -- a counted piece is one of the places
-taken : (ps : List Piece) (count i : ℕ) (d : Piece) → i < length (take count ps) → slice_get (take count ps) i ≡ Some (get_or ps i d)
+taken : (ps : List Piece) (count i : ℕ) (d : Piece) → i < length (take count ps) → slice_get (take count ps) i
+    ≡ Some (get_or ps i d)
 taken ps count i d inside =
     let low : i < count = omega (arith, length-take count ps) in
     slice_get-get_or (take count ps) i d inside ∙ ap Some (get_or-take count ps i d low)
@@ -75,10 +81,12 @@ taken ps count i d inside =
 pub record HasPieces (other : Bool) (ps : List Piece) (count : ℕ) (row : Row) : Type 0 where
   pub count_is : count ≡ length (pieces_by other row)
   pub twelve : count ≤ 12
-  pub piece : (i : ℕ) → i < length (pieces_by other row) → slice_get (pieces_by other row) i ≡ Some (get_or ps i (Scrap 0))
+  pub piece : (i : ℕ) → i < length (pieces_by other row) → slice_get (pieces_by other row) i
+      ≡ Some (get_or ps i (Scrap 0))
   pub below : (i : ℕ) → i < length (pieces_by other row) → i < 12
 
-has : (other : Bool) (ps : List Piece) (count : ℕ) (row : Row) → pieces_by other row ≡ take count ps → count ≤ 12 → length ps ≡ 12 → HasPieces other ps count row
+has : (other : Bool) (ps : List Piece) (count : ℕ) (row : Row) → pieces_by other row ≡ take count ps → count ≤ 12
+    → length ps ≡ 12 → HasPieces other ps count row
 has other ps count row is few twelve =
     let long : length (take count ps) ≡ count = length-take-le count ps (omega arith) in
     let same : length (pieces_by other row) ≡ length (take count ps) = ap length is in
@@ -89,12 +97,18 @@ has other ps count row is few twelve =
       below = λ i inside. omega arith;
     }
 
-pub usual-pieces : (i : ℕ) (other : Bool) (row : Row) → i < ROW_COUNT → other ≡ false → row_of productions (i + 1) ≡ row → HasPieces other (get_or USUAL i []) (get_or HEADS i no_head).usual_count row
+pub usual-pieces : (i : ℕ) (other : Bool) (row : Row) → i < ROW_COUNT → other ≡ false → row_of productions (i + 1) ≡ row
+    → HasPieces other (get_or USUAL i []) (get_or HEADS i no_head).usual_count row
 usual-pieces i other row lt off is =
-    let s : IsSound (row_at i) = sound-row (row_at i) (ap row_is_sound (row-at i lt) ∙ row-sound (i + 1) (omega arith) (omega arith)) in
-    has other (get_or USUAL i []) (get_or HEADS i no_head).usual_count row (ap (λ b. pieces_by b row) off ∙ ap (pieces_by false) (sym (row-at i lt ∙ is))) s.usual_short (usual-places i lt)
+    let s : IsSound (row_at i) = sound-row (row_at i) (ap row_is_sound (row-at i lt)
+        ∙ row-sound (i + 1) (omega arith) (omega arith)) in
+    has other (get_or USUAL i []) (get_or HEADS i no_head).usual_count row (ap (λ b. pieces_by b row) off
+        ∙ ap (pieces_by false) (sym (row-at i lt ∙ is))) s.usual_short (usual-places i lt)
 
-pub other-pieces : (i : ℕ) (other : Bool) (row : Row) → i < ROW_COUNT → other ≡ true → row_of productions (i + 1) ≡ row → HasPieces other (get_or OTHER i []) (get_or HEADS i no_head).other_count row
+pub other-pieces : (i : ℕ) (other : Bool) (row : Row) → i < ROW_COUNT → other ≡ true → row_of productions (i + 1) ≡ row
+    → HasPieces other (get_or OTHER i []) (get_or HEADS i no_head).other_count row
 other-pieces i other row lt on is =
-    let s : IsSound (row_at i) = sound-row (row_at i) (ap row_is_sound (row-at i lt) ∙ row-sound (i + 1) (omega arith) (omega arith)) in
-    has other (get_or OTHER i []) (get_or HEADS i no_head).other_count row (ap (λ b. pieces_by b row) on ∙ ap (pieces_by true) (sym (row-at i lt ∙ is))) s.other_short (other-places i lt)
+    let s : IsSound (row_at i) = sound-row (row_at i) (ap row_is_sound (row-at i lt)
+        ∙ row-sound (i + 1) (omega arith) (omega arith)) in
+    has other (get_or OTHER i []) (get_or HEADS i no_head).other_count row (ap (λ b. pieces_by b row) on
+        ∙ ap (pieces_by true) (sym (row-at i lt ∙ is))) s.other_short (other-places i lt)

@@ -1,5 +1,7 @@
 -- The masks of the code are those of the productions, and their meeting is the first row that fits.
-use Rattle.std.proofs.Common.{◌≡◌, ◌<◌, ◌≤◌, ◌+◌, ◌*◌, ◌^◌, ◌∙◌, sym, ap, subst, ℕ, zero, suc, Bool, true, false, not, cond, eqb, eq-eqb, List, [], ◌∷◌, length, map, get_or, Some, None, refl, arith, add-zero, ◌&&◌, ◌||◌, leb}
+use Rattle.std.proofs.Common.{◌≡◌, ◌<◌, ◌≤◌, ◌+◌, ◌*◌, ◌^◌, ◌∙◌, sym, ap, subst, ℕ, zero, suc, Bool, true, false, not}
+use Rattle.std.proofs.Common.{cond, eqb, eq-eqb, List, [], ◌∷◌, length, map, get_or, Some, None, refl, arith, add-zero}
+use Rattle.std.proofs.Common.{◌&&◌, ◌||◌, leb}
 use Rattle.std.specs.Int.Bits.{and_zero_l}
 use Rattle.std.specs.Int.Count.{count_trailing_zeros}
 use Rattle.std.specs.List.{list_all, list_any, prefix_len}
@@ -44,11 +46,13 @@ four-get f (suc (suc zero)) d h = refl
 four-get f (suc (suc (suc zero))) d h = refl
 four-get f (suc (suc (suc (suc q)))) d h = absurd (omega arith)
 
-pub mask-is : (cat : Cat) (n q : ℕ) (d : List ℕ) (e : ℕ) → n ≡ number_of cat → q < 4 → get_or (get_or MASKS n d) q e ≡ mask_of productions q cat
+pub mask-is : (cat : Cat) (n q : ℕ) (d : List ℕ) (e : ℕ) → n ≡ number_of cat → q < 4 → get_or (get_or MASKS n d) q e
+    ≡ mask_of productions q cat
 mask-is cat n q d e is h =
     ap (λ k. get_or (get_or MASKS k d) q e) is
     ∙ ap (λ ms. get_or (get_or ms (number_of cat) d) q e) masks-are
-    ∙ ap (λ ms. get_or ms q e) (get_or-map masks_at all_cats (number_of cat) End d (slice_get_within all_cats (number_of cat) cat (place-of cat)))
+    ∙ ap (λ ms. get_or ms q e) (get_or-map masks_at all_cats (number_of cat) End d
+        (slice_get_within all_cats (number_of cat) cat (place-of cat)))
     ∙ ap (λ c. get_or (masks_at c) q e) (get_or_from_slice_get all_cats (number_of cat) cat End (place-of cat))
     ∙ four-get (λ p. mask_of productions p cat) q e h
 
@@ -62,19 +66,25 @@ and-step r s m n h k =
     ∙ and_block 1 m n r s h k
     ∙ omega arith
 
-and-bits : (a b : Bool) (m n : ℕ) → bit_and (cond a 1 0 + 2 * m) (cond b 1 0 + 2 * n) ≡ cond (a && b) 1 0 + 2 * bit_and m n
+and-bits : (a b : Bool) (m n : ℕ) → bit_and (cond a 1 0 + 2 * m) (cond b 1 0 + 2 * n)
+    ≡ cond (a && b) 1 0 + 2 * bit_and m n
 and-bits true true m n = and-step 1 1 m n (omega arith) (omega arith)
 and-bits true false m n = and-step 1 0 m n (omega arith) (omega arith)
 and-bits false true m n = and-step 0 1 m n (omega arith) (omega arith)
 and-bits false false m n = and-step 0 0 m n (omega arith) (omega arith)
 
-and-masks : (p q : Row → Bool) (rows : List Row) → bit_and (mask_l (map p rows)) (mask_l (map q rows)) ≡ mask_l (map (λ r. p r && q r) rows)
+and-masks : (p q : Row → Bool) (rows : List Row) → bit_and (mask_l (map p rows)) (mask_l (map q rows))
+    ≡ mask_l (map (λ r. p r && q r) rows)
 and-masks p q [] = refl
 and-masks p q (r ∷ rows) =
     and-bits (p r) (q r) _ _ ∙ ap (λ m. cond (p r && q r) 1 0 + 2 * m) (and-masks p q rows)
 
 -- what one row's bits in the four masks say together
-four-tests : (tests : List CatSet) (a b c e : Cat) → length tests ≤ 4 → all_hold tests (a ∷ b ∷ c ∷ e ∷ []) ≡ ((((leb (length tests) 0 || in_set (get_or tests 0 empty) a) && (leb (length tests) 1 || in_set (get_or tests 1 empty) b)) && (leb (length tests) 2 || in_set (get_or tests 2 empty) c)) && (leb (length tests) 3 || in_set (get_or tests 3 empty) e))
+four-tests : (tests : List CatSet) (a b c e : Cat) → length tests ≤ 4 → all_hold tests (a ∷ b ∷ c ∷ e ∷ [])
+    ≡ ((((leb (length tests) 0 || in_set (get_or tests 0 empty) a)
+    && (leb (length tests) 1 || in_set (get_or tests 1 empty) b))
+    && (leb (length tests) 2 || in_set (get_or tests 2 empty) c))
+    && (leb (length tests) 3 || in_set (get_or tests 3 empty) e))
 four-tests [] a b c e h = refl
 four-tests (t ∷ []) a b c e h = one (in_set t a)
   where
@@ -83,20 +93,23 @@ four-tests (t ∷ []) a b c e h = one (in_set t a)
     one false = refl
 four-tests (t ∷ u ∷ []) a b c e h = two (in_set t a) (in_set u b)
   where
-    two : (x y : Bool) → elim x [ true ↦ elim y [ true ↦ true | false ↦ false ] | false ↦ false ] ≡ (((x && y) && true) && true)
+    two : (x y : Bool) → elim x [ true ↦ elim y [ true ↦ true | false ↦ false ] | false ↦ false ]
+        ≡ (((x && y) && true) && true)
     two true true = refl
     two true false = refl
     two false y = refl
 four-tests (t ∷ u ∷ v ∷ []) a b c e h = three (in_set t a) (in_set u b) (in_set v c)
   where
-    three : (x y z : Bool) → elim x [ true ↦ elim y [ true ↦ elim z [ true ↦ true | false ↦ false ] | false ↦ false ] | false ↦ false ] ≡ (((x && y) && z) && true)
+    three : (x y z : Bool) → elim x [ true ↦ elim y [ true ↦ elim z [ true ↦ true | false ↦ false ] | false ↦ false ]
+        | false ↦ false ] ≡ (((x && y) && z) && true)
     three true true true = refl
     three true true false = refl
     three true false z = refl
     three false y z = refl
 four-tests (t ∷ u ∷ v ∷ w ∷ []) a b c e h = four (in_set t a) (in_set u b) (in_set v c) (in_set w e)
   where
-    four : (x y z s : Bool) → elim x [ true ↦ elim y [ true ↦ elim z [ true ↦ elim s [ true ↦ true | false ↦ false ] | false ↦ false ] | false ↦ false ] | false ↦ false ] ≡ (((x && y) && z) && s)
+    four : (x y z s : Bool) → elim x [ true ↦ elim y [ true ↦ elim z [ true ↦ elim s [ true ↦ true | false ↦ false ]
+        | false ↦ false ] | false ↦ false ] | false ↦ false ] ≡ (((x && y) && z) && s)
     four true true true true = refl
     four true true true false = refl
     four true true false s = refl
@@ -110,10 +123,14 @@ all_admit a b c e row = ((admits 0 a row && admits 1 b row) && admits 2 c row) &
 admit-fits : (row : Row) (a b c e : Cat) → IsSound row → all_admit a b c e row ≡ row_fits row (a ∷ b ∷ c ∷ e ∷ [])
 admit-fits row a b c e sound =
     let count : length (tests_of row) ≡ row.test_count = length-tests_of row sound in
-    ap (λ n. (((leb n 0 || in_set (get_or (tests_of row) 0 empty) a) && (leb n 1 || in_set (get_or (tests_of row) 1 empty) b)) && (leb n 2 || in_set (get_or (tests_of row) 2 empty) c)) && (leb n 3 || in_set (get_or (tests_of row) 3 empty) e)) (sym count)
+    ap (λ n. (((leb n 0 || in_set (get_or (tests_of row) 0 empty) a)
+        && (leb n 1 || in_set (get_or (tests_of row) 1 empty) b))
+        && (leb n 2 || in_set (get_or (tests_of row) 2 empty) c))
+        && (leb n 3 || in_set (get_or (tests_of row) 3 empty) e)) (sym count)
     ∙ sym (four-tests (tests_of row) a b c e (omega (arith, count, sound.four_tests)))
 
-map-fits : (rows : List Row) (a b c e : Cat) → list_all row_is_sound rows ≡ true → map (all_admit a b c e) rows ≡ map (λ row. row_fits row (a ∷ b ∷ c ∷ e ∷ [])) rows
+map-fits : (rows : List Row) (a b c e : Cat) → list_all row_is_sound rows ≡ true → map (all_admit a b c e) rows
+    ≡ map (λ row. row_fits row (a ∷ b ∷ c ∷ e ∷ [])) rows
 map-fits [] a b c e h = refl
 map-fits (row ∷ rows) a b c e h =
     let first = admit-fits row a b c e (sound-row row (both-left _ _ h)) in
@@ -121,7 +138,9 @@ map-fits (row ∷ rows) a b c e h =
     ap (λ x. x ∷ map (all_admit a b c e) rows) first ∙ ap (λ xs. row_fits row (a ∷ b ∷ c ∷ e ∷ []) ∷ xs) rest
 
 -- the four masks together: the rows that fit the window
-masks-fit : (rows : List Row) (a b c e : Cat) → list_all row_is_sound rows ≡ true → bit_and (bit_and (bit_and (mask_of rows 0 a) (mask_of rows 1 b)) (mask_of rows 2 c)) (mask_of rows 3 e) ≡ mask_l (map (λ row. row_fits row (a ∷ b ∷ c ∷ e ∷ [])) rows)
+masks-fit : (rows : List Row) (a b c e : Cat) → list_all row_is_sound rows ≡ true
+    → bit_and (bit_and (bit_and (mask_of rows 0 a) (mask_of rows 1 b)) (mask_of rows 2 c)) (mask_of rows 3 e)
+    ≡ mask_l (map (λ row. row_fits row (a ∷ b ∷ c ∷ e ∷ [])) rows)
 masks-fit rows a b c e h =
     ap (λ m. bit_and (bit_and m (mask_of rows 2 c)) (mask_of rows 3 e)) (and-masks (admits 0 a) (admits 1 b) rows)
     ∙ ap (λ m. bit_and m (mask_of rows 3 e)) (and-masks (λ r. admits 0 a r && admits 1 b r) (admits 2 c) rows)
@@ -129,16 +148,20 @@ masks-fit rows a b c e h =
     ∙ ap mask_l (map-fits rows a b c e h)
 
 -- no bit: no row fits; and the lowest bit is the first row that fits
-no-mask : (rows : List Row) (cats : List Cat) → mask_l (map (λ row. row_fits row cats) rows) ≡ 0 → first_of rows cats ≡ None
+no-mask : (rows : List Row) (cats : List Cat) → mask_l (map (λ row. row_fits row cats) rows) ≡ 0 → first_of rows cats
+    ≡ None
 no-mask [] cats h = refl
 no-mask (row ∷ rows) cats h = go (row_fits row cats) refl (no-mask rows cats)
   where
-    go : (b : Bool) → row_fits row cats ≡ b → (mask_l (map (λ r. row_fits r cats) rows) ≡ 0 → first_of rows cats ≡ None) → first_of (row ∷ rows) cats ≡ None
+    go : (b : Bool) → row_fits row cats ≡ b → (mask_l (map (λ r. row_fits r cats) rows) ≡ 0 → first_of rows cats ≡ None)
+        → first_of (row ∷ rows) cats ≡ None
     go true e rest =
-        let m : cond true 1 0 + 2 * mask_l (map (λ r. row_fits r cats) rows) ≡ 0 = ap (λ b. cond b 1 0 + 2 * mask_l (map (λ r. row_fits r cats) rows)) (sym e) ∙ h in
+        let m : cond true 1 0 + 2 * mask_l (map (λ r. row_fits r cats) rows) ≡ 0 =
+            ap (λ b. cond b 1 0 + 2 * mask_l (map (λ r. row_fits r cats) rows)) (sym e) ∙ h in
         absurd (omega arith)
     go false e rest =
-        let m : cond false 1 0 + 2 * mask_l (map (λ r. row_fits r cats) rows) ≡ 0 = ap (λ b. cond b 1 0 + 2 * mask_l (map (λ r. row_fits r cats) rows)) (sym e) ∙ h in
+        let m : cond false 1 0 + 2 * mask_l (map (λ r. row_fits r cats) rows) ≡ 0 =
+            ap (λ b. cond b 1 0 + 2 * mask_l (map (λ r. row_fits r cats) rows)) (sym e) ∙ h in
         first-behind row rows cats e ∙ rest (omega arith)
 
 abbrev fit_mask : List Row → List Cat → ℕ
@@ -147,24 +170,33 @@ fit_mask rows cats = mask_l (map (λ row. row_fits row cats) rows)
 abbrev misfits : List Row → List Cat → ℕ
 misfits rows cats = prefix_len (λ row. not (row_fits row cats)) rows
 
-lowest-mask : (rows : List Row) (first : ℕ) (cats : List Cat) → are_numbered first rows ≡ true → 0 < fit_mask rows cats → option_map (λ row. row.number) (first_of rows cats) ≡ Some (record { number = first + misfits rows cats })
+lowest-mask : (rows : List Row) (first : ℕ) (cats : List Cat) → are_numbered first rows ≡ true → 0 < fit_mask rows cats
+    → option_map (λ row. row.number) (first_of rows cats) ≡ Some (record { number = first + misfits rows cats })
 lowest-mask [] first cats numbered h = absurd (omega arith)
-lowest-mask (row ∷ rows) first cats numbered h = go (row_fits row cats) refl (lowest-mask rows (suc first) cats (both-right _ _ numbered))
+lowest-mask (row ∷ rows) first cats numbered h = go (row_fits row cats) refl
+    (lowest-mask rows (suc first) cats (both-right _ _ numbered))
   where
-    go : (b : Bool) → row_fits row cats ≡ b → (0 < fit_mask rows cats → option_map (λ r. r.number) (first_of rows cats) ≡ Some (record { number = suc first + misfits rows cats })) → option_map (λ r. r.number) (first_of (row ∷ rows) cats) ≡ Some (record { number = first + misfits (row ∷ rows) cats })
+    go : (b : Bool) → row_fits row cats ≡ b → (0 < fit_mask rows cats → option_map (λ r. r.number) (first_of rows cats)
+        ≡ Some (record { number = suc first + misfits rows cats }))
+        → option_map (λ r. r.number) (first_of (row ∷ rows) cats)
+        ≡ Some (record { number = first + misfits (row ∷ rows) cats })
     go true e rest =
         ap (option_map (λ r. r.number)) (first-here row rows cats e)
-        ∙ ap (λ n. Some (record { number = n })) (eqb-true _ _ (both-left _ _ numbered) ∙ sym (add-zero first) ∙ ap (λ b. first + cond (not b) (1 + misfits rows cats) 0) (sym e))
+        ∙ ap (λ n. Some (record { number = n })) (eqb-true _ _ (both-left _ _ numbered) ∙ sym (add-zero first)
+            ∙ ap (λ b. first + cond (not b) (1 + misfits rows cats) 0) (sym e))
     go false e rest =
-        let m : 0 < cond false 1 0 + 2 * fit_mask rows cats = subst (λ b. 0 < cond b 1 0 + 2 * fit_mask rows cats) e h in
+        let m : 0 < cond false 1 0 + 2 * fit_mask rows cats = subst (λ b. 0 < cond b 1 0 + 2 * fit_mask rows cats) e
+            h in
         let next : suc first + misfits rows cats ≡ first + (1 + misfits rows cats) = omega arith in
         ap (option_map (λ r. r.number)) (first-behind row rows cats e)
         ∙ rest (omega arith)
-        ∙ ap (λ n. Some (record { number = n })) (next ∙ ap (λ b. first + cond (not b) (1 + misfits rows cats) 0) (sym e))
+        ∙ ap (λ n. Some (record { number = n })) (next
+            ∙ ap (λ b. first + cond (not b) (1 + misfits rows cats) 0) (sym e))
 
 -- the meeting of the masks of a window
 abbrev pub met : List Cat → Cat → ℕ
-met w d = bit_and (bit_and (bit_and (mask_of productions 0 (get_or w 0 d)) (mask_of productions 1 (get_or w 1 d))) (mask_of productions 2 (get_or w 2 d))) (mask_of productions 3 (get_or w 3 d))
+met w d = bit_and (bit_and (bit_and (mask_of productions 0 (get_or w 0 d)) (mask_of productions 1 (get_or w 1 d)))
+    (mask_of productions 2 (get_or w 2 d))) (mask_of productions 3 (get_or w 3 d))
 
 met-is : (w : List Cat) (d : Cat) → length w ≡ 4 → met w d ≡ fit_mask productions w
 met-is [] d len = absurd cc
@@ -175,30 +207,43 @@ met-is (a ∷ b ∷ c ∷ e ∷ []) d len = masks-fit productions a b c e produc
 met-is (a ∷ b ∷ c ∷ e ∷ f ∷ w) d len = absurd (omega arith)
 
 -- the same, where the four masks are known one by one
-met-by : (w : List Cat) (d : Cat) (m0 m1 m2 m3 : ℕ) → length w ≡ 4 → m0 ≡ mask_of productions 0 (get_or w 0 d) → m1 ≡ mask_of productions 1 (get_or w 1 d) → m2 ≡ mask_of productions 2 (get_or w 2 d) → m3 ≡ mask_of productions 3 (get_or w 3 d) → bit_and (bit_and (bit_and m0 m1) m2) m3 ≡ fit_mask productions w
+met-by : (w : List Cat) (d : Cat) (m0 m1 m2 m3 : ℕ) → length w ≡ 4 → m0 ≡ mask_of productions 0 (get_or w 0 d)
+    → m1 ≡ mask_of productions 1 (get_or w 1 d) → m2 ≡ mask_of productions 2 (get_or w 2 d)
+    → m3 ≡ mask_of productions 3 (get_or w 3 d) → bit_and (bit_and (bit_and m0 m1) m2) m3 ≡ fit_mask productions w
 met-by w d m0 m1 m2 m3 len e0 e1 e2 e3 =
     let is : bit_and (bit_and (bit_and m0 m1) m2) m3 ≡ met w d = cc in
     is ∙ met-is w d len
 
-pub none-met : (w : List Cat) (d : Cat) (m0 m1 m2 m3 : ℕ) → length w ≡ 4 → m0 ≡ mask_of productions 0 (get_or w 0 d) → m1 ≡ mask_of productions 1 (get_or w 1 d) → m2 ≡ mask_of productions 2 (get_or w 2 d) → m3 ≡ mask_of productions 3 (get_or w 3 d) → bit_and (bit_and (bit_and m0 m1) m2) m3 ≡ 0 → None ≡ option_map (λ row. row.number) (first_of productions w)
+pub none-met : (w : List Cat) (d : Cat) (m0 m1 m2 m3 : ℕ) → length w ≡ 4 → m0 ≡ mask_of productions 0 (get_or w 0 d)
+    → m1 ≡ mask_of productions 1 (get_or w 1 d) → m2 ≡ mask_of productions 2 (get_or w 2 d)
+    → m3 ≡ mask_of productions 3 (get_or w 3 d) → bit_and (bit_and (bit_and m0 m1) m2) m3 ≡ 0
+    → None ≡ option_map (λ row. row.number) (first_of productions w)
 none-met w d m0 m1 m2 m3 len e0 e1 e2 e3 none =
-    sym (ap (option_map (λ row. row.number)) (no-mask productions w (sym (met-by w d m0 m1 m2 m3 len e0 e1 e2 e3) ∙ none)))
+    sym (ap (option_map (λ row. row.number)) (no-mask productions w (sym (met-by w d m0 m1 m2 m3 len e0 e1 e2 e3)
+        ∙ none)))
 
-pub first-met : (w : List Cat) (d : Cat) (m0 m1 m2 m3 : ℕ) → length w ≡ 4 → m0 ≡ mask_of productions 0 (get_or w 0 d) → m1 ≡ mask_of productions 1 (get_or w 1 d) → m2 ≡ mask_of productions 2 (get_or w 2 d) → m3 ≡ mask_of productions 3 (get_or w 3 d) → (bit_and (bit_and (bit_and m0 m1) m2) m3 ≡ 0 → ⊥) → Some (record { number = count_trailing_zeros 128 (bit_and (bit_and (bit_and m0 m1) m2) m3) + 1 }) ≡ option_map (λ row. row.number) (first_of productions w)
+pub first-met : (w : List Cat) (d : Cat) (m0 m1 m2 m3 : ℕ) → length w ≡ 4 → m0 ≡ mask_of productions 0 (get_or w 0 d)
+    → m1 ≡ mask_of productions 1 (get_or w 1 d) → m2 ≡ mask_of productions 2 (get_or w 2 d)
+    → m3 ≡ mask_of productions 3 (get_or w 3 d) → (bit_and (bit_and (bit_and m0 m1) m2) m3 ≡ 0 → ⊥)
+    → Some (record { number = count_trailing_zeros 128 (bit_and (bit_and (bit_and m0 m1) m2) m3) + 1 })
+    ≡ option_map (λ row. row.number) (first_of productions w)
 first-met w d m0 m1 m2 m3 len e0 e1 e2 e3 some =
-    let mask : bit_and (bit_and (bit_and m0 m1) m2) m3 ≡ fit_mask productions w = met-by w d m0 m1 m2 m3 len e0 e1 e2 e3 in
+    let mask : bit_and (bit_and (bit_and m0 m1) m2) m3 ≡ fit_mask productions w =
+        met-by w d m0 m1 m2 m3 len e0 e1 e2 e3 in
     let positive : 0 < fit_mask productions w = subst (λ k. 0 < k) mask (omega (arith, some)) in
     let lowest : count_trailing_zeros 128 (bit_and (bit_and (bit_and m0 m1) m2) m3) ≡ misfits productions w =
     ap (count_trailing_zeros 128) mask
     ∙ trailing_mask_l (λ row. row_fits row w) 128 productions (omega (arith, productions-length)) positive in
-    sym (lowest-mask productions 1 w productions-numbered positive ∙ ap (λ n. Some (record { number = n })) (omega arith))
+    sym (lowest-mask productions 1 w productions-numbered positive
+        ∙ ap (λ n. Some (record { number = n })) (omega arith))
 
 -- some bit of the masks of two places: some row admits the two categories there
 any-mask : (p : Row → Bool) (rows : List Row) → not (eqb (mask_l (map p rows)) 0) ≡ list_any p rows
 any-mask p [] = refl
 any-mask p (row ∷ rows) = go (p row) (eqb (mask_l (map p rows)) 0) refl (any-mask p rows)
   where
-    go : (b z : Bool) → eqb (mask_l (map p rows)) 0 ≡ z → not (eqb (mask_l (map p rows)) 0) ≡ list_any p rows → not (eqb (cond b 1 0 + 2 * mask_l (map p rows)) 0) ≡ (b || list_any p rows)
+    go : (b z : Bool) → eqb (mask_l (map p rows)) 0 ≡ z → not (eqb (mask_l (map p rows)) 0) ≡ list_any p rows
+        → not (eqb (cond b 1 0 + 2 * mask_l (map p rows)) 0) ≡ (b || list_any p rows)
     go true z e rest = ap not (ne_eqb _ _ (omega arith))
     go false true e rest =
         let none : mask_l (map p rows) ≡ 0 = eqb-true _ _ e in
@@ -212,20 +257,25 @@ any-mask p (row ∷ rows) = go (p row) (eqb (mask_l (map p rows)) 0) refl (any-m
 abbrev pub two_admit : Cat → Cat → Row → Bool
 two_admit a b row = admits 0 a row && admits 1 b row
 
-pub two-met : (a b : Cat) (m0 m1 : ℕ) → m0 ≡ mask_of productions 0 a → m1 ≡ mask_of productions 1 b → not (eqb (bit_and m0 m1) 0) ≡ list_any (two_admit a b) productions
+pub two-met : (a b : Cat) (m0 m1 : ℕ) → m0 ≡ mask_of productions 0 a → m1 ≡ mask_of productions 1 b
+    → not (eqb (bit_and m0 m1) 0) ≡ list_any (two_admit a b) productions
 two-met a b m0 m1 e0 e1 =
     let is : bit_and m0 m1 ≡ bit_and (mask_of productions 0 a) (mask_of productions 1 b) = cc in
-    ap (λ m. not (eqb m 0)) (is ∙ and-masks (admits 0 a) (admits 1 b) productions) ∙ any-mask (two_admit a b) productions
+    ap (λ m. not (eqb m 0)) (is ∙ and-masks (admits 0 a) (admits 1 b) productions)
+        ∙ any-mask (two_admit a b) productions
 
 -- no row admits the two: none fits
-pub two-none : (a b : Cat) → list_any (two_admit a b) productions ≡ false → (c e : Cat) → first_of productions (a ∷ b ∷ c ∷ e ∷ []) ≡ None
-two-none a b none c e = no-mask productions (a ∷ b ∷ c ∷ e ∷ []) (sym (masks-fit productions a b c e productions-sound) ∙ ap (λ m. bit_and (bit_and m (mask_of productions 2 c)) (mask_of productions 3 e)) zero-two
+pub two-none : (a b : Cat) → list_any (two_admit a b) productions ≡ false → (c e : Cat)
+    → first_of productions (a ∷ b ∷ c ∷ e ∷ []) ≡ None
+two-none a b none c e = no-mask productions (a ∷ b ∷ c ∷ e ∷ []) (sym (masks-fit productions a b c e productions-sound)
+    ∙ ap (λ m. bit_and (bit_and m (mask_of productions 2 c)) (mask_of productions 3 e)) zero-two
     ∙ ap (λ m. bit_and m (mask_of productions 3 e)) (and_zero_l (mask_of productions 2 c))
     ∙ and_zero_l (mask_of productions 3 e))
   where
     zero-two : bit_and (mask_of productions 0 a) (mask_of productions 1 b) ≡ 0
     zero-two =
-        let is : bit_and (mask_of productions 0 a) (mask_of productions 1 b) ≡ mask_l (map (two_admit a b) productions) = and-masks (admits 0 a) (admits 1 b) productions in
+        let is : bit_and (mask_of productions 0 a) (mask_of productions 1 b)
+            ≡ mask_l (map (two_admit a b) productions) = and-masks (admits 0 a) (admits 1 b) productions in
         is ∙ eqb-true _ _ (not-false _ (any-mask (two_admit a b) productions ∙ none))
 
 -- the number of the first row that fits is that of a row
@@ -233,16 +283,22 @@ misfits-below : (rows : List Row) (cats : List Cat) → 0 < fit_mask rows cats �
 misfits-below [] cats h = absurd (omega arith)
 misfits-below (row ∷ rows) cats h = go (row_fits row cats) refl (misfits-below rows cats)
   where
-    go : (b : Bool) → row_fits row cats ≡ b → (0 < fit_mask rows cats → misfits rows cats < length rows) → misfits (row ∷ rows) cats < length (row ∷ rows)
+    go : (b : Bool) → row_fits row cats ≡ b → (0 < fit_mask rows cats → misfits rows cats < length rows)
+        → misfits (row ∷ rows) cats < length (row ∷ rows)
     go true e rest = subst (λ b. cond (not b) (1 + misfits rows cats) 0 < suc (length rows)) (sym e) (omega arith)
     go false e rest =
-        let m : 0 < cond false 1 0 + 2 * fit_mask rows cats = subst (λ b. 0 < cond b 1 0 + 2 * fit_mask rows cats) e h in
+        let m : 0 < cond false 1 0 + 2 * fit_mask rows cats = subst (λ b. 0 < cond b 1 0 + 2 * fit_mask rows cats) e
+            h in
         let below = rest (omega arith) in
         subst (λ b. cond (not b) (1 + misfits rows cats) 0 < suc (length rows)) (sym e) (omega arith)
 
-pub first-bound : (w : List Cat) (d : Cat) (m0 m1 m2 m3 : ℕ) → length w ≡ 4 → m0 ≡ mask_of productions 0 (get_or w 0 d) → m1 ≡ mask_of productions 1 (get_or w 1 d) → m2 ≡ mask_of productions 2 (get_or w 2 d) → m3 ≡ mask_of productions 3 (get_or w 3 d) → (bit_and (bit_and (bit_and m0 m1) m2) m3 ≡ 0 → ⊥) → count_trailing_zeros 128 (bit_and (bit_and (bit_and m0 m1) m2) m3) + 1 ≤ ROW_COUNT
+pub first-bound : (w : List Cat) (d : Cat) (m0 m1 m2 m3 : ℕ) → length w ≡ 4 → m0 ≡ mask_of productions 0 (get_or w 0 d)
+    → m1 ≡ mask_of productions 1 (get_or w 1 d) → m2 ≡ mask_of productions 2 (get_or w 2 d)
+    → m3 ≡ mask_of productions 3 (get_or w 3 d) → (bit_and (bit_and (bit_and m0 m1) m2) m3 ≡ 0 → ⊥)
+    → count_trailing_zeros 128 (bit_and (bit_and (bit_and m0 m1) m2) m3) + 1 ≤ ROW_COUNT
 first-bound w d m0 m1 m2 m3 len e0 e1 e2 e3 some =
-    let mask : bit_and (bit_and (bit_and m0 m1) m2) m3 ≡ fit_mask productions w = met-by w d m0 m1 m2 m3 len e0 e1 e2 e3 in
+    let mask : bit_and (bit_and (bit_and m0 m1) m2) m3 ≡ fit_mask productions w =
+        met-by w d m0 m1 m2 m3 len e0 e1 e2 e3 in
     let positive : 0 < fit_mask productions w = subst (λ k. 0 < k) mask (omega (arith, some)) in
     let lowest : count_trailing_zeros 128 (bit_and (bit_and (bit_and m0 m1) m2) m3) ≡ misfits productions w =
     ap (count_trailing_zeros 128) mask

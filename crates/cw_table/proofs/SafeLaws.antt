@@ -1,10 +1,13 @@
 -- A safe distance is safe.
-use Rattle.std.proofs.Common.{◌≡◌, ◌<◌, ◌≤◌, ◌+◌, ◌-◌, ◌∙◌, sym, ap, ℕ, zero, suc, Bool, true, false, not, List, [], ◌∷◌, ◌++◌, length, map, get_or, take, drop, Some, None, refl, arith, ◌&&◌, ◌||◌, inl, inr, eqb, leb, ltb, length-take-le, length-drop, take-append-drop, add-zero}
+use Rattle.std.proofs.Common.{◌≡◌, ◌<◌, ◌≤◌, ◌+◌, ◌-◌, ◌∙◌, sym, ap, ℕ, zero, suc, Bool, true, false, not, List, []}
+use Rattle.std.proofs.Common.{◌∷◌, ◌++◌, length, map, get_or, take, drop, Some, None, refl, arith, ◌&&◌, ◌||◌, inl, inr}
+use Rattle.std.proofs.Common.{eqb, leb, ltb, length-take-le, length-drop, take-append-drop, add-zero}
 use Rattle.std.specs.List.{flat_map, list_all, list_any}
 use Rattle.std.specs.Prelude.{filter}
 use Rattle.std.proofs.lemmas.Bool.{eqb-true, ltb-true, lt-ltb}
 use Rattle.std.proofs.lemmas.Bool.Decides.{eqb_tells, leb_tells}
-use Rattle.std.proofs.lemmas.List.{drop-append-le, get_or_past, get_or-append-add, get_or-append_right, get_or-drop, get_or-take, get_or_append_left}
+use Rattle.std.proofs.lemmas.List.{drop-append-le, get_or_past, get_or-append-add, get_or-append_right, get_or-drop}
+use Rattle.std.proofs.lemmas.List.{get_or-take, get_or_append_left}
 use Rattle.std.proofs.Math.Seq.{get_or-append_seam}
 use Rattle.cw_base.specs.declared.category.Cat.{Cat}
 use Rattle.cw_base.specs.declared.category.Cat.TheVariants.{End}
@@ -12,13 +15,15 @@ use Rattle.cw_base.specs.declared.category.CatSet.{CatSet}
 use Rattle.cw_base.specs.Category.{all_cats, in_set, meet, number_of}
 use Rattle.cw_base.proofs.CategoryLaws.{each-of, place-of}
 use Rattle.cw_base.proofs.SetLaws.{any-at, meet-by}
-use Rattle.cw_base.proofs.TestLaws.{both, both-failed, both-left, both-right, not-false, not-true, other-one, one-failed-left, one-failed-right, one-left, one-right}
+use Rattle.cw_base.proofs.TestLaws.{both, both-failed, both-left, both-right, not-false, not-true, other-one}
+use Rattle.cw_base.proofs.TestLaws.{one-failed-left, one-failed-right, one-left, one-right}
 use Rattle.cw_table.specs.declared.types.RowResult.{RowResult}
 use Rattle.cw_table.specs.declared.types.RowResult.TheVariants.{Is, SameAs}
 use Rattle.cw_table.specs.declared.types.Row.{Row}
 use Rattle.cw_table.specs.Fitting.{all_hold, first_of, row_fits}
 use Rattle.cw_table.specs.Rows.{empty, result_at, test, tests_of}
-use Rattle.cw_table.specs.Safe.{Pair, SafeIsSound, brings, endangers, is_hazard, least, members, pairs_by, pairs_of, reserves, safe, sees_moved, suits_after, suits_before}
+use Rattle.cw_table.specs.Safe.{Pair, SafeIsSound, brings, endangers, is_hazard, least, members, pairs_by, pairs_of}
+use Rattle.cw_table.specs.Safe.{reserves, safe, sees_moved, suits_after, suits_before}
 use Rattle.cw_table.specs.Sound.{IsSound, numbers_from, row_is_sound}
 use Rattle.cw_table.proofs.FirstLaws.{first-behind, first-here, length-tests_of}
 use Rattle.cw_table.proofs.Soundness.{sound-row}
@@ -37,13 +42,16 @@ both-true : (b x : Bool) → b ≡ true → x ≡ true → elim b [ true ↦ x |
 both-true true x h k = k
 both-true false x h k = h
 
-pub all-numbers : (p : ℕ → Bool) (first n : ℕ) → ((i : ℕ) → i < n → p (first + i) ≡ true) → list_all p (numbers_from first n) ≡ true
+pub all-numbers : (p : ℕ → Bool) (first n : ℕ) → ((i : ℕ) → i < n → p (first + i) ≡ true)
+    → list_all p (numbers_from first n) ≡ true
 all-numbers p first zero h = refl
 all-numbers p first (suc n) h =
     both _ _ (ap p (sym (add-zero first)) ∙ h 0 (omega arith))
-    (all-numbers p (suc first) n (λ i lt. let e : suc first + i ≡ first + suc i = omega arith in ap p e ∙ h (suc i) (omega arith)))
+    (all-numbers p (suc first) n (λ i lt. let e : suc first + i ≡ first + suc i = omega arith in ap p e
+        ∙ h (suc i) (omega arith)))
 
-pub any-map : {X Y : Type 0} (p : Y → Bool) (f : X → Y) (xs : List X) → list_any p (map f xs) ≡ list_any (λ x. p (f x)) xs
+pub any-map : {X Y : Type 0} (p : Y → Bool) (f : X → Y) (xs : List X) → list_any p (map f xs)
+    ≡ list_any (λ x. p (f x)) xs
 any-map p f [] = refl
 any-map p f (x ∷ xs) = ap (λ b. p (f x) || b) (any-map p f xs)
 
@@ -55,18 +63,22 @@ any-append-left : {X : Type 0} (p : X → Bool) (xs ys : List X) → list_any p 
 any-append-left p [] ys h = absurd cc
 any-append-left p (x ∷ xs) ys h = go (p x) refl (any-append-left p xs ys)
   where
-    go : (b : Bool) → p x ≡ b → (list_any p xs ≡ true → list_any p (xs ++ ys) ≡ true) → list_any p ((x ∷ xs) ++ ys) ≡ true
+    go : (b : Bool) → p x ≡ b → (list_any p xs ≡ true → list_any p (xs ++ ys) ≡ true) → list_any p ((x ∷ xs) ++ ys)
+        ≡ true
     go true e rest = one-left _ _ e
     go false e rest = one-right _ _ (rest (ap (λ b. b || list_any p xs) (sym e) ∙ h))
 
 -- an element of a list gives its piece of the flat list
-any-flat : {X Y : Type 0} (p : Y → Bool) (f : X → List Y) (xs : List X) → list_any (λ x. list_any p (f x)) xs ≡ true → list_any p (flat_map f xs) ≡ true
+any-flat : {X Y : Type 0} (p : Y → Bool) (f : X → List Y) (xs : List X) → list_any (λ x. list_any p (f x)) xs ≡ true
+    → list_any p (flat_map f xs) ≡ true
 any-flat p f [] h = absurd cc
 any-flat p f (x ∷ xs) h = go (list_any p (f x)) refl (any-flat p f xs)
   where
-    go : (b : Bool) → list_any p (f x) ≡ b → (list_any (λ y. list_any p (f y)) xs ≡ true → list_any p (flat_map f xs) ≡ true) → list_any p (flat_map f (x ∷ xs)) ≡ true
+    go : (b : Bool) → list_any p (f x) ≡ b → (list_any (λ y. list_any p (f y)) xs ≡ true → list_any p (flat_map f xs)
+        ≡ true) → list_any p (flat_map f (x ∷ xs)) ≡ true
     go true e rest = any-append-left p (f x) (flat_map f xs) e
-    go false e rest = any-append p (f x) (flat_map f xs) (rest (ap (λ b. b || list_any (λ y. list_any p (f y)) xs) (sym e) ∙ h))
+    go false e rest = any-append p (f x) (flat_map f xs)
+        (rest (ap (λ b. b || list_any (λ y. list_any p (f y)) xs) (sym e) ∙ h))
 
 pub filter-yes : {X : Type 0} (q : X → Bool) (x : X) (xs : List X) → q x ≡ true → filter q (x ∷ xs) ≡ x ∷ filter q xs
 filter-yes {X} q x xs e = rw e refl
@@ -74,46 +86,57 @@ filter-yes {X} q x xs e = rw e refl
 pub filter-no : {X : Type 0} (q : X → Bool) (x : X) (xs : List X) → q x ≡ false → filter q (x ∷ xs) ≡ filter q xs
 filter-no {X} q x xs e = rw e refl
 
-any-filter : {X : Type 0} (p q : X → Bool) (xs : List X) → list_any (λ x. q x && p x) xs ≡ true → list_any p (filter q xs) ≡ true
+any-filter : {X : Type 0} (p q : X → Bool) (xs : List X) → list_any (λ x. q x && p x) xs ≡ true
+    → list_any p (filter q xs) ≡ true
 any-filter p q [] h = h
 any-filter p q (x ∷ xs) h = go (q x) (p x) refl refl (any-filter p q xs)
   where
-    go : (b c : Bool) → q x ≡ b → p x ≡ c → (list_any (λ y. q y && p y) xs ≡ true → list_any p (filter q xs) ≡ true) → list_any p (filter q (x ∷ xs)) ≡ true
+    go : (b c : Bool) → q x ≡ b → p x ≡ c → (list_any (λ y. q y && p y) xs ≡ true → list_any p (filter q xs) ≡ true)
+        → list_any p (filter q (x ∷ xs)) ≡ true
     go true true e f rest = ap (list_any p) (filter-yes q x xs e) ∙ one-left _ _ f
     go true false e f rest =
-        let more : list_any (λ y. q y && p y) xs ≡ true = ap (λ b. (b && false) || list_any (λ y. q y && p y) xs) (sym e) ∙ ap (λ c. (q x && c) || list_any (λ y. q y && p y) xs) (sym f) ∙ h in
+        let more : list_any (λ y. q y && p y) xs ≡ true = ap (λ b. (b && false) || list_any (λ y. q y && p y) xs)
+            (sym e) ∙ ap (λ c. (q x && c) || list_any (λ y. q y && p y) xs) (sym f) ∙ h in
         ap (list_any p) (filter-yes q x xs e) ∙ one-right _ _ (rest more)
     go false c e f rest =
-        let more : list_any (λ y. q y && p y) xs ≡ true = ap (λ b. (b && p x) || list_any (λ y. q y && p y) xs) (sym e) ∙ h in
+        let more : list_any (λ y. q y && p y) xs ≡ true = ap (λ b. (b && p x) || list_any (λ y. q y && p y) xs) (sym e)
+            ∙ h in
         ap (list_any p) (filter-no q x xs e) ∙ rest more
 
 any-member : (p : Cat → Bool) (s : CatSet) (c : Cat) → in_set s c ≡ true → p c ≡ true → list_any p (members s) ≡ true
 any-member p s c h k =
-    any-filter p (in_set s) all_cats (any-at (λ x. in_set s x && p x) all_cats (number_of c) c (place-of c) (both _ _ h k))
+    any-filter p (in_set s) all_cats (any-at (λ x. in_set s x && p x) all_cats (number_of c) c (place-of c)
+        (both _ _ h k))
 
 -- A row that fits holds at each place, and the other way round.
 
-pub hold-at : (tests : List CatSet) (cats : List Cat) (k : ℕ) → all_hold tests cats ≡ true → k < length tests → in_set (get_or tests k empty) (get_or cats k End) ≡ true
+pub hold-at : (tests : List CatSet) (cats : List Cat) (k : ℕ) → all_hold tests cats ≡ true → k < length tests
+    → in_set (get_or tests k empty) (get_or cats k End) ≡ true
 hold-at [] cats k h lt = absurd (omega arith)
 hold-at (test ∷ tests) [] zero h lt = first-true _ _ h
 hold-at (test ∷ tests) [] (suc k) h lt = hold-at tests [] k (rest-true _ _ h) (omega arith)
 hold-at (test ∷ tests) (cat ∷ cats) zero h lt = first-true _ _ h
 hold-at (test ∷ tests) (cat ∷ cats) (suc k) h lt = hold-at tests cats k (rest-true _ _ h) (omega arith)
 
-pub hold-from : (tests : List CatSet) (cats : List Cat) → ((k : ℕ) → k < length tests → in_set (get_or tests k empty) (get_or cats k End) ≡ true) → all_hold tests cats ≡ true
+pub hold-from : (tests : List CatSet) (cats : List Cat)
+    → ((k : ℕ) → k < length tests → in_set (get_or tests k empty) (get_or cats k End) ≡ true) → all_hold tests cats
+    ≡ true
 hold-from [] cats h = refl
 hold-from (test ∷ tests) [] h = both-true _ _ (h 0 (omega arith)) (hold-from tests [] (λ k lt. h (suc k) (omega arith)))
 hold-from (test ∷ tests) (cat ∷ cats) h =
     both-true _ _ (h 0 (omega arith)) (hold-from tests cats (λ k lt. h (suc k) (omega arith)))
 
-pub same-pairs : (row : Row) (k : ℕ) → eqb k row.offset ≡ true → pairs_by (SameAs k) row ≡ map (λ c. (c, c)) (members (test row row.offset))
+pub same-pairs : (row : Row) (k : ℕ) → eqb k row.offset ≡ true → pairs_by (SameAs k) row
+    ≡ map (λ c. (c, c)) (members (test row row.offset))
 same-pairs row k e = rw (e, pairs_by) refl
 
-pub other-pairs : (row : Row) (k : ℕ) → eqb k row.offset ≡ false → pairs_by (SameAs k) row ≡ flat_map (λ o. map (λ n. (o, n)) (members (test row k))) (members (test row row.offset))
+pub other-pairs : (row : Row) (k : ℕ) → eqb k row.offset ≡ false → pairs_by (SameAs k) row
+    ≡ flat_map (λ o. map (λ n. (o, n)) (members (test row k))) (members (test row row.offset))
 other-pairs row k e = rw (e, pairs_by) refl
 
 -- the pair of categories that was really there is a pair of the row
-any-pair : (row : Row) (w : List Cat) (p : Pair → Bool) → IsSound row → row_fits row w ≡ true → p (get_or w row.offset End, result_at row.result w) ≡ true → list_any p (pairs_of row) ≡ true
+any-pair : (row : Row) (w : List Cat) (p : Pair → Bool) → IsSound row → row_fits row w ≡ true
+    → p (get_or w row.offset End, result_at row.result w) ≡ true → list_any p (pairs_of row) ≡ true
 any-pair row w p sound fits h = by_result row.result refl h
   where
     fit : (k : ℕ) → k < row.test_count → in_set (test row k) (get_or w k End) ≡ true
@@ -122,7 +145,8 @@ any-pair row w p sound fits h = by_result row.result refl h
     old : in_set (test row row.offset) (get_or w row.offset End) ≡ true
     old = fit row.offset (omega (arith, sound.replaced_tested, sound.some_replaced))
 
-    by_same : (k : ℕ) (b : Bool) → row.result ≡ SameAs k → eqb k row.offset ≡ b → p (get_or w row.offset End, get_or w k End) ≡ true → list_any p (pairs_by (SameAs k) row) ≡ true
+    by_same : (k : ℕ) (b : Bool) → row.result ≡ SameAs k → eqb k row.offset ≡ b
+        → p (get_or w row.offset End, get_or w k End) ≡ true → list_any p (pairs_by (SameAs k) row) ≡ true
     by_same k true r e q =
         ap (list_any p) (same-pairs row k e)
         ∙ any-map p (λ c. (c, c)) (members (test row row.offset))
@@ -135,20 +159,25 @@ any-pair row w p sound fits h = by_result row.result refl h
         (any-map p (λ n. (get_or w row.offset End, n)) (members (test row k))
         ∙ any-member (λ n. p (get_or w row.offset End, n)) _ (get_or w k End) (fit k (sound.same_as_tested k r)) q))
 
-    by_result : (result : RowResult) → row.result ≡ result → p (get_or w row.offset End, result_at result w) ≡ true → list_any p (pairs_by result row) ≡ true
+    by_result : (result : RowResult) → row.result ≡ result → p (get_or w row.offset End, result_at result w) ≡ true
+        → list_any p (pairs_by result row) ≡ true
     by_result (Is new) r q =
-        any-map p (λ c. (c, new)) (members (test row row.offset)) ∙ any-member (λ c. p (c, new)) _ (get_or w row.offset End) old q
+        any-map p (λ c. (c, new)) (members (test row row.offset))
+            ∙ any-member (λ c. p (c, new)) _ (get_or w row.offset End) old q
     by_result (SameAs k) r q = by_same k (eqb k row.offset) r refl q
 
-fit-at : (row : Row) (w : List Cat) → IsSound row → row_fits row w ≡ true → (k : ℕ) → k < row.test_count → in_set (test row k) (get_or w k End) ≡ true
+fit-at : (row : Row) (w : List Cat) → IsSound row → row_fits row w ≡ true → (k : ℕ) → k < row.test_count
+    → in_set (test row k) (get_or w k End) ≡ true
 fit-at row w sound fits k lt = hold-at (tests_of row) w k fits (omega (arith, length-tests_of row sound))
 
 -- what is replaced stands in the list
 pub begins-inside : (row : Row) (w : List Cat) → IsSound row → row_fits row w ≡ true → row.offset < length w
 begins-inside row w sound fits = elim (leb_tells (length w) row.offset) [
   | inl past ↦ absurd (
-      let none : in_set (test row row.offset) End ≡ false = sound.replaced_not_end row.offset (omega arith) (omega (arith, sound.some_replaced)) in
-      let some : in_set (test row row.offset) (get_or w row.offset End) ≡ true = fit-at row w sound fits row.offset (omega (arith, sound.replaced_tested, sound.some_replaced)) in
+      let none : in_set (test row row.offset) End ≡ false =
+          sound.replaced_not_end row.offset (omega arith) (omega (arith, sound.some_replaced)) in
+      let some : in_set (test row row.offset) (get_or w row.offset End) ≡ true =
+          fit-at row w sound fits row.offset (omega (arith, sound.replaced_tested, sound.some_replaced)) in
       let is : get_or w row.offset End ≡ End = get_or_past w row.offset End past.1 in
       let there : in_set (test row row.offset) End ≡ true = ap (in_set (test row row.offset)) (sym is) ∙ some in
       cc)
@@ -157,7 +186,8 @@ begins-inside row w sound fits = elim (leb_tells (length w) row.offset) [
 
 -- One row before another: `pre` are the categories between the places of the two, `w` those from the place of
 -- the row that is applied on, and `rest` what stands to the right of the new scrap.
-module _ (r t : Row) (pre w rest : List Cat) (sr : IsSound r) (st : IsSound t) (fr : row_fits r w ≡ true) (keep : reserves r ≡ false → rest ≡ drop (r.offset + r.replaced) w) where
+module _ (r t : Row) (pre w rest : List Cat) (sr : IsSound r) (st : IsSound t) (fr : row_fits r w
+    ≡ true) (keep : reserves r ≡ false → rest ≡ drop (r.offset + r.replaced) w) where
   abbrev after : List Cat
   after = take r.offset w ++ result_at r.result w ∷ rest
 
@@ -200,7 +230,8 @@ module _ (r t : Row) (pre w rest : List Cat) (sr : IsSound r) (st : IsSound t) (
       ∙ ap (λ n. get_or after n End) front
       ∙ get_or-append-add (take r.offset w) (result_at r.result w ∷ rest) (suc j) End
 
-  at-kept : (j : ℕ) → reserves r ≡ false → get_or (pre ++ after) (q + suc j) End ≡ get_or w (r.offset + r.replaced + j) End
+  at-kept : (j : ℕ) → reserves r ≡ false → get_or (pre ++ after) (q + suc j) End
+      ≡ get_or w (r.offset + r.replaced + j) End
   at-kept j none = at-after j ∙ ap (λ xs. get_or xs j End) (keep none) ∙ get_or-drop (r.offset + r.replaced) w j End
 
   module _ (ft : row_fits t (pre ++ after) ≡ true) where
@@ -212,7 +243,8 @@ module _ (r t : Row) (pre w rest : List Cat) (sr : IsSound r) (st : IsSound t) (
         let zero-i : 0 + i ≡ i = omega arith in
         ap (λ n. meet (test t (length pre + n)) (test r n)) zero-i
         ∙ meet-by _ _ (get_or w i End)
-        (ap (in_set (test t (length pre + i))) (sym (at-before (length pre + i) (omega arith) ∙ get_or-append-add pre w i End)) ∙ fit-new (length pre + i) (omega arith))
+        (ap (in_set (test t (length pre + i))) (sym (at-before (length pre + i) (omega arith)
+            ∙ get_or-append-add pre w i End)) ∙ fit-new (length pre + i) (omega arith))
         (fit i (omega (arith, sr.replaced_tested))))
 
     after-suits : reserves r ≡ false → suits_after r t (length pre) ≡ true
@@ -222,44 +254,57 @@ module _ (r t : Row) (pre w rest : List Cat) (sr : IsSound r) (st : IsSound t) (
         elim (leb_tells r.test_count (suc q + i + r.replaced - (length pre + 1))) [
           | inl none ↦ one-left _ _ none.0
           | inr some ↦ one-right _ _ (meet-by _ _ (get_or w (suc q + i + r.replaced - (length pre + 1)) End)
-              (ap (in_set (test t (suc q + i))) (sym (ap (λ n. get_or (pre ++ after) n End) split ∙ at-kept i none ∙ ap (λ n. get_or w n End) there)) ∙ fit-new (suc q + i) (omega arith))
+              (ap (in_set (test t (suc q + i))) (sym (ap (λ n. get_or (pre ++ after) n End) split ∙ at-kept i none
+                  ∙ ap (λ n. get_or w n End) there)) ∙ fit-new (suc q + i) (omega arith))
               (fit _ some.1))
         ])
 
-    hazard-is : q < t.test_count → list_any (brings r t q) (pairs_of r) ≡ true → is_hazard r t (length pre) ≡ (suits_before r t (length pre) && (reserves r || suits_after r t (length pre)))
+    hazard-is : q < t.test_count → list_any (brings r t q) (pairs_of r) ≡ true → is_hazard r t (length pre)
+        ≡ (suits_before r t (length pre) && (reserves r || suits_after r t (length pre)))
     hazard-is lt any = let within : ltb q t.test_count ≡ true = lt-ltb _ _ lt in rw (within, any, is_hazard) refl
 
-    suits : q < t.test_count → (b : Bool) → reserves r ≡ b → (suits_before r t (length pre) && (reserves r || suits_after r t (length pre))) ≡ true
+    suits : q < t.test_count → (b : Bool) → reserves r ≡ b
+        → (suits_before r t (length pre) && (reserves r || suits_after r t (length pre))) ≡ true
     suits lt true e = both _ _ (before-suits lt) (one-left _ _ e)
     suits lt false e = both _ _ (before-suits lt) (one-right _ _ (after-suits e))
 
-    not-brought : q < t.test_count → is_hazard r t (length pre) ≡ false → brings r t q (get_or w r.offset End, result_at r.result w) ≡ false
+    not-brought : q < t.test_count → is_hazard r t (length pre) ≡ false
+        → brings r t q (get_or w r.offset End, result_at r.result w) ≡ false
     not-brought lt harmless = go (brings r t q (get_or w r.offset End, result_at r.result w)) refl
       where
         go : (b : Bool) → brings r t q (get_or w r.offset End, result_at r.result w) ≡ b → b ≡ false
         go true e =
-            let yes : is_hazard r t (length pre) ≡ true = hazard-is lt (any-pair r w (brings r t q) sr fr e) ∙ suits lt (reserves r) refl in
+            let yes : is_hazard r t (length pre) ≡ true = hazard-is lt (any-pair r w (brings r t q) sr fr e)
+                ∙ suits lt (reserves r) refl in
             sym yes ∙ harmless
         go false e = refl
 
     -- the row fitted there before
     pub fitted-before : is_hazard r t (length pre) ≡ false → row_fits t (pre ++ w) ≡ true
-    fitted-before harmless = hold-from (tests_of t) (pre ++ w) (λ k lt. each k (omega (arith, lt, length-tests_of t st)))
+    fitted-before harmless = hold-from (tests_of t) (pre ++ w)
+        (λ k lt. each k (omega (arith, lt, length-tests_of t st)))
       where
-        there : (k : ℕ) → k < t.test_count → get_or (pre ++ after) k End ≡ get_or (pre ++ w) k End → in_set (test t k) (get_or (pre ++ w) k End) ≡ true
+        there : (k : ℕ) → k < t.test_count → get_or (pre ++ after) k End ≡ get_or (pre ++ w) k End
+            → in_set (test t k) (get_or (pre ++ w) k End) ≡ true
         there k lt e = ap (in_set (test t k)) (sym e) ∙ fit-new k lt
 
         left : q < t.test_count → (not (in_set (test t q) (get_or w r.offset End)) || sees_moved r t q) ≡ false
         left lt =
-            let new : in_set (test t q) (result_at r.result w) ≡ true = ap (in_set (test t q)) (sym at-new) ∙ fit-new q lt in
+            let new : in_set (test t q) (result_at r.result w) ≡ true = ap (in_set (test t q)) (sym at-new)
+                ∙ fit-new q lt in
             both-failed _ _ (not-brought lt harmless) new
 
         behind : (k : ℕ) → q < k → k < t.test_count → get_or (pre ++ after) k End ≡ get_or (pre ++ w) k End
         behind k above lt =
             let more : ltb (suc q) t.test_count ≡ true = lt-ltb _ _ (omega arith) in
-            let neither : (leb 2 r.replaced || reserves r) ≡ false = both-failed (ltb (suc q) t.test_count) (leb 2 r.replaced || reserves r) (one-failed-right (not (in_set (test t q) (get_or w r.offset End))) (sees_moved r t q) (left (omega arith))) more in
+            let neither : (leb 2 r.replaced || reserves r)
+                ≡ false = both-failed (ltb (suc q) t.test_count) (leb 2 r.replaced || reserves r)
+                (one-failed-right (not (in_set (test t q) (get_or w r.offset End))) (sees_moved r t q)
+                (left (omega arith))) more in
             let one : r.replaced ≡ 1 = elim (leb_tells 2 r.replaced) [
-              | inl two ↦ absurd (let no_two : leb 2 r.replaced ≡ false = one-failed-left (leb 2 r.replaced) (reserves r) neither in let two_yes : leb 2 r.replaced ≡ true = two.0 in cc)
+              | inl two ↦ absurd (let no_two : leb 2 r.replaced
+                  ≡ false = one-failed-left (leb 2 r.replaced) (reserves r) neither in let two_yes : leb 2 r.replaced
+                  ≡ true = two.0 in cc)
               | inr few ↦ omega (arith, few.1, sr.some_replaced)
             ] in
             let split : k ≡ q + suc (k - suc q) = omega arith in
@@ -274,24 +319,29 @@ module _ (r t : Row) (pre w rest : List Cat) (sr : IsSound r) (st : IsSound t) (
           | inr before ↦ there k lt (at-before k before.1)
           | inl not_before ↦ elim (eqb_tells q k) [
             | inl here ↦ (
-                let old : in_set (test t q) (get_or w r.offset End) ≡ true = not-false _ (one-failed-left _ _ (left (omega (arith, here.1)))) in
-                ap (λ n. in_set (test t n) (get_or (pre ++ w) n End)) (sym here.1) ∙ ap (in_set (test t q)) at-old ∙ old)
+                let old : in_set (test t q) (get_or w r.offset End) ≡ true =
+                    not-false _ (one-failed-left _ _ (left (omega (arith, here.1)))) in
+                ap (λ n. in_set (test t n) (get_or (pre ++ w) n End)) (sym here.1) ∙ ap (in_set (test t q)) at-old
+                    ∙ old)
             | inr other ↦ there k lt (behind k (omega (arith, other.1, not_before.1)) lt)
           ]
         ]
 
 -- What the first row that fits is.
-pub first-fits : (rows : List Row) (cats : List Cat) (row : Row) → first_of rows cats ≡ Some row → list_all row_is_sound rows ≡ true → (row_fits row cats ≡ true) × (row_is_sound row ≡ true)
+pub first-fits : (rows : List Row) (cats : List Cat) (row : Row) → first_of rows cats ≡ Some row
+    → list_all row_is_sound rows ≡ true → (row_fits row cats ≡ true) × (row_is_sound row ≡ true)
 first-fits [] cats row e h = absurd cc
 first-fits (r ∷ rows) cats row e h = go (row_fits r cats) refl (λ f. first-fits rows cats row f (both-right _ _ h))
   where
-    go : (b : Bool) → row_fits r cats ≡ b → (first_of rows cats ≡ Some row → (row_fits row cats ≡ true) × (row_is_sound row ≡ true)) → (row_fits row cats ≡ true) × (row_is_sound row ≡ true)
+    go : (b : Bool) → row_fits r cats ≡ b → (first_of rows cats ≡ Some row → (row_fits row cats ≡ true)
+        × (row_is_sound row ≡ true)) → (row_fits row cats ≡ true) × (row_is_sound row ≡ true)
     go true f rest =
         let same : r ≡ row = let one : Some r ≡ Some row = sym (first-here r rows cats f) ∙ e in cc in
         (ap (λ x. row_fits x cats) (sym same) ∙ f, ap row_is_sound (sym same) ∙ both-left _ _ h)
     go false f rest = rest (sym (first-behind r rows cats f) ∙ e)
 
-pub none-fits : (row : Row) (rows : List Row) (cats : List Cat) → first_of (row ∷ rows) cats ≡ None → (row_fits row cats ≡ false) × (first_of rows cats ≡ None)
+pub none-fits : (row : Row) (rows : List Row) (cats : List Cat) → first_of (row ∷ rows) cats ≡ None
+    → (row_fits row cats ≡ false) × (first_of rows cats ≡ None)
 none-fits row rows cats e = go (row_fits row cats) refl
   where
     go : (b : Bool) → row_fits row cats ≡ b → (row_fits row cats ≡ false) × (first_of rows cats ≡ None)
@@ -307,11 +357,15 @@ far-harmless r t e st far = go (ltb (e + r.offset) t.test_count) refl
     go false h = rw (h, is_hazard) refl
 
 -- no row fits where none is brought to fit and none fitted
-none-after : (rows : List Row) (r : Row) (pre w rest : List Cat) → IsSound r → row_fits r w ≡ true → (reserves r ≡ false → rest ≡ drop (r.offset + r.replaced) w) → list_all row_is_sound rows ≡ true → (length pre ≤ 3 → list_any (λ t. is_hazard r t (length pre)) rows ≡ false) → first_of rows (pre ++ w) ≡ None → first_of rows (pre ++ (take r.offset w ++ result_at r.result w ∷ rest)) ≡ None
+none-after : (rows : List Row) (r : Row) (pre w rest : List Cat) → IsSound r → row_fits r w ≡ true
+    → (reserves r ≡ false → rest ≡ drop (r.offset + r.replaced) w) → list_all row_is_sound rows ≡ true
+    → (length pre ≤ 3 → list_any (λ t. is_hazard r t (length pre)) rows ≡ false) → first_of rows (pre ++ w) ≡ None
+    → first_of rows (pre ++ (take r.offset w ++ result_at r.result w ∷ rest)) ≡ None
 none-after [] r pre w rest sr fr keep h safe_from none = refl
 none-after (t ∷ rows) r pre w rest sr fr keep h safe_from none =
     go (row_fits t (pre ++ (take r.offset w ++ result_at r.result w ∷ rest))) refl
-    (none-after rows r pre w rest sr fr keep (both-right _ _ h) (λ near. one-failed-right _ _ (safe_from near)) before.1)
+    (none-after rows r pre w rest sr fr keep (both-right _ _ h) (λ near. one-failed-right _ _ (safe_from near))
+        before.1)
   where
     before : (row_fits t (pre ++ w) ≡ false) × (first_of rows (pre ++ w) ≡ None)
     before = none-fits t rows (pre ++ w) none
@@ -325,31 +379,42 @@ none-after (t ∷ rows) r pre w rest sr fr keep h safe_from none =
       | inr far ↦ far-harmless r t (length pre) st far.1
     ]
 
-    go : (b : Bool) → row_fits t (pre ++ (take r.offset w ++ result_at r.result w ∷ rest)) ≡ b → first_of rows (pre ++ (take r.offset w ++ result_at r.result w ∷ rest)) ≡ None → first_of (t ∷ rows) (pre ++ (take r.offset w ++ result_at r.result w ∷ rest)) ≡ None
+    go : (b : Bool) → row_fits t (pre ++ (take r.offset w ++ result_at r.result w ∷ rest)) ≡ b
+        → first_of rows (pre ++ (take r.offset w ++ result_at r.result w ∷ rest)) ≡ None
+        → first_of (t ∷ rows) (pre ++ (take r.offset w ++ result_at r.result w ∷ rest)) ≡ None
     go true f others = absurd (
         let old : row_fits t (pre ++ w) ≡ true = fitted-before r t pre w rest sr st fr keep f harmless in
         let new = before.0 in cc)
     go false f others = first-behind t rows _ f ∙ others
 
 -- none of the rows is in danger further before than a safe distance
-beyond : (rows : List Row) (r : Row) (d e : ℕ) → (leb e d || not (endangers rows r e)) ≡ true → d < e → endangers rows r e ≡ false
+beyond : (rows : List Row) (r : Row) (d e : ℕ) → (leb e d || not (endangers rows r e)) ≡ true → d < e
+    → endangers rows r e ≡ false
 beyond rows r d e h lt = elim (leb_tells e d) [
   | inl low ↦ absurd (omega (arith, low.1))
   | inr high ↦ not-true _ (other-one _ _ h high.0)
 ]
 
-drop-front : (lower place : ℕ) (cats more : List Cat) → place ≤ length cats → lower ≤ place → drop lower (take place cats ++ more) ≡ drop lower (take place cats) ++ more
-drop-front lower place cats more h k = drop-append-le lower (take place cats) more (omega (arith, length-take-le place cats h))
+drop-front : (lower place : ℕ) (cats more : List Cat) → place ≤ length cats → lower ≤ place
+    → drop lower (take place cats ++ more) ≡ drop lower (take place cats) ++ more
+drop-front lower place cats more h k = drop-append-le lower (take place cats) more
+    (omega (arith, length-take-le place cats h))
 
-whole-front : (lower place : ℕ) (cats : List Cat) → place ≤ length cats → lower ≤ place → drop lower (take place cats) ++ drop place cats ≡ drop lower cats
-whole-front lower place cats h k = sym (drop-front lower place cats (drop place cats) h k) ∙ ap (drop lower) (take-append-drop place cats)
+whole-front : (lower place : ℕ) (cats : List Cat) → place ≤ length cats → lower ≤ place
+    → drop lower (take place cats) ++ drop place cats ≡ drop lower cats
+whole-front lower place cats h k = sym (drop-front lower place cats (drop place cats) h k)
+    ∙ ap (drop lower) (take-append-drop place cats)
 
-safe-beyond : (rows : List Row) (r : Row) (d e : ℕ) → safe rows r d ≡ true → d < e → e ≤ 3 → list_any (λ t. is_hazard r t e) rows ≡ false
+safe-beyond : (rows : List Row) (r : Row) (d e : ℕ) → safe rows r d ≡ true → d < e → e ≤ 3
+    → list_any (λ t. is_hazard r t e) rows ≡ false
 unfolding endangers
 safe-beyond rows r d zero h lt near = absurd (omega arith)
-safe-beyond rows r d (suc zero) h lt near = beyond rows r d 1 (each-of (λ places. leb places d || not (endangers rows r places)) (1 ∷ 2 ∷ 3 ∷ []) 0 1 h refl) lt
-safe-beyond rows r d (suc (suc zero)) h lt near = beyond rows r d 2 (each-of (λ places. leb places d || not (endangers rows r places)) (1 ∷ 2 ∷ 3 ∷ []) 1 2 h refl) lt
-safe-beyond rows r d (suc (suc (suc zero))) h lt near = beyond rows r d 3 (each-of (λ places. leb places d || not (endangers rows r places)) (1 ∷ 2 ∷ 3 ∷ []) 2 3 h refl) lt
+safe-beyond rows r d (suc zero) h lt near = beyond rows r d 1
+    (each-of (λ places. leb places d || not (endangers rows r places)) (1 ∷ 2 ∷ 3 ∷ []) 0 1 h refl) lt
+safe-beyond rows r d (suc (suc zero)) h lt near = beyond rows r d 2
+    (each-of (λ places. leb places d || not (endangers rows r places)) (1 ∷ 2 ∷ 3 ∷ []) 1 2 h refl) lt
+safe-beyond rows r d (suc (suc (suc zero))) h lt near = beyond rows r d 3
+    (each-of (λ places. leb places d || not (endangers rows r places)) (1 ∷ 2 ∷ 3 ∷ []) 2 3 h refl) lt
 safe-beyond rows r d (suc (suc (suc (suc e)))) h lt near = absurd (omega arith)
 
 pub safe-sound : (rows : List Row) (r : Row) → list_all row_is_sound rows ≡ true → SafeIsSound rows r
@@ -379,7 +444,8 @@ least-safe rows r = go (safe rows r 0) (safe rows r 1) (safe rows r 2) refl refl
     go true b c ea eb ec = let is : least rows r ≡ 0 = rw (ea, least) refl in ap (safe rows r) is ∙ ea
     go false true c ea eb ec = let is : least rows r ≡ 1 = rw (ea, eb, least) refl in ap (safe rows r) is ∙ eb
     go false false true ea eb ec = let is : least rows r ≡ 2 = rw (ea, eb, ec, least) refl in ap (safe rows r) is ∙ ec
-    go false false false ea eb ec = let is : least rows r ≡ 3 = rw (ea, eb, ec, least) refl in ap (safe rows r) is ∙ refl
+    go false false false ea eb ec = let is : least rows r ≡ 3 = rw (ea, eb, ec, least) refl in ap (safe rows r) is
+        ∙ refl
 
 pub least-at-most : (rows : List Row) (r : Row) → least rows r ≤ 3
 least-at-most rows r = go (safe rows r 0) (safe rows r 1) (safe rows r 2) refl refl refl

@@ -1,5 +1,7 @@
 -- Facts on lists of scraps: their weights, their categories, and whether each is fine.
-use Rattle.std.proofs.Common.{◌≡◌, ℕ, zero, suc, ◌+◌, ◌*◌, ◌<◌, ◌≤◌, Bool, true, false, ◌&&◌, Option, Some, None, List, [], ◌∷◌, ◌++◌, map, length, get_or, take, drop, set, refl, sym, ◌∙◌, ap, arith, add_assoc, zero-add, take-append-drop}
+use Rattle.std.proofs.Common.{◌≡◌, ℕ, zero, suc, ◌+◌, ◌*◌, ◌<◌, ◌≤◌, Bool, true, false, ◌&&◌, Option, Some, None, List}
+use Rattle.std.proofs.Common.{[], ◌∷◌, ◌++◌, map, length, get_or, take, drop, set, refl, sym, ◌∙◌, ap, arith, add_assoc}
+use Rattle.std.proofs.Common.{zero-add, take-append-drop}
 use Rattle.std.specs.List.{list_all}
 use Rattle.cw_base.proofs.TestLaws.{both-left, both-right}
 use Rattle.cw_base.specs.declared.category.Cat.{Cat}
@@ -7,7 +9,8 @@ use Rattle.cw_base.specs.declared.category.Cat.TheVariants.{Exp, RawInt, End}
 use Rattle.cw_base.specs.Category.{rank}
 use Rattle.cw_base.specs.declared.mode.MathMode.{MathMode}
 use Rattle.cw_base.specs.declared.mode.MathMode.TheVariants.{Text, Math}
-use Rattle.cw_trees.specs.Tree.{Source, Ident, Reserved, Sign, Tree, Empty, Then, Sub, Inner, bare_name, Search, Found, Stopped, Nothing, search_word, search_sign, first_ident, reserve_first}
+use Rattle.cw_trees.specs.Tree.{Source, Ident, Reserved, Sign, Tree, Empty, Then, Sub, Inner, bare_name, Search, Found}
+use Rattle.cw_trees.specs.Tree.{Stopped, Nothing, search_word, search_sign, first_ident, reserve_first}
 use Rattle.cw_trees.specs.Joining.{Scrap, no_scrap, Joined, Whole, Mark, toggled, joined_tree, needs}
 use Rattle.cw_table.specs.Sound.{is_exp}
 use Rattle.cw_table.specs.Rewriting.{cats_of, reserved_in, reserved_at, with_cat, is_name, named_scrap, named_right}
@@ -19,7 +22,8 @@ pub and-both : (a b : Bool) → a ≡ true → b ≡ true → (a && b) ≡ true
 and-both true b h k = k
 and-both false b h k = cc
 
-pub all-append : {A : Type 0} (p : A → Bool) (xs ys : List A) → list_all p xs ≡ true → list_all p ys ≡ true → list_all p (xs ++ ys) ≡ true
+pub all-append : {A : Type 0} (p : A → Bool) (xs ys : List A) → list_all p xs ≡ true → list_all p ys ≡ true
+    → list_all p (xs ++ ys) ≡ true
 all-append p [] ys h k = k
 all-append p (x ∷ xs) ys h k = and-both (p x) _ (both-left (p x) _ h) (all-append p xs ys (both-right (p x) _ h) k)
 
@@ -33,19 +37,23 @@ all-drop p zero xs h = h
 all-drop p (suc n) [] h = refl
 all-drop p (suc n) (x ∷ xs) h = all-drop p n xs (both-right (p x) _ h)
 
-pub all-set : {A : Type 0} (p : A → Bool) (xs : List A) (n : ℕ) (y : A) → p y ≡ true → list_all p xs ≡ true → list_all p (set xs n y) ≡ true
+pub all-set : {A : Type 0} (p : A → Bool) (xs : List A) (n : ℕ) (y : A) → p y ≡ true → list_all p xs ≡ true
+    → list_all p (set xs n y) ≡ true
 all-set p [] n y k h = refl
 all-set p (x ∷ xs) zero y k h = and-both (p y) _ k (both-right (p x) _ h)
 all-set p (x ∷ xs) (suc n) y k h = and-both (p x) _ (both-left (p x) _ h) (all-set p xs n y k (both-right (p x) _ h))
 
-pub all-get : {A : Type 0} (p : A → Bool) (xs : List A) (n : ℕ) (d : A) → n < length xs → list_all p xs ≡ true → p (get_or xs n d) ≡ true
+pub all-get : {A : Type 0} (p : A → Bool) (xs : List A) (n : ℕ) (d : A) → n < length xs → list_all p xs ≡ true
+    → p (get_or xs n d) ≡ true
 all-get p [] n d k h = absurd (omega arith)
 all-get p (x ∷ xs) zero d k h = both-left (p x) _ h
 all-get p (x ∷ xs) (suc n) d k h = all-get p xs n d (omega arith) (both-right (p x) _ h)
 
-pub all-map : {A : Type 0} (p : A → Bool) (f : A → A) → ((x : A) → p x ≡ true → p (f x) ≡ true) → (xs : List A) → list_all p xs ≡ true → list_all p (map f xs) ≡ true
+pub all-map : {A : Type 0} (p : A → Bool) (f : A → A) → ((x : A) → p x ≡ true → p (f x) ≡ true) → (xs : List A)
+    → list_all p xs ≡ true → list_all p (map f xs) ≡ true
 all-map p f keeps [] h = refl
-all-map p f keeps (x ∷ xs) h = and-both (p (f x)) _ (keeps x (both-left (p x) _ h)) (all-map p f keeps xs (both-right (p x) _ h))
+all-map p f keeps (x ∷ xs) h = and-both (p (f x)) _ (keeps x (both-left (p x) _ h))
+    (all-map p f keeps xs (both-right (p x) _ h))
 
 -- ranks
 pub rank_with-none : (c : Cat) → rank_with c None ≡ rank c
@@ -71,19 +79,23 @@ reserve-bare (Then (Source number mode) rest) = refl
 reserve-bare (Then (Ident name number) rest) = refl
 reserve-bare (Then (Reserved name number cat) rest) = go (search_word cat)
   where
-    go : (s : Search) → bare_name (elim s [ Found n ↦ Then (Reserved name number cat) rest | Stopped ↦ Then (Reserved name number cat) rest | Nothing ↦ Then (Reserved name number cat) (reserve_first rest) ]) ≡ None
+    go : (s : Search) → bare_name (elim s [ Found n ↦ Then (Reserved name number cat) rest
+        | Stopped ↦ Then (Reserved name number cat) rest
+        | Nothing ↦ Then (Reserved name number cat) (reserve_first rest) ]) ≡ None
     go (Found n) = refl
     go Stopped = refl
     go Nothing = refl
 reserve-bare (Then (Sign control) rest) = go (search_sign control)
   where
-    go : (s : Search) → bare_name (elim s [ Found n ↦ Then (Sign control) rest | Stopped ↦ Then (Sign control) rest | Nothing ↦ Then (Sign control) (reserve_first rest) ]) ≡ None
+    go : (s : Search) → bare_name (elim s [ Found n ↦ Then (Sign control) rest | Stopped ↦ Then (Sign control) rest
+        | Nothing ↦ Then (Sign control) (reserve_first rest) ]) ≡ None
     go (Found n) = refl
     go Stopped = refl
     go Nothing = refl
 reserve-bare (Sub tree rest) = go (first_ident tree)
   where
-    go : (s : Search) → bare_name (elim s [ Found n ↦ Sub (reserve_first tree) rest | Stopped ↦ Sub tree rest | Nothing ↦ Sub tree (reserve_first rest) ]) ≡ None
+    go : (s : Search) → bare_name (elim s [ Found n ↦ Sub (reserve_first tree) rest | Stopped ↦ Sub tree rest
+        | Nothing ↦ Sub tree (reserve_first rest) ]) ≡ None
     go (Found n) = refl
     go Stopped = refl
     go Nothing = refl
@@ -102,7 +114,8 @@ joined-bare m (Mark c ∷ js) = toggled-bare m (needs c) _ refl
 -- weights
 pub weight-append : (xs ys : List Scrap) → weight (xs ++ ys) ≡ weight xs + weight ys
 weight-append [] ys = sym (zero-add (weight ys))
-weight-append (x ∷ xs) ys = ap (λ n. weight_of x + n) (weight-append xs ys) ∙ sym (add_assoc (weight_of x) (weight xs) (weight ys))
+weight-append (x ∷ xs) ys = ap (λ n. weight_of x + n) (weight-append xs ys)
+    ∙ sym (add_assoc (weight_of x) (weight xs) (weight ys))
 
 pub weight-split : (n : ℕ) (xs : List Scrap) → weight (take n xs) + weight (drop n xs) ≡ weight xs
 weight-split n xs = sym (weight-append (take n xs) (drop n xs)) ∙ ap weight (take-append-drop n xs)
@@ -115,7 +128,8 @@ pub weight-most : (xs : List Scrap) → weight xs ≤ 8 * length xs
 weight-most [] = omega arith
 weight-most (x ∷ xs) = omega (arith, weight-most xs, rank_with-most x.cat (bare_name x.tree))
 
-pub weight-one : (xs : List Scrap) (n : ℕ) → n < length xs → weight (take 1 (drop n xs)) ≡ weight_of (get_or xs n no_scrap)
+pub weight-one : (xs : List Scrap) (n : ℕ) → n < length xs → weight (take 1 (drop n xs))
+    ≡ weight_of (get_or xs n no_scrap)
 weight-one [] n h = absurd (omega arith)
 weight-one (x ∷ xs) zero h = omega arith
 weight-one (x ∷ xs) (suc n) h = weight-one xs n (omega arith)
@@ -149,7 +163,9 @@ pub reserved-fine : (s : Scrap) → is_fine (reserved_in s) ≡ true
 reserved-fine s = ap (λ b. fine_with s.cat b) (reserve-bare s.tree)
 
 pub reserved-weight : (s : Scrap) → weight_of (reserved_in s) ≤ weight_of s
-reserved-weight s = let e : rank_with s.cat (bare_name (reserve_first s.tree)) ≡ rank s.cat = ap (λ b. rank_with s.cat b) (reserve-bare s.tree) ∙ rank_with-none s.cat in omega (arith, rank_with-least s.cat (bare_name s.tree))
+reserved-weight s = let e : rank_with s.cat (bare_name (reserve_first s.tree))
+    ≡ rank s.cat = ap (λ b. rank_with s.cat b) (reserve-bare s.tree)
+    ∙ rank_with-none s.cat in omega (arith, rank_with-least s.cat (bare_name s.tree))
 
 set-cats : (xs : List Scrap) (n : ℕ) → cats_of (set xs n (reserved_in (get_or xs n no_scrap))) ≡ cats_of xs
 set-cats [] n = refl
@@ -185,7 +201,8 @@ exp-named _ b name h = cc
 named-weight : (name : ℕ) (s : Scrap) → weight_of (named_scrap name s) ≤ weight_of s
 named-weight name s = go (is_exp s.cat && is_name name (bare_name s.tree)) refl
   where
-    go : (t : Bool) → (is_exp s.cat && is_name name (bare_name s.tree)) ≡ t → weight_of (elim t [ true ↦ with_cat RawInt (reserved_in s) | false ↦ s ]) ≤ weight_of s
+    go : (t : Bool) → (is_exp s.cat && is_name name (bare_name s.tree)) ≡ t
+        → weight_of (elim t [ true ↦ with_cat RawInt (reserved_in s) | false ↦ s ]) ≤ weight_of s
     go true e = omega (arith, exp-named s.cat (bare_name s.tree) name e)
     go false e = omega arith
 
@@ -205,7 +222,8 @@ right-weight (Found name) xs = map-weight name xs
 right-weight Stopped xs = omega arith
 right-weight Nothing xs = omega arith
 
-pub right-fine : (s : Search) (xs : List Scrap) → list_all is_fine xs ≡ true → list_all is_fine (named_right s xs) ≡ true
+pub right-fine : (s : Search) (xs : List Scrap) → list_all is_fine xs ≡ true → list_all is_fine (named_right s xs)
+    ≡ true
 right-fine (Found name) xs h = all-map is_fine (named_scrap name) (named-fine name) xs h
 right-fine Stopped xs h = h
 right-fine Nothing xs h = h

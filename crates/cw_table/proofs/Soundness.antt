@@ -1,5 +1,6 @@
 -- A row that passes the test keeps the rule.
-use Rattle.std.proofs.Common.{◌≡◌, ◌<◌, ◌≤◌, ◌+◌, ◌∙◌, sym, ap, ℕ, zero, suc, List, [], ◌∷◌, Some, Bool, true, false, refl, arith, inl, inr, leb}
+use Rattle.std.proofs.Common.{◌≡◌, ◌<◌, ◌≤◌, ◌+◌, ◌∙◌, sym, ap, ℕ, zero, suc, List, [], ◌∷◌, Some, Bool, true, false}
+use Rattle.std.proofs.Common.{refl, arith, inl, inr, leb}
 use Rattle.std.proofs.lemmas.Bool.Decides.{eqb_tells}
 use Rattle.cw_base.proofs.CategoryLaws.{each-of, every-cat}
 use Rattle.cw_base.proofs.TestLaws.{both-left, both-right, not-true, other-one, unless}
@@ -14,7 +15,9 @@ use Rattle.cw_base.specs.Category.{in_set}
 use Rattle.cw_table.specs.declared.types.RowResult.TheVariants.{Is, SameAs}
 use Rattle.cw_table.specs.declared.types.Row.{Row}
 use Rattle.cw_table.specs.Rows.{empty, test}
-use Rattle.cw_table.specs.Sound.{IsLowering, IsSound, is_blank, is_exp, is_used, lowers, lowers_all, reserve_is_good, result_is_good, row_is_sound, same_numbers, sound_parts, underline_is_good, without_end}
+use Rattle.cw_table.specs.Sound.{IsLowering, IsSound, is_blank, is_exp, is_used, lowers, lowers_all, reserve_is_good}
+use Rattle.cw_table.specs.Sound.{result_is_good, row_is_sound, same_numbers, sound_parts, underline_is_good}
+use Rattle.cw_table.specs.Sound.{without_end}
 
 pub same-numbers : (ms ns : List ℕ) → same_numbers ms ns ≡ true → ms ≡ ns
 same-numbers [] [] h = refl
@@ -24,7 +27,8 @@ same-numbers (m ∷ ms) (n ∷ ns) h =
     let first : m ≡ n = eqb-true _ _ (both-left _ _ h) in
     let rest : ms ≡ ns = same-numbers ms ns (both-right _ _ h) in cc
 
-pub never-end : (row : Row) (first count k : ℕ) → without_end row first count ≡ true → first ≤ k → k < first + count → in_set (test row k) End ≡ false
+pub never-end : (row : Row) (first count k : ℕ) → without_end row first count ≡ true → first ≤ k → k < first + count
+    → in_set (test row k) End ≡ false
 never-end row first zero k h above below = absurd (omega arith)
 never-end row first (suc count) k h above below = elim (eqb_tells first k) [
   | inl same ↦ ap (λ q. in_set (test row q) End) (sym same.1) ∙ not-true _ (both-left _ _ h)
@@ -41,7 +45,8 @@ each-passes p xs h k d lt = AllPass-from_list_all p xs h k d lt
 
 -- a set whose bits are none is the empty one
 each-empty : (sets : List CatSet) → list_all is_blank sets ≡ true → All (λ set. set ≡ empty) sets
-each-empty sets h k d lt = ap (λ bits. record { bits = bits }) (eqb-true _ _ (AllPass-from_list_all is_blank sets h k d lt))
+each-empty sets h k d lt = ap (λ bits. record { bits = bits })
+    (eqb-true _ _ (AllPass-from_list_all is_blank sets h k d lt))
 
 module _ (row : Row) (sound : row_is_sound row ≡ true) where
   part : (i : ℕ) (b : Bool) → slice_get (sound_parts row) i ≡ Some b → b ≡ true
@@ -84,7 +89,8 @@ module _ (row : Row) (sound : row_is_sound row ≡ true) where
     other_short = leb-true _ _ (part 8 _ refl);
     usual_whole = same-numbers _ _ (part 9 _ refl);
     other_whole = same-numbers _ _ (part 10 _ refl);
-    result_not_end = λ e. let good : result_is_good row (Is End) ≡ true = sym (ap (result_is_good row) e) ∙ result-good in cc;
+    result_not_end = λ e. let good : result_is_good row (Is End) ≡ true = sym (ap (result_is_good row) e)
+        ∙ result-good in cc;
     same_as_tested = λ k e. ltb-true _ _ (both-left _ _ (same-good k e));
     same_as_not_end = λ k e. not-true _ (both-right _ _ (same-good k e));
     lowers_one = lowering;

@@ -16,7 +16,8 @@ walk_of rows flags back (suc n) place state = elim (ltb place (length state.scra
   | false ↦ []
   | true ↦ elim (first_of rows (drop place (cats_of state.scraps))) [
     | None ↦ walk_of rows flags back n (suc place) state
-    | Some row ↦ record { number = row.number.number; place = place } ∷ walk_of rows flags back n (place - back row) (rewrite flags row place state)
+    | Some row ↦ record { number = row.number.number; place = place } ∷ walk_of rows flags back n (place - back row)
+        (rewrite flags row place state)
   ]
 ]
 
@@ -35,7 +36,8 @@ positions_of rows flags back (suc n) place state = elim (ltb place (length state
   | false ↦ []
   | true ↦ elim (first_of rows (drop place (cats_of state.scraps))) [
     | None ↦ record { place = place; state = state } ∷ positions_of rows flags back n (suc place) state
-    | Some row ↦ record { place = place; state = state } ∷ positions_of rows flags back n (place - back row) (rewrite flags row place state)
+    | Some row ↦ record { place = place; state = state } ∷ positions_of rows flags back n (place - back row)
+        (rewrite flags row place state)
   ]
 ]
 

@@ -1,9 +1,17 @@
 -- The productions, in order: at each place the first one that fits is taken.
 use Rattle.std.specs.Prelude.{List, [], ◌∷◌}
-use Rattle.cw_base.specs.declared.category.Cat.TheVariants.{RawInt, ConstLike, Cast, IntLike, IfClause, SectionScrap, Exp, DeclHead, ElseLike, IfHead, Semi, RawUbin, Unop, Binop, Ubinop, Question, Lpar, Rpar, Lbrace, Rbrace, Comma, Colon, StructLike, CaseLike, ForLike, DoLike, IfLike, DefineLike, SizeofLike, TypedefLike, Decl, FnDecl, Function, Stmt, Tag, StructHead, ElseHead, Lproc, Rproc, Insert, BeginArg, EndArg, Dot}
+use Rattle.cw_base.specs.declared.category.Cat.TheVariants.{RawInt, ConstLike, Cast, IntLike, IfClause, SectionScrap}
+use Rattle.cw_base.specs.declared.category.Cat.TheVariants.{Exp, DeclHead, ElseLike, IfHead, Semi, RawUbin, Unop, Binop}
+use Rattle.cw_base.specs.declared.category.Cat.TheVariants.{Ubinop, Question, Lpar, Rpar, Lbrace, Rbrace, Comma, Colon}
+use Rattle.cw_base.specs.declared.category.Cat.TheVariants.{StructLike, CaseLike, ForLike, DoLike, IfLike, DefineLike}
+use Rattle.cw_base.specs.declared.category.Cat.TheVariants.{SizeofLike, TypedefLike, Decl, FnDecl, Function, Stmt, Tag}
+use Rattle.cw_base.specs.declared.category.Cat.TheVariants.{StructHead, ElseHead, Lproc, Rproc, Insert, BeginArg}
+use Rattle.cw_base.specs.declared.category.Cat.TheVariants.{EndArg, Dot}
 use Rattle.cw_base.specs.Category.{any_but, none_of}
 use Rattle.cw_table.specs.declared.types.Choice.{Choice}
-use Rattle.cw_table.specs.declared.types.Piece.TheVariants.{Scrap, MathScrap, Blank, OptionalBreak, Break, BigBreak, Cancel, Backup, Wall, Indent, Outdent, OptionalLineBreak9, ThinSpace, OpenBrace, CloseBrace, OpenRelation, Inserted}
+use Rattle.cw_table.specs.declared.types.Piece.TheVariants.{Scrap, MathScrap, Blank, OptionalBreak, Break, BigBreak}
+use Rattle.cw_table.specs.declared.types.Piece.TheVariants.{Cancel, Backup, Wall, Indent, Outdent, OptionalLineBreak9}
+use Rattle.cw_table.specs.declared.types.Piece.TheVariants.{ThinSpace, OpenBrace, CloseBrace, OpenRelation, Inserted}
 use Rattle.cw_table.specs.declared.types.RowResult.TheVariants.{Is, SameAs}
 use Rattle.cw_table.specs.declared.types.Row.{Row}
 use Rattle.cw_table.specs.Rows.{any, joins, joins_by, one_of, only, replaces, replaces_all, reserving, underlining}
@@ -100,7 +108,8 @@ productions =
     ∷ replaces 0 1 57 (only IfClause ∷ only Lbrace ∷ []) (Is IfHead) (joins (Scrap 0 ∷ []))
     ∷ replaces_all 58 (only IfClause ∷ only Stmt ∷ only ElseLike ∷ only IfLike ∷ []) (Is IfLike)
     (joins
-    (Break ∷ Scrap 0 ∷ Indent ∷ OptionalBreak ∷ Wall ∷ Cancel ∷ Scrap 1 ∷ Outdent ∷ Break ∷ Scrap 2 ∷ Blank ∷ Scrap 3 ∷ []))
+    (Break ∷ Scrap 0 ∷ Indent ∷ OptionalBreak ∷ Wall ∷ Cancel ∷ Scrap 1 ∷ Outdent ∷ Break ∷ Scrap 2 ∷ Blank ∷ Scrap 3
+        ∷ []))
     ∷ replaces 0 3 59 (only IfClause ∷ only Stmt ∷ only ElseLike ∷ none_of (IfLike ∷ []) ∷ []) (Is ElseLike)
     (joins
     (Break ∷ Scrap 0 ∷ Indent ∷ OptionalBreak ∷ Wall ∷ Cancel ∷ Scrap 1 ∷ Outdent ∷ Break ∷ Scrap 2 ∷ []))
@@ -108,7 +117,8 @@ productions =
     ∷ replaces_all 61 (only IfHead ∷ one_of (Stmt ∷ Exp ∷ []) ∷ only ElseLike ∷ only IfLike ∷ []) (Is IfLike)
     (joins
     (Break ∷ Scrap 0 ∷ OptionalBreak ∷ Wall ∷ Cancel ∷ Scrap 1 ∷ Break ∷ Scrap 2 ∷ Blank ∷ Scrap 3 ∷ []))
-    ∷ replaces 0 3 62 (only IfHead ∷ one_of (Stmt ∷ Exp ∷ []) ∷ only ElseLike ∷ none_of (IfLike ∷ []) ∷ []) (Is ElseLike)
+    ∷ replaces 0 3 62 (only IfHead ∷ one_of (Stmt ∷ Exp ∷ []) ∷ only ElseLike ∷ none_of (IfLike ∷ []) ∷ [])
+        (Is ElseLike)
     (joins (Break ∷ Scrap 0 ∷ OptionalBreak ∷ Wall ∷ Cancel ∷ Scrap 1 ∷ Break ∷ Scrap 2 ∷ []))
     ∷ replaces 0 1 63 (only IfHead ∷ one_of (Stmt ∷ Exp ∷ []) ∷ none_of (ElseLike ∷ []) ∷ []) (Is ElseHead)
     (joins (Scrap 0 ∷ []))

@@ -11,4 +11,5 @@ pub record IsAfter (rows : List Row) (flags : Flags) (old new : State) : Type 0 
   pub number : ℕ
   pub within : number ≤ count rows flags old
   pub is : new ≡ steps rows flags number old
-  pub only : (other : ℕ) → other ≤ count rows flags old → weight (steps rows flags other old).scraps ≡ weight new.scraps → other ≡ number
+  pub only : (other : ℕ) → other ≤ count rows flags old → weight (steps rows flags other old).scraps ≡ weight new.scraps
+      → other ≡ number

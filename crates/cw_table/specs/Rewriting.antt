@@ -1,5 +1,6 @@
 -- One production on a list of scraps: what it replaces, the scrap that it makes, and its marks.
-use Rattle.std.specs.Prelude.{ℕ, zero, suc, ◌+◌, Bool, true, false, not, ◌&&◌, eqb, Option, Some, None, List, [], ◌∷◌, ◌++◌, map, get_or, take, drop, set}
+use Rattle.std.specs.Prelude.{ℕ, zero, suc, ◌+◌, Bool, true, false, not, ◌&&◌, eqb, Option, Some, None, List, [], ◌∷◌}
+use Rattle.std.specs.Prelude.{◌++◌, map, get_or, take, drop, set}
 use Rattle.cw_base.specs.declared.category.Cat.{Cat}
 use Rattle.cw_base.specs.declared.category.Cat.TheVariants.{Stmt, RawInt, End}
 use Rattle.cw_base.specs.declared.flags.Flags.{Flags}
@@ -46,7 +47,8 @@ math_piece tree left right = Whole tree left right
 -- what a piece joins, where these scraps stand from the row's place on; no row counts an Unused place
 abbrev pub joined_of : List Scrap → Piece → Joined
 joined_of scraps (piece.Scrap k) = as_piece (get_or scraps k no_scrap)
-joined_of scraps (piece.MathScrap k) = math_piece (get_or scraps k no_scrap).tree (get_or scraps k no_scrap).left (get_or scraps k no_scrap).right
+joined_of scraps (piece.MathScrap k) = math_piece (get_or scraps k no_scrap).tree (get_or scraps k no_scrap).left
+    (get_or scraps k no_scrap).right
 joined_of scraps piece.Unused = Mark control.Inserted
 joined_of scraps piece.Blank = Mark control.Blank
 joined_of scraps piece.OptionalBreak = Mark control.OptionalBreak
@@ -81,7 +83,8 @@ new_from cat replaced pieces scraps = elim (alone replaced pieces) [
 
 -- the scrap that a row makes, where these scraps stand from the row's place on
 abbrev pub new_scrap : Flags → Row → List Scrap → Scrap
-new_scrap flags row scraps = new_from (result_at row.result (cats_of scraps)) row.replaced (row_pieces flags row (cats_of scraps)) scraps
+new_scrap flags row scraps = new_from (result_at row.result (cats_of scraps)) row.replaced
+    (row_pieces flags row (cats_of scraps)) scraps
 
 -- Reserving. It is done in the scrap that the row names, before the pieces are joined.
 abbrev pub search_in : Option ℕ → List Scrap → Search
@@ -115,7 +118,8 @@ named_right Nothing scraps = scraps
 abbrev pub rewrite_from : Flags → Row → List Scrap → List Scrap
 rewrite_from flags row scraps =
     let named = reserved_at row.action.reserve scraps in
-    take row.offset named ++ new_scrap flags row named ∷ named_right (search_in row.action.reserve scraps) (drop (row.offset + row.replaced) named)
+    take row.offset named ++ new_scrap flags row named ∷ named_right (search_in row.action.reserve scraps)
+        (drop (row.offset + row.replaced) named)
 
 -- What productions work on: the scraps, the names that were underlined so far, and the categories of the names.
 pub record State : Type 0 where

@@ -1,6 +1,7 @@
 -- How far a reducer must step back after a production: which rows may fit before the new scrap that didn't
 -- fit there before.
-use Rattle.std.specs.Prelude.{ℕ, suc, ◌+◌, ◌-◌, ◌<◌, ◌≡◌, Bool, true, false, not, ◌&&◌, ◌||◌, eqb, leb, ltb, List, [], ◌∷◌, ◌++◌, drop, filter, map, take, Option, Some, None}
+use Rattle.std.specs.Prelude.{ℕ, suc, ◌+◌, ◌-◌, ◌<◌, ◌≡◌, Bool, true, false, not, ◌&&◌, ◌||◌, eqb, leb, ltb, List, []}
+use Rattle.std.specs.Prelude.{◌∷◌, ◌++◌, drop, filter, map, take, Option, Some, None}
 use Rattle.std.specs.List.{flat_map, list_all, list_any}
 use Rattle.cw_base.specs.declared.category.Cat.{Cat}
 use Rattle.cw_base.specs.declared.category.CatSet.{CatSet}
@@ -105,4 +106,6 @@ rewritten row place cats rest =
 -- After the row was applied at the least place where some row fits, no row fits further before it than a
 -- safe distance. What stands to the right of the new scrap is as before, but where the row reserves a name.
 abbrev pub SafeIsSound : List Row → Row → Type 0
-SafeIsSound rows row = (distance place lower : ℕ) (cats rest : List Cat) → safe rows row distance ≡ true → IsLeast rows cats place row → (reserves row ≡ false → rest ≡ drop (row.offset + row.replaced) (drop place cats)) → lower + distance < place → first_of rows (drop lower (rewritten row place cats rest)) ≡ None
+SafeIsSound rows row = (distance place lower : ℕ) (cats rest : List Cat) → safe rows row distance ≡ true
+    → IsLeast rows cats place row → (reserves row ≡ false → rest ≡ drop (row.offset + row.replaced) (drop place cats))
+    → lower + distance < place → first_of rows (drop lower (rewritten row place cats rest)) ≡ None

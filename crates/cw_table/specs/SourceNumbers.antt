@@ -16,7 +16,9 @@ numbers_of (scrap ∷ scraps) = struck scrap.tree ++ numbers_of scraps
 
 -- each source token stands in the scraps once and in order, however many productions were done
 abbrev pub StepsKeepNumbers : Type 0
-StepsKeepNumbers = (rows : List Row) (flags : Flags) (n : ℕ) (state : State) → list_all row_is_sound rows ≡ true → list_all is_fine state.scraps ≡ true → numbers_of (steps rows flags n state).scraps ≡ numbers_of state.scraps
+StepsKeepNumbers = (rows : List Row) (flags : Flags) (n : ℕ) (state : State) → list_all row_is_sound rows ≡ true
+    → list_all is_fine state.scraps ≡ true → numbers_of (steps rows flags n state).scraps ≡ numbers_of state.scraps
 
 abbrev pub NormalKeepsNumbers : Type 0
-NormalKeepsNumbers = (rows : List Row) (flags : Flags) (state : State) → list_all row_is_sound rows ≡ true → list_all is_fine state.scraps ≡ true → numbers_of (normal rows flags state).scraps ≡ numbers_of state.scraps
+NormalKeepsNumbers = (rows : List Row) (flags : Flags) (state : State) → list_all row_is_sound rows ≡ true
+    → list_all is_fine state.scraps ≡ true → numbers_of (normal rows flags state).scraps ≡ numbers_of state.scraps

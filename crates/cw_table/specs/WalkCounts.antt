@@ -15,7 +15,8 @@ where_reserving (Some k) count = count
 
 -- the scraps to the right of the new one, where the row reserves
 abbrev pub right_of_new : Flags → Row → ℕ → State → ℕ
-right_of_new flags row place state = where_reserving row.action.reserve (length (rewrite flags row place state).scraps - (place + row.offset + 1))
+right_of_new flags row place state = where_reserving row.action.reserve (length (rewrite flags row place state).scraps
+    - (place + row.offset + 1))
 
 abbrev pub looks_of : List Row → Flags → ℕ → State → ℕ
 looks_of rows flags zero state = 0

@@ -2,7 +2,8 @@
 -- are taken away.
 use Rattle.std.specs.Prelude.{ℕ, Bool, true, false, ◌&&◌, ◌||◌, List, [], ◌∷◌, ◌++◌}
 use Rattle.cw_trees.specs.declared.Control.{Control}
-use Rattle.cw_trees.specs.declared.Control.TheVariants.{Blank, OptionalBreak, Break, BigBreak, Cancel, Backup, Wall, Indent, Outdent, Inserted, NameText}
+use Rattle.cw_trees.specs.declared.Control.TheVariants.{Blank, OptionalBreak, Break, BigBreak, Cancel, Backup, Wall}
+use Rattle.cw_trees.specs.declared.Control.TheVariants.{Indent, Outdent, Inserted, NameText}
 use Rattle.cw_trees.specs.Tree.{Leaf, Source, Ident, Reserved, Sign, Tree, Empty, Then, Sub, Inner}
 
 -- an item of a flat list; an inner text stands between Open and Close
@@ -71,7 +72,8 @@ is_inserted item = sign_is is_inserted_sign item
 
 abbrev pub without_inserted : List Item → List Item
 without_inserted [] = []
-without_inserted (item ∷ items) = elim (is_inserted item) [ true ↦ without_inserted items | false ↦ item ∷ without_inserted items ]
+without_inserted (item ∷ items) = elim (is_inserted item) [ true ↦ without_inserted items
+    | false ↦ item ∷ without_inserted items ]
 
 -- whether the place behind an item is in a gap with which a text begins
 abbrev pub begins_after : Bool → Item → Bool
@@ -95,7 +97,8 @@ ends_text (item ∷ items) = elim (is_gap item) [ true ↦ ends_text items | fal
 -- the list without the breaks of the gaps with which its texts end
 abbrev pub trim_back : List Item → List Item
 trim_back [] = []
-trim_back (item ∷ items) = elim (is_break item && ends_text items) [ true ↦ trim_back items | false ↦ item ∷ trim_back items ]
+trim_back (item ∷ items) = elim (is_break item && ends_text items) [ true ↦ trim_back items
+    | false ↦ item ∷ trim_back items ]
 
 -- Marks that print nothing are left out, and then the breaks and blanks with which the text and each text
 -- between brackets begins or ends.

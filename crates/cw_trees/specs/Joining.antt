@@ -6,7 +6,10 @@ use Rattle.cw_base.specs.declared.category.Cat.TheVariants.{End}
 use Rattle.cw_base.specs.declared.mode.MathMode.{MathMode}
 use Rattle.cw_base.specs.declared.mode.MathMode.TheVariants.{Text, Math, Maybe}
 use Rattle.cw_trees.specs.declared.Control.{Control}
-use Rattle.cw_trees.specs.declared.Control.TheVariants.{Blank, OptionalBreak, Break, BigBreak, Cancel, Backup, Wall, Indent, Outdent, OptionalLineBreak0, OptionalLineBreak9, ThinSpace, OpenBrace, CloseBrace, OpenRelation, Inserted, ToMath, ToText, Dollar, CommentEnd, NameText, NameEnd}
+use Rattle.cw_trees.specs.declared.Control.TheVariants.{Blank, OptionalBreak, Break, BigBreak, Cancel, Backup, Wall}
+use Rattle.cw_trees.specs.declared.Control.TheVariants.{Indent, Outdent, OptionalLineBreak0, OptionalLineBreak9}
+use Rattle.cw_trees.specs.declared.Control.TheVariants.{ThinSpace, OpenBrace, CloseBrace, OpenRelation, Inserted}
+use Rattle.cw_trees.specs.declared.Control.TheVariants.{ToMath, ToText, Dollar, CommentEnd, NameText, NameEnd}
 use Rattle.cw_trees.specs.Tree.{Leaf, Source, Ident, Reserved, Sign, Tree, Empty, Then, Sub, Inner}
 
 -- a piece of C text on its way through the productions: its category, its translation, and its two modes
@@ -71,8 +74,10 @@ first_mode Math later = Math
 -- the tree of the pieces, from a mode so far
 abbrev pub joined_tree : MathMode → List Joined → Tree
 joined_tree mode [] = Empty
-joined_tree mode (Whole tree left right ∷ pieces) = toggled mode left (Sub tree (joined_tree (after mode left right) pieces))
-joined_tree mode (Mark control ∷ pieces) = toggled mode (needs control) (Then (Sign control) (joined_tree (after mode (needs control) (needs control)) pieces))
+joined_tree mode (Whole tree left right ∷ pieces) =
+    toggled mode left (Sub tree (joined_tree (after mode left right) pieces))
+joined_tree mode (Mark control ∷ pieces) = toggled mode (needs control)
+    (Then (Sign control) (joined_tree (after mode (needs control) (needs control)) pieces))
 
 -- the left mode of the pieces: the first that is not Maybe
 abbrev pub joined_left : List Joined → MathMode
@@ -88,7 +93,8 @@ joined_right mode (Mark control ∷ pieces) = joined_right (after mode (needs co
 
 -- the scrap of a category that pieces are joined to
 abbrev pub join : Cat → List Joined → Scrap
-join cat pieces = record { cat = cat; tree = joined_tree Maybe pieces; left = joined_left pieces; right = joined_right Maybe pieces }
+join cat pieces = record { cat = cat; tree = joined_tree Maybe pieces; left = joined_left pieces;
+    right = joined_right Maybe pieces }
 
 -- a dollar at an end that is in math
 abbrev pub dollar_before : MathMode → Tree → Tree

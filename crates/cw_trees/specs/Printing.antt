@@ -1,9 +1,13 @@
 -- The bytes that a flat list prints. Breaks, blanks, indents and the like that follow one another are a run,
 -- and print as one; every other item prints its own bytes.
-use Rattle.std.specs.Prelude.{ℕ, zero, suc, pred, max, Bool, true, false, ◌&&◌, ◌||◌, eqb, ltb, leb, Option, Some, None, List, [], ◌∷◌, ◌++◌, length, codes}
+use Rattle.std.specs.Prelude.{ℕ, zero, suc, pred, max, Bool, true, false, ◌&&◌, ◌||◌, eqb, ltb, leb, Option, Some, None}
+use Rattle.std.specs.Prelude.{List, [], ◌∷◌, ◌++◌, length, codes}
 use Rattle.std.specs.List.{list_any}
 use Rattle.cw_trees.specs.declared.Control.{Control}
-use Rattle.cw_trees.specs.declared.Control.TheVariants.{Blank, OptionalBreak, Break, BigBreak, Cancel, Backup, Indent, Outdent, OptionalLineBreak0, OptionalLineBreak9, ThinSpace, OpenBrace, CloseBrace, OpenRelation, ToMath, ToText, Dollar, CommentEnd}
+use Rattle.cw_trees.specs.declared.Control.TheVariants.{Blank, OptionalBreak, Break, BigBreak, Cancel, Backup, Indent}
+use Rattle.cw_trees.specs.declared.Control.TheVariants.{Outdent, OptionalLineBreak0, OptionalLineBreak9, ThinSpace}
+use Rattle.cw_trees.specs.declared.Control.TheVariants.{OpenBrace, CloseBrace, OpenRelation, ToMath, ToText, Dollar}
+use Rattle.cw_trees.specs.declared.Control.TheVariants.{CommentEnd}
 use Rattle.cw_trees.specs.Flat.{Item, SignItem, Open, Close, is_run_sign}
 
 -- an item of a flat list, and the bytes that it prints where it is in no run
@@ -94,11 +98,13 @@ backup_bytes run = elim (list_any is_backup run) [ true ↦ codes "\\4" | false 
 
 -- a run in the C text of a part or a definition: its indents, and without a Cancel its break and its backup
 abbrev pub part_run : List Control → List ℕ
-part_run run = indents run ++ elim (list_any is_cancel run) [ true ↦ [] | false ↦ break_bytes (strongest run) ++ backup_bytes run ]
+part_run run = indents run ++ elim (list_any is_cancel run) [ true ↦ []
+    | false ↦ break_bytes (strongest run) ++ backup_bytes run ]
 
 -- a run in inner C text: a blank if it has a break or blank, and no Cancel
 abbrev pub inner_run : List Control → List ℕ
-inner_run run = elim (list_any is_cancel run) [ true ↦ [] | false ↦ elim (ltb 0 (strongest run)) [ true ↦ codes " " | false ↦ [] ] ]
+inner_run run = elim (list_any is_cancel run) [ true ↦ [] | false ↦ elim (ltb 0 (strongest run)) [ true ↦ codes " "
+    | false ↦ [] ] ]
 
 abbrev pub run_bytes : Bool → List Control → List ℕ
 run_bytes true run = inner_run run

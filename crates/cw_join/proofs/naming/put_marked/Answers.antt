@@ -4,7 +4,8 @@ use Rattle.cw_lines.specs.WritesLaws.{puts-failing, puts-longer, puts-then}
 use Rattle.cw_join.proofs.naming.put_marked.Goals as goal
 
 pub returns-in_err-put_all : goal.returns-in_err-put_all
-returns-in_err-put_all g c = puts-failing refl (puts-longer c.args.bytes.now c.in_err-put_all.ensures.puts) c.from_residual.ensures.1
+returns-in_err-put_all g c = puts-failing refl (puts-longer c.args.bytes.now c.in_err-put_all.ensures.puts)
+    c.from_residual.ensures.1
 
 pub returns : goal.returns
 returns g c = puts-then c.in_ok-put_all.ensures.puts c.put_all-2.ensures.puts

@@ -16,10 +16,13 @@ returns-in_err-print_broken_line g c =
     let f : ℕ → List Event = λ number. says (broken_line c.args.name.now number) in
     adds-events (ap (flat_map f) c.broken-numbers.ensures.numbers)
     (said-part f c.broken-numbers.result.now c.loop-number.number-index 0
-    (get_or c.broken-numbers.result.now c.loop-number.number-index 0) c.loop-number-test.true refl c.loop-number.invariant
+    (get_or c.broken-numbers.result.now c.loop-number.number-index 0) c.loop-number-test.true refl
+        c.loop-number.invariant
     c.in_err-print_broken_line.ensures c.from_residual.ensures.1)
 
 pub loop-number-preserved : goal.loop-number-preserved
 loop-number-preserved g c =
-    said-more (λ number. says (broken_line c.args.name.now number)) c.broken-numbers.result.now c.loop-number.number-index 0
-    (get_or c.broken-numbers.result.now c.loop-number.number-index 0) c.loop-number-test.true refl c.loop-number.invariant c.in_ok-print_broken_line.ensures
+    said-more (λ number. says (broken_line c.args.name.now number)) c.broken-numbers.result.now
+        c.loop-number.number-index 0
+    (get_or c.broken-numbers.result.now c.loop-number.number-index 0) c.loop-number-test.true refl
+        c.loop-number.invariant c.in_ok-print_broken_line.ensures

@@ -8,4 +8,5 @@ use Rattle.cw_run.proofs.broken.print_broken.Given as goal
 
 abbrev pub invariant-loop-number : goal.invariant-loop-number
 invariant-loop-number g l = let told = g.D.Desk.told in
-    HasAdded (flat_map (λ number. says (broken_line l.name number)) (take l.number-index l.numbers)) (told l.fn.desk) (told l.desk)
+    HasAdded (flat_map (λ number. says (broken_line l.name number)) (take l.number-index l.numbers)) (told l.fn.desk)
+        (told l.desk)

@@ -6,4 +6,5 @@ use Rattle.cw_run.proofs.notes.print_notes.Given as goal
 
 abbrev pub invariant-loop-note : goal.invariant-loop-note
 invariant-loop-note g l = let told = g.D.Desk.told in
-    HasAdded (note_events l.noted.web.now.files l.noted.names.now (take l.note-index l.notes)) (told l.fn.desk) (told l.desk)
+    HasAdded (note_events l.noted.web.now.files l.noted.names.now (take l.note-index l.notes)) (told l.fn.desk)
+        (told l.desk)

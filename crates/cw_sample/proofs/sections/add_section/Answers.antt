@@ -2,16 +2,19 @@
 use Rattle.std.proofs.Common.{◌+◌, length, sym, ap, ◌∙◌, subst, arith}
 use Rattle.std.specs.Prelude.{All}
 use Rattle.std.proofs.lemmas.Result.{on_ok_weaker}
-use Rattle.cw_sample.proofs.SampleLaws.{NotTen, first-short, first-whole, head-short, head-whole, section-added, statement-short, statement-whole, web-longer, web-short}
+use Rattle.cw_sample.proofs.SampleLaws.{NotTen, first-short, first-whole, head-short, head-whole, section-added}
+use Rattle.cw_sample.proofs.SampleLaws.{statement-short, statement-whole, web-longer, web-short}
 use Rattle.cw_sample.proofs.sections.add_section.Goals as goal
 
 pub add_line-requires-clause-whole : goal.add_line-requires-clause-whole
 add_line-requires-clause-whole c =
-    subst (All NotTen) (sym (c.as_slice.ensures ∙ c.in_ok-first.ensures)) (first-whole (c.args.before + 1) (omega arith) (omega (arith, c.requires.few)))
+    subst (All NotTen) (sym (c.as_slice.ensures ∙ c.in_ok-first.ensures)) (first-whole (c.args.before + 1) (omega arith)
+        (omega (arith, c.requires.few)))
 
 pub add_line-requires-2-clause-whole : goal.add_line-requires-2-clause-whole
 add_line-requires-2-clause-whole c =
-    subst (All NotTen) (sym (c.as_slice-2.ensures ∙ c.in_ok-head.ensures)) (head-whole (c.args.before + 1) (omega arith) (omega (arith, c.requires.few)))
+    subst (All NotTen) (sym (c.as_slice-2.ensures ∙ c.in_ok-head.ensures))
+        (head-whole (c.args.before + 1) (omega arith) (omega (arith, c.requires.few)))
 
 pub add_line-requires-3-clause-whole : goal.add_line-requires-3-clause-whole
 add_line-requires-3-clause-whole c =
@@ -57,6 +60,8 @@ add_line-requires-3-clause-room c =
 pub returns : goal.returns
 returns c =
     on_ok_weaker c.add_line-3.result
-    (λ added. section-added c.args.before c.requires.begun c.in_ok-add_line.ensures.ok c.in_ok-add_line-2.ensures.ok added
-    (c.as_slice.ensures ∙ c.in_ok-first.ensures) (c.as_slice-2.ensures ∙ c.in_ok-head.ensures) (c.as_slice-3.ensures ∙ c.in_ok-statement.ensures)
+    (λ added. section-added c.args.before c.requires.begun c.in_ok-add_line.ensures.ok c.in_ok-add_line-2.ensures.ok
+        added
+    (c.as_slice.ensures ∙ c.in_ok-first.ensures) (c.as_slice-2.ensures ∙ c.in_ok-head.ensures) (c.as_slice-3.ensures
+        ∙ c.in_ok-statement.ensures)
     c.place.ensures c.place-2.ensures c.place-3.ensures) c.add_line-3.ensures.ok

@@ -8,4 +8,6 @@ use Rattle.cw_scraps.proofs.making.takes_others.Goals as goal
 pub returns : goal.returns
 returns c =
     ap (λ b. pieces_by b c.args.row.now)
-    (c.takes_other.ensures ∙ ap (λ choice. takes_other c.args.flags.now choice (entry_cats (drop c.args.place c.args.line.now))) c.choice.ensures)
+    (c.takes_other.ensures
+        ∙ ap (λ choice. takes_other c.args.flags.now choice (entry_cats (drop c.args.place c.args.line.now)))
+        c.choice.ensures)

@@ -7,4 +7,5 @@ pub returns-clause-some : goal.returns-clause-some
 returns-clause-some c = two-met c.args.first c.args.second _ _ c.mask.ensures c.mask-2.ensures
 
 pub returns-clause-none : goal.returns-clause-none
-returns-clause-none c = λ no. two-none c.args.first c.args.second (sym (two-met c.args.first c.args.second _ _ c.mask.ensures c.mask-2.ensures) ∙ no)
+returns-clause-none c = λ no. two-none c.args.first c.args.second
+    (sym (two-met c.args.first c.args.second _ _ c.mask.ensures c.mask-2.ensures) ∙ no)

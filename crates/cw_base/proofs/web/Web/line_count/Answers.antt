@@ -5,4 +5,5 @@ use Rattle.cw_base.proofs.web.Web.line_count.Goals as goal
 
 pub returns : goal.returns
 returns c =
-    rw (← c.self.view_is) (c.len.ensures ∙ c.self.inside.lines.ok.0 ∙ sym (length-read_lines c.self.inside.text.items c.self.inside.lines.items))
+    rw (← c.self.view_is) (c.len.ensures ∙ c.self.inside.lines.ok.0
+        ∙ sym (length-read_lines c.self.inside.text.items c.self.inside.lines.items))

@@ -14,12 +14,15 @@ whole : (line : List ℕ) (is : IsEndedLine line) → take (length line - 1) lin
 whole line is = ap (λ text. text ++ 10 ∷ []) (text_of line is) ∙ sym is.ended
 
 pub put_text-requires-clause-text : goal.put_text-requires-clause-text
-put_text-requires-clause-text g c = subst HasNoLineEnd (sym (text_of c.args.bytes.now c.requires.line)) c.requires.line.one
+put_text-requires-clause-text g c = subst HasNoLineEnd (sym (text_of c.args.bytes.now c.requires.line))
+    c.requires.line.one
 
 pub returns-in_err-put_text-clause-puts : goal.returns-in_err-put_text-clause-puts
 returns-in_err-put_text-clause-puts g c =
-    puts-bytes (whole c.args.bytes.now c.requires.line) (puts-stop (10 ∷ []) c.in_err-put_text.ensures.puts c.from_residual.ensures.1)
+    puts-bytes (whole c.args.bytes.now c.requires.line) (puts-stop (10 ∷ []) c.in_err-put_text.ensures.puts
+        c.from_residual.ensures.1)
 
 pub returns-clause-puts : goal.returns-clause-puts
 returns-clause-puts g c =
-    puts-bytes (whole c.args.bytes.now c.requires.line) (puts-then c.in_ok-put_text.ensures.puts c.end_line.ensures.puts)
+    puts-bytes (whole c.args.bytes.now c.requires.line)
+        (puts-then c.in_ok-put_text.ensures.puts c.end_line.ensures.puts)

@@ -7,4 +7,5 @@ use Rattle.cw_lines.proofs.line_out.LineOut.same.Goals as goal
 pub is_whole-requires : goal.is_whole-requires
 is_whole-requires g c =
     c.requires c.in-Some.old.id
-    (sym (ap (λ (l : LineState). id_of l.compared) c.self.view_is) ∙ ap (λ (old : Option OldFile). id_of old) c.in-Some.is)
+    (sym (ap (λ (l : LineState). id_of l.compared) c.self.view_is)
+        ∙ ap (λ (old : Option OldFile). id_of old) c.in-Some.is)

@@ -4,27 +4,34 @@ use Rattle.cw_secnames.proofs.Marked.{keeps-all, enter-first, enter-more, enter-
 use Rattle.cw_secnames.proofs.marks.Marks.mark.Goals as goal
 
 pub returns-in_err-put_start-clause-keeps : goal.returns-in_err-put_start-clause-keeps
-returns-in_err-put_start-clause-keeps c = keeps-all _ _ (no-more _ _ _ c.min-self.ensures) (λ mark k h. h) c.put_start.ensures.keeps
+returns-in_err-put_start-clause-keeps c = keeps-all _ _ (no-more _ _ _ c.min-self.ensures) (λ mark k h. h)
+    c.put_start.ensures.keeps
 
 pub loop-count-init : goal.loop-count-init
-loop-count-init c = enter-first _ _ _ _ _ _ c.first_mark-mark.ensures c.min-self.ensures (λ mark k h. h) c.put_start.ensures.keeps c.in_ok-put_start.ensures.ok
+loop-count-init c = enter-first _ _ _ _ _ _ c.first_mark-mark.ensures c.min-self.ensures (λ mark k h. h)
+    c.put_start.ensures.keeps c.in_ok-put_start.ensures.ok
 
 pub loop-count-preserved : goal.loop-count-preserved
 loop-count-preserved c =
-    enter-more _ _ _ _ _ _ _ _ _ 0 c.loop-count.invariant c.loop-count-test.true c.next_mark-mark.ensures refl (λ mark k h. h) c.put_start-in-loop-count.ensures.keeps
+    enter-more _ _ _ _ _ _ _ _ _ 0 c.loop-count.invariant c.loop-count-test.true c.next_mark-mark.ensures refl
+        (λ mark k h. h) c.put_start-in-loop-count.ensures.keeps
     c.in_ok-put_start-2.ensures.ok
 
 pub returns-in_err-put_start-2-clause-keeps : goal.returns-in_err-put_start-2-clause-keeps
 returns-in_err-put_start-2-clause-keeps c =
-    keeps-all _ _ (no-more _ _ _ c.loop-count.invariant.shortest) c.loop-count.invariant.wholes (λ mark k h. c.put_start-in-loop-count.ensures.keeps mark k (c.loop-count.invariant.keeps mark k h))
+    keeps-all _ _ (no-more _ _ _ c.loop-count.invariant.shortest) c.loop-count.invariant.wholes
+        (λ mark k h. c.put_start-in-loop-count.ensures.keeps mark k (c.loop-count.invariant.keeps mark k h))
 
 pub returns-in_err-put-clause-keeps : goal.returns-in_err-put-clause-keeps
 returns-in_err-put-clause-keeps c =
-    keeps-all _ _ (no-more _ _ _ c.loop-count.invariant.shortest) (λ mark k h. c.put.ensures.keeps mark k (c.loop-count.invariant.wholes mark k h)) c.loop-count.invariant.keeps
+    keeps-all _ _ (no-more _ _ _ c.loop-count.invariant.shortest)
+        (λ mark k h. c.put.ensures.keeps mark k (c.loop-count.invariant.wholes mark k h)) c.loop-count.invariant.keeps
 
 pub returns-clause-keeps : goal.returns-clause-keeps
 returns-clause-keeps c =
-    keeps-all _ _ (no-more _ _ _ c.loop-count.invariant.shortest) (λ mark k h. c.put.ensures.keeps mark k (c.loop-count.invariant.wholes mark k h)) c.loop-count.invariant.keeps
+    keeps-all _ _ (no-more _ _ _ c.loop-count.invariant.shortest)
+        (λ mark k h. c.put.ensures.keeps mark k (c.loop-count.invariant.wholes mark k h)) c.loop-count.invariant.keeps
 
 pub returns-clause-ok : goal.returns-clause-ok
-returns-clause-ok c = enter-last _ _ _ _ _ _ _ _ c.ranges.index.fits (let e = c.loop-count.invariant.shortest in omega (arith, e)) c.loop-count.invariant c.loop-count-test.false (λ mark k h. h) c.in_ok-put.ensures.ok
+returns-clause-ok c = enter-last _ _ _ _ _ _ _ _ c.ranges.index.fits (let e = c.loop-count.invariant.shortest in
+    omega (arith, e)) c.loop-count.invariant c.loop-count-test.false (λ mark k h. h) c.in_ok-put.ensures.ok

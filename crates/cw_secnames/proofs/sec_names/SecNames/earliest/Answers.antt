@@ -6,4 +6,5 @@ use Rattle.cw_secnames.proofs.Nearest.{from-first}
 use Rattle.cw_secnames.proofs.sec_names.SecNames.earliest.Goals as goal
 
 pub returns-clause-value : goal.returns-clause-value
-returns-clause-value c = c.earliest_from.ensures.value ∙ from-first (position (passes c.args.asked c.args.text.now) c.args.self.now)
+returns-clause-value c = c.earliest_from.ensures.value
+    ∙ from-first (position (passes c.args.asked c.args.text.now) c.args.self.now)

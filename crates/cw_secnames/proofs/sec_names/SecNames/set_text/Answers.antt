@@ -9,11 +9,13 @@ use Rattle.cw_secnames.proofs.sec_names.SecNames.set_text.Goals as goal
 
 pub returns-clause-ok : goal.returns-clause-ok
 returns-clause-ok c =
-    with_text-map c.self.inside.names.items c.args.index _ c.index_mut-name.result.now c.in_ok-text.text c.args.text.now c.args.complete c.index_mut-name.ensures.value c.in_ok-text.ensures.items
+    with_text-map c.self.inside.names.items c.args.index _ c.index_mut-name.result.now c.in_ok-text.text c.args.text.now
+        c.args.complete c.index_mut-name.ensures.value c.in_ok-text.ensures.items
     ∙ ap (with_text c.args.index c.args.text.now c.args.complete) c.self.view_is
 
 pub returns-clause-len : goal.returns-clause-len
-returns-clause-len c = ap length (returns-clause-ok c) ∙ length-with_text c.args.index c.args.text.now c.args.complete c.args.self.now
+returns-clause-len c = ap length (returns-clause-ok c)
+    ∙ length-with_text c.args.index c.args.text.now c.args.complete c.args.self.now
 
 pub invariant_of-self : goal.invariant_of-self
 invariant_of-self c = named-more _ _ 0 _ c.enter.ensures.keeps c.self.invariant
@@ -26,5 +28,6 @@ invariant_of-self-2 c =
     named-set _ 0 c.self.inside.names.items c.args.index _ (named-more _ _ 0 _ c.enter.ensures.keeps c.self.invariant)
     (λ live. marked-as _ _ _ _ _ _ _
     (ap (λ (x : Kept). x.kind) c.index.ensures ∙ (same-kind c.self.inside.names.items c.args.index _ _
-    (omega (arith, length-named c.self.inside.names.items, ap length c.self.view_is, c.requires)) ∙ sym (ap (λ (x : Kept). x.kind) c.index_mut-name.ensures.value)))
+    (omega (arith, length-named c.self.inside.names.items, ap length c.self.view_is, c.requires))
+        ∙ sym (ap (λ (x : Kept). x.kind) c.index_mut-name.ensures.value)))
     c.in_ok-text.ensures.items refl (c.in_ok-enter.ensures.ok live))

@@ -8,4 +8,5 @@ use Rattle.cw_table.proofs.types.Table.is_sound.Goals as goal
 
 pub returns-clause-rule : goal.returns-clause-rule
 returns-clause-rule g c =
-    λ e. all-sound c.args.self.now (ap (list_all row_is_sound) (sym c.self.view_is ∙ c.self.invariant) ∙ productions-sound)
+    λ e. all-sound c.args.self.now (ap (list_all row_is_sound) (sym c.self.view_is ∙ c.self.invariant)
+        ∙ productions-sound)
