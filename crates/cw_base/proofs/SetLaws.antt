@@ -83,8 +83,13 @@ common s t = bit_and (bit_and s.bits t.bits) (2 ^ (number_of End + 1) - 1)
 common-by : (s t : CatSet) (c : Cat) → in_set s c ≡ true → in_set t c ≡ true → 0 < common s t
 common-by s t c hs ht =
     let small : number_of c < number_of End + 1 = slice_get_within all_cats (number_of c) c (place-of c) in
-    let one : bit_at (common s t) (number_of c) ≡ 1 = rw (bit_at_and, bit_at_and, bit-of s c hs, bit-of t c ht,
-        bit_at_ones (number_of End + 1) (number_of c) small) refl in
+    let one : bit_at (common s t) (number_of c) ≡ 1 = rw (
+      bit_at_and,
+      bit_at_and,
+      bit-of s c hs,
+      bit-of t c ht,
+      bit_at_ones (number_of End + 1) (number_of c) small,
+    ) refl in
     go (common s t) one
   where
     go : (m : ℕ) → bit_at m (number_of c) ≡ 1 → 0 < m
@@ -97,15 +102,15 @@ below_or a b = elim (leb_tells b a) [ inl h ↦ inr h.1 | inr h ↦ inl h.1 ]
 common-cat : (s t : CatSet) → 0 < common s t → meet s t ≡ true
 common-cat s t h =
     let small : common s t ≤ 2 ^ (number_of End + 1) - 1 =
-        and_le_r (bit_and s.bits t.bits) (2 ^ (number_of End + 1) - 1) in
+    and_le_r (bit_and s.bits t.bits) (2 ^ (number_of End + 1) - 1) in
     let lowest = bit_at-trailing_zeros w64 (common s t) h (omega arith) in
     found (trailing_zeros w64 (common s t)) lowest.1
   where
     found : (n : ℕ) → bit_at (common s t) n ≡ 1 → meet s t ≡ true
     found n one =
         let bits : min (min (bit_at s.bits n) (bit_at t.bits n)) (bit_at (2 ^ (number_of End + 1) - 1) n)
-            ≡ 1 = ap (λ m. min m (bit_at (2 ^ (number_of End + 1) - 1) n)) (sym (bit_at_and s.bits t.bits n))
-            ∙ sym (bit_at_and (bit_and s.bits t.bits) (2 ^ (number_of End + 1) - 1) n) ∙ one in
+        ≡ 1 = ap (λ m. min m (bit_at (2 ^ (number_of End + 1) - 1) n)) (sym (bit_at_and s.bits t.bits n))
+        ∙ sym (bit_at_and (bit_and s.bits t.bits) (2 ^ (number_of End + 1) - 1) n) ∙ one in
         let hs : bit_at s.bits n ≡ 1 = omega (arith, bit_at-lt s.bits n) in
         let ht : bit_at t.bits n ≡ 1 = omega (arith, bit_at-lt t.bits n) in
         let inside : n < number_of End + 1 = elim (below_or n (number_of End + 1)) [

@@ -17,14 +17,14 @@ drop_parts : (text : List ℕ) (from to : ℕ) → from ≤ to → drop from tex
 drop_parts text from to le =
     let joined : from + (to - from) ≡ to = omega arith in
     sym (take-append-drop (to - from) (drop from text))
-        ∙ ap (λ rest. slice_range text from to ++ rest) (drop-drop (to - from) from text ∙ ap (λ i. drop i text) joined)
+    ∙ ap (λ rest. slice_range text from to ++ rest) (drop-drop (to - from) from text ∙ ap (λ i. drop i text) joined)
 
 pub text_of-read_lines : (text : List ℕ) (from : ℕ) (infos : List LineInfo) → Covers text from infos
     → text_of (read_lines text infos) ≡ drop from text
 text_of-read_lines text from [] at = sym (drop_all from text (omega arith))
 text_of-read_lines text from (info ∷ infos) (start, ends, within, code, rest) =
     ap (λ more. slice_range text info.start info.«end» ++ 10 ∷ more) (text_of-read_lines text (info.«end» + 1) infos
-        rest)
+    rest)
     ∙ ap (λ byte. slice_range text info.start info.«end» ++ byte ∷ drop (info.«end» + 1) text) (sym code)
     ∙ ap (λ more. slice_range text info.start info.«end» ++ more) (sym (drop_more text info.«end» 0 within))
     ∙ sym (drop_parts text info.start info.«end» ends)
@@ -44,11 +44,11 @@ pub infos_of-read_lines : (text : List ℕ) (from : ℕ) (infos : List LineInfo)
 infos_of-read_lines text from [] at = refl
 infos_of-read_lines text from (info ∷ infos) (start, ends, within, code, rest) =
     let stop : from + length (slice_range text info.start info.«end») ≡ info.«end» =
-        omega (arith, length-slice_range text info.start info.«end» (omega arith)) in
+    omega (arith, length-slice_range text info.start info.«end» (omega arith)) in
     ap (λ i. info_from from (read_line text info) ∷ infos_of (i + 1) (read_lines text infos)) stop
     ∙ ap (λ more. info_from from (read_line text info) ∷ more) (infos_of-read_lines text (info.«end» + 1) infos rest)
     ∙ ap (λ first. first ∷ infos) (same_info info from (from + length (slice_range text info.start info.«end»))
-        (sym start) stop)
+    (sym start) stop)
 
 -- more text behind changes no line
 slice_range-more : (text more : List ℕ) (from to : ℕ) → from ≤ to → to ≤ length text
@@ -62,7 +62,7 @@ pub read_lines-more : (text more : List ℕ) (from : ℕ) (infos : List LineInfo
 read_lines-more text more from [] at = refl
 read_lines-more text more from (info ∷ infos) (start, ends, within, code, rest) =
     ap (λ part. record { text = part; place = info.place; changed = info.changed } ∷ read_lines (text ++ more) infos)
-        (slice_range-more text more info.start info.«end» ends (omega arith))
+    (slice_range-more text more info.start info.«end» ends (omega arith))
     ∙ ap (λ lines. read_line text info ∷ lines) (read_lines-more text more (info.«end» + 1) infos rest)
 
 pub read_lines-append : (text : List ℕ) (first second : List LineInfo) → read_lines text (first ++ second)
@@ -107,10 +107,10 @@ read_line-more text line info starts ends =
 pub read_lines-push : (text line : List ℕ) (infos : List LineInfo) (info : LineInfo)
     → info.start ≡ length text → info.«end» ≡ length text + length line → Covers text 0 infos
     → read_lines (text ++ line ++ 10 ∷ []) (infos ++ info ∷ [])
-        ≡ read_lines text infos ++ record { text = line; place = info.place; changed = info.changed } ∷ []
+    ≡ read_lines text infos ++ record { text = line; place = info.place; changed = info.changed } ∷ []
 read_lines-push text line infos info starts ends covers =
     read_lines-append (text ++ line ++ 10 ∷ []) infos (info ∷ [])
     ∙ ap (λ lines. lines ++ read_line (text ++ line ++ 10 ∷ []) info ∷ [])
     (ap (λ bytes. read_lines bytes infos) (append_assoc text line (10 ∷ []))
-        ∙ read_lines-more text (line ++ 10 ∷ []) 0 infos covers)
+    ∙ read_lines-more text (line ++ 10 ∷ []) 0 infos covers)
     ∙ ap (λ last. read_lines text infos ++ last ∷ []) (read_line-more text line info starts ends)

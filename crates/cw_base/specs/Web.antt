@@ -25,8 +25,12 @@ text_of (line ∷ lines) = line.text ++ 10 ∷ text_of lines
 
 -- where a line lies in the text, when it starts at this place there
 abbrev pub info_from : ℕ → MergedLine → LineInfo
-info_from start line = record { start = start; «end» = start + length line.text; place = line.place;
-    changed = line.changed }
+info_from start line = record {
+  start = start;
+  «end» = start + length line.text;
+  place = line.place;
+  changed = line.changed;
+}
 
 -- where each line lies in the text, when the first starts at this place
 abbrev pub infos_of : ℕ → List MergedLine → List LineInfo

@@ -8,11 +8,14 @@ pub text_of-append : (first second : List MergedLine) → text_of (first ++ seco
 text_of-append [] second = refl
 text_of-append (line ∷ lines) second =
     ap (λ text. line.text ++ 10 ∷ text) (text_of-append lines second)
-        ∙ sym (append_assoc line.text (10 ∷ text_of lines) (text_of second))
+    ∙ sym (append_assoc line.text (10 ∷ text_of lines) (text_of second))
 
 -- one line more makes the text longer by its length and the byte that ends it
 pub length-text_of-more : (lines : List MergedLine) (line : MergedLine) → length (text_of (lines ++ line ∷ []))
     ≡ length (text_of lines) + length line.text + 1
 length-text_of-more lines line =
-    ap length (text_of-append lines (line ∷ [])) ∙ omega (arith, length-append (text_of lines) (line.text ++ 10 ∷ []),
-        length-append line.text (10 ∷ []))
+    ap length (text_of-append lines (line ∷ [])) ∙ omega (
+      arith,
+      length-append (text_of lines) (line.text ++ 10 ∷ []),
+      length-append line.text (10 ∷ []),
+    )

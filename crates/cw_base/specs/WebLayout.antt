@@ -6,8 +6,11 @@ use Rattle.cw_base.specs.declared.web.LineInfo.{LineInfo}
 use Rattle.cw_base.specs.Web.{MergedLine}
 
 abbrev pub read_line : List ℕ → LineInfo → MergedLine
-read_line text info = record { text = slice_range text info.start info.«end»; place = info.place;
-    changed = info.changed }
+read_line text info = record {
+  text = slice_range text info.start info.«end»;
+  place = info.place;
+  changed = info.changed;
+}
 
 -- the lines that the table finds in the text
 abbrev pub read_lines : List ℕ → List LineInfo → List MergedLine

@@ -37,14 +37,14 @@ same-depth depth Close control is = absurd (cc)
 
 early_from-more : (inner : Bool) (depth : ℕ) (run : List Control) (ps : List Printable) (p : Printable)
     → early_from inner depth run (ps ++ p ∷ []) ≡ early_from inner depth run ps ++ step_of (run_sign p.item) inner
-        (depth_from depth ps) (run_from run ps) p
+    (depth_from depth ps) (run_from run ps) p
 early_from-more inner depth run [] p = append-nil (step_of (run_sign p.item) inner depth run p)
 early_from-more inner depth run (q ∷ ps) p =
     ap (λ (l : List ℕ). step_of (run_sign q.item) inner depth run q ++ l)
-        (early_from-more inner (opened depth q.item) (run_with run q) ps p)
+    (early_from-more inner (opened depth q.item) (run_with run q) ps p)
     ∙ sym (append_assoc (step_of (run_sign q.item) inner depth run q)
-        (early_from inner (opened depth q.item) (run_with run q) ps)
-        (step_of (run_sign p.item) inner (depth_from depth (q ∷ ps)) (run_from run (q ∷ ps)) p))
+    (early_from inner (opened depth q.item) (run_with run q) ps)
+    (step_of (run_sign p.item) inner (depth_from depth (q ∷ ps)) (run_from run (q ∷ ps)) p))
 
 -- behind a run
 module _ (inner : Bool) where
@@ -61,22 +61,22 @@ module _ (inner : Bool) where
   early-step : (p : Printable) (ps : List Printable) (sign : Option Control) → run_sign p.item ≡ sign → EarlyIs ps
       → (depth : ℕ) (run : List Control)
       → early_bytes inner depth (run_before run (cut sign p (stretches ps))) ≡ run_front (is_inner inner depth) run
-          ++ (step_of sign inner depth run p ++ early_from inner (opened depth p.item) (run_on sign run) ps)
+      ++ (step_of sign inner depth run p ++ early_from inner (opened depth p.item) (run_on sign run) ps)
   early-step p ps (Some control) is rest depth run =
       ap (early_bytes inner depth) (sym (one-more run control (stretches ps)))
       ∙ rest depth (run ++ control ∷ [])
       ∙ ap (λ (l : List ℕ). l ++ early_from inner depth (run ++ control ∷ []) ps)
-          (front-append (is_inner inner depth) run (control ∷ []))
+      (front-append (is_inner inner depth) run (control ∷ []))
       ∙ append_assoc (run_front (is_inner inner depth) run) (run_front (is_inner inner depth) (control ∷ []))
-          (early_from inner depth (run ++ control ∷ []) ps)
+      (early_from inner depth (run ++ control ∷ []) ps)
       ∙ ap (λ (d : ℕ). run_front (is_inner inner depth) run ++ (run_front (is_inner inner depth) (control ∷ [])
-          ++ early_from inner d (run ++ control ∷ []) ps)) (sym (same-depth depth p.item control is))
+      ++ early_from inner d (run ++ control ∷ []) ps)) (sym (same-depth depth p.item control is))
   early-step p ps None is rest depth run =
       let b : Bool = is_inner inner depth in
       let later : List ℕ = early_from inner (opened depth p.item) [] ps in
       early-goes_on inner depth run p (stretches ps)
       ∙ ap (λ (l : List ℕ). run_bytes b run ++ (p.bytes ++ l)) (rest (opened depth p.item) []
-          ∙ ap (λ (l : List ℕ). l ++ later) (front-none (is_inner inner (opened depth p.item))))
+      ∙ ap (λ (l : List ℕ). l ++ later) (front-none (is_inner inner (opened depth p.item))))
       ∙ ap (λ (l : List ℕ). l ++ (p.bytes ++ later)) (run-parts b run)
       ∙ append_assoc (run_front b run) (run_back b run) (p.bytes ++ later)
       ∙ ap (λ (l : List ℕ). run_front b run ++ l) (sym (append_assoc (run_back b run) p.bytes later))
@@ -88,14 +88,14 @@ module _ (inner : Bool) where
   abbrev AllIs : List Printable → Type 0
   AllIs ps = (depth : ℕ) (run : List Control) → stretch_bytes inner depth (run_before run (stretches ps))
       ≡ run_front (is_inner inner depth) run ++ (early_from inner depth run ps
-          ++ run_back (is_inner inner (depth_from depth ps)) (run_from run ps))
+      ++ run_back (is_inner inner (depth_from depth ps)) (run_from run ps))
 
   all-step : (p : Printable) (ps : List Printable) (sign : Option Control) → run_sign p.item ≡ sign → AllIs ps
       → (depth : ℕ) (run : List Control)
       → stretch_bytes inner depth (run_before run (cut sign p (stretches ps)))
       ≡ run_front (is_inner inner depth) run
-          ++ ((step_of sign inner depth run p ++ early_from inner (opened depth p.item) (run_on sign run) ps)
-          ++ run_back (is_inner inner (depth_from (opened depth p.item) ps)) (run_from (run_on sign run) ps))
+      ++ ((step_of sign inner depth run p ++ early_from inner (opened depth p.item) (run_on sign run) ps)
+      ++ run_back (is_inner inner (depth_from (opened depth p.item) ps)) (run_from (run_on sign run) ps))
   all-step p ps (Some control) is rest depth run =
       let b : Bool = is_inner inner depth in
       let one : List ℕ = run_front b (control ∷ []) in
@@ -113,12 +113,12 @@ module _ (inner : Bool) where
       let back : List ℕ = run_back (is_inner inner (depth_from (opened depth p.item) ps)) (run_from [] ps) in
       all-goes_on inner depth run p (stretches ps)
       ∙ ap (λ (l : List ℕ). run_bytes b run ++ (p.bytes ++ l)) (rest (opened depth p.item) []
-          ∙ ap (λ (l : List ℕ). l ++ (later ++ back)) (front-none (is_inner inner (opened depth p.item))))
+      ∙ ap (λ (l : List ℕ). l ++ (later ++ back)) (front-none (is_inner inner (opened depth p.item))))
       ∙ ap (λ (l : List ℕ). l ++ (p.bytes ++ (later ++ back))) (run-parts b run)
       ∙ append_assoc (run_front b run) (run_back b run) (p.bytes ++ (later ++ back))
       ∙ ap (λ (l : List ℕ). run_front b run ++ l)
       (sym (append_assoc (run_back b run) p.bytes (later ++ back))
-          ∙ sym (append_assoc (run_back b run ++ p.bytes) later back))
+      ∙ sym (append_assoc (run_back b run ++ p.bytes) later back))
 
   all-is : (ps : List Printable) → AllIs ps
   all-is [] depth run = all-ends inner depth run ∙ run-parts (is_inner inner depth) run
@@ -135,7 +135,7 @@ early-more inner ps p =
     early-whole inner (ps ++ p ∷ [])
     ∙ early_from-more inner 0 [] ps p
     ∙ ap (λ (l : List ℕ). l ++ step_of (run_sign p.item) inner (depth_behind ps) (last_run ps) p)
-        (sym (early-whole inner ps))
+    (sym (early-whole inner ps))
 
 drop-behind : (xs ys : List ℕ) → drop (length xs) (xs ++ ys) ≡ ys
 drop-behind [] ys = refl
@@ -145,7 +145,7 @@ pub added-is : (inner : Bool) (ps : List Printable) (p : Printable) → added in
     ≡ step_of (run_sign p.item) inner (depth_behind ps) (last_run ps) p
 added-is inner ps p =
     ap (drop (length (early inner ps))) (early-more inner ps p)
-        ∙ drop-behind (early inner ps) (step_of (run_sign p.item) inner (depth_behind ps) (last_run ps) p)
+    ∙ drop-behind (early inner ps) (step_of (run_sign p.item) inner (depth_behind ps) (last_run ps) p)
 
 -- What is printed early with one item more.
 pub early-added : (inner : Bool) (ps : List Printable) (p : Printable) → early inner (ps ++ p ∷ [])
@@ -162,7 +162,7 @@ printed-is inner ps =
 -- What an item that is in no run prints behind its own bytes comes last.
 pub added-behind : (inner : Bool) (ps : List Printable) (item : Item) (own more : List ℕ) → run_sign item ≡ None
     → added inner ps (record { item = item; bytes = own ++ more })
-        ≡ added inner ps (record { item = item; bytes = own }) ++ more
+    ≡ added inner ps (record { item = item; bytes = own }) ++ more
 added-behind inner ps item own more is =
     let step : List ℕ → Option Control → List ℕ =
     λ bytes o. step_of o inner (depth_behind ps) (last_run ps) (record { item = item; bytes = bytes }) in

@@ -34,7 +34,7 @@ one-add n = omega arith
 plain-by : (x : ℕ) (xs : List ℕ) (b : Bool) → is_marked x ≡ b → take (plain xs) xs ++ name_bytes (drop (plain xs) xs)
     ≡ name_bytes xs
     → take (cond (not b) (1 + plain xs) 0) (x ∷ xs) ++ name_bytes (drop (cond (not b) (1 + plain xs) 0) (x ∷ xs))
-        ≡ name_bytes (x ∷ xs)
+    ≡ name_bytes (x ∷ xs)
 plain-by x xs true is rest = refl
 plain-by x xs false is rest =
     ap (λ (n : ℕ). take n (x ∷ xs) ++ name_bytes (drop n (x ∷ xs))) (one-add (plain xs))
@@ -61,7 +61,7 @@ pub name-parts : (name first rest : List ℕ) (size : ℕ) → size ≡ position
     → first ++ name_bytes rest ≡ name_bytes name
 name-parts name first rest size is front back =
     (λ i. front i ++ name_bytes (back i)) ∙ ap (λ (n : ℕ). take n name ++ name_bytes (drop n name)) is
-        ∙ plain-front name
+    ∙ plain-front name
 
 pub name-begins : (name rest : List ℕ) (size : ℕ) → size ≡ position_or_len is_marked name → rest ≡ drop size name
     → BeginsMarked rest
@@ -88,7 +88,7 @@ piece-begins (x ∷ xs) behind size some is back =
 pub pieces-more : (done bytes rest piece behind : List ℕ) (size : ℕ) → done ++ name_bytes rest ≡ name_bytes bytes
     → BeginsMarked rest → 0 < length rest
     → size ≡ 1 + position_or_len is_marked (drop 1 rest) → piece ≡ take size rest → behind ≡ drop size rest
-        → (done ++ (92 ∷ piece)) ++ name_bytes behind ≡ name_bytes bytes
+    → (done ++ (92 ∷ piece)) ++ name_bytes behind ≡ name_bytes bytes
 pieces-more done bytes rest piece behind size put begins some is front back =
     (λ i. (done ++ (92 ∷ front i)) ++ name_bytes (back i))
     ∙ append_assoc done (92 ∷ take size rest) (name_bytes (drop size rest))
@@ -99,11 +99,13 @@ pieces-more done bytes rest piece behind size put begins some is front back =
 pub ident-short : (name : List ℕ) → length name ≡ 1 → ident_bytes name ≡ codes "\\|" ++ name_bytes name
 ident-short name one =
     ap (λ (b : Bool). elim b [ true ↦ codes "\\|" ++ name_bytes name | false ↦ long_ident_bytes name ])
-        (eq-eqb (length name) 1 one)
+    (eq-eqb (length name) 1 one)
 
 long-by : (b : Bool) (name : List ℕ)
-    → (elim b [ true ↦ codes "\\\\{" ++ name_bytes name ++ codes "}"
-        | false ↦ codes "\\.{" ++ name_bytes name ++ codes "}" ]) ≡ font_bytes b ++ name_bytes name ++ codes "}"
+    → (elim b [
+      | true ↦ codes "\\\\{" ++ name_bytes name ++ codes "}"
+      | false ↦ codes "\\.{" ++ name_bytes name ++ codes "}"
+    ]) ≡ font_bytes b ++ name_bytes name ++ codes "}"
 long-by true name = refl
 long-by false name = refl
 
@@ -111,7 +113,9 @@ pub ident-long : (name : List ℕ) → length name ≢ 1 → ident_bytes name �
     ++ name_bytes name ++ codes "}"
 ident-long name other = go (eqb (length name) 1) refl ∙ long-by (list_any is_lower name) name
   where
-    go : (b : Bool) → eqb (length name) 1 ≡ b → (elim b [ true ↦ codes "\\|" ++ name_bytes name
-        | false ↦ long_ident_bytes name ]) ≡ long_ident_bytes name
+    go : (b : Bool) → eqb (length name) 1 ≡ b → (elim b [
+      | true ↦ codes "\\|" ++ name_bytes name
+      | false ↦ long_ident_bytes name
+    ]) ≡ long_ident_bytes name
     go true is = absurd (other (eqb-true (length name) 1 is))
     go false is = refl

@@ -15,13 +15,15 @@ module _ (inner : Bool) where
         | Some control ↦ printed_from inner depth (run ++ control ∷ []) ps
         | None ↦ run_bytes (is_inner inner depth) run ++ (p.bytes ++ printed_from inner (opened depth p.item) [] ps)
       ])
-      ≡ stretch_bytes inner depth (run_before run (elim sign [ Some control ↦ with_control control (stretches ps)
-          | None ↦ Other p ∷ stretches ps ]))
+      ≡ stretch_bytes inner depth (run_before run (elim sign [
+        | Some control ↦ with_control control (stretches ps)
+        | None ↦ Other p ∷ stretches ps
+      ]))
   step p ps (Some control) rest depth run = rest depth (run ++ control ∷ [])
       ∙ ap (stretch_bytes inner depth) (one-more run control (stretches ps))
   step p ps None rest depth run =
       ap (λ (later : List ℕ). run_bytes (is_inner inner depth) run ++ (p.bytes ++ later))
-          (rest (opened depth p.item) [])
+      (rest (opened depth p.item) [])
       ∙ sym (all-goes_on inner depth run p (stretches ps))
 
   same : (ps : List Printable) → Same ps

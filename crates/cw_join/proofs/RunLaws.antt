@@ -56,7 +56,7 @@ module _ (inner : Bool) (depth : ℕ) where
 
   pub early-goes_on : (run : List Control) (p : Printable) (ss : List Stretch)
       → early_bytes inner depth (run_before run (Other p ∷ ss)) ≡ run_bytes (is_inner inner depth) run
-          ++ (p.bytes ++ early_bytes inner (opened depth p.item) ss)
+      ++ (p.bytes ++ early_bytes inner (opened depth p.item) ss)
   early-goes_on [] p ss = ap (λ (run : List ℕ). run ++ (p.bytes ++ early_bytes inner (opened depth p.item) ss))
       (sym (run-none (is_inner inner depth)))
   early-goes_on (control ∷ run) p ss = ap (early_bytes inner depth) (before-other control run p ss)
@@ -69,7 +69,7 @@ module _ (inner : Bool) (depth : ℕ) where
 
   pub all-goes_on : (run : List Control) (p : Printable) (ss : List Stretch)
       → stretch_bytes inner depth (run_before run (Other p ∷ ss)) ≡ run_bytes (is_inner inner depth) run
-          ++ (p.bytes ++ stretch_bytes inner (opened depth p.item) ss)
+      ++ (p.bytes ++ stretch_bytes inner (opened depth p.item) ss)
   all-goes_on [] p ss = ap (λ (run : List ℕ). run ++ (p.bytes ++ stretch_bytes inner (opened depth p.item) ss))
       (sym (run-none (is_inner inner depth)))
   all-goes_on (control ∷ run) p ss = ap (stretch_bytes inner depth) (before-other control run p ss)

@@ -61,15 +61,17 @@ module _ (joiner : JoinerState) (ps : List Printable) (s : Stands joiner ps) (p 
 
   run-of : (sign : Option Control) → run_sign p.item ≡ sign → last_run (ps ++ p ∷ [])
       ≡ elim sign [ Some control ↦ last_run ps ++ control ∷ [] | None ↦ [] ]
-  run-of sign is = run-more ∙ ap (λ (o : Option Control). elim o [ Some control ↦ last_run ps ++ control ∷ []
-      | None ↦ [] ]) is
+  run-of sign is = run-more ∙ ap (λ (o : Option Control). elim o [
+    | Some control ↦ last_run ps ++ control ∷ []
+    | None ↦ []
+  ]) is
 
   pub control-added : (control : Control) → run_sign p.item ≡ Some control
       → run_front (is_inner joiner.inner joiner.depth) (control ∷ []) ≡ added joiner.inner ps p
   control-added control is =
       ap (λ (depth : ℕ). run_front (is_inner joiner.inner depth) (control ∷ [])) s.depth
       ∙ sym (added-is joiner.inner ps p ∙ ap (λ (o : Option Control). step_of o joiner.inner (depth_behind ps)
-          (last_run ps) p) is)
+      (last_run ps) p) is)
 
   pub control-stands : (control : Control) → run_sign p.item ≡ Some control
       → Stands (record joiner { run = run_more joiner.run control }) (ps ++ p ∷ [])
@@ -86,7 +88,7 @@ module _ (joiner : JoinerState) (ps : List Printable) (s : Stands joiner ps) (p 
       (λ i. state_back (is_inner joiner.inner (s.depth i)) (s.run i) ++ p.bytes)
       ∙ ap (λ (l : List ℕ). l ++ p.bytes) (sym (back-is (is_inner joiner.inner (depth_behind ps)) (last_run ps)))
       ∙ sym (added-is joiner.inner ps p ∙ ap (λ (o : Option Control). step_of o joiner.inner (depth_behind ps)
-          (last_run ps) p) is)
+      (last_run ps) p) is)
 
   pub other-stands : run_sign p.item ≡ None
       → Stands (record joiner { depth = opened joiner.depth p.item; run = run_state [] }) (ps ++ p ∷ [])

@@ -54,5 +54,8 @@ strength_of BigBreak = 4
 
 abbrev pub state_of : Run → RunState
 state_of Empty = record { strength = 0; cancelled = false; backed = false }
-state_of (Begun pause cancelled backed) = record { strength = strength_of pause; cancelled = cancelled;
-    backed = backed }
+state_of (Begun pause cancelled backed) = record {
+  strength = strength_of pause;
+  cancelled = cancelled;
+  backed = backed;
+}

@@ -26,7 +26,7 @@ elsewhere byte line none i inside = by (slice_index line i == byte) refl
 pub no-break : (line : List ℕ) → list_any (λ b. b == 32) line ≡ false → None ≡ last_of (is_break line) line
 no-break line none = sym (none-passes (is_break line) (length line) (λ i inside.
     ap (λ (b : Bool). b && not (follows_backslash line i) && list_any (λ byte. not (is_blank byte)) (take i line))
-        (elsewhere 32 line none i inside)))
+    (elsewhere 32 line none i inside)))
 
 pub no-comment : (line : List ℕ) → list_any (λ b. b == 37) line ≡ false → false ≡ has_comment line
 no-comment line none = sym (ap (λ (o : Option ℕ). is_some o) (none-passes (is_percent line) (length line) (λ i inside.

@@ -57,7 +57,7 @@ behind-other [] ys (suc count) within inside other = absurd (omega arith)
 behind-other (x ∷ xs) [] (suc count) within inside other = refl
 behind-other (x ∷ xs) (y ∷ ys) (suc count) within inside other =
     stripped-other x y xs ys (λ same. behind-other xs ys count (omega arith) (omega arith)
-        (λ rest. other (λ i. sym same i ∷ rest i)))
+    (λ rest. other (λ i. sym same i ∷ rest i)))
 
 -- a text that has ended begins with no byte
 pub behind-ended : (xs : List ℕ) → 0 < length xs → behind xs [] ≡ None
@@ -91,14 +91,14 @@ left-checked true agrees bytes ahead rest count agreed within inside test =
     ∙ behind-begun (take count bytes) (drop count ahead ++ rest))
 left-checked false agrees bytes ahead rest count agreed within inside test =
     let differ : take count ahead ≡ take count bytes
-        → ⊥ = λ is. absurd (let told = (bytes_decides (take count ahead) (take count bytes)).1 is in cc) in
+    → ⊥ = λ is. absurd (let told = (bytes_decides (take count ahead) (take count bytes)).1 is in cc) in
     let size : length (take count bytes) ≡ count = length-take-le count bytes within in
     let first : take count (ahead ++ rest) ≡ take count ahead = take-append-le count ahead rest inside in
     let whole : take count (take count bytes) ≡ take count bytes =
-        take_all count (take count bytes) (omega (arith, size)) in
+    take_all count (take count bytes) (omega (arith, size)) in
     sym (ap (λ (b : Bool). left_behind (take count bytes) (left_by b (ahead ++ rest))) agreed
     ∙ behind-other (take count bytes) (ahead ++ rest) count (omega (arith, size))
-        (omega (arith, inside, length-append ahead rest))
+    (omega (arith, inside, length-append ahead rest))
     (λ is. differ (sym first ∙ is ∙ whole)))
 
 -- a file that has ended agrees with no byte more
@@ -114,8 +114,12 @@ ahead-none buffer start end spent = drop_all start (take end buffer) (omega (ari
 
 pub ahead-some : (buffer : List ℕ) (start end : ℕ) → start < end → end ≤ length buffer
     → 0 < length (drop start (take end buffer))
-ahead-some buffer start end some within = omega (arith, length-drop start (take end buffer),
-    length-take-le end buffer within, some)
+ahead-some buffer start end some within = omega (
+  arith,
+  length-drop start (take end buffer),
+  length-take-le end buffer within,
+  some,
+)
 
 pub ahead-range : (buffer : List ℕ) (start end : ℕ) → start ≤ end → take (end - start) (drop start buffer)
     ≡ drop start (take end buffer)
@@ -136,14 +140,16 @@ left-more false (byte ∷ ahead) rest some is = absurd cc
 pub left-read : (some agrees : Bool) (ahead rest more unread : List ℕ) → agrees ≡ true → ahead ≡ []
     → rest ≡ more ++ unread
     → OnTrue some (0 < length more) → OnFalse some (rest ≡ [])
-        → IsTrue (not some) ↔ (left_by agrees (ahead ++ rest) ≡ Some [])
+    → IsTrue (not some) ↔ (left_by agrees (ahead ++ rest) ≡ Some [])
 left-read true agrees ahead rest more unread agreed none read longer ended =
     let is : left_by agrees (ahead ++ rest) ≡ left_by agrees (more ++ unread) =
     ap (λ (text : List ℕ). left_by agrees (text ++ rest)) none ∙ ap (left_by agrees) read in
     ((λ no. absurd cc), (λ whole. absurd (left-more agrees more unread longer (sym is ∙ whole))))
-left-read false agrees ahead rest more unread agreed none read longer ended =
-    ((λ yes. ap (λ (b : Bool). left_by b (ahead ++ rest)) agreed ∙ ap (λ (text : List ℕ). Some (text ++ rest)) none
-        ∙ ap (λ (text : List ℕ). Some text) ended), (λ whole. refl))
+left-read false agrees ahead rest more unread agreed none read longer ended = (
+  (λ yes. ap (λ (b : Bool). left_by b (ahead ++ rest)) agreed ∙ ap (λ (text : List ℕ). Some (text ++ rest)) none
+      ∙ ap (λ (text : List ℕ). Some text) ended),
+  (λ whole. refl),
+)
 
 -- ## Comparing
 
@@ -167,17 +173,17 @@ pub compares-as : {xs ys : List ℕ} {old new other : Option OldFile} {a b : Tol
     → Compares xs old new a b → Compares ys old other a b
 compares-as {xs = xs} {old = old} {other = other} {a = a} {b = b} same is compares =
     subst (λ (bytes : List ℕ). Compares bytes old other a b) same
-        (subst (λ (file : Option OldFile). Compares xs old file a b) is compares)
+    (subst (λ (file : Option OldFile). Compares xs old file a b) is compares)
 
 -- bytes were compared, then more was read, and more bytes were compared
 pub compares-more : {first : List ℕ} (more : List ℕ) {old mid : OldFile} (read : OldFile) {new : OldFile} {a b c : Told}
     → b.files ≡ a.files
     → Compares first (Some old) (Some mid) a b
     → ((files : Files) → b.files ≡ Some files → left_behind more (left c (Some read))
-        ≡ left_behind more (left b (Some mid)))
+    ≡ left_behind more (left b (Some mid)))
     → new.id ≡ read.id
     → ((rest : List ℕ) → left_by new.agrees (new.ahead ++ rest)
-        ≡ left_behind more (left_by read.agrees (read.ahead ++ rest)))
+    ≡ left_behind more (left_by read.agrees (read.ahead ++ rest)))
     → Compares (first ++ more) (Some old) (Some new) a c
 compares-more {first = first} more {old = old} read {new = new} {a = a} {c = c} same begun reads file checks = record {
   rest = λ files is.
@@ -200,7 +206,9 @@ pub shortens-then : {file : Option ℕ} {a b c : Told} → b.files ≡ a.files �
 shortens-then {c = c} same begun ended = record {
   unread = λ files is id named.
       let first = begun.unread files is id named in
-      let second = ended.unread files (same ∙ is) id named in
-      (first.0 ++ second.0, first.1 ∙ ap (λ (rest : List ℕ). first.0 ++ rest) second.1
-          ∙ sym (append_assoc first.0 second.0 (c.rest id)));
+      let second = ended.unread files (same ∙ is) id named in (
+        first.0 ++ second.0,
+        first.1 ∙ ap (λ (rest : List ℕ). first.0 ++ rest) second.1
+            ∙ sym (append_assoc first.0 second.0 (c.rest id)),
+      );
 }

@@ -27,8 +27,14 @@ rose-earlier : (a b c : ℕ) → b ≤ c → Rose a b → Rose a c
 rose-earlier a b c kept rose = grind arith
 
 only_puts-none : (told : Told) → OnlyPuts told told
-only_puts-none told = record { same_names = refl; same_opened = refl; same_outputs = refl; same_files = refl;
-    same_rests = refl; faults_kept = omega arith }
+only_puts-none told = record {
+  same_names = refl;
+  same_opened = refl;
+  same_outputs = refl;
+  same_files = refl;
+  same_rests = refl;
+  faults_kept = omega arith;
+}
 
 only_puts-then : {a b c : Told} → OnlyPuts a b → OnlyPuts b c → OnlyPuts a c
 only_puts-then {a = a} {b = b} {c = c} first second = record {
@@ -42,8 +48,12 @@ only_puts-then {a = a} {b = b} {c = c} first second = record {
 }
 
 pub adds-none : {T : Type 0} (told : Told) (value : T) → Adds [] told told (Ok value)
-adds-none told value = record { ok = sym (grown-none told.journal); err = tt; same = only_puts-none told;
-    fault = λ e. cc }
+adds-none told value = record {
+  ok = sym (grown-none told.journal);
+  err = tt;
+  same = only_puts-none told;
+  fault = λ e. cc;
+}
 
 pub adds-then : {T U : Type 0} {first second : List Event} {a b c : Told} {value : T} {result : Result U PutError}
     → Adds {T = T} first a b (Ok value) → Adds second b c result → Adds (first ++ second) a c result
@@ -121,7 +131,7 @@ writes-none file told value = adds-writes file (adds-none told value)
 pub writes-then : {T U : Type 0} {file : Option ℕ} {first second : List Event} {a b c : Told} {value : T}
     {result : Result U PutError}
     → Writes {T = T} file first a b (Ok value) → Writes file second b c result
-        → Writes file (first ++ second) a c result
+    → Writes file (first ++ second) a c result
 writes-then begun ended = record {
   adds = adds-then begun.adds ended.adds;
   shorter = shortens-then begun.adds.same.same_files begun.shorter ended.shorter;
@@ -130,7 +140,7 @@ writes-then begun ended = record {
 pub writes-stop : {T U : Type 0} {file : Option ℕ} {first : List Event} (second : List Event) {a b : Told}
     {error : PutError} {result : Result U PutError}
     → Writes {T = T} file first a b (Err error) → IsErrAnd result (λ found. found ≡ error)
-        → Writes file (first ++ second) a b result
+    → Writes file (first ++ second) a b result
 writes-stop second begun is = record { adds = adds-stop second begun.adds is; shorter = begun.shorter }
 
 pub writes-events : {T : Type 0} {file : Option ℕ} {first second : List Event} {a b : Told} {result : Result T PutError}
@@ -143,7 +153,7 @@ writes-events {file = file} {a = a} {b = b} {result = result} same writes =
 pub writes-fail : {T U : Type 0} {file : Option ℕ} {events : List Event} {a b : Told} {error : PutError}
     {result : Result U PutError}
     → Writes {T = T} file events a b (Err error) → IsErrAnd result (λ found. found ≡ error)
-        → Writes file events a b result
+    → Writes file events a b result
 writes-fail {events = events} begun is = writes-events (append-nil events) (writes-stop [] begun is)
 
 pub writes-file : {T : Type 0} {file other : Option ℕ} {events : List Event} {a b : Told} {result : Result T PutError}
@@ -162,52 +172,54 @@ pub puts-known : {T : Type 0} {bytes : List ℕ} {old new : LineState} {before n
     → OnOk result (Compares filled.written old.compared new.compared before now) → Puts bytes old new before now result
 puts-known {old = old} {new = new} {before = before} {now = now} {result = result} filled known out file line writes
     compares = record {
-  same_out = out;
-  same_file = file;
-  line = subst (λ (f : Filled). OnOk result (new.line ≡ f.line)) (sym known) line;
-  writes = subst (λ (f : Filled). Writes (id_of old.compared) (byte_events old.line.out f.written) before now result)
-      (sym known) writes;
-  compares = subst (λ (f : Filled). OnOk result (Compares f.written old.compared new.compared before now)) (sym known)
-      compares;
-}
+      same_out = out;
+      same_file = file;
+      line = subst (λ (f : Filled). OnOk result (new.line ≡ f.line)) (sym known) line;
+      writes = subst (λ (f : Filled). Writes (id_of old.compared) (byte_events old.line.out f.written) before now
+          result)
+          (sym known) writes;
+      compares = subst (λ (f : Filled). OnOk result (Compares f.written old.compared new.compared before now))
+          (sym known)
+          compares;
+    }
 
 -- a call that was refused
 pub puts-refused : {T : Type 0} {bytes : List ℕ} {old new : LineState} {before now : Told} (error : PutError)
     {result : Result T PutError} (filled : Filled) → fill old.line bytes ≡ filled
     → new.line.out ≡ old.line.out → id_of new.compared ≡ id_of old.compared → IsErrAnd result (λ found. found ≡ error)
     → Writes (id_of old.compared) (byte_events old.line.out filled.written) before now result
-        → Puts bytes old new before now result
+    → Puts bytes old new before now result
 puts-refused {T = T} {old = old} {new = new} {before = before} {now = now} error {result = result} filled known out file
     is writes =
     let err : result ≡ Err error = is_err result error is in
     puts-known filled known out file (subst (λ (r : Result T PutError). OnOk r (new.line ≡ filled.line)) (sym err) tt)
-        writes
+    writes
     (subst (λ (r : Result T PutError). OnOk r (Compares filled.written old.compared new.compared before now)) (sym err)
-        tt)
+    tt)
 
 -- a call that was refused before it put a byte to the line
 pub puts-failed : {T : Type 0} {bytes : List ℕ} {old new : LineState} {before now : Told} (error : PutError)
     {result : Result T PutError} (filled : Filled) → fill old.line bytes ≡ filled
     → new ≡ old → IsErrAnd result (λ found. found ≡ error)
-        → Adds (byte_events old.line.out filled.written) before now result → Puts bytes old new before now result
+    → Adds (byte_events old.line.out filled.written) before now result → Puts bytes old new before now result
 puts-failed {old = old} error filled known same is adds =
     puts-refused error filled known (ap (λ (l : LineState). l.line.out) same)
-        (ap (λ (l : LineState). id_of l.compared) same) is (adds-writes (id_of old.compared) adds)
+    (ap (λ (l : LineState). id_of l.compared) same) is (adds-writes (id_of old.compared) adds)
 
 pub puts-none : {T : Type 0} (line : LineState) (told : Told) (value : T) → Puts [] line line told told (Ok value)
 puts-none line told value =
     puts-known (record { line = line.line; written = [] }) (fill-none line.line) refl refl refl
-        (writes-none (id_of line.compared) told value)
+    (writes-none (id_of line.compared) told value)
     (compares-none line.compared told)
 
 events-append : (line mid : Line) (xs ys : List ℕ) → mid ≡ (fill line xs).line
     → byte_events line.out (fill line (xs ++ ys)).written ≡ byte_events line.out (fill line xs).written
-        ++ byte_events mid.out (fill mid ys).written
+    ++ byte_events mid.out (fill mid ys).written
 events-append line mid xs ys is =
     ap (λ (f : Filled). byte_events line.out f.written) (fill-append line xs ys)
     ∙ byte_events-append line.out (fill line xs).written (fill (fill line xs).line ys).written
     ∙ ap (λ (out : Out). byte_events line.out (fill line xs).written
-        ++ byte_events out (fill (fill line xs).line ys).written) (sym (fill-out line xs))
+    ++ byte_events out (fill (fill line xs).line ys).written) (sym (fill-out line xs))
     ∙ ap (λ (l : Line). byte_events line.out (fill line xs).written ++ byte_events l.out (fill l ys).written) (sym is)
 
 written-append : (line mid : Line) (xs ys : List ℕ) → mid ≡ (fill line xs).line
@@ -219,25 +231,25 @@ written-append line mid xs ys is =
 pub puts-then : {T U : Type 0} {xs ys : List ℕ} {first second third : LineState} {a b c : Told} {value : T}
     {result : Result U PutError}
     → Puts {T = T} xs first second a b (Ok value) → Puts ys second third b c result
-        → Puts (xs ++ ys) first third a c result
+    → Puts (xs ++ ys) first third a c result
 puts-then {xs = xs} {ys = ys} {first = first} {second = second} {third = third} {a = a} {c = c} {result = result} begun
     ended = record {
-  same_out = ended.same_out ∙ begun.same_out;
-  same_file = ended.same_file ∙ begun.same_file;
-  line = on_ok_weaker result
-      (λ is. is ∙ ap (λ (l : Line). (fill l ys).line) begun.line
+      same_out = ended.same_out ∙ begun.same_out;
+      same_file = ended.same_file ∙ begun.same_file;
+      line = on_ok_weaker result
+          (λ is. is ∙ ap (λ (l : Line). (fill l ys).line) begun.line
           ∙ sym (ap (λ (f : Filled). f.line) (fill-append first.line xs ys))) ended.line;
-  writes = writes-events (sym (events-append first.line second.line xs ys begun.line))
-      (writes-then begun.writes (writes-file begun.same_file ended.writes));
-  compares = on_ok_weaker result
-      (λ more. compares-bytes (sym (written-append first.line second.line xs ys begun.line))
-      (compares-then begun.writes.adds.same.same_files begun.compares more)) ended.compares;
-}
+      writes = writes-events (sym (events-append first.line second.line xs ys begun.line))
+          (writes-then begun.writes (writes-file begun.same_file ended.writes));
+      compares = on_ok_weaker result
+          (λ more. compares-bytes (sym (written-append first.line second.line xs ys begun.line))
+          (compares-then begun.writes.adds.same.same_files begun.compares more)) ended.compares;
+    }
 
 pub puts-stop : {T U : Type 0} {xs : List ℕ} (ys : List ℕ) {first second : LineState} {a b : Told} {error : PutError}
     {result : Result U PutError}
     → Puts {T = T} xs first second a b (Err error) → IsErrAnd result (λ found. found ≡ error)
-        → Puts (xs ++ ys) first second a b result
+    → Puts (xs ++ ys) first second a b result
 puts-stop {U = U} {xs = xs} ys {first = first} {second = second} {a = a} {b = b} {error = error} {result = result} begun
     is =
     puts-refused error (fill first.line (xs ++ ys)) refl begun.same_out begun.same_file is
@@ -247,10 +259,10 @@ puts-stop {U = U} {xs = xs} ys {first = first} {second = second} {a = a} {b = b}
 pub puts-within : {T U : Type 0} (bytes : List ℕ) (n : ℕ) {first second : LineState} {a b : Told} {error : PutError}
     {result : Result U PutError}
     → Puts {T = T} (take n bytes) first second a b (Err error) → IsErrAnd result (λ found. found ≡ error)
-        → Puts bytes first second a b result
+    → Puts bytes first second a b result
 puts-within bytes n {first = first} {second = second} {a = a} {b = b} {result = result} begun is =
     subst (λ (all : List ℕ). Puts all first second a b result) (take-append-drop n bytes)
-        (puts-stop (drop n bytes) begun is)
+    (puts-stop (drop n bytes) begun is)
 
 -- the same bytes
 pub puts-bytes : {T : Type 0} {xs ys : List ℕ} {first second : LineState} {a b : Told} {result : Result T PutError}
@@ -263,7 +275,7 @@ puts-bytes {first = first} {second = second} {a = a} {b = b} {result = result} s
 pub puts-failing : {T U : Type 0} {xs ys : List ℕ} {first second : LineState} {a b : Told} {error : PutError}
     {result : Result U PutError} → xs ≡ ys
     → Puts {T = T} xs first second a b (Err error) → IsErrAnd result (λ found. found ≡ error)
-        → Puts ys first second a b result
+    → Puts ys first second a b result
 puts-failing {xs = xs} same begun is = puts-bytes (append-nil xs ∙ same) (puts-stop [] begun is)
 
 -- a failure in the first bytes is a failure in more of them
@@ -287,28 +299,28 @@ can-after {old = old} {new = new} {before = before} can put = record {
 pub puts-new : {T : Type 0} {bytes : List ℕ} {old new : LineState} {before now : Told} {result : Result T PutError}
     (out : Out) → old.line ≡ new_line out
     → Puts bytes old new before now result → Writes (id_of old.compared) (line_events out (cut bytes).lines) before now
-        result
+    result
 puts-new {bytes = bytes} out is put =
     writes-events
     (ap (λ (l : Line). byte_events l.out (fill l bytes).written) is
-        ∙ ap (λ (f : Filled). byte_events out f.written) (fill-cut out bytes)) put.writes
+    ∙ ap (λ (f : Filled). byte_events out f.written) (fill-cut out bytes)) put.writes
 
 pub puts-new_line : {T : Type 0} {bytes : List ℕ} {old new : LineState} {before now : Told} {result : Result T PutError}
     (out : Out) → old.line ≡ new_line out
     → Puts bytes old new before now result → OnOk result (new.line ≡ (filled_with (new_line out) (cut bytes)).line)
 puts-new_line {bytes = bytes} {result = result} out is put =
     on_ok_weaker result (λ line. line ∙ ap (λ (l : Line). (fill l bytes).line) is
-        ∙ ap (λ (f : Filled). f.line) (fill-cut out bytes)) put.line
+    ∙ ap (λ (f : Filled). f.line) (fill-cut out bytes)) put.line
 
 -- what it has compared with the old file
 pub puts-new_compared : {T : Type 0} {bytes : List ℕ} {old new : LineState} {before now : Told}
     {result : Result T PutError} (out : Out) → old.line ≡ new_line out
     → Puts bytes old new before now result → OnOk result (Compares (written (cut bytes).lines) old.compared new.compared
-        before now)
+    before now)
 puts-new_compared {bytes = bytes} {result = result} out is put =
     on_ok_weaker result
     (λ compares. compares-bytes (ap (λ (l : Line). (fill l bytes).written) is
-        ∙ ap (λ (f : Filled). f.written) (fill-cut out bytes)) compares) put.compares
+    ∙ ap (λ (f : Filled). f.written) (fill-cut out bytes)) compares) put.compares
 
 -- what proves that bytes are put call by call
 pub ruleset putting = (puts-then, puts-stop, can-after)

@@ -40,8 +40,13 @@ rose-later a b c kept rose = grind arith
 -- a call that only prints
 pub adds-emits : {T : Type 0} {events : List Event} {a b : Told} {result : Result T PutError} → Adds events a b result
     → Emits events a b result
-adds-emits adds = record { ok = adds.ok; err = adds.err; same_files = adds.same.same_files;
-    kept = adds.same.faults_kept; fault = adds.fault }
+adds-emits adds = record {
+  ok = adds.ok;
+  err = adds.err;
+  same_files = adds.same.same_files;
+  kept = adds.same.faults_kept;
+  fault = adds.fault;
+}
 
 pub writes-emits : {T : Type 0} {file : Option ℕ} {events : List Event} {a b : Told} {result : Result T PutError}
     → Writes file events a b result → Emits events a b result
@@ -54,14 +59,24 @@ writes-emits writes = record {
 }
 
 pub emits-none : {T : Type 0} (told : Told) (value : T) → Emits [] told told (Ok value)
-emits-none told value = record { ok = sym (grown-none told.journal); err = tt; same_files = refl; kept = omega arith;
-    fault = λ e. cc }
+emits-none told value = record {
+  ok = sym (grown-none told.journal);
+  err = tt;
+  same_files = refl;
+  kept = omega arith;
+  fault = λ e. cc;
+}
 
 -- another answer after the same events
 pub emits-value : {T U : Type 0} {events : List Event} {a b : Told} {value : T} (other : U)
     → Emits {T = T} events a b (Ok value) → Emits {T = U} events a b (Ok other)
-emits-value other done = record { ok = done.ok; err = tt; same_files = done.same_files; kept = done.kept;
-    fault = λ e. cc }
+emits-value other done = record {
+  ok = done.ok;
+  err = tt;
+  same_files = done.same_files;
+  kept = done.kept;
+  fault = λ e. cc;
+}
 
 pub emits-then : {T U : Type 0} {first second : List Event} {a b c : Told} {value : T} {result : Result U PutError}
     → Emits {T = T} first a b (Ok value) → Emits second b c result → Emits (first ++ second) a c result
@@ -76,11 +91,16 @@ emits-then {first = first} {second = second} {a = a} {b = b} {c = c} {result = r
 pub emits-stop : {T U : Type 0} {first : List Event} (second : List Event) {a b : Told} {error : PutError}
     {result : Result U PutError}
     → Emits {T = T} first a b (Err error) → IsErrAnd result (λ found. found ≡ error)
-        → Emits (first ++ second) a b result
+    → Emits (first ++ second) a b result
 emits-stop {U = U} {first = first} second {a = a} {b = b} {error = error} {result = result} begun is =
     let stopped : Emits {T = U} (first ++ second) a b (Err error) =
-    record { ok = tt; err = part-first second begun.err; same_files = begun.same_files; kept = begun.kept;
-        fault = λ e. begun.fault cc } in
+    record {
+      ok = tt;
+      err = part-first second begun.err;
+      same_files = begun.same_files;
+      kept = begun.kept;
+      fault = λ e. begun.fault cc;
+    } in
     subst (λ (r : Result U PutError). Emits (first ++ second) a b r) (sym (is_err result error is)) stopped
 
 pub emits-events : {T : Type 0} {first second : List Event} {a b : Told} {result : Result T PutError} → first ≡ second
@@ -126,7 +146,7 @@ emits-by done = record { emits = λ files is. done; faults = emits-faults done }
 pub emits_by-then : {T U : Type 0} {first second : NamedFiles → List Event} {a b c : Told} {value : T}
     {result : Result U PutError}
     → EmitsBy {T = T} first a b (Ok value) → EmitsBy second b c result
-        → EmitsBy (λ named. first named ++ second named) a c result
+    → EmitsBy (λ named. first named ++ second named) a c result
 emits_by-then begun ended = record {
   emits = λ files is. let done = begun.emits files is in emits-then done (ended.emits files (done.same_files ∙ is));
   faults = faults-then begun.faults.kept ended.faults;
@@ -135,7 +155,7 @@ emits_by-then begun ended = record {
 pub emits_by-stop : {T U : Type 0} {first : NamedFiles → List Event} (second : NamedFiles → List Event) {a b : Told}
     {error : PutError} {result : Result U PutError}
     → EmitsBy {T = T} first a b (Err error) → IsErrAnd result (λ found. found ≡ error)
-        → EmitsBy (λ named. first named ++ second named) a b result
+    → EmitsBy (λ named. first named ++ second named) a b result
 emits_by-stop second begun is = record {
   emits = λ files there. emits-stop _ (begun.emits files there) is;
   faults = faults-as begun.faults is;
@@ -144,15 +164,19 @@ emits_by-stop second begun is = record {
 pub emits_by-events : {T : Type 0} {first second : NamedFiles → List Event} {a b : Told} {result : Result T PutError}
     → ((named : NamedFiles) → first named ≡ second named)
     → EmitsBy first a b result → EmitsBy second a b result
-emits_by-events same done = record { emits = λ files is. emits-events (same (get files)) (done.emits files is);
-    faults = done.faults }
+emits_by-events same done = record {
+  emits = λ files is. emits-events (same (get files)) (done.emits files is);
+  faults = done.faults;
+}
 
 -- the same failure of a call around it
 pub emits_by-fail : {T U : Type 0} {events : NamedFiles → List Event} {a b : Told} {error : PutError}
     {result : Result U PutError}
     → EmitsBy {T = T} events a b (Err error) → IsErrAnd result (λ found. found ≡ error) → EmitsBy events a b result
-emits_by-fail done is = record { emits = λ files there. emits-fail (done.emits files there) is;
-    faults = faults-as done.faults is }
+emits_by-fail done is = record {
+  emits = λ files there. emits-fail (done.emits files there) is;
+  faults = faults-as done.faults is;
+}
 
 -- another answer after the same events
 pub emits_by-value : {T U : Type 0} {events : NamedFiles → List Event} {a b : Told} {value : T} (other : U)
@@ -168,8 +192,13 @@ emits_by-value other done = record {
 -- a call that begins or ends an output
 pub turns-emits : {done : Outputs} {event : Event} {a b : Told} (made : MadeOut) → Turns done event made a b
     → Emits (event ∷ []) a b (answered made)
-turns-emits Done turns = record { ok = turns.journal; err = tt; same_files = turns.same_files; kept = turns.faults_kept;
-    fault = λ e. cc }
+turns-emits Done turns = record {
+  ok = turns.journal;
+  err = tt;
+  same_files = turns.same_files;
+  kept = turns.faults_kept;
+  fault = λ e. cc;
+}
 turns-emits Failed turns = record {
   ok = tt;
   err = part-same _ (turns.journal ∙ grown-none _);
@@ -257,9 +286,9 @@ settled-same true out bytes old is = ap (λ (same : Bool). settled same out ∷ 
 pub emits_by-file : {S T U : Type 0} (keep : Bool) (f : OutFile) {old new : LineState} {a b c d : Told} {lines : S}
     {value : T} {result : Result U PutError}
     → Emits {T = S} (begun keep f.out f.name ∷ []) a b (Ok lines) → IsBegun keep f.out f.name old a b
-        → Puts {T = T} f.bytes old new b c (Ok value)
+    → Puts {T = T} f.bytes old new b c (Ok value)
     → ((files : Files) → c.files ≡ Some files → Emits (settled_if keep (is_end (left c new.compared)) f.out) c d result)
-        → Faults c d result
+    → Faults c d result
     → EmitsBy (file_events keep f) a d result
 emits_by-file keep f {old = old} {new = new} {b = b} {c = c} made is put ended faults =
     let lines = writes-emits (puts-new f.out is.line put) in
@@ -269,16 +298,16 @@ emits_by-file keep f {old = old} {new = new} {b = b} {c = c} made is put ended f
           let bytes : List ℕ = written (cut f.bytes).lines in
           let rest : IsTrue keep → left c new.compared ≡ left_behind bytes (get files f.name) =
           λ asked. (puts-new_compared f.out is.line put).rest files (made.same_files ∙ there)
-              ∙ ap (left_behind bytes) (is.old files there asked) in
+          ∙ ap (left_behind bytes) (is.old files there asked) in
           emits-then made (emits-then lines (emits-events (settled-same keep f.out bytes (get files f.name) rest)
-              (ended files still)));
+          (ended files still)));
       faults = faults-then {b = b} made.kept (faults-then {b = c} lines.kept faults);
     }
 
 pub file-refused : {S T U : Type 0} (keep : Bool) (f : OutFile) {old new : LineState} {a b c : Told} {lines : S}
     {error : PutError} {result : Result U PutError}
     → Emits {T = S} (begun keep f.out f.name ∷ []) a b (Ok lines) → IsBegun keep f.out f.name old a b
-        → Puts {T = T} f.bytes old new b c (Err error)
+    → Puts {T = T} f.bytes old new b c (Err error)
     → IsErrAnd result (λ found. found ≡ error) → EmitsBy (file_events keep f) a c result
 file-refused keep f {b = b} made is put err =
     let lines = writes-emits (puts-new f.out is.line put) in
@@ -290,7 +319,7 @@ file-refused keep f {b = b} made is put err =
 pub file-not_begun : {T U : Type 0} (keep : Bool) (f : OutFile) {a b : Told} {error : PutError}
     {result : Result U PutError}
     → Emits {T = T} (begun keep f.out f.name ∷ []) a b (Err error) → IsErrAnd result (λ found. found ≡ error)
-        → EmitsBy (file_events keep f) a b result
+    → EmitsBy (file_events keep f) a b result
 file-not_begun keep f made err = record {
   emits = λ files there. emits-stop _ made err;
   faults = faults-as (emits-faults made) err;
@@ -301,13 +330,13 @@ file-not_begun keep f made err = record {
 pub runs-then : {T : Type 0} {first rest : List Event} {exit : Exit} {a b c : Told} {value : T}
     {result : Result Exit PutError}
     → Emits {T = T} first a b (Ok value) → Runs (record { rest = rest; exit = exit }) b c result
-        → Runs (record { rest = first ++ rest; exit = exit }) a c result
+    → Runs (record { rest = first ++ rest; exit = exit }) a c result
 runs-then begun ended = record { emits = emits-then begun ended.emits; exit = ended.exit }
 
 pub runs-stop : {T : Type 0} {first : List Event} (rest : List Event) (exit : Exit) {a b : Told} {error : PutError}
     {result : Result Exit PutError}
     → Emits {T = T} first a b (Err error) → IsErrAnd result (λ found. found ≡ error)
-        → Runs (record { rest = first ++ rest; exit = exit }) a b result
+    → Runs (record { rest = first ++ rest; exit = exit }) a b result
 runs-stop rest exit {error = error} {result = result} begun is = record {
   emits = emits-stop rest begun is;
   exit = subst (λ (r : Result Exit PutError). IfOk r (λ e. e ≡ exit)) (sym (is_err result error is)) tt;
@@ -317,7 +346,7 @@ runs-stop rest exit {error = error} {result = result} begun is = record {
 pub runs-fail : {T : Type 0} {events : List Event} (exit : Exit) {a b : Told} {error : PutError}
     {result : Result Exit PutError}
     → Emits {T = T} events a b (Err error) → IsErrAnd result (λ found. found ≡ error)
-        → Runs (record { rest = events; exit = exit }) a b result
+    → Runs (record { rest = events; exit = exit }) a b result
 runs-fail exit {error = error} {result = result} begun is = record {
   emits = emits-fail begun is;
   exit = subst (λ (r : Result Exit PutError). IfOk r (λ e. e ≡ exit)) (sym (is_err result error is)) tt;
@@ -346,8 +375,11 @@ runs-known {a = a} {b = b} {result = result} same runs = subst (λ (run : Run). 
 
 pub runs-by : {run : Run} {a b : Told} {result : Result Exit PutError} → Runs run a b result
     → RunsBy (λ named. run) a b result
-runs-by {run = run} {result = result} runs = record { emits = emits-by runs.emits; exit = IfOk-weaker result (λ e. e
-    ≡ run.exit) (λ e. (named : NamedFiles) → e ≡ run.exit) (λ e is named. is) runs.exit }
+runs-by {run = run} {result = result} runs = record {
+  emits = emits-by runs.emits;
+  exit = IfOk-weaker result (λ e. e
+      ≡ run.exit) (λ e. (named : NamedFiles) → e ≡ run.exit) (λ e is named. is) runs.exit;
+}
 
 pub runs_by-then : {T : Type 0} {first rest : NamedFiles → List Event} {exit : Exit} {a b c : Told} {value : T}
     {result : Result Exit PutError}
@@ -369,8 +401,10 @@ runs_by-stop rest exit {error = error} {result = result} begun is = record {
 pub runs_by-nothing : (run : NamedFiles → Run) (told : Told) {result : Result Exit PutError}
     → IsErrAnd result (λ found. found ≡ Memory) → RunsBy run told told result
 runs_by-nothing run told {result = result} is = record {
-  emits = record { emits = λ files there. emits-nothing (run (get files)).rest told is;
-      faults = emits-faults (emits-nothing [] told is) };
+  emits = record {
+    emits = λ files there. emits-nothing (run (get files)).rest told is;
+    faults = emits-faults (emits-nothing [] told is);
+  };
   exit = subst (λ (r : Result Exit PutError). IfOk r (λ e. (named : NamedFiles) → e ≡ (run named).exit))
       (sym (is_err result Memory is)) tt;
 }
@@ -380,7 +414,7 @@ pub runs_by-exit : {run : NamedFiles → Run} {a b : Told} {result : Result Exit
     → RunsBy run a b result → IfOk result (λ e. e ≡ (run named).exit)
 runs_by-exit {run = run} {result = result} named runs =
     IfOk-weaker result (λ e. (named : NamedFiles) → e ≡ (run named).exit) (λ e. e ≡ (run named).exit)
-        (λ e same. same named) runs.exit
+    (λ e same. same named) runs.exit
 
 -- over the files that are told
 pub runs_by-over : {run : NamedFiles → Run} {a b : Told} {result : Result Exit PutError} → RunsBy run a b result

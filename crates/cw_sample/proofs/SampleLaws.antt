@@ -47,14 +47,14 @@ digit d e = omega (arith, e)
 number-whole : (k : ℕ) → 0 < k → k < 10000 → All NotTen (decimal k)
 number-whole k some few =
     subst (All NotTen) (sym (decimal-digits_of k some (omega arith)))
-        (All-map NotTen (λ d. 48 + d) _ (λ i d inside. digit _))
+    (All-map NotTen (λ d. 48 + d) _ (λ i d inside. digit _))
 
 -- a number between two texts that are known
 between-whole : (before behind : List ℕ) (k : ℕ) → 0 < k → k < 10000 → list_all other before ≡ true → All NotTen behind
     → All NotTen (before ++ (decimal k ++ behind))
 between-whole before behind k some few known rest =
     All-append NotTen before (decimal k ++ behind) (whole before known)
-        (All-append NotTen (decimal k) behind (number-whole k some few) rest)
+    (All-append NotTen (decimal k) behind (number-whole k some few) rest)
 
 pub first-whole : (k : ℕ) → 0 < k → k < 10000 → All NotTen (first_text k)
 first-whole k some few = between-whole (codes "@ Section ") (codes " adds.") k some few refl
@@ -68,12 +68,12 @@ behind-whole : (text known : List ℕ) (k : ℕ) → 0 < k → k < 10000 → All
     → All NotTen (text ++ decimal k ++ known)
 behind-whole text known k some few rest is =
     All-append NotTen (text ++ decimal k) known (All-append NotTen text (decimal k) rest (number-whole k some few))
-        (whole known is)
+    (whole known is)
 
 pub statement-whole : (k : ℕ) → 0 < k → k < 10000 → All NotTen (statement_text k)
 statement-whole k some few =
     behind-whole (codes "if (a>" ++ decimal k ++ codes ") { b+=" ++ decimal k ++ codes "; c(")
-        (codes ",a); } else while (b) b--;") k some few
+    (codes ",a); } else while (b) b--;") k some few
     (behind-whole (codes "if (a>" ++ decimal k ++ codes ") { b+=") (codes "; c(") k some few
     (behind-whole (codes "if (a>") (codes ") { b+=") k some few (whole (codes "if (a>") refl) refl) refl) refl
 
@@ -101,7 +101,7 @@ behind-short text known k room some few first =
 pub statement-short : (k : ℕ) → 0 < k → k < 10000 → length (statement_text k) ≤ 55
 statement-short k some few =
     behind-short (codes "if (a>" ++ decimal k ++ codes ") { b+=" ++ decimal k ++ codes "; c(")
-        (codes ",a); } else while (b) b--;") k 25 some few
+    (codes ",a); } else while (b) b--;") k 25 some few
     (behind-short (codes "if (a>" ++ decimal k ++ codes ") { b+=") (codes "; c(") k 17 some few
     (behind-short (codes "if (a>") (codes ") { b+=") k 6 some few (omega arith)))
 
@@ -156,7 +156,7 @@ with_lines-sample n m is =
     ap (λ (lines : List MergedLine). record { lines = lines; files = codes "sample" ∷ []; notes = [] })
     (append_assoc (sample_lines n ++ a ∷ []) (b ∷ []) (c ∷ []) ∙ append_assoc (sample_lines n) (a ∷ []) (b ∷ c ∷ [])
     ∙ (λ i. sample_lines n ++ line_of (first i) (first_text (is i)) ∷ line_of (second i) (head_text (is i))
-        ∷ line_of (third i) (statement_text (is i)) ∷ []))
+    ∷ line_of (third i) (statement_text (is i)) ∷ []))
     ∙ ap sample_web (sym is)
 
 -- The section behind so many others is there when its lines are.
@@ -166,14 +166,14 @@ pub section-added : (n : ℕ) {w0 w1 w2 w3 : WebState} {a b c : List ℕ} {p q r
     → w3 ≡ record w2 { lines = w2.lines ++ record { text = c; place = r; changed = false } ∷ [] }
     → a ≡ first_text (n + 1) → b ≡ head_text (n + 1) → c ≡ statement_text (n + 1)
     → p ≡ record { file = 0; line = 3 * n + 1 } → q ≡ record { file = 0; line = 3 * n + 2 }
-        → r ≡ record { file = 0; line = 3 * n + 3 }
+    → r ≡ record { file = 0; line = 3 * n + 3 }
     → w3 ≡ sample_web (n + 1)
 unfolding with_line
 section-added n begun one two three first head statement p q r =
     three ∙ (λ i. with_line (record { text = statement i; place = r i; changed = false }) (two i))
     ∙ (λ i. with_line (line_of (3 * n + 3) (statement_text (n + 1)))
-        (with_line (record { text = head i; place = q i; changed = false }) (one i)))
+    (with_line (record { text = head i; place = q i; changed = false }) (one i)))
     ∙ (λ i. with_line (line_of (3 * n + 3) (statement_text (n + 1)))
-        (with_line (line_of (3 * n + 2) (head_text (n + 1)))
+    (with_line (line_of (3 * n + 2) (head_text (n + 1)))
     (with_line (record { text = first i; place = p i; changed = false }) (begun i))))
-        ∙ with_lines-sample n (n + 1) (omega arith)
+    ∙ with_lines-sample n (n + 1) (omega arith)

@@ -12,7 +12,7 @@ head_text k = codes "@<Step " ++ decimal k ++ codes ".@>="
 abbrev pub statement_text : ℕ → List ℕ
 statement_text k =
     codes "if (a>" ++ decimal k ++ codes ") { b+=" ++ decimal k ++ codes "; c(" ++ decimal k
-        ++ codes ",a); } else while (b) b--;"
+    ++ codes ",a); } else while (b) b--;"
 
 abbrev pub line_of : ℕ → List ℕ → MergedLine
 line_of number text = record { text = text; place = record { file = 0; line = number }; changed = false }

@@ -113,11 +113,11 @@ pub record Applies (flags : Flags) (row : Row) (place : ℕ) (old : List (List T
 module _ (flags : Flags) (row : Row) (place : ℕ) (l0 l1 l2 l3 : List (List Token)) (line0 line1 line2 : List LineEntry)
     (reserved : Option NameId) (f : FitsAt flags row (drop place line0)) (tied : IsTied l0) (tied2 : IsTied l2)
     (e1 : scraps_of l1 line0 ≡ take place (scraps_of l0 line0) ++ reserved_at row.action.reserve
-        (drop place (scraps_of l0 line0))) (ch1 : Changes l0 l1 (roots_of line0))
-        (r : Replaces flags row place l1 line0 l2 line1)
+    (drop place (scraps_of l0 line0))) (ch1 : Changes l0 l1 (roots_of line0))
+    (r : Replaces flags row place l1 line0 l2 line1)
     (e3 : scraps_of l3 line2 ≡ take (place + row.offset + 1) (scraps_of l2 line1) ++ map (named_by reserved)
-        (drop (place + row.offset + 1) (scraps_of l2 line1))) (same : roots_of line2 ≡ roots_of line1)
-        (ch3 : Changes l2 l3 (roots_of line1))
+    (drop (place + row.offset + 1) (scraps_of l2 line1))) (same : roots_of line2 ≡ roots_of line1)
+    (ch3 : Changes l2 l3 (roots_of line1))
     (name : reserved ≡ found_name (search_in row.action.reserve (drop place (scraps_of l0 line0)))) where
   abbrev front : List Scrap
   front = take place (scraps_of l0 line0)
@@ -152,23 +152,30 @@ module _ (flags : Flags) (row : Row) (place : ℕ) (l0 l1 l2 l3 : List (List Tok
   head-length : length head ≡ place + row.offset + 1
   head-length =
       let inside : row.offset + row.replaced ≤ length (drop place line0) = f.inside in
-      omega (arith, front-length, named-length, length-append front (take row.offset named ++ new_scrap flags row named
-          ∷ []), length-append (take row.offset named) (new_scrap flags row named ∷ []), length-take row.offset named)
+      omega (
+        arith,
+        front-length,
+        named-length,
+        length-append front (take row.offset named ++ new_scrap flags row named
+            ∷ []),
+        length-append (take row.offset named) (new_scrap flags row named ∷ []),
+        length-take row.offset named,
+      )
 
   scraps-are : scraps_of l3 line2 ≡ front ++ rewrite_from flags row (drop place (scraps_of l0 line0))
   scraps-are =
       e3
       ∙ (ap (λ xs. take (place + row.offset + 1) xs ++ map (named_by reserved) (drop (place + row.offset + 1) xs))
-          replaced-is
+      replaced-is
       ∙ (ap (λ xs. xs ++ map (named_by reserved) (drop (place + row.offset + 1) (head ++ rest)))
-          (take_at head rest (place + row.offset + 1) head-length)
+      (take_at head rest (place + row.offset + 1) head-length)
       ∙ (ap (λ xs. head ++ map (named_by reserved) xs) (drop_at head rest (place + row.offset + 1) head-length)
       ∙ (ap (λ n. head ++ map (named_by n) rest) name
       ∙ (ap (λ xs. head ++ xs) (right-is (search_in row.action.reserve (drop place (scraps_of l0 line0))) rest)
       ∙ (append_assoc front (take row.offset named ++ new_scrap flags row named ∷ [])
-          (named_right (search_in row.action.reserve (drop place (scraps_of l0 line0))) rest)
+      (named_right (search_in row.action.reserve (drop place (scraps_of l0 line0))) rest)
       ∙ ap (λ xs. front ++ xs) (append_assoc (take row.offset named) (new_scrap flags row named ∷ [])
-          (named_right (search_in row.action.reserve (drop place (scraps_of l0 line0))) rest))))))))
+      (named_right (search_in row.action.reserve (drop place (scraps_of l0 line0))) rest))))))))
 
   pub applies : Applies flags row place l0 line0 l3 line2
   applies = record {
@@ -177,7 +184,7 @@ module _ (flags : Flags) (row : Row) (place : ℕ) (l0 l1 l2 l3 : List (List Tok
     keeps = rw same (keeps-trans l0 l1 l3 (roots_of line0) (roots_of line0) (roots_of line1)
         (keeps-changed l0 l1 (roots_of line0) tied ch1)
         (keeps-trans l1 l2 l3 (roots_of line0) (roots_of line1) (roots_of line1) r.keeps
-            (keeps-changed l2 l3 (roots_of line1) tied2 ch3)));
+        (keeps-changed l2 l3 (roots_of line1) tied2 ch3)));
     few =
         let more : token_count l2 ≤ token_count l1 + 24 = r.few in
         let before : token_count l1 ≡ token_count l0 = ch1.same_count in
@@ -193,7 +200,7 @@ pub ticked-is : (given reserve : Option ℕ) (line1 line2 : List LineEntry) (sta
 ticked-is given reserve line1 line2 start start' steps steps' n s same e =
     let long : length line1 ≡ length line2 = sym (length-roots line1) ∙ (ap length (sym same) ∙ length-roots line2) in
     e ∙ (ap (λ r. steps + looked_at r (length line1 - start)) n ∙ (ap (λ m. steps + looked_at reserve (m - start)) long
-        ∙ ap (λ m. steps + looked_at reserve (length line2 - m)) s))
+    ∙ ap (λ m. steps + looked_at reserve (length line2 - m)) s))
 
 -- the row of a number is the same in a table as among the productions
 pub same-row : (rows : List Row) (n : ℕ) (row : Row) → row_numbered rows n ≡ Some row → row_numbered productions n
@@ -211,8 +218,8 @@ pub reserved-there : (names : List Entry) (reserve : Option ℕ) (place : ℕ) (
     ≡ found_name (search_in reserve (drop place scraps)) → reserved ≡ Some id → id.index < length names
 reserved-there names reserve place scraps reserved id all is e =
     search-named (length names) reserve (drop place scraps) id.index
-        (All-drop (λ scrap. IsNamedBelow (length names) scrap.tree) place scraps all)
-        (some-found (search_in reserve (drop place scraps)) id (sym is ∙ e))
+    (All-drop (λ scrap. IsNamedBelow (length names) scrap.tree) place scraps all)
+    (some-found (search_in reserve (drop place scraps)) id (sym is ∙ e))
 
 pub retyped-is : (s : Search) (names : List Entry) → retyped_by (found_name s) names ≡ retyped s names
 retyped-is (Found name) names = refl
@@ -250,36 +257,44 @@ pub state-is : (flags : Flags) (row : Row) (place : ℕ) (old : List (List Token
     (marks : MarkList) (names : List Entry) (new : List (List Token)) (after : List LineEntry) (marks' : MarkList)
     (names' : List Entry) (marked : Option NameId)
     → Applies flags row place old line new after → marks'.names ≡ marks.names ++ option_to_list marked
-        → marked ≡ found_name (search_in row.action.underline (drop place (scraps_of old line)))
-        → names' ≡ retyped (search_in row.action.reserve (drop place (scraps_of old line))) names
+    → marked ≡ found_name (search_in row.action.underline (drop place (scraps_of old line)))
+    → names' ≡ retyped (search_in row.action.reserve (drop place (scraps_of old line))) names
     → state_of new after marks' names' ≡ rewrite flags row place (state_of old line marks names)
 state-is flags row place old line marks names new after marks' names' marked a m n e =
     ap (λ ss. record { scraps = ss; marks = marked_names marks'; cats = categories names' }) a.scraps
-    ∙ (ap (λ ms. record { scraps = take place (scraps_of old line)
-        ++ rewrite_from flags row (drop place (scraps_of old line)); marks = ms; cats = categories names' })
+    ∙ (ap (λ ms. record {
+      scraps = take place (scraps_of old line)
+          ++ rewrite_from flags row (drop place (scraps_of old line));
+      marks = ms;
+      cats = categories names';
+    })
     (ap (map (λ (id : NameId). id.index)) m
-        ∙ (map-append (λ (id : NameId). id.index) marks.names (option_to_list marked)
-        ∙ ap (λ xs. marked_names marks ++ xs) (ap (λ o. map (λ (id : NameId). id.index) (option_to_list o)) n
-        ∙ marks-found (search_in row.action.underline (drop place (scraps_of old line))))))
-    ∙ ap (λ cs. record { scraps = take place (scraps_of old line)
-        ++ rewrite_from flags row (drop place (scraps_of old line)); marks = marked_names marks
-        ++ found_names (search_in row.action.underline (drop place (scraps_of old line))); cats = cs })
+    ∙ (map-append (λ (id : NameId). id.index) marks.names (option_to_list marked)
+    ∙ ap (λ xs. marked_names marks ++ xs) (ap (λ o. map (λ (id : NameId). id.index) (option_to_list o)) n
+    ∙ marks-found (search_in row.action.underline (drop place (scraps_of old line))))))
+    ∙ ap (λ cs. record {
+      scraps = take place (scraps_of old line)
+          ++ rewrite_from flags row (drop place (scraps_of old line));
+      marks = marked_names marks
+          ++ found_names (search_in row.action.underline (drop place (scraps_of old line)));
+      cats = cs;
+    })
     (ap categories e ∙ categories-are (search_in row.action.reserve (drop place (scraps_of old line))) names))
 
 pub sound-after : (flags : Flags) (row : Row) (place : ℕ) (old new : StoredLists) (line after : List LineEntry)
     (names names' : List Entry) → FitsAt flags row (drop place line)
     → row_fits row (drop place (cats_of (scraps_of old.lists line))) ≡ true
     → IsSoundLine old names line → Applies flags row place old.lists line new.lists after → new.building ≡ None
-        → names' ≡ retyped (search_in row.action.reserve (drop place (scraps_of old.lists line))) names
-        → IsSoundLine new names' after
+    → names' ≡ retyped (search_in row.action.reserve (drop place (scraps_of old.lists line))) names
+    → IsSoundLine new names' after
 sound-after flags row place old new line after names names' f fits sound a idle e =
     let same : length names' ≡ length names = ap length e
-        ∙ length-retyped (search_in row.action.reserve (drop place (scraps_of old.lists line))) names in
+    ∙ length-retyped (search_in row.action.reserve (drop place (scraps_of old.lists line))) names in
     let short : place ≤ length (scraps_of old.lists line) = let h : place < length line =
-        place-inside flags row line place f in omega (arith, length-scraps old.lists line) in
+    place-inside flags row line place f in omega (arith, length-scraps old.lists line) in
     let fall : Falls flags row place (record { scraps = scraps_of old.lists line; marks = []; cats = [] }) =
-        falls flags row place (record { scraps = scraps_of old.lists line; marks = []; cats = [] }) f.is_sound fits
-        sound.fine short in
+    falls flags row place (record { scraps = scraps_of old.lists line; marks = []; cats = [] }) f.is_sound fits
+    sound.fine short in
     record {
       idle = idle;
       roots = a.roots;

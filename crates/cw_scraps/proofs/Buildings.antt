@@ -34,8 +34,10 @@ length-roots (e ∷ es) = ap suc (length-roots es)
 
 -- a list that is begun refers to nothing
 pub unreferred-begun : (lists : List (List Token)) (x : ℕ) → IsUnreferred lists x → IsUnreferred (lists ++ [] ∷ []) x
-unreferred-begun lists x free l p e = elim (refers-more lists [] l p x e) [ inl k ↦ free l p k
-    | inr k ↦ absurd (empty k.1) ]
+unreferred-begun lists x free l p e = elim (refers-more lists [] l p x e) [
+  | inl k ↦ free l p k
+  | inr k ↦ absurd (empty k.1)
+]
   where
     empty : ◌≡◌ {A = Option ℕ} None (Some x) → ⊥
     empty k = cc
@@ -44,8 +46,10 @@ unreferred-begun lists x free l p e = elim (refers-more lists [] l p x e) [ inl 
 pub unreferred-pushed : (lists : List (List Token)) (ts : List Token) (t : Token) (x : ℕ)
     → (ref_of (shape t) ≡ Some x → ⊥) → IsUnreferred (lists ++ ts ∷ []) x
     → IsUnreferred (lists ++ (ts ++ t ∷ []) ∷ []) x
-unreferred-pushed lists ts t x other free l p e = elim (pushed-ref lists ts t l p x e) [ inl k ↦ free l p k
-    | inr k ↦ other k.2 ]
+unreferred-pushed lists ts t x other free l p e = elim (pushed-ref lists ts t l p x e) [
+  | inl k ↦ free l p k
+  | inr k ↦ other k.2
+]
 
 pub unreferred-toggled : (lists : List (List Token)) (ts : List Token) (mode left : MathMode) (x : ℕ)
     → IsUnreferred (lists ++ ts ∷ []) x → IsUnreferred (lists ++ (ts ++ toggle mode left) ∷ []) x
@@ -120,7 +124,7 @@ goes k first (suc m) rest e = record { fewer = m; more_is = refl; first_is = hea
 pub joins-start : (lists : List (List Token)) (entries : List LineEntry) (pieces : List Piece) (spare : ℕ)
     (store : StoredLists) → store.lists ≡ lists → store.building ≡ Some [] → store.spare + 1 ≡ spare
     → IsRun pieces (length entries) → AreRoots lists (roots_of entries)
-        → Joins lists entries pieces spare 0 Maybe Maybe store
+    → Joins lists entries pieces spare 0 Maybe Maybe store
 joins-start lists entries pieces spare store same is spent run roots = record {
   done = [];
   is = is;
@@ -148,12 +152,12 @@ pub record JoinsMore (lists : List (List Token)) (entries : List LineEntry) (pie
 module _ (lists : List (List Token)) (entries : List LineEntry) (pieces : List Piece) (spare i : ℕ)
     (left mode : MathMode) (store : StoredLists) (j : Joins lists entries pieces spare i left mode store) (p : Piece)
     (at : drop i pieces ≡ p ∷ drop (i + 1) pieces) (roots : AreRoots lists (roots_of entries)) (place count : ℕ)
-        (long : count ≡ place + length entries) (toggled pushed : StoredLists)
+    (long : count ≡ place + length entries) (toggled pushed : StoredLists)
     (t_building : toggled.building ≡ option_map (λ tokens. tokens ++ toggle mode (inserting entries p).left)
-        store.building) (t_lists : toggled.lists ≡ store.lists) (t_spare : toggled.spare
-        + length (toggle mode (inserting entries p).left) ≡ store.spare)
+    store.building) (t_lists : toggled.lists ≡ store.lists) (t_spare : toggled.spare
+    + length (toggle mode (inserting entries p).left) ≡ store.spare)
     (p_building : pushed.building ≡ option_map (λ tokens. tokens ++ (inserting entries p).token ∷ []) toggled.building)
-        (p_lists : pushed.lists ≡ toggled.lists) (p_spare : pushed.spare + 1 ≡ toggled.spare) where
+    (p_lists : pushed.lists ≡ toggled.lists) (p_spare : pushed.spare + 1 ≡ toggled.spare) where
   abbrev ins : Insert
   ins = inserting entries p
 
@@ -174,9 +178,9 @@ module _ (lists : List (List Token)) (entries : List LineEntry) (pieces : List P
       (map (inserting entries) (drop (i + 1) pieces)) ≡ tokens_of Maybe (map (inserting entries) pieces)
   tokens-next =
       append_assoc with_toggle (ins.token ∷ []) (tokens_of (after mode ins.left ins.right)
-          (map (inserting entries) (drop (i + 1) pieces)))
+      (map (inserting entries) (drop (i + 1) pieces)))
       ∙ (append_assoc j.done (toggle mode ins.left) (ins.token ∷ tokens_of (after mode ins.left ins.right)
-          (map (inserting entries) (drop (i + 1) pieces)))
+      (map (inserting entries) (drop (i + 1) pieces)))
       ∙ (ap (λ ps. j.done ++ tokens_of mode (map (inserting entries) ps)) (sym at) ∙ j.tokens))
 
   first-first : (a b d : MathMode) → first_mode (first_mode a b) d ≡ first_mode a (first_mode b d)
@@ -200,8 +204,12 @@ module _ (lists : List (List Token)) (entries : List LineEntry) (pieces : List P
       omega (arith, length_push with_toggle ins.token, length-append j.done (toggle mode ins.left), ap length none)
   few-next (suc n) e =
       let short : length j.done ≤ 2 * i - 1 = j.few in
-      omega (arith, length_push with_toggle ins.token, length-append j.done (toggle mode ins.left),
-          toggle-short mode ins.left)
+      omega (
+        arith,
+        length_push with_toggle ins.token,
+        length-append j.done (toggle mode ins.left),
+        toggle-short mode ins.left,
+      )
 
   spent-next : pushed.spare + length (with_toggle ++ ins.token ∷ []) + 1 ≡ spare
   spent-next = let s : store.spare + length j.done + 1 ≡ spare =
@@ -241,17 +249,17 @@ module _ (lists : List (List Token)) (entries : List LineEntry) (pieces : List P
       go : Kind entries p → JoinsMore lists entries pieces spare i left mode p place count toggled pushed
       go (sign skip ref within) =
           let run : scraps_in (drop (i + 1) pieces) ≡ numbers_from j.rest.first j.rest.more =
-              sym (ap scraps_in at ∙ skip (drop (i + 1) pieces)) ∙ j.rest.run in
+          sym (ap scraps_in at ∙ skip (drop (i + 1) pieces)) ∙ j.rest.run in
           record {
             within = within place count;
             may = λ x e. absurd (none-some x (sym ref ∙ e));
             next = next-with (record { first = j.rest.first; more = j.rest.more; run = run; within = j.rest.within })
                 (λ k low high. unreferred-pushed lists with_toggle ins.token (get_or (roots_of entries) k 0)
-                    (λ e. none-some (get_or (roots_of entries) k 0) (sym ref ∙ e)) (still-free k low high));
+                (λ e. none-some (get_or (roots_of entries) k 0) (sym ref ∙ e)) (still-free k low high));
           }
       go (scrap k skip ref within) =
           let g : Goes k j.rest.first j.rest.more (scraps_in (drop (i + 1) pieces)) = goes k j.rest.first j.rest.more
-              (scraps_in (drop (i + 1) pieces)) (sym (ap scraps_in at ∙ skip (drop (i + 1) pieces)) ∙ j.rest.run) in
+          (scraps_in (drop (i + 1) pieces)) (sym (ap scraps_in at ∙ skip (drop (i + 1) pieces)) ∙ j.rest.run) in
           let first : k ≡ j.rest.first = g.first_is in
           let more : j.rest.more ≡ suc g.fewer = g.more_is in
           let all : j.rest.first + j.rest.more ≤ length entries = j.rest.within in
@@ -262,7 +270,7 @@ module _ (lists : List (List Token)) (entries : List LineEntry) (pieces : List P
             within = within place count (omega arith);
             may = λ x e.
                 let same : (get_or entries k no_entry).list.index ≡ x =
-                    some-is (get_or entries k no_entry).list.index x (sym ref ∙ e) in
+                some-is (get_or entries k no_entry).list.index x (sym ref ∙ e) in
                 let is : get_or (roots_of entries) k 0 ≡ x = root ∙ same in (
                   subst (λ y. y < length toggled.lists) is (rw (t_lists, j.same) (roots.there k in_roots)),
                   all-lists x (subst (λ y. IsUnreferred (lists ++ with_toggle ∷ []) y) is
@@ -274,7 +282,7 @@ module _ (lists : List (List Token)) (entries : List LineEntry) (pieces : List P
                 unreferred-pushed lists with_toggle ins.token (get_or (roots_of entries) m 0)
                 (λ e.
                 let same : (get_or entries k no_entry).list.index ≡ get_or (roots_of entries) m 0 =
-                    some-is (get_or entries k no_entry).list.index (get_or (roots_of entries) m 0) (sym ref ∙ e) in
+                some-is (get_or entries k no_entry).list.index (get_or (roots_of entries) m 0) (sym ref ∙ e) in
                 let twice : k ≡ m = roots.apart k m in_roots in_m (root ∙ same) in
                 omega arith)
                 (still-free m (omega arith) (omega arith)));
@@ -283,42 +291,51 @@ module _ (lists : List (List Token)) (entries : List LineEntry) (pieces : List P
 pub joins-put : (lists : List (List Token)) (entries : List LineEntry) (pieces : List Piece) (spare i : ℕ)
     (left mode : MathMode) (store : StoredLists) → Joins lists entries pieces spare i left mode store → (p : Piece)
     → drop i pieces ≡ p ∷ drop (i + 1) pieces → AreRoots lists (roots_of entries) → 2 ≤ store.spare
-        → MayBePushed (toggled mode (inserting entries p).left store) (inserting entries p).token
+    → MayBePushed (toggled mode (inserting entries p).left store) (inserting entries p).token
 joins-put lists entries pieces spare i left mode store j p at roots room =
     let short : length (toggle mode (inserting entries p).left) ≤ 1 = toggle-short mode (inserting entries p).left in
     let before : StoredLists = toggled mode (inserting entries p).left store in
-    let pushed : StoredLists = record { lists = before.lists;
-        building = option_map (λ tokens. tokens ++ (inserting entries p).token ∷ []) before.building; spare =
-        before.spare - 1 } in
+    let pushed : StoredLists = record {
+      lists = before.lists;
+      building = option_map (λ tokens. tokens ++ (inserting entries p).token ∷ []) before.building;
+      spare =
+          before.spare - 1;
+    } in
     (joins-more lists entries pieces spare i left mode store j p at roots 0 (0 + length entries) refl before pushed refl
-        refl (omega arith) refl refl (omega arith)).may
+    refl (omega arith) refl refl (omega arith)).may
 
 pub joins-next : (lists : List (List Token)) (entries : List LineEntry) (pieces : List Piece) (spare i : ℕ)
     (left mode : MathMode) (store : StoredLists) → Joins lists entries pieces spare i left mode store → (p : Piece)
     → drop i pieces ≡ p ∷ drop (i + 1) pieces → AreRoots lists (roots_of entries) → (new : StoredLists)
     → new.building ≡ option_map (λ tokens. tokens ++ (inserting entries p).token ∷ [])
-        (toggled mode (inserting entries p).left store).building → new.lists ≡ store.lists
+    (toggled mode (inserting entries p).left store).building → new.lists ≡ store.lists
     → new.spare + 1 + length (toggle mode (inserting entries p).left) ≡ store.spare
     → Joins lists entries pieces spare (i + 1) (first_mode left (inserting entries p).left)
-        (after mode (inserting entries p).left (inserting entries p).right) new
+    (after mode (inserting entries p).left (inserting entries p).right) new
 joins-next lists entries pieces spare i left mode store j p at roots new nb nl ns =
     (joins-more lists entries pieces spare i left mode store j p at roots 0 (0 + length entries) refl
-        (toggled mode (inserting entries p).left store) new refl refl (omega arith) nb nl (omega arith)).next
+    (toggled mode (inserting entries p).left store) new refl refl (omega arith) nb nl (omega arith)).next
 
 pub joins-within : (lists : List (List Token)) (entries : List LineEntry) (pieces : List Piece) (spare i : ℕ)
     (left mode : MathMode) (store : StoredLists) → Joins lists entries pieces spare i left mode store → (p : Piece)
     → drop i pieces ≡ p ∷ drop (i + 1) pieces → AreRoots lists (roots_of entries) → (place count : ℕ)
-        → count ≡ place + length entries → 2 ≤ store.spare → IsPieceWithin place count p
+    → count ≡ place + length entries → 2 ≤ store.spare → IsPieceWithin place count p
 joins-within lists entries pieces spare i left mode store j p at roots place count long room =
     let short : length (toggle mode (inserting entries p).left) ≤ 1 = toggle-short mode (inserting entries p).left in
-    let toggled : StoredLists = record { lists = store.lists;
-        building = option_map (λ tokens. tokens ++ toggle mode (inserting entries p).left) store.building; spare =
-        store.spare - length (toggle mode (inserting entries p).left) } in
-    let pushed : StoredLists = record { lists = toggled.lists;
-        building = option_map (λ tokens. tokens ++ (inserting entries p).token ∷ []) toggled.building; spare =
-        toggled.spare - 1 } in
+    let toggled : StoredLists = record {
+      lists = store.lists;
+      building = option_map (λ tokens. tokens ++ toggle mode (inserting entries p).left) store.building;
+      spare =
+          store.spare - length (toggle mode (inserting entries p).left);
+    } in
+    let pushed : StoredLists = record {
+      lists = toggled.lists;
+      building = option_map (λ tokens. tokens ++ (inserting entries p).token ∷ []) toggled.building;
+      spare =
+          toggled.spare - 1;
+    } in
     (joins-more lists entries pieces spare i left mode store j p at roots place count long toggled pushed refl refl
-        (omega arith) refl refl (omega arith)).within
+    (omega arith) refl refl (omega arith)).within
 
 -- the piece of a number
 pub piece-at : (ps : List Piece) (i : ℕ) (p : Piece) → i < length ps → slice_get ps i ≡ Some p → drop i ps

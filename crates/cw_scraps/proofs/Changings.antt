@@ -71,8 +71,11 @@ changes-trans a b d rs x y = record {
 pub changes-more : (old new : List (List Token)) (rs : List ℕ) (i : ℕ) → i < length rs
     → Changes old new (get_or rs i 0 ∷ []) → Changes old new rs
 changes-more old new rs i h ch = record {
-  others = λ k o. ch.others k (record { there = o.there; above = λ j g r. o.above i h (one j g r);
-      below = λ j g r. o.below i h (two j g r) });
+  others = λ k o. ch.others k (record {
+    there = o.there;
+    above = λ j g r. o.above i h (one j g r);
+    below = λ j g r. o.below i h (two j g r);
+  });
   same_length = ch.same_length;
   same_refs = ch.same_refs;
   same_count = ch.same_count;

@@ -39,10 +39,10 @@ pub window-line : (line : List LineEntry) (place : ℕ)
     ∷ (get_or line (place + 3) no_entry).cat ∷ [] ≡ window_of (drop place (entry_cats line))
 window-line line place =
     ap (λ i. (get_or line i no_entry).cat ∷ (get_or line (place + 1) no_entry).cat
-        ∷ (get_or line (place + 2) no_entry).cat ∷ (get_or line (place + 3) no_entry).cat ∷ []) (let e : place
-        ≡ place + 0 = omega arith in e)
+    ∷ (get_or line (place + 2) no_entry).cat ∷ (get_or line (place + 3) no_entry).cat ∷ []) (let e : place
+    ≡ place + 0 = omega arith in e)
     ∙ (rw (cat-line line place 0, cat-line line place 1, cat-line line place 2, cat-line line place 3)
-        (sym (window-four (drop place (entry_cats line)))))
+    (sym (window-four (drop place (entry_cats line)))))
 
 abbrev number_of : Option Row → Option RowNo
 number_of o = option_map (λ row. row.number) o
@@ -57,7 +57,7 @@ first-is cats (Some n) None found is = absurd cc
 first-is cats (Some n) (Some row) found is =
     let same : n ≡ row.number = cc in
     let numbered : row_numbered productions n.number ≡ Some row = ap (λ (m : RowNo). row_numbered productions m.number)
-        same ∙ (first-numbered productions 1 cats row productions-numbered found).1 in
+    same ∙ (first-numbered productions 1 cats row productions-numbered found).1 in
     let row_is : row_of productions n.number ≡ row = ap (λ (x : Option Row). unwrap_or x no_row) numbered in
     rw row_is (first-fits productions cats row found productions-sound).0
 

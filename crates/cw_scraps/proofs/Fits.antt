@@ -32,7 +32,7 @@ there row cats k sound fits tested not_end = elim (cases_lt k (length cats)) [
   | inl h ↦ h
   | inr h ↦
       let held : in_set (test row k) (get_or cats k End) ≡ true =
-          hold-at (tests_of row) cats k fits (omega (arith, length-tests_of row sound)) in
+      hold-at (tests_of row) cats k fits (omega (arith, length-tests_of row sound)) in
       absurd (differ (sym not_end ∙ (ap (in_set (test row k)) (sym (get_or_past cats k End h)) ∙ held)))
 ]
   where
@@ -103,9 +103,13 @@ place-inside flags row line place f =
 pub kept-is : (line : List LineEntry) (place k : ℕ) (cat cat' : Cat) (entry : LineEntry) → cat ≡ cat'
     → entry ≡ get_or line (place + k) no_entry
     → ◌≡◌ {A = LineEntry} (record { cat = cat; list = entry.list; left = entry.left; right = entry.right })
-        (record { cat = cat'; list = (get_or (drop place line) k no_entry).list;
-        left = (get_or (drop place line) k no_entry).left; right = (get_or (drop place line) k no_entry).right })
+    (record {
+      cat = cat';
+      list = (get_or (drop place line) k no_entry).list;
+      left = (get_or (drop place line) k no_entry).left;
+      right = (get_or (drop place line) k no_entry).right;
+    })
 kept-is line place k cat cat' entry e f =
     ap (λ (x : Cat). record { cat = x; list = entry.list; left = entry.left; right = entry.right }) e
     ∙ ap (λ (x : LineEntry). record { cat = cat'; list = x.list; left = x.left; right = x.right }) (f
-        ∙ sym (get_or-drop place line k no_entry))
+    ∙ sym (get_or-drop place line k no_entry))

@@ -83,9 +83,9 @@ replaced-behind items at gap count last e v g q some within is =
     let there : last < length items = omega arith in
     let next : last + 1 ≡ gap + (at + count - at) = omega arith in
     ap (λ us. us ++ drop last (set items last e)) (take-set-le at items last e low
-        ∙ gap-before items at gap at v g q (omega arith))
+    ∙ gap-before items at gap at v g q (omega arith))
     ∙ ap (λ us. take at v ++ us) (drop-set items last e there
-        ∙ ap (λ us. e ∷ us) (gap-behind items at gap (at + count) (last + 1) v g q (omega arith) next))
+    ∙ ap (λ us. e ∷ us) (gap-behind items at gap (at + count) (last + 1) v g q (omega arith) next))
 
 -- an entry in the place of what the gap lies over
 pub replaced-in : (items : List LineEntry) (at gap to : ℕ) (e : LineEntry) (v : List LineEntry) → at < gap
@@ -104,7 +104,7 @@ over-within items new l r to gap v g q le is same =
     let a : l ≤ r = g.order in
     let b : r ≤ length items = g.within in
     let size : length v ≡ length (take l items) + length (drop r items) = ap length (sym q)
-        ∙ length-append (take l items) (drop r items) in
+    ∙ length-append (take l items) (drop r items) in
     let first : length (take l items) ≡ l = length-take-le l items (omega arith) in
     let second : length (drop r items) ≡ length items - r = length-drop r items in
     omega arith

@@ -153,7 +153,7 @@ pub roots-replaced : (line : List LineEntry) (at n : ℕ) (made : LineEntry)
 roots-replaced line at n made =
     map-append (λ entry. entry.list.index) (take at line) (made ∷ drop n line)
     ∙ (ap (λ xs. xs ++ made.list.index ∷ map (λ entry. entry.list.index) (drop n line))
-        (sym (take-map (λ entry. entry.list.index) at line))
+    (sym (take-map (λ entry. entry.list.index) at line))
     ∙ ap (λ xs. take at (roots_of line) ++ made.list.index ∷ xs) (sym (drop-map (λ entry. entry.list.index) n line)))
 
 -- where a root takes its own place nothing changes

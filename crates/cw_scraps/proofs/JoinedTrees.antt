@@ -81,7 +81,7 @@ module _ (lists : List (List Token)) (entries : List LineEntry) where
       → Matches trees (inserting entries p) (joined_of (scraps_of lists entries) p)
   matches (piece.Scrap k) h =
       let e : get_or (scraps_of lists entries) k no_scrap ≡ seen lists (get_or entries k no_entry) =
-          seen-get lists entries k (omega arith) in
+      seen-get lists entries k (omega arith) in
       record {
         item = λ rest. ap (λ s. joined_item (as_piece s) rest) (sym e);
         left = ap (λ (s : Scrap). s.left) (sym e);
@@ -89,10 +89,10 @@ module _ (lists : List (List Token)) (entries : List LineEntry) where
       }
   matches (piece.MathScrap k) h =
       let e : get_or (scraps_of lists entries) k no_scrap ≡ seen lists (get_or entries k no_entry) =
-          seen-get lists entries k (omega arith) in
+      seen-get lists entries k (omega arith) in
       rw e (math-matches trees (ListOf (get_or entries k no_entry).list)
-          (unfolded lists (get_or entries k no_entry).list.index) (get_or entries k no_entry).left
-          (get_or entries k no_entry).right (λ rest. refl))
+      (unfolded lists (get_or entries k no_entry).list.index) (get_or entries k no_entry).left
+      (get_or entries k no_entry).right (λ rest. refl))
   matches _ h = record { item = λ rest. refl; left = refl; right = refl }
 
   -- the pieces of a run are all of the line
@@ -106,33 +106,33 @@ module _ (lists : List (List Token)) (entries : List LineEntry) where
   joint-cons : (mode : MathMode) (p : Piece) (pieces : List Piece)
       → Matches trees (inserting entries p) (joined_of (scraps_of lists entries) p)
       → Joint (after mode (left_mode (joined_of (scraps_of lists entries) p))
-          (right_mode (joined_of (scraps_of lists entries) p))) pieces → Joint mode (p ∷ pieces)
+      (right_mode (joined_of (scraps_of lists entries) p))) pieces → Joint mode (p ∷ pieces)
   joint-cons mode p pieces m rest =
       let j : Joined = joined_of (scraps_of lists entries) p in
       record {
         tree = ap (λ l. tree_in trees (toggle mode l ++ (inserting entries p).token
             ∷ tokens_of (after mode l (inserting entries p).right) (map (inserting entries) pieces))) m.left
             ∙ (ap (λ r. tree_in trees (toggle mode (left_mode (joined_of (scraps_of lists entries) p))
-                ++ (inserting entries p).token ∷ tokens_of
-                (after mode (left_mode (joined_of (scraps_of lists entries) p)) r) (map (inserting entries) pieces)))
-                m.right
+            ++ (inserting entries p).token ∷ tokens_of
+            (after mode (left_mode (joined_of (scraps_of lists entries) p)) r) (map (inserting entries) pieces)))
+            m.right
             ∙ (toggle-tree trees mode (left_mode (joined_of (scraps_of lists entries) p)) ((inserting entries p).token
-                ∷ tokens_of (after mode (left_mode (joined_of (scraps_of lists entries) p))
-                (right_mode (joined_of (scraps_of lists entries) p))) (map (inserting entries) pieces))
+            ∷ tokens_of (after mode (left_mode (joined_of (scraps_of lists entries) p))
+            (right_mode (joined_of (scraps_of lists entries) p))) (map (inserting entries) pieces))
             ∙ (ap (toggled mode (left_mode (joined_of (scraps_of lists entries) p)))
-                (m.item (tree_in trees (tokens_of (after mode (left_mode (joined_of (scraps_of lists entries) p))
-                (right_mode (joined_of (scraps_of lists entries) p))) (map (inserting entries) pieces)))
-                ∙ ap (joined_item (joined_of (scraps_of lists entries) p)) rest.tree)
+            (m.item (tree_in trees (tokens_of (after mode (left_mode (joined_of (scraps_of lists entries) p))
+            (right_mode (joined_of (scraps_of lists entries) p))) (map (inserting entries) pieces)))
+            ∙ ap (joined_item (joined_of (scraps_of lists entries) p)) rest.tree)
             ∙ cons-tree mode (joined_of (scraps_of lists entries) p)
-                (map (joined_of (scraps_of lists entries)) pieces))));
+            (map (joined_of (scraps_of lists entries)) pieces))));
         left = ap (λ l. first_mode l (left_of (map (inserting entries) pieces))) m.left
             ∙ (ap (first_mode (left_mode (joined_of (scraps_of lists entries) p))) rest.left
             ∙ cons-left (joined_of (scraps_of lists entries) p) (map (joined_of (scraps_of lists entries)) pieces));
         right = ap (λ l. right_after (after mode l (inserting entries p).right) (map (inserting entries) pieces)) m.left
             ∙ (ap (λ r. right_after (after mode (left_mode (joined_of (scraps_of lists entries) p)) r)
-                (map (inserting entries) pieces)) m.right
+            (map (inserting entries) pieces)) m.right
             ∙ (rest.right ∙ cons-right mode (joined_of (scraps_of lists entries) p)
-                (map (joined_of (scraps_of lists entries)) pieces)));
+            (map (joined_of (scraps_of lists entries)) pieces)));
       }
 
   pub joint : (mode : MathMode) (pieces : List Piece) (first more : ℕ) → scraps_in pieces ≡ numbers_from first more
@@ -146,8 +146,8 @@ module _ (lists : List (List Token)) (entries : List LineEntry) where
           (rec _ first more (sym (skip pieces) ∙ run) h)
       go (scrap k skip ref within) rec =
           let g : Goes k first more (scraps_in pieces) = goes k first more (scraps_in pieces) (sym (skip pieces)
-              ∙ run) in
+          ∙ run) in
           let at : k ≡ first = g.first_is in
           let size : more ≡ suc g.fewer = g.more_is in
           joint-cons mode p pieces (matches p (within 0 (length entries) (omega arith)))
-              (rec _ (suc first) g.fewer g.run (omega arith))
+          (rec _ (suc first) g.fewer g.run (omega arith))

@@ -33,7 +33,7 @@ use Rattle.cw_scraps.proofs.ModeLaw.{join-agrees, agrees-same, reserve-reads}
 module _ (P : Scrap → Type 0) (none : P no_scrap) (reserves : (s : Scrap) → P s → P (reserved_in s))
     (recats : (cat : Cat) (s : Scrap) → P s → P (with_cat cat s))
     (joins : (cat : Cat) (scraps : List Scrap) (pieces : List Piece) → All P scraps
-        → P (join cat (map (joined_of scraps) pieces))) where
+    → P (join cat (map (joined_of scraps) pieces))) where
   at : (scraps : List Scrap) (k : ℕ) → All P scraps → P (get_or scraps k no_scrap)
   at scraps k all = elim (cases_lt k (length scraps)) [
     | inl h ↦ all k no_scrap h
@@ -48,11 +48,15 @@ module _ (P : Scrap → Type 0) (none : P no_scrap) (reserves : (s : Scrap) → 
   in_new : (o : Option ℕ) (cat : Cat) (n : ℕ) (pieces : List Piece) (scraps : List Scrap) → alone n pieces ≡ o
       → All P scraps → P (new_from cat n pieces scraps)
   in_new (Some k) cat n pieces scraps e all = subst P
-      (sym (ap (λ (q : Option ℕ). elim q [ Some m ↦ with_cat cat (get_or scraps m no_scrap)
-      | None ↦ join cat (map (joined_of scraps) pieces) ]) e)) (recats cat (get_or scraps k no_scrap) (at scraps k all))
+      (sym (ap (λ (q : Option ℕ). elim q [
+        | Some m ↦ with_cat cat (get_or scraps m no_scrap)
+        | None ↦ join cat (map (joined_of scraps) pieces)
+      ]) e)) (recats cat (get_or scraps k no_scrap) (at scraps k all))
   in_new None cat n pieces scraps e all =
-      subst P (sym (ap (λ (q : Option ℕ). elim q [ Some m ↦ with_cat cat (get_or scraps m no_scrap)
-      | None ↦ join cat (map (joined_of scraps) pieces) ]) e)) (joins cat scraps pieces all)
+      subst P (sym (ap (λ (q : Option ℕ). elim q [
+        | Some m ↦ with_cat cat (get_or scraps m no_scrap)
+        | None ↦ join cat (map (joined_of scraps) pieces)
+      ]) e)) (joins cat scraps pieces all)
 
   in_scrap : (b : Bool) (name : ℕ) (s : Scrap) → (is_exp s.cat && is_name name (bare_name s.tree)) ≡ b → P s
       → P (named_scrap name s)
@@ -71,24 +75,24 @@ module _ (P : Scrap → Type 0) (none : P no_scrap) (reserves : (s : Scrap) → 
   keeps-all flags row place scraps all =
       let rest : All P (drop place scraps) = All-drop P place scraps all in
       let named : All P (reserved_at row.action.reserve (drop place scraps)) =
-          in_named row.action.reserve (drop place scraps) rest in
+      in_named row.action.reserve (drop place scraps) rest in
       let qs : List Scrap = reserved_at row.action.reserve (drop place scraps) in
       All-append P (take place scraps) (rewrite_from flags row (drop place scraps)) (All-take P place scraps all)
       (All-append P (take row.offset (reserved_at row.action.reserve (drop place scraps)))
-          (new_scrap flags row (reserved_at row.action.reserve (drop place scraps))
-          ∷ named_right (search_in row.action.reserve (drop place scraps))
-          (drop (row.offset + row.replaced) (reserved_at row.action.reserve (drop place scraps))))
+      (new_scrap flags row (reserved_at row.action.reserve (drop place scraps))
+      ∷ named_right (search_in row.action.reserve (drop place scraps))
+      (drop (row.offset + row.replaced) (reserved_at row.action.reserve (drop place scraps))))
       (All-take P row.offset (reserved_at row.action.reserve (drop place scraps)) named)
       (All-cons P (new_scrap flags row (reserved_at row.action.reserve (drop place scraps)))
-          (named_right (search_in row.action.reserve (drop place scraps))
-          (drop (row.offset + row.replaced) (reserved_at row.action.reserve (drop place scraps))))
+      (named_right (search_in row.action.reserve (drop place scraps))
+      (drop (row.offset + row.replaced) (reserved_at row.action.reserve (drop place scraps))))
       (in_new (alone row.replaced (row_pieces flags row (cats_of (reserved_at row.action.reserve (drop place scraps)))))
-          (result_at row.result (cats_of (reserved_at row.action.reserve (drop place scraps)))) row.replaced
-          (row_pieces flags row (cats_of (reserved_at row.action.reserve (drop place scraps))))
-          (reserved_at row.action.reserve (drop place scraps)) refl named)
+      (result_at row.result (cats_of (reserved_at row.action.reserve (drop place scraps)))) row.replaced
+      (row_pieces flags row (cats_of (reserved_at row.action.reserve (drop place scraps))))
+      (reserved_at row.action.reserve (drop place scraps)) refl named)
       (in_right (search_in row.action.reserve (drop place scraps))
-          (drop (row.offset + row.replaced) (reserved_at row.action.reserve (drop place scraps)))
-          (All-drop P (row.offset + row.replaced) (reserved_at row.action.reserve (drop place scraps)) named))))
+      (drop (row.offset + row.replaced) (reserved_at row.action.reserve (drop place scraps)))
+      (All-drop P (row.offset + row.replaced) (reserved_at row.action.reserve (drop place scraps)) named))))
 
 -- modes
 all-at : (P : Scrap → Type 0) → P no_scrap → (scraps : List Scrap) (k : ℕ) → All P scraps → P (get_or scraps k no_scrap)
@@ -165,12 +169,17 @@ piece_named n (Mark control) = Unit {0}
 
 joined-named : (n : ℕ) (m : MathMode) (js : List Joined) → All (piece_named n) js → IsNamedBelow n (joined_tree m js)
 joined-named n m [] all = tt
-joined-named n m (Whole tree l r ∷ js) all = toggled-named n m l (Sub tree (joined_tree (after m l r) js))
-    (All-head (piece_named n) (Whole tree l r) js all, joined-named n (after m l r) js
-    (All-tail (piece_named n) (Whole tree l r) js all))
+joined-named n m (Whole tree l r ∷ js) all = toggled-named n m l (Sub tree (joined_tree (after m l r) js)) (
+  All-head (piece_named n) (Whole tree l r) js all,
+  joined-named n (after m l r) js
+      (All-tail (piece_named n) (Whole tree l r) js all),
+)
 joined-named n m (Mark c ∷ js) all = toggled-named n m (needs c)
-    (Then (Sign c) (joined_tree (after m (needs c) (needs c)) js)) (tt, joined-named n (after m (needs c) (needs c)) js
-    (All-tail (piece_named n) (Mark c) js all))
+    (Then (Sign c) (joined_tree (after m (needs c) (needs c)) js)) (
+      tt,
+      joined-named n (after m (needs c) (needs c)) js
+          (All-tail (piece_named n) (Mark c) js all),
+    )
 
 math-named : (n : ℕ) (tree : Tree) (l r : MathMode) → IsNamedBelow n tree → piece_named n (math_piece tree l r)
 math-named n tree Maybe Maybe h = h
@@ -194,7 +203,7 @@ keeps-named n flags row place scraps all = keeps-all (λ s. IsNamedBelow n s.tre
     (λ s h. reserve-named n s.tree h)
     (λ cat s h. h)
     (λ cat ss pieces h. joined-named n Maybe (map (joined_of ss) pieces) (All-map (piece_named n) (joined_of ss) pieces
-        (λ k d lt. named-piece n ss (get_or pieces k d) h)))
+    (λ k d lt. named-piece n ss (get_or pieces k d) h)))
     flags row place scraps all
 
 -- the first identifier of a tree is one of its names
@@ -222,10 +231,16 @@ or-found Nothing t name e = inr e
 
 pub found-named : (n : ℕ) (t : Tree) (name : ℕ) → IsNamedBelow n t → first_ident t ≡ Found name → name < n
 found-named n Empty name h e = absurd (let k : Nothing ≡ Found name = e in cc)
-found-named n (Then leaf rest) name h e = elim (or-found (search_leaf leaf) (first_ident rest) name e) [ inl k ↦
-    leaf-found n leaf name h.0 k | inr k ↦ found-named n rest name h.1 k ]
-found-named n (Sub tree rest) name h e = elim (or-found (first_ident tree) (first_ident rest) name e) [ inl k ↦
-    found-named n tree name h.0 k | inr k ↦ found-named n rest name h.1 k ]
+found-named n (Then leaf rest) name h e = elim (or-found (search_leaf leaf) (first_ident rest) name e) [
+  | inl k ↦
+      leaf-found n leaf name h.0 k
+  | inr k ↦ found-named n rest name h.1 k
+]
+found-named n (Sub tree rest) name h e = elim (or-found (first_ident tree) (first_ident rest) name e) [
+  | inl k ↦
+      found-named n tree name h.0 k
+  | inr k ↦ found-named n rest name h.1 k
+]
 found-named n (Inner tree rest) name h e = found-named n rest name h.1 e
 
 pub search-named : (n : ℕ) (named : Option ℕ) (scraps : List Scrap) (name : ℕ) → All (λ s. IsNamedBelow n s.tree) scraps

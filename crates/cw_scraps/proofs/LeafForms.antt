@@ -45,22 +45,22 @@ pub word-has : (k : TokKind) (text : List ℕ) (hash : Bool) (number : ℕ) (nam
     (own c : Cat) (leaf : Leaf) (old new : List (List Token)) → k ≡ kind.Identifier → name.index
     ≡ place_of ident_kind text names → names' ≡ with_entry ident_kind text names
     → option_map (λ entry. entry.category) (slice_get names' name.index) ≡ Some own → c ≡ word_cat hash text own
-        → HasForm (word_form c name number) leaf old new
-        → IfSome (token_form k text hash number names) (λ form. HasForm form leaf old new)
+    → HasForm (word_form c name number) leaf old new
+    → IfSome (token_form k text hash number names) (λ form. HasForm form leaf old new)
 word-has k text hash number names names' name own c leaf old new is at grown value cat_is has =
     let same_name : name ≡ record { index = place_of ident_kind text names } = ap (λ i. record { index = i }) at in
     let same_own : own_cat (with_entry ident_kind text names) (place_of ident_kind text names) ≡ own =
     ap (λ o. unwrap_or o cat.Exp) (ap (λ es. option_map (λ entry. entry.category)
-        (slice_get es (place_of ident_kind text names))) (sym grown)
-        ∙ (ap (λ i. option_map (λ entry. entry.category) (slice_get names' i)) (sym at) ∙ value)) in
+    (slice_get es (place_of ident_kind text names))) (sym grown)
+    ∙ (ap (λ i. option_map (λ entry. entry.category) (slice_get names' i)) (sym at) ∙ value)) in
     let form : word_form c name number ≡ word_form
-        (word_cat hash text (own_cat (with_entry ident_kind text names) (place_of ident_kind text names)))
-        (record { index = place_of ident_kind text names }) number =
+    (word_cat hash text (own_cat (with_entry ident_kind text names) (place_of ident_kind text names)))
+    (record { index = place_of ident_kind text names }) number =
     ap (λ x. word_form x name number) (cat_is ∙ ap (word_cat hash text) (sym same_own))
-        ∙ ap (λ x. word_form (word_cat hash text (own_cat (with_entry ident_kind text names)
-        (place_of ident_kind text names))) x number) same_name in
+    ∙ ap (λ x. word_form (word_cat hash text (own_cat (with_entry ident_kind text names)
+    (place_of ident_kind text names))) x number) same_name in
     subst (λ q. IfSome (token_form q text hash number names) (λ form. HasForm form leaf old new)) (sym is)
-        (subst (λ x. HasForm x leaf old new) form has)
+    (subst (λ x. HasForm x leaf old new) form has)
 
 -- tokens that refer to no list
 abbrev IsPlain : List Token → Type 0
@@ -210,14 +210,14 @@ leaf-roots old ts line made tied roots plain is =
     let rs : List ℕ = roots_of line in
     let n : ℕ = length (roots_of line) in
     let same : roots_of (line ++ made ∷ []) ≡ spliced (roots_of line) (length (roots_of line)) (length (roots_of line))
-        (length old) =
+    (length old) =
     map-append (λ entry. entry.list.index) line (made ∷ [])
     ∙ (ap (λ x. roots_of line ++ x ∷ []) is
     ∙ (ap (λ xs. xs ++ length old ∷ []) (sym (take_all (length (roots_of line)) (roots_of line) (omega arith)))
     ∙ ap (λ xs. take (length (roots_of line)) (roots_of line) ++ length old ∷ xs)
-        (sym (drop_all (length (roots_of line)) (roots_of line) (omega arith))))) in
+    (sym (drop_all (length (roots_of line)) (roots_of line) (omega arith))))) in
     rw same (grown-roots old ts (roots_of line) (length (roots_of line)) (length (roots_of line)) (omega arith)
-        (omega arith) tied roots (λ p x e. absurd (plain p x e)))
+    (omega arith) tied roots (λ p x e. absurd (plain p x e)))
 
 pub leaf-sound : (form : LeafForm) (leaf : Leaf) (old new : StoredLists) (names names' : List Entry)
     (line : List LineEntry) → IsGood (length names') form → HasForm form leaf old.lists new.lists → IsTied old.lists
@@ -225,14 +225,14 @@ pub leaf-sound : (form : LeafForm) (leaf : Leaf) (old new : StoredLists) (names 
     → IsSoundLine old names line → IsSoundLine new names' (line ++ entry_of leaf ∷ [])
 leaf-sound form leaf old new names names' line good has tied idle more sound =
     let before : scraps_of new.lists line ≡ scraps_of old.lists line = seen-line old.lists new.lists line
-        (λ k h. ap (λ ls. unfolded ls k) has.lists ∙ unfolded-old old.lists form.tokens k h)
-        (λ i h. entry-there old.lists line i sound.roots h) in
+    (λ k h. ap (λ ls. unfolded ls k) has.lists ∙ unfolded-old old.lists form.tokens k h)
+    (λ i h. entry-there old.lists line i sound.roots h) in
     let tree : unfolded new.lists leaf.list.index ≡ tree_in (trees_from [] old.lists) form.tokens =
-        ap (unfolded new.lists) has.list ∙ (ap (λ ls. unfolded ls (length old.lists)) has.lists
-        ∙ unfolded-new old.lists form.tokens) in
+    ap (unfolded new.lists) has.list ∙ (ap (λ ls. unfolded ls (length old.lists)) has.lists
+    ∙ unfolded-new old.lists form.tokens) in
     let all : scraps_of new.lists (line ++ entry_of leaf ∷ [])
-        ≡ scraps_of old.lists line ++ seen new.lists (entry_of leaf) ∷ [] = map-append (seen new.lists) line
-        (entry_of leaf ∷ []) ∙ ap (λ ss. ss ++ seen new.lists (entry_of leaf) ∷ []) before in
+    ≡ scraps_of old.lists line ++ seen new.lists (entry_of leaf) ∷ [] = map-append (seen new.lists) line
+    (entry_of leaf ∷ []) ∙ ap (λ ss. ss ++ seen new.lists (entry_of leaf) ∷ []) before in
     let none : (P : Scrap → Type 0) → All P [] = λ P k d h. absurd (omega arith) in
     record {
       idle = idle;
@@ -241,11 +241,11 @@ leaf-sound form leaf old new names names' line good has tied idle more sound =
           (seen new.lists (entry_of leaf) ∷ []) (λ k d h. more-named (length names) (length names')
           (get_or (scraps_of old.lists line) k d).tree more (sound.named k d h))
           (All-cons (λ s. IsNamedBelow (length names') s.tree) (seen new.lists (entry_of leaf)) []
-              (rw tree (good.named (trees_from [] old.lists))) (none (λ s. IsNamedBelow (length names') s.tree))));
+          (rw tree (good.named (trees_from [] old.lists))) (none (λ s. IsNamedBelow (length names') s.tree))));
       modes = rw all (All-append scrap_agrees (scraps_of old.lists line) (seen new.lists (entry_of leaf) ∷ [])
           sound.modes
           (All-cons scrap_agrees (seen new.lists (entry_of leaf)) []
-              (rw (tree, has.left, has.right) (good.agrees (trees_from [] old.lists))) (none scrap_agrees)));
+          (rw (tree, has.left, has.right) (good.agrees (trees_from [] old.lists))) (none scrap_agrees)));
       fine = ap (list_all is_fine) all ∙ all-append is_fine (scraps_of old.lists line) (seen new.lists (entry_of leaf)
           ∷ []) sound.fine (one (ap (λ c. fine_with c (bare_name (unfolded new.lists leaf.list.index))) has.cat
           ∙ (ap (λ t. fine_with form.cat (bare_name t)) tree ∙ good.fine (trees_from [] old.lists))));

@@ -179,12 +179,12 @@ join-agrees (Whole tree l r ∷ js) all = go (told l) (join-agrees js (All-tail 
         let f : FromTold r js = from-told r js w.told (All-tail piece_agrees (Whole tree l r) js all) in
         let next : after Maybe l r ≡ r = after-told Maybe l r tl in
         rw (first-told l (joined_left js) tl, next) (agrees-told (Sub tree (joined_tree r js)) l (joined_right r js) tl
-            f.told_right (ap (λ o. leads_on o (reads (joined_tree r js))) w.reading ∙ f.reading))
+        f.told_right (ap (λ o. leads_on o (reads (joined_tree r js))) w.reading ∙ f.reading))
     go (is_maybe e) rec =
         let h : Agrees tree Maybe r = subst (λ n. Agrees tree n r) e here in
         rw e (agrees-same (Sub tree (joined_tree Maybe js)) (joined_tree Maybe js) (joined_left js)
-            (joined_right Maybe js) (λ m. ap (λ o. leads_on o (reads (joined_tree Maybe js))) (maybe-reads tree r h m))
-            rec)
+        (joined_right Maybe js) (λ m. ap (λ o. leads_on o (reads (joined_tree Maybe js))) (maybe-reads tree r h m))
+        rec)
 join-agrees (Mark c ∷ js) all = go (needs c) refl (told (needs c))
     (join-agrees js (All-tail piece_agrees (Mark c) js all))
   where
@@ -196,12 +196,12 @@ join-agrees (Mark c ∷ js) all = go (needs c) refl (told (needs c))
     go n e (is_told tn) rec =
         let f : FromTold n js = from-told n js tn (All-tail piece_agrees (Mark c) js all) in
         rw (e, first-told n (joined_left js) tn, after-told Maybe n n tn)
-            (agrees-told (Then (Sign c) (joined_tree n js)) n (joined_right n js) tn f.told_right
-            (ap (λ o. leads_on o (reads (joined_tree n js))) (steady-reads c n here e tn) ∙ f.reading))
+        (agrees-told (Then (Sign c) (joined_tree n js)) n (joined_right n js) tn f.told_right
+        (ap (λ o. leads_on o (reads (joined_tree n js))) (steady-reads c n here e tn) ∙ f.reading))
     go n e (is_maybe d) rec =
         rw (e, d) (agrees-same (Then (Sign c) (joined_tree Maybe js)) (joined_tree Maybe js) (joined_left js)
-            (joined_right Maybe js) (λ m. ap (λ o. leads_on o (reads (joined_tree Maybe js))) (here m
-            ∙ ap (λ k. stays k m) (e ∙ d))) rec)
+        (joined_right Maybe js) (λ m. ap (λ o. leads_on o (reads (joined_tree Maybe js))) (here m
+        ∙ ap (λ k. stays k m) (e ∙ d))) rec)
 
 -- an identifier and a reserved word need no mode
 reserved-leaf-reads : (leaf : Leaf) (m : MathMode) → reads_leaf (reserved_leaf leaf) m ≡ reads_leaf leaf m

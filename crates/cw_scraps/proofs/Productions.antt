@@ -42,18 +42,22 @@ cats-same lists (e ∷ entries) = ap (λ cs. e.cat ∷ cs) (cats-same lists entr
 
 new-kept : (cat : Cat) (n : ℕ) (pieces : List Piece) (scraps : List Scrap) (k : ℕ) → alone n pieces ≡ Some k
     → new_from cat n pieces scraps ≡ with_cat cat (get_or scraps k no_scrap)
-new-kept cat n pieces scraps k e = ap (λ (o : Option ℕ). elim o [ Some m ↦ with_cat cat (get_or scraps m no_scrap)
-    | None ↦ join cat (map (joined_of scraps) pieces) ]) e
+new-kept cat n pieces scraps k e = ap (λ (o : Option ℕ). elim o [
+  | Some m ↦ with_cat cat (get_or scraps m no_scrap)
+  | None ↦ join cat (map (joined_of scraps) pieces)
+]) e
 
 new-joined : (cat : Cat) (n : ℕ) (pieces : List Piece) (scraps : List Scrap) → alone n pieces ≡ None
     → new_from cat n pieces scraps ≡ join cat (map (joined_of scraps) pieces)
-new-joined cat n pieces scraps e = ap (λ (o : Option ℕ). elim o [ Some m ↦ with_cat cat (get_or scraps m no_scrap)
-    | None ↦ join cat (map (joined_of scraps) pieces) ]) e
+new-joined cat n pieces scraps e = ap (λ (o : Option ℕ). elim o [
+  | Some m ↦ with_cat cat (get_or scraps m no_scrap)
+  | None ↦ join cat (map (joined_of scraps) pieces)
+]) e
 
 same-scrap : (cat cat' : Cat) (tree tree' : Tree) (left left' right right' : MathMode) → cat ≡ cat' → tree ≡ tree'
     → left ≡ left' → right ≡ right'
     → ◌≡◌ {A = Scrap} (record { cat = cat; tree = tree; left = left; right = right })
-        (record { cat = cat'; tree = tree'; left = left'; right = right' })
+    (record { cat = cat'; tree = tree'; left = left'; right = right' })
 same-scrap cat cat' tree tree' left left' right right' a b d e =
     ap (λ x. record { cat = x; tree = tree; left = left; right = right }) a
     ∙ (ap (λ x. record { cat = cat'; tree = x; left = left; right = right }) b
@@ -70,29 +74,31 @@ module _ (flags : Flags) (row : Row) (entries : List LineEntry) (f : FitsAt flag
       ∙ (ap (seen old.lists) is
       ∙ (ap (λ s. with_cat (result_at row.result (entry_cats entries)) s) (sym (seen-get old.lists entries k inside))
       ∙ (sym (new-kept (result_at row.result (entry_cats entries)) row.replaced (pieces_at flags row entries)
-          (scraps_of old.lists entries) k a)
+      (scraps_of old.lists entries) k a)
       ∙ ap (λ cs. new_from (result_at row.result cs) row.replaced (row_pieces flags row cs)
-          (scraps_of old.lists entries)) (sym (cats-same old.lists entries)))))
+      (scraps_of old.lists entries)) (sym (cats-same old.lists entries)))))
   made-seen old new made (joined a grown idle spent cat list left right) =
       let j : Joint old.lists entries Maybe (pieces_at flags row entries) =
-          joint old.lists entries Maybe (pieces_at flags row entries) row.offset row.replaced f.run f.inside in
+      joint old.lists entries Maybe (pieces_at flags row entries) row.offset row.replaced f.run f.inside in
       same-scrap made.cat (result_at row.result (entry_cats entries)) (unfolded new.lists made.list.index) _ made.left _
-          made.right _ cat
+      made.right _ cat
       (ap (unfolded new.lists) list ∙ (ap (λ ls. unfolded ls (length old.lists)) grown
-          ∙ (unfolded-new old.lists (tokens_of Maybe (map (inserting entries) (pieces_at flags row entries)))
-          ∙ j.tree)))
+      ∙ (unfolded-new old.lists (tokens_of Maybe (map (inserting entries) (pieces_at flags row entries)))
+      ∙ j.tree)))
       (left ∙ j.left) (right ∙ j.right)
       ∙ (sym (new-joined (result_at row.result (entry_cats entries)) row.replaced (pieces_at flags row entries)
-          (scraps_of old.lists entries) a)
+      (scraps_of old.lists entries) a)
       ∙ ap (λ cs. new_from (result_at row.result cs) row.replaced (row_pieces flags row cs)
-          (scraps_of old.lists entries)) (sym (cats-same old.lists entries)))
+      (scraps_of old.lists entries)) (sym (cats-same old.lists entries)))
 
   -- the lists that were there stay
   pub made-old : (old new : StoredLists) (made : LineEntry) → IsMade flags row entries old new made → (k : ℕ)
       → k < length old.lists → (unfolded new.lists k ≡ unfolded old.lists k)
       × (get_or new.lists k [] ≡ get_or old.lists k [])
-  made-old old new made (kept n a same is) k h = (ap (λ (s : StoredLists). unfolded s.lists k) same,
-      ap (λ (s : StoredLists). get_or s.lists k []) same)
+  made-old old new made (kept n a same is) k h = (
+    ap (λ (s : StoredLists). unfolded s.lists k) same,
+    ap (λ (s : StoredLists). get_or s.lists k []) same,
+  )
   made-old old new made (joined a grown idle spent cat list left right) k h = (
     ap (λ ls. unfolded ls k) grown ∙ unfolded-old old.lists
         (tokens_of Maybe (map (inserting entries) (pieces_at flags row entries))) k h,
@@ -105,9 +111,12 @@ tokens-most : (mode : MathMode) (inserts : List Insert) → length (tokens_of mo
 tokens-most mode [] = omega arith
 tokens-most mode (i ∷ inserts) =
     let fewer : length (tokens_of (after mode i.left i.right) inserts) ≤ 2 * length inserts =
-        tokens-most (after mode i.left i.right) inserts in
-    omega (arith, length-append (toggle mode i.left) (i.token ∷ tokens_of (after mode i.left i.right) inserts),
-        toggle-short mode i.left)
+    tokens-most (after mode i.left i.right) inserts in
+    omega (
+      arith,
+      length-append (toggle mode i.left) (i.token ∷ tokens_of (after mode i.left i.right) inserts),
+      toggle-short mode i.left,
+    )
 
 -- a new scrap takes at most 24 tokens, since a row has at most twelve pieces
 few-more : (flags : Flags) (row : Row) (entries : List LineEntry) (old new : StoredLists) (made : LineEntry)
@@ -119,13 +128,13 @@ few-more flags row entries old new made f (kept k a same is) =
 few-more flags row entries old new made f (joined a grown idle spent cat list left right) =
     let twelve : length (pieces_at flags row entries) ≤ 12 = f.few in
     let long : length (map (inserting entries) (pieces_at flags row entries)) ≡ length (pieces_at flags row entries) =
-        length-map (pieces_at flags row entries) (inserting entries) in
+    length-map (pieces_at flags row entries) (inserting entries) in
     let most : length (tokens_of Maybe (map (inserting entries) (pieces_at flags row entries))) ≤ 2
-        * length (map (inserting entries) (pieces_at flags row entries)) =
-        tokens-most Maybe (map (inserting entries) (pieces_at flags row entries)) in
+    * length (map (inserting entries) (pieces_at flags row entries)) =
+    tokens-most Maybe (map (inserting entries) (pieces_at flags row entries)) in
     let e : token_count new.lists ≡ token_count old.lists
-        + length (tokens_of Maybe (map (inserting entries) (pieces_at flags row entries))) = ap token_count grown
-        ∙ sum_by_push length old.lists (tokens_of Maybe (map (inserting entries) (pieces_at flags row entries))) in
+    + length (tokens_of Maybe (map (inserting entries) (pieces_at flags row entries))) = ap token_count grown
+    ∙ sum_by_push length old.lists (tokens_of Maybe (map (inserting entries) (pieces_at flags row entries))) in
     omega arith
 
 pub seen-line : (old new : List (List Token)) (line : List LineEntry)
@@ -148,13 +157,13 @@ pub drop-there : (lists : List (List Token)) (line : List LineEntry) (place : �
     → AreRoots lists (roots_of (drop place line))
 drop-there lists line place r =
     let e : roots_of (drop place line) ≡ drop place (roots_of line) =
-        sym (drop-map (λ entry. entry.list.index) place line) in
+    sym (drop-map (λ entry. entry.list.index) place line) in
     rw e (record {
       there = λ i h. rw (get_or-drop place (roots_of line) i 0) (r.there (place + i) (in_all i h));
       free = λ i h. rw (get_or-drop place (roots_of line) i 0) (r.free (place + i) (in_all i h));
       apart = λ i j hi hj q.
           let s : place + i ≡ place + j = r.apart (place + i) (place + j) (in_all i hi) (in_all j hj)
-              (sym (get_or-drop place (roots_of line) i 0) ∙ (q ∙ get_or-drop place (roots_of line) j 0)) in
+          (sym (get_or-drop place (roots_of line) i 0) ∙ (q ∙ get_or-drop place (roots_of line) j 0)) in
           omega arith;
     })
   where
@@ -190,23 +199,28 @@ module _ (flags : Flags) (row : Row) (place : ℕ) (line : List LineEntry) (old 
       let three : place + row.offset + row.replaced ≡ place + (row.offset + row.replaced) = omega arith in
       map-append (seen new.lists) (take at line) (made ∷ drop (at + row.replaced) line)
       ∙ (ap (λ xs. xs ++ seen new.lists made ∷ map (seen new.lists) (drop (at + row.replaced) line))
-          (sym (take-map (seen new.lists) at line)
-          ∙ (ap (take at) same-line ∙ take-add (scraps_of old.lists line) place row.offset))
+      (sym (take-map (seen new.lists) at line)
+      ∙ (ap (take at) same-line ∙ take-add (scraps_of old.lists line) place row.offset))
       ∙ (ap (λ xs. (take place (scraps_of old.lists line) ++ take row.offset (drop place (scraps_of old.lists line)))
-          ++ seen new.lists made ∷ xs) (sym (drop-map (seen new.lists) (at + row.replaced) line)
-          ∙ (ap (drop (at + row.replaced)) same-line ∙ (ap (λ n. drop n (scraps_of old.lists line)) three
-          ∙ sym (drop-drop (row.offset + row.replaced) place (scraps_of old.lists line)))))
+      ++ seen new.lists made ∷ xs) (sym (drop-map (seen new.lists) (at + row.replaced) line)
+      ∙ (ap (drop (at + row.replaced)) same-line ∙ (ap (λ n. drop n (scraps_of old.lists line)) three
+      ∙ sym (drop-drop (row.offset + row.replaced) place (scraps_of old.lists line)))))
       ∙ (ap (λ s. (take place (scraps_of old.lists line) ++ take row.offset (drop place (scraps_of old.lists line)))
-          ++ s ∷ drop (row.offset + row.replaced) (drop place (scraps_of old.lists line)))
-          (made-seen flags row (drop place line) f old new made is_made
-          ∙ ap (new_scrap flags row) (sym (drop-map (seen old.lists) place line)))
+      ++ s ∷ drop (row.offset + row.replaced) (drop place (scraps_of old.lists line)))
+      (made-seen flags row (drop place line) f old new made is_made
+      ∙ ap (new_scrap flags row) (sym (drop-map (seen old.lists) place line)))
       ∙ append_assoc (take place (scraps_of old.lists line)) (take row.offset (drop place (scraps_of old.lists line)))
-          (new_scrap flags row (drop place (scraps_of old.lists line)) ∷ drop (row.offset + row.replaced)
-          (drop place (scraps_of old.lists line))))))
+      (new_scrap flags row (drop place (scraps_of old.lists line)) ∷ drop (row.offset + row.replaced)
+      (drop place (scraps_of old.lists line))))))
 
   count-is : length result + row.replaced ≡ length line + 1
-  count-is = omega (arith, long, length-append (take at line) (made ∷ drop (at + row.replaced) line),
-      length-take at line, length-drop (at + row.replaced) line)
+  count-is = omega (
+    arith,
+    long,
+    length-append (take at line) (made ∷ drop (at + row.replaced) line),
+    length-take at line,
+    length-drop (at + row.replaced) line,
+  )
 
   -- the roots of the new line
   pub record NewRoots : Type 0 where
@@ -221,11 +235,11 @@ module _ (flags : Flags) (row : Row) (place : ℕ) (line : List LineEntry) (old 
       let k_is : k ≡ row.offset = (f.kept_at k a).1 in
       let in_line : at < length (roots_of line) = omega (arith, long, length-roots line) in
       let here : made.list.index ≡ get_or (roots_of line) at 0 = is
-          ∙ (ap (λ (e : LineEntry). e.list.index) (get_or-drop place line k no_entry)
-          ∙ (ap (λ n. (get_or line (place + n) no_entry).list.index) k_is ∙ sym (root-entry line at))) in
+      ∙ (ap (λ (e : LineEntry). e.list.index) (get_or-drop place line k no_entry)
+      ∙ (ap (λ n. (get_or line (place + n) no_entry).list.index) k_is ∙ sym (root-entry line at))) in
       let all : roots_of result ≡ roots_of line = roots-replaced line at (at + row.replaced) made
-          ∙ (ap (λ n. spliced (roots_of line) at (at + n) made.list.index) one
-          ∙ same-spliced (roots_of line) at made.list.index in_line here) in
+      ∙ (ap (λ n. spliced (roots_of line) at (at + n) made.list.index) one
+      ∙ same-spliced (roots_of line) at made.list.index in_line here) in
       record {
         are = rw (all, same) roots;
         outside = λ m o. rw (all, same) o;
@@ -240,7 +254,7 @@ module _ (flags : Flags) (row : Row) (place : ℕ) (line : List LineEntry) (old 
       let ordered : at ≤ at + row.replaced = omega arith in
       let fits : at + row.replaced ≤ length (roots_of line) = omega (arith, long, length-roots line) in
       let all : roots_of result ≡ spliced (roots_of line) at (at + row.replaced) (length old.lists) =
-          roots-replaced line at (at + row.replaced) made ∙ ap (spliced (roots_of line) at (at + row.replaced)) list in
+      roots-replaced line at (at + row.replaced) made ∙ ap (spliced (roots_of line) at (at + row.replaced)) list in
       record {
         are = rw (all, grown) (grown-roots old.lists
             (tokens_of Maybe (map (inserting (drop place line)) (pieces_at flags row (drop place line))))
@@ -258,7 +272,7 @@ module _ (flags : Flags) (row : Row) (place : ℕ) (line : List LineEntry) (old 
           (pieces_at flags row (drop place line)))) p) ≡ Some x → FromRoot (roots_of line) at (at + row.replaced) x
       refs p x e =
           let s : FromScrap (drop place line) row.offset row.replaced x = tokens-ref (drop place line) Maybe
-              (pieces_at flags row (drop place line)) row.offset row.replaced p x f.run e in
+          (pieces_at flags row (drop place line)) row.offset row.replaced p x f.run e in
           let a : row.offset ≤ s.number = s.low in
           let b : s.number < row.offset + row.replaced = s.high in
           record {

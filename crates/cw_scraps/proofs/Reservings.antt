@@ -37,16 +37,16 @@ entry-there lists line i r h = subst (λ n. n < length lists) (root-entry line i
 pub seen-other : (old new : List (List Token)) (line : List LineEntry) (i m : ℕ) → IsTied old
     → AreRoots old (roots_of line) → i < length line → m < length line → (m ≡ i → ⊥)
     → Changes old new ((get_or line i no_entry).list.index ∷ []) → seen new (get_or line m no_entry)
-        ≡ seen old (get_or line m no_entry)
+    ≡ seen old (get_or line m no_entry)
 seen-other old new line i m tied roots hi hm apart ch =
     let ri : i < length (roots_of line) = omega (arith, length-roots line) in
     let rm : m < length (roots_of line) = omega (arith, length-roots line) in
     let out : IsOutside old (get_or (roots_of line) i 0 ∷ []) (get_or (roots_of line) m 0) =
-        root-outside old (roots_of line) i m tied roots ri rm apart in
+    root-outside old (roots_of line) i m tied roots ri rm apart in
     let ch2 : Changes old new (get_or (roots_of line) i 0 ∷ []) =
-        subst (λ n. Changes old new (n ∷ [])) (sym (root-entry line i)) ch in
+    subst (λ n. Changes old new (n ∷ [])) (sym (root-entry line i)) ch in
     seen-same old new (get_or line m no_entry) (subst (λ n. unfolded new n ≡ unfolded old n) (root-entry line m)
-        (trees-outside old new (get_or (roots_of line) i 0 ∷ []) (get_or (roots_of line) m 0) tied ch2 out))
+    (trees-outside old new (get_or (roots_of line) i 0 ∷ []) (get_or (roots_of line) m 0) tied ch2 out))
 
 pub changes-line : (old new : List (List Token)) (line : List LineEntry) (i : ℕ) → i < length line
     → Changes old new ((get_or line i no_entry).list.index ∷ []) → Changes old new (roots_of line)
@@ -67,23 +67,32 @@ pub reserve-scraps : (old new : List (List Token)) (line : List LineEntry) (plac
     → scraps_of new line ≡ take place (scraps_of old line) ++ reserved_at (Some k) (drop place (scraps_of old line))
 reserve-scraps old new line place k tied roots h r =
     ext_get_or no_scrap (scraps_of new line) (set (scraps_of old line) (place + k)
-        (reserved_in (get_or (scraps_of old line) (place + k) no_scrap))) len each
+    (reserved_in (get_or (scraps_of old line) (place + k) no_scrap))) len each
     ∙ (set-behind (scraps_of old line) place k (reserved_in (get_or (scraps_of old line) (place + k) no_scrap))
-        (omega (arith, length-scraps old line))
+    (omega (arith, length-scraps old line))
     ∙ ap (λ s. take place (scraps_of old line) ++ set (drop place (scraps_of old line)) k (reserved_in s))
-        (sym (get_or-drop place (scraps_of old line) k no_scrap)))
+    (sym (get_or-drop place (scraps_of old line) k no_scrap)))
   where
     len : length (scraps_of new line)
         ≡ length (set (scraps_of old line) (place + k) (reserved_in (get_or (scraps_of old line) (place + k) no_scrap)))
-    len = omega (arith, length-scraps old line, length-scraps new line, length-set (scraps_of old line) (place + k)
-        (reserved_in (get_or (scraps_of old line) (place + k) no_scrap)))
+    len = omega (
+      arith,
+      length-scraps old line,
+      length-scraps new line,
+      length-set (scraps_of old line) (place + k)
+          (reserved_in (get_or (scraps_of old line) (place + k) no_scrap)),
+    )
 
     here : get_or (scraps_of new line) (place + k) no_scrap
         ≡ reserved_in (get_or (scraps_of old line) (place + k) no_scrap)
     here =
         seen-get new line (place + k) h
-        ∙ (ap (λ t. record { cat = (get_or line (place + k) no_entry).cat; tree = t;
-            left = (get_or line (place + k) no_entry).left; right = (get_or line (place + k) no_entry).right }) r.tree
+        ∙ (ap (λ t. record {
+          cat = (get_or line (place + k) no_entry).cat;
+          tree = t;
+          left = (get_or line (place + k) no_entry).left;
+          right = (get_or line (place + k) no_entry).right;
+        }) r.tree
         ∙ ap reserved_in (sym (seen-get old line (place + k) h)))
 
     each : (i : ℕ) → i < length (scraps_of new line) → get_or (scraps_of new line) i no_scrap
@@ -128,7 +137,7 @@ module _ (name : Option NameId) (old_lists : List (List Token)) (old : List Line
   pub turns-more : start ≤ i → i < length old → (new : List (List Token)) (entry : LineEntry) → seen new entry
       ≡ named_by name (seen lists (get_or line i no_entry)) → entry.list ≡ (get_or line i no_entry).list
       → Changes lists new ((get_or line i no_entry).list.index ∷ [])
-          → Turns name old_lists old start (i + 1) new (set line i entry)
+      → Turns name old_lists old start (i + 1) new (set line i entry)
   turns-more low h new entry is same ch = record {
     done = λ m a b. elim (cases_eq m i) [
       | inl e ↦ ap (λ n. seen new (get_or (set line i entry) n no_entry)) e
@@ -167,7 +176,7 @@ pub turns-end : (name : Option NameId) (old_lists : List (List Token)) (old : Li
     (lists : List (List Token)) (line : List LineEntry) → Turns name old_lists old start i lists line
     → start ≤ length old → length old ≤ i
     → scraps_of lists line ≡ take start (scraps_of old_lists old)
-        ++ map (named_by name) (drop start (scraps_of old_lists old))
+    ++ map (named_by name) (drop start (scraps_of old_lists old))
 turns-end name old_lists old start i lists line t low high = ext_get_or no_scrap (scraps_of lists line)
     (take start (scraps_of old_lists old) ++ map (named_by name) (drop start (scraps_of old_lists old))) len each
   where
@@ -179,10 +188,17 @@ turns-end name old_lists old start i lists line t low high = ext_get_or no_scrap
 
     len : length (scraps_of lists line) ≡ length (take start (scraps_of old_lists old)
         ++ map (named_by name) (drop start (scraps_of old_lists old)))
-    len = omega (arith, length-scraps lists line, same-length, length-append (take start (scraps_of old_lists old))
-        (map (named_by name) (drop start (scraps_of old_lists old))), front,
-        length-map (drop start (scraps_of old_lists old)) (named_by name), length-drop start (scraps_of old_lists old),
-        length-scraps old_lists old)
+    len = omega (
+      arith,
+      length-scraps lists line,
+      same-length,
+      length-append (take start (scraps_of old_lists old))
+          (map (named_by name) (drop start (scraps_of old_lists old))),
+      front,
+      length-map (drop start (scraps_of old_lists old)) (named_by name),
+      length-drop start (scraps_of old_lists old),
+      length-scraps old_lists old,
+    )
 
     each : (m : ℕ) → m < length (scraps_of lists line) → get_or (scraps_of lists line) m no_scrap
         ≡ get_or (take start (scraps_of old_lists old) ++ map (named_by name) (drop start (scraps_of old_lists old))) m
@@ -194,20 +210,20 @@ turns-end name old_lists old start i lists line t low high = ext_get_or no_scrap
           | inl lt ↦
               let in_front : m < length (take start (scraps_of old_lists old)) = omega (arith, front) in
               seen-get lists line m hm ∙ (t.same m ho (inl lt)
-                  ∙ (sym (seen-get old_lists old m ho)
-                  ∙ (sym (get_or-take start (scraps_of old_lists old) m no_scrap lt)
-                  ∙ sym (get_or_append_left (take start (scraps_of old_lists old))
-                  (map (named_by name) (drop start (scraps_of old_lists old))) no_scrap m in_front))))
+              ∙ (sym (seen-get old_lists old m ho)
+              ∙ (sym (get_or-take start (scraps_of old_lists old) m no_scrap lt)
+              ∙ sym (get_or_append_left (take start (scraps_of old_lists old))
+              (map (named_by name) (drop start (scraps_of old_lists old))) no_scrap m in_front))))
           | inr ge ↦
               let back : m - start < length (drop start (scraps_of old_lists old)) =
-                  omega (arith, length-drop start (scraps_of old_lists old), length-scraps old_lists old) in
+              omega (arith, length-drop start (scraps_of old_lists old), length-scraps old_lists old) in
               let at : start + (m - start) ≡ m = omega arith in
               seen-get lists line m hm ∙ (t.done m ge (omega arith)
-                  ∙ (ap (named_by name) (sym (seen-get old_lists old m ho)
-                  ∙ (ap (λ n. get_or (scraps_of old_lists old) n no_scrap) (sym at)
-                  ∙ sym (get_or-drop start (scraps_of old_lists old) (m - start) no_scrap)))
+              ∙ (ap (named_by name) (sym (seen-get old_lists old m ho)
+              ∙ (ap (λ n. get_or (scraps_of old_lists old) n no_scrap) (sym at)
+              ∙ sym (get_or-drop start (scraps_of old_lists old) (m - start) no_scrap)))
               ∙ (sym (get_or-map (named_by name) (drop start (scraps_of old_lists old)) (m - start) no_scrap no_scrap
-                  back)
+              back)
               ∙ sym (get_or-append_right (take start (scraps_of old_lists old))
-                  (map (named_by name) (drop start (scraps_of old_lists old))) start m no_scrap front ge))))
+              (map (named_by name) (drop start (scraps_of old_lists old))) start m no_scrap front ge))))
         ]

@@ -38,13 +38,13 @@ splice rs at n x i h k lt =
             ∙ zero-of (i - at) (omega arith))
         | inr ne ↦
             let all : length (spliced rs at n x) ≡ length (take at rs) + suc (length (drop n rs)) =
-                length-append (take at rs) (x ∷ drop n rs) in
+            length-append (take at rs) (x ∷ drop n rs) in
             let step : i - at ≡ suc (i - at - 1) = omega arith in
             let place : n + (i - at - 1) ≡ (i + n) - (at + 1) = omega arith in
             high ((i + n) - (at + 1)) (omega arith) (omega (arith, length-drop n rs, all))
             (get_or-append_right (take at rs) (x ∷ drop n rs) at i 0 front b
-                ∙ (ap (λ m. get_or (x ∷ drop n rs) m 0) step
-                ∙ (get_or-drop n rs (i - at - 1) 0 ∙ ap (λ m. get_or rs m 0) place)))
+            ∙ (ap (λ m. get_or (x ∷ drop n rs) m 0) step
+            ∙ (get_or-drop n rs (i - at - 1) 0 ∙ ap (λ m. get_or rs m 0) place)))
             (omega arith)
       ]
     ]
@@ -109,17 +109,21 @@ tokens-ref entries mode (q ∷ pieces) first more p x run e = go (kind entries q
 
     at-first : (g : ℕ) → ref_of (shape (inserting entries q).token) ≡ Some (get_or entries g no_entry).list.index
         → (f m : ℕ) → g ≡ f → ref_of (shape (inserting entries q).token) ≡ Some x → FromScrap entries f (suc m) x
-    at-first g ref f m is k = record { number = g; low = omega arith; high = omega arith;
-        is = sym (some-is _ _ (sym ref ∙ k)) }
+    at-first g ref f m is k = record {
+      number = g;
+      low = omega arith;
+      high = omega arith;
+      is = sym (some-is _ _ (sym ref ∙ k));
+    }
 
     find : (n : ℕ)
         → token_ref (slice_get ((inserting entries q).token
         ∷ tokens_of (after mode (inserting entries q).left (inserting entries q).right)
         (map (inserting entries) pieces)) n) ≡ Some x
         → (ref_of (shape (inserting entries q).token) ≡ Some x)
-            ⊎ ((m : ℕ) × (token_ref
-            (slice_get (tokens_of (after mode (inserting entries q).left (inserting entries q).right)
-            (map (inserting entries) pieces)) m) ≡ Some x))
+        ⊎ ((m : ℕ) × (token_ref
+        (slice_get (tokens_of (after mode (inserting entries q).left (inserting entries q).right)
+        (map (inserting entries) pieces)) m) ≡ Some x))
     find zero k = inl k
     find (suc n) k = inr (n, k)
 
@@ -128,8 +132,8 @@ tokens-ref entries mode (q ∷ pieces) first more p x run e = go (kind entries q
         ∷ tokens_of (after mode (inserting entries q).left (inserting entries q).right)
         (map (inserting entries) pieces)) n) ≡ Some x)
         → ((f m n : ℕ) → scraps_in pieces ≡ numbers_from f m
-            → token_ref (slice_get (tokens_of (after mode (inserting entries q).left (inserting entries q).right)
-            (map (inserting entries) pieces)) n) ≡ Some x → FromScrap entries f m x) → FromScrap entries first more x
+        → token_ref (slice_get (tokens_of (after mode (inserting entries q).left (inserting entries q).right)
+        (map (inserting entries) pieces)) n) ≡ Some x → FromScrap entries f m x) → FromScrap entries first more x
     go (sign skip ref within) at rec = elim (find at.0 at.1) [
       | inl k ↦ absurd (none-some x (sym ref ∙ k))
       | inr k ↦ rec first more k.0 (sym (skip pieces) ∙ run) k.1

@@ -24,8 +24,11 @@ categories names = map (λ name. name.category) names
 
 -- what productions work on, as definitions see it
 abbrev pub state_of : List (List Token) → List LineEntry → MarkList → List Entry → State
-state_of lists line marks names = record { scraps = scraps_of lists line; marks = marked_names marks;
-    cats = categories names }
+state_of lists line marks names = record {
+  scraps = scraps_of lists line;
+  marks = marked_names marks;
+  cats = categories names;
+}
 
 -- the name that a search finds has become a type
 abbrev pub retyped : Search → List Entry → List Entry

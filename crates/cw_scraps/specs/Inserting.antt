@@ -72,8 +72,11 @@ toggle _ _ = []
 
 -- a store after the toggle between two modes
 abbrev pub toggled : MathMode → MathMode → StoredLists → StoredLists
-toggled mode left s = record { lists = s.lists; building = option_map (λ tokens. tokens ++ toggle mode left) s.building;
-    spare = s.spare - length (toggle mode left) }
+toggled mode left s = record {
+  lists = s.lists;
+  building = option_map (λ tokens. tokens ++ toggle mode left) s.building;
+  spare = s.spare - length (toggle mode left);
+}
 
 abbrev pub tokens_of : MathMode → List Insert → List Token
 tokens_of mode [] = []

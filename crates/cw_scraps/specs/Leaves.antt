@@ -86,16 +86,28 @@ code_form code.TexBox number = Some (source cat.Exp Maybe number)
 code_form code.Verbatim number = Some (source cat.Exp Maybe number)
 code_form code.Quote number = Some (source cat.Exp Maybe number)
 code_form code.Join number = Some (source cat.Insert Maybe number)
-code_form code.ThinSpace number = Some (record { cat = cat.Insert; mode = Maybe; tokens = Control control.ThinSpace
-    ∷ [] })
+code_form code.ThinSpace number = Some (record {
+  cat = cat.Insert;
+  mode = Maybe;
+  tokens = Control control.ThinSpace
+      ∷ [];
+})
 code_form code.LineBreak number = Some (record { cat = cat.Insert; mode = Text; tokens = Control control.Break ∷ [] })
 code_form code.BigBreak number = Some (record { cat = cat.Insert; mode = Text; tokens = Control control.BigBreak ∷ [] })
 code_form code.OptionalBreak number =
     Some (record { cat = cat.Insert; mode = Maybe; tokens = Control control.OptionalLineBreak0 ∷ [] })
-code_form code.NoBreak number = Some (record { cat = cat.Insert; mode = Text; tokens = Control control.Cancel
-    ∷ Control control.Wall ∷ Control control.Blank ∷ Control control.Wall ∷ Control control.Cancel ∷ [] })
-code_form code.HeaderFile number = Some (record { cat = cat.Insert; mode = Text; tokens = Control control.Break
-    ∷ Source number Text ∷ Control control.Break ∷ [] })
+code_form code.NoBreak number = Some (record {
+  cat = cat.Insert;
+  mode = Text;
+  tokens = Control control.Cancel
+      ∷ Control control.Wall ∷ Control control.Blank ∷ Control control.Wall ∷ Control control.Cancel ∷ [];
+})
+code_form code.HeaderFile number = Some (record {
+  cat = cat.Insert;
+  mode = Text;
+  tokens = Control control.Break
+      ∷ Source number Text ∷ Control control.Break ∷ [];
+})
 code_form code.InvisibleSemicolon number = Some (record { cat = cat.Semi; mode = Maybe; tokens = [] })
 code_form code.BeginArgument number = Some (record { cat = cat.BeginArg; mode = Maybe; tokens = [] })
 code_form code.EndArgument number = Some (record { cat = cat.EndArg; mode = Maybe; tokens = [] })
@@ -108,8 +120,12 @@ form_of kind.Quoted number = Some (source cat.Exp Maybe number)
 form_of kind.IncludeName number = Some (source cat.Exp Maybe number)
 form_of kind.OtherByte number = Some (source cat.Exp Maybe number)
 form_of (kind.Sign s) number = Some (source (sign_cat s) (sign_mode s) number)
-form_of kind.HashLine number = Some (record { cat = cat.Lproc; mode = Text; tokens = Control control.Break
-    ∷ Source number Text ∷ [] })
+form_of kind.HashLine number = Some (record {
+  cat = cat.Lproc;
+  mode = Text;
+  tokens = Control control.Break
+      ∷ Source number Text ∷ [];
+})
 form_of kind.HashLineEnd number = Some (record { cat = cat.Rproc; mode = Text; tokens = Control control.Break ∷ [] })
 form_of (kind.Code c) number = code_form c number
 form_of _ number = None
@@ -131,7 +147,7 @@ own_cat names index = unwrap_or (option_map (λ entry. entry.category) (slice_ge
 abbrev pub token_form : TokKind → List ℕ → Bool → ℕ → List Entry → Option LeafForm
 token_form kind.Identifier text hash_line number names =
     Some (word_form (word_cat hash_line text (own_cat (with_entry ident_kind text names)
-        (place_of ident_kind text names))) (record { index = place_of ident_kind text names }) number)
+    (place_of ident_kind text names))) (record { index = place_of ident_kind text names }) number)
 token_form k text hash_line number names = form_of k number
 
 -- the names after a token: those with that of an identifier

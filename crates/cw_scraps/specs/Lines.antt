@@ -15,8 +15,12 @@ use Rattle.cw_scraps.specs.declared.line.LineEntry.{LineEntry}
 
 -- an entry of a line with the tree of its list, and all of them
 abbrev pub seen : List (List Token) → LineEntry → Scrap
-seen lists entry = record { cat = entry.cat; tree = unfolded lists entry.list.index; left = entry.left;
-    right = entry.right }
+seen lists entry = record {
+  cat = entry.cat;
+  tree = unfolded lists entry.list.index;
+  left = entry.left;
+  right = entry.right;
+}
 
 abbrev pub scraps_of : List (List Token) → List LineEntry → List Scrap
 scraps_of lists line = map (seen lists) line

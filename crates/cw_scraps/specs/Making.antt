@@ -19,13 +19,17 @@ pieces_at flags row entries = row_pieces flags row (entry_cats entries)
 pub data IsMade (flags : Flags) (row : Row) (entries : List LineEntry) (old new : StoredLists) (made : LineEntry) : Type
     0 where
   kept : (k : ℕ) → alone row.replaced (pieces_at flags row entries) ≡ Some k → new ≡ old
-      → made ≡ record { cat = result_at row.result (entry_cats entries); list = (get_or entries k no_entry).list;
-          left = (get_or entries k no_entry).left; right = (get_or entries k no_entry).right }
-          → IsMade flags row entries old new made
+      → made ≡ record {
+        cat = result_at row.result (entry_cats entries);
+        list = (get_or entries k no_entry).list;
+        left = (get_or entries k no_entry).left;
+        right = (get_or entries k no_entry).right;
+      }
+      → IsMade flags row entries old new made
   joined : alone row.replaced (pieces_at flags row entries) ≡ None → new.lists
       ≡ old.lists ++ tokens_of Maybe (map (inserting entries) (pieces_at flags row entries)) ∷ []
       → new.building ≡ None → old.spare ≤ new.spare + PRODUCTION_TOKENS
       → made.cat ≡ result_at row.result (entry_cats entries) → made.list.index ≡ length old.lists → made.left
-          ≡ left_of (map (inserting entries) (pieces_at flags row entries)) → made.right
-          ≡ right_after Maybe (map (inserting entries) (pieces_at flags row entries))
+      ≡ left_of (map (inserting entries) (pieces_at flags row entries)) → made.right
+      ≡ right_after Maybe (map (inserting entries) (pieces_at flags row entries))
       → IsMade flags row entries old new made

@@ -25,12 +25,21 @@ with_references references e = record e { kept = referred references 0 e.kept }
 
 grown-by : (t : Bool) (references : List Reference) (k : ℕ) (prefix : List ℕ) (n : SecName) (names : List SecName)
     → elim t as (λ _. List SecName) [
-      | true ↦ record n { text = prefix; defined = sections_of k Defined references;
-          used = sections_of k Used references; cited = sections_of k Cited references } ∷ referred references (k + 1)
+      | true ↦ record n {
+        text = prefix;
+        defined = sections_of k Defined references;
+        used = sections_of k Used references;
+        cited = sections_of k Cited references;
+      } ∷ referred references (k + 1)
           names
-      | false ↦ record n { defined = sections_of k Defined references; used = sections_of k Used references;
-          cited = sections_of k Cited references } ∷ referred references (k + 1) names
-    ] ≡ referred references k (elim t as (λ _. List SecName) [ true ↦ record n { text = prefix } ∷ names
-        | false ↦ n ∷ names ])
+      | false ↦ record n {
+        defined = sections_of k Defined references;
+        used = sections_of k Used references;
+        cited = sections_of k Cited references;
+      } ∷ referred references (k + 1) names
+    ] ≡ referred references k (elim t as (λ _. List SecName) [
+      | true ↦ record n { text = prefix } ∷ names
+      | false ↦ n ∷ names
+    ])
 grown-by true references k prefix n names = refl
 grown-by false references k prefix n names = refl

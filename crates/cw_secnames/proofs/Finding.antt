@@ -22,7 +22,7 @@ length-named (x ∷ xs) = ap suc (length-named xs)
 pub with_text-map : (xs : List Kept) (i : ℕ) (d old : Kept) (t : Vec ℕ) (text : List ℕ) (complete : Bool)
     → old ≡ get_or xs i d → t.items ≡ text
     → map name_of (slice_set xs i (record old { text = t; complete = complete }))
-        ≡ with_text i text complete (map name_of xs)
+    ≡ with_text i text complete (map name_of xs)
 with_text-map [] i d old t text complete same h = refl
 with_text-map (x ∷ xs) zero d old t text complete same h = rw (same, h) refl
 with_text-map (x ∷ xs) (suc i) d old t text complete same h =
@@ -63,9 +63,11 @@ shorter-by true x prefix rest f e h = absurd (cc)
 shorter-by false x prefix rest f e h =
     ap (λ (c : Bool). record (name_of x) { text = prefix; complete = c } ∷ rest) (sym e) ∙
     sym (let test : is_shorter prefix (name_of x) ≡ true = rw (e, lt-ltb (length x.text.items) (length prefix) h)
-        refl in
-    ap (λ (t : Bool). elim t as (λ _. List SecName) [ true ↦ record (name_of x) { text = prefix } ∷ rest
-        | false ↦ name_of x ∷ rest ]) test)
+    refl in
+    ap (λ (t : Bool). elim t as (λ _. List SecName) [
+      | true ↦ record (name_of x) { text = prefix } ∷ rest
+      | false ↦ name_of x ∷ rest
+    ]) test)
 
 pub grown-shorter : (prefix : List ℕ) (xs : List Kept) (i : ℕ) (d : Kept)
     → (get_or xs i d).complete ≡ false → length (get_or xs i d).text.items < length prefix
@@ -115,7 +117,7 @@ first-by false test n names k j h below rest =
     record {
       positions =
           (let open_one : positions_from k test (n ∷ names) ≡ positions_from (k + 1) test names = rw (h, positions_from)
-              refl in open_one) ∙
+          refl in open_one) ∙
           (f.positions ∙ (ap (λ m. m ∷ positions_from (m + 1) test (drop (j + 1) names)) one ∙
           ap (λ rest. (k + (1 + j)) ∷ positions_from ((k + (1 + j)) + 1) test rest) (sym (dropped n names j))));
       below = below;
@@ -129,7 +131,7 @@ is_first test (n ∷ names) k h = first-by (test n) test n names k (position_or_
 
 nobody-by : (t : Bool) (test : SecName → Bool) (n : SecName) (names : List SecName) (k j : ℕ) → test n ≡ t
     → (cond (not t) (1 + j) 0 < suc (length names) → ⊥) → ((j < length names → ⊥) → positions_from (k + 1) test names
-        ≡ [])
+    ≡ [])
     → positions_from k test (n ∷ names) ≡ []
 nobody-by true test n names k j h none rest = absurd (none (omega arith))
 nobody-by false test n names k j h none rest =
@@ -160,7 +162,7 @@ pub found-nobody : (test : SecName → Bool) (names : List SecName) (k : ℕ) �
     → positions_from k test names ≡ []
 found-nobody test names k h =
     nobody test names k (none-by (nat_lt (position_or_len test names) (length names)) (position_or_len test names)
-        (length names) refl h)
+    (length names) refl h)
 
 pub earliest-nobody : (test : SecName → Bool) (names : List SecName) → position test names ≡ None
     → Nobody ≡ earliest (positions_from 0 test names)

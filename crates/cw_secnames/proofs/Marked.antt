@@ -38,7 +38,7 @@ parts : (mark k : ℕ) (pair : ℕ × ℕ) → is_at (pair_cmp (mark, k)) pair �
 parts mark k pair h =
     let each : (is_eq (nat_cmp mark pair.0) ≡ true) × (is_eq (nat_cmp k pair.1) ≡ true) =
     both (is_eq (nat_cmp mark pair.0)) (is_eq (nat_cmp k pair.1)) (tied_then (nat_cmp mark pair.0) (nat_cmp k pair.1)
-        ∙ h) in (
+    ∙ h) in (
       same-by (nat_cmp mark pair.0) mark pair.0 each.0 (ranked mark pair.0 (nat_cmp mark pair.0) refl),
       same-by (nat_cmp k pair.1) k pair.1 each.1 (ranked k pair.1 (nat_cmp k pair.1) refl),
     )
@@ -63,10 +63,10 @@ ranges mark k h =
     let tied : nat_cmp mark mark ≡ Equal = tied_itself nat_cmp_total mark in
     and-yes (is_le (pair_cmp (mark, 0) (mark, k))) (not (is_lt (pair_cmp (mark, 2 ^ 32 - 1) (mark, k))))
     (ap (λ o. is_le (ordering_then o (nat_cmp 0 k))) tied
-        ∙ low-by (nat_cmp 0 k) 0 k (omega arith) (ranked 0 k (nat_cmp 0 k) refl))
+    ∙ low-by (nat_cmp 0 k) 0 k (omega arith) (ranked 0 k (nat_cmp 0 k) refl))
     (ap (λ o. not (is_lt (ordering_then o (nat_cmp (2 ^ 32 - 1) k)))) tied
     ∙ high-by (nat_cmp (2 ^ 32 - 1) k) (2 ^ 32 - 1) k (omega arith) (ranked (2 ^ 32 - 1) k (nat_cmp (2 ^ 32 - 1) k)
-        refl))
+    refl))
 
 in-range : (mark k : ℕ) → k < 2 ^ 32 → (pair : ℕ × ℕ) → is_at (pair_cmp (mark, k)) pair ≡ true
     → range_contains pair_cmp (Included (mark, 0)) (Included (mark, 2 ^ 32 - 1)) pair ≡ true
@@ -74,7 +74,7 @@ in-range mark k h pair at =
     let each : (mark ≡ pair.0) × (k ≡ pair.1) = parts mark k pair at in
     let same : (mark, k) ≡ pair = ap (λ (a : ℕ). (a, k)) each.0 ∙ ap (λ (b : ℕ). (pair.0, b)) each.1 in
     subst (λ p. range_contains pair_cmp (Included (mark, 0)) (Included (mark, 2 ^ 32 - 1)) p ≡ true) same
-        (ranges mark k h)
+    (ranges mark k h)
 
 pub or-yes : (a b : Bool) → (a || b) ≡ true → (a ≡ true) ⊎ (b ≡ true)
 or-yes true b h = inl refl
@@ -85,17 +85,17 @@ in-map : (mark k : ℕ) (pairs : List (ℕ × ℕ)) → list_any (is_at (pair_cm
 in-map mark k [] h = absurd (cc)
 in-map mark k (pair ∷ pairs) h =
     elim (or-yes (is_at (pair_cmp (mark, k)) pair) (list_any (is_at (pair_cmp (mark, k))) pairs) h) [
-  | inl at ↦
-      let e : (mark ≡ pair.0) × (k ≡ pair.1) = parts mark k pair at in
-      one-left (pair.1 == k) (is_in k (map (λ p. p.1) pairs)) (eq-eqb pair.1 k (sym e.1))
-  | inr later ↦ one-right (pair.1 == k) (is_in k (map (λ p. p.1) pairs)) (in-map mark k pairs later)
-]
+      | inl at ↦
+          let e : (mark ≡ pair.0) × (k ≡ pair.1) = parts mark k pair at in
+          one-left (pair.1 == k) (is_in k (map (λ p. p.1) pairs)) (eq-eqb pair.1 k (sym e.1))
+      | inr later ↦ one-right (pair.1 == k) (is_in k (map (λ p. p.1) pairs)) (in-map mark k pairs later)
+    ]
 
 pub is-at : (set : BTreeSet (ℕ × ℕ)) (mark k : ℕ) → k < 2 ^ 32 → Has set mark k → is_in k (positions_at mark set) ≡ true
 is-at set mark k small h =
     in-map mark k _
     (any-filter_same (is_at (pair_cmp (mark, k))) (range_contains pair_cmp (Included (mark, 0))
-        (Included (mark, 2 ^ 32 - 1))) true (in-range mark k small) set.keys ∙ h)
+    (Included (mark, 2 ^ 32 - 1))) true (in-range mark k small) set.keys ∙ h)
 
 pub in-left : (k : ℕ) (xs ys : List ℕ) → is_in k xs ≡ true → is_in k (xs ++ ys) ≡ true
 in-left k xs ys h = list_any-append (λ other. other == k) xs ys ∙ one-left (is_in k xs) (is_in k ys) h
@@ -109,7 +109,7 @@ cond-yes false c h = h
 
 pub keeps-old : (old new : BTreeSet (ℕ × ℕ)) (pair : ℕ × ℕ)
     → ((q : ℕ × ℕ) → contains pair_cmp new q ≡ cond (is_at (pair_cmp pair) q) true (contains pair_cmp old q))
-        → HasAll old new
+    → HasAll old new
 keeps-old old new pair h mark k has = h (mark, k) ∙ cond-yes (is_at (pair_cmp pair) (mark, k))
     (contains pair_cmp old (mark, k)) has
 
@@ -177,13 +177,13 @@ shorter-more marks kind text count mark near is f before k h m = elim (below-or 
   | inr same ↦
       in-right k near (wholes_at marks count mark)
       (found-here (nat_lt count marks.shortest) marks kind text count k mark refl is
-          (subst (λ n. IsMarked marks kind (take n text) k) same m))
+      (subst (λ n. IsMarked marks kind (take n text) k) same m))
 ]
 
 pub found-more : (marks : Marks) (kind : SecKind) (text : List ℕ) (count mark start d : ℕ) (near : List ℕ)
     → Found marks kind text count mark start near → count < length text
     → Found marks kind text (count + 1) (next_mark mark (get_or text count d)) start
-        (near ++ wholes_at marks count mark)
+    (near ++ wholes_at marks count mark)
 found-more marks kind text count mark start d near f h = record {
   mark_is = ap (λ m. next_mark m (get_or text count d)) f.mark_is ∙ sym (mark-more (first_mark kind) text count d h);
   at = f.at;
@@ -217,7 +217,7 @@ pub found-next : (marks : Marks) (kind : SecKind) (text : List ℕ) (count mark 
 found-next marks kind text count mark start new next d near more f h is last all =
     rw (all, last, is)
     (kept-by (is_kept_length (count + 1)) marks kind text (count + 1) (next_mark mark (get_or text count d)) start
-        (near ++ wholes_at marks count mark) refl
+    (near ++ wholes_at marks count mark) refl
     (found-more marks kind text count mark start d near f h))
 
 -- ## What is found in the end
@@ -228,7 +228,7 @@ begins-take first text h = same_text first (take (length first) text) (sym h)
 not-longer : (first text : List ℕ) → begins first text ≡ true → length first ≤ length text
 not-longer first text h =
     let e : length first ≡ min (length first) (length text) = ap length (begins-take first text h)
-        ∙ length-take (length first) text in
+    ∙ length-take (length first) text in
     omega arith
 
 longer : (marks : Marks) (kind : SecKind) (text other : List ℕ) (k at : ℕ) → IsMarked marks kind other k
@@ -254,7 +254,7 @@ found-all : (marks : Marks) (kind : SecKind) (text other : List ℕ) (mark start
 found-all marks kind text other mark start k near f m h =
     let more = λ (begun : begins text other ≡ true). in-right k near (positions_at start marks.starts)
     (subst (λ s. is_in k (positions_at s marks.starts) ≡ true) (sym f.start_is)
-        (longer marks kind text other k f.at m begun f.at_most f.kept)) in
+    (longer marks kind text other k f.at m begun f.at_most f.kept)) in
     elim (or-yes (begins other text) (begins text other) h) [
       | inl first ↦ elim (decide (length other) (length text) (not-longer other text first)) [
         | inl below ↦
@@ -262,14 +262,14 @@ found-all marks kind text other mark start k near f m h =
             (f.shorter (length other) k below (subst (λ t. IsMarked marks kind t k) (begins-take other text first) m))
         | inr same ↦
             more (begins-self text other (begins-take other text first
-                ∙ (ap (λ n. take n text) same ∙ take_all (length text) text (omega arith))))
+            ∙ (ap (λ n. take n text) same ∙ take_all (length text) text (omega arith))))
       ]
       | inr begun ↦ more begun
     ]
 
 pub found-end : (marks : Marks) (kind : SecKind) (text other : List ℕ) (count mark start k : ℕ) (near : List ℕ)
     → Found marks kind text count mark start near → length text ≤ count → IsMarked marks kind other k
-        → IsNear other text
+    → IsNear other text
     → is_in k (near ++ positions_at start marks.starts) ≡ true
 found-end marks kind text other count mark start k near f end m h =
     let within : count ≤ length text = f.within in
@@ -298,7 +298,7 @@ pub record Marking (old marks : Marks) (kind : SecKind) (text : List ℕ) (k cou
 pub enter-first : (old marks : Marks) (kind : SecKind) (text : List ℕ) (k mark : ℕ) → mark ≡ first_mark kind
     → marks.shortest ≡ min old.shortest (length text)
     → HasAll old.wholes marks.wholes → HasAll old.starts marks.starts
-        → (is_kept_length 0 ≡ true → Has marks.starts mark k) → Marking old marks kind text k 0 mark
+    → (is_kept_length 0 ≡ true → Has marks.starts mark k) → Marking old marks kind text k 0 mark
 enter-first old marks kind text k mark is shortest wholes keeps has = record {
   mark_is = is;
   shortest = shortest;
@@ -326,7 +326,7 @@ pub enter-more : (old marks more : Marks) (kind : SecKind) (text : List ℕ) (k 
     → Marking old marks kind text k count mark
     → count < length text → new ≡ next_mark mark (get_or text count d) → more.shortest ≡ marks.shortest
     → HasAll marks.wholes more.wholes → HasAll marks.starts more.starts
-        → (is_kept_length (count + 1) ≡ true → Has more.starts new k) → Marking old more kind text k (count + 1) new
+    → (is_kept_length (count + 1) ≡ true → Has more.starts new k) → Marking old more kind text k (count + 1) new
 enter-more old marks more kind text k count mark new d e h byte shortest wholes grows has =
     let is : new ≡ mark_of kind (take (count + 1) text) =
     byte ∙ (ap (λ m. next_mark m (get_or text count d)) e.mark_is ∙ sym (mark-more (first_mark kind) text count d h)) in

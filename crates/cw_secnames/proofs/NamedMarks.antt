@@ -19,12 +19,12 @@ named-more m more k names keeps h = λ live. marked-more m.marks more.marks k na
 
 pub named-behind : (m : NameMarks) (k : ℕ) (xs : List Kept) (x : Kept) → AreMarkedNames m k (map name_of xs)
     → (m.live ≡ true → IsMarked m.marks x.kind x.text.items (k + length xs))
-        → AreMarkedNames m k (map name_of (xs ++ x ∷ []))
+    → AreMarkedNames m k (map name_of (xs ++ x ∷ []))
 named-behind m k xs x h here = λ live. marked-behind m.marks k xs x (h live) (here live)
 
 pub named-set : (m : NameMarks) (k : ℕ) (xs : List Kept) (i : ℕ) (new : Kept) → AreMarkedNames m k (map name_of xs)
     → (m.live ≡ true → IsMarked m.marks new.kind new.text.items (k + i))
-        → AreMarkedNames m k (map name_of (slice_set xs i new))
+    → AreMarkedNames m k (map name_of (slice_set xs i new))
 named-set m k xs i new h here = λ live. marked-set m.marks k xs i new (h live) (here live)
 
 pub named-with_reference : (m : NameMarks) (k i : ℕ) (how : RefKind) (section : ℕ) (names : List SecName)
@@ -37,5 +37,8 @@ pub all-near : (positions : List ℕ) (kind : SecKind) (text : List ℕ) (k : �
     → ((j : ℕ) → j < k + length names → is_in j positions ≡ true)
     → HoldNear positions kind text k names
 all-near positions kind text k [] all = tt
-all-near positions kind text k (n ∷ names) all = (λ _. all k (omega arith), all-near positions kind text (k + 1) names
-    (λ j low. all j (omega arith)))
+all-near positions kind text k (n ∷ names) all = (
+  λ _. all k (omega arith),
+  all-near positions kind text (k + 1) names
+      (λ j low. all j (omega arith)),
+)

@@ -29,8 +29,11 @@ use Rattle.cw_secnames.proofs.Marked.{both, and-yes, or-yes, begins-self}
 pub marked-more : (marks more : Marks) (k : ℕ) (names : List SecName) → KeepsMarks marks more → AreMarked marks k names
     → AreMarked more k names
 marked-more marks more k [] keeps h = tt
-marked-more marks more k (n ∷ names) keeps h = (keeps n.kind n.text k h.0, marked-more marks more (k + 1) names keeps
-    h.1)
+marked-more marks more k (n ∷ names) keeps h = (
+  keeps n.kind n.text k h.0,
+  marked-more marks more (k + 1) names keeps
+      h.1,
+)
 
 marked-by : (marks : Marks) (k : ℕ) (how : RefKind) (section : ℕ) (n : SecName) (names : List SecName)
     → AreMarked marks k (n ∷ names)
@@ -58,12 +61,12 @@ same File Named h = absurd (cc)
 pub holds : (marks : Marks) (near : List ℕ) (kind : SecKind) (text : List ℕ) (k : ℕ) (names : List SecName)
     → AreMarked marks k names
     → ((other : List ℕ) (k : ℕ) → IsMarked marks kind other k → IsNear other text → is_in k near ≡ true)
-        → HoldNear near kind text k names
+    → HoldNear near kind text k names
 holds marks near kind text k [] h f = tt
 holds marks near kind text k (n ∷ names) h f = (
   λ is.
       let each : (same_kind kind n.kind ≡ true) × (IsNear n.text text) =
-          both (same_kind kind n.kind) (begins n.text text || begins text n.text) is in
+      both (same_kind kind n.kind) (begins n.text text || begins text n.text) is in
       f n.text k (subst (λ kind. IsMarked marks kind n.text k) (same kind n.kind each.0) h.0) each.1,
   holds marks near kind text (k + 1) names h.1 f,
 )
@@ -83,15 +86,15 @@ passes-near : (asked : Asked) (text : List ℕ) (n : SecName) → passes asked t
     → is_near (kind_asked asked) text n ≡ true
 passes-near (Whole kind) text n h =
     let a : (n.complete ≡ true) × ((same_kind kind n.kind && pointwise nat_eq text n.text) ≡ true) =
-        both n.complete (same_kind kind n.kind && pointwise nat_eq text n.text) h in
+    both n.complete (same_kind kind n.kind && pointwise nat_eq text n.text) h in
     let b : (same_kind kind n.kind ≡ true) × (pointwise nat_eq text n.text ≡ true) =
-        both (same_kind kind n.kind) (pointwise nat_eq text n.text) a.1 in
+    both (same_kind kind n.kind) (pointwise nat_eq text n.text) a.1 in
     begins-it kind text n b.0 (begins-self text n.text (sym (same_text text n.text (sym b.1))))
 passes-near (Growing kind) text n h =
     let a : (not n.complete ≡ true) × ((same_kind kind n.kind && begins n.text text) ≡ true) =
-        both (not n.complete) (same_kind kind n.kind && begins n.text text) h in
+    both (not n.complete) (same_kind kind n.kind && begins n.text text) h in
     let b : (same_kind kind n.kind ≡ true) × (begins n.text text ≡ true) =
-        both (same_kind kind n.kind) (begins n.text text) a.1 in
+    both (same_kind kind n.kind) (begins n.text text) a.1 in
     begun kind text n b.0 b.1
 passes-near (Conflicting kind) text n h =
     let a : (same_kind kind n.kind ≡ true) × ((begins_properly n.text text || begins_properly text n.text) ≡ true) =
@@ -113,17 +116,17 @@ pub is-held : (near : List ℕ) (asked : Asked) (text : List ℕ) (j : ℕ) (nam
     → passes_at (passes asked text) names k ≡ true → is_in (j + k) near ≡ true
 is-held near asked text j [] k h p =
     let a : (nat_lt k 0 ≡ true) × (passes asked text (get_or [] k (unreferred Named [] false)) ≡ true) =
-        both (nat_lt k 0) _ p in
+    both (nat_lt k 0) _ p in
     let none : k < 0 = ltb-true k 0 a.0 in
     absurd (omega arith)
 is-held near asked text j (n ∷ names) zero h p =
     let a : (nat_lt 0 (suc (length names)) ≡ true) × (passes asked text n ≡ true) =
-        both (nat_lt 0 (suc (length names))) (passes asked text n) p in
+    both (nat_lt 0 (suc (length names))) (passes asked text n) p in
     subst (λ i. is_in i near ≡ true) (sym (add-zero j)) (h.0 (passes-near asked text n a.1))
 is-held near asked text j (n ∷ names) (suc k) h p =
     let at : SecName = get_or names k (unreferred Named [] false) in
     let a : (nat_lt (suc k) (suc (length names)) ≡ true) × (passes asked text at ≡ true) =
-        both (nat_lt (suc k) (suc (length names))) (passes asked text at) p in
+    both (nat_lt (suc k) (suc (length names))) (passes asked text at) p in
     let below : suc k < suc (length names) = ltb-true (suc k) (suc (length names)) a.0 in
     let one : (j + 1) + k ≡ j + suc k = omega arith in
     subst (λ i. is_in i near ≡ true) one
@@ -148,7 +151,7 @@ sound-by : (b : Bool) (test : SecName → Bool) (names : List SecName) (from k :
     → Sound test names from least → Sound test names from (chosen b k least)
 sound-by true test names from k least h s =
     let a : (nat_le from k ≡ true) × ((is_below k least && passes_at test names k) ≡ true) =
-        both (nat_le from k) (is_below k least && passes_at test names k) h in
+    both (nat_le from k) (is_below k least && passes_at test names k) h in
     (leb-true from k a.0, (both (is_below k least) (passes_at test names k) a.1).1)
 sound-by false test names from k least h s = s
 
@@ -158,7 +161,7 @@ pub sound : (test : SecName → Bool) (names : List SecName) (from : ℕ) (least
 sound test names from least [] s = s
 sound test names from least (k ∷ positions) s =
     sound test names from (lesser test names from least k) positions (sound-by (is_lesser test names from least k) test
-        names from k least refl s)
+    names from k least refl s)
 
 keeps-by : (b : Bool) (k j : ℕ) (least : Option ℕ) → (b ≡ true → is_below j least ≡ true) → AtMost least k
     → AtMost (chosen b j least) k
@@ -173,7 +176,7 @@ keeps test names from k j least h =
     keeps-by (is_lesser test names from least j) k j least
     (λ e.
     let a : (nat_le from j ≡ true) × ((is_below j least && passes_at test names j) ≡ true) =
-        both (nat_le from j) (is_below j least && passes_at test names j) e in
+    both (nat_le from j) (is_below j least && passes_at test names j) e in
     (both (is_below j least) (passes_at test names j) a.1).0)
     h
 
@@ -192,12 +195,12 @@ here : (test : SecName → Bool) (names : List SecName) (from k : ℕ) (least : 
     → AtMost (lesser test names from least k) k
 here test names from k least h p =
     here-below (is_lesser test names from least k) k least
-        (and-no (nat_le from k) (is_below k least) (passes_at test names k) (le-leb from k h) p)
+    (and-no (nat_le from k) (is_below k least) (passes_at test names k) (le-leb from k h) p)
 
 pub at-most : (test : SecName → Bool) (names : List SecName) (from : ℕ) (least : Option ℕ) (positions : List ℕ) (k : ℕ)
     → from ≤ k
     → passes_at test names k ≡ true → (is_in k positions ≡ true) ⊎ AtMost least k
-        → AtMost (least_of test names from least positions) k
+    → AtMost (least_of test names from least positions) k
 at-most test names from least [] k h p (inl e) = absurd (cc)
 at-most test names from least [] k h p (inr e) = e
 at-most test names from least (j ∷ positions) k h p (inr e) =
@@ -225,7 +228,7 @@ passes-behind : (test : SecName → Bool) (names : List SecName) (from k : ℕ) 
 passes-behind test names from k h e =
     let long : length (drop from names) ≡ length names - from = length-drop from names in
     and-yes (nat_lt (from + k) (length names)) (test (get_or names (from + k) nobody))
-        (lt-ltb (from + k) (length names) (omega arith))
+    (lt-ltb (from + k) (length names) (omega arith))
     (ap test (sym (get_or-drop from names k nobody)) ∙ e)
 
 at-end : (p n : ℕ) → p ≡ n → cond (nat_lt p n) (Some p) None ≡ None
@@ -241,13 +244,13 @@ least-is test names from None s h =
     let place : position_or_len test (drop from names) ≡ length (drop from names) =
     position_or_len_is test (drop from names) (length (drop from names)) nobody (omega arith)
     (λ k below. not-true (test (get_or (drop from names) k nobody))
-        (λ e. h (from + k) (omega arith) (passes-behind test names from k below e)))
+    (λ e. h (from + k) (omega arith) (passes-behind test names from k below e)))
     (λ below. absurd (omega arith)) in
     ap (option_map (λ more. from + more)) (sym (at-end (position_or_len test (drop from names))
-        (length (drop from names)) place))
+    (length (drop from names)) place))
 least-is test names from (Some i) s h =
     let a : (nat_lt i (length names) ≡ true) × (test (get_or names i nobody) ≡ true) =
-        both (nat_lt i (length names)) (test (get_or names i nobody)) s.1 in
+    both (nat_lt i (length names)) (test (get_or names i nobody)) s.1 in
     let low : from ≤ i = s.0 in
     let high : i < length names = ltb-true i (length names) a.0 in
     let long : length (drop from names) ≡ length names - from = length-drop from names in
@@ -259,19 +262,19 @@ least-is test names from (Some i) s h =
     omega arith))
     (λ below. ap test (get_or-drop from names (i - from) nobody ∙ ap (λ j. get_or names j nobody) back) ∙ a.1) in
     ap Some (sym back) ∙ ap (option_map (λ more. from + more))
-        (sym (at-some (position_or_len test (drop from names)) (length (drop from names)) (i - from) place
-        (omega arith)))
+    (sym (at-some (position_or_len test (drop from names)) (length (drop from names)) (i - from) place
+    (omega arith)))
 
 -- what is least among the positions near a text is the first of all names
 pub least-first : (near : List ℕ) (asked : Asked) (text : List ℕ) (names : List SecName) (from : ℕ)
     → HoldNear near (kind_asked asked) text 0 names
     → least_of (passes asked text) names from None near
-        ≡ option_map (λ more. from + more) (position (passes asked text) (drop from names))
+    ≡ option_map (λ more. from + more) (position (passes asked text) (drop from names))
 least-first near asked text names from h =
     least-is (passes asked text) names from (least_of (passes asked text) names from None near)
-        (sound (passes asked text) names from None near tt)
+    (sound (passes asked text) names from None near tt)
     (λ k low p. at-most (passes asked text) names from None near k low p
-        (inl (subst (λ i. is_in i near ≡ true) (zero-add k) (is-held near asked text 0 names k h p))))
+    (inl (subst (λ i. is_in i near ≡ true) (zero-add k) (is-held near asked text 0 names k h p))))
 
 pub from-first : (o : Option ℕ) → option_map (λ more. 0 + more) o ≡ o
 from-first None = refl
@@ -281,18 +284,18 @@ from-first (Some k) = ap Some (zero-add k)
 least-more : (test : SecName → Bool) (names : List SecName) (from : ℕ) (least : Option ℕ) (near : List ℕ) (i : ℕ)
     → i < length near
     → least_of test names from least (take (i + 1) near)
-        ≡ lesser test names from (least_of test names from least (take i near)) (get_or near i 0)
+    ≡ lesser test names from (least_of test names from least (take i near)) (get_or near i 0)
 least-more test names from least [] i h = absurd (omega arith)
 least-more test names from least (k ∷ near) zero h = refl
 least-more test names from least (k ∷ near) (suc i) h =
     let one : suc i + 1 ≡ suc (i + 1) = omega arith in
     ap (λ n. least_of test names from least (take n (k ∷ near))) one
-        ∙ least-more test names from (lesser test names from least k) near i (omega arith)
+    ∙ least-more test names from (lesser test names from least k) near i (omega arith)
 
 pub least-next : (test : SecName → Bool) (names : List SecName) (from : ℕ) (near : List ℕ) (i : ℕ) (less : Bool)
     (best next : Option ℕ)
     → i < length near → best ≡ least_of test names from None (take i near)
-        → less ≡ is_lesser test names from best (get_or near i 0)
+    → less ≡ is_lesser test names from best (get_or near i 0)
     → next ≡ chosen less (get_or near i 0) best → next ≡ least_of test names from None (take (i + 1) near)
 least-next test names from near i less best next h is goes chooses =
     chooses ∙ (ap (λ b. chosen b (get_or near i 0) best) goes ∙
@@ -350,7 +353,7 @@ pub passes-there : (test : SecName → Bool) (xs : List Kept) (names : List SecN
     → x ≡ get_or xs k x → test (name_of x) ≡ passes_at test names k
 passes-there test xs names k x view h is =
     let some : nat_lt k (length (map name_of xs)) ≡ true =
-        lt-ltb k (length (map name_of xs)) (subst (λ n. k < n) (sym (length-named xs)) h) in
+    lt-ltb k (length (map name_of xs)) (subst (λ n. k < n) (sym (length-named xs)) h) in
     subst (λ names. test (name_of x) ≡ passes_at test names k) view
     (sym (ap (λ b. b && test (get_or (map name_of xs) k (unreferred Named [] false))) some ∙
     ap test (named-at xs k x (unreferred Named [] false) h ∙ ap name_of (sym is))))

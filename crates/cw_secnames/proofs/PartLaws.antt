@@ -16,7 +16,7 @@ parts_from-taken (byte ∷ bytes) place (suc taken) =
 part-here : (size : Option ℕ) (place end : ℕ) (rest : ℕ → List Span) (tail : List Span)
     → option_map (λ n. place + n) size ≡ Some end
     → ((n : ℕ) → place + n ≡ end → rest (n + 1) ≡ tail) → part_here size place rest
-        ≡ record { start = place; «end» = end } ∷ tail
+    ≡ record { start = place; «end» = end } ∷ tail
 part-here None place end rest tail e behind = cc
 part-here (Some n) place end rest tail e behind =
     let is : place + n ≡ end = cc in
@@ -45,7 +45,7 @@ next-part text bar end within opens ends order inside = record {
   parts =
       rw (drop-bar text bar within opens)
       (part-here (size_to_bar false (drop (bar + 1) text)) (bar + 1) end (parts_from (drop (bar + 1) text) (bar + 1))
-          (parts_at text (end + 1))
+      (parts_at text (end + 1))
       (sym ends) (λ n is. behind-part text bar end n is));
   begins = omega arith;
   order = order;

@@ -23,7 +23,7 @@ at-first place (p ∷ pairs) (suc i) d h below e =
     let first : p.place < place = below zero (omega arith) in
     let other : (p.place ≢ place) = λ same. omega arith in
     rw (apart p.place place other, name_at) (at-first place pairs i d (omega arith) (λ k l. below (suc k) (omega arith))
-        e)
+    e)
 
 pub nowhere : (place : ℕ) (pairs : List Pair) (d : Pair)
     → ((k : ℕ) → k < length pairs → (get_or pairs k d).place ≢ place)
@@ -31,7 +31,7 @@ pub nowhere : (place : ℕ) (pairs : List Pair) (d : Pair)
 nowhere place [] d none = refl
 nowhere place (p ∷ pairs) d none =
     rw (apart p.place place (none zero (omega arith)), name_at)
-        (nowhere place pairs d (λ k l. none (suc k) (omega arith)))
+    (nowhere place pairs d (λ k l. none (suc k) (omega arith)))
 
 -- One pair more, behind all others.
 use_at : (pairs : List Pair) (i : ℕ) (d : Pair) → use_of (get_or pairs i d) ≡ get_or (map use_of pairs) i (use_of d)
@@ -94,8 +94,12 @@ none-by true behind place pairs first k d t u a point other within same =
     omega (arith, ltb-true _ _ (point.0 k d (omega arith) (ltb-true k first t)))
 none-by false true place pairs first k d t u a point other within same =
     let here : first < length pairs = omega (arith, ltb-true first k u) in
-    other here (omega (arith, ltb-false _ _ (point.1 first d (omega arith) here), a first k d (ltb-true first k u)
-        within))
+    other here (omega (
+      arith,
+      ltb-false _ _ (point.1 first d (omega arith) here),
+      a first k d (ltb-true first k u)
+          within,
+    ))
 none-by false false place pairs first k d t u a point other within same =
     let at : k ≡ first = omega (arith, ltb-false k first t, ltb-false first k u) in
     let here : first < length pairs = omega arith in
@@ -105,4 +109,4 @@ pub nowhere-by : (place : ℕ) (pairs : List Pair) (first : ℕ) (d : Pair) → 
     → (first < length pairs → (get_or pairs first d).place ≢ place) → name_at place (map use_of pairs) ≡ None
 nowhere-by place pairs first d a point other =
     nowhere place pairs d (λ k within. none-by (nat_lt k first) (nat_lt first k) place pairs first k d refl refl a point
-        other within)
+    other within)

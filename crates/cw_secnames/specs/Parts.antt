@@ -32,7 +32,7 @@ parts_from [] place taken = []
 parts_from (byte ∷ bytes) place (suc taken) = parts_from bytes (place + 1) taken
 parts_from (byte ∷ bytes) place zero =
     if byte == bar then part_here (size_to_bar false bytes) (place + 1) (parts_from bytes (place + 1)) else parts_from
-        bytes (place + 1) 0
+    bytes (place + 1) 0
 
 abbrev pub inner_parts : List ℕ → List Span
 inner_parts text = parts_from text 0 0

@@ -42,8 +42,12 @@ section_numbers references = map (λ r. r.section) references
 pub sections-more : (name : ℕ) (how : RefKind) (references : List Reference) (r : Reference) → is_of name how r ≡ true
     → sections_of name how (references ++ r ∷ []) ≡ with_number r.section (sections_of name how references)
 sections-more name how references r h =
-    rw (filter-append (is_of name how) references (r ∷ []), h, map-append (λ (r : Reference). r.section)
-        (filter (is_of name how) references) (r ∷ []))
+    rw (
+      filter-append (is_of name how) references (r ∷ []),
+      h,
+      map-append (λ (r : Reference). r.section)
+          (filter (is_of name how) references) (r ∷ []),
+    )
     (once-more r.section (map (λ r. r.section) (filter (is_of name how) references)))
 
 pub sections-same : (name : ℕ) (how : RefKind) (references : List Reference) (r : Reference) → is_of name how r ≡ false

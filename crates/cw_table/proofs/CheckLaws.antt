@@ -51,7 +51,7 @@ pub ends-whole : (row : Row) (k : ℕ) → row.offset + row.replaced ≤ k
     → true ≡ without_end row row.offset row.replaced
 ends-whole row k past h =
     sym (all-numbers (λ n. not (in_set (test row n) End)) row.offset row.replaced
-        (λ i lt. ap not (h (row.offset + i) (omega arith) (omega arith))))
+    (λ i lt. ap not (h (row.offset + i) (omega arith) (omega arith))))
 
 -- The pieces, one after the other.
 
@@ -94,7 +94,7 @@ order-on pieces i k next end d lt e within is =
     ap (λ ks. same_numbers ks (numbers_from next (end - next))) (scraps-on pieces i d k lt e)
     ∙ ap (same_numbers (k ∷ scraps_in (drop (i + 1) pieces))) (count-down next end within)
     ∙ ap (λ b. b && same_numbers (scraps_in (drop (i + 1) pieces)) (numbers_from (suc next) (end - suc next)))
-        (eq-eqb k next is)
+    (eq-eqb k next is)
     ∙ ap (λ n. same_numbers (scraps_in (drop (i + 1) pieces)) (numbers_from n (end - n))) step
 
 pub order-wrong : (pieces : List Piece) (i k next end : ℕ) (d : Piece) → i < length pieces
@@ -104,7 +104,7 @@ order-wrong pieces i k next end d lt e within differs =
     ap (λ ks. same_numbers ks (numbers_from next (end - next))) (scraps-on pieces i d k lt e)
     ∙ ap (same_numbers (k ∷ scraps_in (drop (i + 1) pieces))) (count-down next end within)
     ∙ ap (λ b. b && same_numbers (scraps_in (drop (i + 1) pieces)) (numbers_from (suc next) (end - suc next)))
-        (ne_eqb k next differs)
+    (ne_eqb k next differs)
 
 pub order-many : (pieces : List Piece) (i k next end : ℕ) (d : Piece) → i < length pieces → scrap_in (get_or pieces i d)
     ≡ Some k → next ≡ end → same_numbers (scraps_in (drop i pieces)) (numbers_from next (end - next)) ≡ false
@@ -135,15 +135,15 @@ pub parts-joined : (row : Row) (a b c d e : Bool) → a ≡ list_all (λ x. x) (
 unfolding row_is_sound
 parts-joined row a b c d e ea eb ec ed ee =
     let parts : ((((a && b) && c) && d) && e)
-        ≡ ((((list_all (λ x. x) (tests_parts row) && list_all (λ x. x) (pieces_parts row))
-        && list_all (λ x. x) (result_parts row)) && list_all (λ x. x) (marks_parts row))
-        && list_all (λ x. x) (counts_parts row)) = cc in
+    ≡ ((((list_all (λ x. x) (tests_parts row) && list_all (λ x. x) (pieces_parts row))
+    && list_all (λ x. x) (result_parts row)) && list_all (λ x. x) (marks_parts row))
+    && list_all (λ x. x) (counts_parts row)) = cc in
     parts
     ∙ ap (λ x. ((x && list_all (λ y. y) (result_parts row)) && list_all (λ y. y) (marks_parts row))
-        && list_all (λ y. y) (counts_parts row)) (sym (list_all-append (λ x. x) (tests_parts row) (pieces_parts row)))
+    && list_all (λ y. y) (counts_parts row)) (sym (list_all-append (λ x. x) (tests_parts row) (pieces_parts row)))
     ∙ ap (λ x. (x && list_all (λ y. y) (marks_parts row)) && list_all (λ y. y) (counts_parts row))
-        (sym (list_all-append (λ x. x) (tests_parts row ++ pieces_parts row) (result_parts row)))
+    (sym (list_all-append (λ x. x) (tests_parts row ++ pieces_parts row) (result_parts row)))
     ∙ ap (λ x. x && list_all (λ y. y) (counts_parts row))
-        (sym (list_all-append (λ x. x) ((tests_parts row ++ pieces_parts row) ++ result_parts row) (marks_parts row)))
+    (sym (list_all-append (λ x. x) ((tests_parts row ++ pieces_parts row) ++ result_parts row) (marks_parts row)))
     ∙ sym (list_all-append (λ x. x) (((tests_parts row ++ pieces_parts row) ++ result_parts row) ++ marks_parts row)
-        (counts_parts row))
+    (counts_parts row))

@@ -21,8 +21,10 @@ use Rattle.cw_table.proofs.WalkLaws.{NoneBelow, Turns, turning, next-nowhere, lt
 -- Above a place where no row fits, none fits below the next one.
 pub none-below-next : (rows : List Row) (st : State) (place : ℕ) → NoneBelow rows st place
     → first_of rows (drop place (cats_of st.scraps)) ≡ None → NoneBelow rows st (suc place)
-none-below-next rows st place below found = λ k less. elim (lt-or-is k place less) [ inl lower ↦ below k lower
-    | inr same ↦ ap (λ m. first_of rows (drop m (cats_of st.scraps))) same ∙ found ]
+none-below-next rows st place below found = λ k less. elim (lt-or-is k place less) [
+  | inl lower ↦ below k lower
+  | inr same ↦ ap (λ m. first_of rows (drop m (cats_of st.scraps))) same ∙ found
+]
 
 -- The turns.
 abbrev here : ℕ → State → Position
@@ -31,8 +33,8 @@ here place st = record { place = place; state = st }
 positions-step : (rows : List Row) (f : Flags) (n place : ℕ) (st : State) (b : Bool) (o : Option Row)
     → ltb place (length st.scraps) ≡ b → first_of rows (drop place (cats_of st.scraps)) ≡ o
     → positions_of rows f (least rows) (suc n) place st
-        ≡ step_of b o [] (here place st ∷ positions_of rows f (least rows) n (suc place) st) (λ r. here place st
-        ∷ positions_of rows f (least rows) n (place - least rows r) (rewrite f r place st))
+    ≡ step_of b o [] (here place st ∷ positions_of rows f (least rows) n (suc place) st) (λ r. here place st
+    ∷ positions_of rows f (least rows) n (place - least rows r) (rewrite f r place st))
 positions-step rows f n place st b o e found = step-is (ltb place (length st.scraps))
     (first_of rows (drop place (cats_of st.scraps))) b o [] _ _ e found
 
@@ -55,14 +57,14 @@ positions-same rows f (suc n) (suc m) place st all fine below a b = go (ltb plac
         let inside : place < length st.scraps = ltb-true _ _ e in
         positions-step rows f n place st true None e found
         ∙ ap (λ ps. here place st ∷ ps) (rec (suc place) st fine (none-below-next rows st place below found)
-            (omega arith) (omega arith))
+        (omega arith) (omega arith))
         ∙ sym (positions-step rows f m place st true None e found)
     go true (Some r) e found rec =
         let inside : place < length st.scraps = ltb-true _ _ e in
         let t = turning rows f st place r all fine below inside found in
         positions-step rows f n place st true (Some r) e found
         ∙ ap (λ ps. here place st ∷ ps) (rec (place - least rows r) (rewrite f r place st) t.takes.falls.fine t.below
-            (omega (arith, t.less)) (omega (arith, t.less)))
+        (omega (arith, t.less)) (omega (arith, t.less)))
         ∙ sym (positions-step rows f m place st true (Some r) e found)
 
 pub turns-end : (rows : List Row) (f : Flags) (place : ℕ) (st : State) → length st.scraps ≤ place
@@ -90,8 +92,8 @@ pub turns-past : (rows : List Row) (f : Flags) (place : ℕ) (st : State) → li
 unfolding positions
 turns-past rows f place st all fine below inside found =
     ap length (positions-step rows f (walk_left place st) place st true None (inside-is _ _ inside) found
-        ∙ ap (λ ps. here place st ∷ ps) (positions-same rows f (walk_left place st) (suc (walk_left (suc place) st))
-        (suc place) st all fine (none-below-next rows st place below found) (omega arith) (omega arith)))
+    ∙ ap (λ ps. here place st ∷ ps) (positions-same rows f (walk_left place st) (suc (walk_left (suc place) st))
+    (suc place) st all fine (none-below-next rows st place below found) (omega arith) (omega arith)))
     ∙ omega arith
 
 pub turns-taken : (rows : List Row) (f : Flags) (place : ℕ) (st : State) (r : Row) → list_all row_is_sound rows ≡ true
@@ -100,9 +102,9 @@ pub turns-taken : (rows : List Row) (f : Flags) (place : ℕ) (st : State) (r : 
 unfolding positions
 turns-taken rows f place st r all inside t =
     ap length (positions-step rows f (walk_left place st) place st true (Some r) (inside-is _ _ inside) t.takes.found
-        ∙ ap (λ ps. here place st ∷ ps) (positions-same rows f (walk_left place st)
-        (suc (walk_left (place - least rows r) (rewrite f r place st))) (place - least rows r) (rewrite f r place st)
-        all t.takes.falls.fine t.below (omega (arith, t.less)) (omega arith)))
+    ∙ ap (λ ps. here place st ∷ ps) (positions-same rows f (walk_left place st)
+    (suc (walk_left (place - least rows r) (rewrite f r place st))) (place - least rows r) (rewrite f r place st)
+    all t.takes.falls.fine t.below (omega (arith, t.less)) (omega arith)))
     ∙ omega arith
 
 -- each turn lowers what is left of the walk
@@ -120,19 +122,31 @@ turns-short rows f (suc n) place st all fine below = go (ltb place (length st.sc
     go false o e found rec = omega (arith, ap length (positions-step rows f n place st false o e found))
     go true None e found rec =
         let inside : place < length st.scraps = ltb-true _ _ e in
-        omega (arith, ap length (positions-step rows f n place st true None e found),
-            rec (suc place) st fine (none-below-next rows st place below found))
+        omega (
+          arith,
+          ap length (positions-step rows f n place st true None e found),
+          rec (suc place) st fine (none-below-next rows st place below found),
+        )
     go true (Some r) e found rec =
         let inside : place < length st.scraps = ltb-true _ _ e in
         let t = turning rows f st place r all fine below inside found in
-        omega (arith, ap length (positions-step rows f n place st true (Some r) e found), rec (place - least rows r)
-            (rewrite f r place st) t.takes.falls.fine t.below, t.less)
+        omega (
+          arith,
+          ap length (positions-step rows f n place st true (Some r) e found),
+          rec (place - least rows r)
+              (rewrite f r place st) t.takes.falls.fine t.below,
+          t.less,
+        )
 
 pub turns-most : (rows : List Row) (f : Flags) (st : State) → list_all row_is_sound rows ≡ true
     → list_all is_fine st.scraps ≡ true → turns rows f (least rows) 0 st ≤ 33 * length st.scraps
 unfolding positions
-turns-most rows f st all fine = omega (arith, turns-short rows f (suc (walk_left 0 st)) 0 st all fine
-    (λ k less. absurd (omega arith)), weight-most st.scraps)
+turns-most rows f st all fine = omega (
+  arith,
+  turns-short rows f (suc (walk_left 0 st)) 0 st all fine
+      (λ k less. absurd (omega arith)),
+  weight-most st.scraps,
+)
 
 -- at each turn no row fits below its place
 leftmost-of : (rows : List Row) (f : Flags) (n place : ℕ) (st : State) → list_all row_is_sound rows ≡ true
@@ -154,7 +168,7 @@ leftmost-of rows f (suc n) place st all fine below = go (ltb place (length st.sc
         let inside : place < length st.scraps = ltb-true _ _ e in
         let t = turning rows f st place r all fine below inside found in
         rw (positions-step rows f n place st true (Some r) e found) (All-cons (NoneFitsBelow rows) (here place st) _
-            below (rec (place - least rows r) (rewrite f r place st) t.takes.falls.fine t.below))
+        below (rec (place - least rows r) (rewrite f r place st) t.takes.falls.fine t.below))
 
 pub walk-leftmost : (rows : List Row) (f : Flags) (st : State) → list_all row_is_sound rows ≡ true
     → list_all is_fine st.scraps ≡ true → All (NoneFitsBelow rows) (positions rows f (least rows) 0 st)
@@ -166,18 +180,24 @@ walk-leftmost rows f st all fine = leftmost-of rows f (suc (walk_left 0 st)) 0 s
 none-looks : (rows : List Row) (f : Flags) (n : ℕ) (st : State) → next_place rows st ≡ Nowhere → looks_of rows f n st
     ≡ 0
 none-looks rows f zero st e = refl
-none-looks rows f (suc n) st e = ap (λ (p : Place). elim p [ Nowhere ↦ 0
-    | At i r ↦ right_of_new f r i st + looks_of rows f n (rewrite f r i st) ]) e
+none-looks rows f (suc n) st e = ap (λ (p : Place). elim p [
+  | Nowhere ↦ 0
+  | At i r ↦ right_of_new f r i st + looks_of rows f n (rewrite f r i st)
+]) e
 
 one-looks : (rows : List Row) (f : Flags) (n i : ℕ) (r : Row) (st : State) → next_place rows st ≡ At i r
     → looks_of rows f (suc n) st ≡ right_of_new f r i st + looks_of rows f n (rewrite f r i st)
-one-looks rows f n i r st e = ap (λ (p : Place). elim p [ Nowhere ↦ 0
-    | At j q ↦ right_of_new f q j st + looks_of rows f n (rewrite f q j st) ]) e
+one-looks rows f n i r st e = ap (λ (p : Place). elim p [
+  | Nowhere ↦ 0
+  | At j q ↦ right_of_new f q j st + looks_of rows f n (rewrite f q j st)
+]) e
 
 one-reservings : (rows : List Row) (f : Flags) (n i : ℕ) (r : Row) (st : State) → next_place rows st ≡ At i r
     → reservings_of rows f (suc n) st ≡ where_reserving r.action.reserve 1 + reservings_of rows f n (rewrite f r i st)
-one-reservings rows f n i r st e = ap (λ (p : Place). elim p [ Nowhere ↦ 0
-    | At j q ↦ where_reserving q.action.reserve 1 + reservings_of rows f n (rewrite f q j st) ]) e
+one-reservings rows f n i r st e = ap (λ (p : Place). elim p [
+  | Nowhere ↦ 0
+  | At j q ↦ where_reserving q.action.reserve 1 + reservings_of rows f n (rewrite f q j st)
+]) e
 
 looks-same : (rows : List Row) (f : Flags) (n m : ℕ) (st : State) → list_all row_is_sound rows ≡ true
     → list_all is_fine st.scraps ≡ true → weight st.scraps ≤ n → weight st.scraps ≤ m → looks_of rows f n st
@@ -198,7 +218,7 @@ looks-step rows f st i r all fine e =
     looks-same rows f (weight st.scraps) (suc (weight st.scraps)) st all fine (omega arith) (omega arith)
     ∙ one-looks rows f (weight st.scraps) i r st e
     ∙ ap (λ x. right_of_new f r i st + x) (looks-same rows f (weight st.scraps) (weight (rewrite f r i st).scraps)
-        (rewrite f r i st) all t.fine (omega (arith, t.lighter)) (omega arith))
+    (rewrite f r i st) all t.fine (omega (arith, t.lighter)) (omega arith))
 
 sum-most : (o : Option ℕ) (right more v most : ℕ) → right ≤ most → more ≤ most * v
     → where_reserving o right + more ≤ most * (where_reserving o 1 + v)
@@ -220,9 +240,9 @@ looks-most-of rows f (suc n) most st all fine short = go (λ s. looks-most-of ro
         let t = (takes rows f st i r all fine e).falls in
         let less : length (rewrite f r i st).scraps ≤ most = omega (arith, t.shorter) in
         let sum : right_of_new f r i st + looks_of rows f n (rewrite f r i st) ≤ most
-            * (where_reserving r.action.reserve 1 + reservings_of rows f n (rewrite f r i st)) =
-            sum-most r.action.reserve (length (rewrite f r i st).scraps - (i + r.offset + 1)) _ _ most (omega arith)
-            (rec (rewrite f r i st) t.fine less) in
+        * (where_reserving r.action.reserve 1 + reservings_of rows f n (rewrite f r i st)) =
+        sum-most r.action.reserve (length (rewrite f r i st).scraps - (i + r.offset + 1)) _ _ most (omega arith)
+        (rec (rewrite f r i st) t.fine less) in
         rw (one-looks rows f n i r st e, one-reservings rows f n i r st e) sum
 
 pub looks-most : (rows : List Row) (f : Flags) (st : State) → list_all row_is_sound rows ≡ true
@@ -236,8 +256,12 @@ pub ticks-end : (rows : List Row) (f : Flags) (place : ℕ) (st : State) → Non
     → length st.scraps ≤ place → ticks_from rows f place st ≡ 0
 ticks-end rows f place st below past =
     let long = cats-length st.scraps in
-    omega (arith, turns-end rows f place st past, looks-none rows f st
-        (next-nowhere rows 0 (cats_of st.scraps) (λ k less. below k (omega arith))))
+    omega (
+      arith,
+      turns-end rows f place st past,
+      looks-none rows f st
+          (next-nowhere rows 0 (cats_of st.scraps) (λ k less. below k (omega arith))),
+    )
 
 pub ticks-past : (rows : List Row) (f : Flags) (place : ℕ) (st : State) → list_all row_is_sound rows ≡ true
     → list_all is_fine st.scraps ≡ true → NoneBelow rows st place → place < length st.scraps
@@ -250,8 +274,11 @@ pub ticks-taken : (rows : List Row) (f : Flags) (place : ℕ) (st : State) (r : 
     → list_all is_fine st.scraps ≡ true → place < length st.scraps → Turns rows f st place r
     → ticks_from rows f place st ≡ 4 + (right_of_new f r place st + ticks_from rows f (place - least rows r)
     (rewrite f r place st))
-ticks-taken rows f place st r all fine inside t = omega (arith, turns-taken rows f place st r all inside t,
-    looks-step rows f st place r all fine t.next)
+ticks-taken rows f place st r all fine inside t = omega (
+  arith,
+  turns-taken rows f place st r all inside t,
+  looks-step rows f st place r all fine t.next,
+)
 
 -- At most 132 steps for each scrap, and as many more as there are scraps for each production by a row that reserves.
 pub ticks-most : (rows : List Row) (f : Flags) (st : State) → list_all row_is_sound rows ≡ true

@@ -65,11 +65,11 @@ room r cs s fits = go (leb (r.offset + r.replaced) (length cs)) refl
         let long : length (tests_of r) ≡ r.test_count = tests-length r s in
         let within : r.offset + r.replaced ≤ r.test_count = s.replaced_tested in
         let holds : in_set (test r (r.offset + r.replaced - 1)) (get_or cs (r.offset + r.replaced - 1) End) ≡ true =
-            hold-at (tests_of r) cs (r.offset + r.replaced - 1) fits (omega arith) in
+        hold-at (tests_of r) cs (r.offset + r.replaced - 1) fits (omega arith) in
         let ends : get_or cs (r.offset + r.replaced - 1) End ≡ End =
-            get_or_past cs (r.offset + r.replaced - 1) End past in
+        get_or_past cs (r.offset + r.replaced - 1) End past in
         let never : in_set (test r (r.offset + r.replaced - 1)) End ≡ false =
-            s.replaced_not_end (r.offset + r.replaced - 1) (omega arith) (omega arith) in
+        s.replaced_not_end (r.offset + r.replaced - 1) (omega arith) (omega arith) in
         absurd (true≢false (sym holds ∙ ap (λ c. in_set (test r (r.offset + r.replaced - 1)) c) ends ∙ never))
 
 -- the pieces hold what is replaced
@@ -102,9 +102,9 @@ one-lowers r xs s fits e =
     let within : r.offset + r.replaced ≤ r.test_count = s.replaced_tested in
     let long : length (tests_of r) ≡ r.test_count = tests-length r s in
     let holds : in_set (test r r.offset) (get_or (cats_of xs) r.offset End) ≡ true =
-        hold-at (tests_of r) (cats_of xs) r.offset fits (omega arith) in
+    hold-at (tests_of r) (cats_of xs) r.offset fits (omega arith) in
     s.lowers_one e (get_or xs r.offset no_scrap).cat (sym (ap (λ c. in_set (test r r.offset) c) (cats-get xs r.offset))
-        ∙ holds)
+    ∙ holds)
 
 result-one : (res : RowResult) (cs : List Cat) (old : Cat) → rank (result_from res old) < rank old → result_at res cs
     ≡ result_from res old
@@ -141,7 +141,7 @@ one-falls : (r : Row) (xs : List Scrap) → IsSound r → row_fits r (cats_of xs
 one-falls r xs s fits e =
     let l = one-lowers r xs s fits e in
     let same : result_at r.result (cats_of xs) ≡ result_from r.result (get_or xs r.offset no_scrap).cat =
-        result-one r.result (cats_of xs) (get_or xs r.offset no_scrap).cat l.rank_falls in
+    result-one r.result (cats_of xs) (get_or xs r.offset no_scrap).cat l.rank_falls in
     rw same l.rank_falls
 
 one-stays : (r : Row) (xs : List Scrap) → IsSound r → row_fits r (cats_of xs) ≡ true → r.replaced ≡ 1
@@ -149,7 +149,7 @@ one-stays : (r : Row) (xs : List Scrap) → IsSound r → row_fits r (cats_of xs
 one-stays r xs s fits e is =
     let l = one-lowers r xs s fits e in
     let same : result_at r.result (cats_of xs) ≡ result_from r.result (get_or xs r.offset no_scrap).cat =
-        result-one r.result (cats_of xs) (get_or xs r.offset no_scrap).cat l.rank_falls in
+    result-one r.result (cats_of xs) (get_or xs r.offset no_scrap).cat l.rank_falls in
     ap may_be_bare same ∙ l.bare_stays_allowed is
 
 -- the new scrap weighs less than what it replaces
@@ -169,8 +169,10 @@ new-weight f r xs s fits fine = go (alone r.replaced (row_pieces f r (cats_of xs
     some = s.some_replaced
 
     go : (o : Option ℕ) → alone r.replaced (row_pieces f r (cats_of xs)) ≡ o
-        → weight_of (elim o [ Some k ↦ with_cat (result_at r.result (cats_of xs)) (get_or xs k no_scrap)
-        | None ↦ join (result_at r.result (cats_of xs)) (map (joined_of xs) (row_pieces f r (cats_of xs))) ])
+        → weight_of (elim o [
+          | Some k ↦ with_cat (result_at r.result (cats_of xs)) (get_or xs k no_scrap)
+          | None ↦ join (result_at r.result (cats_of xs)) (map (joined_of xs) (row_pieces f r (cats_of xs)))
+        ])
         < weight (take r.replaced (drop r.offset xs))
     go None e = more (one-or-more r.replaced some)
       where
@@ -179,24 +181,35 @@ new-weight f r xs s fits fine = go (alone r.replaced (row_pieces f r (cats_of xs
             < weight (take r.replaced (drop r.offset xs))
         more (inl one) =
             let w : weight (take r.replaced (drop r.offset xs)) ≡ weight_of (get_or xs r.offset no_scrap) =
-                ap (λ k. weight (take k (drop r.offset xs))) one ∙ weight-one xs r.offset (omega (arith, there)) in
-            omega (arith, joined (map (joined_of xs) (row_pieces f r (cats_of xs))), one-falls r xs s fits one,
-                rank_with-least (get_or xs r.offset no_scrap).cat (bare_name (get_or xs r.offset no_scrap).tree))
+            ap (λ k. weight (take k (drop r.offset xs))) one ∙ weight-one xs r.offset (omega (arith, there)) in
+            omega (
+              arith,
+              joined (map (joined_of xs) (row_pieces f r (cats_of xs))),
+              one-falls r xs s fits one,
+              rank_with-least (get_or xs r.offset no_scrap).cat (bare_name (get_or xs r.offset no_scrap).tree),
+            )
         more (inr two) =
             let long : length (take r.replaced (drop r.offset xs)) ≡ r.replaced =
-                length-take-le r.replaced (drop r.offset xs) (omega (arith, there, length-drop r.offset xs)) in
-            omega (arith, joined (map (joined_of xs) (row_pieces f r (cats_of xs))),
-                rank-most (result_at r.result (cats_of xs)), weight-least (take r.replaced (drop r.offset xs)))
+            length-take-le r.replaced (drop r.offset xs) (omega (arith, there, length-drop r.offset xs)) in
+            omega (
+              arith,
+              joined (map (joined_of xs) (row_pieces f r (cats_of xs))),
+              rank-most (result_at r.result (cats_of xs)),
+              weight-least (take r.replaced (drop r.offset xs)),
+            )
     go (Some n) e =
         let p = alone-at f r (cats_of xs) n s e in
         let w : weight (take r.replaced (drop r.offset xs)) ≡ weight_of (get_or xs r.offset no_scrap) =
-            ap (λ k. weight (take k (drop r.offset xs))) p.0 ∙ weight-one xs r.offset (omega (arith, there)) in
+        ap (λ k. weight (take k (drop r.offset xs))) p.0 ∙ weight-one xs r.offset (omega (arith, there)) in
         let fall : rank (result_at r.result (cats_of xs)) < rank (get_or xs r.offset no_scrap).cat =
-            one-falls r xs s fits p.0 in
+        one-falls r xs s fits p.0 in
         let is : is_fine (get_or xs r.offset no_scrap) ≡ true =
-            all-get is_fine xs r.offset no_scrap (omega (arith, there)) fine in
-        rw (w, p.1) (omega (arith, lower-with (get_or xs r.offset no_scrap).cat (result_at r.result (cats_of xs))
-            (bare_name (get_or xs r.offset no_scrap).tree) fall is))
+        all-get is_fine xs r.offset no_scrap (omega (arith, there)) fine in
+        rw (w, p.1) (omega (
+          arith,
+          lower-with (get_or xs r.offset no_scrap).cat (result_at r.result (cats_of xs))
+              (bare_name (get_or xs r.offset no_scrap).tree) fall is,
+        ))
 
 pub new-fine : (f : Flags) (r : Row) (xs : List Scrap) → IsSound r → row_fits r (cats_of xs) ≡ true
     → list_all is_fine xs ≡ true → is_fine (new_scrap f r xs) ≡ true
@@ -206,18 +219,20 @@ new-fine f r xs s fits fine = go (alone r.replaced (row_pieces f r (cats_of xs))
     there = rw (← cats-length xs) (room r (cats_of xs) s fits)
 
     go : (o : Option ℕ) → alone r.replaced (row_pieces f r (cats_of xs)) ≡ o
-        → is_fine (elim o [ Some k ↦ with_cat (result_at r.result (cats_of xs)) (get_or xs k no_scrap)
-        | None ↦ join (result_at r.result (cats_of xs)) (map (joined_of xs) (row_pieces f r (cats_of xs))) ]) ≡ true
+        → is_fine (elim o [
+          | Some k ↦ with_cat (result_at r.result (cats_of xs)) (get_or xs k no_scrap)
+          | None ↦ join (result_at r.result (cats_of xs)) (map (joined_of xs) (row_pieces f r (cats_of xs)))
+        ]) ≡ true
     go None e = ap (λ b. fine_with (result_at r.result (cats_of xs)) b)
         (joined-bare Maybe (map (joined_of xs) (row_pieces f r (cats_of xs))))
     go (Some n) e =
         let p = alone-at f r (cats_of xs) n s e in
         let fall : rank (result_at r.result (cats_of xs)) < rank (get_or xs r.offset no_scrap).cat =
-            one-falls r xs s fits p.0 in
+        one-falls r xs s fits p.0 in
         let is : is_fine (get_or xs r.offset no_scrap) ≡ true =
-            all-get is_fine xs r.offset no_scrap (omega (arith, there)) fine in
+        all-get is_fine xs r.offset no_scrap (omega (arith, there)) fine in
         rw p.1 (fine-with (get_or xs r.offset no_scrap).cat (result_at r.result (cats_of xs))
-            (bare_name (get_or xs r.offset no_scrap).tree) fall (one-stays r xs s fits p.0) is)
+        (bare_name (get_or xs r.offset no_scrap).tree) fall (one-stays r xs s fits p.0) is)
 
 -- Rewriting as a whole. The identifier is reserved first, which changes no category and raises no weight.
 at-fits : (r : Row) (ps : List Scrap) → row_fits r (cats_of ps) ≡ true
@@ -232,11 +247,18 @@ pub from-weight : (f : Flags) (r : Row) (ps : List Scrap) → IsSound r → row_
     → list_all is_fine ps ≡ true → weight (rewrite_from f r ps) < weight ps
 from-weight f r ps s fits fine =
     let w = new-weight f r (reserved_at r.action.reserve ps) s (at-fits r ps fits) (at-fine r.action.reserve ps fine) in
-    omega (arith, w, weight-append (take r.offset (reserved_at r.action.reserve ps))
-        (new_scrap f r (reserved_at r.action.reserve ps) ∷ named_right (search_in r.action.reserve ps)
-        (drop (r.offset + r.replaced) (reserved_at r.action.reserve ps))), right-weight (search_in r.action.reserve ps)
-        (drop (r.offset + r.replaced) (reserved_at r.action.reserve ps)), parts-weight r.offset r.replaced
-        (reserved_at r.action.reserve ps), at-weight r.action.reserve ps)
+    omega (
+      arith,
+      w,
+      weight-append (take r.offset (reserved_at r.action.reserve ps))
+          (new_scrap f r (reserved_at r.action.reserve ps) ∷ named_right (search_in r.action.reserve ps)
+          (drop (r.offset + r.replaced) (reserved_at r.action.reserve ps))),
+      right-weight (search_in r.action.reserve ps)
+          (drop (r.offset + r.replaced) (reserved_at r.action.reserve ps)),
+      parts-weight r.offset r.replaced
+          (reserved_at r.action.reserve ps),
+      at-weight r.action.reserve ps,
+    )
 
 pub from-fine : (f : Flags) (r : Row) (ps : List Scrap) → IsSound r → row_fits r (cats_of ps) ≡ true
     → list_all is_fine ps ≡ true → list_all is_fine (rewrite_from f r ps) ≡ true
@@ -244,8 +266,8 @@ from-fine f r ps s fits fine =
     let all = at-fine r.action.reserve ps fine in
     all-append is_fine (take r.offset (reserved_at r.action.reserve ps)) _ (all-take is_fine r.offset _ all)
     (and-both _ _ (new-fine f r (reserved_at r.action.reserve ps) s (at-fits r ps fits) all)
-        (right-fine (search_in r.action.reserve ps) (drop (r.offset + r.replaced) (reserved_at r.action.reserve ps))
-        (all-drop is_fine (r.offset + r.replaced) _ all)))
+    (right-fine (search_in r.action.reserve ps) (drop (r.offset + r.replaced) (reserved_at r.action.reserve ps))
+    (all-drop is_fine (r.offset + r.replaced) _ all)))
 
 pub from-length : (f : Flags) (r : Row) (ps : List Scrap) → IsSound r → row_fits r (cats_of ps) ≡ true
     → length (rewrite_from f r ps) + r.replaced ≡ length ps + 1
@@ -254,12 +276,18 @@ from-length f r ps s fits =
     let same = cats-length ps in
     let long = at-length r.action.reserve ps in
     let front : length (take r.offset (reserved_at r.action.reserve ps)) ≡ r.offset =
-        length-take-le r.offset (reserved_at r.action.reserve ps) (omega arith) in
-    omega (arith, front, length-append (take r.offset (reserved_at r.action.reserve ps))
-        (new_scrap f r (reserved_at r.action.reserve ps) ∷ named_right (search_in r.action.reserve ps)
-        (drop (r.offset + r.replaced) (reserved_at r.action.reserve ps))), right-length (search_in r.action.reserve ps)
-        (drop (r.offset + r.replaced) (reserved_at r.action.reserve ps)), length-drop (r.offset + r.replaced)
-        (reserved_at r.action.reserve ps))
+    length-take-le r.offset (reserved_at r.action.reserve ps) (omega arith) in
+    omega (
+      arith,
+      front,
+      length-append (take r.offset (reserved_at r.action.reserve ps))
+          (new_scrap f r (reserved_at r.action.reserve ps) ∷ named_right (search_in r.action.reserve ps)
+          (drop (r.offset + r.replaced) (reserved_at r.action.reserve ps))),
+      right-length (search_in r.action.reserve ps)
+          (drop (r.offset + r.replaced) (reserved_at r.action.reserve ps)),
+      length-drop (r.offset + r.replaced)
+          (reserved_at r.action.reserve ps),
+    )
 
 -- What one production gives.
 pub record Falls (f : Flags) (r : Row) (i : ℕ) (st : State) : Type 0 where
@@ -272,15 +300,26 @@ pub falls : (f : Flags) (r : Row) (i : ℕ) (st : State) → IsSound r → row_f
     → list_all is_fine st.scraps ≡ true → i ≤ length st.scraps → Falls f r i st
 falls f r i st s fits fine inside =
     let here : row_fits r (cats_of (drop i st.scraps)) ≡ true = ap (λ cs. row_fits r cs) (cats-drop i st.scraps)
-        ∙ fits in
+    ∙ fits in
     let rest = all-drop is_fine i st.scraps fine in
     let front : length (take i st.scraps) ≡ i = length-take-le i st.scraps inside in
     record {
-      lighter = omega (arith, from-weight f r (drop i st.scraps) s here rest, weight-append (take i st.scraps)
-          (rewrite_from f r (drop i st.scraps)), weight-split i st.scraps);
+      lighter = omega (
+        arith,
+        from-weight f r (drop i st.scraps) s here rest,
+        weight-append (take i st.scraps)
+            (rewrite_from f r (drop i st.scraps)),
+        weight-split i st.scraps,
+      );
       fine = all-append is_fine (take i st.scraps) _ (all-take is_fine i st.scraps fine)
           (from-fine f r (drop i st.scraps) s here rest);
-      shorter = omega (arith, front, from-length f r (drop i st.scraps) s here, length-append (take i st.scraps)
-          (rewrite_from f r (drop i st.scraps)), length-drop i st.scraps);
+      shorter = omega (
+        arith,
+        front,
+        from-length f r (drop i st.scraps) s here,
+        length-append (take i st.scraps)
+            (rewrite_from f r (drop i st.scraps)),
+        length-drop i st.scraps,
+      );
       some = s.some_replaced;
     }

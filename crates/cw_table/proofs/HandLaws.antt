@@ -48,14 +48,14 @@ row-at i lt =
     ap (λ rows. slice_get rows i) (sym zipped-is)
     ∙ zipped-get TESTS USUAL OTHER HEADS i [] [] [] no_head (omega arith) (omega arith) (omega arith) (omega arith) in
     let numbered : row_numbered productions (i + 1) ≡ Some (row_at i) =
-        numbered-at productions 1 i (i + 1) (row_at i) (omega arith) productions-numbered at in
+    numbered-at productions 1 i (i + 1) (row_at i) (omega arith) productions-numbered at in
     sym (ap (λ (o : Option Row). unwrap_or o no_row) numbered)
 
 -- the row of a number is sound
 pub row-sound : (n : ℕ) → 1 ≤ n → n ≤ ROW_COUNT → row_is_sound (row_of productions n) ≡ true
 row-sound n from to =
     let found : row_numbered productions n ≡ Some (get_or productions (n - 1) no_row) =
-        numbered-row productions productions n no_row refl refl from (omega (arith, productions-length)) in
+    numbered-row productions productions n no_row refl refl from (omega (arith, productions-length)) in
     ap row_is_sound (ap (λ (o : Option Row). unwrap_or o no_row) found)
     ∙ numbered-sound productions (n - 1) no_row refl (omega (arith, productions-length))
 
@@ -63,12 +63,12 @@ row-sound n from to =
 usual-places : (i : ℕ) → i < ROW_COUNT → length (get_or USUAL i []) ≡ 12
 usual-places i lt =
     eqb-true _ _ (each-of (λ ps. eqb (length ps) 12) USUAL i (get_or USUAL i []) refl
-        (slice_get-get_or USUAL i [] (omega arith)))
+    (slice_get-get_or USUAL i [] (omega arith)))
 
 other-places : (i : ℕ) → i < ROW_COUNT → length (get_or OTHER i []) ≡ 12
 other-places i lt =
     eqb-true _ _ (each-of (λ ps. eqb (length ps) 12) OTHER i (get_or OTHER i []) refl
-        (slice_get-get_or OTHER i [] (omega arith)))
+    (slice_get-get_or OTHER i [] (omega arith)))
 
 -- a counted piece is one of the places
 taken : (ps : List Piece) (count i : ℕ) (d : Piece) → i < length (take count ps) → slice_get (take count ps) i
@@ -101,14 +101,14 @@ pub usual-pieces : (i : ℕ) (other : Bool) (row : Row) → i < ROW_COUNT → ot
     → HasPieces other (get_or USUAL i []) (get_or HEADS i no_head).usual_count row
 usual-pieces i other row lt off is =
     let s : IsSound (row_at i) = sound-row (row_at i) (ap row_is_sound (row-at i lt)
-        ∙ row-sound (i + 1) (omega arith) (omega arith)) in
+    ∙ row-sound (i + 1) (omega arith) (omega arith)) in
     has other (get_or USUAL i []) (get_or HEADS i no_head).usual_count row (ap (λ b. pieces_by b row) off
-        ∙ ap (pieces_by false) (sym (row-at i lt ∙ is))) s.usual_short (usual-places i lt)
+    ∙ ap (pieces_by false) (sym (row-at i lt ∙ is))) s.usual_short (usual-places i lt)
 
 pub other-pieces : (i : ℕ) (other : Bool) (row : Row) → i < ROW_COUNT → other ≡ true → row_of productions (i + 1) ≡ row
     → HasPieces other (get_or OTHER i []) (get_or HEADS i no_head).other_count row
 other-pieces i other row lt on is =
     let s : IsSound (row_at i) = sound-row (row_at i) (ap row_is_sound (row-at i lt)
-        ∙ row-sound (i + 1) (omega arith) (omega arith)) in
+    ∙ row-sound (i + 1) (omega arith) (omega arith)) in
     has other (get_or OTHER i []) (get_or HEADS i no_head).other_count row (ap (λ b. pieces_by b row) on
-        ∙ ap (pieces_by true) (sym (row-at i lt ∙ is))) s.other_short (other-places i lt)
+    ∙ ap (pieces_by true) (sym (row-at i lt ∙ is))) s.other_short (other-places i lt)

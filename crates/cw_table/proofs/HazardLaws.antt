@@ -169,8 +169,8 @@ pub is-joined : (row other : Row) (q : ℕ) (new : Cat) (o t : CatSet) (m h : Bo
     → (h && (leaves o t || (m && some_of o))) ≡ list_any (brings row other q) (pairs_of row)
 is-joined row other q new o t m h e eo et em eh =
     let same : (h && (leaves o t || (m && some_of o)))
-        ≡ (in_set (test other q) new && (leaves (test row row.offset) (test other q)
-        || (sees_moved row other q && some_of (test row row.offset)))) = cc in
+    ≡ (in_set (test other q) new && (leaves (test row row.offset) (test other q)
+    || (sees_moved row other q && some_of (test row row.offset)))) = cc in
     same ∙ sym (pairs-is row other q new e)
 
 pub same-joined : (row other : Row) (q k : ℕ) (o t : CatSet) (m h : Bool) → row.result ≡ SameAs k → k ≡ row.offset
@@ -185,8 +185,8 @@ pub other-joined : (row other : Row) (q k : ℕ) (o t s : CatSet) (m h : Bool) �
     → h ≡ meet s t → (h && (leaves o t || (m && some_of o))) ≡ list_any (brings row other q) (pairs_of row)
 other-joined row other q k o t s m h e apart eo et es em eh =
     let same : (h && (leaves o t || (m && some_of o)))
-        ≡ (meet (test row k) (test other q) && (leaves (test row row.offset) (test other q)
-        || (sees_moved row other q && some_of (test row row.offset)))) = cc in
+    ≡ (meet (test row k) (test other q) && (leaves (test row row.offset) (test other q)
+    || (sees_moved row other q && some_of (test row row.offset)))) = cc in
     same ∙ sym (pairs-other row other q k e apart)
 
 -- Going over the rows.
@@ -196,7 +196,7 @@ pub endangered-some : (rows now : List Row) (row : Row) (places i : ℕ) (d : Ro
 unfolding endangers
 endangered-some rows now row places i d view lt h =
     sym (ap (list_any (λ other. is_hazard row other places)) (sym view)
-        ∙ list_any_at (λ other. is_hazard row other places) rows i d lt h)
+    ∙ list_any_at (λ other. is_hazard row other places) rows i d lt h)
 
 pub endangered-none : (rows now : List Row) (row : Row) (places i : ℕ) → rows ≡ now → length rows ≤ i
     → list_any (λ other. is_hazard row other places) (take i rows) ≡ false → false ≡ endangers now row places

@@ -52,7 +52,7 @@ mask-is cat n q d e is h =
     ap (λ k. get_or (get_or MASKS k d) q e) is
     ∙ ap (λ ms. get_or (get_or ms (number_of cat) d) q e) masks-are
     ∙ ap (λ ms. get_or ms q e) (get_or-map masks_at all_cats (number_of cat) End d
-        (slice_get_within all_cats (number_of cat) cat (place-of cat)))
+    (slice_get_within all_cats (number_of cat) cat (place-of cat)))
     ∙ ap (λ c. get_or (masks_at c) q e) (get_or_from_slice_get all_cats (number_of cat) cat End (place-of cat))
     ∙ four-get (λ p. mask_of productions p cat) q e h
 
@@ -100,16 +100,26 @@ four-tests (t ∷ u ∷ []) a b c e h = two (in_set t a) (in_set u b)
     two false y = refl
 four-tests (t ∷ u ∷ v ∷ []) a b c e h = three (in_set t a) (in_set u b) (in_set v c)
   where
-    three : (x y z : Bool) → elim x [ true ↦ elim y [ true ↦ elim z [ true ↦ true | false ↦ false ] | false ↦ false ]
-        | false ↦ false ] ≡ (((x && y) && z) && true)
+    three : (x y z : Bool) → elim x [
+      | true ↦ elim y [ true ↦ elim z [ true ↦ true | false ↦ false ] | false ↦ false ]
+      | false ↦ false
+    ] ≡ (((x && y) && z) && true)
     three true true true = refl
     three true true false = refl
     three true false z = refl
     three false y z = refl
 four-tests (t ∷ u ∷ v ∷ w ∷ []) a b c e h = four (in_set t a) (in_set u b) (in_set v c) (in_set w e)
   where
-    four : (x y z s : Bool) → elim x [ true ↦ elim y [ true ↦ elim z [ true ↦ elim s [ true ↦ true | false ↦ false ]
-        | false ↦ false ] | false ↦ false ] | false ↦ false ] ≡ (((x && y) && z) && s)
+    four : (x y z s : Bool) → elim x [
+      | true ↦ elim y [
+        | true ↦ elim z [
+          | true ↦ elim s [ true ↦ true | false ↦ false ]
+          | false ↦ false
+        ]
+        | false ↦ false
+      ]
+      | false ↦ false
+    ] ≡ (((x && y) && z) && s)
     four true true true true = refl
     four true true true false = refl
     four true true false s = refl
@@ -124,9 +134,9 @@ admit-fits : (row : Row) (a b c e : Cat) → IsSound row → all_admit a b c e r
 admit-fits row a b c e sound =
     let count : length (tests_of row) ≡ row.test_count = length-tests_of row sound in
     ap (λ n. (((leb n 0 || in_set (get_or (tests_of row) 0 empty) a)
-        && (leb n 1 || in_set (get_or (tests_of row) 1 empty) b))
-        && (leb n 2 || in_set (get_or (tests_of row) 2 empty) c))
-        && (leb n 3 || in_set (get_or (tests_of row) 3 empty) e)) (sym count)
+    && (leb n 1 || in_set (get_or (tests_of row) 1 empty) b))
+    && (leb n 2 || in_set (get_or (tests_of row) 2 empty) c))
+    && (leb n 3 || in_set (get_or (tests_of row) 3 empty) e)) (sym count)
     ∙ sym (four-tests (tests_of row) a b c e (omega (arith, count, sound.four_tests)))
 
 map-fits : (rows : List Row) (a b c e : Cat) → list_all row_is_sound rows ≡ true → map (all_admit a b c e) rows
@@ -157,11 +167,11 @@ no-mask (row ∷ rows) cats h = go (row_fits row cats) refl (no-mask rows cats)
         → first_of (row ∷ rows) cats ≡ None
     go true e rest =
         let m : cond true 1 0 + 2 * mask_l (map (λ r. row_fits r cats) rows) ≡ 0 =
-            ap (λ b. cond b 1 0 + 2 * mask_l (map (λ r. row_fits r cats) rows)) (sym e) ∙ h in
+        ap (λ b. cond b 1 0 + 2 * mask_l (map (λ r. row_fits r cats) rows)) (sym e) ∙ h in
         absurd (omega arith)
     go false e rest =
         let m : cond false 1 0 + 2 * mask_l (map (λ r. row_fits r cats) rows) ≡ 0 =
-            ap (λ b. cond b 1 0 + 2 * mask_l (map (λ r. row_fits r cats) rows)) (sym e) ∙ h in
+        ap (λ b. cond b 1 0 + 2 * mask_l (map (λ r. row_fits r cats) rows)) (sym e) ∙ h in
         first-behind row rows cats e ∙ rest (omega arith)
 
 abbrev fit_mask : List Row → List Cat → ℕ
@@ -183,15 +193,15 @@ lowest-mask (row ∷ rows) first cats numbered h = go (row_fits row cats) refl
     go true e rest =
         ap (option_map (λ r. r.number)) (first-here row rows cats e)
         ∙ ap (λ n. Some (record { number = n })) (eqb-true _ _ (both-left _ _ numbered) ∙ sym (add-zero first)
-            ∙ ap (λ b. first + cond (not b) (1 + misfits rows cats) 0) (sym e))
+        ∙ ap (λ b. first + cond (not b) (1 + misfits rows cats) 0) (sym e))
     go false e rest =
         let m : 0 < cond false 1 0 + 2 * fit_mask rows cats = subst (λ b. 0 < cond b 1 0 + 2 * fit_mask rows cats) e
-            h in
+        h in
         let next : suc first + misfits rows cats ≡ first + (1 + misfits rows cats) = omega arith in
         ap (option_map (λ r. r.number)) (first-behind row rows cats e)
         ∙ rest (omega arith)
         ∙ ap (λ n. Some (record { number = n })) (next
-            ∙ ap (λ b. first + cond (not b) (1 + misfits rows cats) 0) (sym e))
+        ∙ ap (λ b. first + cond (not b) (1 + misfits rows cats) 0) (sym e))
 
 -- the meeting of the masks of a window
 abbrev pub met : List Cat → Cat → ℕ
@@ -220,7 +230,7 @@ pub none-met : (w : List Cat) (d : Cat) (m0 m1 m2 m3 : ℕ) → length w ≡ 4 �
     → None ≡ option_map (λ row. row.number) (first_of productions w)
 none-met w d m0 m1 m2 m3 len e0 e1 e2 e3 none =
     sym (ap (option_map (λ row. row.number)) (no-mask productions w (sym (met-by w d m0 m1 m2 m3 len e0 e1 e2 e3)
-        ∙ none)))
+    ∙ none)))
 
 pub first-met : (w : List Cat) (d : Cat) (m0 m1 m2 m3 : ℕ) → length w ≡ 4 → m0 ≡ mask_of productions 0 (get_or w 0 d)
     → m1 ≡ mask_of productions 1 (get_or w 1 d) → m2 ≡ mask_of productions 2 (get_or w 2 d)
@@ -229,13 +239,13 @@ pub first-met : (w : List Cat) (d : Cat) (m0 m1 m2 m3 : ℕ) → length w ≡ 4 
     ≡ option_map (λ row. row.number) (first_of productions w)
 first-met w d m0 m1 m2 m3 len e0 e1 e2 e3 some =
     let mask : bit_and (bit_and (bit_and m0 m1) m2) m3 ≡ fit_mask productions w =
-        met-by w d m0 m1 m2 m3 len e0 e1 e2 e3 in
+    met-by w d m0 m1 m2 m3 len e0 e1 e2 e3 in
     let positive : 0 < fit_mask productions w = subst (λ k. 0 < k) mask (omega (arith, some)) in
     let lowest : count_trailing_zeros 128 (bit_and (bit_and (bit_and m0 m1) m2) m3) ≡ misfits productions w =
     ap (count_trailing_zeros 128) mask
     ∙ trailing_mask_l (λ row. row_fits row w) 128 productions (omega (arith, productions-length)) positive in
     sym (lowest-mask productions 1 w productions-numbered positive
-        ∙ ap (λ n. Some (record { number = n })) (omega arith))
+    ∙ ap (λ n. Some (record { number = n })) (omega arith))
 
 -- some bit of the masks of two places: some row admits the two categories there
 any-mask : (p : Row → Bool) (rows : List Row) → not (eqb (mask_l (map p rows)) 0) ≡ list_any p rows
@@ -262,7 +272,7 @@ pub two-met : (a b : Cat) (m0 m1 : ℕ) → m0 ≡ mask_of productions 0 a → m
 two-met a b m0 m1 e0 e1 =
     let is : bit_and m0 m1 ≡ bit_and (mask_of productions 0 a) (mask_of productions 1 b) = cc in
     ap (λ m. not (eqb m 0)) (is ∙ and-masks (admits 0 a) (admits 1 b) productions)
-        ∙ any-mask (two_admit a b) productions
+    ∙ any-mask (two_admit a b) productions
 
 -- no row admits the two: none fits
 pub two-none : (a b : Cat) → list_any (two_admit a b) productions ≡ false → (c e : Cat)
@@ -275,7 +285,7 @@ two-none a b none c e = no-mask productions (a ∷ b ∷ c ∷ e ∷ []) (sym (m
     zero-two : bit_and (mask_of productions 0 a) (mask_of productions 1 b) ≡ 0
     zero-two =
         let is : bit_and (mask_of productions 0 a) (mask_of productions 1 b)
-            ≡ mask_l (map (two_admit a b) productions) = and-masks (admits 0 a) (admits 1 b) productions in
+        ≡ mask_l (map (two_admit a b) productions) = and-masks (admits 0 a) (admits 1 b) productions in
         is ∙ eqb-true _ _ (not-false _ (any-mask (two_admit a b) productions ∙ none))
 
 -- the number of the first row that fits is that of a row
@@ -288,7 +298,7 @@ misfits-below (row ∷ rows) cats h = go (row_fits row cats) refl (misfits-below
     go true e rest = subst (λ b. cond (not b) (1 + misfits rows cats) 0 < suc (length rows)) (sym e) (omega arith)
     go false e rest =
         let m : 0 < cond false 1 0 + 2 * fit_mask rows cats = subst (λ b. 0 < cond b 1 0 + 2 * fit_mask rows cats) e
-            h in
+        h in
         let below = rest (omega arith) in
         subst (λ b. cond (not b) (1 + misfits rows cats) 0 < suc (length rows)) (sym e) (omega arith)
 
@@ -298,7 +308,7 @@ pub first-bound : (w : List Cat) (d : Cat) (m0 m1 m2 m3 : ℕ) → length w ≡ 
     → count_trailing_zeros 128 (bit_and (bit_and (bit_and m0 m1) m2) m3) + 1 ≤ ROW_COUNT
 first-bound w d m0 m1 m2 m3 len e0 e1 e2 e3 some =
     let mask : bit_and (bit_and (bit_and m0 m1) m2) m3 ≡ fit_mask productions w =
-        met-by w d m0 m1 m2 m3 len e0 e1 e2 e3 in
+    met-by w d m0 m1 m2 m3 len e0 e1 e2 e3 in
     let positive : 0 < fit_mask productions w = subst (λ k. 0 < k) mask (omega (arith, some)) in
     let lowest : count_trailing_zeros 128 (bit_and (bit_and (bit_and m0 m1) m2) m3) ≡ misfits productions w =
     ap (count_trailing_zeros 128) mask

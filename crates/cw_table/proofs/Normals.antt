@@ -30,8 +30,11 @@ first-found (x ∷ rows) cs r all h = go (λ k. first-found rows cs r (both-righ
         → elim b [ true ↦ Some x | false ↦ first_of rows cs ] ≡ Some r → Found (x ∷ rows) cs r
     go rec true e h =
         let same : x ≡ r = cc in
-        record { fits = ap (λ y. row_fits y cs) (sym same) ∙ e; sound = ap row_is_sound (sym same)
-            ∙ both-left (row_is_sound x) _ all }
+        record {
+          fits = ap (λ y. row_fits y cs) (sym same) ∙ e;
+          sound = ap row_is_sound (sym same)
+              ∙ both-left (row_is_sound x) _ all;
+        }
     go rec false e h = let k = rec h in record { fits = k.fits; sound = k.sound }
 
 -- the least place, seen from the list
@@ -54,12 +57,23 @@ least-at rows first (c ∷ cs) place row h = go (λ k. least-at rows (suc first)
     go rec (Some r) e h =
         let same : r ≡ row = cc in
         let at : first ≡ place = cc in
-        record { gone = 0; place_is = omega arith; inside = omega arith; found = e
-            ∙ ap Some same; none = λ k less. absurd (omega arith) }
+        record {
+          gone = 0;
+          place_is = omega arith;
+          inside = omega arith;
+          found = e
+              ∙ ap Some same;
+          none = λ k less. absurd (omega arith);
+        }
     go rec None e h =
         let l = rec h in
-        record { gone = suc l.gone; place_is = omega (arith, l.place_is); inside = omega (arith, l.inside);
-            found = l.found; none = λ k. below l e k }
+        record {
+          gone = suc l.gone;
+          place_is = omega (arith, l.place_is);
+          inside = omega (arith, l.inside);
+          found = l.found;
+          none = λ k. below l e k;
+        }
       where
         below : (l : Least rows cs (suc first) place row) → first_of rows (c ∷ cs) ≡ None → (k : ℕ) → k < suc l.gone
             → first_of rows (drop k (c ∷ cs)) ≡ None
@@ -81,19 +95,27 @@ takes rows f st i r all fine h =
     let l = least-at rows 0 (cats_of st.scraps) i r h in
     let same : l.gone ≡ i = omega (arith, l.place_is) in
     let found : first_of rows (drop i (cats_of st.scraps)) ≡ Some r =
-        ap (λ n. first_of rows (drop n (cats_of st.scraps))) (sym same) ∙ l.found in
+    ap (λ n. first_of rows (drop n (cats_of st.scraps))) (sym same) ∙ l.found in
     let first = first-found rows (drop i (cats_of st.scraps)) r all found in
     let s = sound-row r first.sound in
     let inside : i < length st.scraps = omega (arith, l.inside, cats-length st.scraps) in
-    record { is_sound = s; found = found; fits = first.fits; inside = inside;
-        none = λ k less. l.none k (omega (arith, same)); falls = falls f r i st s first.fits fine (omega arith) }
+    record {
+      is_sound = s;
+      found = found;
+      fits = first.fits;
+      inside = inside;
+      none = λ k less. l.none k (omega (arith, same));
+      falls = falls f r i st s first.fits fine (omega arith);
+    }
 
 -- one step of each recursion
 pub steps-none : (rows : List Row) (f : Flags) (n : ℕ) (st : State) → next_place rows st ≡ Nowhere → steps rows f n st
     ≡ st
 steps-none rows f zero st e = refl
-steps-none rows f (suc n) st e = ap (λ (p : Place). elim p [ Nowhere ↦ st
-    | At i r ↦ steps rows f n (rewrite f r i st) ]) e
+steps-none rows f (suc n) st e = ap (λ (p : Place). elim p [
+  | Nowhere ↦ st
+  | At i r ↦ steps rows f n (rewrite f r i st)
+]) e
 
 pub steps-turn : (rows : List Row) (f : Flags) (n i : ℕ) (r : Row) (st : State) → next_place rows st ≡ At i r
     → steps rows f (suc n) st ≡ steps rows f n (rewrite f r i st)
@@ -103,22 +125,28 @@ steps-turn rows f n i r st e = ap (λ (p : Place). elim p [ Nowhere ↦ st | At 
 log-none-of : (rows : List Row) (f : Flags) (n : ℕ) (st : State) → next_place rows st ≡ Nowhere → log_of rows f n st
     ≡ []
 log-none-of rows f zero st e = refl
-log-none-of rows f (suc n) st e = ap (λ (p : Place). elim p [ Nowhere ↦ [] | At i r ↦
-    record { number = r.number.number; place = i } ∷ log_of rows f n (rewrite f r i st) ]) e
+log-none-of rows f (suc n) st e = ap (λ (p : Place). elim p [
+  | Nowhere ↦ []
+  | At i r ↦
+      record { number = r.number.number; place = i } ∷ log_of rows f n (rewrite f r i st)
+]) e
 
 log-turn-of : (rows : List Row) (f : Flags) (n i : ℕ) (r : Row) (st : State) → next_place rows st ≡ At i r
     → log_of rows f (suc n) st ≡ record { number = r.number.number; place = i } ∷ log_of rows f n (rewrite f r i st)
-log-turn-of rows f n i r st e = ap (λ (p : Place). elim p [ Nowhere ↦ [] | At j q ↦
-    record { number = q.number.number; place = j } ∷ log_of rows f n (rewrite f q j st) ]) e
+log-turn-of rows f n i r st e = ap (λ (p : Place). elim p [
+  | Nowhere ↦ []
+  | At j q ↦
+      record { number = q.number.number; place = j } ∷ log_of rows f n (rewrite f q j st)
+]) e
 
 -- a function of a number of productions that counts them down: more than the weight change nothing
 pub more-same : (A : Type 0) (rows : List Row) (f : Flags) (g : ℕ → State → A) (next : State → ℕ → Row → A
     → A) (still : State → A)
     → ((n : ℕ) (st : State) → next_place rows st ≡ Nowhere → g n st ≡ still st)
     → ((n i : ℕ) (r : Row) (st : State) → next_place rows st ≡ At i r → g (suc n) st
-        ≡ next st i r (g n (rewrite f r i st)))
+    ≡ next st i r (g n (rewrite f r i st)))
     → (n m : ℕ) (st : State) → list_all row_is_sound rows ≡ true → list_all is_fine st.scraps ≡ true
-        → weight st.scraps ≤ n → weight st.scraps ≤ m → g n st ≡ g m st
+    → weight st.scraps ≤ n → weight st.scraps ≤ m → g n st ≡ g m st
 more-same A rows f g next still none turn zero m st all fine a b = go (next_place rows st) refl
   where
     go : (p : Place) → next_place rows st ≡ p → g zero st ≡ g m st
@@ -134,7 +162,7 @@ more-same A rows f g next still none turn (suc n) m st all fine a b =
     go rec (suc k) b (At i r) e =
         let t = (takes rows f st i r all fine e).falls in
         turn n i r st e ∙ ap (λ x. next st i r x) (rec k (rewrite f r i st) t.fine (omega (arith, t.lighter))
-            (omega (arith, t.lighter))) ∙ sym (turn k i r st e)
+        (omega (arith, t.lighter))) ∙ sym (turn k i r st e)
 
 pub steps-same : (rows : List Row) (f : Flags) (n m : ℕ) (st : State) → list_all row_is_sound rows ≡ true
     → list_all is_fine st.scraps ≡ true → weight st.scraps ≤ n → weight st.scraps ≤ m → steps rows f n st
@@ -162,7 +190,7 @@ normal-step rows f st i r all fine e =
     steps-same rows f (weight st.scraps) (suc (weight st.scraps)) st all fine (omega arith) (omega arith)
     ∙ steps-turn rows f (weight st.scraps) i r st e
     ∙ steps-same rows f (weight st.scraps) (weight (rewrite f r i st).scraps) (rewrite f r i st) all t.fine
-        (omega (arith, t.lighter)) (omega arith)
+    (omega (arith, t.lighter)) (omega arith)
 
 pub log-none : (rows : List Row) (f : Flags) (st : State) → next_place rows st ≡ Nowhere → log rows f st ≡ []
 unfolding log
@@ -177,8 +205,8 @@ log-step rows f st i r all fine e =
     log-same rows f (weight st.scraps) (suc (weight st.scraps)) st all fine (omega arith) (omega arith)
     ∙ log-turn-of rows f (weight st.scraps) i r st e
     ∙ ap (λ ps. record { number = r.number.number; place = i } ∷ ps)
-        (log-same rows f (weight st.scraps) (weight (rewrite f r i st).scraps) (rewrite f r i st) all t.fine
-        (omega (arith, t.lighter)) (omega arith))
+    (log-same rows f (weight st.scraps) (weight (rewrite f r i st).scraps) (rewrite f r i st) all t.fine
+    (omega (arith, t.lighter)) (omega arith))
 
 pub count-none : (rows : List Row) (f : Flags) (st : State) → next_place rows st ≡ Nowhere → count rows f st ≡ 0
 unfolding count

@@ -50,15 +50,21 @@ continues-reserved : (tree : Tree) → continues_name (reserve_first tree) ≡ c
 continues-reserved Empty = refl
 continues-reserved (Then leaf rest) = go (search_leaf leaf)
   where
-    go : (s : Search) → continues_name (elim s [ Found name ↦ Then (reserved_leaf leaf) rest | Stopped ↦ Then leaf rest
-        | Nothing ↦ Then leaf (reserve_first rest) ]) ≡ continues_name (Then leaf rest)
+    go : (s : Search) → continues_name (elim s [
+      | Found name ↦ Then (reserved_leaf leaf) rest
+      | Stopped ↦ Then leaf rest
+      | Nothing ↦ Then leaf (reserve_first rest)
+    ]) ≡ continues_name (Then leaf rest)
     go (Found name) = reserved-text leaf
     go Stopped = refl
     go Nothing = refl
 continues-reserved (Sub tree rest) = go (first_ident tree)
   where
-    go : (s : Search) → continues_name (elim s [ Found name ↦ Sub (reserve_first tree) rest | Stopped ↦ Sub tree rest
-        | Nothing ↦ Sub tree (reserve_first rest) ]) ≡ false
+    go : (s : Search) → continues_name (elim s [
+      | Found name ↦ Sub (reserve_first tree) rest
+      | Stopped ↦ Sub tree rest
+      | Nothing ↦ Sub tree (reserve_first rest)
+    ]) ≡ false
     go (Found name) = refl
     go Stopped = refl
     go Nothing = refl
@@ -69,22 +75,30 @@ struck-reserved Empty = refl
 struck-reserved (Then leaf rest) = go (search_leaf leaf) (struck-reserved rest)
   where
     go : (s : Search) → struck (reserve_first rest) ≡ struck rest
-        → struck (elim s [ Found name ↦ Then (reserved_leaf leaf) rest | Stopped ↦ Then leaf rest
-        | Nothing ↦ Then leaf (reserve_first rest) ]) ≡ leaf_numbers leaf ++ struck rest
+        → struck (elim s [
+          | Found name ↦ Then (reserved_leaf leaf) rest
+          | Stopped ↦ Then leaf rest
+          | Nothing ↦ Then leaf (reserve_first rest)
+        ]) ≡ leaf_numbers leaf ++ struck rest
     go (Found name) same = ap (λ ns. ns ++ struck rest) (reserved-numbers leaf)
     go Stopped same = refl
     go Nothing same = ap (λ ns. leaf_numbers leaf ++ ns) same
 struck-reserved (Sub tree rest) = go (first_ident tree) (struck-reserved tree) (struck-reserved rest)
   where
     go : (s : Search) → struck (reserve_first tree) ≡ struck tree → struck (reserve_first rest) ≡ struck rest
-        → struck (elim s [ Found name ↦ Sub (reserve_first tree) rest | Stopped ↦ Sub tree rest
-        | Nothing ↦ Sub tree (reserve_first rest) ]) ≡ struck tree ++ struck rest
+        → struck (elim s [
+          | Found name ↦ Sub (reserve_first tree) rest
+          | Stopped ↦ Sub tree rest
+          | Nothing ↦ Sub tree (reserve_first rest)
+        ]) ≡ struck tree ++ struck rest
     go (Found name) a b = ap (λ ns. ns ++ struck rest) a
     go Stopped a b = refl
     go Nothing a b = ap (λ ns. struck tree ++ ns) b
 struck-reserved (Inner tree rest) =
-    ap (λ (b : Bool). elim b [ true ↦ struck (reserve_first rest)
-        | false ↦ struck tree ++ struck (reserve_first rest) ]) (continues-reserved rest)
+    ap (λ (b : Bool). elim b [
+      | true ↦ struck (reserve_first rest)
+      | false ↦ struck tree ++ struck (reserve_first rest)
+    ]) (continues-reserved rest)
     ∙ ap (λ (ns : List ℕ). elim (continues_name rest) [ true ↦ ns | false ↦ struck tree ++ ns ]) (struck-reserved rest)
 
 numbers-set : (xs : List Scrap) (k : ℕ) → numbers_of (set xs k (reserved_in (get_or xs k no_scrap))) ≡ numbers_of xs
@@ -180,32 +194,38 @@ unfolding numbers_at
 new-numbers cat n ps xs = go (alone n ps) refl
   where
     go : (o : Option ℕ) → alone n ps ≡ o
-        → struck (elim (alone n ps) as (λ _. Scrap) [ Some k ↦ with_cat cat (get_or xs k no_scrap)
-        | None ↦ join cat (map (joined_of xs) ps) ]).tree ≡ numbers_at xs (scraps_in ps)
-    go (Some k) e = ap (λ (o : Option ℕ). struck (elim o as (λ _. Scrap) [ Some j ↦ with_cat cat (get_or xs j no_scrap)
-        | None ↦ join cat (map (joined_of xs) ps) ]).tree) e ∙ sym (append-none (struck (get_or xs k no_scrap).tree))
+        → struck (elim (alone n ps) as (λ _. Scrap) [
+          | Some k ↦ with_cat cat (get_or xs k no_scrap)
+          | None ↦ join cat (map (joined_of xs) ps)
+        ]).tree ≡ numbers_at xs (scraps_in ps)
+    go (Some k) e = ap (λ (o : Option ℕ). struck (elim o as (λ _. Scrap) [
+      | Some j ↦ with_cat cat (get_or xs j no_scrap)
+      | None ↦ join cat (map (joined_of xs) ps)
+    ]).tree) e ∙ sym (append-none (struck (get_or xs k no_scrap).tree))
         ∙ ap (numbers_at xs) (sym (alone-is n ps k e).1)
-    go None e = ap (λ (o : Option ℕ). struck (elim o as (λ _. Scrap) [ Some j ↦ with_cat cat (get_or xs j no_scrap)
-        | None ↦ join cat (map (joined_of xs) ps) ]).tree) e ∙ struck-joined Maybe (map (joined_of xs) ps)
+    go None e = ap (λ (o : Option ℕ). struck (elim o as (λ _. Scrap) [
+      | Some j ↦ with_cat cat (get_or xs j no_scrap)
+      | None ↦ join cat (map (joined_of xs) ps)
+    ]).tree) e ∙ struck-joined Maybe (map (joined_of xs) ps)
         ∙ joined-numbers xs ps
 
 from-numbers : (flags : Flags) (row : Row) (xs : List Scrap) → IsSound row → numbers_of (rewrite_from flags row xs)
     ≡ numbers_of xs
 from-numbers flags row xs s =
     numbers-append (take row.offset (reserved_at row.action.reserve xs))
-        (new_scrap flags row (reserved_at row.action.reserve xs) ∷ named_right (search_in row.action.reserve xs)
-        (drop (row.offset + row.replaced) (reserved_at row.action.reserve xs)))
+    (new_scrap flags row (reserved_at row.action.reserve xs) ∷ named_right (search_in row.action.reserve xs)
+    (drop (row.offset + row.replaced) (reserved_at row.action.reserve xs)))
     ∙ ap (λ ns. numbers_of (take row.offset (reserved_at row.action.reserve xs)) ++ ns)
     (ap (λ ns. ns ++ numbers_of (named_right (search_in row.action.reserve xs)
-        (drop (row.offset + row.replaced) (reserved_at row.action.reserve xs))))
+    (drop (row.offset + row.replaced) (reserved_at row.action.reserve xs))))
     (new-numbers (result_at row.result (cats_of (reserved_at row.action.reserve xs))) row.replaced
-        (row_pieces flags row (cats_of (reserved_at row.action.reserve xs))) (reserved_at row.action.reserve xs)
+    (row_pieces flags row (cats_of (reserved_at row.action.reserve xs))) (reserved_at row.action.reserve xs)
     ∙ ap (numbers_at (reserved_at row.action.reserve xs))
-        (pieces-whole flags row (cats_of (reserved_at row.action.reserve xs)) s)
+    (pieces-whole flags row (cats_of (reserved_at row.action.reserve xs)) s)
     ∙ run-numbers (reserved_at row.action.reserve xs) row.offset row.replaced)
     ∙ ap (λ ns. numbers_of (take row.replaced (drop row.offset (reserved_at row.action.reserve xs))) ++ ns)
     (numbers-right (search_in row.action.reserve xs)
-        (drop (row.offset + row.replaced) (reserved_at row.action.reserve xs))
+    (drop (row.offset + row.replaced) (reserved_at row.action.reserve xs))
     ∙ ap numbers_of (sym (drop-drop row.replaced row.offset (reserved_at row.action.reserve xs))))
     ∙ numbers-split row.replaced (drop row.offset (reserved_at row.action.reserve xs)))
     ∙ numbers-split row.offset (reserved_at row.action.reserve xs)
@@ -230,7 +250,7 @@ steps-numbers rows flags (suc n) st all fine = go (next_place rows st) refl (λ 
     go (At i r) e rec =
         let t = takes rows flags st i r all fine e in
         ap (λ (s : State). numbers_of s.scraps) (steps-turn rows flags n i r st e)
-            ∙ rec (rewrite flags r i st) t.falls.fine ∙ rewrite-numbers flags r i st t.is_sound
+        ∙ rec (rewrite flags r i st) t.falls.fine ∙ rewrite-numbers flags r i st t.is_sound
 
 pub normal-numbers : (rows : List Row) (flags : Flags) (st : State) → list_all row_is_sound rows ≡ true
     → list_all is_fine st.scraps ≡ true → numbers_of (normal rows flags st).scraps ≡ numbers_of st.scraps

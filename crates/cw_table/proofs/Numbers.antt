@@ -48,7 +48,7 @@ pub numbered-sound : (rows : List Row) (i : ℕ) (d : Row) → rows ≡ producti
     → row_is_sound (get_or rows i d) ≡ true
 numbered-sound rows i d is lt =
     each-of row_is_sound rows i (get_or rows i d) (ap (list_all row_is_sound) is ∙ productions-sound)
-        (slice_get-get_or rows i d lt)
+    (slice_get-get_or rows i d lt)
 
 -- the first row that fits is the row of its number
 pub first-numbered : (rows : List Row) (first : ℕ) (cats : List Cat) (row : Row) → are_numbered first rows ≡ true

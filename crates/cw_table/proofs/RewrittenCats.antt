@@ -14,8 +14,10 @@ new-cat : (f : Flags) (r : Row) (xs : List Scrap) → (new_scrap f r xs).cat ≡
 new-cat f r xs = go (alone r.replaced (row_pieces f r (cats_of xs)))
   where
     go : (o : Option ℕ)
-        → (elim o as (λ _. Scrap) [ Some k ↦ with_cat (result_at r.result (cats_of xs)) (get_or xs k no_scrap)
-        | None ↦ join (result_at r.result (cats_of xs)) (map (joined_of xs) (row_pieces f r (cats_of xs))) ]).cat
+        → (elim o as (λ _. Scrap) [
+          | Some k ↦ with_cat (result_at r.result (cats_of xs)) (get_or xs k no_scrap)
+          | None ↦ join (result_at r.result (cats_of xs)) (map (joined_of xs) (row_pieces f r (cats_of xs)))
+        ]).cat
         ≡ result_at r.result (cats_of xs)
     go (Some k) = refl
     go None = refl
@@ -29,11 +31,11 @@ pub from-cats : (f : Flags) (r : Row) (ps : List Scrap) → cats_of (rewrite_fro
     ≡ take r.offset (cats_of ps) ++ result_at r.result (cats_of ps) ∷ cats_of (right_after r ps)
 from-cats f r ps =
     cats-append (take r.offset (reserved_at r.action.reserve ps)) (new_scrap f r (reserved_at r.action.reserve ps)
-        ∷ right_after r ps)
+    ∷ right_after r ps)
     ∙ ap (λ cs. cs ++ (new_scrap f r (reserved_at r.action.reserve ps)).cat ∷ cats_of (right_after r ps))
-        (cats-take r.offset (reserved_at r.action.reserve ps) ∙ ap (take r.offset) (at-cats r.action.reserve ps))
+    (cats-take r.offset (reserved_at r.action.reserve ps) ∙ ap (take r.offset) (at-cats r.action.reserve ps))
     ∙ ap (λ c. take r.offset (cats_of ps) ++ c ∷ cats_of (right_after r ps))
-        (new-cat f r (reserved_at r.action.reserve ps) ∙ ap (result_at r.result) (at-cats r.action.reserve ps))
+    (new-cat f r (reserved_at r.action.reserve ps) ∙ ap (result_at r.result) (at-cats r.action.reserve ps))
 
 -- after a production the categories have the form of which the safe distance speaks
 pub rewritten-cats : (f : Flags) (r : Row) (i : ℕ) (st : State) → cats_of (rewrite f r i st).scraps
@@ -43,7 +45,7 @@ rewritten-cats f r i st =
     ∙ ap (λ cs. cs ++ cats_of (rewrite_from f r (drop i st.scraps))) (cats-take i st.scraps)
     ∙ ap (λ cs. take i (cats_of st.scraps) ++ cs) (from-cats f r (drop i st.scraps))
     ∙ ap (λ cs. take i (cats_of st.scraps) ++ (take r.offset cs ++ result_at r.result cs
-        ∷ cats_of (right_after r (drop i st.scraps)))) (cats-drop i st.scraps)
+    ∷ cats_of (right_after r (drop i st.scraps)))) (cats-drop i st.scraps)
 
 kept-right : (o : Option ℕ) (k : ℕ) (ps : List Scrap) → is_some o ≡ false
     → cats_of (named_right (search_in o ps) (drop k (reserved_at o ps))) ≡ drop k (cats_of ps)

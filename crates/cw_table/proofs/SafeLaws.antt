@@ -48,7 +48,7 @@ all-numbers p first zero h = refl
 all-numbers p first (suc n) h =
     both _ _ (ap p (sym (add-zero first)) ∙ h 0 (omega arith))
     (all-numbers p (suc first) n (λ i lt. let e : suc first + i ≡ first + suc i = omega arith in ap p e
-        ∙ h (suc i) (omega arith)))
+    ∙ h (suc i) (omega arith)))
 
 pub any-map : {X Y : Type 0} (p : Y → Bool) (f : X → Y) (xs : List X) → list_any p (map f xs)
     ≡ list_any (λ x. p (f x)) xs
@@ -96,17 +96,17 @@ any-filter p q (x ∷ xs) h = go (q x) (p x) refl refl (any-filter p q xs)
     go true true e f rest = ap (list_any p) (filter-yes q x xs e) ∙ one-left _ _ f
     go true false e f rest =
         let more : list_any (λ y. q y && p y) xs ≡ true = ap (λ b. (b && false) || list_any (λ y. q y && p y) xs)
-            (sym e) ∙ ap (λ c. (q x && c) || list_any (λ y. q y && p y) xs) (sym f) ∙ h in
+        (sym e) ∙ ap (λ c. (q x && c) || list_any (λ y. q y && p y) xs) (sym f) ∙ h in
         ap (list_any p) (filter-yes q x xs e) ∙ one-right _ _ (rest more)
     go false c e f rest =
         let more : list_any (λ y. q y && p y) xs ≡ true = ap (λ b. (b && p x) || list_any (λ y. q y && p y) xs) (sym e)
-            ∙ h in
+        ∙ h in
         ap (list_any p) (filter-no q x xs e) ∙ rest more
 
 any-member : (p : Cat → Bool) (s : CatSet) (c : Cat) → in_set s c ≡ true → p c ≡ true → list_any p (members s) ≡ true
 any-member p s c h k =
     any-filter p (in_set s) all_cats (any-at (λ x. in_set s x && p x) all_cats (number_of c) c (place-of c)
-        (both _ _ h k))
+    (both _ _ h k))
 
 -- A row that fits holds at each place, and the other way round.
 
@@ -163,7 +163,7 @@ any-pair row w p sound fits h = by_result row.result refl h
         → list_any p (pairs_by result row) ≡ true
     by_result (Is new) r q =
         any-map p (λ c. (c, new)) (members (test row row.offset))
-            ∙ any-member (λ c. p (c, new)) _ (get_or w row.offset End) old q
+        ∙ any-member (λ c. p (c, new)) _ (get_or w row.offset End) old q
     by_result (SameAs k) r q = by_same k (eqb k row.offset) r refl q
 
 fit-at : (row : Row) (w : List Cat) → IsSound row → row_fits row w ≡ true → (k : ℕ) → k < row.test_count
@@ -175,9 +175,9 @@ pub begins-inside : (row : Row) (w : List Cat) → IsSound row → row_fits row 
 begins-inside row w sound fits = elim (leb_tells (length w) row.offset) [
   | inl past ↦ absurd (
       let none : in_set (test row row.offset) End ≡ false =
-          sound.replaced_not_end row.offset (omega arith) (omega (arith, sound.some_replaced)) in
+      sound.replaced_not_end row.offset (omega arith) (omega (arith, sound.some_replaced)) in
       let some : in_set (test row row.offset) (get_or w row.offset End) ≡ true =
-          fit-at row w sound fits row.offset (omega (arith, sound.replaced_tested, sound.some_replaced)) in
+      fit-at row w sound fits row.offset (omega (arith, sound.replaced_tested, sound.some_replaced)) in
       let is : get_or w row.offset End ≡ End = get_or_past w row.offset End past.1 in
       let there : in_set (test row row.offset) End ≡ true = ap (in_set (test row row.offset)) (sym is) ∙ some in
       cc)
@@ -244,7 +244,7 @@ module _ (r t : Row) (pre w rest : List Cat) (sr : IsSound r) (st : IsSound t) (
         ap (λ n. meet (test t (length pre + n)) (test r n)) zero-i
         ∙ meet-by _ _ (get_or w i End)
         (ap (in_set (test t (length pre + i))) (sym (at-before (length pre + i) (omega arith)
-            ∙ get_or-append-add pre w i End)) ∙ fit-new (length pre + i) (omega arith))
+        ∙ get_or-append-add pre w i End)) ∙ fit-new (length pre + i) (omega arith))
         (fit i (omega (arith, sr.replaced_tested))))
 
     after-suits : reserves r ≡ false → suits_after r t (length pre) ≡ true
@@ -255,7 +255,7 @@ module _ (r t : Row) (pre w rest : List Cat) (sr : IsSound r) (st : IsSound t) (
           | inl none ↦ one-left _ _ none.0
           | inr some ↦ one-right _ _ (meet-by _ _ (get_or w (suc q + i + r.replaced - (length pre + 1)) End)
               (ap (in_set (test t (suc q + i))) (sym (ap (λ n. get_or (pre ++ after) n End) split ∙ at-kept i none
-                  ∙ ap (λ n. get_or w n End) there)) ∙ fit-new (suc q + i) (omega arith))
+              ∙ ap (λ n. get_or w n End) there)) ∙ fit-new (suc q + i) (omega arith))
               (fit _ some.1))
         ])
 
@@ -275,7 +275,7 @@ module _ (r t : Row) (pre w rest : List Cat) (sr : IsSound r) (st : IsSound t) (
         go : (b : Bool) → brings r t q (get_or w r.offset End, result_at r.result w) ≡ b → b ≡ false
         go true e =
             let yes : is_hazard r t (length pre) ≡ true = hazard-is lt (any-pair r w (brings r t q) sr fr e)
-                ∙ suits lt (reserves r) refl in
+            ∙ suits lt (reserves r) refl in
             sym yes ∙ harmless
         go false e = refl
 
@@ -291,16 +291,16 @@ module _ (r t : Row) (pre w rest : List Cat) (sr : IsSound r) (st : IsSound t) (
         left : q < t.test_count → (not (in_set (test t q) (get_or w r.offset End)) || sees_moved r t q) ≡ false
         left lt =
             let new : in_set (test t q) (result_at r.result w) ≡ true = ap (in_set (test t q)) (sym at-new)
-                ∙ fit-new q lt in
+            ∙ fit-new q lt in
             both-failed _ _ (not-brought lt harmless) new
 
         behind : (k : ℕ) → q < k → k < t.test_count → get_or (pre ++ after) k End ≡ get_or (pre ++ w) k End
         behind k above lt =
             let more : ltb (suc q) t.test_count ≡ true = lt-ltb _ _ (omega arith) in
             let neither : (leb 2 r.replaced || reserves r)
-                ≡ false = both-failed (ltb (suc q) t.test_count) (leb 2 r.replaced || reserves r)
-                (one-failed-right (not (in_set (test t q) (get_or w r.offset End))) (sees_moved r t q)
-                (left (omega arith))) more in
+            ≡ false = both-failed (ltb (suc q) t.test_count) (leb 2 r.replaced || reserves r)
+            (one-failed-right (not (in_set (test t q) (get_or w r.offset End))) (sees_moved r t q)
+            (left (omega arith))) more in
             let one : r.replaced ≡ 1 = elim (leb_tells 2 r.replaced) [
               | inl two ↦ absurd (let no_two : leb 2 r.replaced
                   ≡ false = one-failed-left (leb 2 r.replaced) (reserves r) neither in let two_yes : leb 2 r.replaced
@@ -320,9 +320,9 @@ module _ (r t : Row) (pre w rest : List Cat) (sr : IsSound r) (st : IsSound t) (
           | inl not_before ↦ elim (eqb_tells q k) [
             | inl here ↦ (
                 let old : in_set (test t q) (get_or w r.offset End) ≡ true =
-                    not-false _ (one-failed-left _ _ (left (omega (arith, here.1)))) in
+                not-false _ (one-failed-left _ _ (left (omega (arith, here.1)))) in
                 ap (λ n. in_set (test t n) (get_or (pre ++ w) n End)) (sym here.1) ∙ ap (in_set (test t q)) at-old
-                    ∙ old)
+                ∙ old)
             | inr other ↦ there k lt (behind k (omega (arith, other.1, not_before.1)) lt)
           ]
         ]
@@ -365,7 +365,7 @@ none-after [] r pre w rest sr fr keep h safe_from none = refl
 none-after (t ∷ rows) r pre w rest sr fr keep h safe_from none =
     go (row_fits t (pre ++ (take r.offset w ++ result_at r.result w ∷ rest))) refl
     (none-after rows r pre w rest sr fr keep (both-right _ _ h) (λ near. one-failed-right _ _ (safe_from near))
-        before.1)
+    before.1)
   where
     before : (row_fits t (pre ++ w) ≡ false) × (first_of rows (pre ++ w) ≡ None)
     before = none-fits t rows (pre ++ w) none

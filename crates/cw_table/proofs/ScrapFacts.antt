@@ -79,23 +79,31 @@ reserve-bare (Then (Source number mode) rest) = refl
 reserve-bare (Then (Ident name number) rest) = refl
 reserve-bare (Then (Reserved name number cat) rest) = go (search_word cat)
   where
-    go : (s : Search) → bare_name (elim s [ Found n ↦ Then (Reserved name number cat) rest
-        | Stopped ↦ Then (Reserved name number cat) rest
-        | Nothing ↦ Then (Reserved name number cat) (reserve_first rest) ]) ≡ None
+    go : (s : Search) → bare_name (elim s [
+      | Found n ↦ Then (Reserved name number cat) rest
+      | Stopped ↦ Then (Reserved name number cat) rest
+      | Nothing ↦ Then (Reserved name number cat) (reserve_first rest)
+    ]) ≡ None
     go (Found n) = refl
     go Stopped = refl
     go Nothing = refl
 reserve-bare (Then (Sign control) rest) = go (search_sign control)
   where
-    go : (s : Search) → bare_name (elim s [ Found n ↦ Then (Sign control) rest | Stopped ↦ Then (Sign control) rest
-        | Nothing ↦ Then (Sign control) (reserve_first rest) ]) ≡ None
+    go : (s : Search) → bare_name (elim s [
+      | Found n ↦ Then (Sign control) rest
+      | Stopped ↦ Then (Sign control) rest
+      | Nothing ↦ Then (Sign control) (reserve_first rest)
+    ]) ≡ None
     go (Found n) = refl
     go Stopped = refl
     go Nothing = refl
 reserve-bare (Sub tree rest) = go (first_ident tree)
   where
-    go : (s : Search) → bare_name (elim s [ Found n ↦ Sub (reserve_first tree) rest | Stopped ↦ Sub tree rest
-        | Nothing ↦ Sub tree (reserve_first rest) ]) ≡ None
+    go : (s : Search) → bare_name (elim s [
+      | Found n ↦ Sub (reserve_first tree) rest
+      | Stopped ↦ Sub tree rest
+      | Nothing ↦ Sub tree (reserve_first rest)
+    ]) ≡ None
     go (Found n) = refl
     go Stopped = refl
     go Nothing = refl

@@ -63,8 +63,12 @@ lighter-later : (rows : List Row) (f : Flags) (k m : ℕ) (st : State) → list_
 lighter-later rows f k m st all fine less most =
     let l = leaves rows f k st all fine (omega arith) in
     let n = leaves rows f (m - k) (steps rows f k st) all l.fine (omega (arith, l.fewer)) in
-    omega (arith, n.lighter, ap (λ (x : State). weight x.scraps) (ap (λ j. steps rows f j st) (let e : m
-        ≡ k + (m - k) = omega arith in e) ∙ steps-add rows f k (m - k) st))
+    omega (
+      arith,
+      n.lighter,
+      ap (λ (x : State). weight x.scraps) (ap (λ j. steps rows f j st) (let e : m
+          ≡ k + (m - k) = omega arith in e) ∙ steps-add rows f k (m - k) st),
+    )
 
 pub same-number : (rows : List Row) (f : Flags) (k m : ℕ) (st : State) → list_all row_is_sound rows ≡ true
     → list_all is_fine st.scraps ≡ true → k ≤ count rows f st → m ≤ count rows f st → weight (steps rows f m st).scraps
@@ -79,5 +83,10 @@ same-number rows f k m st all fine a b e = go (ltb k m) (ltb m k) refl refl
 -- The state after some number of productions, which its weight gives.
 pub is-after : (rows : List Row) (f : Flags) (k : ℕ) (st : State) → list_all row_is_sound rows ≡ true
     → list_all is_fine st.scraps ≡ true → k ≤ count rows f st → IsAfter rows f st (steps rows f k st)
-is-after rows f k st all fine most = record { number = k; within = most; is = refl; only = λ m a e. same-number rows f k
-    m st all fine most a e }
+is-after rows f k st all fine most = record {
+  number = k;
+  within = most;
+  is = refl;
+  only = λ m a e. same-number rows f k
+      m st all fine most a e;
+}

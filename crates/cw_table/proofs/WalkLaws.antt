@@ -26,11 +26,13 @@ next-here : (rows : List Row) (first : ℕ) (cs : List Cat) (place : ℕ) (r : R
     → ((k : ℕ) → k < place → first_of rows (drop k cs) ≡ None) → first_of rows (drop place cs) ≡ Some r
     → least_place rows first cs ≡ At (first + place) r
 next-here rows first [] place r h below found = absurd (omega arith)
-next-here rows first (c ∷ cs) zero r h below found = ap (λ (o : Option Row). elim o [ Some q ↦ At first q
-    | None ↦ least_place rows (suc first) cs ]) found ∙ ap (λ n. At n r) (omega arith)
+next-here rows first (c ∷ cs) zero r h below found = ap (λ (o : Option Row). elim o [
+  | Some q ↦ At first q
+  | None ↦ least_place rows (suc first) cs
+]) found ∙ ap (λ n. At n r) (omega arith)
 next-here rows first (c ∷ cs) (suc place) r h below found =
     ap (λ (o : Option Row). elim o [ Some q ↦ At first q | None ↦ least_place rows (suc first) cs ])
-        (below 0 (omega arith))
+    (below 0 (omega arith))
     ∙ next-here rows (suc first) cs place r (omega arith) (λ k less. below (suc k) (omega arith)) found
     ∙ ap (λ n. At n r) (omega arith)
 
@@ -39,7 +41,7 @@ pub next-nowhere : (rows : List Row) (first : ℕ) (cs : List Cat)
 next-nowhere rows first [] below = refl
 next-nowhere rows first (c ∷ cs) below =
     ap (λ (o : Option Row). elim o [ Some q ↦ At first q | None ↦ least_place rows (suc first) cs ])
-        (below 0 (omega arith))
+    (below 0 (omega arith))
     ∙ next-nowhere rows (suc first) cs (λ k less. below (suc k) (omega arith))
 
 -- a safe distance is safe for scraps, with what a row reserves to the right
@@ -47,7 +49,7 @@ pub safe-far : SafeReachesFar
 safe-far rows f st place r distance lower all is_least is_safe lt =
     ap (λ cs. first_of rows (drop lower cs)) (rewritten-cats f r place st)
     ∙ safe-sound rows r all distance place lower (cats_of st.scraps) (cats_of (right_after r (drop place st.scraps)))
-        is_safe is_least (right-kept r place st) lt
+    is_safe is_least (right-kept r place st) lt
 
 -- A turn that rewrites: all that it needs before, and all that holds after it.
 pub record Turns (rows : List Row) (f : Flags) (st : State) (place : ℕ) (r : Row) : Type 0 where
@@ -62,7 +64,7 @@ pub turning : (rows : List Row) (f : Flags) (st : State) (place : ℕ) (r : Row)
 turning rows f st place r all fine below inside found =
     let long = cats-length st.scraps in
     let next : next_place rows st ≡ At place r = next-here rows 0 (cats_of st.scraps) place r (omega arith) below found
-        ∙ ap (λ n. At n r) (omega arith) in
+    ∙ ap (λ n. At n r) (omega arith) in
     let t = takes rows f st place r all fine next in
     let safe = safe-sound rows r all (least rows r) place in
     record {
@@ -75,13 +77,17 @@ turning rows f st place r all fine below inside found =
     }
 
 pub lt-or-is : (k n : ℕ) → k < suc n → (k < n) ⊎ (k ≡ n)
-lt-or-is k n h = elim (ltb k n) as (λ b. ltb k n ≡ b → (k < n) ⊎ (k ≡ n)) [ true ↦ λ e. inl (ltb-true _ _ e)
-    | false ↦ λ e. inr (omega (arith, ltb-false _ _ e)) ] refl
+lt-or-is k n h = elim (ltb k n) as (λ b. ltb k n ≡ b → (k < n) ⊎ (k ≡ n)) [
+  | true ↦ λ e. inl (ltb-true _ _ e)
+  | false ↦ λ e. inr (omega (arith, ltb-false _ _ e))
+] refl
 
 -- one step of the two recursions
 abbrev pub step_of : {A : Type 0} → Bool → Option Row → A → A → (Row → A) → A
-step_of inside found ended passed turned = elim inside [ false ↦ ended
-    | true ↦ elim found [ None ↦ passed | Some row ↦ turned row ] ]
+step_of inside found ended passed turned = elim inside [
+  | false ↦ ended
+  | true ↦ elim found [ None ↦ passed | Some row ↦ turned row ]
+]
 
 pub step-is : {A : Type 0} (inside : Bool) (found : Option Row) (b : Bool) (o : Option Row) (ended passed : A)
     (turned : Row → A) → inside ≡ b → found ≡ o → step_of inside found ended passed turned
@@ -93,14 +99,14 @@ step-is inside found b o ended passed turned e g = ap (λ (x : Bool). step_of x 
 walk-gives : (A : Type 0) (rows : List Row) (f : Flags) (g : ℕ → ℕ → State → A) (still : State → A) (more : ℕ → Row → A
     → A) (goal : State → A)
     → ((n place : ℕ) (st : State) → g (suc n) place st
-        ≡ step_of (ltb place (length st.scraps)) (first_of rows (drop place (cats_of st.scraps))) (still st)
-        (g n (suc place) st) (λ r. more place r (g n (place - least rows r) (rewrite f r place st))))
+    ≡ step_of (ltb place (length st.scraps)) (first_of rows (drop place (cats_of st.scraps))) (still st)
+    (g n (suc place) st) (λ r. more place r (g n (place - least rows r) (rewrite f r place st))))
     → ((st : State) → next_place rows st ≡ Nowhere → goal st ≡ still st)
     → ((st : State) (place : ℕ) (r : Row) → list_all is_fine st.scraps ≡ true → next_place rows st ≡ At place r
-        → goal st ≡ more place r (goal (rewrite f r place st)))
+    → goal st ≡ more place r (goal (rewrite f r place st)))
     → list_all row_is_sound rows ≡ true
     → (n place : ℕ) (st : State) → list_all is_fine st.scraps ≡ true → NoneBelow rows st place → walk_left place st < n
-        → g n place st ≡ goal st
+    → g n place st ≡ goal st
 walk-gives A rows f g still more goal unfolds ends turns_to all zero place st fine below left = absurd (omega arith)
 walk-gives A rows f g still more goal unfolds ends turns_to all (suc n) place st fine below left =
     go (ltb place (length st.scraps)) (first_of rows (drop place (cats_of st.scraps))) refl refl
@@ -113,21 +119,23 @@ walk-gives A rows f g still more goal unfolds ends turns_to all (suc n) place st
         let past : length st.scraps ≤ place = ltb-false _ _ e in
         let long = cats-length st.scraps in
         unfolds n place st ∙ step-is (ltb place (length st.scraps)) (first_of rows (drop place (cats_of st.scraps)))
-            false o (still st) _ _ e found
+        false o (still st) _ _ e found
         ∙ sym (ends st (next-nowhere rows 0 (cats_of st.scraps) (λ k less. below k (omega arith))))
     go true None e found rec =
         let inside : place < length st.scraps = ltb-true _ _ e in
         unfolds n place st ∙ step-is (ltb place (length st.scraps)) (first_of rows (drop place (cats_of st.scraps)))
-            true None (still st) _ _ e found
-        ∙ rec (suc place) st fine (λ k less. elim (lt-or-is k place less) [ inl lower ↦ below k lower
-            | inr same ↦ ap (λ m. first_of rows (drop m (cats_of st.scraps))) same ∙ found ]) (omega arith)
+        true None (still st) _ _ e found
+        ∙ rec (suc place) st fine (λ k less. elim (lt-or-is k place less) [
+          | inl lower ↦ below k lower
+          | inr same ↦ ap (λ m. first_of rows (drop m (cats_of st.scraps))) same ∙ found
+        ]) (omega arith)
     go true (Some r) e found rec =
         let inside : place < length st.scraps = ltb-true _ _ e in
         let t = turning rows f st place r all fine below inside found in
         unfolds n place st ∙ step-is (ltb place (length st.scraps)) (first_of rows (drop place (cats_of st.scraps)))
-            true (Some r) (still st) _ _ e found
+        true (Some r) (still st) _ _ e found
         ∙ ap (more place r) (rec (place - least rows r) (rewrite f r place st) t.takes.falls.fine t.below
-            (omega (arith, t.less)))
+        (omega (arith, t.less)))
         ∙ sym (turns_to st place r fine t.next)
 
 -- The log of the walk, with the least safe distances, is the log of the leftmost-first productions.

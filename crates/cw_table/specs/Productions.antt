@@ -109,7 +109,7 @@ productions =
     ∷ replaces_all 58 (only IfClause ∷ only Stmt ∷ only ElseLike ∷ only IfLike ∷ []) (Is IfLike)
     (joins
     (Break ∷ Scrap 0 ∷ Indent ∷ OptionalBreak ∷ Wall ∷ Cancel ∷ Scrap 1 ∷ Outdent ∷ Break ∷ Scrap 2 ∷ Blank ∷ Scrap 3
-        ∷ []))
+    ∷ []))
     ∷ replaces 0 3 59 (only IfClause ∷ only Stmt ∷ only ElseLike ∷ none_of (IfLike ∷ []) ∷ []) (Is ElseLike)
     (joins
     (Break ∷ Scrap 0 ∷ Indent ∷ OptionalBreak ∷ Wall ∷ Cancel ∷ Scrap 1 ∷ Outdent ∷ Break ∷ Scrap 2 ∷ []))
@@ -118,7 +118,7 @@ productions =
     (joins
     (Break ∷ Scrap 0 ∷ OptionalBreak ∷ Wall ∷ Cancel ∷ Scrap 1 ∷ Break ∷ Scrap 2 ∷ Blank ∷ Scrap 3 ∷ []))
     ∷ replaces 0 3 62 (only IfHead ∷ one_of (Stmt ∷ Exp ∷ []) ∷ only ElseLike ∷ none_of (IfLike ∷ []) ∷ [])
-        (Is ElseLike)
+    (Is ElseLike)
     (joins (Break ∷ Scrap 0 ∷ OptionalBreak ∷ Wall ∷ Cancel ∷ Scrap 1 ∷ Break ∷ Scrap 2 ∷ []))
     ∷ replaces 0 1 63 (only IfHead ∷ one_of (Stmt ∷ Exp ∷ []) ∷ none_of (ElseLike ∷ []) ∷ []) (Is ElseHead)
     (joins (Scrap 0 ∷ []))

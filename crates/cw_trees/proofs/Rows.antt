@@ -15,13 +15,22 @@ name n number = Then (Ident n number) Empty
 
 -- `a = b` is in math, and followed by a break and `c` it ends in text
 equation_is_math : join Exp (Whole (name 0 0) Maybe Maybe ∷ Whole (Then (Source 1 Math) Empty) Math Math
-    ∷ Whole (name 1 2) Maybe Maybe ∷ []) ≡ record { cat = Exp; tree =
-    Sub (name 0 0) (Sub (Then (Source 1 Math) Empty) (Sub (name 1 2) Empty)); left = Math; right = Math }
+    ∷ Whole (name 1 2) Maybe Maybe ∷ []) ≡ record {
+      cat = Exp;
+      tree =
+          Sub (name 0 0) (Sub (Then (Source 1 Math) Empty) (Sub (name 1 2) Empty));
+      left = Math;
+      right = Math;
+    }
 equation_is_math = refl
 
 toggle_before_break : join Stmt (Whole (name 0 0) Math Math ∷ Mark Break ∷ Whole (name 1 2) Maybe Maybe ∷ [])
-    ≡ record { cat = Stmt; tree = Sub (name 0 0) (Then (Sign ToText) (Then (Sign Break) (Sub (name 1 2) Empty)));
-    left = Math; right = Text }
+    ≡ record {
+      cat = Stmt;
+      tree = Sub (name 0 0) (Then (Sign ToText) (Then (Sign Break) (Sub (name 1 2) Empty)));
+      left = Math;
+      right = Text;
+    }
 toggle_before_break = refl
 
 blank_and_dollars : whole (record { cat = Exp; tree = name 0 0; left = Math; right = Text }

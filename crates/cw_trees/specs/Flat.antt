@@ -72,8 +72,10 @@ is_inserted item = sign_is is_inserted_sign item
 
 abbrev pub without_inserted : List Item → List Item
 without_inserted [] = []
-without_inserted (item ∷ items) = elim (is_inserted item) [ true ↦ without_inserted items
-    | false ↦ item ∷ without_inserted items ]
+without_inserted (item ∷ items) = elim (is_inserted item) [
+  | true ↦ without_inserted items
+  | false ↦ item ∷ without_inserted items
+]
 
 -- whether the place behind an item is in a gap with which a text begins
 abbrev pub begins_after : Bool → Item → Bool
@@ -97,8 +99,10 @@ ends_text (item ∷ items) = elim (is_gap item) [ true ↦ ends_text items | fal
 -- the list without the breaks of the gaps with which its texts end
 abbrev pub trim_back : List Item → List Item
 trim_back [] = []
-trim_back (item ∷ items) = elim (is_break item && ends_text items) [ true ↦ trim_back items
-    | false ↦ item ∷ trim_back items ]
+trim_back (item ∷ items) = elim (is_break item && ends_text items) [
+  | true ↦ trim_back items
+  | false ↦ item ∷ trim_back items
+]
 
 -- Marks that print nothing are left out, and then the breaks and blanks with which the text and each text
 -- between brackets begins or ends.

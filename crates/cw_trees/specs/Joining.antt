@@ -93,8 +93,12 @@ joined_right mode (Mark control ∷ pieces) = joined_right (after mode (needs co
 
 -- the scrap of a category that pieces are joined to
 abbrev pub join : Cat → List Joined → Scrap
-join cat pieces = record { cat = cat; tree = joined_tree Maybe pieces; left = joined_left pieces;
-    right = joined_right Maybe pieces }
+join cat pieces = record {
+  cat = cat;
+  tree = joined_tree Maybe pieces;
+  left = joined_left pieces;
+  right = joined_right Maybe pieces;
+}
 
 -- a dollar at an end that is in math
 abbrev pub dollar_before : MathMode → Tree → Tree

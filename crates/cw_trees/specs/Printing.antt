@@ -98,13 +98,20 @@ backup_bytes run = elim (list_any is_backup run) [ true ↦ codes "\\4" | false 
 
 -- a run in the C text of a part or a definition: its indents, and without a Cancel its break and its backup
 abbrev pub part_run : List Control → List ℕ
-part_run run = indents run ++ elim (list_any is_cancel run) [ true ↦ []
-    | false ↦ break_bytes (strongest run) ++ backup_bytes run ]
+part_run run = indents run ++ elim (list_any is_cancel run) [
+  | true ↦ []
+  | false ↦ break_bytes (strongest run) ++ backup_bytes run
+]
 
 -- a run in inner C text: a blank if it has a break or blank, and no Cancel
 abbrev pub inner_run : List Control → List ℕ
-inner_run run = elim (list_any is_cancel run) [ true ↦ [] | false ↦ elim (ltb 0 (strongest run)) [ true ↦ codes " "
-    | false ↦ [] ] ]
+inner_run run = elim (list_any is_cancel run) [
+  | true ↦ []
+  | false ↦ elim (ltb 0 (strongest run)) [
+    | true ↦ codes " "
+    | false ↦ []
+  ]
+]
 
 abbrev pub run_bytes : Bool → List Control → List ℕ
 run_bytes true run = inner_run run

@@ -71,8 +71,14 @@ reserved_leaf (Sign control) = Sign control
 -- The tree in which its first identifier is a reserved word; the same tree where it has none.
 abbrev pub reserve_first : Tree → Tree
 reserve_first Empty = Empty
-reserve_first (Then leaf rest) = elim (search_leaf leaf) [ Found name ↦ Then (reserved_leaf leaf) rest
-    | Stopped ↦ Then leaf rest | Nothing ↦ Then leaf (reserve_first rest) ]
-reserve_first (Sub tree rest) = elim (first_ident tree) [ Found name ↦ Sub (reserve_first tree) rest
-    | Stopped ↦ Sub tree rest | Nothing ↦ Sub tree (reserve_first rest) ]
+reserve_first (Then leaf rest) = elim (search_leaf leaf) [
+  | Found name ↦ Then (reserved_leaf leaf) rest
+  | Stopped ↦ Then leaf rest
+  | Nothing ↦ Then leaf (reserve_first rest)
+]
+reserve_first (Sub tree rest) = elim (first_ident tree) [
+  | Found name ↦ Sub (reserve_first tree) rest
+  | Stopped ↦ Sub tree rest
+  | Nothing ↦ Sub tree (reserve_first rest)
+]
 reserve_first (Inner tree rest) = Inner tree (reserve_first rest)

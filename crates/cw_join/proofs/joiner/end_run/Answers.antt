@@ -8,9 +8,9 @@ pub returns-in_err-put_some : goal.returns-in_err-put_some
 returns-in_err-put_some g c =
     let later : List ℕ = step_bytes (backs c.args.inner (state_of c.args.run)) in
     puts-failing (ap (λ (l : List ℕ). l ++ later) c.pause.ensures) (puts-longer later c.in_err-put_some.ensures)
-        c.from_residual.ensures.1
+    c.from_residual.ensures.1
 
 pub returns : goal.returns
 returns g c =
     puts-bytes (λ i. c.pause.ensures i ++ (c.step.ensures ∙ ap step_bytes c.backs.ensures) i)
-        (puts-then c.in_ok-put_some.ensures c.put_some-2.ensures)
+    (puts-then c.in_ok-put_some.ensures c.put_some-2.ensures)

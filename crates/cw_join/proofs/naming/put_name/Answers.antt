@@ -8,17 +8,17 @@ pub returns-in_err-put_all : goal.returns-in_err-put_all
 returns-in_err-put_all g c =
     puts-failing
     (name-parts c.args.name.now c.split_at.result.0.now c.split_at.result.1.now c.plain_size-size.result
-        c.plain_size-size.ensures.size c.split_at.ensures.front c.split_at.ensures.back)
+    c.plain_size-size.ensures.size c.split_at.ensures.front c.split_at.ensures.back)
     (puts-longer (name_bytes c.split_at.result.1.now) c.in_err-put_all.ensures.puts) c.from_residual.ensures.1
 
 pub put_pieces-requires-clause-begins : goal.put_pieces-requires-clause-begins
 put_pieces-requires-clause-begins g c =
     name-begins c.args.name.now c.split_at.result.1.now c.plain_size-size.result c.plain_size-size.ensures.size
-        c.split_at.ensures.back
+    c.split_at.ensures.back
 
 pub returns : goal.returns
 returns g c =
     puts-bytes
     (name-parts c.args.name.now c.split_at.result.0.now c.split_at.result.1.now c.plain_size-size.result
-        c.plain_size-size.ensures.size c.split_at.ensures.front c.split_at.ensures.back)
+    c.plain_size-size.ensures.size c.split_at.ensures.front c.split_at.ensures.back)
     (puts-then c.in_ok-put_all.ensures.puts c.put_pieces.ensures)

@@ -21,10 +21,10 @@ returns-in_err-put_marked g c =
     let there : 0 < length rest = some rest (sym c.is_empty.ensures ∙ c.pieces-test.true) in
     puts-failing
     (pieces-more c.pieces.invariant.done c.args.bytes.now rest c.split_at.result.0.now c.split_at.result.1.now
-        c.piece_size-size.result c.pieces.invariant.is c.pieces.invariant.begins there c.piece_size-size.ensures.size
-        c.split_at.ensures.front c.split_at.ensures.back)
+    c.piece_size-size.result c.pieces.invariant.is c.pieces.invariant.begins there c.piece_size-size.ensures.size
+    c.split_at.ensures.front c.split_at.ensures.back)
     (puts-longer (name_bytes c.split_at.result.1.now) (puts-then c.pieces.invariant.put c.in_err-put_marked.ensures))
-        c.from_residual.ensures.1
+    c.from_residual.ensures.1
 
 pub pieces-preserved : goal.pieces-preserved
 pieces-preserved g c =
@@ -45,5 +45,5 @@ returns g c =
     let rest : List ℕ = c.pieces.rest.now in
     let over : [] ≡ rest = nothing rest (eqb-true (length rest) 0 (sym c.is_empty.ensures ∙ c.pieces-test.false)) in
     puts-bytes (sym (append-nil c.pieces.invariant.done)
-        ∙ ap (λ (l : List ℕ). c.pieces.invariant.done ++ name_bytes l) over ∙ c.pieces.invariant.is)
-        c.pieces.invariant.put
+    ∙ ap (λ (l : List ℕ). c.pieces.invariant.done ++ name_bytes l) over ∙ c.pieces.invariant.is)
+    c.pieces.invariant.put

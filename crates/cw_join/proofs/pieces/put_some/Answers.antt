@@ -8,5 +8,5 @@ use Rattle.cw_join.proofs.pieces.put_some.Goals as goal
 pub returns-then-is_empty : goal.returns-then-is_empty
 returns-then-is_empty g c =
     puts-bytes (nothing c.args.bytes.now (eqb-true (length c.args.bytes.now) 0 (sym c.is_empty.ensures
-        ∙ c.if-is_empty.true)))
+    ∙ c.if-is_empty.true)))
     (puts-none c.args.out.now (g.D.Desk.told c.args.desk.now) (tt {0}))

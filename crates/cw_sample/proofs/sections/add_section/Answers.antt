@@ -9,12 +9,12 @@ use Rattle.cw_sample.proofs.sections.add_section.Goals as goal
 pub add_line-requires-clause-whole : goal.add_line-requires-clause-whole
 add_line-requires-clause-whole c =
     subst (All NotTen) (sym (c.as_slice.ensures ∙ c.in_ok-first.ensures)) (first-whole (c.args.before + 1) (omega arith)
-        (omega (arith, c.requires.few)))
+    (omega (arith, c.requires.few)))
 
 pub add_line-requires-2-clause-whole : goal.add_line-requires-2-clause-whole
 add_line-requires-2-clause-whole c =
     subst (All NotTen) (sym (c.as_slice-2.ensures ∙ c.in_ok-head.ensures))
-        (head-whole (c.args.before + 1) (omega arith) (omega (arith, c.requires.few)))
+    (head-whole (c.args.before + 1) (omega arith) (omega (arith, c.requires.few)))
 
 pub add_line-requires-3-clause-whole : goal.add_line-requires-3-clause-whole
 add_line-requires-3-clause-whole c =
@@ -61,7 +61,7 @@ pub returns : goal.returns
 returns c =
     on_ok_weaker c.add_line-3.result
     (λ added. section-added c.args.before c.requires.begun c.in_ok-add_line.ensures.ok c.in_ok-add_line-2.ensures.ok
-        added
+    added
     (c.as_slice.ensures ∙ c.in_ok-first.ensures) (c.as_slice-2.ensures ∙ c.in_ok-head.ensures) (c.as_slice-3.ensures
-        ∙ c.in_ok-statement.ensures)
+    ∙ c.in_ok-statement.ensures)
     c.place.ensures c.place-2.ensures c.place-3.ensures) c.add_line-3.ensures.ok

@@ -12,26 +12,34 @@ loop-i-init c = joins-start _ _ _ _ _ c.begin.ensures.lists c.begin.ensures.buil
 pub put_piece-ends-requires-clause-piece : goal.put_piece-ends-requires-clause-piece
 put_piece-ends-requires-clause-piece c =
     let inside : c.loop-i.i < length (pieces_by c.args.other c.args.row.now) =
-        omega (arith, c.piece_count-i-end.ensures.count) in
+    omega (arith, c.piece_count-i-end.ensures.count) in
     let long : length c.args.line.now ≡ c.args.place + length (drop c.args.place c.args.line.now) =
-        omega (arith, length-drop c.args.place c.args.line.now) in
-    let room : 2 ≤ c.loop-i.store.spare = omega (arith, c.loop-i.invariant.spent, c.loop-i.invariant.few,
-        c.piece_count-i-end.ensures.twelve) in
+    omega (arith, length-drop c.args.place c.args.line.now) in
+    let room : 2 ≤ c.loop-i.store.spare = omega (
+      arith,
+      c.loop-i.invariant.spent,
+      c.loop-i.invariant.few,
+      c.piece_count-i-end.ensures.twelve,
+    ) in
     joins-within _ _ _ _ _ _ _ _ c.loop-i.invariant _ (piece-at _ _ _ inside c.piece.ensures) c.requires.roots _ _ long
-        room
+    room
 
 pub put_piece-ends-requires-clause-reference : goal.put_piece-ends-requires-clause-reference
 put_piece-ends-requires-clause-reference c =
     let inside : c.loop-i.i < length (pieces_by c.args.other c.args.row.now) =
-        omega (arith, c.piece_count-i-end.ensures.count) in
-    let room : 2 ≤ c.loop-i.store.spare = omega (arith, c.loop-i.invariant.spent, c.loop-i.invariant.few,
-        c.piece_count-i-end.ensures.twelve) in
+    omega (arith, c.piece_count-i-end.ensures.count) in
+    let room : 2 ≤ c.loop-i.store.spare = omega (
+      arith,
+      c.loop-i.invariant.spent,
+      c.loop-i.invariant.few,
+      c.piece_count-i-end.ensures.twelve,
+    ) in
     joins-put _ _ _ _ _ _ _ _ c.loop-i.invariant _ (piece-at _ _ _ inside c.piece.ensures) c.requires.roots room
 
 pub loop-i-preserved : goal.loop-i-preserved
 loop-i-preserved c =
     let inside : c.loop-i.i < length (pieces_by c.args.other c.args.row.now) =
-        omega (arith, c.piece_count-i-end.ensures.count) in
+    omega (arith, c.piece_count-i-end.ensures.count) in
     rw (c.first_mode-left.ensures, c.after-mode.ensures, c.put_piece-ends.ensures.left, c.put_piece-ends.ensures.right)
-        (joins-next _ _ _ _ _ _ _ _ c.loop-i.invariant _ (piece-at _ _ _ inside c.piece.ensures) c.requires.roots _
-        c.put_piece-ends.ensures.building c.put_piece-ends.ensures.lists c.put_piece-ends.ensures.spare)
+    (joins-next _ _ _ _ _ _ _ _ c.loop-i.invariant _ (piece-at _ _ _ inside c.piece.ensures) c.requires.roots _
+    c.put_piece-ends.ensures.building c.put_piece-ends.ensures.lists c.put_piece-ends.ensures.spare)

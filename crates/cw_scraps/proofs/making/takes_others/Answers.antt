@@ -9,5 +9,5 @@ pub returns : goal.returns
 returns c =
     ap (λ b. pieces_by b c.args.row.now)
     (c.takes_other.ensures
-        ∙ ap (λ choice. takes_other c.args.flags.now choice (entry_cats (drop c.args.place c.args.line.now)))
-        c.choice.ensures)
+    ∙ ap (λ choice. takes_other c.args.flags.now choice (entry_cats (drop c.args.place c.args.line.now)))
+    c.choice.ensures)

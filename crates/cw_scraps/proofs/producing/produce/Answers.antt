@@ -12,30 +12,30 @@ make-entry-requires-clause-roots c = drop-there _ _ _ c.requires.roots
 pub overflow_add-place : goal.overflow_add-place
 overflow_add-place c =
     let f = fits-at c.args.flags.now c.args.row.now (drop c.args.place c.args.line.now) c.requires.sound
-        c.requires.fits in
+    c.requires.fits in
     let some : 1 ≤ c.args.row.now.replaced = f.some in
     let inside : c.args.row.now.offset + c.args.row.now.replaced ≤ length (drop c.args.place c.args.line.now) =
-        f.inside in
+    f.inside in
     omega (arith, c.len-length.ensures, c.len-length.type_inv, length-drop c.args.place c.args.line.now)
 
 pub replace-requires-clause-some : goal.replace-requires-clause-some
 replace-requires-clause-some c =
     let f = fits-at c.args.flags.now c.args.row.now (drop c.args.place c.args.line.now) c.requires.sound
-        c.requires.fits in
+    c.requires.fits in
     rw c.replaced.ensures f.some
 
 pub replace-requires-clause-within : goal.replace-requires-clause-within
 replace-requires-clause-within c =
     let f = fits-at c.args.flags.now c.args.row.now (drop c.args.place c.args.line.now) c.requires.sound
-        c.requires.fits in
+    c.requires.fits in
     let some : 1 ≤ c.args.row.now.replaced = f.some in
     let inside : c.args.row.now.offset + c.args.row.now.replaced ≤ length (drop c.args.place c.args.line.now) =
-        f.inside in
+    f.inside in
     omega (arith, length-drop c.args.place c.args.line.now)
 
 pub returns-clause-replaced : goal.returns-clause-replaced
 returns-clause-replaced c =
     let f = fits-at c.args.flags.now c.args.row.now (drop c.args.place c.args.line.now) c.requires.sound
-        c.requires.fits in
+    c.requires.fits in
     rw (c.replace.ensures, c.offset.ensures, c.replaced.ensures) (replaces _ _ _ _ _ _ _ f c.make-entry.ensures
-        (tied-idle c.args.store.now c.requires.idle c.tied_law.ensures) c.requires.roots)
+    (tied-idle c.args.store.now c.requires.idle c.tied_law.ensures) c.requires.roots)

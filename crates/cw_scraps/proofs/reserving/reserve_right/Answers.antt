@@ -10,8 +10,8 @@ one-more n a i h = omega arith
 pub reserve_bare-entry-requires-clause-list : goal.reserve_bare-entry-requires-clause-list
 reserve_bare-entry-requires-clause-list g c =
     rw c.entry.ensures (turn-there _ _ _ _ _ _ _ c.loop-i.invariant.turns
-        (tied-idle c.args.store.now c.requires.idle c.tied_law.ensures) c.requires.roots
-        (omega (arith, c.len-i-end.ensures)))
+    (tied-idle c.args.store.now c.requires.idle c.tied_law.ensures) c.requires.roots
+    (omega (arith, c.len-i-end.ensures)))
 
 pub put-requires : goal.put-requires
 put-requires g c = turn-inside _ _ _ _ _ _ _ c.loop-i.invariant.turns
@@ -24,8 +24,8 @@ loop-i-preserved g c = record {
       (tied-idle c.args.store.now c.requires.idle c.tied_law.ensures) c.requires.roots c.loop-i.auto.i
       (omega (arith, c.len-i-end.ensures)) _ _
       (rw c.entry.ensures at c.reserve_bare-entry.ensures.scrap)
-          (rw c.entry.ensures at c.reserve_bare-entry.ensures.list)
-          (rw c.entry.ensures at c.reserve_bare-entry.ensures.lists));
+      (rw c.entry.ensures at c.reserve_bare-entry.ensures.list)
+      (rw c.entry.ensures at c.reserve_bare-entry.ensures.lists));
   idle = c.reserve_bare-entry.ensures.idle;
   spare = c.reserve_bare-entry.ensures.spare ∙ c.loop-i.invariant.spare;
   steps = c.tick.ensures ∙ (ap (λ n. n + 1) c.loop-i.invariant.steps

@@ -6,4 +6,4 @@ pub loop-pair-init : goal.loop-pair-init
 loop-pair-init c =
     let between = rw (c.new.ensures.start, c.new.ensures.end) at (c.range-pair-items.ensures.between (search rules)) in
     ap (λ (pairs : List (ℕ × ℕ)). c.args.positions.now.items ++ map (λ pair. pair.1) pairs)
-        (c.into_iter-pair-iterator.ensures.into_iter_gives ∙ between)
+    (c.into_iter-pair-iterator.ensures.into_iter_gives ∙ between)

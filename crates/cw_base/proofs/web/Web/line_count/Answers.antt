@@ -6,4 +6,4 @@ use Rattle.cw_base.proofs.web.Web.line_count.Goals as goal
 pub returns : goal.returns
 returns c =
     rw (← c.self.view_is) (c.len.ensures ∙ c.self.inside.lines.ok.0
-        ∙ sym (length-read_lines c.self.inside.text.items c.self.inside.lines.items))
+    ∙ sym (length-read_lines c.self.inside.text.items c.self.inside.lines.items))

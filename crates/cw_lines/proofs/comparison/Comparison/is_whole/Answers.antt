@@ -19,7 +19,7 @@ returns-then-not-self-clause-whole g c files is =
         (λ whole. absurd (left-more c.args.self.now.agrees c.args.self.now.ahead _
             (subst (λ (text : List ℕ). 0 < length text) (ap (λ (o : OldFile). o.ahead) c.self.view_is)
             (ahead-some c.self.inside.buffer c.self.inside.start c.self.inside.end w.if-self.true
-                (omega (arith, c.self.invariant.1, c.self.told)))) whole)),
+            (omega (arith, c.self.invariant.1, c.self.told)))) whole)),
       )
     ]
 
@@ -28,5 +28,5 @@ returns-clause-whole g c files is =
     left-read c.in_ok-some.some c.args.self.now.agrees c.args.self.now.ahead _ c.fetch.new.self.ahead _
     (sym (ap (λ (o : OldFile). o.agrees) c.self.view_is) ∙ c.if-not-self.false)
     (sym (ap (λ (o : OldFile). o.ahead) c.self.view_is)
-        ∙ ahead-none c.self.inside.buffer c.self.inside.start c.self.inside.end c.if-self.false)
+    ∙ ahead-none c.self.inside.buffer c.self.inside.start c.self.inside.end c.if-self.false)
     (c.in_ok-some.ensures.rest files is) c.in_ok-some.ensures.some (c.in_ok-some.ensures.none files is)

@@ -22,9 +22,9 @@ rest_short pending line rest d full same left parts =
 pub begun_line-next-requires : goal.begun_line-next-requires
 begun_line-next-requires g c =
     let pending_is : c.self.inside.pending.items ≡ c.args.self.now.line.pending =
-        ap (λ (l : LineState). l.line.pending) c.self.view_is in
+    ap (λ (l : LineState). l.line.pending) c.self.view_is in
     rest_short c.args.self.now.line.pending c.as_slice-2.result.now c.split_at.result.1.now c.divide-division.result
-        c.requires.full
+    c.requires.full
     (c.as_slice-2.ensures.value ∙ pending_is) c.split_at.ensures.back
     (subst (λ (line : List ℕ). Divides line c.divide-division.result) (c.as_slice.ensures.value
-        ∙ pending_is) c.divide-division.ensures.parts)
+    ∙ pending_is) c.divide-division.ensures.parts)

@@ -13,16 +13,16 @@ compare-requires g c =
     subst (λ (opened : ℕ). c.in-Some.old.id < opened) (sym c.in_ok-write_all.ensures.same.same_opened)
     (c.requires.can.old_file c.in-Some.old.id
     (sym (ap (λ (l : LineState). id_of l.compared) c.self.view_is)
-        ∙ ap (λ (old : Option OldFile). id_of old) c.in-Some.is))
+    ∙ ap (λ (old : Option OldFile). id_of old) c.in-Some.is))
 
 pub returns-clause-writes : goal.returns-clause-writes
 returns-clause-writes g c =
     let named : id_of c.args.self.now.compared ≡ Some c.in-Some.old.id =
     sym (ap (λ (l : LineState). id_of l.compared) c.self.view_is)
-        ∙ ap (λ (old : Option OldFile). id_of old) c.in-Some.is in
+    ∙ ap (λ (old : Option OldFile). id_of old) c.in-Some.is in
     writes-events (append-nil _)
     (writes-then
     (writes-events (ap (λ (out : Out). byte_events out c.args.bytes.now)
-        (ap (λ (l : LineState). l.line.out) c.self.view_is))
+    (ap (λ (l : LineState). l.line.out) c.self.view_is))
     (adds-writes (id_of c.args.self.now.compared) c.in_ok-write_all.ensures))
     (writes-file (sym named) c.compare.ensures.writes))

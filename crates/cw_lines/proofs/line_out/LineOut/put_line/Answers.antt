@@ -20,9 +20,9 @@ put_text-requires-clause-text g c = subst HasNoLineEnd (sym (text_of c.args.byte
 pub returns-in_err-put_text-clause-puts : goal.returns-in_err-put_text-clause-puts
 returns-in_err-put_text-clause-puts g c =
     puts-bytes (whole c.args.bytes.now c.requires.line) (puts-stop (10 ∷ []) c.in_err-put_text.ensures.puts
-        c.from_residual.ensures.1)
+    c.from_residual.ensures.1)
 
 pub returns-clause-puts : goal.returns-clause-puts
 returns-clause-puts g c =
     puts-bytes (whole c.args.bytes.now c.requires.line)
-        (puts-then c.in_ok-put_text.ensures.puts c.end_line.ensures.puts)
+    (puts-then c.in_ok-put_text.ensures.puts c.end_line.ensures.puts)

@@ -31,12 +31,16 @@ pub returns-in_err-put_line-clause-puts : goal.returns-in_err-put_line-clause-pu
 returns-in_err-put_line-clause-puts g c =
     puts-within c.args.bytes.now (c.loop-size.at + c.in-Some.size)
     (puts-bytes (next_bytes c.args.bytes.now c.loop-size.at c.in-Some.size)
-        (puts-then c.loop-size.invariant.put c.in_err-put_line.ensures.puts)) c.from_residual.ensures.1
+    (puts-then c.loop-size.invariant.put c.in_err-put_line.ensures.puts)) c.from_residual.ensures.1
 
 pub loop-size-preserved : goal.loop-size-preserved
 loop-size-preserved g c = record {
-  within = omega (arith, c.in-Some.ensures.size.1, ap length (take_rest c.args.bytes.now c.loop-size.at),
-      length-drop c.loop-size.at c.args.bytes.now);
+  within = omega (
+    arith,
+    c.in-Some.ensures.size.1,
+    ap length (take_rest c.args.bytes.now c.loop-size.at),
+    length-drop c.loop-size.at c.args.bytes.now,
+  );
   put = puts-bytes (next_bytes c.args.bytes.now c.loop-size.at c.in-Some.size)
       (puts-then c.loop-size.invariant.put c.in_ok-put_line.ensures.puts);
 }
@@ -44,7 +48,7 @@ loop-size-preserved g c = record {
 pub returns-in_err-put_text-clause-puts : goal.returns-in_err-put_text-clause-puts
 returns-in_err-put_text-clause-puts g c =
     puts-failing (all_bytes c.args.bytes.now c.loop-size.at)
-        (puts-then c.loop-size.invariant.put c.in_err-put_text.ensures.puts) c.from_residual-in_err-put_text.ensures.1
+    (puts-then c.loop-size.invariant.put c.in_err-put_text.ensures.puts) c.from_residual-in_err-put_text.ensures.1
 
 pub returns-clause-puts : goal.returns-clause-puts
 returns-clause-puts g c = puts-bytes (all_bytes c.args.bytes.now c.loop-size.at)

@@ -11,8 +11,15 @@ use Rattle.cw_lines.specs.declared.line_out.LineOut.TheInside.{Inside}
 use Rattle.cw_lines.proofs.line_out.LineOut.put_whole.Goals as goal
 
 whole : List ℕ → Line → Filled
-whole line old = record { line = record { out = old.out; pending = []; lines = next_number old.lines;
-    broken = old.broken }; written = line }
+whole line old = record {
+  line = record {
+    out = old.out;
+    pending = [];
+    lines = next_number old.lines;
+    broken = old.broken;
+  };
+  written = line;
+}
 
 -- a line that ended, when nothing was pending
 fill-ended : (line : List ℕ) (old : Line) → old.pending ≡ [] → length line ≤ 81 → IsEndedLine line → fill old line
@@ -29,23 +36,32 @@ fill-ended line old empty short is =
 -- the line that was filled, by the fields and by the value
 counted : (inside : Inside) (old : Line) (lines : ℕ) (line : List ℕ) → (the_view inside).line ≡ old → old.pending ≡ []
     → lines ≡ next_number inside.lines
-    → (the_view (record { out = inside.out; pending = inside.pending; lines = lines; broken = inside.broken;
-        compared = inside.compared })).line ≡ (whole line old).line
+    → (the_view (record {
+      out = inside.out;
+      pending = inside.pending;
+      lines = lines;
+      broken = inside.broken;
+      compared = inside.compared;
+    })).line ≡ (whole line old).line
 unfolding whole
 counted inside old lines line view_is empty count =
     ap (λ (n : ℕ). record { out = inside.out; pending = inside.pending.items; lines = n; broken = inside.broken.items })
-        count
+    count
     ∙ ap (λ (l : Line). record { out = l.out; pending = l.pending; lines = next_number l.lines; broken = l.broken })
-        view_is
-    ∙ ap (λ (pending : List ℕ). record { out = old.out; pending = pending; lines = next_number old.lines;
-        broken = old.broken }) empty
+    view_is
+    ∙ ap (λ (pending : List ℕ). record {
+      out = old.out;
+      pending = pending;
+      lines = next_number old.lines;
+      broken = old.broken;
+    }) empty
 
 pub returns-in_err-emit-clause-puts : goal.returns-in_err-emit-clause-puts
 unfolding whole
 returns-in_err-emit-clause-puts g c =
     puts-refused _ (whole c.args.bytes.now c.args.self.now.line)
     (fill-ended c.args.bytes.now c.args.self.now.line (nil_from_length c.args.self.now.line.pending c.requires.empty)
-        c.requires.short c.requires.line)
+    c.requires.short c.requires.line)
     (ap (λ (l : Line). l.out) c.in_err-emit.ensures.line) c.in_err-emit.ensures.file c.from_residual.ensures.1
     (writes-fail c.in_err-emit.ensures.writes c.from_residual.ensures.1)
 
@@ -54,11 +70,11 @@ unfolding whole
 returns-clause-puts g c =
     puts-known (whole c.args.bytes.now c.args.self.now.line)
     (fill-ended c.args.bytes.now c.args.self.now.line (nil_from_length c.args.self.now.line.pending c.requires.empty)
-        c.requires.short c.requires.line)
+    c.requires.short c.requires.line)
     (ap (λ (l : LineState). l.line.out) c.self.view_is ∙ ap (λ (l : Line). l.out) c.in_ok-emit.ensures.line)
     (ap (λ (l : LineState). id_of l.compared) c.self.view_is ∙ c.in_ok-emit.ensures.file)
     (counted c.self.inside c.args.self.now.line c.saturating_add-self-inside.result c.args.bytes.now
     (ap (λ (l : LineState). l.line) c.self.view_is ∙ c.in_ok-emit.ensures.line)
-        (nil_from_length c.args.self.now.line.pending c.requires.empty) c.saturating_add-self-inside.ensures)
+    (nil_from_length c.args.self.now.line.pending c.requires.empty) c.saturating_add-self-inside.ensures)
     c.in_ok-emit.ensures.writes
     (compares-as refl (sym (ap (λ (l : LineState). l.compared) c.self.view_is)) c.in_ok-emit.ensures.compares)

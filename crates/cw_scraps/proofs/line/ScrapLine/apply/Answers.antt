@@ -8,11 +8,11 @@ use Rattle.cw_scraps.proofs.line.ScrapLine.apply.Goals as goal
 pub apply_row-requires-clause-fits : goal.apply_row-requires-clause-fits
 apply_row-requires-clause-fits g c =
     let same : row_of c.args.table.now c.args.row.number ≡ row_of productions c.args.row.number =
-        same-row _ _ _ c.row-same.ensures.number c.row-same.ensures.same in
+    same-row _ _ _ c.row-same.ensures.number c.row-same.ensures.same in
     rw (← same) c.requires.fits
 
 pub returns : goal.returns
 returns g c =
     let same : row_of c.args.table.now c.args.row.number ≡ row_of productions c.args.row.number =
-        same-row _ _ _ c.row-same.ensures.number c.row-same.ensures.same in
+    same-row _ _ _ c.row-same.ensures.number c.row-same.ensures.same in
     rw same c.apply_row.ensures

@@ -11,17 +11,17 @@ use Rattle.cw_scraps.proofs.line.ScrapLine.apply_naming.Goals as goal
 pub named_ident-marked-requires-clause-named : goal.named_ident-marked-requires-clause-named
 named_ident-marked-requires-clause-named g c =
     let f = fits-at c.args.production.now.flags.now c.args.production.now.row.now
-        (drop c.args.production.now.place c.args.self.now) c.requires.row
-        (fits-line c.args.production.now.row.now c.args.store.now.lists c.args.self.now c.args.production.now.place
-        c.requires.fits) in
+    (drop c.args.production.now.place c.args.self.now) c.requires.row
+    (fits-line c.args.production.now.row.now c.args.store.now.lists c.args.self.now c.args.production.now.place
+    c.requires.fits) in
     λ k e. behind c.args.self.now c.args.production.now.place k (f.underline_there k (sym c.requires.underline ∙ e))
 
 pub reserve_named-reserved-requires-clause-named : goal.reserve_named-reserved-requires-clause-named
 reserve_named-reserved-requires-clause-named g c =
     let f = fits-at c.args.production.now.flags.now c.args.production.now.row.now
-        (drop c.args.production.now.place c.args.self.now) c.requires.row
-        (fits-line c.args.production.now.row.now c.args.store.now.lists c.args.self.now c.args.production.now.place
-        c.requires.fits) in
+    (drop c.args.production.now.place c.args.self.now) c.requires.row
+    (fits-line c.args.production.now.row.now c.args.store.now.lists c.args.self.now c.args.production.now.place
+    c.requires.fits) in
     λ k e. behind c.args.self.now c.args.production.now.place k (f.reserve_there k (sym c.requires.reserve ∙ e))
 
 pub produce-requires-clause-fits : goal.produce-requires-clause-fits
@@ -31,36 +31,36 @@ produce-requires-clause-fits g c = fits-line c.args.production.now.row.now c.arg
 pub overflow_add-right : goal.overflow_add-right
 overflow_add-right g c =
     let f = fits-at c.args.production.now.flags.now c.args.production.now.row.now
-        (drop c.args.production.now.place c.args.self.now) c.requires.row
-        (fits-line c.args.production.now.row.now c.args.store.now.lists c.args.self.now c.args.production.now.place
-        c.requires.fits) in
+    (drop c.args.production.now.place c.args.self.now) c.requires.row
+    (fits-line c.args.production.now.row.now c.args.store.now.lists c.args.self.now c.args.production.now.place
+    c.requires.fits) in
     let h : c.args.production.now.place + c.args.production.now.row.now.offset + 1 ≤ length c.produce.new.line =
-        right-inside c.args.production.now.flags.now c.args.production.now.row.now c.args.production.now.place
-        c.reserve_named-reserved.new.store.lists c.args.self.now c.produce.new.store.lists c.produce.new.line f
-        c.produce.ensures.replaced in
+    right-inside c.args.production.now.flags.now c.args.production.now.row.now c.args.production.now.place
+    c.reserve_named-reserved.new.store.lists c.args.self.now c.produce.new.store.lists c.produce.new.line f
+    c.produce.ensures.replaced in
     omega (arith, c.len-length.ensures, c.len-length.type_inv)
 
 pub overflow_add-right-2 : goal.overflow_add-right-2
 overflow_add-right-2 g c =
     let f = fits-at c.args.production.now.flags.now c.args.production.now.row.now
-        (drop c.args.production.now.place c.args.self.now) c.requires.row
-        (fits-line c.args.production.now.row.now c.args.store.now.lists c.args.self.now c.args.production.now.place
-        c.requires.fits) in
+    (drop c.args.production.now.place c.args.self.now) c.requires.row
+    (fits-line c.args.production.now.row.now c.args.store.now.lists c.args.self.now c.args.production.now.place
+    c.requires.fits) in
     let h : c.args.production.now.place + c.args.production.now.row.now.offset + 1 ≤ length c.produce.new.line =
-        right-inside c.args.production.now.flags.now c.args.production.now.row.now c.args.production.now.place
-        c.reserve_named-reserved.new.store.lists c.args.self.now c.produce.new.store.lists c.produce.new.line f
-        c.produce.ensures.replaced in
+    right-inside c.args.production.now.flags.now c.args.production.now.row.now c.args.production.now.place
+    c.reserve_named-reserved.new.store.lists c.args.self.now c.produce.new.store.lists c.produce.new.line f
+    c.produce.ensures.replaced in
     omega (arith, c.len-length.ensures, c.len-length.type_inv)
 
 pub turn_right-requires-clause-start : goal.turn_right-requires-clause-start
 turn_right-requires-clause-start g c =
     let f = fits-at c.args.production.now.flags.now c.args.production.now.row.now
-        (drop c.args.production.now.place c.args.self.now) c.requires.row
-        (fits-line c.args.production.now.row.now c.args.store.now.lists c.args.self.now c.args.production.now.place
-        c.requires.fits) in
+    (drop c.args.production.now.place c.args.self.now) c.requires.row
+    (fits-line c.args.production.now.row.now c.args.store.now.lists c.args.self.now c.args.production.now.place
+    c.requires.fits) in
     rw c.offset.ensures (right-inside c.args.production.now.flags.now c.args.production.now.row.now
-        c.args.production.now.place c.reserve_named-reserved.new.store.lists c.args.self.now c.produce.new.store.lists
-        c.produce.new.line f c.produce.ensures.replaced)
+    c.args.production.now.place c.reserve_named-reserved.new.store.lists c.args.self.now c.produce.new.store.lists
+    c.produce.new.line f c.produce.ensures.replaced)
 
 pub mark-requires : goal.mark-requires
 mark-requires g c = λ id e. marked-named c.args.production.now.underline _ c.named_ident-marked.result id _
@@ -74,22 +74,22 @@ retype-requires g c = λ id e. reserved-there c.args.names.now c.args.production
 pub returns : goal.returns
 returns g c =
     let f = fits-at c.args.production.now.flags.now c.args.production.now.row.now
-        (drop c.args.production.now.place c.args.self.now) c.requires.row
-        (fits-line c.args.production.now.row.now c.args.store.now.lists c.args.self.now c.args.production.now.place
-        c.requires.fits) in
+    (drop c.args.production.now.place c.args.self.now) c.requires.row
+    (fits-line c.args.production.now.row.now c.args.store.now.lists c.args.self.now c.args.production.now.place
+    c.requires.fits) in
     let a = applies c.args.production.now.flags.now c.args.production.now.row.now c.args.production.now.place
-        c.args.store.now.lists c.reserve_named-reserved.new.store.lists c.produce.new.store.lists
-        c.turn_right.new.store.lists c.args.self.now c.produce.new.line c.turn_right.new.line
-        c.reserve_named-reserved.result f c.reserve_named-reserved.ensures.tied c.produce.ensures.tied
-        (rw c.requires.reserve at c.reserve_named-reserved.ensures.scraps) c.reserve_named-reserved.ensures.lists
-        c.produce.ensures.replaced (rw c.offset.ensures at c.turn_right.ensures.scraps) c.turn_right.ensures.same_roots
-        c.turn_right.ensures.lists (rw c.requires.reserve at c.reserve_named-reserved.ensures.name) in
+    c.args.store.now.lists c.reserve_named-reserved.new.store.lists c.produce.new.store.lists
+    c.turn_right.new.store.lists c.args.self.now c.produce.new.line c.turn_right.new.line
+    c.reserve_named-reserved.result f c.reserve_named-reserved.ensures.tied c.produce.ensures.tied
+    (rw c.requires.reserve at c.reserve_named-reserved.ensures.scraps) c.reserve_named-reserved.ensures.lists
+    c.produce.ensures.replaced (rw c.offset.ensures at c.turn_right.ensures.scraps) c.turn_right.ensures.same_roots
+    c.turn_right.ensures.lists (rw c.requires.reserve at c.reserve_named-reserved.ensures.name) in
     let named : c.retype.new.names ≡ retyped (search_in c.args.production.now.row.now.action.reserve
-        (drop c.args.production.now.place (scraps_of c.args.store.now.lists c.args.self.now)))
-        c.args.names.now = c.retype.ensures
-        ∙ (ap (λ n. retyped_by n c.args.names.now) (rw c.requires.reserve at c.reserve_named-reserved.ensures.name)
-        ∙ retyped-is (search_in c.args.production.now.row.now.action.reserve
-        (drop c.args.production.now.place (scraps_of c.args.store.now.lists c.args.self.now))) c.args.names.now) in
+    (drop c.args.production.now.place (scraps_of c.args.store.now.lists c.args.self.now)))
+    c.args.names.now = c.retype.ensures
+    ∙ (ap (λ n. retyped_by n c.args.names.now) (rw c.requires.reserve at c.reserve_named-reserved.ensures.name)
+    ∙ retyped-is (search_in c.args.production.now.row.now.action.reserve
+    (drop c.args.production.now.place (scraps_of c.args.store.now.lists c.args.self.now))) c.args.names.now) in
     record {
       state = state-is c.args.production.now.flags.now c.args.production.now.row.now c.args.production.now.place
           c.args.store.now.lists c.args.self.now c.args.marks.now c.args.names.now c.turn_right.new.store.lists
@@ -101,8 +101,12 @@ returns g c =
           c.retype.new.names f c.requires.fits c.requires.sound a c.turn_right.ensures.idle named;
       others = a.keeps;
       few = a.few;
-      spare = omega (arith, c.reserve_named-reserved.ensures.spare, c.produce.ensures.spare,
-          c.turn_right.ensures.spare);
+      spare = omega (
+        arith,
+        c.reserve_named-reserved.ensures.spare,
+        c.produce.ensures.spare,
+        c.turn_right.ensures.spare,
+      );
       free = c.mark.ensures.spare;
       ticked = ticked-is c.args.production.now.reserve c.args.production.now.row.now.action.reserve c.produce.new.line
           c.turn_right.new.line _ _ c.args.steps.now c.turn_right.new.steps c.requires.reserve

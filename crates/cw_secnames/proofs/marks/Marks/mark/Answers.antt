@@ -14,23 +14,23 @@ loop-count-init c = enter-first _ _ _ _ _ _ c.first_mark-mark.ensures c.min-self
 pub loop-count-preserved : goal.loop-count-preserved
 loop-count-preserved c =
     enter-more _ _ _ _ _ _ _ _ _ 0 c.loop-count.invariant c.loop-count-test.true c.next_mark-mark.ensures refl
-        (λ mark k h. h) c.put_start-in-loop-count.ensures.keeps
+    (λ mark k h. h) c.put_start-in-loop-count.ensures.keeps
     c.in_ok-put_start-2.ensures.ok
 
 pub returns-in_err-put_start-2-clause-keeps : goal.returns-in_err-put_start-2-clause-keeps
 returns-in_err-put_start-2-clause-keeps c =
     keeps-all _ _ (no-more _ _ _ c.loop-count.invariant.shortest) c.loop-count.invariant.wholes
-        (λ mark k h. c.put_start-in-loop-count.ensures.keeps mark k (c.loop-count.invariant.keeps mark k h))
+    (λ mark k h. c.put_start-in-loop-count.ensures.keeps mark k (c.loop-count.invariant.keeps mark k h))
 
 pub returns-in_err-put-clause-keeps : goal.returns-in_err-put-clause-keeps
 returns-in_err-put-clause-keeps c =
     keeps-all _ _ (no-more _ _ _ c.loop-count.invariant.shortest)
-        (λ mark k h. c.put.ensures.keeps mark k (c.loop-count.invariant.wholes mark k h)) c.loop-count.invariant.keeps
+    (λ mark k h. c.put.ensures.keeps mark k (c.loop-count.invariant.wholes mark k h)) c.loop-count.invariant.keeps
 
 pub returns-clause-keeps : goal.returns-clause-keeps
 returns-clause-keeps c =
     keeps-all _ _ (no-more _ _ _ c.loop-count.invariant.shortest)
-        (λ mark k h. c.put.ensures.keeps mark k (c.loop-count.invariant.wholes mark k h)) c.loop-count.invariant.keeps
+    (λ mark k h. c.put.ensures.keeps mark k (c.loop-count.invariant.wholes mark k h)) c.loop-count.invariant.keeps
 
 pub returns-clause-ok : goal.returns-clause-ok
 returns-clause-ok c = enter-last _ _ _ _ _ _ _ _ c.ranges.index.fits (let e = c.loop-count.invariant.shortest in

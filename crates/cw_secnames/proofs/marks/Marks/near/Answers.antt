@@ -10,9 +10,9 @@ loop-count-init c = found-first _ _ _ _ _ _ c.first_mark-mark.ensures c.first_ma
 pub loop-count-preserved : goal.loop-count-preserved
 loop-count-preserved c =
     found-next _ _ _ _ _ _ _ _ 0 _ _ c.loop-count.invariant c.loop-count-test.true c.next_mark-mark.ensures
-        c.last_kept-start.ensures c.in_ok-add_wholes.ensures
+    c.last_kept-start.ensures c.in_ok-add_wholes.ensures
 
 pub returns : goal.returns
 returns c = λ other k marked near.
     subst (λ all. is_in k all ≡ true) (sym c.in_ok-add_marked.ensures)
-        (found-end _ _ _ other _ _ _ k _ c.loop-count.invariant c.loop-count-test.false marked near)
+    (found-end _ _ _ other _ _ _ k _ c.loop-count.invariant c.loop-count-test.false marked near)

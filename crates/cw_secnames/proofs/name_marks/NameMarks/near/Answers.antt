@@ -12,4 +12,4 @@ returns-then-not-self c = λ names size marked.
 pub returns : goal.returns
 returns c = λ names size marked.
     holds c.args.self.now.marks c.in_ok-near.near.items c.args.kind c.args.text.now 0 names (marked c.if-not-self.false)
-        c.in_ok-near.ensures
+    c.in_ok-near.ensures

@@ -16,14 +16,14 @@ returns-then-pair-place c =
     let ascending : AreAscending c.deref.result.now = subst AreAscending (sym c.deref.ensures.value) c.self.invariant in
     let there : IsPoint c.args.place c.deref.result.now c.partition_point-first.result =
     IsPartitionPoint-from_clause (λ (p : Pair). ltb p.place c.args.place) _ _
-        c.partition_point-first.ensures.partitioned (parted c.args.place c.deref.result.now ascending)
-        (λ a r q k. search rules) in
+    c.partition_point-first.ensures.partitioned (parted c.args.place c.deref.result.now ascending)
+    (λ a r q k. search rules) in
     let point : IsPoint c.args.place c.self.inside.pairs.items c.partition_point-first.result =
     subst (λ pairs. IsPoint c.args.place pairs c.partition_point-first.result) c.deref.ensures.value there in
     let within : c.partition_point-first.result < length c.self.inside.pairs.items =
     omega (arith, c.if-first-len.true, c.len.ensures, c.self.inside.pairs.ok.0) in
     let found : name_at c.args.place (map use_of c.self.inside.pairs.items)
-        ≡ Some (get_or c.self.inside.pairs.items c.partition_point-first.result c.index-pair.result.now).name =
+    ≡ Some (get_or c.self.inside.pairs.items c.partition_point-first.result c.index-pair.result.now).name =
     at-first c.args.place c.self.inside.pairs.items c.partition_point-first.result c.index-pair.result.now within
     (point-below c.args.place c.self.inside.pairs.items c.partition_point-first.result c.index-pair.result.now point)
     (ap (λ (p : Pair). p.place) (sym c.index-pair.ensures) ∙ c.if-pair-place.true) in
@@ -36,12 +36,12 @@ returns-else-pair-place c =
     let ascending : AreAscending c.deref.result.now = subst AreAscending (sym c.deref.ensures.value) c.self.invariant in
     let there : IsPoint c.args.place c.deref.result.now c.partition_point-first.result =
     IsPartitionPoint-from_clause (λ (p : Pair). ltb p.place c.args.place) _ _
-        c.partition_point-first.ensures.partitioned (parted c.args.place c.deref.result.now ascending)
-        (λ a r q k. search rules) in
+    c.partition_point-first.ensures.partitioned (parted c.args.place c.deref.result.now ascending)
+    (λ a r q k. search rules) in
     let point : IsPoint c.args.place c.self.inside.pairs.items c.partition_point-first.result =
     subst (λ pairs. IsPoint c.args.place pairs c.partition_point-first.result) c.deref.ensures.value there in
     sym (ap (option_map id) (nowhere-by c.args.place c.self.inside.pairs.items c.partition_point-first.result
-        c.index-pair.result.now c.self.invariant point
+    c.index-pair.result.now c.self.invariant point
     (λ _ same. c.if-pair-place.false (ap (λ (p : Pair). p.place) c.index-pair.ensures ∙ same))))
     ∙ ap (λ uses. option_map id (name_at c.args.place uses)) c.self.view_is
 
@@ -51,12 +51,12 @@ returns-else-first-len c =
     let ascending : AreAscending c.deref.result.now = subst AreAscending (sym c.deref.ensures.value) c.self.invariant in
     let there : IsPoint c.args.place c.deref.result.now c.partition_point-first.result =
     IsPartitionPoint-from_clause (λ (p : Pair). ltb p.place c.args.place) _ _
-        c.partition_point-first.ensures.partitioned (parted c.args.place c.deref.result.now ascending)
-        (λ a r q k. search rules) in
+    c.partition_point-first.ensures.partitioned (parted c.args.place c.deref.result.now ascending)
+    (λ a r q k. search rules) in
     let point : IsPoint c.args.place c.self.inside.pairs.items c.partition_point-first.result =
     subst (λ pairs. IsPoint c.args.place pairs c.partition_point-first.result) c.deref.ensures.value there in
     let no_pair : Pair = record { place = 0; name = 0 } in
     sym (ap (option_map id) (nowhere-by c.args.place c.self.inside.pairs.items c.partition_point-first.result no_pair
-        c.self.invariant point
+    c.self.invariant point
     (λ within same. omega (arith, c.if-first-len.false, c.len.ensures, c.self.inside.pairs.ok.0))))
     ∙ ap (λ uses. option_map id (name_at c.args.place uses)) c.self.view_is

@@ -16,11 +16,11 @@ invariant_of-self-in_err-text c = named-more _ _ 0 _ c.enter.ensures.keeps c.sel
 pub invariant_of-self-in_err-push : goal.invariant_of-self-in_err-push
 invariant_of-self-in_err-push c =
     subst (λ (xs : List Kept). AreMarkedNames c.enter.new.self 0 (map name_of xs)) (sym c.in_err-push.ensures.items)
-        (named-more _ _ 0 _ c.enter.ensures.keeps c.self.invariant)
+    (named-more _ _ 0 _ c.enter.ensures.keeps c.self.invariant)
 
 pub invariant_of-self-2 : goal.invariant_of-self-2
 invariant_of-self-2 c =
     subst (λ (xs : List Kept). AreMarkedNames c.enter.new.self 0 (map name_of xs)) (sym c.in_ok-push.ensures.items)
     (named-behind _ 0 c.self.inside.names.items _ (named-more _ _ 0 _ c.enter.ensures.keeps c.self.invariant)
     (λ live. marked-as _ _ _ _ _ _ _ refl c.in_ok-text.ensures.items (c.len-index.ensures ∙ c.self.inside.names.ok.0)
-        (c.in_ok-enter.ensures.ok live)))
+    (c.in_ok-enter.ensures.ok live)))

@@ -11,11 +11,11 @@ returns-in-None-clause-value c =
 pub returns-in-None-earliest_from-clause-value : goal.returns-in-None-earliest_from-clause-value
 returns-in-None-earliest_from-clause-value c =
     from-one (is_candidate c.args.prefix.now) c.args.self.now c.in-Some.first (sym c.earliest_from.ensures.value
-        ∙ c.in-Some.is)
+    ∙ c.in-Some.is)
     (sym c.earliest_from-in-Some.ensures.value ∙ c.in-None-earliest_from.is)
 
 pub returns-in-Some-earliest_from-clause-value : goal.returns-in-Some-earliest_from-clause-value
 returns-in-Some-earliest_from-clause-value c =
     from-several (is_candidate c.args.prefix.now) c.args.self.now c.in-Some.first c.in-Some-earliest_from.next
-        (sym c.earliest_from.ensures.value ∙ c.in-Some.is)
+    (sym c.earliest_from.ensures.value ∙ c.in-Some.is)
     (sym c.earliest_from-in-Some.ensures.value ∙ c.in-Some-earliest_from.is)

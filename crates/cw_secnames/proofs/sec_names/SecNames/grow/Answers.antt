@@ -15,7 +15,7 @@ returns-then-name-clause-ok c = sym c.self.view_is ∙ (elim c.then-name.branch 
   | then-name-via-else-name+then-len-prefix w ↦
       grown-longer c.args.prefix.now c.self.inside.names.items c.args.index c.index-name.result.now
       (subst (λ (n : Kept). length c.args.prefix.now ≤ length n.text.items) c.index-name.ensures
-          (omega (arith, w.len.ensures, w.if-len-prefix.true)))
+      (omega (arith, w.len.ensures, w.if-len-prefix.true)))
 ] ∙ ap (grown c.args.prefix.now c.args.index) c.self.view_is)
 
 pub returns-clause-ok : goal.returns-clause-ok
@@ -24,5 +24,5 @@ returns-clause-ok c =
     (grown-shorter c.args.prefix.now c.self.inside.names.items c.args.index c.index-name.result.now
     (ap (λ (n : Kept). n.complete) (sym c.index-name.ensures) ∙ c.if-name.false)
     (subst (λ (n : Kept). length n.text.items < length c.args.prefix.now) c.index-name.ensures
-        (omega (arith, c.len.ensures, c.if-len-prefix.false)))
+    (omega (arith, c.len.ensures, c.if-len-prefix.false)))
     ∙ ap (grown c.args.prefix.now c.args.index) c.self.view_is))

@@ -8,5 +8,5 @@ pub returns : goal.returns
 returns c =
     c.in_ok-near.ensures c.args.self.now
     (sym (ap length c.self.view_is) ∙ length-named c.self.inside.names.items ∙ sym c.self.inside.names.ok.0
-        ∙ sym c.len.ensures)
+    ∙ sym c.len.ensures)
     (subst (AreMarkedNames c.self.inside.marks 0) c.self.view_is c.self.invariant)

@@ -10,7 +10,7 @@ use Rattle.cw_secnames.proofs.sec_names.SecNames.set_text.Goals as goal
 pub returns-clause-ok : goal.returns-clause-ok
 returns-clause-ok c =
     with_text-map c.self.inside.names.items c.args.index _ c.index_mut-name.result.now c.in_ok-text.text c.args.text.now
-        c.args.complete c.index_mut-name.ensures.value c.in_ok-text.ensures.items
+    c.args.complete c.index_mut-name.ensures.value c.in_ok-text.ensures.items
     ∙ ap (with_text c.args.index c.args.text.now c.args.complete) c.self.view_is
 
 pub returns-clause-len : goal.returns-clause-len
@@ -29,5 +29,5 @@ invariant_of-self-2 c =
     (λ live. marked-as _ _ _ _ _ _ _
     (ap (λ (x : Kept). x.kind) c.index.ensures ∙ (same-kind c.self.inside.names.items c.args.index _ _
     (omega (arith, length-named c.self.inside.names.items, ap length c.self.view_is, c.requires))
-        ∙ sym (ap (λ (x : Kept). x.kind) c.index_mut-name.ensures.value)))
+    ∙ sym (ap (λ (x : Kept). x.kind) c.index_mut-name.ensures.value)))
     c.in_ok-text.ensures.items refl (c.in_ok-enter.ensures.ok live))

@@ -6,7 +6,7 @@ use Rattle.cw_table.proofs.at_hand.RowAtHand.piece.Goals as goal
 pub offset_bounds-self-inside-i : goal.offset_bounds-self-inside-i
 offset_bounds-self-inside-i c =
     let low : c.args.i < 12 = (other-pieces c.self.inside.index c.args.other c.args.self.now c.self.invariant
-        c.if-other.true c.self.view_is).below c.args.i c.requires in
+    c.if-other.true c.self.view_is).below c.args.i c.requires in
     omega arith
 
 pub bounds-i : goal.bounds-i
@@ -16,7 +16,7 @@ bounds-i c = (other-pieces c.self.inside.index c.args.other c.args.self.now c.se
 pub offset_bounds-self-inside-i-else-other : goal.offset_bounds-self-inside-i-else-other
 offset_bounds-self-inside-i-else-other c =
     let low : c.args.i < 12 = (usual-pieces c.self.inside.index c.args.other c.args.self.now c.self.invariant
-        c.if-other.false c.self.view_is).below c.args.i c.requires in
+    c.if-other.false c.self.view_is).below c.args.i c.requires in
     omega arith
 
 pub bounds-i-else-other : goal.bounds-i-else-other

@@ -10,7 +10,7 @@ use Rattle.cw_table.proofs.types.Row.holds_replaced.Goals.{in-Some+else-next-end
 pub returns : goal.returns
 returns c =
     sym (c.loop-piece.invariant.same ∙ order-end _ c.loop-piece.piece-index c.loop-piece.next _ c.loop-piece-test.false
-        c.loop-piece.invariant.within)
+    c.loop-piece.invariant.within)
 
 pub returns-then-next-end : goal.returns-then-next-end
 returns-then-next-end c =
@@ -29,11 +29,11 @@ loop-piece-preserved c = elim c.match-scrap.branch [
     same =
         c.loop-piece.invariant.same
         ∙ order-on _ c.loop-piece.piece-index w.in-Some.k c.loop-piece.next _ _ c.loop-piece-test.true
-            (sym c.scrap.ensures ∙ w.in-Some.is) (omega (arith, c.loop-piece.invariant.within, w.if-next-end.false))
-            w.if-k-next.false
+        (sym c.scrap.ensures ∙ w.in-Some.is) (omega (arith, c.loop-piece.invariant.within, w.if-next-end.false))
+        w.if-k-next.false
         ∙ ap (λ n. same_numbers (scraps_in (drop (c.loop-piece.piece-index + 1)
-            (take c.args.pieces.now.count c.args.pieces.now.pieces)))
-            (numbers_from n (c.args.self.now.offset + c.args.self.now.replaced - n))) (sym w.next-is);
+        (take c.args.pieces.now.count c.args.pieces.now.pieces)))
+        (numbers_from n (c.args.self.now.offset + c.args.self.now.replaced - n))) (sym w.next-is);
   }
   | in_default w ↦ record {
     within = omega (arith, w.next-is, c.loop-piece.invariant.within);
@@ -41,7 +41,7 @@ loop-piece-preserved c = elim c.match-scrap.branch [
         c.loop-piece.invariant.same
         ∙ order-past _ c.loop-piece.piece-index _ _ c.loop-piece-test.true (sym c.scrap.ensures ∙ w.in_default.is)
         ∙ ap (λ n. same_numbers (scraps_in (drop (c.loop-piece.piece-index + 1)
-            (take c.args.pieces.now.count c.args.pieces.now.pieces)))
-            (numbers_from n (c.args.self.now.offset + c.args.self.now.replaced - n))) (sym w.next-is);
+        (take c.args.pieces.now.count c.args.pieces.now.pieces)))
+        (numbers_from n (c.args.self.now.offset + c.args.self.now.replaced - n))) (sym w.next-is);
   }
 ]

@@ -8,10 +8,10 @@ pub returns-clause-test : goal.returns-clause-test
 returns-clause-test c =
     parts-joined c.args.self.now _ _ _ _ _
     c.has_sound_tests.ensures c.has_sound_pieces.ensures c.has_sound_result.ensures c.has_sound_marks.ensures
-        c.has_sound_counts.ensures
+    c.has_sound_counts.ensures
 
 pub returns-clause-rule : goal.returns-clause-rule
 returns-clause-rule c = λ e. sound-row c.args.self.now (sym (
     parts-joined c.args.self.now _ _ _ _ _
     c.has_sound_tests.ensures c.has_sound_pieces.ensures c.has_sound_result.ensures c.has_sound_marks.ensures
-        c.has_sound_counts.ensures) ∙ e)
+    c.has_sound_counts.ensures) ∙ e)

@@ -9,7 +9,7 @@ use Rattle.cw_table.proofs.types.Row.suits_before.Goals as goal
 pub returns : goal.returns
 returns c =
     sym (all-numbers (λ a. meet (test c.args.other.now (c.args.places + a)) (test c.args.self.now a)) 0
-        c.args.self.now.offset (λ i below.
+    c.args.self.now.offset (λ i below.
     ap (λ a. meet (test c.args.other.now (c.args.places + a)) (test c.args.self.now a)) (zero-add i)
     ∙ c.loop-a.invariant i (omega (arith, c.loop-a-test.false))))
 
@@ -17,7 +17,7 @@ pub returns-then-not-meets : goal.returns-then-not-meets
 returns-then-not-meets c =
     let e : meet c.test_at.result c.test_at-in-loop-a.result ≡ false = sym c.meets.ensures ∙ c.if-not-meets.true in
     let t : meet (test c.args.other.now (c.args.places + c.loop-a.a)) (test c.args.self.now c.loop-a.a) ≡ false =
-        cc (c.test_at.ensures, c.test_at-in-loop-a.ensures) in
+    cc (c.test_at.ensures, c.test_at-in-loop-a.ensures) in
     sym (not-all-numbers (λ a. meet (test c.args.other.now (c.args.places + a)) (test c.args.self.now a)) 0
-        c.args.self.now.offset c.loop-a.a c.loop-a-test.true
+    c.args.self.now.offset c.loop-a.a c.loop-a-test.true
     (ap (λ a. meet (test c.args.other.now (c.args.places + a)) (test c.args.self.now a)) (zero-add c.loop-a.a) ∙ t))

@@ -6,16 +6,16 @@ use Rattle.cw_table.proofs.types.Table.endangered.Goals as goal
 pub returns-then-is_hazard : goal.returns-then-is_hazard
 returns-then-is_hazard g c =
     endangered-some c.self.inside.rows c.args.self.now c.args.row.now c.args.places c.loop-other.other-index _
-        c.self.view_is (omega (arith, c.loop-other-test.true, c.self.told)) (sym c.is_hazard.ensures
-        ∙ c.if-is_hazard.true)
+    c.self.view_is (omega (arith, c.loop-other-test.true, c.self.told)) (sym c.is_hazard.ensures
+    ∙ c.if-is_hazard.true)
 
 pub returns : goal.returns
 returns g c =
     endangered-none c.self.inside.rows c.args.self.now c.args.row.now c.args.places c.loop-other.other-index
-        c.self.view_is (omega (arith, c.loop-other-test.false, c.self.told)) c.loop-other.invariant
+    c.self.view_is (omega (arith, c.loop-other-test.false, c.self.told)) c.loop-other.invariant
 
 pub loop-other-preserved : goal.loop-other-preserved
 loop-other-preserved g c =
     none-more c.self.inside.rows c.args.row.now c.args.places c.loop-other.other-index _
-        (omega (arith, c.loop-other-test.true, c.self.told)) c.loop-other.invariant (sym c.is_hazard.ensures
-        ∙ c.if-is_hazard.false)
+    (omega (arith, c.loop-other-test.true, c.self.told)) c.loop-other.invariant (sym c.is_hazard.ensures
+    ∙ c.if-is_hazard.false)

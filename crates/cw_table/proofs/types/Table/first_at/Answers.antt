@@ -13,4 +13,4 @@ returns-clause-first g c =
 pub returns-clause-to_last : goal.returns-clause-to_last
 returns-clause-to_last g c =
     subst (λ n. IfSome c.first_production.result (λ row. row.number ≤ n)) (sym productions-length
-        ∙ ap length (sym c.self.invariant) ∙ c.self.told) c.first_production.ensures.to_last
+    ∙ ap length (sym c.self.invariant) ∙ c.self.told) c.first_production.ensures.to_last

@@ -9,4 +9,4 @@ use Rattle.cw_table.proofs.types.Table.is_sound.Goals as goal
 pub returns-clause-rule : goal.returns-clause-rule
 returns-clause-rule g c =
     λ e. all-sound c.args.self.now (ap (list_all row_is_sound) (sym c.self.view_is ∙ c.self.invariant)
-        ∙ productions-sound)
+    ∙ productions-sound)
