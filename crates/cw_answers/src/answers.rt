@@ -41,7 +41,7 @@ impl<'a> Answers<'a> {
     }
 
     /// Scans a span, and keeps its answers in place of those before, in the same room. After `Memory` it keeps some of
-    /// them.
+    /// them. `Memory` answers a text of 2^32 bytes or more too, since places are kept in 32 bits.
     pub fn scan(&mut self, text: &'a [u8], span: Span, mode: Mode) -> Result<(), Memory>
         requires order { span.start ≤ span.end }
         requires within { span.end ≤ length text.now }
@@ -49,12 +49,15 @@ impl<'a> Answers<'a> {
     {
         self.kept.clear();
         self.text = text;
+        if text.len() > u32::MAX as usize {
+            return Err(Memory);
+        }
         let mut lexer = Lexer::over(text, span.start, span.end, mode);
         loop {
             let kept = match lexer.next() {
-                Lexed::Token(token) => Kept::Token(Stretch::of(text, &token)?),
-                Lexed::Begin(token) => Kept::Begin(Stretch::of(text, &token)?),
-                Lexed::Finish(token) => Kept::Finish(Stretch::of(text, &token)?),
+                Lexed::Token(token) => Kept::Token(Stretch::of(text, &token)),
+                Lexed::Begin(token) => Kept::Begin(Stretch::of(text, &token)),
+                Lexed::Finish(token) => Kept::Finish(Stretch::of(text, &token)),
                 Lexed::Note(kind, place) => Kept::Note(kind, place),
                 Lexed::End => return Ok(()),
             };

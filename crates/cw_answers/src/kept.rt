@@ -1,9 +1,9 @@
 //! An answer of the scanner, without the bytes of the text.
-ghost use Rattle.std.specs.Prelude.{◌≡◌, ◌≤◌, ◌∷◌, List, length, IfOk};
+ghost use Rattle.std.specs.Prelude.{◌≡◌, ◌<◌, ◌^◌, ◌∷◌, List, length};
 ghost use Rattle.cw_rules.specs.Answers.{Answer, Gives, seen};
 ghost use Rattle.cw_answers.specs.Kept.{seen_at, answer_at, IsWithin, LiesIn, StandsIn};
 
-use cw_base::{Memory, NoteKind, Span};
+use cw_base::{NoteKind, Span};
 use cw_lex::{Lexed, Tok, TokKind};
 
 /// A token, by where its bytes lie in the text.
@@ -25,25 +25,20 @@ pub(crate) enum Kept {
 }
 
 impl Stretch {
-    /// Where a token of the text lies. `Memory` where that is beyond 2^32: no such text can be kept.
+    /// Where a token of the text lies.
     #[inline(always)]
-    pub(crate) fn of(text: &[u8], token: &Tok) -> Result<Stretch, Memory>
-        requires { StandsIn text.now (seen token.now) }
-        ensures same { IfOk result (λ s. seen_at text.now s ≡ seen token.now) }
-        ensures within { IfOk result (λ s. LiesIn (length text.now) s) }
+    pub(crate) fn of(text: &[u8], token: &Tok) -> Stretch
+        requires stands { StandsIn text.now (seen token.now) }
+        requires short { length text.now < 2 ^ 32 }
+        ensures same { seen_at text.now result ≡ seen token.now }
+        ensures within { LiesIn (length text.now) result }
     {
-        let Ok(start) = u32::try_from(token.span.start) else {
-            return Err(Memory);
-        };
-        let Ok(end) = u32::try_from(token.span.end) else {
-            return Err(Memory);
-        };
-        Ok(Stretch {
+        Stretch {
             kind: token.kind,
             hash_line: token.hash_line,
-            start,
-            end,
-        })
+            start: token.span.start as u32,
+            end: token.span.end as u32,
+        }
     }
 
     /// The token itself.

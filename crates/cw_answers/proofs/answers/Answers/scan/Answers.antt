@@ -3,7 +3,7 @@ use Rattle.std.proofs.Common.{refl, subst, sym, ◌∙◌, ap, length}
 use Rattle.cw_rules.specs.Answers.{Token, Begin, Finish, Note, seen}
 use Rattle.cw_answers.specs.Kept.{answer_at, IsWithin}
 use Rattle.cw_answers.proofs.Standing.{Keeping, begin, pushed}
-use Rattle.cw_answers.proofs.answers.Answers.scan.Goals.{in-Token+in_ok-of-in-Token, in-Begin+in_ok-of-in-Begin, in-Finish+in_ok-of-in-Finish, in-Note}
+use Rattle.cw_answers.proofs.answers.Answers.scan.Goals.{in-Token, in-Begin, in-Finish, in-Note}
 use Rattle.cw_answers.proofs.answers.Answers.scan.Goals as goal
 
 pub loop-token-init : goal.loop-token-init
@@ -19,15 +19,15 @@ loop-token-preserved c =
     let step = pushed text c.loop-token.self-inside.text.now c.over-lexer.result c.loop-token.self-inside.kept.items
         c.push.new.self.items kept in
     elim c.match-next.branch [
-      in-Token+in_ok-of-in-Token w ↦ step (Token (seen w.in-Token.token)) c.loop-token.lexer c.next.new.self c.in_ok-push.ensures.items
-          w.in-Token.ensures (ap (answer_at text) w.kept-is ∙ ap Token w.in_ok-of-in-Token.ensures.same)
-          (subst (IsWithin (length text)) (sym w.kept-is) w.in_ok-of-in-Token.ensures.within) c.loop-token.invariant
-    | in-Begin+in_ok-of-in-Begin w ↦ step (Begin (seen w.in-Begin.token)) c.loop-token.lexer c.next.new.self c.in_ok-push.ensures.items
-          w.in-Begin.ensures (ap (answer_at text) w.kept-is ∙ ap Begin w.in_ok-of-in-Begin.ensures.same)
-          (subst (IsWithin (length text)) (sym w.kept-is) w.in_ok-of-in-Begin.ensures.within) c.loop-token.invariant
-    | in-Finish+in_ok-of-in-Finish w ↦ step (Finish (seen w.in-Finish.token)) c.loop-token.lexer c.next.new.self c.in_ok-push.ensures.items
-          w.in-Finish.ensures (ap (answer_at text) w.kept-is ∙ ap Finish w.in_ok-of-in-Finish.ensures.same)
-          (subst (IsWithin (length text)) (sym w.kept-is) w.in_ok-of-in-Finish.ensures.within) c.loop-token.invariant
+      in-Token w ↦ step (Token (seen w.in-Token.token)) c.loop-token.lexer c.next.new.self c.in_ok-push.ensures.items
+          w.in-Token.ensures (ap (answer_at text) w.kept-is ∙ ap Token w.of.ensures.same)
+          (subst (IsWithin (length text)) (sym w.kept-is) w.of.ensures.within) c.loop-token.invariant
+    | in-Begin w ↦ step (Begin (seen w.in-Begin.token)) c.loop-token.lexer c.next.new.self c.in_ok-push.ensures.items
+          w.in-Begin.ensures (ap (answer_at text) w.kept-is ∙ ap Begin w.of-in-Begin.ensures.same)
+          (subst (IsWithin (length text)) (sym w.kept-is) w.of-in-Begin.ensures.within) c.loop-token.invariant
+    | in-Finish w ↦ step (Finish (seen w.in-Finish.token)) c.loop-token.lexer c.next.new.self c.in_ok-push.ensures.items
+          w.in-Finish.ensures (ap (answer_at text) w.kept-is ∙ ap Finish w.of-in-Finish.ensures.same)
+          (subst (IsWithin (length text)) (sym w.kept-is) w.of-in-Finish.ensures.within) c.loop-token.invariant
     | in-Note w ↦ step (Note w.in-Note.kind w.in-Note.place) c.loop-token.lexer c.next.new.self c.in_ok-push.ensures.items
           w.in-Note.ensures (ap (answer_at text) w.kept-is)
           (subst (IsWithin (length text)) (sym w.kept-is) tt) c.loop-token.invariant ]
