@@ -23,8 +23,9 @@ use crate::heads::{Beginning, HeadRead};
 use crate::holders::Holder;
 use crate::translating::{Translated, Translator};
 use crate::work::{Context, Work};
+use cw_answers::Again;
 use cw_base::{Cat, Ledger, MathMode, Memory};
-use cw_lex::{Lexed, Lexer};
+use cw_lex::Lexed;
 use cw_scraps::ScrapLine;
 use std::alloc::Global;
 
@@ -151,7 +152,7 @@ impl Translator {
     fn read_behind<L: Ledger>(
         &mut self,
         begun: &Beginning,
-        lexer: &mut Lexer,
+        lexer: &mut Again,
         context: &Context,
         work: &mut Work<L>,
     ) -> Result<(), Memory>
@@ -181,7 +182,7 @@ impl Translator {
     fn read_headed<L: Ledger>(
         &mut self,
         begun: &Beginning,
-        lexer: &mut Lexer,
+        lexer: &mut Again,
         context: &Context,
         work: &mut Work<L>,
     ) -> Result<(), Memory>
@@ -212,7 +213,7 @@ impl Translator {
 /// Translates a text that begins with this head.
 pub(crate) fn translate_headed<L: Ledger>(
     begun: &Beginning,
-    lexer: &mut Lexer,
+    lexer: &mut Again,
     context: &Context,
     work: &mut Work<L>,
 ) -> Result<Translated, Memory>

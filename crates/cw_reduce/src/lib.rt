@@ -15,6 +15,7 @@ mod walk;
 mod work;
 
 pub use laws::translation_laws;
-pub use translating::{Translated, translate};
+pub use translating::{Translated, translate, translate_answers};
 pub use uncut::{is_plain_c, is_uncut};
 pub use walk::{Reduced, reduce};
+pub use work::{Context, Work};

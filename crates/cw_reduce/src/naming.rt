@@ -17,6 +17,7 @@ ghost use Rattle.cw_reduce.specs.Working.{HasComeOver, IsSameWork, progress_over
 use crate::holders::Holder;
 use crate::translating::Translator;
 use crate::work::{Context, Work};
+use cw_answers::Again;
 use cw_base::{Ledger, Memory, Span};
 use cw_lex::{Code, Lexed, Lexer, Mode, Tok, TokKind};
 use cw_secnames::{SecKind, next_part};
@@ -247,10 +248,10 @@ impl Translator {
         }
     }
 
-    /// All answers of a scanner, in which section names stand for their texts.
+    /// All answers, in which section names stand for their texts.
     pub(crate) fn read_named<L: Ledger>(
         &mut self,
-        lexer: &mut Lexer,
+        lexer: &mut Again,
         context: &Context,
         work: &mut Work<L>,
     ) -> Result<(), Memory>

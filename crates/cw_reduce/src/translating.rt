@@ -9,7 +9,7 @@ ghost use Rattle.cw_trees.specs.Joining.{whole};
 ghost use Rattle.cw_tokens.specs.Shapes.{unfolded};
 ghost use Rattle.cw_rules.specs.Answers.{Finish, Seen, seen};
 ghost use Rattle.cw_lex.specs.Lexing.{tokens_of};
-ghost use Rattle.cw_lex.specs.Nested.{begins_section_in, is_c_mode, until_section};
+ghost use Rattle.cw_lex.specs.Nested.{IsNested, begins_section_in, is_c_mode, until_section};
 ghost use Rattle.cw_scraps.specs.Applying.{state_of};
 ghost use Rattle.cw_scraps.specs.Changing.{Keeps};
 ghost use Rattle.cw_scraps.specs.Leaves.{MakesLeaf, names_with};
@@ -19,13 +19,13 @@ ghost use Rattle.cw_reduce.specs.declared.nesting.Open.TheVariants as CTexts;
 ghost use Rattle.cw_reduce.specs.Counting.{limit_in, productions_in, scraps_in, text_limit, ticks_in};
 ghost use Rattle.cw_reduce.specs.Heading.{NamesOfText};
 ghost use Rattle.cw_reduce.specs.NameParts.{AreNamesOf, name_texts};
-ghost use Rattle.cw_reduce.specs.Opening.{HasCome, HasEnded, IsTranslating, StartsBelow, all_roots, answers_in};
+ghost use Rattle.cw_reduce.specs.Opening.{HasCome, HasEnded, IsTranslated, IsTranslating, StartsBelow, all_roots, answers_in};
 ghost use Rattle.cw_reduce.specs.Opening.{begun_by, progress_of};
 ghost use Rattle.cw_reduce.specs.Reading.{after_answers, after_finish, after_token, begun, last_scraps};
 ghost use Rattle.cw_reduce.specs.Reduction.{words_of};
 ghost use Rattle.cw_reduce.specs.Retyping.{NamesAmong, Retypes, RetypesIn};
 ghost use Rattle.cw_reduce.specs.Translating.{state_in, translated, with_categories};
-ghost use Rattle.cw_reduce.specs.Working.{HasComeOver, IsSameWork, progress_over};
+ghost use Rattle.cw_reduce.specs.Working.{HasComeOver, IsSameWork, progress_over, texts_in};
 
 use crate::gathering::{CommentPart, put_together};
 use crate::headed::translate_headed;
@@ -36,6 +36,7 @@ use crate::nesting::{CommentText, Nesting, Open};
 use crate::uncut::ends_text;
 use crate::walk::reduce;
 use crate::work::{Context, Work};
+use cw_answers::{Again, Answers};
 use cw_base::{Flags, Ledger, Memory, Span, Steps};
 use cw_lex::{Lexed, Lexer, Mode, Tok, TokKind};
 use cw_names::Names;
@@ -363,6 +364,44 @@ impl Translator {
     }
 }
 
+/// Translates a C text by the answers that its scan gave, those that are still to come: the same as `translate` of a text
+/// that has these answers. No section code may cut the text.
+pub fn translate_answers<L: Ledger>(
+    again: &mut Again,
+    context: &Context,
+    work: &mut Work<L>,
+) -> Result<Translated, Memory>
+    requires nested { IsNested again.old }
+    requires start { StartsBelow (2 ^ 32) again.old }
+    requires kept { AreNamesOf context.now.sec_names.now context.now.uses.now }
+    requires idle { work.old.store.now.building ≡ None }
+    // The tree, the names with their categories, the marks and the counts are those of the definition.
+    ensures text { IfOk result (λ done. IsTranslated context.now.flags.now work.new.store.now.lists work.new.names.now
+        work.new.marks.now done work.old.steps.now work.new.steps.now (translated context.now.flags.now
+        (texts_in context.now) again.old work.old.names.now (marked_names work.old.marks.now))) }
+    ensures few { IfOk result (λ done. done.productions ≤ 8 * done.scraps) }
+    // Whatever it answers: of each text of n scraps 132 n steps, and n for each production by a row that reserves.
+    ensures bound { work.new.steps.now ≤ work.old.steps.now + limit_in context.now.flags.now
+        (translated context.now.flags.now (texts_in context.now) again.old work.old.names.now
+        (marked_names work.old.marks.now)).known.ended }
+    // The list is one of the store to which no list refers, and the names in its tree are names.
+    ensures root { IfOk result (λ done. AreRoots work.new.store.now.lists (done.list.index ∷ [])) }
+    ensures named { IfOk result (λ done. IsNamedBelow (length work.new.names.now) (unfolded work.new.store.now.lists
+        done.list.index)) }
+    // The lists that the store held stay, and no new list refers to them.
+    ensures others { IfOk result (λ done. Keeps work.old.store.now.lists work.new.store.now.lists []
+        (done.list.index ∷ [])) }
+    ensures idle { work.new.store.now.building ≡ None }
+    // The names are those at a word of the head or at an answer, or those after some productions of a text that has
+    // ended.
+    ensures refused { OnErr result (NamesOfText context.now.flags.now (texts_in context.now) again.old
+        work.old.names.now (marked_names work.old.marks.now) work.new.names.now) }
+    ensures same { IsSameWork work.old work.new }
+{
+    let begun = read_head(again, context.alloc, work.names, work.store)?;
+    translate_headed(&begun, again, context, work)
+}
+
 /// Translates a C text, whose first byte stands at `span.start`: its head is read, its tokens become scraps, the inner
 /// texts of its comments are translated in the same store where they end, and those of its section names where the
 /// names stand, the scraps are reduced, and what no production joins stands side by side. Tokens have the place of
@@ -421,8 +460,8 @@ pub fn translate<L: Ledger>(
     ensures refused { OnErr result (NamesOfText flags.now (name_texts sec_names.now uses.now)
         (tokens_of text.now span.start span.end mode) names.old (marked_names marks.old) names.new) }
 {
-    let mut lexer = Lexer::over(text, span.start, span.end, mode);
-    let begun = read_head(&mut lexer, alloc, names, store)?;
+    let mut answers = Answers::new_in(alloc);
+    answers.scan(text, span, mode)?;
     let context = Context {
         sec_names,
         uses,
@@ -435,5 +474,5 @@ pub fn translate<L: Ledger>(
         marks,
         steps,
     };
-    translate_headed(&begun, &mut lexer, &context, &mut work)
+    translate_answers(&mut answers.again(), &context, &mut work)
 }
