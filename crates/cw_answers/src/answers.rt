@@ -1,5 +1,5 @@
 //! All answers of a scan, and going through them again.
-ghost use Rattle.std.specs.Prelude.{◌≡◌, ◌≤◌, [], drop, length, OnOk};
+ghost use Rattle.std.specs.Prelude.{◌≡◌, ◌≤◌, ◌<◌, ◌+◌, [], drop, length, OnOk};
 ghost use Rattle.cw_rules.specs.Answers.{Gives};
 ghost use Rattle.cw_lex.specs.Lexing.{tokens_of};
 
@@ -70,6 +70,23 @@ impl<'a> Answers<'a> {
         ensures { result ≡ self.now }
     {
         self.behind(0)
+    }
+
+    /// How many there are.
+    #[inline(always)]
+    pub fn len(&self) -> usize
+        ensures { result ≡ length self.now }
+    {
+        self.kept.len()
+    }
+
+    /// The answer behind so many.
+    #[inline(always)]
+    pub fn at(&self, place: usize) -> Lexed<'a>
+        requires { place < length self.now }
+        ensures { Gives (drop place self.now) result (drop (place + 1) self.now) }
+    {
+        self.kept[place].answer(self.text)
     }
 
     /// The answers behind so many.
