@@ -1,0 +1,22 @@
+-- The answers of the scan are nested, and stand in the text.
+use Rattle.std.proofs.Common.{arith, sym, subst, ◌∙◌}
+use Rattle.cw_lex.specs.Lexing.{tokens_of}
+use Rattle.cw_lex.specs.Nested.{IsNested}
+use Rattle.cw_lex.proofs.Nesting.{c-texts-nested}
+use Rattle.cw_lex.proofs.TokensWithin.{tokens-within}
+use Rattle.cw_reduce.specs.Opening.{StartsBelow}
+use Rattle.cw_reduce.proofs.AnswerSteps.{within-starts}
+use Rattle.cw_reduce.proofs.translating.translate.Goals as goal
+
+pub translate_answers-requires-clause-nested : goal.translate_answers-requires-clause-nested
+translate_answers-requires-clause-nested g c =
+    subst IsNested (sym (c.again.ensures ∙ c.in_ok-scan.ensures))
+    (c-texts-nested c.args.text.now c.args.span.start c.args.span.end c.args.mode c.requires.c_text c.requires.uncut)
+
+pub translate_answers-requires-clause-start : goal.translate_answers-requires-clause-start
+translate_answers-requires-clause-start g c =
+    subst (StartsBelow 4294967296) (sym (c.again.ensures ∙ c.in_ok-scan.ensures))
+    (within-starts 4294967296 c.args.span.start c.args.span.end
+    (tokens_of c.args.text.now c.args.span.start c.args.span.end c.args.mode)
+    (omega (arith, c.requires.within, c.requires.short))
+    (tokens-within c.args.text.now c.args.span.start c.args.span.end c.args.mode c.requires.order c.requires.within))
