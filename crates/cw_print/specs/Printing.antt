@@ -8,13 +8,13 @@ use Rattle.cw_trees.specs.Printing.{Printable}
 use Rattle.cw_join.specs.Early.{depth_behind, early}
 use Rattle.cw_join.specs.Standing.{Stands}
 use Rattle.cw_print.specs.Coming.{AllMay, MayCome}
-use Rattle.cw_print.specs.declared.printing.CText.{CText}
+use Rattle.cw_print.specs.declared.printing.KeptText.{KeptText}
 use Rattle.cw_print.specs.declared.printing.Printer.{Printer}
-use Rattle.cw_print.specs.Sources.{source, titles}
+use Rattle.cw_print.specs.Sources.{source_by, titles}
 use Rattle.cw_print.specs.Walk.{Source, item_shown, items_shown, outside, stand_after}
 
-abbrev pub source_of : CText → Source
-source_of c = source c.text.now c.span c.mode c.book.now c.section c.wraps
+abbrev pub source_of : KeptText → Source
+source_of c = source_by c.answers.now c.book.now c.section c.flags.now.wrap
 
 -- what these items print, and what the next one does behind them
 abbrev pub shown : Source → List Item → List Printable

@@ -1,13 +1,11 @@
--- What a scan keeps: where its span lies, and which numbers lie ahead.
-use Rattle.std.specs.Prelude.{ℕ, ◌≤◌, List, length}
-use Rattle.cw_base.specs.declared.span.Span.{Span}
+-- Where tokens are sought among answers, and which numbers lie ahead.
+use Rattle.std.specs.Prelude.{ℕ, ◌≤◌, List, drop, length}
 use Rattle.cw_rules.specs.Answers.{Answer}
-use Rattle.cw_rules.specs.declared.tokens.Mode.{Mode}
-use Rattle.cw_lex.specs.Lexing.{tokens_of}
 use Rattle.cw_lex.specs.Nested.{until_section}
+use Rattle.cw_print.specs.declared.scan.Seek.{Seek}
 use Rattle.cw_print.specs.Found.{IsAhead}
 
-pub record IsScan (text : List ℕ) (span : Span) (mode : Mode) (from : ℕ) (rest : List Answer) : Type 0 where
-  pub order : span.start ≤ span.«end»
-  pub within : span.«end» ≤ length text
-  pub ahead : IsAhead (until_section (tokens_of text span.start span.«end» mode)) from rest
+-- So many answers are behind, and each number from one on has its token among the others, up to a section code.
+pub record IsSeeking (all : List Answer) (seek : Seek) : Type 0 where
+  pub within : seek.place ≤ length all
+  pub ahead : IsAhead (until_section all) seek.from (until_section (drop seek.place all))

@@ -1,6 +1,7 @@
 -- What a C text of a book is printed from.
 use Rattle.std.specs.Prelude.{ℕ, ◌-◌, ◌==◌, Bool, true, false, List, [], ◌∷◌, Option, Some, None, option_map, slice_get, unwrap_or}
 use Rattle.cw_base.specs.declared.span.Span.{Span}
+use Rattle.cw_rules.specs.Answers.{Answer}
 use Rattle.cw_lex.specs.Lexing.{tokens_of}
 use Rattle.cw_rules.specs.declared.tokens.Mode.{Mode}
 use Rattle.cw_phase1.specs.declared.book.Book.{Book}
@@ -65,13 +66,13 @@ is_first book number = defines_its_name book.sec_names (section_of book.outline.
 
 -- ## The source
 
-abbrev pub source : List ℕ → Span → Mode → Book → ℕ → Bool → Source
-source text span mode book section wraps = record {
-  fixed = record {
-    answers = tokens_of text span.start span.«end» mode;
-    wraps = wraps;
-    first = is_first book section;
-  };
+-- what a C text with these answers of the scanner is printed from
+abbrev pub source_by : List Answer → Book → ℕ → Bool → Source
+source_by answers book section wraps = record {
+  fixed = record { answers = answers; wraps = wraps; first = is_first book section };
   titles = titles book;
   names = book.names;
 }
+
+abbrev pub source : List ℕ → Span → Mode → Book → ℕ → Bool → Source
+source text span mode book section wraps = source_by (tokens_of text span.start span.«end» mode) book section wraps

@@ -16,4 +16,4 @@ mod title;
 mod tokens;
 mod walk;
 
-pub use printing::print_list;
+pub use printing::{KeptText, print_answers, print_list};

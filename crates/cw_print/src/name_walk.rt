@@ -9,14 +9,16 @@ use crate::escaping::put_escaped;
 use crate::scan::Scan;
 use crate::title::{SectionTitle, put_front};
 use cw_base::{Bytes, Memory};
-use cw_lex::{Mode, Tok};
+use cw_lex::Tok;
 use cw_secnames::next_part;
+use std::alloc::Global;
 use std::marker::Model;
 
 /// Where the printing stands in a section name. It is seen as the answers of the inner text at hand, and the pieces
 /// that are still to come.
 #[derive(Drop)]
 pub(crate) struct NameWalk<'a> {
+    alloc: Global,
     text: &'a [u8],
     // Where the text goes on, if more of it is to come.
     rest: Option<usize>,
@@ -39,7 +41,11 @@ impl<'a> Model for NameWalk<'a> {
 
 impl<'a> NameWalk<'a> {
     /// Appends what a name prints before its text, and its text up to its first inner text or to its end.
-    pub(crate) fn begin(out: &mut Bytes, title: &SectionTitle<'a>) -> Result<NameWalk<'a>, Memory>
+    pub(crate) fn begin(
+        alloc: Global,
+        out: &mut Bytes,
+        title: &SectionTitle<'a>,
+    ) -> Result<NameWalk<'a>, Memory>
         ensures bytes { OnOk result (out.new ≡ out.old ++ (front (title_of title.now) ++
             next_bytes (name_pieces (title_of title.now)))) }
         ensures behind { IfOk result (λ walk. walk ≡ behind_next (name_pieces (title_of title.now))) }
@@ -50,12 +56,14 @@ impl<'a> NameWalk<'a> {
             put_escaped(out, title.text)?;
             out.push(b'}')?;
             return Ok(NameWalk {
+                alloc,
                 text: title.text,
                 rest: None,
                 inner: None,
             });
         }
         let mut walk = NameWalk {
+            alloc,
             text: title.text,
             rest: Some(0),
             inner: None,
@@ -76,7 +84,7 @@ impl<'a> NameWalk<'a> {
         match next_part(self.text, place) {
             Some(span) => {
                 out.append(&self.text[place..span.start - 1])?;
-                self.inner = Some(Scan::over(self.text, span, Mode::Inner));
+                self.inner = Some(Scan::over(self.alloc, self.text, span)?);
                 self.rest = Some(span.end + 1);
             }
             None => {

@@ -16,11 +16,13 @@ ghost use Rattle.cw_join.specs.Tokens.{CanCome};
 ghost use Rattle.cw_print.specs.Coming.{AllMay, MayCome};
 ghost use Rattle.cw_print.specs.Printing.{IsBehind, IsMidway, IsOnlyName, Midway, PrintsOn, shown};
 ghost use Rattle.cw_print.specs.Printing.{shown_next, source_of};
-ghost use Rattle.cw_print.specs.Sources.{source};
+ghost use Rattle.cw_print.specs.Sources.{source, source_by};
 ghost use Rattle.cw_print.specs.Walk.{Source, bracket, tree_bytes, wrapped};
 
 use crate::book_titles::is_first;
+use crate::scan::scanned;
 use crate::walk::{Manner, TextWalk};
+use cw_answers::Answers;
 use cw_base::{Bytes, Flags, Memory, Span};
 use cw_desk::Desk;
 use cw_join::{Joiner, put_ident};
@@ -32,42 +34,43 @@ use cw_tokens::{FlatItem, FlatTokens, ListId, TokenStore};
 use cw_trees::Control;
 use std::alloc::Global;
 
-// A C text: where it stands, and the book and the section in which it is printed.
+/// A C text of which the scanner's answers are kept, and where it is printed.
 #[derive(Clone, Copy)]
-struct CText<'a> {
-    text: &'a [u8],
-    span: Span,
-    mode: Mode,
-    book: &'a Book,
-    section: u32,
-    // Inner texts stand in `\PB{` and `}`.
-    wraps: bool,
+pub struct KeptText<'s, 'a> {
+    /// All answers of the scanner for it.
+    pub answers: &'s Answers<'a>,
+    /// The book, as which section names are printed.
+    pub book: &'s Book,
+    /// The present section, or 0 in the section list.
+    pub section: u32,
+    /// They say whether inner texts stand in `\PB{` and `}`.
+    pub flags: &'s Flags,
+    /// The text is itself inner C text.
+    pub inner: bool,
 }
 
 // Where the printing of a C text stands.
 #[derive(Drop)]
-struct Printer<'a> {
-    book: &'a Book,
-    walk: TextWalk<'a>,
+struct Printer<'s, 'a> {
+    book: &'s Book,
+    walk: TextWalk<'s, 'a>,
     joiner: Joiner,
 }
 
-impl<'a> Printer<'a> {
+impl<'s, 'a> Printer<'s, 'a> {
     // A printer that stands before the first item.
-    fn over(alloc: Global, c: CText<'a>, inner: bool) -> Printer<'a>
-        requires order { c.span.start ≤ c.span.end }
-        requires within { c.span.end ≤ length c.text.now }
-        requires uncut { begins_section_in (tokens_of c.text.now c.span.start c.span.end c.mode) ≡ false }
-        ensures { IsBehind (source_of c.entry) inner [] result }
+    fn over(alloc: Global, c: KeptText<'s, 'a>) -> Printer<'s, 'a>
+        requires uncut { begins_section_in c.answers.now ≡ false }
+        ensures { IsBehind (source_of c.entry) c.entry.inner [] result }
     {
         let manner = Manner {
-            wraps: c.wraps,
+            wraps: c.flags.wrap,
             first: is_first(c.book, c.section),
         };
         Printer {
             book: c.book,
-            walk: TextWalk::over(alloc, c.text, c.span, c.mode, manner),
-            joiner: Joiner::new(inner),
+            walk: TextWalk::over(alloc, c.answers, manner),
+            joiner: Joiner::new(c.inner),
         }
     }
 
@@ -211,21 +214,18 @@ fn cleared(buffer: Bytes) -> Bytes
 
 fn print_items<D: Desk>(
     alloc: Global,
-    c: CText,
-    inner: bool,
+    c: KeptText,
     items: &FlatTokens,
     out: &mut LineOut,
     desk: &mut D,
 ) -> Result<(), PutError>
     requires can { CanWrite (D.told desk.old) out.old }
-    requires order { c.span.start ≤ c.span.end }
-    requires within { c.span.end ≤ length c.text.now }
-    requires uncut { begins_section_in (tokens_of c.text.now c.span.start c.span.end c.mode) ≡ false }
+    requires uncut { begins_section_in c.answers.now ≡ false }
     requires come { AllMay (MayCome (length c.book.now.names)) 0 (items_are items.now) }
-    ensures { Puts (printed inner (shown (source_of c.entry) (items_are items.now))) out.old out.new
+    ensures { Puts (printed c.entry.inner (shown (source_of c.entry) (items_are items.now))) out.old out.new
         (D.told desk.old) (D.told desk.new) result }
 {
-    let mut printer = Printer::over(alloc, c, inner);
+    let mut printer = Printer::over(alloc, c);
     let mut buffer = empty_buffer(alloc, items.len())?;
     let mut at = 0;
     while items.len() - at > TOGETHER {
@@ -240,11 +240,13 @@ fn print_items<D: Desk>(
     out.put_all(buffer.as_slice(), desk)
 }
 
-// Whether a text stands in `\PB{` and `}`.
-fn is_wrapped(inner: bool, flags: &Flags) -> bool
-    ensures { result ≡ (inner && flags.now.wrap) }
-{
-    inner && flags.wrap
+impl<'s, 'a> KeptText<'s, 'a> {
+    // Whether the text stands in `\PB{` and `}`.
+    fn is_wrapped(self) -> bool
+        ensures { result ≡ (self.entry.inner && self.entry.flags.now.wrap) }
+    {
+        self.inner && self.flags.wrap
+    }
 }
 
 fn put_bracket<D: Desk>(
@@ -290,9 +292,37 @@ fn print_name<D: Desk>(
     put_bracket(wraps, b"}", out, desk)
 }
 
-/// Prints a C text from its translation, a list of the store. It scans the span once more to find the tokens of the
-/// list, and prints section names as the book keeps them. `section` is the present section, or 0 in the section list;
-/// with `inner` the text is itself inner C text.
+/// Prints a C text from its translation, a list of the store, and prints section names as the book keeps them. It scans
+/// nothing: the tokens of the list are found among the answers.
+pub fn print_answers<D: Desk>(
+    alloc: Global,
+    c: KeptText,
+    store: &TokenStore,
+    id: ListId,
+    out: &mut LineOut,
+    desk: &mut D,
+) -> Result<(), PutError>
+    requires can { CanWrite (D.told desk.old) out.old }
+    requires uncut { begins_section_in c.answers.now ≡ false }
+    requires list { id.index < length store.now.lists }
+    requires named { IsNamedBelow (length c.book.now.names) (unfolded store.now.lists id.index) }
+    ensures puts { Puts (tree_bytes c.entry.inner
+        (source_by c.entry.answers.now c.entry.book.now c.entry.section c.entry.flags.now.wrap)
+        (unfolded store.now.lists id.index))
+        out.old out.new (D.told desk.old) (D.told desk.new) result }
+{
+    let wraps = c.is_wrapped();
+    let items = store.flat_trimmed(alloc, id)?;
+    if let Some(name) = only_name(&items) {
+        return print_name(wraps, c.book.names.text(name), out, desk);
+    }
+    put_bracket(wraps, b"\\PB{", out, desk)?;
+    print_items(alloc, c, &items, out, desk)?;
+    put_bracket(wraps, b"}", out, desk)
+}
+
+/// The same of a C text that has to be scanned first. `section` is the present section, or 0 in the section list; with
+/// `inner` the text is itself inner C text.
 pub fn print_list<D: Desk>(
     alloc: Global,
     text: &[u8],
@@ -317,20 +347,13 @@ pub fn print_list<D: Desk>(
         (unfolded store.now.lists id.index))
         out.old out.new (D.told desk.old) (D.told desk.new) result }
 {
-    let c = CText {
-        text,
-        span,
-        mode,
+    let answers = scanned(alloc, text, span, mode)?;
+    let c = KeptText {
+        answers: &answers,
         book,
         section,
-        wraps: flags.wrap,
+        flags,
+        inner,
     };
-    let wraps = is_wrapped(inner, flags);
-    let items = store.flat_trimmed(alloc, id)?;
-    if let Some(name) = only_name(&items) {
-        return print_name(wraps, book.names.text(name), out, desk);
-    }
-    put_bracket(wraps, b"\\PB{", out, desk)?;
-    print_items(alloc, c, inner, &items, out, desk)?;
-    put_bracket(wraps, b"}", out, desk)
+    print_answers(alloc, c, store, id, out, desk)
 }

@@ -1,7 +1,6 @@
 //! The walk over the items of a C text, which makes the bytes that they print by where they stand.
-ghost use Rattle.std.specs.Prelude.{◌≡◌, ◌≤◌, ◌++◌, None, OnOk, length, option_map};
+ghost use Rattle.std.specs.Prelude.{◌≡◌, ◌++◌, None, OnOk, option_map};
 ghost use Rattle.cw_rules.specs.Answers.{seen};
-ghost use Rattle.cw_lex.specs.Lexing.{tokens_of};
 ghost use Rattle.cw_lex.specs.Nested.{until_section};
 ghost use Rattle.cw_print.specs.Sources.{titles};
 ghost use Rattle.cw_print.specs.Walk.{bracket, control_shown, is_name, named_shown, outside, source_shown};
@@ -11,10 +10,11 @@ use crate::book_titles::title_at;
 use crate::braces::OpenBraces;
 use crate::comments::put_closing_braces;
 use crate::name_walk::NameWalk;
-use crate::scan::Scan;
+use crate::scan::Seek;
 use crate::showing::put_found;
-use cw_base::{Bytes, Memory, Span};
-use cw_lex::{Code, Mode, Tok, TokKind};
+use cw_answers::Answers;
+use cw_base::{Bytes, Memory};
+use cw_lex::{Code, Tok, TokKind};
 use cw_phase1::Book;
 use cw_trees::Control;
 use std::alloc::Global;
@@ -29,45 +29,45 @@ pub(crate) struct Manner {
     pub first: bool,
 }
 
-/// A walk over the items of a C text in their order: where the printing stands in section names and in comments, and a
-/// second scan of the text.
+/// A walk over the items of a C text in their order: where the printing stands in section names, in comments, and among
+/// the answers of the scanner.
 #[derive(Drop)]
-pub(crate) struct TextWalk<'a> {
-    scan: Scan<'a>,
-    name: Option<NameWalk<'a>>,
+pub(crate) struct TextWalk<'s, 'a> {
+    answers: &'s Answers<'a>,
+    seek: Seek,
+    alloc: Global,
+    name: Option<NameWalk<'s>>,
     braces: OpenBraces,
     manner: Manner,
 }
 
-impl<'a> Model for TextWalk<'a> {
+impl<'s, 'a> Model for TextWalk<'s, 'a> {
+    ghost use Rattle.cw_lex.specs.Nested.{until_section};
+    ghost use Rattle.cw_print.specs.Scanning.{IsSeeking};
     ghost use Rattle.cw_print.specs.Walked.{Walked};
 
     ghost Value = { Walked };
 
     ghost view = { λ w. record {
-      fixed = record { answers = w.scan; wraps = w.manner.wraps; first = w.manner.first };
+      fixed = record { answers = until_section w.answers.now; wraps = w.manner.wraps; first = w.manner.first };
       stand = record { name = w.name; braces = w.braces };
     } };
+
+    ghost invariant = { λ w. IsSeeking w.answers.now w.seek };
 }
 
-impl<'a> TextWalk<'a> {
-    /// A walk that stands before the first item of this span.
-    pub(crate) fn over(
-        alloc: Global,
-        text: &'a [u8],
-        span: Span,
-        mode: Mode,
-        manner: Manner,
-    ) -> TextWalk<'a>
-        requires order { span.start ≤ span.end }
-        requires within { span.end ≤ length text.now }
-        ensures answers { result.fixed.answers ≡ until_section (tokens_of text.now span.start span.end mode) }
+impl<'s, 'a> TextWalk<'s, 'a> {
+    /// A walk that stands before the first item of the text with these answers.
+    pub(crate) fn over(alloc: Global, answers: &'s Answers<'a>, manner: Manner) -> TextWalk<'s, 'a>
+        ensures answers { result.fixed.answers ≡ until_section answers.now }
         ensures wraps { result.fixed.wraps ≡ manner.wraps }
         ensures first { result.fixed.first ≡ manner.first }
         ensures outside { result.stand ≡ outside }
     {
         TextWalk {
-            scan: Scan::over(text, span, mode),
+            answers,
+            seek: Seek::new(),
+            alloc,
             name: None,
             braces: OpenBraces::new_in(alloc),
             manner,
@@ -80,7 +80,7 @@ impl<'a> TextWalk<'a> {
         &mut self,
         out: &mut Bytes,
         number: u32,
-        book: &'a Book,
+        book: &'s Book,
     ) -> Result<(), Memory>
         ensures bytes { OnOk result (out.new ≡ out.old
             ++ (source_shown self.old.fixed (titles book.now number) self.old.stand.name number self.old.stand).bytes) }
@@ -91,7 +91,7 @@ impl<'a> TextWalk<'a> {
             let token = name.find(number);
             return put_found(out, self.manner.first, token, &mut self.braces);
         }
-        let token = self.scan.find(number);
+        let token = self.seek.find(self.answers, number);
         if is_name(token) {
             return self.begin_name(out, number, book);
         }
@@ -100,13 +100,13 @@ impl<'a> TextWalk<'a> {
 
     // Appends what the section name at a number prints up to its first inner text, if it has a title.
     #[inline(never)]
-    fn begin_name(&mut self, out: &mut Bytes, number: u32, book: &'a Book) -> Result<(), Memory>
+    fn begin_name(&mut self, out: &mut Bytes, number: u32, book: &'s Book) -> Result<(), Memory>
         requires outside { self.old.stand.name ≡ None }
         ensures bytes { OnOk result (out.new ≡ out.old ++ (named_shown (titles book.now number) self.old.stand).bytes) }
         ensures stand { OnOk result (self.new ≡ behind self.old (named_shown (titles book.now number) self.old.stand)) }
     {
         if let Some(title) = title_at(book, number) {
-            let name = NameWalk::begin(out, &title)?;
+            let name = NameWalk::begin(self.alloc, out, &title)?;
             self.name = Some(name);
         }
         Ok(())

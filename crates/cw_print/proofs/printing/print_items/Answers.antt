@@ -11,7 +11,7 @@ use Rattle.cw_print.proofs.printing.print_items.Goals as goal
 pub loop-at-init : goal.loop-at-init
 loop-at-init g c = record {
   within = omega arith;
-  midway = midway-begun (source_of c.args.c) c.args.inner (items_are c.args.items.now) c.over-printer.result
+  midway = midway-begun (source_of c.args.c) c.args.c.inner (items_are c.args.items.now) c.over-printer.result
       c.over-printer.ensures c.requires.come;
   waiting = record { done = []; put = puts-none _ _ (tt {0}); all = c.in_ok-buffer.ensures };
 }
@@ -23,12 +23,12 @@ pub print-requires : goal.print-requires
 print-requires g c = record {
   order = omega arith;
   within = omega arith;
-  midway = record { s = (source_of c.args.c); inner = c.args.inner; midway = c.loop-at.invariant.midway };
+  midway = record { s = (source_of c.args.c); inner = c.args.c.inner; midway = c.loop-at.invariant.midway };
 }
 
 pub returns-in_err-print : goal.returns-in_err-print
 returns-in_err-print g c =
-    stops-waiting c.args.inner (source_of c.args.c) (items_are c.args.items.now) c.loop-at.at c.loop-at.buffer
+    stops-waiting c.args.c.inner (source_of c.args.c) (items_are c.args.items.now) c.loop-at.at c.loop-at.buffer
     c.loop-at.invariant.waiting c.from_residual-in_err-print.ensures.1
 
 pub put_all-requires : goal.put_all-requires
@@ -36,22 +36,22 @@ put_all-requires g c = record { can = can-after c.requires.can c.loop-at.invaria
 
 pub returns-in_err-put_all : goal.returns-in_err-put_all
 returns-in_err-put_all g c =
-    fails-waiting c.args.inner (source_of c.args.c) (items_are c.args.items.now) (c.loop-at.at + 1024)
+    fails-waiting c.args.c.inner (source_of c.args.c) (items_are c.args.items.now) (c.loop-at.at + 1024)
     c.print.new.buffer
-    (waits-on c.args.inner (source_of c.args.c) (items_are c.args.items.now) c.loop-at.at (c.loop-at.at + 1024)
+    (waits-on c.args.c.inner (source_of c.args.c) (items_are c.args.items.now) c.loop-at.at (c.loop-at.at + 1024)
     c.loop-at.buffer c.print.new.buffer c.loop-at.invariant.waiting
-    (c.in_ok-print.ensures.bytes (source_of c.args.c) c.args.inner c.loop-at.invariant.midway))
+    (c.in_ok-print.ensures.bytes (source_of c.args.c) c.args.c.inner c.loop-at.invariant.midway))
     (puts-bytes c.as_slice.ensures c.in_err-put_all.ensures.puts) c.from_residual-in_err-put_all.ensures.1
 
 pub loop-at-preserved : goal.loop-at-preserved
 loop-at-preserved g c = record {
   within = omega arith;
-  midway = c.in_ok-print.ensures.midway (source_of c.args.c) c.args.inner c.loop-at.invariant.midway;
-  waiting = waits-none c.args.inner (source_of c.args.c) (items_are c.args.items.now) (c.loop-at.at + 1024)
+  midway = c.in_ok-print.ensures.midway (source_of c.args.c) c.args.c.inner c.loop-at.invariant.midway;
+  waiting = waits-none c.args.c.inner (source_of c.args.c) (items_are c.args.items.now) (c.loop-at.at + 1024)
       c.print.new.buffer c.cleared-buffer.result
-      (waits-on c.args.inner (source_of c.args.c) (items_are c.args.items.now) c.loop-at.at (c.loop-at.at + 1024)
+      (waits-on c.args.c.inner (source_of c.args.c) (items_are c.args.items.now) c.loop-at.at (c.loop-at.at + 1024)
       c.loop-at.buffer c.print.new.buffer c.loop-at.invariant.waiting
-      (c.in_ok-print.ensures.bytes (source_of c.args.c) c.args.inner c.loop-at.invariant.midway))
+      (c.in_ok-print.ensures.bytes (source_of c.args.c) c.args.c.inner c.loop-at.invariant.midway))
       (puts-bytes c.as_slice.ensures c.in_ok-put_all.ensures.puts) c.cleared-buffer.ensures;
 }
 
@@ -59,24 +59,24 @@ pub print-requires-2 : goal.print-requires-2
 print-requires-2 g c = record {
   order = omega (arith, c.loop-at.invariant.within);
   within = omega arith;
-  midway = record { s = (source_of c.args.c); inner = c.args.inner; midway = c.loop-at.invariant.midway };
+  midway = record { s = (source_of c.args.c); inner = c.args.c.inner; midway = c.loop-at.invariant.midway };
 }
 
 pub returns-in_err-print-2 : goal.returns-in_err-print-2
 returns-in_err-print-2 g c =
-    stops-waiting c.args.inner (source_of c.args.c) (items_are c.args.items.now) c.loop-at.at c.loop-at.buffer
+    stops-waiting c.args.c.inner (source_of c.args.c) (items_are c.args.items.now) c.loop-at.at c.loop-at.buffer
     c.loop-at.invariant.waiting c.from_residual-in_err-print-2.ensures.1
 
 pub append_end-requires : goal.append_end-requires
 append_end-requires g c = record {
-  closed = midway-ended c.args.items.now c.len-2.result (omega arith) (source_of c.args.c) c.args.inner
+  closed = midway-ended c.args.items.now c.len-2.result (omega arith) (source_of c.args.c) c.args.c.inner
       c.print-2.new.self
-      (c.in_ok-print-2.ensures.midway (source_of c.args.c) c.args.inner c.loop-at.invariant.midway);
+      (c.in_ok-print-2.ensures.midway (source_of c.args.c) c.args.c.inner c.loop-at.invariant.midway);
 }
 
 pub returns-in_err-append_end : goal.returns-in_err-append_end
 returns-in_err-append_end g c =
-    stops-waiting c.args.inner (source_of c.args.c) (items_are c.args.items.now) c.loop-at.at c.loop-at.buffer
+    stops-waiting c.args.c.inner (source_of c.args.c) (items_are c.args.items.now) c.loop-at.at c.loop-at.buffer
     c.loop-at.invariant.waiting c.from_residual-in_err-append_end.ensures.1
 
 pub put_all-requires-2 : goal.put_all-requires-2
@@ -84,12 +84,12 @@ put_all-requires-2 g c = record { can = can-after c.requires.can c.loop-at.invar
 
 pub returns : goal.returns
 returns g c =
-    let end = c.in_ok-print-2.ensures.midway (source_of c.args.c) c.args.inner c.loop-at.invariant.midway in
-    puts-all c.args.items.now c.len-2.result (omega arith) c.args.inner (source_of c.args.c) c.print-2.new.buffer
+    let end = c.in_ok-print-2.ensures.midway (source_of c.args.c) c.args.c.inner c.loop-at.invariant.midway in
+    puts-all c.args.items.now c.len-2.result (omega arith) c.args.c.inner (source_of c.args.c) c.print-2.new.buffer
     c.append_end.new.out
-    (waits-on c.args.inner (source_of c.args.c) (items_are c.args.items.now) c.loop-at.at c.len-2.result
+    (waits-on c.args.c.inner (source_of c.args.c) (items_are c.args.items.now) c.loop-at.at c.len-2.result
     c.loop-at.buffer c.print-2.new.buffer c.loop-at.invariant.waiting
-    (c.in_ok-print-2.ensures.bytes (source_of c.args.c) c.args.inner c.loop-at.invariant.midway))
+    (c.in_ok-print-2.ensures.bytes (source_of c.args.c) c.args.c.inner c.loop-at.invariant.midway))
     (c.in_ok-append_end.ensures.bytes (shown (source_of c.args.c) (take c.len-2.result (items_are c.args.items.now)))
     end.behind.stands
     ∙ ap (λ (b : Bool). c.print-2.new.buffer

@@ -1,6 +1,5 @@
 -- No section code ends the scan.
 use Rattle.std.proofs.Common.{refl, ◌∙◌}
-use Rattle.cw_lex.specs.Lexing.{tokens_of}
 use Rattle.cw_lex.proofs.Nesting.{until-none}
 use Rattle.cw_print.proofs.printing.Printer.over.Goals as goal
 
@@ -10,8 +9,7 @@ returns c = record {
   names = refl;
   fixed = λ i. record {
     answers = (c.over.ensures.answers
-        ∙ until-none (tokens_of c.args.c.text.now c.args.c.span.start c.args.c.span.«end» c.args.c.mode)
-        c.requires.uncut) i;
+        ∙ until-none c.args.c.answers.now c.requires.uncut) i;
     wraps = c.over.ensures.wraps i;
     first = (c.over.ensures.first ∙ c.is_first.ensures) i;
   };

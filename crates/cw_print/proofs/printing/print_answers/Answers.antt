@@ -8,50 +8,48 @@ use Rattle.cw_tokens.specs.Shapes.{unfolded}
 use Rattle.cw_lines.specs.WritesLaws.{puts-bytes, puts-failing, puts-longer, puts-then}
 use Rattle.cw_print.specs.Coming.{AllMay, MayCome}
 use Rattle.cw_print.specs.Printing.{shown}
-use Rattle.cw_print.specs.Sources.{source}
+use Rattle.cw_print.specs.Sources.{source_by}
 use Rattle.cw_print.specs.Walk.{Source, bracket, wrapped}
 use Rattle.cw_print.proofs.ComingLaws.{trimmed-may}
 use Rattle.cw_print.proofs.NameLaws.{only-named, only-printed, text-is}
 use Rattle.cw_print.proofs.PrintingLaws.{puts-nothing}
-use Rattle.cw_print.proofs.printing.print_list.Goals as goal
+use Rattle.cw_print.proofs.printing.print_answers.Goals as goal
 
 pub returns-in_err-items : goal.returns-in_err-items
 returns-in_err-items g c = record { puts = puts-nothing _ _ _ c.from_residual.ensures.1 }
 
 pub text-requires : goal.text-requires
 text-requires g c =
-    only-named (length c.args.book.now.names) c.in-Some.name c.in_ok-items.items c.in-Some.ensures
-    (subst (λ (items : List Item). AllMay (MayCome (length c.args.book.now.names)) 0 items)
+    only-named (length c.args.c.book.now.names) c.in-Some.name c.in_ok-items.items c.in-Some.ensures
+    (subst (λ (items : List Item). AllMay (MayCome (length c.args.c.book.now.names)) 0 items)
     (sym c.in_ok-items.ensures.items)
-    (trimmed-may (length c.args.book.now.names) (unfolded c.args.store.now.lists c.args.id.index) c.requires.named))
+    (trimmed-may (length c.args.c.book.now.names) (unfolded c.args.store.now.lists c.args.id.index) c.requires.named))
 
 pub returns-in-Some : goal.returns-in-Some
 returns-in-Some g c =
-    let s : Source = source c.args.text.now c.args.span c.args.mode c.args.book.now c.args.section
-    c.args.flags.now.wrap in
+    let s : Source = source_by c.args.c.answers.now c.args.c.book.now c.args.c.section c.args.c.flags.now.wrap in
     record {
       puts = puts-bytes
           ((λ i. wrapped (c.is_wrapped-wraps.ensures i)
-          (ident_bytes (text-is c.args.book.now.names c.in-Some.name.index c.text.result.now c.text.ensures i)))
-          ∙ ap (wrapped (c.args.inner && c.args.flags.now.wrap))
-          (sym (only-printed c.args.inner s c.in-Some.name c.in_ok-items.items c.in-Some.ensures)
-          ∙ ap (λ (items : List Item). printed c.args.inner (shown s items)) c.in_ok-items.ensures.items))
+          (ident_bytes (text-is c.args.c.book.now.names c.in-Some.name.index c.text.result.now c.text.ensures i)))
+          ∙ ap (wrapped (c.args.c.inner && c.args.c.flags.now.wrap))
+          (sym (only-printed c.args.c.inner s c.in-Some.name c.in_ok-items.items c.in-Some.ensures)
+          ∙ ap (λ (items : List Item). printed c.args.c.inner (shown s items)) c.in_ok-items.ensures.items))
           c.print_name.ensures;
     }
 
 pub print_items-requires-clause-come : goal.print_items-requires-clause-come
 print_items-requires-clause-come g c =
-    subst (λ (items : List Item). AllMay (MayCome (length c.args.book.now.names)) 0 items)
+    subst (λ (items : List Item). AllMay (MayCome (length c.args.c.book.now.names)) 0 items)
     (sym c.in_ok-items.ensures.items)
-    (trimmed-may (length c.args.book.now.names) (unfolded c.args.store.now.lists c.args.id.index) c.requires.named)
+    (trimmed-may (length c.args.c.book.now.names) (unfolded c.args.store.now.lists c.args.id.index) c.requires.named)
 
 pub returns-in_err-put_bracket : goal.returns-in_err-put_bracket
 returns-in_err-put_bracket g c =
-    let s : Source = source c.args.text.now c.args.span c.args.mode c.args.book.now c.args.section
-    c.args.flags.now.wrap in
+    let s : Source = source_by c.args.c.answers.now c.args.c.book.now c.args.c.section c.args.c.flags.now.wrap in
     let tree : Tree = unfolded c.args.store.now.lists c.args.id.index in
-    let later : List ℕ = printed c.args.inner (shown s (trimmed (flat tree)))
-    ++ bracket (c.args.inner && c.args.flags.now.wrap) (codes "}") in
+    let later : List ℕ = printed c.args.c.inner (shown s (trimmed (flat tree)))
+    ++ bracket (c.args.c.inner && c.args.c.flags.now.wrap) (codes "}") in
     record {
       puts = puts-failing (ap (λ (b : Bool). bracket b (codes "\\PB{") ++ later) c.is_wrapped-wraps.ensures)
           (puts-longer later c.in_err-put_bracket.ensures) c.from_residual-in_err-put_bracket.ensures.1;
@@ -59,15 +57,14 @@ returns-in_err-put_bracket g c =
 
 pub returns-in_err-print_items : goal.returns-in_err-print_items
 returns-in_err-print_items g c =
-    let s : Source = source c.args.text.now c.args.span c.args.mode c.args.book.now c.args.section
-    c.args.flags.now.wrap in
+    let s : Source = source_by c.args.c.answers.now c.args.c.book.now c.args.c.section c.args.c.flags.now.wrap in
     let tree : Tree = unfolded c.args.store.now.lists c.args.id.index in
-    let wraps : Bool = c.args.inner && c.args.flags.now.wrap in
+    let wraps : Bool = c.args.c.inner && c.args.c.flags.now.wrap in
     record {
       puts = puts-failing
           ((λ i. (bracket (c.is_wrapped-wraps.ensures i) (codes "\\PB{")
-          ++ printed c.args.inner (shown s (c.in_ok-items.ensures.items i))) ++ bracket wraps (codes "}"))
-          ∙ append_assoc (bracket wraps (codes "\\PB{")) (printed c.args.inner (shown s (trimmed (flat tree))))
+          ++ printed c.args.c.inner (shown s (c.in_ok-items.ensures.items i))) ++ bracket wraps (codes "}"))
+          ∙ append_assoc (bracket wraps (codes "\\PB{")) (printed c.args.c.inner (shown s (trimmed (flat tree))))
           (bracket wraps (codes "}")))
           (puts-longer (bracket wraps (codes "}")) (puts-then c.in_ok-put_bracket.ensures c.in_err-print_items.ensures))
           c.from_residual-in_err-print_items.ensures.1;
@@ -75,12 +72,11 @@ returns-in_err-print_items g c =
 
 pub returns : goal.returns
 returns g c =
-    let s : Source = source c.args.text.now c.args.span c.args.mode c.args.book.now c.args.section
-    c.args.flags.now.wrap in
+    let s : Source = source_by c.args.c.answers.now c.args.c.book.now c.args.c.section c.args.c.flags.now.wrap in
     record {
       puts = puts-bytes
           (λ i. bracket (c.is_wrapped-wraps.ensures i) (codes "\\PB{")
-          ++ (printed c.args.inner (shown s (c.in_ok-items.ensures.items i))
+          ++ (printed c.args.c.inner (shown s (c.in_ok-items.ensures.items i))
           ++ bracket (c.is_wrapped-wraps.ensures i) (codes "}")))
           (puts-then c.in_ok-put_bracket.ensures (puts-then c.in_ok-print_items.ensures c.put_bracket-2.ensures));
     }
