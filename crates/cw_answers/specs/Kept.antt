@@ -19,7 +19,7 @@ abbrev pub answer_at : List ℕ → Kept → Answer
 answer_at text (kept.Token s) = Token (seen_at text s)
 answer_at text (kept.Begin s) = Begin (seen_at text s)
 answer_at text (kept.Finish s) = Finish (seen_at text s)
-answer_at text (kept.Note kind place) = Note kind place
+answer_at text (kept.Note note) = Note note.kind note.place
 
 abbrev pub answers_at : List ℕ → List Kept → List Answer
 answers_at text answers = map (answer_at text) answers
@@ -32,7 +32,7 @@ abbrev pub IsWithin : ℕ → Kept → Type 0
 IsWithin length (kept.Token s) = LiesIn length s
 IsWithin length (kept.Begin s) = LiesIn length s
 IsWithin length (kept.Finish s) = LiesIn length s
-IsWithin length (kept.Note kind place) = Unit {0}
+IsWithin length (kept.Note note) = Unit {0}
 
 -- a token's bytes are those of its span in the text
 pub record StandsIn (text : List ℕ) (token : Seen) : Type 0 where

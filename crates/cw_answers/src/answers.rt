@@ -3,7 +3,7 @@ ghost use Rattle.std.specs.Prelude.{◌≡◌, ◌≤◌, ◌<◌, ◌+◌, [], 
 ghost use Rattle.cw_rules.specs.Answers.{Gives};
 ghost use Rattle.cw_lex.specs.Lexing.{tokens_of};
 
-use crate::kept::{Kept, Stretch};
+use crate::kept::{Kept, NotePlace, Stretch};
 use cw_base::{Memory, Span};
 use cw_lex::{Lexed, Lexer, Mode};
 use std::alloc::Global;
@@ -58,7 +58,7 @@ impl<'a> Answers<'a> {
                 Lexed::Token(token) => Kept::Token(Stretch::of(text, &token)),
                 Lexed::Begin(token) => Kept::Begin(Stretch::of(text, &token)),
                 Lexed::Finish(token) => Kept::Finish(Stretch::of(text, &token)),
-                Lexed::Note(kind, place) => Kept::Note(kind, place),
+                Lexed::Note(kind, place) => Kept::Note(NotePlace::of(kind, place)?),
                 Lexed::End => return Ok(()),
             };
             self.kept.push(kept)?;
@@ -125,6 +125,18 @@ impl<'s, 'a> Model for Again<'s, 'a> {
 }
 
 impl<'s, 'a> Again<'s, 'a> {
+    /// Another way through those that are still to come.
+    #[inline(always)]
+    pub fn rest(&self) -> Again<'s, 'a>
+        ensures { result ≡ self.now }
+    {
+        Again {
+            text: self.text,
+            kept: self.kept,
+            place: self.place,
+        }
+    }
+
     /// How many answers are still to come.
     #[inline(always)]
     pub fn left(&self) -> usize

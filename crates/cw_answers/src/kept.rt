@@ -1,9 +1,9 @@
 //! An answer of the scanner, without the bytes of the text.
-ghost use Rattle.std.specs.Prelude.{◌≡◌, ◌<◌, ◌^◌, ◌∷◌, List, length};
+ghost use Rattle.std.specs.Prelude.{◌≡◌, ◌<◌, ◌^◌, ◌∷◌, List, length, IfOk};
 ghost use Rattle.cw_rules.specs.Answers.{Answer, Gives, seen};
 ghost use Rattle.cw_answers.specs.Kept.{seen_at, answer_at, IsWithin, LiesIn, StandsIn};
 
-use cw_base::{NoteKind, Span};
+use cw_base::{Memory, NoteKind, Span};
 use cw_lex::{Lexed, Tok, TokKind};
 
 /// A token, by where its bytes lie in the text.
@@ -15,13 +15,20 @@ pub(crate) struct Stretch {
     end: u32,
 }
 
+/// A note, and the place that it is about.
+#[derive(Clone, Copy)]
+pub(crate) struct NotePlace {
+    kind: NoteKind,
+    place: u32,
+}
+
 /// An answer of the scanner, by where its bytes lie in the text.
 #[derive(Clone, Copy)]
 pub(crate) enum Kept {
     Token(Stretch),
     Begin(Stretch),
     Finish(Stretch),
-    Note(NoteKind, usize),
+    Note(NotePlace),
 }
 
 impl Stretch {
@@ -58,6 +65,18 @@ impl Stretch {
     }
 }
 
+impl NotePlace {
+    /// `Memory` where the place is beyond 2^32: no such place is in a text that is kept.
+    pub(crate) fn of(kind: NoteKind, place: usize) -> Result<NotePlace, Memory>
+        ensures { IfOk result (λ note. (note.kind ≡ kind) × (note.place ≡ place)) }
+    {
+        let Ok(place) = u32::try_from(place) else {
+            return Err(Memory);
+        };
+        Ok(NotePlace { kind, place })
+    }
+}
+
 impl Kept {
     /// The answer itself.
     #[inline(always)]
@@ -69,7 +88,7 @@ impl Kept {
             Kept::Token(stretch) => Lexed::Token(stretch.token(text)),
             Kept::Begin(stretch) => Lexed::Begin(stretch.token(text)),
             Kept::Finish(stretch) => Lexed::Finish(stretch.token(text)),
-            Kept::Note(kind, place) => Lexed::Note(*kind, *place),
+            Kept::Note(note) => Lexed::Note(note.kind, note.place as usize),
         }
     }
 }

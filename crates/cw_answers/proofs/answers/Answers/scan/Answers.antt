@@ -3,7 +3,7 @@ use Rattle.std.proofs.Common.{refl, subst, sym, ◌∙◌, ap, length}
 use Rattle.cw_rules.specs.Answers.{Token, Begin, Finish, Note, seen}
 use Rattle.cw_answers.specs.Kept.{answer_at, IsWithin}
 use Rattle.cw_answers.proofs.Standing.{Keeping, begin, pushed}
-use Rattle.cw_answers.proofs.answers.Answers.scan.Goals.{in-Token, in-Begin, in-Finish, in-Note}
+use Rattle.cw_answers.proofs.answers.Answers.scan.Goals.{in-Token, in-Begin, in-Finish, in-Note+in_ok-of-in-Note}
 use Rattle.cw_answers.proofs.answers.Answers.scan.Goals as goal
 
 pub loop-token-init : goal.loop-token-init
@@ -28,6 +28,8 @@ loop-token-preserved c =
     | in-Finish w ↦ step (Finish (seen w.in-Finish.token)) c.loop-token.lexer c.next.new.self c.in_ok-push.ensures.items
           w.in-Finish.ensures (ap (answer_at text) w.kept-is ∙ ap Finish w.of-in-Finish.ensures.same)
           (subst (IsWithin (length text)) (sym w.kept-is) w.of-in-Finish.ensures.within) c.loop-token.invariant
-    | in-Note w ↦ step (Note w.in-Note.kind w.in-Note.place) c.loop-token.lexer c.next.new.self c.in_ok-push.ensures.items
-          w.in-Note.ensures (ap (answer_at text) w.kept-is)
+    | in-Note+in_ok-of-in-Note w ↦ step (Note w.in-Note.kind w.in-Note.place) c.loop-token.lexer c.next.new.self c.in_ok-push.ensures.items
+          w.in-Note.ensures
+          (ap (answer_at text) w.kept-is
+          ∙ (λ i. Note (w.in_ok-of-in-Note.ensures.0 i) (w.in_ok-of-in-Note.ensures.1 i)))
           (subst (IsWithin (length text)) (sym w.kept-is) tt) c.loop-token.invariant ]
