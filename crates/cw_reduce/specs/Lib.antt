@@ -14,3 +14,4 @@ pub mod Naming
 pub mod HeadReading
 pub mod Heading
 pub mod Working
+pub mod Sources

@@ -21,9 +21,9 @@ ghost use Rattle.cw_reduce.specs.Working.{HasComeOver, IsSameWork, progress_over
 
 use crate::heads::{Beginning, HeadRead};
 use crate::holders::Holder;
+use crate::source::Source;
 use crate::translating::{Translated, Translator};
 use crate::work::{Context, Work};
-use cw_answers::Again;
 use cw_base::{Cat, Ledger, MathMode, Memory};
 use cw_lex::Lexed;
 use cw_scraps::ScrapLine;
@@ -152,7 +152,7 @@ impl Translator {
     fn read_behind<L: Ledger>(
         &mut self,
         begun: &Beginning,
-        lexer: &mut Again,
+        lexer: &mut Source,
         context: &Context,
         work: &mut Work<L>,
     ) -> Result<(), Memory>
@@ -182,7 +182,7 @@ impl Translator {
     fn read_headed<L: Ledger>(
         &mut self,
         begun: &Beginning,
-        lexer: &mut Again,
+        lexer: &mut Source,
         context: &Context,
         work: &mut Work<L>,
     ) -> Result<(), Memory>
@@ -213,7 +213,7 @@ impl Translator {
 /// Translates a text that begins with this head.
 pub(crate) fn translate_headed<L: Ledger>(
     begun: &Beginning,
-    lexer: &mut Again,
+    lexer: &mut Source,
     context: &Context,
     work: &mut Work<L>,
 ) -> Result<Translated, Memory>

@@ -20,7 +20,7 @@ ghost use Rattle.cw_reduce.specs.HeadReading.{macro_tokens, read_made, without_n
 ghost use Rattle.cw_reduce.specs.Opening.{StartsBelow, answers_in};
 ghost use Rattle.cw_reduce.specs.Translating.{Known, NameTexts, dollared, head_made, spelled, with_names};
 
-use cw_answers::Again;
+use crate::source::Source;
 use cw_base::{MathMode, Memory};
 use cw_lex::{Code, Lexed, Tok, TokKind, Wanted};
 use cw_names::Names;
@@ -52,7 +52,7 @@ pub(crate) struct Beginning<'a> {
 
 /// Reads the head with which a text begins, where it has one, and passes over the notes in it.
 pub(crate) fn read_head<'a>(
-    lexer: &mut Again<'_, 'a>,
+    lexer: &mut Source<'_, 'a>,
     alloc: Global,
     names: &mut Names,
     store: &mut TokenStore,
@@ -132,7 +132,7 @@ fn headless<'a>(next: Lexed<'a>) -> Beginning<'a>
 }
 
 /// The next answer that is no note.
-fn next_answer<'a>(lexer: &mut Again<'_, 'a>) -> Lexed<'a>
+fn next_answer<'a>(lexer: &mut Source<'_, 'a>) -> Lexed<'a>
     ensures { Gives (without_notes lexer.old) result lexer.new }
 {
     loop {
@@ -144,7 +144,7 @@ fn next_answer<'a>(lexer: &mut Again<'_, 'a>) -> Lexed<'a>
 }
 
 /// Reads the sign behind a section name, where it stands there.
-fn read_sign<'a>(name: Tok<'a>, lexer: &mut Again<'_, 'a>) -> Beginning<'a>
+fn read_sign<'a>(name: Tok<'a>, lexer: &mut Source<'_, 'a>) -> Beginning<'a>
     requires nested { IsNested (TokenAnswer (seen name) ∷ lexer.old) }
     requires start { StartsBelow (2 ^ 32) (TokenAnswer (seen name) ∷ lexer.old) }
     ensures head { (named_headed (seen name.entry) (nest lexer.old)).head ≡ head_named result.head }
@@ -190,7 +190,7 @@ fn unsigned<'a>(name: Tok<'a>, next: Lexed<'a>) -> Beginning<'a>
 /// Reads the head of a definition behind its code.
 fn definition_head<'a>(
     code: Tok<'a>,
-    lexer: &mut Again<'_, 'a>,
+    lexer: &mut Source<'_, 'a>,
     alloc: Global,
     names: &mut Names,
     store: &mut TokenStore,
@@ -230,7 +230,7 @@ fn definition_head<'a>(
 /// Reads the words of a head that wants this, up to the first answer behind them.
 fn read_words<'a>(
     wanted: Wanted,
-    lexer: &mut Again<'_, 'a>,
+    lexer: &mut Source<'_, 'a>,
     words: &mut Vec<Token>,
     names: &mut Names,
 ) -> Result<Lexed<'a>, Memory>

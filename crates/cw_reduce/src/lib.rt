@@ -9,6 +9,7 @@ mod kinds;
 mod laws;
 mod naming;
 mod nesting;
+mod source;
 mod translating;
 mod uncut;
 mod walk;

@@ -15,9 +15,9 @@ ghost use Rattle.cw_reduce.specs.Retyping.{NamesAmong};
 ghost use Rattle.cw_reduce.specs.Working.{HasComeOver, IsSameWork, progress_over, texts_in};
 
 use crate::holders::Holder;
+use crate::source::Source;
 use crate::translating::Translator;
 use crate::work::{Context, Work};
-use cw_answers::Again;
 use cw_base::{Ledger, Memory, Span};
 use cw_lex::{Code, Lexed, Lexer, Mode, Tok, TokKind};
 use cw_secnames::{SecKind, next_part};
@@ -251,7 +251,7 @@ impl Translator {
     /// All answers, in which section names stand for their texts.
     pub(crate) fn read_named<L: Ledger>(
         &mut self,
-        lexer: &mut Again,
+        lexer: &mut Source,
         context: &Context,
         work: &mut Work<L>,
     ) -> Result<(), Memory>

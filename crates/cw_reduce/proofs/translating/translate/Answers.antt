@@ -8,14 +8,14 @@ use Rattle.cw_reduce.specs.Opening.{StartsBelow}
 use Rattle.cw_reduce.proofs.AnswerSteps.{within-starts}
 use Rattle.cw_reduce.proofs.translating.translate.Goals as goal
 
-pub translate_answers-requires-clause-nested : goal.translate_answers-requires-clause-nested
-translate_answers-requires-clause-nested g c =
-    subst IsNested (sym (c.again.ensures ∙ c.in_ok-scan.ensures))
+pub translate_source-requires-clause-nested : goal.translate_source-requires-clause-nested
+translate_source-requires-clause-nested g c =
+    subst IsNested (sym (c.scanned-source.ensures ∙ c.over.ensures.tokens))
     (c-texts-nested c.args.text.now c.args.span.start c.args.span.end c.args.mode c.requires.c_text c.requires.uncut)
 
-pub translate_answers-requires-clause-start : goal.translate_answers-requires-clause-start
-translate_answers-requires-clause-start g c =
-    subst (StartsBelow 4294967296) (sym (c.again.ensures ∙ c.in_ok-scan.ensures))
+pub translate_source-requires-clause-start : goal.translate_source-requires-clause-start
+translate_source-requires-clause-start g c =
+    subst (StartsBelow 4294967296) (sym (c.scanned-source.ensures ∙ c.over.ensures.tokens))
     (within-starts 4294967296 c.args.span.start c.args.span.end
     (tokens_of c.args.text.now c.args.span.start c.args.span.end c.args.mode)
     (omega (arith, c.requires.within, c.requires.short))
