@@ -83,7 +83,7 @@ pub(crate) fn print_paragraph<D: Desk, L: Ledger>(
         return Ok(counts);
     }
     out.put_all(paragraph.front, desk)?;
-    translated.print(p.alloc, c, book, out, desk)?;
+    translated.print(p.alloc, book, out, desk)?;
     out.put_all(b"\\par\n", desk)?;
     Ok(counts)
 }

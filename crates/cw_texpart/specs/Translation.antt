@@ -1,6 +1,10 @@
 -- What contracts see of a C text that is translated and not yet printed.
-use Rattle.std.specs.Prelude.{◌≡◌, ℕ, ◌+◌, ◌≤◌, List, ◌++◌, Result, Ok, Err, IfOk, OnOk}
+use Rattle.std.specs.Prelude.{◌≡◌, ℕ, ◌+◌, ◌<◌, ◌≤◌, false, List, ◌++◌, Result, Ok, Err, IfOk, OnOk}
 use Rattle.cw_base.specs.declared.memory.Memory.{Memory}
+use Rattle.cw_lex.specs.Lexing.{tokens_of}
+use Rattle.cw_lex.specs.Nested.{begins_section_in}
+use Rattle.cw_rules.specs.Answers.{Answer}
+use Rattle.cw_texpart.specs.declared.texts.CText.{CText}
 use Rattle.cw_phase1.specs.declared.book.Book.{Book}
 use Rattle.cw_reduce.specs.Counting.{limit_in, productions_in, scraps_in, ticks_in}
 use Rattle.cw_tokens.specs.Shapes.{unfolded}
@@ -12,8 +16,9 @@ use Rattle.cw_texpart.specs.Done.{Done}
 use Rattle.cw_texpart.specs.Texts.{Setting, lasting}
 use Rattle.cw_texpart.specs.Weaving.{underlined}
 
--- its list, among lists of tokens, and what was counted
+-- the text, its list among lists of tokens, and what was counted
 pub record TranslatedState : Type 0 where
+  pub text : CText
   pub lists : List (List Token)
   pub root : ℕ
   pub counts : Counts
@@ -22,12 +27,19 @@ abbrev pub tree_of : TranslatedState → Tree
 tree_of text = unfolded text.lists text.root
 
 -- a text that is translated into a store, with the lists there
-abbrev pub in_store : List (List Token) → Translated → TranslatedState
-in_store lists text = record { lists = lists; root = text.list.index; counts = text.counts }
+abbrev pub in_store : CText → List (List Token) → Translated → TranslatedState
+in_store c lists done = record { text = c; lists = lists; root = done.list.index; counts = done.counts }
 
-abbrev pub stored : List (List Token) → Result Translated Memory → Result TranslatedState Memory
-stored lists (Ok text) = Ok (in_store lists text)
-stored lists (Err error) = Err error
+abbrev pub stored : CText → List (List Token) → Result Translated Memory → Result TranslatedState Memory
+stored c lists (Ok done) = Ok (in_store c lists done)
+stored c lists (Err error) = Err error
+
+-- A text can be printed from what is kept of it: these are the answers of its scan, no section code cuts it, and its
+-- list is one of so many.
+pub record IsKept (c : CText) (answers : List Answer) (list count : ℕ) : Type 0 where
+  pub answers_are : answers ≡ tokens_of c.text.now c.span.start c.span.«end» c.mode
+  pub uncut : begins_section_in answers ≡ false
+  pub there : list < count
 
 -- The call translated this piece and printed nothing of it: it left its names, added its marks to the occurrences and
 -- counted its C texts. Where it was refused, the names may have other categories.

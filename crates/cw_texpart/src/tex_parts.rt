@@ -21,6 +21,7 @@ use crate::inks::put_token;
 use crate::pieces::{Piece, Pieces};
 use crate::texts::{StoredTree, translate_into};
 use crate::{CText, Counts};
+use cw_answers::Answers;
 use cw_base::{Flags, Ledger, Span, Steps, Web};
 use cw_desk::Desk;
 use cw_lex::{Mode, Tok};
@@ -31,7 +32,8 @@ use std::alloc::Global;
 use std::marker::Model;
 
 // What a TeX part is printed with: the web's text, the number of its section, and the flags. Its C texts are translated
-// in one store, one after another, so that most of them take no memory for their lists.
+// in one store, one after another, so that most of them take no memory for their lists; their answers are kept in one
+// room.
 #[derive(Drop)]
 pub(crate) struct TexPart<'a> {
     text: &'a [u8],
@@ -39,6 +41,7 @@ pub(crate) struct TexPart<'a> {
     flags: &'a Flags,
     alloc: Global,
     store: TokenStore,
+    answers: Answers<'a>,
 }
 
 impl<'a> Model for TexPart<'a> {
@@ -93,12 +96,14 @@ fn put_inner<D: Desk, L: Ledger>(
         section: t.section,
         flags: t.flags,
     };
-    let translated = translate_into(&mut t.store, t.alloc, c, book, steps)?;
+    let translated = translate_into(&mut t.store, &mut t.answers, t.alloc, c, book, steps)?;
     let tree = StoredTree {
+        text: c,
+        answers: &t.answers,
         store: &t.store,
         list: translated.list,
     };
-    tree.print(t.alloc, c, book, out, desk)?;
+    tree.print(t.alloc, book, out, desk)?;
     Ok(translated.counts)
 }
 
@@ -245,6 +250,7 @@ pub fn copy_tex<D: Desk, L: Ledger>(
         flags,
         alloc,
         store: TokenStore::new_in(alloc),
+        answers: Answers::new_in(alloc),
     };
     put_section(&mut t, head, book, out, desk, steps)
 }

@@ -8,19 +8,20 @@ ghost use Rattle.cw_scraps.specs.Marking.{marked_names};
 ghost use Rattle.cw_scraps.specs.Lines.{IsNamedBelow};
 ghost use Rattle.cw_texpart.specs.Printing.{setting_of, text_bytes, text_printed};
 ghost use Rattle.cw_texpart.specs.Texts.{lasting};
-ghost use Rattle.cw_texpart.specs.Translation.{Translates, in_store, stored, tree_of};
+ghost use Rattle.cw_texpart.specs.Translation.{IsKept, Translates, in_store, stored, tree_of};
 ghost use Rattle.cw_texpart.specs.Weaving.{Weaves, underlined};
 ghost use Rattle.cw_tokens.specs.Shapes.{unfolded};
 
 use crate::Counts;
+use cw_answers::Answers;
 use cw_base::{Flags, Ledger, Memory, Span, Steps};
 use cw_desk::Desk;
 use cw_lex::Mode;
 use cw_lines::{LineOut, PutError};
 use cw_names::Xrefs;
 use cw_phase1::Book;
-use cw_print::print_list;
-use cw_reduce::translate;
+use cw_print::{KeptText, print_answers};
+use cw_reduce::{Context, Work, translate_answers};
 use cw_scraps::Marks;
 use cw_tokens::{ListId, TokenStore};
 use std::alloc::Global;
@@ -39,9 +40,11 @@ pub struct CText<'a> {
     pub flags: &'a Flags,
 }
 
-/// A C text that is translated and not yet printed: its tree, and what was counted.
+/// A C text that is translated and not yet printed: the answers of its scan, its tree, and what was counted.
 #[derive(Drop)]
-pub struct TranslatedText {
+pub struct TranslatedText<'a> {
+    text: CText<'a>,
+    answers: Answers<'a>,
     store: TokenStore,
     list: ListId,
     counts: Counts,
@@ -54,51 +57,54 @@ pub(crate) struct Translated {
     pub counts: Counts,
 }
 
-/// The list of a C text's tree, in the store that has it.
+/// The list of a C text's tree, in the store that has it, with the answers of the text's scan.
 #[derive(Clone, Copy)]
-pub(crate) struct StoredTree<'a> {
-    pub store: &'a TokenStore,
+pub(crate) struct StoredTree<'s, 'a> {
+    pub text: CText<'a>,
+    pub answers: &'s Answers<'a>,
+    pub store: &'s TokenStore,
     pub list: ListId,
 }
 
-impl StoredTree<'_> {
-    /// Prints it as this C text, with the book that its translation has left.
+impl StoredTree<'_, '_> {
+    /// Prints it, with the book that its translation has left.
     pub(crate) fn print<D: Desk>(
         self,
         alloc: Global,
-        c: CText,
         book: &Book,
         out: &mut LineOut,
         desk: &mut D,
     ) -> Result<(), PutError>
         requires can { CanWrite (D.told desk.old) out.old }
-        requires order { c.span.start ≤ c.span.end }
-        requires within { c.span.end ≤ length c.text.now }
-        requires uncut { begins_section_in (tokens_of c.text.now c.span.start c.span.end c.mode) ≡ false }
-        requires list { self.list.index < length self.store.now.lists }
+        requires kept { IsKept self.text self.answers.now self.list.index (length self.store.now.lists) }
         requires named { IsNamedBelow (length book.now.names) (unfolded self.store.now.lists self.list.index) }
-        ensures { Puts (text_bytes c.entry book.now (unfolded self.entry.store.now.lists self.entry.list.index))
+        ensures { Puts (text_bytes self.entry.text book.now
+            (unfolded self.entry.store.now.lists self.entry.list.index))
             out.old out.new (D.told desk.old) (D.told desk.new) result }
     {
-        print_list(
-            alloc, c.text, c.span, c.mode, book, c.section, c.flags, self.store, self.list,
-            c.inner, out, desk,
-        )
+        let text = KeptText {
+            answers: self.answers,
+            book,
+            section: self.text.section,
+            flags: self.text.flags,
+            inner: self.text.inner,
+        };
+        print_answers(alloc, text, self.store, self.list, out, desk)
     }
 }
 
-impl Model for TranslatedText {
-    ghost use Rattle.std.specs.Prelude.{◌<◌, length};
-    ghost use Rattle.cw_texpart.specs.Translation.{TranslatedState};
+impl<'a> Model for TranslatedText<'a> {
+    ghost use Rattle.std.specs.Prelude.{length};
+    ghost use Rattle.cw_texpart.specs.Translation.{IsKept, TranslatedState};
 
     ghost Value = { TranslatedState };
 
-    ghost view = { λ t. record { lists = t.store.lists; root = t.list.index; counts = t.counts } };
+    ghost view = { λ t. record { text = t.text; lists = t.store.lists; root = t.list.index; counts = t.counts } };
 
-    ghost invariant = { λ t. t.list.index < length t.store.lists };
+    ghost invariant = { λ t. IsKept t.text t.answers t.list.index (length t.store.lists) };
 }
 
-impl TranslatedText {
+impl<'a> TranslatedText<'a> {
     /// The scraps and the productions of the text, those of inner texts included.
     pub fn counts(&self) -> Counts
         ensures { result ≡ self.now.counts }
@@ -106,28 +112,26 @@ impl TranslatedText {
         self.counts
     }
 
-    /// Prints this translation of a C text, with the book that it has left.
+    /// Prints the text, with the book that its translation has left.
     pub fn print<D: Desk>(
         &self,
         alloc: Global,
-        c: CText,
         book: &Book,
         out: &mut LineOut,
         desk: &mut D,
     ) -> Result<(), PutError>
         requires can { CanWrite (D.told desk.old) out.old }
-        requires order { c.span.start ≤ c.span.end }
-        requires within { c.span.end ≤ length c.text.now }
-        requires uncut { begins_section_in (tokens_of c.text.now c.span.start c.span.end c.mode) ≡ false }
         requires named { IsNamedBelow (length book.now.names) (tree_of self.now) }
-        ensures { Puts (text_bytes c.entry book.now (tree_of self.now)) out.old out.new
+        ensures { Puts (text_bytes self.now.text book.now (tree_of self.now)) out.old out.new
             (D.told desk.old) (D.told desk.new) result }
     {
         let tree = StoredTree {
+            text: self.text,
+            answers: &self.answers,
             store: &self.store,
             list: self.list,
         };
-        tree.print(alloc, c, book, out, desk)
+        tree.print(alloc, book, out, desk)
     }
 }
 
@@ -153,12 +157,12 @@ fn make_room(store: &mut TokenStore, span: Span, inner: bool) -> Result<(), Memo
 
 /// Translates a C text without printing it. Its marks go to the book's occurrences, and the book's names get the
 /// categories behind it.
-pub fn translate_text<L: Ledger>(
+pub fn translate_text<'a, L: Ledger>(
     alloc: Global,
-    c: CText,
+    c: CText<'a>,
     book: &mut Book,
     steps: &mut Steps<L>,
-) -> Result<TranslatedText, Memory>
+) -> Result<TranslatedText<'a>, Memory>
     requires order { c.span.start ≤ c.span.end }
     requires within { c.span.end ≤ length c.text.now }
     requires short { length c.text.now ≤ 2 ^ 24 }
@@ -168,24 +172,28 @@ pub fn translate_text<L: Ledger>(
     ensures translates { Translates (setting_of c.entry (lasting book.old))
         (text_printed c.entry (lasting book.old) book.old.names) book.old book.new steps.old steps.new result }
     // Printed with the book that is left, the tree is what the text prints.
-    ensures printed { IfOk result (λ text. text_bytes c.entry book.new (tree_of text)
+    ensures printed { IfOk result (λ text. text_bytes text.text book.new (tree_of text)
         ≡ (text_printed c.entry (lasting book.old) book.old.names).out) }
     ensures named { IfOk result (λ text. IsNamedBelow (length book.new.names) (tree_of text)) }
 {
     let mut store = TokenStore::new_in(alloc);
-    let text = translate_into(&mut store, alloc, c, book, steps)?;
+    let mut answers = Answers::new_in(alloc);
+    let done = translate_into(&mut store, &mut answers, alloc, c, book, steps)?;
     Ok(TranslatedText {
+        text: c,
+        answers,
         store,
-        list: text.list,
-        counts: text.counts,
+        list: done.list,
+        counts: done.counts,
     })
 }
 
-/// The same in a store that may have been used before.
-pub(crate) fn translate_into<L: Ledger>(
+/// The same in a store and in a room for answers that may have been used before.
+pub(crate) fn translate_into<'a, L: Ledger>(
     store: &mut TokenStore,
+    answers: &mut Answers<'a>,
     alloc: Global,
-    c: CText,
+    c: CText<'a>,
     book: &mut Book,
     steps: &mut Steps<L>,
 ) -> Result<Translated, Memory>
@@ -197,29 +205,31 @@ pub(crate) fn translate_into<L: Ledger>(
     requires kept { AreNamesOf book.old.sec_names book.old.name_uses }
     ensures translates { Translates (setting_of c.entry (lasting book.old))
         (text_printed c.entry (lasting book.old) book.old.names) book.old book.new steps.old steps.new
-        (stored store.new.lists result) }
-    ensures printed { IfOk result (λ text. text_bytes c.entry book.new (tree_of (in_store store.new.lists text))
+        (stored c.entry store.new.lists result) }
+    ensures printed { IfOk result (λ done. text_bytes c.entry book.new
+        (tree_of (in_store c.entry store.new.lists done))
         ≡ (text_printed c.entry (lasting book.old) book.old.names).out) }
     ensures named { IfOk result
-        (λ text. IsNamedBelow (length book.new.names) (tree_of (in_store store.new.lists text))) }
-    ensures there { IfOk result (λ text. text.list.index < length store.new.lists) }
+        (λ done. IsNamedBelow (length book.new.names) (tree_of (in_store c.entry store.new.lists done))) }
+    ensures kept { IfOk result (λ done. IsKept c.entry answers.new done.list.index (length store.new.lists)) }
 {
     store.reset();
     make_room(store, c.span, c.inner)?;
+    answers.scan(c.text, c.span, c.mode)?;
     let mut marks = Marks::new_in(alloc);
-    let done = translate(
+    let context = Context {
+        sec_names: &book.sec_names,
+        uses: &book.name_uses,
+        flags: c.flags,
         alloc,
-        c.text,
-        c.span,
-        c.mode,
-        &mut book.names,
-        &book.sec_names,
-        &book.name_uses,
+    };
+    let mut work = Work {
+        names: &mut book.names,
         store,
-        &mut marks,
-        c.flags,
+        marks: &mut marks,
         steps,
-    )?;
+    };
+    let done = translate_answers(&answers.again(), &context, &mut work)?;
     note_marks(&marks, c.section, &mut book.xrefs)?;
     Ok(Translated {
         list: done.list,
@@ -251,7 +261,7 @@ pub fn print_text<D: Desk, L: Ledger>(
         (record { book = book.new; line = out.new; told = D.told desk.new; steps = steps.new }) result }
 {
     let translated = translate_text(alloc, c, book, steps)?;
-    translated.print(alloc, c, book, out, desk)?;
+    translated.print(alloc, book, out, desk)?;
     Ok(translated.counts())
 }
 
