@@ -40,22 +40,27 @@ pub record Keeping (text inside : List ℕ) (all : List Answer) (kept : List Kep
 pub begin : (text inside : List ℕ) (start end : ℕ) (answers : List Answer) → inside ≡ text → end ≤ length text
     → Covers text start end answers → AreWithin start end answers → Keeping text inside answers [] answers
 begin text inside start end answers same le c w = record {
-    same = same; whole = refl; stand = all-stand text start start end end answers le c w; within = All-nil (IsWithin (length inside)) }
+  same = same;
+  whole = refl;
+  stand = all-stand text start start end end answers le c w;
+  within = All-nil (IsWithin (length inside));
+}
 
 -- One answer more is kept.
 pub push : (text inside : List ℕ) (all : List Answer) (kept : List Kept) (k : Kept) (x : Answer) (old new : List Answer)
     → old ≡ x ∷ new → answer_at text k ≡ x → IsWithin (length text) k → Keeping text inside all kept old
     → Keeping text inside all (kept ++ k ∷ []) new
 push text inside all kept k x old new gives is w h = record {
-    same = h.same;
-    whole =
-        ap (λ l. l ++ new) (map-append (answer_at inside) kept (k ∷ []))
-        ∙ append_assoc (answers_at inside kept) (answer_at inside k ∷ []) new
-        ∙ ap (λ a. answers_at inside kept ++ a ∷ new) (ap (λ t. answer_at t k) h.same ∙ is)
-        ∙ ap (λ l. answers_at inside kept ++ l) (sym gives)
-        ∙ h.whole;
-    stand = All-tail (Stand text) x new (subst (All (Stand text)) gives h.stand);
-    within = All-push (IsWithin (length inside)) kept k h.within (subst (λ t. IsWithin (length t) k) (sym h.same) w) }
+  same = h.same;
+  whole =
+      ap (λ l. l ++ new) (map-append (answer_at inside) kept (k ∷ []))
+      ∙ append_assoc (answers_at inside kept) (answer_at inside k ∷ []) new
+      ∙ ap (λ a. answers_at inside kept ++ a ∷ new) (ap (λ t. answer_at t k) h.same ∙ is)
+      ∙ ap (λ l. answers_at inside kept ++ l) (sym gives)
+      ∙ h.whole;
+  stand = All-tail (Stand text) x new (subst (All (Stand text)) gives h.stand);
+  within = All-push (IsWithin (length inside)) kept k h.within (subst (λ t. IsWithin (length t) k) (sym h.same) w);
+}
 
 pub first : (text inside : List ℕ) (all : List Answer) (kept : List Kept) (x : Answer) (old new : List Answer)
     → old ≡ x ∷ new → Keeping text inside all kept old → Stand text x
@@ -69,6 +74,6 @@ pushed text inside all kept items k x old new e gives is w h =
 
 pub ahead : (kept : List Kept) (place : ℕ) (d : Kept) → place < length kept → drop place kept ≡ get_or kept place d ∷ drop (place + 1) kept
 ahead kept place d lt = drop-cons kept place d lt ∙ ap (λ n. get_or kept place d ∷ drop n kept) (more place)
-    where
+  where
     more : (n : ℕ) → suc n ≡ n + 1
     more n = omega arith

@@ -17,19 +17,20 @@ loop-token-preserved c =
     let text = c.args.text.now in
     let kept = c.match-next.kept in
     let step = pushed text c.loop-token.self-inside.text.now c.over-lexer.result c.loop-token.self-inside.kept.items
-        c.push.new.self.items kept in
+    c.push.new.self.items kept in
     elim c.match-next.branch [
-      in-Token w ↦ step (Token (seen w.in-Token.token)) c.loop-token.lexer c.next.new.self c.in_ok-push.ensures.items
+      | in-Token w ↦ step (Token (seen w.in-Token.token)) c.loop-token.lexer c.next.new.self c.in_ok-push.ensures.items
           w.in-Token.ensures (ap (answer_at text) w.kept-is ∙ ap Token w.of.ensures.same)
           (subst (IsWithin (length text)) (sym w.kept-is) w.of.ensures.within) c.loop-token.invariant
-    | in-Begin w ↦ step (Begin (seen w.in-Begin.token)) c.loop-token.lexer c.next.new.self c.in_ok-push.ensures.items
+      | in-Begin w ↦ step (Begin (seen w.in-Begin.token)) c.loop-token.lexer c.next.new.self c.in_ok-push.ensures.items
           w.in-Begin.ensures (ap (answer_at text) w.kept-is ∙ ap Begin w.of-in-Begin.ensures.same)
           (subst (IsWithin (length text)) (sym w.kept-is) w.of-in-Begin.ensures.within) c.loop-token.invariant
-    | in-Finish w ↦ step (Finish (seen w.in-Finish.token)) c.loop-token.lexer c.next.new.self c.in_ok-push.ensures.items
+      | in-Finish w ↦ step (Finish (seen w.in-Finish.token)) c.loop-token.lexer c.next.new.self c.in_ok-push.ensures.items
           w.in-Finish.ensures (ap (answer_at text) w.kept-is ∙ ap Finish w.of-in-Finish.ensures.same)
           (subst (IsWithin (length text)) (sym w.kept-is) w.of-in-Finish.ensures.within) c.loop-token.invariant
-    | in-Note+in_ok-of-in-Note w ↦ step (Note w.in-Note.kind w.in-Note.place) c.loop-token.lexer c.next.new.self c.in_ok-push.ensures.items
+      | in-Note+in_ok-of-in-Note w ↦ step (Note w.in-Note.kind w.in-Note.place) c.loop-token.lexer c.next.new.self c.in_ok-push.ensures.items
           w.in-Note.ensures
           (ap (answer_at text) w.kept-is
           ∙ (λ i. Note (w.in_ok-of-in-Note.ensures.0 i) (w.in_ok-of-in-Note.ensures.1 i)))
-          (subst (IsWithin (length text)) (sym w.kept-is) tt) c.loop-token.invariant ]
+          (subst (IsWithin (length text)) (sym w.kept-is) tt) c.loop-token.invariant
+    ]
