@@ -396,8 +396,8 @@ fn translate_source<L: Ledger>(
     translate_headed(&begun, source, context, work)
 }
 
-/// Translates a C text by the answers that its scan gave, those that are still to come: the same as `translate` of a text
-/// that has these answers. No section code may cut the text.
+/// Translates a C text by the answers that its scan gave, those that are still to come: the same as `translate` of a
+/// text that has these answers. No section code may cut the text.
 pub fn translate_answers<L: Ledger>(
     again: &Again,
     context: &Context,
