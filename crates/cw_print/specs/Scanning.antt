@@ -1,5 +1,5 @@
 -- Where tokens are sought among answers, and which numbers lie ahead.
-use Rattle.std.specs.Prelude.{ℕ, ◌≤◌, List, drop, length}
+use Rattle.std.specs.Prelude.{◌≤◌, List, drop, length}
 use Rattle.cw_rules.specs.Answers.{Answer}
 use Rattle.cw_lex.specs.Nested.{until_section}
 use Rattle.cw_print.specs.declared.scan.Seek.{Seek}

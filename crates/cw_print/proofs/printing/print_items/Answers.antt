@@ -1,5 +1,5 @@
 -- One item goes behind another, and at the end comes what is left of a run.
-use Rattle.std.proofs.Common.{Bool, [], ◌+◌, ap, length, ◌++◌, ◌∙◌, take, arith}
+use Rattle.std.proofs.Common.{Bool, [], ◌+◌, ap, ◌++◌, ◌∙◌, take, arith}
 use Rattle.cw_tokens.specs.FlatItems.{items_are}
 use Rattle.cw_lines.specs.WritesLaws.{can-after, puts-bytes, puts-none}
 use Rattle.cw_join.specs.Early.{late}
