@@ -1,9 +1,11 @@
 //! The walk over the items of a C text, which makes the bytes that they print by where they stand.
-ghost use Rattle.std.specs.Prelude.{◌≡◌, ◌++◌, None, OnOk, option_map};
+ghost use Rattle.std.specs.Prelude.{◌≡◌, ◌++◌, Bool, None, Option, IfSome, OnOk, option_map};
 ghost use Rattle.cw_rules.specs.Answers.{seen};
 ghost use Rattle.cw_lex.specs.Nested.{until_section};
 ghost use Rattle.cw_print.specs.Sources.{titles};
-ghost use Rattle.cw_print.specs.Walk.{bracket, control_shown, is_name, named_shown, outside, source_shown};
+ghost use Rattle.cw_print.specs.Tokens.{sign_macro};
+ghost use Rattle.cw_print.specs.Walk.{Stand, Title, bracket, control_shown, is_name, named_shown, outside, prints};
+ghost use Rattle.cw_print.specs.Walk.{seen_shown, source_shown};
 ghost use Rattle.cw_print.specs.Walked.{behind};
 
 use crate::book_titles::title_at;
@@ -12,9 +14,10 @@ use crate::comments::put_closing_braces;
 use crate::name_walk::NameWalk;
 use crate::scan::Seek;
 use crate::showing::put_found;
+use crate::signs::put_sign;
 use cw_answers::Answers;
 use cw_base::{Bytes, Memory};
-use cw_lex::{Code, Tok, TokKind};
+use cw_lex::{Code, Sign, Tok, TokKind};
 use cw_phase1::Book;
 use cw_trees::Control;
 use std::alloc::Global;
@@ -92,6 +95,9 @@ impl<'s, 'a> TextWalk<'s, 'a> {
             return put_found(out, self.manner.first, token, &mut self.braces);
         }
         let token = self.seek.find(self.answers, number);
+        if let Some(sign) = sign_of(token) {
+            return put_sign(out, sign);
+        }
         if is_name(token) {
             return self.begin_name(out, number, book);
         }
@@ -145,6 +151,21 @@ impl<'s, 'a> TextWalk<'s, 'a> {
             out.append(bytes)?;
         }
         Ok(())
+    }
+}
+
+// The sign that was found, if it is one: most tokens are, and print the same wherever they stand.
+#[inline(always)]
+fn sign_of(token: Option<Tok>) -> Option<Sign>
+    ensures { IfSome result (λ sign. (first : Bool) (title : Option Title) (stand : Stand)
+        → seen_shown first title (option_map seen token.entry) stand ≡ prints (sign_macro sign) stand) }
+{
+    match token {
+        Some(token) => match token.kind {
+            TokKind::Sign(sign) => Some(sign),
+            _ => None,
+        },
+        None => None,
     }
 }
 
