@@ -47,8 +47,9 @@ fn put_shown(
 }
 
 /// Appends what a token prints where these braces are open, and counts those that it opens and closes. `first` says
-/// that the present section is the first that defines its name. A number without a token prints nothing.
-#[inline(always)]
+/// that the present section is the first that defines its name. A number without a token prints nothing. It stands apart,
+/// since most tokens are signs, which are printed without it.
+#[inline(never)]
 pub(crate) fn put_found(
     out: &mut Bytes,
     first: bool,

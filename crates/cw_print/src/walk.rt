@@ -2,6 +2,8 @@
 ghost use Rattle.std.specs.Prelude.{◌≡◌, ◌++◌, Bool, None, Option, IfSome, OnOk, option_map};
 ghost use Rattle.cw_rules.specs.Answers.{seen};
 ghost use Rattle.cw_lex.specs.Nested.{until_section};
+ghost use Rattle.cw_print.specs.Found.{numbered};
+ghost use Rattle.cw_print.specs.Showing.{found};
 ghost use Rattle.cw_print.specs.Sources.{titles};
 ghost use Rattle.cw_print.specs.Tokens.{sign_macro};
 ghost use Rattle.cw_print.specs.Walk.{Stand, Title, bracket, control_shown, is_name, named_shown, outside, prints};
@@ -91,8 +93,7 @@ impl<'s, 'a> TextWalk<'s, 'a> {
             (source_shown self.old.fixed (titles book.now number) self.old.stand.name number self.old.stand)) }
     {
         if let Some(name) = &mut self.name {
-            let token = name.find(number);
-            return put_found(out, self.manner.first, token, &mut self.braces);
+            return show_in_name(out, self.manner.first, name, number, &mut self.braces);
         }
         let token = self.seek.find(self.answers, number);
         if let Some(sign) = sign_of(token) {
@@ -152,6 +153,23 @@ impl<'s, 'a> TextWalk<'s, 'a> {
         }
         Ok(())
     }
+}
+
+// Appends what a token of an inner text of a section name prints. It stands apart, since few tokens are one.
+#[inline(never)]
+fn show_in_name(
+    out: &mut Bytes,
+    first: bool,
+    name: &mut NameWalk,
+    number: u32,
+    braces: &mut OpenBraces,
+) -> Result<(), Memory>
+    ensures bytes { OnOk result (out.new ≡ out.old ++ (found first (numbered number name.old.answers) braces.old).bytes) }
+    ensures braces { OnOk result (braces.new ≡ (found first (numbered number name.old.answers) braces.old).braces) }
+    ensures same { name.new ≡ name.old }
+{
+    let token = name.find(number);
+    put_found(out, first, token, braces)
 }
 
 // The sign that was found, if it is one: most tokens are, and print the same wherever they stand.
