@@ -134,8 +134,8 @@ impl<'s, 'a> Printer<'s, 'a> {
         self.walk.show_control(buffer, control)
     }
 
-    // The same of an identifier, which prints the same everywhere.
-    #[inline(always)]
+    // The same of an identifier, which prints the same everywhere. It stands apart, so that the loop stays small.
+    #[inline(never)]
     fn ident(&mut self, name: NameId, number: u32, buffer: &mut Bytes) -> Result<(), Memory>
         requires come { CanCome (length self.old.book.now.names) self.old.joiner.depth (FlatIdent name number) }
         ensures bytes { (s : Source) (inner : Bool) (items : List Item) → IsBehind s inner items self.old

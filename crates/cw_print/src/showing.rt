@@ -20,7 +20,8 @@ fn head_sign(first: bool) -> &'static [u8]
     }
 }
 
-#[inline(always)]
+// It stands apart, since most tokens are signs, which are printed without it.
+#[inline(never)]
 fn put_shown(
     out: &mut Bytes,
     first: bool,
@@ -47,9 +48,8 @@ fn put_shown(
 }
 
 /// Appends what a token prints where these braces are open, and counts those that it opens and closes. `first` says
-/// that the present section is the first that defines its name. A number without a token prints nothing. It stands apart,
-/// since most tokens are signs, which are printed without it.
-#[inline(never)]
+/// that the present section is the first that defines its name. A number without a token prints nothing.
+#[inline(always)]
 pub(crate) fn put_found(
     out: &mut Bytes,
     first: bool,
