@@ -150,7 +150,7 @@ impl<'s, 'a> Printer<'s, 'a> {
     }
 
     // The same of a reserved word.
-    #[inline(always)]
+    #[inline(never)]
     fn reserved(&mut self, name: NameId, number: u32, buffer: &mut Bytes) -> Result<(), Memory>
         requires come { CanCome (length self.old.book.now.names) self.old.joiner.depth (FlatReserved name number) }
         ensures bytes { (s : Source) (inner : Bool) (items : List Item) → IsBehind s inner items self.old

@@ -126,6 +126,20 @@ impl<'s, 'a> TextWalk<'s, 'a> {
         ensures stand { OnOk result (self.new ≡ behind self.old (control_shown control self.old.stand)) }
     {
         match control {
+            Control::CommentEnd | Control::NameText | Control::NameEnd => self.show_placed(
+                out, control,
+            ),
+            _ => Ok(()),
+        }
+    }
+
+    // The same. It stands apart, since few controls are the end of a comment or in a name.
+    #[inline(never)]
+    fn show_placed(&mut self, out: &mut Bytes, control: Control) -> Result<(), Memory>
+        ensures bytes { OnOk result (out.new ≡ out.old ++ (control_shown control self.old.stand).bytes) }
+        ensures stand { OnOk result (self.new ≡ behind self.old (control_shown control self.old.stand)) }
+    {
+        match control {
             Control::CommentEnd => {
                 put_closing_braces(out, self.braces.innermost())?;
                 self.braces.end();
