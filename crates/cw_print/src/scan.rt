@@ -131,7 +131,7 @@ fn is_section(kind: TokKind) -> bool
     matches!(kind, TokKind::Code(Code::Section | Code::StarredSection))
 }
 
-// Goes on to the token of a number that lies ahead if there is one, and answers it and where the seeking stands behind it.
+// Goes on to the token of a number that lies ahead if there is one, and answers it and where the seeking then stands.
 #[inline(always)]
 fn find_ahead<'a>(answers: &Answers<'a>, seek: Seek, number: usize) -> (Option<Tok<'a>>, Seek)
     requires number { number < 2 ^ 32 }

@@ -178,7 +178,8 @@ fn show_in_name(
     number: u32,
     braces: &mut OpenBraces,
 ) -> Result<(), Memory>
-    ensures bytes { OnOk result (out.new ≡ out.old ++ (found first (numbered number name.old.answers) braces.old).bytes) }
+    ensures bytes { OnOk result (out.new
+        ≡ out.old ++ (found first (numbered number name.old.answers) braces.old).bytes) }
     ensures braces { OnOk result (braces.new ≡ (found first (numbered number name.old.answers) braces.old).braces) }
     ensures same { name.new ≡ name.old }
 {
