@@ -2,19 +2,18 @@
 ghost use Rattle.std.specs.Prelude.{◌≡◌, ◌<◌, IsTrue, false, length};
 ghost use Rattle.cw_base.specs.declared.event.Out.TheVariants.{Tex};
 ghost use Rattle.cw_desk.specs.Meaning.{is_open};
-ghost use Rattle.cw_rules.specs.declared.tokens.Mode.TheVariants.{CPart};
-ghost use Rattle.cw_lex.specs.Lexing.{tokens_of};
 ghost use Rattle.cw_lex.specs.Nested.{begins_section_in};
 ghost use Rattle.cw_scraps.specs.Lines.{IsNamedBelow};
 ghost use Rattle.cw_tokens.specs.Shapes.{unfolded};
 
 use crate::samples::{LARGEST, ORDINARY, SMALL, repeated};
+use cw_answers::Answers;
 use cw_base::{Flags, Out, Silent, Span, Steps, Web};
 use cw_desk::{Batch, Desk, FileDesk, MadeOut};
 use cw_lex::Mode;
 use cw_lines::{LineOut, PutError};
 use cw_phase1::{Book, phase_one};
-use cw_print::print_list;
+use cw_print::{KeptText, print_answers};
 use cw_reduce::{is_uncut, translate};
 use cw_scraps::Marks;
 use cw_tokens::{ListId, TokenStore};
@@ -25,36 +24,26 @@ use std::io;
 #[inline(never)]
 fn measured<D: Desk>(
     alloc: Global,
-    text: &[u8],
+    answers: &Answers,
     book: &Book,
     store: &TokenStore,
     list: ListId,
     desk: &mut D,
 ) -> Result<u64, PutError>
     requires made { IsTrue (is_open (D.told desk.old).outputs Tex) }
-    requires uncut { begins_section_in (tokens_of text.now 0 (length text.now) CPart) ≡ false }
+    requires uncut { begins_section_in answers.now ≡ false }
     requires list { list.index < length store.now.lists }
     requires named { IsNamedBelow (length book.now.names) (unfolded store.now.lists list.index) }
 {
-    let span = Span {
-        start: 0,
-        end: text.len(),
+    let text = KeptText {
+        answers,
+        book,
+        section: 0,
+        flags: &Flags::start(),
+        inner: false,
     };
     let mut out = LineOut::new_in(alloc, Out::Tex);
-    print_list(
-        alloc,
-        text,
-        span,
-        Mode::CPart,
-        book,
-        0,
-        &Flags::start(),
-        store,
-        list,
-        false,
-        &mut out,
-        desk,
-    )?;
+    print_answers(alloc, text, store, list, &mut out, desk)?;
     Ok(out.lines())
 }
 
@@ -69,6 +58,8 @@ fn printed<D: Desk>(alloc: Global, text: &[u8], desk: &mut D) -> Result<u64, Put
     if text.len() > LARGEST || !is_uncut(text, span, Mode::CPart) {
         return Err(PutError::Memory);
     }
+    let mut answers = Answers::new_in(alloc);
+    answers.scan(text, span, Mode::CPart)?;
     let mut book = phase_one(alloc, &Web::new_in(alloc))?;
     let mut store = TokenStore::new_in(alloc);
     let mut marks = Marks::new_in(alloc);
@@ -86,7 +77,7 @@ fn printed<D: Desk>(alloc: Global, text: &[u8], desk: &mut D) -> Result<u64, Put
         &Flags::start(),
         &mut steps,
     )?;
-    measured(alloc, text, &book, &store, done.list, desk)
+    measured(alloc, &answers, &book, &store, done.list, desk)
 }
 
 /// Prints it to no file.
