@@ -1,5 +1,5 @@
 //! The sections in which each name occurs.
-ghost use Rattle.std.specs.Prelude.{◌≡◌, ◌∷◌, ◌++◌, [], ℕ, ◌<◌, ◌≤◌, OnOk, OnErr, length, slice_index_or};
+ghost use Rattle.std.specs.Prelude.{◌≡◌, ◌∷◌, ◌++◌, [], ℕ, ◌<◌, ◌≤◌, OnOk, OnErr, insert, length, slice_index_or};
 ghost use Rattle.cw_names.specs.declared.xrefs.SectionRef.{SectionRef};
 ghost use Rattle.cw_names.specs.Mentions.{AreAscending, mentions, sections_at, with_mention};
 
@@ -100,7 +100,8 @@ impl Xrefs {
     }
 }
 
-// Gives each name up to this one a list.
+// Gives each name up to this one a list. Most have theirs.
+#[inline(always)]
 fn grow(lists: &mut Vec<Vec<SectionRef>>, alloc: Global, name: usize) -> Result<(), Memory>
     ensures same { (other : ℕ) → sections_at other lists.new.items ≡ sections_at other lists.old.items }
     ensures there { OnOk result (name < length lists.new.items) }
@@ -108,6 +109,16 @@ fn grow(lists: &mut Vec<Vec<SectionRef>>, alloc: Global, name: usize) -> Result<
     if name < lists.len() {
         return Ok(());
     }
+    add_lists(lists, alloc, name)
+}
+
+// The same, for a name that has none.
+#[inline(never)]
+fn add_lists(lists: &mut Vec<Vec<SectionRef>>, alloc: Global, name: usize) -> Result<(), Memory>
+    requires { length lists.old.items ≤ name }
+    ensures same { (other : ℕ) → sections_at other lists.new.items ≡ sections_at other lists.old.items }
+    ensures there { OnOk result (name < length lists.new.items) }
+{
     lists.reserve(name - lists.len())?;
     'names: while lists.len() <= name {
         lists.push(Vec::new(alloc))?;
@@ -145,15 +156,40 @@ fn add(list: &mut Vec<SectionRef>, section: u32, underlined: bool) -> Result<(),
         list[place].underlined |= underlined;
         Ok(())
     } else {
-        list.insert(
+        put(
+            list,
             place,
             SectionRef {
                 section,
                 underlined,
             },
-        )?;
-        Ok(())
+        )
     }
+}
+
+// Puts a section at a place of a list. Most come behind all others.
+#[inline(always)]
+fn put(list: &mut Vec<SectionRef>, place: usize, section: SectionRef) -> Result<(), Memory>
+    requires { place ≤ length list.old.items }
+    ensures ok { OnOk result (list.new.items ≡ insert list.old.items place section) }
+    ensures err { OnErr result (list.new.items ≡ list.old.items) }
+{
+    if place < list.len() {
+        return put_inside(list, place, section);
+    }
+    list.push(section)?;
+    Ok(())
+}
+
+// The same before other sections.
+#[inline(never)]
+fn put_inside(list: &mut Vec<SectionRef>, place: usize, section: SectionRef) -> Result<(), Memory>
+    requires { place ≤ length list.old.items }
+    ensures ok { OnOk result (list.new.items ≡ insert list.old.items place section) }
+    ensures err { OnErr result (list.new.items ≡ list.old.items) }
+{
+    list.insert(place, section)?;
+    Ok(())
 }
 
 // How many sections of an ascending list come before this one. Most are the last one or belong behind it.
@@ -179,6 +215,7 @@ fn place_of_section(list: &[SectionRef], section: u32) -> usize
 }
 
 // The same for a section that belongs anywhere.
+#[inline(never)]
 fn place_inside(list: &[SectionRef], section: u32) -> usize
     requires { AreAscending list.now }
     ensures within { result ≤ length list.now }

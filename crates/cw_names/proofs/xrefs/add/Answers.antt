@@ -1,5 +1,6 @@
 -- A section goes before the first that isn't less, or is joined to the same section where that stands there.
 use Rattle.std.proofs.Common.{◌≡◌, ◌<◌, ◌≤◌, length, get_or, ap, sym, subst, ◌∙◌, arith}
+use Rattle.std.proofs.lemmas.Result.{on_ok_weaker}
 use Rattle.cw_names.specs.declared.xrefs.SectionRef.{SectionRef}
 use Rattle.cw_names.proofs.Mentions.{Before, any-default, section-inserted, section-joined}
 use Rattle.cw_names.proofs.xrefs.add.Goals as goal
@@ -16,11 +17,12 @@ returns-then-index-section-clause-ok c =
     (subst (Before c.args.section place) c.deref.ensures.value c.place_of_section-place.ensures.before)
     low (sym c.index_mut.ensures.value) (ap (λ (m : SectionRef). m.section) same ∙ c.if-index-section.true)
 
-pub returns-in_ok-insert-clause-ok : goal.returns-in_ok-insert-clause-ok
-returns-in_ok-insert-clause-ok c =
+pub returns-else-place-len-clause-ok : goal.returns-else-place-len-clause-ok
+returns-else-place-len-clause-ok c =
     let ms = c.args.list.now.items in
     let place = c.place_of_section-place.result in
-    c.in_ok-insert.ensures.items
+    on_ok_weaker c.put.result
+    (λ is. is
     ∙ section-inserted ms c.args.section place c.args.underlined
     (subst (Before c.args.section place) c.deref.ensures.value c.place_of_section-place.ensures.before)
     (subst (λ xs. place ≤ length xs) c.deref.ensures.value c.place_of_section-place.ensures.within)
@@ -31,4 +33,5 @@ returns-in_ok-insert-clause-ok c =
           let differ = w.if-index-section.false in
           omega (arith, differ)
       | else-place-len-via-else-place-len w ↦ absurd (omega arith)
-    ])
+    ]))
+    c.put.ensures.ok

@@ -1,7 +1,6 @@
 -- Where the last section is below, so are all; where it is the section, all before it are below.
 use Rattle.std.proofs.Common.{◌≡◌, ◌<◌, ◌-◌, length, get_or, false, arith}
 use Rattle.cw_names.proofs.Mentions.{all-before, any-default}
-use Rattle.cw_names.specs.declared.xrefs.SectionRef.{SectionRef}
 use Rattle.cw_names.proofs.xrefs.place_of_section.Goals as goal
 
 pub returns-then-last-section-clause-before : goal.returns-then-last-section-clause-before

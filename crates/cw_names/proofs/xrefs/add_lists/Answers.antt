@@ -2,7 +2,7 @@
 use Rattle.std.proofs.Common.{ap, ◌∙◌}
 use Rattle.cw_names.specs.Mentions.{sections_at}
 use Rattle.cw_names.proofs.Mentions.{at-pushed}
-use Rattle.cw_names.proofs.xrefs.grow.Goals as goal
+use Rattle.cw_names.proofs.xrefs.add_lists.Goals as goal
 
 pub names-preserved : goal.names-preserved
 names-preserved c =

@@ -1,7 +1,7 @@
 -- Each name has the sections that it had, and at each turn fewer lists are wanting.
 use Rattle.std.proofs.Common.{◌≡◌, ℕ, ◌+◌, ◌-◌, length}
 use Rattle.cw_names.specs.Mentions.{sections_at}
-use Rattle.cw_names.proofs.xrefs.grow.Given as goal
+use Rattle.cw_names.proofs.xrefs.add_lists.Given as goal
 
 abbrev pub invariant-names : goal.invariant-names
 invariant-names l = (other : ℕ) → sections_at other l.lists.items ≡ sections_at other l.fn.lists.items
