@@ -15,3 +15,4 @@ pub mod LimboRoles
 pub mod Closings
 pub mod PartEnds
 pub mod WholeSections
+pub mod FreeTokens

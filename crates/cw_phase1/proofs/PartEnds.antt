@@ -19,8 +19,6 @@ use Rattle.cw_lex.specs.Openings.{named, opened_by, tokens_in, is_some, opens_pa
 use Rattle.cw_secnames.specs.Kept.{SecName}
 use Rattle.cw_phase1.specs.declared.roles.Part.{Part}
 use Rattle.cw_phase1.specs.declared.roles.Part.TheVariants as parts
-use Rattle.cw_phase1.specs.declared.roles.Role.{Role}
-use Rattle.cw_phase1.specs.declared.roles.Role.TheVariants as roles
 use Rattle.cw_phase1.specs.declared.roles.Standing.{Standing}
 use Rattle.cw_phase1.specs.Entering.{entered_name, kept_behind}
 use Rattle.cw_phase1.specs.Roles.{Placed, Step, defining, name_step, code_step, free_step, token_step, token_step_by, word_role, head_role, behind_begin, placed_by, placed_from}

@@ -1,6 +1,5 @@
 -- The parts of a section are whole.
-use Rattle.std.proofs.Common.{◌≡◌, ℕ, ◌≤◌, Bool, true, false, not, ◌||◌, List, [], ◌∷◌, ◌++◌, Option, Some, None, All, length, drop, take, get_or, refl, sym, ap, subst, ◌∙◌, arith, append_assoc, ◌⊎◌, inl, inr}
-use Rattle.std.specs.List.{list_any}
+use Rattle.std.proofs.Common.{◌≡◌, ℕ, Bool, true, false, not, ◌||◌, List, [], ◌∷◌, ◌++◌, Some, None, All, length, drop, take, get_or, refl, sym, ap, subst, ◌∙◌, arith, append_assoc, ◌⊎◌, inl, inr}
 use Rattle.std.proofs.lemmas.List.{take_all, drop_all, length-take}
 use Rattle.std.proofs.lemmas.List.Elements.{All-nil, All-cons}
 use Rattle.cw_base.proofs.TestLaws.{one-right}
@@ -10,8 +9,7 @@ use Rattle.cw_rules.specs.declared.tokens.Mode.TheVariants as modes
 use Rattle.cw_rules.specs.Answers.{Answer, Token, Begin, Finish, Note, Seen, has_sign}
 use Rattle.cw_lex.specs.Lexing.{answers, answers_at, beginning, fresh_at, last_at, tokens_of}
 use Rattle.cw_lex.specs.Nested.{is_section_kind, begins_section_in}
-use Rattle.cw_lex.specs.Openings.{opened_by, opens_part_in, EndsBefore, TextsEndAtOpenings, TextsEndAtSections}
-use Rattle.cw_lex.specs.Parts.{LastPartsEndWithTheText}
+use Rattle.cw_lex.specs.Openings.{opens_part_in, TextsEndAtOpenings, TextsEndAtSections}
 use Rattle.cw_lex.proofs.Covering.{tokens-cover}
 use Rattle.cw_lex.proofs.TexTexts.{opens-uncut}
 use Rattle.cw_secnames.specs.Kept.{SecName}
@@ -23,10 +21,9 @@ use Rattle.cw_phase1.specs.Book.{answers_of}
 use Rattle.cw_phase1.specs.Entering.{kept_behind}
 use Rattle.cw_phase1.specs.Roles.{Placed, defining, at_limbo, token_step, behind_begin, placed, placed_from}
 use Rattle.cw_phase1.specs.Sections.{span, is_section_code, is_tex, is_program, ends_section, ends_definitions, ends_tex, first_start, section_at, sections_of}
-use Rattle.cw_phase1.specs.Sound.{LiesIn}
-use Rattle.cw_phase1.specs.Whole.{IsUncut, IsWholeSection, SectionsAreWhole}
-use Rattle.cw_phase1.proofs.PartEnds.{first-none, first-behind, first-token, none-stricter, uncut-before, alone-before, tex-opens, part_of, ends, token_placed, Ended, Stopped, stop, AtSection, AtDefinitions, AtCPart, Nowhere, Ending, EndsBy, ends-so, section-role, section-part, plain-role, plain-part}
-use Rattle.cw_phase1.proofs.SpanLaws.{Follow, follows, all-lie}
+use Rattle.cw_phase1.specs.Whole.{IsUncut, SectionsAreWhole}
+use Rattle.cw_phase1.proofs.PartEnds.{first-none, first-behind, first-token, none-stricter, uncut-before, alone-before, tex-opens, ends, token_placed, Ended, Stopped, stop, AtSection, AtDefinitions, AtCPart, Nowhere, Ending, EndsBy, ends-so, section-role, section-part, plain-role, plain-part}
+use Rattle.cw_phase1.proofs.SpanLaws.{follows, all-lie}
 
 -- ## Parts that are empty, and the last one
 

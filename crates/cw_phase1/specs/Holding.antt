@@ -98,6 +98,13 @@ is_name (kinds.Code at.SectionName) = true
 is_name (kinds.Code at.FileName) = true
 is_name kind = false
 
+-- Such a token tells nothing of words and names where no head is open, and heads nothing.
+abbrev pub is_silent : TokKind → Bool
+is_silent kinds.Identifier = false
+is_silent (kinds.Code code) = false
+is_silent kinds.HeadSign = false
+is_silent kind = true
+
 -- A name is entered, and waits.
 abbrev pub name_held : Seen → HeldState → HeldState
 name_held t h = record h {

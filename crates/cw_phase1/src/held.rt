@@ -1,5 +1,6 @@
 //! What is held behind the answers of the scanner that came.
-ghost use Rattle.std.specs.Prelude.{◌≡◌, ◌+◌, ◌<◌, ◌≤◌, false, None, IfOk, OnOk, length};
+ghost use Rattle.std.specs.Prelude.{◌≡◌, ◌+◌, ◌<◌, ◌≤◌, true, false, None, IfOk, List, OnOk, length};
+ghost use Rattle.cw_base.specs.Web.{MergedLine};
 ghost use Rattle.cw_rules.specs.Answers.{seen, Token, Note as NoteAnswer};
 ghost use Rattle.cw_rules.specs.Answers.{is_head_sign};
 ghost use Rattle.cw_phase1.specs.Entering.{is_unended, note_on};
@@ -9,12 +10,14 @@ ghost use Rattle.cw_phase1.specs.Holding.{
   held_of,
   held_step,
   is_name,
+  is_silent,
   name_held,
   plain_held,
   remark_of,
   remark_put,
   settled,
 };
+ghost use Rattle.cw_phase1.specs.Telling.{IsKnown};
 ghost use Rattle.cw_phase1.specs.Ready.{CanSettle, CanTell, IsToken, WaitingIsKept, held_start};
 
 use crate::entering::{enter, kept_id};
@@ -22,7 +25,7 @@ use crate::note_list::NoteList;
 use crate::placing::Placed;
 use crate::texts::name_text;
 use crate::told::Told;
-use crate::{Part, Standing};
+use crate::{Part, Role, Standing};
 use cw_base::{Memory, NoteKind, Web};
 use cw_lex::{Code, Tok, TokKind, Wanted};
 use cw_secnames::{Entered, SecId, SecNames};
@@ -63,6 +66,22 @@ fn is_head_sign(kind: TokKind) -> bool
     ensures { result ≡ is_head_sign kind }
 {
     matches!(kind, TokKind::HeadSign)
+}
+
+fn is_word(kind: TokKind) -> bool
+    ensures { result ≡ true → kind ≡ TokKind.Identifier }
+{
+    matches!(kind, TokKind::Identifier)
+}
+
+// Whether such a token tells nothing of words and names.
+fn is_silent(kind: TokKind) -> bool
+    ensures { result ≡ is_silent kind }
+{
+    !matches!(
+        kind,
+        TokKind::Identifier | TokKind::Code(_) | TokKind::HeadSign
+    )
 }
 
 fn is_unended(kind: NoteKind) -> bool
@@ -143,6 +162,7 @@ impl<'a> Held<'a> {
     }
 
     // Enters a name, which waits then.
+    #[inline(never)]
     fn name(&mut self, token: Tok<'a>) -> Result<(), Memory>
         requires { remark_of self.old.remark ≡ None }
         ensures held { OnOk result (held_of self.new ≡ name_held (seen token.entry) (held_of self.old)) }
@@ -191,9 +211,89 @@ impl<'a> Held<'a> {
         self.told.tell(web, &p, &mut self.buffer)
     }
 
-    /// One token more.
+    // Whether no name and no note waits, and no head is open.
+    #[inline(always)]
+    fn is_free(&self) -> bool
+        ensures waits { result ≡ true → self.now.waiting ≡ None }
+        ensures remark { result ≡ true → self.now.remark ≡ None }
+        ensures wanted { result ≡ true → self.now.standing.wanted ≡ Wanted.Nothing }
+    {
+        self.waiting.is_none()
+            && self.remark.is_none()
+            && matches!(self.standing.wanted, Wanted::Nothing)
+    }
+
+    // An identifier, where nothing waits and no head is open.
+    #[inline(always)]
+    fn free_word(&mut self, token: Tok<'a>) -> Result<(), Memory>
+        requires wanted { self.old.standing.wanted ≡ Wanted.Nothing }
+        requires word { token.kind ≡ TokKind.Identifier }
+        requires waits { self.old.waiting ≡ None }
+        requires known { IsKnown self.old.told.words }
+        ensures held { (lines : List MergedLine) → OnOk result
+            (held_of self.new ≡ plain_held lines (seen token.entry) (held_of self.old)) }
+        ensures waits { OnOk result (self.new.waiting ≡ None) }
+        ensures kept { OnOk result (self.new.kept ≡ self.old.kept) }
+    {
+        let p = Placed {
+            section: self.standing.section,
+            part: self.standing.part,
+            role: Role::Word,
+            token,
+            name: None,
+        };
+        self.told.tell_word(&p)
+    }
+
+    // A token of C text that is no word and no code, where nothing waits and no head is open.
+    #[inline(always)]
+    fn free_sign(&mut self, token: Tok<'a>)
+        requires wanted { self.old.standing.wanted ≡ Wanted.Nothing }
+        requires sign { is_silent token.kind ≡ true }
+        requires waits { self.old.waiting ≡ None }
+        ensures held { (lines : List MergedLine) →
+            held_of self.new ≡ plain_held lines (seen token.entry) (held_of self.old) }
+        ensures waits { self.new.waiting ≡ None }
+        ensures kept { self.new.kept ≡ self.old.kept }
+    {
+        let p = Placed {
+            section: self.standing.section,
+            part: self.standing.part,
+            role: Role::Plain,
+            token,
+            name: None,
+        };
+        self.told.tell_plain(&p);
+    }
+
+    /// One token more. Most are words and signs where nothing waits.
     #[inline(always)]
     pub(crate) fn token(&mut self, web: &Web, token: Tok<'a>) -> Result<(), Memory>
+        requires token { IsToken (seen token) }
+        requires ready { CanSettle (held_of self.old) }
+        requires section { self.old.standing.section < 4294967295 }
+        ensures held { OnOk result
+            (held_of self.new ≡ held_step web.now.lines (Token (seen token.entry)) (held_of self.old)) }
+        ensures kept { OnOk result (WaitingIsKept self.new.waiting (length self.new.kept)) }
+        ensures grows { OnOk result (length self.old.kept ≤ length self.new.kept) }
+        ensures one { OnOk result (length self.new.kept ≤ length self.old.kept + 1) }
+    {
+        if !self.is_free() {
+            return self.any_token(web, token);
+        }
+        if is_word(token.kind) {
+            return self.free_word(token);
+        }
+        if !is_silent(token.kind) {
+            return self.any_token(web, token);
+        }
+        self.free_sign(token);
+        Ok(())
+    }
+
+    // The same of any token.
+    #[inline(never)]
+    fn any_token(&mut self, web: &Web, token: Tok<'a>) -> Result<(), Memory>
         requires token { IsToken (seen token) }
         requires ready { CanSettle (held_of self.old) }
         requires section { self.old.standing.section < 4294967295 }

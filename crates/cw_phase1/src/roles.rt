@@ -117,6 +117,7 @@ impl Standing {
         }
     }
 
+    #[inline(never)]
     fn code(&mut self, code: Code) -> Role
         requires { self.old.section < 4294967295 }
         ensures role { result ≡ (code_step code false self.old).role }

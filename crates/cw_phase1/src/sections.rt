@@ -1,10 +1,10 @@
 //! The sections of a web: their heads, and the spans of their parts.
-ghost use Rattle.std.specs.Prelude.{◌≡◌, ◌+◌, ◌^◌, ◌<◌, ◌≤◌, [], None, length, drop, take_while, OnOk};
+ghost use Rattle.std.specs.Prelude.{◌≡◌, ◌+◌, ◌^◌, ◌<◌, ◌≤◌, [], true, false, None, Some, length, drop, take_while, OnOk};
 ghost use Rattle.cw_rules.specs.Answers.{seen};
 ghost use Rattle.cw_rules.specs.Bytes.{is_digit};
 ghost use Rattle.cw_phase1.specs.Placing.{placed_of};
 ghost use Rattle.cw_phase1.specs.Sections.{depth_at, ends_definitions, ends_tex, is_section_code, is_starred};
-ghost use Rattle.cw_phase1.specs.Outlining.{closed_at, closing, opened, or_else, or_here, section_told, with_token};
+ghost use Rattle.cw_phase1.specs.Outlining.{closed_at, closing, open_with, opened, or_else, or_here, section_told, with_token};
 
 use crate::packed::SectionList;
 use crate::places::holds_changed;
@@ -231,16 +231,38 @@ impl Sections {
         requires { p.now.token.span.start + length p.now.token.text.now + 2 < 2 ^ 64 }
         ensures { OnOk result (self.new ≡ section_told web.now.lines (placed_of p.now) self.old) }
     {
-        let start = p.token.span.start;
         if is_section_code(p.role) {
-            self.close(web, start)?;
-            self.open_one = Some(Open::at(&p.token));
-            self.limbo_end = or_here(self.limbo_end, true, start);
-            return Ok(());
+            return self.begin(web, &p.token);
         }
+        self.meet(p);
+        Ok(())
+    }
+
+    /// A token that begins no section.
+    #[inline(always)]
+    pub(crate) fn meet(&mut self, p: &Placed)
+        requires { is_section_code p.now.role ≡ false }
+        ensures { self.new ≡ record self.old { open_one = open_with self.old.open_one (placed_of p.now) } }
+    {
         if let Some(open) = &mut self.open_one {
             open.meet(p);
         }
+    }
+
+    // A section begins with its code, at which the open one ends.
+    #[inline(never)]
+    fn begin(&mut self, web: &Web, code: &Tok) -> Result<(), Memory>
+        requires { code.now.span.start + length code.now.text.now + 2 < 2 ^ 64 }
+        ensures { OnOk result (self.new ≡ record {
+          closed = closing web.now.lines code.now.span.start self.old;
+          open_one = Some (opened (seen code.now));
+          limbo_end = or_here self.old.limbo_end true code.now.span.start;
+        }) }
+    {
+        let start = code.span.start;
+        self.close(web, start)?;
+        self.open_one = Some(Open::at(code));
+        self.limbo_end = or_here(self.limbo_end, true, start);
         Ok(())
     }
 }

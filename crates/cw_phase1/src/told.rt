@@ -1,8 +1,10 @@
 //! What is told of the tokens that came.
-ghost use Rattle.std.specs.Prelude.{◌≡◌, ◌<◌, ◌^◌, All, IfOk, IfSome, OnOk, length};
+ghost use Rattle.std.specs.Prelude.{◌≡◌, ◌<◌, ◌^◌, All, IfOk, IfSome, List, None, OnOk, length};
+ghost use Rattle.cw_base.specs.Web.{MergedLine};
 ghost use Rattle.cw_phase1.specs.Placing.{placed_of};
 ghost use Rattle.cw_phase1.specs.Telling.{IsKnown, told_step, told_start};
 
+use crate::Role;
 use crate::named::Named;
 use crate::placing::Placed;
 use crate::sections::Sections;
@@ -27,6 +29,30 @@ impl Told {
             named: Named::new_in(alloc),
             sections: Sections::new_in(alloc),
         })
+    }
+
+    /// A word in no head.
+    #[inline(always)]
+    pub(crate) fn tell_word(&mut self, p: &Placed) -> Result<(), Memory>
+        requires known { IsKnown self.old.words }
+        requires role { p.now.role ≡ Role.Word }
+        requires name { p.now.name ≡ None }
+        ensures told { (lines : List MergedLine) → OnOk result (self.new ≡ told_step lines (placed_of p.now) self.old) }
+        ensures known { OnOk result (IsKnown self.new.words) }
+    {
+        self.words.tell_word(p)?;
+        self.sections.meet(p);
+        Ok(())
+    }
+
+    /// A token that tells nothing of words and names.
+    #[inline(always)]
+    pub(crate) fn tell_plain(&mut self, p: &Placed)
+        requires role { p.now.role ≡ Role.Plain }
+        requires name { p.now.name ≡ None }
+        ensures told { (lines : List MergedLine) → self.new ≡ told_step lines (placed_of p.now) self.old }
+    {
+        self.sections.meet(p);
     }
 
     /// One token more.

@@ -105,6 +105,18 @@ impl Words {
         }
     }
 
+    /// A word in no head.
+    #[inline(always)]
+    pub(crate) fn tell_word(&mut self, p: &Placed) -> Result<(), Memory>
+        requires known { IsKnown self.old }
+        requires role { p.now.role ≡ Role.Word }
+        ensures told { OnOk result (self.new ≡ word_told (placed_of p.now) self.old) }
+        ensures first { OnOk result (IsKnown self.new) }
+    {
+        self.word(p, false)?;
+        Ok(())
+    }
+
     /// One token more.
     #[inline(always)]
     pub(crate) fn tell(&mut self, p: &Placed, buffer: &mut Vec<u8>) -> Result<(), Memory>
