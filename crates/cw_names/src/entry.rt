@@ -1,5 +1,5 @@
 //! What a name is: its kind and its text, by which it is found, and its place in the list.
-ghost use Rattle.std.specs.Prelude.{◌&&◌, [], ◌∷◌, nat_eq};
+ghost use Rattle.std.specs.Prelude.{◌≡◌, ◌&&◌, [], ◌∷◌, nat_eq};
 ghost use Rattle.std.proofs.Common.{◌∙◌, ap, rules};
 ghost use Rattle.std.specs.Cmp.Lexicographic.{pointwise};
 ghost use Rattle.cw_names.specs.Names.{same_kind};
@@ -16,6 +16,16 @@ pub enum EntryKind {
     Roman,
     Typewriter,
     User,
+}
+
+impl EntryKind {
+    // Whether it is this kind.
+    #[inline(always)]
+    pub(crate) fn is(self, kind: EntryKind) -> bool
+        ensures { result ≡ same_kind self kind }
+    {
+        self == kind
+    }
 }
 
 /// The position of a name in its list.

@@ -1,5 +1,5 @@
 //! The list of names: what is found by its kind and text, and the category that it has now.
-ghost use Rattle.std.specs.Prelude.{◌≡◌, ◌≢◌, ◌<◌, ◌↔◌, length, Some, map, slice_get, IsOk, IsTrue, IfOk, OnOk};
+ghost use Rattle.std.specs.Prelude.{◌≡◌, ◌≢◌, true, ◌<◌, ◌↔◌, length, Some, map, slice_get, IsOk, IsTrue, IfOk, OnOk};
 ghost use Rattle.std.specs.Prelude.{IfSome, OnErr};
 ghost use Rattle.std.specs.Option.{option_map};
 ghost use Rattle.cw_names.specs.Names.{Entry, AreDistinct, place_of, with_entry, with_category};
@@ -9,7 +9,7 @@ use crate::entry::{Key, Wanted};
 use crate::words::{WORDS, table_of};
 use crate::{EntryKind, NameId};
 use cw_base::{Cat, Memory};
-use indexmap::{Equivalent, IndexMap};
+use indexmap::IndexMap;
 use std::alloc::Global;
 use std::marker::Model;
 
@@ -26,9 +26,18 @@ pub struct Names {
 // How many slots there are: a power of two.
 const SLOTS: usize = 4096;
 
-// The slot of a text, by its first byte and its last three. The factor spreads them: an odd number near 2^32 divided by
-// the golden ratio.
+// The slot of a text: a byte has its own, and a longer text one by its first byte and its last three.
+#[inline(always)]
 fn slot_of(text: &[u8]) -> usize {
+    match text {
+        [byte] => *byte as usize,
+        _ => slot_of_longer(text),
+    }
+}
+
+// The slot of a longer text. The factor spreads the bytes: an odd number near 2^32 divided by the golden ratio.
+#[inline(always)]
+fn slot_of_longer(text: &[u8]) -> usize {
     let count = text.len();
     if count == 0 {
         return 0;
@@ -39,6 +48,24 @@ fn slot_of(text: &[u8]) -> usize {
     let last = u32::from(text[count - 1]);
     let bytes = first << 24 | third << 16 | second << 8 | last;
     (bytes.wrapping_mul(2654435769) >> 20) as usize
+}
+
+// Whether two texts are the same. Names are short, so a walk costs less than a call.
+#[inline(always)]
+fn are_same(first: &[u8], second: &[u8]) -> bool
+    ensures { result ≡ true → first.now ≡ second.now }
+{
+    if first.len() != second.len() {
+        return false;
+    }
+    let mut k = 0;
+    while k < first.len() {
+        if first[k] != second[k] {
+            return false;
+        }
+        k += 1;
+    }
+    true
 }
 
 impl Model for Names {
@@ -95,8 +122,7 @@ impl Names {
             return None;
         }
         let (key, _) = self.categories.get_index(index)?;
-        let wanted = Wanted { kind, text };
-        if wanted.equivalent(key) {
+        if kind.is(key.kind) && are_same(text, key.text.as_slice()) {
             Some(index)
         } else {
             None

@@ -278,17 +278,16 @@ impl<'a> Held<'a> {
         ensures grows { OnOk result (length self.old.kept ≤ length self.new.kept) }
         ensures one { OnOk result (length self.new.kept ≤ length self.old.kept + 1) }
     {
-        if !self.is_free() {
-            return self.any_token(web, token);
+        if self.is_free() {
+            if is_word(token.kind) {
+                return self.free_word(token);
+            }
+            if is_silent(token.kind) {
+                self.free_sign(token);
+                return Ok(());
+            }
         }
-        if is_word(token.kind) {
-            return self.free_word(token);
-        }
-        if !is_silent(token.kind) {
-            return self.any_token(web, token);
-        }
-        self.free_sign(token);
-        Ok(())
+        self.any_token(web, token)
     }
 
     // The same of any token.
