@@ -1,41 +1,81 @@
 //! The open comments, as deep as inner C text may stand.
 ghost use Rattle.std.specs.Prelude.{◌≡◌, ◌<◌, ◌≤◌, [], ◌∷◌, length, drop, MatchOption};
+ghost use Rattle.cw_lex.specs.Stack.{IsWhole, opened_at, with_opened};
 
 use cw_rules::parts::Opened;
 use std::marker::Model;
 
+/// What is told of the open comments, the outermost first. A row for each takes half the room, and each scan makes
+/// them anew.
+#[derive(Drop)]
+pub(crate) struct Rows {
+    starts: [usize; 21],
+    braces: [usize; 21],
+    long: [bool; 21],
+    inner: [bool; 21],
+}
+
+impl Rows {
+    // The comment at a place.
+    #[inline(always)]
+    fn at(&self, place: usize) -> Opened
+        requires whole { IsWhole self.now }
+        requires place { place < 21 }
+        ensures { result ≡ opened_at self.now place }
+    {
+        Opened {
+            start: self.starts[place],
+            long: self.long[place],
+            braces: self.braces[place],
+            inner: self.inner[place],
+        }
+    }
+
+    // Puts a comment at a place.
+    #[inline(always)]
+    fn put(&mut self, place: usize, comment: Opened)
+        requires whole { IsWhole self.old }
+        requires place { place < 21 }
+        ensures { self.new ≡ with_opened self.old place comment }
+    {
+        self.starts[place] = comment.start;
+        self.long[place] = comment.long;
+        self.braces[place] = comment.braces;
+        self.inner[place] = comment.inner;
+    }
+}
+
 /// The comments that are open. They are seen with the innermost first.
 #[derive(Drop)]
 pub(crate) struct Comments {
-    items: [Opened; 21],
+    rows: Rows,
     count: usize,
 }
 
 impl Model for Comments {
-    ghost use Rattle.std.specs.Prelude.{◌≡◌, ◌≤◌, List, length};
+    ghost use Rattle.std.specs.Prelude.{◌≤◌, List};
     ghost use Rattle.cw_rules.specs.declared.parts.Opened.{Opened};
 
     ghost Value = { List Opened };
 
-    ghost use Rattle.cw_lex.specs.Stack.{innermost};
+    ghost use Rattle.cw_lex.specs.Stack.{IsWhole, innermost};
 
-    ghost view = { λ c. innermost c.items c.count };
+    ghost view = { λ c. innermost c.rows c.count };
 
-    ghost invariant = { λ c. (c.count ≤ 21) × (length c.items ≡ 21) };
+    ghost invariant = { λ c. (c.count ≤ 21) × IsWhole c.rows };
 }
 
 impl Comments {
     pub(crate) fn new() -> Comments
         ensures { result ≡ [] }
     {
-        let none = Opened {
-            start: 0,
-            long: false,
-            braces: 0,
-            inner: false,
-        };
         Comments {
-            items: [none; 21],
+            rows: Rows {
+                starts: [0; 21],
+                braces: [0; 21],
+                long: [false; 21],
+                inner: [false; 21],
+            },
             count: 0,
         }
     }
@@ -54,14 +94,14 @@ impl Comments {
         if self.count == 0 {
             return None;
         }
-        Some(self.items[self.count - 1])
+        Some(self.rows.at(self.count - 1))
     }
 
     pub(crate) fn push(&mut self, comment: Opened)
         requires { length self.old < 21 }
         ensures { self.new ≡ comment ∷ self.old }
     {
-        self.items[self.count] = comment;
+        self.rows.put(self.count, comment);
         self.count += 1;
     }
 
@@ -83,6 +123,6 @@ impl Comments {
             return None;
         }
         self.count -= 1;
-        Some(self.items[self.count])
+        Some(self.rows.at(self.count))
     }
 }

@@ -4,7 +4,7 @@ use Rattle.cw_lex.proofs.Stack.{innermost-length}
 use Rattle.cw_lex.proofs.comments.Comments.len.Goals as goal
 
 pub returns-clause-value : goal.returns-clause-value
-returns-clause-value c = sym (innermost-length c.self.inside.items c.self.inside.count) ∙ ap length c.self.view_is
+returns-clause-value c = sym (innermost-length c.self.inside.rows c.self.inside.count) ∙ ap length c.self.view_is
 
 pub returns-clause-most : goal.returns-clause-most
-returns-clause-most c = omega (arith, innermost-length c.self.inside.items c.self.inside.count, ap length c.self.view_is)
+returns-clause-most c = omega (arith, innermost-length c.self.inside.rows c.self.inside.count, ap length c.self.view_is)
