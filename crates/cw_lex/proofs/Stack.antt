@@ -1,5 +1,5 @@
 -- The open comments in their rows.
-use Rattle.std.proofs.Common.{◌≡◌, ℕ, zero, suc, ◌<◌, ◌≤◌, ◌≢◌, List, ◌∷◌, false, length, refl, ap, arith, get_or-set_same, get_or-set_other}
+use Rattle.std.proofs.Common.{◌≡◌, ℕ, zero, suc, ◌<◌, ◌≤◌, ◌≢◌, ◌∷◌, false, length, refl, ap, arith, get_or-set_same, get_or-set_other}
 use Rattle.cw_rules.specs.declared.parts.Opened.{Opened}
 use Rattle.cw_lex.specs.declared.comments.Rows.{Rows}
 use Rattle.cw_lex.specs.Stack.{IsWhole, innermost, opened_at, with_opened}
