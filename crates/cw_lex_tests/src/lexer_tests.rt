@@ -1,9 +1,10 @@
 //! Tests of the scanner on whole texts.
 use cw_base::NoteKind;
 use cw_lex::{Code, Lexed, Lexer, Mode, TokKind};
+use std::process::Abort;
 
 /// An answer by its kind and its places.
-#[derive(Clone, Copy, Debug, PartialEq, Eq)]
+#[derive(Clone, Copy, PartialEq, Eq)]
 pub(crate) enum Shown {
     Token(TokKind, usize, usize),
     Begin(TokKind, usize, usize),
@@ -22,15 +23,30 @@ pub(crate) fn show(answer: Lexed) -> Shown {
     }
 }
 
-/// Whether these are the answers over a whole text, one by one up to the end.
-pub(crate) fn gives(mode: Mode, text: &[u8], expected: &[Shown]) -> bool {
-    let mut lexer = Lexer::over(text, 0, text.len(), mode);
+/// Whether these are the next answers of a scanner, one by one.
+fn answers(lexer: &mut Lexer, expected: &[Shown]) -> bool {
     for wanted in expected {
         if show(lexer.next()) != *wanted {
             return false;
         }
     }
-    matches!(lexer.next(), Lexed::End)
+    true
+}
+
+/// Whether these are the answers over a whole text, one by one up to the end.
+pub(crate) fn gives(mode: Mode, text: &[u8], expected: &[Shown]) -> bool {
+    let mut lexer = Lexer::over(text, 0, text.len(), mode);
+    answers(&mut lexer, expected) && matches!(lexer.next(), Lexed::End)
+}
+
+/// A text, and all answers over it.
+pub(crate) type Row = (Mode, &'static [u8], &'static [Shown]);
+
+/// The answers over each text have to be these.
+pub(crate) fn expect_answers(rt: &impl Abort, rows: &[Row]) {
+    for (mode, text, answers) in rows {
+        assert!(rt; gives(*mode, text, answers));
+    }
 }
 
 /// Whether the whole text is one token, without a note.
@@ -57,20 +73,21 @@ pub(crate) fn notes_only(mode: Mode, text: &[u8], kind: NoteKind, place: usize) 
     false
 }
 
+/// Whether the next answer is a token of these bytes in a `#` line, and of this kind.
+fn is_in_hash_line(lexer: &mut Lexer, kind: TokKind, text: &[u8]) -> bool {
+    matches!(lexer.next(), Lexed::Token(t) if t.kind == kind && t.text == text && t.hash_line)
+}
+
 #[test]
 fn an_answer_tells_its_bytes_and_its_line(rt: HostRuntime) {
     let mut lexer = Lexer::over(b"x\n #y\nz", 1, 6, Mode::CPart);
-    assert!(rt;
-        matches!(lexer.next(), Lexed::Token(t) if t.kind == TokKind::HashLine && t.hash_line)
-    );
-    assert!(rt;
-        matches!(lexer.next(), Lexed::Token(t) if t.text == b"y".as_slice() && t.hash_line)
-    );
-    assert!(rt;
-        matches!(lexer.next(), Lexed::Token(t) if t.text == b"\n".as_slice() && t.hash_line)
-    );
-    assert!(rt; matches!(lexer.next(), Lexed::End));
-    assert!(rt; matches!(lexer.next(), Lexed::End));
+    let told = [
+        is_in_hash_line(&mut lexer, TokKind::HashLine, b"#"),
+        is_in_hash_line(&mut lexer, TokKind::Identifier, b"y"),
+        is_in_hash_line(&mut lexer, TokKind::HashLineEnd, b"\n"),
+        answers(&mut lexer, &[Shown::End, Shown::End]),
+    ];
+    assert!(rt; told == [true; 4]);
 }
 
 #[test]
@@ -110,48 +127,35 @@ fn begins_nested(lexer: &mut Lexer, levels: usize) -> bool {
     true
 }
 
+/// Whether a text begins with twenty comments with inner text in each, and these are the first answers behind them.
+fn begins_with_nested(text: &[u8], behind: &[Shown]) -> bool {
+    let mut lexer = Lexer::over(text, 0, text.len(), Mode::CPart);
+    begins_nested(&mut lexer, 20) && answers(&mut lexer, behind)
+}
+
 #[test]
 fn inner_text_of_depth_20(rt: HostRuntime) {
     let text = b"/*|/*|/*|/*|/*|/*|/*|/*|/*|/*|/*|/*|/*|/*|/*|/*|/*|/*|/*|/*|x";
-    let mut lexer = Lexer::over(text, 0, text.len(), Mode::CPart);
-    assert!(rt; begins_nested(&mut lexer, 20));
-    assert_eq!(rt;
-        show(lexer.next()),
-        Shown::Token(TokKind::Identifier, 60, 61)
-    );
-    assert_eq!(rt;
-        show(lexer.next()),
-        Shown::Finish(TokKind::InnerText, 61, 61)
-    );
-    assert_eq!(rt; show(lexer.next()), Shown::Note(NoteKind::BarMissing, 60));
-    assert_eq!(rt;
-        show(lexer.next()),
-        Shown::Finish(TokKind::LongComment, 61, 61)
-    );
-    assert_eq!(rt;
-        show(lexer.next()),
-        Shown::Note(NoteKind::CommentUnended, 57)
-    );
+    let behind = [
+        Shown::Token(TokKind::Identifier, 60, 61),
+        Shown::Finish(TokKind::InnerText, 61, 61),
+        Shown::Note(NoteKind::BarMissing, 60),
+        Shown::Finish(TokKind::LongComment, 61, 61),
+        Shown::Note(NoteKind::CommentUnended, 57),
+    ];
+    assert!(rt; begins_with_nested(text, &behind));
 }
 
 #[test]
 fn inner_text_of_depth_21_is_text(rt: HostRuntime) {
     let text = b"/*|/*|/*|/*|/*|/*|/*|/*|/*|/*|/*|/*|/*|/*|/*|/*|/*|/*|/*|/*|/*|x*/";
-    let mut lexer = Lexer::over(text, 0, text.len(), Mode::CPart);
-    assert!(rt; begins_nested(&mut lexer, 20));
-    assert_eq!(rt;
-        show(lexer.next()),
-        Shown::Begin(TokKind::LongComment, 60, 62)
-    );
-    assert_eq!(rt; show(lexer.next()), Shown::Token(TokKind::Text, 62, 64));
-    assert_eq!(rt; show(lexer.next()), Shown::Note(NoteKind::TooDeep, 62));
-    assert_eq!(rt;
-        show(lexer.next()),
-        Shown::Finish(TokKind::LongComment, 64, 66)
-    );
-    assert_eq!(rt;
-        show(lexer.next()),
-        Shown::Finish(TokKind::InnerText, 66, 66)
-    );
-    assert_eq!(rt; show(lexer.next()), Shown::Note(NoteKind::BarMissing, 65));
+    let behind = [
+        Shown::Begin(TokKind::LongComment, 60, 62),
+        Shown::Token(TokKind::Text, 62, 64),
+        Shown::Note(NoteKind::TooDeep, 62),
+        Shown::Finish(TokKind::LongComment, 64, 66),
+        Shown::Finish(TokKind::InnerText, 66, 66),
+        Shown::Note(NoteKind::BarMissing, 65),
+    ];
+    assert!(rt; begins_with_nested(text, &behind));
 }
