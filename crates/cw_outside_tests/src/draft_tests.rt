@@ -16,17 +16,31 @@ fn draft_twice<D: Desk>(desk: &mut D) -> bool {
         && desk.replace(Out::Tex) == MadeOut::Done
 }
 
+fn is_drafted(event: &Event) -> bool {
+    matches!(event, Event::Drafted(Out::Tex, _))
+}
+
+fn is_byte(event: &Event) -> bool {
+    matches!(event, Event::Byte(Out::Tex, b'x'))
+}
+
+fn is_kept(event: &Event) -> bool {
+    matches!(event, Event::Kept(Out::Tex))
+}
+
+fn is_replaced(event: &Event) -> bool {
+    matches!(event, Event::Replaced(Out::Tex))
+}
+
 fn is_drafted_twice(journal: &[Event]) -> bool {
-    matches!(
-        journal,
-        [
-            Event::Drafted(Out::Tex, _),
-            Event::Byte(Out::Tex, b'x'),
-            Event::Kept(Out::Tex),
-            Event::Drafted(Out::Tex, _),
-            Event::Replaced(Out::Tex),
-        ]
-    )
+    let [first, second, third, fourth, fifth] = journal else {
+        return false;
+    };
+    is_drafted(first)
+        && is_byte(second)
+        && is_kept(third)
+        && is_drafted(fourth)
+        && is_replaced(fifth)
 }
 
 /// Whether the calls succeed on a desk in memory, and whether its journal tells of them.
@@ -177,33 +191,50 @@ fn drafts_of_real_files(rt: HostRuntime) -> Result<(), Fail> {
     Ok(())
 }
 
-/// The answers for a folder that is missing, for a path that is none, and for a draft that is gone before it is kept or
-/// replaces its file.
-fn refused_drafts(
+/// The answers for a folder that is missing, and for a path that is none.
+fn refused_paths(desk: &mut FileDesk) -> [MadeOut; 2] {
+    [
+        desk.draft(Out::Idx, b"/no/such/folder/b"),
+        desk.draft(Out::Idx, b"\xff"),
+    ]
+}
+
+/// The answers for a draft that is gone before it is kept or replaces its file.
+fn lost_draft(
     rt: HostRuntime,
     desk: &mut FileDesk,
     path: &str,
     draft: &str,
-) -> Result<[MadeOut; 4], Fail> {
-    let no_folder = desk.draft(Out::Idx, b"/no/such/folder/b");
-    let no_path = desk.draft(Out::Idx, b"\xff");
-    if desk.draft(Out::Scn, path.as_bytes()) != MadeOut::Done {
-        return Err(Fail::from("there is no draft"));
+) -> Result<[MadeOut; 3], Fail> {
+    let drafted = desk.draft(Out::Scn, path.as_bytes());
+    if drafted != MadeOut::Done {
+        return Ok([drafted; 3]);
     }
     fs::remove_file(&rt, draft)?;
     let kept = desk.keep(Out::Scn);
     if kept == MadeOut::Done {
-        return Err(Fail::from("a draft is kept that is gone"));
+        return Ok([kept; 3]);
     }
-    Ok([no_folder, no_path, kept, desk.replace(Out::Scn)])
+    Ok([drafted, kept, desk.replace(Out::Scn)])
+}
+
+/// All these answers.
+fn refused_drafts(
+    rt: HostRuntime,
+    path: &str,
+    draft: &str,
+) -> Result<([MadeOut; 2], [MadeOut; 3]), Fail> {
+    let mut desk = FileDesk::new_in(rt, rt.alloc());
+    let paths = refused_paths(&mut desk);
+    Ok((paths, lost_draft(rt, &mut desk, path, draft)?))
 }
 
 #[test]
 fn drafts_that_the_system_refuses(rt: HostRuntime) -> Result<(), Fail> {
     let path = new_path(rt, "b.tex")?;
     let draft = draft_of(rt, path.as_str())?;
-    let mut desk = FileDesk::new_in(rt, rt.alloc());
-    let seen = refused_drafts(rt, &mut desk, path.as_str(), draft.as_str())?;
-    assert_eq!(rt; seen, [MadeOut::Failed; 4]);
+    let seen = refused_drafts(rt, path.as_str(), draft.as_str())?;
+    let lost = [MadeOut::Done, MadeOut::Failed, MadeOut::Failed];
+    assert_eq!(rt; seen, ([MadeOut::Failed; 2], lost));
     Ok(())
 }

@@ -1,7 +1,9 @@
 //! Reading over files in memory.
 
+ghost use Rattle.std.specs.Prelude.{◌<◌, length};
+
 use crate::desks::desk_with;
-use cw_base::{Bytes, Memory, Note, Web, Words};
+use cw_base::{Bytes, LineInfo, Memory, Note, Web, Words};
 use cw_desk::MemDesk;
 use cw_input::{Command, LoadError, load, read_command};
 use std::alloc::Global;
@@ -13,13 +15,7 @@ use std::test::Fail;
 fn shown(alloc: Global, web: &Web) -> Result<Bytes, Fail> {
     let mut out = Bytes::from_slice(alloc, web.text())?;
     for i in 0..web.line_count() {
-        let info = web.line(i);
-        let mark = if info.changed { "*" } else { "" };
-        let line = info.place.line;
-        let text = format!(in alloc; "{line}{mark} ")?;
-        out.append(text.as_bytes())?;
-        out.append(web.file_name(info.place.file))?;
-        out.append(b"\n")?;
+        show_line(alloc, web, web.line(i), &mut out)?;
     }
     for note in web.notes() {
         show_note(alloc, web, *note, &mut out)?;
@@ -27,17 +23,34 @@ fn shown(alloc: Global, web: &Web) -> Result<Bytes, Fail> {
     Ok(out)
 }
 
+fn show_line(alloc: Global, web: &Web, info: LineInfo, out: &mut Bytes) -> Result<(), Fail>
+    requires { info.place.file < length web.now.files }
+{
+    let mark = if info.changed { "*" } else { "" };
+    let line = info.place.line;
+    show_text(format!(in alloc; "{line}{mark} ")?, out)?;
+    show_name(web.file_name(info.place.file), b"\n", out)?;
+    Ok(())
+}
+
 fn show_note(alloc: Global, web: &Web, note: Note, out: &mut Bytes) -> Result<(), Fail> {
     if (note.place.file as usize) < web.file_count() {
         let value = note.value;
         let text = note.kind.message();
         let line = note.place.line;
-        let text = format!(in alloc; "! {value} {text} (l. {line} of ")?;
-        out.append(text.as_bytes())?;
-        out.append(web.file_name(note.place.file))?;
-        out.append(b")\n")?;
+        show_text(format!(in alloc; "! {value} {text} (l. {line} of ")?, out)?;
+        show_name(web.file_name(note.place.file), b")\n", out)?;
     }
     Ok(())
+}
+
+fn show_text(text: String, out: &mut Bytes) -> Result<(), Memory> {
+    out.append(text.as_bytes())
+}
+
+fn show_name(name: &[u8], behind: &[u8], out: &mut Bytes) -> Result<(), Memory> {
+    out.append(name)?;
+    out.append(behind)
 }
 
 // What is shown of the web `foo` among these files, with a change file where there is a word for one.
@@ -108,7 +121,7 @@ b;
 
 #[test]
 fn change_groups(rt: HostRuntime) -> Result<(), Fail> {
-    for (change, wanted) in CHANGES {
+    for (change, wanted) in &CHANGES {
         let files: [(&[u8], &[u8]); 2] = [(b"foo.w", b"@ One.\n@c a;\nb;\n"), (b"foo.ch", change)];
         expect_loaded(&rt, rt.alloc(), &files, Some(b"foo"), wanted)?;
     }
@@ -209,18 +222,23 @@ fn load_sizes(
     }
 }
 
+// The bytes of the web behind its first line, of its change file and of the file that it includes, and how loading it
+// ends.
+type Sizes = ([usize; 3], Result<usize, LoadError>);
+
+const SIZES: [Sizes; 6] = [
+    ([8_388_604, 0, 0], Ok(8_388_605)),
+    ([8_388_605, 0, 0], Err(LoadError::TooLong)),
+    ([8_388_000, 604, 0], Ok(8_388_001)),
+    ([8_388_000, 605, 0], Err(LoadError::TooLong)),
+    ([1, 1, 8_388_602], Ok(8_388_605)),
+    ([1, 1, 8_388_603], Err(LoadError::TooLong)),
+];
+
 #[test]
 fn the_limit_on_bytes(rt: HostRuntime) -> Result<(), Fail> {
-    let rows = [
-        ([8_388_604, 0, 0], Ok(8_388_605)),
-        ([8_388_605, 0, 0], Err(LoadError::TooLong)),
-        ([8_388_000, 604, 0], Ok(8_388_001)),
-        ([8_388_000, 605, 0], Err(LoadError::TooLong)),
-        ([1, 1, 8_388_602], Ok(8_388_605)),
-        ([1, 1, 8_388_603], Err(LoadError::TooLong)),
-    ];
-    for ([web, change, included], wanted) in rows {
-        assert_eq!(rt; load_sizes(rt.alloc(), web, change, included)?, wanted);
+    for ([web, change, included], wanted) in &SIZES {
+        assert_eq!(rt; load_sizes(rt.alloc(), *web, *change, *included)?, *wanted);
     }
     Ok(())
 }
