@@ -86,8 +86,8 @@ fn note_all(xrefs: &mut Xrefs, x: NameId, y: NameId) -> Result<(), Memory> {
         (x, 1, false),
         (x, 3, false),
     ];
-    for (name, section, underlined) in noted {
-        xrefs.note(name, section, underlined)?;
+    for (name, section, underlined) in &noted {
+        xrefs.note(*name, *section, *underlined)?;
     }
     Ok(())
 }

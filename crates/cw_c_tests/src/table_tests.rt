@@ -4,9 +4,9 @@ use cw_table::{Piece, RowNo, first_production, rank, step_back, table};
 
 // The first category of a set, or End past the tests.
 fn first_of(set: CatSet) -> Cat {
-    for cat in ALL_CATS {
-        if set.has(cat) {
-            return cat;
+    for cat in &ALL_CATS {
+        if set.has(*cat) {
+            return *cat;
         }
     }
     Cat::End
