@@ -1,5 +1,6 @@
 -- The tokens of a scan stand in the text.
-use Rattle.std.proofs.Common.{◌≡◌, ℕ, ◌+◌, ◌≤◌, ◌<◌, List, [], ◌∷◌, ◌++◌, All, arith, length, refl, ap, sym, subst, ◌∙◌, get_or, drop, suc}
+use Rattle.std.proofs.Common.{◌≡◌, ℕ, ◌+◌, ◌≤◌, ◌<◌, List, [], ◌∷◌, ◌++◌, All, arith, length, refl, ap, sym, subst, ◌∙◌}
+use Rattle.std.proofs.Common.{get_or, drop, suc}
 use Rattle.std.proofs.lemmas.List.Elements.{All-nil, All-cons, All-head, All-tail, All-push}
 use Rattle.cw_rules.specs.Answers.{Answer, Token, Begin, Finish, Note, Seen}
 use Rattle.cw_rules.specs.Order.{Covers, AreWithin, Stands, LiesWithin}
@@ -15,18 +16,22 @@ Stand text (Begin t) = StandsIn text t
 Stand text (Finish t) = StandsIn text t
 Stand text (Note kind place) = Unit {0}
 
-stands : (text : List ℕ) (from start end : ℕ) (t : Seen) → end ≤ length text → Stands text from t → LiesWithin start end t.span → StandsIn text t
+stands : (text : List ℕ) (from start end : ℕ) (t : Seen) → end ≤ length text → Stands text from t
+    → LiesWithin start end t.span → StandsIn text t
 stands text from start end t le s (a, b, c) = record { order = b; within = omega arith; slice = s.slice }
 
 pub all-stand : (text : List ℕ) (from start end last : ℕ) (answers : List Answer) → end ≤ length text
     → Covers text from last answers → AreWithin start end answers → All (Stand text) answers
 all-stand text from start end last [] le c w = All-nil (Stand text)
 all-stand text from start end last (Token t ∷ answers) le (s, _, c) (l, w) =
-    All-cons (Stand text) (Token t) answers (stands text from start end t le s l) (all-stand text t.span.end start end last answers le c w)
+    All-cons (Stand text) (Token t) answers (stands text from start end t le s l)
+    (all-stand text t.span.end start end last answers le c w)
 all-stand text from start end last (Begin t ∷ answers) le (s, c) (l, w) =
-    All-cons (Stand text) (Begin t) answers (stands text from start end t le s l) (all-stand text t.span.end start end last answers le c w)
+    All-cons (Stand text) (Begin t) answers (stands text from start end t le s l)
+    (all-stand text t.span.end start end last answers le c w)
 all-stand text from start end last (Finish t ∷ answers) le (s, c) (l, w) =
-    All-cons (Stand text) (Finish t) answers (stands text from start end t le s l) (all-stand text t.span.end start end last answers le c w)
+    All-cons (Stand text) (Finish t) answers (stands text from start end t le s l)
+    (all-stand text t.span.end start end last answers le c w)
 all-stand text from start end last (Note kind place ∷ answers) le c w =
     All-cons (Stand text) (Note kind place) answers tt (all-stand text from start end last answers le c w)
 
@@ -66,13 +71,15 @@ pub first : (text inside : List ℕ) (all : List Answer) (kept : List Kept) (x :
     → old ≡ x ∷ new → Keeping text inside all kept old → Stand text x
 first text inside all kept x old new gives h = All-head (Stand text) x new (subst (All (Stand text)) gives h.stand)
 
-pub pushed : (text inside : List ℕ) (all : List Answer) (kept items : List Kept) (k : Kept) (x : Answer) (old new : List Answer)
+pub pushed : (text inside : List ℕ) (all : List Answer) (kept items : List Kept) (k : Kept) (x : Answer)
+    (old new : List Answer)
     → items ≡ kept ++ k ∷ [] → old ≡ x ∷ new → answer_at text k ≡ x → IsWithin (length text) k
     → Keeping text inside all kept old → Keeping text inside all items new
 pushed text inside all kept items k x old new e gives is w h =
     subst (λ l. Keeping text inside all l new) (sym e) (push text inside all kept k x old new gives is w h)
 
-pub ahead : (kept : List Kept) (place : ℕ) (d : Kept) → place < length kept → drop place kept ≡ get_or kept place d ∷ drop (place + 1) kept
+pub ahead : (kept : List Kept) (place : ℕ) (d : Kept) → place < length kept → drop place kept
+    ≡ get_or kept place d ∷ drop (place + 1) kept
 ahead kept place d lt = drop-cons kept place d lt ∙ ap (λ n. get_or kept place d ∷ drop n kept) (more place)
   where
     more : (n : ℕ) → suc n ≡ n + 1

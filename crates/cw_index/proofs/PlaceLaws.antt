@@ -1,5 +1,6 @@
 -- A name that is listed stands in the text.
-use Rattle.std.proofs.Common.{◌≡◌, ℕ, ◌+◌, ◌==◌, ◌≤◌, Bool, true, false, subst, sym, List, [], ◌∷◌, ◌++◌, All, Option, Some, None, fold, length, map, arith}
+use Rattle.std.proofs.Common.{◌≡◌, ℕ, ◌+◌, ◌==◌, ◌≤◌, Bool, true, false, subst, sym, List, [], ◌∷◌, ◌++◌, All, Option}
+use Rattle.std.proofs.Common.{Some, None, fold, length, map, arith}
 use Rattle.std.specs.Prelude.{slice_get}
 use Rattle.std.specs.BTreeSet.{insert_key}
 use Rattle.std.proofs.lemmas.List.Elements.{All-append, All-cons, All-head, All-map, All-nil, All-tail}
@@ -9,7 +10,8 @@ use Rattle.cw_secnames.specs.Kept.{SecName, id}
 use Rattle.cw_secnames.specs.Uses.{NameUse, name_at}
 use Rattle.cw_index.specs.declared.standing.Listed.{Listed}
 use Rattle.cw_index.specs.Sorted.{sorted_on}
-use Rattle.cw_index.specs.Standing.{Stand, has_reference, kept_stand, listed_names, named_stand, stand_by, stand_cmp, stand_if, stands_from}
+use Rattle.cw_index.specs.Standing.{Stand, has_reference, kept_stand, listed_names, named_stand, stand_by, stand_cmp}
+use Rattle.cw_index.specs.Standing.{stand_if, stands_from}
 
 abbrev Within : ℕ → Stand → Type 0
 Within size s = s.listed.place ≤ size

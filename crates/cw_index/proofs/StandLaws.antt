@@ -1,5 +1,6 @@
 -- The names that stand in a text are sorted one after another.
-use Rattle.std.proofs.Common.{◌≡◌, ℕ, zero, suc, Bool, true, false, ◌+◌, ◌-◌, ◌==◌, ◌<◌, ◌≤◌, arith, refl, sym, ap, ◌∙◌, List, [], ◌∷◌, ◌++◌, Option, Some, None, drop, get_or, length, map}
+use Rattle.std.proofs.Common.{◌≡◌, ℕ, zero, suc, Bool, true, false, ◌+◌, ◌-◌, ◌==◌, ◌<◌, ◌≤◌, arith, refl, sym, ap, ◌∙◌}
+use Rattle.std.proofs.Common.{List, [], ◌∷◌, ◌++◌, Option, Some, None, drop, get_or, length, map}
 use Rattle.std.specs.Prelude.{slice_index, slice_range}
 use Rattle.std.specs.Ordering.{on}
 use Rattle.std.specs.BTreeSet.{insert_key}
@@ -40,18 +41,22 @@ fails-by true fails = absurd (fails refl)
 fails-by false fails = refl
 
 -- a search of the rest of a text speaks of places of the text
-pub sign-free : (text : List ℕ) (from n k : ℕ) → Nowhere (Passes (is_byte 64) (slice_range text from (length text))) 0 n → from ≤ k → k < from + n
+pub sign-free : (text : List ℕ) (from n k : ℕ) → Nowhere (Passes (is_byte 64) (slice_range text from (length text))) 0 n
+    → from ≤ k → k < from + n
     → (slice_index text k == at_sign) ≡ false
 sign-free text from n k none low high =
     let start : 0 ≤ k - from = omega arith in
     let inside : k - from < n = omega (arith, low, high) in
     let place : from + (k - from) ≡ k = omega (arith, low) in
     let here : get_or (slice_range text from (length text)) (k - from) 0 ≡ get_or text k 0 =
-    ap (λ (rest : List ℕ). get_or rest (k - from) 0) (take_rest text from) ∙ get_or-drop from text (k - from) 0 ∙ ap (λ (p : ℕ). get_or text p 0) place in
-    fails-by (slice_index text k == at_sign) (λ is. none (k - from) start inside (ap (λ (byte : ℕ). byte == 64) here ∙ is))
+    ap (λ (rest : List ℕ). get_or rest (k - from) 0) (take_rest text from) ∙ get_or-drop from text (k - from) 0
+    ∙ ap (λ (p : ℕ). get_or text p 0) place in
+    fails-by (slice_index text k == at_sign) (λ is. none (k - from) start inside (ap (λ (byte : ℕ). byte == 64) here
+    ∙ is))
 
 -- where no byte is an `@` no name stands
-pub stands-skip : (kept : List SecName) (uses : List NameUse) (text : List ℕ) (n i j : ℕ) (stands : List Stand) → i + n ≡ j → j ≤ length text
+pub stands-skip : (kept : List SecName) (uses : List NameUse) (text : List ℕ) (n i j : ℕ) (stands : List Stand)
+    → i + n ≡ j → j ≤ length text
     → ((k : ℕ) → i ≤ k → k < j → (slice_index text k == at_sign) ≡ false)
     → with_stands kept uses j (drop j text) stands ≡ with_stands kept uses i (drop i text) stands
 stands-skip kept uses text zero i j stands e within none =
@@ -63,7 +68,8 @@ stands-skip kept uses text (suc n) i j stands e within none =
     let first : i ≤ i = omega arith in
     let next : i + 1 + n ≡ j = omega (arith, e) in
     stands-skip kept uses text n (i + 1) j stands next within (λ k low high. none k (omega (arith, low)) high)
-    ∙ sym (ap (λ (b : Bool). sorted_on stand_cmp stands (stand_if b kept uses i ++ stands_from kept uses (i + 1) (drop (i + 1) text))) (none i first before))
+    ∙ sym (ap (λ (b : Bool). sorted_on stand_cmp stands (stand_if b kept uses i ++ stands_from kept uses (i + 1)
+    (drop (i + 1) text))) (none i first before))
     ∙ ap (λ (later : List ℕ). with_stands kept uses i later stands) (sym (drop_more text i 0 inside))
 
 pub stands-end : (kept : List SecName) (uses : List NameUse) (text : List ℕ) (i : ℕ) (stands : List Stand)

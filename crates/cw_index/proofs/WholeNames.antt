@@ -1,5 +1,6 @@
 -- The names of a section list are whole.
-use Rattle.std.proofs.Common.{◌≡◌, ℕ, ◌+◌, ◌==◌, Bool, true, false, List, [], ◌∷◌, ◌++◌, All, Option, Some, None, refl, sym, ap, subst, ◌∙◌}
+use Rattle.std.proofs.Common.{◌≡◌, ℕ, ◌+◌, ◌==◌, Bool, true, false, List, [], ◌∷◌, ◌++◌, All, Option, Some, None, refl}
+use Rattle.std.proofs.Common.{sym, ap, subst, ◌∙◌}
 use Rattle.std.specs.Prelude.{slice_get}
 use Rattle.std.specs.BTreeSet.{insert_key}
 use Rattle.std.proofs.lemmas.Bool.{eqb-true}
@@ -25,7 +26,8 @@ use Rattle.cw_secnames.specs.Uses.{NameUse, name_at}
 use Rattle.cw_index.specs.declared.standing.Listed.{Listed}
 use Rattle.cw_index.specs.NameList.{IsWholeName}
 use Rattle.cw_index.specs.Sorted.{sorted_on}
-use Rattle.cw_index.specs.Standing.{Stand, has_reference, kept_stand, named_stand, stand_by, stand_cmp, stand_if, stands_from}
+use Rattle.cw_index.specs.Standing.{Stand, has_reference, kept_stand, named_stand, stand_by, stand_cmp, stand_if}
+use Rattle.cw_index.specs.Standing.{stands_from}
 use Rattle.cw_index.specs.WholeNames.{NamesAreWhole}
 use Rattle.cw_index.proofs.NameSpans.{begun-whole}
 use Rattle.cw_index.proofs.NameTokens.{BeginsName, HaveNames, text-names}

@@ -8,7 +8,9 @@ use Rattle.cw_rules.specs.declared.tokens.TokKind.TheVariants as kind
 use Rattle.cw_rules.specs.Answers.{Answer, Token, Begin, Finish, Note, Seen, is_head_sign}
 use Rattle.cw_lex.specs.Nested.{Level, InCode, after_token, levels_after, IsNested}
 use Rattle.cw_lex.specs.Nest.{Nest, Leaf, leaf, group, nests, first_nest, nest}
-use Rattle.cw_lex.specs.Heads.{head_behind, behind_sign, Named, headless, Headed, Words, no_word, word_before, head_words, named_headed, headed_by, headed, without_words, without_name, without_head_of, without_head}
+use Rattle.cw_lex.specs.Heads.{head_behind, behind_sign, Named, headless, Headed, Words, no_word, word_before}
+use Rattle.cw_lex.specs.Heads.{head_words, named_headed, headed_by, headed, without_words, without_name}
+use Rattle.cw_lex.specs.Heads.{without_head_of, without_head}
 use Rattle.cw_lex.proofs.Nests.{some-levels, first-levels, nests-nested}
 
 stays : (k : TokKind) (l : List Level) → after_token k (InCode ∷ []) ≡ Some l → l ≡ InCode ∷ []
@@ -21,12 +23,14 @@ nested-behind t answers h =
     let f = first-levels (Token t) answers (InCode ∷ []) (levels_after (Token t) (InCode ∷ [])) refl h in
     rw (stays t.kind f.0 f.1.0) at f.1.1
 
-pub nest-token : (t : Seen) (answers : List Answer) → IsNested (Token t ∷ answers) → nest (Token t ∷ answers) ≡ Leaf t (nest answers)
+pub nest-token : (t : Seen) (answers : List Answer) → IsNested (Token t ∷ answers) → nest (Token t ∷ answers)
+    ≡ Leaf t (nest answers)
 nest-token t answers h = ap (λ ns. first_nest (leaf t ns)) (nests-nested answers (nested-behind t answers h))
 
 -- ## Words
 
-group-words : (wanted : Wanted) (t : Seen) (ns : List Nest) → (head_words wanted (first_nest (group t ns))).rest ≡ first_nest (group t ns)
+group-words : (wanted : Wanted) (t : Seen) (ns : List Nest) → (head_words wanted (first_nest (group t ns))).rest
+    ≡ first_nest (group t ns)
 group-words wanted t [] = refl
 group-words wanted t (n ∷ []) = refl
 group-words wanted t (n ∷ m ∷ ns) = refl
@@ -35,24 +39,43 @@ group-words wanted t (n ∷ m ∷ ns) = refl
 abbrev Leaves : List Answer → Nest → Type 0
 Leaves answers rest = IsNested answers × (nest answers ≡ rest)
 
-pub words-leave : (wanted : Wanted) (answers : List Answer) → IsNested answers → Leaves (without_words wanted answers) (head_words wanted (nest answers)).rest
+pub words-leave : (wanted : Wanted) (answers : List Answer) → IsNested answers
+    → Leaves (without_words wanted answers) (head_words wanted (nest answers)).rest
 words-leave wanted [] h = (h, refl)
-words-leave wanted (Token t ∷ answers) h = by (head_behind wanted t.kind t.span) refl (λ next. words-leave next answers (nested-behind t answers h))
+words-leave wanted (Token t ∷ answers) h = by (head_behind wanted t.kind t.span) refl
+    (λ next. words-leave next answers (nested-behind t answers h))
   where
     leaf-words : (o : Option Wanted) → head_behind wanted t.kind t.span ≡ o
-        → (head_words wanted (nest (Token t ∷ answers))).rest ≡ (elim o as (λ o. Words) [ Some next ↦ word_before t (head_words next (nest answers)) | None ↦ no_word (Leaf t (nest answers)) ]).rest
+        → (head_words wanted (nest (Token t ∷ answers))).rest
+        ≡ (elim o as (λ o. Words) [
+          | Some next ↦ word_before t (head_words next (nest answers))
+          | None ↦ no_word (Leaf t (nest answers))
+        ]).rest
     leaf-words o e =
         ap (λ n. (head_words wanted n).rest) (nest-token t answers h)
-        ∙ ap (λ o. (elim o as (λ o. Words) [ Some next ↦ word_before t (head_words next (nest answers)) | None ↦ no_word (Leaf t (nest answers)) ]).rest) e
+        ∙ ap (λ o. (elim o as (λ o. Words) [
+          | Some next ↦ word_before t (head_words next (nest answers))
+          | None ↦ no_word (Leaf t (nest answers))
+        ]).rest) e
 
-    by : (o : Option Wanted) → head_behind wanted t.kind t.span ≡ o → ((next : Wanted) → Leaves (without_words next answers) (head_words next (nest answers)).rest)
+    by : (o : Option Wanted) → head_behind wanted t.kind t.span ≡ o
+        → ((next : Wanted) → Leaves (without_words next answers) (head_words next (nest answers)).rest)
         → Leaves (without_words wanted (Token t ∷ answers)) (head_words wanted (nest (Token t ∷ answers))).rest
     by (Some next) e rec =
-        let without : without_words wanted (Token t ∷ answers) ≡ without_words next answers = ap (λ o. elim o as (λ o. List Answer) [ Some next ↦ without_words next answers | None ↦ Token t ∷ answers ]) e in
+        let without : without_words wanted (Token t ∷ answers)
+        ≡ without_words next answers = ap (λ o. elim o as (λ o. List Answer) [
+          | Some next ↦
+              without_words next answers
+          | None ↦ Token t ∷ answers
+        ]) e in
         let P : List Answer → Type 0 = λ l. Leaves l (head_words wanted (nest (Token t ∷ answers))).rest in
         subst P (sym without) ((rec next).0, (rec next).1 ∙ sym (leaf-words (Some next) e))
     by None e rec =
-        let without : without_words wanted (Token t ∷ answers) ≡ Token t ∷ answers = ap (λ o. elim o as (λ o. List Answer) [ Some next ↦ without_words next answers | None ↦ Token t ∷ answers ]) e in
+        let without : without_words wanted (Token t ∷ answers)
+        ≡ Token t ∷ answers = ap (λ o. elim o as (λ o. List Answer) [
+          | Some next ↦ without_words next answers
+          | None ↦ Token t ∷ answers
+        ]) e in
         let P : List Answer → Type 0 = λ l. Leaves l (head_words wanted (nest (Token t ∷ answers))).rest in
         subst P (sym without) (h, nest-token t answers h ∙ sym (leaf-words None e))
 words-leave wanted (Begin t ∷ answers) h = (h, sym (group-words wanted t (nests answers)))
@@ -61,7 +84,8 @@ words-leave wanted (Note note place ∷ answers) h = words-leave wanted answers 
 
 -- ## A name and its sign
 
-group-named : (name t : Seen) (ns : List Nest) → (named_headed name (first_nest (group t ns))).rest ≡ Leaf name (first_nest (group t ns))
+group-named : (name t : Seen) (ns : List Nest) → (named_headed name (first_nest (group t ns))).rest
+    ≡ Leaf name (first_nest (group t ns))
 group-named name t [] = refl
 group-named name t (n ∷ []) = refl
 group-named name t (n ∷ m ∷ ns) = refl
@@ -70,31 +94,50 @@ abbrev Signed : Seen → List Answer → Option (List Answer) → Type 0
 Signed name answers None = (named_headed name (nest answers)).rest ≡ Leaf name (nest answers)
 Signed name answers (Some rest) = Leaves rest (named_headed name (nest answers)).rest
 
-named-rest : (name t : Seen) (rest : Nest) (b : Bool) → is_head_sign t.kind ≡ b → (named_headed name (Leaf t rest)).rest ≡ (elim b as (λ b. Nest) [ true ↦ rest | false ↦ Leaf name (Leaf t rest) ])
-named-rest name t rest true e = ap (λ b. (elim b as (λ b. Headed) [ true ↦ record { head = Named name.span.start t.span.start; rest = rest } | false ↦ headless (Leaf name (Leaf t rest)) ]).rest) e
-named-rest name t rest false e = ap (λ b. (elim b as (λ b. Headed) [ true ↦ record { head = Named name.span.start t.span.start; rest = rest } | false ↦ headless (Leaf name (Leaf t rest)) ]).rest) e
+named-rest : (name t : Seen) (rest : Nest) (b : Bool) → is_head_sign t.kind ≡ b → (named_headed name (Leaf t rest)).rest
+    ≡ (elim b as (λ b. Nest) [ true ↦ rest | false ↦ Leaf name (Leaf t rest) ])
+named-rest name t rest true e = ap (λ b. (elim b as (λ b. Headed) [
+  | true ↦
+      record { head = Named name.span.start t.span.start; rest = rest }
+  | false ↦ headless (Leaf name (Leaf t rest))
+]).rest) e
+named-rest name t rest false e = ap (λ b. (elim b as (λ b. Headed) [
+  | true ↦
+      record { head = Named name.span.start t.span.start; rest = rest }
+  | false ↦ headless (Leaf name (Leaf t rest))
+]).rest) e
 
 sign-leaves : (name : Seen) (answers : List Answer) → IsNested answers → Signed name answers (behind_sign answers)
 sign-leaves name [] h = refl
 sign-leaves name (Token t ∷ answers) h = by (is_head_sign t.kind) refl
   where
-    by : (b : Bool) → is_head_sign t.kind ≡ b → Signed name (Token t ∷ answers) (elim b as (λ b. Option (List Answer)) [ true ↦ Some answers | false ↦ None ])
-    by true e = (nested-behind t answers h, sym (ap (λ n. (named_headed name n).rest) (nest-token t answers h) ∙ named-rest name t (nest answers) true e))
-    by false e = ap (λ n. (named_headed name n).rest) (nest-token t answers h) ∙ named-rest name t (nest answers) false e ∙ sym (ap (Leaf name) (nest-token t answers h))
+    by : (b : Bool) → is_head_sign t.kind ≡ b → Signed name (Token t ∷ answers)
+        (elim b as (λ b. Option (List Answer)) [ true ↦ Some answers | false ↦ None ])
+    by true e = (
+      nested-behind t answers h,
+      sym (ap (λ n. (named_headed name n).rest) (nest-token t answers h)
+          ∙ named-rest name t (nest answers) true e),
+    )
+    by false e = ap (λ n. (named_headed name n).rest) (nest-token t answers h)
+        ∙ named-rest name t (nest answers) false e ∙ sym (ap (Leaf name) (nest-token t answers h))
 sign-leaves name (Begin t ∷ answers) h = group-named name t (nests answers)
 sign-leaves name (Finish t ∷ answers) h = refl
 sign-leaves name (Note note place ∷ answers) h = sign-leaves name answers h
 
-name-leaves : (name : Seen) (answers : List Answer) → IsNested (Token name ∷ answers) → Leaves (without_name name answers) (named_headed name (nest answers)).rest
+name-leaves : (name : Seen) (answers : List Answer) → IsNested (Token name ∷ answers)
+    → Leaves (without_name name answers) (named_headed name (nest answers)).rest
 name-leaves name answers h = by (behind_sign answers) (sign-leaves name answers (nested-behind name answers h))
   where
-    by : (o : Option (List Answer)) → Signed name answers o → Leaves (elim o as (λ o. List Answer) [ Some rest ↦ rest | None ↦ Token name ∷ answers ]) (named_headed name (nest answers)).rest
+    by : (o : Option (List Answer)) → Signed name answers o
+        → Leaves (elim o as (λ o. List Answer) [ Some rest ↦ rest | None ↦ Token name ∷ answers ])
+        (named_headed name (nest answers)).rest
     by (Some rest) s = s
     by None s = (h, nest-token name answers h ∙ sym s)
 
 -- ## Any head
 
-head-by : (k : TokKind) (t : Seen) (answers : List Answer) → IsNested (Token t ∷ answers) → Leaves (without_head_of k t answers) (headed_by k t (nest answers)).rest
+head-by : (k : TokKind) (t : Seen) (answers : List Answer) → IsNested (Token t ∷ answers)
+    → Leaves (without_head_of k t answers) (headed_by k t (nest answers)).rest
 head-by (kind.Code code.Define) t answers h = words-leave wants.Macro answers (nested-behind t answers h)
 head-by (kind.Code code.Format) t answers h = words-leave (wants.First false) answers (nested-behind t answers h)
 head-by (kind.Code code.SilentFormat) t answers h = words-leave (wants.First true) answers (nested-behind t answers h)
@@ -107,7 +150,8 @@ group-head t [] = refl
 group-head t (n ∷ []) = refl
 group-head t (n ∷ m ∷ ns) = refl
 
-pub head-leaves : (answers : List Answer) → IsNested answers → IsNested (without_head answers) × (nest (without_head answers) ≡ (headed (nest answers)).rest)
+pub head-leaves : (answers : List Answer) → IsNested answers → IsNested (without_head answers)
+    × (nest (without_head answers) ≡ (headed (nest answers)).rest)
 head-leaves [] h = (h, refl)
 head-leaves (Token t ∷ answers) h =
     let l = head-by t.kind t answers h in

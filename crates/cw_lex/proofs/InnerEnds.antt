@@ -1,5 +1,6 @@
 -- Inner C text of TeX text that no bar closes has the answers of its bytes, up to the end of the text.
-use Rattle.std.proofs.Common.{◌≡◌, ℕ, zero, suc, ◌+◌, ◌-◌, Bool, true, false, ◌&&◌, ◌||◌, not, ◌==◌, nat_lt, List, [], ◌∷◌, ◌++◌, Option, Some, None, length, refl, sym, ap, ◌∙◌, arith, append_assoc}
+use Rattle.std.proofs.Common.{◌≡◌, ℕ, zero, suc, ◌+◌, ◌-◌, Bool, true, false, ◌&&◌, ◌||◌, not, ◌==◌, nat_lt, List, []}
+use Rattle.std.proofs.Common.{◌∷◌, ◌++◌, Option, Some, None, length, refl, sym, ap, ◌∙◌, arith, append_assoc}
 use Rattle.std.specs.Prelude.{if◌then◌else◌}
 use Rattle.cw_rules.specs.declared.classes.Class.TheVariants as classes
 use Rattle.cw_rules.specs.declared.codes.Code.{Code}
@@ -10,12 +11,14 @@ use Rattle.cw_rules.specs.declared.parts.Start.{Start}
 use Rattle.cw_rules.specs.declared.parts.Start.TheVariants as start
 use Rattle.cw_rules.specs.declared.signs.Sign.{Sign}
 use Rattle.cw_rules.specs.Answers.{Answer, Where, Found}
-use Rattle.cw_rules.specs.Bytes.{newline, quote, hash, apostrophe, star, slash, less, at_sign, bar, begins, is_letter, is_in}
+use Rattle.cw_rules.specs.Bytes.{newline, quote, hash, apostrophe, star, slash, less, at_sign, bar, begins, is_letter}
+use Rattle.cw_rules.specs.Bytes.{is_in}
 use Rattle.cw_rules.specs.Codes.{begins_section, effect_in_c}
 use Rattle.cw_rules.specs.Constants.{constant}
 use Rattle.cw_lex.specs.Lexing.{still_fresh, joined, answers}
 use Rattle.cw_lex.specs.Nested.{begins_section_in}
-use Rattle.cw_rules.specs.Tokens.{is_tex_inner, sign_or_other, inner_cut, comment_cut, inner_or_none, all_cut, line_end, code_by, in_code, start_of, code_text, comment_text, in_text, section, found, is_deep}
+use Rattle.cw_rules.specs.Tokens.{is_tex_inner, sign_or_other, inner_cut, comment_cut, inner_or_none, all_cut, line_end}
+use Rattle.cw_rules.specs.Tokens.{code_by, in_code, start_of, code_text, comment_text, in_text, section, found, is_deep}
 use Rattle.cw_lex.specs.Parts.{closing_bar}
 use Rattle.cw_rules.specs.Signs.{all_signs, longest}
 use Rattle.cw_rules.proofs.BarRules.{tex_inner}
@@ -34,13 +37,15 @@ line-inside (c ∷ cs) last place =
     if-both Inside c.long _ _ (λ h. record { is = refl })
     (λ h. record { is = (line-inside cs last place).is })
 
-code-inside : (c : Code) (cs : List Opened) (place : ℕ) (bytes : List ℕ) → is_tex_inner (code_by (effect_in_c c) c (tex_inner cs) place bytes).next.part ≡ true
+code-inside : (c : Code) (cs : List Opened) (place : ℕ) (bytes : List ℕ)
+    → is_tex_inner (code_by (effect_in_c c) c (tex_inner cs) place bytes).next.part ≡ true
 code-inside at.Define cs place bytes = refl
 code-inside at.SectionName cs place bytes = refl
 code-inside at.FileName cs place bytes = refl
 code-inside _ cs place bytes = refl
 
-start-inside : (s : Start) (cs : List Opened) (place : ℕ) (bytes : List ℕ) → (s ≡ start.EndOfInner → ⊥) → Inside (in_code s (tex_inner cs) place bytes)
+start-inside : (s : Start) (cs : List Opened) (place : ℕ) (bytes : List ℕ) → (s ≡ start.EndOfInner → ⊥)
+    → Inside (in_code s (tex_inner cs) place bytes)
 start-inside start.Identifier cs place bytes h = record { is = refl }
 start-inside start.Constant cs place bytes h = record { is = refl }
 start-inside (start.Quoted q) cs place bytes h = record { is = refl }
@@ -75,17 +80,22 @@ bar-start ends byte bytes =
     (λ e. if-both (Bar byte) (byte == slash && begins star bytes) _ _ (λ e. record { is = λ h. absurd cc })
     (λ e. if-both (Bar byte) (byte == slash && begins slash bytes) _ _ (λ e. record { is = λ h. absurd cc })
     (λ e. if-both (Bar byte) (byte == at_sign) _ _ (λ e. record { is = λ h. absurd cc })
-    (λ e. if-both (Bar byte) (byte == bar && (ends && not (begins bar bytes))) start.EndOfInner (sign_or_other (longest all_signs (byte ∷ bytes))) (λ e. record { is = λ h. and-first (byte == bar) _ e })
+    (λ e. if-both (Bar byte) (byte == bar && (ends && not (begins bar bytes))) start.EndOfInner
+    (sign_or_other (longest all_signs (byte ∷ bytes))) (λ e. record { is = λ h. and-first (byte == bar) _ e })
     (λ e. sign-bar byte (longest all_signs (byte ∷ bytes)))))))))
 
-no-bar : (ends : Bool) (byte : ℕ) (bytes : List ℕ) → (byte == bar) ≡ false → start_of ends byte bytes ≡ start.EndOfInner → ⊥
+no-bar : (ends : Bool) (byte : ℕ) (bytes : List ℕ) → (byte == bar) ≡ false → start_of ends byte bytes ≡ start.EndOfInner
+    → ⊥
 no-bar ends byte bytes n e = not-both (byte == bar) ((bar-start ends byte bytes).is (ap ends_inner e)) n
 
-text-inside : (cs : List Opened) (fresh : Bool) (last place byte : ℕ) (bytes : List ℕ) (ends : Bool) → (byte == bar) ≡ false
+text-inside : (cs : List Opened) (fresh : Bool) (last place byte : ℕ) (bytes : List ℕ) (ends : Bool) → (byte == bar)
+    ≡ false
     → Inside (in_code (start_of ends byte bytes) (tex_inner cs) place (byte ∷ bytes))
-text-inside cs fresh last place byte bytes ends n = start-inside (start_of ends byte bytes) cs place (byte ∷ bytes) (no-bar ends byte bytes n)
+text-inside cs fresh last place byte bytes ends n = start-inside (start_of ends byte bytes) cs place (byte ∷ bytes)
+    (no-bar ends byte bytes n)
 
-code-text-inside : (cs : List Opened) (fresh : Bool) (last place byte : ℕ) (bytes : List ℕ) → (byte == bar) ≡ false → Inside (code_text (tex_inner cs) fresh last place byte bytes)
+code-text-inside : (cs : List Opened) (fresh : Bool) (last place byte : ℕ) (bytes : List ℕ) → (byte == bar) ≡ false
+    → Inside (code_text (tex_inner cs) fresh last place byte bytes)
 code-text-inside cs fresh last place byte bytes n =
     if-both Inside (byte == newline) _ _ (λ h. line-inside cs last place)
     (λ h. if-both Inside (is_in classes.Blank byte || false) _ _ (λ h. record { is = refl })
@@ -93,20 +103,25 @@ code-text-inside cs fresh last place byte bytes n =
     (λ h. if-both Inside (byte == less && false) _ _ (λ h. not-both _ h (and-none (byte == less)))
     (λ h. text-inside cs fresh last place byte bytes true n))))
 
-comment-inside : (c : Opened) (cs : List Opened) (last place byte : ℕ) (bytes : List ℕ) → Inside (comment_text parts.TexInner c cs last place byte bytes)
+comment-inside : (c : Opened) (cs : List Opened) (last place byte : ℕ) (bytes : List ℕ)
+    → Inside (comment_text parts.TexInner c cs last place byte bytes)
 comment-inside c cs last place byte bytes =
     if-both Inside (c.long && (byte == star && begins slash bytes)) _ _ (λ h. record { is = refl })
     (λ h. if-both Inside (not c.long && byte == newline) _ _ (λ h. record { is = (line-inside cs last place).is })
-    (λ h. if-both Inside (byte == bar && not (is_deep parts.TexInner (c ∷ cs))) _ _ (λ h. record { is = refl }) (λ h. record { is = refl })))
+    (λ h. if-both Inside (byte == bar && not (is_deep parts.TexInner (c ∷ cs))) _ _ (λ h. record { is = refl })
+    (λ h. record { is = refl })))
 
-in-text-inside : (cs : List Opened) (fresh : Bool) (last place byte : ℕ) (bytes : List ℕ) → (byte == bar) ≡ false → Inside (in_text parts.TexInner cs fresh last place byte bytes)
+in-text-inside : (cs : List Opened) (fresh : Bool) (last place byte : ℕ) (bytes : List ℕ) → (byte == bar) ≡ false
+    → Inside (in_text parts.TexInner cs fresh last place byte bytes)
 in-text-inside [] fresh last place byte bytes n = code-text-inside [] fresh last place byte bytes n
 in-text-inside (c ∷ cs) fresh last place byte bytes n =
-    if-both Inside c.inner _ _ (λ h. code-text-inside (c ∷ cs) fresh last place byte bytes n) (λ h. comment-inside c cs last place byte bytes)
+    if-both Inside c.inner _ _ (λ h. code-text-inside (c ∷ cs) fresh last place byte bytes n)
+    (λ h. comment-inside c cs last place byte bytes)
 
 -- ## Up to the end
 
-cut-inner : (cs : List Opened) (place about : ℕ) → all_cut parts.TexInner cs place about ≡ all_cut parts.Inner cs place about ++ inner_cut false place about
+cut-inner : (cs : List Opened) (place about : ℕ) → all_cut parts.TexInner cs place about
+    ≡ all_cut parts.Inner cs place about ++ inner_cut false place about
 cut-inner [] place about = refl
 cut-inner (c ∷ cs) place about =
     let first = inner_or_none c.inner false place about in
@@ -115,12 +130,15 @@ cut-inner (c ∷ cs) place about =
     ∙ ap (λ l. first ++ l) (sym (append_assoc next (all_cut parts.Inner cs place about) (inner_cut false place about)))
     ∙ sym (append_assoc first (next ++ all_cut parts.Inner cs place about) (inner_cut false place about))
 
-pub to-end : (end : ℕ) (bytes : List ℕ) (cs : List Opened) (fresh : Bool) (last place taken : ℕ) → end ≡ place + length bytes → closing_bar bytes (tex_inner cs) fresh last place taken ≡ None
+pub to-end : (end : ℕ) (bytes : List ℕ) (cs : List Opened) (fresh : Bool) (last place taken : ℕ)
+    → end ≡ place + length bytes → closing_bar bytes (tex_inner cs) fresh last place taken ≡ None
     → begins_section_in (answers bytes (tex_inner cs) fresh last place taken) ≡ false
-    → answers bytes (tex_inner cs) fresh last place taken ≡ answers bytes (alone cs) fresh last place taken ++ inner_cut false end (end - 1)
+    → answers bytes (tex_inner cs) fresh last place taken ≡ answers bytes (alone cs) fresh last place taken
+    ++ inner_cut false end (end - 1)
 to-end end [] cs fresh last place taken e n u =
     let here : place ≡ end = omega (arith, e) in
-    cut-inner cs place (place - 1) ∙ ap (λ p. all_cut parts.Inner cs place (place - 1) ++ inner_cut false p (p - 1)) here
+    cut-inner cs place (place - 1) ∙ ap (λ p. all_cut parts.Inner cs place (place - 1) ++ inner_cut false p (p - 1))
+    here
 to-end end (byte ∷ bytes) cs fresh last place zero e n u =
     by (is_tex_inner (found (tex_inner cs) fresh last place byte bytes).next.part) refl
     (λ ds more k v. to-end end bytes ds (still_fresh fresh byte) byte (place + 1) more (omega (arith, e)) k v)
@@ -134,43 +152,64 @@ to-end end (byte ∷ bytes) cs fresh last place zero e n u =
     plain : (byte == at_sign && begins_section bytes) ≡ false
     plain = case (byte == at_sign && begins_section bytes) refl
       where
-        case : (b : Bool) → (byte == at_sign && begins_section bytes) ≡ b → (byte == at_sign && begins_section bytes) ≡ false
+        case : (b : Bool) → (byte == at_sign && begins_section bytes) ≡ b → (byte == at_sign && begins_section bytes)
+            ≡ false
         case true h =
             let g = found (tex_inner cs) fresh last place byte bytes in
             let rest = answers bytes g.next (still_fresh fresh byte) byte (place + 1) g.more in
-            not-both _ (section-cuts (tex_inner cs) place bytes rest) (ap (λ b. begins_section_in ((if b then section (tex_inner cs) place bytes else in_text parts.TexInner cs fresh last place byte bytes).answers ++ rest)) (sym h) ∙ u)
+            not-both _ (section-cuts (tex_inner cs) place bytes rest)
+            (ap (λ b. begins_section_in ((if b then section (tex_inner cs) place bytes else in_text parts.TexInner
+            cs fresh last place byte bytes).answers ++ rest)) (sym h) ∙ u)
         case false h = h
 
     by : (b : Bool) → is_tex_inner (found (tex_inner cs) fresh last place byte bytes).next.part ≡ b
-        → ((ds : List Opened) (more : ℕ) → closing_bar bytes (tex_inner ds) (still_fresh fresh byte) byte (place + 1) more ≡ None → begins_section_in (answers bytes (tex_inner ds) (still_fresh fresh byte) byte (place + 1) more) ≡ false
-        → answers bytes (tex_inner ds) (still_fresh fresh byte) byte (place + 1) more ≡ answers bytes (alone ds) (still_fresh fresh byte) byte (place + 1) more ++ inner_cut false end (end - 1))
-        → answers (byte ∷ bytes) (tex_inner cs) fresh last place 0 ≡ answers (byte ∷ bytes) (alone cs) fresh last place 0 ++ inner_cut false end (end - 1)
+        → ((ds : List Opened) (more : ℕ) → closing_bar bytes (tex_inner ds) (still_fresh fresh byte) byte (place + 1)
+        more ≡ None → begins_section_in (answers bytes (tex_inner ds) (still_fresh fresh byte) byte (place + 1)
+        more) ≡ false
+        → answers bytes (tex_inner ds) (still_fresh fresh byte) byte (place + 1) more
+        ≡ answers bytes (alone ds) (still_fresh fresh byte) byte (place + 1) more ++ inner_cut false end (end - 1))
+        → answers (byte ∷ bytes) (tex_inner cs) fresh last place 0
+        ≡ answers (byte ∷ bytes) (alone cs) fresh last place 0 ++ inner_cut false end (end - 1)
     by true h rec =
         let f = found (tex_inner cs) fresh last place byte bytes in
         let g = found (alone cs) fresh last place byte bytes in
-        let of-f : f ≡ in_text parts.TexInner cs fresh last place byte bytes = ap (λ t. if t then section (tex_inner cs) place bytes else in_text parts.TexInner cs fresh last place byte bytes) plain in
-        let of-g : g ≡ in_text parts.Inner cs fresh last place byte bytes = ap (λ t. if t then section (alone cs) place bytes else in_text parts.Inner cs fresh last place byte bytes) plain in
-        let twin = (in_text-twin cs fresh last place byte bytes).same (ap (λ (f : Found). is_tex_inner f.next.part) (sym of-f) ∙ h) in
+        let of-f : f ≡ in_text parts.TexInner cs fresh last place byte bytes =
+        ap (λ t. if t then section (tex_inner cs) place bytes else in_text parts.TexInner cs fresh last place byte
+        bytes) plain in
+        let of-g : g ≡ in_text parts.Inner cs fresh last place byte bytes =
+        ap (λ t. if t then section (alone cs) place bytes else in_text parts.Inner cs fresh last place byte bytes)
+        plain in
+        let twin = (in_text-twin cs fresh last place byte bytes).same
+        (ap (λ (f : Found). is_tex_inner f.next.part) (sym of-f) ∙ h) in
         let same : f ≡ in_tex g = of-f ∙ twin.0 ∙ ap in_tex (sym of-g) in
         let part : g.next.part ≡ parts.Inner = ap (λ (f : Found). f.next.part) of-g ∙ twin.1 in
         let here : alone g.next.comments ≡ g.next = (λ i. record { part = sym part i; comments = g.next.comments }) in
-        let rest : Where → ℕ → List Answer = λ next more. answers bytes next (still_fresh fresh byte) byte (place + 1) more in
-        let closes : closing_bar bytes (tex_inner g.next.comments) (still_fresh fresh byte) byte (place + 1) g.more ≡ None =
+        let rest : Where → ℕ → List Answer = λ next more. answers bytes next (still_fresh fresh byte) byte (place + 1)
+        more in
+        let closes : closing_bar bytes (tex_inner g.next.comments) (still_fresh fresh byte) byte (place + 1) g.more
+        ≡ None =
         ap (λ (f : Found). closing_bar bytes f.next (still_fresh fresh byte) byte (place + 1) f.more) (sym same)
-        ∙ sym (ap (λ t. if t then closing_bar bytes f.next (still_fresh fresh byte) byte (place + 1) f.more else (if byte == bar then Some place else None)) h) ∙ n in
-        let uncut : begins_section_in (rest (tex_inner g.next.comments) g.more) ≡ false = ap (λ (f : Found). begins_section_in (rest f.next f.more)) (sym same) ∙ uncut-right f.answers (rest f.next f.more) u in
+        ∙ sym (ap (λ t. if t then closing_bar bytes f.next (still_fresh fresh byte) byte (place + 1) f.more else
+        (if byte == bar then Some place else None)) h) ∙ n in
+        let uncut : begins_section_in (rest (tex_inner g.next.comments) g.more)
+        ≡ false = ap (λ (f : Found). begins_section_in (rest f.next f.more)) (sym same)
+        ∙ uncut-right f.answers (rest f.next f.more) u in
         ap (λ (f : Found). joined f rest) same
         ∙ ap (λ l. g.answers ++ l) (rec g.next.comments g.more closes uncut)
         ∙ ap (λ (w : Where). g.answers ++ (rest w g.more ++ inner_cut false end (end - 1))) here
         ∙ sym (append_assoc g.answers (rest g.next g.more) (inner_cut false end (end - 1)))
     by false h rec = leaves (byte == bar) refl
       where
-        leaves : (b : Bool) → (byte == bar) ≡ b → answers (byte ∷ bytes) (tex_inner cs) fresh last place 0 ≡ answers (byte ∷ bytes) (alone cs) fresh last place 0 ++ inner_cut false end (end - 1)
+        leaves : (b : Bool) → (byte == bar) ≡ b → answers (byte ∷ bytes) (tex_inner cs) fresh last place 0
+            ≡ answers (byte ∷ bytes) (alone cs) fresh last place 0 ++ inner_cut false end (end - 1)
         leaves true k =
             let g = found (tex_inner cs) fresh last place byte bytes in
-            absurd (none-is place (sym (λ i. if h i then closing_bar bytes g.next (still_fresh fresh byte) byte (place + 1) g.more else (if k i then Some place else None)) ∙ n))
+            absurd (none-is place (sym (λ i. if h i then closing_bar bytes g.next (still_fresh fresh byte) byte
+            (place + 1) g.more else (if k i then Some place else None)) ∙ n))
         leaves false k =
             let stays : is_tex_inner (found (tex_inner cs) fresh last place byte bytes).next.part ≡ true =
-            ap (λ t. is_tex_inner (if t then section (tex_inner cs) place bytes else in_text parts.TexInner cs fresh last place byte bytes).next.part) plain ∙ (in-text-inside cs fresh last place byte bytes k).is in
+            ap (λ t. is_tex_inner (if t then section (tex_inner cs) place bytes else in_text parts.TexInner cs fresh
+            last place byte bytes).next.part) plain ∙ (in-text-inside cs fresh last place byte bytes k).is in
             not-both _ stays h
-to-end end (byte ∷ bytes) cs fresh last place (suc taken) e n u = to-end end bytes cs (still_fresh fresh byte) byte (place + 1) taken (omega (arith, e)) n u
+to-end end (byte ∷ bytes) cs fresh last place (suc taken) e n u =
+    to-end end bytes cs (still_fresh fresh byte) byte (place + 1) taken (omega (arith, e)) n u

@@ -1,5 +1,7 @@
 -- Inner C text of TeX text that a bar closes has the answers of its bytes scanned by themselves.
-use Rattle.std.proofs.Common.{◌≡◌, ℕ, zero, suc, ◌+◌, ◌-◌, ◌≤◌, Bool, true, false, ◌&&◌, not, ◌==◌, List, [], ◌∷◌, ◌++◌, Option, Some, None, length, take, drop, refl, sym, ap, ◌∙◌, arith, append_assoc, ◌⊎◌, inl, inr}
+use Rattle.std.proofs.Common.{◌≡◌, ℕ, zero, suc, ◌+◌, ◌-◌, ◌≤◌, Bool, true, false, ◌&&◌, not, ◌==◌, List, [], ◌∷◌, ◌++◌}
+use Rattle.std.proofs.Common.{Option, Some, None, length, take, drop, refl, sym, ap, ◌∙◌, arith, append_assoc, ◌⊎◌, inl}
+use Rattle.std.proofs.Common.{inr}
 use Rattle.std.specs.Prelude.{if◌then◌else◌}
 use Rattle.std.proofs.lemmas.Bool.{eqb-true}
 use Rattle.std.proofs.lemmas.List.{drop-drop, drop_all, take-take, take_all}
@@ -12,7 +14,8 @@ use Rattle.cw_rules.specs.declared.tokens.TokKind.TheVariants as kinds
 use Rattle.cw_rules.specs.Bytes.{bar, begins}
 use Rattle.cw_rules.specs.Signs.{all_signs, longest}
 use Rattle.cw_rules.specs.Answers.{Answer, Begin, Finish, Where, Found, token_of}
-use Rattle.cw_lex.specs.Lexing.{still_fresh, joined, answers, fresh_after, last_after, fresh_at, last_at, answers_at, beginning, tokens_of}
+use Rattle.cw_lex.specs.Lexing.{still_fresh, joined, answers, fresh_after, last_after, fresh_at, last_at, answers_at}
+use Rattle.cw_lex.specs.Lexing.{beginning, tokens_of}
 use Rattle.cw_rules.specs.Tokens.{found, in_code, sign_or_other, is_deep, is_tex_inner}
 use Rattle.cw_lex.specs.Parts.{closing_bar, closing_bar_from}
 use Rattle.cw_rules.proofs.Choices.{if-both, and-none}
@@ -33,7 +36,8 @@ record Closed (bytes : List ℕ) (place taken end : ℕ) : Type 0 where
   place-is : end ≡ place + length inside
   short : taken ≤ length inside
 
-closed-further : (byte : ℕ) (bytes : List ℕ) (place taken end : ℕ) → Closed bytes (place + 1) taken end → Closed (byte ∷ bytes) place (suc taken) end
+closed-further : (byte : ℕ) (bytes : List ℕ) (place taken end : ℕ) → Closed bytes (place + 1) taken end
+    → Closed (byte ∷ bytes) place (suc taken) end
 closed-further byte bytes place taken end c = record {
   inside = byte ∷ c.inside;
   behind = c.behind;
@@ -42,33 +46,49 @@ closed-further byte bytes place taken end c = record {
   short = omega (arith, c.short);
 }
 
-closed : (bytes : List ℕ) (w : Where) (fresh : Bool) (last place taken end : ℕ) → closing_bar bytes w fresh last place taken ≡ Some end → Closed bytes place taken end
+closed : (bytes : List ℕ) (w : Where) (fresh : Bool) (last place taken end : ℕ)
+    → closing_bar bytes w fresh last place taken ≡ Some end → Closed bytes place taken end
 closed [] w fresh last place taken end h = absurd cc
 closed (byte ∷ bytes) w fresh last place zero end h =
     let f = found w fresh last place byte bytes in
-    by (is_tex_inner f.next.part) (byte == bar) refl refl (λ g. closed bytes f.next (still_fresh fresh byte) byte (place + 1) f.more end g)
+    by (is_tex_inner f.next.part) (byte == bar) refl refl (λ g. closed bytes f.next (still_fresh fresh byte) byte
+    (place + 1) f.more end g)
   where
     some-is : (a b : ℕ) → ◌≡◌ {A = Option ℕ} (Some a) (Some b) → a ≡ b
     some-is a b e = cc
 
-    by : (inner is_bar : Bool) → is_tex_inner (found w fresh last place byte bytes).next.part ≡ inner → (byte == bar) ≡ is_bar
-        → (closing_bar bytes (found w fresh last place byte bytes).next (still_fresh fresh byte) byte (place + 1) (found w fresh last place byte bytes).more ≡ Some end → Closed bytes (place + 1) (found w fresh last place byte bytes).more end)
+    by : (inner is_bar : Bool) → is_tex_inner (found w fresh last place byte bytes).next.part ≡ inner → (byte == bar)
+        ≡ is_bar
+        → (closing_bar bytes (found w fresh last place byte bytes).next (still_fresh fresh byte) byte (place + 1)
+        (found w fresh last place byte bytes).more ≡ Some end
+        → Closed bytes (place + 1) (found w fresh last place byte bytes).more end)
         → Closed (byte ∷ bytes) place zero end
     by true is_bar e b rec =
         let f = found w fresh last place byte bytes in
-        let on = sym (ap (λ t. if t then closing_bar bytes f.next (still_fresh fresh byte) byte (place + 1) f.more else (if byte == bar then Some place else None)) e) ∙ h in
+        let on = sym (ap (λ t. if t then closing_bar bytes f.next (still_fresh fresh byte) byte (place + 1) f.more else
+        (if byte == bar then Some place else None)) e) ∙ h in
         let c = closed-further byte bytes place f.more end (rec on) in
         record { inside = c.inside; behind = c.behind; split = c.split; place-is = c.place-is; short = omega arith }
     by false true e b rec =
         let f = found w fresh last place byte bytes in
-        let here = sym (λ i. if e i then closing_bar bytes f.next (still_fresh fresh byte) byte (place + 1) f.more else (if b i then Some place else None)) ∙ h in
+        let here = sym (λ i. if e i then closing_bar bytes f.next (still_fresh fresh byte) byte (place + 1) f.more else
+        (if b i then Some place else None)) ∙ h in
         let same : place ≡ end = some-is place end here in
-        record { inside = []; behind = bytes; split = ap (λ x. x ∷ bytes) (eqb-true byte bar b); place-is = omega (arith, same); short = omega arith }
+        record {
+          inside = [];
+          behind = bytes;
+          split = ap (λ x. x ∷ bytes) (eqb-true byte bar b);
+          place-is = omega (arith, same);
+          short = omega arith;
+        }
     by false false e b rec =
         let f = found w fresh last place byte bytes in
-        let none : ◌≡◌ {A = Option ℕ} None (Some end) = sym (λ i. if e i then closing_bar bytes f.next (still_fresh fresh byte) byte (place + 1) f.more else (if b i then Some place else None)) ∙ h in
+        let none : ◌≡◌ {A = Option ℕ} None (Some end) =
+        sym (λ i. if e i then closing_bar bytes f.next (still_fresh fresh byte) byte (place + 1) f.more else
+        (if b i then Some place else None)) ∙ h in
         absurd cc
-closed (byte ∷ bytes) w fresh last place (suc taken) end h = closed-further byte bytes place taken end (closed bytes w (still_fresh fresh byte) byte (place + 1) taken end h)
+closed (byte ∷ bytes) w fresh last place (suc taken) end h =
+    closed-further byte bytes place taken end (closed bytes w (still_fresh fresh byte) byte (place + 1) taken end h)
 
 -- ## What the bar makes
 
@@ -86,23 +106,29 @@ record Closes (place : ℕ) (more : List ℕ) (f : Found) : Type 0 where
 record Stays (f : Found) : Type 0 where
   is : is_tex_inner f.next.part ≡ true
 
-bar-closes : (fresh : Bool) (last place : ℕ) (more : List ℕ) → Closes place more (found (tex_inner []) fresh last place 124 more)
+bar-closes : (fresh : Bool) (last place : ℕ) (more : List ℕ)
+    → Closes place more (found (tex_inner []) fresh last place 124 more)
 bar-closes fresh last place more = by (not (begins bar more)) (longest all_signs (124 ∷ more))
   where
-    by : (t : Bool) (o : Option Sign) → Closes place more (in_code (if t then start.EndOfInner else sign_or_other o) (tex_inner []) place (124 ∷ more))
+    by : (t : Bool) (o : Option Sign) → Closes place more (in_code (if t then start.EndOfInner else sign_or_other o)
+        (tex_inner []) place (124 ∷ more))
     by true o = record { is = λ h. refl }
     by false None = record { is = λ h. absurd cc }
     by false (Some sign) = record { is = λ h. absurd cc }
 
 -- in a comment a bar ends no inner C text of TeX text
-bar-stays : (c : Opened) (cs : List Opened) (fresh : Bool) (last place : ℕ) (more : List ℕ) → Stays (found (tex_inner (c ∷ cs)) fresh last place 124 more)
+bar-stays : (c : Opened) (cs : List Opened) (fresh : Bool) (last place : ℕ) (more : List ℕ)
+    → Stays (found (tex_inner (c ∷ cs)) fresh last place 124 more)
 bar-stays c cs fresh last place more =
     if-both Stays c.inner _ _ (λ h. by (not (begins bar more)) (longest all_signs (124 ∷ more)))
     (λ h. if-both Stays (c.long && false) _ _ (λ h. record { is = refl })
-    (λ h. if-both Stays (not c.long && false) _ _ (λ h. absurd (let k : true ≡ false = sym h ∙ and-none (not c.long) in cc))
-    (λ h. if-both Stays (not (is_deep parts.TexInner (c ∷ cs))) _ _ (λ h. record { is = refl }) (λ h. record { is = refl }))))
+    (λ h. if-both Stays (not c.long && false) _ _ (λ h. absurd (let k : true ≡ false = sym h ∙ and-none (not c.long) in
+    cc))
+    (λ h. if-both Stays (not (is_deep parts.TexInner (c ∷ cs))) _ _ (λ h. record { is = refl })
+    (λ h. record { is = refl }))))
   where
-    by : (t : Bool) (o : Option Sign) → Stays (in_code (if t then start.EndOfInner else sign_or_other o) (tex_inner (c ∷ cs)) place (124 ∷ more))
+    by : (t : Bool) (o : Option Sign) → Stays (in_code (if t then start.EndOfInner else sign_or_other o)
+        (tex_inner (c ∷ cs)) place (124 ∷ more))
     by true o = record { is = refl }
     by false None = record { is = refl }
     by false (Some sign) = record { is = refl }
@@ -112,85 +138,132 @@ bar-stays c cs fresh last place more =
 -- the answers from a closing bar on
 abbrev from_bar : List ℕ → Bool → ℕ → List Answer
 from_bar more fresh place =
-    Finish (token_of false kinds.InnerText place 1 (124 ∷ more)) ∷ answers more (record { part = parts.Tex; comments = [] }) (still_fresh fresh 124) 124 (place + 1) 0
+    Finish (token_of false kinds.InnerText place 1 (124 ∷ more))
+    ∷ answers more (record { part = parts.Tex; comments = [] }) (still_fresh fresh 124) 124 (place + 1) 0
 
 -- the scan goes on in inner C text of TeX text, or its bar stands here
-goes-on : (byte : ℕ) (bytes : List ℕ) (cs : List Opened) (fresh : Bool) (last place end : ℕ) (f : Found) → found (tex_inner cs) fresh last place byte bytes ≡ f
+goes-on : (byte : ℕ) (bytes : List ℕ) (cs : List Opened) (fresh : Bool) (last place end : ℕ) (f : Found)
+    → found (tex_inner cs) fresh last place byte bytes ≡ f
     → closing_bar (byte ∷ bytes) (tex_inner cs) fresh last place 0 ≡ Some end
-    → ((is_tex_inner f.next.part ≡ true) × (closing_bar bytes f.next (still_fresh fresh byte) byte (place + 1) f.more ≡ Some end)) ⊎ ((is_tex_inner f.next.part ≡ false) × (place ≡ end))
+    → ((is_tex_inner f.next.part ≡ true) × (closing_bar bytes f.next (still_fresh fresh byte) byte (place + 1) f.more
+    ≡ Some end)) ⊎ ((is_tex_inner f.next.part ≡ false) × (place ≡ end))
 goes-on byte bytes cs fresh last place end f is h = by (is_tex_inner f.next.part) (byte == bar) refl refl
   where
     some-is : (a b : ℕ) → ◌≡◌ {A = Option ℕ} (Some a) (Some b) → a ≡ b
     some-is a b e = cc
 
-    opened : (if is_tex_inner f.next.part then closing_bar bytes f.next (still_fresh fresh byte) byte (place + 1) f.more else (if byte == bar then Some place else None)) ≡ Some end
-    opened = sym (ap (λ (f : Found). if is_tex_inner f.next.part then closing_bar bytes f.next (still_fresh fresh byte) byte (place + 1) f.more else (if byte == bar then Some place else None)) is) ∙ h
+    opened : (if is_tex_inner f.next.part then closing_bar bytes f.next (still_fresh fresh byte) byte (place + 1) f.more
+        else (if byte == bar then Some place else None)) ≡ Some end
+    opened = sym (ap (λ (f : Found). if is_tex_inner f.next.part then closing_bar bytes f.next (still_fresh fresh byte)
+        byte (place + 1) f.more else (if byte == bar then Some place else None)) is) ∙ h
 
     by : (inner is_bar : Bool) → is_tex_inner f.next.part ≡ inner → (byte == bar) ≡ is_bar
-        → ((is_tex_inner f.next.part ≡ true) × (closing_bar bytes f.next (still_fresh fresh byte) byte (place + 1) f.more ≡ Some end)) ⊎ ((is_tex_inner f.next.part ≡ false) × (place ≡ end))
-    by true is_bar e b = inl (e, sym (ap (λ t. if t then closing_bar bytes f.next (still_fresh fresh byte) byte (place + 1) f.more else (if byte == bar then Some place else None)) e) ∙ opened)
-    by false true e b = inr (e, some-is place end (sym (λ i. if e i then closing_bar bytes f.next (still_fresh fresh byte) byte (place + 1) f.more else (if b i then Some place else None)) ∙ opened))
+        → ((is_tex_inner f.next.part ≡ true) × (closing_bar bytes f.next (still_fresh fresh byte) byte (place + 1)
+        f.more ≡ Some end)) ⊎ ((is_tex_inner f.next.part ≡ false) × (place ≡ end))
+    by true is_bar e b =
+        inl (
+          e,
+          sym (ap (λ t. if t then closing_bar bytes f.next (still_fresh fresh byte) byte (place + 1) f.more else
+              (if byte == bar then Some place else None)) e) ∙ opened,
+        )
+    by false true e b =
+        inr (
+          e,
+          some-is place end (sym (λ i. if e i then closing_bar bytes f.next (still_fresh fresh byte) byte
+              (place + 1) f.more else (if b i then Some place else None)) ∙ opened),
+        )
     by false false e b =
-        let none : ◌≡◌ {A = Option ℕ} None (Some end) = sym (λ i. if e i then closing_bar bytes f.next (still_fresh fresh byte) byte (place + 1) f.more else (if b i then Some place else None)) ∙ opened in
+        let none : ◌≡◌ {A = Option ℕ} None (Some end) =
+        sym (λ i. if e i then closing_bar bytes f.next (still_fresh fresh byte) byte (place + 1) f.more else
+        (if b i then Some place else None)) ∙ opened in
         absurd cc
 
 -- no bar closes before the place from which the scan goes on
-not-before : (bytes : List ℕ) (w : Where) (fresh : Bool) (last place taken end : ℕ) → closing_bar bytes w fresh last (place + 1) taken ≡ Some end → place ≡ end → ⊥
-not-before bytes w fresh last place taken end h e = omega (arith, (closed bytes w fresh last (place + 1) taken end h).place-is, e)
+not-before : (bytes : List ℕ) (w : Where) (fresh : Bool) (last place taken end : ℕ)
+    → closing_bar bytes w fresh last (place + 1) taken ≡ Some end → place ≡ end → ⊥
+not-before bytes w fresh last place taken end h e =
+    omega (arith, (closed bytes w fresh last (place + 1) taken end h).place-is, e)
 
-scans : (more bs : List ℕ) (cs : List Opened) (fresh : Bool) (last place taken : ℕ) → closing_bar (bs ++ 124 ∷ more) (tex_inner cs) fresh last place taken ≡ Some (place + length bs)
-    → answers (bs ++ 124 ∷ more) (tex_inner cs) fresh last place taken ≡ answers bs (alone cs) fresh last place taken ++ from_bar more (fresh_after fresh bs) (place + length bs)
+scans : (more bs : List ℕ) (cs : List Opened) (fresh : Bool) (last place taken : ℕ)
+    → closing_bar (bs ++ 124 ∷ more) (tex_inner cs) fresh last place taken ≡ Some (place + length bs)
+    → answers (bs ++ 124 ∷ more) (tex_inner cs) fresh last place taken ≡ answers bs (alone cs) fresh last place taken
+    ++ from_bar more (fresh_after fresh bs) (place + length bs)
 scans more [] [] fresh last place zero h =
     let f = found (tex_inner []) fresh last place 124 more in
     by (goes-on 124 more [] fresh last place (place + 0) f refl h)
   where
-    by : ((is_tex_inner (found (tex_inner []) fresh last place 124 more).next.part ≡ true) × (closing_bar more (found (tex_inner []) fresh last place 124 more).next (still_fresh fresh 124) 124 (place + 1) (found (tex_inner []) fresh last place 124 more).more ≡ Some (place + 0))) ⊎ ((is_tex_inner (found (tex_inner []) fresh last place 124 more).next.part ≡ false) × (place ≡ place + 0))
+    by : ((is_tex_inner (found (tex_inner []) fresh last place 124 more).next.part ≡ true)
+        × (closing_bar more (found (tex_inner []) fresh last place 124 more).next (still_fresh fresh 124) 124
+        (place + 1) (found (tex_inner []) fresh last place 124 more).more ≡ Some (place + 0)))
+        ⊎ ((is_tex_inner (found (tex_inner []) fresh last place 124 more).next.part ≡ false) × (place ≡ place + 0))
         → answers (124 ∷ more) (tex_inner []) fresh last place 0 ≡ from_bar more fresh (place + 0)
     by (inl on) = absurd (not-before more _ _ _ place _ (place + 0) on.1 (omega arith))
     by (inr e) =
-        ap (λ (f : Found). joined f (λ next size. answers more next (still_fresh fresh 124) 124 (place + 1) size)) ((bar-closes fresh last place more).is e.0)
+        ap (λ (f : Found). joined f (λ next size. answers more next (still_fresh fresh 124) 124 (place + 1) size))
+        ((bar-closes fresh last place more).is e.0)
         ∙ ap (from_bar more fresh) e.1
 scans more [] (c ∷ cs) fresh last place zero h =
     let f = found (tex_inner (c ∷ cs)) fresh last place 124 more in
-    absurd (not-before more f.next (still_fresh fresh 124) 124 place f.more (place + 0) (sym (ap (λ t. if t then closing_bar more f.next (still_fresh fresh 124) 124 (place + 1) f.more else Some place) (bar-stays c cs fresh last place more).is) ∙ h) (omega arith))
-scans more [] cs fresh last place (suc taken) h = absurd (not-before more (tex_inner cs) (still_fresh fresh 124) 124 place taken (place + 0) h (omega arith))
+    absurd (not-before more f.next (still_fresh fresh 124) 124 place f.more (place + 0)
+    (sym (ap (λ t. if t then closing_bar more f.next (still_fresh fresh 124) 124 (place + 1) f.more else Some place)
+    (bar-stays c cs fresh last place more).is) ∙ h) (omega arith))
+scans more [] cs fresh last place (suc taken) h = absurd (not-before more (tex_inner cs) (still_fresh fresh 124) 124
+    place taken (place + 0) h (omega arith))
 scans more (byte ∷ bs) cs fresh last place zero h =
     let f = found (tex_inner cs) fresh last place byte (bs ++ 124 ∷ more) in
-    by f refl (goes-on byte (bs ++ 124 ∷ more) cs fresh last place (place + suc (length bs)) f refl h) (λ cs taken g. scans more bs cs (still_fresh fresh byte) byte (place + 1) taken g)
+    by f refl (goes-on byte (bs ++ 124 ∷ more) cs fresh last place (place + suc (length bs)) f refl h)
+    (λ cs taken g. scans more bs cs (still_fresh fresh byte) byte (place + 1) taken g)
   where
     by : (f : Found) → found (tex_inner cs) fresh last place byte (bs ++ 124 ∷ more) ≡ f
-        → ((is_tex_inner f.next.part ≡ true) × (closing_bar (bs ++ 124 ∷ more) f.next (still_fresh fresh byte) byte (place + 1) f.more ≡ Some (place + suc (length bs)))) ⊎ ((is_tex_inner f.next.part ≡ false) × (place ≡ place + suc (length bs)))
-        → ((cs : List Opened) (taken : ℕ) → closing_bar (bs ++ 124 ∷ more) (tex_inner cs) (still_fresh fresh byte) byte (place + 1) taken ≡ Some ((place + 1) + length bs)
-        → answers (bs ++ 124 ∷ more) (tex_inner cs) (still_fresh fresh byte) byte (place + 1) taken ≡ answers bs (alone cs) (still_fresh fresh byte) byte (place + 1) taken ++ from_bar more (fresh_after (still_fresh fresh byte) bs) ((place + 1) + length bs))
-        → joined (found (tex_inner cs) fresh last place byte (bs ++ 124 ∷ more)) (λ next size. answers (bs ++ 124 ∷ more) next (still_fresh fresh byte) byte (place + 1) size)
-        ≡ joined (found (alone cs) fresh last place byte bs) (λ next size. answers bs next (still_fresh fresh byte) byte (place + 1) size) ++ from_bar more (fresh_after (still_fresh fresh byte) bs) (place + suc (length bs))
+        → ((is_tex_inner f.next.part ≡ true) × (closing_bar (bs ++ 124 ∷ more) f.next (still_fresh fresh byte) byte
+        (place + 1) f.more ≡ Some (place + suc (length bs))))
+        ⊎ ((is_tex_inner f.next.part ≡ false) × (place ≡ place + suc (length bs)))
+        → ((cs : List Opened) (taken : ℕ) → closing_bar (bs ++ 124 ∷ more) (tex_inner cs) (still_fresh fresh byte) byte
+        (place + 1) taken ≡ Some ((place + 1) + length bs)
+        → answers (bs ++ 124 ∷ more) (tex_inner cs) (still_fresh fresh byte) byte (place + 1) taken
+        ≡ answers bs (alone cs) (still_fresh fresh byte) byte (place + 1) taken
+        ++ from_bar more (fresh_after (still_fresh fresh byte) bs) ((place + 1) + length bs))
+        → joined (found (tex_inner cs) fresh last place byte (bs ++ 124 ∷ more))
+        (λ next size. answers (bs ++ 124 ∷ more) next (still_fresh fresh byte) byte (place + 1) size)
+        ≡ joined (found (alone cs) fresh last place byte bs) (λ next size. answers bs next (still_fresh fresh byte) byte
+        (place + 1) size) ++ from_bar more (fresh_after (still_fresh fresh byte) bs) (place + suc (length bs))
     by f is (inr e) rec = absurd (omega (arith, e.1))
     by f is (inl on) rec =
         let g = found (alone cs) fresh last place byte bs in
-        let c = closed (bs ++ 124 ∷ more) f.next (still_fresh fresh byte) byte (place + 1) f.more (place + suc (length bs)) on.1 in
+        let c = closed (bs ++ 124 ∷ more) f.next (still_fresh fresh byte) byte (place + 1) f.more
+        (place + suc (length bs)) on.1 in
         let fits : f.more ≤ length bs = omega (arith, c.place-is, c.short) in
         let twin = found-twin more cs fresh last place byte bs f is fits on.0 in
         let to : place + suc (length bs) ≡ (place + 1) + length bs = omega arith in
-        let rest = rec g.next.comments g.more (sym (ap (λ (f : Found). closing_bar (bs ++ 124 ∷ more) f.next (still_fresh fresh byte) byte (place + 1) f.more) twin.0) ∙ on.1 ∙ ap (λ n. Some n) to) in
+        let rest = rec g.next.comments g.more (sym
+        (ap (λ (f : Found). closing_bar (bs ++ 124 ∷ more) f.next (still_fresh fresh byte) byte (place + 1) f.more)
+        twin.0) ∙ on.1 ∙ ap (λ n. Some n) to) in
         let here : alone g.next.comments ≡ g.next = (λ i. record { part = sym twin.1 i; comments = g.next.comments }) in
         let behind = from_bar more (fresh_after (still_fresh fresh byte) bs) ((place + 1) + length bs) in
-        ap (λ (f : Found). joined f (λ next size. answers (bs ++ 124 ∷ more) next (still_fresh fresh byte) byte (place + 1) size)) (is ∙ twin.0)
-        ∙ ap (λ l. g.answers ++ l) (rest ∙ ap (λ (w : Where). answers bs w (still_fresh fresh byte) byte (place + 1) g.more ++ behind) here)
+        ap (λ (f : Found). joined f (λ next size. answers (bs ++ 124 ∷ more) next (still_fresh fresh byte) byte
+        (place + 1) size)) (is ∙ twin.0)
+        ∙ ap (λ l. g.answers ++ l) (rest ∙ ap (λ (w : Where). answers bs w (still_fresh fresh byte) byte (place + 1)
+        g.more ++ behind) here)
         ∙ sym (append_assoc g.answers (answers bs g.next (still_fresh fresh byte) byte (place + 1) g.more) behind)
-        ∙ ap (λ n. (g.answers ++ answers bs g.next (still_fresh fresh byte) byte (place + 1) g.more) ++ from_bar more (fresh_after (still_fresh fresh byte) bs) n) (sym to)
+        ∙ ap (λ n. (g.answers ++ answers bs g.next (still_fresh fresh byte) byte (place + 1) g.more)
+        ++ from_bar more (fresh_after (still_fresh fresh byte) bs) n) (sym to)
 scans more (byte ∷ bs) cs fresh last place (suc taken) h =
     let to : place + suc (length bs) ≡ (place + 1) + length bs = omega arith in
     scans more bs cs (still_fresh fresh byte) byte (place + 1) taken (h ∙ ap (λ n. Some n) to)
-    ∙ ap (λ n. answers bs (alone cs) (still_fresh fresh byte) byte (place + 1) taken ++ from_bar more (fresh_after (still_fresh fresh byte) bs) n) (sym to)
+    ∙ ap (λ n. answers bs (alone cs) (still_fresh fresh byte) byte (place + 1) taken
+    ++ from_bar more (fresh_after (still_fresh fresh byte) bs) n) (sym to)
 
 -- ## Inner C text in its text
 
 -- what the byte at a place says behind it
-fresh-behind : (text more : List ℕ) (place byte : ℕ) → drop place text ≡ byte ∷ more → still_fresh (fresh_at text place) byte ≡ fresh_at text (place + 1)
-fresh-behind text more place byte h = ap (λ bs. fresh_after (fresh_at text place) (take 1 bs)) (sym h) ∙ fresh-more true text place 1
+fresh-behind : (text more : List ℕ) (place byte : ℕ) → drop place text ≡ byte ∷ more
+    → still_fresh (fresh_at text place) byte ≡ fresh_at text (place + 1)
+fresh-behind text more place byte h = ap (λ bs. fresh_after (fresh_at text place) (take 1 bs)) (sym h)
+    ∙ fresh-more true text place 1
 
 last-behind : (text more : List ℕ) (place byte : ℕ) → drop place text ≡ byte ∷ more → byte ≡ last_at text (place + 1)
-last-behind text more place byte h = ap (λ bs. last_after (last_at text place) (take 1 bs)) (sym h) ∙ last-more 0 text place 1
+last-behind text more place byte h = ap (λ bs. last_after (last_at text place) (take 1 bs)) (sym h)
+    ∙ last-more 0 text place 1
 
 -- inner C text behind its first bar
 behind-bar : (text : List ℕ) (start end : ℕ) → closing_bar_from text start ≡ Some end
@@ -202,26 +275,35 @@ behind-bar text start end h =
     let n = length bs in
     let order : start ≤ end = omega (arith, c.place-is) in
     let size : end - start ≡ n = omega (arith, c.place-is) in
-    let part : drop start (take end text) ≡ bs = drop-part text end start order ∙ (λ i. take (size i) (c.split i)) ∙ take-same n bs (124 ∷ c.behind) (omega arith) ∙ take_all n bs (omega arith) in
+    let part : drop start (take end text) ≡ bs = drop-part text end start order ∙ (λ i. take (size i) (c.split i))
+    ∙ take-same n bs (124 ∷ c.behind) (omega arith) ∙ take_all n bs (omega arith) in
     let place : start + n ≡ end = omega (arith, c.place-is) in
-    let at-end : drop end text ≡ 124 ∷ c.behind = ap (λ k. drop k text) (sym place) ∙ sym (drop-drop n start text) ∙ ap (drop n) c.split ∙ drop-same n bs (124 ∷ c.behind) (omega arith) ∙ ap (λ l. l ++ 124 ∷ c.behind) (drop_all n bs (omega arith)) in
+    let at-end : drop end text ≡ 124 ∷ c.behind = ap (λ k. drop k text) (sym place) ∙ sym (drop-drop n start text)
+    ∙ ap (drop n) c.split ∙ drop-same n bs (124 ∷ c.behind) (omega arith)
+    ∙ ap (λ l. l ++ 124 ∷ c.behind) (drop_all n bs (omega arith)) in
     let begun : take start (take end text) ≡ take start text = take-take start end text order in
     let fresh-end : fresh_after (fresh_at text start) bs ≡ fresh_at text end =
-    ap (fresh_after (fresh_at text start)) (sym part ∙ drop-part text end start order) ∙ fresh-more true text start (end - start) ∙ ap (fresh_at text) (omega (arith, order)) in
+    ap (fresh_after (fresh_at text start)) (sym part ∙ drop-part text end start order)
+    ∙ fresh-more true text start (end - start) ∙ ap (fresh_at text) (omega (arith, order)) in
     let rest : drop (end + 1) text ≡ c.behind = sym (drop-drop 1 end text) ∙ ap (drop 1) at-end in
     (λ i. answers (c.split i) (tex_inner []) (fresh_at text start) (last_at text start) start 0)
     ∙ scans c.behind bs [] (fresh_at text start) (last_at text start) start 0
-    (ap (λ l. closing_bar l (tex_inner []) (fresh_at text start) (last_at text start) start 0) (sym c.split) ∙ h ∙ ap (λ n. Some n) c.place-is)
-    ∙ (λ i. answers (sym part i) (alone []) (fresh_after true (sym begun i)) (last_after 0 (sym begun i)) start 0 ++ from_bar c.behind (fresh-end i) (sym c.place-is i))
+    (ap (λ l. closing_bar l (tex_inner []) (fresh_at text start) (last_at text start) start 0) (sym c.split) ∙ h
+    ∙ ap (λ n. Some n) c.place-is)
+    ∙ (λ i. answers (sym part i) (alone []) (fresh_after true (sym begun i)) (last_after 0 (sym begun i)) start 0
+    ++ from_bar c.behind (fresh-end i) (sym c.place-is i))
     ∙ (λ i. tokens_of text start end modes.Inner ++
-    Finish (token_of false kinds.InnerText end 1 (sym at-end i)) ∷ answers (sym rest i) (beginning modes.TexText) (fresh-behind text c.behind end 124 at-end i) (last-behind text c.behind end 124 at-end i) (end + 1) 0)
+    Finish (token_of false kinds.InnerText end 1 (sym at-end i)) ∷ answers (sym rest i) (beginning modes.TexText)
+    (fresh-behind text c.behind end 124 at-end i) (last-behind text c.behind end 124 at-end i) (end + 1) 0)
 
-pub inner-ends-at-bar : (text : List ℕ) (start end : ℕ) → begins bar (drop start text) ≡ true → closing_bar_from text (start + 1) ≡ Some end
+pub inner-ends-at-bar : (text : List ℕ) (start end : ℕ) → begins bar (drop start text) ≡ true
+    → closing_bar_from text (start + 1) ≡ Some end
     → answers_at text (beginning modes.TexText) start ≡
     Begin (token_of false kinds.InnerText start 1 (drop start text)) ∷ (tokens_of text (start + 1) end modes.Inner ++
     Finish (token_of false kinds.InnerText end 1 (drop end text)) ∷ answers_at text (beginning modes.TexText) (end + 1))
 inner-ends-at-bar text start end b h =
     let here = begins-byte bar text start b in
     ap (λ l. answers l (beginning modes.TexText) (fresh_at text start) (last_at text start) start 0) here
-    ∙ (λ i. Begin (token_of false kinds.InnerText start 1 (sym here i)) ∷ answers (drop (start + 1) text) (tex_inner []) (fresh-behind text _ start 124 here i) (last-behind text _ start 124 here i) (start + 1) 0)
+    ∙ (λ i. Begin (token_of false kinds.InnerText start 1 (sym here i)) ∷ answers (drop (start + 1) text) (tex_inner [])
+    (fresh-behind text _ start 124 here i) (last-behind text _ start 124 here i) (start + 1) 0)
     ∙ ap (λ l. Begin (token_of false kinds.InnerText start 1 (drop start text)) ∷ l) (behind-bar text (start + 1) end h)

@@ -22,6 +22,7 @@ pub mod HeadNests
 pub mod PartScans
 pub mod InnerScans
 pub mod LimboNames
+pub mod FirstTokens
 pub mod Openings
 pub mod InnerEnds
 pub mod TexTexts

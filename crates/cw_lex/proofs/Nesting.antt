@@ -1,5 +1,6 @@
 -- The scanner's answers over C text are nested.
-use Rattle.std.proofs.Common.{◌≡◌, ℕ, zero, suc, ◌+◌, ◌-◌, Bool, true, false, not, ◌&&◌, ◌||◌, Option, Some, None, List, [], ◌∷◌, ◌++◌, take, drop, length, refl, sym, ◌∙◌, ap, subst, append-nil, append_assoc}
+use Rattle.std.proofs.Common.{◌≡◌, ℕ, zero, suc, ◌+◌, ◌-◌, Bool, true, false, not, ◌&&◌, ◌||◌, Option, Some, None, List}
+use Rattle.std.proofs.Common.{[], ◌∷◌, ◌++◌, take, drop, length, refl, sym, ◌∙◌, ap, subst, append-nil, append_assoc}
 use Rattle.std.specs.Prelude.{if◌then◌else◌, ◌==◌, nat_lt}
 use Rattle.cw_base.proofs.TestLaws.{both-left, both-right}
 use Rattle.cw_rules.specs.declared.codes.Code.{Code}
@@ -16,9 +17,11 @@ use Rattle.cw_rules.specs.declared.tokens.Mode.{Mode}
 use Rattle.cw_rules.specs.declared.tokens.Mode.TheVariants as modes
 use Rattle.cw_rules.specs.declared.tokens.TokKind.{TokKind}
 use Rattle.cw_rules.specs.declared.tokens.TokKind.TheVariants as kind
-use Rattle.cw_rules.specs.Answers.{Answer, Token, Note, Finish, Where, Cut, Found, before, note_answers, token_of, plain}
+use Rattle.cw_rules.specs.Answers.{Answer, Token, Note, Finish, Where, Cut, Found, before, note_answers, token_of}
+use Rattle.cw_rules.specs.Answers.{plain}
 use Rattle.cw_rules.specs.declared.classes.Class.TheVariants as classes
-use Rattle.cw_rules.specs.Bytes.{newline, backslash, bar, at_sign, equals, comma, left_paren, right_paren, run, begins, is_letter, is_in, quote, apostrophe, slash, star, hash, less}
+use Rattle.cw_rules.specs.Bytes.{newline, backslash, bar, at_sign, equals, comma, left_paren, right_paren, run, begins}
+use Rattle.cw_rules.specs.Bytes.{is_letter, is_in, quote, apostrophe, slash, star, hash, less}
 use Rattle.cw_rules.specs.Bodies.{one_note, note_unless, noted}
 use Rattle.cw_rules.specs.Constants.{constant}
 use Rattle.cw_rules.specs.Signs.{all_signs, longest, spelling}
@@ -27,20 +30,33 @@ use Rattle.cw_base.specs.declared.notes.NoteKind.TheVariants as notes
 use Rattle.cw_base.specs.declared.notes.NoteKind.{NoteKind}
 use Rattle.cw_rules.specs.declared.signs.Sign.TheVariants as signs
 use Rattle.cw_rules.specs.Codes.{has_control_text, is_section, begins_section, effect_in_c}
-use Rattle.cw_rules.specs.Tokens.{one, skipped_byte, dropped_code, identifier, string, include_name, sign_or_other, piece_start, passed, moved, in_hash_line, ends_at_bar, line_end, comment_begin, comment_end, inner_cut, comment_cut, part_cut, inner_or_none, all_cut, inner_end, effect_in, code_by, code_token, control_or_plain, in_code, start_of, code_text, comment_text, head_text, part_text, in_text, section, section_code, found, is_name, is_quote, behind_word, is_include, may_head, is_head, is_space, takes_hash_line, behind_include, closes_on_line, is_deep, name_follows, macro_name, parameter_follows, parameter, format_name, behind_head}
+use Rattle.cw_rules.specs.Tokens.{one, skipped_byte, dropped_code, identifier, string, include_name, sign_or_other}
+use Rattle.cw_rules.specs.Tokens.{piece_start, passed, moved, in_hash_line, ends_at_bar, line_end, comment_begin}
+use Rattle.cw_rules.specs.Tokens.{comment_end, inner_cut, comment_cut, part_cut, inner_or_none, all_cut, inner_end}
+use Rattle.cw_rules.specs.Tokens.{effect_in, code_by, code_token, control_or_plain, in_code, start_of, code_text}
+use Rattle.cw_rules.specs.Tokens.{comment_text, head_text, part_text, in_text, section, section_code, found, is_name}
+use Rattle.cw_rules.specs.Tokens.{is_quote, behind_word, is_include, may_head, is_head, is_space, takes_hash_line}
+use Rattle.cw_rules.specs.Tokens.{behind_include, closes_on_line, is_deep, name_follows, macro_name, parameter_follows}
+use Rattle.cw_rules.specs.Tokens.{parameter, format_name, behind_head}
 use Rattle.cw_lex.specs.Lexing.{answers, joined, tokens_of, still_fresh, fresh_at, last_at}
-use Rattle.cw_lex.specs.Nested.{Level, InCode, InComment, after_token, levels_after, all_levels_after, IsNested, is_section_kind, is_section_answer, begins_section_in, until_section, is_c_mode}
+use Rattle.cw_lex.specs.Nested.{Level, InCode, InComment, after_token, levels_after, all_levels_after, IsNested}
+use Rattle.cw_lex.specs.Nested.{is_section_kind, is_section_answer, begins_section_in, until_section, is_c_mode}
 use Rattle.cw_rules.proofs.Choices.{if-both, or-false, or-first, or-second}
 
-levels-append : (xs bs : List Answer) (ls ms : List Level) → all_levels_after xs ls ≡ Some ms → all_levels_after (xs ++ bs) ls ≡ all_levels_after bs ms
+levels-append : (xs bs : List Answer) (ls ms : List Level) → all_levels_after xs ls ≡ Some ms
+    → all_levels_after (xs ++ bs) ls ≡ all_levels_after bs ms
 levels-append [] bs ls ms h = ap (all_levels_after bs) (let e : ls ≡ ms = cc in e)
 levels-append (a ∷ xs) bs ls ms h = go (levels_after a ls) refl (λ next. levels-append xs bs next ms)
   where
-    go : (o : Option (List Level)) → levels_after a ls ≡ o → ((next : List Level) → all_levels_after xs next ≡ Some ms → all_levels_after (xs ++ bs) next ≡ all_levels_after bs ms) → all_levels_after (a ∷ xs ++ bs) ls ≡ all_levels_after bs ms
-    go None e rec = absurd (let k : ◌≡◌ {A = Option (List Level)} None (Some ms) = sym (ap (λ (o : Option (List Level)). elim o [ None ↦ None | Some next ↦ all_levels_after xs next ]) e) ∙ h in cc)
+    go : (o : Option (List Level)) → levels_after a ls ≡ o → ((next : List Level) → all_levels_after xs next ≡ Some ms
+        → all_levels_after (xs ++ bs) next ≡ all_levels_after bs ms) → all_levels_after (a ∷ xs ++ bs) ls
+        ≡ all_levels_after bs ms
+    go None e rec = absurd (let k : ◌≡◌ {A = Option (List Level)} None (Some ms) = sym
+        (ap (λ (o : Option (List Level)). elim o [ None ↦ None | Some next ↦ all_levels_after xs next ]) e) ∙ h in cc)
     go (Some next) e rec =
         ap (λ (o : Option (List Level)). elim o [ None ↦ None | Some next ↦ all_levels_after (xs ++ bs) next ]) e
-        ∙ rec next (sym (ap (λ (o : Option (List Level)). elim o [ None ↦ None | Some next ↦ all_levels_after xs next ]) e) ∙ h)
+        ∙ rec next (sym (ap (λ (o : Option (List Level)). elim o [ None ↦ None | Some next ↦ all_levels_after xs next ])
+        e) ∙ h)
 
 pub notes-stay : (ns : List Noted) (ls : List Level) → all_levels_after (note_answers ns) ls ≡ Some ls
 notes-stay [] ls = refl
@@ -88,7 +104,11 @@ inner-nested (c ∷ cs) h = both-right c.inner (all_inner cs) h
 -- C text goes on in code
 pub code-first : (cs : List Opened) → all_inner cs ≡ true → (ls : List Level) × (levels_in cs ≡ InCode ∷ ls)
 code-first [] h = ([], refl)
-code-first (c ∷ cs) h = (InComment ∷ levels_in cs, ap (λ b. with_code b (InComment ∷ levels_in cs)) (both-left c.inner (all_inner cs) h))
+code-first (c ∷ cs) h = (
+  InComment ∷ levels_in cs,
+  ap (λ b. with_code b (InComment ∷ levels_in cs))
+      (both-left c.inner (all_inner cs) h),
+)
 
 passed-c : (p : Part) → is_c p ≡ true → is_c (passed p) ≡ true
 passed-c parts.Begin h = refl
@@ -121,7 +141,13 @@ pub record Goes (tex : Bool) (ls : List Level) (f : Found) : Type 0 where
   pub uncut : begins_section_in f.answers ≡ false
 
 same-goes : (a b : Bool) (ls : List Level) (f : Found) → a ≡ b → Goes a ls f → Goes b ls f
-same-goes a b ls f e g = record { part = g.part; same = g.same ∙ e; nested = g.nested; levels = g.levels; uncut = g.uncut }
+same-goes a b ls f e g = record {
+  part = g.part;
+  same = g.same ∙ e;
+  nested = g.nested;
+  levels = g.levels;
+  uncut = g.uncut;
+}
 
 -- what stands in C text
 abbrev in_c : TokKind → Bool
@@ -143,11 +169,16 @@ notes-uncut : (ns : List Noted) → begins_section_in (note_answers ns) ≡ fals
 notes-uncut [] = refl
 notes-uncut (n ∷ ns) = notes-uncut ns
 
-append-uncut : (xs ys : List Answer) → begins_section_in xs ≡ false → begins_section_in ys ≡ false → begins_section_in (xs ++ ys) ≡ false
+append-uncut : (xs ys : List Answer) → begins_section_in xs ≡ false → begins_section_in ys ≡ false
+    → begins_section_in (xs ++ ys) ≡ false
 append-uncut [] ys h g = g
-append-uncut (x ∷ xs) ys h g = or-false (is_section_answer x) (begins_section_in (xs ++ ys)) (or-first (is_section_answer x) (begins_section_in xs) h) (append-uncut xs ys (or-second (is_section_answer x) (begins_section_in xs) h) g)
+append-uncut (x ∷ xs) ys h g = or-false (is_section_answer x) (begins_section_in (xs ++ ys))
+    (or-first (is_section_answer x) (begins_section_in xs) h)
+    (append-uncut xs ys (or-second (is_section_answer x) (begins_section_in xs) h) g)
 
-one-goes : (tex hash_line : Bool) (next : Where) (place : ℕ) (bytes : List ℕ) (cut : Cut) → in_tex next.part ≡ tex → in_c cut.kind ≡ true → is_c next.part ≡ true → all_inner next.comments ≡ true → Goes tex (levels_in next.comments) (one hash_line next place bytes cut)
+one-goes : (tex hash_line : Bool) (next : Where) (place : ℕ) (bytes : List ℕ) (cut : Cut) → in_tex next.part ≡ tex
+    → in_c cut.kind ≡ true → is_c next.part ≡ true → all_inner next.comments ≡ true
+    → Goes tex (levels_in next.comments) (one hash_line next place bytes cut)
 one-goes tex hash_line next place bytes cut same k part inner =
     let top = code-first next.comments inner in
     record {
@@ -155,15 +186,28 @@ one-goes tex hash_line next place bytes cut same k part inner =
       same = same;
       nested = inner-nested next.comments inner;
       levels =
-          ap (λ (o : Option (List Level)). elim o [ None ↦ None | Some ls ↦ all_levels_after (note_answers cut.notes) ls ]) (ap (after_token cut.kind) top.1 ∙ token-stays cut.kind top.0 k ∙ ap Some (sym top.1))
+          ap (λ (o : Option (List Level)). elim o [
+            | None ↦ None
+            | Some ls ↦ all_levels_after (note_answers cut.notes) ls
+          ]) (ap (after_token cut.kind) top.1
+          ∙ token-stays cut.kind top.0 k ∙ ap Some (sym top.1))
           ∙ notes-stay cut.notes (levels_in next.comments);
-      uncut = or-false (is_section_kind cut.kind) (begins_section_in (note_answers cut.notes)) (token-uncut cut.kind k) (notes-uncut cut.notes);
+      uncut = or-false (is_section_kind cut.kind) (begins_section_in (note_answers cut.notes)) (token-uncut cut.kind k)
+          (notes-uncut cut.notes);
     }
 
-pub skip-goes : (w : Where) → is_c w.part ≡ true → all_inner w.comments ≡ true → Goes (in_tex w.part) (levels_in w.comments) (skipped_byte w)
-skip-goes w part inner = record { part = part; same = refl; nested = inner-nested w.comments inner; levels = refl; uncut = refl }
+pub skip-goes : (w : Where) → is_c w.part ≡ true → all_inner w.comments ≡ true
+    → Goes (in_tex w.part) (levels_in w.comments) (skipped_byte w)
+skip-goes w part inner = record {
+  part = part;
+  same = refl;
+  nested = inner-nested w.comments inner;
+  levels = refl;
+  uncut = refl;
+}
 
-before-goes : (tex : Bool) (xs : List Answer) (ls ms : List Level) (f : Found) → all_levels_after xs ls ≡ Some ms → begins_section_in xs ≡ false → Goes tex ms f → Goes tex ls (before xs f)
+before-goes : (tex : Bool) (xs : List Answer) (ls ms : List Level) (f : Found) → all_levels_after xs ls ≡ Some ms
+    → begins_section_in xs ≡ false → Goes tex ms f → Goes tex ls (before xs f)
 before-goes tex xs ls ms f h u g = record {
   part = g.part;
   same = g.same;
@@ -173,29 +217,41 @@ before-goes tex xs ls ms f h u g = record {
 }
 
 -- the end of a comment, whose level is the first
-end-levels : (hash_line : Bool) (c : Opened) (place size : ℕ) (bytes : List ℕ) (cs : List Opened) → all_inner cs ≡ true → all_levels_after (comment_end hash_line c place size bytes) (InComment ∷ levels_in cs) ≡ Some (levels_in cs)
+end-levels : (hash_line : Bool) (c : Opened) (place size : ℕ) (bytes : List ℕ) (cs : List Opened) → all_inner cs ≡ true
+    → all_levels_after (comment_end hash_line c place size bytes) (InComment ∷ levels_in cs) ≡ Some (levels_in cs)
 end-levels hash_line c place size bytes cs inner =
     let top = code-first cs inner in
-    ap (λ ls. all_levels_after (comment_end hash_line c place size bytes) (InComment ∷ ls)) top.1 ∙ notes-stay (one_note (note_unless (c.braces == 0) notes.MissingBrace place)) (InCode ∷ top.0) ∙ ap Some (sym top.1)
+    ap (λ ls. all_levels_after (comment_end hash_line c place size bytes) (InComment ∷ ls)) top.1
+    ∙ notes-stay (one_note (note_unless (c.braces == 0) notes.MissingBrace place)) (InCode ∷ top.0)
+    ∙ ap Some (sym top.1)
 
-end-uncut : (hash_line : Bool) (c : Opened) (place size : ℕ) (bytes : List ℕ) → begins_section_in (comment_end hash_line c place size bytes) ≡ false
+end-uncut : (hash_line : Bool) (c : Opened) (place size : ℕ) (bytes : List ℕ)
+    → begins_section_in (comment_end hash_line c place size bytes) ≡ false
 end-uncut hash_line c place size bytes = notes-uncut (one_note (note_unless (c.braces == 0) notes.MissingBrace place))
 
-pub line-goes : (part : Part) (cs : List Opened) (last place : ℕ) → is_c part ≡ true → all_inner cs ≡ true → Goes (in_tex part) (levels_in cs) (line_end part cs last place)
+pub line-goes : (part : Part) (cs : List Opened) (last place : ℕ) → is_c part ≡ true → all_inner cs ≡ true
+    → Goes (in_tex part) (levels_in cs) (line_end part cs last place)
 line-goes part [] last place p inner =
     if-both (Goes (in_tex part) (InCode ∷ [])) (in_hash_line part && not (last == backslash)) _ _
-    (λ e. one-goes (in_tex part) true (record { part = parts.Plain false false; comments = [] }) place (newline ∷ []) (plain kind.HashLineEnd 1) (hash-tex part (both-left (in_hash_line part) (not (last == backslash)) e)) refl refl refl)
+    (λ e. one-goes (in_tex part) true (record { part = parts.Plain false false; comments = [] }) place (newline ∷ [])
+    (plain kind.HashLineEnd 1) (hash-tex part (both-left (in_hash_line part) (not (last == backslash)) e)) refl refl
+    refl)
     (λ e. skip-goes (record { part = part; comments = [] }) p refl)
 line-goes part (c ∷ cs) last place p inner =
     let cut = inner_cut (in_hash_line part) place place ++ comment_end (in_hash_line part) c place 0 [] in
-    if-both (Goes (in_tex part) (levels_in (c ∷ cs))) c.long _ _ (λ e. skip-goes (record { part = part; comments = c ∷ cs }) p inner)
+    if-both (Goes (in_tex part) (levels_in (c ∷ cs))) c.long _ _
+    (λ e. skip-goes (record { part = part; comments = c ∷ cs }) p inner)
     (λ e. before-goes (in_tex part) cut (levels_in (c ∷ cs)) (levels_in cs) (line_end (passed part) cs last place)
-    (ap (λ b. all_levels_after cut (with_code b (InComment ∷ levels_in cs))) (both-left c.inner (all_inner cs) inner) ∙ end-levels (in_hash_line part) c place 0 [] cs (both-right c.inner (all_inner cs) inner))
+    (ap (λ b. all_levels_after cut (with_code b (InComment ∷ levels_in cs))) (both-left c.inner (all_inner cs) inner)
+    ∙ end-levels (in_hash_line part) c place 0 [] cs (both-right c.inner (all_inner cs) inner))
     (end-uncut (in_hash_line part) c place 0 [])
-    (same-goes (in_tex (passed part)) (in_tex part) (levels_in cs) (line_end (passed part) cs last place) (passed-tex part) (line-goes (passed part) cs last place (passed-c part p) (both-right c.inner (all_inner cs) inner))))
+    (same-goes (in_tex (passed part)) (in_tex part) (levels_in cs) (line_end (passed part) cs last place)
+    (passed-tex part) (line-goes (passed part) cs last place (passed-c part p)
+    (both-right c.inner (all_inner cs) inner))))
 
 -- a comment begins, and inner C text begins and ends
-comment-goes : (long : Bool) (w : Where) (place : ℕ) (bytes : List ℕ) → is_c w.part ≡ true → all_inner w.comments ≡ true → Goes (in_tex w.part) (levels_in w.comments) (comment_begin long w place bytes)
+comment-goes : (long : Bool) (w : Where) (place : ℕ) (bytes : List ℕ) → is_c w.part ≡ true → all_inner w.comments ≡ true
+    → Goes (in_tex w.part) (levels_in w.comments) (comment_begin long w place bytes)
 comment-goes true w place bytes p inner =
     let top = code-first w.comments inner in
     record { part = passed-c w.part p; same = passed-tex w.part; nested = inner; levels = rw top.1 refl; uncut = refl }
@@ -207,13 +263,16 @@ abbrev pub is_open : List Opened → Bool
 is_open [] = false
 is_open (c ∷ cs) = true
 
-inner-ends : (part : Part) (cs : List Opened) (place : ℕ) (bytes : List ℕ) → is_c part ≡ true → all_inner cs ≡ true → is_open cs ≡ true → Goes (in_tex part) (levels_in cs) (inner_end (record { part = part; comments = cs }) place bytes)
+inner-ends : (part : Part) (cs : List Opened) (place : ℕ) (bytes : List ℕ) → is_c part ≡ true → all_inner cs ≡ true
+    → is_open cs ≡ true → Goes (in_tex part) (levels_in cs) (inner_end (record { part = part; comments = cs }) place
+    bytes)
 inner-ends part [] place bytes p inner opens = absurd cc
 inner-ends part (c ∷ cs) place bytes p inner opens = record {
   part = passed-c part p;
   same = passed-tex part;
   nested = both-right c.inner (all_inner cs) inner;
-  levels = ap (λ b. all_levels_after (Finish (token_of (in_hash_line part) kind.InnerText place 1 bytes) ∷ []) (with_code b (InComment ∷ levels_in cs))) (both-left c.inner (all_inner cs) inner);
+  levels = ap (λ b. all_levels_after (Finish (token_of (in_hash_line part) kind.InnerText place 1 bytes) ∷ [])
+      (with_code b (InComment ∷ levels_in cs))) (both-left c.inner (all_inner cs) inner);
   uncut = refl;
 }
 
@@ -240,7 +299,8 @@ code-in-c code.StarredSection h = absurd cc
 code-in-c _ h = refl
 
 control-kind : (c : Code) (place : ℕ) (bytes : List ℕ) → is_section c ≡ false → InC (control_or_plain c place bytes)
-control-kind c place bytes h = if-both InC (has_control_text c) _ _ (λ e. record { is = code-in-c c h }) (λ e. record { is = code-in-c c h })
+control-kind c place bytes h = if-both InC (has_control_text c) _ _ (λ e. record { is = code-in-c c h })
+    (λ e. record { is = code-in-c c h })
 
 code-kind : (c : Code) (place : ℕ) (bytes : List ℕ) → is_section c ≡ false → InC (code_token c place bytes)
 code-kind c place bytes h =
@@ -252,16 +312,31 @@ other-tex : (b t : Bool) → (b ≡ true → t ≡ true) → t ≡ false → fal
 other-tex true t f e = absurd (let k : t ≡ true = f refl in cc)
 other-tex false t f e = refl
 
-code-goes : (effect : Effect) (c : Code) (w : Where) (place : ℕ) (bytes : List ℕ) → (in_tex w.part ≡ true → is_kept effect ≡ true) → is_section c ≡ false → is_c w.part ≡ true → all_inner w.comments ≡ true → Goes (in_tex w.part) (levels_in w.comments) (code_by effect c w place bytes)
+code-goes : (effect : Effect) (c : Code) (w : Where) (place : ℕ) (bytes : List ℕ)
+    → (in_tex w.part ≡ true → is_kept effect ≡ true) → is_section c ≡ false → is_c w.part ≡ true → all_inner w.comments
+    ≡ true → Goes (in_tex w.part) (levels_in w.comments) (code_by effect c w place bytes)
 code-goes effects.Stands c w place bytes k s p inner =
-    if-both (λ (next : Where). Goes (in_tex w.part) (levels_in w.comments) (one (in_hash_line w.part) next place bytes (code_token c place bytes))) (is_name c && (may_head w.part w.comments && is_head place bytes)) (moved w parts.Head) (moved w (passed w.part))
+    if-both (λ (next : Where). Goes (in_tex w.part) (levels_in w.comments)
+    (one (in_hash_line w.part) next place bytes (code_token c place bytes)))
+    (is_name c && (may_head w.part w.comments && is_head place bytes)) (moved w parts.Head)
+    (moved w (passed w.part))
     (λ e. one-goes (in_tex w.part) (in_hash_line w.part) (moved w parts.Head) place bytes (code_token c place bytes)
-    (head-tex w.part w.comments (both-left (may_head w.part w.comments) (is_head place bytes) (both-right (is_name c) (may_head w.part w.comments && is_head place bytes) e))) (code-kind c place bytes s).is refl inner)
-    (λ e. one-goes (in_tex w.part) (in_hash_line w.part) (moved w (passed w.part)) place bytes (code_token c place bytes) (passed-tex w.part) (code-kind c place bytes s).is (passed-c w.part p) inner)
-code-goes (effects.Drops note) c w place bytes k s p inner = one-goes (in_tex w.part) (in_hash_line w.part) (moved w (passed w.part)) place bytes (dropped_code note c place bytes) (passed-tex w.part) refl (passed-c w.part p) inner
-code-goes effects.BeginsC c w place bytes k s p inner = one-goes (in_tex w.part) false (moved w (parts.Plain false false)) place bytes (plain (kind.Code c) 2) (other-tex (in_tex w.part) false k refl) (code-in-c c s) refl inner
-code-goes effects.Defines c w place bytes k s p inner = one-goes (in_tex w.part) false (moved w (parts.MacroName place)) place bytes (plain (kind.Code c) 2) (other-tex (in_tex w.part) false k refl) (code-in-c c s) refl inner
-code-goes effects.Formats c w place bytes k s p inner = one-goes (in_tex w.part) false (moved w (parts.FormatName place false false)) place bytes (plain (kind.Code c) 2) (other-tex (in_tex w.part) false k refl) (code-in-c c s) refl inner
+    (head-tex w.part w.comments (both-left (may_head w.part w.comments) (is_head place bytes)
+    (both-right (is_name c) (may_head w.part w.comments && is_head place bytes) e))) (code-kind c place bytes s).is
+    refl inner)
+    (λ e. one-goes (in_tex w.part) (in_hash_line w.part) (moved w (passed w.part)) place bytes
+    (code_token c place bytes) (passed-tex w.part) (code-kind c place bytes s).is (passed-c w.part p) inner)
+code-goes (effects.Drops note) c w place bytes k s p inner = one-goes (in_tex w.part) (in_hash_line w.part)
+    (moved w (passed w.part)) place bytes (dropped_code note c place bytes) (passed-tex w.part) refl (passed-c w.part p)
+    inner
+code-goes effects.BeginsC c w place bytes k s p inner = one-goes (in_tex w.part) false
+    (moved w (parts.Plain false false)) place bytes (plain (kind.Code c) 2) (other-tex (in_tex w.part) false k refl)
+    (code-in-c c s) refl inner
+code-goes effects.Defines c w place bytes k s p inner = one-goes (in_tex w.part) false (moved w (parts.MacroName place))
+    place bytes (plain (kind.Code c) 2) (other-tex (in_tex w.part) false k refl) (code-in-c c s) refl inner
+code-goes effects.Formats c w place bytes k s p inner = one-goes (in_tex w.part) false
+    (moved w (parts.FormatName place false false)) place bytes (plain (kind.Code c) 2)
+    (other-tex (in_tex w.part) false k refl) (code-in-c c s) refl inner
 
 -- C text
 abbrev not_end : Start → Bool
@@ -281,51 +356,87 @@ sign-begins : (ends : Bool) (o : Option Sign) → Begun ends (sign_or_other o)
 sign-begins ends None = tt
 sign-begins ends (Some s) = tt
 
-pub begins-so : (ends : Bool) (byte : ℕ) (bytes : List ℕ) → (byte == at_sign && begins_section bytes) ≡ false → Begins ends (start_of ends byte bytes)
+pub begins-so : (ends : Bool) (byte : ℕ) (bytes : List ℕ) → (byte == at_sign && begins_section bytes) ≡ false
+    → Begins ends (start_of ends byte bytes)
 begins-so ends byte bytes section =
     if-both (Begins ends) (is_letter byte) _ _ (λ e. record { is = tt })
     (λ e. if-both (Begins ends) (nat_lt 0 (constant (byte ∷ bytes))) _ _ (λ e. record { is = tt })
     (λ e. if-both (Begins ends) (byte == quote || byte == apostrophe) _ _ (λ e. record { is = tt })
     (λ e. if-both (Begins ends) (byte == slash && begins star bytes) _ _ (λ e. record { is = tt })
     (λ e. if-both (Begins ends) (byte == slash && begins slash bytes) _ _ (λ e. record { is = tt })
-    (λ e. if-both (Begins ends) (byte == at_sign) _ _ (λ e. record { is = ap (λ t. t && begins_section bytes) (sym e) ∙ section })
-    (λ e. if-both (Begins ends) (byte == bar && (ends && not (begins bar bytes))) start.EndOfInner (sign_or_other (longest all_signs (byte ∷ bytes)))
-    (λ e. record { is = both-left ends (not (begins bar bytes)) (both-right (byte == bar) (ends && not (begins bar bytes)) e) })
+    (λ e. if-both (Begins ends) (byte == at_sign) _ _ (λ e. record {
+      is = ap (λ t. t && begins_section bytes) (sym e)
+          ∙ section;
+    })
+    (λ e. if-both (Begins ends) (byte == bar && (ends && not (begins bar bytes))) start.EndOfInner
+    (sign_or_other (longest all_signs (byte ∷ bytes)))
+    (λ e. record {
+      is = both-left ends (not (begins bar bytes))
+          (both-right (byte == bar) (ends && not (begins bar bytes)) e);
+    })
     (λ e. record { is = sign-begins ends (longest all_signs (byte ∷ bytes)) })))))))
 
 word-c : (p : Part) (bytes : List ℕ) → is_c p ≡ true → is_c (behind_word p bytes) ≡ true
-word-c p bytes h = if-both (λ (q : Part). is_c q ≡ true) (in_hash_line p && is_include bytes) (parts.Plain true true) (passed p) (λ e. refl) (λ e. passed-c p h)
+word-c p bytes h = if-both (λ (q : Part). is_c q ≡ true) (in_hash_line p && is_include bytes) (parts.Plain true true)
+    (passed p) (λ e. refl) (λ e. passed-c p h)
 
 word-tex : (p : Part) (bytes : List ℕ) → in_tex (behind_word p bytes) ≡ in_tex p
-word-tex p bytes = if-both (λ (q : Part). in_tex q ≡ in_tex p) (in_hash_line p && is_include bytes) (parts.Plain true true) (passed p) (λ e. hash-tex p (both-left (in_hash_line p) (is_include bytes) e)) (λ e. passed-tex p)
+word-tex p bytes = if-both (λ (q : Part). in_tex q ≡ in_tex p) (in_hash_line p && is_include bytes)
+    (parts.Plain true true) (passed p) (λ e. hash-tex p (both-left (in_hash_line p) (is_include bytes) e))
+    (λ e. passed-tex p)
 
-pub in-code-goes : (s : Start) (part : Part) (cs : List Opened) (place : ℕ) (bytes : List ℕ) → is_c part ≡ true → all_inner cs ≡ true → (s ≡ start.EndOfInner → is_open cs ≡ true) → Begun (ends_at_bar part cs) s → Goes (in_tex part) (levels_in cs) (in_code s (record { part = part; comments = cs }) place bytes)
-in-code-goes start.Identifier part cs place bytes p inner bar_ends b = one-goes (in_tex part) (in_hash_line part) (record { part = behind_word part bytes; comments = cs }) place bytes (identifier bytes) (word-tex part bytes) refl (word-c part bytes p) inner
-in-code-goes start.LongComment part cs place bytes p inner bar_ends b = comment-goes true (record { part = part; comments = cs }) place bytes p inner
-in-code-goes start.ShortComment part cs place bytes p inner bar_ends b = comment-goes false (record { part = part; comments = cs }) place bytes p inner
-in-code-goes (start.Code c) part cs place bytes p inner bar_ends b = code-goes (effect_in part cs c) c (record { part = part; comments = cs }) place bytes (kept part cs c) b p inner
-in-code-goes start.EndOfInner part cs place bytes p inner bar_ends b = inner-ends part cs place bytes p inner (bar_ends refl)
-in-code-goes start.Constant part cs place bytes p inner bar_ends b = one-goes (in_tex part) (in_hash_line part) (record { part = passed part; comments = cs }) place bytes (plain kind.Constant (constant bytes)) (passed-tex part) refl (passed-c part p) inner
-in-code-goes (start.Quoted q) part cs place bytes p inner bar_ends b = one-goes (in_tex part) (in_hash_line part) (record { part = passed part; comments = cs }) place bytes (string kind.Quoted 1 q place bytes) (passed-tex part) refl (passed-c part p) inner
-in-code-goes (start.Sign s) part cs place bytes p inner bar_ends b = one-goes (in_tex part) (in_hash_line part) (record { part = passed part; comments = cs }) place bytes (plain (kind.Sign s) (length (spelling s))) (passed-tex part) refl (passed-c part p) inner
-in-code-goes start.OtherByte part cs place bytes p inner bar_ends b = one-goes (in_tex part) (in_hash_line part) (record { part = passed part; comments = cs }) place bytes (plain kind.OtherByte 1) (passed-tex part) refl (passed-c part p) inner
+pub in-code-goes : (s : Start) (part : Part) (cs : List Opened) (place : ℕ) (bytes : List ℕ) → is_c part ≡ true
+    → all_inner cs ≡ true → (s ≡ start.EndOfInner → is_open cs ≡ true) → Begun (ends_at_bar part cs) s
+    → Goes (in_tex part) (levels_in cs) (in_code s (record { part = part; comments = cs }) place bytes)
+in-code-goes start.Identifier part cs place bytes p inner bar_ends b = one-goes (in_tex part) (in_hash_line part)
+    (record { part = behind_word part bytes; comments = cs }) place bytes (identifier bytes) (word-tex part bytes) refl
+    (word-c part bytes p) inner
+in-code-goes start.LongComment part cs place bytes p inner bar_ends b =
+    comment-goes true (record { part = part; comments = cs }) place bytes p inner
+in-code-goes start.ShortComment part cs place bytes p inner bar_ends b =
+    comment-goes false (record { part = part; comments = cs }) place bytes p inner
+in-code-goes (start.Code c) part cs place bytes p inner bar_ends b =
+    code-goes (effect_in part cs c) c (record { part = part; comments = cs }) place bytes (kept part cs c) b p inner
+in-code-goes start.EndOfInner part cs place bytes p inner bar_ends b =
+    inner-ends part cs place bytes p inner (bar_ends refl)
+in-code-goes start.Constant part cs place bytes p inner bar_ends b = one-goes (in_tex part) (in_hash_line part)
+    (record { part = passed part; comments = cs }) place bytes (plain kind.Constant (constant bytes)) (passed-tex part)
+    refl (passed-c part p) inner
+in-code-goes (start.Quoted q) part cs place bytes p inner bar_ends b = one-goes (in_tex part) (in_hash_line part)
+    (record { part = passed part; comments = cs }) place bytes (string kind.Quoted 1 q place bytes) (passed-tex part)
+    refl (passed-c part p) inner
+in-code-goes (start.Sign s) part cs place bytes p inner bar_ends b = one-goes (in_tex part) (in_hash_line part)
+    (record { part = passed part; comments = cs }) place bytes (plain (kind.Sign s) (length (spelling s)))
+    (passed-tex part) refl (passed-c part p) inner
+in-code-goes start.OtherByte part cs place bytes p inner bar_ends b = one-goes (in_tex part) (in_hash_line part)
+    (record { part = passed part; comments = cs }) place bytes (plain kind.OtherByte 1) (passed-tex part) refl
+    (passed-c part p) inner
 
 -- C text, but for what begins as a token of code
-pub before-code : (P : Found → Type 0) (part : Part) (cs : List Opened) (fresh : Bool) (last place byte : ℕ) (bytes : List ℕ) → is_c part ≡ true → all_inner cs ≡ true
-    → ((f : Found) → Goes (in_tex part) (levels_in cs) f → P f) → P (in_code (start_of (ends_at_bar part cs) byte bytes) (record { part = part; comments = cs }) place (byte ∷ bytes))
+pub before-code : (P : Found → Type 0) (part : Part) (cs : List Opened) (fresh : Bool) (last place byte : ℕ)
+    (bytes : List ℕ) → is_c part ≡ true → all_inner cs ≡ true
+    → ((f : Found) → Goes (in_tex part) (levels_in cs) f → P f)
+    → P (in_code (start_of (ends_at_bar part cs) byte bytes) (record { part = part; comments = cs }) place
+    (byte ∷ bytes))
     → P (code_text (record { part = part; comments = cs }) fresh last place byte bytes)
 before-code P part cs fresh last place byte bytes p inner goes code =
     let w : Where = record { part = part; comments = cs } in
     if-both P (byte == newline) _ _ (λ e. goes (line_end part cs last place) (line-goes part cs last place p inner))
     (λ e. if-both P (is_space part byte bytes) _ _ (λ e. goes (skipped_byte w) (skip-goes w p inner))
     (λ e. if-both P (byte == hash && (takes_hash_line part cs && fresh)) _ _
-    (λ e. goes (one true (moved w (parts.Plain true false)) place (byte ∷ bytes) (plain kind.HashLine 1)) (one-goes (in_tex part) true (moved w (parts.Plain true false)) place (byte ∷ bytes) (plain kind.HashLine 1)
-    (takes-tex part cs (both-left (takes_hash_line part cs) fresh (both-right (byte == hash) (takes_hash_line part cs && fresh) e))) refl refl inner))
+    (λ e. goes (one true (moved w (parts.Plain true false)) place (byte ∷ bytes) (plain kind.HashLine 1))
+    (one-goes (in_tex part) true (moved w (parts.Plain true false)) place (byte ∷ bytes) (plain kind.HashLine 1)
+    (takes-tex part cs (both-left (takes_hash_line part cs) fresh
+    (both-right (byte == hash) (takes_hash_line part cs && fresh) e))) refl refl inner))
     (λ e. if-both P (byte == less && (behind_include part && closes_on_line bytes)) _ _
-    (λ e. goes (one (in_hash_line part) (moved w (passed part)) place (byte ∷ bytes) (include_name place (byte ∷ bytes))) (one-goes (in_tex part) (in_hash_line part) (moved w (passed part)) place (byte ∷ bytes) (include_name place (byte ∷ bytes)) (passed-tex part) refl (passed-c part p) inner))
+    (λ e. goes (one (in_hash_line part) (moved w (passed part)) place (byte ∷ bytes)
+    (include_name place (byte ∷ bytes))) (one-goes (in_tex part) (in_hash_line part) (moved w (passed part)) place
+    (byte ∷ bytes) (include_name place (byte ∷ bytes)) (passed-tex part) refl (passed-c part p) inner))
     (λ e. code))))
 
-text-goes : (part : Part) (cs : List Opened) (fresh : Bool) (last place byte : ℕ) (bytes : List ℕ) → (byte == at_sign && begins_section bytes) ≡ false → is_c part ≡ true → all_inner cs ≡ true → (ends_at_bar part cs ≡ true → is_open cs ≡ true)
+text-goes : (part : Part) (cs : List Opened) (fresh : Bool) (last place byte : ℕ) (bytes : List ℕ)
+    → (byte == at_sign && begins_section bytes) ≡ false → is_c part ≡ true → all_inner cs ≡ true
+    → (ends_at_bar part cs ≡ true → is_open cs ≡ true)
     → Goes (in_tex part) (levels_in cs) (code_text (record { part = part; comments = cs }) fresh last place byte bytes)
 text-goes part cs fresh last place byte bytes section p inner opens =
     let s = start_of (ends_at_bar part cs) byte bytes in
@@ -334,112 +445,174 @@ text-goes part cs fresh last place byte bytes section p inner opens =
     (in-code-goes s part cs place (byte ∷ bytes) p inner (λ e. opens (subst (Begun (ends_at_bar part cs)) e b)) b)
 
 -- the text of a comment
-comment-text-goes : (part : Part) (c : Opened) (cs : List Opened) (last place byte : ℕ) (bytes : List ℕ) → is_c part ≡ true → all_inner cs ≡ true → c.inner ≡ false → Goes (in_tex part) (InComment ∷ levels_in cs) (comment_text part c cs last place byte bytes)
+comment-text-goes : (part : Part) (c : Opened) (cs : List Opened) (last place byte : ℕ) (bytes : List ℕ) → is_c part
+    ≡ true → all_inner cs ≡ true → c.inner ≡ false
+    → Goes (in_tex part) (InComment ∷ levels_in cs) (comment_text part c cs last place byte bytes)
 comment-text-goes part c cs last place byte bytes p inner f =
     let P : Found → Type 0 = Goes (in_tex part) (InComment ∷ levels_in cs) in
     if-both P (c.long && (byte == star && begins slash bytes)) _ _
-    (λ e. record { part = p; same = refl; nested = inner-nested cs inner; levels = end-levels (in_hash_line part) c place 2 (byte ∷ bytes) cs inner; uncut = end-uncut (in_hash_line part) c place 2 (byte ∷ bytes) })
+    (λ e. record {
+      part = p;
+      same = refl;
+      nested = inner-nested cs inner;
+      levels = end-levels (in_hash_line part) c
+          place 2 (byte ∷ bytes) cs inner;
+      uncut = end-uncut (in_hash_line part) c place 2 (byte ∷ bytes);
+    })
     (λ e. if-both P (not c.long && byte == newline) _ _
-    (λ e. before-goes (in_tex part) (comment_end (in_hash_line part) c place 0 []) (InComment ∷ levels_in cs) (levels_in cs) (line_end part cs last place) (end-levels (in_hash_line part) c place 0 [] cs inner) (end-uncut (in_hash_line part) c place 0 []) (line-goes part cs last place p inner))
-    (λ e. if-both P (byte == bar && not (is_deep part (c ∷ cs))) _ _ (λ e. record { part = p; same = refl; nested = inner; levels = refl; uncut = refl })
+    (λ e. before-goes (in_tex part) (comment_end (in_hash_line part) c place 0 []) (InComment ∷ levels_in cs)
+    (levels_in cs) (line_end part cs last place) (end-levels (in_hash_line part) c place 0 [] cs inner)
+    (end-uncut (in_hash_line part) c place 0 []) (line-goes part cs last place p inner))
+    (λ e. if-both P (byte == bar && not (is_deep part (c ∷ cs))) _ _
+    (λ e. record { part = p; same = refl; nested = inner; levels = refl; uncut = refl })
     (λ e. record {
       part = p;
       same = refl;
       nested = inner;
-      levels = notes-stay (noted (piece_start part cs c place) (byte ∷ bytes)) (InComment ∷ levels_in cs) ∙ ap (λ b. Some (with_code b (InComment ∷ levels_in cs))) (sym f);
+      levels = notes-stay (noted (piece_start part cs c place) (byte ∷ bytes)) (InComment ∷ levels_in cs)
+          ∙ ap (λ b. Some (with_code b (InComment ∷ levels_in cs))) (sym f);
       uncut = notes-uncut (noted (piece_start part cs c place) (byte ∷ bytes));
     })))
 
 -- heads
-head-goes : (place byte : ℕ) (bytes : List ℕ) → Goes false (InCode ∷ []) (head_text (record { part = parts.Head; comments = [] }) place byte bytes)
+head-goes : (place byte : ℕ) (bytes : List ℕ) → Goes false (InCode ∷ [])
+    (head_text (record { part = parts.Head; comments = [] }) place byte bytes)
 head-goes place byte bytes =
-    if-both (Goes false (InCode ∷ [])) (is_in classes.Blank byte) _ _ (λ e. skip-goes (record { part = parts.Head; comments = [] }) refl refl)
-    (λ e. one-goes false false (record { part = parts.Plain false false; comments = [] }) place (byte ∷ bytes) (plain kind.HeadSign (if begins equals bytes then 2 else 1)) refl refl refl refl)
+    if-both (Goes false (InCode ∷ [])) (is_in classes.Blank byte) _ _
+    (λ e. skip-goes (record { part = parts.Head; comments = [] }) refl refl)
+    (λ e. one-goes false false (record { part = parts.Plain false false; comments = [] }) place (byte ∷ bytes)
+    (plain kind.HeadSign (if begins equals bytes then 2 else 1)) refl refl refl refl)
 
-definition-goes : (fresh : Bool) (last place byte : ℕ) (bytes : List ℕ) → (byte == at_sign && begins_section bytes) ≡ false → Goes false (InCode ∷ []) (code_text (record { part = parts.Definition; comments = [] }) fresh last place byte bytes)
-definition-goes fresh last place byte bytes section = text-goes parts.Definition [] fresh last place byte bytes section refl refl (λ e. absurd cc)
+definition-goes : (fresh : Bool) (last place byte : ℕ) (bytes : List ℕ) → (byte == at_sign && begins_section bytes)
+    ≡ false → Goes false (InCode ∷ []) (code_text (record { part = parts.Definition; comments = [] }) fresh last place
+    byte bytes)
+definition-goes fresh last place byte bytes section = text-goes parts.Definition [] fresh last place byte bytes section
+    refl refl (λ e. absurd cc)
 
-improper-goes : (note : NoteKind) (at : ℕ) (part : Part) (fresh : Bool) (last place byte : ℕ) (bytes : List ℕ) → (byte == at_sign && begins_section bytes) ≡ false
-    → Goes false (InCode ∷ []) (before (Note note at ∷ []) (behind_head false (record { part = part; comments = [] }) fresh last place byte bytes))
+improper-goes : (note : NoteKind) (at : ℕ) (part : Part) (fresh : Bool) (last place byte : ℕ) (bytes : List ℕ)
+    → (byte == at_sign && begins_section bytes) ≡ false
+    → Goes false (InCode ∷ []) (before (Note note at ∷ []) (behind_head false (record { part = part; comments = [] })
+    fresh last place byte bytes))
 improper-goes note at part fresh last place byte bytes section =
-    before-goes false (Note note at ∷ []) (InCode ∷ []) (InCode ∷ []) (code_text (record { part = parts.Definition; comments = [] }) fresh last place byte bytes) refl refl (definition-goes fresh last place byte bytes section)
+    before-goes false (Note note at ∷ []) (InCode ∷ []) (InCode ∷ [])
+    (code_text (record { part = parts.Definition; comments = [] }) fresh last place byte bytes) refl refl
+    (definition-goes fresh last place byte bytes section)
 
-macro-goes : (at place byte : ℕ) (bytes : List ℕ) → Goes false (InCode ∷ []) (macro_name at (record { part = parts.MacroName at; comments = [] }) place byte bytes)
+macro-goes : (at place byte : ℕ) (bytes : List ℕ) → Goes false (InCode ∷ [])
+    (macro_name at (record { part = parts.MacroName at; comments = [] }) place byte bytes)
 macro-goes at place byte bytes =
     let w : Where = record { part = parts.MacroName at; comments = [] } in
     if-both (Goes false (InCode ∷ [])) (is_in classes.White byte) _ _ (λ e. skip-goes w refl refl)
-    (λ e. if-both (λ (next : Where). Goes false (InCode ∷ []) (one false next place (byte ∷ bytes) (identifier (byte ∷ bytes)))) (begins left_paren (drop (run classes.Word (byte ∷ bytes)) (byte ∷ bytes))) (moved w (parts.MacroParen at)) (moved w parts.Definition)
-    (λ e. one-goes false false (moved w (parts.MacroParen at)) place (byte ∷ bytes) (identifier (byte ∷ bytes)) refl refl refl refl)
-    (λ e. one-goes false false (moved w parts.Definition) place (byte ∷ bytes) (identifier (byte ∷ bytes)) refl refl refl refl))
+    (λ e. if-both (λ (next : Where). Goes false (InCode ∷ [])
+    (one false next place (byte ∷ bytes) (identifier (byte ∷ bytes))))
+    (begins left_paren (drop (run classes.Word (byte ∷ bytes)) (byte ∷ bytes))) (moved w (parts.MacroParen at))
+    (moved w parts.Definition)
+    (λ e. one-goes false false (moved w (parts.MacroParen at)) place (byte ∷ bytes) (identifier (byte ∷ bytes)) refl
+    refl refl refl)
+    (λ e. one-goes false false (moved w parts.Definition) place (byte ∷ bytes) (identifier (byte ∷ bytes)) refl refl
+    refl refl))
 
-parameter-goes : (at place byte : ℕ) (bytes : List ℕ) → Goes false (InCode ∷ []) (parameter (record { part = parts.Parameters at; comments = [] }) place byte bytes)
+parameter-goes : (at place byte : ℕ) (bytes : List ℕ)
+    → Goes false (InCode ∷ []) (parameter (record { part = parts.Parameters at; comments = [] }) place byte bytes)
 parameter-goes at place byte bytes =
     let w : Where = record { part = parts.Parameters at; comments = [] } in
     let P : Found → Type 0 = Goes false (InCode ∷ []) in
     if-both P (is_in classes.White byte) _ _ (λ e. skip-goes w refl refl)
-    (λ e. if-both P (is_letter byte) _ _ (λ e. one-goes false false w place (byte ∷ bytes) (identifier (byte ∷ bytes)) refl refl refl refl)
-    (λ e. if-both P (byte == comma) _ _ (λ e. one-goes false false w place (byte ∷ bytes) (plain (kind.Sign signs.Comma) 1) refl refl refl refl)
-    (λ e. if-both P (byte == right_paren) _ _ (λ e. one-goes false false (moved w parts.Definition) place (byte ∷ bytes) (plain (kind.Sign signs.RightParen) 1) refl refl refl refl)
+    (λ e. if-both P (is_letter byte) _ _ (λ e. one-goes false false w place (byte ∷ bytes) (identifier (byte ∷ bytes))
+    refl refl refl refl)
+    (λ e. if-both P (byte == comma) _ _ (λ e. one-goes false false w place (byte ∷ bytes)
+    (plain (kind.Sign signs.Comma) 1) refl refl refl refl)
+    (λ e. if-both P (byte == right_paren) _ _ (λ e. one-goes false false (moved w parts.Definition) place (byte ∷ bytes)
+    (plain (kind.Sign signs.RightParen) 1) refl refl refl refl)
     (λ e. one-goes false false w place (byte ∷ bytes) (plain (kind.Sign signs.Ellipsis) 3) refl refl refl refl))))
 
-format-goes : (at : ℕ) (second : Bool) (place byte : ℕ) (bytes : List ℕ) → Goes false (InCode ∷ []) (format_name at second false (record { part = parts.FormatName at second false; comments = [] }) place byte bytes)
+format-goes : (at : ℕ) (second : Bool) (place byte : ℕ) (bytes : List ℕ)
+    → Goes false (InCode ∷ []) (format_name at second false
+    (record { part = parts.FormatName at second false; comments = [] }) place byte bytes)
 format-goes at second place byte bytes =
     let w : Where = record { part = parts.FormatName at second false; comments = [] } in
     if-both (Goes false (InCode ∷ [])) (is_in classes.White byte) _ _ (λ e. skip-goes w refl refl)
-    (λ e. if-both (λ (next : Where). Goes false (InCode ∷ []) (one false next place (byte ∷ bytes) (identifier (byte ∷ bytes)))) second (moved w parts.Definition) (moved w (parts.FormatName at true false))
-    (λ e. one-goes false false (moved w parts.Definition) place (byte ∷ bytes) (identifier (byte ∷ bytes)) refl refl refl refl)
-    (λ e. one-goes false false (moved w (parts.FormatName at true false)) place (byte ∷ bytes) (identifier (byte ∷ bytes)) refl refl refl refl))
+    (λ e. if-both (λ (next : Where). Goes false (InCode ∷ [])
+    (one false next place (byte ∷ bytes) (identifier (byte ∷ bytes)))) second (moved w parts.Definition)
+    (moved w (parts.FormatName at true false))
+    (λ e. one-goes false false (moved w parts.Definition) place (byte ∷ bytes) (identifier (byte ∷ bytes)) refl refl
+    refl refl)
+    (λ e. one-goes false false (moved w (parts.FormatName at true false)) place (byte ∷ bytes)
+    (identifier (byte ∷ bytes)) refl refl refl refl))
 
-part-goes : (part : Part) (fresh : Bool) (last place byte : ℕ) (bytes : List ℕ) → (byte == at_sign && begins_section bytes) ≡ false → is_c part ≡ true → in_tex part ≡ false
+part-goes : (part : Part) (fresh : Bool) (last place byte : ℕ) (bytes : List ℕ)
+    → (byte == at_sign && begins_section bytes) ≡ false → is_c part ≡ true → in_tex part ≡ false
     → Goes false (InCode ∷ []) (part_text part (record { part = part; comments = [] }) fresh last place byte bytes)
-part-goes parts.Begin fresh last place byte bytes section p t = text-goes parts.Begin [] fresh last place byte bytes section refl refl (λ e. absurd cc)
-part-goes (parts.Plain a b) fresh last place byte bytes section p t = text-goes (parts.Plain a b) [] fresh last place byte bytes section refl refl (λ e. absurd cc)
-part-goes parts.Inner fresh last place byte bytes section p t = text-goes parts.Inner [] fresh last place byte bytes section refl refl (λ e. absurd cc)
+part-goes parts.Begin fresh last place byte bytes section p t =
+    text-goes parts.Begin [] fresh last place byte bytes section refl refl (λ e. absurd cc)
+part-goes (parts.Plain a b) fresh last place byte bytes section p t =
+    text-goes (parts.Plain a b) [] fresh last place byte bytes section refl refl (λ e. absurd cc)
+part-goes parts.Inner fresh last place byte bytes section p t =
+    text-goes parts.Inner [] fresh last place byte bytes section refl refl (λ e. absurd cc)
 part-goes parts.Definition fresh last place byte bytes section p t = definition-goes fresh last place byte bytes section
 part-goes parts.Head fresh last place byte bytes section p t = head-goes place byte bytes
 part-goes (parts.MacroName at) fresh last place byte bytes section p t =
-    if-both (Goes false (InCode ∷ [])) (name_follows (byte ∷ bytes)) _ _ (λ e. macro-goes at place byte bytes) (λ e. improper-goes notes.ImproperMacro at (parts.MacroName at) fresh last place byte bytes section)
+    if-both (Goes false (InCode ∷ [])) (name_follows (byte ∷ bytes)) _ _ (λ e. macro-goes at place byte bytes)
+    (λ e. improper-goes notes.ImproperMacro at (parts.MacroName at) fresh last place byte bytes section)
 part-goes (parts.MacroParen at) fresh last place byte bytes section p t =
-    one-goes false false (record { part = parts.Parameters at; comments = [] }) place (byte ∷ bytes) (plain (kind.Sign signs.LeftParen) 1) refl refl refl refl
+    one-goes false false (record { part = parts.Parameters at; comments = [] }) place (byte ∷ bytes)
+    (plain (kind.Sign signs.LeftParen) 1) refl refl refl refl
 part-goes (parts.Parameters at) fresh last place byte bytes section p t =
-    if-both (Goes false (InCode ∷ [])) (parameter_follows (byte ∷ bytes)) _ _ (λ e. parameter-goes at place byte bytes) (λ e. improper-goes notes.ImproperMacro at (parts.Parameters at) fresh last place byte bytes section)
+    if-both (Goes false (InCode ∷ [])) (parameter_follows (byte ∷ bytes)) _ _ (λ e. parameter-goes at place byte bytes)
+    (λ e. improper-goes notes.ImproperMacro at (parts.Parameters at) fresh last place byte bytes section)
 part-goes (parts.FormatName at second false) fresh last place byte bytes section p t =
-    if-both (Goes false (InCode ∷ [])) (name_follows (byte ∷ bytes)) _ _ (λ e. format-goes at second place byte bytes) (λ e. improper-goes notes.ImproperFormat at (parts.FormatName at second false) fresh last place byte bytes section)
+    if-both (Goes false (InCode ∷ [])) (name_follows (byte ∷ bytes)) _ _ (λ e. format-goes at second place byte bytes)
+    (λ e. improper-goes notes.ImproperFormat at (parts.FormatName at second false) fresh last place byte bytes
+    section)
 part-goes _ fresh last place byte bytes section p t = absurd cc
 
-pub open-goes : (part : Part) (c : Opened) (cs : List Opened) (fresh : Bool) (last place byte : ℕ) (bytes : List ℕ) → (byte == at_sign && begins_section bytes) ≡ false → is_c part ≡ true → all_inner cs ≡ true
+pub open-goes : (part : Part) (c : Opened) (cs : List Opened) (fresh : Bool) (last place byte : ℕ) (bytes : List ℕ)
+    → (byte == at_sign && begins_section bytes) ≡ false → is_c part ≡ true → all_inner cs ≡ true
     → Goes (in_tex part) (levels_in (c ∷ cs)) (in_text part (c ∷ cs) fresh last place byte bytes)
 open-goes part c cs fresh last place byte bytes section p n =
     if-both (Goes (in_tex part) (levels_in (c ∷ cs))) c.inner _ _
     (λ e. text-goes part (c ∷ cs) fresh last place byte bytes section p (ap (λ b. b && all_inner cs) e ∙ n) (λ e. refl))
-    (λ e. subst (λ b. Goes (in_tex part) (with_code b (InComment ∷ levels_in cs)) (comment_text part c cs last place byte bytes)) (sym e) (comment-text-goes part c cs last place byte bytes p n e))
+    (λ e. subst (λ b. Goes (in_tex part) (with_code b (InComment ∷ levels_in cs))
+    (comment_text part c cs last place byte bytes)) (sym e) (comment-text-goes part c cs last place byte bytes p n
+    e))
 
-in-text-goes : (part : Part) (cs : List Opened) (fresh : Bool) (last place byte : ℕ) (bytes : List ℕ) → (byte == at_sign && begins_section bytes) ≡ false → is_c part ≡ true → in_tex part ≡ false → nested_in cs ≡ true
+in-text-goes : (part : Part) (cs : List Opened) (fresh : Bool) (last place byte : ℕ) (bytes : List ℕ)
+    → (byte == at_sign && begins_section bytes) ≡ false → is_c part ≡ true → in_tex part ≡ false → nested_in cs ≡ true
     → Goes false (levels_in cs) (in_text part cs fresh last place byte bytes)
 in-text-goes part [] fresh last place byte bytes section p t n = part-goes part fresh last place byte bytes section p t
 in-text-goes part (c ∷ cs) fresh last place byte bytes section p t n =
-    same-goes (in_tex part) false (levels_in (c ∷ cs)) (in_text part (c ∷ cs) fresh last place byte bytes) t (open-goes part c cs fresh last place byte bytes section p n)
+    same-goes (in_tex part) false (levels_in (c ∷ cs)) (in_text part (c ∷ cs) fresh last place byte bytes) t
+    (open-goes part c cs fresh last place byte bytes section p n)
 
 -- ## What is open ends
 
-pub open-levels : (b hash_line : Bool) (place about : ℕ) (ls : List Level) → all_levels_after (inner_or_none b hash_line place about) (with_code b (InComment ∷ ls)) ≡ Some (InComment ∷ ls)
+pub open-levels : (b hash_line : Bool) (place about : ℕ) (ls : List Level)
+    → all_levels_after (inner_or_none b hash_line place about) (with_code b (InComment ∷ ls)) ≡ Some (InComment ∷ ls)
 open-levels true hash_line place about ls = refl
 open-levels false hash_line place about ls = refl
 
-pub cut-one : (hash_line : Bool) (c : Opened) (place about : ℕ) (cs : List Opened) → all_inner cs ≡ true → all_levels_after (comment_cut hash_line c place about) (InComment ∷ levels_in cs) ≡ Some (levels_in cs)
+pub cut-one : (hash_line : Bool) (c : Opened) (place about : ℕ) (cs : List Opened) → all_inner cs ≡ true
+    → all_levels_after (comment_cut hash_line c place about) (InComment ∷ levels_in cs) ≡ Some (levels_in cs)
 cut-one hash_line c place about cs inner =
     let top = code-first cs inner in
-    ap (λ ls. all_levels_after (comment_cut hash_line c place about) (InComment ∷ ls)) top.1 ∙ notes-stay (one_note (note_unless (c.braces == 0) notes.MissingBrace about)) (InCode ∷ top.0) ∙ ap Some (sym top.1)
+    ap (λ ls. all_levels_after (comment_cut hash_line c place about) (InComment ∷ ls)) top.1
+    ∙ notes-stay (one_note (note_unless (c.braces == 0) notes.MissingBrace about)) (InCode ∷ top.0)
+    ∙ ap Some (sym top.1)
 
-part-levels : (part : Part) (place about : ℕ) → in_tex part ≡ false → all_levels_after (part_cut part place about) (InCode ∷ []) ≡ Some (InCode ∷ [])
+part-levels : (part : Part) (place about : ℕ) → in_tex part ≡ false
+    → all_levels_after (part_cut part place about) (InCode ∷ []) ≡ Some (InCode ∷ [])
 part-levels parts.TexInner place about t = absurd cc
 part-levels _ place about t = refl
 
-cut-levels : (part : Part) (cs : List Opened) (place about : ℕ) → in_tex part ≡ false → nested_in cs ≡ true → all_levels_after (all_cut part cs place about) (levels_in cs) ≡ Some (InCode ∷ [])
+cut-levels : (part : Part) (cs : List Opened) (place about : ℕ) → in_tex part ≡ false → nested_in cs ≡ true
+    → all_levels_after (all_cut part cs place about) (levels_in cs) ≡ Some (InCode ∷ [])
 cut-levels part [] place about t n = part-levels part place about t
 cut-levels part (c ∷ cs) place about t n =
-    levels-append (inner_or_none c.inner (in_hash_line part) place about) (comment_cut (in_hash_line part) c place about ++ all_cut part cs place about) (levels_in (c ∷ cs)) (InComment ∷ levels_in cs) (open-levels c.inner (in_hash_line part) place about (levels_in cs))
-    ∙ levels-append (comment_cut (in_hash_line part) c place about) (all_cut part cs place about) (InComment ∷ levels_in cs) (levels_in cs) (cut-one (in_hash_line part) c place about cs n)
+    levels-append (inner_or_none c.inner (in_hash_line part) place about) (comment_cut (in_hash_line part) c place about
+    ++ all_cut part cs place about) (levels_in (c ∷ cs)) (InComment ∷ levels_in cs)
+    (open-levels c.inner (in_hash_line part) place about (levels_in cs))
+    ∙ levels-append (comment_cut (in_hash_line part) c place about) (all_cut part cs place about)
+    (InComment ∷ levels_in cs) (levels_in cs) (cut-one (in_hash_line part) c place about cs n)
     ∙ cut-levels part cs place about t (inner-nested cs n)
 
 part-uncut : (part : Part) (place about : ℕ) → begins_section_in (part_cut part place about) ≡ false
@@ -450,19 +623,23 @@ inner-uncut : (b hash_line : Bool) (place about : ℕ) → begins_section_in (in
 inner-uncut true hash_line place about = refl
 inner-uncut false hash_line place about = refl
 
-pub cut-uncut : (part : Part) (cs : List Opened) (place about : ℕ) → begins_section_in (all_cut part cs place about) ≡ false
+pub cut-uncut : (part : Part) (cs : List Opened) (place about : ℕ) → begins_section_in (all_cut part cs place about)
+    ≡ false
 cut-uncut part [] place about = part-uncut part place about
 cut-uncut part (c ∷ cs) place about =
     let h = in_hash_line part in
-    append-uncut (inner_or_none c.inner h place about) (comment_cut h c place about ++ all_cut part cs place about) (inner-uncut c.inner h place about)
-    (append-uncut (comment_cut h c place about) (all_cut part cs place about) (notes-uncut (one_note (note_unless (c.braces == 0) notes.MissingBrace about))) (cut-uncut part cs place about))
+    append-uncut (inner_or_none c.inner h place about) (comment_cut h c place about ++ all_cut part cs place about)
+    (inner-uncut c.inner h place about)
+    (append-uncut (comment_cut h c place about) (all_cut part cs place about)
+    (notes-uncut (one_note (note_unless (c.braces == 0) notes.MissingBrace about))) (cut-uncut part cs place about))
 
 -- ## Up to a section code
 
 until-append : (xs ys : List Answer) → begins_section_in xs ≡ false → until_section (xs ++ ys) ≡ xs ++ until_section ys
 until-append [] ys h = refl
 until-append (x ∷ xs) ys h =
-    ap (λ t. elim t [ true ↦ [] | false ↦ x ∷ until_section (xs ++ ys) ]) (or-first (is_section_answer x) (begins_section_in xs) h)
+    ap (λ t. elim t [ true ↦ [] | false ↦ x ∷ until_section (xs ++ ys) ])
+    (or-first (is_section_answer x) (begins_section_in xs) h)
     ∙ ap (λ l. x ∷ l) (until-append xs ys (or-second (is_section_answer x) (begins_section_in xs) h))
 
 pub until-none : (xs : List Answer) → begins_section_in xs ≡ false → until_section xs ≡ xs
@@ -472,52 +649,78 @@ pub record IsSection (x : Cut) : Type 0 where
   pub is : is_section_kind x.kind ≡ true
 
 pub section-kind : (bytes : List ℕ) → IsSection (section_code bytes)
-section-kind bytes = if-both IsSection (begins star (drop 1 bytes)) _ _ (λ e. record { is = refl }) (λ e. record { is = refl })
+section-kind bytes = if-both IsSection (begins star (drop 1 bytes)) _ _ (λ e. record { is = refl })
+    (λ e. record { is = refl })
 
 -- a section code, before which all that is open ends
-until-cut : (w : Where) (place : ℕ) (bytes : List ℕ) (ys : List Answer) → until_section ((section w place bytes).answers ++ ys) ≡ all_cut w.part w.comments place place
+until-cut : (w : Where) (place : ℕ) (bytes : List ℕ) (ys : List Answer)
+    → until_section ((section w place bytes).answers ++ ys) ≡ all_cut w.part w.comments place place
 until-cut w place bytes ys =
     let cut = all_cut w.part w.comments place place in
     let code = section_code (at_sign ∷ bytes) in
     let t = token_of false code.kind place code.size (at_sign ∷ bytes) in
     ap until_section (append_assoc cut (Token t ∷ note_answers code.notes) ys)
     ∙ until-append cut (Token t ∷ (note_answers code.notes ++ ys)) (cut-uncut w.part w.comments place place)
-    ∙ ap (λ b. cut ++ (elim b [ true ↦ [] | false ↦ Token t ∷ until_section (note_answers code.notes ++ ys) ])) (section-kind (at_sign ∷ bytes)).is
+    ∙ ap (λ b. cut ++ (elim b [ true ↦ [] | false ↦ Token t ∷ until_section (note_answers code.notes ++ ys) ]))
+    (section-kind (at_sign ∷ bytes)).is
     ∙ append-nil cut
 
-answers-nest : (bytes : List ℕ) (w : Where) (fresh : Bool) (last place taken : ℕ) → is_c w.part ≡ true → in_tex w.part ≡ false → nested_in w.comments ≡ true
-    → all_levels_after (until_section (answers bytes w fresh last place taken)) (levels_in w.comments) ≡ Some (InCode ∷ [])
+answers-nest : (bytes : List ℕ) (w : Where) (fresh : Bool) (last place taken : ℕ) → is_c w.part ≡ true → in_tex w.part
+    ≡ false → nested_in w.comments ≡ true
+    → all_levels_after (until_section (answers bytes w fresh last place taken)) (levels_in w.comments)
+    ≡ Some (InCode ∷ [])
 answers-nest [] w fresh last place taken p t n =
-    ap (λ l. all_levels_after l (levels_in w.comments)) (until-none (all_cut w.part w.comments place (place - 1)) (cut-uncut w.part w.comments place (place - 1)))
+    ap (λ l. all_levels_after l (levels_in w.comments)) (until-none (all_cut w.part w.comments place (place - 1))
+    (cut-uncut w.part w.comments place (place - 1)))
     ∙ cut-levels w.part w.comments place (place - 1) t n
 answers-nest (byte ∷ bytes) w fresh last place zero p t n =
     by (byte == at_sign && begins_section bytes) refl
     (λ f g. answers-nest bytes f.next (still_fresh fresh byte) byte (place + 1) f.more g.part g.same g.nested)
   where
     by : (s : Bool) → (byte == at_sign && begins_section bytes) ≡ s
-        → ((f : Found) → Goes false (levels_in w.comments) f → all_levels_after (until_section (answers bytes f.next (still_fresh fresh byte) byte (place + 1) f.more)) (levels_in f.next.comments) ≡ Some (InCode ∷ []))
-        → all_levels_after (until_section (joined (found w fresh last place byte bytes) (λ next more. answers bytes next (still_fresh fresh byte) byte (place + 1) more))) (levels_in w.comments) ≡ Some (InCode ∷ [])
+        → ((f : Found) → Goes false (levels_in w.comments) f
+        → all_levels_after (until_section (answers bytes f.next (still_fresh fresh byte) byte (place + 1) f.more))
+        (levels_in f.next.comments) ≡ Some (InCode ∷ []))
+        → all_levels_after (until_section (joined (found w fresh last place byte bytes)
+        (λ next more. answers bytes next (still_fresh fresh byte) byte (place + 1) more))) (levels_in w.comments)
+        ≡ Some (InCode ∷ [])
     by true e rec =
-        ap (λ s. all_levels_after (until_section (joined (if s then section w place bytes else in_text w.part w.comments fresh last place byte bytes) (λ next more. answers bytes next (still_fresh fresh byte) byte (place + 1) more))) (levels_in w.comments)) e
-        ∙ ap (λ l. all_levels_after l (levels_in w.comments)) (until-cut w place bytes (answers bytes (section w place bytes).next (still_fresh fresh byte) byte (place + 1) (section w place bytes).more))
+        ap (λ s. all_levels_after
+        (until_section (joined (if s then section w place bytes else in_text w.part w.comments fresh last place byte
+        bytes) (λ next more. answers bytes next (still_fresh fresh byte) byte (place + 1) more)))
+        (levels_in w.comments)) e
+        ∙ ap (λ l. all_levels_after l (levels_in w.comments))
+        (until-cut w place bytes (answers bytes (section w place bytes).next (still_fresh fresh byte) byte
+        (place + 1) (section w place bytes).more))
         ∙ cut-levels w.part w.comments place place t n
     by false e rec =
         let f = in_text w.part w.comments fresh last place byte bytes in
         let g = in-text-goes w.part w.comments fresh last place byte bytes e p t n in
         let behind = answers bytes f.next (still_fresh fresh byte) byte (place + 1) f.more in
-        ap (λ s. all_levels_after (until_section (joined (if s then section w place bytes else f) (λ next more. answers bytes next (still_fresh fresh byte) byte (place + 1) more))) (levels_in w.comments)) e
+        ap (λ s. all_levels_after (until_section (joined (if s then section w place bytes else f)
+        (λ next more. answers bytes next (still_fresh fresh byte) byte (place + 1) more))) (levels_in w.comments)) e
         ∙ ap (λ l. all_levels_after l (levels_in w.comments)) (until-append f.answers behind g.uncut)
         ∙ levels-append f.answers (until_section behind) (levels_in w.comments) (levels_in f.next.comments) g.levels
         ∙ rec f g
-answers-nest (byte ∷ bytes) w fresh last place (suc taken) p t n = answers-nest bytes w (still_fresh fresh byte) byte (place + 1) taken p t n
+answers-nest (byte ∷ bytes) w fresh last place (suc taken) p t n =
+    answers-nest bytes w (still_fresh fresh byte) byte (place + 1) taken p t n
 
-pub parts-nested : (text : List ℕ) (start end : ℕ) (mode : Mode) → is_c_mode mode ≡ true → IsNested (until_section (tokens_of text start end mode))
-parts-nested text first end modes.CPart m = answers-nest (drop first (take end text)) (record { part = parts.Begin; comments = [] }) (fresh_at (take end text) first) (last_at (take end text) first) first 0 refl refl refl
-parts-nested text first end modes.Inner m = answers-nest (drop first (take end text)) (record { part = parts.Inner; comments = [] }) (fresh_at (take end text) first) (last_at (take end text) first) first 0 refl refl refl
-parts-nested text first end modes.Definition m = answers-nest (drop first (take end text)) (record { part = parts.Definition; comments = [] }) (fresh_at (take end text) first) (last_at (take end text) first) first 0 refl refl refl
+pub parts-nested : (text : List ℕ) (start end : ℕ) (mode : Mode) → is_c_mode mode ≡ true
+    → IsNested (until_section (tokens_of text start end mode))
+parts-nested text first end modes.CPart m = answers-nest (drop first (take end text))
+    (record { part = parts.Begin; comments = [] }) (fresh_at (take end text) first) (last_at (take end text) first)
+    first 0 refl refl refl
+parts-nested text first end modes.Inner m = answers-nest (drop first (take end text))
+    (record { part = parts.Inner; comments = [] }) (fresh_at (take end text) first) (last_at (take end text) first)
+    first 0 refl refl refl
+parts-nested text first end modes.Definition m = answers-nest (drop first (take end text))
+    (record { part = parts.Definition; comments = [] }) (fresh_at (take end text) first) (last_at (take end text) first)
+    first 0 refl refl refl
 parts-nested text first end _ m = absurd cc
 
-pub c-texts-nested : (text : List ℕ) (start end : ℕ) (mode : Mode) → is_c_mode mode ≡ true → begins_section_in (tokens_of text start end mode) ≡ false → IsNested (tokens_of text start end mode)
-c-texts-nested text first end mode m h = let P : List Answer → Type 0 = IsNested in subst P (until-none (tokens_of text first end mode) h) (parts-nested text first end mode m)
+pub c-texts-nested : (text : List ℕ) (start end : ℕ) (mode : Mode) → is_c_mode mode ≡ true
+    → begins_section_in (tokens_of text start end mode) ≡ false → IsNested (tokens_of text start end mode)
+c-texts-nested text first end mode m h = let P : List Answer
+    → Type 0 = IsNested in subst P (until-none (tokens_of text first end mode) h) (parts-nested text first end mode m)
 
 -- ## Texts without section codes

@@ -1,5 +1,7 @@
 -- A text ends before the code with which a section or another part begins, and goes on from there as that part.
-use Rattle.std.proofs.Common.{◌≡◌, ℕ, zero, suc, ◌+◌, ◌-◌, ◌<◌, ◌≤◌, Bool, true, false, ◌&&◌, ◌||◌, ◌==◌, List, [], ◌∷◌, ◌++◌, Option, Some, length, slice_index, take, drop, refl, sym, ap, subst, ◌∙◌, arith, append_assoc, length-drop, ◌⊎◌, inl, inr}
+use Rattle.std.proofs.Common.{◌≡◌, ℕ, zero, suc, ◌+◌, ◌-◌, ◌<◌, ◌≤◌, Bool, true, false, ◌&&◌, ◌||◌, ◌==◌, List, [], ◌∷◌}
+use Rattle.std.proofs.Common.{◌++◌, Option, Some, length, slice_index, take, drop, refl, sym, ap, subst, ◌∙◌, arith}
+use Rattle.std.proofs.Common.{append_assoc, length-drop, inl, inr}
 use Rattle.std.specs.Prelude.{if◌then◌else◌}
 use Rattle.std.proofs.lemmas.Bool.{eqb-true}
 use Rattle.std.proofs.lemmas.List.{drop-drop, take-take, take_all, drop_all}
@@ -11,125 +13,29 @@ use Rattle.cw_rules.specs.declared.tokens.Mode.{Mode}
 use Rattle.cw_rules.specs.declared.tokens.Mode.TheVariants as modes
 use Rattle.cw_rules.specs.declared.tokens.TokKind.{TokKind}
 use Rattle.cw_rules.specs.declared.tokens.TokKind.TheVariants as kinds
-use Rattle.cw_rules.specs.Answers.{Answer, Token, Begin, Finish, Note, Seen, Where, Cut, Found, note_answers, token_of, has_sign, is_head_sign}
+use Rattle.cw_rules.specs.Answers.{Answer, Token, Begin, Finish, Note, Seen, Where, Cut, Found, note_answers, token_of}
+use Rattle.cw_rules.specs.Answers.{has_sign, is_head_sign}
 use Rattle.cw_rules.specs.Bytes.{star, at_sign, greater, begins}
 use Rattle.cw_lex.specs.Coming.{found_at}
 use Rattle.cw_rules.specs.Codes.{code_of, code_at, is_section, begins_section}
-use Rattle.cw_lex.specs.Lexing.{still_fresh, joined, answers, fresh_after, last_after, fresh_at, last_at, answers_at, beginning, tokens_of}
+use Rattle.cw_lex.specs.Lexing.{still_fresh, joined, answers, fresh_after, last_after, fresh_at, last_at, answers_at}
+use Rattle.cw_lex.specs.Lexing.{beginning, tokens_of}
 use Rattle.cw_lex.specs.Nested.{is_section_kind, is_section_answer, begins_section_in}
 use Rattle.cw_lex.specs.Openings.{tokens_in, named, opened_by, is_limbo_mode, EndsBefore}
 use Rattle.cw_rules.specs.Tokens.{all_cut, section, section_code, in_text, found}
 use Rattle.cw_rules.proofs.Ahead.{drop-same, take-same}
 use Rattle.cw_rules.proofs.Choices.{if-both}
 use Rattle.cw_rules.proofs.CodeStarts.{kind_code, code_in, is_opener, is_limbo, is_head_where, in-text-tells}
-use Rattle.cw_rules.proofs.CodeTwins.{Twin, Opens, Definitions, Program, Named, OpensAt, OpensBy, beginning_of, found-twin}
+use Rattle.cw_rules.proofs.CodeTwins.{Twin, Opens, Definitions, Program, Named, OpensAt, OpensBy, beginning_of}
+use Rattle.cw_rules.proofs.CodeTwins.{found-twin}
 use Rattle.cw_lex.proofs.Covering.{drop-part}
 use Rattle.cw_rules.proofs.RulesAhead.{found-local}
-use Rattle.cw_rules.proofs.Taking.{AreBare, AreNotes, IsWhole, TakesAll, bare-all-cut, found-takes}
+use Rattle.cw_rules.proofs.Taking.{AreBare, AreNotes, bare-all-cut, found-takes}
 use Rattle.cw_rules.proofs.Runs.{drop-here}
 use Rattle.cw_lex.proofs.Walk.{fresh-more, last-more, answers-at}
 use Rattle.cw_rules.proofs.Within.{found-fits}
-
--- ## Lists of answers
-
-bare-tokens : (place : ℕ) (xs : List Answer) → AreBare place xs → tokens_in xs ≡ []
-bare-tokens place [] h = refl
-bare-tokens place (Token t ∷ xs) h = absurd h
-bare-tokens place (Begin t ∷ xs) h = absurd h
-bare-tokens place (Finish t ∷ xs) h = bare-tokens place xs h.3
-bare-tokens place (Note kind about ∷ xs) h = bare-tokens place xs h
-
-bare-code : (place : ℕ) (xs ys : List Answer) → AreBare place xs → code_in (xs ++ ys) ≡ code_in ys
-bare-code place [] ys h = refl
-bare-code place (Token t ∷ xs) ys h = absurd h
-bare-code place (Begin t ∷ xs) ys h = absurd h
-bare-code place (Finish t ∷ xs) ys h = bare-code place xs ys h.3
-bare-code place (Note kind about ∷ xs) ys h = bare-code place xs ys h
-
-pub notes-sign : (xs ys : List Answer) → AreNotes xs → has_sign (xs ++ ys) ≡ has_sign ys
-notes-sign [] ys h = refl
-notes-sign (Token t ∷ xs) ys h = absurd h
-notes-sign (Begin t ∷ xs) ys h = absurd h
-notes-sign (Finish t ∷ xs) ys h = absurd h
-notes-sign (Note kind about ∷ xs) ys h = notes-sign xs ys h
-
-head-is : (a b : Answer) (xs ys : List Answer) → a ∷ xs ≡ b ∷ ys → a ≡ b
-head-is a b xs ys e = cc
-
-tail-is : (a b : Answer) (xs ys : List Answer) → a ∷ xs ≡ b ∷ ys → xs ≡ ys
-tail-is a b xs ys e = cc
-
-token-is : (s t : Seen) → Token s ≡ Token t → s ≡ t
-token-is s t e = cc
-
--- a token stands in the first of two lists, or behind it
-abbrev Split : List Answer → List Answer → List Answer → Seen → List Answer → Type 0
-Split ls bs xs t ys =
-    ((zs : List Answer) × (xs ≡ ls ++ zs) × (bs ≡ zs ++ Token t ∷ ys)) ⊎ ((zs : List Answer) × (ls ≡ xs ++ Token t ∷ zs) × (ys ≡ zs ++ bs))
-
-split-further : (a x : Answer) (ls bs xs : List Answer) (t : Seen) (ys : List Answer) → a ≡ x → Split ls bs xs t ys → Split (a ∷ ls) bs (x ∷ xs) t ys
-split-further a x ls bs xs t ys e (inl s) = inl (s.0, (λ i. sym e i ∷ s.1 i), s.2)
-split-further a x ls bs xs t ys e (inr s) = inr (s.0, (λ i. e i ∷ s.1 i), s.2)
-
-split : (ls bs xs : List Answer) (t : Seen) (ys : List Answer) → ls ++ bs ≡ xs ++ Token t ∷ ys → Split ls bs xs t ys
-split [] bs xs t ys e = inl (xs, refl, e)
-split (a ∷ ls) bs [] t ys e = inr (ls, ap (λ x. x ∷ ls) (head-is a (Token t) (ls ++ bs) ys e), sym (tail-is a (Token t) (ls ++ bs) ys e))
-split (a ∷ ls) bs (x ∷ xs) t ys e =
-    split-further a x ls bs xs t ys (head-is a x (ls ++ bs) (xs ++ Token t ∷ ys) e) (split ls bs xs t ys (tail-is a x (ls ++ bs) (xs ++ Token t ∷ ys) e))
-
--- no token among answers without bytes
-no-token-bare : (place : ℕ) (ls xs : List Answer) (t : Seen) (zs : List Answer) → AreBare place ls → ls ≡ xs ++ Token t ∷ zs → ⊥
-no-token-bare place [] [] t zs h e = cc
-no-token-bare place [] (x ∷ xs) t zs h e = cc
-no-token-bare place (Token s ∷ ls) xs t zs h e = absurd h
-no-token-bare place (Begin s ∷ ls) xs t zs h e = absurd h
-no-token-bare place (Finish s ∷ ls) [] t zs h e = let k : Finish s ≡ Token t = head-is _ _ ls zs e in cc
-no-token-bare place (Finish s ∷ ls) (x ∷ xs) t zs h e = no-token-bare place ls xs t zs h.3 (tail-is _ x ls (xs ++ Token t ∷ zs) e)
-no-token-bare place (Note kind about ∷ ls) [] t zs h e = let k : Note kind about ≡ Token t = head-is _ _ ls zs e in cc
-no-token-bare place (Note kind about ∷ ls) (x ∷ xs) t zs h e = no-token-bare place ls xs t zs h (tail-is _ x ls (xs ++ Token t ∷ zs) e)
-
-no-token-notes : (ls xs : List Answer) (t : Seen) (zs : List Answer) → AreNotes ls → ls ≡ xs ++ Token t ∷ zs → ⊥
-no-token-notes [] [] t zs h e = cc
-no-token-notes [] (x ∷ xs) t zs h e = cc
-no-token-notes (Token s ∷ ls) xs t zs h e = absurd h
-no-token-notes (Begin s ∷ ls) xs t zs h e = absurd h
-no-token-notes (Finish s ∷ ls) xs t zs h e = absurd h
-no-token-notes (Note kind about ∷ ls) [] t zs h e = let k : Note kind about ≡ Token t = head-is _ _ ls zs e in cc
-no-token-notes (Note kind about ∷ ls) (x ∷ xs) t zs h e = no-token-notes ls xs t zs h (tail-is _ x ls (xs ++ Token t ∷ zs) e)
-
--- The token that begins at a place.
-pub record Begun (place : ℕ) (bytes : List ℕ) (more : ℕ) (xs : List Answer) (t : Seen) (zs : List Answer) : Type 0 where
-  pub bare : AreBare place xs
-  pub whole : IsWhole place bytes more t
-  pub notes : AreNotes zs
-
-begun-whole : (place : ℕ) (bytes : List ℕ) (more : ℕ) (ls xs : List Answer) (t : Seen) (zs : List Answer) → TakesAll place bytes more ls → ls ≡ xs ++ Token t ∷ zs → Begun place bytes more xs t zs
-begun-whole place bytes more [] [] t zs h e = absurd cc
-begun-whole place bytes more [] (x ∷ xs) t zs h e = absurd cc
-begun-whole place bytes more (Token s ∷ ls) [] t zs h e =
-    let same : s ≡ t = token-is s t (head-is (Token s) (Token t) ls zs e) in
-    record { bare = tt; whole = subst (IsWhole place bytes more) same h.0; notes = subst AreNotes (tail-is (Token s) (Token t) ls zs e) h.1 }
-begun-whole place bytes more (Token s ∷ ls) (x ∷ xs) t zs h e = absurd (no-token-notes ls xs t zs h.1 (tail-is (Token s) x ls (xs ++ Token t ∷ zs) e))
-begun-whole place bytes more (Begin s ∷ ls) [] t zs h e = absurd (let k : Begin s ≡ Token t = head-is _ _ ls zs e in cc)
-begun-whole place bytes more (Begin s ∷ ls) (x ∷ xs) t zs h e = absurd (no-token-notes ls xs t zs h.1 (tail-is (Begin s) x ls (xs ++ Token t ∷ zs) e))
-begun-whole place bytes more (Finish s ∷ ls) [] t zs h e = absurd (let k : Finish s ≡ Token t = head-is _ _ ls zs e in cc)
-begun-whole place bytes more (Finish s ∷ ls) (x ∷ xs) t zs h e = absurd (no-token-notes ls xs t zs h.1 (tail-is (Finish s) x ls (xs ++ Token t ∷ zs) e))
-begun-whole place bytes more (Note kind about ∷ ls) xs t zs h e = absurd h
-
-pub begun : (place : ℕ) (bytes : List ℕ) (more : ℕ) (first rest xs : List Answer) (t : Seen) (zs : List Answer) → AreBare place first → TakesAll place bytes more rest → first ++ rest ≡ xs ++ Token t ∷ zs → Begun place bytes more xs t zs
-begun place bytes more [] rest xs t zs b h e = begun-whole place bytes more rest xs t zs h e
-begun place bytes more (Token s ∷ first) rest xs t zs b h e = absurd b
-begun place bytes more (Begin s ∷ first) rest xs t zs b h e = absurd b
-begun place bytes more (Finish s ∷ first) rest [] t zs b h e = absurd (let k : Finish s ≡ Token t = head-is _ _ (first ++ rest) zs e in cc)
-begun place bytes more (Finish s ∷ first) rest (x ∷ xs) t zs b h e =
-    let same : Finish s ≡ x = head-is (Finish s) x (first ++ rest) (xs ++ Token t ∷ zs) e in
-    let g = begun place bytes more first rest xs t zs b.3 h (tail-is (Finish s) x (first ++ rest) (xs ++ Token t ∷ zs) e) in
-    record { bare = subst (λ x. AreBare place (x ∷ xs)) same (b.0, b.1, b.2, g.bare); whole = g.whole; notes = g.notes }
-begun place bytes more (Note kind about ∷ first) rest [] t zs b h e = absurd (let k : Note kind about ≡ Token t = head-is _ _ (first ++ rest) zs e in cc)
-begun place bytes more (Note kind about ∷ first) rest (x ∷ xs) t zs b h e =
-    let same : Note kind about ≡ x = head-is (Note kind about) x (first ++ rest) (xs ++ Token t ∷ zs) e in
-    let g = begun place bytes more first rest xs t zs b h (tail-is (Note kind about) x (first ++ rest) (xs ++ Token t ∷ zs) e) in
-    record { bare = subst (λ x. AreBare place (x ∷ xs)) same g.bare; whole = g.whole; notes = g.notes }
+use Rattle.cw_lex.proofs.FirstTokens.{bare-tokens, bare-code, notes-sign, head-is, tail-is, token-is, Split, split}
+use Rattle.cw_lex.proofs.FirstTokens.{no-token-bare, begun}
 
 -- ## What begins at a place
 
@@ -160,14 +66,18 @@ record IsCode (cut : Cut) : Type 0 where
 
 section-code-is : (bytes : List ℕ) → IsCode (section_code bytes)
 section-code-is bytes =
-    if-both IsCode (begins star (drop 1 bytes)) _ _ (λ e. record { code = refl; sign = refl; notes = refl }) (λ e. record { code = refl; sign = refl; notes = refl })
+    if-both IsCode (begins star (drop 1 bytes)) _ _ (λ e. record { code = refl; sign = refl; notes = refl })
+    (λ e. record { code = refl; sign = refl; notes = refl })
 
 section-found : (w : Where) (place : ℕ) (bytes : List ℕ) → is_section (code_in (section w place bytes).answers) ≡ true
 section-found w place bytes =
-    ap is_section (bare-code place (all_cut w.part w.comments place place) _ (bare-all-cut w.part w.comments place place))
+    ap is_section (bare-code place (all_cut w.part w.comments place place) _
+    (bare-all-cut w.part w.comments place place))
     ∙ (section-code-is (at_sign ∷ bytes)).code
 
-opening : (w : Where) (fresh : Bool) (last place byte : ℕ) (bytes : List ℕ) → is_opener (code_in (found w fresh last place byte bytes).answers) ≡ true → Opening w place byte bytes (found w fresh last place byte bytes)
+opening : (w : Where) (fresh : Bool) (last place byte : ℕ) (bytes : List ℕ)
+    → is_opener (code_in (found w fresh last place byte bytes).answers) ≡ true
+    → Opening w place byte bytes (found w fresh last place byte bytes)
 opening w fresh last place byte bytes o = by (byte == at_sign && begins_section bytes) refl
   where
     f : Found
@@ -175,17 +85,20 @@ opening w fresh last place byte bytes o = by (byte == at_sign && begins_section 
 
     by : (t : Bool) → (byte == at_sign && begins_section bytes) ≡ t → Opening w place byte bytes f
     by true e =
-        let is-section : f ≡ section w place bytes = ap (λ t. if t then section w place bytes else in_text w.part w.comments fresh last place byte bytes) e in
+        let is-section : f ≡ section w place bytes =
+        ap (λ t. if t then section w place bytes else in_text w.part w.comments fresh last place byte bytes) e in
         record {
           byte-is = eqb-true byte at_sign (both-left (byte == at_sign) (begins_section bytes) e);
           opener = section-opens (code_at bytes) (both-right (byte == at_sign) (begins_section bytes) e);
-          same = λ h. not-both _ (section-found w place bytes) (ap (λ (f : Found). is_section (code_in f.answers)) (sym is-section) ∙ h);
+          same = λ h. not-both _ (section-found w place bytes) (ap (λ (f : Found). is_section (code_in f.answers))
+              (sym is-section) ∙ h);
           behind = λ h. is-section;
         }
     by false e =
         let g = in_text w.part w.comments fresh last place byte bytes in
         let plain : f ≡ g = ap (λ t. if t then section w place bytes else g) e in
-        let told = (in-text-tells w.part w.comments fresh last place byte bytes).code (ap (λ (f : Found). is_opener (code_in f.answers)) (sym plain) ∙ o) in
+        let told = (in-text-tells w.part w.comments fresh last place byte bytes).code
+        (ap (λ (f : Found). is_opener (code_in f.answers)) (sym plain) ∙ o) in
         let same : code_at bytes ≡ code_in f.answers = told.1 ∙ ap (λ (f : Found). code_in f.answers) (sym plain) in
         let none : begins_section bytes ≡ false = ap (λ b. b == at_sign && begins_section bytes) (sym told.0) ∙ e in
         record {
@@ -195,9 +108,11 @@ opening w fresh last place byte bytes o = by (byte == at_sign && begins_section 
           behind = λ h. not-both _ h (ap is_section (sym same) ∙ none);
         }
 
-limbo-stays : (w : Where) (fresh : Bool) (last place byte : ℕ) (bytes : List ℕ) → is_limbo w.part ≡ false → is_limbo (found w fresh last place byte bytes).next.part ≡ false
+limbo-stays : (w : Where) (fresh : Bool) (last place byte : ℕ) (bytes : List ℕ) → is_limbo w.part ≡ false
+    → is_limbo (found w fresh last place byte bytes).next.part ≡ false
 limbo-stays w fresh last place byte bytes h =
-    if-both (λ (f : Found). is_limbo f.next.part ≡ false) (byte == at_sign && begins_section bytes) (section w place bytes) (in_text w.part w.comments fresh last place byte bytes) (λ e. refl)
+    if-both (λ (f : Found). is_limbo f.next.part ≡ false) (byte == at_sign && begins_section bytes)
+    (section w place bytes) (in_text w.part w.comments fresh last place byte bytes) (λ e. refl)
     (λ e. (in-text-tells w.part w.comments fresh last place byte bytes).limbo h)
 
 opener-code : (more : List ℕ) → is_opener (code_at more) ≡ true → begins greater more ≡ false
@@ -217,14 +132,17 @@ bare-sign place (Begin t ∷ xs) ys h k = absurd h
 bare-sign place (Finish t ∷ xs) ys h k = refl
 bare-sign place (Note kind about ∷ xs) ys h k = bare-sign place xs ys h k
 
-section-sign : (w : Where) (place : ℕ) (bytes : List ℕ) (rest : List Answer) → has_sign ((section w place bytes).answers ++ rest) ≡ false
+section-sign : (w : Where) (place : ℕ) (bytes : List ℕ) (rest : List Answer)
+    → has_sign ((section w place bytes).answers ++ rest) ≡ false
 section-sign w place bytes rest =
     let cut = all_cut w.part w.comments place place in
     let alone = (section tex place bytes).answers in
-    ap has_sign (append_assoc cut alone rest) ∙ bare-sign place cut (alone ++ rest) (bare-all-cut w.part w.comments place place) (section-code-is (at_sign ∷ bytes)).sign
+    ap has_sign (append_assoc cut alone rest) ∙ bare-sign place cut (alone ++ rest)
+    (bare-all-cut w.part w.comments place place) (section-code-is (at_sign ∷ bytes)).sign
 
 -- The sign comes only where it is wanted.
-signless : (bytes : List ℕ) (w : Where) (fresh : Bool) (last place taken : ℕ) → is_head_where w ≡ false → has_sign (answers bytes w fresh last place taken) ≡ false
+signless : (bytes : List ℕ) (w : Where) (fresh : Bool) (last place taken : ℕ) → is_head_where w ≡ false
+    → has_sign (answers bytes w fresh last place taken) ≡ false
 signless [] w fresh last place taken h =
     let cut = all_cut w.part w.comments place (place - 1) in
     ap has_sign (sym (append-none cut)) ∙ bare-sign place cut [] (bare-all-cut w.part w.comments place (place - 1)) refl
@@ -235,23 +153,31 @@ signless [] w fresh last place taken h =
 signless (byte ∷ bytes) w fresh last place zero h =
     let f = found w fresh last place byte bytes in
     let rest = answers bytes f.next (still_fresh fresh byte) byte (place + 1) f.more in
-    by (byte == at_sign && begins_section bytes) refl (λ k. signless bytes f.next (still_fresh fresh byte) byte (place + 1) f.more k)
+    by (byte == at_sign && begins_section bytes) refl (λ k. signless bytes f.next (still_fresh fresh byte) byte
+    (place + 1) f.more k)
   where
     by : (t : Bool) → (byte == at_sign && begins_section bytes) ≡ t
-        → (is_head_where (found w fresh last place byte bytes).next ≡ false → has_sign (answers bytes (found w fresh last place byte bytes).next (still_fresh fresh byte) byte (place + 1) (found w fresh last place byte bytes).more) ≡ false)
-        → has_sign ((found w fresh last place byte bytes).answers ++ answers bytes (found w fresh last place byte bytes).next (still_fresh fresh byte) byte (place + 1) (found w fresh last place byte bytes).more) ≡ false
+        → (is_head_where (found w fresh last place byte bytes).next ≡ false
+        → has_sign (answers bytes (found w fresh last place byte bytes).next (still_fresh fresh byte) byte
+        (place + 1) (found w fresh last place byte bytes).more) ≡ false)
+        → has_sign ((found w fresh last place byte bytes).answers
+        ++ answers bytes (found w fresh last place byte bytes).next (still_fresh fresh byte) byte (place + 1)
+        (found w fresh last place byte bytes).more) ≡ false
     by true e rec =
         let f = found w fresh last place byte bytes in
         let rest = answers bytes f.next (still_fresh fresh byte) byte (place + 1) f.more in
-        ap (λ t. has_sign ((if t then section w place bytes else in_text w.part w.comments fresh last place byte bytes).answers ++ rest)) e ∙ section-sign w place bytes rest
+        ap (λ t. has_sign ((if t then section w place bytes else in_text w.part w.comments fresh last place byte
+        bytes).answers ++ rest)) e ∙ section-sign w place bytes rest
     by false e rec =
         let f = found w fresh last place byte bytes in
         let g = in_text w.part w.comments fresh last place byte bytes in
         let rest = answers bytes f.next (still_fresh fresh byte) byte (place + 1) f.more in
         let plain : f ≡ g = ap (λ t. if t then section w place bytes else g) e in
         ap (λ (f : Found). has_sign (f.answers ++ rest)) plain
-        ∙ (in-text-tells w.part w.comments fresh last place byte bytes).sign h rest (λ k. rec (ap (λ (f : Found). is_head_where f.next) plain ∙ k))
-signless (byte ∷ bytes) w fresh last place (suc taken) h = signless bytes w (still_fresh fresh byte) byte (place + 1) taken h
+        ∙ (in-text-tells w.part w.comments fresh last place byte bytes).sign h rest
+        (λ k. rec (ap (λ (f : Found). is_head_where f.next) plain ∙ k))
+signless (byte ∷ bytes) w fresh last place (suc taken) h = signless bytes w (still_fresh fresh byte) byte (place + 1)
+    taken h
 
 -- ## Section codes
 
@@ -279,26 +205,31 @@ section-kind-is (kinds.Code c) = section-kind-code c
 section-kind-is _ = refl
 
 -- a section code cuts
-pub section-cuts : (w : Where) (place : ℕ) (bytes : List ℕ) (rest : List Answer) → begins_section_in ((section w place bytes).answers ++ rest) ≡ true
+pub section-cuts : (w : Where) (place : ℕ) (bytes : List ℕ) (rest : List Answer)
+    → begins_section_in ((section w place bytes).answers ++ rest) ≡ true
 section-cuts w place bytes rest =
     let cut = all_cut w.part w.comments place place in
     let alone = (section tex place bytes).answers in
     let code = section_code (at_sign ∷ bytes) in
-    ap begins_section_in (append_assoc cut alone rest) ∙ bare-codes place cut (alone ++ rest) (bare-all-cut w.part w.comments place place)
-    ∙ ap (λ b. b || begins_section_in (note_answers code.notes ++ rest)) (section-kind-is code.kind ∙ (section-code-is (at_sign ∷ bytes)).code)
+    ap begins_section_in (append_assoc cut alone rest)
+    ∙ bare-codes place cut (alone ++ rest) (bare-all-cut w.part w.comments place place)
+    ∙ ap (λ b. b || begins_section_in (note_answers code.notes ++ rest)) (section-kind-is code.kind
+    ∙ (section-code-is (at_sign ∷ bytes)).code)
 
 pub uncut-right : (xs ys : List Answer) → begins_section_in (xs ++ ys) ≡ false → begins_section_in ys ≡ false
 uncut-right [] ys h = h
 uncut-right (x ∷ xs) ys h = by (is_section_answer x) h (uncut-right xs ys)
   where
-    by : (b : Bool) → (b || begins_section_in (xs ++ ys)) ≡ false → (begins_section_in (xs ++ ys) ≡ false → begins_section_in ys ≡ false) → begins_section_in ys ≡ false
+    by : (b : Bool) → (b || begins_section_in (xs ++ ys)) ≡ false
+        → (begins_section_in (xs ++ ys) ≡ false → begins_section_in ys ≡ false) → begins_section_in ys ≡ false
     by true k rec = absurd cc
     by false k rec = rec k
 
 -- ## Up to a token
 
 -- The text before the token at which a part begins, and what begins there.
-record Stop (bytes : List ℕ) (w : Where) (fresh : Bool) (last place taken : ℕ) (xs : List Answer) (t : Seen) (ys : List Answer) : Type 0 where
+record Stop (bytes : List ℕ) (w : Where) (fresh : Bool) (last place taken : ℕ) (xs : List Answer) (t : Seen)
+    (ys : List Answer) : Type 0 where
   inside : List ℕ
   byte : ℕ
   behind : List ℕ
@@ -317,13 +248,19 @@ record Stop (bytes : List ℕ) (w : Where) (fresh : Bool) (last place taken : �
   cut-tokens : tokens_in cut ≡ []
   bare : AreBare end front
   limbo : is_limbo w.part ≡ false → is_limbo next.part ≡ false
-  found-is : (found next (fresh_after fresh inside) (last_after last inside) end byte behind).answers ≡ front ++ Token t ∷ notes
+  found-is : (found next (fresh_after fresh inside) (last_after last inside) end byte behind).answers
+      ≡ front ++ Token t ∷ notes
   ends : t.span.end ≡ (end + 1) + (found next (fresh_after fresh inside) (last_after last inside) end byte behind).more
   only : AreNotes notes
-  rest : ys ≡ notes ++ answers behind (found next (fresh_after fresh inside) (last_after last inside) end byte behind).next (still_fresh (fresh_after fresh inside) byte) byte (end + 1) (found next (fresh_after fresh inside) (last_after last inside) end byte behind).more
-  opening : Opening next end byte behind (found next (fresh_after fresh inside) (last_after last inside) end byte behind)
+  rest : ys ≡ notes ++ answers behind (found next (fresh_after fresh inside) (last_after last inside) end byte
+      behind).next (still_fresh (fresh_after fresh inside) byte) byte (end + 1)
+      (found next (fresh_after fresh inside) (last_after last inside) end byte behind).more
+  opening : Opening next end byte behind (found next (fresh_after fresh inside) (last_after last inside) end byte
+      behind)
 
-further : (bytes : List ℕ) (w : Where) (fresh : Bool) (last place taken byte : ℕ) (xs : List Answer) (t : Seen) (ys : List Answer) → Stop bytes w (still_fresh fresh byte) byte (place + 1) taken xs t ys → Stop (byte ∷ bytes) w fresh last place (suc taken) xs t ys
+further : (bytes : List ℕ) (w : Where) (fresh : Bool) (last place taken byte : ℕ) (xs : List Answer) (t : Seen)
+    (ys : List Answer) → Stop bytes w (still_fresh fresh byte) byte (place + 1) taken xs t ys
+    → Stop (byte ∷ bytes) w fresh last place (suc taken) xs t ys
 further bytes w fresh last place taken byte xs t ys s = record {
   inside = byte ∷ s.inside;
   byte = s.byte;
@@ -351,14 +288,18 @@ further bytes w fresh last place taken byte xs t ys s = record {
 }
 
 -- behind what begins at a byte
-past : (bytes : List ℕ) (w : Where) (fresh : Bool) (last place byte : ℕ) (xs zs : List Answer) (t : Seen) (ys : List Answer) → xs ≡ (found w fresh last place byte bytes).answers ++ zs
-    → Stop bytes (found w fresh last place byte bytes).next (still_fresh fresh byte) byte (place + 1) (found w fresh last place byte bytes).more zs t ys → Stop (byte ∷ bytes) w fresh last place 0 xs t ys
+past : (bytes : List ℕ) (w : Where) (fresh : Bool) (last place byte : ℕ) (xs zs : List Answer) (t : Seen)
+    (ys : List Answer) → xs ≡ (found w fresh last place byte bytes).answers ++ zs
+    → Stop bytes (found w fresh last place byte bytes).next (still_fresh fresh byte) byte (place + 1)
+    (found w fresh last place byte bytes).more zs t ys → Stop (byte ∷ bytes) w fresh last place 0 xs t ys
 past bytes w fresh last place byte xs zs t ys e s =
     let f = found w fresh last place byte bytes in
     let g = found w fresh last place byte s.inside in
     let cut : bytes ≡ s.inside ++ 64 ∷ s.behind = s.split ∙ ap (λ b. s.inside ++ b ∷ s.behind) s.opening.byte-is in
-    let fits : (found w fresh last place byte (s.inside ++ 64 ∷ s.behind)).more ≤ length s.inside = omega (arith, s.reach, ap (λ l. (found w fresh last place byte l).more) cut) in
-    let same : f ≡ g = ap (found w fresh last place byte) cut ∙ (found-local s.behind (opener-code s.behind s.opening.opener) w fresh last place byte s.inside).same fits in
+    let fits : (found w fresh last place byte (s.inside ++ 64 ∷ s.behind)).more ≤ length s.inside =
+    omega (arith, s.reach, ap (λ l. (found w fresh last place byte l).more) cut) in
+    let same : f ≡ g = ap (found w fresh last place byte) cut
+    ∙ (found-local s.behind (opener-code s.behind s.opening.opener) w fresh last place byte s.inside).same fits in
     record {
       inside = byte ∷ s.inside;
       byte = s.byte;
@@ -374,7 +315,8 @@ past bytes w fresh last place byte xs zs t ys e s =
       body = f.answers ++ s.body;
       cut = s.cut;
       alone =
-          ap (λ (h : Found). h.answers ++ answers s.inside h.next (still_fresh fresh byte) byte (place + 1) h.more) (sym same)
+          ap (λ (h : Found). h.answers ++ answers s.inside h.next (still_fresh fresh byte) byte (place + 1) h.more)
+          (sym same)
           ∙ ap (λ l. f.answers ++ l) s.alone
           ∙ sym (append_assoc f.answers s.body s.cut);
       whole = e ∙ ap (λ l. f.answers ++ l) s.whole ∙ sym (append_assoc f.answers s.body s.front);
@@ -389,13 +331,17 @@ past bytes w fresh last place byte xs zs t ys e s =
     }
 
 -- the token begins here
-here : (bytes : List ℕ) (w : Where) (fresh : Bool) (last place byte : ℕ) (xs : List Answer) (t : Seen) (ys zs : List Answer) → is_opener (kind_code t.kind) ≡ true
-    → (found w fresh last place byte bytes).answers ≡ xs ++ Token t ∷ zs → ys ≡ zs ++ answers bytes (found w fresh last place byte bytes).next (still_fresh fresh byte) byte (place + 1) (found w fresh last place byte bytes).more
+here : (bytes : List ℕ) (w : Where) (fresh : Bool) (last place byte : ℕ) (xs : List Answer) (t : Seen)
+    (ys zs : List Answer) → is_opener (kind_code t.kind) ≡ true
+    → (found w fresh last place byte bytes).answers ≡ xs ++ Token t ∷ zs
+    → ys ≡ zs ++ answers bytes (found w fresh last place byte bytes).next (still_fresh fresh byte) byte (place + 1)
+    (found w fresh last place byte bytes).more
     → Stop (byte ∷ bytes) w fresh last place 0 xs t ys
 here bytes w fresh last place byte xs t ys zs o e r =
     let f = found w fresh last place byte bytes in
     let takes = found-takes w fresh last place byte bytes in
-    let b = begun place (byte ∷ bytes) f.more takes.first takes.rest xs t zs takes.bare takes.whole (sym takes.split ∙ e) in
+    let b = begun place (byte ∷ bytes) f.more takes.first takes.rest xs t zs takes.bare takes.whole (sym takes.split
+    ∙ e) in
     let code : code_in f.answers ≡ kind_code t.kind = ap code_in e ∙ bare-code place xs (Token t ∷ zs) b.bare in
     record {
       inside = [];
@@ -413,7 +359,8 @@ here bytes w fresh last place byte xs t ys zs o e r =
       cut = all_cut w.part w.comments place (place - 1);
       alone = refl;
       whole = refl;
-      cut-tokens = bare-tokens place (all_cut w.part w.comments place (place - 1)) (bare-all-cut w.part w.comments place (place - 1));
+      cut-tokens = bare-tokens place (all_cut w.part w.comments place (place - 1))
+          (bare-all-cut w.part w.comments place (place - 1));
       bare = b.bare;
       limbo = λ h. h;
       found-is = e;
@@ -423,20 +370,28 @@ here bytes w fresh last place byte xs t ys zs o e r =
       opening = opening w fresh last place byte bytes (ap is_opener code ∙ o);
     }
 
-walk : (bytes : List ℕ) (w : Where) (fresh : Bool) (last place taken : ℕ) (xs : List Answer) (t : Seen) (ys : List Answer) → is_opener (kind_code t.kind) ≡ true → answers bytes w fresh last place taken ≡ xs ++ Token t ∷ ys
+walk : (bytes : List ℕ) (w : Where) (fresh : Bool) (last place taken : ℕ) (xs : List Answer) (t : Seen)
+    (ys : List Answer) → is_opener (kind_code t.kind) ≡ true → answers bytes w fresh last place taken
+    ≡ xs ++ Token t ∷ ys
     → Stop bytes w fresh last place taken xs t ys
-walk [] w fresh last place taken xs t ys o e = absurd (no-token-bare place (all_cut w.part w.comments place (place - 1)) xs t ys (bare-all-cut w.part w.comments place (place - 1)) e)
+walk [] w fresh last place taken xs t ys o e = absurd (no-token-bare place (all_cut w.part w.comments place (place - 1))
+    xs t ys (bare-all-cut w.part w.comments place (place - 1)) e)
 walk (byte ∷ bytes) w fresh last place zero xs t ys o e =
     let f = found w fresh last place byte bytes in
-    by (split f.answers (answers bytes f.next (still_fresh fresh byte) byte (place + 1) f.more) xs t ys e) (λ zs g. walk bytes f.next (still_fresh fresh byte) byte (place + 1) f.more zs t ys o g)
+    by (split f.answers (answers bytes f.next (still_fresh fresh byte) byte (place + 1) f.more) xs t ys e)
+    (λ zs g. walk bytes f.next (still_fresh fresh byte) byte (place + 1) f.more zs t ys o g)
   where
-    by : Split (found w fresh last place byte bytes).answers (answers bytes (found w fresh last place byte bytes).next (still_fresh fresh byte) byte (place + 1) (found w fresh last place byte bytes).more) xs t ys
-        → ((zs : List Answer) → answers bytes (found w fresh last place byte bytes).next (still_fresh fresh byte) byte (place + 1) (found w fresh last place byte bytes).more ≡ zs ++ Token t ∷ ys
-        → Stop bytes (found w fresh last place byte bytes).next (still_fresh fresh byte) byte (place + 1) (found w fresh last place byte bytes).more zs t ys)
+    by : Split (found w fresh last place byte bytes).answers (answers bytes (found w fresh last place byte bytes).next
+        (still_fresh fresh byte) byte (place + 1) (found w fresh last place byte bytes).more) xs t ys
+        → ((zs : List Answer) → answers bytes (found w fresh last place byte bytes).next (still_fresh fresh byte) byte
+        (place + 1) (found w fresh last place byte bytes).more ≡ zs ++ Token t ∷ ys
+        → Stop bytes (found w fresh last place byte bytes).next (still_fresh fresh byte) byte (place + 1)
+        (found w fresh last place byte bytes).more zs t ys)
         → Stop (byte ∷ bytes) w fresh last place 0 xs t ys
     by (inl s) rec = past bytes w fresh last place byte xs s.0 t ys s.1 (rec s.0 s.2)
     by (inr s) rec = here bytes w fresh last place byte xs t ys s.0 o s.1 s.2
-walk (byte ∷ bytes) w fresh last place (suc taken) xs t ys o e = further bytes w fresh last place taken byte xs t ys (walk bytes w (still_fresh fresh byte) byte (place + 1) taken xs t ys o e)
+walk (byte ∷ bytes) w fresh last place (suc taken) xs t ys o e = further bytes w fresh last place taken byte xs t ys
+    (walk bytes w (still_fresh fresh byte) byte (place + 1) taken xs t ys o e)
 
 -- ## In a text
 
@@ -455,16 +410,22 @@ record SameToken (s t : Seen) (ms ns : List Answer) : Type 0 where
   token : s ≡ t
   behind : ms ≡ ns
 
-same-token : (p q : ℕ) (xs ys : List Answer) (s t : Seen) (ms ns : List Answer) → AreBare p xs → AreBare q ys → xs ++ Token s ∷ ms ≡ ys ++ Token t ∷ ns → SameToken s t ms ns
-same-token p q [] [] s t ms ns h g e = record { token = token-is s t (head-is (Token s) (Token t) ms ns e); behind = tail-is (Token s) (Token t) ms ns e }
-same-token p q [] (y ∷ ys) s t ms ns h g e = absurd (no-token-bare q (y ∷ []) [] s [] (one y ys g) (ap (λ a. a ∷ []) (sym (head-is (Token s) y ms (ys ++ Token t ∷ ns) e))))
+same-token : (p q : ℕ) (xs ys : List Answer) (s t : Seen) (ms ns : List Answer) → AreBare p xs → AreBare q ys
+    → xs ++ Token s ∷ ms ≡ ys ++ Token t ∷ ns → SameToken s t ms ns
+same-token p q [] [] s t ms ns h g e = record {
+  token = token-is s t (head-is (Token s) (Token t) ms ns e);
+  behind = tail-is (Token s) (Token t) ms ns e;
+}
+same-token p q [] (y ∷ ys) s t ms ns h g e = absurd (no-token-bare q (y ∷ []) [] s [] (one y ys g)
+    (ap (λ a. a ∷ []) (sym (head-is (Token s) y ms (ys ++ Token t ∷ ns) e))))
   where
     one : (y : Answer) (ys : List Answer) → AreBare q (y ∷ ys) → AreBare q (y ∷ [])
     one (Token t) ys g = g
     one (Begin t) ys g = g
     one (Finish t) ys g = (g.0, g.1, g.2, tt)
     one (Note kind about) ys g = tt
-same-token p q (x ∷ xs) [] s t ms ns h g e = absurd (no-token-bare p (x ∷ []) [] t [] (one x xs h) (ap (λ a. a ∷ []) (head-is x (Token t) (xs ++ Token s ∷ ms) ns e)))
+same-token p q (x ∷ xs) [] s t ms ns h g e = absurd (no-token-bare p (x ∷ []) [] t [] (one x xs h)
+    (ap (λ a. a ∷ []) (head-is x (Token t) (xs ++ Token s ∷ ms) ns e)))
   where
     one : (x : Answer) (xs : List Answer) → AreBare p (x ∷ xs) → AreBare p (x ∷ [])
     one (Token t) xs g = g
@@ -472,7 +433,8 @@ same-token p q (x ∷ xs) [] s t ms ns h g e = absurd (no-token-bare p (x ∷ []
     one (Finish t) xs g = (g.0, g.1, g.2, tt)
     one (Note kind about) xs g = tt
 same-token p q (x ∷ xs) (y ∷ ys) s t ms ns h g e =
-    same-token p q xs ys s t ms ns (rest p x xs h) (rest q y ys g) (tail-is x y (xs ++ Token s ∷ ms) (ys ++ Token t ∷ ns) e)
+    same-token p q xs ys s t ms ns (rest p x xs h) (rest q y ys g)
+    (tail-is x y (xs ++ Token s ∷ ms) (ys ++ Token t ∷ ns) e)
   where
     rest : (p : ℕ) (x : Answer) (xs : List Answer) → AreBare p (x ∷ xs) → AreBare p xs
     rest p (Token t) xs g = absurd g
@@ -488,9 +450,11 @@ notes-bare p (Finish t ∷ xs) h = absurd h
 notes-bare p (Note kind about ∷ xs) h = notes-bare p xs h
 
 abbrev StopIn : List ℕ → ℕ → Mode → List Answer → Seen → List Answer → Type 0
-StopIn text start mode xs t ys = Stop (drop start text) (beginning mode) (fresh_at text start) (last_at text start) start 0 xs t ys
+StopIn text start mode xs t ys = Stop (drop start text) (beginning mode) (fresh_at text start) (last_at text start)
+    start 0 xs t ys
 
-module _ (text : List ℕ) (start : ℕ) (mode : Mode) (xs : List Answer) (t : Seen) (ys : List Answer) (s : StopIn text start mode xs t ys) where
+module _ (text : List ℕ) (start : ℕ) (mode : Mode) (xs : List Answer) (t : Seen) (ys : List Answer)
+    (s : StopIn text start mode xs t ys) where
   order : start ≤ s.end
   order = omega (arith, s.end-is)
 
@@ -500,12 +464,14 @@ module _ (text : List ℕ) (start : ℕ) (mode : Mode) (xs : List Answer) (t : S
   part : drop start (take s.end text) ≡ s.inside
   part =
       let n = length s.inside in
-      drop-part text s.end start order ∙ (λ i. take (size i) (s.split i)) ∙ take-same n s.inside (s.byte ∷ s.behind) (omega arith) ∙ take_all n s.inside (omega arith)
+      drop-part text s.end start order ∙ (λ i. take (size i) (s.split i))
+      ∙ take-same n s.inside (s.byte ∷ s.behind) (omega arith) ∙ take_all n s.inside (omega arith)
 
   at-end : drop s.end text ≡ s.byte ∷ s.behind
   at-end =
       let n = length s.inside in
-      ap (λ k. drop k text) s.end-is ∙ sym (drop-drop n start text) ∙ ap (drop n) s.split ∙ drop-same n s.inside (s.byte ∷ s.behind) (omega arith)
+      ap (λ k. drop k text) s.end-is ∙ sym (drop-drop n start text) ∙ ap (drop n) s.split
+      ∙ drop-same n s.inside (s.byte ∷ s.behind) (omega arith)
       ∙ ap (λ l. l ++ s.byte ∷ s.behind) (drop_all n s.inside (omega arith))
 
   begun-same : take start (take s.end text) ≡ take start text
@@ -519,7 +485,8 @@ module _ (text : List ℕ) (start : ℕ) (mode : Mode) (xs : List Answer) (t : S
     rest = s.front;
     alone =
         ap (λ p. tokens_of text start p mode) s.starts
-        ∙ (λ i. answers (part i) (beginning mode) (fresh_after true (begun-same i)) (last_after 0 (begun-same i)) start 0)
+        ∙ (λ i. answers (part i) (beginning mode) (fresh_after true (begun-same i)) (last_after 0 (begun-same i)) start
+        0)
         ∙ s.alone;
     whole = s.whole;
     cut_tokens = s.cut-tokens;
@@ -528,60 +495,82 @@ module _ (text : List ℕ) (start : ℕ) (mode : Mode) (xs : List Answer) (t : S
 
   fresh-end : fresh_after (fresh_at text start) s.inside ≡ fresh_at text s.end
   fresh-end =
-      ap (fresh_after (fresh_at text start)) (sym part ∙ drop-part text s.end start order) ∙ fresh-more true text start (s.end - start) ∙ ap (fresh_at text) (omega (arith, order))
+      ap (fresh_after (fresh_at text start)) (sym part ∙ drop-part text s.end start order)
+      ∙ fresh-more true text start (s.end - start) ∙ ap (fresh_at text) (omega (arith, order))
 
   last-end : last_after (last_at text start) s.inside ≡ last_at text s.end
   last-end =
-      ap (last_after (last_at text start)) (sym part ∙ drop-part text s.end start order) ∙ last-more 0 text start (s.end - start) ∙ ap (last_at text) (omega (arith, order))
+      ap (last_after (last_at text start)) (sym part ∙ drop-part text s.end start order)
+      ∙ last-more 0 text start (s.end - start) ∙ ap (last_at text) (omega (arith, order))
 
   -- what begins at the end, where the scan of the whole stands there
   abbrev stopped : Found
-  stopped = found s.next (fresh_after (fresh_at text start) s.inside) (last_after (last_at text start) s.inside) s.end s.byte s.behind
+  stopped = found s.next (fresh_after (fresh_at text start) s.inside) (last_after (last_at text start) s.inside) s.end
+      s.byte s.behind
 
   -- the answers at the end, where the scan stands otherwise
-  answers-end : (w : Where) → answers_at text w s.end ≡ joined (found w (fresh_after (fresh_at text start) s.inside) (last_after (last_at text start) s.inside) s.end s.byte s.behind)
-      (λ next size. answers s.behind next (still_fresh (fresh_after (fresh_at text start) s.inside) s.byte) s.byte (s.end + 1) size)
+  answers-end : (w : Where) → answers_at text w s.end
+      ≡ joined (found w (fresh_after (fresh_at text start) s.inside) (last_after (last_at text start) s.inside) s.end
+      s.byte s.behind)
+      (λ next size. answers s.behind next (still_fresh (fresh_after (fresh_at text start) s.inside) s.byte) s.byte
+      (s.end + 1) size)
   answers-end w = λ i. answers (at-end i) w (sym fresh-end i) (sym last-end i) s.end 0
 
   within : s.end < length text
   within = omega (arith, length-drop s.end text, ap length at-end)
 
   byte-here : slice_index text s.end ≡ s.byte
-  byte-here = first-is (slice_index text s.end) s.byte (drop (s.end + 1) text) s.behind (sym (drop-here text s.end within) ∙ at-end)
+  byte-here = first-is (slice_index text s.end) s.byte (drop (s.end + 1) text) s.behind
+      (sym (drop-here text s.end within) ∙ at-end)
 
   behind-here : drop (s.end + 1) text ≡ s.behind
-  behind-here = rest-is (slice_index text s.end) s.byte (drop (s.end + 1) text) s.behind (sym (drop-here text s.end within) ∙ at-end)
+  behind-here = rest-is (slice_index text s.end) s.byte (drop (s.end + 1) text) s.behind
+      (sym (drop-here text s.end within) ∙ at-end)
 
   found-here : found_at text s.next s.end ≡ stopped
   found-here = λ i. found s.next (sym fresh-end i) (sym last-end i) s.end (byte-here i) (behind-here i)
 
   -- what follows the token, where the text is scanned from its end on
-  rest-end : answers s.behind stopped.next (still_fresh (fresh_after (fresh_at text start) s.inside) s.byte) s.byte (s.end + 1) stopped.more ≡ answers_at text stopped.next t.span.end
+  rest-end : answers s.behind stopped.next (still_fresh (fresh_after (fresh_at text start) s.inside) s.byte) s.byte
+      (s.end + 1) stopped.more ≡ answers_at text stopped.next t.span.end
   rest-end =
-      let fits = found-fits s.next (fresh_after (fresh_at text start) s.inside) (last_after (last_at text start) s.inside) s.end s.byte s.behind in
-      let left : t.span.end ≤ length text = omega (arith, s.ends, fits.more, length-drop s.end text, ap length at-end) in
-      cancel stopped.answers _ _ (sym (answers-end s.next) ∙ answers-at text s.next s.end stopped t.span.end within found-here s.ends left)
+      let fits = found-fits s.next (fresh_after (fresh_at text start) s.inside)
+      (last_after (last_at text start) s.inside) s.end s.byte s.behind in
+      let left : t.span.end ≤ length text = omega (
+        arith,
+        s.ends,
+        fits.more,
+        length-drop s.end text,
+        ap length at-end,
+      ) in
+      cancel stopped.answers _ _ (sym (answers-end s.next)
+      ∙ answers-at text s.next s.end stopped t.span.end within found-here s.ends left)
 
   code-here : code_in stopped.answers ≡ kind_code t.kind
   code-here = ap code_in s.found-is ∙ bare-code s.end s.front (Token t ∷ s.notes) s.bare
 
 -- ## At section codes
 
-pub ends-at-sections : (text : List ℕ) (start : ℕ) (mode : Mode) (xs : List Answer) (t : Seen) (ys : List Answer) → answers_at text (beginning mode) start ≡ xs ++ Token t ∷ ys → is_section_kind t.kind ≡ true
+pub ends-at-sections : (text : List ℕ) (start : ℕ) (mode : Mode) (xs : List Answer) (t : Seen) (ys : List Answer)
+    → answers_at text (beginning mode) start ≡ xs ++ Token t ∷ ys → is_section_kind t.kind ≡ true
     → EndsBefore text start mode xs t × (ys ≡ answers_at text (beginning modes.TexText) t.span.end)
 ends-at-sections text start mode xs t ys e k =
     let section-is : is_section (kind_code t.kind) ≡ true = sym (section-kind-is t.kind) ∙ k in
-    let s = walk (drop start text) (beginning mode) (fresh_at text start) (last_at text start) start 0 xs t ys (section-opens (kind_code t.kind) section-is) e in
+    let s = walk (drop start text) (beginning mode) (fresh_at text start) (last_at text start) start 0 xs t ys
+    (section-opens (kind_code t.kind) section-is) e in
     let f = stopped text start mode xs t ys s in
-    let is : f ≡ section s.next s.end s.behind = s.opening.behind (ap is_section (code-here text start mode xs t ys s) ∙ section-is) in
+    let is : f ≡ section s.next s.end s.behind = s.opening.behind (ap is_section (code-here text start mode xs t ys s)
+    ∙ section-is) in
     let code = section_code (64 ∷ s.behind) in
     let cut = all_cut s.next.part s.next.comments s.end s.end in
     let alone = ap note_answers (section-code-is (64 ∷ s.behind)).notes in
-    let same = same-token s.end s.end cut s.front (token_of false code.kind s.end code.size (64 ∷ s.behind)) t (note_answers code.notes) s.notes (bare-all-cut s.next.part s.next.comments s.end s.end) s.bare
+    let same = same-token s.end s.end cut s.front (token_of false code.kind s.end code.size (64 ∷ s.behind)) t
+    (note_answers code.notes) s.notes (bare-all-cut s.next.part s.next.comments s.end s.end) s.bare
     (ap (λ (f : Found). f.answers) (sym is) ∙ s.found-is) in
     let none : s.notes ≡ [] = sym same.behind ∙ alone in (
       ends-before text start mode xs t ys s,
-      s.rest ∙ ap (λ l. l ++ answers s.behind f.next (still_fresh (fresh_after (fresh_at text start) s.inside) s.byte) s.byte (s.end + 1) f.more) none
+      s.rest ∙ ap (λ l. l ++ answers s.behind f.next (still_fresh (fresh_after (fresh_at text start) s.inside) s.byte)
+          s.byte (s.end + 1) f.more) none
           ∙ rest-end text start mode xs t ys s
           ∙ ap (λ (f : Found). answers_at text f.next t.span.end) is,
     )
@@ -604,15 +593,52 @@ record PartAt (opened : Mode) (k : TokKind) (headed : Bool) : Type 0 where
 mode-is : (a b : Mode) → ◌≡◌ {A = Option Mode} (Some a) (Some b) → a ≡ b
 mode-is a b e = cc
 
-opened-name : (c : Code) (headed : Bool) (opened : Mode) → OpensAt Named c → is_opener c ≡ true → is_section c ≡ false → named headed ≡ Some opened → PartAt opened (kinds.Code c) headed
-opened-name c true opened n o p e = record { by = Named; code = n; begins = ap beginning (sym (mode-is modes.CPart opened e)); sign = refl; opener = o; plain = p }
+opened-name : (c : Code) (headed : Bool) (opened : Mode) → OpensAt Named c → is_opener c ≡ true → is_section c ≡ false
+    → named headed ≡ Some opened → PartAt opened (kinds.Code c) headed
+opened-name c true opened n o p e = record {
+  by = Named;
+  code = n;
+  begins = ap beginning (sym (mode-is modes.CPart opened e));
+  sign = refl;
+  opener = o;
+  plain = p;
+}
 opened-name c false opened n o p e = absurd cc
 
-opened-code : (c : Code) (headed : Bool) (opened : Mode) → opened_by (kinds.Code c) headed ≡ Some opened → PartAt opened (kinds.Code c) headed
-opened-code at.Define headed opened e = record { by = Definitions; code = refl; begins = ap beginning (sym (mode-is modes.Definition opened e)); sign = tt; opener = refl; plain = refl }
-opened-code at.Format headed opened e = record { by = Definitions; code = refl; begins = ap beginning (sym (mode-is modes.Definition opened e)); sign = tt; opener = refl; plain = refl }
-opened-code at.SilentFormat headed opened e = record { by = Definitions; code = refl; begins = ap beginning (sym (mode-is modes.Definition opened e)); sign = tt; opener = refl; plain = refl }
-opened-code at.Program headed opened e = record { by = Program; code = refl; begins = ap beginning (sym (mode-is modes.CPart opened e)); sign = tt; opener = refl; plain = refl }
+opened-code : (c : Code) (headed : Bool) (opened : Mode) → opened_by (kinds.Code c) headed ≡ Some opened
+    → PartAt opened (kinds.Code c) headed
+opened-code at.Define headed opened e = record {
+  by = Definitions;
+  code = refl;
+  begins = ap beginning (sym (mode-is modes.Definition opened e));
+  sign = tt;
+  opener = refl;
+  plain = refl;
+}
+opened-code at.Format headed opened e = record {
+  by = Definitions;
+  code = refl;
+  begins = ap beginning (sym (mode-is modes.Definition opened e));
+  sign = tt;
+  opener = refl;
+  plain = refl;
+}
+opened-code at.SilentFormat headed opened e = record {
+  by = Definitions;
+  code = refl;
+  begins = ap beginning (sym (mode-is modes.Definition opened e));
+  sign = tt;
+  opener = refl;
+  plain = refl;
+}
+opened-code at.Program headed opened e = record {
+  by = Program;
+  code = refl;
+  begins = ap beginning (sym (mode-is modes.CPart opened e));
+  sign = tt;
+  opener = refl;
+  plain = refl;
+}
 opened-code at.SectionName headed opened e = opened-name at.SectionName headed opened refl refl refl e
 opened-code at.FileName headed opened e = opened-name at.FileName headed opened refl refl refl e
 opened-code _ headed opened e = absurd cc
@@ -626,37 +652,49 @@ limbo-mode modes.Limbo h = absurd cc
 limbo-mode _ h = refl
 
 -- The sign stands behind a name only where it is wanted.
-wanted-sign : (bytes : List ℕ) (w : Where) (fresh : Bool) (last place taken : ℕ) (notes : List Answer) → AreNotes notes → has_sign (notes ++ answers bytes w fresh last place taken) ≡ true → is_head_where w ≡ true
+wanted-sign : (bytes : List ℕ) (w : Where) (fresh : Bool) (last place taken : ℕ) (notes : List Answer) → AreNotes notes
+    → has_sign (notes ++ answers bytes w fresh last place taken) ≡ true → is_head_where w ≡ true
 wanted-sign bytes w fresh last place taken notes n h = by (is_head_where w) refl
   where
     by : (b : Bool) → is_head_where w ≡ b → is_head_where w ≡ true
     by true e = e
-    by false e = not-both _ (sym (notes-sign notes (answers bytes w fresh last place taken) n) ∙ h) (signless bytes w fresh last place taken e)
+    by false e = not-both _ (sym (notes-sign notes (answers bytes w fresh last place taken) n)
+        ∙ h) (signless bytes w fresh last place taken e)
 
-opens-by : (o : Opens) (f : Found) (headed : Bool) → OpensAt o (code_in f.answers) → SignBy o headed → (headed ≡ true → is_head_where f.next ≡ true) → OpensBy o f
+opens-by : (o : Opens) (f : Found) (headed : Bool) → OpensAt o (code_in f.answers) → SignBy o headed
+    → (headed ≡ true → is_head_where f.next ≡ true) → OpensBy o f
 opens-by Definitions f headed c s h = c
 opens-by Program f headed c s h = c
 opens-by Named f headed c s h = (c, h s)
 
-pub ends-at-openings : (text : List ℕ) (start : ℕ) (mode opened : Mode) (xs : List Answer) (t : Seen) (ys : List Answer) → is_limbo_mode mode ≡ false → answers_at text (beginning mode) start ≡ xs ++ Token t ∷ ys
-    → opened_by t.kind (has_sign ys) ≡ Some opened → EndsBefore text start mode xs t × (Token t ∷ ys ≡ answers_at text (beginning opened) t.span.start)
+pub ends-at-openings : (text : List ℕ) (start : ℕ) (mode opened : Mode) (xs : List Answer) (t : Seen) (ys : List Answer)
+    → is_limbo_mode mode ≡ false → answers_at text (beginning mode) start ≡ xs ++ Token t ∷ ys
+    → opened_by t.kind (has_sign ys) ≡ Some opened → EndsBefore text start mode xs t
+    × (Token t ∷ ys ≡ answers_at text (beginning opened) t.span.start)
 ends-at-openings text start mode opened xs t ys l e k =
     let so = opened-so t.kind (has_sign ys) opened k in
-    let s = walk (drop start text) (beginning mode) (fresh_at text start) (last_at text start) start 0 xs t ys so.opener e in
+    let s = walk (drop start text) (beginning mode) (fresh_at text start) (last_at text start) start 0 xs t ys so.opener
+    e in
     let f = stopped text start mode xs t ys s in
     let fresh = fresh_after (fresh_at text start) s.inside in
     let last = last_after (last_at text start) s.inside in
     let code = code-here text start mode xs t ys s in
     let there : code_at s.behind ≡ code_in f.answers = s.opening.same (ap is_section code ∙ so.plain) in
-    let head = λ (h : has_sign ys ≡ true). wanted-sign s.behind f.next (still_fresh fresh s.byte) s.byte (s.end + 1) f.more s.notes s.only (ap has_sign (sym s.rest) ∙ h) in
+    let head = λ (h : has_sign ys ≡ true). wanted-sign s.behind f.next (still_fresh fresh s.byte) s.byte (s.end + 1)
+    f.more s.notes s.only (ap has_sign (sym s.rest) ∙ h) in
     let twin : Twin f (found (beginning_of so.by) fresh last s.end s.byte s.behind) =
-    subst (λ b. OpensBy so.by (found s.next fresh last s.end b s.behind) → Twin (found s.next fresh last s.end b s.behind) (found (beginning_of so.by) fresh last s.end b s.behind)) (sym s.opening.byte-is)
-    (found-twin so.by s.next fresh last s.end s.behind (s.limbo (limbo-mode mode l)) (ap is_section (there ∙ code) ∙ so.plain) (subst (OpensAt so.by) (sym (there ∙ code)) so.code))
+    subst (λ b. OpensBy so.by (found s.next fresh last s.end b s.behind)
+    → Twin (found s.next fresh last s.end b s.behind) (found (beginning_of so.by) fresh last s.end b s.behind))
+    (sym s.opening.byte-is)
+    (found-twin so.by s.next fresh last s.end s.behind (s.limbo (limbo-mode mode l)) (ap is_section (there ∙ code)
+    ∙ so.plain) (subst (OpensAt so.by) (sym (there ∙ code)) so.code))
     (opens-by so.by f (has_sign ys) (subst (OpensAt so.by) (sym code) so.code) so.sign head) in
     let g = found (beginning_of so.by) fresh last s.end s.byte s.behind in
-    let same = same-token s.end s.end twin.notes s.front twin.token t twin.behind s.notes (notes-bare s.end twin.notes twin.only) s.bare
+    let same = same-token s.end s.end twin.notes s.front twin.token t twin.behind s.notes
+    (notes-bare s.end twin.notes twin.only) s.bare
     (ap (λ l. twin.notes ++ l) (sym twin.first) ∙ ap (λ (f : Found). f.answers) (sym twin.same) ∙ s.found-is) in
-    let rest : Where → ℕ → List Answer = λ next size. answers s.behind next (still_fresh fresh s.byte) s.byte (s.end + 1) size in (
+    let rest : Where → ℕ → List Answer = λ next size. answers s.behind next (still_fresh fresh s.byte) s.byte
+    (s.end + 1) size in (
       ends-before text start mode xs t ys s,
       ap (λ l. Token t ∷ l) (s.rest ∙ ap (λ (f : Found). s.notes ++ rest f.next f.more) twin.same)
           ∙ (λ i. (Token (sym same.token i) ∷ sym same.behind i) ++ rest g.next g.more)

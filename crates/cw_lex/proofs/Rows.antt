@@ -147,12 +147,15 @@ section : of modes.CPart (codes "/* |a @ b") ≡
 section = refl
 
 -- A line's end in a string goes on behind a backslash; a backslash elsewhere is a byte of its own.
-string-goes-on : of modes.CPart (codes "\"a\\" ++ (10 ∷ []) ++ codes "b\" \\") ≡ token kinds.Quoted 0 6 ∷ token kinds.OtherByte 7 8 ∷ []
+string-goes-on : of modes.CPart (codes "\"a\\" ++ (10 ∷ []) ++ codes "b\" \\")
+    ≡ token kinds.Quoted 0 6 ∷ token kinds.OtherByte 7 8 ∷ []
 string-goes-on = refl
 
 -- Only directly behind the word, on its line: include names.
-include-names : of modes.CPart (codes "#include/**/<a>" ++ (10 ∷ []) ++ codes "#include<a" ++ (10 ∷ []) ++ codes "include<a>") ≡
-    token kinds.HashLine 0 1 ∷ token kinds.Identifier 1 8 ∷ begin kinds.LongComment 8 10 ∷ finish kinds.LongComment 10 12 ∷
+include-names : of modes.CPart (codes "#include/**/<a>" ++ (10 ∷ []) ++ codes "#include<a" ++ (10 ∷ [])
+    ++ codes "include<a>") ≡
+    token kinds.HashLine 0 1 ∷ token kinds.Identifier 1 8 ∷ begin kinds.LongComment 8 10 ∷ finish kinds.LongComment 10
+    12 ∷
     token (kinds.Sign signs.Less) 12 13 ∷ token kinds.Identifier 13 14 ∷ token (kinds.Sign signs.Greater) 14 15 ∷
     token kinds.HashLineEnd 15 16 ∷ token kinds.HashLine 16 17 ∷ token kinds.Identifier 17 24 ∷
     token (kinds.Sign signs.Less) 24 25 ∷ token kinds.Identifier 25 26 ∷ token kinds.HashLineEnd 26 27 ∷
@@ -175,8 +178,10 @@ include-in-comments : of modes.CPart (codes "#/*|//|include" ++ (10 ∷ []) ++ c
     token (kinds.Sign signs.Greater) 17 18 ∷ finish kinds.InnerText 18 19 ∷ finish kinds.LongComment 19 21 ∷ []
 include-in-comments = refl
 
--- A short comment ends behind a backslash too, and the `#` line around it goes on; so it does over a long comment's line end.
-hash-line-comments : of modes.CPart (codes "#//\\" ++ (10 ∷ []) ++ codes "/*" ++ (10 ∷ []) ++ codes "*/a" ++ (10 ∷ []) ++ codes "b") ≡
+-- A short comment ends behind a backslash too, and the `#` line around it goes on; so it does over a long comment's
+-- line end.
+hash-line-comments : of modes.CPart (codes "#//\\" ++ (10 ∷ []) ++ codes "/*" ++ (10 ∷ []) ++ codes "*/a" ++ (10 ∷ [])
+    ++ codes "b") ≡
     token kinds.HashLine 0 1 ∷ begin kinds.ShortComment 1 3 ∷ token kinds.Text 3 4 ∷ finish kinds.ShortComment 4 4 ∷
     begin kinds.LongComment 5 7 ∷ token kinds.Text 7 8 ∷ finish kinds.LongComment 8 10 ∷ token kinds.Identifier 10 11 ∷
     token kinds.HashLineEnd 11 12 ∷ token kinds.Identifier 12 13 ∷ []
@@ -210,7 +215,8 @@ heads : of modes.CPart (codes "@<a@> +=b@<c@>=") ≡
     token (kinds.Code at.SectionName) 9 14 ∷ token (kinds.Sign signs.Assign) 14 15 ∷ []
 heads = refl
 
-no-head : of modes.TexText (codes "@<a@>" ++ (10 ∷ []) ++ codes "=") ≡ token (kinds.Code at.SectionName) 0 5 ∷ token kinds.Text 5 7 ∷ []
+no-head : of modes.TexText (codes "@<a@>" ++ (10 ∷ []) ++ codes "=") ≡ token (kinds.Code at.SectionName) 0 5
+    ∷ token kinds.Text 5 7 ∷ []
 no-head = refl
 
 -- A definition ends at the next one, a comment in it doesn't; a C part may follow.
@@ -220,8 +226,10 @@ definitions : of modes.Definition (codes "/*@d*/@s a b@c") ≡
     token (kinds.Code at.Program) 12 14 ∷ []
 definitions = refl
 
--- In TeX text two bars are an empty inner text; in limbo a bar is text, and a code that may not stand there is two bytes.
-bars : of modes.TexText (codes "\\||a") ≡ token kinds.Text 0 1 ∷ begin kinds.InnerText 1 2 ∷ finish kinds.InnerText 2 3 ∷ token kinds.Text 3 4 ∷ []
+-- In TeX text two bars are an empty inner text; in limbo a bar is text, and a code that may not stand there is two
+-- bytes.
+bars : of modes.TexText (codes "\\||a") ≡ token kinds.Text 0 1 ∷ begin kinds.InnerText 1 2 ∷ finish kinds.InnerText 2 3
+    ∷ token kinds.Text 3 4 ∷ []
 bars = refl
 
 limbo-codes : of modes.Limbo (codes "|@t x@>") ≡
@@ -235,7 +243,8 @@ no-parameters : of modes.TexText (codes "@d m (a)") ≡
     token kinds.Identifier 6 7 ∷ token (kinds.Sign signs.RightParen) 7 8 ∷ []
 no-parameters = refl
 
--- Inner C text of TeX text ends at the first bar that stands alone, outside strings and comments with their inner texts.
+-- Inner C text of TeX text ends at the first bar that stands alone, outside strings and comments with their inner
+-- texts.
 closed-first : closing_bar_from (codes "|a||b|c|d|") 1 ≡ Some 5
 closed-first = refl
 

@@ -1,5 +1,7 @@
 -- Short tokens of C text, by its rules.
-use Rattle.std.proofs.Common.{not, [], subst, ◌⊎◌, inl, inr, ◌≡◌, ℕ, ◌+◌, ◌<◌, ◌≤◌, arith, length-drop, Bool, true, false, ◌&&◌, ◌||◌, ◌==◌, nat_lt, List, ◌∷◌, Some, None, length, slice_index, drop, refl, sym, ap, ◌∙◌, if◌then◌else◌}
+use Rattle.std.proofs.Common.{not, [], subst, ◌⊎◌, inl, inr, ◌≡◌, ℕ, ◌+◌, ◌<◌, ◌≤◌, arith, length-drop, Bool, true}
+use Rattle.std.proofs.Common.{false, ◌&&◌, ◌||◌, ◌==◌, nat_lt, List, ◌∷◌, Some, None, length, slice_index, drop, refl}
+use Rattle.std.proofs.Common.{sym, ap, ◌∙◌, if◌then◌else◌}
 use Rattle.cw_rules.specs.declared.classes.Class.TheVariants as classes
 use Rattle.cw_rules.specs.declared.parts.Part.{Part}
 use Rattle.cw_rules.specs.declared.parts.Part.TheVariants as parts
@@ -14,7 +16,9 @@ use Rattle.cw_rules.specs.Codes.{begins_section}
 use Rattle.cw_rules.specs.Constants.{hexadecimal, fraction, exponent, mantissa, decimal, number, constant}
 use Rattle.cw_rules.specs.Signs.{all_signs, longest, spelling}
 use Rattle.cw_lex.specs.Lexing.{fresh_at, last_at}
-use Rattle.cw_rules.specs.Tokens.{section, in_text, code_text, in_code, start_of, sign_or_other, is_space, is_include, behind_word, ends_at_bar, in_hash_line, behind_include, closes_on_line, passed, one, moved}
+use Rattle.cw_rules.specs.Tokens.{section, in_text, code_text, in_code, start_of, sign_or_other, is_space, is_include}
+use Rattle.cw_rules.specs.Tokens.{behind_word, ends_at_bar, in_hash_line, behind_include, closes_on_line, passed, one}
+use Rattle.cw_rules.specs.Tokens.{moved}
 use Rattle.cw_lex.specs.Coming.{found_at}
 use Rattle.cw_rules.specs.Cuttings.{bytes_at}
 use Rattle.cw_lex.specs.Calm.{is_calm}
@@ -41,7 +45,8 @@ and-false false = refl
 no-space : (part : Part) (b : ℕ) (bs : List ℕ) → IsStart b → is_space part b bs ≡ false
 no-space part b bs s = rw (s.blank, s.backslash) (and-false (in_hash_line part))
 
-no-include : (part : Part) (b : ℕ) (bs : List ℕ) → behind_include part ≡ false → (b == 60 && (behind_include part && closes_on_line bs)) ≡ false
+no-include : (part : Part) (b : ℕ) (bs : List ℕ) → behind_include part ≡ false
+    → (b == 60 && (behind_include part && closes_on_line bs)) ≡ false
 no-include part b bs h = ap (λ t. b == 60 && (t && closes_on_line bs)) h ∙ and-false (b == 60)
 
 code-start : (w : Where) (fresh : Bool) (last place b : ℕ) (bs : List ℕ) → behind_include w.part ≡ false → IsStart b
@@ -49,25 +54,31 @@ code-start : (w : Where) (fresh : Bool) (last place b : ℕ) (bs : List ℕ) →
 code-start w fresh last place b bs h s = rw (s.newline, no-space w.part b bs s, s.hash, no-include w.part b bs h) refl
 
 -- what begins there is found by the rule of its start
-start-found : (text : List ℕ) (part : Part) (comments : List Opened) (place : ℕ) (kind : Start) → is_calm part comments ≡ true
-    → IsStart (slice_index text place) → start_of (ends_at_bar part comments) (slice_index text place) (drop (place + 1) text) ≡ kind
-    → found_at text (record { part = part; comments = comments }) place ≡ in_code kind (record { part = part; comments = comments }) place (bytes_at text place)
+start-found : (text : List ℕ) (part : Part) (comments : List Opened) (place : ℕ) (kind : Start) → is_calm part comments
+    ≡ true
+    → IsStart (slice_index text place) → start_of (ends_at_bar part comments) (slice_index text place)
+    (drop (place + 1) text) ≡ kind
+    → found_at text (record { part = part; comments = comments }) place
+    ≡ in_code kind (record { part = part; comments = comments }) place (bytes_at text place)
 start-found text part comments place kind calm s e =
     let b = slice_index text place in
     let bs = drop (place + 1) text in
     let w : Where = record { part = part; comments = comments } in
-    ap (λ t. if t && begins_section bs then section w place bs else in_text part comments (fresh_at text place) (last_at text place) place b bs) s.at_sign
+    ap (λ t. if t && begins_section bs then section w place bs else in_text part comments (fresh_at text place)
+    (last_at text place) place b bs) s.at_sign
     ∙ in_text-code part comments (fresh_at text place) (last_at text place) place b bs (calm-code part comments calm)
     ∙ code-start w (fresh_at text place) (last_at text place) place b bs (calm-part part comments calm).include s
     ∙ ap (λ k. in_code k w place (bytes_at text place)) e
 
-no-blank : (b : ℕ) → (b == 32) ≡ false → (b == 9) ≡ false → (b == 11) ≡ false → (b == 12) ≡ false → (b == 13) ≡ false → is_in classes.Blank b ≡ false
+no-blank : (b : ℕ) → (b == 32) ≡ false → (b == 9) ≡ false → (b == 11) ≡ false → (b == 12) ≡ false → (b == 13) ≡ false
+    → is_in classes.Blank b ≡ false
 no-blank b e f g h k = rw (e, f, g, h, k) refl
 
 letter-starts : (b : ℕ) → is_letter b ≡ true → IsStart b
 letter-starts b h = record {
   newline = other-byte is_letter b 10 h refl;
-  blank = no-blank b (other-byte is_letter b 32 h refl) (other-byte is_letter b 9 h refl) (other-byte is_letter b 11 h refl) (other-byte is_letter b 12 h refl) (other-byte is_letter b 13 h refl);
+  blank = no-blank b (other-byte is_letter b 32 h refl) (other-byte is_letter b 9 h refl)
+      (other-byte is_letter b 11 h refl) (other-byte is_letter b 12 h refl) (other-byte is_letter b 13 h refl);
   backslash = other-byte is_letter b 92 h refl;
   at_sign = other-byte is_letter b 64 h refl;
   hash = other-byte is_letter b 35 h refl;
@@ -76,7 +87,9 @@ letter-starts b h = record {
 digit-starts : (b : ℕ) → is_in classes.Digit b ≡ true → IsStart b
 digit-starts b h = record {
   newline = other-byte (is_in classes.Digit) b 10 h refl;
-  blank = no-blank b (other-byte (is_in classes.Digit) b 32 h refl) (other-byte (is_in classes.Digit) b 9 h refl) (other-byte (is_in classes.Digit) b 11 h refl) (other-byte (is_in classes.Digit) b 12 h refl) (other-byte (is_in classes.Digit) b 13 h refl);
+  blank = no-blank b (other-byte (is_in classes.Digit) b 32 h refl) (other-byte (is_in classes.Digit) b 9 h refl)
+      (other-byte (is_in classes.Digit) b 11 h refl) (other-byte (is_in classes.Digit) b 12 h refl)
+      (other-byte (is_in classes.Digit) b 13 h refl);
   backslash = other-byte (is_in classes.Digit) b 92 h refl;
   at_sign = other-byte (is_in classes.Digit) b 64 h refl;
   hash = other-byte (is_in classes.Digit) b 35 h refl;
@@ -85,29 +98,37 @@ digit-starts b h = record {
 abbrev begins_sign : List ℕ → ℕ → Bool
 begins_sign bs b = elim (longest all_signs (b ∷ bs)) [ None ↦ false | Some sign ↦ true ]
 
-sign-starts : (b : ℕ) (bs : List ℕ) (sign : Sign) → is_lone b ≡ true → longest all_signs (b ∷ bs) ≡ Some sign → IsStart b
+sign-starts : (b : ℕ) (bs : List ℕ) (sign : Sign) → is_lone b ≡ true → longest all_signs (b ∷ bs) ≡ Some sign
+    → IsStart b
 sign-starts b bs sign lone e =
     let h : begins_sign bs b ≡ true = ap (λ o. elim o [ None ↦ false | Some sign ↦ true ]) e in
     record {
       newline = other-byte (begins_sign bs) b 10 h refl;
-      blank = no-blank b (other-byte (begins_sign bs) b 32 h refl) (other-byte (begins_sign bs) b 9 h refl) (other-byte (begins_sign bs) b 11 h refl) (other-byte (begins_sign bs) b 12 h refl) (other-byte (begins_sign bs) b 13 h refl);
+      blank = no-blank b (other-byte (begins_sign bs) b 32 h refl) (other-byte (begins_sign bs) b 9 h refl)
+          (other-byte (begins_sign bs) b 11 h refl) (other-byte (begins_sign bs) b 12 h refl)
+          (other-byte (begins_sign bs) b 13 h refl);
       backslash = other-byte (begins_sign bs) b 92 h refl;
       at_sign = other-byte (begins_sign bs) b 64 h refl;
       hash = other-byte is_lone b 35 lone refl;
     }
 
-no-constant : (b : ℕ) (bs : List ℕ) → is_in classes.Digit b ≡ false → (b == 48) ≡ false → (b == 46) ≡ false → constant (b ∷ bs) ≡ 0
+no-constant : (b : ℕ) (bs : List ℕ) → is_in classes.Digit b ≡ false → (b == 48) ≡ false → (b == 46) ≡ false
+    → constant (b ∷ bs) ≡ 0
 no-constant b bs d z p =
     let digits : run classes.Digit (b ∷ bs) ≡ 0 = ap (λ t. elim t [ true ↦ 1 + run classes.Digit bs | false ↦ 0 ]) d in
-    let part : fraction false (b ∷ bs) ≡ 0 = ap (λ t. if t && (false || nat_lt 0 (run classes.Digit bs)) then 1 + run classes.Digit bs else 0) p in
-    let whole : mantissa (b ∷ bs) ≡ 0 = ap (λ n. n + fraction (nat_lt 0 n) (drop n (b ∷ bs))) digits ∙ ap (λ n. 0 + n) part in
+    let part : fraction false (b ∷ bs) ≡ 0 = ap (λ t. if t && (false || nat_lt 0 (run classes.Digit bs)) then 1
+    + run classes.Digit bs else 0) p in
+    let whole : mantissa (b ∷ bs) ≡ 0 = ap (λ n. n + fraction (nat_lt 0 n) (drop n (b ∷ bs))) digits
+    ∙ ap (λ n. 0 + n) part in
     let decimally : decimal (b ∷ bs) ≡ 0 = ap (λ m. if nat_lt 0 m then m + exponent (drop m (b ∷ bs)) else 0) whole in
     let more = run classes.HexDigit (drop 1 bs) in
-    let hex : hexadecimal (b ∷ bs) ≡ 0 = ap (λ t. if t && begins_by (is_letter_of 120) bs && nat_lt 0 more then 2 + more else 0) z in
+    let hex : hexadecimal (b ∷ bs) ≡ 0 = ap (λ t. if t && begins_by (is_letter_of 120) bs && nat_lt 0 more then 2
+    + more else 0) z in
     let both : number (b ∷ bs) ≡ 0 = (λ i. if nat_lt 0 (hex i) then hex i else decimally i) in
     ap (λ n. if nat_lt 0 n then n + run classes.Suffix (drop n (b ∷ bs)) else 0) both
 
-sign-is : (bars : Bool) (b : ℕ) (bs : List ℕ) (sign : Sign) → is_letter b ≡ false → is_in classes.Digit b ≡ false → is_lone b ≡ true
+sign-is : (bars : Bool) (b : ℕ) (bs : List ℕ) (sign : Sign) → is_letter b ≡ false → is_in classes.Digit b ≡ false
+    → is_lone b ≡ true
     → longest all_signs (b ∷ bs) ≡ Some sign → start_of bars b bs ≡ start.Sign sign
 sign-is bars b bs sign letter digit lone e =
     let h : begins_sign bs b ≡ true = ap (λ o. elim o [ None ↦ false | Some sign ↦ true ]) e in
@@ -127,31 +148,36 @@ sign-is bars b bs sign letter digit lone e =
 letter-is : (bars : Bool) (b : ℕ) (bs : List ℕ) → is_letter b ≡ true → start_of bars b bs ≡ start.Identifier
 letter-is bars b bs h = rw h refl
 
-number-is : (bars : Bool) (b : ℕ) (bs : List ℕ) → is_letter b ≡ false → nat_lt 0 (constant (b ∷ bs)) ≡ true → start_of bars b bs ≡ start.Constant
+number-is : (bars : Bool) (b : ℕ) (bs : List ℕ) → is_letter b ≡ false → nat_lt 0 (constant (b ∷ bs)) ≡ true
+    → start_of bars b bs ≡ start.Constant
 number-is bars b bs h n = rw (h, n) refl
 
 quote-starts : (b : ℕ) → is_quote b ≡ true → IsStart b
 quote-starts b h = record {
   newline = other-byte is_quote b 10 h refl;
-  blank = no-blank b (other-byte is_quote b 32 h refl) (other-byte is_quote b 9 h refl) (other-byte is_quote b 11 h refl) (other-byte is_quote b 12 h refl) (other-byte is_quote b 13 h refl);
+  blank = no-blank b (other-byte is_quote b 32 h refl) (other-byte is_quote b 9 h refl)
+      (other-byte is_quote b 11 h refl) (other-byte is_quote b 12 h refl) (other-byte is_quote b 13 h refl);
   backslash = other-byte is_quote b 92 h refl;
   at_sign = other-byte is_quote b 64 h refl;
   hash = other-byte is_quote b 35 h refl;
 }
 
-string-is : (bars : Bool) (b : ℕ) (bs : List ℕ) → is_letter b ≡ false → is_in classes.Digit b ≡ false → is_quote b ≡ true
+string-is : (bars : Bool) (b : ℕ) (bs : List ℕ) → is_letter b ≡ false → is_in classes.Digit b ≡ false → is_quote b
+    ≡ true
     → start_of bars b bs ≡ start.Quoted b
 string-is bars b bs letter digit quoted =
     let none = no-constant b bs digit (other-byte is_quote b 48 quoted refl) (other-byte is_quote b 46 quoted refl) in
     rw (letter, none, quoted) refl
 
 -- behind no `include` of a `#` line the part is the next
-word-passed : (part : Part) (bytes : List ℕ) → (in_hash_line part && is_include bytes) ≡ false → behind_word part bytes ≡ passed part
+word-passed : (part : Part) (bytes : List ℕ) → (in_hash_line part && is_include bytes) ≡ false → behind_word part bytes
+    ≡ passed part
 word-passed part bytes h = ap (λ t. if t then parts.Plain true true else passed part) h
 
 -- ## Tokens
 
-pub word-short : (text : List ℕ) (part : Part) (comments : List Opened) (place size : ℕ) → is_calm part comments ≡ true → place < length text
+pub word-short : (text : List ℕ) (part : Part) (comments : List Opened) (place size : ℕ) → is_calm part comments ≡ true
+    → place < length text
     → is_letter (slice_index text place) ≡ true → size ≡ run classes.Word (drop place text)
     → IsShort text (record { part = part; comments = comments }) place (record { kind = kinds.Identifier; size = size })
 word-short text part comments place size calm within letter e =
@@ -159,18 +185,24 @@ word-short text part comments place size calm within letter e =
     let b = slice_index text place in
     let bs = drop (place + 1) text in
     let here : drop place text ≡ bytes_at text place = bytes-here text place within in
-    let more : run classes.Word (b ∷ bs) ≡ 1 + run classes.Word bs = ap (λ t. elim (t || is_digit b) [ true ↦ 1 + run classes.Word bs | false ↦ 0 ]) letter in
+    let more : run classes.Word (b ∷ bs) ≡ 1 + run classes.Word bs =
+    ap (λ t. elim (t || is_digit b) [ true ↦ 1 + run classes.Word bs | false ↦ 0 ]) letter in
     let same : size ≡ run classes.Word (b ∷ bs) = e ∙ ap (run classes.Word) here in
     record {
       some = omega arith;
       within = omega (arith, e, run-le classes.Word (drop place text), length-drop place text);
       found =
-          start-found text part comments place start.Identifier calm (letter-starts b letter) (letter-is (ends_at_bar part comments) b bs letter)
-          ∙ (λ i. one (in_hash_line part) (moved w (word-passed part (b ∷ bs) (ap (λ t. t && is_include (b ∷ bs)) (calm-part part comments calm).hash_line) i)) place (b ∷ bs) (plain kinds.Identifier (sym same i)));
+          start-found text part comments place start.Identifier calm (letter-starts b letter)
+          (letter-is (ends_at_bar part comments) b bs letter)
+          ∙ (λ i. one (in_hash_line part) (moved w
+          (word-passed part (b ∷ bs) (ap (λ t. t && is_include (b ∷ bs)) (calm-part part comments calm).hash_line)
+          i)) place (b ∷ bs) (plain kinds.Identifier (sym same i)));
     }
 
-pub number-short : (text : List ℕ) (part : Part) (comments : List Opened) (place size : ℕ) → is_calm part comments ≡ true → place < length text
-    → is_letter (slice_index text place) ≡ false → is_in classes.Digit (slice_index text place) ≡ true → 0 < size → place + size ≤ length text → size ≡ constant (drop place text)
+pub number-short : (text : List ℕ) (part : Part) (comments : List Opened) (place size : ℕ) → is_calm part comments
+    ≡ true → place < length text
+    → is_letter (slice_index text place) ≡ false → is_in classes.Digit (slice_index text place) ≡ true → 0 < size
+    → place + size ≤ length text → size ≡ constant (drop place text)
     → IsShort text (record { part = part; comments = comments }) place (record { kind = kinds.Constant; size = size })
 number-short text part comments place size calm within letter digit some most e =
     let w : Where = record { part = part; comments = comments } in
@@ -186,9 +218,12 @@ number-short text part comments place size calm within letter digit some most e 
           ∙ (λ i. one (in_hash_line part) (moved w (passed part)) place (b ∷ bs) (plain kinds.Constant (sym same i)));
     }
 
-lone-short : (text : List ℕ) (part : Part) (comments : List Opened) (place size : ℕ) (sign : Sign) → is_calm part comments ≡ true → place < length text
-    → is_letter (slice_index text place) ≡ false → is_in classes.Digit (slice_index text place) ≡ false → is_lone (slice_index text place) ≡ true
-    → longest all_signs (bytes_at text place) ≡ Some sign → 0 < size → size ≡ length (spelling sign) → place + size ≤ length text
+lone-short : (text : List ℕ) (part : Part) (comments : List Opened) (place size : ℕ) (sign : Sign)
+    → is_calm part comments ≡ true → place < length text
+    → is_letter (slice_index text place) ≡ false → is_in classes.Digit (slice_index text place) ≡ false
+    → is_lone (slice_index text place) ≡ true
+    → longest all_signs (bytes_at text place) ≡ Some sign → 0 < size → size ≡ length (spelling sign)
+    → place + size ≤ length text
     → IsShort text (record { part = part; comments = comments }) place (record { kind = kinds.Sign sign; size = size })
 lone-short text part comments place size sign calm within letter digit lone e some same most =
     let w : Where = record { part = part; comments = comments } in
@@ -198,8 +233,10 @@ lone-short text part comments place size sign calm within letter digit lone e so
       some = some;
       within = most;
       found =
-          start-found text part comments place (start.Sign sign) calm (sign-starts b bs sign lone e) (sign-is (ends_at_bar part comments) b bs sign letter digit lone e)
-          ∙ (λ i. one (in_hash_line part) (moved w (passed part)) place (b ∷ bs) (plain (kinds.Sign sign) (sym same i)));
+          start-found text part comments place (start.Sign sign) calm (sign-starts b bs sign lone e)
+          (sign-is (ends_at_bar part comments) b bs sign letter digit lone e)
+          ∙ (λ i. one (in_hash_line part) (moved w (passed part)) place (b ∷ bs)
+          (plain (kinds.Sign sign) (sym same i)));
     }
 
 -- a dot before no digit
@@ -217,54 +254,69 @@ no-decimal bs h =
 dot-starts : IsStart 46
 dot-starts = record { newline = refl; blank = refl; backslash = refl; at_sign = refl; hash = refl }
 
-dot-is : (bars : Bool) (bs : List ℕ) (sign : Sign) → begins_by (is_in classes.Digit) bs ≡ false → longest all_signs (46 ∷ bs) ≡ Some sign
+dot-is : (bars : Bool) (bs : List ℕ) (sign : Sign) → begins_by (is_in classes.Digit) bs ≡ false
+    → longest all_signs (46 ∷ bs) ≡ Some sign
     → start_of bars 46 bs ≡ start.Sign sign
 dot-is bars bs sign h e =
-    ap (λ n. if nat_lt 0 n then start.Constant else sign_or_other (longest all_signs (46 ∷ bs))) (no-decimal bs h) ∙ ap sign_or_other e
+    ap (λ n. if nat_lt 0 n then start.Constant else sign_or_other (longest all_signs (46 ∷ bs))) (no-decimal bs h)
+    ∙ ap sign_or_other e
 
-dot-short : (text : List ℕ) (part : Part) (comments : List Opened) (place size : ℕ) (sign : Sign) → is_calm part comments ≡ true
+dot-short : (text : List ℕ) (part : Part) (comments : List Opened) (place size : ℕ) (sign : Sign)
+    → is_calm part comments ≡ true
     → slice_index text place ≡ 46 → begins_by (is_in classes.Digit) (drop (place + 1) text) ≡ false
-    → longest all_signs (bytes_at text place) ≡ Some sign → 0 < size → size ≡ length (spelling sign) → place + size ≤ length text
+    → longest all_signs (bytes_at text place) ≡ Some sign → 0 < size → size ≡ length (spelling sign)
+    → place + size ≤ length text
     → IsShort text (record { part = part; comments = comments }) place (record { kind = kinds.Sign sign; size = size })
 dot-short text part comments place size sign calm here digit e some same most =
     let w : Where = record { part = part; comments = comments } in
     let bs = drop (place + 1) text in
     let starts : IsStart (slice_index text place) = subst IsStart (sym here) dot-starts in
     let kind : start_of (ends_at_bar part comments) (slice_index text place) bs ≡ start.Sign sign =
-    ap (λ b. start_of (ends_at_bar part comments) b bs) here ∙ dot-is (ends_at_bar part comments) bs sign digit (ap (λ b. longest all_signs (b ∷ bs)) (sym here) ∙ e) in
+    ap (λ b. start_of (ends_at_bar part comments) b bs) here
+    ∙ dot-is (ends_at_bar part comments) bs sign digit (ap (λ b. longest all_signs (b ∷ bs)) (sym here) ∙ e) in
     record {
       some = some;
       within = most;
       found =
           start-found text part comments place (start.Sign sign) calm starts kind
-          ∙ (λ i. one (in_hash_line part) (moved w (passed part)) place (bytes_at text place) (plain (kinds.Sign sign) (sym same i)));
+          ∙ (λ i. one (in_hash_line part) (moved w (passed part)) place (bytes_at text place)
+          (plain (kinds.Sign sign) (sym same i)));
     }
 
-alone-by : (lone dotted digit : Bool) → (lone || (dotted && not digit)) ≡ true → (lone ≡ true) ⊎ ((dotted ≡ true) × (digit ≡ false))
+alone-by : (lone dotted digit : Bool) → (lone || (dotted && not digit)) ≡ true
+    → (lone ≡ true) ⊎ ((dotted ≡ true) × (digit ≡ false))
 alone-by true dotted digit h = inl refl
 alone-by false true true h = absurd (cc)
 alone-by false true false h = inr (refl, refl)
 alone-by false false digit h = absurd (cc)
 
-pub sign-short : (text : List ℕ) (part : Part) (comments : List Opened) (place size : ℕ) (sign : Sign) → is_calm part comments ≡ true → place < length text
+pub sign-short : (text : List ℕ) (part : Part) (comments : List Opened) (place size : ℕ) (sign : Sign)
+    → is_calm part comments ≡ true → place < length text
     → is_letter (slice_index text place) ≡ false → is_in classes.Digit (slice_index text place) ≡ false
     → is_alone (slice_index text place) (drop (place + 1) text) ≡ true
-    → longest all_signs (bytes_at text place) ≡ Some sign → 0 < size → size ≡ length (spelling sign) → place + size ≤ length text
+    → longest all_signs (bytes_at text place) ≡ Some sign → 0 < size → size ≡ length (spelling sign)
+    → place + size ≤ length text
     → IsShort text (record { part = part; comments = comments }) place (record { kind = kinds.Sign sign; size = size })
 sign-short text part comments place size sign calm within letter digit alone e some same most =
     let b = slice_index text place in
     elim (alone-by (is_lone b) (b == 46) (begins_by (is_in classes.Digit) (drop (place + 1) text)) alone) [
       | inl lone ↦ lone-short text part comments place size sign calm within letter digit lone e some same most
-      | inr dotted ↦ dot-short text part comments place size sign calm (eqb-true b 46 dotted.0) dotted.1 e some same most
+      | inr dotted ↦ dot-short text part comments place size sign calm (eqb-true b 46 dotted.0) dotted.1 e some same
+          most
     ]
 
-pub string-begins : (text : List ℕ) (part : Part) (comments : List Opened) (place : ℕ) → is_calm part comments ≡ true → place < length text
-    → is_letter (slice_index text place) ≡ false → is_in classes.Digit (slice_index text place) ≡ false → is_quote (slice_index text place) ≡ true
+pub string-begins : (text : List ℕ) (part : Part) (comments : List Opened) (place : ℕ) → is_calm part comments ≡ true
+    → place < length text
+    → is_letter (slice_index text place) ≡ false → is_in classes.Digit (slice_index text place) ≡ false
+    → is_quote (slice_index text place) ≡ true
     → BeginsString text (record { part = part; comments = comments }) place (slice_index text place)
 string-begins text part comments place calm within letter digit quoted =
     let b = slice_index text place in
-    let bs = drop (place + 1) text in
-    (within, start-found text part comments place (start.Quoted b) calm (quote-starts b quoted) (string-is (ends_at_bar part comments) b bs letter digit quoted))
+    let bs = drop (place + 1) text in (
+      within,
+      start-found text part comments place (start.Quoted b) calm (quote-starts b quoted)
+          (string-is (ends_at_bar part comments) b bs letter digit quoted),
+    )
 
 -- ## Bars
 
@@ -272,28 +324,38 @@ bar-starts : IsStart 124
 bar-starts = record { newline = refl; blank = refl; backslash = refl; at_sign = refl; hash = refl }
 
 bar-kind : (bars : Bool) (bs : List ℕ)
-    → start_of bars 124 bs ≡ (if bars && not (begins 124 bs) then start.EndOfInner else sign_or_other (longest all_signs (124 ∷ bs)))
+    → start_of bars 124 bs ≡ (if bars && not (begins 124 bs) then start.EndOfInner else sign_or_other
+    (longest all_signs (124 ∷ bs)))
 bar-kind bars bs =
-    ap (λ n. if nat_lt 0 n then start.Constant else (if bars && not (begins 124 bs) then start.EndOfInner else sign_or_other (longest all_signs (124 ∷ bs))))
+    ap (λ n. if nat_lt 0 n then start.Constant else (if bars && not (begins 124 bs) then start.EndOfInner else
+    sign_or_other (longest all_signs (124 ∷ bs))))
     (no-constant 124 bs refl refl refl)
 
-bar-is : (text : List ℕ) (place : ℕ) (bars ends : Bool) → slice_index text place ≡ 124 → (bars && not (begins 124 (drop (place + 1) text))) ≡ ends
-    → start_of bars (slice_index text place) (drop (place + 1) text) ≡ (if ends then start.EndOfInner else sign_or_other (longest all_signs (bytes_at text place)))
+bar-is : (text : List ℕ) (place : ℕ) (bars ends : Bool) → slice_index text place ≡ 124
+    → (bars && not (begins 124 (drop (place + 1) text))) ≡ ends
+    → start_of bars (slice_index text place) (drop (place + 1) text)
+    ≡ (if ends then start.EndOfInner else sign_or_other (longest all_signs (bytes_at text place)))
 bar-is text place bars ends here e =
     let bs = drop (place + 1) text in
     ap (λ b. start_of bars b bs) here
     ∙ bar-kind bars bs
     ∙ (λ i. if e i then start.EndOfInner else sign_or_other (longest all_signs (sym here i ∷ bs)))
 
-pub inner-ends : (text : List ℕ) (part : Part) (comments : List Opened) (place : ℕ) → is_calm part comments ≡ true → place < length text
+pub inner-ends : (text : List ℕ) (part : Part) (comments : List Opened) (place : ℕ) → is_calm part comments ≡ true
+    → place < length text
     → slice_index text place ≡ 124 → (ends_at_bar part comments && not (begins 124 (drop (place + 1) text))) ≡ true
     → EndsInner text (record { part = part; comments = comments }) place
-inner-ends text part comments place calm within here ends =
-    (within, start-found text part comments place start.EndOfInner calm (subst IsStart (sym here) bar-starts) (bar-is text place (ends_at_bar part comments) true here ends))
+inner-ends text part comments place calm within here ends = (
+  within,
+  start-found text part comments place start.EndOfInner calm (subst IsStart (sym here) bar-starts)
+      (bar-is text place (ends_at_bar part comments) true here ends),
+)
 
-pub bar-short : (text : List ℕ) (part : Part) (comments : List Opened) (place size : ℕ) (sign : Sign) → is_calm part comments ≡ true
+pub bar-short : (text : List ℕ) (part : Part) (comments : List Opened) (place size : ℕ) (sign : Sign)
+    → is_calm part comments ≡ true
     → slice_index text place ≡ 124 → (ends_at_bar part comments && not (begins 124 (drop (place + 1) text))) ≡ false
-    → longest all_signs (bytes_at text place) ≡ Some sign → 0 < size → size ≡ length (spelling sign) → place + size ≤ length text
+    → longest all_signs (bytes_at text place) ≡ Some sign → 0 < size → size ≡ length (spelling sign)
+    → place + size ≤ length text
     → IsShort text (record { part = part; comments = comments }) place (record { kind = kinds.Sign sign; size = size })
 bar-short text part comments place size sign calm here ends e some same most =
     let w : Where = record { part = part; comments = comments } in
@@ -303,5 +365,6 @@ bar-short text part comments place size sign calm here ends e some same most =
       found =
           start-found text part comments place (start.Sign sign) calm (subst IsStart (sym here) bar-starts)
           (bar-is text place (ends_at_bar part comments) false here ends ∙ ap sign_or_other e)
-          ∙ (λ i. one (in_hash_line part) (moved w (passed part)) place (bytes_at text place) (plain (kinds.Sign sign) (sym same i)));
+          ∙ (λ i. one (in_hash_line part) (moved w (passed part)) place (bytes_at text place)
+          (plain (kinds.Sign sign) (sym same i)));
     }

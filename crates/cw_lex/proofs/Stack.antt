@@ -1,5 +1,6 @@
 -- The open comments in their rows.
-use Rattle.std.proofs.Common.{◌≡◌, ℕ, zero, suc, ◌<◌, ◌≤◌, ◌≢◌, ◌∷◌, false, length, refl, ap, arith, get_or-set_same, get_or-set_other}
+use Rattle.std.proofs.Common.{◌≡◌, ℕ, zero, suc, ◌<◌, ◌≤◌, ◌≢◌, ◌∷◌, false, length, refl, ap, arith, get_or-set_same}
+use Rattle.std.proofs.Common.{get_or-set_other}
 use Rattle.cw_rules.specs.declared.parts.Opened.{Opened}
 use Rattle.cw_lex.specs.declared.comments.Rows.{Rows}
 use Rattle.cw_lex.specs.Stack.{IsWhole, innermost, opened_at, with_opened}
@@ -39,5 +40,6 @@ innermost-set r (suc n) k c h =
     let other : n ≢ k = omega arith in
     (λ i. other-at r n k c other i ∷ innermost-set r n k c (omega arith) i)
 
-pub innermost-push : (r : Rows) (n : ℕ) (c : Opened) → IsWhole r → n < 21 → innermost (with_opened r n c) (suc n) ≡ c ∷ innermost r n
+pub innermost-push : (r : Rows) (n : ℕ) (c : Opened) → IsWhole r → n < 21 → innermost (with_opened r n c) (suc n)
+    ≡ c ∷ innermost r n
 innermost-push r n c whole h = (λ i. same-at r n c whole h i ∷ innermost-set r n n c (omega arith) i)

@@ -1,5 +1,6 @@
 -- What stays true of a scanner's parts and comments.
-use Rattle.std.proofs.Common.{◌≡◌, ℕ, ◌+◌, ◌≤◌, Bool, true, false, List, [], ◌∷◌, length, drop, refl, sym, ap, subst, ◌∙◌, arith}
+use Rattle.std.proofs.Common.{◌≡◌, ℕ, ◌+◌, ◌≤◌, Bool, true, false, List, [], ◌∷◌, length, drop, refl, sym, ap, subst}
+use Rattle.std.proofs.Common.{◌∙◌, arith}
 use Rattle.cw_rules.specs.declared.parts.Part.{Part}
 use Rattle.cw_rules.specs.declared.parts.Opened.{Opened}
 use Rattle.cw_rules.specs.declared.pending.Pending.{Pending}
@@ -14,24 +15,35 @@ one_if-le true = omega arith
 one_if-le false = omega arith
 
 -- another part leaves room for as many comments
-pub depth-part : (p q : Part) (comments : List Opened) → length comments + one_if (is_code p comments) ≤ 21 → length comments + one_if (is_code q comments) ≤ 21
+pub depth-part : (p q : Part) (comments : List Opened) → length comments + one_if (is_code p comments) ≤ 21
+    → length comments + one_if (is_code q comments) ≤ 21
 depth-part p q [] h = let e : one_if (is_code_part q) ≤ 1 = one_if-le (is_code_part q) in omega arith
 depth-part p q (c ∷ comments) h = h
 
-pub is_code-part : (p q : Part) (comments : List Opened) → is_code_part q ≡ is_code_part p → is_code q comments ≡ is_code p comments
+pub is_code-part : (p q : Part) (comments : List Opened) → is_code_part q ≡ is_code_part p → is_code q comments
+    ≡ is_code p comments
 is_code-part p q [] e = e
 is_code-part p q (c ∷ comments) e = refl
 
-pub nested-part : (p q : Part) (comments : List Opened) → is_code_part q ≡ is_code_part p → IsNested p comments → IsNested q comments
+pub nested-part : (p q : Part) (comments : List Opened) → is_code_part q ≡ is_code_part p → IsNested p comments
+    → IsNested q comments
 nested-part p q [] e n = tt
 nested-part p q (c ∷ comments) e n = (is_code-part p q comments e ∙ n.0, nested-part p q comments e n.1)
 
 -- one comment more
-pub ready-push : (text : List ℕ) (s : State) (q : Part) (c : Opened) (comments : List Opened) (next : ℕ) → IsReady text s → is_code s.part s.comments ≡ true
-    → is_code_part q ≡ is_code_part s.part → c.braces ≡ 0 → c.inner ≡ false → comments ≡ c ∷ s.comments → s.at ≤ next → next ≤ length text
+pub ready-push : (text : List ℕ) (s : State) (q : Part) (c : Opened) (comments : List Opened) (next : ℕ)
+    → IsReady text s → is_code s.part s.comments ≡ true
+    → is_code_part q ≡ is_code_part s.part → c.braces ≡ 0 → c.inner ≡ false → comments ≡ c ∷ s.comments → s.at ≤ next
+    → next ≤ length text
     → IsReady text (record { at = next; part = q; comments = comments; pending = s.pending; clear = s.clear })
 ready-push text s q c comments next ready code part braces inner e from within =
-    let P : List Opened → Type 0 = λ cs. IsReady text (record { at = next; part = q; comments = cs; pending = s.pending; clear = s.clear }) in
+    let P : List Opened → Type 0 = λ cs. IsReady text (record {
+      at = next;
+      part = q;
+      comments = cs;
+      pending = s.pending;
+      clear = s.clear;
+    }) in
     subst P (sym e) (record {
       within = within;
       depth = omega (arith, ready.depth, ap one_if code, ap one_if inner);
@@ -42,12 +54,16 @@ ready-push text s q c comments next ready code part braces inner e from within =
     })
 
 -- the innermost comment changed
-pub ready-top : (text : List ℕ) (s : State) (q : Part) (c d : Opened) (comments : List Opened) (p : Pending) (next : ℕ) → IsReady text s → s.comments ≡ c ∷ drop 1 s.comments
-    → is_code_part q ≡ is_code_part s.part → d.braces ≤ next → (length s.comments + one_if d.inner) ≤ 21 → comments ≡ d ∷ drop 1 s.comments → s.at ≤ next → next ≤ length text
-    → IsInside (length text) p.body → IsReady text (record { at = next; part = q; comments = comments; pending = p; clear = s.clear })
+pub ready-top : (text : List ℕ) (s : State) (q : Part) (c d : Opened) (comments : List Opened) (p : Pending) (next : ℕ)
+    → IsReady text s → s.comments ≡ c ∷ drop 1 s.comments
+    → is_code_part q ≡ is_code_part s.part → d.braces ≤ next → (length s.comments + one_if d.inner) ≤ 21 → comments
+    ≡ d ∷ drop 1 s.comments → s.at ≤ next → next ≤ length text
+    → IsInside (length text) p.body
+    → IsReady text (record { at = next; part = q; comments = comments; pending = p; clear = s.clear })
 ready-top text s q c d comments p next ready top part braces depth e from within notes =
     let rest = drop 1 s.comments in
-    let P : List Opened → Type 0 = λ cs. IsReady text (record { at = next; part = q; comments = cs; pending = p; clear = s.clear }) in
+    let P : List Opened → Type 0 = λ cs. IsReady text
+    (record { at = next; part = q; comments = cs; pending = p; clear = s.clear }) in
     let all : AllWithin s.at (c ∷ rest) = subst (AllWithin s.at) top ready.braces in
     let nested : IsNested s.part (c ∷ rest) = subst (IsNested s.part) top ready.nested in
     subst P (sym e) (record {
@@ -60,7 +76,8 @@ ready-top text s q c d comments p next ready top part braces depth e from within
     })
 
 -- the innermost comment ended
-pub ready-pop : (text : List ℕ) (s : State) (c : Opened) (comments : List Opened) (p : Pending) (next : ℕ) → IsReady text s → s.comments ≡ c ∷ comments
+pub ready-pop : (text : List ℕ) (s : State) (c : Opened) (comments : List Opened) (p : Pending) (next : ℕ)
+    → IsReady text s → s.comments ≡ c ∷ comments
     → s.at ≤ next → next ≤ length text → IsInside (length text) p.body
     → IsReady text (record { at = next; part = s.part; comments = comments; pending = p; clear = s.clear })
 ready-pop text s c comments p next ready top from within notes =
@@ -77,9 +94,11 @@ ready-pop text s c comments p next ready top from within notes =
     }
 
 -- the innermost comment's braces
-pub top-within : (n : ℕ) (comments : List Opened) (c : Opened) (rest : List Opened) → AllWithin n comments → comments ≡ c ∷ rest → c.braces ≤ n
+pub top-within : (n : ℕ) (comments : List Opened) (c : Opened) (rest : List Opened) → AllWithin n comments → comments
+    ≡ c ∷ rest → c.braces ≤ n
 top-within n comments c rest all e = (subst (AllWithin n) e all).0
 
 -- behind the innermost comment C text goes on
-pub top-nested : (part : Part) (comments : List Opened) (c : Opened) (rest : List Opened) → IsNested part comments → comments ≡ c ∷ rest → is_code part rest ≡ true
+pub top-nested : (part : Part) (comments : List Opened) (c : Opened) (rest : List Opened) → IsNested part comments
+    → comments ≡ c ∷ rest → is_code part rest ≡ true
 top-nested part comments c rest nested e = (subst (IsNested part) e nested).0

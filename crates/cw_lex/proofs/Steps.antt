@@ -1,5 +1,6 @@
 -- How one answer follows from what begins at the scanner's place.
-use Rattle.std.proofs.Common.{◌≡◌, ℕ, Bool, ◌+◌, ◌<◌, ◌≤◌, List, [], ◌∷◌, ◌++◌, length, sym, ap, ◌∙◌, arith, append_assoc, drop}
+use Rattle.std.proofs.Common.{◌≡◌, ℕ, Bool, ◌+◌, ◌<◌, ◌≤◌, List, [], ◌∷◌, ◌++◌, length, sym, ap, ◌∙◌, arith}
+use Rattle.std.proofs.Common.{append_assoc, drop}
 use Rattle.cw_rules.specs.declared.parts.Opened.{Opened}
 use Rattle.cw_lex.specs.declared.state.State.{State}
 use Rattle.cw_rules.specs.declared.tokens.TokKind.{TokKind}
@@ -13,21 +14,26 @@ use Rattle.cw_lex.proofs.Walk.{answers-at, answers-here, rest_at}
 use Rattle.cw_rules.proofs.Runs.{drop-here}
 
 -- without notes the answers are those of the text
-pub coming-quiet : (text : List ℕ) (s : State) → s.pending ≡ no_notes → coming text s ≡ answers_at text (where_of s) s.at
+pub coming-quiet : (text : List ℕ) (s : State) → s.pending ≡ no_notes → coming text s
+    ≡ answers_at text (where_of s) s.at
 coming-quiet text s h = ap (λ p. note_answers (pending_notes text p) ++ answers_at text (where_of s) s.at) h
 
 -- a step that takes bytes
-pub step-gives : (text : List ℕ) (old new : State) (a : Answer) (f : Found) → old.pending ≡ no_notes → old.at < length text
+pub step-gives : (text : List ℕ) (old new : State) (a : Answer) (f : Found) → old.pending ≡ no_notes
+    → old.at < length text
     → found_at text (where_of old) old.at ≡ f → f.answers ≡ a ∷ note_answers (pending_notes text new.pending)
-    → new.at ≡ (old.at + 1) + f.more → new.at ≤ length text → where_of new ≡ f.next → coming text old ≡ a ∷ coming text new
+    → new.at ≡ (old.at + 1) + f.more → new.at ≤ length text → where_of new ≡ f.next → coming text old
+    ≡ a ∷ coming text new
 step-gives text old new a f quiet place e answers at within next =
     coming-quiet text old quiet
     ∙ answers-at text (where_of old) old.at f new.at place e at within
     ∙ (λ i. answers i ++ answers_at text (sym next i) new.at)
 
 -- a step that takes none
-pub zero-gives : (text : List ℕ) (old new : State) (a : Answer) → old.pending ≡ no_notes → old.at < length text → new.at ≡ old.at
-    → found_at text (where_of old) old.at ≡ before (a ∷ note_answers (pending_notes text new.pending)) (found_at text (where_of new) old.at)
+pub zero-gives : (text : List ℕ) (old new : State) (a : Answer) → old.pending ≡ no_notes → old.at < length text
+    → new.at ≡ old.at
+    → found_at text (where_of old) old.at ≡ before (a ∷ note_answers (pending_notes text new.pending))
+    (found_at text (where_of new) old.at)
     → coming text old ≡ a ∷ coming text new
 zero-gives text old new a quiet place at e =
     let rest : Where → ℕ → List Answer = λ next more. rest_at text old.at next more in
@@ -55,12 +61,16 @@ AllWithin-more m n (c ∷ comments) h all = (omega (arith, all.0), AllWithin-mor
 
 -- a token at the scanner's place
 pub token-here : (text : List ℕ) (place size : ℕ) (kind : TokKind) (hash_line : Bool) (t : Seen) → place < length text
-    → t ≡ token_of hash_line kind place size (drop place text) → token_of hash_line kind place size (bytes_at text place) ≡ t
-token-here text place size kind hash_line t h e = ap (token_of hash_line kind place size) (sym (bytes-here text place h)) ∙ sym e
+    → t ≡ token_of hash_line kind place size (drop place text)
+    → token_of hash_line kind place size (bytes_at text place) ≡ t
+token-here text place size kind hash_line t h e = ap (token_of hash_line kind place size)
+    (sym (bytes-here text place h)) ∙ sym e
 
 -- a step that takes bytes and has no notes
-pub one-gives : (text : List ℕ) (old new : State) (a b : Answer) (more : ℕ) (next : Where) → old.pending ≡ no_notes → old.at < length text
-    → found_at text (where_of old) old.at ≡ record { answers = a ∷ []; more = more; next = next } → a ≡ b → new.pending ≡ no_notes
+pub one-gives : (text : List ℕ) (old new : State) (a b : Answer) (more : ℕ) (next : Where) → old.pending ≡ no_notes
+    → old.at < length text
+    → found_at text (where_of old) old.at ≡ record { answers = a ∷ []; more = more; next = next } → a ≡ b → new.pending
+    ≡ no_notes
     → new.at ≡ (old.at + 1) + more → new.at ≤ length text → where_of new ≡ next → coming text old ≡ b ∷ coming text new
 one-gives text old new a b more next quiet place e same none at within to =
     step-gives text old new b (record { answers = a ∷ []; more = more; next = next }) quiet place e

@@ -1,5 +1,6 @@
 -- The scanner's answers over TeX text are nested.
-use Rattle.std.proofs.Common.{◌≡◌, ℕ, zero, suc, ◌+◌, ◌-◌, Bool, true, false, ◌&&◌, ◌||◌, Option, Some, None, List, [], ◌∷◌, ◌++◌, take, drop, refl, sym, ◌∙◌, ap}
+use Rattle.std.proofs.Common.{◌≡◌, ℕ, zero, suc, ◌+◌, ◌-◌, Bool, true, false, ◌&&◌, ◌||◌, Option, Some, None, List, []}
+use Rattle.std.proofs.Common.{◌∷◌, ◌++◌, take, drop, refl, sym, ◌∙◌, ap}
 use Rattle.std.specs.Prelude.{if◌then◌else◌, ◌==◌}
 use Rattle.cw_rules.specs.declared.bodies.Noted.{Noted}
 use Rattle.cw_rules.specs.declared.classes.Class.TheVariants as classes
@@ -19,10 +20,15 @@ use Rattle.cw_rules.specs.Bytes.{at_sign, bar, equals, begins, is_in, run}
 use Rattle.cw_rules.specs.Codes.{code_at, begins_section, effect_in_tex}
 use Rattle.cw_rules.specs.Answers.{Answer, Token, Begin, Finish, Note, Where, Cut, Found, note_answers, plain}
 use Rattle.cw_lex.specs.Lexing.{answers, tokens_of, still_fresh, fresh_at, last_at}
-use Rattle.cw_rules.specs.Tokens.{one, dropped_code, moved, is_name, is_head, code_token, comment_cut, inner_or_none, all_cut, start_of, in_code, tex_by, tex_text, head_text, in_text, section, section_code, found}
-use Rattle.cw_lex.specs.Nested.{Level, InCode, InComment, after_token, after_begin, levels_after, all_levels_after, tex_levels_after, all_tex_levels_after, IsTexNested, is_section_kind, is_part_kind, begins_part_in, is_part_answer}
+use Rattle.cw_rules.specs.Tokens.{one, dropped_code, moved, is_name, is_head, code_token, comment_cut, inner_or_none}
+use Rattle.cw_rules.specs.Tokens.{all_cut, start_of, in_code, tex_by, tex_text, head_text, in_text, section}
+use Rattle.cw_rules.specs.Tokens.{section_code, found}
+use Rattle.cw_lex.specs.Nested.{Level, InCode, InComment, after_token, after_begin, levels_after, all_levels_after}
+use Rattle.cw_lex.specs.Nested.{tex_levels_after, all_tex_levels_after, IsTexNested, is_section_kind, is_part_kind}
+use Rattle.cw_lex.specs.Nested.{begins_part_in, is_part_answer}
 use Rattle.cw_rules.proofs.Choices.{if-both, or-first, or-second}
-use Rattle.cw_lex.proofs.Nesting.{Goes, levels_in, nested_in, in_tex, Begun, begins-so, in-code-goes, before-code, open-goes, inner-nested, open-levels, cut-one, section-kind}
+use Rattle.cw_lex.proofs.Nesting.{Goes, levels_in, nested_in, in_tex, Begun, begins-so, in-code-goes, before-code}
+use Rattle.cw_lex.proofs.Nesting.{open-goes, inner-nested, open-levels, cut-one, section-kind}
 
 -- ## Levels
 
@@ -38,9 +44,11 @@ begin-none _ = refl
 
 -- inside inner C text of TeX text the levels are those of C text
 one-same : (a : Answer) (ls ms : List Level) → levels_after a ls ≡ Some ms → tex_levels_after a ls ≡ Some ms
-one-same (Token t) [] ms h = absurd (let k : ◌≡◌ {A = Option (List Level)} None (Some ms) = sym (token-none t.kind) ∙ h in cc)
+one-same (Token t) [] ms h = absurd (let k : ◌≡◌ {A = Option (List Level)} None (Some ms) = sym (token-none t.kind)
+    ∙ h in cc)
 one-same (Token t) (l ∷ ls) ms h = h
-one-same (Begin t) [] ms h = absurd (let k : ◌≡◌ {A = Option (List Level)} None (Some ms) = sym (begin-none t.kind) ∙ h in cc)
+one-same (Begin t) [] ms h = absurd (let k : ◌≡◌ {A = Option (List Level)} None (Some ms) = sym (begin-none t.kind)
+    ∙ h in cc)
 one-same (Begin t) (l ∷ ls) ms h = h
 one-same (Finish t) [] ms h = h
 one-same (Finish t) (InCode ∷ []) ms h = absurd cc
@@ -48,25 +56,45 @@ one-same (Finish t) (InCode ∷ l ∷ ls) ms h = h
 one-same (Finish t) (InComment ∷ ls) ms h = h
 one-same (Note k place) ls ms h = h
 
-first-levels : (a : Answer) (xs : List Answer) (ls ms : List Level) (o : Option (List Level)) → levels_after a ls ≡ o → all_levels_after (a ∷ xs) ls ≡ Some ms → (l : List Level) × ((levels_after a ls ≡ Some l) × (all_levels_after xs l ≡ Some ms))
-first-levels a xs ls ms None e h = absurd (let k : ◌≡◌ {A = Option (List Level)} None (Some ms) = sym (ap (λ (o : Option (List Level)). elim o [ None ↦ None | Some next ↦ all_levels_after xs next ]) e) ∙ h in cc)
-first-levels a xs ls ms (Some l) e h = (l, (e, sym (ap (λ (o : Option (List Level)). elim o [ None ↦ None | Some next ↦ all_levels_after xs next ]) e) ∙ h))
+first-levels : (a : Answer) (xs : List Answer) (ls ms : List Level) (o : Option (List Level)) → levels_after a ls ≡ o
+    → all_levels_after (a ∷ xs) ls ≡ Some ms → (l : List Level)
+    × ((levels_after a ls ≡ Some l) × (all_levels_after xs l ≡ Some ms))
+first-levels a xs ls ms None e h = absurd (let k : ◌≡◌ {A = Option (List Level)} None (Some ms) = sym
+    (ap (λ (o : Option (List Level)). elim o [ None ↦ None | Some next ↦ all_levels_after xs next ]) e) ∙ h in cc)
+first-levels a xs ls ms (Some l) e h = (
+  l,
+  (
+    e,
+    sym (ap (λ (o : Option (List Level)). elim o [ None ↦ None | Some next ↦ all_levels_after xs next ]) e)
+        ∙ h,
+  ),
+)
 
-tex-step : (a : Answer) (xs : List Answer) (ls next : List Level) → tex_levels_after a ls ≡ Some next → all_tex_levels_after (a ∷ xs) ls ≡ all_tex_levels_after xs next
-tex-step a xs ls next e = ap (λ (o : Option (List Level)). elim o [ None ↦ None | Some next ↦ all_tex_levels_after xs next ]) e
+tex-step : (a : Answer) (xs : List Answer) (ls next : List Level) → tex_levels_after a ls ≡ Some next
+    → all_tex_levels_after (a ∷ xs) ls ≡ all_tex_levels_after xs next
+tex-step a xs ls next e = ap (λ (o : Option (List Level)). elim o [
+  | None ↦ None
+  | Some next ↦ all_tex_levels_after xs next
+]) e
 
-all-same : (xs : List Answer) (ls ms : List Level) → all_levels_after xs ls ≡ Some ms → all_tex_levels_after xs ls ≡ Some ms
+all-same : (xs : List Answer) (ls ms : List Level) → all_levels_after xs ls ≡ Some ms → all_tex_levels_after xs ls
+    ≡ Some ms
 all-same [] ls ms h = h
 all-same (a ∷ xs) ls ms h =
     let f = first-levels a xs ls ms (levels_after a ls) refl h in
     tex-step a xs ls f.0 (one-same a ls f.0 f.1.0) ∙ all-same xs f.0 ms f.1.1
 
-tex-append : (xs ys : List Answer) (ls ms : List Level) → all_tex_levels_after xs ls ≡ Some ms → all_tex_levels_after (xs ++ ys) ls ≡ all_tex_levels_after ys ms
+tex-append : (xs ys : List Answer) (ls ms : List Level) → all_tex_levels_after xs ls ≡ Some ms
+    → all_tex_levels_after (xs ++ ys) ls ≡ all_tex_levels_after ys ms
 tex-append [] ys ls ms h = ap (all_tex_levels_after ys) (let e : ls ≡ ms = cc in e)
 tex-append (a ∷ xs) ys ls ms h = go (tex_levels_after a ls) refl (λ next. tex-append xs ys next ms)
   where
-    go : (o : Option (List Level)) → tex_levels_after a ls ≡ o → ((next : List Level) → all_tex_levels_after xs next ≡ Some ms → all_tex_levels_after (xs ++ ys) next ≡ all_tex_levels_after ys ms) → all_tex_levels_after (a ∷ xs ++ ys) ls ≡ all_tex_levels_after ys ms
-    go None e rec = absurd (let k : ◌≡◌ {A = Option (List Level)} None (Some ms) = sym (ap (λ (o : Option (List Level)). elim o [ None ↦ None | Some next ↦ all_tex_levels_after xs next ]) e) ∙ h in cc)
+    go : (o : Option (List Level)) → tex_levels_after a ls ≡ o
+        → ((next : List Level) → all_tex_levels_after xs next ≡ Some ms → all_tex_levels_after (xs ++ ys) next
+        ≡ all_tex_levels_after ys ms) → all_tex_levels_after (a ∷ xs ++ ys) ls ≡ all_tex_levels_after ys ms
+    go None e rec = absurd (let k : ◌≡◌ {A = Option (List Level)} None (Some ms) = sym
+        (ap (λ (o : Option (List Level)). elim o [ None ↦ None | Some next ↦ all_tex_levels_after xs next ]) e)
+        ∙ h in cc)
     go (Some next) e rec = tex-step a (xs ++ ys) ls next e ∙ rec next (sym (tex-step a xs ls next e) ∙ h)
 
 notes-tex : (ns : List Noted) (ls : List Level) → all_tex_levels_after (note_answers ns) ls ≡ Some ls
@@ -105,15 +133,27 @@ inner-goes : (ls : List Level) (f : Found) → Goes true ls f → Unless ls f
 inner-goes ls f g = record {
   goes = λ h. record {
     stays = inner-stands f.next.part f.next.comments g.same ∙ g.nested;
-    levels = all-same f.answers ls (levels_in f.next.comments) g.levels ∙ ap Some (inner-levels f.next.part f.next.comments g.same);
+    levels = all-same f.answers ls (levels_in f.next.comments) g.levels
+        ∙ ap Some (inner-levels f.next.part f.next.comments g.same);
   };
 }
 
-token-goes : (hash_line : Bool) (next : Where) (place : ℕ) (bytes : List ℕ) (cut : Cut) → stands next.part next.comments ≡ true → tex_levels next.part next.comments ≡ [] → Unless [] (one hash_line next place bytes cut)
-token-goes hash_line next place bytes cut s l = record { goes = λ h. record { stays = s; levels = notes-tex cut.notes [] ∙ ap Some (sym l) } }
+token-goes : (hash_line : Bool) (next : Where) (place : ℕ) (bytes : List ℕ) (cut : Cut) → stands next.part next.comments
+    ≡ true → tex_levels next.part next.comments ≡ [] → Unless [] (one hash_line next place bytes cut)
+token-goes hash_line next place bytes cut s l = record {
+  goes = λ h. record {
+    stays = s;
+    levels = notes-tex cut.notes []
+        ∙ ap Some (sym l);
+  };
+}
 
-part-begins : (hash_line : Bool) (next : Where) (place : ℕ) (bytes : List ℕ) (cut : Cut) (ls : List Level) → is_part_kind cut.kind ≡ true → Unless ls (one hash_line next place bytes cut)
-part-begins hash_line next place bytes cut ls k = record { goes = λ h. absurd (let e : is_part_kind cut.kind ≡ false = or-first (is_part_kind cut.kind) (begins_part_in (note_answers cut.notes)) h in cc) }
+part-begins : (hash_line : Bool) (next : Where) (place : ℕ) (bytes : List ℕ) (cut : Cut) (ls : List Level)
+    → is_part_kind cut.kind ≡ true → Unless ls (one hash_line next place bytes cut)
+part-begins hash_line next place bytes cut ls k = record {
+  goes = λ h. absurd (let e : is_part_kind cut.kind
+      ≡ false = or-first (is_part_kind cut.kind) (begins_part_in (note_answers cut.notes)) h in cc);
+}
 
 abbrev is_kept : Effect → Bool
 is_kept effects.Stands = true
@@ -124,55 +164,89 @@ code-begins : (c : Code) → is_kept (effect_in_tex c) ≡ false → is_part_kin
 code-begins code.At h = absurd cc
 code-begins _ h = cc
 
-code-goes : (effect : Effect) (c : Code) (place : ℕ) (bytes : List ℕ) → (is_kept effect ≡ false → is_part_kind (kind.Code c) ≡ true) → Unless [] (tex_by effect c (record { part = parts.Tex; comments = [] }) place bytes)
+code-goes : (effect : Effect) (c : Code) (place : ℕ) (bytes : List ℕ)
+    → (is_kept effect ≡ false → is_part_kind (kind.Code c) ≡ true)
+    → Unless [] (tex_by effect c (record { part = parts.Tex; comments = [] }) place bytes)
 code-goes effects.Stands c place bytes k =
     let w : Where = record { part = parts.Tex; comments = [] } in
-    if-both (λ (next : Where). Unless [] (one false next place bytes (code_token c place bytes))) (is_name c && is_head place bytes) (moved w parts.Head) w
+    if-both (λ (next : Where). Unless [] (one false next place bytes (code_token c place bytes)))
+    (is_name c && is_head place bytes) (moved w parts.Head) w
     (λ e. token-goes false (moved w parts.Head) place bytes (code_token c place bytes) refl refl)
     (λ e. token-goes false w place bytes (code_token c place bytes) refl refl)
-code-goes (effects.Drops note) c place bytes k = token-goes false (record { part = parts.Tex; comments = [] }) place bytes (dropped_code note c place bytes) refl refl
-code-goes effects.Defines c place bytes k = part-begins false (record { part = parts.MacroName place; comments = [] }) place bytes (plain (kind.Code c) 2) [] (k refl)
-code-goes effects.Formats c place bytes k = part-begins false (record { part = parts.FormatName place false false; comments = [] }) place bytes (plain (kind.Code c) 2) [] (k refl)
-code-goes effects.BeginsC c place bytes k = part-begins false (record { part = parts.Plain false false; comments = [] }) place bytes (plain (kind.Code c) 2) [] (k refl)
+code-goes (effects.Drops note) c place bytes k = token-goes false (record { part = parts.Tex; comments = [] }) place
+    bytes (dropped_code note c place bytes) refl refl
+code-goes effects.Defines c place bytes k = part-begins false (record { part = parts.MacroName place; comments = [] })
+    place bytes (plain (kind.Code c) 2) [] (k refl)
+code-goes effects.Formats c place bytes k = part-begins false
+    (record { part = parts.FormatName place false false; comments = [] }) place bytes (plain (kind.Code c) 2) []
+    (k refl)
+code-goes effects.BeginsC c place bytes k = part-begins false (record { part = parts.Plain false false; comments = [] })
+    place bytes (plain (kind.Code c) 2) [] (k refl)
 
-tex-goes : (place byte : ℕ) (bytes : List ℕ) → Unless [] (tex_text (record { part = parts.Tex; comments = [] }) place byte bytes)
+tex-goes : (place byte : ℕ) (bytes : List ℕ) → Unless [] (tex_text (record { part = parts.Tex; comments = [] }) place
+    byte bytes)
 tex-goes place byte bytes =
     let w : Where = record { part = parts.Tex; comments = [] } in
-    if-both (Unless []) (byte == at_sign) _ _ (λ e. code-goes (effect_in_tex (code_at bytes)) (code_at bytes) place (byte ∷ bytes) (code-begins (code_at bytes)))
+    if-both (Unless []) (byte == at_sign) _ _ (λ e. code-goes (effect_in_tex (code_at bytes)) (code_at bytes) place
+    (byte ∷ bytes) (code-begins (code_at bytes)))
     (λ e. if-both (Unless []) (byte == bar) _ _ (λ e. record { goes = λ h. record { stays = refl; levels = refl } })
     (λ e. token-goes false w place (byte ∷ bytes) (plain kind.Text (run classes.TexText (byte ∷ bytes))) refl refl))
 
-head-goes : (place byte : ℕ) (bytes : List ℕ) → Unless [] (head_text (record { part = parts.Head; comments = [] }) place byte bytes)
+head-goes : (place byte : ℕ) (bytes : List ℕ) → Unless [] (head_text (record { part = parts.Head; comments = [] }) place
+    byte bytes)
 head-goes place byte bytes =
-    if-both (Unless []) (is_in classes.Blank byte) _ _ (λ e. record { goes = λ h. record { stays = refl; levels = refl } })
-    (λ e. part-begins false (record { part = parts.Plain false false; comments = [] }) place (byte ∷ bytes) (plain kind.HeadSign (if begins equals bytes then 2 else 1)) [] refl)
+    if-both (Unless []) (is_in classes.Blank byte) _ _
+    (λ e. record { goes = λ h. record { stays = refl; levels = refl } })
+    (λ e. part-begins false (record { part = parts.Plain false false; comments = [] }) place (byte ∷ bytes)
+    (plain kind.HeadSign (if begins equals bytes then 2 else 1)) [] refl)
 
 -- inner C text, which its bar ends
-start-goes : (s : Start) (place : ℕ) (bytes : List ℕ) → Begun true s → Unless (InCode ∷ []) (in_code s (record { part = parts.TexInner; comments = [] }) place bytes)
+start-goes : (s : Start) (place : ℕ) (bytes : List ℕ) → Begun true s
+    → Unless (InCode ∷ []) (in_code s (record { part = parts.TexInner; comments = [] }) place bytes)
 start-goes start.EndOfInner place bytes b = record { goes = λ h. record { stays = refl; levels = refl } }
-start-goes start.Identifier place bytes b = inner-goes (InCode ∷ []) (in_code start.Identifier (record { part = parts.TexInner; comments = [] }) place bytes) (in-code-goes start.Identifier parts.TexInner [] place bytes refl refl (λ e. absurd cc) b)
-start-goes start.Constant place bytes b = inner-goes (InCode ∷ []) (in_code start.Constant (record { part = parts.TexInner; comments = [] }) place bytes) (in-code-goes start.Constant parts.TexInner [] place bytes refl refl (λ e. absurd cc) b)
-start-goes (start.Quoted q) place bytes b = inner-goes (InCode ∷ []) (in_code (start.Quoted q) (record { part = parts.TexInner; comments = [] }) place bytes) (in-code-goes (start.Quoted q) parts.TexInner [] place bytes refl refl (λ e. absurd cc) b)
-start-goes start.LongComment place bytes b = inner-goes (InCode ∷ []) (in_code start.LongComment (record { part = parts.TexInner; comments = [] }) place bytes) (in-code-goes start.LongComment parts.TexInner [] place bytes refl refl (λ e. absurd cc) b)
-start-goes start.ShortComment place bytes b = inner-goes (InCode ∷ []) (in_code start.ShortComment (record { part = parts.TexInner; comments = [] }) place bytes) (in-code-goes start.ShortComment parts.TexInner [] place bytes refl refl (λ e. absurd cc) b)
-start-goes (start.Code c) place bytes b = inner-goes (InCode ∷ []) (in_code (start.Code c) (record { part = parts.TexInner; comments = [] }) place bytes) (in-code-goes (start.Code c) parts.TexInner [] place bytes refl refl (λ e. absurd cc) b)
-start-goes (start.Sign s) place bytes b = inner-goes (InCode ∷ []) (in_code (start.Sign s) (record { part = parts.TexInner; comments = [] }) place bytes) (in-code-goes (start.Sign s) parts.TexInner [] place bytes refl refl (λ e. absurd cc) b)
-start-goes start.OtherByte place bytes b = inner-goes (InCode ∷ []) (in_code start.OtherByte (record { part = parts.TexInner; comments = [] }) place bytes) (in-code-goes start.OtherByte parts.TexInner [] place bytes refl refl (λ e. absurd cc) b)
+start-goes start.Identifier place bytes b = inner-goes (InCode ∷ [])
+    (in_code start.Identifier (record { part = parts.TexInner; comments = [] }) place bytes)
+    (in-code-goes start.Identifier parts.TexInner [] place bytes refl refl (λ e. absurd cc) b)
+start-goes start.Constant place bytes b = inner-goes (InCode ∷ [])
+    (in_code start.Constant (record { part = parts.TexInner; comments = [] }) place bytes)
+    (in-code-goes start.Constant parts.TexInner [] place bytes refl refl (λ e. absurd cc) b)
+start-goes (start.Quoted q) place bytes b = inner-goes (InCode ∷ [])
+    (in_code (start.Quoted q) (record { part = parts.TexInner; comments = [] }) place bytes)
+    (in-code-goes (start.Quoted q) parts.TexInner [] place bytes refl refl (λ e. absurd cc) b)
+start-goes start.LongComment place bytes b = inner-goes (InCode ∷ [])
+    (in_code start.LongComment (record { part = parts.TexInner; comments = [] }) place bytes)
+    (in-code-goes start.LongComment parts.TexInner [] place bytes refl refl (λ e. absurd cc) b)
+start-goes start.ShortComment place bytes b = inner-goes (InCode ∷ [])
+    (in_code start.ShortComment (record { part = parts.TexInner; comments = [] }) place bytes)
+    (in-code-goes start.ShortComment parts.TexInner [] place bytes refl refl (λ e. absurd cc) b)
+start-goes (start.Code c) place bytes b = inner-goes (InCode ∷ [])
+    (in_code (start.Code c) (record { part = parts.TexInner; comments = [] }) place bytes)
+    (in-code-goes (start.Code c) parts.TexInner [] place bytes refl refl (λ e. absurd cc) b)
+start-goes (start.Sign s) place bytes b = inner-goes (InCode ∷ [])
+    (in_code (start.Sign s) (record { part = parts.TexInner; comments = [] }) place bytes)
+    (in-code-goes (start.Sign s) parts.TexInner [] place bytes refl refl (λ e. absurd cc) b)
+start-goes start.OtherByte place bytes b = inner-goes (InCode ∷ [])
+    (in_code start.OtherByte (record { part = parts.TexInner; comments = [] }) place bytes)
+    (in-code-goes start.OtherByte parts.TexInner [] place bytes refl refl (λ e. absurd cc) b)
 
-text-goes : (part : Part) (cs : List Opened) (fresh : Bool) (last place byte : ℕ) (bytes : List ℕ) → (byte == at_sign && begins_section bytes) ≡ false → stands part cs ≡ true
+text-goes : (part : Part) (cs : List Opened) (fresh : Bool) (last place byte : ℕ) (bytes : List ℕ)
+    → (byte == at_sign && begins_section bytes) ≡ false → stands part cs ≡ true
     → Unless (tex_levels part cs) (in_text part cs fresh last place byte bytes)
 text-goes parts.TexInner [] fresh last place byte bytes section s =
-    before-code (Unless (InCode ∷ [])) parts.TexInner [] fresh last place byte bytes refl refl (λ f g. inner-goes (InCode ∷ []) f g)
+    before-code (Unless (InCode ∷ [])) parts.TexInner [] fresh last place byte bytes refl refl
+    (λ f g. inner-goes (InCode ∷ []) f g)
     (start-goes (start_of true byte bytes) place (byte ∷ bytes) (begins-so true byte bytes section).is)
 text-goes parts.TexInner (c ∷ cs) fresh last place byte bytes section s =
-    inner-goes (levels_in (c ∷ cs)) (in_text parts.TexInner (c ∷ cs) fresh last place byte bytes) (open-goes parts.TexInner c cs fresh last place byte bytes section refl s)
+    inner-goes (levels_in (c ∷ cs)) (in_text parts.TexInner (c ∷ cs) fresh last place byte bytes)
+    (open-goes parts.TexInner c cs fresh last place byte bytes section refl s)
 text-goes parts.Tex [] fresh last place byte bytes section s = tex-goes place byte bytes
 text-goes parts.Head [] fresh last place byte bytes section s = head-goes place byte bytes
 text-goes _ _ fresh last place byte bytes section s = absurd cc
 
 -- ## All answers
 
-any-split : (xs ys : List Answer) → begins_part_in (xs ++ ys) ≡ false → (begins_part_in xs ≡ false) × (begins_part_in ys ≡ false)
+any-split : (xs ys : List Answer) → begins_part_in (xs ++ ys) ≡ false → (begins_part_in xs ≡ false)
+    × (begins_part_in ys ≡ false)
 any-split [] ys h = (refl, h)
 any-split (x ∷ xs) ys h =
     let rest = any-split xs ys (or-second (is_part_answer x) (begins_part_in (xs ++ ys)) h) in
@@ -187,32 +261,43 @@ section-begins : (w : Where) (place : ℕ) (bytes : List ℕ) (ls : List Level) 
 section-begins w place bytes ls = record {
   goes = λ h.
       let c = section_code (at_sign ∷ bytes) in
-      let rest = any-split (all_cut w.part w.comments place place) (one false (record { part = parts.Tex; comments = [] }) place (at_sign ∷ bytes) c).answers h in
-      absurd (let e : is_part_kind c.kind ≡ false = or-first (is_part_kind c.kind) (begins_part_in (note_answers c.notes)) rest.1 in
+      let rest = any-split (all_cut w.part w.comments place place)
+      (one false (record { part = parts.Tex; comments = [] }) place (at_sign ∷ bytes) c).answers h in
+      absurd (let e : is_part_kind c.kind ≡ false = or-first (is_part_kind c.kind)
+      (begins_part_in (note_answers c.notes)) rest.1 in
       let k : is_part_kind c.kind ≡ true = section-part c.kind (section-kind (at_sign ∷ bytes)).is in cc);
 }
 
-found-goes : (w : Where) (fresh : Bool) (last place byte : ℕ) (bytes : List ℕ) → stands w.part w.comments ≡ true → Unless (tex_levels w.part w.comments) (found w fresh last place byte bytes)
+found-goes : (w : Where) (fresh : Bool) (last place byte : ℕ) (bytes : List ℕ) → stands w.part w.comments ≡ true
+    → Unless (tex_levels w.part w.comments) (found w fresh last place byte bytes)
 found-goes w fresh last place byte bytes s =
-    if-both (Unless (tex_levels w.part w.comments)) (byte == at_sign && begins_section bytes) _ _ (λ e. section-begins w place bytes (tex_levels w.part w.comments))
+    if-both (Unless (tex_levels w.part w.comments)) (byte == at_sign && begins_section bytes) _ _
+    (λ e. section-begins w place bytes (tex_levels w.part w.comments))
     (λ e. text-goes w.part w.comments fresh last place byte bytes e s)
 
-cut-levels : (cs : List Opened) (place about : ℕ) → nested_in cs ≡ true → all_tex_levels_after (all_cut parts.TexInner cs place about) (levels_in cs) ≡ Some []
+cut-levels : (cs : List Opened) (place about : ℕ) → nested_in cs ≡ true
+    → all_tex_levels_after (all_cut parts.TexInner cs place about) (levels_in cs) ≡ Some []
 cut-levels [] place about n = refl
 cut-levels (c ∷ cs) place about n =
-    tex-append (inner_or_none c.inner false place about) (comment_cut false c place about ++ all_cut parts.TexInner cs place about) (levels_in (c ∷ cs)) (InComment ∷ levels_in cs)
-    (all-same (inner_or_none c.inner false place about) (levels_in (c ∷ cs)) (InComment ∷ levels_in cs) (open-levels c.inner false place about (levels_in cs)))
-    ∙ tex-append (comment_cut false c place about) (all_cut parts.TexInner cs place about) (InComment ∷ levels_in cs) (levels_in cs)
-    (all-same (comment_cut false c place about) (InComment ∷ levels_in cs) (levels_in cs) (cut-one false c place about cs n))
+    tex-append (inner_or_none c.inner false place about) (comment_cut false c place about ++ all_cut parts.TexInner cs
+    place about) (levels_in (c ∷ cs)) (InComment ∷ levels_in cs)
+    (all-same (inner_or_none c.inner false place about) (levels_in (c ∷ cs)) (InComment ∷ levels_in cs)
+    (open-levels c.inner false place about (levels_in cs)))
+    ∙ tex-append (comment_cut false c place about) (all_cut parts.TexInner cs place about) (InComment ∷ levels_in cs)
+    (levels_in cs)
+    (all-same (comment_cut false c place about) (InComment ∷ levels_in cs) (levels_in cs)
+    (cut-one false c place about cs n))
     ∙ cut-levels cs place about (inner-nested cs n)
 
-all-cut : (part : Part) (cs : List Opened) (place about : ℕ) → stands part cs ≡ true → all_tex_levels_after (all_cut part cs place about) (tex_levels part cs) ≡ Some []
+all-cut : (part : Part) (cs : List Opened) (place about : ℕ) → stands part cs ≡ true
+    → all_tex_levels_after (all_cut part cs place about) (tex_levels part cs) ≡ Some []
 all-cut parts.TexInner cs place about s = cut-levels cs place about s
 all-cut parts.Tex [] place about s = refl
 all-cut parts.Head [] place about s = refl
 all-cut _ _ place about s = absurd cc
 
-answers-nest : (bytes : List ℕ) (w : Where) (fresh : Bool) (last place taken : ℕ) → stands w.part w.comments ≡ true → begins_part_in (answers bytes w fresh last place taken) ≡ false
+answers-nest : (bytes : List ℕ) (w : Where) (fresh : Bool) (last place taken : ℕ) → stands w.part w.comments ≡ true
+    → begins_part_in (answers bytes w fresh last place taken) ≡ false
     → all_tex_levels_after (answers bytes w fresh last place taken) (tex_levels w.part w.comments) ≡ Some []
 answers-nest [] w fresh last place taken s h = all-cut w.part w.comments place (place - 1) s
 answers-nest (byte ∷ bytes) w fresh last place zero s h =
@@ -222,7 +307,11 @@ answers-nest (byte ∷ bytes) w fresh last place zero s h =
     let g = (found-goes w fresh last place byte bytes s).goes split.0 in
     tex-append f.answers behind (tex_levels w.part w.comments) (tex_levels f.next.part f.next.comments) g.levels
     ∙ answers-nest bytes f.next (still_fresh fresh byte) byte (place + 1) f.more g.stays split.1
-answers-nest (byte ∷ bytes) w fresh last place (suc taken) s h = answers-nest bytes w (still_fresh fresh byte) byte (place + 1) taken s h
+answers-nest (byte ∷ bytes) w fresh last place (suc taken) s h =
+    answers-nest bytes w (still_fresh fresh byte) byte (place + 1) taken s h
 
-pub tex-texts-nested : (text : List ℕ) (start end : ℕ) → begins_part_in (tokens_of text start end modes.TexText) ≡ false → IsTexNested (tokens_of text start end modes.TexText)
-tex-texts-nested text first end h = answers-nest (drop first (take end text)) (record { part = parts.Tex; comments = [] }) (fresh_at (take end text) first) (last_at (take end text) first) first 0 refl h
+pub tex-texts-nested : (text : List ℕ) (start end : ℕ) → begins_part_in (tokens_of text start end modes.TexText) ≡ false
+    → IsTexNested (tokens_of text start end modes.TexText)
+tex-texts-nested text first end h = answers-nest (drop first (take end text))
+    (record { part = parts.Tex; comments = [] }) (fresh_at (take end text) first) (last_at (take end text) first) first
+    0 refl h

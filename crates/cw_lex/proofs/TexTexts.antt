@@ -1,5 +1,7 @@
 -- TeX text in which no other part begins goes on token by token, and its inner C texts are whole by themselves.
-use Rattle.std.proofs.Common.{◌≡◌, ℕ, suc, ◌+◌, ◌-◌, ◌<◌, ◌≤◌, Bool, true, false, ◌&&◌, ◌||◌, ◌==◌, nat_lt, List, [], ◌∷◌, ◌++◌, Option, Some, None, length, slice_index, take, drop, refl, sym, ap, subst, ◌∙◌, arith, append-nil, length-drop, ◌⊎◌, inl, inr}
+use Rattle.std.proofs.Common.{◌≡◌, ℕ, suc, ◌+◌, ◌-◌, ◌<◌, ◌≤◌, Bool, true, false, ◌&&◌, ◌||◌, ◌==◌, nat_lt, List, []}
+use Rattle.std.proofs.Common.{◌∷◌, ◌++◌, Option, Some, None, length, slice_index, take, drop, refl, sym, ap, subst, ◌∙◌}
+use Rattle.std.proofs.Common.{arith, append-nil, length-drop, ◌⊎◌, inl, inr}
 use Rattle.std.specs.Prelude.{if◌then◌else◌}
 use Rattle.std.proofs.lemmas.Bool.{eqb-true}
 use Rattle.std.proofs.lemmas.List.{drop-drop, length-take}
@@ -16,7 +18,8 @@ use Rattle.cw_rules.specs.declared.parts.Part.TheVariants as parts
 use Rattle.cw_rules.specs.declared.tokens.Mode.TheVariants as modes
 use Rattle.cw_rules.specs.declared.tokens.TokKind.{TokKind}
 use Rattle.cw_rules.specs.declared.tokens.TokKind.TheVariants as kinds
-use Rattle.cw_rules.specs.Answers.{Answer, Token, Begin, Finish, Note, Seen, Where, Cut, Found, note_answers, token_of, plain, has_sign}
+use Rattle.cw_rules.specs.Answers.{Answer, Token, Begin, Finish, Note, Seen, Where, Cut, Found, note_answers, token_of}
+use Rattle.cw_rules.specs.Answers.{plain, has_sign}
 use Rattle.cw_rules.specs.Bodies.{at_start, extent}
 use Rattle.cw_rules.specs.Bytes.{at_sign, bar, equals, run, begins, is_in}
 use Rattle.cw_rules.specs.Codes.{code_of, code_at, is_section, begins_section, effect_in_tex}
@@ -28,14 +31,17 @@ use Rattle.cw_lex.specs.Openings.{opened_by, is_some, opens_part_before, opens_p
 use Rattle.cw_rules.specs.Order.{Covers}
 use Rattle.cw_lex.specs.Parts.{closing_bar_from}
 use Rattle.cw_lex.specs.TexTexts.{tex_at, are_notes, GoesOn, HoldsInner}
-use Rattle.cw_rules.specs.Tokens.{one, moved, dropped_code, effect_in, section_name, code_token, is_name, is_head, is_signed, head_sign_size, tex_by, tex_text, in_text, section, found, code_by, code_text, inner_begin, inner_cut, all_cut}
+use Rattle.cw_rules.specs.Tokens.{one, moved, dropped_code, effect_in, section_name, code_token, is_name, is_head}
+use Rattle.cw_rules.specs.Tokens.{is_signed, head_sign_size, tex_by, tex_text, in_text, section, found, code_by}
+use Rattle.cw_rules.specs.Tokens.{code_text, inner_begin, inner_cut, all_cut}
 use Rattle.cw_rules.proofs.CodeStarts.{code-kind}
 use Rattle.cw_rules.proofs.CodeTwins.{at-code}
 use Rattle.cw_lex.proofs.Covering.{drop-part, covers-le, tokens-cover}
 use Rattle.cw_lex.proofs.InnerEnds.{to-end}
 use Rattle.cw_lex.proofs.InnerScans.{inner-ends-at-bar}
 use Rattle.cw_rules.proofs.NameEnds.{name-take}
-use Rattle.cw_lex.proofs.Openings.{not-both, notes-sign, section-cuts, begun, bare-uncut}
+use Rattle.cw_lex.proofs.Openings.{not-both, section-cuts, bare-uncut}
+use Rattle.cw_lex.proofs.FirstTokens.{notes-sign, begun}
 use Rattle.cw_rules.proofs.BarRules.{tex_inner}
 use Rattle.cw_rules.proofs.Sizes.{extent-le}
 use Rattle.cw_lex.proofs.PartScans.{ends-with-text}
@@ -55,9 +61,12 @@ inner = record { part = parts.Inner; comments = [] }
 
 -- ## Lists
 
-pub opens-uncut : (more answers : List Answer) → opens_part_before more answers ≡ false → begins_section_in answers ≡ false
+pub opens-uncut : (more answers : List Answer) → opens_part_before more answers ≡ false → begins_section_in answers
+    ≡ false
 opens-uncut more [] h = refl
-opens-uncut more (Token t ∷ answers) h = both (is_section_kind t.kind) (one-failed-left (is_section_kind t.kind) _ h) (opens-uncut more answers (one-failed-right (is_some (opened_by t.kind (has_sign (answers ++ more)))) (opens_part_before more answers) (one-failed-right (is_section_kind t.kind) _ h)))
+opens-uncut more (Token t ∷ answers) h = both (is_section_kind t.kind) (one-failed-left (is_section_kind t.kind) _ h)
+    (opens-uncut more answers (one-failed-right (is_some (opened_by t.kind (has_sign (answers ++ more))))
+    (opens_part_before more answers) (one-failed-right (is_section_kind t.kind) _ h)))
   where
     both : (a : Bool) → a ≡ false → begins_section_in answers ≡ false → (a || begins_section_in answers) ≡ false
     both true e k = absurd cc
@@ -76,19 +85,28 @@ notes-are (n ∷ ns) = notes-are ns
 
 -- ## The sign of a head comes where it is wanted
 
-signed : (bytes : List ℕ) (fresh : Bool) (last place : ℕ) → is_signed bytes ≡ true → has_sign (answers bytes head fresh last place 0) ≡ true
+signed : (bytes : List ℕ) (fresh : Bool) (last place : ℕ) → is_signed bytes ≡ true
+    → has_sign (answers bytes head fresh last place 0) ≡ true
 signed [] fresh last place h = absurd cc
 signed (b ∷ bs) fresh last place h = by (is_in classes.Blank b) refl (signed bs (still_fresh fresh b) b (place + 1))
   where
-    by : (t : Bool) → is_in classes.Blank b ≡ t → (is_signed bs ≡ true → has_sign (answers bs head (still_fresh fresh b) b (place + 1) 0) ≡ true) → has_sign (answers (b ∷ bs) head fresh last place 0) ≡ true
+    by : (t : Bool) → is_in classes.Blank b ≡ t → (is_signed bs ≡ true
+        → has_sign (answers bs head (still_fresh fresh b) b (place + 1) 0) ≡ true)
+        → has_sign (answers (b ∷ bs) head fresh last place 0) ≡ true
     by true e rec = code (b == at_sign) refl
       where
         code : (t : Bool) → (b == at_sign) ≡ t → has_sign (answers (b ∷ bs) head fresh last place 0) ≡ true
         code true k = absurd (let w : true ≡ false = sym e ∙ ap (is_in classes.Blank) (eqb-true b at_sign k) in cc)
         code false k =
             let one-more : suc (run classes.Blank bs) ≡ 1 + run classes.Blank bs = omega arith in
-            let next : is_signed bs ≡ true = ap (λ n. nat_lt 0 (head_sign_size (drop n (b ∷ bs)))) one-more ∙ sym (ap (λ t. nat_lt 0 (head_sign_size (drop (elim t [ true ↦ 1 + run classes.Blank bs | false ↦ 0 ]) (b ∷ bs)))) e) ∙ h in
-            (λ i. has_sign (joined (if k i && begins_section bs then section head place bs else (if e i then record { answers = []; more = 0; next = head } else one false (moved head (parts.Plain false false)) place (b ∷ bs) (plain kinds.HeadSign (if begins equals bs then 2 else 1)))) (λ next more. answers bs next (still_fresh fresh b) b (place + 1) more)))
+            let next : is_signed bs ≡ true = ap (λ n. nat_lt 0 (head_sign_size (drop n (b ∷ bs)))) one-more
+            ∙ sym (ap (λ t. nat_lt 0 (head_sign_size (drop (elim t [ true ↦ 1 + run classes.Blank bs | false ↦ 0 ])
+            (b ∷ bs)))) e) ∙ h in
+            (λ i. has_sign (joined (if k i && begins_section bs then section head place bs else
+            (if e i then record { answers = []; more = 0; next = head } else one false
+            (moved head (parts.Plain false false)) place (b ∷ bs)
+            (plain kinds.HeadSign (if begins equals bs then 2 else 1))))
+            (λ next more. answers bs next (still_fresh fresh b) b (place + 1) more)))
             ∙ rec next
     by false e rec = code (b == at_sign) refl
       where
@@ -97,24 +115,36 @@ signed (b ∷ bs) fresh last place h = by (is_in classes.Blank b) refl (signed b
             let none : is_signed (b ∷ bs) ≡ false = ap (λ b. is_signed (b ∷ bs)) (eqb-true b at_sign k) in
             not-both _ h none
         code false k =
-            (λ i. has_sign (joined (if k i && begins_section bs then section head place bs else (if e i then record { answers = []; more = 0; next = head } else one false (moved head (parts.Plain false false)) place (b ∷ bs) (plain kinds.HeadSign (if begins equals bs then 2 else 1)))) (λ next more. answers bs next (still_fresh fresh b) b (place + 1) more)))
+            (λ i. has_sign (joined (if k i && begins_section bs then section head place bs else
+            (if e i then record { answers = []; more = 0; next = head } else one false
+            (moved head (parts.Plain false false)) place (b ∷ bs)
+            (plain kinds.HeadSign (if begins equals bs then 2 else 1))))
+            (λ next more. answers bs next (still_fresh fresh b) b (place + 1) more)))
 
 -- an end among answers that cover a text
-reaches : (text : List ℕ) (from end : ℕ) (xs : List Answer) (finish : Seen) (rest : List Answer) → Covers text from end (xs ++ Finish finish ∷ rest) → (from ≤ finish.span.start) × (finish.span.start ≤ end)
-reaches text from end [] finish rest c = (c.0.order, omega (arith, c.0.span, covers-le text finish.span.end end rest c.1))
-reaches text from end (Token t ∷ xs) finish rest c = let r = reaches text t.span.end end xs finish rest c.2 in (omega (arith, c.0.order, c.0.span, r.0), r.1)
-reaches text from end (Begin t ∷ xs) finish rest c = let r = reaches text t.span.end end xs finish rest c.1 in (omega (arith, c.0.order, c.0.span, r.0), r.1)
-reaches text from end (Finish t ∷ xs) finish rest c = let r = reaches text t.span.end end xs finish rest c.1 in (omega (arith, c.0.order, c.0.span, r.0), r.1)
+reaches : (text : List ℕ) (from end : ℕ) (xs : List Answer) (finish : Seen) (rest : List Answer)
+    → Covers text from end (xs ++ Finish finish ∷ rest) → (from ≤ finish.span.start) × (finish.span.start ≤ end)
+reaches text from end [] finish rest c =
+    (c.0.order, omega (arith, c.0.span, covers-le text finish.span.end end rest c.1))
+reaches text from end (Token t ∷ xs) finish rest c = let r = reaches text t.span.end end xs finish rest c.2 in
+    (omega (arith, c.0.order, c.0.span, r.0), r.1)
+reaches text from end (Begin t ∷ xs) finish rest c = let r = reaches text t.span.end end xs finish rest c.1 in
+    (omega (arith, c.0.order, c.0.span, r.0), r.1)
+reaches text from end (Finish t ∷ xs) finish rest c = let r = reaches text t.span.end end xs finish rest c.1 in
+    (omega (arith, c.0.order, c.0.span, r.0), r.1)
 reaches text from end (Note kind about ∷ xs) finish rest c = reaches text from end xs finish rest c
 
 -- ## Section names by themselves
 
 -- what is left when a token has all bytes
-all-taken : (bytes : List ℕ) (w : Where) (fresh : Bool) (last place : ℕ) → begins_section_in (answers bytes w fresh last place (length bytes)) ≡ false
-all-taken [] w fresh last place = bare-uncut place (all_cut w.part w.comments place (place - 1)) (bare-all-cut w.part w.comments place (place - 1))
+all-taken : (bytes : List ℕ) (w : Where) (fresh : Bool) (last place : ℕ)
+    → begins_section_in (answers bytes w fresh last place (length bytes)) ≡ false
+all-taken [] w fresh last place = bare-uncut place (all_cut w.part w.comments place (place - 1))
+    (bare-all-cut w.part w.comments place (place - 1))
 all-taken (b ∷ bytes) w fresh last place = all-taken bytes w (still_fresh fresh b) b (place + 1)
 
-or-notes : (ns : List Noted) (ys : List Answer) → begins_section_in ys ≡ false → begins_section_in (note_answers ns ++ ys) ≡ false
+or-notes : (ns : List Noted) (ys : List Answer) → begins_section_in ys ≡ false
+    → begins_section_in (note_answers ns ++ ys) ≡ false
 or-notes [] ys h = h
 or-notes (n ∷ ns) ys h = or-notes ns ys h
 
@@ -128,41 +158,54 @@ name-kind at.SectionName h = refl
 name-kind at.FileName h = refl
 name-kind _ h = absurd cc
 
-name-found : (c : Code) (place : ℕ) (shown : List ℕ) → is_name c ≡ true → code_by (effect_in parts.Inner [] c) c inner place shown ≡ one false inner place shown (section_name c place shown)
+name-found : (c : Code) (place : ℕ) (shown : List ℕ) → is_name c ≡ true
+    → code_by (effect_in parts.Inner [] c) c inner place shown
+    ≡ one false inner place shown (section_name c place shown)
 name-found at.SectionName place shown h = refl
 name-found at.FileName place shown h = refl
 name-found _ place shown h = absurd cc
 
 -- a name, where the text ends behind it
 name-uncut : (c : Code) (d : ℕ) (bs : List ℕ) (fresh : Bool) (last place : ℕ) → is_name c ≡ true → code_of d ≡ c
-    → begins_section_in (answers (64 ∷ d ∷ take (extent (at_start bodies.SectionName (place + 2)) bs).size bs) inner fresh last place 0) ≡ false
+    → begins_section_in (answers (64 ∷ d ∷ take (extent (at_start bodies.SectionName (place + 2)) bs).size bs) inner
+    fresh last place 0) ≡ false
 name-uncut c d bs fresh last place n h =
     let i = at_start bodies.SectionName (place + 2) in
     let k = (extent i bs).size in
     let ls = take k bs in
     let shown = 64 ∷ d ∷ ls in
     let cut = section_name c place shown in
-    let rest : Where → ℕ → List Answer = λ next more. answers (d ∷ ls) next (still_fresh fresh 64) 64 (place + 1) more in
+    let rest : Where → ℕ → List Answer = λ next more. answers (d ∷ ls) next (still_fresh fresh 64) 64 (place + 1)
+    more in
     let is : found inner fresh last place 64 (d ∷ ls) ≡ one false inner place shown cut =
-    ap (λ t. if t then section inner place (d ∷ ls) else code_text inner fresh last place 64 (d ∷ ls)) (ap is_section h ∙ name-plain c n)
+    ap (λ t. if t then section inner place (d ∷ ls) else code_text inner fresh last place 64 (d ∷ ls)) (ap is_section h
+    ∙ name-plain c n)
     ∙ at-code inner fresh last place (d ∷ ls)
     ∙ ap (λ c. code_by (effect_in parts.Inner [] c) c inner place shown) h
     ∙ name-found c place shown n in
     let fits : k ≤ length bs = extent-le i bs in
-    let size : (2 + (extent i ls).size) - 1 ≡ length (d ∷ ls) = omega (arith, name-take i bs refl, length-take k bs, fits) in
-    let behind : begins_section_in (rest inner ((2 + (extent i ls).size) - 1)) ≡ false = ap (λ m. begins_section_in (rest inner m)) size ∙ all-taken (d ∷ ls) inner (still_fresh fresh 64) 64 (place + 1) in
+    let size : (2 + (extent i ls).size) - 1 ≡ length (d ∷ ls) =
+    omega (arith, name-take i bs refl, length-take k bs, fits) in
+    let behind : begins_section_in (rest inner ((2 + (extent i ls).size) - 1))
+    ≡ false = ap (λ m. begins_section_in (rest inner m)) size
+    ∙ all-taken (d ∷ ls) inner (still_fresh fresh 64) 64 (place + 1) in
     ap (λ (f : Found). begins_section_in (joined f rest)) is
-    ∙ ap (λ b. b || begins_section_in (note_answers cut.notes ++ rest inner ((2 + (extent i ls).size) - 1))) (name-kind c n)
+    ∙ ap (λ b. b || begins_section_in (note_answers cut.notes ++ rest inner ((2 + (extent i ls).size) - 1)))
+    (name-kind c n)
     ∙ or-notes cut.notes (rest inner ((2 + (extent i ls).size) - 1)) behind
 
 -- a name in its text
-name-whole : (text : List ℕ) (start end d : ℕ) (bs : List ℕ) (c : Code) → drop start text ≡ 64 ∷ d ∷ bs → is_name c ≡ true → code_of d ≡ c
-    → end ≡ start + (2 + (extent (at_start bodies.SectionName (start + 2)) bs).size) → begins_section_in (tokens_of text start end modes.Inner) ≡ false
+name-whole : (text : List ℕ) (start end d : ℕ) (bs : List ℕ) (c : Code) → drop start text ≡ 64 ∷ d ∷ bs → is_name c
+    ≡ true → code_of d ≡ c
+    → end ≡ start + (2 + (extent (at_start bodies.SectionName (start + 2)) bs).size)
+    → begins_section_in (tokens_of text start end modes.Inner) ≡ false
 name-whole text start end d bs c here n h e =
     let k = (extent (at_start bodies.SectionName (start + 2)) bs).size in
     let size : end - start ≡ suc (suc k) = omega (arith, e) in
-    let part : drop start (take end text) ≡ 64 ∷ d ∷ take k bs = drop-part text end start (omega (arith, e)) ∙ (λ i. take (size i) (here i)) in
-    ap (λ l. begins_section_in (answers l inner (fresh_at (take end text) start) (last_at (take end text) start) start 0)) part
+    let part : drop start (take end text) ≡ 64 ∷ d ∷ take k bs = drop-part text end start (omega (arith, e))
+    ∙ (λ i. take (size i) (here i)) in
+    ap (λ l. begins_section_in (answers l inner (fresh_at (take end text) start) (last_at (take end text) start) start
+    0)) part
     ∙ name-uncut c d bs (fresh_at (take end text) start) (last_at (take end text) start) start n h
 
 -- ## What begins in TeX text
@@ -186,9 +229,11 @@ record Opens (f : Found) : Type 0 where
 abbrev Begins : Code → ℕ → List ℕ → Found → Type 0
 Begins c place shown f = Stands c place shown f ⊎ (Heads c place shown f ⊎ Opens f)
 
-name-begins : (c : Code) (place : ℕ) (shown : List ℕ) (t : Bool) → is_head place shown ≡ t → is_name c ≡ true → Begins c place shown (one false (if t then head else tex) place shown (section_name c place shown))
+name-begins : (c : Code) (place : ℕ) (shown : List ℕ) (t : Bool) → is_head place shown ≡ t → is_name c ≡ true
+    → Begins c place shown (one false (if t then head else tex) place shown (section_name c place shown))
 name-begins c place shown true h n = inr (inl (record { name = n; headed = h; is = refl }))
-name-begins c place shown false h n = inl (record { cut = section_name c place shown; is = refl; name = λ k. (n, refl) })
+name-begins c place shown false h n =
+    inl (record { cut = section_name c place shown; is = refl; name = λ k. (n, refl) })
 
 abbrev is_kept : Effect → Bool
 is_kept effects.Stands = true
@@ -201,17 +246,21 @@ name-code at.FileName = refl
 name-code _ = refl
 
 -- any other code
-effect-begins : (effect : Effect) (c : Code) (place : ℕ) (shown : List ℕ) → is_name c ≡ false → is_kept effect ≡ true → Begins c place shown (tex_by effect c tex place shown)
+effect-begins : (effect : Effect) (c : Code) (place : ℕ) (shown : List ℕ) → is_name c ≡ false → is_kept effect ≡ true
+    → Begins c place shown (tex_by effect c tex place shown)
 effect-begins effects.Stands c place shown n k =
     inl (record {
       cut = code_token c place shown;
-      is = ap (λ t. one false (if t && is_head place shown then head else tex) place shown (code_token c place shown)) n;
+      is = ap (λ t. one false (if t && is_head place shown then head else tex) place shown (code_token c place shown))
+          n;
       name = λ h. not-both _ (sym (ap is_name_kind (code-kind c place shown).is ∙ name-code c) ∙ h) n;
     })
-effect-begins (effects.Drops note) c place shown n k = inl (record { cut = dropped_code note c place shown; is = refl; name = λ h. absurd cc })
+effect-begins (effects.Drops note) c place shown n k =
+    inl (record { cut = dropped_code note c place shown; is = refl; name = λ h. absurd cc })
 effect-begins _ c place shown n k = absurd cc
 
-code-begins : (c : Code) (place : ℕ) (shown : List ℕ) → Begins c place shown (tex_by (effect_in_tex c) c tex place shown)
+code-begins : (c : Code) (place : ℕ) (shown : List ℕ)
+    → Begins c place shown (tex_by (effect_in_tex c) c tex place shown)
 code-begins at.SectionName place shown = name-begins at.SectionName place shown (is_head place shown) refl refl
 code-begins at.FileName place shown = name-begins at.FileName place shown (is_head place shown) refl refl
 code-begins at.Define place shown = inr (inr (record { token = _; answers = refl; opened = refl }))
@@ -222,7 +271,8 @@ code-begins c place shown = effect-begins (effect_in_tex c) c place shown refl r
 
 -- ## TeX text goes on
 
-more-opened : (kind : TokKind) (headed : Bool) → is_some (opened_by kind false) ≡ true → is_some (opened_by kind headed) ≡ true
+more-opened : (kind : TokKind) (headed : Bool) → is_some (opened_by kind false) ≡ true → is_some (opened_by kind headed)
+    ≡ true
 more-opened kind false h = h
 more-opened (kinds.Code c) true h = by c h
   where
@@ -236,7 +286,8 @@ more-opened (kinds.Code c) true h = by c h
     by _ h = absurd cc
 more-opened _ true h = absurd cc
 
-module _ (text : List ℕ) (place : ℕ) (within : place < length text) (quiet : opens_part_in (tex_at text place) ≡ false) where
+module _ (text : List ℕ) (place : ℕ) (within : place < length text) (quiet : opens_part_in (tex_at text place)
+    ≡ false) where
   abbrev byte : ℕ
   byte = slice_index text place
 
@@ -263,11 +314,15 @@ module _ (text : List ℕ) (place : ℕ) (within : place < length text) (quiet :
   no-section : (byte == at_sign && begins_section behind) ≡ false
   no-section = by (byte == at_sign && begins_section behind) refl
     where
-      by : (t : Bool) → (byte == at_sign && begins_section behind) ≡ t → (byte == at_sign && begins_section behind) ≡ false
+      by : (t : Bool) → (byte == at_sign && begins_section behind) ≡ t → (byte == at_sign && begins_section behind)
+          ≡ false
       by true e =
           let uncut = opens-uncut [] (tex_at text place) quiet in
-          let is : here ≡ section tex place behind = ap (λ t. if t then section tex place behind else in_text parts.Tex [] (fresh_at text place) (last_at text place) place byte behind) e in
-          not-both _ (section-cuts tex place behind (answers_at text here.next next)) (ap (λ (f : Found). begins_section_in (f.answers ++ answers_at text here.next next)) (sym is) ∙ ap begins_section_in (sym goes) ∙ uncut)
+          let is : here ≡ section tex place behind = ap (λ t. if t then section tex place behind else in_text parts.Tex
+          [] (fresh_at text place) (last_at text place) place byte behind) e in
+          not-both _ (section-cuts tex place behind (answers_at text here.next next))
+          (ap (λ (f : Found). begins_section_in (f.answers ++ answers_at text here.next next)) (sym is)
+          ∙ ap begins_section_in (sym goes) ∙ uncut)
       by false e = e
 
   here-is : here ≡ tex_text tex place byte behind
@@ -275,16 +330,19 @@ module _ (text : List ℕ) (place : ℕ) (within : place < length text) (quiet :
 
   -- a token that stands
   token-goes : (cut : Cut) → here ≡ one false tex place (byte ∷ behind) cut
-      → (is_name_kind cut.kind ≡ true → begins_section_in (tokens_of text place (place + cut.size) modes.Inner) ≡ false) → GoesOn text place
+      → (is_name_kind cut.kind ≡ true → begins_section_in (tokens_of text place (place + cut.size) modes.Inner) ≡ false)
+      → GoesOn text place
   token-goes cut e name =
       let t = token_of false cut.kind place cut.size (byte ∷ behind) in
       let takes = found-takes tex (fresh_at text place) (last_at text place) place byte behind in
-      let b = begun place (byte ∷ behind) here.more takes.first takes.rest [] t (note_answers cut.notes) takes.bare takes.whole (sym takes.split ∙ ap (λ (f : Found). f.answers) e) in
+      let b = begun place (byte ∷ behind) here.more takes.first takes.rest [] t (note_answers cut.notes) takes.bare
+      takes.whole (sym takes.split ∙ ap (λ (f : Found). f.answers) e) in
       let to : t.span.end ≡ next = b.whole.to in
       record {
         token = t;
         notes = note_answers cut.notes;
-        answers = goes ∙ ap (λ (f : Found). f.answers ++ answers_at text f.next next) e ∙ ap (λ n. Token t ∷ (note_answers cut.notes ++ tex_at text n)) (sym to);
+        answers = goes ∙ ap (λ (f : Found). f.answers ++ answers_at text f.next next) e
+            ∙ ap (λ n. Token t ∷ (note_answers cut.notes ++ tex_at text n)) (sym to);
         only = notes-are cut.notes;
         starts = refl;
         some = omega (arith, to);
@@ -293,7 +351,8 @@ module _ (text : List ℕ) (place : ℕ) (within : place < length text) (quiet :
       }
 
   -- no name heads a C part
-  no-head : (c : Code) → is_name c ≡ true → is_head place (byte ∷ behind) ≡ true → here ≡ one false head place (byte ∷ behind) (section_name c place (byte ∷ behind)) → ⊥
+  no-head : (c : Code) → is_name c ≡ true → is_head place (byte ∷ behind) ≡ true
+      → here ≡ one false head place (byte ∷ behind) (section_name c place (byte ∷ behind)) → ⊥
   no-head c n h e =
       let bs = drop 2 (byte ∷ behind) in
       let x = extent (at_start bodies.SectionName (place + 2)) bs in
@@ -303,12 +362,18 @@ module _ (text : List ℕ) (place : ℕ) (within : place < length text) (quiet :
       let two : drop (place + 2) text ≡ bs = sym (drop-drop 2 place text) ∙ ap (drop 2) (drop-here text place within) in
       let at-next : drop next text ≡ drop x.size bs =
       ap (λ n. drop n text) (to ∙ omega arith) ∙ sym (drop-drop x.size (place + 2) text) ∙ ap (drop x.size) two in
-      let sign : has_sign (answers_at text head next) ≡ true = signed (drop next text) (fresh_at text next) (last_at text next) next (ap is_signed at-next ∙ both-right x.closed (is_signed (drop x.size bs)) h) in
+      let sign : has_sign (answers_at text head next)
+      ≡ true = signed (drop next text) (fresh_at text next) (last_at text next) next (ap is_signed at-next
+      ∙ both-right x.closed (is_signed (drop x.size bs)) h) in
       let rest = note_answers cut.notes ++ answers_at text head next in
-      let all : tex_at text place ≡ Token t ∷ rest = goes ∙ ap (λ (f : Found). f.answers ++ answers_at text f.next next) e in
+      let all : tex_at text place ≡ Token t ∷ rest = goes
+      ∙ ap (λ (f : Found). f.answers ++ answers_at text f.next next) e in
       let unopened = ap opens_part_in (sym all) ∙ quiet in
-      let behind-name : has_sign (rest ++ []) ≡ true = ap has_sign (append-nil rest) ∙ notes-sign (note_answers cut.notes) (answers_at text head next) (notes-only cut.notes) ∙ sign in
-      not-both _ (ap (λ b. is_some (opened_by (kinds.Code c) b)) behind-name ∙ named-opens c n) (one-failed-left (is_some (opened_by (kinds.Code c) (has_sign (rest ++ [])))) (opens_part_before [] rest) (one-failed-right (is_section_kind (kinds.Code c)) _ unopened))
+      let behind-name : has_sign (rest ++ []) ≡ true = ap has_sign (append-nil rest)
+      ∙ notes-sign (note_answers cut.notes) (answers_at text head next) (notes-only cut.notes) ∙ sign in
+      not-both _ (ap (λ b. is_some (opened_by (kinds.Code c) b)) behind-name
+      ∙ named-opens c n) (one-failed-left (is_some (opened_by (kinds.Code c) (has_sign (rest ++ []))))
+      (opens_part_before [] rest) (one-failed-right (is_section_kind (kinds.Code c)) _ unopened))
     where
       named-opens : (c : Code) → is_name c ≡ true → is_some (opened_by (kinds.Code c) true) ≡ true
       named-opens at.SectionName n = refl
@@ -321,29 +386,40 @@ module _ (text : List ℕ) (place : ℕ) (within : place < length text) (quiet :
     where
       is : here ≡ tex_by (effect_in_tex (code_at behind)) (code_at behind) tex place (byte ∷ behind)
       is =
-          here-is ∙ ap (λ t. if t then tex_by (effect_in_tex (code_at behind)) (code_at behind) tex place (byte ∷ behind)
-          else (if byte == bar then inner_begin false (moved tex parts.TexInner) place (byte ∷ behind) else one false tex place (byte ∷ behind) (plain kinds.Text (run classes.TexText (byte ∷ behind))))) e
+          here-is ∙ ap (λ t. if t then tex_by (effect_in_tex (code_at behind)) (code_at behind) tex place
+          (byte ∷ behind)
+          else (if byte == bar then inner_begin false (moved tex parts.TexInner) place (byte ∷ behind) else one false
+          tex place (byte ∷ behind) (plain kinds.Text (run classes.TexText (byte ∷ behind))))) e
 
-      name-goes : (c : Code) (ls : List ℕ) → behind ≡ ls → code_at behind ≡ c → is_name c ≡ true → begins_section_in (tokens_of text place (place + (section_name c place (byte ∷ behind)).size) modes.Inner) ≡ false
+      name-goes : (c : Code) (ls : List ℕ) → behind ≡ ls → code_at behind ≡ c → is_name c ≡ true
+          → begins_section_in (tokens_of text place (place + (section_name c place (byte ∷ behind)).size) modes.Inner)
+          ≡ false
       name-goes c [] l k n = absurd (no-name (sym (ap code_at l) ∙ k))
         where
           no-name : at.Unknown ≡ c → ⊥
           no-name u = let w : false ≡ true = ap is_name u ∙ n in cc
       name-goes c (d ∷ bs) l k n =
           let b : byte ≡ 64 = eqb-true byte at_sign e in
-          name-whole text place (place + (section_name c place (byte ∷ behind)).size) d bs c (drop-here text place within ∙ (λ i. b i ∷ l i)) n (sym (ap code_at l) ∙ k)
+          name-whole text place (place + (section_name c place (byte ∷ behind)).size) d bs c
+          (drop-here text place within ∙ (λ i. b i ∷ l i)) n (sym (ap code_at l) ∙ k)
           (λ i. place + (2 + (extent (at_start bodies.SectionName (place + 2)) (drop 1 (l i))).size))
 
-      by : Begins (code_at behind) place (byte ∷ behind) (tex_by (effect_in_tex (code_at behind)) (code_at behind) tex place (byte ∷ behind)) → GoesOn text place
+      by : Begins (code_at behind) place (byte ∷ behind) (tex_by (effect_in_tex (code_at behind)) (code_at behind) tex
+          place (byte ∷ behind)) → GoesOn text place
       by (inl s) =
           token-goes s.cut (is ∙ s.is)
-          (λ k. let n = s.name k in ap (λ (x : Cut). begins_section_in (tokens_of text place (place + x.size) modes.Inner)) n.1 ∙ name-goes (code_at behind) behind refl refl n.0)
+          (λ k. let n = s.name k in
+          ap (λ (x : Cut). begins_section_in (tokens_of text place (place + x.size) modes.Inner)) n.1
+          ∙ name-goes (code_at behind) behind refl refl n.0)
       by (inr (inl h)) = absurd (no-head (code_at behind) h.name h.headed (is ∙ h.is))
       by (inr (inr o)) =
           let rest = answers_at text here.next next in
-          let all : tex_at text place ≡ Token o.token ∷ rest = goes ∙ ap (λ l. l ++ rest) (ap (λ (f : Found). f.answers) is ∙ o.answers) in
+          let all : tex_at text place ≡ Token o.token ∷ rest = goes
+          ∙ ap (λ l. l ++ rest) (ap (λ (f : Found). f.answers) is ∙ o.answers) in
           let unopened = ap opens_part_in (sym all) ∙ quiet in
-          not-both _ (more-opened o.token.kind (has_sign (rest ++ [])) o.opened) (one-failed-left (is_some (opened_by o.token.kind (has_sign (rest ++ [])))) (opens_part_before [] rest) (one-failed-right (is_section_kind o.token.kind) _ unopened))
+          not-both _ (more-opened o.token.kind (has_sign (rest ++ [])) o.opened)
+          (one-failed-left (is_some (opened_by o.token.kind (has_sign (rest ++ [])))) (opens_part_before [] rest)
+          (one-failed-right (is_section_kind o.token.kind) _ unopened))
 
   -- inner C text
   abbrev opening : Seen
@@ -358,10 +434,13 @@ module _ (text : List ℕ) (place : ℕ) (within : place < length text) (quiet :
       at-bar : begins bar (drop place text) ≡ true
       at-bar = ap (begins bar) (drop-here text place within) ∙ e
 
-      covered : (finish : Seen) (rest : List Answer) (stop : ℕ) → tex_at text place ≡ Begin opening ∷ (tokens_of text (place + 1) stop modes.Inner ++ Finish finish ∷ rest) → (place + 1 ≤ finish.span.start) × (finish.span.start ≤ length text)
+      covered : (finish : Seen) (rest : List Answer) (stop : ℕ) → tex_at text place
+          ≡ Begin opening ∷ (tokens_of text (place + 1) stop modes.Inner ++ Finish finish ∷ rest)
+          → (place + 1 ≤ finish.span.start) × (finish.span.start ≤ length text)
       covered finish rest stop all =
           let cover : Covers text place (length text) (tex_at text place) =
-          subst (Covers text place (length text)) (sym (ends-with-text text place modes.TexText)) (tokens-cover text place (length text) modes.TexText (omega (arith, within)) (omega arith)) in
+          subst (Covers text place (length text)) (sym (ends-with-text text place modes.TexText))
+          (tokens-cover text place (length text) modes.TexText (omega (arith, within)) (omega arith)) in
           let behind = (subst (Covers text place (length text)) all cover).1 in
           reaches text (place + 1) (length text) (tokens_of text (place + 1) stop modes.Inner) finish rest behind
 
@@ -384,15 +463,22 @@ module _ (text : List ℕ) (place : ℕ) (within : place < length text) (quiet :
           let size = length text in
           let start = place + 1 in
           let finish = token_of false kinds.InnerText size 0 [] in
-          let is : here ≡ inner_begin false (tex_inner []) place (byte ∷ behind) = here-is ∙ ap (λ b. tex_text tex place b behind) b ∙ sym (ap (λ b. inner_begin false (tex_inner []) place (b ∷ behind)) b) in
+          let is : here ≡ inner_begin false (tex_inner []) place (byte ∷ behind) = here-is
+          ∙ ap (λ b. tex_text tex place b behind) b
+          ∙ sym (ap (λ b. inner_begin false (tex_inner []) place (b ∷ behind)) b) in
           let one : (place + 1) + 0 ≡ start = omega arith in
           let begun : tex_at text place ≡ Begin opening ∷ answers_at text (tex_inner []) start =
           goes ∙ ap (λ (f : Found). f.answers ++ answers_at text f.next ((place + 1) + f.more)) is
-          ∙ (λ i. Begin (token_of false kinds.InnerText place 1 (sym (drop-here text place within) i)) ∷ answers_at text (tex_inner []) (one i)) in
-          let uncut : begins_section_in (answers_at text (tex_inner []) start) ≡ false = ap begins_section_in (sym begun) ∙ opens-uncut [] (tex_at text place) quiet in
-          let inside = to-end size (drop start text) [] (fresh_at text start) (last_at text start) start 0 (omega (arith, length-drop start text, within)) k uncut in
-          let all : tex_at text place ≡ Begin opening ∷ (tokens_of text start size modes.Inner ++ Finish finish ∷ Note notes.BarMissing (size - 1) ∷ []) =
-          begun ∙ ap (λ l. Begin opening ∷ l) inside ∙ ap (λ l. Begin opening ∷ (l ++ inner_cut false size (size - 1))) (ends-with-text text start modes.Inner) in
+          ∙ (λ i. Begin (token_of false kinds.InnerText place 1 (sym (drop-here text place within) i))
+          ∷ answers_at text (tex_inner []) (one i)) in
+          let uncut : begins_section_in (answers_at text (tex_inner []) start) ≡ false =
+          ap begins_section_in (sym begun) ∙ opens-uncut [] (tex_at text place) quiet in
+          let inside = to-end size (drop start text) [] (fresh_at text start) (last_at text start) start 0
+          (omega (arith, length-drop start text, within)) k uncut in
+          let all : tex_at text place ≡ Begin opening ∷ (tokens_of text start size modes.Inner ++ Finish finish
+          ∷ Note notes.BarMissing (size - 1) ∷ []) =
+          begun ∙ ap (λ l. Begin opening ∷ l) inside ∙ ap (λ l. Begin opening ∷ (l ++ inner_cut false size (size - 1)))
+          (ends-with-text text start modes.Inner) in
           let c = covered finish (Note notes.BarMissing (size - 1) ∷ []) size all in
           record {
             token = opening;
@@ -408,13 +494,17 @@ module _ (text : List ℕ) (place : ℕ) (within : place < length text) (quiet :
   step : GoesOn text place ⊎ HoldsInner text place
   step = by (byte == at_sign) refl (byte == bar) refl
     where
-      by : (a : Bool) → (byte == at_sign) ≡ a → (c : Bool) → (byte == bar) ≡ c → GoesOn text place ⊎ HoldsInner text place
+      by : (a : Bool) → (byte == at_sign) ≡ a → (c : Bool) → (byte == bar) ≡ c
+          → GoesOn text place ⊎ HoldsInner text place
       by true e c k = inl (code-goes e)
       by false e true k = inr (bar-holds k)
       by false e false k =
           inl (token-goes (plain kinds.Text (run classes.TexText (byte ∷ behind)))
-          (here-is ∙ (λ i. if e i then tex_by (effect_in_tex (code_at behind)) (code_at behind) tex place (byte ∷ behind)
-          else (if k i then inner_begin false (moved tex parts.TexInner) place (byte ∷ behind) else one false tex place (byte ∷ behind) (plain kinds.Text (run classes.TexText (byte ∷ behind)))))) (λ h. absurd cc))
+          (here-is ∙ (λ i. if e i then tex_by (effect_in_tex (code_at behind)) (code_at behind) tex place
+          (byte ∷ behind)
+          else (if k i then inner_begin false (moved tex parts.TexInner) place (byte ∷ behind) else one false tex place
+          (byte ∷ behind) (plain kinds.Text (run classes.TexText (byte ∷ behind)))))) (λ h. absurd cc))
 
-pub tex-texts-go-on : (text : List ℕ) (place : ℕ) → place < length text → opens_part_in (tex_at text place) ≡ false → GoesOn text place ⊎ HoldsInner text place
+pub tex-texts-go-on : (text : List ℕ) (place : ℕ) → place < length text → opens_part_in (tex_at text place) ≡ false
+    → GoesOn text place ⊎ HoldsInner text place
 tex-texts-go-on text place within quiet = step text place within quiet

@@ -9,9 +9,11 @@ use Rattle.cw_rules.proofs.Within.{append-within, wider, all_cut-within, found-f
 use Rattle.cw_lex.specs.Lexing.{still_fresh, answers, fresh_at, last_at, beginning, tokens_of}
 
 -- the answers from a place on
-all-within : (bytes : List ℕ) (w : Where) (fresh : Bool) (last place taken low : ℕ) → low ≤ place → taken ≤ length bytes → AreWithin low (place + length bytes) (answers bytes w fresh last place taken)
+all-within : (bytes : List ℕ) (w : Where) (fresh : Bool) (last place taken low : ℕ) → low ≤ place → taken ≤ length bytes
+    → AreWithin low (place + length bytes) (answers bytes w fresh last place taken)
 all-within [] w fresh last place taken low l t =
-    wider place (place + 0) low (place + 0) (all_cut w.part w.comments place (place - 1)) l (omega arith) (all_cut-within w.part w.comments place (place - 1) 0)
+    wider place (place + 0) low (place + 0) (all_cut w.part w.comments place (place - 1)) l (omega arith)
+    (all_cut-within w.part w.comments place (place - 1) 0)
 all-within (b ∷ bs) w fresh last place zero low l t =
     let f = found w fresh last place b bs in
     let h = found-fits w fresh last place b bs in
@@ -21,13 +23,16 @@ all-within (b ∷ bs) w fresh last place zero low l t =
     (wider low ((place + 1) + length bs) low (place + suc (length bs)) rest (omega arith) (omega arith)
     (all-within bs f.next (still_fresh fresh b) b (place + 1) f.more low (omega (arith, l)) (omega (arith, h.more))))
 all-within (b ∷ bs) w fresh last place (suc taken) low l t =
-    wider low ((place + 1) + length bs) low (place + suc (length bs)) (answers bs w (still_fresh fresh b) b (place + 1) taken) (omega arith) (omega arith)
+    wider low ((place + 1) + length bs) low (place + suc (length bs)) (answers bs w (still_fresh fresh b) b (place + 1)
+    taken) (omega arith) (omega arith)
     (all-within bs w (still_fresh fresh b) b (place + 1) taken low (omega (arith, l)) (omega (arith, t)))
 
 -- the tokens of a part of a text
-pub tokens-within : (text : List ℕ) (from end : ℕ) (mode : Mode) → from ≤ end → end ≤ length text → AreWithin from end (tokens_of text from end mode)
+pub tokens-within : (text : List ℕ) (from end : ℕ) (mode : Mode) → from ≤ end → end ≤ length text
+    → AreWithin from end (tokens_of text from end mode)
 tokens-within text from end mode order within =
     let cut = take end text in
     let size : from + length (drop from cut) ≤ end = omega (arith, length-drop from cut, length-take end text) in
     wider from (from + length (drop from cut)) from end (tokens_of text from end mode) (omega arith) size
-    (all-within (drop from cut) (beginning mode) (fresh_at cut from) (last_at cut from) from 0 from (omega arith) (omega arith))
+    (all-within (drop from cut) (beginning mode) (fresh_at cut from) (last_at cut from) from 0 from (omega arith)
+    (omega arith))

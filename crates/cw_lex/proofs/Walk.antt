@@ -1,5 +1,6 @@
 -- How the answers from one place of a text follow from what begins there.
-use Rattle.std.proofs.Common.{◌≡◌, ℕ, zero, suc, ◌+◌, ◌<◌, ◌≤◌, Bool, true, List, [], ◌∷◌, ◌++◌, length, slice_index, take, drop, sym, ap, ◌∙◌, arith, add-zero, zero-add, length-drop}
+use Rattle.std.proofs.Common.{◌≡◌, ℕ, zero, suc, ◌+◌, ◌<◌, ◌≤◌, Bool, true, List, [], ◌∷◌, ◌++◌, length, slice_index}
+use Rattle.std.proofs.Common.{take, drop, sym, ap, ◌∙◌, arith, add-zero, zero-add, length-drop}
 use Rattle.std.proofs.lemmas.List.{drop-drop}
 use Rattle.std.proofs.Math.Seq.{take-nil}
 use Rattle.cw_rules.proofs.Runs.{drop-here}
@@ -9,7 +10,8 @@ use Rattle.cw_lex.specs.Lexing.{still_fresh, joined, answers, fresh_after, last_
 
 -- bytes that belong to the last token
 taken : (bs : List ℕ) (w : Where) (fresh : Bool) (last place n : ℕ) → n ≤ length bs
-    → answers bs w fresh last place n ≡ answers (drop n bs) w (fresh_after fresh (take n bs)) (last_after last (take n bs)) (place + n) 0
+    → answers bs w fresh last place n ≡ answers (drop n bs) w (fresh_after fresh (take n bs))
+    (last_after last (take n bs)) (place + n) 0
 taken [] w fresh last place zero h = ap (λ p. answers [] w fresh last p 0) (sym (add-zero place))
 taken [] w fresh last place (suc n) h = absurd (omega arith)
 taken (b ∷ bs) w fresh last place zero h = ap (λ p. answers (b ∷ bs) w fresh last p 0) (omega arith)
@@ -18,14 +20,16 @@ taken (b ∷ bs) w fresh last place (suc n) h =
     taken bs w (still_fresh fresh b) b (place + 1) n (omega arith)
     ∙ ap (λ p. answers (drop n bs) w (fresh_after (still_fresh fresh b) (take n bs)) (last_after b (take n bs)) p 0) p
 
-pub fresh-more : (fresh : Bool) (text : List ℕ) (m n : ℕ) → fresh_after (fresh_after fresh (take m text)) (take n (drop m text)) ≡ fresh_after fresh (take (m + n) text)
+pub fresh-more : (fresh : Bool) (text : List ℕ) (m n : ℕ)
+    → fresh_after (fresh_after fresh (take m text)) (take n (drop m text)) ≡ fresh_after fresh (take (m + n) text)
 fresh-more fresh text zero n = ap (λ k. fresh_after fresh (take k text)) (sym (zero-add n))
 fresh-more fresh [] (suc m) n = ap (fresh_after fresh) (take-nil n ∙ sym (take-nil (suc m + n)))
 fresh-more fresh (b ∷ text) (suc m) n =
     let e : suc m + n ≡ suc (m + n) = omega arith in
     fresh-more (still_fresh fresh b) text m n ∙ ap (λ k. fresh_after fresh (take k (b ∷ text))) (sym e)
 
-pub last-more : (last : ℕ) (text : List ℕ) (m n : ℕ) → last_after (last_after last (take m text)) (take n (drop m text)) ≡ last_after last (take (m + n) text)
+pub last-more : (last : ℕ) (text : List ℕ) (m n : ℕ) → last_after (last_after last (take m text)) (take n (drop m text))
+    ≡ last_after last (take (m + n) text)
 last-more last text zero n = ap (λ k. last_after last (take k text)) (sym (zero-add n))
 last-more last [] (suc m) n = ap (last_after last) (take-nil n ∙ sym (take-nil (suc m + n)))
 last-more last (b ∷ text) (suc m) n =
@@ -33,9 +37,11 @@ last-more last (b ∷ text) (suc m) n =
     last-more b text m n ∙ ap (λ k. last_after last (take k (b ∷ text))) (sym e)
 
 -- what the bytes up to behind a place say
-pub fresh-here : (text : List ℕ) (place : ℕ) → place < length text → still_fresh (fresh_at text place) (slice_index text place) ≡ fresh_at text (place + 1)
+pub fresh-here : (text : List ℕ) (place : ℕ) → place < length text
+    → still_fresh (fresh_at text place) (slice_index text place) ≡ fresh_at text (place + 1)
 fresh-here text place h =
-    ap (λ bs. fresh_after (fresh_at text place) (take 1 bs)) (sym (drop-here text place h)) ∙ fresh-more true text place 1
+    ap (λ bs. fresh_after (fresh_at text place) (take 1 bs)) (sym (drop-here text place h))
+    ∙ fresh-more true text place 1
 
 pub last-here : (text : List ℕ) (place : ℕ) → place < length text → slice_index text place ≡ last_at text (place + 1)
 last-here text place h =
@@ -44,7 +50,8 @@ last-here text place h =
 -- what follows what begins at a place
 abbrev pub rest_at : List ℕ → ℕ → Where → ℕ → List Answer
 rest_at text place next more =
-    answers (drop (place + 1) text) next (still_fresh (fresh_at text place) (slice_index text place)) (slice_index text place) (place + 1) more
+    answers (drop (place + 1) text) next (still_fresh (fresh_at text place) (slice_index text place))
+    (slice_index text place) (place + 1) more
 
 pub answers-here : (text : List ℕ) (w : Where) (place : ℕ) → place < length text
     → answers_at text w place ≡ joined (found_at text w place) (λ next more. rest_at text place next more)
@@ -52,15 +59,19 @@ answers-here text w place h =
     ap (λ bs. answers bs w (fresh_at text place) (last_at text place) place 0) (drop-here text place h)
 
 -- the answers from a place on are those that begin there and those from where they end
-pub answers-at : (text : List ℕ) (w : Where) (place : ℕ) (f : Found) (next : ℕ) → place < length text → found_at text w place ≡ f
-    → next ≡ (place + 1) + f.more → next ≤ length text → answers_at text w place ≡ f.answers ++ answers_at text f.next next
+pub answers-at : (text : List ℕ) (w : Where) (place : ℕ) (f : Found) (next : ℕ) → place < length text
+    → found_at text w place ≡ f
+    → next ≡ (place + 1) + f.more → next ≤ length text → answers_at text w place
+    ≡ f.answers ++ answers_at text f.next next
 answers-at text w place f next h e n within =
     let behind = drop (place + 1) text in
     let size : f.more ≤ length behind = omega (arith, length-drop (place + 1) text) in
     ap (λ bs. answers bs w (fresh_at text place) (last_at text place) place 0) (drop-here text place h)
-    ∙ ap (λ g. joined g (λ next more. answers behind next (still_fresh (fresh_at text place) (slice_index text place)) (slice_index text place) (place + 1) more)) e
+    ∙ ap (λ g. joined g (λ next more. answers behind next (still_fresh (fresh_at text place) (slice_index text place))
+    (slice_index text place) (place + 1) more)) e
     ∙ ap (λ l. f.answers ++ l)
     ((λ i. answers behind f.next (fresh-here text place h i) (last-here text place h i) (place + 1) f.more)
     ∙ taken behind f.next (fresh_at text (place + 1)) (last_at text (place + 1)) (place + 1) f.more size
-    ∙ (λ i. answers (drop-drop f.more (place + 1) text i) f.next (fresh-more true text (place + 1) f.more i) (last-more 0 text (place + 1) f.more i) ((place + 1) + f.more) 0)
+    ∙ (λ i. answers (drop-drop f.more (place + 1) text i) f.next (fresh-more true text (place + 1) f.more i)
+    (last-more 0 text (place + 1) f.more i) ((place + 1) + f.more) 0)
     ∙ ap (λ k. answers_at text f.next k) (sym n))

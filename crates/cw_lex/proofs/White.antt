@@ -1,5 +1,6 @@
 -- White space of C text, and what the bytes before a place say of it.
-use Rattle.std.proofs.Common.{◌≡◌, ℕ, ◌+◌, ◌-◌, ◌<◌, ◌≤◌, Bool, true, false, true≢false, not, ◌&&◌, ◌||◌, ◌==◌, List, [], ◌∷◌, ◌++◌, length, slice_index, drop, refl, sym, ap, ◌∙◌, arith, if◌then◌else◌}
+use Rattle.std.proofs.Common.{◌≡◌, ℕ, ◌+◌, ◌-◌, ◌<◌, ◌≤◌, Bool, true, false, true≢false, not, ◌&&◌, ◌||◌, ◌==◌, List}
+use Rattle.std.proofs.Common.{[], ◌∷◌, ◌++◌, length, slice_index, drop, refl, sym, ap, ◌∙◌, arith, if◌then◌else◌}
 use Rattle.std.proofs.lemmas.Bool.{eqb-true}
 use Rattle.cw_rules.specs.declared.classes.Class.TheVariants as classes
 use Rattle.cw_rules.specs.declared.parts.Part.{Part}
@@ -10,7 +11,8 @@ use Rattle.cw_rules.specs.Answers.{Where, before, plain}
 use Rattle.cw_rules.specs.Bytes.{is_in}
 use Rattle.cw_rules.specs.Codes.{begins_section}
 use Rattle.cw_lex.specs.Lexing.{fresh_at, last_at}
-use Rattle.cw_rules.specs.Tokens.{section, in_text, code_text, passed, line_end, is_space, in_hash_line, skipped_byte, comment_end, inner_cut, one, is_code}
+use Rattle.cw_rules.specs.Tokens.{section, in_text, code_text, passed, line_end, is_space, in_hash_line, skipped_byte}
+use Rattle.cw_rules.specs.Tokens.{comment_end, inner_cut, one, is_code}
 use Rattle.cw_lex.specs.Coming.{ends_line, is_white_here, found_at}
 use Rattle.cw_lex.proofs.Lines.{in_text-code, found-newline}
 use Rattle.cw_lex.proofs.Walk.{fresh-here, last-here}
@@ -40,41 +42,57 @@ space-not-at part b bs h = other-byte (λ b. is_space part b bs) b 64 h (and-fal
 
 line_end-white : (part : Part) (comments : List Opened) (last place : ℕ) → ends_line part comments last ≡ false
     → line_end part comments last place ≡ skipped_byte (record { part = part; comments = comments })
-line_end-white part [] last place h = ap (λ t. if t then one true (record { part = parts.Plain false false; comments = [] }) place (10 ∷ []) (plain kinds.HashLineEnd 1) else skipped_byte (record { part = part; comments = [] })) h
-line_end-white part (c ∷ comments) last place h = ap (λ t. if t then skipped_byte (record { part = part; comments = c ∷ comments })
-    else before (inner_cut (in_hash_line part) place place ++ comment_end (in_hash_line part) c place 0 []) (line_end (passed part) comments last place)) (by c.long h)
+line_end-white part [] last place h = ap (λ t. if t then one true
+    (record { part = parts.Plain false false; comments = [] }) place (10 ∷ []) (plain kinds.HashLineEnd 1) else
+    skipped_byte (record { part = part; comments = [] })) h
+line_end-white part (c ∷ comments) last place h =
+    ap (λ t. if t then skipped_byte (record { part = part; comments = c ∷ comments })
+    else before (inner_cut (in_hash_line part) place place ++ comment_end (in_hash_line part) c place 0 [])
+    (line_end (passed part) comments last place)) (by c.long h)
   where
     by : (b : Bool) → not b ≡ false → b ≡ true
     by true e = refl
     by false e = absurd (true≢false e)
 
-code_text-space : (w : Where) (fresh : Bool) (last place b : ℕ) (bs : List ℕ) → (b == 10) ≡ false → is_space w.part b bs ≡ true
+code_text-space : (w : Where) (fresh : Bool) (last place b : ℕ) (bs : List ℕ) → (b == 10) ≡ false → is_space w.part b bs
+    ≡ true
     → code_text w fresh last place b bs ≡ skipped_byte w
 code_text-space w fresh last place b bs e h = rw (e, h) refl
 
 -- white space gives no answer
 pub white-found : (text : List ℕ) (part : Part) (comments : List Opened) (place : ℕ) → is_code part comments ≡ true
     → is_white_here part comments (last_at text place) (slice_index text place) (drop (place + 1) text) ≡ true
-    → found_at text (record { part = part; comments = comments }) place ≡ skipped_byte (record { part = part; comments = comments })
+    → found_at text (record { part = part; comments = comments }) place
+    ≡ skipped_byte (record { part = part; comments = comments })
 white-found text part comments place code h = by (slice_index text place == 10) refl
   where
-    by : (t : Bool) → (slice_index text place == 10) ≡ t → found_at text (record { part = part; comments = comments }) place ≡ skipped_byte (record { part = part; comments = comments })
+    by : (t : Bool) → (slice_index text place == 10) ≡ t
+        → found_at text (record { part = part; comments = comments }) place
+        ≡ skipped_byte (record { part = part; comments = comments })
     by true e =
         let ends : ends_line part comments (last_at text place) ≡ false =
         not-true (ends_line part comments (last_at text place))
-        (ap (λ t. if t then not (ends_line part comments (last_at text place)) else is_space part (slice_index text place) (drop (place + 1) text)) (sym e) ∙ h) in
-        found-newline text part comments place (eqb-true (slice_index text place) 10 e) code ∙ line_end-white part comments (last_at text place) place ends
+        (ap (λ t. if t then not (ends_line part comments (last_at text place)) else is_space part
+        (slice_index text place) (drop (place + 1) text)) (sym e) ∙ h) in
+        found-newline text part comments place (eqb-true (slice_index text place) 10 e) code
+        ∙ line_end-white part comments (last_at text place) place ends
     by false e =
         let space : is_space part (slice_index text place) (drop (place + 1) text) ≡ true =
-        ap (λ t. if t then not (ends_line part comments (last_at text place)) else is_space part (slice_index text place) (drop (place + 1) text)) (sym e) ∙ h in
-        ap (λ t. if t && begins_section (drop (place + 1) text) then section (record { part = part; comments = comments }) place (drop (place + 1) text)
-        else in_text part comments (fresh_at text place) (last_at text place) place (slice_index text place) (drop (place + 1) text))
+        ap (λ t. if t then not (ends_line part comments (last_at text place)) else is_space part
+        (slice_index text place) (drop (place + 1) text)) (sym e) ∙ h in
+        ap (λ t. if t && begins_section (drop (place + 1) text) then section
+        (record { part = part; comments = comments }) place (drop (place + 1) text)
+        else in_text part comments (fresh_at text place) (last_at text place) place (slice_index text place)
+        (drop (place + 1) text))
         (space-not-at part (slice_index text place) (drop (place + 1) text) space)
-        ∙ in_text-code part comments (fresh_at text place) (last_at text place) place (slice_index text place) (drop (place + 1) text) code
-        ∙ code_text-space (record { part = part; comments = comments }) (fresh_at text place) (last_at text place) place (slice_index text place) (drop (place + 1) text) e space
+        ∙ in_text-code part comments (fresh_at text place) (last_at text place) place (slice_index text place)
+        (drop (place + 1) text) code
+        ∙ code_text-space (record { part = part; comments = comments }) (fresh_at text place) (last_at text place) place
+        (slice_index text place) (drop (place + 1) text) e space
 
 -- what the byte before a place says of it
-pub fresh-blank : (text : List ℕ) (k : ℕ) → 0 < k → k ≤ length text → is_in classes.Blank (slice_index text (k - 1)) ≡ true → fresh_at text (k - 1) ≡ fresh_at text k
+pub fresh-blank : (text : List ℕ) (k : ℕ) → 0 < k → k ≤ length text → is_in classes.Blank (slice_index text (k - 1))
+    ≡ true → fresh_at text (k - 1) ≡ fresh_at text k
 fresh-blank text k some within h =
     let k-is : (k - 1) + 1 ≡ k = omega arith in
     let other = other-byte (is_in classes.Blank) (slice_index text (k - 1)) 10 h refl in
@@ -83,7 +101,8 @@ fresh-blank text k some within h =
     ∙ fresh-here text (k - 1) (omega arith)
     ∙ ap (fresh_at text) k-is
 
-pub fresh-other : (text : List ℕ) (k : ℕ) → 0 < k → k ≤ length text → is_in classes.Blank (slice_index text (k - 1)) ≡ false → (slice_index text (k - 1) == 10) ≡ fresh_at text k
+pub fresh-other : (text : List ℕ) (k : ℕ) → 0 < k → k ≤ length text → is_in classes.Blank (slice_index text (k - 1))
+    ≡ false → (slice_index text (k - 1) == 10) ≡ fresh_at text k
 fresh-other text k some within h =
     let k-is : (k - 1) + 1 ≡ k = omega arith in
     or-false (slice_index text (k - 1) == 10)

@@ -1,5 +1,6 @@
 -- What is still to come of a scanner's answers, and what holds of a scanner.
-use Rattle.std.specs.Prelude.{◌≡◌, ℕ, ◌+◌, ◌-◌, ◌<◌, ◌≤◌, Bool, true, false, List, [], ◌∷◌, ◌++◌, length, drop, slice_index, not, ◌&&◌, ◌==◌, Option, Some, None, if◌then◌else◌}
+use Rattle.std.specs.Prelude.{◌≡◌, ℕ, ◌+◌, ◌-◌, ◌<◌, ◌≤◌, Bool, true, false, List, [], ◌∷◌, ◌++◌, length, drop}
+use Rattle.std.specs.Prelude.{slice_index, not, ◌&&◌, ◌==◌, Option, Some, None, if◌then◌else◌}
 use Rattle.cw_rules.specs.declared.classes.Class.TheVariants as classes
 use Rattle.cw_rules.specs.declared.parts.Part.{Part}
 use Rattle.cw_rules.specs.declared.parts.Part.TheVariants as parts
@@ -24,7 +25,8 @@ coming text s = note_answers (pending_notes text s.pending) ++ answers_at text (
 
 -- what begins at a place of a text
 abbrev pub found_at : List ℕ → Where → ℕ → Found
-found_at text w place = found w (fresh_at text place) (last_at text place) place (slice_index text place) (drop (place + 1) text)
+found_at text w place = found w (fresh_at text place) (last_at text place) place (slice_index text place)
+    (drop (place + 1) text)
 
 -- the open braces of the comments are not more than the bytes before a place
 abbrev pub AllWithin : ℕ → List Opened → Type 0
@@ -84,7 +86,8 @@ is_skipped part comments last byte bytes =
     else is_code part comments && is_white_here part comments last byte bytes
 
 pub record IsSkipped (text : List ℕ) (s : State) : Type 0 where
-  pub none : s.at < length text → is_skipped s.part s.comments (last_at text s.at) (slice_index text s.at) (drop (s.at + 1) text) ≡ false
+  pub none : s.at < length text → is_skipped s.part s.comments (last_at text s.at) (slice_index text s.at)
+      (drop (s.at + 1) text) ≡ false
 
 -- the part in which a mode begins
 abbrev pub beginning_part : Mode → Part

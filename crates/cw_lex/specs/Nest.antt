@@ -49,9 +49,11 @@ IsGroupOf false kind.LongComment = Unit {0}
 IsGroupOf false kind.ShortComment = Unit {0}
 IsGroupOf in_comment k = ⊥
 
--- Pieces of text stand in the text of a comment, and nothing else does but inner texts. In C text stand the other tokens
+-- Pieces of text stand in the text of a comment, and nothing else does but inner texts. In C text stand the other
+-- tokens
 -- and comments.
 abbrev pub IsWell : (in_comment : Bool) → Nest → Type 0
 IsWell in_comment End = Unit {0}
 IsWell in_comment (Leaf token rest) = (is_text_kind token.kind ≡ in_comment) × IsWell in_comment rest
-IsWell in_comment (Group token inner rest) = IsGroupOf in_comment token.kind × IsWell (not in_comment) inner × IsWell in_comment rest
+IsWell in_comment (Group token inner rest) = IsGroupOf in_comment token.kind × IsWell (not in_comment) inner
+    × IsWell in_comment rest

@@ -69,7 +69,10 @@ begins_section_in answers = list_any is_section_answer answers
 -- the answers before the first section code
 abbrev pub until_section : List Answer → List Answer
 until_section [] = []
-until_section (answer ∷ answers) = elim (is_section_answer answer) [ true ↦ [] | false ↦ answer ∷ until_section answers ]
+until_section (answer ∷ answers) = elim (is_section_answer answer) [
+  | true ↦ []
+  | false ↦ answer ∷ until_section answers
+]
 
 -- the modes of C texts
 abbrev pub is_c_mode : Mode → Bool
@@ -119,7 +122,8 @@ is_part_answer _ = false
 abbrev pub begins_part_in : List Answer → Bool
 begins_part_in answers = list_any is_part_answer answers
 
--- The answers over a C part, over definitions and over inner C text are nested up to the first section code: what is open
+-- The answers over a C part, over definitions and over inner C text are nested up to the first section code: what is
+-- open
 -- there ends before it.
 abbrev pub CTextsNestUpToSections : Type 0
 CTextsNestUpToSections = (text : List ℕ) (start end : ℕ) (mode : Mode) → is_c_mode mode ≡ true

@@ -16,7 +16,8 @@ use Rattle.cw_rules.specs.Cuttings.{bytes_at}
 pub record IsShort (text : List ℕ) (w : Where) (place : ℕ) (short : Short) : Type 0 where
   pub some : 0 < short.size
   pub within : place + short.size ≤ length text
-  pub found : found_at text w place ≡ one (in_hash_line w.part) (moved w (passed w.part)) place (bytes_at text place) (plain short.kind short.size)
+  pub found : found_at text w place ≡ one (in_hash_line w.part) (moved w (passed w.part)) place (bytes_at text place)
+      (plain short.kind short.size)
 
 -- a byte that begins no token but signs, where it begins a sign and no include name is wanted
 abbrev pub is_lone : ℕ → Bool

@@ -2,6 +2,8 @@
 #![tactic(auto)]
 
 #[cfg(test)]
+mod kept_tests;
+#[cfg(test)]
 mod lexer_tests;
 #[cfg(test)]
 mod note_tests;

@@ -13,7 +13,8 @@ apart : (k : Key) (entries : List (Key × Cat)) → AllByRecursion (λ other. ke
 apart k [] all = all
 apart k (e ∷ entries) all = (sym (key_eq-is k e) ∙ all.0, apart k entries all.1)
 
-pub entries-distinct : (entries : List (Key × Cat)) → IsDistinct key_eq (keys_of entries) → AreDistinct (map entry_of entries)
+pub entries-distinct : (entries : List (Key × Cat)) → IsDistinct key_eq (keys_of entries)
+    → AreDistinct (map entry_of entries)
 unfolding IsDistinct
 entries-distinct [] distinct = distinct
 entries-distinct (e ∷ entries) distinct = (apart e.0 entries distinct.0, entries-distinct entries distinct.1)

@@ -1,5 +1,6 @@
 -- The built-in words stand first, whatever is done to the names.
-use Rattle.std.proofs.Common.{◌≡◌, ℕ, zero, suc, Bool, true, false, List, [], ◌∷◌, ◌++◌, length, nat_lt, refl, sym, ap, ◌∙◌, append_assoc, if◌then◌else◌}
+use Rattle.std.proofs.Common.{◌≡◌, ℕ, zero, suc, Bool, true, false, List, [], ◌∷◌, ◌++◌, length, nat_lt, refl, sym, ap}
+use Rattle.std.proofs.Common.{◌∙◌, append_assoc, if◌then◌else◌}
 use Rattle.std.proofs.lemmas.List.{map-append, append-nil}
 use Rattle.cw_base.specs.declared.category.Cat.{Cat}
 use Rattle.cw_base.specs.declared.category.Cat.TheVariants.{Exp}
@@ -12,12 +13,15 @@ unfolding BeginsWithWords
 words-first = ([], sym (append-nil (words_of built_in_words)))
 
 -- categories are no part of it
-words-with_category : (place : ℕ) (cat : Cat) (entries : List Entry) → words_of (with_category place cat entries) ≡ words_of entries
+words-with_category : (place : ℕ) (cat : Cat) (entries : List Entry) → words_of (with_category place cat entries)
+    ≡ words_of entries
 words-with_category place cat [] = refl
 words-with_category zero cat (entry ∷ entries) = refl
-words-with_category (suc place) cat (entry ∷ entries) = ap (λ words. (entry.kind, entry.text) ∷ words) (words-with_category place cat entries)
+words-with_category (suc place) cat (entry ∷ entries) =
+    ap (λ words. (entry.kind, entry.text) ∷ words) (words-with_category place cat entries)
 
-pub words-changed : (place : ℕ) (cat : Cat) (entries : List Entry) → BeginsWithWords entries → BeginsWithWords (with_category place cat entries)
+pub words-changed : (place : ℕ) (cat : Cat) (entries : List Entry) → BeginsWithWords entries
+    → BeginsWithWords (with_category place cat entries)
 unfolding BeginsWithWords
 words-changed place cat entries begins = (begins.0, words-with_category place cat entries ∙ begins.1)
 
@@ -30,10 +34,13 @@ more entry entries begins = (
       ∙ append_assoc (words_of built_in_words) begins.0 ((entry.kind, entry.text) ∷ []),
 )
 
-by-test : (b : Bool) (entry : Entry) (entries : List Entry) → BeginsWithWords entries → BeginsWithWords (if b then entries else entries ++ entry ∷ [])
+by-test : (b : Bool) (entry : Entry) (entries : List Entry) → BeginsWithWords entries
+    → BeginsWithWords (if b then entries else entries ++ entry ∷ [])
 by-test true entry entries begins = begins
 by-test false entry entries begins = more entry entries begins
 
-pub words-entered : (kind : EntryKind) (text : List ℕ) (entries : List Entry) → BeginsWithWords entries → BeginsWithWords (with_entry kind text entries)
+pub words-entered : (kind : EntryKind) (text : List ℕ) (entries : List Entry) → BeginsWithWords entries
+    → BeginsWithWords (with_entry kind text entries)
 words-entered kind text entries begins =
-    by-test (nat_lt (place_of kind text entries) (length entries)) (record { kind = kind; text = text; category = Exp }) entries begins
+    by-test (nat_lt (place_of kind text entries) (length entries)) (record { kind = kind; text = text; category = Exp })
+    entries begins

@@ -1,5 +1,7 @@
 -- What the hash table says of the list of entries.
-use Rattle.std.proofs.Common.{◌≡◌, ℕ, zero, suc, ◌+◌, ◌<◌, Bool, true, false, List, [], ◌∷◌, ◌++◌, length, map, Some, None, refl, sym, ap, ◌∙◌, arith, length-append, not, cond, nat_lt, ◌≤◌, if◌then◌else◌, slice_get, subst, IsTrue}
+use Rattle.std.proofs.Common.{◌≡◌, ℕ, zero, suc, ◌+◌, ◌<◌, Bool, true, false, List, [], ◌∷◌, ◌++◌, length, map, Some}
+use Rattle.std.proofs.Common.{None, refl, sym, ap, ◌∙◌, arith, length-append, not, cond, nat_lt, ◌≤◌, if◌then◌else◌}
+use Rattle.std.proofs.Common.{slice_get, subst, IsTrue}
 use Rattle.std.specs.List.{position, position_or_len, IsDistinct, AllByRecursion}
 use Rattle.std.proofs.lemmas.List.{length-map}
 use Rattle.std.proofs.lemmas.List.Sums.{prefix_len-le-length}
@@ -21,7 +23,8 @@ use Rattle.cw_names.specs.Wanting.{alike}
 abbrev pub key_eq : Key → Key → Bool
 key_eq = eq-value.it
 
-key_eq-by : (a b : EntryKind) (k l : Key) (c : Cat) → key_eq (record k { kind = a }) (record l { kind = b }) ≡ is_entry a k.text.items (entry_of (record l { kind = b }, c))
+key_eq-by : (a b : EntryKind) (k l : Key) (c : Cat) → key_eq (record k { kind = a }) (record l { kind = b })
+    ≡ is_entry a k.text.items (entry_of (record l { kind = b }, c))
 key_eq-by Ident Ident k l c = refl
 key_eq-by Ident Roman k l c = refl
 key_eq-by Ident Typewriter k l c = refl
@@ -43,28 +46,34 @@ pub key_eq-is : (k : Key) (e : Key × Cat) → key_eq k e.0 ≡ is_entry k.kind 
 key_eq-is k e = key_eq-by k.kind e.0.kind k e.0 e.1
 
 -- the position of a key is that of its entry
-pub place-keys : (k : Key) (es : List (Key × Cat)) → position_or_len (key_eq k) (keys_of es) ≡ place_of k.kind k.text.items (map entry_of es)
+pub place-keys : (k : Key) (es : List (Key × Cat)) → position_or_len (key_eq k) (keys_of es)
+    ≡ place_of k.kind k.text.items (map entry_of es)
 place-keys k [] = refl
 place-keys k (e ∷ es) =
     ap (λ b. cond (not b) (1 + position_or_len (key_eq k) (keys_of es)) 0) (key_eq-is k e)
     ∙ ap (λ n. cond (not (is_entry k.kind k.text.items (entry_of e))) (1 + n) 0) (place-keys k es)
 
 -- so is the position of a key that is looked for
-place-wanted : (wanted : Wanted) (es : List (Key × Cat)) → position_or_len (is_wanted wanted) (keys_of es) ≡ place_of wanted.kind wanted.text.now (map entry_of es)
+place-wanted : (wanted : Wanted) (es : List (Key × Cat)) → position_or_len (is_wanted wanted) (keys_of es)
+    ≡ place_of wanted.kind wanted.text.now (map entry_of es)
 place-wanted wanted [] = refl
-place-wanted wanted (e ∷ es) = ap (λ n. cond (not (is_entry wanted.kind wanted.text.now (entry_of e))) (1 + n) 0) (place-wanted wanted es)
+place-wanted wanted (e ∷ es) = ap (λ n. cond (not (is_entry wanted.kind wanted.text.now (entry_of e))) (1 + n) 0)
+    (place-wanted wanted es)
 
-pub position-found : {X : Type 0} (test : X → Bool) (xs : List X) (i : ℕ) → position test xs ≡ Some i → position_or_len test xs ≡ i
+pub position-found : {X : Type 0} (test : X → Bool) (xs : List X) (i : ℕ) → position test xs ≡ Some i
+    → position_or_len test xs ≡ i
 position-found test xs i h = pick (nat_lt (position_or_len test xs) (length xs)) (position_or_len test xs) i h
   where
     pick : (b : Bool) (n i : ℕ) → cond b (Some n) None ≡ Some i → n ≡ i
     pick true n i e = cc
     pick false n i e = cc
 
-pub position-none : {X : Type 0} (test : X → Bool) (xs : List X) → position test xs ≡ None → position_or_len test xs ≡ length xs
+pub position-none : {X : Type 0} (test : X → Bool) (xs : List X) → position test xs ≡ None → position_or_len test xs
+    ≡ length xs
 position-none test xs h = pick (nat_lt (position_or_len test xs) (length xs)) refl h
   where
-    pick : (b : Bool) → nat_lt (position_or_len test xs) (length xs) ≡ b → cond b (Some (position_or_len test xs)) None ≡ None → position_or_len test xs ≡ length xs
+    pick : (b : Bool) → nat_lt (position_or_len test xs) (length xs) ≡ b → cond b (Some (position_or_len test xs)) None
+        ≡ None → position_or_len test xs ≡ length xs
     pick true t e = cc
     pick false t e = omega (arith, ltb-false, prefix_len-le-length (λ x. not (test x)) xs)
 
@@ -74,63 +83,92 @@ pub insert_entry-last : (k : Key) (es : List (Key × Cat)) → place_of k.kind k
 insert_entry-last k [] h = refl
 insert_entry-last k (e ∷ es) h = by (key_eq k e.0) refl (insert_entry-last k es)
   where
-    by : (b : Bool) → key_eq k e.0 ≡ b → (place_of k.kind k.text.items (map entry_of es) ≡ length es → map entry_of (insert_entry key_eq es k Exp) ≡ map entry_of es ++ entry_of (k, Exp) ∷ [])
+    by : (b : Bool) → key_eq k e.0 ≡ b → (place_of k.kind k.text.items (map entry_of es) ≡ length es
+        → map entry_of (insert_entry key_eq es k Exp) ≡ map entry_of es ++ entry_of (k, Exp) ∷ [])
         → map entry_of (insert_entry key_eq (e ∷ es) k Exp) ≡ map entry_of (e ∷ es) ++ entry_of (k, Exp) ∷ []
-    by true t more = absurd (omega (arith, ap (λ b. cond (not b) (1 + place_of k.kind k.text.items (map entry_of es)) 0) (sym t ∙ key_eq-is k e) ∙ h))
+    by true t more = absurd (omega (
+      arith,
+      ap (λ b. cond (not b) (1 + place_of k.kind k.text.items (map entry_of es)) 0)
+          (sym t ∙ key_eq-is k e) ∙ h,
+    ))
     by false t more =
         let rest : place_of k.kind k.text.items (map entry_of es) ≡ length es =
-        omega (arith, ap (λ b. cond (not b) (1 + place_of k.kind k.text.items (map entry_of es)) 0) (sym t ∙ key_eq-is k e) ∙ h) in
+        omega (
+          arith,
+          ap (λ b. cond (not b) (1 + place_of k.kind k.text.items (map entry_of es)) 0) (sym t
+              ∙ key_eq-is k e) ∙ h,
+        ) in
         ap (λ b. map entry_of (if b then (e.0, Exp) ∷ es else e ∷ insert_entry key_eq es k Exp)) t
         ∙ ap (λ l. entry_of e ∷ l) (more rest)
 
-pub with_category-map : (es : List (Key × Cat)) (i : ℕ) (w : Cat) → map entry_of (set_value_at es i w) ≡ with_category i w (map entry_of es)
+pub with_category-map : (es : List (Key × Cat)) (i : ℕ) (w : Cat) → map entry_of (set_value_at es i w)
+    ≡ with_category i w (map entry_of es)
 with_category-map [] i w = refl
 with_category-map (e ∷ es) zero w = refl
 with_category-map (e ∷ es) (suc i) w = ap (λ l. entry_of e ∷ l) (with_category-map es i w)
 
 -- the same for an entry that is looked for, in a list that is seen of the table
-module _ (es : List (Key × Cat)) (names : List Entry) (view : map entry_of es ≡ names) (kind : EntryKind) (text : List ℕ) where
-  place-names : (k : Key) → k.kind ≡ kind → k.text.items ≡ text → position_or_len (key_eq k) (keys_of es) ≡ place_of kind text names
+module _ (es : List (Key × Cat)) (names : List Entry) (view : map entry_of es ≡ names) (kind : EntryKind)
+    (text : List ℕ) where
+  place-names : (k : Key) → k.kind ≡ kind → k.text.items ≡ text → position_or_len (key_eq k) (keys_of es)
+      ≡ place_of kind text names
   place-names k p q = place-keys k es ∙ (λ i. place_of (p i) (q i) (view i))
 
-  place-looked-for : (wanted : Wanted) → wanted.kind ≡ kind → wanted.text.now ≡ text → position_or_len (is_wanted wanted) (keys_of es) ≡ place_of kind text names
+  place-looked-for : (wanted : Wanted) → wanted.kind ≡ kind → wanted.text.now ≡ text
+      → position_or_len (is_wanted wanted) (keys_of es) ≡ place_of kind text names
   place-looked-for wanted p q = place-wanted wanted es ∙ (λ i. place_of (p i) (q i) (view i))
 
-  pub found-place : (wanted : Wanted) → wanted.kind ≡ kind → wanted.text.now ≡ text → (i : ℕ) → Some i ≡ position (is_wanted wanted) (keys_of es) → i ≡ place_of kind text names
-  found-place wanted p q i h = sym (position-found (is_wanted wanted) (keys_of es) i (sym h)) ∙ place-looked-for wanted p q
+  pub found-place : (wanted : Wanted) → wanted.kind ≡ kind → wanted.text.now ≡ text → (i : ℕ)
+      → Some i ≡ position (is_wanted wanted) (keys_of es) → i ≡ place_of kind text names
+  found-place wanted p q i h = sym (position-found (is_wanted wanted) (keys_of es) i (sym h))
+      ∙ place-looked-for wanted p q
 
-  pub new-place : (wanted : Wanted) → wanted.kind ≡ kind → wanted.text.now ≡ text → position (is_wanted wanted) (keys_of es) ≡ None → length es ≡ place_of kind text names
-  new-place wanted p q h = sym (length-map es (λ (e : Key × Cat). e.0)) ∙ sym (position-none (is_wanted wanted) (keys_of es) h) ∙ place-looked-for wanted p q
+  pub new-place : (wanted : Wanted) → wanted.kind ≡ kind → wanted.text.now ≡ text
+      → position (is_wanted wanted) (keys_of es) ≡ None → length es ≡ place_of kind text names
+  new-place wanted p q h = sym (length-map es (λ (e : Key × Cat). e.0))
+      ∙ sym (position-none (is_wanted wanted) (keys_of es) h) ∙ place-looked-for wanted p q
 
-  pub new-last : (wanted : Wanted) → wanted.kind ≡ kind → wanted.text.now ≡ text → position (is_wanted wanted) (keys_of es) ≡ None → place_of kind text names ≡ length names
+  pub new-last : (wanted : Wanted) → wanted.kind ≡ kind → wanted.text.now ≡ text
+      → position (is_wanted wanted) (keys_of es) ≡ None → place_of kind text names ≡ length names
   new-last wanted p q h = sym (new-place wanted p q h) ∙ sym (length-map es entry_of) ∙ ap length view
 
   pub with_entry-present : place_of kind text names < length names → with_entry kind text names ≡ names
-  with_entry-present h = ap (λ b. if b then names else names ++ record { kind = kind; text = text; category = Exp } ∷ []) (lt-ltb (place_of kind text names) (length names) h)
+  with_entry-present h = ap (λ b. if b then names else names ++ record { kind = kind; text = text; category = Exp }
+      ∷ []) (lt-ltb (place_of kind text names) (length names) h)
 
   pub with_entry-new : length es ≡ place_of kind text names → (k : Key) → k.kind ≡ kind → k.text.items ≡ text
       → map entry_of (insert_entry key_eq es k Exp) ≡ with_entry kind text names
   with_entry-new h k p q =
-      let place : place_of k.kind k.text.items (map entry_of es) ≡ length es = sym (place-keys k es) ∙ place-names k p q ∙ sym h in
+      let place : place_of k.kind k.text.items (map entry_of es) ≡ length es = sym (place-keys k es) ∙ place-names k p q
+      ∙ sym h in
       let past : length names ≤ place_of kind text names = omega (arith, h, ap length view, length-map es entry_of) in
       insert_entry-last k es place
       ∙ (λ i. view i ++ record { kind = p i; text = q i; category = Exp } ∷ [])
-      ∙ sym (ap (λ b. if b then names else names ++ record { kind = kind; text = text; category = Exp } ∷ []) (le-ltb (place_of kind text names) (length names) past))
+      ∙ sym (ap (λ b. if b then names else names ++ record { kind = kind; text = text; category = Exp } ∷ [])
+      (le-ltb (place_of kind text names) (length names) past))
 
   pub length-new : length es ≡ place_of kind text names → (k : Key) → k.kind ≡ kind → k.text.items ≡ text
       → length (map entry_of (insert_entry key_eq es k Exp)) ≡ length es + 1
   length-new h k p q =
-      let place : place_of k.kind k.text.items (map entry_of es) ≡ length es = sym (place-keys k es) ∙ place-names k p q ∙ sym h in
-      omega (arith, ap length (insert_entry-last k es place), length-append (map entry_of es) (entry_of (k, Exp) ∷ []), length-map es entry_of)
+      let place : place_of k.kind k.text.items (map entry_of es) ≡ length es = sym (place-keys k es) ∙ place-names k p q
+      ∙ sym h in
+      omega (
+        arith,
+        ap length (insert_entry-last k es place),
+        length-append (map entry_of es) (entry_of (k, Exp) ∷ []),
+        length-map es entry_of,
+      )
 
 -- what is said of each item is said of the one at a place
-said-at : {X : Type 0} (P : X → Type 0) (es : List (X × Cat)) (i : ℕ) (e : X × Cat) → AllByRecursion P (keys_of es) → slice_get es i ≡ Some e → P e.0
+said-at : {X : Type 0} (P : X → Type 0) (es : List (X × Cat)) (i : ℕ) (e : X × Cat) → AllByRecursion P (keys_of es)
+    → slice_get es i ≡ Some e → P e.0
 said-at P [] i e all is = cc
 said-at {X = X} P (x ∷ es) zero e all is = let same : x ≡ e = cc in subst (λ (y : X × Cat). P y.0) same all.0
 said-at P (x ∷ es) (suc i) e all is = said-at P es i e all.1 is
 
 -- a key that is wanted stands at its place: none before it is wanted, since no two keys are equal
-pub wanted-place : (wanted : Wanted) (es : List (Key × Cat)) (i : ℕ) (e : Key × Cat) → IsDistinct key_eq (keys_of es) → slice_get es i ≡ Some e → IsTrue (is_wanted wanted e.0)
+pub wanted-place : (wanted : Wanted) (es : List (Key × Cat)) (i : ℕ) (e : Key × Cat) → IsDistinct key_eq (keys_of es)
+    → slice_get es i ≡ Some e → IsTrue (is_wanted wanted e.0)
     → i ≡ place_of wanted.kind wanted.text.now (map entry_of es)
 unfolding IsDistinct
 wanted-place wanted [] i e distinct is here = cc
@@ -138,15 +176,18 @@ wanted-place wanted (x ∷ es) zero e distinct is here =
     let same : x ≡ e = cc in
     let found : is_wanted wanted x.0 ≡ true = ap (λ (y : Key × Cat). is_wanted wanted y.0) same ∙ here in
     sym (ap (λ b. cond (not b) (1 + place_of wanted.kind wanted.text.now (map entry_of es)) 0) found)
-wanted-place wanted (x ∷ es) (suc i) e distinct is here = by (is_wanted wanted x.0) refl (wanted-place wanted es i e distinct.1 is here)
+wanted-place wanted (x ∷ es) (suc i) e distinct is here =
+    by (is_wanted wanted x.0) refl (wanted-place wanted es i e distinct.1 is here)
   where
-    by : (b : Bool) → is_wanted wanted x.0 ≡ b → i ≡ place_of wanted.kind wanted.text.now (map entry_of es) → suc i ≡ place_of wanted.kind wanted.text.now (map entry_of (x ∷ es))
+    by : (b : Bool) → is_wanted wanted x.0 ≡ b → i ≡ place_of wanted.kind wanted.text.now (map entry_of es)
+        → suc i ≡ place_of wanted.kind wanted.text.now (map entry_of (x ∷ es))
     by true found later =
         let differ : key_eq x.0 e.0 ≡ false = said-at (λ other. key_eq x.0 other ≡ false) es i e distinct.0 is in
         let equal : is_entry wanted.kind wanted.text.now (entry_of e) ≡ is_entry x.0.kind x.0.text.items (entry_of e) =
         alike (λ kind text. is_entry kind text (entry_of e)) wanted x.0 found in
         absurd (let wrong : false ≡ true = sym differ ∙ key_eq-is x.0 e ∙ sym equal ∙ here in cc)
     by false other later =
-        let counted : place_of wanted.kind wanted.text.now (map entry_of (x ∷ es)) ≡ 1 + place_of wanted.kind wanted.text.now (map entry_of es) =
+        let counted : place_of wanted.kind wanted.text.now (map entry_of (x ∷ es))
+        ≡ 1 + place_of wanted.kind wanted.text.now (map entry_of es) =
         ap (λ b. cond (not b) (1 + place_of wanted.kind wanted.text.now (map entry_of es)) 0) other in
         omega (arith, counted, later)

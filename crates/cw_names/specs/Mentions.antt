@@ -1,5 +1,6 @@
 -- The sections in which a name occurs.
-use Rattle.std.specs.Prelude.{ℕ, zero, suc, ◌<◌, ◌==◌, ◌||◌, Bool, true, false, nat_lt, List, [], ◌∷◌, fold, filter, Vec, AllPairs}
+use Rattle.std.specs.Prelude.{ℕ, zero, suc, ◌<◌, ◌==◌, ◌||◌, Bool, true, false, nat_lt, List, [], ◌∷◌, fold, filter}
+use Rattle.std.specs.Prelude.{Vec, AllPairs}
 use Rattle.std.specs.declared.alloc.Global.{Global}
 use Rattle.cw_names.specs.declared.xrefs.Occurrence.{Occurrence}
 use Rattle.cw_names.specs.declared.xrefs.SectionRef.{SectionRef}

@@ -26,8 +26,10 @@ texts _ _ rest h = absurd (let wrong : false ≡ true = h in cc)
 pub alike : {X : Type 0} (said : EntryKind → List ℕ → X) (wanted : Wanted) (key : Key) → IsTrue (is_wanted wanted key)
     → said wanted.kind wanted.text.now ≡ said key.kind key.text.items
 alike said wanted key h =
-    let kind : wanted.kind ≡ key.kind = kinds wanted.kind key.kind (pointwise nat_eq wanted.text.now key.text.items) h in
-    let text : wanted.text.now ≡ key.text.items = (bytes_decides wanted.text.now key.text.items).0 (texts wanted.kind key.kind (pointwise nat_eq wanted.text.now key.text.items) h) in
+    let kind : wanted.kind ≡ key.kind = kinds wanted.kind key.kind (pointwise nat_eq wanted.text.now key.text.items)
+    h in
+    let text : wanted.text.now ≡ key.text.items = (bytes_decides wanted.text.now key.text.items).0
+    (texts wanted.kind key.kind (pointwise nat_eq wanted.text.now key.text.items) h) in
     λ i. said (kind i) (text i)
 
 -- Equal keys have equal texts, and their hashes are fed the same.

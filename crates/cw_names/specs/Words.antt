@@ -1,7 +1,9 @@
 -- The words that are known from the start.
 use Rattle.std.specs.Prelude.{◌≡◌, ℕ, nat_eq, List, [], ◌∷◌, ◌++◌, codes, map, Option, Some, None, if◌then◌else◌}
 use Rattle.cw_base.specs.declared.category.Cat.{Cat}
-use Rattle.cw_base.specs.declared.category.Cat.TheVariants.{RawInt, IntLike, ConstLike, StructLike, CaseLike, ForLike, DoLike, IfLike, ElseLike, DefineLike, SizeofLike, TypedefLike, Exp}
+use Rattle.cw_base.specs.declared.category.Cat.TheVariants.{RawInt, IntLike, ConstLike, StructLike, CaseLike, ForLike}
+use Rattle.cw_base.specs.declared.category.Cat.TheVariants.{DoLike, IfLike, ElseLike, DefineLike, SizeofLike}
+use Rattle.cw_base.specs.declared.category.Cat.TheVariants.{TypedefLike, Exp}
 use Rattle.cw_names.specs.declared.entry.EntryKind.{EntryKind}
 use Rattle.cw_names.specs.declared.entry.EntryKind.TheVariants.{Ident}
 use Rattle.cw_names.specs.Names.{Entry}
@@ -14,11 +16,13 @@ words_with category words = map (λ word. record { kind = Ident; text = word; ca
 -- The reserved words of C.
 abbrev pub c_words : List Entry
 c_words =
-    words_with RawInt (codes "char" ∷ codes "double" ∷ codes "float" ∷ codes "int" ∷ codes "long" ∷ codes "short" ∷ codes "signed" ∷ codes "unsigned" ∷ codes "void" ∷ codes "FILE" ∷ codes "size_t" ∷ codes "_Bool" ∷ []) ++
+    words_with RawInt (codes "char" ∷ codes "double" ∷ codes "float" ∷ codes "int" ∷ codes "long" ∷ codes "short"
+    ∷ codes "signed" ∷ codes "unsigned" ∷ codes "void" ∷ codes "FILE" ∷ codes "size_t" ∷ codes "_Bool" ∷ []) ++
     words_with IntLike (codes "auto" ∷ codes "extern" ∷ codes "register" ∷ codes "static" ∷ codes "inline" ∷ []) ++
     words_with ConstLike (codes "const" ∷ codes "volatile" ∷ codes "restrict" ∷ []) ++
     words_with StructLike (codes "struct" ∷ codes "union" ∷ codes "enum" ∷ []) ++
-    words_with CaseLike (codes "break" ∷ codes "case" ∷ codes "continue" ∷ codes "default" ∷ codes "goto" ∷ codes "return" ∷ []) ++
+    words_with CaseLike (codes "break" ∷ codes "case" ∷ codes "continue" ∷ codes "default" ∷ codes "goto"
+    ∷ codes "return" ∷ []) ++
     words_with ForLike (codes "for" ∷ codes "switch" ∷ codes "while" ∷ []) ++
     words_with DoLike (codes "do" ∷ []) ++
     words_with IfLike (codes "if" ∷ []) ++
@@ -29,7 +33,8 @@ c_words =
 -- The words that are reserved in a `#` line only, with their categories there.
 abbrev pub hash_line_words : List Entry
 hash_line_words =
-    words_with IfLike (codes "elif" ∷ codes "error" ∷ codes "ifdef" ∷ codes "ifndef" ∷ codes "include" ∷ codes "line" ∷ codes "pragma" ∷ codes "undef" ∷ []) ++
+    words_with IfLike (codes "elif" ∷ codes "error" ∷ codes "ifdef" ∷ codes "ifndef" ∷ codes "include" ∷ codes "line"
+    ∷ codes "pragma" ∷ codes "undef" ∷ []) ++
     words_with ElseLike (codes "endif" ∷ []) ++
     words_with DefineLike (codes "define" ∷ []) ++
     words_with SizeofLike (codes "defined" ∷ [])
@@ -49,7 +54,8 @@ BeginsWithWords entries = (later : List (EntryKind × List ℕ)) × (words_of en
 -- The category that a word has in a `#` line whatever it has elsewhere.
 abbrev pub category_among : List Entry → List ℕ → Option Cat
 category_among [] word = None
-category_among (entry ∷ entries) word = if pointwise nat_eq word entry.text then Some entry.category else category_among entries word
+category_among (entry ∷ entries) word = if pointwise nat_eq word entry.text then Some entry.category else category_among
+    entries word
 
 abbrev pub hash_line_category : List ℕ → Option Cat
 hash_line_category word = category_among hash_line_words word

@@ -26,7 +26,8 @@ no-head (kinds.Sign signs.RightParen) span = refl
 no-head (kinds.Sign sign) span = refl
 no-head kind span = refl
 
-free : (kind : TokKind) (s : Standing) (span : Span) (role : Role) → s.wanted ≡ wants.Nothing → ((t : Standing) → free_step kind false t ≡ stay role t) → token_step kind false s span ≡ stay role s
+free : (kind : TokKind) (s : Standing) (span : Span) (role : Role) → s.wanted ≡ wants.Nothing
+    → ((t : Standing) → free_step kind false t ≡ stay role t) → token_step kind false s span ≡ stay role s
 free kind s span role none is =
     ap (λ o. token_step_by o kind false s) (ap (λ w. head_behind w kind span) none ∙ no-head kind span)
     ∙ is (record s { wanted = wants.Nothing })
@@ -41,10 +42,12 @@ silent kind is t = refl
 word : (kind : TokKind) → kind ≡ kinds.Identifier → (t : Standing) → free_step kind false t ≡ stay roles.Word t
 word kind is t = ap (λ k. free_step k false t) is
 
-pub silent-step : (kind : TokKind) (s : Standing) (span : Span) → s.wanted ≡ wants.Nothing → is_silent kind ≡ true → token_step kind false s span ≡ stay roles.Plain s
+pub silent-step : (kind : TokKind) (s : Standing) (span : Span) → s.wanted ≡ wants.Nothing → is_silent kind ≡ true
+    → token_step kind false s span ≡ stay roles.Plain s
 silent-step kind s span none is = free kind s span roles.Plain none (silent kind is)
 
-pub word-step : (kind : TokKind) (s : Standing) (span : Span) → s.wanted ≡ wants.Nothing → kind ≡ kinds.Identifier → token_step kind false s span ≡ stay roles.Word s
+pub word-step : (kind : TokKind) (s : Standing) (span : Span) → s.wanted ≡ wants.Nothing → kind ≡ kinds.Identifier
+    → token_step kind false s span ≡ stay roles.Word s
 word-step kind s span none is = free kind s span roles.Word none (word kind is)
 
 abbrev pub with_told : Held → Told → HeldState
@@ -56,8 +59,10 @@ with_told h told = record {
   notes = h.notes;
 }
 
-pub stays-held : (role : Role) (lines : List MergedLine) (h : Held) (t : Seen) (told : Told) → token_step t.kind false h.standing t.span ≡ stay role h.standing → h.waiting ≡ None
-    → told ≡ told_step lines (placed_by t None (stay role h.standing)) h.told → with_told h told ≡ plain_held lines t (held_of h)
+pub stays-held : (role : Role) (lines : List MergedLine) (h : Held) (t : Seen) (told : Told)
+    → token_step t.kind false h.standing t.span ≡ stay role h.standing → h.waiting ≡ None
+    → told ≡ told_step lines (placed_by t None (stay role h.standing)) h.told → with_told h told
+    ≡ plain_held lines t (held_of h)
 stays-held role lines h t told step waits is =
     (λ i. record {
       pass = record { standing = h.standing; waiting = waiting_of (waits i) };

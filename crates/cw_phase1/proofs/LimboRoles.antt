@@ -1,5 +1,6 @@
 -- No section name stands before the first section code, so no section refers to one there.
-use Rattle.std.proofs.Common.{◌≡◌, ℕ, ◌+◌, ◌≤◌, Bool, true, false, List, [], ◌∷◌, ◌++◌, Option, Some, None, refl, ap, length, sym, subst, ◌∙◌, arith}
+use Rattle.std.proofs.Common.{◌≡◌, ℕ, ◌+◌, ◌≤◌, Bool, true, false, List, [], ◌∷◌, ◌++◌, Option, Some, None, refl, ap}
+use Rattle.std.proofs.Common.{length, sym, subst, ◌∙◌, arith}
 use Rattle.cw_base.specs.Web.{MergedLine}
 use Rattle.cw_base.specs.declared.span.Span.{Span}
 use Rattle.cw_rules.specs.declared.codes.Code.TheVariants as at
@@ -21,19 +22,22 @@ use Rattle.cw_phase1.specs.Entering.{kept_behind}
 use Rattle.cw_phase1.specs.Roles.{Placed, word_role, head_role, token_step, token_step_by, behind_begin, placed_from}
 use Rattle.cw_phase1.specs.Sections.{is_section_code, sections_of}
 use Rattle.cw_phase1.specs.Uses.{reference_by, references_of}
-use Rattle.cw_phase1.proofs.RoleLaws.{is_name_role, count_by, codes, Numbered, Rise, sections_in, rise-reference, rise, section-count}
+use Rattle.cw_phase1.proofs.RoleLaws.{is_name_role, count_by, codes, Numbered, Rise, sections_in, rise-reference, rise}
+use Rattle.cw_phase1.proofs.RoleLaws.{section-count}
 
 -- No section name stands before the first section code.
 abbrev pub Unnamed : List Placed → Type 0
 Unnamed [] = Unit {0}
 Unnamed (p ∷ ps) = is_section_code p.role ≡ false → (is_name_role p.role ≡ false) × Unnamed ps
 
-no-reference : (role : Role) (name : Option SecId) (section : ℕ) (references : List Reference) → is_name_role role ≡ false
+no-reference : (role : Role) (name : Option SecId) (section : ℕ) (references : List Reference) → is_name_role role
+    ≡ false
     → (reference_by role name section ++ references) ≡ references
 no-reference (roles.Name how) name section references h = absurd (let wrong : true ≡ false = h in cc)
 no-reference role name section references h = refl
 
-first-rise-by : (b : Bool) (high : ℕ) (p : Placed) (ps : List Placed) → is_section_code p.role ≡ b → Numbered 0 (p ∷ ps) → codes (p ∷ ps) ≤ high
+first-rise-by : (b : Bool) (high : ℕ) (p : Placed) (ps : List Placed) → is_section_code p.role ≡ b → Numbered 0 (p ∷ ps)
+    → codes (p ∷ ps) ≤ high
     → Unnamed (p ∷ ps) → (Numbered 0 ps → codes ps ≤ high → Unnamed ps → Rise 1 high (sections_in (references_of ps)))
     → Rise 1 high (sections_in (references_of (p ∷ ps)))
 first-rise-by true high p ps e n h u k =
@@ -44,10 +48,12 @@ first-rise-by true high p ps e n h u k =
 first-rise-by false high p ps e n h u k =
     let none : p.section ≡ 0 = n.0 ∙ ap (λ (b : Bool). 0 + count_by b) e in
     let more : 0 + codes ps ≤ high = subst (λ (b : Bool). count_by b + codes ps ≤ high) e h in
-    subst (λ references. Rise 1 high (sections_in references)) (sym (no-reference p.role p.name p.section (references_of ps) (u e).0))
+    subst (λ references. Rise 1 high (sections_in references))
+    (sym (no-reference p.role p.name p.section (references_of ps) (u e).0))
     (k (subst (λ m. Numbered m ps) none n.1) (omega (arith, more)) (u e).1)
 
-first-rise : (high : ℕ) (ps : List Placed) → Numbered 0 ps → codes ps ≤ high → Unnamed ps → Rise 1 high (sections_in (references_of ps))
+first-rise : (high : ℕ) (ps : List Placed) → Numbered 0 ps → codes ps ≤ high → Unnamed ps
+    → Rise 1 high (sections_in (references_of ps))
 first-rise high [] n h u = tt
 first-rise high (p ∷ ps) n h u = first-rise-by (is_section_code p.role) high p ps refl n h u (first-rise high ps)
 
@@ -81,17 +87,20 @@ plain-head : (wanted : Wanted) (kind : TokKind) → is_name_role (head_role want
 plain-head wanted kinds.Identifier = plain-word wanted
 plain-head wanted kind = refl
 
-plain-role : (o : Option Wanted) (kind : TokKind) (headed : Bool) (s : Standing) → is_name_kind kind ≡ false → is_name_role (token_step_by o kind headed s).role ≡ false
+plain-role : (o : Option Wanted) (kind : TokKind) (headed : Bool) (s : Standing) → is_name_kind kind ≡ false
+    → is_name_role (token_step_by o kind headed s).role ≡ false
 plain-role (Some next) kind headed s h = plain-head s.wanted kind
 plain-role None (kinds.Code at.SectionName) headed s h = absurd (let wrong : true ≡ false = h in cc)
 plain-role None (kinds.Code at.FileName) headed s h = absurd (let wrong : true ≡ false = h in cc)
 plain-role None (kinds.Code code) headed s h = refl
 plain-role None kind headed s h = refl
 
-pub unnamed : (s : Standing) (kept : List SecName) (answers : List Answer) → HasNoNames answers → Unnamed (placed_from s kept answers)
+pub unnamed : (s : Standing) (kept : List SecName) (answers : List Answer) → HasNoNames answers
+    → Unnamed (placed_from s kept answers)
 unnamed s kept [] n = tt
 unnamed s kept (Token t ∷ answers) n = λ e.
-    let kind : is_section_kind t.kind ≡ false = no-section-by (is_section_kind t.kind) t.kind (has_sign answers) s t.span refl e in (
+    let kind : is_section_kind t.kind ≡ false = no-section-by (is_section_kind t.kind) t.kind (has_sign answers) s
+    t.span refl e in (
       plain-role (head_behind s.wanted t.kind t.span) t.kind (has_sign answers) s (n kind).0,
       unnamed (token_step t.kind (has_sign answers) s t.span).next (kept_behind t kept) answers (n kind).1,
     )

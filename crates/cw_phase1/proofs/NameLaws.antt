@@ -10,17 +10,21 @@ use Rattle.cw_phase1.specs.declared.words.Words.{Words}
 use Rattle.cw_phase1.specs.Words.{with_format, name_id}
 use Rattle.cw_phase1.specs.Telling.{told_as, word_told, word_occurrence}
 
-pub category-length : (place : ℕ) (category : Cat) (entries : List names.Entry) → length (names.with_category place category entries) ≡ length entries
+pub category-length : (place : ℕ) (category : Cat) (entries : List names.Entry)
+    → length (names.with_category place category entries) ≡ length entries
 category-length place category [] = refl
 category-length zero category (e ∷ es) = refl
 category-length (suc place) category (e ∷ es) = ap suc (category-length place category es)
 
 -- The second name of a format definition: it is a word, and then the definition is done.
 pub second-told : (silent : Bool) (p : Placed) (old w : Words) (second : NameId) → p.role ≡ roles.SecondName silent
-    → second ≡ name_id Ident p.token.text old.names → w.first ≡ old.first → w.names ≡ names.with_entry Ident p.token.text old.names
+    → second ≡ name_id Ident p.token.text old.names → w.first ≡ old.first
+    → w.names ≡ names.with_entry Ident p.token.text old.names
     → w.waits ≡ false → w.xrefs ≡ old.xrefs ++ word_occurrence silent old.waits p old.names
     → record w { names = with_format w.first second w.names } ≡ word_told p old
 second-told true p old w second role s f n t x =
-    (λ i. record { names = with_format (f i) (s i) (n i); first = f i; waits = t i; xrefs = x i }) ∙ ap (λ r. told_as r p old) (sym role)
+    (λ i. record { names = with_format (f i) (s i) (n i); first = f i; waits = t i; xrefs = x i })
+    ∙ ap (λ r. told_as r p old) (sym role)
 second-told false p old w second role s f n t x =
-    (λ i. record { names = with_format (f i) (s i) (n i); first = f i; waits = t i; xrefs = x i }) ∙ ap (λ r. told_as r p old) (sym role)
+    (λ i. record { names = with_format (f i) (s i) (n i); first = f i; waits = t i; xrefs = x i })
+    ∙ ap (λ r. told_as r p old) (sym role)

@@ -1,5 +1,6 @@
 -- No kept name is longer than the text of the web.
-use Rattle.std.proofs.Common.{ℕ, zero, suc, ◌+◌, ◌-◌, ◌≤◌, ◌==◌, Bool, true, false, List, [], ◌∷◌, ◌++◌, Option, Some, None, All, drop, take, length, length-drop, sym, subst, arith, if◌then◌else◌}
+use Rattle.std.proofs.Common.{ℕ, zero, suc, ◌+◌, ◌-◌, ◌≤◌, ◌==◌, Bool, true, false, List, [], ◌∷◌, ◌++◌, Option, Some}
+use Rattle.std.proofs.Common.{None, All, drop, take, length, length-drop, sym, subst, arith, if◌then◌else◌}
 use Rattle.std.specs.List.{position}
 use Rattle.std.proofs.lemmas.List.{length-take}
 use Rattle.std.proofs.lemmas.List.Elements.{All-nil, All-cons}
@@ -14,15 +15,18 @@ use Rattle.cw_secnames.specs.declared.kinds.Earliest.{Earliest}
 use Rattle.cw_secnames.specs.declared.kinds.Earliest.TheVariants.{Nobody, One, Several}
 use Rattle.cw_secnames.specs.declared.kinds.SecKind.{SecKind}
 use Rattle.cw_secnames.specs.declared.kinds.SecKind.TheVariants.{Named, File}
-use Rattle.cw_secnames.specs.Kept.{SecName, unreferred, with_text, has_text, grows_to, conflicts_with, enter_by, positions_from, is_candidate, is_shorter, grown, earliest, enter_prefix_by}
+use Rattle.cw_secnames.specs.Kept.{SecName, unreferred, with_text, has_text, grows_to, conflicts_with, enter_by}
+use Rattle.cw_secnames.specs.Kept.{positions_from, is_candidate, is_shorter, grown, earliest, enter_prefix_by}
 use Rattle.cw_secnames.specs.References.{Reference, referred}
-use Rattle.cw_phase1.specs.Texts.{is_white, blank_before, single_blanks, without_first_blank, Naming, Void, Full, Prefix, is_ignored, ends_in_dots, naming_by, naming, named_text, name_text}
+use Rattle.cw_phase1.specs.Texts.{is_white, blank_before, single_blanks, without_first_blank, Naming, Void, Full}
+use Rattle.cw_phase1.specs.Texts.{Prefix, is_ignored, ends_in_dots, naming_by, naming, named_text, name_text}
 use Rattle.cw_phase1.specs.Entering.{entering, kept_by, kept_behind, kept_after}
 use Rattle.cw_phase1.proofs.Underway.{covers-end, text-length}
 
 -- ## The text of a token
 
-size-by : (t : Bool) (n : ℕ) (xs ys : List ℕ) → length xs ≤ n → length ys ≤ n → length (elim t as (λ _. List ℕ) [ true ↦ xs | false ↦ ys ]) ≤ n
+size-by : (t : Bool) (n : ℕ) (xs ys : List ℕ) → length xs ≤ n → length ys ≤ n
+    → length (elim t as (λ _. List ℕ) [ true ↦ xs | false ↦ ys ]) ≤ n
 size-by true n xs ys h k = h
 size-by false n xs ys h k = k
 
@@ -32,7 +36,8 @@ size-if false n xs ys h k = k
 
 blank-size : (bytes : List ℕ) → length (blank_before bytes) ≤ 1 + length bytes
 blank-size [] = omega arith
-blank-size (byte ∷ bytes) = size-by (byte == 32) (1 + length (byte ∷ bytes)) (byte ∷ bytes) (32 ∷ byte ∷ bytes) (omega arith) (omega arith)
+blank-size (byte ∷ bytes) = size-by (byte == 32) (1 + length (byte ∷ bytes)) (byte ∷ bytes) (32 ∷ byte ∷ bytes)
+    (omega arith) (omega arith)
 
 single-size : (bytes : List ℕ) → length (single_blanks bytes) ≤ length bytes
 single-size [] = omega arith
@@ -42,7 +47,8 @@ single-size (byte ∷ bytes) =
 
 first-size : (bytes : List ℕ) → length (without_first_blank bytes) ≤ length bytes
 first-size [] = omega arith
-first-size (byte ∷ bytes) = size-by (byte == 32) (length (byte ∷ bytes)) bytes (byte ∷ bytes) (omega arith) (omega arith)
+first-size (byte ∷ bytes) = size-by (byte == 32) (length (byte ∷ bytes)) bytes (byte ∷ bytes) (omega arith)
+    (omega arith)
 
 uncoded-size : (bytes : List ℕ) → length (uncoded bytes) ≤ length bytes
 uncoded-size [] = omega arith
@@ -55,7 +61,13 @@ uncoded-size (byte ∷ next ∷ bytes) =
 
 name-size : (token : List ℕ) → length (name_text token) ≤ length token
 name-size token =
-    omega (arith, first-size (single_blanks (uncoded (drop 2 token))), single-size (uncoded (drop 2 token)), uncoded-size (drop 2 token), length-drop 2 token)
+    omega (
+      arith,
+      first-size (single_blanks (uncoded (drop 2 token))),
+      single-size (uncoded (drop 2 token)),
+      uncoded-size (drop 2 token),
+      length-drop 2 token,
+    )
 
 -- ## Names that are entered
 
@@ -64,16 +76,19 @@ IsShort n Void = Unit {0}
 IsShort n (Full kind text) = length text ≤ n
 IsShort n (Prefix text) = length text ≤ n
 
-short-by : (t : Bool) (n : ℕ) (x y : Naming) → IsShort n x → IsShort n y → IsShort n (elim t as (λ _. Naming) [ true ↦ x | false ↦ y ])
+short-by : (t : Bool) (n : ℕ) (x y : Naming) → IsShort n x → IsShort n y
+    → IsShort n (elim t as (λ _. Naming) [ true ↦ x | false ↦ y ])
 short-by true n x y h k = h
 short-by false n x y h k = k
 
 short-named : (n : ℕ) (text : List ℕ) → length text ≤ n → IsShort n (named_text text)
 short-named n text h =
-    short-by (ends_in_dots text) n (Prefix (take (length text - 3) text)) (Full Named text) (omega (arith, length-take (length text - 3) text)) h
+    short-by (ends_in_dots text) n (Prefix (take (length text - 3) text)) (Full Named text)
+    (omega (arith, length-take (length text - 3) text)) h
 
 short-naming : (n : ℕ) (kind : TokKind) (text : List ℕ) → length text ≤ n → IsShort n (naming_by kind text)
-short-naming n (kinds.Code at.SectionName) text h = short-by (is_ignored text) n Void (named_text text) tt (short-named n text h)
+short-naming n (kinds.Code at.SectionName) text h = short-by (is_ignored text) n Void (named_text text) tt
+    (short-named n text h)
 short-naming n (kinds.Code at.FileName) text h = short-by (is_ignored text) n Void (Full File text) tt h
 short-naming n (kinds.Code code) text h = tt
 short-naming n kind text h = tt
@@ -82,27 +97,32 @@ abbrev AreShort : ℕ → List SecName → Type 0
 AreShort n [] = Unit {0}
 AreShort n (name ∷ names) = (length name.text ≤ n) × AreShort n names
 
-short-last : (n : ℕ) (names : List SecName) (kind : SecKind) (text : List ℕ) (complete : Bool) → length text ≤ n → AreShort n names
+short-last : (n : ℕ) (names : List SecName) (kind : SecKind) (text : List ℕ) (complete : Bool) → length text ≤ n
+    → AreShort n names
     → AreShort n (names ++ unreferred kind text complete ∷ [])
 short-last n [] kind text complete t h = (t, tt)
 short-last n (name ∷ names) kind text complete t h = (h.0, short-last n names kind text complete t h.1)
 
-short-text : (n i : ℕ) (text : List ℕ) (complete : Bool) (names : List SecName) → length text ≤ n → AreShort n names → AreShort n (with_text i text complete names)
+short-text : (n i : ℕ) (text : List ℕ) (complete : Bool) (names : List SecName) → length text ≤ n → AreShort n names
+    → AreShort n (with_text i text complete names)
 short-text n i text complete [] t h = h
 short-text n zero text complete (name ∷ names) t h = (t, h.1)
 short-text n (suc i) text complete (name ∷ names) t h = (h.0, short-text n i text complete names t h.1)
 
-grown-by : (b : Bool) (n : ℕ) (prefix : List ℕ) (name : SecName) (names : List SecName) → length prefix ≤ n → AreShort n (name ∷ names)
+grown-by : (b : Bool) (n : ℕ) (prefix : List ℕ) (name : SecName) (names : List SecName) → length prefix ≤ n
+    → AreShort n (name ∷ names)
     → AreShort n (elim b as (λ _. List SecName) [ true ↦ record name { text = prefix } ∷ names | false ↦ name ∷ names ])
 grown-by true n prefix name names t h = (t, h.1)
 grown-by false n prefix name names t h = h
 
-short-grown : (n : ℕ) (prefix : List ℕ) (i : ℕ) (names : List SecName) → length prefix ≤ n → AreShort n names → AreShort n (grown prefix i names)
+short-grown : (n : ℕ) (prefix : List ℕ) (i : ℕ) (names : List SecName) → length prefix ≤ n → AreShort n names
+    → AreShort n (grown prefix i names)
 short-grown n prefix i [] t h = h
 short-grown n prefix zero (name ∷ names) t h = grown-by (is_shorter prefix name) n prefix name names t h
 short-grown n prefix (suc i) (name ∷ names) t h = (h.0, short-grown n prefix i names t h.1)
 
-short-enter : (n : ℕ) (a b c : Option ℕ) (kind : SecKind) (text : List ℕ) (names : List SecName) → length text ≤ n → AreShort n names
+short-enter : (n : ℕ) (a b c : Option ℕ) (kind : SecKind) (text : List ℕ) (names : List SecName) → length text ≤ n
+    → AreShort n names
     → AreShort n (enter_by a b c kind text names).kept
 short-enter n (Some k) b c kind text names t h = h
 short-enter n None (Some k) c kind text names t h = short-text n k text true names t h
@@ -115,22 +135,29 @@ short-prefix n Nobody prefix names t h = short-last n names Named prefix false t
 short-prefix n (One k) prefix names t h = short-grown n prefix k names t h
 short-prefix n (Several k next) prefix names t h = h
 
-short-entering : (n : ℕ) (m : Naming) (names : List SecName) → IsShort n m → AreShort n names → AreShort n (kept_by (entering m names) names)
+short-entering : (n : ℕ) (m : Naming) (names : List SecName) → IsShort n m → AreShort n names
+    → AreShort n (kept_by (entering m names) names)
 short-entering n Void names t h = h
 short-entering n (Full kind text) names t h =
-    short-enter n (position (has_text kind text) names) (position (grows_to kind text) names) (position (conflicts_with kind text) names) kind text names t h
-short-entering n (Prefix text) names t h = short-prefix n (earliest (positions_from 0 (is_candidate text) names)) text names t h
+    short-enter n (position (has_text kind text) names) (position (grows_to kind text) names)
+    (position (conflicts_with kind text) names) kind text names t h
+short-entering n (Prefix text) names t h = short-prefix n (earliest (positions_from 0 (is_candidate text) names)) text
+    names t h
 
-short-behind : (n : ℕ) (t : Seen) (names : List SecName) → length t.text ≤ n → AreShort n names → AreShort n (kept_behind t names)
-short-behind n t names l h = short-entering n (naming t.kind t.text) names (short-naming n t.kind (name_text t.text) (omega (arith, name-size t.text))) h
+short-behind : (n : ℕ) (t : Seen) (names : List SecName) → length t.text ≤ n → AreShort n names
+    → AreShort n (kept_behind t names)
+short-behind n t names l h = short-entering n (naming t.kind t.text) names
+    (short-naming n t.kind (name_text t.text) (omega (arith, name-size t.text))) h
 
-short-kept : (text : List ℕ) (from : ℕ) (names : List SecName) (answers : List Answer) → Covers text from (length text) answers
+short-kept : (text : List ℕ) (from : ℕ) (names : List SecName) (answers : List Answer)
+    → Covers text from (length text) answers
     → AreShort (length text) names → AreShort (length text) (kept_after names answers)
 short-kept text from names [] c h = h
 short-kept text from names (Token t ∷ answers) c h =
     let end : t.span.«end» ≤ length text = covers-end text t.span.«end» (length text) answers c.2 in
     let within : length t.text ≤ length text =
-    subst (λ (bytes : List ℕ). length bytes ≤ length text) (sym c.0.slice) (omega (arith, text-length text t.span.start t.span.«end», end)) in
+    subst (λ (bytes : List ℕ). length bytes ≤ length text) (sym c.0.slice)
+    (omega (arith, text-length text t.span.start t.span.«end», end)) in
     short-kept text t.span.«end» (kept_behind t names) answers c.2 (short-behind (length text) t names within h)
 short-kept text from names (Begin t ∷ answers) c h = short-kept text t.span.«end» names answers c.1 h
 short-kept text from names (Finish t ∷ answers) c h = short-kept text t.span.«end» names answers c.1 h
@@ -140,8 +167,11 @@ short-referred : (n k : ℕ) (references : List Reference) (names : List SecName
     → All (λ (name : SecName). length name.text ≤ n) (referred references k names)
 short-referred n k references [] h = All-nil (λ (name : SecName). length name.text ≤ n)
 short-referred n k references (name ∷ names) h =
-    All-cons (λ (name : SecName). length name.text ≤ n) _ (referred references (k + 1) names) h.0 (short-referred n (k + 1) references names h.1)
+    All-cons (λ (name : SecName). length name.text ≤ n) _ (referred references (k + 1) names) h.0
+    (short-referred n (k + 1) references names h.1)
 
-pub all-short : (text : List ℕ) (answers : List Answer) (references : List Reference) → Covers text 0 (length text) answers
+pub all-short : (text : List ℕ) (answers : List Answer) (references : List Reference)
+    → Covers text 0 (length text) answers
     → All (λ (name : SecName). length name.text ≤ length text) (referred references 0 (kept_after [] answers))
-all-short text answers references c = short-referred (length text) 0 references (kept_after [] answers) (short-kept text 0 [] answers c tt)
+all-short text answers references c = short-referred (length text) 0 references (kept_after [] answers)
+    (short-kept text 0 [] answers c tt)

@@ -1,5 +1,6 @@
 -- The sections that are told are those of the whole list.
-use Rattle.std.proofs.Common.{◌≡◌, ℕ, ◌||◌, Bool, true, false, not, List, [], ◌∷◌, ◌++◌, Option, Some, None, refl, ap, sym, ◌∙◌, append_assoc}
+use Rattle.std.proofs.Common.{◌≡◌, ℕ, ◌||◌, Bool, true, false, not, List, [], ◌∷◌, ◌++◌, Option, Some, None, refl, ap}
+use Rattle.std.proofs.Common.{sym, ◌∙◌, append_assoc}
 use Rattle.std.proofs.lemmas.List.{append-nil}
 use Rattle.cw_base.specs.Web.{MergedLine}
 use Rattle.cw_secnames.specs.declared.kinds.SecId.{SecId}
@@ -9,8 +10,10 @@ use Rattle.cw_phase1.specs.declared.sections.Open.{Open}
 use Rattle.cw_phase1.specs.declared.told.Told.{Told}
 use Rattle.cw_phase1.specs.Places.{holds_changed}
 use Rattle.cw_phase1.specs.Roles.{Placed}
-use Rattle.cw_phase1.specs.Sections.{span, ends_tex, ends_definitions, ends_section, first_start, c_part_name, is_program, section_at, sections_of, is_section_code, is_tex}
-use Rattle.cw_phase1.specs.Outlining.{or_else, or_here, name_here, opened, with_token, closed_at, closing, closing_by, open_with, section_told_by}
+use Rattle.cw_phase1.specs.Sections.{span, ends_tex, ends_definitions, ends_section, first_start, c_part_name}
+use Rattle.cw_phase1.specs.Sections.{is_program, section_at, sections_of, is_section_code, is_tex}
+use Rattle.cw_phase1.specs.Outlining.{or_else, or_here, name_here, opened, with_token, closed_at, closing, closing_by}
+use Rattle.cw_phase1.specs.Outlining.{open_with, section_told_by}
 use Rattle.cw_phase1.specs.Telling.{told_all, told_step, told_start}
 
 -- the name of the token that ends the definitions, now or later
@@ -24,7 +27,8 @@ open_section lines size o ps = record {
   starred = o.starred;
   depth = o.depth;
   tex = span o.behind (or_else o.tex_end (first_start ends_tex size ps));
-  definitions = span (or_else o.tex_end (first_start ends_tex size ps)) (or_else o.definitions_end (first_start ends_definitions size ps));
+  definitions = span (or_else o.tex_end (first_start ends_tex size ps))
+      (or_else o.definitions_end (first_start ends_definitions size ps));
   c_part = span (or_else o.definitions_end (first_start ends_definitions size ps)) (first_start ends_section size ps);
   name = name_or o.definitions_end o.name (c_part_name ps);
   changed = holds_changed lines 0 o.start (first_start ends_section size ps);
@@ -49,35 +53,47 @@ first-by true here later = refl
 first-by false here later = refl
 
 first-here : (o : Option ℕ) (test : Placed → Bool) (size : ℕ) (p : Placed) (ps : List Placed)
-    → or_else o (first_start test size (p ∷ ps)) ≡ or_else (or_here o (test p) p.token.span.start) (first_start test size ps)
+    → or_else o (first_start test size (p ∷ ps)) ≡ or_else (or_here o (test p) p.token.span.start)
+    (first_start test size ps)
 first-here (Some first) test size p ps = refl
 first-here None test size p ps = first-by (test p) p.token.span.start (first_start test size ps)
 
 name-by : (t : Bool) (place : ℕ) (before here later : Option SecId)
-    → elim t as (λ _. Option SecId) [ true ↦ here | false ↦ later ] ≡ name_or (or_here None t place) (name_here None t before here) later
+    → elim t as (λ _. Option SecId) [ true ↦ here | false ↦ later ]
+    ≡ name_or (or_here None t place) (name_here None t before here) later
 name-by true place before here later = refl
 name-by false place before here later = refl
 
 named-here : (o : Option ℕ) (before : Option SecId) (p : Placed) (ps : List Placed) → is_section_code p.role ≡ false
     → name_or o before (c_part_name (p ∷ ps))
-    ≡ name_or (or_here o (ends_definitions p) p.token.span.start) (name_here o (ends_definitions p) before p.name) (c_part_name ps)
+    ≡ name_or (or_here o (ends_definitions p) p.token.span.start) (name_here o (ends_definitions p) before p.name)
+    (c_part_name ps)
 named-here (Some first) before p ps h = refl
 named-here None before p ps h =
-    ap (λ (t : Bool). elim t as (λ _. Option SecId) [ true ↦ None | false ↦ elim (is_program p.part) as (λ _. Option SecId) [ true ↦ p.name | false ↦ c_part_name ps ] ]) h ∙
+    ap (λ (t : Bool). elim t as (λ _. Option SecId) [
+      | true ↦ None
+      | false ↦ elim (is_program p.part) as (λ _. Option SecId) [ true ↦ p.name | false ↦ c_part_name ps ]
+    ]) h ∙
     (name-by (is_program p.part) p.token.span.start before p.name (c_part_name ps) ∙
-    ap (λ (t : Bool). name_or (or_here None (t || is_program p.part) p.token.span.start) (name_here None (t || is_program p.part) before p.name) (c_part_name ps)) (sym h))
+    ap (λ (t : Bool). name_or (or_here None (t || is_program p.part) p.token.span.start)
+    (name_here None (t || is_program p.part) before p.name) (c_part_name ps)) (sym h))
 
 no-end : (size : ℕ) (p : Placed) (ps : List Placed) → is_section_code p.role ≡ false
     → first_start ends_section size (p ∷ ps) ≡ first_start ends_section size ps
-no-end size p ps h = ap (λ (t : Bool). elim t as (λ _. ℕ) [ true ↦ p.token.span.start | false ↦ first_start ends_section size ps ]) h
+no-end size p ps h = ap (λ (t : Bool). elim t as (λ _. ℕ) [
+  | true ↦ p.token.span.start
+  | false ↦ first_start ends_section size ps
+]) h
 
-goes-on : (lines : List MergedLine) (size : ℕ) (o : Open) (p : Placed) (ps : List Placed) → is_section_code p.role ≡ false
+goes-on : (lines : List MergedLine) (size : ℕ) (o : Open) (p : Placed) (ps : List Placed) → is_section_code p.role
+    ≡ false
     → open_section lines size o (p ∷ ps) ≡ open_section lines size (with_token p o) ps
 goes-on lines size o p ps h = λ i. record {
   starred = o.starred;
   depth = o.depth;
   tex = span o.behind (first-here o.tex_end ends_tex size p ps i);
-  definitions = span (first-here o.tex_end ends_tex size p ps i) (first-here o.definitions_end ends_definitions size p ps i);
+  definitions = span (first-here o.tex_end ends_tex size p ps i) (first-here o.definitions_end ends_definitions size p
+      ps i);
   c_part = span (first-here o.definitions_end ends_definitions size p ps i) (no-end size p ps h i);
   name = named-here o.definitions_end o.name p ps h i;
   changed = holds_changed lines 0 o.start (no-end size p ps h i);
@@ -86,9 +102,14 @@ goes-on lines size o p ps h = λ i. record {
 none-here : (lines : List MergedLine) (size : ℕ) (p : Placed) (ps : List Placed) → is_section_code p.role ≡ false
     → sections_of lines size (p ∷ ps) ≡ sections_of lines size ps
 none-here lines size p ps h =
-    ap (λ (t : Bool). elim t as (λ _. List Section) [ true ↦ section_at lines size p.token ps ∷ sections_of lines size ps | false ↦ sections_of lines size ps ]) h
+    ap (λ (t : Bool). elim t as (λ _. List Section) [
+      | true ↦ section_at lines size p.token ps
+          ∷ sections_of lines size ps
+      | false ↦ sections_of lines size ps
+    ]) h
 
-goes-by : (o : Option Open) (lines : List MergedLine) (size : ℕ) (p : Placed) (ps : List Placed) → is_section_code p.role ≡ false
+goes-by : (o : Option Open) (lines : List MergedLine) (size : ℕ) (p : Placed) (ps : List Placed)
+    → is_section_code p.role ≡ false
     → sections_by o lines size (p ∷ ps) ≡ sections_by (open_with o p) lines size ps
 goes-by None lines size p ps h = none-here lines size p ps h
 goes-by (Some o) lines size p ps h = λ i. goes-on lines size o p ps h i ∷ none-here lines size p ps h i
@@ -113,40 +134,68 @@ named-with : (o : Option Open) (p : Placed) → AreNamed o → AreNamed (open_wi
 named-with None p n = tt
 named-with (Some o) p n = named-by o.definitions_end (ends_definitions p) p.token.span.start o.name p.name n
 
-named-told : (b : Bool) (lines : List MergedLine) (p : Placed) (s : Sections) → AreNamed s.open_one → AreNamed (section_told_by b lines p s).open_one
+named-told : (b : Bool) (lines : List MergedLine) (p : Placed) (s : Sections) → AreNamed s.open_one
+    → AreNamed (section_told_by b lines p s).open_one
 named-told true lines p s n = λ h. refl
 named-told false lines p s n = named-with s.open_one p n
 
-ends-now : (lines : List MergedLine) (size : ℕ) (o : Open) (p : Placed) (ps : List Placed) → IsNamed o → is_section_code p.role ≡ true
+ends-now : (lines : List MergedLine) (size : ℕ) (o : Open) (p : Placed) (ps : List Placed) → IsNamed o
+    → is_section_code p.role ≡ true
     → closed_at lines p.token.span.start o ≡ open_section lines size o (p ∷ ps)
 ends-now lines size o p ps n h =
     (λ i. record (closed_at lines p.token.span.start o) { name = name-end o.definitions_end o.name n i }) ∙
     ap (λ (t : Bool). record {
       starred = o.starred;
       depth = o.depth;
-      tex = span o.behind (or_else o.tex_end (elim (t || not (is_tex p.part)) as (λ _. ℕ) [ true ↦ p.token.span.start | false ↦ first_start ends_tex size ps ]));
-      definitions = span (or_else o.tex_end (elim (t || not (is_tex p.part)) as (λ _. ℕ) [ true ↦ p.token.span.start | false ↦ first_start ends_tex size ps ]))
-          (or_else o.definitions_end (elim (t || is_program p.part) as (λ _. ℕ) [ true ↦ p.token.span.start | false ↦ first_start ends_definitions size ps ]));
-      c_part = span (or_else o.definitions_end (elim (t || is_program p.part) as (λ _. ℕ) [ true ↦ p.token.span.start | false ↦ first_start ends_definitions size ps ]))
+      tex = span o.behind (or_else o.tex_end (elim (t || not (is_tex p.part)) as (λ _. ℕ) [
+        | true ↦ p.token.span.start
+        | false ↦ first_start ends_tex size ps
+      ]));
+      definitions = span (or_else o.tex_end (elim (t || not (is_tex p.part)) as (λ _. ℕ) [
+        | true ↦ p.token.span.start
+        | false ↦ first_start ends_tex size ps
+      ]))
+          (or_else o.definitions_end (elim (t || is_program p.part) as (λ _. ℕ) [
+            | true ↦ p.token.span.start
+            | false ↦ first_start ends_definitions size ps
+          ]));
+      c_part = span (or_else o.definitions_end (elim (t || is_program p.part) as (λ _. ℕ) [
+        | true ↦ p.token.span.start
+        | false ↦ first_start ends_definitions size ps
+      ]))
           (elim t as (λ _. ℕ) [ true ↦ p.token.span.start | false ↦ first_start ends_section size ps ]);
-      name = name_or o.definitions_end o.name (elim t as (λ _. Option SecId) [ true ↦ None | false ↦ elim (is_program p.part) as (λ _. Option SecId) [ true ↦ p.name | false ↦ c_part_name ps ] ]);
-      changed = holds_changed lines 0 o.start (elim t as (λ _. ℕ) [ true ↦ p.token.span.start | false ↦ first_start ends_section size ps ]);
+      name = name_or o.definitions_end o.name (elim t as (λ _. Option SecId) [
+        | true ↦ None
+        | false ↦ elim (is_program p.part) as (λ _. Option SecId) [ true ↦ p.name | false ↦ c_part_name ps ]
+      ]);
+      changed = holds_changed lines 0 o.start (elim t as (λ _. ℕ) [
+        | true ↦ p.token.span.start
+        | false ↦ first_start ends_section size ps
+      ]);
     }) (sym h)
 
 one-here : (lines : List MergedLine) (size : ℕ) (p : Placed) (ps : List Placed) → is_section_code p.role ≡ true
     → open_section lines size (opened p.token) ps ∷ sections_of lines size ps ≡ sections_of lines size (p ∷ ps)
 one-here lines size p ps h =
-    ap (λ (t : Bool). elim t as (λ _. List Section) [ true ↦ section_at lines size p.token ps ∷ sections_of lines size ps | false ↦ sections_of lines size ps ]) (sym h)
+    ap (λ (t : Bool). elim t as (λ _. List Section) [
+      | true ↦ section_at lines size p.token ps
+          ∷ sections_of lines size ps
+      | false ↦ sections_of lines size ps
+    ]) (sym h)
 
-closes-by : (o : Option Open) (lines : List MergedLine) (size : ℕ) (closed : List Section) (p : Placed) (ps : List Placed) → AreNamed o → is_section_code p.role ≡ true
-    → closing_by o lines p.token.span.start closed ++ (open_section lines size (opened p.token) ps ∷ sections_of lines size ps)
+closes-by : (o : Option Open) (lines : List MergedLine) (size : ℕ) (closed : List Section) (p : Placed)
+    (ps : List Placed) → AreNamed o → is_section_code p.role ≡ true
+    → closing_by o lines p.token.span.start closed ++ (open_section lines size (opened p.token) ps
+    ∷ sections_of lines size ps)
     ≡ closed ++ sections_by o lines size (p ∷ ps)
 closes-by None lines size closed p ps n h = ap (λ ss. closed ++ ss) (one-here lines size p ps h)
 closes-by (Some o) lines size closed p ps n h =
-    append_assoc closed (closed_at lines p.token.span.start o ∷ []) (open_section lines size (opened p.token) ps ∷ sections_of lines size ps) ∙
+    append_assoc closed (closed_at lines p.token.span.start o ∷ []) (open_section lines size (opened p.token) ps
+    ∷ sections_of lines size ps) ∙
     (λ i. closed ++ (ends-now lines size o p ps n h i ∷ one-here lines size p ps h i))
 
-told-section : (b : Bool) (lines : List MergedLine) (size : ℕ) (s : Sections) (p : Placed) (ps : List Placed) → AreNamed s.open_one → is_section_code p.role ≡ b
+told-section : (b : Bool) (lines : List MergedLine) (size : ℕ) (s : Sections) (p : Placed) (ps : List Placed)
+    → AreNamed s.open_one → is_section_code p.role ≡ b
     → sections_behind lines size (section_told_by b lines p s) ps ≡ sections_behind lines size s (p ∷ ps)
 told-section true lines size s p ps n h = closes-by s.open_one lines size s.closed p ps n h
 told-section false lines size s p ps n h = ap (λ ss. s.closed ++ ss) (sym (goes-by s.open_one lines size p ps h))
@@ -154,7 +203,8 @@ told-section false lines size s p ps n h = ap (λ ss. s.closed ++ ss) (sym (goes
 ends-by : (o : Option Open) (lines : List MergedLine) (size : ℕ) (closed : List Section) → AreNamed o
     → closing_by o lines size closed ≡ closed ++ sections_by o lines size []
 ends-by None lines size closed n = sym (append-nil closed)
-ends-by (Some o) lines size closed n = λ i. closed ++ (record (closed_at lines size o) { name = name-end o.definitions_end o.name n i } ∷ [])
+ends-by (Some o) lines size closed n = λ i. closed
+    ++ (record (closed_at lines size o) { name = name-end o.definitions_end o.name n i } ∷ [])
 
 -- The sections that are told in the end.
 sections-told : (lines : List MergedLine) (size : ℕ) (ps : List Placed) (t : Told) → AreNamed t.sections.open_one
@@ -164,19 +214,26 @@ sections-told lines size (p ∷ ps) t n =
     sections-told lines size ps (told_step lines p t) (named-told (is_section_code p.role) lines p t.sections n) ∙
     told-section (is_section_code p.role) lines size t.sections p ps n refl
 
-pub all-sections : (lines : List MergedLine) (size : ℕ) (ps : List Placed) → closing lines size (told_all lines ps told_start).sections ≡ sections_of lines size ps
+pub all-sections : (lines : List MergedLine) (size : ℕ) (ps : List Placed)
+    → closing lines size (told_all lines ps told_start).sections ≡ sections_of lines size ps
 all-sections lines size ps = sections-told lines size ps told_start tt
 
-limbo-by : (b : Bool) (lines : List MergedLine) (size : ℕ) (s : Sections) (p : Placed) (ps : List Placed) → is_section_code p.role ≡ b
-    → or_else (section_told_by b lines p s).limbo_end (first_start ends_section size ps) ≡ or_else s.limbo_end (first_start ends_section size (p ∷ ps))
+limbo-by : (b : Bool) (lines : List MergedLine) (size : ℕ) (s : Sections) (p : Placed) (ps : List Placed)
+    → is_section_code p.role ≡ b
+    → or_else (section_told_by b lines p s).limbo_end (first_start ends_section size ps)
+    ≡ or_else s.limbo_end (first_start ends_section size (p ∷ ps))
 limbo-by true lines size s p ps h =
-    sym (first-here s.limbo_end ends_section size p ps ∙ ap (λ (t : Bool). or_else (or_here s.limbo_end t p.token.span.start) (first_start ends_section size ps)) h)
+    sym (first-here s.limbo_end ends_section size p ps
+    ∙ ap (λ (t : Bool). or_else (or_here s.limbo_end t p.token.span.start) (first_start ends_section size ps)) h)
 limbo-by false lines size s p ps h = ap (or_else s.limbo_end) (sym (no-end size p ps h))
 
 limbo-told : (lines : List MergedLine) (size : ℕ) (ps : List Placed) (t : Told)
-    → or_else (told_all lines ps t).sections.limbo_end size ≡ or_else t.sections.limbo_end (first_start ends_section size ps)
+    → or_else (told_all lines ps t).sections.limbo_end size
+    ≡ or_else t.sections.limbo_end (first_start ends_section size ps)
 limbo-told lines size [] t = refl
-limbo-told lines size (p ∷ ps) t = limbo-told lines size ps (told_step lines p t) ∙ limbo-by (is_section_code p.role) lines size t.sections p ps refl
+limbo-told lines size (p ∷ ps) t = limbo-told lines size ps (told_step lines p t)
+    ∙ limbo-by (is_section_code p.role) lines size t.sections p ps refl
 
-pub all-limbo : (lines : List MergedLine) (size : ℕ) (ps : List Placed) → or_else (told_all lines ps told_start).sections.limbo_end size ≡ first_start ends_section size ps
+pub all-limbo : (lines : List MergedLine) (size : ℕ) (ps : List Placed)
+    → or_else (told_all lines ps told_start).sections.limbo_end size ≡ first_start ends_section size ps
 all-limbo lines size ps = limbo-told lines size ps told_start

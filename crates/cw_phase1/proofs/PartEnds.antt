@@ -1,5 +1,6 @@
 -- The first token of a list of answers at which a part of a section ends.
-use Rattle.std.proofs.Common.{◌≡◌, ℕ, Bool, true, false, not, ◌||◌, List, [], ◌∷◌, ◌++◌, Option, Some, None, append-nil, refl, sym, ap, subst, ◌∙◌, ◌⊎◌, inl, inr}
+use Rattle.std.proofs.Common.{◌≡◌, ℕ, Bool, true, false, not, ◌||◌, List, [], ◌∷◌, ◌++◌, Option, Some, None, append-nil}
+use Rattle.std.proofs.Common.{refl, sym, ap, subst, ◌∙◌, ◌⊎◌, inl, inr}
 use Rattle.std.specs.List.{list_any}
 use Rattle.cw_base.proofs.TestLaws.{one-failed-left, one-failed-right}
 use Rattle.cw_base.specs.declared.span.Span.{Span}
@@ -21,7 +22,8 @@ use Rattle.cw_phase1.specs.declared.roles.Part.{Part}
 use Rattle.cw_phase1.specs.declared.roles.Part.TheVariants as parts
 use Rattle.cw_phase1.specs.declared.roles.Standing.{Standing}
 use Rattle.cw_phase1.specs.Entering.{entered_name, kept_behind}
-use Rattle.cw_phase1.specs.Roles.{Placed, Step, defining, name_step, code_step, free_step, token_step, token_step_by, word_role, head_role, behind_begin, placed_by, placed_from}
+use Rattle.cw_phase1.specs.Roles.{Placed, Step, defining, name_step, code_step, free_step, token_step, token_step_by}
+use Rattle.cw_phase1.specs.Roles.{word_role, head_role, behind_begin, placed_by, placed_from}
 use Rattle.cw_phase1.specs.Sections.{is_section_code, is_tex, first_start}
 
 -- ## The role and the part of a token
@@ -43,7 +45,8 @@ name-role : (headed : Bool) (s : Standing) → is_section_code (name_step headed
 name-role true s = refl
 name-role false s = refl
 
-code-role : (code : Code) (headed : Bool) (s : Standing) → is_section_code (code_step code headed s).role ≡ is_section_kind (kinds.Code code)
+code-role : (code : Code) (headed : Bool) (s : Standing) → is_section_code (code_step code headed s).role
+    ≡ is_section_kind (kinds.Code code)
 code-role at.SectionName headed s = name-role headed s
 code-role at.FileName headed s = name-role headed s
 code-role at.Section headed s = refl
@@ -72,7 +75,8 @@ name-part : (headed : Bool) (s : Standing) → (name_step headed s).next.part �
 name-part true s = refl
 name-part false s = refl
 
-code-part : (code : Code) (headed : Bool) (s : Standing) → (code_step code headed s).next.part ≡ part_behind (is_section_kind (kinds.Code code)) (opened_by (kinds.Code code) headed) s.part
+code-part : (code : Code) (headed : Bool) (s : Standing) → (code_step code headed s).next.part
+    ≡ part_behind (is_section_kind (kinds.Code code)) (opened_by (kinds.Code code) headed) s.part
 code-part at.SectionName headed s = name-part headed s
 code-part at.FileName headed s = name-part headed s
 code-part at.Section headed s = refl
@@ -92,15 +96,32 @@ record IsTold (kind : TokKind) (headed : Bool) (part : Part) (step : Step) : Typ
   part-is : step.next.part ≡ part_behind (is_section_kind kind) (opened_by kind headed) part
 
 -- a token that is no code leaves the part
-told-other : (o : Option Wanted) (kind : TokKind) (headed : Bool) (s : Standing) → is_section_kind kind ≡ false → opened_by kind headed ≡ None
-    → is_section_code (free_step kind headed (behind_begin s)).role ≡ false → (free_step kind headed (behind_begin s)).next.part ≡ s.part → IsTold kind headed s.part (token_step_by o kind headed s)
-told-other None kind headed s k n r p = record { role = r ∙ sym k; part-is = p ∙ sym (λ i. part_behind (k i) (n i) s.part) }
-told-other (Some next) kind headed s k n r p = record { role = head-word s.wanted kind ∙ sym k; part-is = sym (λ i. part_behind (k i) (n i) s.part) }
+told-other : (o : Option Wanted) (kind : TokKind) (headed : Bool) (s : Standing) → is_section_kind kind ≡ false
+    → opened_by kind headed ≡ None
+    → is_section_code (free_step kind headed (behind_begin s)).role ≡ false
+    → (free_step kind headed (behind_begin s)).next.part ≡ s.part
+    → IsTold kind headed s.part (token_step_by o kind headed s)
+told-other None kind headed s k n r p = record {
+  role = r ∙ sym k;
+  part-is = p
+      ∙ sym (λ i. part_behind (k i) (n i) s.part);
+}
+told-other (Some next) kind headed s k n r p = record {
+  role = head-word s.wanted kind
+      ∙ sym k;
+  part-is = sym (λ i. part_behind (k i) (n i) s.part);
+}
 
-told : (kind : TokKind) (headed : Bool) (s : Standing) (span : Span) → IsTold kind headed s.part (token_step kind headed s span)
-told (kinds.Code code) headed s span = record { role = code-role code headed (behind_begin s); part-is = code-part code headed (behind_begin s) }
-told kinds.Identifier headed s span = told-other (head_behind s.wanted kinds.Identifier span) kinds.Identifier headed s refl refl refl refl
-told (kinds.Sign sign) headed s span = told-other (head_behind s.wanted (kinds.Sign sign) span) (kinds.Sign sign) headed s refl refl refl refl
+told : (kind : TokKind) (headed : Bool) (s : Standing) (span : Span)
+    → IsTold kind headed s.part (token_step kind headed s span)
+told (kinds.Code code) headed s span = record {
+  role = code-role code headed (behind_begin s);
+  part-is = code-part code headed (behind_begin s);
+}
+told kinds.Identifier headed s span = told-other (head_behind s.wanted kinds.Identifier span) kinds.Identifier headed s
+    refl refl refl refl
+told (kinds.Sign sign) headed s span = told-other (head_behind s.wanted (kinds.Sign sign) span) (kinds.Sign sign) headed
+    s refl refl refl refl
 told kind headed s span = told-other (head_behind s.wanted kind span) kind headed s refl refl refl refl
 
 -- ## What ends a part
@@ -141,17 +162,23 @@ ends-so (kinds.Code code) headed = code-so code headed
 ends-so _ headed = record { how = Nowhere; so = (refl, refl) }
 
 -- the role and the part of the token at an ending
-pub section-role : (s : Standing) (t : Seen) (answers : List Answer) → is_section_kind t.kind ≡ true → is_section_code (token_step t.kind (has_sign answers) s t.span).role ≡ true
+pub section-role : (s : Standing) (t : Seen) (answers : List Answer) → is_section_kind t.kind ≡ true
+    → is_section_code (token_step t.kind (has_sign answers) s t.span).role ≡ true
 section-role s t answers h = (told t.kind (has_sign answers) s t.span).role ∙ h
 
-pub plain-role : (s : Standing) (t : Seen) (answers : List Answer) → is_section_kind t.kind ≡ false → is_section_code (token_step t.kind (has_sign answers) s t.span).role ≡ false
+pub plain-role : (s : Standing) (t : Seen) (answers : List Answer) → is_section_kind t.kind ≡ false
+    → is_section_code (token_step t.kind (has_sign answers) s t.span).role ≡ false
 plain-role s t answers h = (told t.kind (has_sign answers) s t.span).role ∙ h
 
-pub plain-part : (s : Standing) (t : Seen) (answers : List Answer) (o : Option Mode) → is_section_kind t.kind ≡ false → opened_by t.kind (has_sign answers) ≡ o → (token_step t.kind (has_sign answers) s t.span).next.part ≡ part_of o s.part
+pub plain-part : (s : Standing) (t : Seen) (answers : List Answer) (o : Option Mode) → is_section_kind t.kind ≡ false
+    → opened_by t.kind (has_sign answers) ≡ o → (token_step t.kind (has_sign answers) s t.span).next.part
+    ≡ part_of o s.part
 plain-part s t answers o h e = (told t.kind (has_sign answers) s t.span).part-is ∙ (λ i. part_behind (h i) (e i) s.part)
 
-pub section-part : (s : Standing) (t : Seen) (answers : List Answer) → is_section_kind t.kind ≡ true → (token_step t.kind (has_sign answers) s t.span).next.part ≡ parts.Tex
-section-part s t answers h = (told t.kind (has_sign answers) s t.span).part-is ∙ ap (λ (b : Bool). part_behind b (opened_by t.kind (has_sign answers)) s.part) h
+pub section-part : (s : Standing) (t : Seen) (answers : List Answer) → is_section_kind t.kind ≡ true
+    → (token_step t.kind (has_sign answers) s t.span).next.part ≡ parts.Tex
+section-part s t answers h = (told t.kind (has_sign answers) s t.span).part-is
+    ∙ ap (λ (b : Bool). part_behind b (opened_by t.kind (has_sign answers)) s.part) h
 
 -- ## Lists
 
@@ -159,30 +186,41 @@ or-none : (a b : Bool) → a ≡ false → b ≡ false → (a || b) ≡ false
 or-none false b e h = h
 or-none true b e h = absurd cc
 
-pub first-none : (test : Placed → Bool) (size : ℕ) (ps : List Placed) → list_any test ps ≡ false → first_start test size ps ≡ size
+pub first-none : (test : Placed → Bool) (size : ℕ) (ps : List Placed) → list_any test ps ≡ false
+    → first_start test size ps ≡ size
 first-none test size [] h = refl
 first-none test size (p ∷ ps) h =
-    ap (λ (t : Bool). elim t as (λ _. ℕ) [ true ↦ p.token.span.start | false ↦ first_start test size ps ]) (one-failed-left (test p) (list_any test ps) h)
+    ap (λ (t : Bool). elim t as (λ _. ℕ) [ true ↦ p.token.span.start | false ↦ first_start test size ps ])
+    (one-failed-left (test p) (list_any test ps) h)
     ∙ first-none test size ps (one-failed-right (test p) (list_any test ps) h)
 
-pub first-behind : (test : Placed → Bool) (size : ℕ) (front ps : List Placed) → list_any test front ≡ false → first_start test size (front ++ ps) ≡ first_start test size ps
+pub first-behind : (test : Placed → Bool) (size : ℕ) (front ps : List Placed) → list_any test front ≡ false
+    → first_start test size (front ++ ps) ≡ first_start test size ps
 first-behind test size [] ps h = refl
 first-behind test size (p ∷ front) ps h =
-    ap (λ (t : Bool). elim t as (λ _. ℕ) [ true ↦ p.token.span.start | false ↦ first_start test size (front ++ ps) ]) (one-failed-left (test p) (list_any test front) h)
+    ap (λ (t : Bool). elim t as (λ _. ℕ) [ true ↦ p.token.span.start | false ↦ first_start test size (front ++ ps) ])
+    (one-failed-left (test p) (list_any test front) h)
     ∙ first-behind test size front ps (one-failed-right (test p) (list_any test front) h)
 
-first-is : (test : Placed → Bool) (size : ℕ) (p : Placed) (ps : List Placed) → test p ≡ true → first_start test size (p ∷ ps) ≡ p.token.span.start
-first-is test size p ps h = ap (λ (t : Bool). elim t as (λ _. ℕ) [ true ↦ p.token.span.start | false ↦ first_start test size ps ]) h
+first-is : (test : Placed → Bool) (size : ℕ) (p : Placed) (ps : List Placed) → test p ≡ true
+    → first_start test size (p ∷ ps) ≡ p.token.span.start
+first-is test size p ps h = ap (λ (t : Bool). elim t as (λ _. ℕ) [
+  | true ↦ p.token.span.start
+  | false ↦ first_start test size ps
+]) h
 
 -- what passes no test passes no stricter one
 no-stricter : (a b : Bool) → (a ≡ true → b ≡ true) → b ≡ false → a ≡ false
 no-stricter false b f h = refl
 no-stricter true b f h = absurd (let k : true ≡ false = sym (f refl) ∙ h in cc)
 
-pub none-stricter : (test other : Placed → Bool) (ps : List Placed) → ((p : Placed) → other p ≡ true → test p ≡ true) → list_any test ps ≡ false → list_any other ps ≡ false
+pub none-stricter : (test other : Placed → Bool) (ps : List Placed) → ((p : Placed) → other p ≡ true → test p ≡ true)
+    → list_any test ps ≡ false → list_any other ps ≡ false
 none-stricter test other [] f h = refl
 none-stricter test other (p ∷ ps) f h =
-    or-none (other p) (list_any other ps) (no-stricter (other p) (test p) (f p) (one-failed-left (test p) (list_any test ps) h)) (none-stricter test other ps f (one-failed-right (test p) (list_any test ps) h))
+    or-none (other p) (list_any other ps) (no-stricter (other p) (test p) (f p)
+    (one-failed-left (test p) (list_any test ps) h))
+    (none-stricter test other ps f (one-failed-right (test p) (list_any test ps) h))
 
 -- section codes by the tokens
 abbrev is_code_token : Seen → Bool
@@ -195,7 +233,8 @@ code-tokens (Begin t ∷ answers) = code-tokens answers
 code-tokens (Finish t ∷ answers) = code-tokens answers
 code-tokens (Note kind place ∷ answers) = code-tokens answers
 
-same-codes : (xs ys : List Answer) → tokens_in xs ≡ tokens_in ys → begins_section_in ys ≡ false → begins_section_in xs ≡ false
+same-codes : (xs ys : List Answer) → tokens_in xs ≡ tokens_in ys → begins_section_in ys ≡ false → begins_section_in xs
+    ≡ false
 same-codes xs ys e h = code-tokens xs ∙ ap (list_any is_code_token) e ∙ sym (code-tokens ys) ∙ h
 
 tokens-append : (xs ys : List Answer) → tokens_in (xs ++ ys) ≡ tokens_in xs ++ tokens_in ys
@@ -206,11 +245,13 @@ tokens-append (Finish t ∷ xs) ys = tokens-append xs ys
 tokens-append (Note kind place ∷ xs) ys = tokens-append xs ys
 
 -- A text that ends before a token has no section code where none comes before the token.
-pub uncut-before : (text : List ℕ) (start : ℕ) (mode : Mode) (answers : List Answer) (t : Seen) → EndsBefore text start mode answers t → begins_section_in answers ≡ false
+pub uncut-before : (text : List ℕ) (start : ℕ) (mode : Mode) (answers : List Answer) (t : Seen)
+    → EndsBefore text start mode answers t → begins_section_in answers ≡ false
     → begins_section_in (tokens_of text start t.span.start mode) ≡ false
 uncut-before text start mode answers t e h =
     same-codes (tokens_of text start t.span.start mode) answers
-    (ap tokens_in e.alone ∙ tokens-append e.body e.cut ∙ ap (λ l. tokens_in e.body ++ l) (e.cut_tokens ∙ sym e.rest_tokens) ∙ sym (tokens-append e.body e.rest) ∙ ap tokens_in (sym e.whole)) h
+    (ap tokens_in e.alone ∙ tokens-append e.body e.cut ∙ ap (λ l. tokens_in e.body ++ l) (e.cut_tokens
+    ∙ sym e.rest_tokens) ∙ sym (tokens-append e.body e.rest) ∙ ap tokens_in (sym e.whole)) h
 
 -- The sign of a head stands behind a name within the text, or not at all.
 no-sign : (xs : List Answer) → tokens_in xs ≡ [] → has_sign (xs ++ []) ≡ false
@@ -220,14 +261,16 @@ no-sign (Begin t ∷ xs) h = refl
 no-sign (Finish t ∷ xs) h = refl
 no-sign (Note kind place ∷ xs) h = no-sign xs h
 
-sign-inside : (xs cut rest more : List Answer) → tokens_in cut ≡ [] → has_sign ((xs ++ cut) ++ []) ≡ true → has_sign ((xs ++ rest) ++ more) ≡ true
+sign-inside : (xs cut rest more : List Answer) → tokens_in cut ≡ [] → has_sign ((xs ++ cut) ++ []) ≡ true
+    → has_sign ((xs ++ rest) ++ more) ≡ true
 sign-inside [] cut rest more n h = absurd (let k : true ≡ false = sym h ∙ no-sign cut n in cc)
 sign-inside (Token t ∷ xs) cut rest more n h = h
 sign-inside (Begin t ∷ xs) cut rest more n h = absurd cc
 sign-inside (Finish t ∷ xs) cut rest more n h = absurd cc
 sign-inside (Note kind place ∷ xs) cut rest more n h = sign-inside xs cut rest more n h
 
-unsigned-code : (code : Code) (headed : Bool) → is_some (opened_by (kinds.Code code) headed) ≡ false → is_some (opened_by (kinds.Code code) false) ≡ false
+unsigned-code : (code : Code) (headed : Bool) → is_some (opened_by (kinds.Code code) headed) ≡ false
+    → is_some (opened_by (kinds.Code code) false) ≡ false
 unsigned-code at.SectionName headed h = refl
 unsigned-code at.FileName headed h = refl
 unsigned-code at.Define headed h = h
@@ -236,11 +279,13 @@ unsigned-code at.SilentFormat headed h = h
 unsigned-code at.Program headed h = h
 unsigned-code _ headed h = refl
 
-unsigned : (kind : TokKind) (headed : Bool) → is_some (opened_by kind headed) ≡ false → is_some (opened_by kind false) ≡ false
+unsigned : (kind : TokKind) (headed : Bool) → is_some (opened_by kind headed) ≡ false → is_some (opened_by kind false)
+    ≡ false
 unsigned (kinds.Code code) headed h = unsigned-code code headed h
 unsigned _ headed h = refl
 
-opened-less : (kind : TokKind) (a b : Bool) → (a ≡ true → b ≡ true) → is_some (opened_by kind b) ≡ false → is_some (opened_by kind a) ≡ false
+opened-less : (kind : TokKind) (a b : Bool) → (a ≡ true → b ≡ true) → is_some (opened_by kind b) ≡ false
+    → is_some (opened_by kind a) ≡ false
 opened-less kind true b f h = ap (λ b. is_some (opened_by kind b)) (sym (f refl)) ∙ h
 opened-less kind false b f h = unsigned kind b h
 
@@ -251,23 +296,29 @@ bare-opens (Begin t ∷ cut) h = bare-opens cut h
 bare-opens (Finish t ∷ cut) h = bare-opens cut h
 bare-opens (Note kind place ∷ cut) h = bare-opens cut h
 
-opens-alone : (xs cut rest more : List Answer) → tokens_in cut ≡ [] → opens_part_before more (xs ++ rest) ≡ false → opens_part_before [] (xs ++ cut) ≡ false
+opens-alone : (xs cut rest more : List Answer) → tokens_in cut ≡ [] → opens_part_before more (xs ++ rest) ≡ false
+    → opens_part_before [] (xs ++ cut) ≡ false
 opens-alone [] cut rest more n h = bare-opens cut n
 opens-alone (Token t ∷ xs) cut rest more n h =
     let later = one-failed-right (is_section_kind t.kind) _ h in
     or-none (is_section_kind t.kind) _ (one-failed-left (is_section_kind t.kind) _ h)
     (or-none (is_some (opened_by t.kind (has_sign ((xs ++ cut) ++ [])))) (opens_part_before [] (xs ++ cut))
-    (opened-less t.kind (has_sign ((xs ++ cut) ++ [])) (has_sign ((xs ++ rest) ++ more)) (sign-inside xs cut rest more n) (one-failed-left (is_some (opened_by t.kind (has_sign ((xs ++ rest) ++ more)))) (opens_part_before more (xs ++ rest)) later))
-    (opens-alone xs cut rest more n (one-failed-right (is_some (opened_by t.kind (has_sign ((xs ++ rest) ++ more)))) (opens_part_before more (xs ++ rest)) later)))
+    (opened-less t.kind (has_sign ((xs ++ cut) ++ [])) (has_sign ((xs ++ rest) ++ more))
+    (sign-inside xs cut rest more n) (one-failed-left (is_some (opened_by t.kind (has_sign ((xs ++ rest) ++ more))))
+    (opens_part_before more (xs ++ rest)) later))
+    (opens-alone xs cut rest more n (one-failed-right (is_some (opened_by t.kind (has_sign ((xs ++ rest) ++ more))))
+    (opens_part_before more (xs ++ rest)) later)))
 opens-alone (Begin t ∷ xs) cut rest more n h = opens-alone xs cut rest more n h
 opens-alone (Finish t ∷ xs) cut rest more n h = opens-alone xs cut rest more n h
 opens-alone (Note kind place ∷ xs) cut rest more n h = opens-alone xs cut rest more n h
 
 -- No other part begins in a text that ends before a token, where none begins before the token.
-pub alone-before : (text : List ℕ) (start : ℕ) (mode : Mode) (answers : List Answer) (t : Seen) (more : List Answer) → EndsBefore text start mode answers t → opens_part_before more answers ≡ false
+pub alone-before : (text : List ℕ) (start : ℕ) (mode : Mode) (answers : List Answer) (t : Seen) (more : List Answer)
+    → EndsBefore text start mode answers t → opens_part_before more answers ≡ false
     → opens_part_in (tokens_of text start t.span.start mode) ≡ false
 alone-before text start mode answers t more e h =
-    ap opens_part_in e.alone ∙ opens-alone e.body e.cut e.rest more e.cut_tokens (ap (opens_part_before more) (sym e.whole) ∙ h)
+    ap opens_part_in e.alone ∙ opens-alone e.body e.cut e.rest more e.cut_tokens
+    (ap (opens_part_before more) (sym e.whole) ∙ h)
 
 -- ## The first token at which a part ends
 
@@ -287,7 +338,8 @@ module _ (good : Part → Bool) where
 
   abbrev pub Keeps : List Answer → List Answer → Type 0
   Keeps more [] = Unit {0}
-  Keeps more (Token t ∷ answers) = KeepsToken t.kind (opened_by t.kind (has_sign (answers ++ more))) × Keeps more answers
+  Keeps more (Token t ∷ answers) = KeepsToken t.kind (opened_by t.kind (has_sign (answers ++ more)))
+      × Keeps more answers
   Keeps more (Begin t ∷ answers) = Keeps more answers
   Keeps more (Finish t ∷ answers) = Keeps more answers
   Keeps more (Note kind place ∷ answers) = Keeps more answers
@@ -313,10 +365,14 @@ module _ (good : Part → Bool) where
     pub passes : ends (token_placed standing names token behind) ≡ true
 
   -- answers that tell no token
-  ended-by : (s next : Standing) (kept : List SecName) (a : Answer) (answers : List Answer) → placed_from s kept (a ∷ answers) ≡ placed_from next kept answers → begins_section_in (a ∷ answers) ≡ begins_section_in answers
+  ended-by : (s next : Standing) (kept : List SecName) (a : Answer) (answers : List Answer)
+      → placed_from s kept (a ∷ answers) ≡ placed_from next kept answers → begins_section_in (a ∷ answers)
+      ≡ begins_section_in answers
       → Ended next kept answers ⊎ Stopped next kept answers → begins_section_in (a ∷ []) ≡ false
-      → ((more xs : List Answer) → Keeps more xs → Keeps more (a ∷ xs)) → Ended s kept (a ∷ answers) ⊎ Stopped s kept (a ∷ answers)
-  ended-by s next kept a answers p u (inl e) n k = inl (record { none = ap (list_any ends) p ∙ e.none; uncut = u ∙ e.uncut; keeps = k [] answers e.keeps })
+      → ((more xs : List Answer) → Keeps more xs → Keeps more (a ∷ xs)) → Ended s kept (a ∷ answers)
+      ⊎ Stopped s kept (a ∷ answers)
+  ended-by s next kept a answers p u (inl e) n k =
+      inl (record { none = ap (list_any ends) p ∙ e.none; uncut = u ∙ e.uncut; keeps = k [] answers e.keeps })
   ended-by s next kept a answers p u (inr r) n k = inr (record {
     before = a ∷ r.before;
     token = r.token;
@@ -327,14 +383,18 @@ module _ (good : Part → Bool) where
     split = ap (λ l. a ∷ l) r.split;
     placed = p ∙ r.placed;
     none = r.none;
-    uncut = or-none (is_section_answer a) (begins_section_in r.before) (one-failed-left (is_section_answer a) false n) r.uncut;
+    uncut = or-none (is_section_answer a) (begins_section_in r.before) (one-failed-left (is_section_answer a) false n)
+        r.uncut;
     keeps = k (Token r.token ∷ r.behind) r.before r.keeps;
     part = r.part;
     passes = r.passes;
   })
 
-  token-by : (b : Bool) (s : Standing) (kept : List SecName) (t : Seen) (answers : List Answer) → good s.part ≡ true → ends (token_placed s kept t answers) ≡ b
-      → (good (token_placed s kept t answers).part ≡ true → Ended (token_step t.kind (has_sign answers) s t.span).next (kept_behind t kept) answers ⊎ Stopped (token_step t.kind (has_sign answers) s t.span).next (kept_behind t kept) answers)
+  token-by : (b : Bool) (s : Standing) (kept : List SecName) (t : Seen) (answers : List Answer) → good s.part ≡ true
+      → ends (token_placed s kept t answers) ≡ b
+      → (good (token_placed s kept t answers).part ≡ true
+      → Ended (token_step t.kind (has_sign answers) s t.span).next (kept_behind t kept) answers
+      ⊎ Stopped (token_step t.kind (has_sign answers) s t.span).next (kept_behind t kept) answers)
       → Ended s kept (Token t ∷ answers) ⊎ Stopped s kept (Token t ∷ answers)
   token-by true s kept t answers g e rest = inr (record {
     before = [];
@@ -353,21 +413,28 @@ module _ (good : Part → Bool) where
   })
   token-by false s kept t answers g e rest =
       let p = token_placed s kept t answers in
-      let code : is_section_kind t.kind ≡ false = sym (told t.kind (has_sign answers) s t.span).role ∙ one-failed-left (is_section_code p.role) (not (good p.part)) e in
+      let code : is_section_kind t.kind ≡ false = sym (told t.kind (has_sign answers) s t.span).role
+      ∙ one-failed-left (is_section_code p.role) (not (good p.part)) e in
       let stays = not-false (good p.part) (one-failed-right (is_section_code p.role) (not (good p.part)) e) in
-      let part : p.part ≡ part_of (opened_by t.kind (has_sign answers)) s.part = plain-part s t answers (opened_by t.kind (has_sign answers)) code refl in
+      let part : p.part ≡ part_of (opened_by t.kind (has_sign answers)) s.part =
+      plain-part s t answers (opened_by t.kind (has_sign answers)) code refl in
       by code (record { part = s.part; stays = ap good (sym part) ∙ stays; plain = code }) (rest stays)
     where
       not-false : (a : Bool) → not a ≡ false → a ≡ true
       not-false true h = refl
       not-false false h = absurd cc
 
-      by : is_section_kind t.kind ≡ false → KeepsToken t.kind (opened_by t.kind (has_sign answers)) → Ended (token_step t.kind (has_sign answers) s t.span).next (kept_behind t kept) answers ⊎ Stopped (token_step t.kind (has_sign answers) s t.span).next (kept_behind t kept) answers
+      by : is_section_kind t.kind ≡ false → KeepsToken t.kind (opened_by t.kind (has_sign answers))
+          → Ended (token_step t.kind (has_sign answers) s t.span).next (kept_behind t kept) answers
+          ⊎ Stopped (token_step t.kind (has_sign answers) s t.span).next (kept_behind t kept) answers
           → Ended s kept (Token t ∷ answers) ⊎ Stopped s kept (Token t ∷ answers)
       by code keeps (inl d) = inl (record {
         none = or-none (ends (token_placed s kept t answers)) _ e d.none;
         uncut = or-none (is_section_kind t.kind) (begins_section_in answers) code d.uncut;
-        keeps = (subst (λ l. KeepsToken t.kind (opened_by t.kind (has_sign l))) (sym (append-nil answers)) keeps, d.keeps);
+        keeps = (
+          subst (λ l. KeepsToken t.kind (opened_by t.kind (has_sign l))) (sym (append-nil answers)) keeps,
+          d.keeps,
+        );
       })
       by code keeps (inr r) = inr (record {
         before = Token t ∷ r.before;
@@ -385,31 +452,41 @@ module _ (good : Part → Bool) where
         passes = r.passes;
       })
 
-  pub stop : (s : Standing) (kept : List SecName) (answers : List Answer) → good s.part ≡ true → Ended s kept answers ⊎ Stopped s kept answers
+  pub stop : (s : Standing) (kept : List SecName) (answers : List Answer) → good s.part ≡ true
+      → Ended s kept answers ⊎ Stopped s kept answers
   stop s kept [] g = inl (record { none = refl; uncut = refl; keeps = tt })
   stop s kept (Token t ∷ answers) g =
-      token-by (ends (token_placed s kept t answers)) s kept t answers g refl (λ h. stop (token_step t.kind (has_sign answers) s t.span).next (kept_behind t kept) answers h)
-  stop s kept (Begin t ∷ answers) g = ended-by s (behind_begin s) kept (Begin t) answers refl refl (stop (behind_begin s) kept answers g) refl (λ more xs k. k)
-  stop s kept (Finish t ∷ answers) g = ended-by s s kept (Finish t) answers refl refl (stop s kept answers g) refl (λ more xs k. k)
-  stop s kept (Note kind place ∷ answers) g = ended-by s s kept (Note kind place) answers refl refl (stop s kept answers g) refl (λ more xs k. k)
+      token-by (ends (token_placed s kept t answers)) s kept t answers g refl
+      (λ h. stop (token_step t.kind (has_sign answers) s t.span).next (kept_behind t kept) answers h)
+  stop s kept (Begin t ∷ answers) g = ended-by s (behind_begin s) kept (Begin t) answers refl refl
+      (stop (behind_begin s) kept answers g) refl (λ more xs k. k)
+  stop s kept (Finish t ∷ answers) g = ended-by s s kept (Finish t) answers refl refl (stop s kept answers g) refl
+      (λ more xs k. k)
+  stop s kept (Note kind place ∷ answers) g = ended-by s s kept (Note kind place) answers refl refl
+      (stop s kept answers g) refl (λ more xs k. k)
 
 -- the first token that passes a test, where one that stops does
-pub first-token : (good : Part → Bool) (test : Placed → Bool) (size : ℕ) (s : Standing) (kept : List SecName) (t : Seen) (answers : List Answer) → test (token_placed good s kept t answers) ≡ true
+pub first-token : (good : Part → Bool) (test : Placed → Bool) (size : ℕ) (s : Standing) (kept : List SecName) (t : Seen)
+    (answers : List Answer) → test (token_placed good s kept t answers) ≡ true
     → first_start test size (placed_from s kept (Token t ∷ answers)) ≡ t.span.start
 first-token good test size s kept t answers h =
-    first-is test size (token_placed good s kept t answers) (placed_from (token_step t.kind (has_sign answers) s t.span).next (kept_behind t kept) answers) h
+    first-is test size (token_placed good s kept t answers)
+    (placed_from (token_step t.kind (has_sign answers) s t.span).next (kept_behind t kept) answers) h
 
 -- ## TeX text
 
 -- In TeX text no other part begins.
-tex-token : (t : Seen) (headed : Bool) (how : Ending) → EndsBy t.kind headed how → KeepsToken is_tex t.kind (opened_by t.kind headed) → is_some (opened_by t.kind headed) ≡ false
+tex-token : (t : Seen) (headed : Bool) (how : Ending) → EndsBy t.kind headed how
+    → KeepsToken is_tex t.kind (opened_by t.kind headed) → is_some (opened_by t.kind headed) ≡ false
 tex-token t headed AtSection h k = absurd (let wrong : true ≡ false = sym h ∙ k.plain in cc)
-tex-token t headed AtDefinitions h k = absurd (no-tex k.part (ap (λ (o : Option Mode). is_tex (part_of o k.part)) (sym h.1) ∙ k.stays))
+tex-token t headed AtDefinitions h k =
+    absurd (no-tex k.part (ap (λ (o : Option Mode). is_tex (part_of o k.part)) (sym h.1) ∙ k.stays))
   where
     no-tex : (part : Part) → is_tex (defining part) ≡ true → ⊥
     no-tex parts.Limbo e = cc
     no-tex _ e = cc
-tex-token t headed AtCPart h k = absurd (let wrong : false ≡ true = ap (λ (o : Option Mode). is_tex (part_of o k.part)) (sym h.1) ∙ k.stays in cc)
+tex-token t headed AtCPart h k = absurd (let wrong : false ≡ true = ap (λ (o : Option Mode). is_tex (part_of o k.part))
+    (sym h.1) ∙ k.stays in cc)
 tex-token t headed Nowhere h k = ap is_some h.1
 
 pub tex-opens : (more answers : List Answer) → Keeps is_tex more answers → opens_part_before more answers ≡ false
@@ -417,7 +494,8 @@ tex-opens more [] k = refl
 tex-opens more (Token t ∷ answers) k =
     let e = ends-so t.kind (has_sign (answers ++ more)) in
     or-none (is_section_kind t.kind) _ k.0.plain
-    (or-none (is_some (opened_by t.kind (has_sign (answers ++ more)))) (opens_part_before more answers) (tex-token t (has_sign (answers ++ more)) e.how e.so k.0) (tex-opens more answers k.1))
+    (or-none (is_some (opened_by t.kind (has_sign (answers ++ more)))) (opens_part_before more answers)
+    (tex-token t (has_sign (answers ++ more)) e.how e.so k.0) (tex-opens more answers k.1))
 tex-opens more (Begin t ∷ answers) k = tex-opens more answers k
 tex-opens more (Finish t ∷ answers) k = tex-opens more answers k
 tex-opens more (Note kind place ∷ answers) k = tex-opens more answers k

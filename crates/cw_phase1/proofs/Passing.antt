@@ -1,5 +1,6 @@
 -- The tokens that one answer settles, and those that are still to come.
-use Rattle.std.proofs.Common.{◌≡◌, ℕ, Bool, true, false, List, [], ◌∷◌, ◌++◌, Option, Some, None, refl, ap, sym, ◌∙◌, append_assoc}
+use Rattle.std.proofs.Common.{◌≡◌, ℕ, Bool, true, false, List, [], ◌∷◌, ◌++◌, Option, Some, None, refl, ap, sym, ◌∙◌}
+use Rattle.std.proofs.Common.{append_assoc}
 use Rattle.cw_base.specs.Web.{MergedLine}
 use Rattle.cw_rules.specs.declared.codes.Code.TheVariants as at
 use Rattle.cw_lex.specs.declared.heads.Wanted.{Wanted}
@@ -15,16 +16,20 @@ use Rattle.cw_phase1.specs.declared.roles.Standing.{Standing}
 use Rattle.cw_phase1.specs.declared.told.Told.{Told}
 use Rattle.cw_phase1.specs.Texts.{Void, naming_by, name_text}
 use Rattle.cw_phase1.specs.Notes.{scanned_note, scanned_notes}
-use Rattle.cw_phase1.specs.Entering.{entering, enters, entered_name, name_of_entering, kept_by, kept_behind, kept_after, note_by, note_of, is_unended, with_note, noted_from}
-use Rattle.cw_phase1.specs.Roles.{Placed, Step, name_step, token_step, token_step_by, behind_begin, placed_by, placed_from}
+use Rattle.cw_phase1.specs.Entering.{entering, enters, entered_name, name_of_entering, kept_by, kept_behind, kept_after}
+use Rattle.cw_phase1.specs.Entering.{note_by, note_of, is_unended, with_note, noted_from}
+use Rattle.cw_phase1.specs.Roles.{Placed, Step, name_step, token_step, token_step_by, behind_begin, placed_by}
+use Rattle.cw_phase1.specs.Roles.{placed_from}
 use Rattle.cw_phase1.specs.Telling.{told_step, told_all}
-use Rattle.cw_phase1.specs.Holding.{Waiting, HeldState, is_name, settled_placed, settled_standing, settled, remark_notes, remark_put, notes_by, token_held_by, held_step}
+use Rattle.cw_phase1.specs.Holding.{Waiting, HeldState, is_name, settled_placed, settled_standing, settled}
+use Rattle.cw_phase1.specs.Holding.{remark_notes, remark_put, notes_by, token_held_by, held_step}
 
 -- The tokens that are settled from here on, where these answers are still to come.
 abbrev pub coming_by : Option Waiting → Standing → List SecName → List Answer → List Placed
 coming_by None s kept answers = placed_from s kept answers
 coming_by (Some w) s kept answers =
-    placed_by w.token w.name (name_step (has_sign answers) s) ∷ placed_from (name_step (has_sign answers) s).next kept answers
+    placed_by w.token w.name (name_step (has_sign answers) s) ∷ placed_from (name_step (has_sign answers) s).next kept
+    answers
 
 abbrev pub coming : HeldState → List Answer → List Placed
 coming h answers = coming_by h.pass.waiting h.pass.standing h.kept answers
@@ -59,12 +64,14 @@ void-by kind text h = refl
 pub enters-nothing : (t : Seen) (kept : List SecName) → is_name t.kind ≡ false → enters t kept ≡ None
 enters-nothing t kept h = ap (λ n. entering n kept) (void-by t.kind (name_text t.text) h)
 
-told-append : (lines : List MergedLine) (ps qs : List Placed) (t : Told) → told_all lines (ps ++ qs) t ≡ told_all lines qs (told_all lines ps t)
+told-append : (lines : List MergedLine) (ps qs : List Placed) (t : Told) → told_all lines (ps ++ qs) t
+    ≡ told_all lines qs (told_all lines ps t)
 told-append lines [] qs t = refl
 told-append lines (p ∷ ps) qs t = told-append lines ps qs (told_step lines p t)
 
 settle-coming : (w : Option Waiting) (s : Standing) (kept : List SecName) (answers : List Answer)
-    → coming_by w s kept answers ≡ settled_placed (has_sign answers) w s ++ placed_from (settled_standing (has_sign answers) w s) kept answers
+    → coming_by w s kept answers ≡ settled_placed (has_sign answers) w s
+    ++ placed_from (settled_standing (has_sign answers) w s) kept answers
 settle-coming None s kept answers = refl
 settle-coming (Some w) s kept answers = refl
 
@@ -72,25 +79,38 @@ pub settle-told : (lines : List MergedLine) (h : HeldState) (answers : List Answ
     → told_at_end lines h answers ≡ told_at_end lines (settled lines (has_sign answers) (remark_put lines h)) answers
 settle-told lines h answers =
     ap (λ ps. told_all lines ps h.told) (settle-coming h.pass.waiting h.pass.standing h.kept answers) ∙
-    told-append lines (settled_placed (has_sign answers) h.pass.waiting h.pass.standing) (placed_from (settled_standing (has_sign answers) h.pass.waiting h.pass.standing) h.kept answers) h.told
+    told-append lines (settled_placed (has_sign answers) h.pass.waiting h.pass.standing)
+    (placed_from (settled_standing (has_sign answers) h.pass.waiting h.pass.standing) h.kept answers) h.told
 
 -- where no name waits
 abbrev quiet : Standing → List SecName → Told → Option Answer → List NoteRecord → HeldState
-quiet s kept told remark notes = record { pass = record { standing = s; waiting = None }; kept = kept; told = told; remark = remark; notes = notes }
+quiet s kept told remark notes = record {
+  pass = record { standing = s; waiting = None };
+  kept = kept;
+  told = told;
+  remark = remark;
+  notes = notes;
+}
 
-token-told : (b : Bool) (lines : List MergedLine) (t : Seen) (s : Standing) (kept : List SecName) (told : Told) (remark : Option Answer) (notes : List NoteRecord) (answers : List Answer)
+token-told : (b : Bool) (lines : List MergedLine) (t : Seen) (s : Standing) (kept : List SecName) (told : Told)
+    (remark : Option Answer) (notes : List NoteRecord) (answers : List Answer)
     → is_name t.kind ≡ b
-    → told_at_end lines (quiet s kept told remark notes) (Token t ∷ answers) ≡ told_at_end lines (token_held_by b lines t (quiet s kept told remark notes)) answers
+    → told_at_end lines (quiet s kept told remark notes) (Token t ∷ answers)
+    ≡ told_at_end lines (token_held_by b lines t (quiet s kept told remark notes)) answers
 token-told true lines t s kept told remark notes answers h =
-    ap (λ (step : Step). told_all lines (placed_by t (entered_name t kept) step ∷ placed_from step.next (kept_behind t kept) answers) told)
+    ap (λ (step : Step). told_all lines (placed_by t (entered_name t kept) step
+    ∷ placed_from step.next (kept_behind t kept) answers) told)
     (name-free t.kind (has_sign answers) s t.span h)
 token-told false lines t s kept told remark notes answers h =
-    ap (λ (step : Step). told_all lines (placed_by t (entered_name t kept) step ∷ placed_from step.next (kept_behind t kept) answers) told)
+    ap (λ (step : Step). told_all lines (placed_by t (entered_name t kept) step
+    ∷ placed_from step.next (kept_behind t kept) answers) told)
     (free-step t.kind (head_behind s.wanted t.kind t.span) (has_sign answers) s h) ∙
-    ap (λ (e : Option Entering). told_all lines (placed_by t (name_of_entering e) (token_step t.kind false s t.span) ∷ placed_from (token_step t.kind false s t.span).next (kept_by e kept) answers) told)
+    ap (λ (e : Option Entering). told_all lines (placed_by t (name_of_entering e) (token_step t.kind false s t.span)
+    ∷ placed_from (token_step t.kind false s t.span).next (kept_by e kept) answers) told)
     (enters-nothing t kept h)
 
-note-coming : (w : Option Waiting) (s : Standing) (kept : List SecName) (kind : NoteKind) (place : ℕ) (answers : List Answer)
+note-coming : (w : Option Waiting) (s : Standing) (kept : List SecName) (kind : NoteKind) (place : ℕ)
+    (answers : List Answer)
     → coming_by w s kept (Note kind place ∷ answers) ≡ coming_by w s kept answers
 note-coming None s kept kind place answers = refl
 note-coming (Some w) s kept kind place answers = refl
@@ -101,24 +121,29 @@ pub told-passes : (lines : List MergedLine) (answer : Answer) (h : HeldState) (a
 told-passes lines (Token t) h answers =
     settle-told lines h (Token t ∷ answers) ∙
     token-told (is_name t.kind) lines t (settled_standing (is_head_sign t.kind) h.pass.waiting h.pass.standing) h.kept
-    (told_all lines (settled_placed (is_head_sign t.kind) h.pass.waiting h.pass.standing) h.told) None (h.notes ++ remark_notes lines h.remark) answers refl
+    (told_all lines (settled_placed (is_head_sign t.kind) h.pass.waiting h.pass.standing) h.told) None
+    (h.notes ++ remark_notes lines h.remark) answers refl
 told-passes lines (Begin t) h answers = settle-told lines h (Begin t ∷ answers)
 told-passes lines (Finish t) h answers = settle-told lines h (Finish t ∷ answers)
-told-passes lines (Note kind place) h answers = ap (λ ps. told_all lines ps h.told) (note-coming h.pass.waiting h.pass.standing h.kept kind place answers)
+told-passes lines (Note kind place) h answers = ap (λ ps. told_all lines ps h.told)
+    (note-coming h.pass.waiting h.pass.standing h.kept kind place answers)
 
 -- ## Names that are kept
 
 abbrev pub kept_at_end : HeldState → List Answer → List SecName
 kept_at_end h answers = kept_after h.kept answers
 
-kept-token : (b : Bool) (lines : List MergedLine) (t : Seen) (h : HeldState) (answers : List Answer) → is_name t.kind ≡ b
+kept-token : (b : Bool) (lines : List MergedLine) (t : Seen) (h : HeldState) (answers : List Answer) → is_name t.kind
+    ≡ b
     → kept_after (kept_behind t h.kept) answers ≡ kept_at_end (token_held_by b lines t h) answers
 kept-token true lines t h answers e = refl
-kept-token false lines t h answers e = ap (λ (o : Option Entering). kept_after (kept_by o h.kept) answers) (enters-nothing t h.kept e)
+kept-token false lines t h answers e = ap (λ (o : Option Entering). kept_after (kept_by o h.kept) answers)
+    (enters-nothing t h.kept e)
 
 pub kept-passes : (lines : List MergedLine) (answer : Answer) (h : HeldState) (answers : List Answer)
     → kept_at_end h (answer ∷ answers) ≡ kept_at_end (held_step lines answer h) answers
-kept-passes lines (Token t) h answers = kept-token (is_name t.kind) lines t (settled lines (is_head_sign t.kind) (remark_put lines h)) answers refl
+kept-passes lines (Token t) h answers = kept-token (is_name t.kind) lines t
+    (settled lines (is_head_sign t.kind) (remark_put lines h)) answers refl
 kept-passes lines (Begin t) h answers = refl
 kept-passes lines (Finish t) h answers = refl
 kept-passes lines (Note kind place) h answers = refl
@@ -143,33 +168,44 @@ put-finish : (lines : List MergedLine) (r : Option Answer) (t : Seen) (answers :
 put-finish lines None t answers = refl
 put-finish lines (Some note) t answers = refl
 
-notes-token : (b : Bool) (lines : List MergedLine) (t : Seen) (h : HeldState) (answers : List Answer) → is_name t.kind ≡ b → h.remark ≡ None
+notes-token : (b : Bool) (lines : List MergedLine) (t : Seen) (h : HeldState) (answers : List Answer) → is_name t.kind
+    ≡ b → h.remark ≡ None
     → h.notes ++ scanned_notes lines (with_note (note_of t h.kept) (noted_from (kept_behind t h.kept) answers))
     ≡ notes_at_end lines (token_held_by b lines t h) answers
 notes-token true lines t h answers e r = refl
 notes-token false lines t h answers e r =
-    ap (λ (o : Option Entering). h.notes ++ scanned_notes lines (with_note (note_by o t.span.start) (noted_from (kept_by o h.kept) answers))) (enters-nothing t h.kept e) ∙
+    ap (λ (o : Option Entering). h.notes ++ scanned_notes lines
+    (with_note (note_by o t.span.start) (noted_from (kept_by o h.kept) answers))) (enters-nothing t h.kept e) ∙
     ap (λ (o : Option Answer). h.notes ++ scanned_notes lines (with_note o (noted_from h.kept answers))) (sym r)
 
-note-by : (b : Bool) (lines : List MergedLine) (note : Answer) (kind : NoteKind) (place : ℕ) (answers : List Answer) → is_unended kind ≡ b
-    → scanned_notes lines (elim b as (λ _. List Answer) [ true ↦ Note kind place ∷ note ∷ answers | false ↦ note ∷ Note kind place ∷ answers ])
+note-by : (b : Bool) (lines : List MergedLine) (note : Answer) (kind : NoteKind) (place : ℕ) (answers : List Answer)
+    → is_unended kind ≡ b
+    → scanned_notes lines (elim b as (λ _. List Answer) [
+      | true ↦ Note kind place ∷ note ∷ answers
+      | false ↦ note ∷ Note kind place ∷ answers
+    ])
     ≡ elim b as (λ _. List NoteRecord) [
       | true ↦ scanned_note lines (Note kind place) ++ scanned_note lines note
       | false ↦ scanned_note lines note ++ scanned_note lines (Note kind place)
     ] ++ scanned_notes lines answers
-note-by true lines note kind place answers e = sym (append_assoc (scanned_note lines (Note kind place)) (scanned_note lines note) (scanned_notes lines answers))
-note-by false lines note kind place answers e = sym (append_assoc (scanned_note lines note) (scanned_note lines (Note kind place)) (scanned_notes lines answers))
+note-by true lines note kind place answers e = sym (append_assoc (scanned_note lines (Note kind place))
+    (scanned_note lines note) (scanned_notes lines answers))
+note-by false lines note kind place answers e =
+    sym (append_assoc (scanned_note lines note) (scanned_note lines (Note kind place)) (scanned_notes lines answers))
 
 put-note : (lines : List MergedLine) (r : Option Answer) (kind : NoteKind) (place : ℕ) (answers : List Answer)
-    → scanned_notes lines (with_note r (Note kind place ∷ answers)) ≡ notes_by r lines kind place ++ scanned_notes lines answers
+    → scanned_notes lines (with_note r (Note kind place ∷ answers))
+    ≡ notes_by r lines kind place ++ scanned_notes lines answers
 put-note lines None kind place answers = refl
 put-note lines (Some note) kind place answers = note-by (is_unended kind) lines note kind place answers refl
 
 pub notes-pass : (lines : List MergedLine) (answer : Answer) (h : HeldState) (answers : List Answer)
     → notes_at_end lines h (answer ∷ answers) ≡ notes_at_end lines (held_step lines answer h) answers
 notes-pass lines (Token t) h answers =
-    ap (λ ns. h.notes ++ ns) (put-token lines h.remark t (with_note (note_of t h.kept) (noted_from (kept_behind t h.kept) answers))) ∙
-    (sym (append_assoc h.notes (remark_notes lines h.remark) (scanned_notes lines (with_note (note_of t h.kept) (noted_from (kept_behind t h.kept) answers)))) ∙
+    ap (λ ns. h.notes ++ ns) (put-token lines h.remark t
+    (with_note (note_of t h.kept) (noted_from (kept_behind t h.kept) answers))) ∙
+    (sym (append_assoc h.notes (remark_notes lines h.remark)
+    (scanned_notes lines (with_note (note_of t h.kept) (noted_from (kept_behind t h.kept) answers)))) ∙
     notes-token (is_name t.kind) lines t (settled lines (is_head_sign t.kind) (remark_put lines h)) answers refl refl)
 notes-pass lines (Begin t) h answers =
     ap (λ ns. h.notes ++ ns) (put-begin lines h.remark t (noted_from h.kept answers)) ∙

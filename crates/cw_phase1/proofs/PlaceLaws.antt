@@ -1,5 +1,6 @@
 -- Lines and the places where they begin in the merged text.
-use Rattle.std.proofs.Common.{◌≡◌, ℕ, zero, suc, ◌+◌, ◌<◌, ◌≤◌, ◌&&◌, ◌||◌, Bool, true, false, refl, sym, ap, ◌∙◌, List, [], ◌∷◌, length, take, drop, get_or, nat_lt, arith, length-append}
+use Rattle.std.proofs.Common.{◌≡◌, ℕ, zero, suc, ◌+◌, ◌<◌, ◌≤◌, ◌&&◌, ◌||◌, Bool, true, false, refl, sym, ap, ◌∙◌, List}
+use Rattle.std.proofs.Common.{[], ◌∷◌, length, take, drop, get_or, nat_lt, arith, length-append}
 use Rattle.std.proofs.lemmas.Bool.{lt-ltb, le-ltb, and_right, and_left, and_from, or_left}
 use Rattle.std.proofs.lemmas.List.{drop_more, take_more}
 use Rattle.cw_base.specs.WebLaws.{length-text_of-more}
@@ -10,7 +11,8 @@ use Rattle.cw_phase1.specs.Places.{place_from}
 use Rattle.cw_phase1.specs.LinePlaces.{offset}
 use Rattle.cw_phase1.specs.Places.{holds_changed}
 
-offset-suc : (line : MergedLine) (lines : List MergedLine) (i : ℕ) → offset (line ∷ lines) (suc i) ≡ length line.text + 1 + offset lines i
+offset-suc : (line : MergedLine) (lines : List MergedLine) (i : ℕ) → offset (line ∷ lines) (suc i)
+    ≡ length line.text + 1 + offset lines i
 offset-suc line lines i = length-append line.text (10 ∷ text_of (take i lines)) ∙ omega arith
 
 -- the table of lines tells where each begins
@@ -22,38 +24,57 @@ info-at (line ∷ lines) at (suc i) other none h =
     info-at lines (at + length line.text + 1) i other none (omega arith) ∙
     ap (λ (n : ℕ). info_from n (get_or lines i none)) (omega (arith, offset-suc line lines i))
 
-first-place : (line : MergedLine) (lines : List MergedLine) (at byte : ℕ) (last : Place) → (0 < length lines → byte < at + length line.text + 1)
+first-place : (line : MergedLine) (lines : List MergedLine) (at byte : ℕ) (last : Place)
+    → (0 < length lines → byte < at + length line.text + 1)
     → place_from (line ∷ lines) at byte last ≡ line.place
 first-place line [] at byte last inside =
-    elim (nat_lt byte (at + length line.text + 1)) as (λ b. elim b [ true ↦ line.place | false ↦ line.place ] ≡ line.place) [ true ↦ refl | false ↦ refl ]
+    elim (nat_lt byte (at + length line.text + 1)) as (λ b. elim b [ true ↦ line.place | false ↦ line.place ]
+    ≡ line.place) [ true ↦ refl | false ↦ refl ]
 first-place line (next ∷ lines) at byte last inside =
     let short : 0 < length (next ∷ lines) = omega arith in
-    let test : nat_lt byte (at + length line.text + 1) ≡ true = lt-ltb byte (at + length line.text + 1) (inside short) in
-    ap (λ (b : Bool). elim b [ true ↦ line.place | false ↦ place_from (next ∷ lines) (at + length line.text + 1) byte line.place ]) test
+    let test : nat_lt byte (at + length line.text + 1) ≡ true =
+    lt-ltb byte (at + length line.text + 1) (inside short) in
+    ap (λ (b : Bool). elim b [
+      | true ↦ line.place
+      | false ↦ place_from (next ∷ lines) (at + length line.text + 1) byte
+          line.place
+    ]) test
 
 -- The place of a byte is that of the line that has it.
-pub place-at : (lines : List MergedLine) (at byte i : ℕ) (last : Place) (none : MergedLine) → i < length lines → at + offset lines i ≤ byte
-    → (i + 1 < length lines → byte < at + offset lines (i + 1)) → place_from lines at byte last ≡ (get_or lines i none).place
+pub place-at : (lines : List MergedLine) (at byte i : ℕ) (last : Place) (none : MergedLine) → i < length lines
+    → at + offset lines i ≤ byte
+    → (i + 1 < length lines → byte < at + offset lines (i + 1)) → place_from lines at byte last
+    ≡ (get_or lines i none).place
 place-at [] at byte i last none h from to = absurd (let no : i < 0 = h in omega arith)
 place-at (line ∷ lines) at byte zero last none h from to =
-    first-place line lines at byte last (λ some. let below : byte < at + offset (line ∷ lines) 1 = to (omega arith) in omega (arith, offset-suc line lines 0))
+    first-place line lines at byte last (λ some. let below : byte < at + offset (line ∷ lines) 1 = to (omega arith) in
+    omega (arith, offset-suc line lines 0))
 place-at (line ∷ lines) at byte (suc i) last none h from to =
-    let test : nat_lt byte (at + length line.text + 1) ≡ false = le-ltb byte (at + length line.text + 1) (omega (arith, offset-suc line lines i)) in
-    ap (λ (b : Bool). elim b [ true ↦ line.place | false ↦ place_from lines (at + length line.text + 1) byte line.place ]) test ∙
-    place-at lines (at + length line.text + 1) byte i line.place none (omega arith) (omega (arith, offset-suc line lines i))
+    let test : nat_lt byte (at + length line.text + 1) ≡ false =
+    le-ltb byte (at + length line.text + 1) (omega (arith, offset-suc line lines i)) in
+    ap (λ (b : Bool). elim b [
+      | true ↦ line.place
+      | false ↦ place_from lines (at + length line.text + 1) byte line.place
+    ]) test ∙
+    place-at lines (at + length line.text + 1) byte i line.place none (omega arith)
+    (omega (arith, offset-suc line lines i))
     (λ more. let below : byte < at + offset (line ∷ lines) (suc i + 1) = to (omega arith) in
-    let same : offset (line ∷ lines) (suc i + 1) ≡ offset (line ∷ lines) (suc (i + 1)) = ap (offset (line ∷ lines)) (let e : suc i + 1 ≡ suc (i + 1) = omega arith in e) in
+    let same : offset (line ∷ lines) (suc i + 1) ≡ offset (line ∷ lines) (suc (i + 1)) =
+    ap (offset (line ∷ lines)) (let e : suc i + 1 ≡ suc (i + 1) = omega arith in e) in
     omega (arith, offset-suc line lines (i + 1), below, same))
 
 -- Lines that end before a part of the text begins don't matter to it, and neither do those that begin behind it.
 pub changed-skip : (lines : List MergedLine) (at i start end : ℕ) → i ≤ length lines → at + offset lines i ≤ start
     → holds_changed lines at start end ≡ holds_changed (drop i lines) (at + offset lines i) start end
-changed-skip lines at zero start end h past = ap (λ (n : ℕ). holds_changed lines n start end) (let e : at ≡ at + 0 = omega arith in e)
+changed-skip lines at zero start end h past = ap (λ (n : ℕ). holds_changed lines n start end) (let e : at
+    ≡ at + 0 = omega arith in e)
 changed-skip [] at (suc i) start end h past = absurd (let no : suc i ≤ 0 = h in omega arith)
 changed-skip (line ∷ lines) at (suc i) start end h past =
     let here : ℕ = at + length line.text + 1 in
     let test : nat_lt start here ≡ false = le-ltb start here (omega (arith, offset-suc line lines i)) in
-    let out : (line.changed && (nat_lt at end && nat_lt start here)) ≡ false = and_right line.changed (nat_lt at end && nat_lt start here) (and_right (nat_lt at end) (nat_lt start here) test) in
+    let out : (line.changed && (nat_lt at end && nat_lt start here))
+    ≡ false = and_right line.changed (nat_lt at end && nat_lt start here)
+    (and_right (nat_lt at end) (nat_lt start here) test) in
     ap (λ (b : Bool). b || holds_changed lines here start end) out ∙
     changed-skip lines here i start end (omega arith) (omega (arith, offset-suc line lines i)) ∙
     ap (λ (n : ℕ). holds_changed (drop i lines) n start end) (omega (arith, offset-suc line lines i))
@@ -63,49 +84,63 @@ changed-behind [] at start end past = refl
 changed-behind (line ∷ lines) at start end past =
     let here : ℕ = at + length line.text + 1 in
     let test : nat_lt at end ≡ false = le-ltb at end past in
-    let out : (line.changed && (nat_lt at end && nat_lt start here)) ≡ false = and_right line.changed (nat_lt at end && nat_lt start here) (and_left (nat_lt at end) (nat_lt start here) test) in
+    let out : (line.changed && (nat_lt at end && nat_lt start here))
+    ≡ false = and_right line.changed (nat_lt at end && nat_lt start here)
+    (and_left (nat_lt at end) (nat_lt start here) test) in
     ap (λ (b : Bool). b || holds_changed lines here start end) out ∙ changed-behind lines here start end (omega arith)
 
-pub offset-more : (lines : List MergedLine) (i : ℕ) (none : MergedLine) → i < length lines → offset lines (i + 1) ≡ offset lines i + length (get_or lines i none).text + 1
+pub offset-more : (lines : List MergedLine) (i : ℕ) (none : MergedLine) → i < length lines → offset lines (i + 1)
+    ≡ offset lines i + length (get_or lines i none).text + 1
 offset-more lines i none h =
-    ap (λ (first : List MergedLine). length (text_of first)) (take_more lines i none h) ∙ length-text_of-more (take i lines) (get_or lines i none)
+    ap (λ (first : List MergedLine). length (text_of first)) (take_more lines i none h)
+    ∙ length-text_of-more (take i lines) (get_or lines i none)
 
 -- One line of those that are left.
 pub changed-step : (lines : List MergedLine) (i start end : ℕ) (none : MergedLine) → i < length lines
     → holds_changed (drop i lines) (offset lines i) start end
-    ≡ (((get_or lines i none).changed && (nat_lt (offset lines i) end && nat_lt start (offset lines i + length (get_or lines i none).text + 1)))
+    ≡ (((get_or lines i none).changed && (nat_lt (offset lines i) end
+    && nat_lt start (offset lines i + length (get_or lines i none).text + 1)))
     || holds_changed (drop (i + 1) lines) (offset lines (i + 1)) start end)
 changed-step lines i start end none h =
     let line : MergedLine = get_or lines i none in
     ap (λ (rest : List MergedLine). holds_changed rest (offset lines i) start end) (drop_more lines i none h) ∙
-    ap (λ (n : ℕ). (line.changed && (nat_lt (offset lines i) end && nat_lt start (offset lines i + length line.text + 1))) || holds_changed (drop (i + 1) lines) n start end)
+    ap (λ (n : ℕ). (line.changed && (nat_lt (offset lines i) end && nat_lt start (offset lines i + length line.text
+    + 1))) || holds_changed (drop (i + 1) lines) n start end)
     (sym (offset-more lines i none h))
 
-pub changed-hit : (lines : List MergedLine) (i start end : ℕ) (none : MergedLine) → i < length lines → (get_or lines i none).changed ≡ true
-    → offset lines i < end → start ≤ offset lines i + length (get_or lines i none).text → holds_changed (drop i lines) (offset lines i) start end ≡ true
+pub changed-hit : (lines : List MergedLine) (i start end : ℕ) (none : MergedLine) → i < length lines
+    → (get_or lines i none).changed ≡ true
+    → offset lines i < end → start ≤ offset lines i + length (get_or lines i none).text
+    → holds_changed (drop i lines) (offset lines i) start end ≡ true
 changed-hit lines i start end none h changed before reaches =
     let line : MergedLine = get_or lines i none in
     let first : nat_lt (offset lines i) end ≡ true = lt-ltb (offset lines i) end before in
-    let second : nat_lt start (offset lines i + length line.text + 1) ≡ true = lt-ltb start (offset lines i + length line.text + 1) (omega arith) in
+    let second : nat_lt start (offset lines i + length line.text + 1) ≡ true =
+    lt-ltb start (offset lines i + length line.text + 1) (omega arith) in
     changed-step lines i start end none h ∙
     or_left (line.changed && (nat_lt (offset lines i) end && nat_lt start (offset lines i + length line.text + 1)))
     (holds_changed (drop (i + 1) lines) (offset lines (i + 1)) start end)
     (and_from line.changed (nat_lt (offset lines i) end && nat_lt start (offset lines i + length line.text + 1)) changed
     (and_from (nat_lt (offset lines i) end) (nat_lt start (offset lines i + length line.text + 1)) first second))
 
-pub changed-plain : (lines : List MergedLine) (i start end : ℕ) (none : MergedLine) → i < length lines → (get_or lines i none).changed ≡ false
-    → holds_changed (drop i lines) (offset lines i) start end ≡ holds_changed (drop (i + 1) lines) (offset lines (i + 1)) start end
+pub changed-plain : (lines : List MergedLine) (i start end : ℕ) (none : MergedLine) → i < length lines
+    → (get_or lines i none).changed ≡ false
+    → holds_changed (drop i lines) (offset lines i) start end
+    ≡ holds_changed (drop (i + 1) lines) (offset lines (i + 1)) start end
 changed-plain lines i start end none h plain =
     let line : MergedLine = get_or lines i none in
     changed-step lines i start end none h ∙
     ap (λ (b : Bool). b || holds_changed (drop (i + 1) lines) (offset lines (i + 1)) start end)
     (and_left line.changed (nat_lt (offset lines i) end && nat_lt start (offset lines i + length line.text + 1)) plain)
 
-pub changed-before : (lines : List MergedLine) (i start end : ℕ) (none : MergedLine) → i < length lines → offset lines i + length (get_or lines i none).text < start
-    → holds_changed (drop i lines) (offset lines i) start end ≡ holds_changed (drop (i + 1) lines) (offset lines (i + 1)) start end
+pub changed-before : (lines : List MergedLine) (i start end : ℕ) (none : MergedLine) → i < length lines
+    → offset lines i + length (get_or lines i none).text < start
+    → holds_changed (drop i lines) (offset lines i) start end
+    ≡ holds_changed (drop (i + 1) lines) (offset lines (i + 1)) start end
 changed-before lines i start end none h before =
     let line : MergedLine = get_or lines i none in
-    let test : nat_lt start (offset lines i + length line.text + 1) ≡ false = le-ltb start (offset lines i + length line.text + 1) (omega arith) in
+    let test : nat_lt start (offset lines i + length line.text + 1) ≡ false =
+    le-ltb start (offset lines i + length line.text + 1) (omega arith) in
     changed-step lines i start end none h ∙
     ap (λ (b : Bool). b || holds_changed (drop (i + 1) lines) (offset lines (i + 1)) start end)
     (and_right line.changed (nat_lt (offset lines i) end && nat_lt start (offset lines i + length line.text + 1))

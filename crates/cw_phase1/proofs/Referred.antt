@@ -1,5 +1,6 @@
 -- References that are added one by one, and the notes on names one by one.
-use Rattle.std.proofs.Common.{◌≡◌, ℕ, zero, suc, ◌+◌, ◌<◌, Bool, true, false, List, [], ◌∷◌, ◌++◌, Option, Some, None, All, map, drop, length, get_or, refl, ap, sym, ◌∙◌, append_assoc, zero-add, arith}
+use Rattle.std.proofs.Common.{◌≡◌, ℕ, zero, suc, ◌+◌, ◌<◌, Bool, true, false, List, [], ◌∷◌, ◌++◌, Option, Some, None}
+use Rattle.std.proofs.Common.{All, map, drop, length, get_or, refl, ap, sym, ◌∙◌, append_assoc, zero-add, arith}
 use Rattle.std.specs.Prelude.{slice_get}
 use Rattle.std.specs.List.{position}
 use Rattle.std.proofs.lemmas.List.{append-nil}
@@ -8,7 +9,8 @@ use Rattle.cw_secnames.specs.declared.kinds.SecKind.{SecKind}
 use Rattle.cw_secnames.specs.declared.kinds.Earliest.{Earliest}
 use Rattle.cw_secnames.specs.declared.kinds.Earliest.TheVariants.{Nobody, One, Several}
 use Rattle.cw_secnames.specs.declared.kinds.SecKind.TheVariants.{Named}
-use Rattle.cw_secnames.specs.Kept.{SecName, unreferred, with_text, has_text, grows_to, conflicts_with, enter_by, positions_from, is_candidate, is_shorter, grown, earliest, enter_prefix_by}
+use Rattle.cw_secnames.specs.Kept.{SecName, unreferred, with_text, has_text, grows_to, conflicts_with, enter_by}
+use Rattle.cw_secnames.specs.Kept.{positions_from, is_candidate, is_shorter, grown, earliest, enter_prefix_by}
 use Rattle.cw_secnames.specs.References.{Reference, referred}
 use Rattle.cw_secnames.specs.ReferenceLaws.{referred-more}
 use Rattle.cw_phase1.specs.declared.named.Referring.{Referring}
@@ -30,13 +32,16 @@ AreBare (n ∷ names) = IsBare n × AreBare names
 bare-referred : (k : ℕ) (names : List SecName) → AreBare names → referred [] k names ≡ names
 bare-referred k [] h = refl
 bare-referred k (n ∷ names) h =
-    (λ i. record n { defined = sym (h.0.0) i; used = sym (h.0.1) i; cited = sym (h.0.2) i } ∷ bare-referred (k + 1) names h.1 i)
+    (λ i. record n { defined = sym (h.0.0) i; used = sym (h.0.1) i; cited = sym (h.0.2) i }
+    ∷ bare-referred (k + 1) names h.1 i)
 
-bare-last : (names : List SecName) (kind : SecKind) (text : List ℕ) (complete : Bool) → AreBare names → AreBare (names ++ unreferred kind text complete ∷ [])
+bare-last : (names : List SecName) (kind : SecKind) (text : List ℕ) (complete : Bool) → AreBare names
+    → AreBare (names ++ unreferred kind text complete ∷ [])
 bare-last [] kind text complete h = ((refl, refl, refl), tt)
 bare-last (n ∷ names) kind text complete h = (h.0, bare-last names kind text complete h.1)
 
-bare-text : (i : ℕ) (text : List ℕ) (complete : Bool) (names : List SecName) → AreBare names → AreBare (with_text i text complete names)
+bare-text : (i : ℕ) (text : List ℕ) (complete : Bool) (names : List SecName) → AreBare names
+    → AreBare (with_text i text complete names)
 bare-text i text complete [] h = h
 bare-text zero text complete (n ∷ names) h = h
 bare-text (suc i) text complete (n ∷ names) h = (h.0, bare-text i text complete names h.1)
@@ -51,13 +56,15 @@ bare-grown prefix i [] h = h
 bare-grown prefix zero (n ∷ names) h = bare-by (is_shorter prefix n) prefix n names h
 bare-grown prefix (suc i) (n ∷ names) h = (h.0, bare-grown prefix i names h.1)
 
-bare-enter : (a b c : Option ℕ) (kind : SecKind) (text : List ℕ) (names : List SecName) → AreBare names → AreBare (enter_by a b c kind text names).kept
+bare-enter : (a b c : Option ℕ) (kind : SecKind) (text : List ℕ) (names : List SecName) → AreBare names
+    → AreBare (enter_by a b c kind text names).kept
 bare-enter (Some k) b c kind text names h = h
 bare-enter None (Some k) c kind text names h = bare-text k text true names h
 bare-enter None None (Some k) kind text names h = h
 bare-enter None None None kind text names h = bare-last names kind text true h
 
-bare-prefix : (e : Earliest) (prefix : List ℕ) (names : List SecName) → AreBare names → AreBare (enter_prefix_by e prefix names).kept
+bare-prefix : (e : Earliest) (prefix : List ℕ) (names : List SecName) → AreBare names
+    → AreBare (enter_prefix_by e prefix names).kept
 bare-prefix Nobody prefix names h = bare-last names Named prefix false h
 bare-prefix (One k) prefix names h = bare-grown prefix k names h
 bare-prefix (Several k next) prefix names h = h
@@ -65,12 +72,14 @@ bare-prefix (Several k next) prefix names h = h
 bare-entering : (n : Naming) (names : List SecName) → AreBare names → AreBare (kept_by (entering n names) names)
 bare-entering Void names h = h
 bare-entering (Full kind text) names h =
-    bare-enter (position (has_text kind text) names) (position (grows_to kind text) names) (position (conflicts_with kind text) names) kind text names h
+    bare-enter (position (has_text kind text) names) (position (grows_to kind text) names)
+    (position (conflicts_with kind text) names) kind text names h
 bare-entering (Prefix text) names h = bare-prefix (earliest (positions_from 0 (is_candidate text) names)) text names h
 
 bare-kept : (names : List SecName) (answers : List Answer) → AreBare names → AreBare (kept_after names answers)
 bare-kept names [] h = h
-bare-kept names (Token t ∷ answers) h = bare-kept (kept_behind t names) answers (bare-entering (naming t.kind t.text) names h)
+bare-kept names (Token t ∷ answers) h = bare-kept (kept_behind t names) answers
+    (bare-entering (naming t.kind t.text) names h)
 bare-kept names (Begin t ∷ answers) h = bare-kept names answers h
 bare-kept names (Finish t ∷ answers) h = bare-kept names answers h
 bare-kept names (Note kind place ∷ answers) h = bare-kept names answers h
@@ -83,8 +92,10 @@ add-all before [] names = ap (λ rs. referred rs 0 names) (sym (append-nil befor
 add-all before (r ∷ references) names =
     let one : (before ++ record { name = 0 + r.name; how = r.how; section = r.section } ∷ []) ≡ (before ++ r ∷ []) =
     ap (λ n. before ++ record { name = n; how = r.how; section = r.section } ∷ []) (zero-add r.name) in
-    ap (with_references references) (sym (referred-more before r.how r.section 0 r.name names) ∙ ap (λ rs. referred rs 0 names) one) ∙
-    (add-all (before ++ r ∷ []) references names ∙ ap (λ rs. referred rs 0 names) (append_assoc before (r ∷ []) references))
+    ap (with_references references) (sym (referred-more before r.how r.section 0 r.name names)
+    ∙ ap (λ rs. referred rs 0 names) one) ∙
+    (add-all (before ++ r ∷ []) references names ∙ ap (λ rs. referred rs 0 names)
+    (append_assoc before (r ∷ []) references))
 
 -- The kept names with all references.
 pub all-referred : (references : List Reference) (answers : List Answer)
@@ -93,7 +104,8 @@ all-referred references answers =
     ap (with_references references) (sym (bare-referred 0 (kept_after [] answers) (bare-kept [] answers tt))) ∙
     add-all [] references (kept_after [] answers)
 
-pub of-kept : (items : List Referring) (n k : ℕ) (d : Referring) → All (λ (r : Reference). r.name < n) (map referring_of items) → k < length items
+pub of-kept : (items : List Referring) (n k : ℕ) (d : Referring)
+    → All (λ (r : Reference). r.name < n) (map referring_of items) → k < length items
     → (get_or items k d).name < n
 of-kept [] n k d a h = absurd (omega arith)
 of-kept (r ∷ items) n zero d a h = a zero (referring_of d) (omega arith)
@@ -102,7 +114,8 @@ of-kept (r ∷ items) n (suc k) d a h = of-kept items n k d (λ j e l. a (suc j)
 -- ## Notes
 
 pub names-step : (names : List SecName) (j k : ℕ) → k < length names
-    → name_notes_from j (drop k names) ≡ notes_at_by (slice_get names k) j ++ name_notes_from (j + 1) (drop (k + 1) names)
+    → name_notes_from j (drop k names) ≡ notes_at_by (slice_get names k) j ++ name_notes_from (j + 1)
+    (drop (k + 1) names)
 names-step [] j k h = absurd (omega arith)
 names-step (n ∷ names) j zero h = refl
 names-step (n ∷ names) j (suc k) h =

@@ -1,5 +1,6 @@
 -- Which tokens have names, and which section each stands in.
-use Rattle.std.proofs.Common.{◌≡◌, ℕ, zero, suc, ◌+◌, ◌<◌, ◌≤◌, ◌==◌, Bool, true, false, List, [], ◌∷◌, ◌++◌, Option, Some, None, All, map, length, refl, ap, sym, subst, ◌∙◌, add-zero, zero-add, arith}
+use Rattle.std.proofs.Common.{◌≡◌, ℕ, zero, suc, ◌+◌, ◌<◌, ◌≤◌, ◌==◌, Bool, true, false, List, [], ◌∷◌, ◌++◌, Option}
+use Rattle.std.proofs.Common.{Some, None, All, map, length, refl, ap, sym, subst, ◌∙◌, add-zero, zero-add, arith}
 use Rattle.std.specs.List.{filter}
 use Rattle.std.proofs.lemmas.List.Elements.{All-nil, All-cons}
 use Rattle.cw_base.specs.Web.{MergedLine}
@@ -23,7 +24,8 @@ use Rattle.cw_phase1.specs.declared.roles.Standing.{Standing}
 use Rattle.cw_phase1.specs.declared.sections.Section.{Section}
 use Rattle.cw_phase1.specs.Entering.{entered_name, kept_behind, name_of_entering}
 use Rattle.cw_phase1.specs.Holding.{is_name}
-use Rattle.cw_phase1.specs.Roles.{Placed, Step, name_step, code_step, free_step, token_step, token_step_by, word_role, head_role, behind_begin, placed_by, placed_from}
+use Rattle.cw_phase1.specs.Roles.{Placed, Step, name_step, code_step, free_step, token_step, token_step_by, word_role}
+use Rattle.cw_phase1.specs.Roles.{head_role, behind_begin, placed_by, placed_from}
 use Rattle.cw_phase1.specs.Sections.{is_section_code, section_at, sections_of}
 use Rattle.cw_phase1.specs.Sound.{Ascend, RefersUpTo}
 use Rattle.cw_phase1.specs.Uses.{use_by, uses_of, reference_by, references_of}
@@ -44,7 +46,8 @@ abbrev pub AreFit : List Placed → Type 0
 AreFit [] = Unit {0}
 AreFit (p ∷ ps) = IsFit p × AreFit ps
 
-name-fits : (headed : Bool) (t : Seen) (name : Option SecId) (s : Standing) → IsFit (placed_by t name (name_step headed s))
+name-fits : (headed : Bool) (t : Seen) (name : Option SecId) (s : Standing)
+    → IsFit (placed_by t name (name_step headed s))
 name-fits true t name s = record {
   code = λ h. absurd (let wrong : false ≡ true = h in cc);
   plain = λ h. absurd (let wrong : true ≡ false = h in cc);
@@ -66,8 +69,10 @@ fits-by false t kept headed s e = record {
 
 pub fits : (s : Standing) (kept : List SecName) (answers : List Answer) → AreFit (placed_from s kept answers)
 fits s kept [] = tt
-fits s kept (Token t ∷ answers) =
-    (fits-by (is_name t.kind) t kept (has_sign answers) s refl, fits (token_step t.kind (has_sign answers) s t.span).next (kept_behind t kept) answers)
+fits s kept (Token t ∷ answers) = (
+  fits-by (is_name t.kind) t kept (has_sign answers) s refl,
+  fits (token_step t.kind (has_sign answers) s t.span).next (kept_behind t kept) answers,
+)
 fits s kept (Begin t ∷ answers) = fits (behind_begin s) kept answers
 fits s kept (Finish t ∷ answers) = fits s kept answers
 fits s kept (Note kind place ∷ answers) = fits s kept answers
@@ -79,19 +84,23 @@ IsUse n u = u.name < n
 abbrev IsReference : ℕ → Reference → Type 0
 IsReference n r = r.name < n
 
-use-below : (role : Role) (name : Option SecId) (place section n : ℕ) (uses : List NameUse) (references : List Reference)
+use-below : (role : Role) (name : Option SecId) (place section n : ℕ) (uses : List NameUse)
+    (references : List Reference)
     → (is_name_role role ≡ false → name ≡ None) → All (IsReference n) (reference_by role name section ++ references)
     → (All (IsReference n) references → All (IsUse n) uses) → All (IsUse n) (use_by name place ++ uses)
 use-below (roles.Name how) None place section n uses references h a k = k a
 use-below (roles.Name how) (Some id) place section n uses references h a k =
-    All-cons (IsUse n) _ uses (a zero (record { name = id.index; how = how; section = section }) (omega arith)) (k (λ j d l. a (suc j) d (omega arith)))
+    All-cons (IsUse n) _ uses (a zero (record { name = id.index; how = how; section = section }) (omega arith))
+    (k (λ j d l. a (suc j) d (omega arith)))
 use-below role name place section n uses references h a k =
     subst (λ (m : Option SecId). All (IsUse n) (use_by m place ++ uses)) (sym (h refl)) (k a)
 
-pub uses-below : (n : ℕ) (ps : List Placed) → AreFit ps → All (λ (r : Reference). r.name < n) (references_of ps) → All (λ (u : NameUse). u.name < n) (uses_of ps)
+pub uses-below : (n : ℕ) (ps : List Placed) → AreFit ps → All (λ (r : Reference). r.name < n) (references_of ps)
+    → All (λ (u : NameUse). u.name < n) (uses_of ps)
 uses-below n [] f a = All-nil (IsUse n)
 uses-below n (p ∷ ps) f a =
-    use-below p.role p.name p.token.span.start p.section n (uses_of ps) (references_of ps) f.0.plain a (uses-below n ps f.1)
+    use-below p.role p.name p.token.span.start p.section n (uses_of ps) (references_of ps) f.0.plain a
+    (uses-below n ps f.1)
 
 -- ## Sections
 
@@ -143,11 +152,14 @@ free-number kinds.Identifier headed s = sym (add-zero s.section)
 free-number (kinds.Code code) headed s = code-number code headed s
 free-number kind headed s = sym (add-zero s.section)
 
-step-number : (o : Option Wanted) (kind : TokKind) (headed : Bool) (s : Standing) → IsNumbered s.section (token_step_by o kind headed s)
+step-number : (o : Option Wanted) (kind : TokKind) (headed : Bool) (s : Standing)
+    → IsNumbered s.section (token_step_by o kind headed s)
 step-number None kind headed s = free-number kind headed (behind_begin s)
-step-number (Some next) kind headed s = sym (ap (λ (b : Bool). s.section + count_by b) (no-code-head s.wanted kind) ∙ add-zero s.section)
+step-number (Some next) kind headed s = sym (ap (λ (b : Bool). s.section + count_by b) (no-code-head s.wanted kind)
+    ∙ add-zero s.section)
 
-pub numbered : (s : Standing) (kept : List SecName) (answers : List Answer) → Numbered s.section (placed_from s kept answers)
+pub numbered : (s : Standing) (kept : List SecName) (answers : List Answer)
+    → Numbered s.section (placed_from s kept answers)
 numbered s kept [] = tt
 numbered s kept (Token t ∷ answers) = (
   step-number (head_behind s.wanted t.kind t.span) t.kind (has_sign answers) s,
@@ -167,7 +179,8 @@ count-section : (b : Bool) (s : Section) (rest : List Section)
 count-section true s rest = omega arith
 count-section false s rest = sym (zero-add (length rest))
 
-pub section-count : (lines : List MergedLine) (size : ℕ) (ps : List Placed) → length (sections_of lines size ps) ≡ codes ps
+pub section-count : (lines : List MergedLine) (size : ℕ) (ps : List Placed) → length (sections_of lines size ps)
+    ≡ codes ps
 section-count lines size [] = refl
 section-count lines size (p ∷ ps) =
     count-section (is_section_code p.role) (section_at lines size p.token ps) (sections_of lines size ps) ∙
@@ -187,29 +200,37 @@ rise-more m n high (k ∷ ns) h r = (omega (arith, r.0), r.1, r.2)
 abbrev pub sections_in : List Reference → List ℕ
 sections_in references = map (λ (r : Reference). r.section) references
 
-pub rise-reference : (role : Role) (name : Option SecId) (section low high : ℕ) (references : List Reference) → low ≤ section → section ≤ high
-    → Rise section high (sections_in references) → Rise low high (sections_in (reference_by role name section ++ references))
-rise-reference (roles.Name how) None section low high references l h r = rise-more low section high (sections_in references) l r
+pub rise-reference : (role : Role) (name : Option SecId) (section low high : ℕ) (references : List Reference)
+    → low ≤ section → section ≤ high
+    → Rise section high (sections_in references)
+    → Rise low high (sections_in (reference_by role name section ++ references))
+rise-reference (roles.Name how) None section low high references l h r =
+    rise-more low section high (sections_in references) l r
 rise-reference (roles.Name how) (Some id) section low high references l h r = (l, h, r)
 rise-reference role name section low high references l h r = rise-more low section high (sections_in references) l r
 
-pub rise : (m high : ℕ) (ps : List Placed) → Numbered m ps → m + codes ps ≤ high → Rise m high (sections_in (references_of ps))
+pub rise : (m high : ℕ) (ps : List Placed) → Numbered m ps → m + codes ps ≤ high
+    → Rise m high (sections_in (references_of ps))
 rise m high [] n h = tt
 rise m high (p ∷ ps) n h =
     rise-reference p.role p.name p.section m high (references_of ps) (omega (arith, n.0)) (omega (arith, n.0, h))
     (rise p.section high ps n.1 (omega (arith, n.0, h)))
 
-rise-filter-by : (t : Bool) (test : Reference → Bool) (low high : ℕ) (r : Reference) (references : List Reference) → test r ≡ t
+rise-filter-by : (t : Bool) (test : Reference → Bool) (low high : ℕ) (r : Reference) (references : List Reference)
+    → test r ≡ t
     → Rise low high (sections_in (r ∷ references)) → Rise r.section high (sections_in (filter test references))
     → Rise low high (sections_in (filter test (r ∷ references)))
 rise-filter-by true test low high r references e a k = rw e (a.0, a.1, k)
-rise-filter-by false test low high r references e a k = rw e (rise-more low r.section high (sections_in (filter test references)) a.0 k)
+rise-filter-by false test low high r references e a k =
+    rw e (rise-more low r.section high (sections_in (filter test references)) a.0 k)
 
-rise-filter : (test : Reference → Bool) (low high : ℕ) (references : List Reference) → Rise low high (sections_in references)
+rise-filter : (test : Reference → Bool) (low high : ℕ) (references : List Reference)
+    → Rise low high (sections_in references)
     → Rise low high (sections_in (filter test references))
 rise-filter test low high [] r = tt
 rise-filter test low high (reference ∷ references) r =
-    rise-filter-by (test reference) test low high reference references refl r (rise-filter test reference.section high references r.2)
+    rise-filter-by (test reference) test low high reference references refl r
+    (rise-filter test reference.section high references r.2)
 
 not-same : (a b : ℕ) → (a == b) ≡ false → a ≤ b → a + 1 ≤ b
 not-same a b e h = grind arith
@@ -229,14 +250,19 @@ once-ascends low high (n ∷ next ∷ ns) r =
 ascend : (name : ℕ) (how : RefKind) (high : ℕ) (references : List Reference) → Rise 1 high (sections_in references)
     → Ascend 1 high (once (sections_in (filter (is_of name how) references)))
 ascend name how high references r =
-    once-ascends 1 high (sections_in (filter (is_of name how) references)) (rise-filter (is_of name how) 1 high references r)
+    once-ascends 1 high (sections_in (filter (is_of name how) references))
+    (rise-filter (is_of name how) 1 high references r)
 
 refers : (high : ℕ) (references : List Reference) (k : ℕ) (names : List SecName) → Rise 1 high (sections_in references)
     → All (RefersUpTo high) (referred references k names)
 refers high references k [] r = All-nil (RefersUpTo high)
 refers high references k (n ∷ names) r =
     All-cons (RefersUpTo high) _ (referred references (k + 1) names)
-    (record { defined = ascend k Defined high references r; used = ascend k Used high references r; cited = ascend k Cited high references r })
+    (record {
+      defined = ascend k Defined high references r;
+      used = ascend k Used high references r;
+      cited = ascend k Cited high references r;
+    })
     (refers high references (k + 1) names r)
 
 pub all-refer : (lines : List MergedLine) (size : ℕ) (names : List SecName) (ps : List Placed)

@@ -1,5 +1,6 @@
 -- Worked webs: the book that the first phase makes of each.
-use Rattle.std.proofs.Common.{◌≡◌, ℕ, ◌+◌, Bool, true, false, List, [], ◌∷◌, Option, Some, None, codes, length, drop, refl}
+use Rattle.std.proofs.Common.{◌≡◌, ℕ, ◌+◌, Bool, true, false, List, [], ◌∷◌, Option, Some, None, codes, length, drop}
+use Rattle.std.proofs.Common.{refl}
 use Rattle.cw_base.specs.declared.category.Cat.{Cat}
 use Rattle.cw_base.specs.declared.category.Cat.TheVariants.{Exp, RawInt}
 use Rattle.cw_base.specs.declared.notes.Note.{Note}
@@ -86,20 +87,26 @@ shown_book b = record {
 abbrev shown : List MergedLine → Shown
 shown lines = shown_book (book lines)
 
-a_prefix_of_two_names : shown (web ((codes "@ @<Read a@>= x;") ∷ (codes "@ @<Read b@>= y;") ∷ (codes "@ @c @<Read...@>;") ∷ [])) ≡ record {
-  limbo = span 0 0;
-  sections = section false Zero (span 2 2) (span 2 2) (span 2 17) (Some 0) false ∷ section false Zero (span 19 19) (span 19 19) (span 19 34) (Some 1) false ∷ section false Zero (span 36 36) (span 36 36) (span 36 52) None false ∷ [];
-  names = entry Ident (codes "x") Exp ∷ entry Ident (codes "y") Exp ∷ [];
-  occurrences = occ 49 1 false ∷ occ 50 2 false ∷ [];
-  section_names = sec_name Named (codes "Read a") true (1 ∷ []) (3 ∷ []) ([]) ∷ sec_name Named (codes "Read b") true (2 ∷ []) ([]) ([]) ∷ [];
-  name_uses = at 2 0 ∷ at 19 1 ∷ at 39 0 ∷ [];
-  notes = note notes.AmbiguousPrefix 0 0 3 ∷ note notes.NeverUsed 1 0 0 ∷ [];
-}
+a_prefix_of_two_names : shown (web ((codes "@ @<Read a@>= x;") ∷ (codes "@ @<Read b@>= y;")
+    ∷ (codes "@ @c @<Read...@>;") ∷ [])) ≡ record {
+      limbo = span 0 0;
+      sections = section false Zero (span 2 2) (span 2 2) (span 2 17) (Some 0) false ∷ section false Zero (span 19 19)
+          (span 19 19) (span 19 34) (Some 1) false ∷ section false Zero (span 36 36) (span 36 36) (span 36 52) None
+          false
+          ∷ [];
+      names = entry Ident (codes "x") Exp ∷ entry Ident (codes "y") Exp ∷ [];
+      occurrences = occ 49 1 false ∷ occ 50 2 false ∷ [];
+      section_names = sec_name Named (codes "Read a") true (1 ∷ []) (3 ∷ []) ([]) ∷ sec_name Named (codes "Read b") true
+          (2 ∷ []) ([]) ([]) ∷ [];
+      name_uses = at 2 0 ∷ at 19 1 ∷ at 39 0 ∷ [];
+      notes = note notes.AmbiguousPrefix 0 0 3 ∷ note notes.NeverUsed 1 0 0 ∷ [];
+    }
 a_prefix_of_two_names = refl
 
 two_parts : shown (web ((codes "@ @c int i;") ∷ (codes "@ @c i=i+1;") ∷ [])) ≡ record {
   limbo = span 0 0;
-  sections = section false Zero (span 2 2) (span 2 2) (span 2 12) None false ∷ section false Zero (span 14 14) (span 14 14) (span 14 24) None false ∷ [];
+  sections = section false Zero (span 2 2) (span 2 2) (span 2 12) None false ∷ section false Zero (span 14 14)
+      (span 14 14) (span 14 24) None false ∷ [];
   names = entry Ident (codes "i") Exp ∷ [];
   occurrences = occ 3 1 false ∷ occ 49 1 false ∷ occ 49 2 false ∷ occ 49 2 false ∷ [];
   section_names = [];
@@ -121,7 +128,8 @@ a_format_definition = refl
 
 a_conflict : shown (web ((codes "@ @<Read@>= x;") ∷ (codes "@ @<Read b@>= y;") ∷ [])) ≡ record {
   limbo = span 0 0;
-  sections = section false Zero (span 2 2) (span 2 2) (span 2 15) (Some 0) false ∷ section false Zero (span 17 17) (span 17 17) (span 17 32) (Some 0) false ∷ [];
+  sections = section false Zero (span 2 2) (span 2 2) (span 2 15) (Some 0) false ∷ section false Zero (span 17 17)
+      (span 17 17) (span 17 32) (Some 0) false ∷ [];
   names = entry Ident (codes "x") Exp ∷ entry Ident (codes "y") Exp ∷ [];
   occurrences = occ 49 1 false ∷ occ 50 2 false ∷ [];
   section_names = sec_name Named (codes "Read") true (1 ∷ 2 ∷ []) ([]) ([]) ∷ [];
@@ -130,37 +138,59 @@ a_conflict : shown (web ((codes "@ @<Read@>= x;") ∷ (codes "@ @<Read b@>= y;")
 }
 a_conflict = refl
 
-an_ordinary_web : shown (web ((92 ∷ 100 ∷ 101 ∷ 102 ∷ 92 ∷ 116 ∷ 105 ∷ 116 ∷ 108 ∷ 101 ∷ 123 ∷ 72 ∷ 101 ∷ 108 ∷ 108 ∷ 111 ∷ 125 ∷ []) ∷ (codes "@* Hello. This program greets |n| times.") ∷ (codes "@d n 3") ∷ (codes "@c") ∷ (codes "#include <stdio.h>") ∷ (codes "int main(void)") ∷ (codes "{") ∷ (codes "  int i;") ∷ (codes "  for (i=0;i<n;i++) @<Greet@>;") ∷ (codes "  return 0;") ∷ (codes "}") ∷ (codes "@ Here it is.") ∷ (codes "@<Greet@>=") ∷ (112 ∷ 114 ∷ 105 ∷ 110 ∷ 116 ∷ 102 ∷ 40 ∷ 34 ∷ 72 ∷ 101 ∷ 108 ∷ 108 ∷ 111 ∷ 92 ∷ 110 ∷ 34 ∷ 41 ∷ 59 ∷ 32 ∷ 47 ∷ 42 ∷ 32 ∷ 124 ∷ 105 ∷ 124 ∷ 32 ∷ 105 ∷ 115 ∷ 32 ∷ 117 ∷ 110 ∷ 117 ∷ 115 ∷ 101 ∷ 100 ∷ 32 ∷ 42 ∷ 47 ∷ []) ∷ [])) ≡ record {
-  limbo = span 0 18;
-  sections = section true Zero (span 21 59) (span 59 66) (span 66 159) None false ∷ section false Zero (span 161 173) (span 173 173) (span 173 223) (Some 0) false ∷ [];
-  names = entry Ident (codes "n") Exp ∷ entry Ident (codes "main") Exp ∷ entry Ident (codes "i") Exp ∷ entry Ident (codes "printf") Exp ∷ [];
-  occurrences = occ 49 1 false ∷ occ 49 1 true ∷ occ 42 1 false ∷ occ 3 1 false ∷ occ 50 1 false ∷ occ 8 1 false ∷ occ 3 1 false ∷ occ 51 1 false ∷ occ 29 1 false ∷ occ 51 1 false ∷ occ 51 1 false ∷ occ 49 1 false ∷ occ 51 1 false ∷ occ 28 1 false ∷ occ 52 2 false ∷ occ 51 2 false ∷ [];
-  section_names = sec_name Named (codes "Greet") true (2 ∷ []) (1 ∷ []) ([]) ∷ [];
-  name_uses = at 134 0 ∷ at 173 0 ∷ [];
-  notes = [];
-}
+an_ordinary_web : shown (web ((92 ∷ 100 ∷ 101 ∷ 102 ∷ 92 ∷ 116 ∷ 105 ∷ 116 ∷ 108 ∷ 101 ∷ 123 ∷ 72 ∷ 101 ∷ 108 ∷ 108
+    ∷ 111 ∷ 125 ∷ []) ∷ (codes "@* Hello. This program greets |n| times.") ∷ (codes "@d n 3") ∷ (codes "@c")
+    ∷ (codes "#include <stdio.h>") ∷ (codes "int main(void)") ∷ (codes "{") ∷ (codes "  int i;")
+    ∷ (codes "  for (i=0;i<n;i++) @<Greet@>;") ∷ (codes "  return 0;") ∷ (codes "}") ∷ (codes "@ Here it is.")
+    ∷ (codes "@<Greet@>=") ∷ (112 ∷ 114 ∷ 105 ∷ 110 ∷ 116 ∷ 102 ∷ 40 ∷ 34 ∷ 72 ∷ 101 ∷ 108 ∷ 108 ∷ 111 ∷ 92 ∷ 110 ∷ 34
+    ∷ 41 ∷ 59 ∷ 32 ∷ 47 ∷ 42 ∷ 32 ∷ 124 ∷ 105 ∷ 124 ∷ 32 ∷ 105 ∷ 115 ∷ 32 ∷ 117 ∷ 110 ∷ 117 ∷ 115 ∷ 101 ∷ 100 ∷ 32 ∷ 42
+    ∷ 47 ∷ []) ∷ [])) ≡ record {
+      limbo = span 0 18;
+      sections = section true Zero (span 21 59) (span 59 66) (span 66 159) None false
+          ∷ section false Zero (span 161 173)
+          (span 173 173) (span 173 223) (Some 0) false ∷ [];
+      names = entry Ident (codes "n") Exp ∷ entry Ident (codes "main") Exp ∷ entry Ident (codes "i") Exp
+          ∷ entry Ident (codes "printf") Exp ∷ [];
+      occurrences = occ 49 1 false ∷ occ 49 1 true ∷ occ 42 1 false ∷ occ 3 1 false ∷ occ 50 1 false ∷ occ 8 1 false
+          ∷ occ 3 1 false ∷ occ 51 1 false ∷ occ 29 1 false ∷ occ 51 1 false ∷ occ 51 1 false ∷ occ 49 1 false
+          ∷ occ 51 1 false ∷ occ 28 1 false ∷ occ 52 2 false ∷ occ 51 2 false ∷ [];
+      section_names = sec_name Named (codes "Greet") true (2 ∷ []) (1 ∷ []) ([]) ∷ [];
+      name_uses = at 134 0 ∷ at 173 0 ∷ [];
+      notes = [];
+    }
 an_ordinary_web = refl
 
-adjacent_and_apart : shown (web ((codes "@ @d f(a,...)a") ∷ (codes "@d g (a)") ∷ (codes "@d h(1") ∷ (codes "@f b") ∷ (codes "@!c@d@!k") ∷ (codes "@s x@!y int @^e@@x@>") ∷ [])) ≡ record {
-  limbo = span 0 0;
-  sections = section false Zero (span 2 2) (span 2 66) (span 66 66) None false ∷ [];
-  names = entry Ident (codes "f") Exp ∷ entry Ident (codes "a") Exp ∷ entry Ident (codes "g") Exp ∷ entry Ident (codes "h") Exp ∷ entry Ident (codes "b") Exp ∷ entry Ident (codes "c") Exp ∷ entry Ident (codes "k") Exp ∷ entry Ident (codes "x") Exp ∷ entry Ident (codes "y") Exp ∷ entry Roman (codes "e@x") Exp ∷ [];
-  occurrences = occ 49 1 true ∷ occ 50 1 false ∷ occ 50 1 false ∷ occ 51 1 true ∷ occ 50 1 false ∷ occ 52 1 true ∷ occ 53 1 false ∷ occ 54 1 true ∷ occ 55 1 true ∷ occ 57 1 true ∷ occ 3 1 false ∷ occ 58 1 false ∷ [];
-  section_names = [];
-  name_uses = [];
-  notes = note notes.ImproperMacro 0 0 3 ∷ note notes.ImproperFormat 0 0 4 ∷ note notes.ImproperMacro 0 0 5 ∷ note notes.ImproperFormat 0 0 6 ∷ [];
-}
+adjacent_and_apart : shown (web ((codes "@ @d f(a,...)a") ∷ (codes "@d g (a)") ∷ (codes "@d h(1") ∷ (codes "@f b")
+    ∷ (codes "@!c@d@!k") ∷ (codes "@s x@!y int @^e@@x@>") ∷ [])) ≡ record {
+      limbo = span 0 0;
+      sections = section false Zero (span 2 2) (span 2 66) (span 66 66) None false ∷ [];
+      names = entry Ident (codes "f") Exp ∷ entry Ident (codes "a") Exp ∷ entry Ident (codes "g") Exp
+          ∷ entry Ident (codes "h") Exp ∷ entry Ident (codes "b") Exp ∷ entry Ident (codes "c") Exp
+          ∷ entry Ident (codes "k") Exp ∷ entry Ident (codes "x") Exp ∷ entry Ident (codes "y") Exp
+          ∷ entry Roman (codes "e@x") Exp ∷ [];
+      occurrences = occ 49 1 true ∷ occ 50 1 false ∷ occ 50 1 false ∷ occ 51 1 true ∷ occ 50 1 false ∷ occ 52 1 true
+          ∷ occ 53 1 false ∷ occ 54 1 true ∷ occ 55 1 true ∷ occ 57 1 true ∷ occ 3 1 false ∷ occ 58 1 false ∷ [];
+      section_names = [];
+      name_uses = [];
+      notes = note notes.ImproperMacro 0 0 3 ∷ note notes.ImproperFormat 0 0 4 ∷ note notes.ImproperMacro 0 0 5
+          ∷ note notes.ImproperFormat 0 0 6 ∷ [];
+    }
 adjacent_and_apart = refl
 
-the_order_of_notes : shown (web ((codes "@ @<Read@>=") ∷ (codes "@c @<Read @^b") ∷ (codes "@ @<@>@<Wr...@>@(Read@>") ∷ [])) ≡ record {
-  limbo = span 0 0;
-  sections = section false Zero (span 2 2) (span 2 2) (span 2 26) (Some 0) false ∷ section false Zero (span 28 50) (span 50 50) (span 50 50) None false ∷ [];
-  names = [];
-  occurrences = [];
-  section_names = sec_name Named (codes "Read") true (1 ∷ []) (1 ∷ []) ([]) ∷ sec_name Named (codes "Wr") false ([]) ([]) (2 ∷ []) ∷ sec_name File (codes "Read") true ([]) ([]) (2 ∷ []) ∷ [];
-  name_uses = at 2 0 ∷ at 15 0 ∷ at 32 1 ∷ at 41 2 ∷ [];
-  notes = note notes.CodeInCText 0 0 2 ∷ note notes.NameUnended 0 0 2 ∷ note notes.NameConflict 0 0 2 ∷ note notes.CodeInName 0 0 2 ∷ note notes.NameEmpty 0 0 3 ∷ note notes.NameIncomplete 1 0 0 ∷ note notes.NeverDefined 2 0 0 ∷ [];
-}
+the_order_of_notes : shown (web ((codes "@ @<Read@>=") ∷ (codes "@c @<Read @^b") ∷ (codes "@ @<@>@<Wr...@>@(Read@>")
+    ∷ [])) ≡ record {
+      limbo = span 0 0;
+      sections = section false Zero (span 2 2) (span 2 2) (span 2 26) (Some 0) false ∷ section false Zero (span 28 50)
+          (span 50 50) (span 50 50) None false ∷ [];
+      names = [];
+      occurrences = [];
+      section_names = sec_name Named (codes "Read") true (1 ∷ []) (1 ∷ []) ([]) ∷ sec_name Named (codes "Wr") false ([])
+          ([]) (2 ∷ []) ∷ sec_name File (codes "Read") true ([]) ([]) (2 ∷ []) ∷ [];
+      name_uses = at 2 0 ∷ at 15 0 ∷ at 32 1 ∷ at 41 2 ∷ [];
+      notes = note notes.CodeInCText 0 0 2 ∷ note notes.NameUnended 0 0 2 ∷ note notes.NameConflict 0 0 2
+          ∷ note notes.CodeInName 0 0 2 ∷ note notes.NameEmpty 0 0 3 ∷ note notes.NameIncomplete 1 0 0
+          ∷ note notes.NeverDefined 2 0 0 ∷ [];
+    }
 the_order_of_notes = refl
 
 -- ## An ignored name, an underline that waits, and the order of format definitions
@@ -176,11 +206,14 @@ an_ignored_name_at_the_head : shown (web ((codes "@ @<") ∷ (codes "...@>=x;") 
 }
 an_ignored_name_at_the_head = refl
 
-an_underline_waits : (book (web ((codes "@ @!@<Read@>") ∷ (codes "@ @c x;x;") ∷ []))).occurrences ≡ occ 49 2 true ∷ occ 49 2 false ∷ []
+an_underline_waits : (book (web ((codes "@ @!@<Read@>") ∷ (codes "@ @c x;x;") ∷ []))).occurrences
+    ≡ occ 49 2 true ∷ occ 49 2 false ∷ []
 an_underline_waits = refl
 
-formats_in_order : (shown (web ((codes "@ @f a b") ∷ (codes "@f b int") ∷ (codes "@f c b") ∷ (codes "@f d 1 int") ∷ []))).names
-    ≡ entry Ident (codes "a") Exp ∷ entry Ident (codes "b") RawInt ∷ entry Ident (codes "c") RawInt ∷ entry Ident (codes "d") Exp ∷ []
+formats_in_order : (shown (web ((codes "@ @f a b") ∷ (codes "@f b int") ∷ (codes "@f c b") ∷ (codes "@f d 1 int")
+    ∷ []))).names
+    ≡ entry Ident (codes "a") Exp ∷ entry Ident (codes "b") RawInt ∷ entry Ident (codes "c") RawInt
+    ∷ entry Ident (codes "d") Exp ∷ []
 formats_in_order = refl
 
 -- ## Notes one by one, with their places
@@ -193,16 +226,19 @@ a_code_in_a_name : notes_in ((codes "@ @<Read") ∷ (codes "all @^of it@>= x;") 
 a_code_in_a_name = refl
 
 a_code_in_an_ambiguous_name :
-    notes_in ((codes "@ @<Read a@>= x;") ∷ (codes "@ @<Read b@>= y;") ∷ (codes "@ @c @<Read a@>; @<Read b@>; @<Read") ∷ (codes "@^ ...@>;") ∷ [])
+    notes_in ((codes "@ @<Read a@>= x;") ∷ (codes "@ @<Read b@>= y;") ∷ (codes "@ @c @<Read a@>; @<Read b@>; @<Read")
+    ∷ (codes "@^ ...@>;") ∷ [])
     ≡ note notes.AmbiguousPrefix 0 0 3 ∷ note notes.CodeInName 0 0 4 ∷ []
 a_code_in_an_ambiguous_name = refl
 
 a_name_that_a_section_ends :
-    notes_in ((codes "@ @<Read a@>= x;") ∷ (codes "@ @<Read b@>= y;") ∷ (codes "@ @c @<Read a@>; @<Read b@>;") ∷ (codes "@<Re@^ad...") ∷ (codes "@ @<Read a@>.") ∷ [])
+    notes_in ((codes "@ @<Read a@>= x;") ∷ (codes "@ @<Read b@>= y;") ∷ (codes "@ @c @<Read a@>; @<Read b@>;")
+    ∷ (codes "@<Re@^ad...") ∷ (codes "@ @<Read a@>.") ∷ [])
     ≡ note notes.NameUnended 0 0 4 ∷ note notes.AmbiguousPrefix 0 0 4 ∷ note notes.CodeInName 0 0 4 ∷ []
 a_name_that_a_section_ends = refl
 
-improper_heads : notes_in ((codes "@ @d") ∷ (codes "1") ∷ (codes "@f a") ∷ (codes "1") ∷ (codes "@s") ∷ (codes "b 2") ∷ [])
+improper_heads : notes_in ((codes "@ @d") ∷ (codes "1") ∷ (codes "@f a") ∷ (codes "1") ∷ (codes "@s") ∷ (codes "b 2")
+    ∷ [])
     ≡ note notes.ImproperMacro 0 0 1 ∷ note notes.ImproperFormat 0 0 3 ∷ note notes.ImproperFormat 0 0 5 ∷ []
 improper_heads = refl
 
@@ -215,7 +251,8 @@ an_undefined_name = refl
 an_unused_name : notes_in ((codes "@ @<Read@>= x;") ∷ []) ≡ note notes.NeverUsed 0 0 0 ∷ []
 an_unused_name = refl
 
-a_cited_name : notes_in ((codes "@ See @<Read@>.") ∷ []) ≡ note notes.NeverDefined 0 0 0 ∷ note notes.NeverUsed 0 0 0 ∷ []
+a_cited_name : notes_in ((codes "@ See @<Read@>.") ∷ []) ≡ note notes.NeverDefined 0 0 0 ∷ note notes.NeverUsed 0 0 0
+    ∷ []
 a_cited_name = refl
 
 a_file : notes_in ((codes "@ @(a.c@>= x;") ∷ []) ≡ []

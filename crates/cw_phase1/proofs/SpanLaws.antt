@@ -1,5 +1,6 @@
 -- The tokens of a web stand one behind another, and so do the parts of its sections.
-use Rattle.std.proofs.Common.{◌≡◌, ℕ, ◌<◌, ◌≤◌, ◌||◌, ◌==◌, Bool, true, false, not, List, [], ◌∷◌, ◌++◌, Option, Some, None, All, IfSome, suc, zero, refl, ap, sym, subst, ◌∙◌, append_assoc, arith}
+use Rattle.std.proofs.Common.{◌≡◌, ℕ, ◌<◌, ◌≤◌, ◌||◌, ◌==◌, Bool, true, false, not, List, [], ◌∷◌, ◌++◌, Option, Some}
+use Rattle.std.proofs.Common.{None, All, IfSome, suc, zero, refl, ap, sym, subst, ◌∙◌, append_assoc, arith}
 use Rattle.std.proofs.lemmas.Bool.{eq-eqb}
 use Rattle.std.proofs.lemmas.List.Elements.{All-nil, All-cons, All-weaker}
 use Rattle.std.specs.Option.{option_map}
@@ -16,7 +17,8 @@ use Rattle.cw_phase1.specs.declared.roles.Standing.{Standing}
 use Rattle.cw_phase1.specs.declared.sections.Section.{Section}
 use Rattle.cw_phase1.specs.Ready.{AreBefore}
 use Rattle.cw_phase1.specs.Roles.{Placed, placed_from}
-use Rattle.cw_phase1.specs.Sections.{is_section_code, is_tex, is_program, ends_section, ends_definitions, ends_tex, first_start, c_part_name, section_at, sections_of}
+use Rattle.cw_phase1.specs.Sections.{is_section_code, is_tex, is_program, ends_section, ends_definitions, ends_tex}
+use Rattle.cw_phase1.specs.Sections.{first_start, c_part_name, section_at, sections_of}
 use Rattle.cw_phase1.specs.Sound.{LiesIn, IsNamedBy}
 use Rattle.cw_phase1.specs.Uses.{use_by, use_of, uses_of}
 use Rattle.cw_phase1.proofs.RoleLaws.{AreFit}
@@ -25,20 +27,24 @@ use Rattle.cw_phase1.proofs.Underway.{before-use, before-more}
 -- The tokens stand one behind another, from one place up to another.
 abbrev pub Follow : ℕ → ℕ → List Placed → Type 0
 Follow from size [] = from ≤ size
-Follow from size (p ∷ ps) = (from ≤ p.token.span.start) × (p.token.span.start < p.token.span.«end») × Follow p.token.span.«end» size ps
+Follow from size (p ∷ ps) = (from ≤ p.token.span.start) × (p.token.span.start < p.token.span.«end»)
+    × Follow p.token.span.«end» size ps
 
 follow-more : (m n size : ℕ) (ps : List Placed) → m ≤ n → Follow n size ps → Follow m size ps
 follow-more m n size [] h f = omega arith
 follow-more m n size (p ∷ ps) h f = (omega (arith, f.0), f.1, f.2)
 
-pub follows : (text : List ℕ) (from size : ℕ) (s : Standing) (kept : List SecName) (answers : List Answer) → Covers text from size answers
+pub follows : (text : List ℕ) (from size : ℕ) (s : Standing) (kept : List SecName) (answers : List Answer)
+    → Covers text from size answers
     → Follow from size (placed_from s kept answers)
 follows text from size s kept [] c = c.0
 follows text from size s kept (Token t ∷ answers) c = (c.0.order, c.1, follows text t.span.«end» size _ _ answers c.2)
 follows text from size s kept (Begin t ∷ answers) c =
-    follow-more from t.span.«end» size _ (omega (arith, c.0.order, c.0.span)) (follows text t.span.«end» size _ kept answers c.1)
+    follow-more from t.span.«end» size _ (omega (arith, c.0.order, c.0.span))
+    (follows text t.span.«end» size _ kept answers c.1)
 follows text from size s kept (Finish t ∷ answers) c =
-    follow-more from t.span.«end» size _ (omega (arith, c.0.order, c.0.span)) (follows text t.span.«end» size s kept answers c.1)
+    follow-more from t.span.«end» size _ (omega (arith, c.0.order, c.0.span))
+    (follows text t.span.«end» size s kept answers c.1)
 follows text from size s kept (Note kind place ∷ answers) c = follows text from size s kept answers c
 
 follow-end : (from size : ℕ) (ps : List Placed) → Follow from size ps → from ≤ size
@@ -47,23 +53,31 @@ follow-end from size (p ∷ ps) f = omega (arith, f.0, f.1, follow-end p.token.s
 
 -- ## The first token that passes a test
 
-from-by : (t : Bool) (from here later : ℕ) → from ≤ here → from ≤ later → from ≤ elim t as (λ _. ℕ) [ true ↦ here | false ↦ later ]
+from-by : (t : Bool) (from here later : ℕ) → from ≤ here → from ≤ later → from ≤ elim t as (λ _. ℕ) [
+  | true ↦ here
+  | false ↦ later
+]
 from-by true from here later h l = h
 from-by false from here later h l = l
 
-to-by : (t : Bool) (here later size : ℕ) → here ≤ size → later ≤ size → elim t as (λ _. ℕ) [ true ↦ here | false ↦ later ] ≤ size
+to-by : (t : Bool) (here later size : ℕ) → here ≤ size → later ≤ size
+    → elim t as (λ _. ℕ) [ true ↦ here | false ↦ later ] ≤ size
 to-by true here later size h l = h
 to-by false here later size h l = l
 
-first-from : (test : Placed → Bool) (from size : ℕ) (ps : List Placed) → Follow from size ps → from ≤ first_start test size ps
+first-from : (test : Placed → Bool) (from size : ℕ) (ps : List Placed) → Follow from size ps
+    → from ≤ first_start test size ps
 first-from test from size [] f = f
 first-from test from size (p ∷ ps) f =
-    from-by (test p) from p.token.span.start (first_start test size ps) f.0 (omega (arith, f.0, f.1, first-from test p.token.span.«end» size ps f.2))
+    from-by (test p) from p.token.span.start (first_start test size ps) f.0
+    (omega (arith, f.0, f.1, first-from test p.token.span.«end» size ps f.2))
 
-first-to : (test : Placed → Bool) (from size : ℕ) (ps : List Placed) → Follow from size ps → first_start test size ps ≤ size
+first-to : (test : Placed → Bool) (from size : ℕ) (ps : List Placed) → Follow from size ps
+    → first_start test size ps ≤ size
 first-to test from size [] f = omega arith
 first-to test from size (p ∷ ps) f =
-    to-by (test p) p.token.span.start (first_start test size ps) size (omega (arith, f.1, follow-end p.token.span.«end» size ps f.2))
+    to-by (test p) p.token.span.start (first_start test size ps) size
+    (omega (arith, f.1, follow-end p.token.span.«end» size ps f.2))
     (first-to test p.token.span.«end» size ps f.2)
 
 earlier-by : (t other : Bool) (here a b : ℕ) → (t ≡ true → other ≡ true) → here ≤ b → a ≤ b
@@ -73,12 +87,14 @@ earlier-by true false here a b h l k = let wrong : false ≡ true = h refl in ab
 earlier-by false true here a b h l k = l
 earlier-by false false here a b h l k = k
 
-first-earlier : (test other : Placed → Bool) (from size : ℕ) (ps : List Placed) → ((p : Placed) → test p ≡ true → other p ≡ true) → Follow from size ps
+first-earlier : (test other : Placed → Bool) (from size : ℕ) (ps : List Placed)
+    → ((p : Placed) → test p ≡ true → other p ≡ true) → Follow from size ps
     → first_start other size ps ≤ first_start test size ps
 first-earlier test other from size [] h f = omega arith
 first-earlier test other from size (p ∷ ps) h f =
     earlier-by (test p) (other p) p.token.span.start (first_start other size ps) (first_start test size ps) (h p)
-    (omega (arith, f.1, first-from test p.token.span.«end» size ps f.2)) (first-earlier test other p.token.span.«end» size ps h f.2)
+    (omega (arith, f.1, first-from test p.token.span.«end» size ps f.2))
+    (first-earlier test other p.token.span.«end» size ps h f.2)
 
 code-ends : (p : Placed) → ends_section p ≡ true → ends_definitions p ≡ true
 code-ends p h = one-left (is_section_code p.role) (is_program p.part) h
@@ -100,7 +116,8 @@ all-by : (P : Section → Type 0) (t : Bool) (s : Section) (rest : List Section)
 all-by P true s rest h a = All-cons P s rest h a
 all-by P false s rest h a = a
 
-lies : (lines : List MergedLine) (size : ℕ) (head : Seen) (ps : List Placed) → Follow head.span.«end» size ps → LiesIn size (section_at lines size head ps)
+lies : (lines : List MergedLine) (size : ℕ) (head : Seen) (ps : List Placed) → Follow head.span.«end» size ps
+    → LiesIn size (section_at lines size head ps)
 lies lines size head ps f = record {
   tex = first-from ends_tex head.span.«end» size ps f;
   definitions = first-earlier ends_definitions ends_tex head.span.«end» size ps definitions-end-tex f;
@@ -110,10 +127,12 @@ lies lines size head ps f = record {
   within = first-to ends_section head.span.«end» size ps f;
 }
 
-pub all-lie : (lines : List MergedLine) (from size : ℕ) (ps : List Placed) → Follow from size ps → All (LiesIn size) (sections_of lines size ps)
+pub all-lie : (lines : List MergedLine) (from size : ℕ) (ps : List Placed) → Follow from size ps
+    → All (LiesIn size) (sections_of lines size ps)
 all-lie lines from size [] f = All-nil (LiesIn size)
 all-lie lines from size (p ∷ ps) f =
-    all-by (LiesIn size) (is_section_code p.role) (section_at lines size p.token ps) (sections_of lines size ps) (lies lines size p.token ps f.2)
+    all-by (LiesIn size) (is_section_code p.role) (section_at lines size p.token ps) (sections_of lines size ps)
+    (lies lines size p.token ps f.2)
     (all-lie lines p.token.span.«end» size ps f.2)
 
 pub limbo-lies : (from size : ℕ) (ps : List Placed) → Follow from size ps → first_start ends_section size ps ≤ size
@@ -130,66 +149,90 @@ not-same-behind a b h = grind arith
 not-here : (name : Option SecId) (here place : ℕ) (uses : List NameUse) → (here == place) ≡ false
     → name_at place (use_by name here ++ uses) ≡ name_at place uses
 not-here None here place uses h = refl
-not-here (Some n) here place uses h = ap (λ (t : Bool). elim t as (λ _. Option ℕ) [ true ↦ Some n.index | false ↦ name_at place uses ]) h
+not-here (Some n) here place uses h = ap (λ (t : Bool). elim t as (λ _. Option ℕ) [
+  | true ↦ Some n.index
+  | false ↦ name_at place uses
+]) h
 
 here : (name : Option SecId) (place : ℕ) (uses : List NameUse) → name_at place uses ≡ None
     → option_map id (name_at place (use_by name place ++ uses)) ≡ name
 here None place uses h = ap (option_map id) h
 here (Some n) place uses h =
-    ap (λ (t : Bool). option_map id (elim t as (λ _. Option ℕ) [ true ↦ Some n.index | false ↦ name_at place uses ])) (eq-eqb place place refl)
+    ap (λ (t : Bool). option_map id (elim t as (λ _. Option ℕ) [ true ↦ Some n.index | false ↦ name_at place uses ]))
+    (eq-eqb place place refl)
 
 -- no name stands before the first token
-none-before : (place from size : ℕ) (ps : List Placed) → Follow from size ps → place < from → name_at place (uses_of ps) ≡ None
+none-before : (place from size : ℕ) (ps : List Placed) → Follow from size ps → place < from → name_at place (uses_of ps)
+    ≡ None
 none-before place from size [] f h = refl
 none-before place from size (p ∷ ps) f h =
-    not-here p.name p.token.span.start place (uses_of ps) (not-same-behind p.token.span.start place (omega (arith, f.0))) ∙
+    not-here p.name p.token.span.start place (uses_of ps)
+    (not-same-behind p.token.span.start place (omega (arith, f.0))) ∙
     none-before place p.token.span.«end» size ps f.2 (omega (arith, f.0, f.1))
 
-name-by : (code program : Bool) (start later : ℕ) (name rest : Option SecId) (uses : List NameUse) → (code ≡ true → name ≡ None)
+name-by : (code program : Bool) (start later : ℕ) (name rest : Option SecId) (uses : List NameUse)
+    → (code ≡ true → name ≡ None)
     → name_at start uses ≡ None → (start == later) ≡ false → option_map id (name_at later uses) ≡ rest
-    → option_map id (name_at (elim (code || program) as (λ _. ℕ) [ true ↦ start | false ↦ later ]) (use_by name start ++ uses))
-    ≡ elim code as (λ _. Option SecId) [ true ↦ None | false ↦ elim program as (λ _. Option SecId) [ true ↦ name | false ↦ rest ] ]
+    → option_map id (name_at (elim (code || program) as (λ _. ℕ) [ true ↦ start | false ↦ later ])
+    (use_by name start ++ uses))
+    ≡ elim code as (λ _. Option SecId) [
+      | true ↦ None
+      | false ↦ elim program as (λ _. Option SecId) [
+        | true ↦ name
+        | false ↦ rest
+      ]
+    ]
 name-by true program start later name rest uses n none apart e = here name start uses none ∙ n refl
 name-by false true start later name rest uses n none apart e = here name start uses none
-name-by false false start later name rest uses n none apart e = ap (option_map id) (not-here name start later uses apart) ∙ e
+name-by false false start later name rest uses n none apart e =
+    ap (option_map id) (not-here name start later uses apart) ∙ e
 
 name-first : (from size : ℕ) (ps : List Placed) → Follow from size ps → AreFit ps
     → option_map id (name_at (first_start ends_definitions size ps) (uses_of ps)) ≡ c_part_name ps
 name-first from size [] f fit = refl
 name-first from size (p ∷ ps) f fit =
-    name-by (is_section_code p.role) (is_program p.part) p.token.span.start (first_start ends_definitions size ps) p.name (c_part_name ps) (uses_of ps) fit.0.code
+    name-by (is_section_code p.role) (is_program p.part) p.token.span.start (first_start ends_definitions size ps)
+    p.name (c_part_name ps) (uses_of ps) fit.0.code
     (none-before p.token.span.start p.token.span.«end» size ps f.2 f.1)
-    (not-same p.token.span.start (first_start ends_definitions size ps) (omega (arith, f.1, first-from ends_definitions p.token.span.«end» size ps f.2)))
+    (not-same p.token.span.start (first_start ends_definitions size ps)
+    (omega (arith, f.1, first-from ends_definitions p.token.span.«end» size ps f.2)))
     (name-first p.token.span.«end» size ps f.2 fit.1)
 
 -- Names before a place are none at it.
-skip-before : (from place : ℕ) (uses later : List NameUse) → from ≤ place → AreBefore from uses → name_at place (uses ++ later) ≡ name_at place later
+skip-before : (from place : ℕ) (uses later : List NameUse) → from ≤ place → AreBefore from uses
+    → name_at place (uses ++ later) ≡ name_at place later
 skip-before from place [] later h b = refl
 skip-before from place (u ∷ uses) later h b =
     ap (λ (t : Bool). elim t as (λ _. Option ℕ) [ true ↦ Some u.name | false ↦ name_at place (uses ++ later) ])
     (not-same u.place place (let first : u.place < from = b zero u (omega arith) in omega arith)) ∙
     skip-before from place uses later h (λ k d l. b (suc k) d (omega arith))
 
-named-by : (lines : List MergedLine) (uses : List NameUse) (from size : ℕ) (p : Placed) (ps : List Placed) → AreBefore from uses → Follow from size (p ∷ ps)
+named-by : (lines : List MergedLine) (uses : List NameUse) (from size : ℕ) (p : Placed) (ps : List Placed)
+    → AreBefore from uses → Follow from size (p ∷ ps)
     → AreFit ps → IsNamedBy (uses ++ (use_of p ++ uses_of ps)) (section_at lines size p.token ps)
 named-by lines uses from size p ps b f fit =
     let place : ℕ = first_start ends_definitions size ps in
-    let behind : p.token.span.«end» ≤ first_start ends_definitions size ps = first-from ends_definitions p.token.span.«end» size ps f.2 in
+    let behind : p.token.span.«end» ≤ first_start ends_definitions size ps =
+    first-from ends_definitions p.token.span.«end» size ps f.2 in
     sym (
     ap (option_map id) (skip-before from place uses (use_of p ++ uses_of ps) (omega (arith, f.0, f.1, behind)) b) ∙
-    (ap (option_map id) (not-here p.name p.token.span.start place (uses_of ps) (not-same p.token.span.start place (omega (arith, f.1, behind)))) ∙
+    (ap (option_map id) (not-here p.name p.token.span.start place (uses_of ps)
+    (not-same p.token.span.start place (omega (arith, f.1, behind)))) ∙
     name-first p.token.span.«end» size ps f.2 fit)
     )
 
-pub all-named : (lines : List MergedLine) (uses : List NameUse) (from size : ℕ) (ps : List Placed) → AreBefore from uses → Follow from size ps → AreFit ps
+pub all-named : (lines : List MergedLine) (uses : List NameUse) (from size : ℕ) (ps : List Placed) → AreBefore from uses
+    → Follow from size ps → AreFit ps
     → All (IsNamedBy (uses ++ uses_of ps)) (sections_of lines size ps)
 all-named lines uses from size [] b f fit = All-nil (IsNamedBy (uses ++ []))
 all-named lines uses from size (p ∷ ps) b f fit =
-    all-by (IsNamedBy (uses ++ (use_of p ++ uses_of ps))) (is_section_code p.role) (section_at lines size p.token ps) (sections_of lines size ps)
+    all-by (IsNamedBy (uses ++ (use_of p ++ uses_of ps))) (is_section_code p.role) (section_at lines size p.token ps)
+    (sections_of lines size ps)
     (named-by lines uses from size p ps b f fit.1)
     (subst (λ us. All (IsNamedBy us) (sections_of lines size ps)) (append_assoc uses (use_of p) (uses_of ps))
     (all-named lines (uses ++ use_of p) p.token.span.«end» size ps
-    (before-use p.name p.token.span.start p.token.span.«end» uses f.1 (before-more from p.token.span.«end» uses (omega (arith, f.0, f.1)) b)) f.2 fit.1))
+    (before-use p.name p.token.span.start p.token.span.«end» uses f.1
+    (before-more from p.token.span.«end» uses (omega (arith, f.0, f.1)) b)) f.2 fit.1))
 
 -- A name that stands at a place is kept.
 at-by : (t : Bool) (name n : ℕ) (rest : Option ℕ) → name < n → IfSome (option_map id rest) (λ i. i.index < n)
@@ -197,13 +240,17 @@ at-by : (t : Bool) (name n : ℕ) (rest : Option ℕ) → name < n → IfSome (o
 at-by true name n rest h k = h
 at-by false name n rest h k = k
 
-at-below : (place n : ℕ) (uses : List NameUse) → All (λ (u : NameUse). u.name < n) uses → IfSome (option_map id (name_at place uses)) (λ i. i.index < n)
+at-below : (place n : ℕ) (uses : List NameUse) → All (λ (u : NameUse). u.name < n) uses
+    → IfSome (option_map id (name_at place uses)) (λ i. i.index < n)
 at-below place n [] a = tt
 at-below place n (u ∷ uses) a =
-    at-by (u.place == place) u.name n (name_at place uses) (a zero u (omega arith)) (at-below place n uses (λ k d l. a (suc k) d (omega arith)))
+    at-by (u.place == place) u.name n (name_at place uses) (a zero u (omega arith))
+    (at-below place n uses (λ k d l. a (suc k) d (omega arith)))
 
-pub named-below : (n : ℕ) (uses : List NameUse) (sections : List Section) → All (λ (u : NameUse). u.name < n) uses → All (IsNamedBy uses) sections
+pub named-below : (n : ℕ) (uses : List NameUse) (sections : List Section) → All (λ (u : NameUse). u.name < n) uses
+    → All (IsNamedBy uses) sections
     → All (λ (s : Section). IfSome s.name (λ i. i.index < n)) sections
 named-below n uses sections a b =
     All-weaker (IsNamedBy uses) (λ (s : Section). IfSome s.name (λ i. i.index < n))
-    (λ s e. subst (λ (name : Option SecId). IfSome name (λ i. i.index < n)) (sym e) (at-below s.c_part.start n uses a)) sections b
+    (λ s e. subst (λ (name : Option SecId). IfSome name (λ i. i.index < n)) (sym e) (at-below s.c_part.start n uses a))
+    sections b

@@ -1,5 +1,6 @@
 -- What holds while the answers come.
-use Rattle.std.proofs.Common.{◌≡◌, ℕ, ◌+◌, ◌<◌, ◌≤◌, ◌^◌, Bool, true, false, List, [], ◌∷◌, ◌++◌, Option, Some, None, All, IfSome, length, refl, ap, sym, subst, ◌∙◌, arith, length-append, ◌-◌, drop}
+use Rattle.std.proofs.Common.{◌≡◌, ℕ, ◌+◌, ◌<◌, ◌≤◌, ◌^◌, Bool, true, false, List, [], ◌∷◌, ◌++◌, Option, Some, None}
+use Rattle.std.proofs.Common.{All, IfSome, length, refl, ap, sym, subst, ◌∙◌, arith, length-append, ◌-◌, drop}
 use Rattle.std.specs.Prelude.{slice_range}
 use Rattle.std.proofs.lemmas.List.{append-nil, length-take}
 use Rattle.std.proofs.lemmas.List.Elements.{All-append, All-nil, All-cons, All-weaker}
@@ -26,7 +27,8 @@ use Rattle.cw_phase1.specs.declared.sections.Open.{Open}
 use Rattle.cw_phase1.specs.declared.sections.Section.{Section}
 use Rattle.cw_phase1.specs.declared.sections.Sections.{Sections}
 use Rattle.cw_phase1.specs.declared.words.Words.{Words}
-use Rattle.cw_phase1.specs.Roles.{Placed, Step, name_step, token_step, token_step_by, code_step, free_step, section_step, word_role, head_role, behind_begin, placed_by, placed}
+use Rattle.cw_phase1.specs.Roles.{Placed, Step, name_step, token_step, token_step_by, code_step, free_step}
+use Rattle.cw_phase1.specs.Roles.{section_step, word_role, head_role, behind_begin, placed_by, placed}
 use Rattle.cw_phase1.specs.Sections.{is_section_code}
 use Rattle.cw_phase1.specs.Texts.{entry_text}
 use Rattle.cw_phase1.specs.Uses.{use_by, reference_by}
@@ -44,8 +46,11 @@ use Rattle.cw_base.specs.declared.notes.NoteKind.{NoteKind}
 use Rattle.cw_rules.specs.Order.{Covers}
 use Rattle.cw_lex.specs.Lexing.{tokens_of}
 use Rattle.cw_rules.specs.declared.tokens.Mode.TheVariants as modes
-use Rattle.cw_phase1.proofs.Passing.{told_at_end, kept_at_end, notes_at_end, told-passes, kept-passes, notes-pass, settle-told}
-use Rattle.cw_phase1.specs.Holding.{Waiting, HeldState, waiting_of, settled_placed, settled_standing, settled, remark_notes, remark_put, is_name, token_held_by, begun_held, ended_held, noted_held, held_step}
+use Rattle.cw_phase1.proofs.Passing.{told_at_end, kept_at_end, notes_at_end, told-passes, kept-passes, notes-pass}
+use Rattle.cw_phase1.proofs.Passing.{settle-told}
+use Rattle.cw_phase1.specs.Holding.{Waiting, HeldState, waiting_of, settled_placed, settled_standing, settled}
+use Rattle.cw_phase1.specs.Holding.{remark_notes, remark_put, is_name, token_held_by, begun_held, ended_held}
+use Rattle.cw_phase1.specs.Holding.{noted_held, held_step}
 use Rattle.cw_phase1.specs.Ready.{IsToken, AreBefore, WaitsBehind, CanSettle, WaitingIsKept, held_start}
 use Rattle.cw_phase1.proofs.NameLaws.{category-length}
 use Rattle.cw_phase1.proofs.WordLaws.{entered-below, entry-grows}
@@ -56,7 +61,8 @@ known-more : (o : Option NameId) (m n : ℕ) → m ≤ n → IfSome o (λ id. id
 known-more None m n h k = k
 known-more (Some id) m n h k = omega arith
 
-format-length : (o : Option NameId) (second : NameId) (entries : List names.Entry) → length (with_format o second entries) ≡ length entries
+format-length : (o : Option NameId) (second : NameId) (entries : List names.Entry)
+    → length (with_format o second entries) ≡ length entries
 format-length None second entries = refl
 format-length (Some first) second entries = category-length first.index _ entries
 
@@ -71,7 +77,8 @@ role-known roles.Parameter text k h = word-known Ident text k h
 role-known roles.Word text k h = word-known Ident text k h
 role-known (roles.FirstName silent) text k h = entered-below Ident text k.names
 role-known (roles.SecondName silent) text k h =
-    subst (λ n. IfSome k.first (λ id. id.index < n)) (sym (format-length k.first _ (names.with_entry Ident text k.names))) (word-known Ident text k h)
+    subst (λ n. IfSome k.first (λ id. id.index < n))
+    (sym (format-length k.first _ (names.with_entry Ident text k.names))) (word-known Ident text k h)
 role-known (roles.Entry kind) text k h = word-known kind (entry_text text) k h
 role-known roles.SectionCode text k h = h
 role-known roles.Underline text k h = h
@@ -83,36 +90,46 @@ told-known p w h = role-known p.role p.token.text (known_of w) h
 
 -- ## Names in the web
 
-pub before-use : (name : Option SecId) (place n : ℕ) (uses : List NameUse) → place < n → AreBefore n uses → AreBefore n (uses ++ use_by name place)
-before-use None place n uses h b = All-append (λ (u : NameUse). u.place < n) uses [] b (All-nil (λ (u : NameUse). u.place < n))
+pub before-use : (name : Option SecId) (place n : ℕ) (uses : List NameUse) → place < n → AreBefore n uses
+    → AreBefore n (uses ++ use_by name place)
+before-use None place n uses h b = All-append (λ (u : NameUse). u.place < n) uses [] b
+    (All-nil (λ (u : NameUse). u.place < n))
 before-use (Some id) place n uses h b =
-    All-append (λ (u : NameUse). u.place < n) uses _ b (All-cons (λ (u : NameUse). u.place < n) _ [] h (All-nil (λ (u : NameUse). u.place < n)))
+    All-append (λ (u : NameUse). u.place < n) uses _ b (All-cons (λ (u : NameUse). u.place < n) _ [] h
+    (All-nil (λ (u : NameUse). u.place < n)))
 
 pub before-more : (m n : ℕ) (uses : List NameUse) → m ≤ n → AreBefore m uses → AreBefore n uses
-before-more m n uses h b = All-weaker (λ (u : NameUse). u.place < m) (λ (u : NameUse). u.place < n) (λ u l. omega arith) uses b
+before-more m n uses h b = All-weaker (λ (u : NameUse). u.place < m) (λ (u : NameUse). u.place < n) (λ u l. omega arith)
+    uses b
 
 abbrev AreOf : ℕ → List Reference → Type 0
 AreOf n references = All (λ (r : Reference). r.name < n) references
 
 of-none : (n : ℕ) (references : List Reference) → AreOf n references → AreOf n (references ++ [])
-of-none n references a = All-append (λ (r : Reference). r.name < n) references [] a (All-nil (λ (r : Reference). r.name < n))
+of-none n references a = All-append (λ (r : Reference). r.name < n) references [] a
+    (All-nil (λ (r : Reference). r.name < n))
 
-of-nothing : (role : Role) (n section : ℕ) (references : List Reference) → AreOf n references → AreOf n (references ++ reference_by role None section)
+of-nothing : (role : Role) (n section : ℕ) (references : List Reference) → AreOf n references
+    → AreOf n (references ++ reference_by role None section)
 of-nothing (roles.Name how) n section references a = of-none n references a
 of-nothing role n section references a = of-none n references a
 
-of-some : (role : Role) (id : SecId) (n section : ℕ) (references : List Reference) → id.index < n → AreOf n references → AreOf n (references ++ reference_by role (Some id) section)
+of-some : (role : Role) (id : SecId) (n section : ℕ) (references : List Reference) → id.index < n → AreOf n references
+    → AreOf n (references ++ reference_by role (Some id) section)
 of-some (roles.Name how) id n section references h a =
-    All-append (λ (r : Reference). r.name < n) references _ a (All-cons (λ (r : Reference). r.name < n) _ [] h (All-nil (λ (r : Reference). r.name < n)))
+    All-append (λ (r : Reference). r.name < n) references _ a (All-cons (λ (r : Reference). r.name < n) _ [] h
+    (All-nil (λ (r : Reference). r.name < n)))
 of-some role id n section references h a = of-none n references a
 
-of-more : (role : Role) (name : Option SecId) (n section : ℕ) (references : List Reference) → IfSome name (λ id. id.index < n) → AreOf n references
+of-more : (role : Role) (name : Option SecId) (n section : ℕ) (references : List Reference)
+    → IfSome name (λ id. id.index < n) → AreOf n references
     → AreOf n (references ++ reference_by role name section)
 of-more role None n section references h a = of-nothing role n section references a
 of-more role (Some id) n section references h a = of-some role id n section references h a
 
 of-grows : (m n : ℕ) (references : List Reference) → m ≤ n → AreOf m references → AreOf n references
-of-grows m n references h a = All-weaker (λ (r : Reference). r.name < m) (λ (r : Reference). r.name < n) (λ r l. omega arith) references a
+of-grows m n references h a = All-weaker (λ (r : Reference). r.name < m) (λ (r : Reference). r.name < n)
+    (λ r l. omega arith) references a
 
 -- ## Sections
 
@@ -125,9 +142,14 @@ with-count : (o : Option Open) (p : Placed) → open_count (open_with o p) ≡ o
 with-count None p = refl
 with-count (Some o) p = refl
 
-total-by : (b : Bool) (lines : List MergedLine) (p : Placed) (s : Sections) (m n : ℕ) → section_total s ≤ m → (b ≡ true → m + 1 ≤ n) → m ≤ n
+total-by : (b : Bool) (lines : List MergedLine) (p : Placed) (s : Sections) (m n : ℕ) → section_total s ≤ m
+    → (b ≡ true → m + 1 ≤ n) → m ≤ n
     → section_total (section_told_by b lines p s) ≤ n
-total-by true lines p s m n h more same = omega (arith, closing-length s.open_one lines p.token.span.start s.closed, more refl)
+total-by true lines p s m n h more same = omega (
+  arith,
+  closing-length s.open_one lines p.token.span.start s.closed,
+  more refl,
+)
 total-by false lines p s m n h more same = omega (arith, with-count s.open_one p)
 
 -- a section code begins the next section, and any other token stays in its section
@@ -204,7 +226,8 @@ told-quiet lines step token name from count m t counts within known start before
   known = told-known (placed_by token name step) t.words known;
   before = before-use name token.span.start from t.named.uses start before;
   ids = of-more step.role name count step.next.section t.named.references id ids;
-  total = total-by (is_section_code step.role) lines (placed_by token name step) t.sections m step.next.section total counts.more counts.same;
+  total = total-by (is_section_code step.role) lines (placed_by token name step) t.sections m step.next.section total
+      counts.more counts.same;
 }
 
 abbrev WaitsHere : Option Waiting → ℕ → List NameUse → Type 0
@@ -237,30 +260,62 @@ settle-quiet None lines headed from count s t section known waits ids total id =
 settle-quiet (Some w) lines headed from count s t section known waits ids total id =
     let counts : Counts (name_step headed s) s.section = name-counts headed s in
     let same : (name_step headed s).next.section ≡ s.section = name-section headed s in
-    told-quiet lines (name_step headed s) w.token w.name from count s.section t counts (omega (arith, same)) known waits.0
+    told-quiet lines (name_step headed s) w.token w.name from count s.section t counts (omega (arith, same)) known
+    waits.0
     (before-more w.token.span.start from t.named.uses (omega (arith, waits.0)) waits.1.1) id ids total
 
 ready-settled : (lines : List MergedLine) (headed : Bool) (from : ℕ) (h : HeldState) → IsReady from h
-    → IsQuiet from (length h.kept) (settled_standing headed h.pass.waiting h.pass.standing) (told_all lines (settled_placed headed h.pass.waiting h.pass.standing) h.told)
+    → IsQuiet from (length h.kept) (settled_standing headed h.pass.waiting h.pass.standing)
+    (told_all lines (settled_placed headed h.pass.waiting h.pass.standing) h.told)
 ready-settled lines headed from h r =
-    settle-quiet h.pass.waiting lines headed from (length h.kept) h.pass.standing h.told r.section r.known r.waits r.ids r.total r.id
+    settle-quiet h.pass.waiting lines headed from (length h.kept) h.pass.standing h.told r.section r.known r.waits r.ids
+    r.total r.id
 
-ready-begin : (lines : List MergedLine) (from to : ℕ) (h : HeldState) → from ≤ to → IsReady from h → IsReady to (begun_held (ended_held lines h))
+ready-begin : (lines : List MergedLine) (from to : ℕ) (h : HeldState) → from ≤ to → IsReady from h
+    → IsReady to (begun_held (ended_held lines h))
 ready-begin lines from to h le r =
     let q = ready-settled lines false from h r in
-    record { section = omega (arith, q.section); known = q.known; waits = before-more from to _ le q.before; ids = q.ids; total = q.total; id = tt; few = omega (arith, r.few) }
+    record {
+      section = omega (arith, q.section);
+      known = q.known;
+      waits = before-more from to _ le q.before;
+      ids = q.ids;
+      total = q.total;
+      id = tt;
+      few = omega (arith, r.few);
+    }
 
-ready-finish : (lines : List MergedLine) (from to : ℕ) (h : HeldState) → from ≤ to → IsReady from h → IsReady to (ended_held lines h)
+ready-finish : (lines : List MergedLine) (from to : ℕ) (h : HeldState) → from ≤ to → IsReady from h
+    → IsReady to (ended_held lines h)
 ready-finish lines from to h le r =
     let q = ready-settled lines false from h r in
-    record { section = omega (arith, q.section); known = q.known; waits = before-more from to _ le q.before; ids = q.ids; total = q.total; id = tt; few = omega (arith, r.few) }
+    record {
+      section = omega (arith, q.section);
+      known = q.known;
+      waits = before-more from to _ le q.before;
+      ids = q.ids;
+      total = q.total;
+      id = tt;
+      few = omega (arith, r.few);
+    }
 
-ready-note : (lines : List MergedLine) (kind : NoteKind) (place from : ℕ) (h : HeldState) → IsReady from h → IsReady from (noted_held lines kind place h)
-ready-note lines kind place from h r = record { section = r.section; known = r.known; waits = r.waits; ids = r.ids; total = r.total; id = r.id; few = r.few }
+ready-note : (lines : List MergedLine) (kind : NoteKind) (place from : ℕ) (h : HeldState) → IsReady from h
+    → IsReady from (noted_held lines kind place h)
+ready-note lines kind place from h r = record {
+  section = r.section;
+  known = r.known;
+  waits = r.waits;
+  ids = r.ids;
+  total = r.total;
+  id = r.id;
+  few = r.few;
+}
 
-token-ready : (b : Bool) (lines : List MergedLine) (t : Seen) (from : ℕ) (h : HeldState) → IsToken t → from ≤ t.span.start
+token-ready : (b : Bool) (lines : List MergedLine) (t : Seen) (from : ℕ) (h : HeldState) → IsToken t
+    → from ≤ t.span.start
     → IsQuiet from (length h.kept) h.pass.standing h.told
-    → WaitingKept (token_held_by b lines t h).pass.waiting (length (token_held_by b lines t h).kept) → length h.kept ≤ length (token_held_by b lines t h).kept
+    → WaitingKept (token_held_by b lines t h).pass.waiting (length (token_held_by b lines t h).kept)
+    → length h.kept ≤ length (token_held_by b lines t h).kept
     → length (token_held_by b lines t h).kept ≤ length h.kept + 1 → length h.kept ≤ from
     → IsReady t.span.end (token_held_by b lines t h)
 token-ready true lines t from h token le q id grows one few = record {
@@ -273,14 +328,27 @@ token-ready true lines t from h token le q id grows one few = record {
   few = omega (arith, one, few, token.some);
 }
 token-ready false lines t from h token le q id grows one few =
-    let counts : Counts (token_step t.kind false h.pass.standing t.span) h.pass.standing.section = step-counts (head_behind h.pass.standing.wanted t.kind t.span) t.kind h.pass.standing in
+    let counts : Counts (token_step t.kind false h.pass.standing t.span) h.pass.standing.section =
+    step-counts (head_behind h.pass.standing.wanted t.kind t.span) t.kind h.pass.standing in
     let end : from < t.span.end = omega (arith, token.some) in
-    let p = told-quiet lines (token_step t.kind false h.pass.standing t.span) t None t.span.end (length h.kept) h.pass.standing.section h.told counts
-    (omega (arith, counts.near, q.section)) q.known token.some (before-more from t.span.end h.told.named.uses (omega arith) q.before) tt q.ids q.total in
-    record { section = p.section; known = p.known; waits = p.before; ids = p.ids; total = p.total; id = tt; few = omega (arith, few) }
+    let p = told-quiet lines (token_step t.kind false h.pass.standing t.span) t None t.span.end (length h.kept)
+    h.pass.standing.section h.told counts
+    (omega (arith, counts.near, q.section)) q.known token.some (before-more from t.span.end h.told.named.uses
+    (omega arith) q.before) tt q.ids q.total in
+    record {
+      section = p.section;
+      known = p.known;
+      waits = p.before;
+      ids = p.ids;
+      total = p.total;
+      id = tt;
+      few = omega (arith, few);
+    }
 
-ready-token : (lines : List MergedLine) (t : Seen) (from : ℕ) (h : HeldState) → IsToken t → from ≤ t.span.start → IsReady from h
-    → WaitingKept (held_step lines (Token t) h).pass.waiting (length (held_step lines (Token t) h).kept) → length h.kept ≤ length (held_step lines (Token t) h).kept
+ready-token : (lines : List MergedLine) (t : Seen) (from : ℕ) (h : HeldState) → IsToken t → from ≤ t.span.start
+    → IsReady from h
+    → WaitingKept (held_step lines (Token t) h).pass.waiting (length (held_step lines (Token t) h).kept)
+    → length h.kept ≤ length (held_step lines (Token t) h).kept
     → length (held_step lines (Token t) h).kept ≤ length h.kept + 1 → IsReady t.span.end (held_step lines (Token t) h)
 ready-token lines t from h token le r id grows one =
     token-ready (is_name t.kind) lines t from (settled lines (is_head_sign t.kind) (remark_put lines h)) token le
@@ -297,12 +365,31 @@ ready-settles from h r = record { known = r.known; waits = can-settle-by h.pass.
 
 pub covers-end : (text : List ℕ) (from end : ℕ) (answers : List Answer) → Covers text from end answers → from ≤ end
 covers-end text from end [] c = c.0
-covers-end text from end (Token t ∷ answers) c = omega (arith, c.0.order, c.1, covers-end text t.span.end end answers c.2)
-covers-end text from end (Begin t ∷ answers) c = omega (arith, c.0.order, c.0.span, covers-end text t.span.end end answers c.1)
-covers-end text from end (Finish t ∷ answers) c = omega (arith, c.0.order, c.0.span, covers-end text t.span.end end answers c.1)
+covers-end text from end (Token t ∷ answers) c = omega (
+  arith,
+  c.0.order,
+  c.1,
+  covers-end text t.span.end end answers
+      c.2,
+)
+covers-end text from end (Begin t ∷ answers) c = omega (
+  arith,
+  c.0.order,
+  c.0.span,
+  covers-end text t.span.end end
+      answers c.1,
+)
+covers-end text from end (Finish t ∷ answers) c = omega (
+  arith,
+  c.0.order,
+  c.0.span,
+  covers-end text t.span.end end
+      answers c.1,
+)
 covers-end text from end (Note kind place ∷ answers) c = covers-end text from end answers c
 
-pub record Underway (lines : List MergedLine) (text : List ℕ) (all : List Answer) (h : HeldState) (rest : List Answer) : Type 0 where
+pub record Underway (lines : List MergedLine) (text : List ℕ) (all : List Answer) (h : HeldState)
+    (rest : List Answer) : Type 0 where
   pub from : ℕ
   pub told : told_at_end lines h rest ≡ told_at_end lines held_start all
   pub kept : kept_at_end h rest ≡ kept_at_end held_start all
@@ -311,7 +398,8 @@ pub record Underway (lines : List MergedLine) (text : List ℕ) (all : List Answ
   pub limit : length text ≤ 16777216
   pub ready : IsReady from h
 
-pub start : (lines : List MergedLine) (text : List ℕ) (all : List Answer) (h : HeldState) → h ≡ held_start → Covers text 0 (length text) all → length text ≤ 16777216
+pub start : (lines : List MergedLine) (text : List ℕ) (all : List Answer) (h : HeldState) → h ≡ held_start
+    → Covers text 0 (length text) all → length text ≤ 16777216
     → Underway lines text all h all
 start lines text all h e c l = record {
   from = 0;
@@ -320,13 +408,23 @@ start lines text all h e c l = record {
   notes = ap (λ h. notes_at_end lines h all) e;
   covers = c;
   limit = l;
-  ready = subst (IsReady 0) (sym e) (record { section = omega arith; known = tt; waits = All-nil (λ (u : NameUse). u.place < 0); ids = All-nil (λ (r : Reference). r.name < 0); total = omega arith; id = tt; few = omega arith });
+  ready = subst (IsReady 0) (sym e) (record {
+    section = omega arith;
+    known = tt;
+    waits = All-nil (λ (u : NameUse). u.place < 0);
+    ids = All-nil (λ (r : Reference). r.name < 0);
+    total =
+        omega arith;
+    id = tt;
+    few = omega arith;
+  });
 }
 
 pub text-length : (text : List ℕ) (a b : ℕ) → length (slice_range text a b) ≤ b - a
 text-length text a b = omega (arith, length-take (b - a) (drop a text))
 
-pub is-token : (lines : List MergedLine) (text : List ℕ) (all : List Answer) (h : HeldState) (t : Seen) (rest : List Answer)
+pub is-token : (lines : List MergedLine) (text : List ℕ) (all : List Answer) (h : HeldState) (t : Seen)
+    (rest : List Answer)
     → Underway lines text all h (Token t ∷ rest) → IsToken t
 is-token lines text all h t rest u =
     let end : t.span.end ≤ length text = covers-end text t.span.end (length text) rest u.covers.2 in
@@ -334,18 +432,22 @@ is-token lines text all h t rest u =
     record {
       some = u.covers.1;
       within = small;
-      text = subst (λ (bytes : List ℕ). length bytes < 2 ^ 32) (sym u.covers.0.slice) (omega (arith, text-length text t.span.start t.span.end));
+      text = subst (λ (bytes : List ℕ). length bytes < 2 ^ 32) (sym u.covers.0.slice)
+          (omega (arith, text-length text t.span.start t.span.end));
     }
 
-pub section-fits : (lines : List MergedLine) (text : List ℕ) (all : List Answer) (h : HeldState) (t : Seen) (rest : List Answer)
+pub section-fits : (lines : List MergedLine) (text : List ℕ) (all : List Answer) (h : HeldState) (t : Seen)
+    (rest : List Answer)
     → Underway lines text all h (Token t ∷ rest) → h.pass.standing.section < 4294967295
 section-fits lines text all h t rest u =
     let from : u.from ≤ length text = covers-end text u.from (length text) (Token t ∷ rest) u.covers in
     omega (arith, u.limit, u.ready.section)
 
-pub token-step : (lines : List MergedLine) (text : List ℕ) (all : List Answer) (h new : HeldState) (t : Seen) (rest : List Answer)
+pub token-step : (lines : List MergedLine) (text : List ℕ) (all : List Answer) (h new : HeldState) (t : Seen)
+    (rest : List Answer)
     → Underway lines text all h (Token t ∷ rest) → new ≡ held_step lines (Token t) h
-    → WaitingKept new.pass.waiting (length new.kept) → length h.kept ≤ length new.kept → length new.kept ≤ length h.kept + 1
+    → WaitingKept new.pass.waiting (length new.kept) → length h.kept ≤ length new.kept
+    → length new.kept ≤ length h.kept + 1
     → Underway lines text all new rest
 token-step lines text all h new t rest u e id grows one = record {
   from = t.span.end;
@@ -354,11 +456,15 @@ token-step lines text all h new t rest u e id grows one = record {
   notes = ap (λ h. notes_at_end lines h rest) e ∙ (sym (notes-pass lines (Token t) h rest) ∙ u.notes);
   covers = u.covers.2;
   limit = u.limit;
-  ready = subst (IsReady t.span.end) (sym e) (ready-token lines t u.from h (is-token lines text all h t rest u) u.covers.0.order u.ready
-      (subst (λ (h : HeldState). WaitingKept h.pass.waiting (length h.kept)) e id) (subst (λ (g : HeldState). length h.kept ≤ length g.kept) e grows) (subst (λ (g : HeldState). length g.kept ≤ length h.kept + 1) e one));
+  ready = subst (IsReady t.span.end) (sym e) (ready-token lines t u.from h (is-token lines text all h t rest u)
+      u.covers.0.order u.ready
+      (subst (λ (h : HeldState). WaitingKept h.pass.waiting (length h.kept)) e id)
+      (subst (λ (g : HeldState). length h.kept ≤ length g.kept) e grows)
+      (subst (λ (g : HeldState). length g.kept ≤ length h.kept + 1) e one));
 }
 
-pub begin-step : (lines : List MergedLine) (text : List ℕ) (all : List Answer) (h new : HeldState) (t : Seen) (rest : List Answer)
+pub begin-step : (lines : List MergedLine) (text : List ℕ) (all : List Answer) (h new : HeldState) (t : Seen)
+    (rest : List Answer)
     → Underway lines text all h (Begin t ∷ rest) → new ≡ held_step lines (Begin t) h → Underway lines text all new rest
 begin-step lines text all h new t rest u e = record {
   from = t.span.end;
@@ -367,11 +473,14 @@ begin-step lines text all h new t rest u e = record {
   notes = ap (λ h. notes_at_end lines h rest) e ∙ (sym (notes-pass lines (Begin t) h rest) ∙ u.notes);
   covers = u.covers.1;
   limit = u.limit;
-  ready = subst (IsReady t.span.end) (sym e) (ready-begin lines u.from t.span.end h (omega (arith, u.covers.0.order, u.covers.0.span)) u.ready);
+  ready = subst (IsReady t.span.end) (sym e) (ready-begin lines u.from t.span.end h
+      (omega (arith, u.covers.0.order, u.covers.0.span)) u.ready);
 }
 
-pub finish-step : (lines : List MergedLine) (text : List ℕ) (all : List Answer) (h new : HeldState) (t : Seen) (rest : List Answer)
-    → Underway lines text all h (Finish t ∷ rest) → new ≡ held_step lines (Finish t) h → Underway lines text all new rest
+pub finish-step : (lines : List MergedLine) (text : List ℕ) (all : List Answer) (h new : HeldState) (t : Seen)
+    (rest : List Answer)
+    → Underway lines text all h (Finish t ∷ rest) → new ≡ held_step lines (Finish t) h
+    → Underway lines text all new rest
 finish-step lines text all h new t rest u e = record {
   from = t.span.end;
   told = ap (λ h. told_at_end lines h rest) e ∙ (sym (told-passes lines (Finish t) h rest) ∙ u.told);
@@ -379,11 +488,14 @@ finish-step lines text all h new t rest u e = record {
   notes = ap (λ h. notes_at_end lines h rest) e ∙ (sym (notes-pass lines (Finish t) h rest) ∙ u.notes);
   covers = u.covers.1;
   limit = u.limit;
-  ready = subst (IsReady t.span.end) (sym e) (ready-finish lines u.from t.span.end h (omega (arith, u.covers.0.order, u.covers.0.span)) u.ready);
+  ready = subst (IsReady t.span.end) (sym e) (ready-finish lines u.from t.span.end h
+      (omega (arith, u.covers.0.order, u.covers.0.span)) u.ready);
 }
 
-pub note-step : (lines : List MergedLine) (text : List ℕ) (all : List Answer) (h new : HeldState) (kind : NoteKind) (place : ℕ) (rest : List Answer)
-    → Underway lines text all h (Note kind place ∷ rest) → new ≡ held_step lines (Note kind place) h → Underway lines text all new rest
+pub note-step : (lines : List MergedLine) (text : List ℕ) (all : List Answer) (h new : HeldState) (kind : NoteKind)
+    (place : ℕ) (rest : List Answer)
+    → Underway lines text all h (Note kind place ∷ rest) → new ≡ held_step lines (Note kind place) h
+    → Underway lines text all new rest
 note-step lines text all h new kind place rest u e = record {
   from = u.from;
   told = ap (λ h. told_at_end lines h rest) e ∙ (sym (told-passes lines (Note kind place) h rest) ∙ u.told);
@@ -396,24 +508,30 @@ note-step lines text all h new kind place rest u e = record {
 
 -- ## When all came
 
-last-remark : (lines : List MergedLine) (r : Option Answer) → scanned_notes lines (with_note r []) ≡ remark_notes lines r
+last-remark : (lines : List MergedLine) (r : Option Answer) → scanned_notes lines (with_note r [])
+    ≡ remark_notes lines r
 last-remark lines None = refl
 last-remark lines (Some note) = append-nil (scanned_note lines note)
 
-pub scanned : (lines : List MergedLine) (text : List ℕ) (all : List Answer) (h new : HeldState) → Underway lines text all h [] → new ≡ ended_held lines h
-    → text ≡ text_of lines → all ≡ tokens_of text 0 (length text) modes.Limbo → Covers text 0 (length text) all → IsScanned lines new
+pub scanned : (lines : List MergedLine) (text : List ℕ) (all : List Answer) (h new : HeldState)
+    → Underway lines text all h [] → new ≡ ended_held lines h
+    → text ≡ text_of lines → all ≡ tokens_of text 0 (length text) modes.Limbo → Covers text 0 (length text) all
+    → IsScanned lines new
 scanned lines text all h new u e same tokens covers =
-    let whole : all ≡ answers_of lines = tokens ∙ ap (λ (bytes : List ℕ). tokens_of bytes 0 (length bytes) modes.Limbo) same in
+    let whole : all ≡ answers_of lines = tokens ∙ ap (λ (bytes : List ℕ). tokens_of bytes 0 (length bytes) modes.Limbo)
+    same in
     let q = ready-settled lines false u.from h u.ready in
     let from : u.from ≤ length text = covers-end text u.from (length text) [] u.covers in
     subst (IsScanned lines) (sym e) (record {
       told = sym (settle-told lines h []) ∙ (u.told ∙ ap (λ answers. told_all lines (placed answers) told_start) whole);
       kept = u.kept ∙ ap (λ answers. kept_after [] answers) whole;
-      notes = ap (λ ns. h.notes ++ ns) (sym (last-remark lines h.remark)) ∙ (u.notes ∙ ap (λ answers. scanned_notes lines (noted answers)) whole);
+      notes = ap (λ ns. h.notes ++ ns) (sym (last-remark lines h.remark))
+          ∙ (u.notes ∙ ap (λ answers. scanned_notes lines (noted answers)) whole);
       ids = q.ids;
       total = omega (arith, q.total, q.section, u.limit);
       few = omega (arith, u.ready.few, u.limit);
-      covers = subst (Covers (text_of lines) 0 (length (text_of lines))) whole (subst (λ (bytes : List ℕ). Covers bytes 0 (length bytes) all) same covers);
+      covers = subst (Covers (text_of lines) 0 (length (text_of lines))) whole
+          (subst (λ (bytes : List ℕ). Covers bytes 0 (length bytes) all) same covers);
     })
 
 pub waiting-kept : (w : Option WaitingToken) (count : ℕ) → WaitingIsKept w count → WaitingKept (waiting_of w) count

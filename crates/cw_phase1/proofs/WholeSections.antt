@@ -1,5 +1,6 @@
 -- The parts of a section are whole.
-use Rattle.std.proofs.Common.{◌≡◌, ℕ, Bool, true, false, not, ◌||◌, List, [], ◌∷◌, ◌++◌, Some, None, All, length, drop, take, get_or, refl, sym, ap, subst, ◌∙◌, arith, append_assoc, ◌⊎◌, inl, inr}
+use Rattle.std.proofs.Common.{◌≡◌, ℕ, Bool, true, false, not, ◌||◌, List, [], ◌∷◌, ◌++◌, Some, None, All, length, drop}
+use Rattle.std.proofs.Common.{take, get_or, refl, sym, ap, subst, ◌∙◌, arith, append_assoc, ◌⊎◌, inl, inr}
 use Rattle.std.proofs.lemmas.List.{take_all, drop_all, length-take}
 use Rattle.std.proofs.lemmas.List.Elements.{All-nil, All-cons}
 use Rattle.cw_base.proofs.TestLaws.{one-right}
@@ -20,9 +21,13 @@ use Rattle.cw_phase1.specs.declared.sections.Section.{Section}
 use Rattle.cw_phase1.specs.Book.{answers_of}
 use Rattle.cw_phase1.specs.Entering.{kept_behind}
 use Rattle.cw_phase1.specs.Roles.{Placed, defining, at_limbo, token_step, behind_begin, placed, placed_from}
-use Rattle.cw_phase1.specs.Sections.{span, is_section_code, is_tex, is_program, ends_section, ends_definitions, ends_tex, first_start, section_at, sections_of}
+use Rattle.cw_phase1.specs.Sections.{span, is_section_code, is_tex, is_program, ends_section, ends_definitions}
+use Rattle.cw_phase1.specs.Sections.{ends_tex, first_start, section_at, sections_of}
 use Rattle.cw_phase1.specs.Whole.{IsUncut, SectionsAreWhole}
-use Rattle.cw_phase1.proofs.PartEnds.{first-none, first-behind, first-token, none-stricter, uncut-before, alone-before, tex-opens, ends, token_placed, Ended, Stopped, stop, AtSection, AtDefinitions, AtCPart, Nowhere, Ending, EndsBy, ends-so, section-role, section-part, plain-role, plain-part}
+use Rattle.cw_phase1.proofs.PartEnds.{first-none, first-behind, first-token, none-stricter, uncut-before, alone-before}
+use Rattle.cw_phase1.proofs.PartEnds.{tex-opens, ends, token_placed, Ended, Stopped, stop, AtSection, AtDefinitions}
+use Rattle.cw_phase1.proofs.PartEnds.{AtCPart, Nowhere, Ending, EndsBy, ends-so, section-role, section-part, plain-role}
+use Rattle.cw_phase1.proofs.PartEnds.{plain-part}
 use Rattle.cw_phase1.proofs.SpanLaws.{follows, all-lie}
 
 -- ## Parts that are empty, and the last one
@@ -32,15 +37,19 @@ empty text p = drop_all p (take p text) (omega (arith, length-take p text))
 
 empty-definition : (text : List ℕ) (p : ℕ) → IsUncut text modes.Definition (span p p)
 empty-definition text p =
-    ap (λ l. begins_section_in (answers l (beginning modes.Definition) (fresh_at (take p text) p) (last_at (take p text) p) p 0)) (empty text p)
+    ap (λ l. begins_section_in (answers l (beginning modes.Definition) (fresh_at (take p text) p)
+    (last_at (take p text) p) p 0)) (empty text p)
 
 empty-program : (text : List ℕ) (p : ℕ) → IsUncut text modes.CPart (span p p)
 empty-program text p =
-    ap (λ l. begins_section_in (answers l (beginning modes.CPart) (fresh_at (take p text) p) (last_at (take p text) p) p 0)) (empty text p)
+    ap (λ l. begins_section_in (answers l (beginning modes.CPart) (fresh_at (take p text) p) (last_at (take p text) p) p
+    0)) (empty text p)
 
 -- the scan of the last part is the scan of the whole
-last-part : (text : List ℕ) (start : ℕ) (mode : Mode) → begins_section_in (answers_at text (beginning mode) start) ≡ false → IsUncut text mode (span start (length text))
-last-part text start mode h = ap (λ l. begins_section_in (answers_at l (beginning mode) start)) (take_all (length text) text (omega arith)) ∙ h
+last-part : (text : List ℕ) (start : ℕ) (mode : Mode) → begins_section_in (answers_at text (beginning mode) start)
+    ≡ false → IsUncut text mode (span start (length text))
+last-part text start mode h = ap (λ l. begins_section_in (answers_at l (beginning mode) start))
+    (take_all (length text) text (omega arith)) ∙ h
 
 -- ## The tests of the parts
 
@@ -106,37 +115,49 @@ module _ (sections : TextsEndAtSections) (openings : TextsEndAtOpenings) (text :
   tokens_at mode start s kept = placed_from s kept (answers_at text (beginning mode) start)
 
   -- A section ends at a section code.
-  code-ends : (start : ℕ) (mode : Mode) (s : Standing) (kept : List SecName) (r : Stopped any_part s kept (answers_at text (beginning mode) start)) → is_section_kind r.token.kind ≡ true
+  code-ends : (start : ℕ) (mode : Mode) (s : Standing) (kept : List SecName)
+      (r : Stopped any_part s kept (answers_at text (beginning mode) start)) → is_section_kind r.token.kind ≡ true
   code-ends start mode s kept r =
-      sym (plain r.standing r.token r.behind) ∙ sym (section-by (token_placed any_part r.standing r.names r.token r.behind)) ∙ r.passes
+      sym (plain r.standing r.token r.behind)
+      ∙ sym (section-by (token_placed any_part r.standing r.names r.token r.behind)) ∙ r.passes
     where
-      plain : (s : Standing) (t : Seen) (answers : List Answer) → is_section_code (token_step t.kind (has_sign answers) s t.span).role ≡ is_section_kind t.kind
+      plain : (s : Standing) (t : Seen) (answers : List Answer)
+          → is_section_code (token_step t.kind (has_sign answers) s t.span).role ≡ is_section_kind t.kind
       plain s t answers = by (is_section_kind t.kind) refl
         where
-          by : (b : Bool) → is_section_kind t.kind ≡ b → is_section_code (token_step t.kind (has_sign answers) s t.span).role ≡ is_section_kind t.kind
+          by : (b : Bool) → is_section_kind t.kind ≡ b
+              → is_section_code (token_step t.kind (has_sign answers) s t.span).role ≡ is_section_kind t.kind
           by true e = section-role s t answers e ∙ sym e
           by false e = plain-role s t answers e ∙ sym e
 
   -- where a C part ends with a token
-  c-part-at : (start : ℕ) (s : Standing) (kept : List SecName) → Stopped any_part s kept (answers_at text (beginning modes.CPart) start)
+  c-part-at : (start : ℕ) (s : Standing) (kept : List SecName)
+      → Stopped any_part s kept (answers_at text (beginning modes.CPart) start)
       → IsUncut text modes.CPart (span start (first_start ends_section size (tokens_at modes.CPart start s kept)))
   c-part-at start s kept r =
       let ps = tokens_at modes.CPart start s kept in
       let p = token_placed any_part r.standing r.names r.token r.behind in
       let at : first_start ends_section size ps ≡ r.token.span.start =
-      ap (first_start ends_section size) r.placed ∙ first-behind ends_section size r.front (placed_from r.standing r.names (Token r.token ∷ r.behind)) (none-stricter (ends any_part) ends_section r.front (λ p h. section-by p ∙ h) r.none)
+      ap (first_start ends_section size) r.placed ∙ first-behind ends_section size r.front
+      (placed_from r.standing r.names (Token r.token ∷ r.behind))
+      (none-stricter (ends any_part) ends_section r.front (λ p h. section-by p ∙ h) r.none)
       ∙ first-token any_part ends_section size r.standing r.names r.token r.behind (sym (section-by p) ∙ r.passes) in
-      let law = sections text start modes.CPart r.before r.token r.behind r.split (code-ends start modes.CPart s kept r) in
-      subst (λ n. IsUncut text modes.CPart (span start n)) (sym at) (uncut-before text start modes.CPart r.before r.token law.0 r.uncut)
+      let law = sections text start modes.CPart r.before r.token r.behind r.split
+      (code-ends start modes.CPart s kept r) in
+      subst (λ n. IsUncut text modes.CPart (span start n)) (sym at)
+      (uncut-before text start modes.CPart r.before r.token law.0 r.uncut)
 
-  c-part : (start : ℕ) (s : Standing) (kept : List SecName) → IsUncut text modes.CPart (span start (first_start ends_section size (tokens_at modes.CPart start s kept)))
+  c-part : (start : ℕ) (s : Standing) (kept : List SecName)
+      → IsUncut text modes.CPart (span start (first_start ends_section size (tokens_at modes.CPart start s kept)))
   c-part start s kept = by (stop any_part s kept (answers_at text (beginning modes.CPart) start) refl)
     where
-      by : Ended any_part s kept (answers_at text (beginning modes.CPart) start) ⊎ Stopped any_part s kept (answers_at text (beginning modes.CPart) start)
+      by : Ended any_part s kept (answers_at text (beginning modes.CPart) start)
+          ⊎ Stopped any_part s kept (answers_at text (beginning modes.CPart) start)
           → IsUncut text modes.CPart (span start (first_start ends_section size (tokens_at modes.CPart start s kept)))
       by (inl e) =
           let ps = tokens_at modes.CPart start s kept in
-          let none = first-none ends_section size ps (none-stricter (ends any_part) ends_section ps (λ p h. section-by p ∙ h) e.none) in
+          let none = first-none ends_section size ps (none-stricter (ends any_part) ends_section ps (λ p h. section-by p
+          ∙ h) e.none) in
           subst (λ n. IsUncut text modes.CPart (span start n)) (sym none) (last-part text start modes.CPart e.uncut)
       by (inr r) = c-part-at start s kept r
 
@@ -148,22 +169,32 @@ module _ (sections : TextsEndAtSections) (openings : TextsEndAtOpenings) (text :
     c_part : IsUncut text modes.CPart (span (first_start ends_definitions size ps) (first_start ends_section size ps))
 
   -- where definitions end with a token, and what follows it
-  defined-at : (start : ℕ) (s : Standing) (kept : List SecName) (r : Stopped not_program s kept (answers_at text (beginning modes.Definition) start)) (how : Ending) → EndsBy r.token.kind (has_sign r.behind) how
+  defined-at : (start : ℕ) (s : Standing) (kept : List SecName)
+      (r : Stopped not_program s kept (answers_at text (beginning modes.Definition) start)) (how : Ending)
+      → EndsBy r.token.kind (has_sign r.behind) how
       → Defined start (tokens_at modes.Definition start s kept)
   defined-at start s kept r AtSection h =
       let ps = tokens_at modes.Definition start s kept in
       let p = token_placed not_program r.standing r.names r.token r.behind in
       let code = section-role r.standing r.token r.behind h in
       let to : first_start ends_definitions size ps ≡ r.token.span.start =
-      ap (first_start ends_definitions size) r.placed ∙ first-behind ends_definitions size r.front (placed_from r.standing r.names (Token r.token ∷ r.behind)) (none-stricter (ends not_program) ends_definitions r.front definitions-not r.none)
-      ∙ first-token not_program ends_definitions size r.standing r.names r.token r.behind (or-true (is_section_code p.role) (is_program p.part) code) in
+      ap (first_start ends_definitions size) r.placed
+      ∙ first-behind ends_definitions size r.front (placed_from r.standing r.names (Token r.token ∷ r.behind))
+      (none-stricter (ends not_program) ends_definitions r.front definitions-not r.none)
+      ∙ first-token not_program ends_definitions size r.standing r.names r.token r.behind
+      (or-true (is_section_code p.role) (is_program p.part) code) in
       let end : first_start ends_section size ps ≡ r.token.span.start =
-      ap (first_start ends_section size) r.placed ∙ first-behind ends_section size r.front (placed_from r.standing r.names (Token r.token ∷ r.behind)) (none-stricter (ends not_program) ends_section r.front section-definitions r.none)
+      ap (first_start ends_section size) r.placed ∙ first-behind ends_section size r.front
+      (placed_from r.standing r.names (Token r.token ∷ r.behind)) (none-stricter (ends not_program) ends_section
+      r.front section-definitions r.none)
       ∙ first-token not_program ends_section size r.standing r.names r.token r.behind code in
       let law = sections text start modes.Definition r.before r.token r.behind r.split h in
       record {
-        definitions = subst (λ n. IsUncut text modes.Definition (span start n)) (sym to) (uncut-before text start modes.Definition r.before r.token law.0 r.uncut);
-        c_part = subst (λ n. IsUncut text modes.CPart (span n (first_start ends_section size ps))) (sym to) (subst (λ n. IsUncut text modes.CPart (span r.token.span.start n)) (sym end) (empty-program text r.token.span.start));
+        definitions = subst (λ n. IsUncut text modes.Definition (span start n)) (sym to)
+            (uncut-before text start modes.Definition r.before r.token law.0 r.uncut);
+        c_part = subst (λ n. IsUncut text modes.CPart (span n (first_start ends_section size ps))) (sym to)
+            (subst (λ n. IsUncut text modes.CPart (span r.token.span.start n)) (sym end)
+            (empty-program text r.token.span.start));
       }
   defined-at start s kept r AtCPart h =
       let ps = tokens_at modes.Definition start s kept in
@@ -171,16 +202,24 @@ module _ (sections : TextsEndAtSections) (openings : TextsEndAtOpenings) (text :
       let code = plain-role r.standing r.token r.behind h.0 in
       let part = plain-part r.standing r.token r.behind (Some modes.CPart) h.0 h.1 in
       let to : first_start ends_definitions size ps ≡ r.token.span.start =
-      ap (first_start ends_definitions size) r.placed ∙ first-behind ends_definitions size r.front (placed_from r.standing r.names (Token r.token ∷ r.behind)) (none-stricter (ends not_program) ends_definitions r.front definitions-not r.none)
-      ∙ first-token not_program ends_definitions size r.standing r.names r.token r.behind (one-right (is_section_code p.role) (is_program p.part) (ap is_program part)) in
+      ap (first_start ends_definitions size) r.placed
+      ∙ first-behind ends_definitions size r.front (placed_from r.standing r.names (Token r.token ∷ r.behind))
+      (none-stricter (ends not_program) ends_definitions r.front definitions-not r.none)
+      ∙ first-token not_program ends_definitions size r.standing r.names r.token r.behind
+      (one-right (is_section_code p.role) (is_program p.part) (ap is_program part)) in
       let law = openings text start modes.Definition modes.CPart r.before r.token r.behind refl r.split h.1 in
-      let end : first_start ends_section size ps ≡ first_start ends_section size (tokens_at modes.CPart r.token.span.start r.standing r.names) =
-      ap (first_start ends_section size) r.placed ∙ first-behind ends_section size r.front (placed_from r.standing r.names (Token r.token ∷ r.behind)) (none-stricter (ends not_program) ends_section r.front section-definitions r.none)
+      let end : first_start ends_section size ps ≡ first_start ends_section size
+      (tokens_at modes.CPart r.token.span.start r.standing r.names) =
+      ap (first_start ends_section size) r.placed ∙ first-behind ends_section size r.front
+      (placed_from r.standing r.names (Token r.token ∷ r.behind)) (none-stricter (ends not_program) ends_section
+      r.front section-definitions r.none)
       ∙ ap (λ l. first_start ends_section size (placed_from r.standing r.names l)) law.1 in
       record {
-        definitions = subst (λ n. IsUncut text modes.Definition (span start n)) (sym to) (uncut-before text start modes.Definition r.before r.token law.0 r.uncut);
+        definitions = subst (λ n. IsUncut text modes.Definition (span start n)) (sym to)
+            (uncut-before text start modes.Definition r.before r.token law.0 r.uncut);
         c_part = subst (λ n. IsUncut text modes.CPart (span n (first_start ends_section size ps))) (sym to)
-            (subst (λ n. IsUncut text modes.CPart (span r.token.span.start n)) (sym end) (c-part r.token.span.start r.standing r.names));
+            (subst (λ n. IsUncut text modes.CPart (span r.token.span.start n)) (sym end)
+            (c-part r.token.span.start r.standing r.names));
       }
   defined-at start s kept r AtDefinitions h =
       let p = token_placed not_program r.standing r.names r.token r.behind in
@@ -196,17 +235,24 @@ module _ (sections : TextsEndAtSections) (openings : TextsEndAtOpenings) (text :
       let part = plain-part r.standing r.token r.behind None h.0 h.1 in
       not-both _ r.passes ((λ i. code i || not (not_program (part i))) ∙ ap not r.part)
 
-  defined : (start : ℕ) (s : Standing) (kept : List SecName) → not_program s.part ≡ true → Defined start (tokens_at modes.Definition start s kept)
+  defined : (start : ℕ) (s : Standing) (kept : List SecName) → not_program s.part ≡ true
+      → Defined start (tokens_at modes.Definition start s kept)
   defined start s kept g = by (stop not_program s kept (answers_at text (beginning modes.Definition) start) g)
     where
-      by : Ended not_program s kept (answers_at text (beginning modes.Definition) start) ⊎ Stopped not_program s kept (answers_at text (beginning modes.Definition) start) → Defined start (tokens_at modes.Definition start s kept)
+      by : Ended not_program s kept (answers_at text (beginning modes.Definition) start)
+          ⊎ Stopped not_program s kept (answers_at text (beginning modes.Definition) start)
+          → Defined start (tokens_at modes.Definition start s kept)
       by (inl e) =
           let ps = tokens_at modes.Definition start s kept in
-          let to = first-none ends_definitions size ps (none-stricter (ends not_program) ends_definitions ps definitions-not e.none) in
-          let end = first-none ends_section size ps (none-stricter (ends not_program) ends_section ps section-definitions e.none) in
+          let to = first-none ends_definitions size ps (none-stricter (ends not_program) ends_definitions ps
+          definitions-not e.none) in
+          let end = first-none ends_section size ps (none-stricter (ends not_program) ends_section ps
+          section-definitions e.none) in
           record {
-            definitions = subst (λ n. IsUncut text modes.Definition (span start n)) (sym to) (last-part text start modes.Definition e.uncut);
-            c_part = subst (λ n. IsUncut text modes.CPart (span n (first_start ends_section size ps))) (sym to) (subst (λ n. IsUncut text modes.CPart (span size n)) (sym end) (empty-program text size));
+            definitions = subst (λ n. IsUncut text modes.Definition (span start n)) (sym to)
+                (last-part text start modes.Definition e.uncut);
+            c_part = subst (λ n. IsUncut text modes.CPart (span n (first_start ends_section size ps))) (sym to)
+                (subst (λ n. IsUncut text modes.CPart (span size n)) (sym end) (empty-program text size));
           }
       by (inr r) = let e = ends-so r.token.kind (has_sign r.behind) in defined-at start s kept r e.how e.so
 
@@ -217,18 +263,25 @@ module _ (sections : TextsEndAtSections) (openings : TextsEndAtOpenings) (text :
 
   record Told (start : ℕ) (ps : List Placed) : Type 0 where
     tex : Alone start (first_start ends_tex size ps)
-    definitions : IsUncut text modes.Definition (span (first_start ends_tex size ps) (first_start ends_definitions size ps))
+    definitions : IsUncut text modes.Definition (span (first_start ends_tex size ps)
+        (first_start ends_definitions size ps))
     c_part : IsUncut text modes.CPart (span (first_start ends_definitions size ps) (first_start ends_section size ps))
 
-  told-by : (start to middle end : ℕ) (ps : List Placed) → first_start ends_tex size ps ≡ to → first_start ends_definitions size ps ≡ middle → first_start ends_section size ps ≡ end
-      → Alone start to → IsUncut text modes.Definition (span to middle) → IsUncut text modes.CPart (span middle end) → Told start ps
+  told-by : (start to middle end : ℕ) (ps : List Placed) → first_start ends_tex size ps ≡ to
+      → first_start ends_definitions size ps ≡ middle → first_start ends_section size ps ≡ end
+      → Alone start to → IsUncut text modes.Definition (span to middle) → IsUncut text modes.CPart (span middle end)
+      → Told start ps
   told-by start to middle end ps a b c t d p = record {
     tex = subst (Alone start) (sym a) t;
-    definitions = subst (λ n. IsUncut text modes.Definition (span n (first_start ends_definitions size ps))) (sym a) (subst (λ n. IsUncut text modes.Definition (span to n)) (sym b) d);
-    c_part = subst (λ n. IsUncut text modes.CPart (span n (first_start ends_section size ps))) (sym b) (subst (λ n. IsUncut text modes.CPart (span middle n)) (sym c) p);
+    definitions = subst (λ n. IsUncut text modes.Definition (span n (first_start ends_definitions size ps))) (sym a)
+        (subst (λ n. IsUncut text modes.Definition (span to n)) (sym b) d);
+    c_part = subst (λ n. IsUncut text modes.CPart (span n (first_start ends_section size ps))) (sym b)
+        (subst (λ n. IsUncut text modes.CPart (span middle n)) (sym c) p);
   }
 
-  told-at : (start : ℕ) (s : Standing) (kept : List SecName) (r : Stopped is_tex s kept (answers_at text (beginning modes.TexText) start)) (how : Ending) → EndsBy r.token.kind (has_sign r.behind) how
+  told-at : (start : ℕ) (s : Standing) (kept : List SecName)
+      (r : Stopped is_tex s kept (answers_at text (beginning modes.TexText) start)) (how : Ending)
+      → EndsBy r.token.kind (has_sign r.behind) how
       → Told start (tokens_at modes.TexText start s kept)
   told-at start s kept r AtSection h =
       let ps = tokens_at modes.TexText start s kept in
@@ -237,11 +290,20 @@ module _ (sections : TextsEndAtSections) (openings : TextsEndAtOpenings) (text :
       let at = r.token.span.start in
       let law = sections text start modes.TexText r.before r.token r.behind r.split h in
       told-by start at at at ps
-      (ap (first_start ends_tex size) r.placed ∙ first-behind ends_tex size r.front (placed_from r.standing r.names (Token r.token ∷ r.behind)) r.none ∙ first-token is_tex ends_tex size r.standing r.names r.token r.behind r.passes)
-      (ap (first_start ends_definitions size) r.placed ∙ first-behind ends_definitions size r.front (placed_from r.standing r.names (Token r.token ∷ r.behind)) (none-stricter (ends is_tex) ends_definitions r.front definitions-tex r.none)
-      ∙ first-token is_tex ends_definitions size r.standing r.names r.token r.behind (or-true (is_section_code p.role) (is_program p.part) code))
-      (ap (first_start ends_section size) r.placed ∙ first-behind ends_section size r.front (placed_from r.standing r.names (Token r.token ∷ r.behind)) (none-stricter (ends is_tex) ends_section r.front section-tex r.none) ∙ first-token is_tex ends_section size r.standing r.names r.token r.behind code)
-      (alone-before text start modes.TexText r.before r.token (Token r.token ∷ r.behind) law.0 (tex-opens (Token r.token ∷ r.behind) r.before r.keeps)) (empty-definition text at) (empty-program text at)
+      (ap (first_start ends_tex size) r.placed ∙ first-behind ends_tex size r.front
+      (placed_from r.standing r.names (Token r.token ∷ r.behind)) r.none
+      ∙ first-token is_tex ends_tex size r.standing r.names r.token r.behind r.passes)
+      (ap (first_start ends_definitions size) r.placed
+      ∙ first-behind ends_definitions size r.front (placed_from r.standing r.names (Token r.token ∷ r.behind))
+      (none-stricter (ends is_tex) ends_definitions r.front definitions-tex r.none)
+      ∙ first-token is_tex ends_definitions size r.standing r.names r.token r.behind
+      (or-true (is_section_code p.role) (is_program p.part) code))
+      (ap (first_start ends_section size) r.placed
+      ∙ first-behind ends_section size r.front (placed_from r.standing r.names (Token r.token ∷ r.behind))
+      (none-stricter (ends is_tex) ends_section r.front section-tex r.none)
+      ∙ first-token is_tex ends_section size r.standing r.names r.token r.behind code)
+      (alone-before text start modes.TexText r.before r.token (Token r.token ∷ r.behind) law.0
+      (tex-opens (Token r.token ∷ r.behind) r.before r.keeps)) (empty-definition text at) (empty-program text at)
   told-at start s kept r AtDefinitions h =
       let ps = tokens_at modes.TexText start s kept in
       let p = token_placed is_tex r.standing r.names r.token r.behind in
@@ -250,12 +312,19 @@ module _ (sections : TextsEndAtSections) (openings : TextsEndAtOpenings) (text :
       let rest = tokens_at modes.Definition at r.standing r.names in
       let d = defined at r.standing r.names (tex-no-program r.standing.part r.part) in
       told-by start at (first_start ends_definitions size rest) (first_start ends_section size rest) ps
-      (ap (first_start ends_tex size) r.placed ∙ first-behind ends_tex size r.front (placed_from r.standing r.names (Token r.token ∷ r.behind)) r.none ∙ first-token is_tex ends_tex size r.standing r.names r.token r.behind r.passes)
-      (ap (first_start ends_definitions size) r.placed ∙ first-behind ends_definitions size r.front (placed_from r.standing r.names (Token r.token ∷ r.behind)) (none-stricter (ends is_tex) ends_definitions r.front definitions-tex r.none)
+      (ap (first_start ends_tex size) r.placed ∙ first-behind ends_tex size r.front
+      (placed_from r.standing r.names (Token r.token ∷ r.behind)) r.none
+      ∙ first-token is_tex ends_tex size r.standing r.names r.token r.behind r.passes)
+      (ap (first_start ends_definitions size) r.placed
+      ∙ first-behind ends_definitions size r.front (placed_from r.standing r.names (Token r.token ∷ r.behind))
+      (none-stricter (ends is_tex) ends_definitions r.front definitions-tex r.none)
       ∙ ap (λ l. first_start ends_definitions size (placed_from r.standing r.names l)) law.1)
-      (ap (first_start ends_section size) r.placed ∙ first-behind ends_section size r.front (placed_from r.standing r.names (Token r.token ∷ r.behind)) (none-stricter (ends is_tex) ends_section r.front section-tex r.none)
+      (ap (first_start ends_section size) r.placed
+      ∙ first-behind ends_section size r.front (placed_from r.standing r.names (Token r.token ∷ r.behind))
+      (none-stricter (ends is_tex) ends_section r.front section-tex r.none)
       ∙ ap (λ l. first_start ends_section size (placed_from r.standing r.names l)) law.1)
-      (alone-before text start modes.TexText r.before r.token (Token r.token ∷ r.behind) law.0 (tex-opens (Token r.token ∷ r.behind) r.before r.keeps)) d.definitions d.c_part
+      (alone-before text start modes.TexText r.before r.token (Token r.token ∷ r.behind) law.0
+      (tex-opens (Token r.token ∷ r.behind) r.before r.keeps)) d.definitions d.c_part
     where
       tex-no-program : (part : Part) → is_tex part ≡ true → not_program part ≡ true
       tex-no-program parts.Tex h = refl
@@ -268,27 +337,42 @@ module _ (sections : TextsEndAtSections) (openings : TextsEndAtOpenings) (text :
       let law = openings text start modes.TexText modes.CPart r.before r.token r.behind refl r.split h.1 in
       let rest = tokens_at modes.CPart at r.standing r.names in
       told-by start at at (first_start ends_section size rest) ps
-      (ap (first_start ends_tex size) r.placed ∙ first-behind ends_tex size r.front (placed_from r.standing r.names (Token r.token ∷ r.behind)) r.none ∙ first-token is_tex ends_tex size r.standing r.names r.token r.behind r.passes)
-      (ap (first_start ends_definitions size) r.placed ∙ first-behind ends_definitions size r.front (placed_from r.standing r.names (Token r.token ∷ r.behind)) (none-stricter (ends is_tex) ends_definitions r.front definitions-tex r.none)
-      ∙ first-token is_tex ends_definitions size r.standing r.names r.token r.behind (one-right (is_section_code p.role) (is_program p.part) (ap is_program part)))
-      (ap (first_start ends_section size) r.placed ∙ first-behind ends_section size r.front (placed_from r.standing r.names (Token r.token ∷ r.behind)) (none-stricter (ends is_tex) ends_section r.front section-tex r.none)
+      (ap (first_start ends_tex size) r.placed ∙ first-behind ends_tex size r.front
+      (placed_from r.standing r.names (Token r.token ∷ r.behind)) r.none
+      ∙ first-token is_tex ends_tex size r.standing r.names r.token r.behind r.passes)
+      (ap (first_start ends_definitions size) r.placed
+      ∙ first-behind ends_definitions size r.front (placed_from r.standing r.names (Token r.token ∷ r.behind))
+      (none-stricter (ends is_tex) ends_definitions r.front definitions-tex r.none)
+      ∙ first-token is_tex ends_definitions size r.standing r.names r.token r.behind
+      (one-right (is_section_code p.role) (is_program p.part) (ap is_program part)))
+      (ap (first_start ends_section size) r.placed
+      ∙ first-behind ends_section size r.front (placed_from r.standing r.names (Token r.token ∷ r.behind))
+      (none-stricter (ends is_tex) ends_section r.front section-tex r.none)
       ∙ ap (λ l. first_start ends_section size (placed_from r.standing r.names l)) law.1)
-      (alone-before text start modes.TexText r.before r.token (Token r.token ∷ r.behind) law.0 (tex-opens (Token r.token ∷ r.behind) r.before r.keeps)) (empty-definition text at) (c-part at r.standing r.names)
+      (alone-before text start modes.TexText r.before r.token (Token r.token ∷ r.behind) law.0
+      (tex-opens (Token r.token ∷ r.behind) r.before r.keeps)) (empty-definition text at)
+      (c-part at r.standing r.names)
   told-at start s kept r Nowhere h =
       let code = plain-role r.standing r.token r.behind h.0 in
       let part = plain-part r.standing r.token r.behind None h.0 h.1 in
       not-both _ r.passes ((λ i. code i || not (is_tex (part i))) ∙ ap not r.part)
 
-  told : (start : ℕ) (s : Standing) (kept : List SecName) → is_tex s.part ≡ true → Told start (tokens_at modes.TexText start s kept)
+  told : (start : ℕ) (s : Standing) (kept : List SecName) → is_tex s.part ≡ true
+      → Told start (tokens_at modes.TexText start s kept)
   told start s kept g = by (stop is_tex s kept (answers_at text (beginning modes.TexText) start) g)
     where
-      by : Ended is_tex s kept (answers_at text (beginning modes.TexText) start) ⊎ Stopped is_tex s kept (answers_at text (beginning modes.TexText) start) → Told start (tokens_at modes.TexText start s kept)
+      by : Ended is_tex s kept (answers_at text (beginning modes.TexText) start)
+          ⊎ Stopped is_tex s kept (answers_at text (beginning modes.TexText) start)
+          → Told start (tokens_at modes.TexText start s kept)
       by (inl e) =
           let ps = tokens_at modes.TexText start s kept in
           told-by start size size size ps (first-none ends_tex size ps e.none)
           (first-none ends_definitions size ps (none-stricter (ends is_tex) ends_definitions ps definitions-tex e.none))
           (first-none ends_section size ps (none-stricter (ends is_tex) ends_section ps section-tex e.none))
-          (ap (λ l. opens_part_in (answers_at l (beginning modes.TexText) start)) (take_all (length text) text (omega arith)) ∙ tex-opens [] (answers_at text (beginning modes.TexText) start) e.keeps) (empty-definition text size) (empty-program text size)
+          (ap (λ l. opens_part_in (answers_at l (beginning modes.TexText) start))
+          (take_all (length text) text (omega arith))
+          ∙ tex-opens [] (answers_at text (beginning modes.TexText) start) e.keeps) (empty-definition text size)
+          (empty-program text size)
       by (inr r) = let e = ends-so r.token.kind (has_sign r.behind) in told-at start s kept r e.how e.so
 
   -- ## All sections
@@ -298,44 +382,59 @@ module _ (sections : TextsEndAtSections) (openings : TextsEndAtOpenings) (text :
     definitions : IsUncut text modes.Definition s.definitions
     c_part : IsUncut text modes.CPart s.c_part
 
-  sections-by : (b : Bool) (s : Section) (rest : List Section) → (b ≡ true → Uncut s) → All Uncut rest → All Uncut (elim b as (λ _. List Section) [ true ↦ s ∷ rest | false ↦ rest ])
+  sections-by : (b : Bool) (s : Section) (rest : List Section) → (b ≡ true → Uncut s) → All Uncut rest
+      → All Uncut (elim b as (λ _. List Section) [ true ↦ s ∷ rest | false ↦ rest ])
   sections-by true s rest h a = All-cons Uncut s rest (h refl) a
   sections-by false s rest h a = a
 
   -- the section of a code among the answers of the whole text
-  at-code : (lines : List MergedLine) (xs : List Answer) (t : Seen) (ys : List Answer) (s : Standing) (kept : List SecName) → answers_at text (beginning modes.Limbo) 0 ≡ xs ++ Token t ∷ ys
+  at-code : (lines : List MergedLine) (xs : List Answer) (t : Seen) (ys : List Answer) (s : Standing)
+      (kept : List SecName) → answers_at text (beginning modes.Limbo) 0 ≡ xs ++ Token t ∷ ys
       → is_section_kind t.kind ≡ true → is_tex s.part ≡ true → Uncut (section_at lines size t (placed_from s kept ys))
   at-code lines xs t ys s kept e k g =
       let law = sections text 0 modes.Limbo xs t ys e k in
       subst (λ l. Uncut (section_at lines size t (placed_from s kept l))) (sym law.1)
       (let u = told t.span.end s kept g in record { tex = u.tex; definitions = u.definitions; c_part = u.c_part })
 
-  all-uncut : (lines : List MergedLine) (xs ys : List Answer) (s : Standing) (kept : List SecName) → answers_at text (beginning modes.Limbo) 0 ≡ xs ++ ys → All Uncut (sections_of lines size (placed_from s kept ys))
+  all-uncut : (lines : List MergedLine) (xs ys : List Answer) (s : Standing) (kept : List SecName)
+      → answers_at text (beginning modes.Limbo) 0 ≡ xs ++ ys
+      → All Uncut (sections_of lines size (placed_from s kept ys))
   all-uncut lines xs [] s kept e = All-nil Uncut
   all-uncut lines xs (Token t ∷ ys) s kept e =
       let next = (token_step t.kind (has_sign ys) s t.span).next in
       sections-by (is_section_code (token_step t.kind (has_sign ys) s t.span).role) _ _ (λ code. begun code)
       (all-uncut lines (xs ++ Token t ∷ []) ys next (kept_behind t kept) (e ∙ sym (append_assoc xs (Token t ∷ []) ys)))
     where
-      begun : is_section_code (token_step t.kind (has_sign ys) s t.span).role ≡ true → Uncut (section_at lines size t (placed_from (token_step t.kind (has_sign ys) s t.span).next (kept_behind t kept) ys))
+      begun : is_section_code (token_step t.kind (has_sign ys) s t.span).role ≡ true
+          → Uncut (section_at lines size t (placed_from (token_step t.kind (has_sign ys) s t.span).next
+          (kept_behind t kept) ys))
       begun code = by (is_section_kind t.kind) refl
         where
-          by : (b : Bool) → is_section_kind t.kind ≡ b → Uncut (section_at lines size t (placed_from (token_step t.kind (has_sign ys) s t.span).next (kept_behind t kept) ys))
-          by true k = at-code lines xs t ys (token_step t.kind (has_sign ys) s t.span).next (kept_behind t kept) e k (ap is_tex (section-part s t ys k))
+          by : (b : Bool) → is_section_kind t.kind ≡ b
+              → Uncut (section_at lines size t (placed_from (token_step t.kind (has_sign ys) s t.span).next
+              (kept_behind t kept) ys))
+          by true k = at-code lines xs t ys (token_step t.kind (has_sign ys) s t.span).next (kept_behind t kept) e k
+              (ap is_tex (section-part s t ys k))
           by false k = not-both _ code (plain-role s t ys k)
-  all-uncut lines xs (Begin t ∷ ys) s kept e = all-uncut lines (xs ++ Begin t ∷ []) ys (behind_begin s) kept (e ∙ sym (append_assoc xs (Begin t ∷ []) ys))
-  all-uncut lines xs (Finish t ∷ ys) s kept e = all-uncut lines (xs ++ Finish t ∷ []) ys s kept (e ∙ sym (append_assoc xs (Finish t ∷ []) ys))
-  all-uncut lines xs (Note kind place ∷ ys) s kept e = all-uncut lines (xs ++ Note kind place ∷ []) ys s kept (e ∙ sym (append_assoc xs (Note kind place ∷ []) ys))
+  all-uncut lines xs (Begin t ∷ ys) s kept e = all-uncut lines (xs ++ Begin t ∷ []) ys (behind_begin s) kept (e
+      ∙ sym (append_assoc xs (Begin t ∷ []) ys))
+  all-uncut lines xs (Finish t ∷ ys) s kept e = all-uncut lines (xs ++ Finish t ∷ []) ys s kept (e
+      ∙ sym (append_assoc xs (Finish t ∷ []) ys))
+  all-uncut lines xs (Note kind place ∷ ys) s kept e = all-uncut lines (xs ++ Note kind place ∷ []) ys s kept (e
+      ∙ sym (append_assoc xs (Note kind place ∷ []) ys))
 
-tex-uncut : (text : List ℕ) (s : Section) → opens_part_in (tokens_of text s.tex.start s.tex.«end» modes.TexText) ≡ false → IsUncut text modes.TexText s.tex
+tex-uncut : (text : List ℕ) (s : Section) → opens_part_in (tokens_of text s.tex.start s.tex.«end» modes.TexText) ≡ false
+    → IsUncut text modes.TexText s.tex
 tex-uncut text s h = opens-uncut [] (tokens_of text s.tex.start s.tex.«end» modes.TexText) h
 
 pub sections-whole : TextsEndAtSections → TextsEndAtOpenings → SectionsAreWhole
 sections-whole sections openings lines =
     let text = text_of lines in
     let scanned = answers_of lines in
-    let all : answers_at text (beginning modes.Limbo) 0 ≡ scanned = ap (λ l. answers_at l (beginning modes.Limbo) 0) (sym (take_all (length text) text (omega arith))) in
-    let lies = all-lie lines 0 (length text) (placed scanned) (follows text 0 (length text) at_limbo [] scanned (tokens-cover text 0 (length text) modes.Limbo (omega arith) (omega arith))) in
+    let all : answers_at text (beginning modes.Limbo) 0 ≡ scanned =
+    ap (λ l. answers_at l (beginning modes.Limbo) 0) (sym (take_all (length text) text (omega arith))) in
+    let lies = all-lie lines 0 (length text) (placed scanned) (follows text 0 (length text) at_limbo [] scanned
+    (tokens-cover text 0 (length text) modes.Limbo (omega arith) (omega arith))) in
     let uncut = all-uncut sections openings text lines [] scanned at_limbo [] all in
     λ i d within. record {
       lies = lies i d within;

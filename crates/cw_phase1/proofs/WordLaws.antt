@@ -1,5 +1,7 @@
 -- The names, occurrences, uses and references that are told are those of the whole list.
-use Rattle.std.proofs.Common.{◌≡◌, ℕ, zero, suc, ◌+◌, ◌<◌, ◌≤◌, Bool, true, false, List, [], ◌∷◌, ◌++◌, Some, None, length, map, nat_lt, cond, not, eqb, refl, ap, ◌∙◌, sym, arith, length-append, append_assoc, add-zero}
+use Rattle.std.proofs.Common.{◌≡◌, ℕ, zero, suc, ◌+◌, ◌<◌, ◌≤◌, Bool, true, false, List, [], ◌∷◌, ◌++◌, Some, None}
+use Rattle.std.proofs.Common.{length, map, nat_lt, cond, not, eqb, refl, ap, ◌∙◌, sym, arith, length-append}
+use Rattle.std.proofs.Common.{append_assoc, add-zero}
 use Rattle.std.proofs.lemmas.List.Folds.{position_or_len_push}
 use Rattle.std.proofs.lemmas.List.{append-nil, map-append}
 use borrow.Author.Tests.{ltb-true, ltb-false, eq-eqb}
@@ -16,7 +18,8 @@ use Rattle.cw_phase1.specs.declared.roles.Role.TheVariants as roles
 use Rattle.cw_phase1.specs.declared.told.Told.{Told}
 use Rattle.cw_phase1.specs.Roles.{Placed}
 use Rattle.cw_phase1.specs.Texts.{entry_text}
-use Rattle.cw_phase1.specs.Words.{Known, Mention, mention, word, with_format, known_behind, known_after, names_after, mention_by, mentions_from, waits_behind, occurrence, occurrences}
+use Rattle.cw_phase1.specs.Words.{Known, Mention, mention, word, with_format, known_behind, known_after, names_after}
+use Rattle.cw_phase1.specs.Words.{mention_by, mentions_from, waits_behind, occurrence, occurrences}
 use Rattle.cw_phase1.specs.Uses.{use_of, uses_of, reference_of, references_of}
 use Rattle.cw_phase1.specs.Telling.{known_of, told_step, told_all, told_start}
 use Rattle.cw_names.specs.declared.entry.NameId.{NameId}
@@ -48,7 +51,8 @@ not-same a b h = grind arith
 with-last : (kind : EntryKind) (text : List ℕ) (n : ℕ) (e : names.Entry) (entries : List names.Entry)
     → Stands kind text n entries → Stands kind text n (entries ++ e ∷ [])
 with-last kind text n e entries s = record {
-  place = rw (position_or_len_push (names.is_entry kind text) entries e, s.place, not-same n (length entries) s.below) refl;
+  place = rw (position_or_len_push (names.is_entry kind text) entries e, s.place, not-same n (length entries) s.below)
+      refl;
   below = rw (length-append entries (e ∷ [])) (omega (arith, s.below));
 }
 
@@ -59,9 +63,11 @@ entry-by false kind text n e entries s = with-last kind text n e entries s
 
 with-entry : (kind : EntryKind) (text : List ℕ) (n : ℕ) (other : EntryKind) (word : List ℕ) (entries : List names.Entry)
     → Stands kind text n entries → Stands kind text n (names.with_entry other word entries)
-with-entry kind text n other word entries s = entry-by (nat_lt (names.place_of other word entries) (length entries)) kind text n _ entries s
+with-entry kind text n other word entries s = entry-by (nat_lt (names.place_of other word entries) (length entries))
+    kind text n _ entries s
 
-format : (first : Option NameId) (kind : EntryKind) (text : List ℕ) (n : ℕ) (second : NameId) (entries : List names.Entry)
+format : (first : Option NameId) (kind : EntryKind) (text : List ℕ) (n : ℕ) (second : NameId)
+    (entries : List names.Entry)
     → Stands kind text n entries → Stands kind text n (with_format first second entries)
 format None kind text n second entries s = s
 format (Some first) kind text n second entries s = with-category kind text n _ _ entries s
@@ -74,29 +80,37 @@ same-kind Roman = refl
 same-kind Typewriter = refl
 same-kind User = refl
 
-same-entry : (kind : EntryKind) (text : List ℕ) → names.is_entry kind text (record { kind = kind; text = text; category = Exp }) ≡ true
+same-entry : (kind : EntryKind) (text : List ℕ) → names.is_entry kind text
+    (record { kind = kind; text = text; category = Exp }) ≡ true
 same-entry kind text = rw (same-kind kind, (bytes_decides text text).1 refl) refl
 
 le-by : (t : Bool) (a b : ℕ) → a ≤ b → cond (not t) (1 + a) 0 ≤ suc b
 le-by true a b h = omega arith
 le-by false a b h = omega arith
 
-place-le : (kind : EntryKind) (text : List ℕ) (entries : List names.Entry) → names.place_of kind text entries ≤ length entries
+place-le : (kind : EntryKind) (text : List ℕ) (entries : List names.Entry)
+    → names.place_of kind text entries ≤ length entries
 place-le kind text [] = omega arith
 place-le kind text (e ∷ es) = le-by (names.is_entry kind text e) _ _ (place-le kind text es)
 
-new-by : (t : Bool) (kind : EntryKind) (text : List ℕ) (entries : List names.Entry) → nat_lt (names.place_of kind text entries) (length entries) ≡ t
-    → Stands kind text (names.place_of kind text entries) (cond t entries (entries ++ record { kind = kind; text = text; category = Exp } ∷ []))
+new-by : (t : Bool) (kind : EntryKind) (text : List ℕ) (entries : List names.Entry)
+    → nat_lt (names.place_of kind text entries) (length entries) ≡ t
+    → Stands kind text (names.place_of kind text entries)
+    (cond t entries (entries ++ record { kind = kind; text = text; category = Exp } ∷ []))
 new-by true kind text entries h = record { place = refl; below = ltb-true _ _ h }
 new-by false kind text entries h =
-    let at_end : names.place_of kind text entries ≡ length entries = omega (arith, ltb-false _ _ h, place-le kind text entries) in
+    let at_end : names.place_of kind text entries ≡ length entries =
+    omega (arith, ltb-false _ _ h, place-le kind text entries) in
     record {
-      place = position_or_len_push (names.is_entry kind text) entries (record { kind = kind; text = text; category = Exp }) ∙
+      place = position_or_len_push (names.is_entry kind text) entries
+          (record { kind = kind; text = text; category = Exp }) ∙
           rw (at_end, eq-eqb (length entries) (length entries) refl, same-entry kind text) (add-zero (length entries));
-      below = rw (length-append entries (record { kind = kind; text = text; category = Exp } ∷ [])) (omega (arith, at_end));
+      below = rw (length-append entries (record { kind = kind; text = text; category = Exp } ∷ []))
+          (omega (arith, at_end));
     }
 
-entered : (kind : EntryKind) (text : List ℕ) (entries : List names.Entry) → Stands kind text (names.place_of kind text entries) (names.with_entry kind text entries)
+entered : (kind : EntryKind) (text : List ℕ) (entries : List names.Entry)
+    → Stands kind text (names.place_of kind text entries) (names.with_entry kind text entries)
 entered kind text entries = new-by (nat_lt (names.place_of kind text entries) (length entries)) kind text entries refl
 
 role-keeps : (kind : EntryKind) (text : List ℕ) (n : ℕ) (role : Role) (word : List ℕ) (k : Known)
@@ -116,7 +130,8 @@ role-keeps kind text n roles.Plain word k s = s
 keeps : (kind : EntryKind) (text : List ℕ) (n : ℕ) (ps : List Placed) (k : Known)
     → Stands kind text n k.names → Stands kind text n (known_after ps k).names
 keeps kind text n [] k s = s
-keeps kind text n (p ∷ ps) k s = keeps kind text n ps (known_behind p.role p.token.text k) (role-keeps kind text n p.role p.token.text k s)
+keeps kind text n (p ∷ ps) k s = keeps kind text n ps (known_behind p.role p.token.text k)
+    (role-keeps kind text n p.role p.token.text k s)
 
 one : (m : Mention) (entries : List names.Entry) (ps : List Placed) (k : Known)
     → Stands m.kind m.text (names.place_of m.kind m.text entries) k.names
@@ -126,18 +141,21 @@ one m entries ps k s =
     (sym (keeps m.kind m.text (names.place_of m.kind m.text entries) ps k s).place)
 
 mentioned : (role : Role) (p : Placed) (waits : Bool) (ps : List Placed) (k : Known)
-    → map (occurrence k.names) (mention_by role p waits) ≡ map (occurrence (known_after ps (known_behind role p.token.text k)).names) (mention_by role p waits)
+    → map (occurrence k.names) (mention_by role p waits)
+    ≡ map (occurrence (known_after ps (known_behind role p.token.text k)).names) (mention_by role p waits)
 mentioned roles.MacroName p waits ps k = one (word p true) k.names ps _ (entered Ident p.token.text k.names)
 mentioned roles.Parameter p waits ps k = one (word p waits) k.names ps _ (entered Ident p.token.text k.names)
 mentioned roles.Word p waits ps k = one (word p waits) k.names ps _ (entered Ident p.token.text k.names)
-mentioned (roles.FirstName false) p waits ps k = one (word p waits) k.names ps (known_behind (roles.FirstName false) p.token.text k) (entered Ident p.token.text k.names)
+mentioned (roles.FirstName false) p waits ps k = one (word p waits) k.names ps
+    (known_behind (roles.FirstName false) p.token.text k) (entered Ident p.token.text k.names)
 mentioned (roles.FirstName true) p waits ps k = refl
 mentioned (roles.SecondName false) p waits ps k =
     one (word p waits) k.names ps (known_behind (roles.SecondName false) p.token.text k)
     (format k.first Ident p.token.text _ _ _ (entered Ident p.token.text k.names))
 mentioned (roles.SecondName true) p waits ps k = refl
 mentioned (roles.Entry kind) p waits ps k =
-    one (mention kind (entry_text p.token.text) p waits) k.names ps (known_behind (roles.Entry kind) p.token.text k) (entered kind (entry_text p.token.text) k.names)
+    one (mention kind (entry_text p.token.text) p waits) k.names ps (known_behind (roles.Entry kind) p.token.text k)
+    (entered kind (entry_text p.token.text) k.names)
 mentioned roles.SectionCode p waits ps k = refl
 mentioned roles.Underline p waits ps k = refl
 mentioned (roles.Name how) p waits ps k = refl
@@ -150,11 +168,13 @@ names-told : (lines : List MergedLine) (ps : List Placed) (t : Told)
 names-told lines [] t = refl
 names-told lines (p ∷ ps) t = names-told lines ps (told_step lines p t)
 
-pub all-names : (lines : List MergedLine) (ps : List Placed) → (told_all lines ps told_start).words.names ≡ names_after ps built_in_words
+pub all-names : (lines : List MergedLine) (ps : List Placed) → (told_all lines ps told_start).words.names
+    ≡ names_after ps built_in_words
 all-names lines ps = names-told lines ps told_start
 
 xrefs-told : (lines : List MergedLine) (ps : List Placed) (t : Told)
-    → (told_all lines ps t).words.xrefs ≡ t.words.xrefs ++ map (occurrence (known_after ps (known_of t.words)).names) (mentions_from t.words.waits ps)
+    → (told_all lines ps t).words.xrefs ≡ t.words.xrefs ++ map (occurrence (known_after ps (known_of t.words)).names)
+    (mentions_from t.words.waits ps)
 xrefs-told lines [] t = sym (append-nil t.words.xrefs)
 xrefs-told lines (p ∷ ps) t =
     let final = (known_after ps (known_behind p.role p.token.text (known_of t.words))).names in
@@ -162,33 +182,42 @@ xrefs-told lines (p ∷ ps) t =
     xrefs-told lines ps (told_step lines p t) ∙
     (ap (λ os. (t.words.xrefs ++ os) ++ later) (mentioned p.role p t.words.waits ps (known_of t.words)) ∙
     (append_assoc t.words.xrefs (map (occurrence final) (mention_by p.role p t.words.waits)) later ∙
-    ap (λ os. t.words.xrefs ++ os) (sym (map-append (occurrence final) (mention_by p.role p t.words.waits) (mentions_from (waits_behind p.role t.words.waits) ps)))))
+    ap (λ os. t.words.xrefs ++ os) (sym (map-append (occurrence final) (mention_by p.role p t.words.waits)
+    (mentions_from (waits_behind p.role t.words.waits) ps)))))
 
 pub all-occurrences : (lines : List MergedLine) (ps : List Placed)
     → (told_all lines ps told_start).words.xrefs ≡ occurrences (names_after ps built_in_words) ps
 all-occurrences lines ps = xrefs-told lines ps told_start
 
-uses-told : (lines : List MergedLine) (ps : List Placed) (t : Told) → (told_all lines ps t).named.uses ≡ t.named.uses ++ uses_of ps
+uses-told : (lines : List MergedLine) (ps : List Placed) (t : Told) → (told_all lines ps t).named.uses
+    ≡ t.named.uses ++ uses_of ps
 uses-told lines [] t = sym (append-nil t.named.uses)
-uses-told lines (p ∷ ps) t = uses-told lines ps (told_step lines p t) ∙ append_assoc t.named.uses (use_of p) (uses_of ps)
+uses-told lines (p ∷ ps) t = uses-told lines ps (told_step lines p t)
+    ∙ append_assoc t.named.uses (use_of p) (uses_of ps)
 
 pub all-uses : (lines : List MergedLine) (ps : List Placed) → (told_all lines ps told_start).named.uses ≡ uses_of ps
 all-uses lines ps = uses-told lines ps told_start
 
-references-told : (lines : List MergedLine) (ps : List Placed) (t : Told) → (told_all lines ps t).named.references ≡ t.named.references ++ references_of ps
+references-told : (lines : List MergedLine) (ps : List Placed) (t : Told) → (told_all lines ps t).named.references
+    ≡ t.named.references ++ references_of ps
 references-told lines [] t = sym (append-nil t.named.references)
-references-told lines (p ∷ ps) t = references-told lines ps (told_step lines p t) ∙ append_assoc t.named.references (reference_of p) (references_of ps)
+references-told lines (p ∷ ps) t = references-told lines ps (told_step lines p t)
+    ∙ append_assoc t.named.references (reference_of p) (references_of ps)
 
-pub all-references : (lines : List MergedLine) (ps : List Placed) → (told_all lines ps told_start).named.references ≡ references_of ps
+pub all-references : (lines : List MergedLine) (ps : List Placed) → (told_all lines ps told_start).named.references
+    ≡ references_of ps
 all-references lines ps = references-told lines ps told_start
 
 -- A name is among the names from its first appearance on, and the names only grow.
-pub entered-below : (kind : EntryKind) (text : List ℕ) (entries : List names.Entry) → names.place_of kind text entries < length (names.with_entry kind text entries)
+pub entered-below : (kind : EntryKind) (text : List ℕ) (entries : List names.Entry)
+    → names.place_of kind text entries < length (names.with_entry kind text entries)
 entered-below kind text entries = (entered kind text entries).below
 
-grows-by : (t : Bool) (e : names.Entry) (entries : List names.Entry) → length entries ≤ length (cond t entries (entries ++ e ∷ []))
+grows-by : (t : Bool) (e : names.Entry) (entries : List names.Entry)
+    → length entries ≤ length (cond t entries (entries ++ e ∷ []))
 grows-by true e entries = omega arith
 grows-by false e entries = omega (arith, length-append entries (e ∷ []))
 
-pub entry-grows : (kind : EntryKind) (text : List ℕ) (entries : List names.Entry) → length entries ≤ length (names.with_entry kind text entries)
+pub entry-grows : (kind : EntryKind) (text : List ℕ) (entries : List names.Entry)
+    → length entries ≤ length (names.with_entry kind text entries)
 entry-grows kind text entries = grows-by (nat_lt (names.place_of kind text entries) (length entries)) _ entries

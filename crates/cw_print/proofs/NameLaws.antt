@@ -1,5 +1,6 @@
 -- A C text that is one identifier.
-use Rattle.std.proofs.Common.{◌≡◌, ℕ, ◌<◌, Bool, true, false, Option, Some, List, [], ◌∷◌, ◌++◌, ap, sym, subst, ◌∙◌, length, slice_get, arith}
+use Rattle.std.proofs.Common.{◌≡◌, ℕ, ◌<◌, Bool, true, false, Option, Some, List, [], ◌∷◌, ◌++◌, ap, sym, subst, ◌∙◌}
+use Rattle.std.proofs.Common.{length, slice_get, arith}
 use Rattle.std.specs.Prelude.{option_map, unwrap_or}
 use Rattle.std.proofs.lemmas.List.{append-nil}
 use Rattle.cw_names.specs.Names.{Entry}
@@ -14,7 +15,8 @@ use Rattle.cw_print.specs.Printing.{IsOnlyName, shown}
 use Rattle.cw_print.specs.Walk.{Source}
 
 -- the items of a list of one
-pub only-item : (items : List FlatItem) (item : FlatItem) → length items ≡ 1 → slice_get items 0 ≡ Some item → items ≡ item ∷ []
+pub only-item : (items : List FlatItem) (item : FlatItem) → length items ≡ 1 → slice_get items 0 ≡ Some item
+    → items ≡ item ∷ []
 only-item [] item one is = absurd (omega arith)
 only-item (first ∷ []) item one is = let same : first ≡ item = cc in ap (λ (i : FlatItem). i ∷ []) same
 only-item (first ∷ second ∷ items) item one is = absurd (omega arith)
@@ -40,6 +42,7 @@ only-named count name items is may =
     subst (λ (items : List FlatItem). AllMay (MayCome count) 0 (items_are items)) is.1 may in
     all.0.stands.named
 
-pub text-is : (names : List Entry) (name : ℕ) (text : List ℕ) → option_map (λ (e : Entry). e.text) (slice_get names name) ≡ Some text
+pub text-is : (names : List Entry) (name : ℕ) (text : List ℕ)
+    → option_map (λ (e : Entry). e.text) (slice_get names name) ≡ Some text
     → text ≡ text_at names name
 text-is names name text is = sym (ap (λ (o : Option (List ℕ)). unwrap_or o []) is)

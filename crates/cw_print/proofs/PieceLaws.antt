@@ -1,8 +1,10 @@
 -- Of the pieces of a comment: what was printed, with what is to come.
-use Rattle.std.proofs.Common.{◌≡◌, ℕ, suc, ◌+◌, ◌||◌, ◌&&◌, Bool, true, false, not, cond, List, [], ◌∷◌, ◌++◌, take, drop, refl, ap, sym, ◌∙◌, ◌==◌, arith}
+use Rattle.std.proofs.Common.{◌≡◌, ℕ, suc, ◌+◌, ◌||◌, ◌&&◌, Bool, true, false, not, cond, List, [], ◌∷◌, ◌++◌, take}
+use Rattle.std.proofs.Common.{drop, refl, ap, sym, ◌∙◌, ◌==◌, arith}
 use Rattle.std.specs.List.{position_or_len}
 use Rattle.std.proofs.lemmas.List.{append_assoc}
-use Rattle.cw_print.specs.Comments.{Piece, Prints, blank_for, byte_piece, closed, is_special, joined, piece, prints, then}
+use Rattle.cw_print.specs.Comments.{Piece, Prints, blank_for, byte_piece, closed, is_special, joined, piece, prints}
+use Rattle.cw_print.specs.Comments.{then}
 
 -- Some bytes more are printed.
 more : (begun text : List ℕ) (open_first : ℕ) (out rest : List ℕ) (open_now : ℕ) (p : Piece) (after bytes : List ℕ)
@@ -25,7 +27,13 @@ record AreOther (a b c d e : Bool) : Type 0 where
   pub fifth : e ≡ false
 
 all-other : (a b c d e : Bool) → (a || (b || (c || (d || e)))) ≡ false → AreOther a b c d e
-all-other false false false false false is = record { first = refl; second = refl; third = refl; fourth = refl; fifth = refl }
+all-other false false false false false is = record {
+  first = refl;
+  second = refl;
+  third = refl;
+  fourth = refl;
+  fifth = refl;
+}
 all-other true b c d e is = absurd (cc)
 all-other false true c d e is = absurd (cc)
 all-other false false true d e is = absurd (cc)
@@ -68,7 +76,8 @@ one-add n = omega arith
 abbrev parted : List ℕ → ℕ → ℕ → Piece
 parted text braces n = joined (prints (take n text) braces) (piece (drop n text) braces)
 
-plain-by : (x : ℕ) (xs : List ℕ) (braces : ℕ) (b : Bool) → is_special x ≡ b → piece xs braces ≡ parted xs braces (plain xs)
+plain-by : (x : ℕ) (xs : List ℕ) (braces : ℕ) (b : Bool) → is_special x ≡ b → piece xs braces
+    ≡ parted xs braces (plain xs)
     → piece (x ∷ xs) braces ≡ parted (x ∷ xs) braces (cond (not b) (1 + plain xs) 0)
 plain-by x xs braces true is rest = refl
 plain-by x xs braces false is rest =
@@ -80,8 +89,10 @@ plain-front [] braces = refl
 plain-front (x ∷ xs) braces = plain-by x xs braces (is_special x) refl (plain-front xs braces)
 
 -- the bytes before the first special one print themselves
-pub plain-printed : (begun text first rest : List ℕ) (size : ℕ) → size ≡ position_or_len is_special text → first ≡ take size text
-    → rest ≡ drop size text → (out : List ℕ) → out ≡ begun ++ first → (braces : ℕ) → Prints begun text braces out rest braces
+pub plain-printed : (begun text first rest : List ℕ) (size : ℕ) → size ≡ position_or_len is_special text
+    → first ≡ take size text
+    → rest ≡ drop size text → (out : List ℕ) → out ≡ begun ++ first → (braces : ℕ)
+    → Prints begun text braces out rest braces
 plain-printed begun text first rest size is front back out appended braces =
     let front' : take (plain text) text ≡ first = sym (front ∙ ap (λ (n : ℕ). take n text) is) in
     let back' : drop (plain text) text ≡ rest = sym (back ∙ ap (λ (n : ℕ). drop n text) is) in
@@ -89,7 +100,8 @@ plain-printed begun text first rest size is front back out appended braces =
     plain-front text braces ∙ (λ i. joined (prints (front' i) braces) (piece (back' i) braces)) in
     record {
       bytes =
-          ap (λ (l : List ℕ). l ++ (piece rest braces).bytes) appended ∙ append_assoc begun first (piece rest braces).bytes
+          ap (λ (l : List ℕ). l ++ (piece rest braces).bytes) appended
+          ∙ append_assoc begun first (piece rest braces).bytes
           ∙ ap (λ (p : Piece). begun ++ p.bytes) (sym whole);
       braces = ap (λ (p : Piece). p.braces) (sym whole);
     }

@@ -9,7 +9,8 @@ use Rattle.cw_tokens.specs.declared.flat.FlatItem.{FlatItem}
 use Rattle.cw_tokens.specs.declared.flat.FlatItem.TheVariants as flat_item
 use Rattle.cw_tokens.specs.FlatItems.{item_is}
 use Rattle.cw_join.specs.Tokens.{control_bytes, item_bytes}
-use Rattle.cw_print.specs.Walk.{Fixed, Source, Stand, Title, control_shown, item_shown, items_shown, own_bytes, own_sign, placed_shown, stand_after}
+use Rattle.cw_print.specs.Walk.{Fixed, Source, Stand, Title, control_shown, item_shown, items_shown, own_bytes}
+use Rattle.cw_print.specs.Walk.{own_sign, placed_shown, stand_after}
 
 pub shown-append : (s : Source) (items more : List Item) (stand : Stand)
     → items_shown s (items ++ more) stand ≡ items_shown s items stand ++ items_shown s more (stand_after s items stand)
@@ -57,7 +58,8 @@ own-alone names flat_item.Open = refl
 own-alone names flat_item.Close = refl
 
 -- A control of a run prints nothing by where it stands.
-control-run : (control : Control) (stand : Stand) → is_run_sign control ≡ true → (control_shown control stand).bytes ≡ []
+control-run : (control : Control) (stand : Stand) → is_run_sign control ≡ true → (control_shown control stand).bytes
+    ≡ []
 control-run sign.CommentEnd stand is = absurd (cc)
 control-run sign.NameText stand is = absurd (cc)
 control-run sign.NameEnd stand is = absurd (cc)
@@ -81,7 +83,8 @@ control-run sign.ToMath stand is = refl
 control-run sign.ToText stand is = refl
 control-run sign.Dollar stand is = refl
 
-sign-by : (control found : Control) (b : Bool) → is_run_sign control ≡ b → (elim b [ true ↦ Some control | false ↦ None ]) ≡ Some found
+sign-by : (control found : Control) (b : Bool) → is_run_sign control ≡ b
+    → (elim b [ true ↦ Some control | false ↦ None ]) ≡ Some found
     → is_run_sign control ≡ true
 sign-by control found true is some = is
 sign-by control found false is some = absurd (cc)

@@ -28,7 +28,10 @@ is_mantissa_byte byte = is_digit byte || byte == 46
 
 abbrev pub mantissa : List ℕ → List ℕ
 mantissa [] = []
-mantissa (byte ∷ bytes) = elim (is_mantissa_byte byte) [ true ↦ byte ∷ mantissa bytes | false ↦ behind_mantissa byte bytes ]
+mantissa (byte ∷ bytes) = elim (is_mantissa_byte byte) [
+  | true ↦ byte ∷ mantissa bytes
+  | false ↦ behind_mantissa byte bytes
+]
 
 abbrev pub hex_digits : List ℕ → List ℕ
 hex_digits [] = []
@@ -44,4 +47,7 @@ behind_zero byte bytes = elim (byte == 88 || byte == 120) [
 abbrev pub constant : List ℕ → List ℕ
 constant [] = []
 constant (byte ∷ []) = mantissa (byte ∷ [])
-constant (byte ∷ next ∷ bytes) = elim (byte == 48) [ true ↦ behind_zero next bytes | false ↦ mantissa (byte ∷ next ∷ bytes) ]
+constant (byte ∷ next ∷ bytes) = elim (byte == 48) [
+  | true ↦ behind_zero next bytes
+  | false ↦ mantissa (byte ∷ next ∷ bytes)
+]

@@ -2,7 +2,8 @@
 use Rattle.std.specs.Prelude.{ℕ, ◌||◌, ◌==◌, Bool, true, false, List, [], ◌∷◌, ◌++◌, codes}
 use Rattle.cw_base.specs.Text.{is_blank}
 
--- Escaped text has a backslash before each blank and before each of `\`, `#`, `%`, `$`, `^`, `{`, `}`, `~`, `&` and `_`.
+-- Escaped text has a backslash before each blank and before each of `\`, `#`, `%`, `$`, `^`, `{`, `}`, `~`, `&` and
+-- `_`.
 abbrev pub is_tex_sign : ℕ → Bool
 is_tex_sign byte =
     byte == 92 || byte == 35 || byte == 37 || byte == 36 || byte == 94 || byte == 123 || byte == 125 || byte == 126 ||

@@ -5,8 +5,14 @@ use Rattle.cw_rules.specs.Answers.{Answer, Token, Begin, Finish, Note, Seen}
 -- A token's number is the place of its first byte; a comment has that of its beginning.
 abbrev pub numbered : ℕ → List Answer → Option Seen
 numbered number [] = None
-numbered number (Token token ∷ answers) = elim (token.span.start == number) [ true ↦ Some token | false ↦ numbered number answers ]
-numbered number (Begin token ∷ answers) = elim (token.span.start == number) [ true ↦ Some token | false ↦ numbered number answers ]
+numbered number (Token token ∷ answers) = elim (token.span.start == number) [
+  | true ↦ Some token
+  | false ↦ numbered number answers
+]
+numbered number (Begin token ∷ answers) = elim (token.span.start == number) [
+  | true ↦ Some token
+  | false ↦ numbered number answers
+]
 numbered number (Finish token ∷ answers) = numbered number answers
 numbered number (Note note place ∷ answers) = numbered number answers
 

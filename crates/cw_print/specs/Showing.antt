@@ -29,8 +29,16 @@ head_sign false = codes "${}\\mathrel+\\E{}$"
 
 abbrev pub token_shown : Bool → TokKind → List ℕ → List ℕ → TokenShown
 token_shown first kind.Text text braces = piece_in (piece text (innermost braces)) braces
-token_shown first kind.LongComment text braces = record { bytes = token_bytes kind.LongComment text; braces = 0 ∷ braces }
-token_shown first kind.ShortComment text braces = record { bytes = token_bytes kind.ShortComment text; braces = 0 ∷ braces }
+token_shown first kind.LongComment text braces = record {
+  bytes = token_bytes kind.LongComment text;
+  braces = 0
+      ∷ braces;
+}
+token_shown first kind.ShortComment text braces = record {
+  bytes = token_bytes kind.ShortComment text;
+  braces = 0
+      ∷ braces;
+}
 token_shown first kind.HeadSign text braces = record { bytes = head_sign first; braces = braces }
 token_shown first k text braces = record { bytes = token_bytes k text; braces = braces }
 

@@ -1,5 +1,6 @@
 -- What a C text of a book is printed from.
-use Rattle.std.specs.Prelude.{ℕ, ◌-◌, ◌==◌, Bool, true, false, List, [], ◌∷◌, Option, Some, None, option_map, slice_get, unwrap_or}
+use Rattle.std.specs.Prelude.{ℕ, ◌-◌, ◌==◌, Bool, true, false, List, [], ◌∷◌, Option, Some, None, option_map, slice_get}
+use Rattle.std.specs.Prelude.{unwrap_or}
 use Rattle.cw_base.specs.declared.span.Span.{Span}
 use Rattle.cw_rules.specs.Answers.{Answer}
 use Rattle.cw_lex.specs.Lexing.{tokens_of}

@@ -2,7 +2,8 @@
 use Rattle.std.specs.Prelude.{ℕ, ◌&&◌, ◌==◌, Bool, true, false, List, [], ◌∷◌, drop}
 use Rattle.cw_rules.specs.Bytes.{begins}
 
--- In a string `@@` is one `@`, and a backslash and a line's end print nothing. Any other byte behind a backslash is taken
+-- In a string `@@` is one `@`, and a backslash and a line's end print nothing. Any other byte behind a backslash is
+-- taken
 -- along with it.
 abbrev pub is_continued : ℕ → ℕ → Bool
 is_continued byte next = byte == 92 && next == 10

@@ -1,5 +1,6 @@
 -- The bytes that the items of a flat list print, each by itself, in their order; and those of the whole list.
-use Rattle.std.specs.Prelude.{ℕ, ◌+◌, ◌-◌, ◌&&◌, Bool, true, false, List, [], ◌∷◌, ◌++◌, Option, Some, None, codes, decimal, drop, slice_range}
+use Rattle.std.specs.Prelude.{ℕ, ◌+◌, ◌-◌, ◌&&◌, Bool, true, false, List, [], ◌∷◌, ◌++◌, Option, Some, None, codes}
+use Rattle.std.specs.Prelude.{decimal, drop, slice_range}
 use Rattle.cw_base.specs.declared.span.Span.{Span}
 use Rattle.cw_names.specs.Names.{Entry}
 use Rattle.cw_rules.specs.Answers.{Answer, Seen}
@@ -21,7 +22,8 @@ use Rattle.cw_print.specs.Found.{numbered}
 
 -- ## Section names
 
--- A section name as it is printed: its text, whether it is a file's, and the number of its first defining section, or 0,
+-- A section name as it is printed: its text, whether it is a file's, and the number of its first defining section, or
+-- 0,
 -- and whether that section is changed.
 pub record Title : Type 0 where
   pub text : List ℕ
@@ -40,7 +42,8 @@ section_number number is_changed = decimal number ++ changed_mark is_changed
 abbrev pub front : Title → List ℕ
 front title = codes "\\X" ++ (section_number title.number title.is_changed ++ codes ":")
 
--- What a name prints up to an inner text or to its end, and the scanner's answers for that inner text, whose numbers are
+-- What a name prints up to an inner text or to its end, and the scanner's answers for that inner text, whose numbers
+-- are
 -- places in the name's own text. A section code ends it.
 pub record NamePiece : Type 0 where
   pub bytes : List ℕ
@@ -127,7 +130,8 @@ comment_ends stand = prints (closing_braces (innermost stand.braces)) (with_brac
 
 -- ## Items
 
--- What is fixed while one C text is printed: the scanner's answers for it, whether inner texts are wrapped, and whether the
+-- What is fixed while one C text is printed: the scanner's answers for it, whether inner texts are wrapped, and whether
+-- the
 -- present section is the first that defines its name.
 pub record Fixed : Type 0 where
   pub answers : List Answer
@@ -152,7 +156,8 @@ seen_shown first title token stand = elim (is_name token) [
 abbrev pub outer_shown : Fixed → Option Title → ℕ → Stand → Shown
 outer_shown f title number stand = seen_shown f.first title (numbered number f.answers) stand
 
--- A number stands for a token of the text, perhaps a section name; or, in a section name, for a token of its inner text.
+-- A number stands for a token of the text, perhaps a section name; or, in a section name, for a token of its inner
+-- text.
 abbrev pub source_shown : Fixed → Option Title → Option InName → ℕ → Stand → Shown
 source_shown f title None number stand = outer_shown f title number stand
 source_shown f title (Some name) number stand = found_shown f.first (numbered number name.answers) stand

@@ -26,7 +26,8 @@ use Rattle.cw_reduce.proofs.LeafSteps.{empty-line}
 use Rattle.cw_reduce.proofs.Sums.{sum-end}
 
 -- the text that is open alone
-pub last-sound : (store : StoredLists) (names : List Entry) (t : Translator) (all : List Open) → IsTranslating store names t → t.nesting ≡ all → IsSoundLine store names (last_line all)
+pub last-sound : (store : StoredLists) (names : List Entry) (t : Translator) (all : List Open)
+    → IsTranslating store names t → t.nesting ≡ all → IsSoundLine store names (last_line all)
 last-sound store names t [] is e = empty-line store names is.idle
 last-sound store names t (CText line ∷ []) is e = open-line store names t line [] is e
 last-sound store names t (CText line ∷ (inner ∷ outer)) is e = empty-line store names is.idle
@@ -43,20 +44,26 @@ wider old new rs ss k = record {
     less : (x : ℕ) → IsOutside old rs x → IsOutside old [] x
     less x o = record { there = o.there; above = λ i h r. absurd (omega arith); below = λ i h r. absurd (omega arith) }
 
-pub last-keeps : (old new : List (List StoredToken)) (ss : List ℕ) (all : List Open) → Keeps old new (roots_of (last_line all)) ss → Keeps old new (all_roots all) ss
+pub last-keeps : (old new : List (List StoredToken)) (ss : List ℕ) (all : List Open)
+    → Keeps old new (roots_of (last_line all)) ss → Keeps old new (all_roots all) ss
 last-keeps old new ss [] k = k
 last-keeps old new ss (CText line ∷ []) k = k
 last-keeps old new ss (CText line ∷ (inner ∷ outer)) k = wider old new (all_roots (CText line ∷ (inner ∷ outer))) ss k
 last-keeps old new ss (Comment number parts ∷ outer) k = wider old new (all_roots (Comment number parts ∷ outer)) ss k
 
-pub way-end : (flags : Flags) (answers : List Answer) (p q : Progress) (new : List Entry) → q ≡ after_answers flags answers p → NamesOnTheWay flags [] q new → NamesOnTheWay flags answers p new
+pub way-end : (flags : Flags) (answers : List Answer) (p q : Progress) (new : List Entry)
+    → q ≡ after_answers flags answers p → NamesOnTheWay flags [] q new → NamesOnTheWay flags answers p new
 way-end flags [] p q new e h = subst (λ x. NamesOnTheWay flags [] x new) e h
-way-end flags (answer ∷ answers) p q new e h = later answer answers p new (way-end flags answers (after_answer flags answer p) q new e h)
+way-end flags (answer ∷ answers) p q new e h = later answer answers p new
+    (way-end flags answers (after_answer flags answer p) q new e h)
 
-module _ (flags : Flags) (t0 t : Translator) (steps steps1 steps2 : ℕ) (mid : List (List StoredToken)) (names1 : List Entry) (marks1 : MarkList) (p : Progress)
-    (no_scraps : t0.scraps ≡ 0) (no_productions : t0.productions ≡ 0) (come : HasCome flags t0 steps mid names1 marks1 t steps1 p) where
+module _ (flags : Flags) (t0 t : Translator) (steps steps1 steps2 : ℕ) (mid : List (List StoredToken))
+    (names1 : List Entry) (marks1 : MarkList) (p : Progress)
+    (no_scraps : t0.scraps ≡ 0) (no_productions : t0.productions
+    ≡ 0) (come : HasCome flags t0 steps mid names1 marks1 t steps1 p) where
   abbrev last_state : State
-  last_state = state_in (last_scraps (progress_of mid names1 marks1 t []).frames) (progress_of mid names1 marks1 t []).known
+  last_state = state_in (last_scraps (progress_of mid names1 marks1 t []).frames)
+      (progress_of mid names1 marks1 t []).known
 
   end-now : all_ended flags (progress_of mid names1 marks1 t p.known.ended) ≡ all_ended flags p
   end-now = ap (all_ended flags) come.is
@@ -64,29 +71,45 @@ module _ (flags : Flags) (t0 t : Translator) (steps steps1 steps2 : ℕ) (mid : 
   ended-now : p.known.ended ++ last_state ∷ [] ≡ (all_ended flags p).known.ended
   ended-now = ap (λ (text : Ended). text.known.ended) end-now
 
-  pub text-done : (lists : List (List StoredToken)) (names : List Entry) (marks : MarkList) (done : Translated) → HasEnded flags t steps1 lists names marks done steps2 (progress_of mid names1 marks1 t []) → IsTranslated flags lists names marks done steps steps2 (all_ended flags p)
+  pub text-done : (lists : List (List StoredToken)) (names : List Entry) (marks : MarkList) (done : Translated)
+      → HasEnded flags t steps1 lists names marks done steps2 (progress_of mid names1 marks1 t [])
+      → IsTranslated flags lists names marks done steps steps2 (all_ended flags p)
   text-done lists names marks done e =
-      let scraps : scraps_in p.known.ended + length last_state.scraps ≡ scraps_in (p.known.ended ++ last_state ∷ []) = sum-end (λ state. length state.scraps) p.known.ended last_state in
-      let applied : productions_in flags p.known.ended + count productions flags last_state ≡ productions_in flags (p.known.ended ++ last_state ∷ []) = sum-end (λ state. count productions flags state) p.known.ended last_state in
-      let ticked : ticks_in flags p.known.ended + ticks productions flags last_state ≡ ticks_in flags (p.known.ended ++ last_state ∷ []) = sum-end (λ state. ticks productions flags state) p.known.ended last_state in
+      let scraps : scraps_in p.known.ended + length last_state.scraps ≡ scraps_in (p.known.ended ++ last_state ∷ []) =
+      sum-end (λ state. length state.scraps) p.known.ended last_state in
+      let applied : productions_in flags p.known.ended + count productions flags last_state
+      ≡ productions_in flags (p.known.ended ++ last_state ∷ []) =
+      sum-end (λ state. count productions flags state) p.known.ended last_state in
+      let ticked : ticks_in flags p.known.ended + ticks productions flags last_state
+      ≡ ticks_in flags (p.known.ended ++ last_state ∷ []) =
+      sum-end (λ state. ticks productions flags state) p.known.ended last_state in
       record {
         tree = e.tree ∙ ap (λ (text : Ended). text.tree) end-now;
         names_are = e.names_are ∙ ap (λ (text : Ended). text.known.names) end-now;
         marks_are = e.marks_are ∙ ap (λ (text : Ended). text.known.marks) end-now;
-        scraps = (let k : done.scraps ≡ scraps_in (p.known.ended ++ last_state ∷ []) = omega (arith, e.scraps, come.scraps, no_scraps, scraps) in k) ∙ ap scraps_in ended-now;
-        productions_are = (let k : done.productions ≡ productions_in flags (p.known.ended ++ last_state ∷ []) = omega (arith, e.productions_are, come.productions_are, no_productions, applied) in k) ∙ ap (productions_in flags) ended-now;
-        steps_are = (let k : steps2 ≡ steps + ticks_in flags (p.known.ended ++ last_state ∷ []) = omega (arith, e.steps_are, come.steps_are, ticked) in k) ∙ ap (λ ended. steps + ticks_in flags ended) ended-now;
+        scraps = (let k : done.scraps ≡ scraps_in (p.known.ended ++ last_state ∷ []) = omega
+            (arith, e.scraps, come.scraps, no_scraps, scraps) in k) ∙ ap scraps_in ended-now;
+        productions_are = (let k : done.productions ≡ productions_in flags (p.known.ended ++ last_state ∷ []) = omega
+            (arith, e.productions_are, come.productions_are, no_productions, applied) in k)
+            ∙ ap (productions_in flags) ended-now;
+        steps_are = (let k : steps2 ≡ steps + ticks_in flags (p.known.ended ++ last_state ∷ []) = omega
+            (arith, e.steps_are, come.steps_are, ticked) in k) ∙ ap (λ ended. steps + ticks_in flags ended) ended-now;
       }
 
-  pub spent-done : steps1 ≤ steps + limit_in flags p.known.ended → steps2 ≤ steps1 + text_limit flags last_state → steps2 ≤ steps + limit_in flags (all_ended flags p).known.ended
+  pub spent-done : steps1 ≤ steps + limit_in flags p.known.ended → steps2 ≤ steps1 + text_limit flags last_state
+      → steps2 ≤ steps + limit_in flags (all_ended flags p).known.ended
   spent-done low high =
-      let limits : limit_in flags p.known.ended + text_limit flags last_state ≡ limit_in flags (p.known.ended ++ last_state ∷ []) = sum-end (λ state. text_limit flags state) p.known.ended last_state in
+      let limits : limit_in flags p.known.ended + text_limit flags last_state
+      ≡ limit_in flags (p.known.ended ++ last_state ∷ []) = sum-end (λ state. text_limit flags state) p.known.ended
+      last_state in
       let k : steps2 ≤ steps + limit_in flags (p.known.ended ++ last_state ∷ []) = omega (arith, low, high, limits) in
       subst (λ ended. steps2 ≤ steps + limit_in flags ended) ended-now k
 
 -- the texts in comments alone
-pub spent-within : (flags : Flags) (p : Progress) (steps steps1 : ℕ) → steps1 ≤ steps + limit_in flags p.known.ended → steps1 ≤ steps + limit_in flags (all_ended flags p).known.ended
+pub spent-within : (flags : Flags) (p : Progress) (steps steps1 : ℕ) → steps1 ≤ steps + limit_in flags p.known.ended
+    → steps1 ≤ steps + limit_in flags (all_ended flags p).known.ended
 spent-within flags p steps steps1 low =
     let last = state_in (last_scraps p.frames) p.known in
-    let limits : limit_in flags p.known.ended + text_limit flags last ≡ limit_in flags (p.known.ended ++ last ∷ []) = sum-end (λ state. text_limit flags state) p.known.ended last in
+    let limits : limit_in flags p.known.ended + text_limit flags last ≡ limit_in flags (p.known.ended ++ last ∷ []) =
+    sum-end (λ state. text_limit flags state) p.known.ended last in
     omega (arith, low, limits)

@@ -1,5 +1,6 @@
 -- The words of a head are read from answers one after another.
-use Rattle.std.proofs.Common.{◌≡◌, ℕ, ◌+◌, ◌<◌, ◌≤◌, ◌^◌, length, arith, Bool, true, Option, Some, None, List, [], ◌∷◌, ◌++◌, option_map, refl, sym, ap, ◌∙◌, subst}
+use Rattle.std.proofs.Common.{◌≡◌, ℕ, ◌+◌, ◌<◌, ◌≤◌, ◌^◌, length, arith, Bool, true, Option, Some, None, List, [], ◌∷◌}
+use Rattle.std.proofs.Common.{◌++◌, option_map, refl, sym, ap, ◌∙◌, subst}
 use Rattle.std.specs.List.{list_all}
 use Rattle.std.proofs.lemmas.List.{append_assoc, append-nil}
 use Rattle.cw_base.specs.declared.span.Span.{Span}
@@ -26,21 +27,24 @@ use Rattle.cw_reduce.proofs.AnswerSteps.{gives-is}
 
 -- ## Notes
 
-pub words-notes : (wanted : Wanted) (answers : List Answer) → answer_words wanted (without_notes answers) ≡ answer_words wanted answers
+pub words-notes : (wanted : Wanted) (answers : List Answer) → answer_words wanted (without_notes answers)
+    ≡ answer_words wanted answers
 words-notes wanted [] = refl
 words-notes wanted (Note note place ∷ answers) = words-notes wanted answers
 words-notes wanted (Token t ∷ answers) = refl
 words-notes wanted (Begin t ∷ answers) = refl
 words-notes wanted (Finish t ∷ answers) = refl
 
-pub left-notes : (wanted : Wanted) (answers : List Answer) → without_words wanted (without_notes answers) ≡ without_words wanted answers
+pub left-notes : (wanted : Wanted) (answers : List Answer) → without_words wanted (without_notes answers)
+    ≡ without_words wanted answers
 left-notes wanted [] = refl
 left-notes wanted (Note note place ∷ answers) = left-notes wanted answers
 left-notes wanted (Token t ∷ answers) = refl
 left-notes wanted (Begin t ∷ answers) = refl
 left-notes wanted (Finish t ∷ answers) = refl
 
-pub starts-notes : (limit : ℕ) (answers : List Answer) → StartsBelow limit answers → StartsBelow limit (without_notes answers)
+pub starts-notes : (limit : ℕ) (answers : List Answer) → StartsBelow limit answers
+    → StartsBelow limit (without_notes answers)
 starts-notes limit [] h = h
 starts-notes limit (Note note place ∷ answers) h = starts-notes limit answers h
 starts-notes limit (Token t ∷ answers) h = h
@@ -63,38 +67,46 @@ nested-notes (Finish t ∷ answers) h = h
 
 notes-short : (answers : List Answer) → length (without_notes answers) ≤ length answers
 notes-short [] = omega arith
-notes-short (Note note place ∷ answers) = let h : length (without_notes answers) ≤ length answers = notes-short answers in omega arith
+notes-short (Note note place ∷ answers) = let h : length (without_notes answers) ≤ length answers =
+    notes-short answers in omega arith
 notes-short (Token t ∷ answers) = omega arith
 notes-short (Begin t ∷ answers) = omega arith
 notes-short (Finish t ∷ answers) = omega arith
 
-pub token-shorter : (answers new : List Answer) (t : Tok) → Gives (without_notes answers) (lexed.Token t) new → length new < length answers
+pub token-shorter : (answers new : List Answer) (t : Tok) → Gives (without_notes answers) (lexed.Token t) new
+    → length new < length answers
 token-shorter answers new t g =
     let size : length (without_notes answers) ≡ length new + 1 = ap length g ∙ omega arith in
     let short : length (without_notes answers) ≤ length answers = notes-short answers in
     omega arith
 
-pub gives-notes : (answers new : List Answer) (answer : Lexed) → Gives (without_notes answers) answer new → without_notes answers ≡ answers_in answer ++ new
+pub gives-notes : (answers new : List Answer) (answer : Lexed) → Gives (without_notes answers) answer new
+    → without_notes answers ≡ answers_in answer ++ new
 gives-notes answers new answer g = gives-is (without_notes answers) new answer g
 
 -- ## Words
 
-pub takes-word : (wanted : Wanted) (k : TokKind) (span : Span) (next : Wanted) → head_behind wanted k span ≡ Some next → is_word k ≡ true
+pub takes-word : (wanted : Wanted) (k : TokKind) (span : Span) (next : Wanted) → head_behind wanted k span ≡ Some next
+    → is_word k ≡ true
 takes-word wanted kind.Identifier span next h = refl
 takes-word wanted (kind.Sign s) span next h = refl
 takes-word wanted k span next h = absurd cc
 
-pub spelled-behind : (first : List Seen) (word : Seen) (names : List Entry) → spelled (first ++ word ∷ []) names ≡ record {
-  tokens = (spelled first names).tokens ++ word_tokens word (spelled first names).names;
-  names = names_with word.kind word.text (spelled first names).names;
-}
-spelled-behind [] word names = ap (λ ts. record { tokens = ts; names = names_with word.kind word.text names }) (append-nil (word_tokens word names))
+pub spelled-behind : (first : List Seen) (word : Seen) (names : List Entry) → spelled (first ++ word ∷ []) names
+    ≡ record {
+      tokens = (spelled first names).tokens ++ word_tokens word (spelled first names).names;
+      names = names_with word.kind word.text (spelled first names).names;
+    }
+spelled-behind [] word names = ap (λ ts. record { tokens = ts; names = names_with word.kind word.text names })
+    (append-nil (word_tokens word names))
 spelled-behind (w ∷ first) word names =
     let n = names_with w.kind w.text names in
     ap (spelled_behind (word_tokens w names)) (spelled-behind first word n)
-    ∙ ap (λ ts. record { tokens = ts; names = names_with word.kind word.text (spelled first n).names }) (sym (append_assoc (word_tokens w names) (spelled first n).tokens (word_tokens word (spelled first n).names)))
+    ∙ ap (λ ts. record { tokens = ts; names = names_with word.kind word.text (spelled first n).names })
+    (sym (append_assoc (word_tokens w names) (spelled first n).tokens (word_tokens word (spelled first n).names)))
 
-form-is : (o : Option LeafForm) (token : StoredToken) → option_map (λ form. form.tokens) o ≡ Some (token ∷ []) → form_tokens o ≡ token ∷ []
+form-is : (o : Option LeafForm) (token : StoredToken) → option_map (λ form. form.tokens) o ≡ Some (token ∷ [])
+    → form_tokens o ≡ token ∷ []
 form-is None token h = absurd (none h)
   where
     none : ◌≡◌ {A = Option (List StoredToken)} None (Some (token ∷ [])) → ⊥
@@ -105,7 +117,8 @@ form-is (Some form) token h = some h
     some k = cc
 
 -- how far the words have been read
-pub record ReadsWords (wanted₀ : Wanted) (all : List Answer) (names₀ : List Entry) (tokens₀ : List StoredToken) (wanted : Wanted) (rest : List Answer) (names : List Entry) (tokens : List StoredToken) : Type 0 where
+pub record ReadsWords (wanted₀ : Wanted) (all : List Answer) (names₀ : List Entry) (tokens₀ : List StoredToken)
+    (wanted : Wanted) (rest : List Answer) (names : List Entry) (tokens : List StoredToken) : Type 0 where
   pub first : List Seen
   pub words : first ++ answer_words wanted rest ≡ answer_words wanted₀ all
   pub names_are : names ≡ (spelled first names₀).names
@@ -113,19 +126,31 @@ pub record ReadsWords (wanted₀ : Wanted) (all : List Answer) (names₀ : List 
   pub left : without_words wanted rest ≡ without_words wanted₀ all
   pub starts : StartsBelow (2 ^ 32) rest
 
-pub reads-start : (wanted : Wanted) (all : List Answer) (names : List Entry) (tokens : List StoredToken) → StartsBelow (2 ^ 32) all → ReadsWords wanted all names tokens wanted all names tokens
-reads-start wanted all names tokens h = record { first = []; words = refl; names_are = refl; tokens_are = sym (append-nil tokens); left = refl; starts = h }
+pub reads-start : (wanted : Wanted) (all : List Answer) (names : List Entry) (tokens : List StoredToken)
+    → StartsBelow (2 ^ 32) all → ReadsWords wanted all names tokens wanted all names tokens
+reads-start wanted all names tokens h = record {
+  first = [];
+  words = refl;
+  names_are = refl;
+  tokens_are = sym (append-nil tokens);
+  left = refl;
+  starts = h;
+}
 
 -- the head ends before these answers
 pub record EndsBefore (wanted : Wanted) (rest ahead : List Answer) : Type 0 where
   pub none : answer_words wanted rest ≡ []
   pub is : ahead ≡ without_words wanted rest
 
-pub ends-other : (wanted : Wanted) (rest new : List Answer) (answer : Lexed) → Gives (without_notes rest) answer new → ((t : Tok) → answer ≡ lexed.Token t → ⊥) → EndsBefore wanted rest (answers_in answer ++ new)
+pub ends-other : (wanted : Wanted) (rest new : List Answer) (answer : Lexed) → Gives (without_notes rest) answer new
+    → ((t : Tok) → answer ≡ lexed.Token t → ⊥) → EndsBefore wanted rest (answers_in answer ++ new)
 ends-other wanted [] new answer g n = record { none = refl; is = sym (gives-is [] new answer g) }
-ends-other wanted (Note note place ∷ rest) new answer g n = let e = ends-other wanted rest new answer g n in record { none = e.none; is = e.is }
-ends-other wanted (Begin t ∷ rest) new answer g n = record { none = refl; is = sym (gives-is (Begin t ∷ rest) new answer g) }
-ends-other wanted (Finish t ∷ rest) new answer g n = record { none = refl; is = sym (gives-is (Finish t ∷ rest) new answer g) }
+ends-other wanted (Note note place ∷ rest) new answer g n = let e = ends-other wanted rest new answer g n in
+    record { none = e.none; is = e.is }
+ends-other wanted (Begin t ∷ rest) new answer g n =
+    record { none = refl; is = sym (gives-is (Begin t ∷ rest) new answer g) }
+ends-other wanted (Finish t ∷ rest) new answer g n =
+    record { none = refl; is = sym (gives-is (Finish t ∷ rest) new answer g) }
 ends-other wanted (Token t ∷ rest) new answer g n = absurd (by answer g n)
   where
     by : (answer : Lexed) → Gives (Token t ∷ rest) answer new → ((u : Tok) → answer ≡ lexed.Token u → ⊥) → ⊥
@@ -135,13 +160,17 @@ ends-other wanted (Token t ∷ rest) new answer g n = absurd (by answer g n)
     by (lexed.Note note place) g n = cc
     by lexed.End g n = let h = g.0 in cc
 
-pub ends-token : (wanted : Wanted) (rest new : List Answer) (t : Tok) → Gives (without_notes rest) (lexed.Token t) new → head_behind wanted t.kind t.span ≡ None → EndsBefore wanted rest (answers_in (lexed.Token t) ++ new)
+pub ends-token : (wanted : Wanted) (rest new : List Answer) (t : Tok) → Gives (without_notes rest) (lexed.Token t) new
+    → head_behind wanted t.kind t.span ≡ None → EndsBefore wanted rest (answers_in (lexed.Token t) ++ new)
 ends-token wanted rest new t g e = record {
-  none = sym (words-notes wanted rest) ∙ (ap (answer_words wanted) g ∙ ap (λ o. elim o as (λ o. List Seen) [ Some next ↦ seen t ∷ answer_words next new | None ↦ [] ]) e);
-  is = sym (sym (left-notes wanted rest) ∙ (ap (without_words wanted) g ∙ ap (λ o. elim o as (λ o. List Answer) [ Some next ↦ without_words next new | None ↦ Token (seen t) ∷ new ]) e));
+  none = sym (words-notes wanted rest) ∙ (ap (answer_words wanted) g
+      ∙ ap (λ o. elim o as (λ o. List Seen) [ Some next ↦ seen t ∷ answer_words next new | None ↦ [] ]) e);
+  is = sym (sym (left-notes wanted rest) ∙ (ap (without_words wanted) g
+      ∙ ap (λ o. elim o as (λ o. List Answer) [ Some next ↦ without_words next new | None ↦ Token (seen t) ∷ new ]) e));
 }
 
-module _ (wanted₀ : Wanted) (all : List Answer) (names₀ : List Entry) (tokens₀ : List StoredToken) (wanted : Wanted) (rest : List Answer) (names : List Entry) (tokens : List StoredToken)
+module _ (wanted₀ : Wanted) (all : List Answer) (names₀ : List Entry) (tokens₀ : List StoredToken) (wanted : Wanted)
+    (rest : List Answer) (names : List Entry) (tokens : List StoredToken)
     (r : ReadsWords wanted₀ all names₀ tokens₀ wanted rest names tokens) where
   -- the names on the way
   pub reads-within : NamesWithin (answer_words wanted₀ all) names₀ names
@@ -161,27 +190,50 @@ module _ (wanted₀ : Wanted) (all : List Answer) (names₀ : List Entry) (token
     reads-left = e.is ∙ r.left
 
   -- what stands behind the notes stands low as well
-  pub reads-starts : (answer : Lexed) (new : List Answer) → Gives (without_notes rest) answer new → StartsBelow (2 ^ 32) (answers_in answer ++ new)
-  reads-starts answer new g = subst (StartsBelow (2 ^ 32)) (gives-is (without_notes rest) new answer g) (starts-notes (2 ^ 32) rest r.starts)
+  pub reads-starts : (answer : Lexed) (new : List Answer) → Gives (without_notes rest) answer new
+      → StartsBelow (2 ^ 32) (answers_in answer ++ new)
+  reads-starts answer new g = subst (StartsBelow (2 ^ 32)) (gives-is (without_notes rest) new answer g)
+      (starts-notes (2 ^ 32) rest r.starts)
 
   -- one word more
-  module _ (t : Tok) (new : List Answer) (g : Gives (without_notes rest) (lexed.Token t) new) (next : Wanted) (e : head_behind wanted t.kind t.span ≡ Some next) (names' : List Entry) (named : names' ≡ names_with t.kind t.text.now names) where
-    behind : spelled (r.first ++ seen t ∷ []) names₀ ≡ record { tokens = (spelled r.first names₀).tokens ++ word_tokens (seen t) names; names = names_with t.kind t.text.now names }
-    behind = spelled-behind r.first (seen t) names₀ ∙ ap (λ ns. record { tokens = (spelled r.first names₀).tokens ++ word_tokens (seen t) ns; names = names_with t.kind t.text.now ns }) (sym r.names_are)
+  module _ (t : Tok) (new : List Answer) (g : Gives (without_notes rest) (lexed.Token t) new) (next : Wanted)
+      (e : head_behind wanted t.kind t.span ≡ Some next) (names' : List Entry) (named : names'
+      ≡ names_with t.kind t.text.now names) where
+    behind : spelled (r.first ++ seen t ∷ []) names₀
+        ≡ record {
+          tokens = (spelled r.first names₀).tokens ++ word_tokens (seen t) names;
+          names = names_with t.kind t.text.now names;
+        }
+    behind = spelled-behind r.first (seen t) names₀
+        ∙ ap (λ ns. record {
+          tokens = (spelled r.first names₀).tokens ++ word_tokens (seen t) ns;
+          names = names_with t.kind t.text.now ns;
+        }) (sym r.names_are)
 
     here : answer_words wanted rest ≡ seen t ∷ answer_words next new
-    here = sym (words-notes wanted rest) ∙ (ap (answer_words wanted) g ∙ ap (λ o. elim o as (λ o. List Seen) [ Some next ↦ seen t ∷ answer_words next new | None ↦ [] ]) e)
+    here = sym (words-notes wanted rest) ∙ (ap (answer_words wanted) g
+        ∙ ap (λ o. elim o as (λ o. List Seen) [ Some next ↦ seen t ∷ answer_words next new | None ↦ [] ]) e)
 
     there : without_words wanted rest ≡ without_words next new
-    there = sym (left-notes wanted rest) ∙ (ap (without_words wanted) g ∙ ap (λ o. elim o as (λ o. List Answer) [ Some next ↦ without_words next new | None ↦ Token (seen t) ∷ new ]) e)
+    there = sym (left-notes wanted rest) ∙ (ap (without_words wanted) g
+        ∙ ap (λ o. elim o as (λ o. List Answer) [ Some next ↦ without_words next new | None ↦ Token (seen t) ∷ new ]) e)
 
     all-words : (r.first ++ seen t ∷ []) ++ answer_words next new ≡ answer_words wanted₀ all
-    all-words = append_assoc r.first (seen t ∷ []) (answer_words next new) ∙ (ap (λ ws. r.first ++ ws) (sym here) ∙ r.words)
+    all-words = append_assoc r.first (seen t ∷ []) (answer_words next new)
+        ∙ (ap (λ ws. r.first ++ ws) (sym here) ∙ r.words)
 
     pub word-within : NamesWithin (answer_words wanted₀ all) names₀ names'
-    word-within = record { first = r.first ++ seen t ∷ []; later = answer_words next new; are = all-words; is = named ∙ ap (λ s. s.names) (sym behind) }
+    word-within = record {
+      first = r.first ++ seen t ∷ [];
+      later = answer_words next new;
+      are = all-words;
+      is = named
+          ∙ ap (λ s. s.names) (sym behind);
+    }
 
-    pub reads-word : (token : StoredToken) (tokens' : List StoredToken) → option_map (λ form. form.tokens) (token_form t.kind t.text.now t.hash_line t.span.start names) ≡ Some (token ∷ []) → tokens' ≡ tokens ++ token ∷ []
+    pub reads-word : (token : StoredToken) (tokens' : List StoredToken)
+        → option_map (λ form. form.tokens) (token_form t.kind t.text.now t.hash_line t.span.start names)
+        ≡ Some (token ∷ []) → tokens' ≡ tokens ++ token ∷ []
         → ReadsWords wanted₀ all names₀ tokens₀ next new names' tokens'
     reads-word token tokens' form pushed = record {
       first = r.first ++ seen t ∷ [];
@@ -191,7 +243,8 @@ module _ (wanted₀ : Wanted) (all : List Answer) (names₀ : List Entry) (token
           pushed
           ∙ (ap (λ ts. ts ++ token ∷ []) r.tokens_are
           ∙ (append_assoc tokens₀ (spelled r.first names₀).tokens (token ∷ [])
-          ∙ (ap (λ ts. tokens₀ ++ ((spelled r.first names₀).tokens ++ ts)) (sym (form-is (token_form t.kind t.text.now t.hash_line t.span.start names) token form))
+          ∙ (ap (λ ts. tokens₀ ++ ((spelled r.first names₀).tokens ++ ts))
+          (sym (form-is (token_form t.kind t.text.now t.hash_line t.span.start names) token form))
           ∙ ap (λ s. tokens₀ ++ s.tokens) (sym behind))));
       left = sym there ∙ r.left;
       starts = (subst (StartsBelow (2 ^ 32)) g (starts-notes (2 ^ 32) rest r.starts)).1;
@@ -204,15 +257,21 @@ group-words wanted t [] = refl
 group-words wanted t (n ∷ []) = refl
 group-words wanted t (n ∷ m ∷ ns) = refl
 
-pub words-same : (wanted : Wanted) (answers : List Answer) → IsNested answers → (head_words wanted (nest answers)).words ≡ answer_words wanted answers
+pub words-same : (wanted : Wanted) (answers : List Answer) → IsNested answers → (head_words wanted (nest answers)).words
+    ≡ answer_words wanted answers
 words-same wanted [] h = refl
 words-same wanted (Begin t ∷ answers) h = group-words wanted t (nests answers)
 words-same wanted (Finish t ∷ answers) h = refl
 words-same wanted (Note note place ∷ answers) h = words-same wanted answers h
-words-same wanted (Token t ∷ answers) h = ap (λ n. (head_words wanted n).words) (nest-token t answers h) ∙ by (head_behind wanted t.kind t.span) (λ next. words-same next answers (nested-behind t answers h))
+words-same wanted (Token t ∷ answers) h = ap (λ n. (head_words wanted n).words) (nest-token t answers h)
+    ∙ by (head_behind wanted t.kind t.span) (λ next. words-same next answers (nested-behind t answers h))
   where
     by : (o : Option Wanted) → ((next : Wanted) → (head_words next (nest answers)).words ≡ answer_words next answers)
-        → (elim o as (λ o. Words) [ Some next ↦ word_before t (head_words next (nest answers)) | None ↦ no_word (Leaf t (nest answers)) ]).words ≡ (elim o as (λ o. List Seen) [ Some next ↦ t ∷ answer_words next answers | None ↦ [] ])
+        → (elim o as (λ o. Words) [
+          | Some next ↦ word_before t (head_words next (nest answers))
+          | None ↦ no_word (Leaf t (nest answers))
+        ]).words
+        ≡ (elim o as (λ o. List Seen) [ Some next ↦ t ∷ answer_words next answers | None ↦ [] ])
     by None more = refl
     by (Some next) more = ap (λ ws. t ∷ ws) (more next)
 
@@ -227,7 +286,10 @@ words-fit wanted (Finish t ∷ answers) = refl
 words-fit wanted (Note note place ∷ answers) = words-fit wanted answers
 words-fit wanted (Token t ∷ answers) = by (head_behind wanted t.kind t.span) refl (λ next. words-fit next answers)
   where
-    by : (o : Option Wanted) → head_behind wanted t.kind t.span ≡ o → ((next : Wanted) → list_all word_kind (answer_words next answers) ≡ true)
-        → list_all word_kind (elim o as (λ o. List Seen) [ Some next ↦ t ∷ answer_words next answers | None ↦ [] ]) ≡ true
+    by : (o : Option Wanted) → head_behind wanted t.kind t.span ≡ o
+        → ((next : Wanted) → list_all word_kind (answer_words next answers) ≡ true)
+        → list_all word_kind (elim o as (λ o. List Seen) [ Some next ↦ t ∷ answer_words next answers | None ↦ [] ])
+        ≡ true
     by None e more = refl
-    by (Some next) e more = and-both (word_kind t) (list_all word_kind (answer_words next answers)) (takes-word wanted t.kind t.span next e) (more next)
+    by (Some next) e more = and-both (word_kind t) (list_all word_kind (answer_words next answers))
+        (takes-word wanted t.kind t.span next e) (more next)

@@ -1,5 +1,6 @@
 -- Read from text, the leaves of heads end in text as well.
-use Rattle.std.proofs.Common.{◌≡◌, ℕ, Bool, true, false, Option, Some, None, List, [], ◌∷◌, ◌++◌, refl, sym, ap, ◌∙◌, subst}
+use Rattle.std.proofs.Common.{◌≡◌, ℕ, Bool, true, false, Option, Some, None, List, [], ◌∷◌, ◌++◌, refl, sym, ap, ◌∙◌}
+use Rattle.std.proofs.Common.{subst}
 use Rattle.std.specs.List.{list_all}
 use Rattle.std.proofs.lemmas.List.{append_assoc}
 use Rattle.cw_base.proofs.TestLaws.{both-left, both-right}
@@ -17,7 +18,8 @@ use Rattle.cw_rules.specs.declared.signs.Sign.{Sign}
 use Rattle.cw_rules.specs.declared.signs.Sign.TheVariants as sign
 use Rattle.cw_rules.specs.declared.tokens.TokKind.{TokKind}
 use Rattle.cw_rules.specs.declared.tokens.TokKind.TheVariants as kind
-use Rattle.cw_lex.specs.Heads.{Head, Headless, Macro, Format, Silent, Named, Headed, headed, headed_by, headless, named_headed, Words, no_word, word_before, head_behind, head_words}
+use Rattle.cw_lex.specs.Heads.{Head, Headless, Macro, Format, Silent, Named, Headed, headed, headed_by, headless}
+use Rattle.cw_lex.specs.Heads.{named_headed, Words, no_word, word_before, head_behind, head_words}
 use Rattle.cw_lex.specs.Nest.{Nest, End, Leaf, Group, nest}
 use Rattle.cw_names.specs.declared.NameId.{NameId}
 use Rattle.cw_names.specs.Names.{Entry}
@@ -29,8 +31,11 @@ use Rattle.cw_tokens.specs.declared.token.Token.TheVariants as token
 use Rattle.cw_tokens.specs.Shapes.{tree_in}
 use Rattle.cw_scraps.specs.Leaves.{sign_mode, token_form, word_form, names_with}
 use Rattle.cw_reduce.specs.TranslationLaws.{InnersRead, ReadsInText}
-use Rattle.cw_reduce.specs.Translating.{Known, spelled, form_tokens, word_tokens, first_word, later_words, dollared, dead, leaf_scrap, sign_behind, head_made, headed_made, leaf_of_name, made, begin, translated}
-use Rattle.cw_reduce.proofs.ReadLaws.{MadeReads, reads-nothing, reads-scrap, reads-beside, reads-end, reads-made, reads-leaf, reads-headed-name}
+use Rattle.cw_reduce.specs.Translating.{Known, spelled, form_tokens, word_tokens, first_word, later_words, dollared}
+use Rattle.cw_reduce.specs.Translating.{dead, leaf_scrap, sign_behind, head_made, headed_made, leaf_of_name, made}
+use Rattle.cw_reduce.specs.Translating.{begin, translated}
+use Rattle.cw_reduce.proofs.ReadLaws.{MadeReads, reads-nothing, reads-scrap, reads-beside, reads-end, reads-made}
+use Rattle.cw_reduce.proofs.ReadLaws.{reads-leaf, reads-headed-name}
 
 -- Tokens that are read in a mode and stay in it, and hold no inner text.
 record StaysIn (mode : MathMode) (tokens : List Token) : Type 0 where
@@ -43,7 +48,8 @@ stays-none mode = record { stays = λ rest. refl; inners = λ rest h. h }
 stays-append : (mode : MathMode) (a b : List Token) → StaysIn mode a → StaysIn mode b → StaysIn mode (a ++ b)
 stays-append mode a b s t = record {
   stays = λ rest. ap (λ ts. reads (tree_in [] ts) mode) (append_assoc a b rest) ∙ s.stays (b ++ rest) ∙ t.stays rest;
-  inners = λ rest h. let k : InnersRead (tree_in [] (a ++ (b ++ rest))) = s.inners (b ++ rest) (t.inners rest h) in rw (append_assoc a b rest) k;
+  inners = λ rest h. let k : InnersRead (tree_in [] (a ++ (b ++ rest))) = s.inners (b ++ rest) (t.inners rest h) in
+      rw (append_assoc a b rest) k;
 }
 
 word-stays : (mode : MathMode) (c : Cat) (name : NameId) (n : ℕ) → StaysIn mode (word_form c name n).tokens
@@ -55,7 +61,10 @@ sign-math sign.LeftParen = refl
 sign-math _ = refl
 
 sign-stays : (s : Sign) (n : ℕ) → StaysIn Math (token.Source n (sign_mode s) ∷ [])
-sign-stays s n = record { stays = λ rest. ap (λ o. leads_on o (reads (tree_in [] rest))) (sign-math s); inners = λ rest h. h }
+sign-stays s n = record {
+  stays = λ rest. ap (λ o. leads_on o (reads (tree_in [] rest))) (sign-math s);
+  inners = λ rest h. h;
+}
 
 -- identifiers stay in each mode, and identifiers and signs in math
 abbrev fits_in : MathMode → TokKind → Bool
@@ -66,23 +75,30 @@ fits_in mode k = false
 abbrev word_fits : MathMode → Seen → Bool
 word_fits mode word = fits_in mode word.kind
 
-kind-stays : (mode : MathMode) (k : TokKind) (text : List ℕ) (hash_line : Bool) (n : ℕ) (names : List Entry) → fits_in mode k ≡ true → StaysIn mode (form_tokens (token_form k text hash_line n names))
+kind-stays : (mode : MathMode) (k : TokKind) (text : List ℕ) (hash_line : Bool) (n : ℕ) (names : List Entry)
+    → fits_in mode k ≡ true → StaysIn mode (form_tokens (token_form k text hash_line n names))
 kind-stays mode kind.Identifier text hash_line n names h = word-stays mode _ _ n
 kind-stays Math (kind.Sign s) text hash_line n names h = sign-stays s n
 kind-stays mode k text hash_line n names h = absurd cc
 
-spelled-stays : (mode : MathMode) (words : List Seen) (names : List Entry) → list_all (word_fits mode) words ≡ true → StaysIn mode (spelled words names).tokens
+spelled-stays : (mode : MathMode) (words : List Seen) (names : List Entry) → list_all (word_fits mode) words ≡ true
+    → StaysIn mode (spelled words names).tokens
 spelled-stays mode [] names h = stays-none mode
 spelled-stays mode (word ∷ words) names h =
     stays-append mode (word_tokens word names) (spelled words (names_with word.kind word.text names)).tokens
-    (kind-stays mode word.kind word.text word.hash_line word.span.start names (both-left (word_fits mode word) (list_all (word_fits mode) words) h))
-    (spelled-stays mode words (names_with word.kind word.text names) (both-right (word_fits mode word) (list_all (word_fits mode) words) h))
+    (kind-stays mode word.kind word.text word.hash_line word.span.start names
+    (both-left (word_fits mode word) (list_all (word_fits mode) words) h))
+    (spelled-stays mode words (names_with word.kind word.text names)
+    (both-right (word_fits mode word) (list_all (word_fits mode) words) h))
 
 dollared-stays : (tokens : List Token) → StaysIn Math tokens → StaysIn Text (dollared tokens)
 dollared-stays [] s = stays-none Text
 dollared-stays (t ∷ ts) s = record {
-  stays = λ rest. ap (λ list. reads (tree_in [] list) Math) (append_assoc (t ∷ ts) (token.Control control.Dollar ∷ []) rest) ∙ s.stays (token.Control control.Dollar ∷ rest);
-  inners = λ rest h. let k : InnersRead (tree_in [] ((t ∷ ts) ++ (token.Control control.Dollar ∷ rest))) = s.inners (token.Control control.Dollar ∷ rest) h in subst (λ list. InnersRead (tree_in [] list)) (sym (append_assoc (t ∷ ts) (token.Control control.Dollar ∷ []) rest)) k;
+  stays = λ rest. ap (λ list. reads (tree_in [] list) Math) (append_assoc (t ∷ ts) (token.Control control.Dollar ∷ [])
+      rest) ∙ s.stays (token.Control control.Dollar ∷ rest);
+  inners = λ rest h. let k : InnersRead (tree_in [] ((t ∷ ts) ++ (token.Control control.Dollar ∷ rest))) =
+      s.inners (token.Control control.Dollar ∷ rest) h in subst (λ list. InnersRead (tree_in [] list))
+      (sym (append_assoc (t ∷ ts) (token.Control control.Dollar ∷ []) rest)) k;
 }
 
 break-stays : StaysIn Text (token.Control control.OptionalBreak ∷ [])
@@ -92,7 +108,8 @@ append-none : (xs : List Token) → xs ++ [] ≡ xs
 append-none [] = refl
 append-none (x ∷ xs) = ap (λ ys. x ∷ ys) (append-none xs)
 
-reads-dead : (number : ℕ) (tokens : List Token) (known : Known) → StaysIn Text tokens → MadeReads (record { scraps = leaf_scrap (dead number tokens) ∷ []; items = []; known = known })
+reads-dead : (number : ℕ) (tokens : List Token) (known : Known) → StaysIn Text tokens
+    → MadeReads (record { scraps = leaf_scrap (dead number tokens) ∷ []; items = []; known = known })
 reads-dead number tokens known s =
     let inner : InnersRead (tree_in [] (tokens ++ [])) = s.inners [] tt in
     reads-scrap (leaf_scrap (dead number tokens)) known
@@ -109,7 +126,8 @@ is_names wanted = false
 abbrev words_by : Seen → Nest → Option Wanted → Words
 words_by t rest o = elim o [ Some next ↦ word_before t (head_words next rest) | None ↦ no_word (Leaf t rest) ]
 
-takes-math : (wanted : Wanted) (k : TokKind) (span : Span) (next : Wanted) → head_behind wanted k span ≡ Some next → fits_in Math k ≡ true
+takes-math : (wanted : Wanted) (k : TokKind) (span : Span) (next : Wanted) → head_behind wanted k span ≡ Some next
+    → fits_in Math k ≡ true
 takes-math wanted kind.Identifier span next h = refl
 takes-math wanted (kind.Sign s) span next h = refl
 takes-math wanted k span next h = absurd cc
@@ -119,23 +137,29 @@ words-math wanted End = refl
 words-math wanted (Group t inner rest) = refl
 words-math wanted (Leaf t rest) = go (head_behind wanted t.kind t.span) refl (λ next. words-math next rest)
   where
-    go : (o : Option Wanted) → head_behind wanted t.kind t.span ≡ o → ((next : Wanted) → list_all (word_fits Math) (head_words next rest).words ≡ true) → list_all (word_fits Math) (head_words wanted (Leaf t rest)).words ≡ true
+    go : (o : Option Wanted) → head_behind wanted t.kind t.span ≡ o
+        → ((next : Wanted) → list_all (word_fits Math) (head_words next rest).words ≡ true)
+        → list_all (word_fits Math) (head_words wanted (Leaf t rest)).words ≡ true
     go None e more = ap (λ o. list_all (word_fits Math) (words_by t rest o).words) e
     go (Some next) e more =
         ap (λ o. list_all (word_fits Math) (words_by t rest o).words) e
-        ∙ and-both (word_fits Math t) (list_all (word_fits Math) (head_words next rest).words) (takes-math wanted t.kind t.span next e) (more next)
+        ∙ and-both (word_fits Math t) (list_all (word_fits Math) (head_words next rest).words)
+        (takes-math wanted t.kind t.span next e) (more next)
 
 some-wanted : (a b : Wanted) → ◌≡◌ {A = Option Wanted} (Some a) (Some b) → a ≡ b
 some-wanted a b e = cc
 
-takes-text : (wanted : Wanted) (k : TokKind) (span : Span) (next : Wanted) → is_names wanted ≡ true → head_behind wanted k span ≡ Some next → (fits_in Text k ≡ true) × (is_names next ≡ true)
-takes-text (wants.First silent) kind.Identifier span next n h = (refl, ap is_names (sym (some-wanted (wants.Second silent) next h)))
+takes-text : (wanted : Wanted) (k : TokKind) (span : Span) (next : Wanted) → is_names wanted ≡ true
+    → head_behind wanted k span ≡ Some next → (fits_in Text k ≡ true) × (is_names next ≡ true)
+takes-text (wants.First silent) kind.Identifier span next n h =
+    (refl, ap is_names (sym (some-wanted (wants.Second silent) next h)))
 takes-text (wants.First silent) (kind.Sign sign.LeftParen) span next n h = absurd cc
 takes-text (wants.First silent) (kind.Sign sign.Comma) span next n h = absurd cc
 takes-text (wants.First silent) (kind.Sign sign.Ellipsis) span next n h = absurd cc
 takes-text (wants.First silent) (kind.Sign sign.RightParen) span next n h = absurd cc
 takes-text (wants.First silent) k span next n h = absurd cc
-takes-text (wants.Second silent) kind.Identifier span next n h = (refl, ap is_names (sym (some-wanted wants.Nothing next h)))
+takes-text (wants.Second silent) kind.Identifier span next n h =
+    (refl, ap is_names (sym (some-wanted wants.Nothing next h)))
 takes-text (wants.Second silent) (kind.Sign sign.LeftParen) span next n h = absurd cc
 takes-text (wants.Second silent) (kind.Sign sign.Comma) span next n h = absurd cc
 takes-text (wants.Second silent) (kind.Sign sign.Ellipsis) span next n h = absurd cc
@@ -149,12 +173,15 @@ takes-text wants.Nothing (kind.Sign sign.RightParen) span next n h = absurd cc
 takes-text wants.Nothing k span next n h = absurd cc
 takes-text _ k span next n h = absurd cc
 
-words-text : (wanted : Wanted) (n : Nest) → is_names wanted ≡ true → list_all (word_fits Text) (head_words wanted n).words ≡ true
+words-text : (wanted : Wanted) (n : Nest) → is_names wanted ≡ true
+    → list_all (word_fits Text) (head_words wanted n).words ≡ true
 words-text wanted End w = refl
 words-text wanted (Group t inner rest) w = refl
 words-text wanted (Leaf t rest) w = go (head_behind wanted t.kind t.span) refl (λ next v. words-text next rest v)
   where
-    go : (o : Option Wanted) → head_behind wanted t.kind t.span ≡ o → ((next : Wanted) → is_names next ≡ true → list_all (word_fits Text) (head_words next rest).words ≡ true) → list_all (word_fits Text) (head_words wanted (Leaf t rest)).words ≡ true
+    go : (o : Option Wanted) → head_behind wanted t.kind t.span ≡ o
+        → ((next : Wanted) → is_names next ≡ true → list_all (word_fits Text) (head_words next rest).words ≡ true)
+        → list_all (word_fits Text) (head_words wanted (Leaf t rest)).words ≡ true
     go None e more = ap (λ o. list_all (word_fits Text) (words_by t rest o).words) e
     go (Some next) e more =
         let f = takes-text wanted t.kind t.span next w e in
@@ -167,7 +194,10 @@ HeadFits (Format number words) = list_all (word_fits Text) words ≡ true
 HeadFits h = Unit {0}
 
 abbrev sign_headed : Seen → Seen → Nest → Bool → Headed
-sign_headed t s rest b = elim b [ true ↦ record { head = Named t.span.start s.span.start; rest = rest } | false ↦ headless (Leaf t (Leaf s rest)) ]
+sign_headed t s rest b = elim b [
+  | true ↦ record { head = Named t.span.start s.span.start; rest = rest }
+  | false ↦ headless (Leaf t (Leaf s rest))
+]
 
 named-fits-if : (b : Bool) (t s : Seen) (rest : Nest) → HeadFits (sign_headed t s rest b).head
 named-fits-if true t s rest = tt
@@ -191,34 +221,45 @@ head-fits End = tt
 head-fits (Group t inner rest) = tt
 head-fits (Leaf t rest) = fits-by t.kind t rest
 
-first-fits : (mode : MathMode) (words : List Seen) → list_all (word_fits mode) words ≡ true → list_all (word_fits mode) (first_word words) ≡ true
+first-fits : (mode : MathMode) (words : List Seen) → list_all (word_fits mode) words ≡ true
+    → list_all (word_fits mode) (first_word words) ≡ true
 first-fits mode [] h = refl
-first-fits mode (word ∷ words) h = and-both (word_fits mode word) true (both-left (word_fits mode word) (list_all (word_fits mode) words) h) refl
+first-fits mode (word ∷ words) h = and-both (word_fits mode word) true
+    (both-left (word_fits mode word) (list_all (word_fits mode) words) h) refl
 
-later-fits : (mode : MathMode) (words : List Seen) → list_all (word_fits mode) words ≡ true → list_all (word_fits mode) (later_words words) ≡ true
+later-fits : (mode : MathMode) (words : List Seen) → list_all (word_fits mode) words ≡ true
+    → list_all (word_fits mode) (later_words words) ≡ true
 later-fits mode [] h = refl
 later-fits mode (word ∷ words) h = both-right (word_fits mode word) (list_all (word_fits mode) words) h
 
-pub reads-head : (flags : Flags) (named : ℕ → Option (List (List Answer))) (h : Head) (known : Known) → HeadFits h → MadeReads (head_made flags named h known)
+pub reads-head : (flags : Flags) (named : ℕ → Option (List (List Answer))) (h : Head) (known : Known) → HeadFits h
+    → MadeReads (head_made flags named h known)
 reads-head flags named Headless known f = reads-nothing known
 reads-head flags named (Silent words) known f = reads-nothing _
 reads-head flags named (Macro number words) known f =
     let s = spelled words known.names in
     reads-dead number (dollared s.tokens ++ token.Control control.OptionalBreak ∷ []) _
-    (stays-append Text (dollared s.tokens) (token.Control control.OptionalBreak ∷ []) (dollared-stays s.tokens (spelled-stays Math words known.names f)) break-stays)
+    (stays-append Text (dollared s.tokens) (token.Control control.OptionalBreak ∷ [])
+    (dollared-stays s.tokens (spelled-stays Math words known.names f)) break-stays)
 reads-head flags named (Format number words) known f =
     let s = spelled (first_word words) known.names in
     let t = spelled (later_words words) s.names in
     reads-dead number (s.tokens ++ token.Control control.OptionalBreak ∷ t.tokens) _
-    (stays-append Text s.tokens (token.Control control.OptionalBreak ∷ t.tokens) (spelled-stays Text (first_word words) known.names (first-fits Text words f))
-    (stays-append Text (token.Control control.OptionalBreak ∷ []) t.tokens break-stays (spelled-stays Text (later_words words) s.names (later-fits Text words f))))
-reads-head flags named (Named number sign) known f = reads-headed-name flags (named number) (sign_behind sign) number known refl tt
+    (stays-append Text s.tokens (token.Control control.OptionalBreak ∷ t.tokens)
+    (spelled-stays Text (first_word words) known.names (first-fits Text words f))
+    (stays-append Text (token.Control control.OptionalBreak ∷ []) t.tokens break-stays
+    (spelled-stays Text (later_words words) s.names (later-fits Text words f))))
+reads-head flags named (Named number sign) known f = reads-headed-name flags (named number) (sign_behind sign) number
+    known refl tt
 
-pub stands-in-text : (flags : Flags) (named : ℕ → Option (List (List Answer))) (answers : List Answer) (names : List Entry) (marks : List ℕ) → ReadsInText (translated flags named answers names marks).tree
+pub stands-in-text : (flags : Flags) (named : ℕ → Option (List (List Answer))) (answers : List Answer)
+    (names : List Entry) (marks : List ℕ) → ReadsInText (translated flags named answers names marks).tree
 unfolding translated
 stands-in-text flags named answers names marks =
     let h = headed (nest answers) in
     let known = begin names marks in
     let first = head_made flags named h.head known in
     reads-end flags (headed_made flags named h known)
-    (reads-beside first (made flags (leaf_of_name flags named) h.rest first.known) (reads-head flags named h.head known (head-fits (nest answers))) (reads-made flags (leaf_of_name flags named) (reads-leaf flags named) h.rest first.known))
+    (reads-beside first (made flags (leaf_of_name flags named) h.rest first.known)
+    (reads-head flags named h.head known (head-fits (nest answers)))
+    (reads-made flags (leaf_of_name flags named) (reads-leaf flags named) h.rest first.known))

@@ -1,5 +1,6 @@
 -- The tokens of heads: their names are names, they refer to no list, and read from text they end in text.
-use Rattle.std.proofs.Common.{◌≡◌, ℕ, ◌+◌, ◌<◌, ◌≤◌, Bool, true, false, not, nat_lt, Some, List, [], ◌∷◌, ◌++◌, length, refl, sym, ap, ◌∙◌, subst, arith}
+use Rattle.std.proofs.Common.{◌≡◌, ℕ, ◌+◌, ◌<◌, ◌≤◌, Bool, true, false, not, nat_lt, Some, List, [], ◌∷◌, ◌++◌, length}
+use Rattle.std.proofs.Common.{refl, sym, ap, ◌∙◌, subst, arith}
 use Rattle.std.specs.Prelude.{if◌then◌else◌}
 use Rattle.std.specs.List.{list_all, slice_get}
 use Rattle.std.proofs.lemmas.Bool.{ltb-true}
@@ -29,7 +30,8 @@ use Rattle.cw_scraps.specs.Words.{is_word}
 use Rattle.cw_scraps.proofs.LeafForms.{IsGood}
 use Rattle.cw_reduce.specs.Gathering.{refs_in}
 use Rattle.cw_reduce.specs.HeadReading.{macro_tokens, format_tokens, with_break}
-use Rattle.cw_reduce.specs.Translating.{spelled, form_tokens, word_tokens, first_word, later_words, dollared, dead, leaf_scrap}
+use Rattle.cw_reduce.specs.Translating.{spelled, form_tokens, word_tokens, first_word, later_words, dollared, dead}
+use Rattle.cw_reduce.specs.Translating.{leaf_scrap}
 use Rattle.cw_reduce.proofs.GatherSteps.{ref-place, AtPlace}
 use Rattle.cw_reduce.proofs.HeadAnswers.{word_kind}
 use Rattle.cw_reduce.proofs.LeafSteps.{names-grow}
@@ -76,7 +78,8 @@ no-ref ts none p x e =
     let empty : length (refs_in ts) ≡ 0 = ap length none in
     omega arith
 
-named-tree : (count : ℕ) (trees : List Tree) (ts : List Token) → AreNamed count ts → IsNamedBelow count (tree_in trees ts)
+named-tree : (count : ℕ) (trees : List Tree) (ts : List Token) → AreNamed count ts
+    → IsNamedBelow count (tree_in trees ts)
 named-tree count trees [] h = tt
 named-tree count trees (token.Source number mode ∷ ts) h = (tt, named-tree count trees ts h.1)
 named-tree count trees (token.Ident name number ∷ ts) h = (h.0, named-tree count trees ts h.1)
@@ -86,11 +89,13 @@ named-tree count trees (_ ∷ ts) h = absurd h.0
 
 -- ## The tokens of words
 
-form-named : (c : Cat) (name : NameId) (number count : ℕ) → name.index < count → AreNamed count (word_form c name number).tokens
+form-named : (c : Cat) (name : NameId) (number count : ℕ) → name.index < count
+    → AreNamed count (word_form c name number).tokens
 form-named Exp name number count h = (h, tt)
 form-named c name number count h = (h, tt)
 
-place-there : (text : List ℕ) (names : List Entry) → place_of ident_kind text names < length (with_entry ident_kind text names)
+place-there : (text : List ℕ) (names : List Entry)
+    → place_of ident_kind text names < length (with_entry ident_kind text names)
 place-there text names = by (nat_lt (place_of ident_kind text names) (length names)) refl
   where
     at_most : place_of ident_kind text names ≤ length names
@@ -99,7 +104,8 @@ place-there text names = by (nat_lt (place_of ident_kind text names) (length nam
     new : Entry
     new = record { kind = ident_kind; text = text; category = Exp }
 
-    by : (b : Bool) → nat_lt (place_of ident_kind text names) (length names) ≡ b → place_of ident_kind text names < length (if b then names else names ++ new ∷ [])
+    by : (b : Bool) → nat_lt (place_of ident_kind text names) (length names) ≡ b
+        → place_of ident_kind text names < length (if b then names else names ++ new ∷ [])
     by true e = ltb-true (place_of ident_kind text names) (length names) e
     by false e =
         let size : length (names ++ new ∷ []) ≡ length names + 1 = length-append names (new ∷ []) in
@@ -107,8 +113,10 @@ place-there text names = by (nat_lt (place_of ident_kind text names) (length nam
         let below : place_of ident_kind text names < length (names ++ new ∷ []) = omega arith in
         below
 
-kind-named : (k : TokKind) (text : List ℕ) (hash_line : Bool) (n : ℕ) (names : List Entry) → is_word k ≡ true → AreNamed (length (names_with k text names)) (form_tokens (token_form k text hash_line n names))
-kind-named kind.Identifier text hash_line n names h = form-named _ (record { index = place_of ident_kind text names }) n _ (place-there text names)
+kind-named : (k : TokKind) (text : List ℕ) (hash_line : Bool) (n : ℕ) (names : List Entry) → is_word k ≡ true
+    → AreNamed (length (names_with k text names)) (form_tokens (token_form k text hash_line n names))
+kind-named kind.Identifier text hash_line n names h = form-named _ (record { index = place_of ident_kind text names }) n
+    _ (place-there text names)
 kind-named (kind.Sign s) text hash_line n names h = (tt, tt)
 kind-named k text hash_line n names h = absurd cc
 
@@ -116,15 +124,20 @@ pub spelled-grow : (words : List Seen) (names : List Entry) → length names ≤
 spelled-grow [] names = omega arith
 spelled-grow (word ∷ words) names =
     let a : length names ≤ length (names_with word.kind word.text names) = names-grow word.kind word.text names in
-    let b : length (names_with word.kind word.text names) ≤ length (spelled words (names_with word.kind word.text names)).names = spelled-grow words (names_with word.kind word.text names) in
+    let b : length (names_with word.kind word.text names)
+    ≤ length (spelled words (names_with word.kind word.text names)).names =
+    spelled-grow words (names_with word.kind word.text names) in
     omega arith
 
-pub spelled-named : (words : List Seen) (names : List Entry) → list_all word_kind words ≡ true → AreNamed (length (spelled words names).names) (spelled words names).tokens
+pub spelled-named : (words : List Seen) (names : List Entry) → list_all word_kind words ≡ true
+    → AreNamed (length (spelled words names).names) (spelled words names).tokens
 spelled-named [] names h = tt
 spelled-named (word ∷ words) names h =
     let n = names_with word.kind word.text names in
     named-append (length (spelled words n).names) (word_tokens word names) (spelled words n).tokens
-    (more-named (length n) (length (spelled words n).names) (spelled-grow words n) (word_tokens word names) (kind-named word.kind word.text word.hash_line word.span.start names (both-left (word_kind word) (list_all word_kind words) h)))
+    (more-named (length n) (length (spelled words n).names) (spelled-grow words n) (word_tokens word names)
+    (kind-named word.kind word.text word.hash_line word.span.start names
+    (both-left (word_kind word) (list_all word_kind words) h)))
     (spelled-named words n (both-right (word_kind word) (list_all word_kind words) h))
 
 -- each word is one token
@@ -136,23 +149,30 @@ form-one : (c : Cat) (name : NameId) (number : ℕ) → IsOne (word_form c name 
 form-one Exp name number = record { token = token.Ident name number; is = refl }
 form-one c name number = record { token = token.Reserved name number c; is = refl }
 
-kind-one : (k : TokKind) (text : List ℕ) (hash_line : Bool) (n : ℕ) (names : List Entry) → is_word k ≡ true → IsOne (form_tokens (token_form k text hash_line n names))
+kind-one : (k : TokKind) (text : List ℕ) (hash_line : Bool) (n : ℕ) (names : List Entry) → is_word k ≡ true
+    → IsOne (form_tokens (token_form k text hash_line n names))
 kind-one kind.Identifier text hash_line n names h = form-one _ _ n
 kind-one (kind.Sign s) text hash_line n names h = record { token = _; is = refl }
 kind-one k text hash_line n names h = absurd cc
 
 -- the first of them, the break, and the others
 pub break-behind : (words : List Seen) (names : List Entry) → list_all word_kind words ≡ true
-    → (spelled (first_word words) names).tokens ++ token.Control control.OptionalBreak ∷ (spelled (later_words words) (spelled (first_word words) names).names).tokens ≡ with_break (spelled words names).tokens
+    → (spelled (first_word words) names).tokens ++ token.Control control.OptionalBreak
+    ∷ (spelled (later_words words) (spelled (first_word words) names).names).tokens
+    ≡ with_break (spelled words names).tokens
 break-behind [] names h = refl
 break-behind (word ∷ words) names h =
     let n = names_with word.kind word.text names in
-    by (word_tokens word names) (spelled words n).tokens (kind-one word.kind word.text word.hash_line word.span.start names (both-left (word_kind word) (list_all word_kind words) h))
+    by (word_tokens word names) (spelled words n).tokens (kind-one word.kind word.text word.hash_line word.span.start
+    names (both-left (word_kind word) (list_all word_kind words) h))
   where
-    by : (ts us : List Token) → IsOne ts → (ts ++ []) ++ token.Control control.OptionalBreak ∷ us ≡ with_break (ts ++ us)
-    by ts us o = subst (λ ts. (ts ++ []) ++ token.Control control.OptionalBreak ∷ us ≡ with_break (ts ++ us)) (sym o.is) refl
+    by : (ts us : List Token) → IsOne ts → (ts ++ []) ++ token.Control control.OptionalBreak ∷ us
+        ≡ with_break (ts ++ us)
+    by ts us o = subst (λ ts. (ts ++ []) ++ token.Control control.OptionalBreak ∷ us ≡ with_break (ts ++ us)) (sym o.is)
+        refl
 
-pub later-names : (words : List Seen) (names : List Entry) → (spelled (later_words words) (spelled (first_word words) names).names).names ≡ (spelled words names).names
+pub later-names : (words : List Seen) (names : List Entry)
+    → (spelled (later_words words) (spelled (first_word words) names).names).names ≡ (spelled words names).names
 later-names [] names = refl
 later-names (word ∷ words) names = refl
 
@@ -167,14 +187,22 @@ break-named count [] h = (tt, tt)
 break-named count (t ∷ ts) h = (h.0, (tt, h.1))
 
 pub macro-named : (count number : ℕ) (ts : List Token) → AreNamed count ts → AreNamed count (macro_tokens number ts)
-macro-named count number ts h = (tt, (tt, named-append count (dollared ts) (token.Control control.OptionalBreak ∷ []) (dollared-named count ts h) (tt, tt)))
+macro-named count number ts h = (
+  tt,
+  (
+    tt,
+    named-append count (dollared ts) (token.Control control.OptionalBreak ∷ [])
+        (dollared-named count ts h) (tt, tt),
+  ),
+)
 
 pub format-named : (count number : ℕ) (ts : List Token) → AreNamed count ts → AreNamed count (format_tokens number ts)
 format-named count number ts h = (tt, (tt, break-named count ts h))
 
 -- ## The scrap of a head
 
-module _ (count number : ℕ) (ts : List Token) (named : AreNamed count (dead number ts).tokens) (agrees : scrap_agrees (leaf_scrap (dead number ts))) where
+module _ (count number : ℕ) (ts : List Token) (named : AreNamed count (dead number ts).tokens)
+    (agrees : scrap_agrees (leaf_scrap (dead number ts))) where
   pub head-plain : (p x : ℕ) → token_ref (slice_get (dead number ts).tokens p) ≡ Some x → ⊥
   head-plain = no-ref (dead number ts).tokens (plain-refs count (dead number ts).tokens named)
 

@@ -1,5 +1,6 @@
 -- The words of heads stand in the tree of a translation as well.
-use Rattle.std.proofs.Common.{◌≡◌, ℕ, Bool, true, false, is_some, Option, Some, None, List, [], ◌∷◌, ◌++◌, refl, ◌∙◌, ap}
+use Rattle.std.proofs.Common.{◌≡◌, ℕ, Bool, true, false, is_some, Option, Some, None, List, [], ◌∷◌, ◌++◌, refl, ◌∙◌}
+use Rattle.std.proofs.Common.{ap}
 use Rattle.std.specs.List.{list_all}
 use Rattle.cw_base.proofs.TestLaws.{both-left, both-right}
 use Rattle.cw_base.specs.declared.category.Cat.{Cat}
@@ -23,12 +24,15 @@ use Rattle.cw_tokens.specs.Shapes.{tree_in}
 use Rattle.cw_scraps.specs.Leaves.{token_form, word_form}
 use Rattle.cw_reduce.specs.Visible.{number_if}
 use Rattle.cw_lex.specs.Nest.{Nest, End, Leaf, Group, nest}
-use Rattle.cw_lex.specs.Heads.{Head, Headless, Macro, Format, Silent, Named, Headed, headed, headed_by, headless, named_headed, Words, no_word, word_before, head_behind, head_words}
+use Rattle.cw_lex.specs.Heads.{Head, Headless, Macro, Format, Silent, Named, Headed, headed, headed_by, headless}
+use Rattle.cw_lex.specs.Heads.{named_headed, Words, no_word, word_before, head_behind, head_words}
 use Rattle.cw_lex.specs.declared.heads.Wanted.{Wanted}
 use Rattle.cw_lex.specs.declared.heads.Wanted.TheVariants as wants
 use Rattle.cw_reduce.specs.Visible.{starts, shown_in, shown_head, shown}
-use Rattle.cw_reduce.specs.Translating.{Known, spelled, form_tokens, first_word, later_words, dollared, sign_behind, texts_named, head_made, headed_made, leaf_of_name, made, begin, translated}
-use Rattle.cw_reduce.proofs.ShownLaws.{append-none, IsWell, Shows, shows-beside, shows-made, shows-name, struck-end, struck-parts}
+use Rattle.cw_reduce.specs.Translating.{Known, spelled, form_tokens, first_word, later_words, dollared, sign_behind}
+use Rattle.cw_reduce.specs.Translating.{texts_named, head_made, headed_made, leaf_of_name, made, begin, translated}
+use Rattle.cw_reduce.proofs.ShownLaws.{append-none, IsWell, Shows, shows-beside, shows-made, shows-name, struck-end}
+use Rattle.cw_reduce.proofs.ShownLaws.{struck-parts}
 use Rattle.cw_reduce.proofs.WellNests.{nest-well}
 
 -- The words of a head are identifiers and signs, and what follows it is well.
@@ -50,13 +54,15 @@ words-none rest w = record { words = refl; rest = w }
 words-before : (t : Seen) (more : Words) → is_word t ≡ true → AreWords more → AreWords (word_before t more)
 words-before t more e m = record { words = and-both (is_word t) (list_all is_word more.words) e m.words; rest = m.rest }
 
-head-word : (wanted : Wanted) (k : TokKind) (span : Span) (next : Wanted) → head_behind wanted k span ≡ Some next → is_word_kind k ≡ true
+head-word : (wanted : Wanted) (k : TokKind) (span : Span) (next : Wanted) → head_behind wanted k span ≡ Some next
+    → is_word_kind k ≡ true
 unfolding is_word_kind
 head-word wanted kind.Identifier span next h = refl
 head-word wanted (kind.Sign s) span next h = refl
 head-word wanted k span next h = absurd cc
 
-words-next : (o : Option Wanted) (t : Seen) (rest : Nest) → ((next : Wanted) → o ≡ Some next → is_word t ≡ true) → ((next : Wanted) → AreWords (head_words next rest)) → IsWell false (Leaf t rest)
+words-next : (o : Option Wanted) (t : Seen) (rest : Nest) → ((next : Wanted) → o ≡ Some next → is_word t ≡ true)
+    → ((next : Wanted) → AreWords (head_words next rest)) → IsWell false (Leaf t rest)
     → AreWords (elim o [ Some next ↦ word_before t (head_words next rest) | None ↦ no_word (Leaf t rest) ])
 words-next None t rest e more w = words-none (Leaf t rest) w
 words-next (Some next) t rest e more w = words-before t (head_words next rest) (e next refl) (more next)
@@ -65,7 +71,8 @@ pub words-of : (wanted : Wanted) (n : Nest) → IsWell false n → AreWords (hea
 unfolding is_word
 words-of wanted End w = words-none End w
 words-of wanted (Group t inner rest) w = words-none (Group t inner rest) w
-words-of wanted (Leaf t rest) w = words-next (head_behind wanted t.kind t.span) t rest (head-word wanted t.kind t.span) (λ next. words-of next rest w.1) w
+words-of wanted (Leaf t rest) w = words-next (head_behind wanted t.kind t.span) t rest (head-word wanted t.kind t.span)
+    (λ next. words-of next rest w.1) w
 
 -- Their tokens.
 pub is_plain : Token → Bool
@@ -75,7 +82,8 @@ is_plain (token.Reserved name number c) = true
 is_plain (token.Control c) = true
 is_plain _ = false
 
-struck-tokens : (xs ys : List Token) → list_all is_plain xs ≡ true → struck (tree_in [] (xs ++ ys)) ≡ struck (tree_in [] xs) ++ struck (tree_in [] ys)
+struck-tokens : (xs ys : List Token) → list_all is_plain xs ≡ true → struck (tree_in [] (xs ++ ys))
+    ≡ struck (tree_in [] xs) ++ struck (tree_in [] ys)
 unfolding is_plain
 struck-tokens [] ys h = refl
 struck-tokens (token.Source number mode ∷ xs) ys h = ap (λ ns. number ∷ ns) (struck-tokens xs ys h)
@@ -93,29 +101,41 @@ unfolding is_plain
 word-plain Exp name n = record { plain = refl; numbers_are = refl }
 word-plain _ name n = record { plain = refl; numbers_are = refl }
 
-kind-plain : (k : TokKind) (text : List ℕ) (hash_line : Bool) (n : ℕ) (names : List Entry) → is_word_kind k ≡ true → PlainFor (form_tokens (token_form k text hash_line n names)) (n ∷ [])
+kind-plain : (k : TokKind) (text : List ℕ) (hash_line : Bool) (n : ℕ) (names : List Entry) → is_word_kind k ≡ true
+    → PlainFor (form_tokens (token_form k text hash_line n names)) (n ∷ [])
 unfolding is_plain is_word_kind
 kind-plain kind.Identifier text hash_line n names h = word-plain _ _ n
 kind-plain (kind.Sign s) text hash_line n names h = record { plain = refl; numbers_are = refl }
 kind-plain k text hash_line n names h = absurd cc
 
 plain-append : (xs ys : List Token) (ns ms : List ℕ) → PlainFor xs ns → PlainFor ys ms → PlainFor (xs ++ ys) (ns ++ ms)
-plain-append xs ys ns ms p q = record { plain = list-append xs ys p.plain q.plain; numbers_are = struck-tokens xs ys p.plain ∙ ap (λ ks. ks ++ struck (tree_in [] ys)) p.numbers_are ∙ ap (λ ks. ns ++ ks) q.numbers_are }
+plain-append xs ys ns ms p q = record {
+  plain = list-append xs ys p.plain q.plain;
+  numbers_are = struck-tokens xs ys
+      p.plain ∙ ap (λ ks. ks ++ struck (tree_in [] ys)) p.numbers_are ∙ ap (λ ks. ns ++ ks) q.numbers_are;
+}
   where
-    list-append : (xs ys : List Token) → list_all is_plain xs ≡ true → list_all is_plain ys ≡ true → list_all is_plain (xs ++ ys) ≡ true
+    list-append : (xs ys : List Token) → list_all is_plain xs ≡ true → list_all is_plain ys ≡ true
+        → list_all is_plain (xs ++ ys) ≡ true
     list-append [] ys a b = b
-    list-append (x ∷ xs) ys a b = and-both (is_plain x) (list_all is_plain (xs ++ ys)) (both-left (is_plain x) (list_all is_plain xs) a) (list-append xs ys (both-right (is_plain x) (list_all is_plain xs) a) b)
+    list-append (x ∷ xs) ys a b = and-both (is_plain x) (list_all is_plain (xs ++ ys))
+        (both-left (is_plain x) (list_all is_plain xs) a)
+        (list-append xs ys (both-right (is_plain x) (list_all is_plain xs) a) b)
 
-pub spelled-plain : (words : List Seen) (names : List Entry) → list_all is_word words ≡ true → PlainFor (spelled words names).tokens (starts words)
+pub spelled-plain : (words : List Seen) (names : List Entry) → list_all is_word words ≡ true
+    → PlainFor (spelled words names).tokens (starts words)
 unfolding is_plain is_word
 spelled-plain [] names h = record { plain = refl; numbers_are = refl }
-spelled-plain (t ∷ words) names h = plain-append _ _ (t.span.start ∷ []) (starts words) (kind-plain t.kind t.text t.hash_line t.span.start names (both-left (is_word t) (list_all is_word words) h)) (spelled-plain words _ (both-right (is_word t) (list_all is_word words) h))
+spelled-plain (t ∷ words) names h = plain-append _ _ (t.span.start ∷ []) (starts words)
+    (kind-plain t.kind t.text t.hash_line t.span.start names (both-left (is_word t) (list_all is_word words) h))
+    (spelled-plain words _ (both-right (is_word t) (list_all is_word words) h))
 
 pub dollared-plain : (ts : List Token) (ns : List ℕ) → PlainFor ts ns → PlainFor (dollared ts) ns
 unfolding is_plain
 dollared-plain [] ns p = p
 dollared-plain (t ∷ ts) ns p =
-    let q = plain-append (t ∷ ts) (token.Control control.Dollar ∷ []) ns [] p (record { plain = refl; numbers_are = refl }) in
+    let q = plain-append (t ∷ ts) (token.Control control.Dollar ∷ []) ns [] p
+    (record { plain = refl; numbers_are = refl }) in
     record { plain = q.plain; numbers_are = q.numbers_are ∙ append-none ns }
 
 -- The heads.
@@ -132,7 +152,11 @@ well-headless : (n : Nest) → IsWell false n → IsWellHeaded (headless n)
 unfolding AreHeadWords
 well-headless n w = record { words = tt; rest = w }
 
-well-named-if : (b : Bool) (t s : Seen) (rest : Nest) → IsWell false (Leaf t (Leaf s rest)) → IsWellHeaded (elim b [ true ↦ record { head = Named t.span.start s.span.start; rest = rest } | false ↦ headless (Leaf t (Leaf s rest)) ])
+well-named-if : (b : Bool) (t s : Seen) (rest : Nest) → IsWell false (Leaf t (Leaf s rest))
+    → IsWellHeaded (elim b [
+      | true ↦ record { head = Named t.span.start s.span.start; rest = rest }
+      | false ↦ headless (Leaf t (Leaf s rest))
+    ])
 unfolding AreHeadWords
 well-named-if true t s rest w = record { words = tt; rest = w.1.1 }
 well-named-if false t s rest w = record { words = tt; rest = w }
@@ -144,9 +168,12 @@ well-named t (Leaf s rest) w = well-named-if (is_head_sign s.kind) t s rest w
 
 well-by : (k : TokKind) (t : Seen) (rest : Nest) → IsWell false (Leaf t rest) → IsWellHeaded (headed_by k t rest)
 unfolding AreHeadWords
-well-by (kind.Code code.Define) t rest w = let a = words-of wants.Macro rest w.1 in record { words = a.words; rest = a.rest }
-well-by (kind.Code code.Format) t rest w = let a = words-of (wants.First false) rest w.1 in record { words = a.words; rest = a.rest }
-well-by (kind.Code code.SilentFormat) t rest w = record { words = tt; rest = (words-of (wants.First true) rest w.1).rest }
+well-by (kind.Code code.Define) t rest w = let a = words-of wants.Macro rest w.1 in
+    record { words = a.words; rest = a.rest }
+well-by (kind.Code code.Format) t rest w = let a = words-of (wants.First false) rest w.1 in
+    record { words = a.words; rest = a.rest }
+well-by (kind.Code code.SilentFormat) t rest w =
+    record { words = tt; rest = (words-of (wants.First true) rest w.1).rest }
 well-by (kind.Code code.SectionName) t rest w = well-named t rest w
 well-by (kind.Code code.FileName) t rest w = well-named t rest w
 well-by k t rest w = well-headless (Leaf t rest) w
@@ -156,9 +183,12 @@ well-headed End w = well-headless End w
 well-headed (Group t inner rest) w = well-headless (Group t inner rest) w
 well-headed (Leaf t rest) w = well-by t.kind t rest w
 
-shows-named-head : (flags : Flags) (o : Option (List (List Answer))) (number sign : ℕ) (known : Known) → Shows false (texts_named flags o Dead Text (sign_behind sign) number known) (number_if (is_some o) number ++ number_if (is_some o) sign)
+shows-named-head : (flags : Flags) (o : Option (List (List Answer))) (number sign : ℕ) (known : Known)
+    → Shows false (texts_named flags o Dead Text (sign_behind sign) number known) (number_if (is_some o) number
+    ++ number_if (is_some o) sign)
 shows-named-head flags None number sign known = record { fine = refl; numbers_are = refl }
-shows-named-head flags (Some parts) number sign known = record { fine = refl; numbers_are = ap (λ ns. number ∷ (ns ++ [])) (struck-parts flags parts _ known) }
+shows-named-head flags (Some parts) number sign known =
+    record { fine = refl; numbers_are = ap (λ ns. number ∷ (ns ++ [])) (struck-parts flags parts _ known) }
 
 -- the two names of a format definition
 starts-split : (words : List Seen) → starts (first_word words) ++ starts (later_words words) ≡ starts words
@@ -173,25 +203,34 @@ words-later : (words : List Seen) → list_all is_word words ≡ true → list_a
 words-later [] h = refl
 words-later (word ∷ words) h = both-right (is_word word) (list_all is_word words) h
 
-shows-head : (flags : Flags) (named : ℕ → Option (List (List Answer))) (h : Head) (known : Known) → AreHeadWords h → Shows false (head_made flags named h known) (shown_head (λ n. is_some (named n)) h)
+shows-head : (flags : Flags) (named : ℕ → Option (List (List Answer))) (h : Head) (known : Known) → AreHeadWords h
+    → Shows false (head_made flags named h known) (shown_head (λ n. is_some (named n)) h)
 unfolding AreHeadWords is_plain
 shows-head flags named Headless known w = record { fine = refl; numbers_are = refl }
 shows-head flags named (Silent words) known w = record { fine = refl; numbers_are = refl }
 shows-head flags named (Macro number words) known w =
     let s = spelled words known.names in
     let d = dollared-plain s.tokens (starts words) (spelled-plain words known.names w) in
-    let p = plain-append (dollared s.tokens) (token.Control control.OptionalBreak ∷ []) (starts words) [] d (record { plain = refl; numbers_are = refl }) in
-    record { fine = refl; numbers_are = append-none _ ∙ ap (λ ns. number ∷ ns) (p.numbers_are ∙ append-none (starts words)) }
+    let p = plain-append (dollared s.tokens) (token.Control control.OptionalBreak ∷ []) (starts words) [] d
+    (record { plain = refl; numbers_are = refl }) in
+    record {
+      fine = refl;
+      numbers_are = append-none _
+          ∙ ap (λ ns. number ∷ ns) (p.numbers_are ∙ append-none (starts words));
+    }
 shows-head flags named (Format number words) known w =
     let s = spelled (first_word words) known.names in
     let t = spelled (later_words words) s.names in
     let a = spelled-plain (first_word words) known.names (words-first words w) in
     let b = spelled-plain (later_words words) s.names (words-later words w) in
-    let p = plain-append s.tokens (token.Control control.OptionalBreak ∷ t.tokens) (starts (first_word words)) (starts (later_words words)) a (record { plain = b.plain; numbers_are = b.numbers_are }) in
+    let p = plain-append s.tokens (token.Control control.OptionalBreak ∷ t.tokens) (starts (first_word words))
+    (starts (later_words words)) a (record { plain = b.plain; numbers_are = b.numbers_are }) in
     record { fine = refl; numbers_are = append-none _ ∙ ap (λ ns. number ∷ ns) (p.numbers_are ∙ starts-split words) }
 shows-head flags named (Named number sign) known w = shows-named-head flags (named number) number sign known
 
-pub translated-shown : (flags : Flags) (named : ℕ → Option (List (List Answer))) (answers : List Answer) (names : List Entry) (marks : List ℕ) → IsNested answers → struck (translated flags named answers names marks).tree ≡ shown (λ n. is_some (named n)) answers
+pub translated-shown : (flags : Flags) (named : ℕ → Option (List (List Answer))) (answers : List Answer)
+    (names : List Entry) (marks : List ℕ) → IsNested answers → struck (translated flags named answers names marks).tree
+    ≡ shown (λ n. is_some (named n)) answers
 unfolding translated
 translated-shown flags named answers names marks nested =
     let h = headed (nest answers) in
@@ -199,7 +238,10 @@ translated-shown flags named answers names marks nested =
     let known = begin names marks in
     let first = head_made flags named h.head known in
     let rest = made flags (leaf_of_name flags named) h.rest first.known in
-    let s = shows-beside false first rest (shown_head (λ n. is_some (named n)) h.head) (shown_in (λ n. is_some (named n)) h.rest)
+    let s = shows-beside false first rest (shown_head (λ n. is_some (named n)) h.head)
+    (shown_in (λ n. is_some (named n)) h.rest)
     (shows-head flags named h.head known w.words)
-    (shows-made flags (λ n. is_some (named n)) (leaf_of_name flags named) (λ number k. shows-name flags (named number) number k) h.rest false first.known w.rest) in
-    struck-end flags (headed_made flags named h known).scraps (headed_made flags named h known).known s.fine ∙ s.numbers_are
+    (shows-made flags (λ n. is_some (named n)) (leaf_of_name flags named)
+    (λ number k. shows-name flags (named number) number k) h.rest false first.known w.rest) in
+    struck-end flags (headed_made flags named h known).scraps (headed_made flags named h known).known s.fine
+    ∙ s.numbers_are

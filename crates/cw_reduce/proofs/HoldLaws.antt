@@ -16,17 +16,24 @@ use Rattle.cw_reduce.specs.Translating.{CommentItem, Piece, InnerText, sign_behi
 use Rattle.cw_reduce.proofs.GatherLaws.{comment-named, comment-agrees}
 
 module _ (count : ℕ) where
-  name-named : (items : List CommentItem) (behind : Tree) → IsNamedBelow count behind → All (IsNamedItem count) items → IsNamedBelow count (name_rest items behind)
+  name-named : (items : List CommentItem) (behind : Tree) → IsNamedBelow count behind → All (IsNamedItem count) items
+      → IsNamedBelow count (name_rest items behind)
   name-named [] behind h all = (tt, h)
-  name-named (Piece number ∷ items) behind h all = name-named items behind h (All-tail (IsNamedItem count) (Piece number) items all)
-  name-named (InnerText tree ∷ items) behind h all = (All-head (IsNamedItem count) (InnerText tree) items all, (tt, name-named items behind h (All-tail (IsNamedItem count) (InnerText tree) items all)))
+  name-named (Piece number ∷ items) behind h all =
+      name-named items behind h (All-tail (IsNamedItem count) (Piece number) items all)
+  name-named (InnerText tree ∷ items) behind h all = (
+    All-head (IsNamedItem count) (InnerText tree) items all,
+    (tt, name-named items behind h (All-tail (IsNamedItem count) (InnerText tree) items all)),
+  )
 
-  pub held-named : (held_by : Holder) (items : List CommentItem) → All (IsNamedItem count) items → IsNamedBelow count (held_tree held_by items)
+  pub held-named : (held_by : Holder) (items : List CommentItem) → All (IsNamedItem count) items
+      → IsNamedBelow count (held_tree held_by items)
   held-named (holder.Comment number) items all = comment-named count number items all
   held-named (holder.Name number) items all = (tt, name-named items Empty tt all)
   held-named (holder.Head number sign) items all = (tt, name-named items (sign_behind sign) (tt, (tt, tt)) all)
 
-name-reads : (items : List CommentItem) (behind : Tree) (mode : MathMode) → reads (name_rest items behind) mode ≡ reads behind mode
+name-reads : (items : List CommentItem) (behind : Tree) (mode : MathMode) → reads (name_rest items behind) mode
+    ≡ reads behind mode
 name-reads [] behind mode = refl
 name-reads (Piece number ∷ items) behind mode = name-reads items behind mode
 name-reads (InnerText tree ∷ items) behind mode = name-reads items behind mode

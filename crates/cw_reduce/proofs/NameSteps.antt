@@ -1,5 +1,6 @@
 -- A section name, its inner texts, and a text with section names, one call after the other.
-use Rattle.std.proofs.Common.{◌≡◌, ℕ, ◌+◌, ◌^◌, ◌<◌, ◌≤◌, Bool, true, false, Option, Some, None, List, [], ◌∷◌, ◌++◌, length, map, get_or, nat_eq, option_map, refl, sym, ap, ◌∙◌, subst, arith}
+use Rattle.std.proofs.Common.{◌≡◌, ℕ, ◌+◌, ◌^◌, ◌<◌, ◌≤◌, Bool, true, false, Option, Some, None, List, [], ◌∷◌, ◌++◌}
+use Rattle.std.proofs.Common.{length, map, get_or, nat_eq, option_map, refl, sym, ap, ◌∙◌, subst, arith}
 use Rattle.std.specs.List.{All, slice_get}
 use Rattle.std.proofs.lemmas.List.{append-nil, append_assoc}
 use Rattle.std.proofs.lemmas.List.Elements.{All-cons, All-head, All-tail}
@@ -32,36 +33,53 @@ use Rattle.cw_reduce.specs.declared.nesting.Open.TheVariants.{CText, Comment}
 use Rattle.cw_reduce.specs.declared.translating.Translator.{Translator}
 use Rattle.cw_reduce.specs.Counting.{limit_in, productions_in, scraps_in}
 use Rattle.cw_reduce.specs.NameParts.{AreNamesOf, name_texts, parts_by_kind, texts_kept, texts_of_name}
-use Rattle.cw_reduce.specs.Naming.{held_answers, is_name_kind, name_answers, text_answers, text_token, texts_answers, token_answers, with_texts}
+use Rattle.cw_reduce.specs.Naming.{held_answers, is_name_kind, name_answers, text_answers, text_token, texts_answers}
+use Rattle.cw_reduce.specs.Naming.{token_answers, with_texts}
 use Rattle.cw_reduce.specs.Opening.{all_roots, answers_in, frames_of, IsSoundFrame, IsTranslating, progress_of, HasCome}
 use Rattle.cw_reduce.specs.Reading.{Progress, after_token, after_begin, after_answers, with_held}
 use Rattle.cw_reduce.specs.Reading.{Comment as CommentFrame}
 use Rattle.cw_reduce.specs.Retyping.{NamesAmong, NamesOnTheWay, later}
 use Rattle.cw_reduce.specs.Translating.{NameTexts}
-use Rattle.cw_reduce.proofs.AnswerSteps.{Reads, reads-start, reads-more, reads-fails, reads-few, begin-steps, begin-come, gives-is, stay-come}
+use Rattle.cw_reduce.proofs.AnswerSteps.{Reads, reads-start, reads-more, reads-fails, reads-few, begin-steps}
+use Rattle.cw_reduce.proofs.AnswerSteps.{begin-come, gives-is, stay-come}
 use Rattle.cw_reduce.proofs.LeafSteps.{Steps, keeps-itself}
 
 -- An inner text has begun.
-module _ (flags : Flags) (old : StoredLists) (names : List Entry) (marks : MarkList) (t t1 : Translator) (steps : ℕ) (text : List Answer)
+module _ (flags : Flags) (old : StoredLists) (names : List Entry) (marks : MarkList) (t t1 : Translator) (steps : ℕ)
+    (text : List Answer)
     (is : IsTranslating old names t) (e : t1 ≡ record t { nesting = CText [] ∷ t.nesting }) where
   pub text-opened : Steps old old names names t t1
   text-opened = begin-steps old names t t1 kind.InnerText 0 is e
 
-  pub text-begins : Reads flags (text_answers text) old names marks t steps (text ++ Finish text_token ∷ []) old names marks t1 steps
-  text-begins = reads-more flags (text_answers text) old names marks t steps (text_answers text) old names marks t steps (reads-start flags (text_answers text) old names marks t steps is)
-      (Begin text_token ∷ []) (text ++ Finish text_token ∷ []) refl old names marks t1 steps text-opened.translating text-opened.keeps (begin-come flags old names marks t t1 text_token steps e) (omega arith)
+  pub text-begins : Reads flags (text_answers text) old names marks t steps (text ++ Finish text_token ∷ []) old names
+      marks t1 steps
+  text-begins = reads-more flags (text_answers text) old names marks t steps (text_answers text) old names marks t steps
+      (reads-start flags (text_answers text) old names marks t steps is)
+      (Begin text_token ∷ []) (text ++ Finish text_token ∷ []) refl old names marks t1 steps text-opened.translating
+      text-opened.keeps (begin-come flags old names marks t t1 text_token steps e) (omega arith)
 
-  pub text-read : (mid : StoredLists) (names1 : List Entry) (marks1 : MarkList) (t2 : Translator) (steps1 : ℕ) → IsTranslating mid names1 t2 → Keeps old.lists mid.lists (all_roots t1.nesting) (all_roots t2.nesting)
-      → HasCome flags t1 steps mid.lists names1 marks1 t2 steps1 (after_answers flags text (progress_of old.lists names marks t1 [])) → steps1 ≤ steps + limit_in flags (after_answers flags text (progress_of old.lists names marks t1 [])).known.ended
+  pub text-read : (mid : StoredLists) (names1 : List Entry) (marks1 : MarkList) (t2 : Translator) (steps1 : ℕ)
+      → IsTranslating mid names1 t2 → Keeps old.lists mid.lists (all_roots t1.nesting) (all_roots t2.nesting)
+      → HasCome flags t1 steps mid.lists names1 marks1 t2 steps1
+      (after_answers flags text (progress_of old.lists names marks t1 []))
+      → steps1 ≤ steps + limit_in flags (after_answers flags text
+      (progress_of old.lists names marks t1 [])).known.ended
       → Reads flags (text_answers text) old names marks t steps (Finish text_token ∷ []) mid names1 marks1 t2 steps1
-  text-read mid names1 marks1 t2 steps1 now keeps come few = reads-more flags (text_answers text) old names marks t steps (text ++ Finish text_token ∷ []) old names marks t1 steps text-begins
+  text-read mid names1 marks1 t2 steps1 now keeps come few = reads-more flags (text_answers text) old names marks t
+      steps (text ++ Finish text_token ∷ []) old names marks t1 steps text-begins
       text (Finish text_token ∷ []) refl mid names1 marks1 t2 steps1 now keeps come few
 
-  pub text-fails : (entries : List Entry) → NamesAmong flags text (progress_of old.lists names marks t1 []) entries → NamesAmong flags (text_answers text) (progress_of old.lists names marks t []) entries
-  text-fails entries h = reads-fails flags (text_answers text) old names marks t steps (text ++ Finish text_token ∷ []) old names marks t1 steps text-begins text (Finish text_token ∷ []) refl entries h
+  pub text-fails : (entries : List Entry) → NamesAmong flags text (progress_of old.lists names marks t1 []) entries
+      → NamesAmong flags (text_answers text) (progress_of old.lists names marks t []) entries
+  text-fails entries h = reads-fails flags (text_answers text) old names marks t steps (text ++ Finish text_token ∷ [])
+      old names marks t1 steps text-begins text (Finish text_token ∷ []) refl entries h
 
-  pub text-few : (steps1 : ℕ) → steps1 ≤ steps + limit_in flags (after_answers flags text (progress_of old.lists names marks t1 [])).known.ended → steps1 ≤ steps + limit_in flags (after_answers flags (text_answers text) (progress_of old.lists names marks t [])).known.ended
-  text-few steps1 few = reads-few flags (text_answers text) old names marks t steps (text ++ Finish text_token ∷ []) old names marks t1 steps text-begins text (Finish text_token ∷ []) refl steps1 few
+  pub text-few : (steps1 : ℕ) → steps1 ≤ steps + limit_in flags
+      (after_answers flags text (progress_of old.lists names marks t1 [])).known.ended
+      → steps1 ≤ steps + limit_in flags (after_answers flags (text_answers text)
+      (progress_of old.lists names marks t [])).known.ended
+  text-few steps1 few = reads-few flags (text_answers text) old names marks t steps (text ++ Finish text_token ∷ []) old
+      names marks t1 steps text-begins text (Finish text_token ∷ []) refl steps1 few
 
 -- The answers of parts, and the next of them.
 abbrev pub part_answers : List ℕ → Span → List Answer
@@ -70,21 +88,26 @@ part_answers text span = until_section (tokens_of text span.start span.end inner
 abbrev pub all_part_answers : List ℕ → List Span → List Answer
 all_part_answers text spans = texts_answers (map (part_answers text) spans)
 
-pub part-next : (text : List ℕ) (from : ℕ) (span : Span) → IsNextPart text from span → all_part_answers text (parts_at text from) ≡ text_answers (part_answers text span) ++ all_part_answers text (parts_at text (span.end + 1))
+pub part-next : (text : List ℕ) (from : ℕ) (span : Span) → IsNextPart text from span
+    → all_part_answers text (parts_at text from) ≡ text_answers (part_answers text span)
+    ++ all_part_answers text (parts_at text (span.end + 1))
 part-next text from span h = ap (all_part_answers text) h.parts
 
 -- What holds inner texts has begun.
-module _ (flags : Flags) (old : StoredLists) (names : List Entry) (marks : MarkList) (t t1 : Translator) (steps : ℕ) (held_by : Holder)
+module _ (flags : Flags) (old : StoredLists) (names : List Entry) (marks : MarkList) (t t1 : Translator) (steps : ℕ)
+    (held_by : Holder)
     (is : IsTranslating old names t) (e : t1 ≡ record t { nesting = Comment held_by [] ∷ t.nesting }) where
   pub held-steps : Steps old old names names t t1
   held-steps = subst (Steps old old names names t) (sym e) (record {
     translating = record {
       idle = is.idle;
       roots = subst (AreRoots old.lists) (sym (append-nil (all_roots t.nesting))) is.roots;
-      sound = All-cons (IsSoundFrame (length names)) (CommentFrame held_by []) (frames_of old.lists t.nesting) (λ i d b. absurd (omega arith)) is.sound;
+      sound = All-cons (IsSoundFrame (length names)) (CommentFrame held_by []) (frames_of old.lists t.nesting)
+          (λ i d b. absurd (omega arith)) is.sound;
       light = is.light;
     };
-    keeps = subst (Keeps old.lists old.lists (all_roots t.nesting)) (sym (append-nil (all_roots t.nesting))) (keeps-itself old.lists (all_roots t.nesting));
+    keeps = subst (Keeps old.lists old.lists (all_roots t.nesting)) (sym (append-nil (all_roots t.nesting)))
+        (keeps-itself old.lists (all_roots t.nesting));
   })
 
   abbrev held_now : Progress
@@ -96,44 +119,71 @@ module _ (flags : Flags) (old : StoredLists) (names : List Entry) (marks : MarkL
   held-roots : all_roots t1.nesting ≡ all_roots t.nesting
   held-roots = ap (λ (x : Translator). all_roots x.nesting) e ∙ append-nil (all_roots t.nesting)
 
-  pub held-keeps : (new : StoredLists) (t2 : Translator) → Keeps old.lists new.lists (all_roots t1.nesting) (all_roots t2.nesting) → Keeps old.lists new.lists (all_roots t.nesting) (all_roots t2.nesting)
+  pub held-keeps : (new : StoredLists) (t2 : Translator)
+      → Keeps old.lists new.lists (all_roots t1.nesting) (all_roots t2.nesting)
+      → Keeps old.lists new.lists (all_roots t.nesting) (all_roots t2.nesting)
   held-keeps new t2 k = subst (λ rs. Keeps old.lists new.lists rs (all_roots t2.nesting)) held-roots k
 
-  pub held-come : (xs : List Answer) (lists : List (List StoredToken)) (names2 : List Entry) (marks2 : MarkList) (t2 : Translator) (steps2 : ℕ)
-      → HasCome flags t1 steps lists names2 marks2 t2 steps2 (after_answers flags xs (progress_of old.lists names marks t1 [])) → HasCome flags t steps lists names2 marks2 t2 steps2 (after_answers flags xs held_now)
+  pub held-come : (xs : List Answer) (lists : List (List StoredToken)) (names2 : List Entry) (marks2 : MarkList)
+      (t2 : Translator) (steps2 : ℕ)
+      → HasCome flags t1 steps lists names2 marks2 t2 steps2
+      (after_answers flags xs (progress_of old.lists names marks t1 []))
+      → HasCome flags t steps lists names2 marks2 t2 steps2 (after_answers flags xs held_now)
   held-come xs lists names2 marks2 t2 steps2 h =
-      let k : HasCome flags t1 steps lists names2 marks2 t2 steps2 (after_answers flags xs held_now) = subst (λ p. HasCome flags t1 steps lists names2 marks2 t2 steps2 (after_answers flags xs p)) held-is h in
+      let k : HasCome flags t1 steps lists names2 marks2 t2 steps2 (after_answers flags xs held_now) =
+      subst (λ p. HasCome flags t1 steps lists names2 marks2 t2 steps2 (after_answers flags xs p)) held-is h in
       record {
         is = k.is;
-        scraps = k.scraps ∙ ap (λ (x : Translator). x.scraps + scraps_in (after_answers flags xs held_now).known.ended) e;
-        productions_are = k.productions_are ∙ ap (λ (x : Translator). x.productions + productions_in flags (after_answers flags xs held_now).known.ended) e;
+        scraps = k.scraps ∙ ap (λ (x : Translator). x.scraps + scraps_in (after_answers flags xs held_now).known.ended)
+            e;
+        productions_are = k.productions_are
+            ∙ ap (λ (x : Translator). x.productions
+            + productions_in flags (after_answers flags xs held_now).known.ended) e;
         steps_are = k.steps_are;
       }
 
-  pub held-fails : (xs : List Answer) (entries : List Entry) → NamesAmong flags xs (progress_of old.lists names marks t1 []) entries → NamesAmong flags xs held_now entries
+  pub held-fails : (xs : List Answer) (entries : List Entry)
+      → NamesAmong flags xs (progress_of old.lists names marks t1 []) entries → NamesAmong flags xs held_now entries
   held-fails xs entries h = subst (λ p. NamesAmong flags xs p entries) held-is h
 
-  pub held-few : (xs : List Answer) (steps2 : ℕ) → steps2 ≤ steps + limit_in flags (after_answers flags xs (progress_of old.lists names marks t1 [])).known.ended → steps2 ≤ steps + limit_in flags (after_answers flags xs held_now).known.ended
+  pub held-few : (xs : List Answer) (steps2 : ℕ) → steps2 ≤ steps
+      + limit_in flags (after_answers flags xs (progress_of old.lists names marks t1 [])).known.ended
+      → steps2 ≤ steps + limit_in flags (after_answers flags xs held_now).known.ended
   held-few xs steps2 h = subst (λ p. steps2 ≤ steps + limit_in flags (after_answers flags xs p).known.ended) held-is h
 
-  pub held-begins : (texts : List (List Answer)) → Reads flags (held_answers texts) old names marks t1 steps (held_answers texts) old names marks t1 steps
+  pub held-begins : (texts : List (List Answer)) → Reads flags (held_answers texts) old names marks t1 steps
+      (held_answers texts) old names marks t1 steps
   held-begins texts = reads-start flags (held_answers texts) old names marks t1 steps held-steps.translating
 
   module _ (texts : List (List Answer)) where
-    pub held-read : (mid : StoredLists) (names1 : List Entry) (marks1 : MarkList) (t2 : Translator) (steps1 : ℕ) → IsTranslating mid names1 t2 → Keeps old.lists mid.lists (all_roots t1.nesting) (all_roots t2.nesting)
-        → HasCome flags t1 steps mid.lists names1 marks1 t2 steps1 (after_answers flags (texts_answers texts) (progress_of old.lists names marks t1 [])) → steps1 ≤ steps + limit_in flags (after_answers flags (texts_answers texts) (progress_of old.lists names marks t1 [])).known.ended
+    pub held-read : (mid : StoredLists) (names1 : List Entry) (marks1 : MarkList) (t2 : Translator) (steps1 : ℕ)
+        → IsTranslating mid names1 t2 → Keeps old.lists mid.lists (all_roots t1.nesting) (all_roots t2.nesting)
+        → HasCome flags t1 steps mid.lists names1 marks1 t2 steps1
+        (after_answers flags (texts_answers texts) (progress_of old.lists names marks t1 []))
+        → steps1 ≤ steps + limit_in flags (after_answers flags (texts_answers texts)
+        (progress_of old.lists names marks t1 [])).known.ended
         → Reads flags (held_answers texts) old names marks t1 steps (Finish text_token ∷ []) mid names1 marks1 t2 steps1
-    held-read mid names1 marks1 t2 steps1 now keeps come few = reads-more flags (held_answers texts) old names marks t1 steps (held_answers texts) old names marks t1 steps (held-begins texts)
+    held-read mid names1 marks1 t2 steps1 now keeps come few = reads-more flags (held_answers texts) old names marks t1
+        steps (held_answers texts) old names marks t1 steps (held-begins texts)
         (texts_answers texts) (Finish text_token ∷ []) refl mid names1 marks1 t2 steps1 now keeps come few
 
-    pub held-read-fails : (entries : List Entry) → NamesAmong flags (texts_answers texts) (progress_of old.lists names marks t1 []) entries → NamesAmong flags (held_answers texts) held_now entries
-    held-read-fails entries h = held-fails (held_answers texts) entries (reads-fails flags (held_answers texts) old names marks t1 steps (held_answers texts) old names marks t1 steps (held-begins texts) (texts_answers texts) (Finish text_token ∷ []) refl entries h)
+    pub held-read-fails : (entries : List Entry) → NamesAmong flags (texts_answers texts)
+        (progress_of old.lists names marks t1 []) entries → NamesAmong flags (held_answers texts) held_now entries
+    held-read-fails entries h = held-fails (held_answers texts) entries
+        (reads-fails flags (held_answers texts) old names marks t1 steps (held_answers texts) old names marks t1 steps
+        (held-begins texts) (texts_answers texts) (Finish text_token ∷ []) refl entries h)
 
-    pub held-read-few : (steps1 : ℕ) → steps1 ≤ steps + limit_in flags (after_answers flags (texts_answers texts) (progress_of old.lists names marks t1 [])).known.ended → steps1 ≤ steps + limit_in flags (after_answers flags (held_answers texts) held_now).known.ended
-    held-read-few steps1 few = held-few (held_answers texts) steps1 (reads-few flags (held_answers texts) old names marks t1 steps (held_answers texts) old names marks t1 steps (held-begins texts) (texts_answers texts) (Finish text_token ∷ []) refl steps1 few)
+    pub held-read-few : (steps1 : ℕ) → steps1 ≤ steps
+        + limit_in flags (after_answers flags (texts_answers texts)
+        (progress_of old.lists names marks t1 [])).known.ended
+        → steps1 ≤ steps + limit_in flags (after_answers flags (held_answers texts) held_now).known.ended
+    held-read-few steps1 few = held-few (held_answers texts) steps1 (reads-few flags (held_answers texts) old names
+        marks t1 steps (held_answers texts) old names marks t1 steps (held-begins texts) (texts_answers texts)
+        (Finish text_token ∷ []) refl steps1 few)
 
 -- A section name by the pair of its place.
-pub name-token : (named : NameTexts) (k : TokKind) (token : Seen) → is_name_kind k ≡ true → token_answers named k token ≡ name_answers (named token.span.start) token
+pub name-token : (named : NameTexts) (k : TokKind) (token : Seen) → is_name_kind k ≡ true → token_answers named k token
+    ≡ name_answers (named token.span.start) token
 name-token named (kind.Code code.SectionName) token h = refl
 name-token named (kind.Code code.FileName) token h = refl
 name-token named k token h = absurd cc
@@ -143,7 +193,8 @@ name-passes (kind.Code code.SectionName) token p h = refl
 name-passes (kind.Code code.FileName) token p h = refl
 name-passes k token p h = absurd cc
 
-name-begins : (k : TokKind) (number : ℕ) (p : Progress) → is_name_kind k ≡ true → after_begin k number p ≡ with_held (holder.Name number) p
+name-begins : (k : TokKind) (number : ℕ) (p : Progress) → is_name_kind k ≡ true → after_begin k number p
+    ≡ with_held (holder.Name number) p
 name-begins (kind.Code c) number p h = refl
 name-begins k number p h = absurd cc
 
@@ -156,30 +207,43 @@ some-at None id h = cc
 some-at (Some k) id h = cc
 
 -- Without a pair it is passed over.
-module _ (kept : List SecName) (uses : List NameUse) (token : Seen) (named : is_name_kind token.kind ≡ true) (found : option_map id_of (name_at token.span.start uses) ≡ None) where
+module _ (kept : List SecName) (uses : List NameUse) (token : Seen) (named : is_name_kind token.kind
+    ≡ true) (found : option_map id_of (name_at token.span.start uses) ≡ None) where
   unpaired : token_answers (name_texts kept uses) token.kind token ≡ Token token ∷ []
-  unpaired = name-token (name_texts kept uses) token.kind token named ∙ ap (λ o. name_answers o token) (ap (texts_kept kept) (none-at (name_at token.span.start uses) found))
+  unpaired = name-token (name_texts kept uses) token.kind token named
+      ∙ ap (λ o. name_answers o token) (ap (texts_kept kept) (none-at (name_at token.span.start uses) found))
 
-  pub unpaired-come : (flags : Flags) (store : StoredLists) (names : List Entry) (marks : MarkList) (t : Translator) (steps : ℕ)
-      → HasCome flags t steps store.lists names marks t steps (after_answers flags (token_answers (name_texts kept uses) token.kind token) (progress_of store.lists names marks t []))
+  pub unpaired-come : (flags : Flags) (store : StoredLists) (names : List Entry) (marks : MarkList) (t : Translator)
+      (steps : ℕ)
+      → HasCome flags t steps store.lists names marks t steps
+      (after_answers flags (token_answers (name_texts kept uses) token.kind token)
+      (progress_of store.lists names marks t []))
   unpaired-come flags store names marks t steps =
       let p : Progress = progress_of store.lists names marks t [] in
-      subst (HasCome flags t steps store.lists names marks t steps) (sym (name-passes token.kind token p named) ∙ ap (λ xs. after_answers flags xs p) (sym unpaired)) (stay-come flags store names marks t steps)
+      subst (HasCome flags t steps store.lists names marks t steps) (sym (name-passes token.kind token p named)
+      ∙ ap (λ xs. after_answers flags xs p) (sym unpaired)) (stay-come flags store names marks t steps)
 
 -- With one it is what is kept of the name.
-texts-shown : (o : Option SecName) (k : SecKind) (text : List ℕ) → option_map (λ (n : SecName). n.kind) o ≡ Some k → option_map (λ (n : SecName). n.text) o ≡ Some text → texts_of_name o ≡ Some (parts_by_kind k text)
+texts-shown : (o : Option SecName) (k : SecKind) (text : List ℕ) → option_map (λ (n : SecName). n.kind) o ≡ Some k
+    → option_map (λ (n : SecName). n.text) o ≡ Some text → texts_of_name o ≡ Some (parts_by_kind k text)
 texts-shown None k text a b = cc
-texts-shown (Some name) k text a b = ap (λ o. elim o [ None ↦ None | Some x ↦ Some (parts_by_kind x name.text) ]) a ∙ ap (λ o. elim o [ None ↦ None | Some x ↦ Some (parts_by_kind k x) ]) b
+texts-shown (Some name) k text a b = ap (λ o. elim o [ None ↦ None | Some x ↦ Some (parts_by_kind x name.text) ]) a
+    ∙ ap (λ o. elim o [ None ↦ None | Some x ↦ Some (parts_by_kind k x) ]) b
 
-pub among-at : (count : ℕ) (uses : List NameUse) (place k : ℕ) → All (λ (u : NameUse). u.name < count) uses → name_at place uses ≡ Some k → k < count
+pub among-at : (count : ℕ) (uses : List NameUse) (place k : ℕ) → All (λ (u : NameUse). u.name < count) uses
+    → name_at place uses ≡ Some k → k < count
 among-at count [] place k all h = absurd cc
-among-at count (u ∷ uses) place k all h = by (nat_eq u.place place) (λ e. among-at count uses place k (All-tail (λ (v : NameUse). v.name < count) u uses all) e) h
+among-at count (u ∷ uses) place k all h = by (nat_eq u.place place)
+    (λ e. among-at count uses place k (All-tail (λ (v : NameUse). v.name < count) u uses all) e) h
   where
-    by : (b : Bool) → (name_at place uses ≡ Some k → k < count) → ◌≡◌ {A = Option ℕ} (elim b [ true ↦ Some u.name | false ↦ name_at place uses ]) (Some k) → k < count
-    by true next e = (let same : u.name ≡ k = cc in subst (λ n. n < count) same (All-head (λ (v : NameUse). v.name < count) u uses all))
+    by : (b : Bool) → (name_at place uses ≡ Some k → k < count)
+        → ◌≡◌ {A = Option ℕ} (elim b [ true ↦ Some u.name | false ↦ name_at place uses ]) (Some k) → k < count
+    by true next e = (let same : u.name ≡ k = cc in
+        subst (λ n. n < count) same (All-head (λ (v : NameUse). v.name < count) u uses all))
     by false next e = next e
 
-module _ (kept : List SecName) (uses : List NameUse) (number : ℕ) (id : SecId) (found : option_map id_of (name_at number uses) ≡ Some id) where
+module _ (kept : List SecName) (uses : List NameUse) (number : ℕ) (id : SecId)
+    (found : option_map id_of (name_at number uses) ≡ Some id) where
   paired : name_at number uses ≡ Some id.index
   paired = some-at (name_at number uses) id found
 
@@ -190,49 +254,77 @@ module _ (kept : List SecName) (uses : List NameUse) (number : ℕ) (id : SecId)
     pub paired-short : AreNamesOf kept uses → length text ≤ 2 ^ 24
     paired-short names = found-short (slice_get kept id.index) refl texts
       where
-        found-short : (o : Option SecName) → slice_get kept id.index ≡ o → option_map (λ (n : SecName). n.text) o ≡ Some text → length text ≤ 2 ^ 24
+        found-short : (o : Option SecName) → slice_get kept id.index ≡ o → option_map (λ (n : SecName). n.text) o
+            ≡ Some text → length text ≤ 2 ^ 24
         found-short None e h = absurd cc
         found-short (Some name) e h =
             let same : name.text ≡ text = cc in
             let at : get_or kept id.index name ≡ name = get_or_from_slice_get kept id.index name name e in
-            subst (λ (x : List ℕ). length x ≤ 2 ^ 24) same (subst (λ (n : SecName). length n.text ≤ 2 ^ 24) at (names.short id.index name (slice_get_within kept id.index name e)))
+            subst (λ (x : List ℕ). length x ≤ 2 ^ 24) same (subst (λ (n : SecName). length n.text ≤ 2 ^ 24) at
+            (names.short id.index name (slice_get_within kept id.index name e)))
 
-    pub texts-paired : (k : SecKind) → shown (λ (n : SecName). n.kind) id.index kept ≡ Some k → name_texts kept uses number ≡ Some (parts_by_kind k text)
+    pub texts-paired : (k : SecKind) → shown (λ (n : SecName). n.kind) id.index kept ≡ Some k
+        → name_texts kept uses number ≡ Some (parts_by_kind k text)
     texts-paired k kinds = ap (texts_kept kept) paired ∙ texts-shown (slice_get kept id.index) k text kinds texts
 
-pub texts-unpaired : (kept : List SecName) (uses : List NameUse) (number : ℕ) → option_map id_of (name_at number uses) ≡ None → name_texts kept uses number ≡ None
+pub texts-unpaired : (kept : List SecName) (uses : List NameUse) (number : ℕ) → option_map id_of (name_at number uses)
+    ≡ None → name_texts kept uses number ≡ None
 texts-unpaired kept uses number found = ap (texts_kept kept) (none-at (name_at number uses) found)
 
-module _ (kept : List SecName) (uses : List NameUse) (token : Seen) (named : is_name_kind token.kind ≡ true) (id : SecId) (found : option_map id_of (name_at token.span.start uses) ≡ Some id) where
-  module _ (k : SecKind) (text : List ℕ) (kinds : shown (λ (n : SecName). n.kind) id.index kept ≡ Some k) (texts : shown (λ (n : SecName). n.text) id.index kept ≡ Some text) where
-    answers-are : token_answers (name_texts kept uses) token.kind token ≡ Begin token ∷ held_answers (parts_by_kind k text)
-    answers-are = name-token (name_texts kept uses) token.kind token named ∙ ap (λ o. name_answers o token) (texts-paired kept uses token.span.start id found text texts k kinds)
+module _ (kept : List SecName) (uses : List NameUse) (token : Seen) (named : is_name_kind token.kind
+    ≡ true) (id : SecId) (found : option_map id_of (name_at token.span.start uses) ≡ Some id) where
+  module _ (k : SecKind) (text : List ℕ) (kinds : shown (λ (n : SecName). n.kind) id.index kept
+      ≡ Some k) (texts : shown (λ (n : SecName). n.text) id.index kept ≡ Some text) where
+    answers-are : token_answers (name_texts kept uses) token.kind token
+        ≡ Begin token ∷ held_answers (parts_by_kind k text)
+    answers-are = name-token (name_texts kept uses) token.kind token named
+        ∙ ap (λ o. name_answers o token) (texts-paired kept uses token.span.start id found text texts k kinds)
 
     abbrev held_texts : List Answer
     held_texts = held_answers (parts_by_kind k text)
 
-    then-held : (flags : Flags) (p : Progress) → after_answers flags held_texts (with_held (holder.Name token.span.start) p) ≡ after_answers flags (token_answers (name_texts kept uses) token.kind token) p
-    then-held flags p = ap (after_answers flags held_texts) (sym (name-begins token.kind token.span.start p named)) ∙ ap (λ xs. after_answers flags xs p) (sym answers-are)
+    then-held : (flags : Flags) (p : Progress) → after_answers flags held_texts
+        (with_held (holder.Name token.span.start) p)
+        ≡ after_answers flags (token_answers (name_texts kept uses) token.kind token) p
+    then-held flags p = ap (after_answers flags held_texts) (sym (name-begins token.kind token.span.start p named))
+        ∙ ap (λ xs. after_answers flags xs p) (sym answers-are)
 
-    pub paired-come : (flags : Flags) (t : Translator) (steps : ℕ) (lists : List (List StoredToken)) (names : List Entry) (marks : MarkList) (t2 : Translator) (steps2 : ℕ) (p : Progress)
-        → HasCome flags t steps lists names marks t2 steps2 (after_answers flags held_texts (with_held (holder.Name token.span.start) p)) → HasCome flags t steps lists names marks t2 steps2 (after_answers flags (token_answers (name_texts kept uses) token.kind token) p)
-    paired-come flags t steps lists names marks t2 steps2 p h = subst (HasCome flags t steps lists names marks t2 steps2) (then-held flags p) h
+    pub paired-come : (flags : Flags) (t : Translator) (steps : ℕ) (lists : List (List StoredToken))
+        (names : List Entry) (marks : MarkList) (t2 : Translator) (steps2 : ℕ) (p : Progress)
+        → HasCome flags t steps lists names marks t2 steps2
+        (after_answers flags held_texts (with_held (holder.Name token.span.start) p))
+        → HasCome flags t steps lists names marks t2 steps2
+        (after_answers flags (token_answers (name_texts kept uses) token.kind token) p)
+    paired-come flags t steps lists names marks t2 steps2 p h =
+        subst (HasCome flags t steps lists names marks t2 steps2) (then-held flags p) h
 
-    pub paired-few : (flags : Flags) (steps steps2 : ℕ) (p : Progress) → steps2 ≤ steps + limit_in flags (after_answers flags held_texts (with_held (holder.Name token.span.start) p)).known.ended
-        → steps2 ≤ steps + limit_in flags (after_answers flags (token_answers (name_texts kept uses) token.kind token) p).known.ended
-    paired-few flags steps steps2 p h = subst (λ (q : Progress). steps2 ≤ steps + limit_in flags q.known.ended) (then-held flags p) h
+    pub paired-few : (flags : Flags) (steps steps2 : ℕ) (p : Progress)
+        → steps2 ≤ steps + limit_in flags (after_answers flags held_texts
+        (with_held (holder.Name token.span.start) p)).known.ended
+        → steps2 ≤ steps + limit_in flags (after_answers flags (token_answers (name_texts kept uses) token.kind token)
+        p).known.ended
+    paired-few flags steps steps2 p h = subst (λ (q : Progress). steps2 ≤ steps + limit_in flags q.known.ended)
+        (then-held flags p) h
 
-    pub paired-fails : (flags : Flags) (p : Progress) (entries : List Entry) → NamesAmong flags held_texts (with_held (holder.Name token.span.start) p) entries → NamesAmong flags (token_answers (name_texts kept uses) token.kind token) p entries
+    pub paired-fails : (flags : Flags) (p : Progress) (entries : List Entry)
+        → NamesAmong flags held_texts (with_held (holder.Name token.span.start) p) entries
+        → NamesAmong flags (token_answers (name_texts kept uses) token.kind token) p entries
     paired-fails flags p entries h = subst (λ xs. NamesAmong flags xs p entries) (sym answers-are)
-        (λ coming. later (Begin token) (held_texts ++ coming) p entries (subst (λ q. NamesOnTheWay flags (held_texts ++ coming) q entries) (sym (name-begins token.kind token.span.start p named)) (h coming)))
+        (λ coming. later (Begin token) (held_texts ++ coming) p entries
+        (subst (λ q. NamesOnTheWay flags (held_texts ++ coming) q entries)
+        (sym (name-begins token.kind token.span.start p named)) (h coming)))
 
-pub with-texts-append : (named : NameTexts) (xs ys : List Answer) → with_texts named (xs ++ ys) ≡ with_texts named xs ++ with_texts named ys
+pub with-texts-append : (named : NameTexts) (xs ys : List Answer) → with_texts named (xs ++ ys)
+    ≡ with_texts named xs ++ with_texts named ys
 with-texts-append named [] ys = refl
 with-texts-append named (Token token ∷ xs) ys =
-    ap (λ zs. token_answers named token.kind token ++ zs) (with-texts-append named xs ys) ∙ sym (append_assoc (token_answers named token.kind token) (with_texts named xs) (with_texts named ys))
+    ap (λ zs. token_answers named token.kind token ++ zs) (with-texts-append named xs ys)
+    ∙ sym (append_assoc (token_answers named token.kind token) (with_texts named xs) (with_texts named ys))
 with-texts-append named (Begin token ∷ xs) ys = ap (λ zs. Begin token ∷ zs) (with-texts-append named xs ys)
 with-texts-append named (Finish token ∷ xs) ys = ap (λ zs. Finish token ∷ zs) (with-texts-append named xs ys)
 with-texts-append named (Note note place ∷ xs) ys = ap (λ zs. Note note place ∷ zs) (with-texts-append named xs ys)
 
-pub with-texts-next : (named : NameTexts) (old new : List Answer) (answer : Lexed) → Gives old answer new → with_texts named old ≡ with_texts named (answers_in answer) ++ with_texts named new
-with-texts-next named old new answer g = ap (with_texts named) (gives-is old new answer g) ∙ with-texts-append named (answers_in answer) new
+pub with-texts-next : (named : NameTexts) (old new : List Answer) (answer : Lexed) → Gives old answer new
+    → with_texts named old ≡ with_texts named (answers_in answer) ++ with_texts named new
+with-texts-next named old new answer g = ap (with_texts named) (gives-is old new answer g)
+    ∙ with-texts-append named (answers_in answer) new

@@ -18,19 +18,23 @@ use Rattle.cw_names.specs.declared.entry.EntryKind.TheVariants.{Ident as ident_k
 use Rattle.cw_names.specs.Names.{Entry, place_of}
 use Rattle.cw_trees.specs.Tree.{Tree, Empty, Then, Sub, Sign}
 use Rattle.cw_trees.specs.declared.Control.TheVariants as control
-use Rattle.cw_trees.specs.Joining.{Scrap, scrap_agrees, Agrees, dollar_before, in_text, blank_and_whole, whole, reads, leads_on}
+use Rattle.cw_trees.specs.Joining.{Scrap, scrap_agrees, Agrees, dollar_before, in_text, blank_and_whole, whole, reads}
+use Rattle.cw_trees.specs.Joining.{leads_on}
 use Rattle.cw_table.specs.Normal.{normal}
 use Rattle.cw_table.specs.Productions.{productions}
 use Rattle.cw_tokens.specs.Shapes.{tree_in}
 use Rattle.cw_scraps.specs.Leaves.{LeafForm, code_form, word_form, token_form, names_with}
 use Rattle.cw_scraps.proofs.LeafForms.{IsGood, token-good}
 use Rattle.cw_reduce.specs.TranslationLaws.{InnersRead, ReadsInText}
-use Rattle.cw_reduce.specs.Translating.{leaf_scrap, CommentItem, Piece, InnerText, comment_rest, comment_scrap, Known, Made, beside, state_in, end_of, form_made, token_made, group_made, made, no_name, plain_text, texts_made, texts_named, leaf_of_name, with_names}
+use Rattle.cw_reduce.specs.Translating.{leaf_scrap, CommentItem, Piece, InnerText, comment_rest, comment_scrap, Known}
+use Rattle.cw_reduce.specs.Translating.{Made, beside, state_in, end_of, form_made, token_made, group_made, made}
+use Rattle.cw_reduce.specs.Translating.{no_name, plain_text, texts_made, texts_named, leaf_of_name, with_names}
 use Rattle.cw_reduce.proofs.GatherLaws.{comment-agrees}
 use Rattle.cw_reduce.proofs.InnersKept.{inners_of, AreRead, normal-read}
 
 -- what no production joins
-toggles : (tree rest : Tree) (left right : MathMode) → Agrees tree left right → reads (dollar_before left (Sub tree (dollar_before right rest))) Text ≡ reads rest Text
+toggles : (tree rest : Tree) (left right : MathMode) → Agrees tree left right
+    → reads (dollar_before left (Sub tree (dollar_before right rest))) Text ≡ reads rest Text
 toggles tree rest Maybe Maybe h = ap (λ o. leads_on o (reads rest)) (h Text)
 toggles tree rest Text Text h = ap (λ o. leads_on o (reads rest)) h
 toggles tree rest Text Math h = ap (λ o. leads_on o (reads (Then (Sign control.Dollar) rest))) h
@@ -43,11 +47,13 @@ toggles tree rest Math Maybe h = absurd h
 
 blank-reads : (scraps : List Scrap) → All scrap_agrees scraps → reads (blank_and_whole scraps) Text ≡ Some Text
 blank-reads [] all = refl
-blank-reads (s ∷ scraps) all = toggles s.tree (blank_and_whole scraps) s.left s.right (All-head scrap_agrees s scraps all) ∙ blank-reads scraps (All-tail scrap_agrees s scraps all)
+blank-reads (s ∷ scraps) all = toggles s.tree (blank_and_whole scraps) s.left s.right
+    (All-head scrap_agrees s scraps all) ∙ blank-reads scraps (All-tail scrap_agrees s scraps all)
 
 whole-reads : (scraps : List Scrap) → All scrap_agrees scraps → reads (whole scraps) Text ≡ Some Text
 whole-reads [] all = refl
-whole-reads (s ∷ scraps) all = toggles s.tree (blank_and_whole scraps) s.left s.right (All-head scrap_agrees s scraps all) ∙ blank-reads scraps (All-tail scrap_agrees s scraps all)
+whole-reads (s ∷ scraps) all = toggles s.tree (blank_and_whole scraps) s.left s.right
+    (All-head scrap_agrees s scraps all) ∙ blank-reads scraps (All-tail scrap_agrees s scraps all)
 
 dollar-inners : (mode : MathMode) (tree : Tree) → InnersRead tree → InnersRead (dollar_before mode tree)
 dollar-inners Math tree h = h
@@ -55,15 +61,18 @@ dollar-inners Text tree h = h
 dollar-inners Maybe tree h = h
 
 in_text-inners : (s : Scrap) (rest : Tree) → InnersRead s.tree → InnersRead rest → InnersRead (in_text s rest)
-in_text-inners s rest h r = dollar-inners s.left (Sub s.tree (dollar_before s.right rest)) (h, dollar-inners s.right rest r)
+in_text-inners s rest h r = dollar-inners s.left (Sub s.tree (dollar_before s.right rest))
+    (h, dollar-inners s.right rest r)
 
 blank-inners : (scraps : List Scrap) → All inners_of scraps → InnersRead (blank_and_whole scraps)
 blank-inners [] all = tt
-blank-inners (s ∷ scraps) all = in_text-inners s (blank_and_whole scraps) (All-head inners_of s scraps all) (blank-inners scraps (All-tail inners_of s scraps all))
+blank-inners (s ∷ scraps) all = in_text-inners s (blank_and_whole scraps) (All-head inners_of s scraps all)
+    (blank-inners scraps (All-tail inners_of s scraps all))
 
 whole-inners : (scraps : List Scrap) → All inners_of scraps → InnersRead (whole scraps)
 whole-inners [] all = tt
-whole-inners (s ∷ scraps) all = in_text-inners s (blank_and_whole scraps) (All-head inners_of s scraps all) (blank-inners scraps (All-tail inners_of s scraps all))
+whole-inners (s ∷ scraps) all = in_text-inners s (blank_and_whole scraps) (All-head inners_of s scraps all)
+    (blank-inners scraps (All-tail inners_of s scraps all))
 
 -- what is made
 abbrev pub ItemReads : CommentItem → Type 0
@@ -81,24 +90,35 @@ pub none-read : AreRead []
 none-read = record { modes = none-all scrap_agrees; inners = none-all inners_of }
 
 pub one-read : (s : Scrap) → scrap_agrees s → InnersRead s.tree → AreRead (s ∷ [])
-one-read s a i = record { modes = All-cons scrap_agrees s [] a (none-all scrap_agrees); inners = All-cons inners_of s [] i (none-all inners_of) }
+one-read s a i = record {
+  modes = All-cons scrap_agrees s [] a (none-all scrap_agrees);
+  inners = All-cons inners_of s []
+      i (none-all inners_of);
+}
 
 pub reads-nothing : (known : Known) → MadeReads (record { scraps = []; items = []; known = known })
 reads-nothing known = record { scraps = none-read; items = none-all ItemReads }
 
-pub reads-scrap : (s : Scrap) (known : Known) → scrap_agrees s → InnersRead s.tree → MadeReads (record { scraps = s ∷ []; items = []; known = known })
+pub reads-scrap : (s : Scrap) (known : Known) → scrap_agrees s → InnersRead s.tree
+    → MadeReads (record { scraps = s ∷ []; items = []; known = known })
 reads-scrap s known a i = record { scraps = one-read s a i; items = none-all ItemReads }
 
 pub reads-beside : (a b : Made) → MadeReads a → MadeReads b → MadeReads (beside a b)
 reads-beside a b f g = record {
-  scraps = record { modes = All-append scrap_agrees a.scraps b.scraps f.scraps.modes g.scraps.modes; inners = All-append inners_of a.scraps b.scraps f.scraps.inners g.scraps.inners };
+  scraps = record {
+    modes = All-append scrap_agrees a.scraps b.scraps f.scraps.modes g.scraps.modes;
+    inners = All-append inners_of a.scraps b.scraps f.scraps.inners g.scraps.inners;
+  };
   items = All-append ItemReads a.items b.items f.items g.items;
 }
 
 pub reads-end : (flags : Flags) (m : Made) → MadeReads m → ReadsInText (end_of flags m).tree
 reads-end flags m f =
     let done = normal-read productions flags (state_in m.scraps m.known) f.scraps in
-    record { whole = whole-reads (normal productions flags (state_in m.scraps m.known)).scraps done.modes; inner = whole-inners (normal productions flags (state_in m.scraps m.known)).scraps done.inners }
+    record {
+      whole = whole-reads (normal productions flags (state_in m.scraps m.known)).scraps done.modes;
+      inner = whole-inners (normal productions flags (state_in m.scraps m.known)).scraps done.inners;
+    }
 
 -- a token
 abbrev FormReads : Option LeafForm → Type 0
@@ -113,25 +133,32 @@ code-inners : (c : Code) (n : ℕ) → FormReads (code_form c n)
 code-inners code.TexBox n = tt
 code-inners _ n = tt
 
-token-inners : (k : TokKind) (text : List ℕ) (hash_line : Bool) (n : ℕ) (names : List Entry) → FormReads (token_form k text hash_line n names)
+token-inners : (k : TokKind) (text : List ℕ) (hash_line : Bool) (n : ℕ) (names : List Entry)
+    → FormReads (token_form k text hash_line n names)
 token-inners kind.Identifier text hash_line n names = word-inners _ _ n
 token-inners (kind.Code c) text hash_line n names = code-inners c n
 token-inners _ text hash_line n names = tt
 
-reads-form : (count : ℕ) (o : Option LeafForm) (known : Known) → IfSome o (IsGood count) → FormReads o → MadeReads (form_made o known)
+reads-form : (count : ℕ) (o : Option LeafForm) (known : Known) → IfSome o (IsGood count) → FormReads o
+    → MadeReads (form_made o known)
 reads-form count None known good inners = reads-nothing known
 reads-form count (Some form) known good inners = reads-scrap (leaf_scrap form) known (good.agrees []) inners
 
 abbrev NamesRead : (ℕ → Known → Made) → Type 0
 NamesRead name = (number : ℕ) (known : Known) → MadeReads (name number known)
 
-reads-token : (name : ℕ → Known → Made) → NamesRead name → (k : TokKind) (token : Seen) (known : Known) → MadeReads (token_made name k token known)
-reads-token name names kind.Text token known = record { scraps = none-read; items = All-cons ItemReads (Piece token.span.start) [] tt (none-all ItemReads) }
+reads-token : (name : ℕ → Known → Made) → NamesRead name → (k : TokKind) (token : Seen) (known : Known)
+    → MadeReads (token_made name k token known)
+reads-token name names kind.Text token known =
+    record { scraps = none-read; items = All-cons ItemReads (Piece token.span.start) [] tt (none-all ItemReads) }
 reads-token name names (kind.Code code.SectionName) token known = names token.span.start known
 reads-token name names (kind.Code code.FileName) token known = names token.span.start known
 reads-token name names k token known =
-    reads-form (place_of ident_kind token.text known.names + 1) (token_form k token.text token.hash_line token.span.start known.names) (with_names (names_with k token.text known.names) known)
-    (token-good (place_of ident_kind token.text known.names + 1) k token.text token.hash_line token.span.start known.names (λ e. omega arith)) (token-inners k token.text token.hash_line token.span.start known.names)
+    reads-form (place_of ident_kind token.text known.names + 1)
+    (token_form k token.text token.hash_line token.span.start known.names)
+    (with_names (names_with k token.text known.names) known)
+    (token-good (place_of ident_kind token.text known.names + 1) k token.text token.hash_line token.span.start
+    known.names (λ e. omega arith)) (token-inners k token.text token.hash_line token.span.start known.names)
 
 -- a comment and an inner text
 rest-inners : (items : List CommentItem) → All ItemReads items → InnersRead (comment_rest items)
@@ -141,49 +168,69 @@ rest-inners (InnerText tree ∷ items) all =
     let f : ReadsInText tree = All-head ItemReads (InnerText tree) items all in
     (f.whole, f.inner, rest-inners items (All-tail ItemReads (InnerText tree) items all))
 
-reads-comment : (number : ℕ) (m : Made) → MadeReads m → MadeReads (record { scraps = comment_scrap number m.items ∷ []; items = []; known = m.known })
-reads-comment number m f = reads-scrap (comment_scrap number m.items) m.known (comment-agrees number m.items) (rest-inners m.items f.items)
+reads-comment : (number : ℕ) (m : Made) → MadeReads m
+    → MadeReads (record { scraps = comment_scrap number m.items ∷ []; items = []; known = m.known })
+reads-comment number m f = reads-scrap (comment_scrap number m.items) m.known (comment-agrees number m.items)
+    (rest-inners m.items f.items)
 
-reads-group : (flags : Flags) (k : TokKind) (token : Seen) (m : Made) → MadeReads m → MadeReads (group_made flags k token m)
-reads-group flags kind.InnerText token m f = record { scraps = none-read; items = All-cons ItemReads (InnerText (end_of flags m).tree) [] (reads-end flags m f) (none-all ItemReads) }
+reads-group : (flags : Flags) (k : TokKind) (token : Seen) (m : Made) → MadeReads m
+    → MadeReads (group_made flags k token m)
+reads-group flags kind.InnerText token m f = record {
+  scraps = none-read;
+  items = All-cons ItemReads
+      (InnerText (end_of flags m).tree) [] (reads-end flags m f) (none-all ItemReads);
+}
 reads-group flags k token m f = reads-comment token.span.start m f
 
-pub reads-made : (flags : Flags) (name : ℕ → Known → Made) → NamesRead name → (n : Nest) (known : Known) → MadeReads (made flags name n known)
+pub reads-made : (flags : Flags) (name : ℕ → Known → Made) → NamesRead name → (n : Nest) (known : Known)
+    → MadeReads (made flags name n known)
 reads-made flags name names End known = reads-nothing known
 reads-made flags name names (Leaf token rest) known =
     let first = token_made name token.kind token known in
-    reads-beside first (made flags name rest first.known) (reads-token name names token.kind token known) (reads-made flags name names rest first.known)
+    reads-beside first (made flags name rest first.known) (reads-token name names token.kind token known)
+    (reads-made flags name names rest first.known)
 reads-made flags name names (Group token inner rest) known =
     let first = group_made flags token.kind token (made flags name inner known) in
-    reads-beside first (made flags name rest first.known) (reads-group flags token.kind token (made flags name inner known) (reads-made flags name names inner known)) (reads-made flags name names rest first.known)
+    reads-beside first (made flags name rest first.known)
+    (reads-group flags token.kind token (made flags name inner known) (reads-made flags name names inner known))
+    (reads-made flags name names rest first.known)
 
 -- section names
-reads-plain : (flags : Flags) (answers : List Answer) (known : Known) → ReadsInText (plain_text flags answers known).tree
-reads-plain flags answers known = reads-end flags (made flags no_name (nest answers) known) (reads-made flags no_name (λ number k. reads-nothing k) (nest answers) known)
+reads-plain : (flags : Flags) (answers : List Answer) (known : Known)
+    → ReadsInText (plain_text flags answers known).tree
+reads-plain flags answers known = reads-end flags (made flags no_name (nest answers) known)
+    (reads-made flags no_name (λ number k. reads-nothing k) (nest answers) known)
 
-texts-read : (flags : Flags) (texts : List (List Answer)) (behind : Tree) (known : Known) (mode : MathMode) → reads (texts_made flags texts behind known).tree mode ≡ reads behind mode
+texts-read : (flags : Flags) (texts : List (List Answer)) (behind : Tree) (known : Known) (mode : MathMode)
+    → reads (texts_made flags texts behind known).tree mode ≡ reads behind mode
 texts-read flags [] behind known mode = refl
-texts-read flags (text ∷ texts) behind known mode = texts-read flags texts behind (plain_text flags text known).known mode
+texts-read flags (text ∷ texts) behind known mode = texts-read flags texts behind (plain_text flags text known).known
+    mode
 
-texts-inners : (flags : Flags) (texts : List (List Answer)) (behind : Tree) (known : Known) → InnersRead behind → InnersRead (texts_made flags texts behind known).tree
+texts-inners : (flags : Flags) (texts : List (List Answer)) (behind : Tree) (known : Known) → InnersRead behind
+    → InnersRead (texts_made flags texts behind known).tree
 texts-inners flags [] behind known h = h
 texts-inners flags (text ∷ texts) behind known h =
     let f = reads-plain flags text known in
     (f.whole, f.inner, texts-inners flags texts behind (plain_text flags text known).known h)
 
-pub reads-name : (flags : Flags) (o : Option (List (List Answer))) (number : ℕ) (known : Known) → MadeReads (texts_named flags o SectionScrap Maybe Empty number known)
+pub reads-name : (flags : Flags) (o : Option (List (List Answer))) (number : ℕ) (known : Known)
+    → MadeReads (texts_named flags o SectionScrap Maybe Empty number known)
 reads-name flags None number known = reads-nothing known
 reads-name flags (Some texts) number known =
     let behind : Tree = Then (Sign control.NameEnd) Empty in
     let text = texts_made flags texts behind known in
-    reads-scrap _ text.known (λ mode. texts-read flags texts behind known mode) (texts-inners flags texts behind known tt)
+    reads-scrap _ text.known (λ mode. texts-read flags texts behind known mode)
+    (texts-inners flags texts behind known tt)
 
 pub reads-leaf : (flags : Flags) (named : ℕ → Option (List (List Answer))) → NamesRead (leaf_of_name flags named)
 reads-leaf flags named number known = reads-name flags (named number) number known
 
 -- the name of a C part, with what stands behind it
-pub reads-headed-name : (flags : Flags) (o : Option (List (List Answer))) (behind : Tree) (number : ℕ) (known : Known) → reads behind Text ≡ Some Text → InnersRead behind → MadeReads (texts_named flags o Dead Text behind number known)
+pub reads-headed-name : (flags : Flags) (o : Option (List (List Answer))) (behind : Tree) (number : ℕ) (known : Known)
+    → reads behind Text ≡ Some Text → InnersRead behind → MadeReads (texts_named flags o Dead Text behind number known)
 reads-headed-name flags None behind number known r i = reads-nothing known
 reads-headed-name flags (Some texts) behind number known r i =
     let whole : Tree = Then (Sign control.NameEnd) behind in
-    reads-scrap _ (texts_made flags texts whole known).known (texts-read flags texts whole known Text ∙ r) (texts-inners flags texts whole known i)
+    reads-scrap _ (texts_made flags texts whole known).known (texts-read flags texts whole known Text
+    ∙ r) (texts-inners flags texts whole known i)

@@ -17,7 +17,8 @@ first_word [] word = word
 first_word (word ∷ words) other = word
 
 -- names are their words with their categories
-pub with-categories-is : (new old : List Entry) → words_of new ≡ words_of old → new ≡ with_categories (categories new) old
+pub with-categories-is : (new old : List Entry) → words_of new ≡ words_of old
+    → new ≡ with_categories (categories new) old
 with-categories-is [] [] e = refl
 with-categories-is [] (o ∷ old) e = absurd (cc e)
 with-categories-is (n ∷ new) [] e = absurd (cc e)
@@ -29,8 +30,18 @@ with-categories-is (n ∷ new) (o ∷ old) e =
     ∙ (ap (λ t. record { kind = o.kind; text = t; category = n.category } ∷ new) second
     ∙ ap (λ ns. record { kind = o.kind; text = o.text; category = n.category } ∷ ns) (with-categories-is new old rest))
 
-pub retypes : (flags : Flags) (old now : State) (names new : List Entry) → IsAfter productions flags old now → now.cats ≡ categories new → words_of new ≡ words_of names → Retypes flags old names new
-retypes flags old now names new after cats words = record { state = now; reached = after; is = with-categories-is new names words ∙ ap (λ cs. with_categories cs names) (sym cats) }
+pub retypes : (flags : Flags) (old now : State) (names new : List Entry) → IsAfter productions flags old now → now.cats
+    ≡ categories new → words_of new ≡ words_of names → Retypes flags old names new
+retypes flags old now names new after cats words =
+    record {
+      state = now;
+      reached = after;
+      is = with-categories-is new names words
+          ∙ ap (λ cs. with_categories cs names) (sym cats);
+    }
 
-pub retyped-names : (flags : Flags) (old now : State) (names new : List Entry) → now ≡ normal productions flags old → now.cats ≡ categories new → words_of new ≡ words_of names → new ≡ with_categories (normal productions flags old).cats names
-retyped-names flags old now names new is cats words = with-categories-is new names words ∙ ap (λ cs. with_categories cs names) (sym cats ∙ ap (λ s. s.cats) is)
+pub retyped-names : (flags : Flags) (old now : State) (names new : List Entry) → now ≡ normal productions flags old
+    → now.cats ≡ categories new → words_of new ≡ words_of names
+    → new ≡ with_categories (normal productions flags old).cats names
+retyped-names flags old now names new is cats words = with-categories-is new names words
+    ∙ ap (λ cs. with_categories cs names) (sym cats ∙ ap (λ s. s.cats) is)

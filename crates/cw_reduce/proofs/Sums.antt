@@ -11,5 +11,7 @@ sum-one f state = sym (zero-add (f state))
 pub sum-more : (f : State → ℕ) (done more : List State) → sum_by f (done ++ more) ≡ sum_by f done + sum_by f more
 sum-more f done more = sum_by-append f done more
 
-pub sum-end : (f : State → ℕ) (ended : List State) (state : State) → sum_by f ended + f state ≡ sum_by f (ended ++ state ∷ [])
-sum-end f ended state = let k : sum_by f (ended ++ state ∷ []) ≡ sum_by f ended + (0 + f state) = sum_by-append f ended (state ∷ []) in omega (arith, k)
+pub sum-end : (f : State → ℕ) (ended : List State) (state : State) → sum_by f ended + f state
+    ≡ sum_by f (ended ++ state ∷ [])
+sum-end f ended state = let k : sum_by f (ended ++ state ∷ []) ≡ sum_by f ended + (0 + f state) =
+    sum_by-append f ended (state ∷ []) in omega (arith, k)

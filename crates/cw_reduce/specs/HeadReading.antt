@@ -42,7 +42,8 @@ head_line head = []
 
 -- what a head makes, where these are the lists of the store
 abbrev pub read_made : Flags → NameTexts → List (List StoredToken) → HeadRead → Known → Made
-read_made flags named lists (read.Named number sign) known = texts_named flags (named number) cat.Dead Text (sign_behind sign) number known
+read_made flags named lists (read.Named number sign) known =
+    texts_named flags (named number) cat.Dead Text (sign_behind sign) number known
 read_made flags named lists head known = record { scraps = scraps_of lists (head_line head); items = []; known = known }
 
 -- the head of a named C part, where there is one

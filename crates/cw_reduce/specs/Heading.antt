@@ -36,7 +36,8 @@ NamesOfHeld flags None held_by p new = ⊥
 NamesOfHeld flags (Some texts) held_by p new = NamesAmong flags (held_answers texts) (with_held held_by p) new
 
 abbrev pub NamesOfHead : Flags → NameTexts → HeadRead → Progress → List Entry → Type 0
-NamesOfHead flags named (read.Named number sign) p new = NamesOfHeld flags (named number) (holder.Head number sign) p new
+NamesOfHead flags named (read.Named number sign) p new = NamesOfHeld flags (named number) (holder.Head number sign) p
+    new
 NamesOfHead flags named head p new = ⊥
 
 -- a text with the scrap of its head begins
@@ -45,14 +46,21 @@ head_begun lists head known = record { frames = CText (scraps_of lists (head_lin
 
 -- The names as a translation leaves them that ends for want of memory behind this head: those in the inner texts of its
 -- name, or those on the way over the answers behind it.
-pub data NamesOfHeaded (flags : Flags) (named : NameTexts) (head : HeadRead) (rest : List Answer) (p : Progress) (new : List Entry) : Type 0 where
+pub data NamesOfHeaded (flags : Flags) (named : NameTexts) (head : HeadRead) (rest : List Answer) (p : Progress)
+    (new : List Entry) : Type 0 where
   in_name : NamesOfHead flags named head p new → NamesOfHeaded flags named head rest p new
-  behind : NamesOnTheWay flags (with_texts named rest) (after_head flags named head p) new → NamesOfHeaded flags named head rest p new
+  behind : NamesOnTheWay flags (with_texts named rest) (after_head flags named head p) new
+      → NamesOfHeaded flags named head rest p new
 
 -- The names as a translation leaves them that ends for want of memory: those behind some words of its head, or those on
 -- the way behind the head, which has made what the definition says.
-pub data NamesOfText (flags : Flags) (named : NameTexts) (answers : List Answer) (names : List Entry) (marks : List ℕ) (new : List Entry) : Type 0 where
-  in_head : NamesWithin (words_in (headed (nest answers)).head) names new → NamesOfText flags named answers names marks new
-  behind_head : (lists : List (List Token)) (head : HeadRead) (rest : List Answer) (spelt : List Entry) → nest rest ≡ (headed (nest answers)).rest
-      → head_made flags named (headed (nest answers)).head (begin names marks) ≡ read_made flags named lists head (begin spelt marks)
-      → NamesOfHeaded flags named head rest (head_begun lists head (begin spelt marks)) new → NamesOfText flags named answers names marks new
+pub data NamesOfText (flags : Flags) (named : NameTexts) (answers : List Answer) (names : List Entry) (marks : List ℕ)
+    (new : List Entry) : Type 0 where
+  in_head : NamesWithin (words_in (headed (nest answers)).head) names new
+      → NamesOfText flags named answers names marks new
+  behind_head : (lists : List (List Token)) (head : HeadRead) (rest : List Answer) (spelt : List Entry) → nest rest
+      ≡ (headed (nest answers)).rest
+      → head_made flags named (headed (nest answers)).head (begin names marks)
+      ≡ read_made flags named lists head (begin spelt marks)
+      → NamesOfHeaded flags named head rest (head_begun lists head (begin spelt marks)) new
+      → NamesOfText flags named answers names marks new

@@ -48,7 +48,12 @@ held_mode (holder.Head number sign) = Text
 
 abbrev pub held_scrap : Holder → List CommentItem → Scrap
 held_scrap held_by items =
-    record { cat = held_cat held_by; tree = held_tree held_by items; left = held_mode held_by; right = held_mode held_by }
+    record {
+      cat = held_cat held_by;
+      tree = held_tree held_by items;
+      left = held_mode held_by;
+      right = held_mode held_by;
+    }
 
 -- the same with a list
 abbrev pub held_leaf : Holder → ListId → Leaf

@@ -116,23 +116,27 @@ progress_of lists names marks t ended = record {
 
 -- A translation has come from where it stood to `p`: this is open and known now, and the texts that ended since were
 -- counted.
-pub record HasCome (flags : Flags) (t : Translator) (steps : ℕ) (lists : List (List StoredToken)) (names : List Entry) (marks : MarkList) (t' : Translator) (steps' : ℕ) (p : Progress) : Type 0 where
+pub record HasCome (flags : Flags) (t : Translator) (steps : ℕ) (lists : List (List StoredToken)) (names : List Entry)
+    (marks : MarkList) (t' : Translator) (steps' : ℕ) (p : Progress) : Type 0 where
   pub is : progress_of lists names marks t' p.known.ended ≡ p
   pub scraps : t'.scraps ≡ t.scraps + scraps_in p.known.ended
   pub productions_are : t'.productions ≡ t.productions + productions_in flags p.known.ended
   pub steps_are : steps' ≡ steps + ticks_in flags p.known.ended
 
 -- A translation has ended that stood at `p`: the text that was open was reduced, put together and counted.
-pub record HasEnded (flags : Flags) (t : Translator) (steps : ℕ) (lists : List (List StoredToken)) (names : List Entry) (marks : MarkList) (done : Translated) (steps' : ℕ) (p : Progress) : Type 0 where
+pub record HasEnded (flags : Flags) (t : Translator) (steps : ℕ) (lists : List (List StoredToken)) (names : List Entry)
+    (marks : MarkList) (done : Translated) (steps' : ℕ) (p : Progress) : Type 0 where
   pub tree : unfolded lists done.list.index ≡ (all_ended flags p).tree
   pub names_are : names ≡ (all_ended flags p).known.names
   pub marks_are : marked_names marks ≡ (all_ended flags p).known.marks
   pub scraps : done.scraps ≡ t.scraps + length (last_scraps p.frames)
-  pub productions_are : done.productions ≡ t.productions + count productions flags (state_in (last_scraps p.frames) p.known)
+  pub productions_are : done.productions ≡ t.productions
+      + count productions flags (state_in (last_scraps p.frames) p.known)
   pub steps_are : steps' ≡ steps + ticks productions flags (state_in (last_scraps p.frames) p.known)
 
 -- A translation has ended with this text: what it answers is what the text counts.
-pub record IsTranslated (flags : Flags) (lists : List (List StoredToken)) (names : List Entry) (marks : MarkList) (done : Translated) (steps steps' : ℕ) (text : Ended) : Type 0 where
+pub record IsTranslated (flags : Flags) (lists : List (List StoredToken)) (names : List Entry) (marks : MarkList)
+    (done : Translated) (steps steps' : ℕ) (text : Ended) : Type 0 where
   pub tree : unfolded lists done.list.index ≡ text.tree
   pub names_are : names ≡ text.known.names
   pub marks_are : marked_names marks ≡ text.known.marks

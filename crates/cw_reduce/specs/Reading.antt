@@ -10,7 +10,8 @@ use Rattle.cw_scraps.specs.Leaves.{LeafForm, token_form, names_with}
 use Rattle.cw_reduce.specs.declared.holders.Holder.{Holder}
 use Rattle.cw_reduce.specs.declared.holders.Holder.TheVariants as holder
 use Rattle.cw_reduce.specs.Holders.{held_scrap}
-use Rattle.cw_reduce.specs.Translating.{leaf_scrap, CommentItem, Piece, InnerText, Known, Made, begin, with_names, Ended, state_in, end_from}
+use Rattle.cw_reduce.specs.Translating.{leaf_scrap, CommentItem, Piece, InnerText, Known, Made, begin, with_names}
+use Rattle.cw_reduce.specs.Translating.{Ended, state_in, end_from}
 
 -- What is open: C text with its scraps so far, and a comment or a section name, which holds the items so far.
 pub data Frame : Type 0 where

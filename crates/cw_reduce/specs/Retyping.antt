@@ -24,9 +24,13 @@ RetypesIn flags scraps known new = Retypes flags (state_in scraps known) known.n
 -- those after some productions in a text that ends there. In a text that is still open no production is done.
 pub data NamesOnTheWay (flags : Flags) : List Answer → Progress → List Entry → Type 0 where
   here : (answers : List Answer) (p : Progress) → NamesOnTheWay flags answers p p.known.names
-  at_finish : (token : Seen) (answers : List Answer) (p : Progress) (scraps : List Scrap) (outer : List Frame) (new : List Entry) → p.frames ≡ CText scraps ∷ outer → RetypesIn flags scraps p.known new → NamesOnTheWay flags (Finish token ∷ answers) p new
-  at_end : (p : Progress) (new : List Entry) → RetypesIn flags (last_scraps p.frames) p.known new → NamesOnTheWay flags [] p new
-  later : (answer : Answer) (answers : List Answer) (p : Progress) (new : List Entry) → NamesOnTheWay flags answers (after_answer flags answer p) new → NamesOnTheWay flags (answer ∷ answers) p new
+  at_finish : (token : Seen) (answers : List Answer) (p : Progress) (scraps : List Scrap) (outer : List Frame)
+      (new : List Entry) → p.frames ≡ CText scraps ∷ outer → RetypesIn flags scraps p.known new
+      → NamesOnTheWay flags (Finish token ∷ answers) p new
+  at_end : (p : Progress) (new : List Entry) → RetypesIn flags (last_scraps p.frames) p.known new
+      → NamesOnTheWay flags [] p new
+  later : (answer : Answer) (answers : List Answer) (p : Progress) (new : List Entry)
+      → NamesOnTheWay flags answers (after_answer flags answer p) new → NamesOnTheWay flags (answer ∷ answers) p new
 
 -- the same for one that goes over these answers and others
 abbrev pub NamesAmong : Flags → List Answer → Progress → List Entry → Type 0

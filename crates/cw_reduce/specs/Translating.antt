@@ -78,7 +78,11 @@ one_item item known = record { scraps = []; items = item ∷ []; known = known }
 
 -- one after the other, where the first is known to the second
 abbrev pub beside : Made → Made → Made
-beside first second = record { scraps = first.scraps ++ second.scraps; items = first.items ++ second.items; known = second.known }
+beside first second = record {
+  scraps = first.scraps ++ second.scraps;
+  items = first.items ++ second.items;
+  known = second.known;
+}
 
 abbrev pub before : Made → (Known → Made) → Made
 before first rest = beside first (rest first.known)
@@ -102,7 +106,12 @@ state_in scraps known = record { scraps = scraps; marks = known.marks; cats = ca
 abbrev pub ended_as : State → State → Known → Ended
 ended_as begun done known = record {
   tree = whole done.scraps;
-  known = record { names = with_categories done.cats known.names; marks = done.marks; ended = known.ended ++ begun ∷ [] };
+  known = record {
+    names = with_categories done.cats known.names;
+    marks = done.marks;
+    ended = known.ended ++ begun
+        ∷ [];
+  };
 }
 
 abbrev pub end_from : Flags → State → Known → Ended
@@ -123,7 +132,8 @@ token_made name kind.Text token known = one_item (Piece token.span.start) known
 token_made name (kind.Code code.SectionName) token known = name token.span.start known
 token_made name (kind.Code code.FileName) token known = name token.span.start known
 token_made name k token known =
-    form_made (token_form k token.text token.hash_line token.span.start known.names) (with_names (names_with k token.text known.names) known)
+    form_made (token_form k token.text token.hash_line token.span.start known.names)
+    (with_names (names_with k token.text known.names) known)
 
 -- what begins and ends: an inner text of a comment, and a comment
 abbrev pub as_item : Ended → Made
@@ -199,7 +209,8 @@ word_tokens word names = form_tokens (token_form word.kind word.text word.hash_l
 
 abbrev pub spelled : List Seen → List Entry → Spelled
 spelled [] names = record { tokens = []; names = names }
-spelled (word ∷ words) names = spelled_behind (word_tokens word names) (spelled words (names_with word.kind word.text names))
+spelled (word ∷ words) names = spelled_behind (word_tokens word names)
+    (spelled words (names_with word.kind word.text names))
 
 -- the first of two names, and the second
 abbrev pub first_word : List Seen → List Seen
@@ -224,11 +235,13 @@ dollared (first ∷ tokens) = token.Control control.Dollar ∷ first ∷ tokens 
 
 abbrev pub macro_made : ℕ → Spelled → Known → Made
 macro_made number words known =
-    one_scrap (leaf_scrap (dead number (dollared words.tokens ++ token.Control control.OptionalBreak ∷ []))) (with_names words.names known)
+    one_scrap (leaf_scrap (dead number (dollared words.tokens ++ token.Control control.OptionalBreak ∷ [])))
+    (with_names words.names known)
 
 abbrev pub format_made : ℕ → Spelled → Spelled → Known → Made
 format_made number first second known =
-    one_scrap (leaf_scrap (dead number (first.tokens ++ token.Control control.OptionalBreak ∷ second.tokens))) (with_names second.names known)
+    one_scrap (leaf_scrap (dead number (first.tokens ++ token.Control control.OptionalBreak ∷ second.tokens)))
+    (with_names second.names known)
 
 abbrev pub format_from : ℕ → Spelled → List Seen → Known → Made
 format_from number first second known = format_made number first (spelled second first.names) known
@@ -240,15 +253,19 @@ sign_behind number = Then (Source number Text) (Then (Sign control.Break) Empty)
 abbrev pub head_made : Flags → NameTexts → Head → Known → Made
 head_made flags named Headless known = nothing known
 head_made flags named (Macro number words) known = macro_made number (spelled words known.names) known
-head_made flags named (Format number words) known = format_from number (spelled (first_word words) known.names) (later_words words) known
+head_made flags named (Format number words) known = format_from number (spelled (first_word words) known.names)
+    (later_words words) known
 head_made flags named (Silent words) known = nothing (with_names (spelled words known.names).names known)
-head_made flags named (Named number sign) known = texts_named flags (named number) cat.Dead Text (sign_behind sign) number known
+head_made flags named (Named number sign) known = texts_named flags (named number) cat.Dead Text (sign_behind sign)
+    number known
 
 -- ## The translation
 
 abbrev pub headed_made : Flags → NameTexts → Headed → Known → Made
-headed_made flags named h known = before (head_made flags named h.head known) (made flags (leaf_of_name flags named) h.rest)
+headed_made flags named h known = before (head_made flags named h.head known)
+    (made flags (leaf_of_name flags named) h.rest)
 
 -- The translation of a text of which these are the scanner's answers.
 unfoldable pub translated : Flags → NameTexts → List Answer → List Entry → List ℕ → Ended
-translated flags named answers names marks = end_of flags (headed_made flags named (headed (nest answers)) (begin names marks))
+translated flags named answers names marks = end_of flags (headed_made flags named (headed (nest answers))
+    (begin names marks))

@@ -14,7 +14,9 @@ use Rattle.cw_reduce.specs.Visible.{shown}
 
 -- Each token of a text that is shown stands in the tree of its translation once and in order, and no other does.
 abbrev pub ShowsEachToken : Type 0
-ShowsEachToken = (flags : Flags) (named : NameTexts) (answers : List Answer) (names : List Entry) (marks : List ℕ) → IsNested answers → struck (translated flags named answers names marks).tree ≡ shown (λ number. is_some (named number)) answers
+ShowsEachToken = (flags : Flags) (named : NameTexts) (answers : List Answer) (names : List Entry) (marks : List ℕ)
+    → IsNested answers → struck (translated flags named answers names marks).tree
+    ≡ shown (λ number. is_some (named number)) answers
 
 -- Read from text, each inner text in a tree ends in text.
 abbrev pub InnersRead : Tree → Type 0
@@ -29,8 +31,11 @@ pub record ReadsInText (tree : Tree) : Type 0 where
   pub inner : InnersRead tree
 
 abbrev pub StandsInText : Type 0
-StandsInText = (flags : Flags) (named : NameTexts) (answers : List Answer) (names : List Entry) (marks : List ℕ) → ReadsInText (translated flags named answers names marks).tree
+StandsInText = (flags : Flags) (named : NameTexts) (answers : List Answer) (names : List Entry) (marks : List ℕ)
+    → ReadsInText (translated flags named answers names marks).tree
 
 -- The steps of a translation are at most the limit of its texts.
 abbrev pub StaysWithinLimit : Type 0
-StaysWithinLimit = (flags : Flags) (named : NameTexts) (answers : List Answer) (names : List Entry) (marks : List ℕ) → ticks_in flags (translated flags named answers names marks).known.ended ≤ limit_in flags (translated flags named answers names marks).known.ended
+StaysWithinLimit = (flags : Flags) (named : NameTexts) (answers : List Answer) (names : List Entry) (marks : List ℕ)
+    → ticks_in flags (translated flags named answers names marks).known.ended
+    ≤ limit_in flags (translated flags named answers names marks).known.ended

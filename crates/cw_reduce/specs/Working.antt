@@ -26,4 +26,5 @@ progress_over work t = progress_of work.store.now.lists work.names.now work.mark
 
 -- a translation that works on this has come from where it stood to `p`
 abbrev pub HasComeOver : {L : Type 0} → Flags → Translator → Work L → Translator → Work L → Progress → Type 0
-HasComeOver flags t old t' new p = HasCome flags t old.steps.now new.store.now.lists new.names.now new.marks.now t' new.steps.now p
+HasComeOver flags t old t' new p = HasCome flags t old.steps.now new.store.now.lists new.names.now new.marks.now t'
+    new.steps.now p

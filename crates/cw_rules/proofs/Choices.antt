@@ -4,7 +4,8 @@ use Rattle.std.specs.Prelude.{if◌then◌else◌}
 use Rattle.std.proofs.lemmas.Bool.{eqb-true}
 
 -- a test decides between two values, of both of which something holds
-pub if-both : {A : Type 0} (P : A → Type 0) (b : Bool) (x y : A) → (b ≡ true → P x) → (b ≡ false → P y) → P (if b then x else y)
+pub if-both : {A : Type 0} (P : A → Type 0) (b : Bool) (x y : A) → (b ≡ true → P x) → (b ≡ false → P y)
+    → P (if b then x else y)
 if-both P true x y f g = f refl
 if-both P false x y f g = g refl
 
@@ -25,7 +26,8 @@ or-second true b h = absurd cc
 or-second false b h = h
 
 -- two tests that answer the same, and what each answer chooses
-pub if-same : {A : Type 0} (t u : Bool) (a b c d : A) → t ≡ u → (u ≡ true → a ≡ b) → (u ≡ false → c ≡ d) → (if t then a else c) ≡ (if u then b else d)
+pub if-same : {A : Type 0} (t u : Bool) (a b c d : A) → t ≡ u → (u ≡ true → a ≡ b) → (u ≡ false → c ≡ d)
+    → (if t then a else c) ≡ (if u then b else d)
 if-same t true a b c d e f g = ap (λ t. if t then a else c) e ∙ f refl
 if-same t false a b c d e f g = ap (λ t. if t then a else c) e ∙ g refl
 

@@ -1,4 +1,5 @@
--- At the code of a definition, and at the code or the name of a C part, what begins is the same as where the part begins.
+-- At the code of a definition, and at the code or the name of a C part, what begins is the same as where the part
+-- begins.
 use Rattle.std.proofs.Common.{◌≡◌, ℕ, Bool, true, false, ◌&&◌, not, ◌==◌, List, [], ◌∷◌, refl, sym, ap, subst, ◌∙◌}
 use Rattle.std.specs.Prelude.{if◌then◌else◌}
 use Rattle.cw_base.specs.declared.notes.NoteKind.TheVariants as notes
@@ -11,7 +12,9 @@ use Rattle.cw_rules.specs.declared.parts.Opened.{Opened}
 use Rattle.cw_rules.specs.Answers.{Answer, Token, Note, Seen, Where, Cut, Found, before}
 use Rattle.cw_rules.specs.Bytes.{newline, star, slash, begins}
 use Rattle.cw_rules.specs.Codes.{code_at, is_section, effect_in_tex, effect_in_c, effect_in_definition, effect_at_begin}
-use Rattle.cw_rules.specs.Tokens.{one, moved, passed, in_hash_line, effect_in, is_head, is_name, is_space, code_by, code_token, code_text, comment_text, comment_end, comment_closed, line_end, piece, tex_by, part_text, in_text, section, found}
+use Rattle.cw_rules.specs.Tokens.{one, moved, passed, in_hash_line, effect_in, is_head, is_name, is_space, code_by}
+use Rattle.cw_rules.specs.Tokens.{code_token, code_text, comment_text, comment_end, comment_closed, line_end, piece}
+use Rattle.cw_rules.specs.Tokens.{tex_by, part_text, in_text, section, found}
 use Rattle.cw_rules.proofs.Choices.{if-both, and-none}
 use Rattle.cw_rules.proofs.CodeStarts.{is_definition_code, code_in, is_limbo, is_head_where}
 use Rattle.cw_rules.proofs.Taking.{AreNotes}
@@ -54,9 +57,11 @@ note-twin n f g t = record {
 no-space : (part : Part) (bytes : List ℕ) → is_space part 64 bytes ≡ false
 no-space part bytes = and-none (in_hash_line part)
 
-pub at-code : (w : Where) (fresh : Bool) (last place : ℕ) (bytes : List ℕ) → code_text w fresh last place 64 bytes ≡ code_by (effect_in w.part w.comments (code_at bytes)) (code_at bytes) w place (64 ∷ bytes)
+pub at-code : (w : Where) (fresh : Bool) (last place : ℕ) (bytes : List ℕ) → code_text w fresh last place 64 bytes
+    ≡ code_by (effect_in w.part w.comments (code_at bytes)) (code_at bytes) w place (64 ∷ bytes)
 at-code w fresh last place bytes =
-    ap (λ t. if t then record { answers = []; more = 0; next = w } else code_by (effect_in w.part w.comments (code_at bytes)) (code_at bytes) w place (64 ∷ bytes)) (no-space w.part bytes)
+    ap (λ t. if t then record { answers = []; more = 0; next = w } else code_by
+    (effect_in w.part w.comments (code_at bytes)) (code_at bytes) w place (64 ∷ bytes)) (no-space w.part bytes)
 
 -- what begins at a code that is no section code
 abbrev at_definition : Code → ℕ → List ℕ → Found
@@ -65,7 +70,8 @@ at_definition c place bytes = code_by (effect_in_definition c) c definition plac
 abbrev at_program : Code → ℕ → List ℕ → Found
 at_program c place bytes = code_by (effect_at_begin c) c program place bytes
 
--- The codes that begin a part there: those of definitions, those of C parts, and a name behind which the sign is wanted.
+-- The codes that begin a part there: those of definitions, those of C parts, and a name behind which the sign is
+-- wanted.
 abbrev Defines : Found → Type 0
 Defines f = is_definition_code (code_in f.answers) ≡ true
 
@@ -74,13 +80,15 @@ Programs f = is_program_code (code_in f.answers) ≡ true
 
 -- ## Definitions
 
-no-definition : (c : Code) (w : Where) (place : ℕ) (bytes : List ℕ) → is_definition_code (code_in (code_by (effect_in_c c) c w place bytes).answers) ≡ false
+no-definition : (c : Code) (w : Where) (place : ℕ) (bytes : List ℕ)
+    → is_definition_code (code_in (code_by (effect_in_c c) c w place bytes).answers) ≡ false
 no-definition at.Define w place bytes = refl
 no-definition at.Format w place bytes = refl
 no-definition at.SilentFormat w place bytes = refl
 no-definition _ w place bytes = refl
 
-no-definition-first : (c : Code) (w : Where) (place : ℕ) (bytes : List ℕ) → is_definition_code (code_in (code_by (effect_at_begin c) c w place bytes).answers) ≡ false
+no-definition-first : (c : Code) (w : Where) (place : ℕ) (bytes : List ℕ)
+    → is_definition_code (code_in (code_by (effect_at_begin c) c w place bytes).answers) ≡ false
 no-definition-first at.Define w place bytes = refl
 no-definition-first _ w place bytes = refl
 
@@ -88,19 +96,40 @@ wrong : {A : Type 0} (b : Bool) → b ≡ true → b ≡ false → A
 wrong true h k = absurd cc
 wrong false h k = absurd cc
 
-definition-twin : (c : Code) (place : ℕ) (bytes : List ℕ) (f : Found) → f ≡ at_definition c place bytes → is_definition_code c ≡ true → Twin f (at_definition c place bytes)
-definition-twin at.Define place bytes f e h = record { notes = []; only = tt; same = e; token = _; behind = _; first = refl }
-definition-twin at.Format place bytes f e h = record { notes = []; only = tt; same = e; token = _; behind = _; first = refl }
-definition-twin at.SilentFormat place bytes f e h = record { notes = []; only = tt; same = e; token = _; behind = _; first = refl }
+definition-twin : (c : Code) (place : ℕ) (bytes : List ℕ) (f : Found) → f ≡ at_definition c place bytes
+    → is_definition_code c ≡ true → Twin f (at_definition c place bytes)
+definition-twin at.Define place bytes f e h = record {
+  notes = [];
+  only = tt;
+  same = e;
+  token = _;
+  behind = _;
+  first = refl;
+}
+definition-twin at.Format place bytes f e h = record {
+  notes = [];
+  only = tt;
+  same = e;
+  token = _;
+  behind = _;
+  first = refl;
+}
+definition-twin at.SilentFormat place bytes f e h =
+    record { notes = []; only = tt; same = e; token = _; behind = _; first = refl }
 definition-twin _ place bytes f e h = absurd cc
 
 code-definition : (part : Part) (cs : List Opened) (c : Code) (place : ℕ) (bytes : List ℕ) → is_definition_code c ≡ true
-    → Defines (code_by (effect_in part cs c) c (record { part = part; comments = cs }) place bytes) → Twin (code_by (effect_in part cs c) c (record { part = part; comments = cs }) place bytes) (at_definition c place bytes)
+    → Defines (code_by (effect_in part cs c) c (record { part = part; comments = cs }) place bytes)
+    → Twin (code_by (effect_in part cs c) c (record { part = part; comments = cs }) place bytes)
+    (at_definition c place bytes)
 code-definition parts.Definition [] c place bytes d h = definition-twin c place bytes _ refl d
-code-definition parts.Begin [] c place bytes d h = wrong _ h (no-definition-first c (record { part = parts.Begin; comments = [] }) place bytes)
-code-definition part cs c place bytes d h = wrong _ h (no-definition c (record { part = part; comments = cs }) place bytes)
+code-definition parts.Begin [] c place bytes d h =
+    wrong _ h (no-definition-first c (record { part = parts.Begin; comments = [] }) place bytes)
+code-definition part cs c place bytes d h = wrong _ h (no-definition c (record { part = part; comments = cs }) place
+    bytes)
 
-tex-definition : (c : Code) (place : ℕ) (bytes : List ℕ) → is_definition_code c ≡ true → Twin (tex_by (effect_in_tex c) c tex place bytes) (at_definition c place bytes)
+tex-definition : (c : Code) (place : ℕ) (bytes : List ℕ) → is_definition_code c ≡ true
+    → Twin (tex_by (effect_in_tex c) c tex place bytes) (at_definition c place bytes)
 tex-definition at.Define place bytes d = definition-twin at.Define place bytes _ refl d
 tex-definition at.Format place bytes d = definition-twin at.Format place bytes _ refl d
 tex-definition at.SilentFormat place bytes d = definition-twin at.SilentFormat place bytes _ refl d
@@ -108,25 +137,39 @@ tex-definition _ place bytes d = absurd cc
 
 -- ## C parts
 
-no-program : (c : Code) (w : Where) (place : ℕ) (bytes : List ℕ) → is_program_code (code_in (code_by (effect_in_c c) c w place bytes).answers) ≡ false
+no-program : (c : Code) (w : Where) (place : ℕ) (bytes : List ℕ)
+    → is_program_code (code_in (code_by (effect_in_c c) c w place bytes).answers) ≡ false
 no-program at.Program w place bytes = refl
 no-program _ w place bytes = refl
 
-program-twin : (c : Code) (place : ℕ) (bytes : List ℕ) (f : Found) → f ≡ at_program c place bytes → is_program_code c ≡ true → Twin f (at_program c place bytes)
-program-twin at.Program place bytes f e h = record { notes = []; only = tt; same = e; token = _; behind = _; first = refl }
+program-twin : (c : Code) (place : ℕ) (bytes : List ℕ) (f : Found) → f ≡ at_program c place bytes → is_program_code c
+    ≡ true → Twin f (at_program c place bytes)
+program-twin at.Program place bytes f e h = record {
+  notes = [];
+  only = tt;
+  same = e;
+  token = _;
+  behind = _;
+  first = refl;
+}
 program-twin _ place bytes f e h = absurd cc
 
-program-in-definition : (c : Code) (place : ℕ) (bytes : List ℕ) → is_program_code c ≡ true → at_definition c place bytes ≡ at_program c place bytes
+program-in-definition : (c : Code) (place : ℕ) (bytes : List ℕ) → is_program_code c ≡ true → at_definition c place bytes
+    ≡ at_program c place bytes
 program-in-definition at.Program place bytes h = refl
 program-in-definition _ place bytes h = absurd cc
 
 code-program : (part : Part) (cs : List Opened) (c : Code) (place : ℕ) (bytes : List ℕ) → is_program_code c ≡ true
-    → Programs (code_by (effect_in part cs c) c (record { part = part; comments = cs }) place bytes) → Twin (code_by (effect_in part cs c) c (record { part = part; comments = cs }) place bytes) (at_program c place bytes)
-code-program parts.Definition [] c place bytes d h = program-twin c place bytes _ (program-in-definition c place bytes d) d
+    → Programs (code_by (effect_in part cs c) c (record { part = part; comments = cs }) place bytes)
+    → Twin (code_by (effect_in part cs c) c (record { part = part; comments = cs }) place bytes)
+    (at_program c place bytes)
+code-program parts.Definition [] c place bytes d h =
+    program-twin c place bytes _ (program-in-definition c place bytes d) d
 code-program parts.Begin [] c place bytes d h = program-twin c place bytes _ refl d
 code-program part cs c place bytes d h = wrong _ h (no-program c (record { part = part; comments = cs }) place bytes)
 
-tex-program : (c : Code) (place : ℕ) (bytes : List ℕ) → is_program_code c ≡ true → Twin (tex_by (effect_in_tex c) c tex place bytes) (at_program c place bytes)
+tex-program : (c : Code) (place : ℕ) (bytes : List ℕ) → is_program_code c ≡ true
+    → Twin (tex_by (effect_in_tex c) c tex place bytes) (at_program c place bytes)
 tex-program at.Program place bytes d = program-twin at.Program place bytes _ refl d
 tex-program _ place bytes d = absurd cc
 
@@ -136,12 +179,21 @@ abbrev head : Where
 head = record { part = parts.Head; comments = [] }
 
 -- a name behind which the sign of a head is wanted
-headed-twin : (t : Bool) (other w : Where) (place : ℕ) (bytes : List ℕ) (cut : Cut) → is_head_where other ≡ false → is_head_where (if t then head else other) ≡ true
+headed-twin : (t : Bool) (other w : Where) (place : ℕ) (bytes : List ℕ) (cut : Cut) → is_head_where other ≡ false
+    → is_head_where (if t then head else other) ≡ true
     → Twin (one false (if t then head else other) place bytes cut) (one false (if t then head else w) place bytes cut)
-headed-twin true other w place bytes cut o h = record { notes = []; only = tt; same = refl; token = _; behind = _; first = refl }
+headed-twin true other w place bytes cut o h = record {
+  notes = [];
+  only = tt;
+  same = refl;
+  token = _;
+  behind = _;
+  first = refl;
+}
 headed-twin false other w place bytes cut o h = wrong _ h o
 
-not-head : (part : Part) (cs : List Opened) → is_head_where (record { part = part; comments = cs }) ≡ false → is_head_where (record { part = passed part; comments = cs }) ≡ false
+not-head : (part : Part) (cs : List Opened) → is_head_where (record { part = part; comments = cs }) ≡ false
+    → is_head_where (record { part = passed part; comments = cs }) ≡ false
 not-head parts.Begin cs h = refl
 not-head (parts.Plain a b) cs h = refl
 not-head part cs h = h
@@ -150,19 +202,31 @@ not-head part cs h = h
 abbrev name_found : Code → Where → ℕ → List ℕ → Found
 name_found c w place bytes = code_by (effect_in w.part w.comments c) c w place bytes
 
-code-name : (c : Code) (part : Part) (cs : List Opened) (place : ℕ) (bytes : List ℕ) → is_name c ≡ true → is_head_where (record { part = part; comments = cs }) ≡ false
-    → is_head_where (name_found c (record { part = part; comments = cs }) place bytes).next ≡ true → Twin (name_found c (record { part = part; comments = cs }) place bytes) (at_program c place bytes)
-code-name at.SectionName parts.Definition [] place bytes n o h = headed-twin (is_head place (bytes)) definition (moved program (parts.Plain false false)) place bytes (code_token at.SectionName place bytes) refl h
-code-name at.SectionName parts.Begin [] place bytes n o h = headed-twin (is_head place (bytes)) (moved program (parts.Plain false false)) (moved program (parts.Plain false false)) place bytes (code_token at.SectionName place bytes) refl h
+code-name : (c : Code) (part : Part) (cs : List Opened) (place : ℕ) (bytes : List ℕ) → is_name c ≡ true
+    → is_head_where (record { part = part; comments = cs }) ≡ false
+    → is_head_where (name_found c (record { part = part; comments = cs }) place bytes).next ≡ true
+    → Twin (name_found c (record { part = part; comments = cs }) place bytes) (at_program c place bytes)
+code-name at.SectionName parts.Definition [] place bytes n o h = headed-twin (is_head place (bytes)) definition
+    (moved program (parts.Plain false false)) place bytes (code_token at.SectionName place bytes) refl h
+code-name at.SectionName parts.Begin [] place bytes n o h = headed-twin (is_head place (bytes))
+    (moved program (parts.Plain false false)) (moved program (parts.Plain false false)) place bytes
+    (code_token at.SectionName place bytes) refl h
 code-name at.SectionName part cs place bytes n o h = wrong _ h (not-head part cs o)
-code-name at.FileName parts.Definition [] place bytes n o h = headed-twin (is_head place (bytes)) definition (moved program (parts.Plain false false)) place bytes (code_token at.FileName place bytes) refl h
-code-name at.FileName parts.Begin [] place bytes n o h = headed-twin (is_head place (bytes)) (moved program (parts.Plain false false)) (moved program (parts.Plain false false)) place bytes (code_token at.FileName place bytes) refl h
+code-name at.FileName parts.Definition [] place bytes n o h = headed-twin (is_head place (bytes)) definition
+    (moved program (parts.Plain false false)) place bytes (code_token at.FileName place bytes) refl h
+code-name at.FileName parts.Begin [] place bytes n o h = headed-twin (is_head place (bytes))
+    (moved program (parts.Plain false false)) (moved program (parts.Plain false false)) place bytes
+    (code_token at.FileName place bytes) refl h
 code-name at.FileName part cs place bytes n o h = wrong _ h (not-head part cs o)
 code-name _ part cs place bytes n o h = absurd cc
 
-tex-name : (c : Code) (place : ℕ) (bytes : List ℕ) → is_name c ≡ true → is_head_where (tex_by (effect_in_tex c) c tex place bytes).next ≡ true → Twin (tex_by (effect_in_tex c) c tex place bytes) (at_program c place bytes)
-tex-name at.SectionName place bytes n h = headed-twin (is_head place bytes) tex (moved program (parts.Plain false false)) place bytes (code_token at.SectionName place bytes) refl h
-tex-name at.FileName place bytes n h = headed-twin (is_head place bytes) tex (moved program (parts.Plain false false)) place bytes (code_token at.FileName place bytes) refl h
+tex-name : (c : Code) (place : ℕ) (bytes : List ℕ) → is_name c ≡ true
+    → is_head_where (tex_by (effect_in_tex c) c tex place bytes).next ≡ true
+    → Twin (tex_by (effect_in_tex c) c tex place bytes) (at_program c place bytes)
+tex-name at.SectionName place bytes n h = headed-twin (is_head place bytes) tex
+    (moved program (parts.Plain false false)) place bytes (code_token at.SectionName place bytes) refl h
+tex-name at.FileName place bytes n h = headed-twin (is_head place bytes) tex (moved program (parts.Plain false false))
+    place bytes (code_token at.FileName place bytes) refl h
 tex-name _ place bytes n h = absurd cc
 
 -- ## Which part begins
@@ -198,18 +262,23 @@ opened Named c place bytes = at_program c place bytes
 record Twins (o : Opens) (g f : Found) : Type 0 where
   twin : OpensBy o f → Twin f g
 
-code-twins : (o : Opens) (part : Part) (cs : List Opened) (c : Code) (place : ℕ) (bytes : List ℕ) → is_head_where (record { part = part; comments = cs }) ≡ false → OpensAt o c
-    → Twins o (opened o c place bytes) (code_by (effect_in part cs c) c (record { part = part; comments = cs }) place bytes)
+code-twins : (o : Opens) (part : Part) (cs : List Opened) (c : Code) (place : ℕ) (bytes : List ℕ)
+    → is_head_where (record { part = part; comments = cs }) ≡ false → OpensAt o c
+    → Twins o (opened o c place bytes) (code_by (effect_in part cs c) c (record { part = part; comments = cs }) place
+    bytes)
 code-twins Definitions part cs c place bytes n d = record { twin = λ h. code-definition part cs c place bytes d h }
 code-twins Program part cs c place bytes n d = record { twin = λ h. code-program part cs c place bytes d h }
 code-twins Named part cs c place bytes n d = record { twin = λ h. code-name c part cs place bytes d n h.1 }
 
-text-twins : (o : Opens) (w : Where) (fresh : Bool) (last place : ℕ) (bytes : List ℕ) → is_head_where w ≡ false → OpensAt o (code_at bytes)
+text-twins : (o : Opens) (w : Where) (fresh : Bool) (last place : ℕ) (bytes : List ℕ) → is_head_where w ≡ false
+    → OpensAt o (code_at bytes)
     → Twins o (opened o (code_at bytes) place (64 ∷ bytes)) (code_text w fresh last place 64 bytes)
 text-twins o w fresh last place bytes n d =
-    subst (Twins o (opened o (code_at bytes) place (64 ∷ bytes))) (sym (at-code w fresh last place bytes)) (code-twins o w.part w.comments (code_at bytes) place (64 ∷ bytes) n d)
+    subst (Twins o (opened o (code_at bytes) place (64 ∷ bytes))) (sym (at-code w fresh last place bytes))
+    (code-twins o w.part w.comments (code_at bytes) place (64 ∷ bytes) n d)
 
-tex-twins : (o : Opens) (c : Code) (place : ℕ) (bytes : List ℕ) → OpensAt o c → Twins o (opened o c place bytes) (tex_by (effect_in_tex c) c tex place bytes)
+tex-twins : (o : Opens) (c : Code) (place : ℕ) (bytes : List ℕ) → OpensAt o c
+    → Twins o (opened o c place bytes) (tex_by (effect_in_tex c) c tex place bytes)
 tex-twins Definitions c place bytes d = record { twin = λ h. tex-definition c place bytes d }
 tex-twins Program c place bytes d = record { twin = λ h. tex-program c place bytes d }
 tex-twins Named c place bytes d = record { twin = λ h. tex-name c place bytes d h.1 }
@@ -225,56 +294,78 @@ none-twins Definitions g f e = record { twin = λ h. wrong _ h (ap is_definition
 none-twins Program g f e = record { twin = λ h. wrong _ h (ap is_program_code e) }
 none-twins Named g f e = record { twin = λ h. wrong _ h.0 (ap is_name e) }
 
-comment-twins : (o : Opens) (g : Found) (part : Part) (c : Opened) (cs : List Opened) (last place : ℕ) (bytes : List ℕ) → Twins o g (comment_text part c cs last place 64 bytes)
+comment-twins : (o : Opens) (g : Found) (part : Part) (c : Opened) (cs : List Opened) (last place : ℕ) (bytes : List ℕ)
+    → Twins o g (comment_text part c cs last place 64 bytes)
 comment-twins o g part c cs last place bytes =
-    if-both (Twins o g) (c.long && (64 == star && begins slash bytes)) (comment_closed part c cs place (64 ∷ bytes)) _ (λ e. wrong _ e (and-none c.long))
-    (λ e. if-both (Twins o g) (not c.long && 64 == newline) (before (comment_end (in_hash_line part) c place 0 []) (line_end part cs last place)) _ (λ e. wrong _ e (and-none (not c.long)))
+    if-both (Twins o g) (c.long && (64 == star && begins slash bytes)) (comment_closed part c cs place (64 ∷ bytes)) _
+    (λ e. wrong _ e (and-none c.long))
+    (λ e. if-both (Twins o g) (not c.long && 64 == newline) (before (comment_end (in_hash_line part) c place 0 [])
+    (line_end part cs last place)) _ (λ e. wrong _ e (and-none (not c.long)))
     (λ e. none-twins o g (piece part cs c place (64 ∷ bytes)) refl))
 
-part-twins : (o : Opens) (part : Part) (fresh : Bool) (last place : ℕ) (bytes : List ℕ) → is_limbo part ≡ false → OpensAt o (code_at bytes)
-    → Twins o (opened o (code_at bytes) place (64 ∷ bytes)) (part_text part (record { part = part; comments = [] }) fresh last place 64 bytes)
+part-twins : (o : Opens) (part : Part) (fresh : Bool) (last place : ℕ) (bytes : List ℕ) → is_limbo part ≡ false
+    → OpensAt o (code_at bytes)
+    → Twins o (opened o (code_at bytes) place (64 ∷ bytes)) (part_text part (record { part = part; comments = [] })
+    fresh last place 64 bytes)
 part-twins o parts.Limbo fresh last place bytes l d = absurd cc
 part-twins o parts.Tex fresh last place bytes l d = tex-twins o (code_at bytes) place (64 ∷ bytes) d
 part-twins o parts.Head fresh last place bytes l d = none-twins o _ _ refl
 part-twins o (parts.MacroName code) fresh last place bytes l d =
-    note-twins o (record { kind = notes.ImproperMacro; place = code }) _ (code_text definition fresh last place 64 bytes) (text-twins o definition fresh last place bytes refl d)
+    note-twins o (record { kind = notes.ImproperMacro; place = code }) _
+    (code_text definition fresh last place 64 bytes) (text-twins o definition fresh last place bytes refl d)
 part-twins o (parts.MacroParen code) fresh last place bytes l d = none-twins o _ _ refl
 part-twins o (parts.Parameters code) fresh last place bytes l d =
-    note-twins o (record { kind = notes.ImproperMacro; place = code }) _ (code_text definition fresh last place 64 bytes) (text-twins o definition fresh last place bytes refl d)
+    note-twins o (record { kind = notes.ImproperMacro; place = code }) _
+    (code_text definition fresh last place 64 bytes) (text-twins o definition fresh last place bytes refl d)
 part-twins o (parts.FormatName code second true) fresh last place bytes l d = absurd cc
 part-twins o (parts.FormatName code second false) fresh last place bytes l d =
-    note-twins o (record { kind = notes.ImproperFormat; place = code }) _ (code_text definition fresh last place 64 bytes) (text-twins o definition fresh last place bytes refl d)
-part-twins o parts.TexInner fresh last place bytes l d = text-twins o (record { part = parts.TexInner; comments = [] }) fresh last place bytes refl d
-part-twins o parts.Begin fresh last place bytes l d = text-twins o (record { part = parts.Begin; comments = [] }) fresh last place bytes refl d
-part-twins o (parts.Plain a b) fresh last place bytes l d = text-twins o (record { part = parts.Plain a b; comments = [] }) fresh last place bytes refl d
+    note-twins o (record { kind = notes.ImproperFormat; place = code }) _
+    (code_text definition fresh last place 64 bytes) (text-twins o definition fresh last place bytes refl d)
+part-twins o parts.TexInner fresh last place bytes l d = text-twins o (record { part = parts.TexInner; comments = [] })
+    fresh last place bytes refl d
+part-twins o parts.Begin fresh last place bytes l d = text-twins o (record { part = parts.Begin; comments = [] }) fresh
+    last place bytes refl d
+part-twins o (parts.Plain a b) fresh last place bytes l d =
+    text-twins o (record { part = parts.Plain a b; comments = [] }) fresh last place bytes refl d
 part-twins o parts.Definition fresh last place bytes l d = text-twins o definition fresh last place bytes refl d
-part-twins o parts.Inner fresh last place bytes l d = text-twins o (record { part = parts.Inner; comments = [] }) fresh last place bytes refl d
+part-twins o parts.Inner fresh last place bytes l d = text-twins o (record { part = parts.Inner; comments = [] }) fresh
+    last place bytes refl d
 
-open-no-head : (part : Part) (c : Opened) (cs : List Opened) → is_head_where (record { part = part; comments = c ∷ cs }) ≡ false
+open-no-head : (part : Part) (c : Opened) (cs : List Opened) → is_head_where (record { part = part; comments = c ∷ cs })
+    ≡ false
 open-no-head parts.Head c cs = refl
 open-no-head _ c cs = refl
 
-in-text-twins : (o : Opens) (part : Part) (cs : List Opened) (fresh : Bool) (last place : ℕ) (bytes : List ℕ) → is_limbo part ≡ false → OpensAt o (code_at bytes)
+in-text-twins : (o : Opens) (part : Part) (cs : List Opened) (fresh : Bool) (last place : ℕ) (bytes : List ℕ)
+    → is_limbo part ≡ false → OpensAt o (code_at bytes)
     → Twins o (opened o (code_at bytes) place (64 ∷ bytes)) (in_text part cs fresh last place 64 bytes)
 in-text-twins o part [] fresh last place bytes l d = part-twins o part fresh last place bytes l d
 in-text-twins o part (c ∷ cs) fresh last place bytes l d =
     let w : Where = record { part = part; comments = c ∷ cs } in
     let g = opened o (code_at bytes) place (64 ∷ bytes) in
-    if-both (Twins o g) c.inner (code_text w fresh last place 64 bytes) (comment_text part c cs last place 64 bytes) (λ e. text-twins o w fresh last place bytes (open-no-head part c cs) d) (λ e. comment-twins o g part c cs last place bytes)
+    if-both (Twins o g) c.inner (code_text w fresh last place 64 bytes) (comment_text part c cs last place 64 bytes)
+    (λ e. text-twins o w fresh last place bytes (open-no-head part c cs) d)
+    (λ e. comment-twins o g part c cs last place bytes)
 
-found-part : (o : Opens) (fresh : Bool) (last place : ℕ) (bytes : List ℕ) → is_section (code_at bytes) ≡ false → found (beginning_of o) fresh last place 64 bytes ≡ opened o (code_at bytes) place (64 ∷ bytes)
+found-part : (o : Opens) (fresh : Bool) (last place : ℕ) (bytes : List ℕ) → is_section (code_at bytes) ≡ false
+    → found (beginning_of o) fresh last place 64 bytes ≡ opened o (code_at bytes) place (64 ∷ bytes)
 found-part Definitions fresh last place bytes h =
-    ap (λ t. if t then section definition place bytes else code_text definition fresh last place 64 bytes) h ∙ at-code definition fresh last place bytes
+    ap (λ t. if t then section definition place bytes else code_text definition fresh last place 64 bytes) h
+    ∙ at-code definition fresh last place bytes
 found-part Program fresh last place bytes h =
-    ap (λ t. if t then section program place bytes else code_text program fresh last place 64 bytes) h ∙ at-code program fresh last place bytes
+    ap (λ t. if t then section program place bytes else code_text program fresh last place 64 bytes) h
+    ∙ at-code program fresh last place bytes
 found-part Named fresh last place bytes h =
-    ap (λ t. if t then section program place bytes else code_text program fresh last place 64 bytes) h ∙ at-code program fresh last place bytes
+    ap (λ t. if t then section program place bytes else code_text program fresh last place 64 bytes) h
+    ∙ at-code program fresh last place bytes
 
 -- Where a part begins outside of limbo, what begins is what begins there where the scan of the part begins.
-pub found-twin : (o : Opens) (w : Where) (fresh : Bool) (last place : ℕ) (bytes : List ℕ) → is_limbo w.part ≡ false → is_section (code_at bytes) ≡ false → OpensAt o (code_at bytes) → OpensBy o (found w fresh last place 64 bytes)
+pub found-twin : (o : Opens) (w : Where) (fresh : Bool) (last place : ℕ) (bytes : List ℕ) → is_limbo w.part ≡ false
+    → is_section (code_at bytes) ≡ false → OpensAt o (code_at bytes) → OpensBy o (found w fresh last place 64 bytes)
     → Twin (found w fresh last place 64 bytes) (found (beginning_of o) fresh last place 64 bytes)
 found-twin o w fresh last place bytes l s d h =
     let plain = ap (λ t. if t then section w place bytes else in_text w.part w.comments fresh last place 64 bytes) s in
-    let t : Twin (in_text w.part w.comments fresh last place 64 bytes) (opened o (code_at bytes) place (64 ∷ bytes)) = (in-text-twins o w.part w.comments fresh last place bytes l d).twin (subst (OpensBy o) plain h) in
+    let t : Twin (in_text w.part w.comments fresh last place 64 bytes) (opened o (code_at bytes) place (64 ∷ bytes)) =
+    (in-text-twins o w.part w.comments fresh last place bytes l d).twin (subst (OpensBy o) plain h) in
     subst (λ f. Twin f (found (beginning_of o) fresh last place 64 bytes)) (sym plain)
     (subst (Twin (in_text w.part w.comments fresh last place 64 bytes)) (sym (found-part o fresh last place bytes s)) t)

@@ -1,5 +1,6 @@
 -- Inner C text that is scanned by itself is scanned as in TeX text, up to its closing bar.
-use Rattle.std.proofs.Common.{◌≡◌, ℕ, ◌≤◌, Bool, true, false, ◌&&◌, ◌||◌, not, ◌==◌, nat_lt, List, [], ◌∷◌, ◌++◌, length, refl, sym, ap, subst, ◌∙◌, ◌⊎◌, inl, inr}
+use Rattle.std.proofs.Common.{◌≡◌, ℕ, ◌≤◌, Bool, true, false, ◌&&◌, ◌||◌, not, ◌==◌, nat_lt, List, [], ◌∷◌, ◌++◌}
+use Rattle.std.proofs.Common.{length, refl, sym, ap, subst, ◌∙◌, ◌⊎◌, inl, inr}
 use Rattle.std.specs.Prelude.{if◌then◌else◌}
 use Rattle.cw_rules.specs.declared.classes.Class.TheVariants as classes
 use Rattle.cw_rules.specs.declared.codes.Code.{Code}
@@ -9,12 +10,15 @@ use Rattle.cw_rules.specs.declared.parts.Part.TheVariants as parts
 use Rattle.cw_rules.specs.declared.parts.Opened.{Opened}
 use Rattle.cw_rules.specs.declared.parts.Start.{Start}
 use Rattle.cw_rules.specs.declared.parts.Start.TheVariants as start
-use Rattle.cw_rules.specs.Bytes.{newline, quote, apostrophe, hash, star, slash, less, at_sign, bar, is_in, is_letter, begins}
+use Rattle.cw_rules.specs.Bytes.{newline, quote, apostrophe, hash, star, slash, less, at_sign, bar, is_in, is_letter}
+use Rattle.cw_rules.specs.Bytes.{begins}
 use Rattle.cw_rules.specs.Constants.{constant}
 use Rattle.cw_rules.specs.Signs.{all_signs, longest}
 use Rattle.cw_rules.specs.Codes.{begins_section, effect_in_c}
 use Rattle.cw_rules.specs.Answers.{Answer, Where, Found, before}
-use Rattle.cw_rules.specs.Tokens.{sign_or_other, is_name, code_token, moved, one, section, line_end, inner_cut, comment_end, is_deep, comment_text, code_by, in_code, start_of, code_text, in_text, found, skipped_byte, is_tex_inner}
+use Rattle.cw_rules.specs.Tokens.{sign_or_other, is_name, code_token, moved, one, section, line_end, inner_cut}
+use Rattle.cw_rules.specs.Tokens.{comment_end, is_deep, comment_text, code_by, in_code, start_of, code_text, in_text}
+use Rattle.cw_rules.specs.Tokens.{found, skipped_byte, is_tex_inner}
 use Rattle.cw_rules.proofs.Choices.{and-none}
 use Rattle.cw_rules.proofs.BarsAhead.{section-same}
 use Rattle.cw_rules.proofs.BarRules.{tex_inner, in_text-local}
@@ -31,23 +35,30 @@ in_tex g = record { answers = g.answers; more = g.more; next = tex_inner g.next.
 pub record Twin (f g : Found) : Type 0 where
   pub same : is_tex_inner f.next.part ≡ true → (f ≡ in_tex g) × (g.next.part ≡ parts.Inner)
 
-if-twin : (t : Bool) (a b c d : Found) → (t ≡ true → Twin a b) → (t ≡ false → Twin c d) → Twin (if t then a else c) (if t then b else d)
+if-twin : (t : Bool) (a b c d : Found) → (t ≡ true → Twin a b) → (t ≡ false → Twin c d)
+    → Twin (if t then a else c) (if t then b else d)
 if-twin true a b c d f g = f refl
 if-twin false a b c d f g = g refl
 
 before-twin : (xs : List Answer) (f g : Found) → Twin f g → Twin (before xs f) (before xs g)
 before-twin xs f g t = record { same = λ h. (ap (before xs) (t.same h).0, (t.same h).1) }
 
-line_end-twin : (cs : List Opened) (last place : ℕ) → Twin (line_end parts.TexInner cs last place) (line_end parts.Inner cs last place)
+line_end-twin : (cs : List Opened) (last place : ℕ)
+    → Twin (line_end parts.TexInner cs last place) (line_end parts.Inner cs last place)
 line_end-twin [] last place = record { same = λ h. (refl, refl) }
 line_end-twin (c ∷ cs) last place =
-    if-twin c.long (skipped_byte (tex_inner (c ∷ cs))) (skipped_byte (alone (c ∷ cs))) _ _ (λ h. record { same = λ h. (refl, refl) })
-    (λ h. before-twin (inner_cut false place place ++ comment_end false c place 0 []) (line_end parts.TexInner cs last place) (line_end parts.Inner cs last place) (line_end-twin cs last place))
+    if-twin c.long (skipped_byte (tex_inner (c ∷ cs))) (skipped_byte (alone (c ∷ cs))) _ _
+    (λ h. record { same = λ h. (refl, refl) })
+    (λ h. before-twin (inner_cut false place place ++ comment_end false c place 0 [])
+    (line_end parts.TexInner cs last place) (line_end parts.Inner cs last place) (line_end-twin cs last place))
 
-code_by-twin : (effect : Effect) (c : Code) (cs : List Opened) (place : ℕ) (bytes : List ℕ) → Twin (code_by effect c (tex_inner cs) place bytes) (code_by effect c (alone cs) place bytes)
+code_by-twin : (effect : Effect) (c : Code) (cs : List Opened) (place : ℕ) (bytes : List ℕ)
+    → Twin (code_by effect c (tex_inner cs) place bytes) (code_by effect c (alone cs) place bytes)
 code_by-twin effects.Stands c cs place bytes = by (is_name c && false) (and-none (is_name c))
   where
-    by : (t : Bool) → t ≡ false → Twin (one false (if t then moved (tex_inner cs) parts.Head else tex_inner cs) place bytes (code_token c place bytes)) (one false (if t then moved (alone cs) parts.Head else alone cs) place bytes (code_token c place bytes))
+    by : (t : Bool) → t ≡ false → Twin (one false (if t then moved (tex_inner cs) parts.Head else tex_inner cs) place
+        bytes (code_token c place bytes)) (one false (if t then moved (alone cs) parts.Head else alone cs) place bytes
+        (code_token c place bytes))
     by true e = absurd cc
     by false e = record { same = λ h. (refl, refl) }
 code_by-twin (effects.Drops note) c cs place bytes = record { same = λ h. (refl, refl) }
@@ -56,7 +67,8 @@ code_by-twin effects.Formats c cs place bytes = record { same = λ h. absurd cc 
 code_by-twin effects.BeginsC c cs place bytes = record { same = λ h. absurd cc }
 
 -- the bar ends inner C text of a comment; else it leaves that of TeX text
-in_code-twin : (s : Start) (cs : List Opened) (place : ℕ) (bytes : List ℕ) → Twin (in_code s (tex_inner cs) place bytes) (in_code s (alone cs) place bytes)
+in_code-twin : (s : Start) (cs : List Opened) (place : ℕ) (bytes : List ℕ)
+    → Twin (in_code s (tex_inner cs) place bytes) (in_code s (alone cs) place bytes)
 in_code-twin start.Identifier cs place bytes = record { same = λ h. (refl, refl) }
 in_code-twin start.Constant cs place bytes = record { same = λ h. (refl, refl) }
 in_code-twin (start.Quoted q) cs place bytes = record { same = λ h. (refl, refl) }
@@ -86,22 +98,33 @@ starts byte bs =
     (if-starts (byte == at_sign) _ _ _
     (ends (byte == bar) (begins bar bs)))))))
   where
-    ends : (a b : Bool) → Starts (if a && (true && not b) then start.EndOfInner else sign_or_other (longest all_signs (byte ∷ bs))) (if a && (false && not b) then start.EndOfInner else sign_or_other (longest all_signs (byte ∷ bs)))
+    ends : (a b : Bool) → Starts (if a && (true && not b) then start.EndOfInner else sign_or_other
+        (longest all_signs (byte ∷ bs))) (if a && (false && not b) then start.EndOfInner else sign_or_other
+        (longest all_signs (byte ∷ bs)))
     ends true true = record { is = inr refl }
     ends true false = record { is = inl refl }
     ends false b = record { is = inr refl }
 
-begun-twin : (cs : List Opened) (place byte : ℕ) (bs : List ℕ) (ends : Bool) → Starts (start_of true byte bs) (start_of ends byte bs) → (cs ≡ [] ⊎ ends ≡ true)
-    → Twin (in_code (start_of true byte bs) (tex_inner cs) place (byte ∷ bs)) (in_code (start_of ends byte bs) (alone cs) place (byte ∷ bs))
+begun-twin : (cs : List Opened) (place byte : ℕ) (bs : List ℕ) (ends : Bool)
+    → Starts (start_of true byte bs) (start_of ends byte bs) → (cs ≡ [] ⊎ ends ≡ true)
+    → Twin (in_code (start_of true byte bs) (tex_inner cs) place (byte ∷ bs))
+    (in_code (start_of ends byte bs) (alone cs) place (byte ∷ bs))
 begun-twin cs place byte bs true s e = in_code-twin (start_of true byte bs) cs place (byte ∷ bs)
 begun-twin cs place byte bs false s (inr e) = absurd cc
 begun-twin cs place byte bs false s (inl e) = by s.is
   where
-    by : (start_of true byte bs ≡ start.EndOfInner) ⊎ (start_of true byte bs ≡ start_of false byte bs) → Twin (in_code (start_of true byte bs) (tex_inner cs) place (byte ∷ bs)) (in_code (start_of false byte bs) (alone cs) place (byte ∷ bs))
-    by (inl end) = record { same = λ h. absurd (let k : true ≡ false = sym h ∙ (λ i. is_tex_inner (in_code (end i) (tex_inner (e i)) place (byte ∷ bs)).next.part) in cc) }
-    by (inr same) = subst (λ s. Twin (in_code (start_of true byte bs) (tex_inner cs) place (byte ∷ bs)) (in_code s (alone cs) place (byte ∷ bs))) same (in_code-twin (start_of true byte bs) cs place (byte ∷ bs))
+    by : (start_of true byte bs ≡ start.EndOfInner) ⊎ (start_of true byte bs ≡ start_of false byte bs)
+        → Twin (in_code (start_of true byte bs) (tex_inner cs) place (byte ∷ bs))
+        (in_code (start_of false byte bs) (alone cs) place (byte ∷ bs))
+    by (inl end) = record {
+      same = λ h. absurd (let k : true ≡ false = sym h
+          ∙ (λ i. is_tex_inner (in_code (end i) (tex_inner (e i)) place (byte ∷ bs)).next.part) in cc);
+    }
+    by (inr same) = subst (λ s. Twin (in_code (start_of true byte bs) (tex_inner cs) place (byte ∷ bs))
+        (in_code s (alone cs) place (byte ∷ bs))) same (in_code-twin (start_of true byte bs) cs place (byte ∷ bs))
 
-code_text-twin : (cs : List Opened) (fresh : Bool) (last place byte : ℕ) (bs : List ℕ) → Twin (code_text (tex_inner cs) fresh last place byte bs) (code_text (alone cs) fresh last place byte bs)
+code_text-twin : (cs : List Opened) (fresh : Bool) (last place byte : ℕ) (bs : List ℕ)
+    → Twin (code_text (tex_inner cs) fresh last place byte bs) (code_text (alone cs) fresh last place byte bs)
 code_text-twin cs fresh last place byte bs =
     if-twin (byte == newline) _ _ _ _ (λ h. line_end-twin cs last place)
     (λ h. if-twin (is_in classes.Blank byte || false) _ _ _ _ (λ h. record { same = λ h. (refl, refl) })
@@ -109,35 +132,57 @@ code_text-twin cs fresh last place byte bs =
     (λ h. if-twin (byte == less && false) _ _ _ _ (λ h. record { same = λ h. (refl, refl) })
     (λ h. begun cs))))
   where
-    begun : (cs : List Opened) → Twin (in_code (start_of true byte bs) (tex_inner cs) place (byte ∷ bs)) (in_code (start_of (elim cs [ [] ↦ false | c ∷ more ↦ true ]) byte bs) (alone cs) place (byte ∷ bs))
+    begun : (cs : List Opened) → Twin (in_code (start_of true byte bs) (tex_inner cs) place (byte ∷ bs))
+        (in_code (start_of (elim cs [ [] ↦ false | c ∷ more ↦ true ]) byte bs) (alone cs) place (byte ∷ bs))
     begun [] = begun-twin [] place byte bs false (starts byte bs) (inl refl)
     begun (c ∷ cs) = begun-twin (c ∷ cs) place byte bs true (record { is = inr refl }) (inr refl)
 
-comment_text-twin : (c : Opened) (cs : List Opened) (last place byte : ℕ) (bs : List ℕ) → Twin (comment_text parts.TexInner c cs last place byte bs) (comment_text parts.Inner c cs last place byte bs)
+comment_text-twin : (c : Opened) (cs : List Opened) (last place byte : ℕ) (bs : List ℕ)
+    → Twin (comment_text parts.TexInner c cs last place byte bs) (comment_text parts.Inner c cs last place byte bs)
 comment_text-twin c cs last place byte bs =
     if-twin (c.long && (byte == star && begins slash bs)) _ _ _ _ (λ h. record { same = λ h. (refl, refl) })
-    (λ h. if-twin (not c.long && byte == newline) _ _ _ _ (λ h. before-twin (comment_end false c place 0 []) (line_end parts.TexInner cs last place) (line_end parts.Inner cs last place) (line_end-twin cs last place))
-    (λ h. if-twin (byte == bar && not (is_deep parts.TexInner (c ∷ cs))) _ _ _ _ (λ h. record { same = λ h. (refl, refl) })
+    (λ h. if-twin (not c.long && byte == newline) _ _ _ _ (λ h. before-twin (comment_end false c place 0 [])
+    (line_end parts.TexInner cs last place) (line_end parts.Inner cs last place) (line_end-twin cs last place))
+    (λ h. if-twin (byte == bar && not (is_deep parts.TexInner (c ∷ cs))) _ _ _ _
+    (λ h. record { same = λ h. (refl, refl) })
     (λ h. record { same = λ h. (refl, refl) })))
 
-pub in_text-twin : (cs : List Opened) (fresh : Bool) (last place byte : ℕ) (bs : List ℕ) → Twin (in_text parts.TexInner cs fresh last place byte bs) (in_text parts.Inner cs fresh last place byte bs)
+pub in_text-twin : (cs : List Opened) (fresh : Bool) (last place byte : ℕ) (bs : List ℕ)
+    → Twin (in_text parts.TexInner cs fresh last place byte bs) (in_text parts.Inner cs fresh last place byte bs)
 in_text-twin [] fresh last place byte bs = code_text-twin [] fresh last place byte bs
 in_text-twin (c ∷ cs) fresh last place byte bs =
-    if-twin c.inner _ _ _ _ (λ h. code_text-twin (c ∷ cs) fresh last place byte bs) (λ h. comment_text-twin c cs last place byte bs)
+    if-twin c.inner _ _ _ _ (λ h. code_text-twin (c ∷ cs) fresh last place byte bs)
+    (λ h. comment_text-twin c cs last place byte bs)
 
--- What begins at a place of inner C text of TeX text, and ends before a bar, is what begins there in the text up to the bar.
-pub found-twin : (more : List ℕ) (cs : List Opened) (fresh : Bool) (last place byte : ℕ) (bs : List ℕ) (f : Found) → found (tex_inner cs) fresh last place byte (bs ++ 124 ∷ more) ≡ f
-    → f.more ≤ length bs → is_tex_inner f.next.part ≡ true → (f ≡ in_tex (found (alone cs) fresh last place byte bs)) × ((found (alone cs) fresh last place byte bs).next.part ≡ parts.Inner)
+-- What begins at a place of inner C text of TeX text, and ends before a bar, is what begins there in the text up to the
+-- bar.
+pub found-twin : (more : List ℕ) (cs : List Opened) (fresh : Bool) (last place byte : ℕ) (bs : List ℕ) (f : Found)
+    → found (tex_inner cs) fresh last place byte (bs ++ 124 ∷ more) ≡ f
+    → f.more ≤ length bs → is_tex_inner f.next.part ≡ true → (f ≡ in_tex (found (alone cs) fresh last place byte bs))
+    × ((found (alone cs) fresh last place byte bs).next.part ≡ parts.Inner)
 found-twin more cs fresh last place byte bs f is fits inner = by (byte == at_sign && begins_section bs) refl
   where
-    by : (t : Bool) → (byte == at_sign && begins_section bs) ≡ t → (f ≡ in_tex (found (alone cs) fresh last place byte bs)) × ((found (alone cs) fresh last place byte bs).next.part ≡ parts.Inner)
+    by : (t : Bool) → (byte == at_sign && begins_section bs) ≡ t
+        → (f ≡ in_tex (found (alone cs) fresh last place byte bs))
+        × ((found (alone cs) fresh last place byte bs).next.part ≡ parts.Inner)
     by true e =
-        let all : (byte == at_sign && begins_section (bs ++ 124 ∷ more)) ≡ true = ap (λ t. byte == at_sign && t) (section-same more bs) ∙ e in
-        absurd (let k : true ≡ false = sym inner ∙ ap (λ (f : Found). is_tex_inner f.next.part) (sym is ∙ ap (λ t. if t then section (tex_inner cs) place (bs ++ 124 ∷ more) else in_text parts.TexInner cs fresh last place byte (bs ++ 124 ∷ more)) all) in cc)
+        let all : (byte == at_sign && begins_section (bs ++ 124 ∷ more)) ≡ true =
+        ap (λ t. byte == at_sign && t) (section-same more bs) ∙ e in
+        absurd (let k : true ≡ false = sym inner ∙ ap (λ (f : Found). is_tex_inner f.next.part) (sym is
+        ∙ ap (λ t. if t then section (tex_inner cs) place (bs ++ 124 ∷ more) else in_text parts.TexInner cs fresh
+        last place byte (bs ++ 124 ∷ more)) all) in cc)
     by false e =
-        let all : (byte == at_sign && begins_section (bs ++ 124 ∷ more)) ≡ false = ap (λ t. byte == at_sign && t) (section-same more bs) ∙ e in
-        let full : f ≡ in_text parts.TexInner cs fresh last place byte (bs ++ 124 ∷ more) = sym is ∙ ap (λ t. if t then section (tex_inner cs) place (bs ++ 124 ∷ more) else in_text parts.TexInner cs fresh last place byte (bs ++ 124 ∷ more)) all in
-        let cut : in_text parts.Inner cs fresh last place byte bs ≡ found (alone cs) fresh last place byte bs = sym (ap (λ t. if t then section (alone cs) place bs else in_text parts.Inner cs fresh last place byte bs) e) in
-        let local : f ≡ in_text parts.TexInner cs fresh last place byte bs = full ∙ (in_text-local more cs fresh last place byte bs).same (subst (λ (f : Found). f.more ≤ length bs) full fits) in
-        let twin = (in_text-twin cs fresh last place byte bs).same (sym (ap (λ (f : Found). is_tex_inner f.next.part) local) ∙ inner) in
+        let all : (byte == at_sign && begins_section (bs ++ 124 ∷ more)) ≡ false =
+        ap (λ t. byte == at_sign && t) (section-same more bs) ∙ e in
+        let full : f ≡ in_text parts.TexInner cs fresh last place byte (bs ++ 124 ∷ more) = sym is
+        ∙ ap (λ t. if t then section (tex_inner cs) place (bs ++ 124 ∷ more) else in_text parts.TexInner cs fresh
+        last place byte (bs ++ 124 ∷ more)) all in
+        let cut : in_text parts.Inner cs fresh last place byte bs ≡ found (alone cs) fresh last place byte bs =
+        sym (ap (λ t. if t then section (alone cs) place bs else in_text parts.Inner cs fresh last place byte bs)
+        e) in
+        let local : f ≡ in_text parts.TexInner cs fresh last place byte bs = full
+        ∙ (in_text-local more cs fresh last place byte bs).same (subst (λ (f : Found). f.more ≤ length bs) full
+        fits) in
+        let twin = (in_text-twin cs fresh last place byte bs).same
+        (sym (ap (λ (f : Found). is_tex_inner f.next.part) local) ∙ inner) in
         (local ∙ twin.0 ∙ ap in_tex cut, sym (ap (λ (f : Found). f.next.part) cut) ∙ twin.1)

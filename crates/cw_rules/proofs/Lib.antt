@@ -10,6 +10,7 @@ pub mod Within
 pub mod Taking
 pub mod Ahead
 pub mod BodiesAhead
+pub mod IncludeEnds
 pub mod RulesAhead
 pub mod BarsAhead
 pub mod BarBodies

@@ -1,19 +1,23 @@
 -- Bytes of a class in a row, and texts at the beginning of others.
-use Rattle.std.proofs.Common.{◌≡◌, ℕ, zero, suc, ◌+◌, ◌-◌, ◌<◌, ◌≤◌, Bool, true, false, List, [], ◌∷◌, length, slice_index, drop, refl, sym, ap, ◌∙◌, arith, add-one, drop-cons}
+use Rattle.std.proofs.Common.{◌≡◌, ℕ, zero, suc, ◌+◌, ◌-◌, ◌<◌, ◌≤◌, Bool, true, false, List, [], ◌∷◌, length}
+use Rattle.std.proofs.Common.{slice_index, drop, refl, sym, ap, ◌∙◌, arith, add-one, drop-cons}
 use Rattle.std.proofs.lemmas.List.{drop-drop, drop_all}
 use Rattle.cw_rules.specs.declared.classes.Class.{Class}
 use Rattle.cw_rules.specs.Bytes.{is_in, run, begins_with}
 
 -- a text from a place on, and the byte there
-pub drop-here : (text : List ℕ) (place : ℕ) → place < length text → drop place text ≡ slice_index text place ∷ drop (place + 1) text
+pub drop-here : (text : List ℕ) (place : ℕ) → place < length text → drop place text
+    ≡ slice_index text place ∷ drop (place + 1) text
 drop-here text place h = rw (add-one, drop-cons text place 0) refl
 
-run-drop : (class : Class) (bytes : List ℕ) (n : ℕ) → n ≤ run class bytes → run class (drop n bytes) ≡ run class bytes - n
+run-drop : (class : Class) (bytes : List ℕ) (n : ℕ) → n ≤ run class bytes → run class (drop n bytes)
+    ≡ run class bytes - n
 run-drop class bytes zero h = omega arith
 run-drop class [] (suc n) h = absurd (omega arith)
 run-drop class (b ∷ bs) (suc n) h = by (is_in class b) refl (run-drop class bs n)
   where
-    by : (t : Bool) → is_in class b ≡ t → (n ≤ run class bs → run class (drop n bs) ≡ run class bs - n) → run class (drop (suc n) (b ∷ bs)) ≡ run class (b ∷ bs) - suc n
+    by : (t : Bool) → is_in class b ≡ t → (n ≤ run class bs → run class (drop n bs) ≡ run class bs - n)
+        → run class (drop (suc n) (b ∷ bs)) ≡ run class (b ∷ bs) - suc n
     by true e rest =
         let more : run class (b ∷ bs) ≡ 1 + run class bs = ap (λ t. elim t [ true ↦ 1 + run class bs | false ↦ 0 ]) e in
         let inner : n ≤ run class bs = omega arith in
@@ -24,7 +28,8 @@ run-drop class (b ∷ bs) (suc n) h = by (is_in class b) refl (run-drop class bs
         absurd (omega arith)
 
 -- a place inside the run
-pub run-inside : (class : Class) (text : List ℕ) (from size place : ℕ) → size ≡ run class (drop from text) → from ≤ place → place ≤ from + size
+pub run-inside : (class : Class) (text : List ℕ) (from size place : ℕ) → size ≡ run class (drop from text)
+    → from ≤ place → place ≤ from + size
     → run class (drop place text) ≡ (from + size) - place
 run-inside class text from size place e low high =
     let split : from + (place - from) ≡ place = omega arith in
@@ -34,5 +39,6 @@ run-inside class text from size place e low high =
     ∙ omega arith
 
 -- a text that is too short to begin with another
-pub begins_with-short : (wanted bytes : List ℕ) (k : ℕ) → k < length wanted → length bytes ≤ k → begins_with (drop k wanted) (drop k bytes) ≡ false
+pub begins_with-short : (wanted bytes : List ℕ) (k : ℕ) → k < length wanted → length bytes ≤ k
+    → begins_with (drop k wanted) (drop k bytes) ≡ false
 begins_with-short wanted bytes k h g = (λ i. begins_with (drop-here wanted k h i) (drop_all k bytes g i))

@@ -1,5 +1,7 @@
 -- The rules take no more bytes than there are.
-use Rattle.std.proofs.Common.{◌≡◌, ℕ, suc, ◌+◌, ◌-◌, ◌<◌, ◌≤◌, Bool, true, false, true≢false, ◌&&◌, ◌||◌, ◌==◌, nat_lt, List, [], ◌∷◌, Option, Some, None, length, drop, refl, sym, arith, if◌then◌else◌, length-drop}
+use Rattle.std.proofs.Common.{◌≡◌, ℕ, suc, ◌+◌, ◌-◌, ◌<◌, ◌≤◌, Bool, true, false, true≢false, ◌&&◌, ◌||◌, ◌==◌, nat_lt}
+use Rattle.std.proofs.Common.{List, [], ◌∷◌, Option, Some, None, length, drop, refl, sym, arith, if◌then◌else◌}
+use Rattle.std.proofs.Common.{length-drop}
 use Rattle.std.proofs.lemmas.Bool.{ltb-true}
 use Rattle.cw_base.proofs.TestLaws.{both-left, both-right}
 use Rattle.cw_rules.specs.declared.bodies.Body.TheVariants as bodies
@@ -10,19 +12,23 @@ use Rattle.cw_rules.specs.declared.codes.Code.{Code}
 use Rattle.cw_rules.specs.declared.signs.Sign.{Sign}
 use Rattle.cw_rules.specs.declared.tokens.TokKind.{TokKind}
 use Rattle.cw_rules.specs.declared.tokens.TokKind.TheVariants as kinds
-use Rattle.cw_rules.specs.Bytes.{star, apostrophe, greater, dot, digit_0, run, is_in, is_letter_of, begins, begins_by, begins_with}
+use Rattle.cw_rules.specs.Bytes.{star, apostrophe, greater, dot, digit_0, run, is_in, is_letter_of, begins, begins_by}
+use Rattle.cw_rules.specs.Bytes.{begins_with}
 use Rattle.cw_rules.specs.Signs.{spelling, longer, longest}
-use Rattle.cw_rules.specs.Constants.{hexadecimal, fraction, exponent_sign, exponent, mantissa, decimal, number, constant}
+use Rattle.cw_rules.specs.Constants.{hexadecimal, fraction, exponent_sign, exponent, mantissa, decimal, number}
+use Rattle.cw_rules.specs.Constants.{constant}
 use Rattle.cw_rules.specs.Codes.{has_control_text}
 use Rattle.cw_rules.specs.Bodies.{at_start, goes_on, stepped, ended, closing_bytes, extent}
 use Rattle.cw_rules.specs.Answers.{Cut}
-use Rattle.cw_rules.specs.Tokens.{identifier, string, closes_on_line, include_name, control_text, section_name, is_name, is_quote, control_or_plain, code_token, depth_size, section_code}
+use Rattle.cw_rules.specs.Tokens.{identifier, string, closes_on_line, include_name, control_text, section_name, is_name}
+use Rattle.cw_rules.specs.Tokens.{is_quote, control_or_plain, code_token, depth_size, section_code}
 
 either-size : (t : Bool) (a b n : ℕ) → (t ≡ true → a ≤ n) → (t ≡ false → b ≤ n) → (if t then a else b) ≤ n
 either-size true a b n f g = f refl
 either-size false a b n f g = g refl
 
-either-cut : (t : Bool) (a b : Cut) (n : ℕ) → (t ≡ true → a.size ≤ n) → (t ≡ false → b.size ≤ n) → (if t then a else b).size ≤ n
+either-cut : (t : Bool) (a b : Cut) (n : ℕ) → (t ≡ true → a.size ≤ n) → (t ≡ false → b.size ≤ n)
+    → (if t then a else b).size ≤ n
 either-cut true a b n f g = f refl
 either-cut false a b n f g = g refl
 
@@ -60,7 +66,11 @@ fraction-le : (behind_digit : Bool) (bytes : List ℕ) → fraction behind_digit
 fraction-le behind_digit bytes =
     let digits = run classes.Digit (drop 1 bytes) in
     either-size (begins dot bytes && (behind_digit || nat_lt 0 digits)) (1 + digits) 0 (length bytes)
-    (λ h. omega (arith, run-drop-le classes.Digit 1 bytes, begins-some dot bytes (both-left (begins dot bytes) (behind_digit || nat_lt 0 digits) h)))
+    (λ h. omega (
+      arith,
+      run-drop-le classes.Digit 1 bytes,
+      begins-some dot bytes (both-left (begins dot bytes) (behind_digit || nat_lt 0 digits) h),
+    ))
     (λ h. omega arith)
 
 exponent-le : (bytes : List ℕ) → exponent bytes ≤ length bytes
@@ -68,13 +78,22 @@ exponent-le bytes =
     let opening = 1 + exponent_sign (drop 1 bytes) in
     let digits = run classes.Digit (drop opening bytes) in
     either-size (begins_by (is_letter_of 101) bytes && nat_lt 0 digits) (opening + digits) 0 (length bytes)
-    (λ h. omega (arith, run-drop-le classes.Digit opening bytes, ltb-true 0 digits (both-right (begins_by (is_letter_of 101) bytes) (nat_lt 0 digits) h)))
+    (λ h. omega (
+      arith,
+      run-drop-le classes.Digit opening bytes,
+      ltb-true 0 digits (both-right (begins_by (is_letter_of 101) bytes) (nat_lt 0 digits) h),
+    ))
     (λ h. omega arith)
 
 pub mantissa-le : (bytes : List ℕ) → mantissa bytes ≤ length bytes
 mantissa-le bytes =
     let digits = run classes.Digit bytes in
-    omega (arith, run-le classes.Digit bytes, fraction-le (nat_lt 0 digits) (drop digits bytes), length-drop digits bytes)
+    omega (
+      arith,
+      run-le classes.Digit bytes,
+      fraction-le (nat_lt 0 digits) (drop digits bytes),
+      length-drop digits bytes,
+    )
 
 decimal-le : (bytes : List ℕ) → decimal bytes ≤ length bytes
 decimal-le bytes =
@@ -85,7 +104,8 @@ decimal-le bytes =
 
 pub number-le : (bytes : List ℕ) → number bytes ≤ length bytes
 number-le bytes =
-    either-size (nat_lt 0 (hexadecimal bytes)) (hexadecimal bytes) (decimal bytes) (length bytes) (λ h. hexadecimal-le bytes) (λ h. decimal-le bytes)
+    either-size (nat_lt 0 (hexadecimal bytes)) (hexadecimal bytes) (decimal bytes) (length bytes)
+    (λ h. hexadecimal-le bytes) (λ h. decimal-le bytes)
 
 pub constant-le : (bytes : List ℕ) → constant bytes ≤ length bytes
 constant-le bytes =
@@ -102,16 +122,20 @@ AllFit (Some sign) left = length (spelling sign) ≤ left
 
 pub longest-fits : (signs : List Sign) (bytes : List ℕ) → AllFit (longest signs bytes) (length bytes)
 longest-fits [] bytes = tt
-longest-fits (sign ∷ signs) bytes = by (begins_with (spelling sign) bytes) (longest signs bytes) (λ h. begins_with-le (spelling sign) bytes h) (longest-fits signs bytes)
+longest-fits (sign ∷ signs) bytes = by (begins_with (spelling sign) bytes) (longest signs bytes)
+    (λ h. begins_with-le (spelling sign) bytes h) (longest-fits signs bytes)
   where
-    choose : (t : Bool) (other : Sign) → (t ≡ true → length (spelling sign) ≤ length bytes) → length (spelling other) ≤ length bytes → AllFit (if t then Some sign else Some other) (length bytes)
+    choose : (t : Bool) (other : Sign) → (t ≡ true → length (spelling sign) ≤ length bytes)
+        → length (spelling other) ≤ length bytes → AllFit (if t then Some sign else Some other) (length bytes)
     choose true other fits h = fits refl
     choose false other fits h = h
 
-    by : (t : Bool) (found : Option Sign) → (t ≡ true → length (spelling sign) ≤ length bytes) → AllFit found (length bytes) → AllFit (longer t sign found) (length bytes)
+    by : (t : Bool) (found : Option Sign) → (t ≡ true → length (spelling sign) ≤ length bytes)
+        → AllFit found (length bytes) → AllFit (longer t sign found) (length bytes)
     by true None fits h = fits refl
     by false None fits h = tt
-    by t (Some other) fits h = choose (t && nat_lt (length (spelling other)) (length (spelling sign))) other (λ e. fits (both-left t (nat_lt (length (spelling other)) (length (spelling sign))) e)) h
+    by t (Some other) fits h = choose (t && nat_lt (length (spelling other)) (length (spelling sign))) other
+        (λ e. fits (both-left t (nat_lt (length (spelling other)) (length (spelling sign))) e)) h
 
 -- ## Bodies
 
@@ -119,7 +143,8 @@ pub ended-most : (i : Inside) (bytes : List ℕ) → (ended i bytes).place ≤ i
 ended-most i [] = omega arith
 ended-most i (b ∷ bs) = by (goes_on i (b ∷ bs)) (ended-most (stepped i b bs) bs)
   where
-    by : (t : Bool) → (ended (stepped i b bs) bs).place ≤ (i.place + 1) + length bs → (elim t as (λ t. Inside) [ true ↦ ended (stepped i b bs) bs | false ↦ i ]).place ≤ i.place + suc (length bs)
+    by : (t : Bool) → (ended (stepped i b bs) bs).place ≤ (i.place + 1) + length bs
+        → (elim t as (λ t. Inside) [ true ↦ ended (stepped i b bs) bs | false ↦ i ]).place ≤ i.place + suc (length bs)
     by true h = omega arith
     by false h = omega arith
 
@@ -127,7 +152,8 @@ pub extent-le : (i : Inside) (bytes : List ℕ) → (extent i bytes).size ≤ le
 extent-le i bytes =
     let size = (ended i bytes).place - i.place in
     let most : size ≤ length bytes = omega (arith, ended-most i bytes) in
-    either-size (begins_with (closing_bytes i.body) (drop size bytes)) (size + length (closing_bytes i.body)) size (length bytes)
+    either-size (begins_with (closing_bytes i.body) (drop size bytes)) (size + length (closing_bytes i.body)) size
+    (length bytes)
     (λ h. omega (arith, begins_with-le (closing_bytes i.body) (drop size bytes) h, length-drop size bytes))
     (λ h. most)
 
@@ -136,29 +162,37 @@ extent-le i bytes =
 pub identifier-le : (bytes : List ℕ) → (identifier bytes).size ≤ length bytes
 identifier-le bytes = run-le classes.Word bytes
 
-behind-opening : (n : ℕ) (i : Inside) (bytes : List ℕ) → n ≤ length bytes → n + (extent i (drop n bytes)).size ≤ length bytes
+behind-opening : (n : ℕ) (i : Inside) (bytes : List ℕ) → n ≤ length bytes
+    → n + (extent i (drop n bytes)).size ≤ length bytes
 behind-opening n i bytes h = omega (arith, extent-le i (drop n bytes), length-drop n bytes)
 
-pub string-le : (kind : TokKind) (opening quote place : ℕ) (bytes : List ℕ) → opening ≤ length bytes → (string kind opening quote place bytes).size ≤ length bytes
-string-le kind opening quote place bytes h = behind-opening opening (at_start (bodies.Quoted quote) (place + opening)) bytes h
+pub string-le : (kind : TokKind) (opening quote place : ℕ) (bytes : List ℕ) → opening ≤ length bytes
+    → (string kind opening quote place bytes).size ≤ length bytes
+string-le kind opening quote place bytes h = behind-opening opening (at_start (bodies.Quoted quote) (place + opening))
+    bytes h
 
-pub include_name-le : (place byte : ℕ) (bytes : List ℕ) → closes_on_line bytes ≡ true → (include_name place (byte ∷ bytes)).size ≤ length (byte ∷ bytes)
+pub include_name-le : (place byte : ℕ) (bytes : List ℕ) → closes_on_line bytes ≡ true
+    → (include_name place (byte ∷ bytes)).size ≤ length (byte ∷ bytes)
 include_name-le place byte bytes h =
     let size = run classes.IncludeName bytes in
     omega (arith, begins-some greater (drop size bytes) h, length-drop size bytes)
 
-pub control_text-le : (code : Code) (place : ℕ) (bytes : List ℕ) → 2 ≤ length bytes → (control_text code place bytes).size ≤ length bytes
+pub control_text-le : (code : Code) (place : ℕ) (bytes : List ℕ) → 2 ≤ length bytes
+    → (control_text code place bytes).size ≤ length bytes
 control_text-le code place bytes h = behind-opening 2 (at_start bodies.ControlText (place + 2)) bytes h
 
-pub section_name-le : (code : Code) (place : ℕ) (bytes : List ℕ) → 2 ≤ length bytes → (section_name code place bytes).size ≤ length bytes
+pub section_name-le : (code : Code) (place : ℕ) (bytes : List ℕ) → 2 ≤ length bytes
+    → (section_name code place bytes).size ≤ length bytes
 section_name-le code place bytes h = behind-opening 2 (at_start bodies.SectionName (place + 2)) bytes h
 
-pub control_or_plain-le : (code : Code) (place byte next : ℕ) (bytes : List ℕ) → (control_or_plain code place (byte ∷ next ∷ bytes)).size ≤ length (byte ∷ next ∷ bytes)
+pub control_or_plain-le : (code : Code) (place byte next : ℕ) (bytes : List ℕ)
+    → (control_or_plain code place (byte ∷ next ∷ bytes)).size ≤ length (byte ∷ next ∷ bytes)
 control_or_plain-le code place byte next bytes =
     either-cut (has_control_text code) _ _ (length (byte ∷ next ∷ bytes))
     (λ h. control_text-le code place (byte ∷ next ∷ bytes) (omega arith)) (λ h. omega arith)
 
-pub code_token-le : (code : Code) (place byte next : ℕ) (bytes : List ℕ) → (code_token code place (byte ∷ next ∷ bytes)).size ≤ length (byte ∷ next ∷ bytes)
+pub code_token-le : (code : Code) (place byte next : ℕ) (bytes : List ℕ)
+    → (code_token code place (byte ∷ next ∷ bytes)).size ≤ length (byte ∷ next ∷ bytes)
 code_token-le code place byte next bytes =
     let all = byte ∷ next ∷ bytes in
     either-cut (is_name code) _ _ (length all)
@@ -168,11 +202,18 @@ code_token-le code place byte next bytes =
     (λ h. control_or_plain-le code place byte next bytes))
 
 pub depth-le : (bytes : List ℕ) → depth_size bytes ≤ length bytes
-depth-le bytes = either-size (begins star bytes) 1 (run classes.Digit bytes) (length bytes) (λ h. begins-some star bytes h) (λ h. run-le classes.Digit bytes)
+depth-le bytes = either-size (begins star bytes) 1 (run classes.Digit bytes) (length bytes)
+    (λ h. begins-some star bytes h) (λ h. run-le classes.Digit bytes)
 
 pub section_code-le : (byte : ℕ) (bytes : List ℕ) → (section_code (byte ∷ bytes)).size ≤ length (byte ∷ bytes)
 section_code-le byte bytes =
     let size = 2 + depth_size (drop 1 bytes) in
     either-cut (begins star bytes) _ _ (length (byte ∷ bytes))
-    (λ h. omega (arith, begins-some star bytes h, depth-le (drop 1 bytes), length-drop 1 bytes, run-drop-le classes.Blank size (byte ∷ bytes)))
+    (λ h. omega (
+      arith,
+      begins-some star bytes h,
+      depth-le (drop 1 bytes),
+      length-drop 1 bytes,
+      run-drop-le classes.Blank size (byte ∷ bytes),
+    ))
     (λ h. omega (arith, run-le classes.Blank bytes))

@@ -1,5 +1,6 @@
 -- A name is void by what its bytes are one after another.
-use Rattle.std.proofs.Common.{◌≡◌, ℕ, zero, suc, ◌+◌, ◌<◌, Bool, true, false, ◌&&◌, ◌||◌, ◌==◌, List, [], ◌∷◌, codes, length, slice_index, drop, refl, ap, ◌∙◌, arith, if◌then◌else◌}
+use Rattle.std.proofs.Common.{◌≡◌, ℕ, zero, suc, ◌+◌, ◌<◌, Bool, true, false, ◌&&◌, ◌||◌, ◌==◌, List, [], ◌∷◌, codes}
+use Rattle.std.proofs.Common.{length, slice_index, drop, refl, ap, ◌∙◌, arith, if◌then◌else◌}
 use Rattle.std.proofs.lemmas.Bool.{eqb-true}
 use Rattle.std.proofs.lemmas.Bool.Decides.{nat_tests}
 use Rattle.cw_rules.specs.declared.classes.Class.TheVariants.{White}
@@ -25,11 +26,13 @@ other-empty : (n : ℕ) → (suc n == 0) ≡ false
 other-empty n = grind (arith, nat_tests)
 
 -- white space goes on before the dots and behind three of them
-pub void-white : (dots b : ℕ) (bs : List ℕ) → is_in White b ≡ true → may_be_white dots ≡ true → void_behind dots (b ∷ bs) ≡ void_behind dots bs
+pub void-white : (dots b : ℕ) (bs : List ℕ) → is_in White b ≡ true → may_be_white dots ≡ true
+    → void_behind dots (b ∷ bs) ≡ void_behind dots bs
 void-white zero b bs w m = ap (λ n. is_void_from (drop n (b ∷ bs))) (run-white b bs w ∙ one-more (run White bs))
 void-white (suc zero) b bs w m = cc
 void-white (suc (suc zero)) b bs w m = cc
-void-white (suc (suc (suc n))) b bs w m = ap (λ k. k == length (b ∷ bs)) (run-white b bs w ∙ one-more (run White bs)) ∙ suc-eq (run White bs) (length bs)
+void-white (suc (suc (suc n))) b bs w m = ap (λ k. k == length (b ∷ bs)) (run-white b bs w ∙ one-more (run White bs))
+    ∙ suc-eq (run White bs) (length bs)
 
 -- one dot more
 pub void-dot : (dots : ℕ) (bs : List ℕ) → dots < 3 → void_behind dots (46 ∷ bs) ≡ void_behind (dots + 1) bs
@@ -40,7 +43,8 @@ void-dot (suc (suc (suc n))) bs h = absurd (omega arith)
 
 uncoded-plain : (b : ℕ) (bs : List ℕ) → (b == 64) ≡ false → uncoded (b ∷ bs) ≡ b ∷ uncoded bs
 uncoded-plain b [] h = ap (λ t. if t then [] else b ∷ []) h
-uncoded-plain b (next ∷ bs) h = ap (λ t. if t then (if next == 64 then 64 ∷ uncoded bs else uncoded bs) else b ∷ uncoded (next ∷ bs)) h
+uncoded-plain b (next ∷ bs) h = ap (λ t. if t then (if next == 64 then 64 ∷ uncoded bs else uncoded bs) else b
+    ∷ uncoded (next ∷ bs)) h
 
 not-equal : (m n : ℕ) → (m ≡ n → ⊥) → (m == n) ≡ false
 not-equal m n h = by (m == n) refl
@@ -56,13 +60,16 @@ may-white (suc (suc zero)) a b = absurd (b refl)
 may-white (suc (suc (suc n))) a b = refl
 
 -- one byte of a name
-pub white-step : (dots : ℕ) (bytes : List ℕ) → 0 < length bytes → (slice_index bytes 0 ≡ 64 → ⊥) → is_in White (slice_index bytes 0) ≡ true
+pub white-step : (dots : ℕ) (bytes : List ℕ) → 0 < length bytes → (slice_index bytes 0 ≡ 64 → ⊥)
+    → is_in White (slice_index bytes 0) ≡ true
     → (dots ≡ 1 → ⊥) → (dots ≡ 2 → ⊥) → void_behind dots (uncoded bytes) ≡ void_behind dots (uncoded (drop 1 bytes))
 white-step dots [] some h w m n = absurd (omega arith)
-white-step dots (b ∷ bs) some h w m n = ap (void_behind dots) (uncoded-plain b bs (not-equal b 64 h)) ∙ void-white dots b (uncoded bs) w (may-white dots m n)
+white-step dots (b ∷ bs) some h w m n = ap (void_behind dots) (uncoded-plain b bs (not-equal b 64 h))
+    ∙ void-white dots b (uncoded bs) w (may-white dots m n)
 
 pub dot-step : (dots : ℕ) (bytes : List ℕ) → 0 < length bytes → slice_index bytes 0 ≡ 46 → dots < 3
     → void_behind dots (uncoded bytes) ≡ void_behind (dots + 1) (uncoded (drop 1 bytes))
 dot-step dots [] some e h = absurd (omega arith)
 dot-step dots (b ∷ bs) some e h =
-    ap (λ d. void_behind dots (uncoded (d ∷ bs))) e ∙ ap (void_behind dots) (uncoded-plain 46 bs refl) ∙ void-dot dots (uncoded bs) h
+    ap (λ d. void_behind dots (uncoded (d ∷ bs))) e ∙ ap (void_behind dots) (uncoded-plain 46 bs refl)
+    ∙ void-dot dots (uncoded bs) h

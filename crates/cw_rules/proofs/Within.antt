@@ -1,5 +1,7 @@
 -- What begins at a byte lies in the bytes that are left.
-use Rattle.std.proofs.Common.{◌≡◌, ℕ, suc, ◌+◌, ◌<◌, ◌≤◌, Bool, true, false, ◌&&◌, ◌||◌, not, ◌==◌, nat_lt, List, [], ◌∷◌, ◌++◌, length, drop, refl, sym, ap, ◌∙◌, arith, Option, Some, None, codes, subst, if◌then◌else◌}
+use Rattle.std.proofs.Common.{◌≡◌, ℕ, suc, ◌+◌, ◌<◌, ◌≤◌, Bool, true, false, ◌&&◌, ◌||◌, not, ◌==◌, nat_lt, List, []}
+use Rattle.std.proofs.Common.{◌∷◌, ◌++◌, length, drop, refl, sym, ap, ◌∙◌, arith, Option, Some, None, codes, subst}
+use Rattle.std.proofs.Common.{if◌then◌else◌}
 use Rattle.cw_base.proofs.TestLaws.{both-right}
 use Rattle.cw_base.specs.declared.notes.NoteKind.{NoteKind}
 use Rattle.cw_base.specs.declared.notes.NoteKind.TheVariants.{UnknownCode, MissingBrace, ImproperMacro, ImproperFormat}
@@ -16,15 +18,24 @@ use Rattle.cw_rules.specs.declared.parts.Start.{Start}
 use Rattle.cw_rules.specs.declared.parts.Start.TheVariants as start
 use Rattle.cw_rules.specs.declared.signs.Sign.{Sign}
 use Rattle.cw_rules.specs.declared.tokens.TokKind.TheVariants as kinds
-use Rattle.cw_rules.specs.Bytes.{newline, quote, hash, apostrophe, star, comma, slash, less, equals, right_paren, at_sign, bar, backslash, run, is_in, is_letter, begins, begins_with}
+use Rattle.cw_rules.specs.Bytes.{newline, quote, hash, apostrophe, star, comma, slash, less, equals, right_paren}
+use Rattle.cw_rules.specs.Bytes.{at_sign, bar, backslash, run, is_in, is_letter, begins, begins_with}
 use Rattle.cw_rules.specs.Signs.{all_signs, longest, spelling}
 use Rattle.cw_rules.specs.Constants.{constant}
 use Rattle.cw_rules.specs.Codes.{code_at, begins_section, effect_in_limbo, effect_in_tex}
 use Rattle.cw_rules.specs.Bodies.{extent, noted, one_note, note_unless}
 use Rattle.cw_rules.specs.Answers.{Answer, Token, Begin, Finish, Note, Where, Cut, Found, before, note_answers, plain}
 use Rattle.cw_rules.specs.Order.{AreWithin}
-use Rattle.cw_rules.specs.Tokens.{in_hash_line, behind_include, takes_hash_line, is_space, is_deep, ends_at_bar, closes_on_line, moved, one, skipped_byte, comment_end, inner_cut, comment_cut, part_cut, inner_or_none, all_cut, section, passed, line_end, sign_or_other, start_of, effect_in, code_by, in_code, string, code_token, dropped_code, include_name, code_text, piece_start, piece, comment_closed, comment_text, limbo_by, limbo_text, tex_by, tex_text, head_text, behind_white, name_follows, macro_name, is_parameter, parameter_follows, parameter, format_name, behind_head, part_text, in_text, found}
-use Rattle.cw_rules.proofs.Sizes.{begins-some, begins_with-le, run-le, constant-le, AllFit, longest-fits, extent-le, identifier-le, string-le, include_name-le, control_or_plain-le, code_token-le, section_code-le}
+use Rattle.cw_rules.specs.Tokens.{in_hash_line, behind_include, takes_hash_line, is_space, is_deep, ends_at_bar}
+use Rattle.cw_rules.specs.Tokens.{closes_on_line, moved, one, skipped_byte, comment_end, inner_cut, comment_cut}
+use Rattle.cw_rules.specs.Tokens.{part_cut, inner_or_none, all_cut, section, passed, line_end, sign_or_other, start_of}
+use Rattle.cw_rules.specs.Tokens.{effect_in, code_by, in_code, string, code_token, dropped_code, include_name}
+use Rattle.cw_rules.specs.Tokens.{code_text, piece_start, piece, comment_closed, comment_text, limbo_by, limbo_text}
+use Rattle.cw_rules.specs.Tokens.{tex_by, tex_text, head_text, behind_white, name_follows, macro_name, is_parameter}
+use Rattle.cw_rules.specs.Tokens.{parameter_follows, parameter, format_name, behind_head, part_text, in_text, found}
+use Rattle.cw_rules.proofs.Sizes.{begins-some, begins_with-le, run-le, constant-le, AllFit, longest-fits, extent-le}
+use Rattle.cw_rules.proofs.Sizes.{identifier-le, string-le, include_name-le, control_or_plain-le, code_token-le}
+use Rattle.cw_rules.proofs.Sizes.{section_code-le}
 
 -- What is found at a place fits in so many bytes.
 pub record Fits (place left : ℕ) (f : Found) : Type 0 where
@@ -35,51 +46,77 @@ notes-within : (low high : ℕ) (notes : List Noted) → AreWithin low high (not
 notes-within low high [] = tt
 notes-within low high (n ∷ notes) = notes-within low high notes
 
-pub append-within : (low high : ℕ) (xs ys : List Answer) → AreWithin low high xs → AreWithin low high ys → AreWithin low high (xs ++ ys)
+pub append-within : (low high : ℕ) (xs ys : List Answer) → AreWithin low high xs → AreWithin low high ys
+    → AreWithin low high (xs ++ ys)
 append-within low high [] ys h g = g
 append-within low high (Token t ∷ xs) ys h g = (h.0, append-within low high xs ys h.1 g)
 append-within low high (Begin t ∷ xs) ys h g = (h.0, append-within low high xs ys h.1 g)
 append-within low high (Finish t ∷ xs) ys h g = (h.0, append-within low high xs ys h.1 g)
 append-within low high (Note kind place ∷ xs) ys h g = append-within low high xs ys h g
 
-pub wider : (low high first last : ℕ) (xs : List Answer) → first ≤ low → high ≤ last → AreWithin low high xs → AreWithin first last xs
+pub wider : (low high first last : ℕ) (xs : List Answer) → first ≤ low → high ≤ last → AreWithin low high xs
+    → AreWithin first last xs
 wider low high first last [] l h g = tt
-wider low high first last (Token t ∷ xs) l h g = ((omega (arith, g.0.0), g.0.1, omega (arith, g.0.2)), wider low high first last xs l h g.1)
-wider low high first last (Begin t ∷ xs) l h g = ((omega (arith, g.0.0), g.0.1, omega (arith, g.0.2)), wider low high first last xs l h g.1)
-wider low high first last (Finish t ∷ xs) l h g = ((omega (arith, g.0.0), g.0.1, omega (arith, g.0.2)), wider low high first last xs l h g.1)
+wider low high first last (Token t ∷ xs) l h g = (
+  (omega (arith, g.0.0), g.0.1, omega (arith, g.0.2)),
+  wider low high first last xs l h g.1,
+)
+wider low high first last (Begin t ∷ xs) l h g = (
+  (omega (arith, g.0.0), g.0.1, omega (arith, g.0.2)),
+  wider low high first last xs l h g.1,
+)
+wider low high first last (Finish t ∷ xs) l h g = (
+  (omega (arith, g.0.0), g.0.1, omega (arith, g.0.2)),
+  wider low high first last xs l h g.1,
+)
 wider low high first last (Note kind place ∷ xs) l h g = wider low high first last xs l h g
 
-either : (place left : ℕ) (t : Bool) (f g : Found) → (t ≡ true → Fits place left f) → (t ≡ false → Fits place left g) → Fits place left (if t then f else g)
+either : (place left : ℕ) (t : Bool) (f g : Found) → (t ≡ true → Fits place left f) → (t ≡ false → Fits place left g)
+    → Fits place left (if t then f else g)
 either place left true f g h i = h refl
 either place left false f g h i = i refl
 
-one-fits : (hash_line : Bool) (next : Where) (place : ℕ) (bytes : List ℕ) (cut : Cut) (left : ℕ) → cut.size ≤ left → 0 < left → Fits place left (one hash_line next place bytes cut)
+one-fits : (hash_line : Bool) (next : Where) (place : ℕ) (bytes : List ℕ) (cut : Cut) (left : ℕ) → cut.size ≤ left
+    → 0 < left → Fits place left (one hash_line next place bytes cut)
 one-fits hash_line next place bytes cut left h some = record {
   within = ((omega arith, omega arith, omega (arith, h)), notes-within place (place + left) cut.notes);
   more = omega (arith, h, some);
 }
 
-before-fits : (place left : ℕ) (xs : List Answer) (f : Found) → AreWithin place (place + left) xs → Fits place left f → Fits place left (before xs f)
-before-fits place left xs f h g = record { within = append-within place (place + left) xs f.answers h g.within; more = g.more }
+before-fits : (place left : ℕ) (xs : List Answer) (f : Found) → AreWithin place (place + left) xs → Fits place left f
+    → Fits place left (before xs f)
+before-fits place left xs f h g = record {
+  within = append-within place (place + left) xs f.answers h g.within;
+  more = g.more;
+}
 
 skipped-fits : (place left : ℕ) (w : Where) → 0 < left → Fits place left (skipped_byte w)
 skipped-fits place left w some = record { within = tt; more = some }
 
 -- ## Ends
 
-missing-within : (low high : ℕ) (c : Opened) (about : ℕ) → AreWithin low high (note_answers (one_note (note_unless (c.braces == 0) MissingBrace about)))
+missing-within : (low high : ℕ) (c : Opened) (about : ℕ)
+    → AreWithin low high (note_answers (one_note (note_unless (c.braces == 0) MissingBrace about)))
 missing-within low high c about = notes-within low high (one_note (note_unless (c.braces == 0) MissingBrace about))
 
-comment_end-within : (hash_line : Bool) (c : Opened) (place size : ℕ) (bytes : List ℕ) (left : ℕ) → size ≤ left → AreWithin place (place + left) (comment_end hash_line c place size bytes)
-comment_end-within hash_line c place size bytes left h = ((omega arith, omega arith, omega (arith, h)), missing-within place (place + left) c place)
+comment_end-within : (hash_line : Bool) (c : Opened) (place size : ℕ) (bytes : List ℕ) (left : ℕ) → size ≤ left
+    → AreWithin place (place + left) (comment_end hash_line c place size bytes)
+comment_end-within hash_line c place size bytes left h =
+    ((omega arith, omega arith, omega (arith, h)), missing-within place (place + left) c place)
 
-inner_cut-within : (hash_line : Bool) (place about left : ℕ) → AreWithin place (place + left) (inner_cut hash_line place about)
+inner_cut-within : (hash_line : Bool) (place about left : ℕ)
+    → AreWithin place (place + left) (inner_cut hash_line place about)
 inner_cut-within hash_line place about left = ((omega arith, omega arith, omega arith), tt)
 
-comment_cut-within : (hash_line : Bool) (c : Opened) (place about left : ℕ) → AreWithin place (place + left) (comment_cut hash_line c place about)
-comment_cut-within hash_line c place about left = ((omega arith, omega arith, omega arith), missing-within place (place + left) c about)
+comment_cut-within : (hash_line : Bool) (c : Opened) (place about left : ℕ)
+    → AreWithin place (place + left) (comment_cut hash_line c place about)
+comment_cut-within hash_line c place about left = (
+  (omega arith, omega arith, omega arith),
+  missing-within place (place + left) c about,
+)
 
-inner-within : (inner hash_line : Bool) (place about left : ℕ) → AreWithin place (place + left) (inner_or_none inner hash_line place about)
+inner-within : (inner hash_line : Bool) (place about left : ℕ)
+    → AreWithin place (place + left) (inner_or_none inner hash_line place about)
 inner-within true hash_line place about left = inner_cut-within hash_line place about left
 inner-within false hash_line place about left = tt
 
@@ -97,30 +134,39 @@ part_cut-within parts.Definition place about left = tt
 part_cut-within parts.Inner place about left = tt
 part_cut-within parts.Head place about left = tt
 
-pub all_cut-within : (part : Part) (comments : List Opened) (place about left : ℕ) → AreWithin place (place + left) (all_cut part comments place about)
+pub all_cut-within : (part : Part) (comments : List Opened) (place about left : ℕ)
+    → AreWithin place (place + left) (all_cut part comments place about)
 all_cut-within part [] place about left = part_cut-within part place about left
 all_cut-within part (c ∷ comments) place about left =
     let hash_line = in_hash_line part in
-    append-within place (place + left) (inner_or_none c.inner hash_line place about) (comment_cut hash_line c place about ++ all_cut part comments place about)
+    append-within place (place + left) (inner_or_none c.inner hash_line place about)
+    (comment_cut hash_line c place about ++ all_cut part comments place about)
     (inner-within c.inner hash_line place about left)
-    (append-within place (place + left) (comment_cut hash_line c place about) (all_cut part comments place about) (comment_cut-within hash_line c place about left) (all_cut-within part comments place about left))
+    (append-within place (place + left) (comment_cut hash_line c place about) (all_cut part comments place about)
+    (comment_cut-within hash_line c place about left) (all_cut-within part comments place about left))
 
 section-fits : (w : Where) (place : ℕ) (bytes : List ℕ) → Fits place (suc (length bytes)) (section w place bytes)
 section-fits w place bytes =
-    before-fits place (suc (length bytes)) (all_cut w.part w.comments place place) _ (all_cut-within w.part w.comments place place (suc (length bytes)))
-    (one-fits false (record { part = parts.Tex; comments = [] }) place (at_sign ∷ bytes) _ (suc (length bytes)) (section_code-le at_sign bytes) (omega arith))
+    before-fits place (suc (length bytes)) (all_cut w.part w.comments place place) _
+    (all_cut-within w.part w.comments place place (suc (length bytes)))
+    (one-fits false (record { part = parts.Tex; comments = [] }) place (at_sign ∷ bytes) _ (suc (length bytes))
+    (section_code-le at_sign bytes) (omega arith))
 
-line_end-fits : (part : Part) (comments : List Opened) (last place left : ℕ) → 0 < left → Fits place left (line_end part comments last place)
+line_end-fits : (part : Part) (comments : List Opened) (last place left : ℕ) → 0 < left
+    → Fits place left (line_end part comments last place)
 line_end-fits part [] last place left some =
     either place left (in_hash_line part && not (last == backslash)) _ _
-    (λ h. one-fits true (record { part = parts.Plain false false; comments = [] }) place (newline ∷ []) (plain kinds.HashLineEnd 1) left some some)
+    (λ h. one-fits true (record { part = parts.Plain false false; comments = [] }) place (newline ∷ [])
+    (plain kinds.HashLineEnd 1) left some some)
     (λ h. skipped-fits place left (record { part = part; comments = [] }) some)
 line_end-fits part (c ∷ comments) last place left some =
     let hash_line = in_hash_line part in
     either place left c.long _ _
     (λ h. skipped-fits place left (record { part = part; comments = c ∷ comments }) some)
-    (λ h. before-fits place left (inner_cut hash_line place place ++ comment_end hash_line c place 0 []) (line_end (passed part) comments last place)
-    (append-within place (place + left) (inner_cut hash_line place place) (comment_end hash_line c place 0 []) (inner_cut-within hash_line place place left) (comment_end-within hash_line c place 0 [] left (omega arith)))
+    (λ h. before-fits place left (inner_cut hash_line place place ++ comment_end hash_line c place 0 [])
+    (line_end (passed part) comments last place)
+    (append-within place (place + left) (inner_cut hash_line place place) (comment_end hash_line c place 0 [])
+    (inner_cut-within hash_line place place left) (comment_end-within hash_line c place 0 [] left (omega arith)))
     (line_end-fits (passed part) comments last place left some))
 
 -- ## C text
@@ -136,7 +182,8 @@ StartFits start.EndOfInner bytes = Unit {0}
 StartFits (start.Sign sign) bytes = length (spelling sign) ≤ suc (length bytes)
 StartFits start.OtherByte bytes = Unit {0}
 
-either-start : (t : Bool) (a b : Start) (bytes : List ℕ) → (t ≡ true → StartFits a bytes) → (t ≡ false → StartFits b bytes) → StartFits (if t then a else b) bytes
+either-start : (t : Bool) (a b : Start) (bytes : List ℕ) → (t ≡ true → StartFits a bytes)
+    → (t ≡ false → StartFits b bytes) → StartFits (if t then a else b) bytes
 either-start true a b bytes f g = f refl
 either-start false a b bytes f g = g refl
 
@@ -152,8 +199,10 @@ start_of-fits bar_ends byte bytes =
     either-start (is_letter byte) _ _ bytes (λ h. tt)
     (λ h. either-start (nat_lt 0 (constant (byte ∷ bytes))) _ _ bytes (λ h. tt)
     (λ h. either-start (byte == quote || byte == apostrophe) _ _ bytes (λ h. tt)
-    (λ h. either-start (byte == slash && begins star bytes) _ _ bytes (λ h. begins-some star bytes (both-right (byte == slash) (begins star bytes) h))
-    (λ h. either-start (byte == slash && begins slash bytes) _ _ bytes (λ h. begins-some slash bytes (both-right (byte == slash) (begins slash bytes) h))
+    (λ h. either-start (byte == slash && begins star bytes) _ _ bytes
+    (λ h. begins-some star bytes (both-right (byte == slash) (begins star bytes) h))
+    (λ h. either-start (byte == slash && begins slash bytes) _ _ bytes
+    (λ h. begins-some slash bytes (both-right (byte == slash) (begins slash bytes) h))
     (λ h. either-start (byte == at_sign) _ _ bytes (λ h. refl)
     (λ h. either-start (byte == bar && (bar_ends && not (begins bar bytes))) _ _ bytes (λ h. tt)
     (λ h. sign-fits byte bytes)))))))
@@ -163,99 +212,139 @@ effect-unknown parts.Definition [] = refl
 effect-unknown parts.Begin [] = refl
 effect-unknown part comments = refl
 
-code_by-fits : (effect : Effect) (code : Code) (w : Where) (place byte next : ℕ) (bytes : List ℕ) → Fits place (suc (suc (length bytes))) (code_by effect code w place (byte ∷ next ∷ bytes))
-code_by-fits effects.Stands code w place byte next bytes = one-fits _ _ place (byte ∷ next ∷ bytes) (code_token code place (byte ∷ next ∷ bytes)) (suc (suc (length bytes))) (code_token-le code place byte next bytes) (omega arith)
+code_by-fits : (effect : Effect) (code : Code) (w : Where) (place byte next : ℕ) (bytes : List ℕ)
+    → Fits place (suc (suc (length bytes))) (code_by effect code w place (byte ∷ next ∷ bytes))
+code_by-fits effects.Stands code w place byte next bytes = one-fits _ _ place (byte ∷ next ∷ bytes)
+    (code_token code place (byte ∷ next ∷ bytes)) (suc (suc (length bytes))) (code_token-le code place byte next bytes)
+    (omega arith)
 code_by-fits (effects.Drops note) code w place byte next bytes =
-    one-fits _ _ place (byte ∷ next ∷ bytes) (dropped_code note code place (byte ∷ next ∷ bytes)) (suc (suc (length bytes))) (control_or_plain-le code place byte next bytes) (omega arith)
+    one-fits _ _ place (byte ∷ next ∷ bytes) (dropped_code note code place (byte ∷ next ∷ bytes))
+    (suc (suc (length bytes))) (control_or_plain-le code place byte next bytes) (omega arith)
 code_by-fits effects.Defines code w place byte next bytes = search (one-fits, arith)
 code_by-fits effects.Formats code w place byte next bytes = search (one-fits, arith)
 code_by-fits effects.BeginsC code w place byte next bytes = search (one-fits, arith)
 
 -- a code, which may be the last byte
-code-fits : (part : Part) (comments : List Opened) (code : Code) (place byte : ℕ) (bytes : List ℕ) → code ≡ code_at bytes
-    → Fits place (suc (length bytes)) (code_by (effect_in part comments code) code (record { part = part; comments = comments }) place (byte ∷ bytes))
-code-fits part comments code place byte (next ∷ bytes) e = code_by-fits (effect_in part comments code) code (record { part = part; comments = comments }) place byte next bytes
+code-fits : (part : Part) (comments : List Opened) (code : Code) (place byte : ℕ) (bytes : List ℕ)
+    → code ≡ code_at bytes
+    → Fits place (suc (length bytes)) (code_by (effect_in part comments code) code
+    (record { part = part; comments = comments }) place (byte ∷ bytes))
+code-fits part comments code place byte (next ∷ bytes) e = code_by-fits (effect_in part comments code) code
+    (record { part = part; comments = comments }) place byte next bytes
 code-fits part comments code place byte [] e =
     let w : Where = record { part = part; comments = comments } in
     let P : Code → Type 0 = λ code. Fits place 1 (code_by (effect_in part comments code) code w place (byte ∷ [])) in
     let Q : Effect → Type 0 = λ effect. Fits place 1 (code_by effect at.Unknown w place (byte ∷ [])) in
     subst P (sym e) (subst Q (sym (effect-unknown part comments)) (search (one-fits, arith)))
 
-in_code-fits : (begins : Start) (w : Where) (place byte : ℕ) (bytes : List ℕ) → StartFits begins bytes → Fits place (suc (length bytes)) (in_code begins w place (byte ∷ bytes))
+in_code-fits : (begins : Start) (w : Where) (place byte : ℕ) (bytes : List ℕ) → StartFits begins bytes
+    → Fits place (suc (length bytes)) (in_code begins w place (byte ∷ bytes))
 in_code-fits start.Identifier w place byte bytes h = search (one-fits, arith, identifier-le (byte ∷ bytes))
 in_code-fits start.Constant w place byte bytes h = search (one-fits, arith, constant-le (byte ∷ bytes))
 in_code-fits (start.Quoted quote) w place byte bytes h =
-    one-fits _ _ place (byte ∷ bytes) (string kinds.Quoted 1 quote place (byte ∷ bytes)) (suc (length bytes)) (string-le kinds.Quoted 1 quote place (byte ∷ bytes) (omega arith)) (omega arith)
-in_code-fits start.LongComment w place byte bytes h = record { within = ((omega arith, omega arith, omega (arith, h)), tt); more = omega (arith, h) }
-in_code-fits start.ShortComment w place byte bytes h = record { within = ((omega arith, omega arith, omega (arith, h)), tt); more = omega (arith, h) }
+    one-fits _ _ place (byte ∷ bytes) (string kinds.Quoted 1 quote place (byte ∷ bytes)) (suc (length bytes))
+    (string-le kinds.Quoted 1 quote place (byte ∷ bytes) (omega arith)) (omega arith)
+in_code-fits start.LongComment w place byte bytes h =
+    record { within = ((omega arith, omega arith, omega (arith, h)), tt); more = omega (arith, h) }
+in_code-fits start.ShortComment w place byte bytes h =
+    record { within = ((omega arith, omega arith, omega (arith, h)), tt); more = omega (arith, h) }
 in_code-fits (start.Code code) w place byte bytes h = code-fits w.part w.comments code place byte bytes h
-in_code-fits start.EndOfInner w place byte bytes h = record { within = ((omega arith, omega arith, omega arith), tt); more = omega arith }
+in_code-fits start.EndOfInner w place byte bytes h =
+    record { within = ((omega arith, omega arith, omega arith), tt); more = omega arith }
 in_code-fits (start.Sign sign) w place byte bytes h = search (one-fits, arith, h)
 in_code-fits start.OtherByte w place byte bytes h = search (one-fits, arith)
 
-code_text-fits : (w : Where) (fresh : Bool) (last place byte : ℕ) (bytes : List ℕ) → Fits place (suc (length bytes)) (code_text w fresh last place byte bytes)
+code_text-fits : (w : Where) (fresh : Bool) (last place byte : ℕ) (bytes : List ℕ)
+    → Fits place (suc (length bytes)) (code_text w fresh last place byte bytes)
 code_text-fits w fresh last place byte bytes =
     let left = suc (length bytes) in
     either place left (byte == newline) _ _ (λ h. line_end-fits w.part w.comments last place left (omega arith))
     (λ h. either place left (is_space w.part byte bytes) _ _ (λ h. skipped-fits place left w (omega arith))
-    (λ h. either place left (byte == hash && (takes_hash_line w.part w.comments && fresh)) _ _ (λ h. search (one-fits, arith))
+    (λ h. either place left (byte == hash && (takes_hash_line w.part w.comments && fresh)) _ _
+    (λ h. search (one-fits, arith))
     (λ h. either place left (byte == less && (behind_include w.part && closes_on_line bytes)) _ _
     (λ h. one-fits _ _ place (byte ∷ bytes) (include_name place (byte ∷ bytes)) left
-    (include_name-le place byte bytes (both-right (behind_include w.part) (closes_on_line bytes) (both-right (byte == less) (behind_include w.part && closes_on_line bytes) h))) (omega arith))
-    (λ h. in_code-fits (start_of (ends_at_bar w.part w.comments) byte bytes) w place byte bytes (start_of-fits (ends_at_bar w.part w.comments) byte bytes)))))
+    (include_name-le place byte bytes (both-right (behind_include w.part) (closes_on_line bytes)
+    (both-right (byte == less) (behind_include w.part && closes_on_line bytes) h))) (omega arith))
+    (λ h. in_code-fits (start_of (ends_at_bar w.part w.comments) byte bytes) w place byte bytes
+    (start_of-fits (ends_at_bar w.part w.comments) byte bytes)))))
 
 -- ## Comments
 
-piece-fits : (part : Part) (comments : List Opened) (c : Opened) (place byte : ℕ) (bytes : List ℕ) → Fits place (suc (length bytes)) (piece part comments c place (byte ∷ bytes))
+piece-fits : (part : Part) (comments : List Opened) (c : Opened) (place byte : ℕ) (bytes : List ℕ)
+    → Fits place (suc (length bytes)) (piece part comments c place (byte ∷ bytes))
 piece-fits part comments c place byte bytes =
     let i = piece_start part comments c place in
-    one-fits _ _ place (byte ∷ bytes) (record { kind = kinds.Text; size = (extent i (byte ∷ bytes)).size; notes = noted i (byte ∷ bytes) }) (suc (length bytes)) (extent-le i (byte ∷ bytes)) (omega arith)
+    one-fits _ _ place (byte ∷ bytes) (record {
+      kind = kinds.Text;
+      size = (extent i (byte ∷ bytes)).size;
+      notes = noted i (byte ∷ bytes);
+    }) (suc (length bytes)) (extent-le i (byte ∷ bytes)) (omega arith)
 
-comment_text-fits : (part : Part) (c : Opened) (comments : List Opened) (last place byte : ℕ) (bytes : List ℕ) → Fits place (suc (length bytes)) (comment_text part c comments last place byte bytes)
+comment_text-fits : (part : Part) (c : Opened) (comments : List Opened) (last place byte : ℕ) (bytes : List ℕ)
+    → Fits place (suc (length bytes)) (comment_text part c comments last place byte bytes)
 comment_text-fits part c comments last place byte bytes =
     let left = suc (length bytes) in
     let hash_line = in_hash_line part in
     either place left (c.long && (byte == star && begins slash bytes)) _ _
-    (λ h. closed (begins-some slash bytes (both-right (byte == star) (begins slash bytes) (both-right c.long (byte == star && begins slash bytes) h))))
+    (λ h. closed (begins-some slash bytes (both-right (byte == star) (begins slash bytes)
+    (both-right c.long (byte == star && begins slash bytes) h))))
     (λ h. either place left (not c.long && byte == newline) _ _
-    (λ h. before-fits place left (comment_end hash_line c place 0 []) (line_end part comments last place) (comment_end-within hash_line c place 0 [] left (omega arith)) (line_end-fits part comments last place left (omega arith)))
+    (λ h. before-fits place left (comment_end hash_line c place 0 []) (line_end part comments last place)
+    (comment_end-within hash_line c place 0 [] left (omega arith))
+    (line_end-fits part comments last place left (omega arith)))
     (λ h. either place left (byte == bar && not (is_deep part (c ∷ comments))) _ _
     (λ h. record { within = ((omega arith, omega arith, omega arith), tt); more = omega arith })
     (λ h. piece-fits part comments c place byte bytes)))
   where
     closed : 0 < length bytes → Fits place (suc (length bytes)) (comment_closed part c comments place (byte ∷ bytes))
-    closed some = record { within = comment_end-within (in_hash_line part) c place 2 (byte ∷ bytes) (suc (length bytes)) (omega (arith, some)); more = omega (arith, some) }
+    closed some = record {
+      within = comment_end-within (in_hash_line part) c place 2 (byte ∷ bytes) (suc (length bytes))
+          (omega (arith, some));
+      more = omega (arith, some);
+    }
 
 -- ## Limbo, TeX text and heads
 
-limbo-code-fits : (w : Where) (place byte : ℕ) (bytes : List ℕ) → Fits place (suc (length bytes)) (limbo_by (effect_in_limbo (code_at bytes)) (code_at bytes) w place (byte ∷ bytes))
+limbo-code-fits : (w : Where) (place byte : ℕ) (bytes : List ℕ)
+    → Fits place (suc (length bytes)) (limbo_by (effect_in_limbo (code_at bytes)) (code_at bytes) w place
+    (byte ∷ bytes))
 limbo-code-fits w place byte [] = search (one-fits, arith)
 limbo-code-fits w place byte (next ∷ bytes) = by (effect_in_limbo (code_at (next ∷ bytes))) (code_at (next ∷ bytes))
   where
-    by : (effect : Effect) (code : Code) → Fits place (suc (suc (length bytes))) (limbo_by effect code w place (byte ∷ next ∷ bytes))
-    by effects.Stands code = one-fits _ _ place (byte ∷ next ∷ bytes) (code_token code place (byte ∷ next ∷ bytes)) (suc (suc (length bytes))) (code_token-le code place byte next bytes) (omega arith)
+    by : (effect : Effect) (code : Code) → Fits place (suc (suc (length bytes)))
+        (limbo_by effect code w place (byte ∷ next ∷ bytes))
+    by effects.Stands code = one-fits _ _ place (byte ∷ next ∷ bytes) (code_token code place (byte ∷ next ∷ bytes))
+        (suc (suc (length bytes))) (code_token-le code place byte next bytes) (omega arith)
     by effects.Formats code = search (one-fits, arith)
     by (effects.Drops note) code = search (one-fits, arith)
     by effects.Defines code = skipped-fits place (suc (suc (length bytes))) w (omega arith)
     by effects.BeginsC code = skipped-fits place (suc (suc (length bytes))) w (omega arith)
 
-limbo_text-fits : (w : Where) (place byte : ℕ) (bytes : List ℕ) → Fits place (suc (length bytes)) (limbo_text w place byte bytes)
+limbo_text-fits : (w : Where) (place byte : ℕ) (bytes : List ℕ)
+    → Fits place (suc (length bytes)) (limbo_text w place byte bytes)
 limbo_text-fits w place byte bytes =
     either place (suc (length bytes)) (byte == at_sign) _ _ (λ h. limbo-code-fits w place byte bytes)
     (λ h. search (one-fits, arith, run-le classes.LimboText (byte ∷ bytes)))
 
-tex-code-fits : (w : Where) (place byte : ℕ) (bytes : List ℕ) → Fits place (suc (length bytes)) (tex_by (effect_in_tex (code_at bytes)) (code_at bytes) w place (byte ∷ bytes))
+tex-code-fits : (w : Where) (place byte : ℕ) (bytes : List ℕ)
+    → Fits place (suc (length bytes)) (tex_by (effect_in_tex (code_at bytes)) (code_at bytes) w place (byte ∷ bytes))
 tex-code-fits w place byte [] = search (one-fits, arith)
 tex-code-fits w place byte (next ∷ bytes) = by (effect_in_tex (code_at (next ∷ bytes))) (code_at (next ∷ bytes))
   where
-    by : (effect : Effect) (code : Code) → Fits place (suc (suc (length bytes))) (tex_by effect code w place (byte ∷ next ∷ bytes))
-    by effects.Stands code = one-fits _ _ place (byte ∷ next ∷ bytes) (code_token code place (byte ∷ next ∷ bytes)) (suc (suc (length bytes))) (code_token-le code place byte next bytes) (omega arith)
-    by (effects.Drops note) code = one-fits _ _ place (byte ∷ next ∷ bytes) (dropped_code note code place (byte ∷ next ∷ bytes)) (suc (suc (length bytes))) (control_or_plain-le code place byte next bytes) (omega arith)
+    by : (effect : Effect) (code : Code) → Fits place (suc (suc (length bytes)))
+        (tex_by effect code w place (byte ∷ next ∷ bytes))
+    by effects.Stands code = one-fits _ _ place (byte ∷ next ∷ bytes) (code_token code place (byte ∷ next ∷ bytes))
+        (suc (suc (length bytes))) (code_token-le code place byte next bytes) (omega arith)
+    by (effects.Drops note) code = one-fits _ _ place (byte ∷ next ∷ bytes)
+        (dropped_code note code place (byte ∷ next ∷ bytes)) (suc (suc (length bytes)))
+        (control_or_plain-le code place byte next bytes) (omega arith)
     by effects.Formats code = search (one-fits, arith)
     by effects.Defines code = search (one-fits, arith)
     by effects.BeginsC code = search (one-fits, arith)
 
-tex_text-fits : (w : Where) (place byte : ℕ) (bytes : List ℕ) → Fits place (suc (length bytes)) (tex_text w place byte bytes)
+tex_text-fits : (w : Where) (place byte : ℕ) (bytes : List ℕ)
+    → Fits place (suc (length bytes)) (tex_text w place byte bytes)
 tex_text-fits w place byte bytes =
     let left = suc (length bytes) in
     either place left (byte == at_sign) _ _ (λ h. tex-code-fits w place byte bytes)
@@ -263,7 +352,8 @@ tex_text-fits w place byte bytes =
     (λ h. record { within = ((omega arith, omega arith, omega arith), tt); more = omega arith })
     (λ h. search (one-fits, arith, run-le classes.TexText (byte ∷ bytes))))
 
-head_text-fits : (w : Where) (place byte : ℕ) (bytes : List ℕ) → Fits place (suc (length bytes)) (head_text w place byte bytes)
+head_text-fits : (w : Where) (place byte : ℕ) (bytes : List ℕ)
+    → Fits place (suc (length bytes)) (head_text w place byte bytes)
 head_text-fits w place byte bytes =
     let left = suc (length bytes) in
     either place left (is_in classes.Blank byte) _ _ (λ h. skipped-fits place left w (omega arith))
@@ -273,26 +363,31 @@ head_text-fits w place byte bytes =
     sign-size true h = omega (arith, h refl)
     sign-size false h = omega arith
 
-macro_name-fits : (code : ℕ) (w : Where) (place byte : ℕ) (bytes : List ℕ) → Fits place (suc (length bytes)) (macro_name code w place byte bytes)
+macro_name-fits : (code : ℕ) (w : Where) (place byte : ℕ) (bytes : List ℕ)
+    → Fits place (suc (length bytes)) (macro_name code w place byte bytes)
 macro_name-fits code w place byte bytes =
     let left = suc (length bytes) in
     either place left (is_in classes.White byte) _ _ (λ h. skipped-fits place left w (omega arith))
     (λ h. search (one-fits, arith, identifier-le (byte ∷ bytes)))
 
-format_name-fits : (code : ℕ) (second limbo : Bool) (w : Where) (place byte : ℕ) (bytes : List ℕ) → Fits place (suc (length bytes)) (format_name code second limbo w place byte bytes)
+format_name-fits : (code : ℕ) (second limbo : Bool) (w : Where) (place byte : ℕ) (bytes : List ℕ)
+    → Fits place (suc (length bytes)) (format_name code second limbo w place byte bytes)
 format_name-fits code second limbo w place byte bytes =
     let left = suc (length bytes) in
     either place left (is_in classes.White byte) _ _ (λ h. skipped-fits place left w (omega arith))
     (λ h. search (one-fits, arith, identifier-le (byte ∷ bytes)))
 
 -- where a parameter follows and none of the others stands, it is `...`
-dots-follow : (letter : Bool) (is_comma is_paren dots : Bool) → (letter || (is_comma || (is_paren || dots))) ≡ true → letter ≡ false → is_comma ≡ false → is_paren ≡ false → dots ≡ true
+dots-follow : (letter : Bool) (is_comma is_paren dots : Bool) → (letter || (is_comma || (is_paren || dots))) ≡ true
+    → letter ≡ false → is_comma ≡ false → is_paren ≡ false → dots ≡ true
 dots-follow letter is_comma is_paren dots h l c p = cc
 
 not-white : (byte : ℕ) (bytes : List ℕ) → is_in classes.White byte ≡ false → behind_white (byte ∷ bytes) ≡ byte ∷ bytes
-not-white byte bytes h = ap (λ t. drop (elim t as (λ t. ℕ) [ true ↦ 1 + run classes.White bytes | false ↦ 0 ]) (byte ∷ bytes)) h
+not-white byte bytes h = ap (λ t. drop (elim t as (λ t. ℕ) [ true ↦ 1 + run classes.White bytes | false ↦ 0 ])
+    (byte ∷ bytes)) h
 
-parameter-fits : (w : Where) (place byte : ℕ) (bytes : List ℕ) → parameter_follows (byte ∷ bytes) ≡ true → Fits place (suc (length bytes)) (parameter w place byte bytes)
+parameter-fits : (w : Where) (place byte : ℕ) (bytes : List ℕ) → parameter_follows (byte ∷ bytes) ≡ true
+    → Fits place (suc (length bytes)) (parameter w place byte bytes)
 parameter-fits w place byte bytes follows =
     let left = suc (length bytes) in
     either place left (is_in classes.White byte) _ _ (λ h. skipped-fits place left w (omega arith))
@@ -303,43 +398,58 @@ parameter-fits w place byte bytes follows =
       one-fits,
       arith,
       begins_with-le (codes "...") (byte ∷ bytes)
-          (dots-follow (is_letter byte) (byte == comma) (byte == right_paren) (begins_with (codes "...") (byte ∷ bytes)) (ap is_parameter (sym (not-white byte bytes white)) ∙ follows) l c p),
+          (dots-follow (is_letter byte) (byte == comma) (byte == right_paren) (begins_with (codes "...") (byte ∷ bytes))
+          (ap is_parameter (sym (not-white byte bytes white)) ∙ follows) l c p),
     )))))
 
-behind_head-fits : (limbo : Bool) (w : Where) (fresh : Bool) (last place byte : ℕ) (bytes : List ℕ) → Fits place (suc (length bytes)) (behind_head limbo w fresh last place byte bytes)
+behind_head-fits : (limbo : Bool) (w : Where) (fresh : Bool) (last place byte : ℕ) (bytes : List ℕ)
+    → Fits place (suc (length bytes)) (behind_head limbo w fresh last place byte bytes)
 behind_head-fits true w fresh last place byte bytes = limbo_text-fits (moved w parts.Limbo) place byte bytes
-behind_head-fits false w fresh last place byte bytes = code_text-fits (moved w parts.Definition) fresh last place byte bytes
+behind_head-fits false w fresh last place byte bytes = code_text-fits (moved w parts.Definition) fresh last place byte
+    bytes
 
-improper-fits : (note : NoteKind) (code : ℕ) (limbo : Bool) (w : Where) (fresh : Bool) (last place byte : ℕ) (bytes : List ℕ)
+improper-fits : (note : NoteKind) (code : ℕ) (limbo : Bool) (w : Where) (fresh : Bool) (last place byte : ℕ)
+    (bytes : List ℕ)
     → Fits place (suc (length bytes)) (before (Note note code ∷ []) (behind_head limbo w fresh last place byte bytes))
 improper-fits note code limbo w fresh last place byte bytes =
-    before-fits place (suc (length bytes)) (Note note code ∷ []) (behind_head limbo w fresh last place byte bytes) tt (behind_head-fits limbo w fresh last place byte bytes)
+    before-fits place (suc (length bytes)) (Note note code ∷ []) (behind_head limbo w fresh last place byte bytes) tt
+    (behind_head-fits limbo w fresh last place byte bytes)
 
 -- ## Any text
 
-part_text-fits : (part : Part) (w : Where) (fresh : Bool) (last place byte : ℕ) (bytes : List ℕ) → Fits place (suc (length bytes)) (part_text part w fresh last place byte bytes)
+part_text-fits : (part : Part) (w : Where) (fresh : Bool) (last place byte : ℕ) (bytes : List ℕ)
+    → Fits place (suc (length bytes)) (part_text part w fresh last place byte bytes)
 part_text-fits parts.Limbo w fresh last place byte bytes = limbo_text-fits w place byte bytes
 part_text-fits parts.Tex w fresh last place byte bytes = tex_text-fits w place byte bytes
 part_text-fits parts.Head w fresh last place byte bytes = head_text-fits w place byte bytes
 part_text-fits (parts.MacroName code) w fresh last place byte bytes =
-    either place (suc (length bytes)) (name_follows (byte ∷ bytes)) _ _ (λ h. macro_name-fits code w place byte bytes) (λ h. improper-fits ImproperMacro code false w fresh last place byte bytes)
+    either place (suc (length bytes)) (name_follows (byte ∷ bytes)) _ _ (λ h. macro_name-fits code w place byte bytes)
+    (λ h. improper-fits ImproperMacro code false w fresh last place byte bytes)
 part_text-fits (parts.MacroParen code) w fresh last place byte bytes = search (one-fits, arith)
 part_text-fits (parts.Parameters code) w fresh last place byte bytes =
-    either place (suc (length bytes)) (parameter_follows (byte ∷ bytes)) _ _ (λ h. parameter-fits w place byte bytes h) (λ h. improper-fits ImproperMacro code false w fresh last place byte bytes)
+    either place (suc (length bytes)) (parameter_follows (byte ∷ bytes)) _ _ (λ h. parameter-fits w place byte bytes h)
+    (λ h. improper-fits ImproperMacro code false w fresh last place byte bytes)
 part_text-fits (parts.FormatName code second limbo) w fresh last place byte bytes =
-    either place (suc (length bytes)) (name_follows (byte ∷ bytes)) _ _ (λ h. format_name-fits code second limbo w place byte bytes) (λ h. improper-fits ImproperFormat code limbo w fresh last place byte bytes)
+    either place (suc (length bytes)) (name_follows (byte ∷ bytes)) _ _ (λ h. format_name-fits code second limbo w place
+    byte bytes) (λ h. improper-fits ImproperFormat code limbo w fresh last place byte bytes)
 part_text-fits parts.TexInner w fresh last place byte bytes = code_text-fits w fresh last place byte bytes
 part_text-fits parts.Begin w fresh last place byte bytes = code_text-fits w fresh last place byte bytes
-part_text-fits (parts.Plain hash_line include) w fresh last place byte bytes = code_text-fits w fresh last place byte bytes
+part_text-fits (parts.Plain hash_line include) w fresh last place byte bytes =
+    code_text-fits w fresh last place byte bytes
 part_text-fits parts.Definition w fresh last place byte bytes = code_text-fits w fresh last place byte bytes
 part_text-fits parts.Inner w fresh last place byte bytes = code_text-fits w fresh last place byte bytes
 
-in_text-fits : (part : Part) (comments : List Opened) (fresh : Bool) (last place byte : ℕ) (bytes : List ℕ) → Fits place (suc (length bytes)) (in_text part comments fresh last place byte bytes)
-in_text-fits part [] fresh last place byte bytes = part_text-fits part (record { part = part; comments = [] }) fresh last place byte bytes
+in_text-fits : (part : Part) (comments : List Opened) (fresh : Bool) (last place byte : ℕ) (bytes : List ℕ)
+    → Fits place (suc (length bytes)) (in_text part comments fresh last place byte bytes)
+in_text-fits part [] fresh last place byte bytes = part_text-fits part (record { part = part; comments = [] }) fresh
+    last place byte bytes
 in_text-fits part (c ∷ comments) fresh last place byte bytes =
     either place (suc (length bytes)) c.inner _ _
-    (λ h. code_text-fits (record { part = part; comments = c ∷ comments }) fresh last place byte bytes) (λ h. comment_text-fits part c comments last place byte bytes)
+    (λ h. code_text-fits (record { part = part; comments = c ∷ comments }) fresh last place byte bytes)
+    (λ h. comment_text-fits part c comments last place byte bytes)
 
-pub found-fits : (w : Where) (fresh : Bool) (last place byte : ℕ) (bytes : List ℕ) → Fits place (suc (length bytes)) (found w fresh last place byte bytes)
+pub found-fits : (w : Where) (fresh : Bool) (last place byte : ℕ) (bytes : List ℕ)
+    → Fits place (suc (length bytes)) (found w fresh last place byte bytes)
 found-fits w fresh last place byte bytes =
-    either place (suc (length bytes)) (byte == at_sign && begins_section bytes) _ _ (λ h. section-fits w place bytes) (λ h. in_text-fits w.part w.comments fresh last place byte bytes)
+    either place (suc (length bytes)) (byte == at_sign && begins_section bytes) _ _ (λ h. section-fits w place bytes)
+    (λ h. in_text-fits w.part w.comments fresh last place byte bytes)

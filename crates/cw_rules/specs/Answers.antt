@@ -63,7 +63,12 @@ note_answers (n ∷ notes) = Note n.kind n.place ∷ note_answers notes
 -- a token of this size at a place
 abbrev pub token_of : Bool → TokKind → ℕ → ℕ → List ℕ → Seen
 token_of hash_line kind place size bytes =
-    record { kind = kind; text = take size bytes; span = record { start = place; end = place + size }; hash_line = hash_line }
+    record {
+      kind = kind;
+      text = take size bytes;
+      span = record { start = place; end = place + size };
+      hash_line = hash_line;
+    }
 
 -- a cut without notes
 abbrev pub plain : TokKind → ℕ → Cut

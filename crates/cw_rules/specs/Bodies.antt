@@ -1,14 +1,17 @@
 -- The insides of strings, include names, control texts, section names and pieces of comments. Each goes on byte by byte
 -- until it stops; some bytes take the next one along, and some have a note.
-use Rattle.std.specs.Prelude.{ℕ, ◌+◌, ◌-◌, Bool, true, false, ◌&&◌, ◌||◌, not, ◌==◌, List, [], ◌∷◌, ◌++◌, Option, Some, None, codes, drop, length, if◌then◌else◌}
+use Rattle.std.specs.Prelude.{ℕ, ◌+◌, ◌-◌, Bool, true, false, ◌&&◌, ◌||◌, not, ◌==◌, List, [], ◌∷◌, ◌++◌, Option, Some}
+use Rattle.std.specs.Prelude.{None, codes, drop, length, if◌then◌else◌}
 use Rattle.cw_base.specs.declared.notes.NoteKind.{NoteKind}
-use Rattle.cw_base.specs.declared.notes.NoteKind.TheVariants.{AtInString, CodeInControlText, CodeInName, AtInComment, ExtraBrace, TooDeep}
+use Rattle.cw_base.specs.declared.notes.NoteKind.TheVariants.{AtInString, CodeInControlText, CodeInName, AtInComment}
+use Rattle.cw_base.specs.declared.notes.NoteKind.TheVariants.{ExtraBrace, TooDeep}
 use Rattle.cw_rules.specs.declared.bodies.Body.{Body}
 use Rattle.cw_rules.specs.declared.bodies.Body.TheVariants.{Quoted, IncludeName, ControlText, SectionName, Piece}
 use Rattle.cw_rules.specs.declared.bodies.Inside.{Inside}
 use Rattle.cw_rules.specs.declared.bodies.Noted.{Noted}
 use Rattle.cw_rules.specs.declared.bodies.Extent.{Extent}
-use Rattle.cw_rules.specs.Bytes.{newline, star, slash, greater, at_sign, backslash, left_brace, right_brace, bar, begins, begins_with}
+use Rattle.cw_rules.specs.Bytes.{newline, star, slash, greater, at_sign, backslash, left_brace, right_brace, bar}
+use Rattle.cw_rules.specs.Bytes.{begins, begins_with}
 use Rattle.cw_rules.specs.Codes.{begins_section}
 
 -- It stops before the byte, which follows the byte `before` and has the bytes behind it.
@@ -73,7 +76,8 @@ goes_on i (byte ∷ bytes) = i.along || not (stops i.body i.before byte bytes)
 -- A byte for which no body has a rule, but a string for its quote, and one for which this body has none.
 abbrev pub is_plain : ℕ → Bool
 is_plain byte =
-    not (byte == newline || byte == star || byte == greater || byte == at_sign || byte == backslash || byte == left_brace ||
+    not (byte == newline || byte == star || byte == greater || byte == at_sign || byte == backslash
+    || byte == left_brace ||
     byte == bar || byte == right_brace)
 
 abbrev pub is_idle : Body → ℕ → Bool

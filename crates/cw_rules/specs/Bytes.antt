@@ -2,7 +2,8 @@
 use Rattle.std.specs.Prelude.{ℕ, ◌+◌, Bool, true, false, ◌&&◌, ◌||◌, not, ◌==◌, nat_le, List, [], ◌∷◌}
 use Rattle.cw_base.specs.Text.{is_blank}
 use Rattle.cw_rules.specs.declared.classes.Class.{Class}
-use Rattle.cw_rules.specs.declared.classes.Class.TheVariants.{Blank, White, Word, Digit, HexDigit, Suffix, LimboText, TexText, IncludeName}
+use Rattle.cw_rules.specs.declared.classes.Class.TheVariants.{Blank, White, Word, Digit, HexDigit, Suffix, LimboText}
+use Rattle.cw_rules.specs.declared.classes.Class.TheVariants.{TexText, IncludeName}
 
 abbrev pub newline : ℕ
 newline = 10

@@ -3,7 +3,12 @@ use Rattle.std.specs.Prelude.{ℕ, Bool, true, false, ◌||◌, ◌==◌, List, 
 use Rattle.cw_base.specs.Text.{is_blank}
 use Rattle.cw_base.specs.declared.notes.NoteKind.TheVariants.{CodeInLimbo, CodeInTexText, CodeInCText, UnknownCode}
 use Rattle.cw_rules.specs.declared.codes.Code.{Code}
-use Rattle.cw_rules.specs.declared.codes.Code.TheVariants.{At, Section, StarredSection, Define, Format, SilentFormat, Program, SectionName, FileName, Roman, Typewriter, UserEntry, Underline, Ignored, TexBox, Verbatim, ThinSpace, LineBreak, OptionalBreak, BigBreak, NoBreak, InvisibleSemicolon, BeginArgument, EndArgument, HeaderFile, Join, Quote, Trace, Letters, Unknown}
+use Rattle.cw_rules.specs.declared.codes.Code.TheVariants.{At, Section, StarredSection, Define, Format, SilentFormat}
+use Rattle.cw_rules.specs.declared.codes.Code.TheVariants.{Program, SectionName, FileName, Roman, Typewriter, UserEntry}
+use Rattle.cw_rules.specs.declared.codes.Code.TheVariants.{Underline, Ignored, TexBox, Verbatim, ThinSpace, LineBreak}
+use Rattle.cw_rules.specs.declared.codes.Code.TheVariants.{OptionalBreak, BigBreak, NoBreak, InvisibleSemicolon}
+use Rattle.cw_rules.specs.declared.codes.Code.TheVariants.{BeginArgument, EndArgument, HeaderFile, Join, Quote, Trace}
+use Rattle.cw_rules.specs.declared.codes.Code.TheVariants.{Letters, Unknown}
 use Rattle.cw_rules.specs.declared.codes.Effect.{Effect}
 use Rattle.cw_rules.specs.declared.codes.Effect.TheVariants.{Stands, Drops, Defines, Formats, BeginsC}
 use Rattle.cw_rules.specs.Bytes.{is_between, is_letter_of, newline}

@@ -1,4 +1,5 @@
--- Where the tokens of a text stand: on the bytes that are scanned, one behind another, and on all of them but white space.
+-- Where the tokens of a text stand: on the bytes that are scanned, one behind another, and on all of them but white
+-- space.
 use Rattle.std.specs.Prelude.{◌≡◌, ℕ, ◌<◌, ◌≤◌, Bool, true, false, ◌&&◌, ◌||◌, ◌==◌, List, [], ◌∷◌, drop, slice_range}
 use Rattle.cw_base.specs.declared.span.Span.{Span}
 use Rattle.cw_rules.specs.declared.classes.Class.TheVariants.{White}

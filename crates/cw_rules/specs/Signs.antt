@@ -1,7 +1,12 @@
 -- The signs of C and their spellings. Of the signs that fit at a place the longest is taken.
 use Rattle.std.specs.Prelude.{ℕ, Bool, ◌&&◌, nat_lt, List, [], ◌∷◌, Option, Some, None, codes, length, if◌then◌else◌}
 use Rattle.cw_rules.specs.declared.signs.Sign.{Sign}
-use Rattle.cw_rules.specs.declared.signs.Sign.TheVariants.{Slash, Dot, Less, Greater, Bar, Assign, Caret, Percent, Arrow, ShiftLeft, ShiftRight, Equal, NotEqual, AtMost, AtLeast, AndAnd, OrOr, Not, Tilde, PlusPlus, MinusMinus, Plus, Minus, Hash, Star, Ampersand, Question, LeftParen, LeftBracket, RightParen, RightBracket, LeftBrace, RightBrace, Comma, Semicolon, Colon, Ellipsis}
+use Rattle.cw_rules.specs.declared.signs.Sign.TheVariants.{Slash, Dot, Less, Greater, Bar, Assign, Caret, Percent}
+use Rattle.cw_rules.specs.declared.signs.Sign.TheVariants.{Arrow, ShiftLeft, ShiftRight, Equal, NotEqual, AtMost}
+use Rattle.cw_rules.specs.declared.signs.Sign.TheVariants.{AtLeast, AndAnd, OrOr, Not, Tilde, PlusPlus, MinusMinus}
+use Rattle.cw_rules.specs.declared.signs.Sign.TheVariants.{Plus, Minus, Hash, Star, Ampersand, Question, LeftParen}
+use Rattle.cw_rules.specs.declared.signs.Sign.TheVariants.{LeftBracket, RightParen, RightBracket, LeftBrace, RightBrace}
+use Rattle.cw_rules.specs.declared.signs.Sign.TheVariants.{Comma, Semicolon, Colon, Ellipsis}
 use Rattle.cw_rules.specs.Bytes.{begins_with}
 
 abbrev pub spelling : Sign → List ℕ

@@ -1,8 +1,10 @@
 -- The tokens of a web: one rule for each class of token, and one for each kind of text in which tokens stand.
 --
--- Each rule says what begins at a place: which answers it gives, how many bytes belong to it, and where the text goes on.
+-- Each rule says what begins at a place: which answers it gives, how many bytes belong to it, and where the text goes
+-- on.
 -- `place` is the number of the byte, `byte` the byte itself, and `bytes` are the bytes behind it.
-use Rattle.std.specs.Prelude.{ℕ, ◌+◌, ◌-◌, Bool, true, false, ◌&&◌, ◌||◌, not, ◌==◌, nat_lt, List, [], ◌∷◌, ◌++◌, Option, Some, None, codes, drop, take, length, if◌then◌else◌}
+use Rattle.std.specs.Prelude.{ℕ, ◌+◌, ◌-◌, Bool, true, false, ◌&&◌, ◌||◌, not, ◌==◌, nat_lt, List, [], ◌∷◌, ◌++◌}
+use Rattle.std.specs.Prelude.{Option, Some, None, codes, drop, take, length, if◌then◌else◌}
 use Rattle.cw_base.specs.declared.notes.NoteKind.{NoteKind}
 use Rattle.cw_base.specs.declared.notes.NoteKind.TheVariants as notes
 use Rattle.cw_rules.specs.declared.bodies.Body.TheVariants as bodies
@@ -22,13 +24,17 @@ use Rattle.cw_rules.specs.declared.signs.Sign.{Sign}
 use Rattle.cw_rules.specs.declared.signs.Sign.TheVariants as signs
 use Rattle.cw_rules.specs.declared.tokens.TokKind.{TokKind}
 use Rattle.cw_rules.specs.declared.tokens.TokKind.TheVariants as kinds
-use Rattle.cw_rules.specs.Bytes.{newline, quote, hash, apostrophe, left_paren, right_paren, star, comma, slash, less, greater, equals, at_sign, backslash, bar, run, begins, begins_by, begins_with, is_letter, is_in}
+use Rattle.cw_rules.specs.Bytes.{newline, quote, hash, apostrophe, left_paren, right_paren, star, comma, slash, less}
+use Rattle.cw_rules.specs.Bytes.{greater, equals, at_sign, backslash, bar, run, begins, begins_by, begins_with}
+use Rattle.cw_rules.specs.Bytes.{is_letter, is_in}
 use Rattle.cw_rules.specs.Signs.{all_signs, longest, spelling}
 use Rattle.cw_rules.specs.Constants.{constant}
-use Rattle.cw_rules.specs.Codes.{code_at, begins_section, has_control_text, effect_in_limbo, effect_in_tex, effect_in_c, effect_in_definition, effect_at_begin}
+use Rattle.cw_rules.specs.Codes.{code_at, begins_section, has_control_text, effect_in_limbo, effect_in_tex, effect_in_c}
+use Rattle.cw_rules.specs.Codes.{effect_in_definition, effect_at_begin}
 use Rattle.cw_rules.specs.Bodies.{at_start, extent, noted, ended, one_note, note_unless, all_notes}
 use Rattle.cw_rules.specs.Names.{is_void}
-use Rattle.cw_rules.specs.Answers.{Answer, Token, Begin, Finish, Note, Where, Cut, Found, before, note_answers, token_of, plain, dropped}
+use Rattle.cw_rules.specs.Answers.{Answer, Token, Begin, Finish, Note, Where, Cut, Found, before, note_answers}
+use Rattle.cw_rules.specs.Answers.{token_of, plain, dropped}
 
 -- ## Tokens, by their classes
 
@@ -76,7 +82,8 @@ section_name_of code place i bytes = record {
   kind = kinds.Code code;
   size = 2 + (extent i bytes).size;
   notes = one_note (note_unless (extent i bytes).closed notes.NameUnended place) ++
-      (one_note (note_unless (not (is_void (take (extent i bytes).inner_size bytes))) notes.NameEmpty place) ++ noted i bytes);
+      (one_note (note_unless (not (is_void (take (extent i bytes).inner_size bytes))) notes.NameEmpty place)
+      ++ noted i bytes);
 }
 
 abbrev pub section_name : Code → ℕ → List ℕ → Cut
@@ -118,7 +125,8 @@ depth_size bytes = if begins star bytes then 1 else run classes.Digit bytes
 abbrev pub section_code : List ℕ → Cut
 section_code bytes =
     if begins star (drop 1 bytes)
-    then (let size = 2 + depth_size (drop 2 bytes) in plain (kinds.Code at.StarredSection) (size + run classes.Blank (drop size bytes)))
+    then (let size = 2 + depth_size (drop 2 bytes) in
+    plain (kinds.Code at.StarredSection) (size + run classes.Blank (drop size bytes)))
     else plain (kinds.Code at.Section) (1 + run classes.Blank (drop 1 bytes))
 
 -- The sign behind the name that begins a C part, and whether it stands there, after blanks of the line.
@@ -226,11 +234,13 @@ comment_end hash_line c place size bytes =
 
 -- Inner C text, and a comment, that end without bytes of their own.
 abbrev pub inner_cut : Bool → ℕ → ℕ → List Answer
-inner_cut hash_line place about = Finish (token_of hash_line kinds.InnerText place 0 []) ∷ Note notes.BarMissing about ∷ []
+inner_cut hash_line place about = Finish (token_of hash_line kinds.InnerText place 0 []) ∷ Note notes.BarMissing about
+    ∷ []
 
 abbrev pub comment_cut : Bool → Opened → ℕ → ℕ → List Answer
 comment_cut hash_line c place about =
-    Finish (token_of hash_line (comment_kind c.long) place 0 []) ∷ Note notes.CommentUnended c.start ∷ missing_brace c about
+    Finish (token_of hash_line (comment_kind c.long) place 0 []) ∷ Note notes.CommentUnended c.start
+    ∷ missing_brace c about
 
 -- All that is open ends at a section code or at the end of the text. Its notes are about the byte at `about`.
 abbrev pub part_cut : Part → ℕ → ℕ → List Answer
@@ -257,12 +267,14 @@ section w place bytes =
     (one false (record { part = parts.Tex; comments = [] }) place (at_sign ∷ bytes) (section_code (at_sign ∷ bytes)))
 
 -- A line's end in C text ends the short comments around it, up to the innermost long one. Where no comment is left it
--- ends a `#` line, unless a backslash stands before it. Else it is white space. A comment is one token of the text around
+-- ends a `#` line, unless a backslash stands before it. Else it is white space. A comment is one token of the text
+-- around
 -- it, so behind one that ends here the word `include` in it lets nothing follow.
 abbrev pub part_line_end : Part → ℕ → ℕ → Found
 part_line_end part last place =
     if in_hash_line part && not (last == backslash)
-    then one true (record { part = parts.Plain false false; comments = [] }) place (newline ∷ []) (plain kinds.HashLineEnd 1)
+    then one true (record { part = parts.Plain false false; comments = [] }) place (newline ∷ [])
+    (plain kinds.HashLineEnd 1)
     else skipped_byte (record { part = part; comments = [] })
 
 abbrev pub line_end : Part → List Opened → ℕ → ℕ → Found
@@ -302,7 +314,11 @@ abbrev pub comment_begin : Bool → Where → ℕ → List ℕ → Found
 comment_begin long w place bytes = record {
   answers = Begin (token_of (in_hash_line w.part) (comment_kind long) place 2 bytes) ∷ [];
   more = 1;
-  next = record { part = passed w.part; comments = record { start = place; long = long; braces = 0; inner = false } ∷ w.comments };
+  next = record {
+    part = passed w.part;
+    comments = record { start = place; long = long; braces = 0; inner = false }
+        ∷ w.comments;
+  };
 }
 
 -- Inner C text begins in TeX text or in a comment, and ends.
@@ -338,25 +354,34 @@ may_head part comments = false
 abbrev pub code_by : Effect → Code → Where → ℕ → List ℕ → Found
 code_by effects.Stands code w place bytes =
     one (in_hash_line w.part)
-    (if is_name code && (may_head w.part w.comments && is_head place bytes) then moved w parts.Head else moved w (passed w.part))
+    (if is_name code && (may_head w.part w.comments && is_head place bytes) then moved w parts.Head else moved w
+    (passed w.part))
     place bytes (code_token code place bytes)
 code_by (effects.Drops note) code w place bytes =
     one (in_hash_line w.part) (moved w (passed w.part)) place bytes (dropped_code note code place bytes)
-code_by effects.Defines code w place bytes = one false (moved w (parts.MacroName place)) place bytes (plain (kinds.Code code) 2)
-code_by effects.Formats code w place bytes = one false (moved w (parts.FormatName place false false)) place bytes (plain (kinds.Code code) 2)
-code_by effects.BeginsC code w place bytes = one false (moved w (parts.Plain false false)) place bytes (plain (kinds.Code code) 2)
+code_by effects.Defines code w place bytes = one false (moved w (parts.MacroName place)) place bytes
+    (plain (kinds.Code code) 2)
+code_by effects.Formats code w place bytes = one false (moved w (parts.FormatName place false false)) place bytes
+    (plain (kinds.Code code) 2)
+code_by effects.BeginsC code w place bytes = one false (moved w (parts.Plain false false)) place bytes
+    (plain (kinds.Code code) 2)
 
 -- The token that begins at a byte of C text.
 abbrev pub in_code : Start → Where → ℕ → List ℕ → Found
-in_code start.Identifier w place bytes = one (in_hash_line w.part) (moved w (behind_word w.part bytes)) place bytes (identifier bytes)
-in_code start.Constant w place bytes = one (in_hash_line w.part) (moved w (passed w.part)) place bytes (plain kinds.Constant (constant bytes))
-in_code (start.Quoted quote) w place bytes = one (in_hash_line w.part) (moved w (passed w.part)) place bytes (string kinds.Quoted 1 quote place bytes)
+in_code start.Identifier w place bytes = one (in_hash_line w.part) (moved w (behind_word w.part bytes)) place bytes
+    (identifier bytes)
+in_code start.Constant w place bytes = one (in_hash_line w.part) (moved w (passed w.part)) place bytes
+    (plain kinds.Constant (constant bytes))
+in_code (start.Quoted quote) w place bytes = one (in_hash_line w.part) (moved w (passed w.part)) place bytes
+    (string kinds.Quoted 1 quote place bytes)
 in_code start.LongComment w place bytes = comment_begin true w place bytes
 in_code start.ShortComment w place bytes = comment_begin false w place bytes
 in_code (start.Code code) w place bytes = code_by (effect_in w.part w.comments code) code w place bytes
 in_code start.EndOfInner w place bytes = inner_end w place bytes
-in_code (start.Sign sign) w place bytes = one (in_hash_line w.part) (moved w (passed w.part)) place bytes (plain (kinds.Sign sign) (length (spelling sign)))
-in_code start.OtherByte w place bytes = one (in_hash_line w.part) (moved w (passed w.part)) place bytes (plain kinds.OtherByte 1)
+in_code (start.Sign sign) w place bytes = one (in_hash_line w.part) (moved w (passed w.part)) place bytes
+    (plain (kinds.Sign sign) (length (spelling sign)))
+in_code start.OtherByte w place bytes = one (in_hash_line w.part) (moved w (passed w.part)) place bytes
+    (plain kinds.OtherByte 1)
 
 -- A `#` begins a `#` line as the first byte of its line that isn't blank, in a C part and outside its comments.
 abbrev pub takes_hash_line : Part → List Opened → Bool
@@ -366,7 +391,8 @@ takes_hash_line part comments = false
 
 -- White space is skipped: blanks, and in a `#` line a backslash at a line's end.
 abbrev pub is_space : Part → ℕ → List ℕ → Bool
-is_space part byte bytes = is_in classes.Blank byte || (in_hash_line part && (byte == backslash && begins newline bytes))
+is_space part byte bytes = is_in classes.Blank byte
+    || (in_hash_line part && (byte == backslash && begins newline bytes))
 
 abbrev pub code_text : Where → Bool → ℕ → ℕ → ℕ → List ℕ → Found
 code_text w fresh last place byte bytes =
@@ -410,14 +436,16 @@ comment_text part c comments last place byte bytes =
     else (if not c.long && byte == newline
     then before (comment_end (in_hash_line part) c place 0 []) (line_end part comments last place)
     else (if byte == bar && not (is_deep part (c ∷ comments))
-    then inner_begin (in_hash_line part) (record { part = part; comments = with_inner c true ∷ comments }) place (byte ∷ bytes)
+    then inner_begin (in_hash_line part) (record { part = part; comments = with_inner c true ∷ comments }) place
+    (byte ∷ bytes)
     else piece part comments c place (byte ∷ bytes)))
 
 -- ## Limbo, TeX text, and the heads of definitions and C parts
 
 abbrev pub limbo_by : Effect → Code → Where → ℕ → List ℕ → Found
 limbo_by effects.Stands code w place bytes = one false w place bytes (code_token code place bytes)
-limbo_by effects.Formats code w place bytes = one false (moved w (parts.FormatName place false true)) place bytes (plain (kinds.Code code) 2)
+limbo_by effects.Formats code w place bytes = one false (moved w (parts.FormatName place false true)) place bytes
+    (plain (kinds.Code code) 2)
 limbo_by (effects.Drops note) code w place bytes =
     one false w place bytes (dropped note place (plain (kinds.Code code) (alone_size bytes)))
 limbo_by effect code w place bytes = skipped_byte w
@@ -429,11 +457,15 @@ limbo_text w place byte bytes =
 
 abbrev pub tex_by : Effect → Code → Where → ℕ → List ℕ → Found
 tex_by effects.Stands code w place bytes =
-    one false (if is_name code && is_head place bytes then moved w parts.Head else w) place bytes (code_token code place bytes)
+    one false (if is_name code && is_head place bytes then moved w parts.Head else w) place bytes
+    (code_token code place bytes)
 tex_by (effects.Drops note) code w place bytes = one false w place bytes (dropped_code note code place bytes)
-tex_by effects.Defines code w place bytes = one false (moved w (parts.MacroName place)) place bytes (plain (kinds.Code code) 2)
-tex_by effects.Formats code w place bytes = one false (moved w (parts.FormatName place false false)) place bytes (plain (kinds.Code code) 2)
-tex_by effects.BeginsC code w place bytes = one false (moved w (parts.Plain false false)) place bytes (plain (kinds.Code code) 2)
+tex_by effects.Defines code w place bytes = one false (moved w (parts.MacroName place)) place bytes
+    (plain (kinds.Code code) 2)
+tex_by effects.Formats code w place bytes = one false (moved w (parts.FormatName place false false)) place bytes
+    (plain (kinds.Code code) 2)
+tex_by effects.BeginsC code w place bytes = one false (moved w (parts.Plain false false)) place bytes
+    (plain (kinds.Code code) 2)
 
 abbrev pub tex_text : Where → ℕ → ℕ → List ℕ → Found
 tex_text w place byte bytes =
@@ -445,7 +477,8 @@ tex_text w place byte bytes =
 abbrev pub head_text : Where → ℕ → ℕ → List ℕ → Found
 head_text w place byte bytes =
     if is_in classes.Blank byte then skipped_byte w
-    else one false (moved w (parts.Plain false false)) place (byte ∷ bytes) (plain kinds.HeadSign (if begins equals bytes then 2 else 1))
+    else one false (moved w (parts.Plain false false)) place (byte ∷ bytes)
+    (plain kinds.HeadSign (if begins equals bytes then 2 else 1))
 
 -- White space may stand before what the head of a definition wants. Where something else follows, the head is improper,
 -- and all from here on is no part of it.
@@ -460,7 +493,8 @@ abbrev pub macro_name : ℕ → Where → ℕ → ℕ → List ℕ → Found
 macro_name code w place byte bytes =
     if is_in classes.White byte then skipped_byte w
     else one false
-    (if begins left_paren (drop (run classes.Word (byte ∷ bytes)) (byte ∷ bytes)) then moved w (parts.MacroParen code) else moved w parts.Definition)
+    (if begins left_paren (drop (run classes.Word (byte ∷ bytes)) (byte ∷ bytes)) then moved w (parts.MacroParen code)
+    else moved w parts.Definition)
     place (byte ∷ bytes) (identifier (byte ∷ bytes))
 
 -- Its parameters: identifiers, commas and `...` in any order, up to `)`.
@@ -476,7 +510,8 @@ parameter w place byte bytes =
     if is_in classes.White byte then skipped_byte w
     else (if is_letter byte then one false w place (byte ∷ bytes) (identifier (byte ∷ bytes))
     else (if byte == comma then one false w place (byte ∷ bytes) (plain (kinds.Sign signs.Comma) 1)
-    else (if byte == right_paren then one false (moved w parts.Definition) place (byte ∷ bytes) (plain (kinds.Sign signs.RightParen) 1)
+    else (if byte == right_paren then one false (moved w parts.Definition) place (byte ∷ bytes)
+    (plain (kinds.Sign signs.RightParen) 1)
     else one false w place (byte ∷ bytes) (plain (kinds.Sign signs.Ellipsis) 3))))
 
 -- The two names of a format definition. Behind them, in limbo, limbo goes on.
@@ -487,7 +522,8 @@ behind_format false w = moved w parts.Definition
 abbrev pub format_name : ℕ → Bool → Bool → Where → ℕ → ℕ → List ℕ → Found
 format_name code second limbo w place byte bytes =
     if is_in classes.White byte then skipped_byte w
-    else one false (if second then behind_format limbo w else moved w (parts.FormatName code true limbo)) place (byte ∷ bytes) (identifier (byte ∷ bytes))
+    else one false (if second then behind_format limbo w else moved w (parts.FormatName code true limbo)) place
+    (byte ∷ bytes) (identifier (byte ∷ bytes))
 
 abbrev pub behind_head : Bool → Where → Bool → ℕ → ℕ → ℕ → List ℕ → Found
 behind_head true w fresh last place byte bytes = limbo_text (moved w parts.Limbo) place byte bytes
@@ -513,7 +549,8 @@ part_text part w fresh last place byte bytes = code_text w fresh last place byte
 -- ## Any text
 
 abbrev pub in_text : Part → List Opened → Bool → ℕ → ℕ → ℕ → List ℕ → Found
-in_text part [] fresh last place byte bytes = part_text part (record { part = part; comments = [] }) fresh last place byte bytes
+in_text part [] fresh last place byte bytes = part_text part (record { part = part; comments = [] }) fresh last place
+    byte bytes
 in_text part (c ∷ comments) fresh last place byte bytes =
     if c.inner then code_text (record { part = part; comments = c ∷ comments }) fresh last place byte bytes
     else comment_text part c comments last place byte bytes

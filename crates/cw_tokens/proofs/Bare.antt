@@ -1,9 +1,11 @@
 -- A tree that is exactly one identifier is a list of one token.
-use Rattle.std.proofs.Common.{◌≡◌, ℕ, suc, ◌<◌, List, [], ◌∷◌, length, Option, None, get_or, refl, sym, ap, ◌∙◌, option_map, arith}
+use Rattle.std.proofs.Common.{◌≡◌, ℕ, suc, ◌<◌, List, [], ◌∷◌, length, Option, None, get_or, refl, sym, ap, ◌∙◌}
+use Rattle.std.proofs.Common.{option_map, arith}
 use Rattle.cw_names.specs.declared.NameId.{NameId}
 use Rattle.cw_trees.specs.Tree.{Leaf, Tree, bare_name}
 use Rattle.cw_tokens.specs.declared.token.Token.{Token}
-use Rattle.cw_tokens.specs.declared.token.Token.TheVariants.{Source, Ident, Reserved, Control, Inner as InnerOf, «List» as ListOf}
+use Rattle.cw_tokens.specs.declared.token.Token.TheVariants.{Source, Ident, Reserved, Control, Inner as InnerOf}
+use Rattle.cw_tokens.specs.declared.token.Token.TheVariants.{«List» as ListOf}
 use Rattle.cw_tokens.specs.Shapes.{Shape, Plain, Below, InnerBelow, shape, item_of, tree_in, trees_from, unfolded}
 use Rattle.cw_tokens.specs.References.{IsTied}
 use Rattle.cw_tokens.specs.Walking.{only_name_of}
@@ -38,10 +40,13 @@ only-bare trees (Reserved name number cat ∷ []) = refl
 only-bare trees (Control control ∷ []) = refl
 only-bare trees (InnerOf x ∷ []) = refl
 only-bare trees (ListOf x ∷ []) = refl
-only-bare trees (t ∷ u ∷ ts) = only-more t u ts ∙ sym (ap name_at (bare-more trees (shape t) (shape u) (tree_in trees ts)))
+only-bare trees (t ∷ u ∷ ts) = only-more t u ts
+    ∙ sym (ap name_at (bare-more trees (shape t) (shape u) (tree_in trees ts)))
 
-pub bare-list : (ls : List (List Token)) (i : ℕ) → IsTied ls → i < length ls → only_name_of (get_or ls i []) ≡ name_at (bare_name (unfolded ls i))
-bare-list ls i tied lt = only-bare (trees_from [] ls) (get_or ls i []) ∙ ap (λ t. name_at (bare_name t)) (sym (unfold-is ls i tied lt))
+pub bare-list : (ls : List (List Token)) (i : ℕ) → IsTied ls → i < length ls → only_name_of (get_or ls i [])
+    ≡ name_at (bare_name (unfolded ls i))
+bare-list ls i tied lt = only-bare (trees_from [] ls) (get_or ls i [])
+    ∙ ap (λ t. name_at (bare_name t)) (sym (unfold-is ls i tied lt))
 
 -- a list that hasn't exactly one token
 pub only-none : (ts : List Token) → (length ts ≡ 1 → ⊥) → only_name_of ts ≡ None

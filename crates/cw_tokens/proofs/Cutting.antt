@@ -1,6 +1,8 @@
 -- The lists that the ends cut out of one vector of tokens.
-use Rattle.std.proofs.Common.{◌≡◌, ℕ, zero, suc, ◌+◌, ◌-◌, ◌<◌, ◌≤◌, List, [], ◌∷◌, ◌++◌, length, take, drop, set, min, get_or, refl, sym, ap, ◌∙◌, arith}
-use Rattle.std.proofs.lemmas.List.{take-append-le, drop-append-le, drop-drop, drop-set-lt, drop-set-add, take-set-le, length-take, length-drop, take_all}
+use Rattle.std.proofs.Common.{◌≡◌, ℕ, zero, suc, ◌+◌, ◌-◌, ◌<◌, ◌≤◌, List, [], ◌∷◌, ◌++◌, length, take, drop, set, min}
+use Rattle.std.proofs.Common.{get_or, refl, sym, ap, ◌∙◌, arith}
+use Rattle.std.proofs.lemmas.List.{take-append-le, drop-append-le, drop-drop, drop-set-lt, drop-set-add, take-set-le}
+use Rattle.std.proofs.lemmas.List.{length-take, length-drop, take_all}
 use Rattle.cw_tokens.specs.declared.token.Token.{Token}
 use Rattle.cw_tokens.specs.Stored.{cut, last_end, start_of, IsAscending}
 
@@ -10,20 +12,24 @@ length-cut start (e ∷ es) ts = ap suc (length-cut e es (drop (e - start) ts))
 
 pub last_end-le : (start : ℕ) (es : List ℕ) → IsAscending start es → start ≤ last_end start es
 last_end-le start [] a = omega arith
-last_end-le start (e ∷ es) a = let h : e ≤ last_end e es = last_end-le e es a.1 in let k : start ≤ e = a.0 in omega arith
+last_end-le start (e ∷ es) a = let h : e ≤ last_end e es = last_end-le e es a.1 in let k : start ≤ e =
+    a.0 in omega arith
 
 cons : {A : Type 0} (x y : A) (xs ys : List A) → x ≡ y → xs ≡ ys → ◌≡◌ {A = List A} (x ∷ xs) (y ∷ ys)
 cons x y xs ys e f = cc
 
 -- a token behind the last end is in none of them
-pub cut-push : (start : ℕ) (es : List ℕ) (ts : List Token) (t : Token) → IsAscending start es → last_end start es ≤ start + length ts → cut start es (ts ++ t ∷ []) ≡ cut start es ts
+pub cut-push : (start : ℕ) (es : List ℕ) (ts : List Token) (t : Token) → IsAscending start es
+    → last_end start es ≤ start + length ts → cut start es (ts ++ t ∷ []) ≡ cut start es ts
 cut-push start [] ts t a w = refl
 cut-push start (e ∷ es) ts t a w =
     let low : start ≤ e = a.0 in
     let high : e ≤ last_end e es = last_end-le e es a.1 in
     let fits : e - start ≤ length ts = omega arith in
     let rest : last_end e es ≤ e + length (drop (e - start) ts) = omega (arith, length-drop (e - start) ts) in
-    cons _ _ _ _ (take-append-le (e - start) ts (t ∷ []) fits) (ap (λ us. cut e es us) (drop-append-le (e - start) ts (t ∷ []) fits) ∙ cut-push e es (drop (e - start) ts) t a.1 rest)
+    cons _ _ _ _ (take-append-le (e - start) ts (t ∷ []) fits)
+    (ap (λ us. cut e es us) (drop-append-le (e - start) ts (t ∷ []) fits)
+    ∙ cut-push e es (drop (e - start) ts) t a.1 rest)
 
 drop-two : (s m n : ℕ) (us : List Token) → s ≤ m → m ≤ n → drop (n - m) (drop (m - s) us) ≡ drop (n - s) us
 drop-two s m n us h k =
@@ -31,7 +37,9 @@ drop-two s m n us h k =
     drop-drop (n - m) (m - s) us ∙ ap (λ i. drop i us) e
 
 -- one end more cuts off what was behind the last one
-pub cut-finish : (start : ℕ) (es : List ℕ) (ts : List Token) (e : ℕ) → IsAscending start es → last_end start es ≤ start + length ts → e ≡ start + length ts → cut start (es ++ e ∷ []) ts ≡ cut start es ts ++ drop (last_end start es - start) ts ∷ []
+pub cut-finish : (start : ℕ) (es : List ℕ) (ts : List Token) (e : ℕ) → IsAscending start es
+    → last_end start es ≤ start + length ts → e ≡ start + length ts → cut start (es ++ e ∷ []) ts
+    ≡ cut start es ts ++ drop (last_end start es - start) ts ∷ []
 cut-finish start [] ts e a w h =
     let none : start - start ≡ 0 = omega arith in
     let all : e - start ≡ length ts = omega arith in
@@ -41,10 +49,13 @@ cut-finish start (x ∷ es) ts e a w h =
     let high : x ≤ last_end x es = last_end-le x es a.1 in
     let rest : last_end x es ≤ x + length (drop (x - start) ts) = omega (arith, length-drop (x - start) ts) in
     let end : e ≡ x + length (drop (x - start) ts) = omega (arith, length-drop (x - start) ts) in
-    let same : drop (last_end x es - x) (drop (x - start) ts) ≡ drop (last_end x es - start) ts = drop-two start x (last_end x es) ts low high in
-    cons _ _ _ _ refl (cut-finish x es (drop (x - start) ts) e a.1 rest end ∙ ap (λ us. cut x es (drop (x - start) ts) ++ us ∷ []) same)
+    let same : drop (last_end x es - x) (drop (x - start) ts) ≡ drop (last_end x es - start) ts =
+    drop-two start x (last_end x es) ts low high in
+    cons _ _ _ _ refl (cut-finish x es (drop (x - start) ts) e a.1 rest end
+    ∙ ap (λ us. cut x es (drop (x - start) ts) ++ us ∷ []) same)
 
-pub ascending-finish : (start : ℕ) (es : List ℕ) (e : ℕ) → IsAscending start es → last_end start es ≤ e → IsAscending start (es ++ e ∷ [])
+pub ascending-finish : (start : ℕ) (es : List ℕ) (e : ℕ) → IsAscending start es → last_end start es ≤ e
+    → IsAscending start (es ++ e ∷ [])
 ascending-finish start [] e a h = (h, tt)
 ascending-finish start (x ∷ es) e a h = (a.0, ascending-finish x es e a.1 h)
 
@@ -91,19 +102,23 @@ get_or-cut start (e ∷ es) ts (suc i) a h =
     let s : Spans e es i = spans e es i a.1 (omega arith) in
     let low : start ≤ e = a.0 in
     let up : e ≤ start_of e es i = s.low in
-    get_or-cut e es (drop (e - start) ts) i a.1 (omega arith) ∙ ap (λ us. take (get_or es i 0 - start_of e es i) us) (drop-two start e (start_of e es i) ts low up)
+    get_or-cut e es (drop (e - start) ts) i a.1 (omega arith)
+    ∙ ap (λ us. take (get_or es i 0 - start_of e es i) us) (drop-two start e (start_of e es i) ts low up)
 
 pub start_of-first : (es : List ℕ) (i : ℕ) → i ≡ 0 → 0 ≡ start_of 0 es i
 start_of-first es i e = sym (ap (start_of 0 es) e ∙ start_of-zero 0 es)
 
 pub start_of-later : (es : List ℕ) (i : ℕ) → (i ≡ 0 → ⊥) → i < length es → get_or es (i - 1) 0 ≡ start_of 0 es i
 start_of-later es zero h lt = absurd (h refl)
-start_of-later es (suc i) h lt = let e : suc i - 1 ≡ i = omega arith in ap (λ n. get_or es n 0) e ∙ sym (start_of-suc 0 es i lt)
+start_of-later es (suc i) h lt = let e : suc i - 1 ≡ i = omega arith in ap (λ n. get_or es n 0) e
+    ∙ sym (start_of-suc 0 es i lt)
 
-pub list-is : (es : List ℕ) (ts : List Token) (i start : ℕ) → IsAscending 0 es → i < length es → start ≡ start_of 0 es i → take (get_or es i 0 - start) (drop start ts) ≡ get_or (cut 0 es ts) i []
+pub list-is : (es : List ℕ) (ts : List Token) (i start : ℕ) → IsAscending 0 es → i < length es → start ≡ start_of 0 es i
+    → take (get_or es i 0 - start) (drop start ts) ≡ get_or (cut 0 es ts) i []
 list-is es ts i start a lt e =
     let z : start_of 0 es i - 0 ≡ start_of 0 es i = omega arith in
-    ap (λ n. take (get_or es i 0 - n) (drop n ts)) e ∙ sym (get_or-cut 0 es ts i a lt ∙ ap (λ n. take (get_or es i 0 - start_of 0 es i) (drop n ts)) z)
+    ap (λ n. take (get_or es i 0 - n) (drop n ts)) e
+    ∙ sym (get_or-cut 0 es ts i a lt ∙ ap (λ n. take (get_or es i 0 - start_of 0 es i) (drop n ts)) z)
 
 take-set-in : (n : ℕ) (ts : List Token) (p : ℕ) (u : Token) → take n (set ts p u) ≡ set (take n ts) p u
 take-set-in zero [] p u = refl
@@ -113,7 +128,8 @@ take-set-in (suc n) (t ∷ ts) zero u = refl
 take-set-in (suc n) (t ∷ ts) (suc p) u = ap (λ us. t ∷ us) (take-set-in n ts p u)
 
 -- a token that is written in the vector is written in its list
-pub cut-set : (start : ℕ) (es : List ℕ) (ts : List Token) (i p k : ℕ) (u : Token) → IsAscending start es → i < length es → p < length (get_or (cut start es ts) i []) → k + start ≡ start_of start es i + p
+pub cut-set : (start : ℕ) (es : List ℕ) (ts : List Token) (i p k : ℕ) (u : Token) → IsAscending start es → i < length es
+    → p < length (get_or (cut start es ts) i []) → k + start ≡ start_of start es i + p
     → cut start es (set ts k u) ≡ set (cut start es ts) i (set (get_or (cut start es ts) i []) p u)
 cut-set start [] ts i p k u a h lt e = absurd (omega arith)
 cut-set start (x ∷ es) ts zero p k u a h lt e =
@@ -122,7 +138,8 @@ cut-set start (x ∷ es) ts zero p k u a h lt e =
     let n : p < x - start = omega arith in
     let q : k ≡ p = omega arith in
     let r : k < x - start = omega arith in
-    cons _ _ _ _ (take-set-in (x - start) ts k u ∙ ap (λ j. set (take (x - start) ts) j u) q) (ap (cut x es) (drop-set-lt (x - start) ts k u r))
+    cons _ _ _ _ (take-set-in (x - start) ts k u ∙ ap (λ j. set (take (x - start) ts) j u) q)
+    (ap (cut x es) (drop-set-lt (x - start) ts k u r))
 cut-set start (x ∷ es) ts (suc i) p k u a h lt e =
     let s : Spans x es i = spans x es i a.1 (omega arith) in
     let low : start ≤ x = a.0 in

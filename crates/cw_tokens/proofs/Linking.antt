@@ -1,5 +1,6 @@
 -- Each list is linked to the one token that refers to it.
-use Rattle.std.proofs.Common.{◌≡◌, ℕ, zero, suc, ◌+◌, ◌<◌, List, [], ◌∷◌, ◌++◌, length, Option, Some, None, ◌⊎◌, inl, inr, set, get_or, refl, sym, ap, ◌∙◌, arith}
+use Rattle.std.proofs.Common.{◌≡◌, ℕ, zero, suc, ◌+◌, ◌<◌, List, [], ◌∷◌, ◌++◌, length, Option, Some, None, ◌⊎◌, inl}
+use Rattle.std.proofs.Common.{inr, set, get_or, refl, sym, ap, ◌∙◌, arith}
 use Rattle.std.specs.List.{slice_get}
 use Rattle.std.proofs.lemmas.List.{get_or_append_left, get_or-set_same, get_or-set_other}
 use Rattle.cw_tokens.specs.declared.token.Token.{Token}
@@ -15,28 +16,40 @@ refers-within (ts ∷ ls) zero p x h = omega arith
 refers-within (ts ∷ ls) (suc l) p x h = let k : l < length ls = refers-within ls l p x h in omega arith
 
 -- what one list more refers to
-pub refers-more : (ls : List (List Token)) (ts : List Token) (l p x : ℕ) → refers (ls ++ ts ∷ []) l p ≡ Some x → (refers ls l p ≡ Some x) ⊎ ((l ≡ length ls) × (token_ref (slice_get ts p) ≡ Some x))
+pub refers-more : (ls : List (List Token)) (ts : List Token) (l p x : ℕ) → refers (ls ++ ts ∷ []) l p ≡ Some x
+    → (refers ls l p ≡ Some x) ⊎ ((l ≡ length ls) × (token_ref (slice_get ts p) ≡ Some x))
 refers-more [] ts zero p x h = inr (refl, h)
 refers-more [] ts (suc l) p x h = cc
 refers-more (us ∷ ls) ts zero p x h = inl h
-refers-more (us ∷ ls) ts (suc l) p x h = elim (refers-more ls ts l p x h) [ inl k ↦ inl k | inr k ↦ inr (ap suc k.0, k.1) ]
+refers-more (us ∷ ls) ts (suc l) p x h = elim (refers-more ls ts l p x h) [
+  | inl k ↦ inl k
+  | inr k ↦ inr (ap suc k.0, k.1)
+]
 
-pub refers-old : (ls : List (List Token)) (ts : List Token) (l p : ℕ) → l < length ls → refers (ls ++ ts ∷ []) l p ≡ refers ls l p
+pub refers-old : (ls : List (List Token)) (ts : List Token) (l p : ℕ) → l < length ls → refers (ls ++ ts ∷ []) l p
+    ≡ refers ls l p
 refers-old ls ts l p h = ap (λ us. token_ref (slice_get us p)) (get_or_append_left ls (ts ∷ []) [] l h)
 
 -- what one token more refers to
-token_ref-push : (ts : List Token) (t : Token) (p x : ℕ) → token_ref (slice_get (ts ++ t ∷ []) p) ≡ Some x → (token_ref (slice_get ts p) ≡ Some x) ⊎ ((p ≡ length ts) × (ref_of (shape t) ≡ Some x))
+token_ref-push : (ts : List Token) (t : Token) (p x : ℕ) → token_ref (slice_get (ts ++ t ∷ []) p) ≡ Some x
+    → (token_ref (slice_get ts p) ≡ Some x) ⊎ ((p ≡ length ts) × (ref_of (shape t) ≡ Some x))
 token_ref-push [] t zero x h = inr (refl, h)
 token_ref-push [] t (suc p) x h = cc
 token_ref-push (u ∷ ts) t zero x h = inl h
-token_ref-push (u ∷ ts) t (suc p) x h = elim (token_ref-push ts t p x h) [ inl k ↦ inl k | inr k ↦ inr (ap suc k.0, k.1) ]
+token_ref-push (u ∷ ts) t (suc p) x h = elim (token_ref-push ts t p x h) [
+  | inl k ↦ inl k
+  | inr k ↦ inr (ap suc k.0, k.1)
+]
 
-last-list : (ls : List (List Token)) (ts : List Token) (p : ℕ) → refers (ls ++ ts ∷ []) (length ls) p ≡ token_ref (slice_get ts p)
+last-list : (ls : List (List Token)) (ts : List Token) (p : ℕ) → refers (ls ++ ts ∷ []) (length ls) p
+    ≡ token_ref (slice_get ts p)
 last-list [] ts p = refl
 last-list (us ∷ ls) ts p = last-list ls ts p
 
 -- a list that has one token more refers to what it did, or the new token refers
-pub pushed-ref : (ls : List (List Token)) (ts : List Token) (t : Token) (l p x : ℕ) → refers (ls ++ (ts ++ t ∷ []) ∷ []) l p ≡ Some x → (refers (ls ++ ts ∷ []) l p ≡ Some x) ⊎ ((l ≡ length ls) × (p ≡ length ts) × (ref_of (shape t) ≡ Some x))
+pub pushed-ref : (ls : List (List Token)) (ts : List Token) (t : Token) (l p x : ℕ)
+    → refers (ls ++ (ts ++ t ∷ []) ∷ []) l p ≡ Some x → (refers (ls ++ ts ∷ []) l p ≡ Some x)
+    ⊎ ((l ≡ length ls) × (p ≡ length ts) × (ref_of (shape t) ≡ Some x))
 pushed-ref ls ts t l p x h = elim (refers-more ls (ts ++ t ∷ []) l p x h) [
   | inl k ↦ inl (refers-old ls ts l p (refers-within ls l p x k) ∙ k)
   | inr k ↦ elim (token_ref-push ts t p x k.1) [
@@ -45,7 +58,8 @@ pushed-ref ls ts t l p x h = elim (refers-more ls (ts ++ t ∷ []) l p x h) [
   ]
 ]
 
-module _ (ls : List (List Token)) (ts : List Token) (t : Token) (links : List Link) (old : IsLinked (ls ++ ts ∷ []) links) (same : length links ≡ length ls)
+module _ (ls : List (List Token)) (ts : List Token) (t : Token) (links : List Link)
+    (old : IsLinked (ls ++ ts ∷ []) links) (same : length links ≡ length ls)
     (may : (x : ℕ) → ref_of (shape t) ≡ Some x → (x < length ls) × IsUnreferred (ls ++ ts ∷ []) x) where
   abbrev new : List (List Token)
   new = ls ++ (ts ++ t ∷ []) ∷ []
@@ -53,13 +67,15 @@ module _ (ls : List (List Token)) (ts : List Token) (t : Token) (links : List Li
   abbrev up-here : Link
   up-here = record { list = length ls; place = length ts + 1 }
 
-  still : (r : Option ℕ) → ref_of (shape t) ≡ r → (l p x : ℕ) → refers (ls ++ ts ∷ []) l p ≡ Some x → get_or (linked r up-here links) x no_link ≡ record { list = l; place = p + 1 }
+  still : (r : Option ℕ) → ref_of (shape t) ≡ r → (l p x : ℕ) → refers (ls ++ ts ∷ []) l p ≡ Some x
+      → get_or (linked r up-here links) x no_link ≡ record { list = l; place = p + 1 }
   still None e l p x h = old.up l p x h
   still (Some y) e l p x h =
       let apart : x ≡ y → ⊥ = λ d. (may y e).1 l p (ap (λ i. refers (ls ++ ts ∷ []) l p) d ∙ (h ∙ ap Some d)) in
       get_or-set_other links y x up-here no_link apart ∙ old.up l p x h
 
-  fresh : (r : Option ℕ) → ref_of (shape t) ≡ r → (x : ℕ) → ref_of (shape t) ≡ Some x → get_or (linked r up-here links) x no_link ≡ up-here
+  fresh : (r : Option ℕ) → ref_of (shape t) ≡ r → (x : ℕ) → ref_of (shape t) ≡ Some x
+      → get_or (linked r up-here links) x no_link ≡ up-here
   fresh None e x h = absurd (none x (sym e ∙ h))
     where
       none : (y : ℕ) → ◌≡◌ {A = Option ℕ} None (Some y) → ⊥
@@ -77,8 +93,15 @@ module _ (ls : List (List Token)) (ts : List Token) (t : Token) (links : List Li
 
   pub linked-push : IsLinked new (linked (ref_of (shape t)) up-here links)
   linked-push = record {
-    earlier = λ l p x h. elim (pushed-ref ls ts t l p x h) [ inl k ↦ old.earlier l p x k | inr k ↦ (let m : x < length ls = (may x k.2).0 in let e : l ≡ length ls = k.0 in omega arith) ];
-    up = λ l p x h. elim (pushed-ref ls ts t l p x h) [ inl k ↦ still _ refl l p x k | inr k ↦ fresh _ refl x k.2 ∙ at-here l p k.0 k.1 ];
+    earlier = λ l p x h. elim (pushed-ref ls ts t l p x h) [
+      | inl k ↦ old.earlier l p x k
+      | inr k ↦ (let m : x < length ls = (may x k.2).0 in let e : l ≡ length ls = k.0 in omega arith)
+    ];
+    up = λ l p x h. elim (pushed-ref ls ts t l p x h) [
+      | inl k ↦ still _ refl l p x k
+      | inr k ↦ fresh _ refl x k.2
+          ∙ at-here l p k.0 k.1
+    ];
   }
 
 pub linked-begin : (ls : List (List Token)) (links : List Link) → IsLinked ls links → IsLinked (ls ++ [] ∷ []) links
@@ -93,7 +116,8 @@ linked-begin ls links old = record {
         empty : ◌≡◌ {A = Option ℕ} None (Some x) → ⊥
         empty e = cc
 
-pub linked-finish : (ls : List (List Token)) (links : List Link) → length ls ≡ length links + 1 → IsLinked ls links → IsLinked ls (links ++ no_link ∷ [])
+pub linked-finish : (ls : List (List Token)) (links : List Link) → length ls ≡ length links + 1 → IsLinked ls links
+    → IsLinked ls (links ++ no_link ∷ [])
 linked-finish ls links e old = record {
   earlier = old.earlier;
   up = λ l p x h.
@@ -109,11 +133,17 @@ linked-tied ls links old = record {
   once = λ l p m q x h k. apart l p m q (sym (old.up l p x h) ∙ old.up m q x k);
 }
   where
-    apart : (l p m q : ℕ) → ◌≡◌ {A = Link} (record { list = l; place = p + 1 }) (record { list = m; place = q + 1 }) → (l ≡ m) × (p ≡ q)
-    apart l p m q e = (ap (λ (k : Link). k.list) e, (let f : p + 1 ≡ q + 1 = ap (λ (k : Link). k.place) e in omega arith))
+    apart : (l p m q : ℕ) → ◌≡◌ {A = Link} (record { list = l; place = p + 1 }) (record { list = m; place = q + 1 })
+        → (l ≡ m) × (p ≡ q)
+    apart l p m q e = (
+      ap (λ (k : Link). k.list) e,
+      (let f : p + 1 ≡ q + 1 = ap (λ (k : Link). k.place) e in
+          omega arith),
+    )
 
 -- the finished lists alone
-pub linked-lists : (ls : List (List Token)) (b : Option (List Token)) (links : List Link) → IsLinked (with_built ls b) links → IsLinked ls links
+pub linked-lists : (ls : List (List Token)) (b : Option (List Token)) (links : List Link)
+    → IsLinked (with_built ls b) links → IsLinked ls links
 linked-lists ls None links old = old
 linked-lists ls (Some ts) links old = record {
   earlier = λ l p x h. old.earlier l p x (more l p x h);
@@ -124,19 +154,23 @@ linked-lists ls (Some ts) links old = record {
     more l p x h = refers-old ls ts l p (refers-within ls l p x h) ∙ h
 
 -- references alone decide
-pub linked-same : (old new : List (List Token)) (links : List Link) → ((l p : ℕ) → refers new l p ≡ refers old l p) → IsLinked old links → IsLinked new links
+pub linked-same : (old new : List (List Token)) (links : List Link) → ((l p : ℕ) → refers new l p ≡ refers old l p)
+    → IsLinked old links → IsLinked new links
 linked-same old new links same k = record {
   earlier = λ l p x h. k.earlier l p x (sym (same l p) ∙ h);
   up = λ l p x h. k.up l p x (sym (same l p) ∙ h);
 }
 
-pub refers-with : (old new : List (List Token)) (b : Option (List Token)) → length new ≡ length old → ((l p : ℕ) → refers new l p ≡ refers old l p) → (l p : ℕ) → refers (with_built new b) l p ≡ refers (with_built old b) l p
+pub refers-with : (old new : List (List Token)) (b : Option (List Token)) → length new ≡ length old
+    → ((l p : ℕ) → refers new l p ≡ refers old l p) → (l p : ℕ) → refers (with_built new b) l p
+    ≡ refers (with_built old b) l p
 refers-with old new None len same l p = same l p
 refers-with [] [] (Some ts) len same l p = refl
 refers-with [] (y ∷ new) (Some ts) len same l p = cc
 refers-with (x ∷ old) [] (Some ts) len same l p = cc
 refers-with (x ∷ old) (y ∷ new) (Some ts) len same zero p = same 0 p
-refers-with (x ∷ old) (y ∷ new) (Some ts) len same (suc l) p = refers-with old new (Some ts) (pred-is (length new) (length old) len) (λ m q. same (suc m) q) l p
+refers-with (x ∷ old) (y ∷ new) (Some ts) len same (suc l) p =
+    refers-with old new (Some ts) (pred-is (length new) (length old) len) (λ m q. same (suc m) q) l p
   where
     pred-is : (a b : ℕ) → suc a ≡ suc b → a ≡ b
     pred-is a b k = cc

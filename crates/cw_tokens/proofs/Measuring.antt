@@ -1,11 +1,13 @@
 -- How much of a walk through a tree is still to come.
-use Rattle.std.proofs.Common.{◌≡◌, ℕ, zero, suc, ◌+◌, ◌<◌, ◌≤◌, Bool, true, false, eqb, List, [], length, Some, drop, get_or, refl, sym, ap, ◌∙◌, subst, add-one, arith}
+use Rattle.std.proofs.Common.{◌≡◌, ℕ, zero, suc, ◌+◌, ◌<◌, ◌≤◌, Bool, true, false, eqb, List, [], length, Some, drop}
+use Rattle.std.proofs.Common.{get_or, refl, sym, ap, ◌∙◌, subst, add-one, arith}
 use Rattle.std.specs.List.{slice_get}
 use Rattle.std.proofs.lemmas.Bool.{eq-eqb, eqb-true}
 use Rattle.cw_trees.specs.Tree.{Tree}
 use Rattle.cw_tokens.specs.declared.token.Token.{Token}
 use Rattle.cw_tokens.specs.declared.store.Link.{Link}
-use Rattle.cw_tokens.specs.Shapes.{Shape, Plain, Below, InnerBelow, shape, ref_of, item_of, tree_in, trees_from, unfolded}
+use Rattle.cw_tokens.specs.Shapes.{Shape, Plain, Below, InnerBelow, shape, ref_of, item_of, tree_in, trees_from}
+use Rattle.cw_tokens.specs.Shapes.{unfolded}
 use Rattle.cw_tokens.specs.References.{token_ref, refers, Reach, here, next}
 use Rattle.cw_tokens.specs.Stored.{no_link, IsLinked}
 use Rattle.cw_tokens.specs.Walking.{Path, top, down, size, size_from, size_above}
@@ -31,14 +33,17 @@ module _ (ls : List (List Token)) (links : List Link) (root : ℕ) (linked : IsL
   above-root (suc n) = rw (eq-eqb root root refl, size_above) refl
 
   -- and above another list, what follows the token that refers to it
-  above-next : (n l p x : ℕ) → refers ls l p ≡ Some x → x < root → size_above ls links root (suc n) x ≡ 1 + (size_from ls l (p + 1) + size_above ls links root n l)
+  above-next : (n l p x : ℕ) → refers ls l p ≡ Some x → x < root → size_above ls links root (suc n) x
+      ≡ 1 + (size_from ls l (p + 1) + size_above ls links root n l)
   above-next n l p x e lt =
       let apart : eqb x root ≡ false = neq-eqb x root (λ d. omega arith) in
       let up : get_or links x no_link ≡ record { list = l; place = p + 1 } = linked.up l p x e in
-      rw (apart, size_above) (ap (λ (k : Link). 1 + (size_from ls k.list k.place + size_above ls links root n k.list)) up)
+      rw (apart, size_above) (ap (λ (k : Link). 1 + (size_from ls k.list k.place + size_above ls links root n k.list))
+      up)
 
   -- fuel that reaches the root is enough
-  above-more : (l : ℕ) → Reach ls root l → (f g : ℕ) → root ≤ l + f → root ≤ l + g → size_above ls links root f l ≡ size_above ls links root g l
+  above-more : (l : ℕ) → Reach ls root l → (f g : ℕ) → root ≤ l + f → root ≤ l + g → size_above ls links root f l
+      ≡ size_above ls links root g l
   above-more l here f g a b = above-root f ∙ sym (above-root g)
   above-more l (next m p n e w) zero g a b =
       let low : l < m = linked.earlier m p l e in
@@ -59,31 +64,42 @@ module _ (ls : List (List Token)) (links : List Link) (root : ℕ) (linked : IsL
   abbrev pub left : ℕ → ℕ → ℕ
   left l p = size_from ls l p + size_above ls links root (length ls) l
 
-  left-next : (l p x : ℕ) → root < length ls → Reach ls root l → refers ls l p ≡ Some x → size_above ls links root (length ls) x ≡ 1 + (size_from ls l (p + 1) + size_above ls links root (length ls) l)
+  left-next : (l p x : ℕ) → root < length ls → Reach ls root l → refers ls l p ≡ Some x
+      → size_above ls links root (length ls) x ≡ 1 + (size_from ls l (p + 1) + size_above ls links root (length ls) l)
   left-next l p x lt w e = go (length ls) lt
     where
-      go : (n : ℕ) → root < n → size_above ls links root n x ≡ 1 + (size_from ls l (p + 1) + size_above ls links root n l)
+      go : (n : ℕ) → root < n → size_above ls links root n x
+          ≡ 1 + (size_from ls l (p + 1) + size_above ls links root n l)
       go zero h = absurd (omega arith)
       go (suc n) h =
           let low : x < l = linked.earlier l p x e in
           let up : l ≤ root = reach-le ls root l (linked-tied ls links linked) w in
-          above-next n l p x e (omega arith) ∙ ap (λ m. 1 + (size_from ls l (p + 1) + m)) (above-more l w n (suc n) (omega arith) (omega arith))
+          above-next n l p x e (omega arith) ∙ ap (λ m. 1 + (size_from ls l (p + 1) + m))
+          (above-more l w n (suc n) (omega arith) (omega arith))
 
   size-item : (s : Shape) (rest : Tree) → size rest < size (item_of (trees_from [] ls) s rest)
   size-item (Plain leaf) rest = omega arith
   size-item (Below x) rest = omega arith
   size-item (InnerBelow x) rest = omega arith
 
-  size-at : (l p : ℕ) (t : Token) → slice_get (get_or ls l []) p ≡ Some t → size_from ls l p ≡ size (item_of (trees_from [] ls) (shape t) (tree_in (trees_from [] ls) (drop (p + 1) (get_or ls l []))))
-  size-at l p t e = ap (λ us. size (tree_in (trees_from [] ls) us)) (drop-at (get_or ls l []) p t e) ∙ ap (λ i. size (item_of (trees_from [] ls) (shape t) (tree_in (trees_from [] ls) (drop i (get_or ls l []))))) (sym (add-one p))
+  size-at : (l p : ℕ) (t : Token) → slice_get (get_or ls l []) p ≡ Some t → size_from ls l p
+      ≡ size (item_of (trees_from [] ls) (shape t) (tree_in (trees_from [] ls) (drop (p + 1) (get_or ls l []))))
+  size-at l p t e = ap (λ us. size (tree_in (trees_from [] ls) us)) (drop-at (get_or ls l []) p t e)
+      ∙ ap (λ i. size (item_of (trees_from [] ls) (shape t) (tree_in (trees_from [] ls) (drop i (get_or ls l [])))))
+      (sym (add-one p))
 
   pub less-past : (l p : ℕ) (t : Token) → slice_get (get_or ls l []) p ≡ Some t → left l (p + 1) < left l p
   less-past l p t e =
-      let a : size_from ls l (p + 1) < size (item_of (trees_from [] ls) (shape t) (tree_in (trees_from [] ls) (drop (p + 1) (get_or ls l [])))) = size-item (shape t) (tree_in (trees_from [] ls) (drop (p + 1) (get_or ls l []))) in
-      let b : size_from ls l p ≡ size (item_of (trees_from [] ls) (shape t) (tree_in (trees_from [] ls) (drop (p + 1) (get_or ls l [])))) = size-at l p t e in
+      let a : size_from ls l (p + 1) < size (item_of (trees_from [] ls) (shape t)
+      (tree_in (trees_from [] ls) (drop (p + 1) (get_or ls l [])))) = size-item (shape t)
+      (tree_in (trees_from [] ls) (drop (p + 1) (get_or ls l []))) in
+      let b : size_from ls l p
+      ≡ size (item_of (trees_from [] ls) (shape t) (tree_in (trees_from [] ls) (drop (p + 1) (get_or ls l [])))) =
+      size-at l p t e in
       omega arith
 
-  size-below : (s : Shape) (x : ℕ) (rest : Tree) → ref_of s ≡ Some x → size (item_of (trees_from [] ls) s rest) ≡ 2 + (size (unfolded ls x) + size rest)
+  size-below : (s : Shape) (x : ℕ) (rest : Tree) → ref_of s ≡ Some x → size (item_of (trees_from [] ls) s rest)
+      ≡ 2 + (size (unfolded ls x) + size rest)
   size-below (Plain leaf) x rest e = cc
   size-below (Below y) x rest e = ap (λ n. 2 + (size (unfolded ls n) + size rest)) (same y x e)
     where
@@ -94,22 +110,29 @@ module _ (ls : List (List Token)) (links : List Link) (root : ℕ) (linked : IsL
       same : (a b : ℕ) → Some a ≡ Some b → a ≡ b
       same a b k = cc
 
-  pub less-down : (l p x : ℕ) (t : Token) → root < length ls → Reach ls root l → slice_get (get_or ls l []) p ≡ Some t → ref_of (shape t) ≡ Some x → left x 0 < left l p
+  pub less-down : (l p x : ℕ) (t : Token) → root < length ls → Reach ls root l → slice_get (get_or ls l []) p ≡ Some t
+      → ref_of (shape t) ≡ Some x → left x 0 < left l p
   less-down l p x t lt w e h =
       let r : refers ls l p ≡ Some x = ap token_ref e ∙ h in
       let low : x < l = linked.earlier l p x r in
       let inside : l < length ls = refers-within ls l p x r in
-      let a : size_from ls l p ≡ 2 + (size (unfolded ls x) + size_from ls l (p + 1)) = size-at l p t e ∙ size-below (shape t) x (tree_in (trees_from [] ls) (drop (p + 1) (get_or ls l []))) h in
-      let b : size_from ls x 0 ≡ size (unfolded ls x) = ap size (sym (unfold-is ls x (linked-tied ls links linked) (omega arith))) in
-      let d : size_above ls links root (length ls) x ≡ 1 + (size_from ls l (p + 1) + size_above ls links root (length ls) l) = left-next l p x lt w r in
+      let a : size_from ls l p ≡ 2 + (size (unfolded ls x) + size_from ls l (p + 1)) = size-at l p t e
+      ∙ size-below (shape t) x (tree_in (trees_from [] ls) (drop (p + 1) (get_or ls l []))) h in
+      let b : size_from ls x 0 ≡ size (unfolded ls x) =
+      ap size (sym (unfold-is ls x (linked-tied ls links linked) (omega arith))) in
+      let d : size_above ls links root (length ls) x
+      ≡ 1 + (size_from ls l (p + 1) + size_above ls links root (length ls) l) = left-next l p x lt w r in
       omega arith
 
-  pub less-up : (x p : ℕ) → root < length ls → Reach ls root x → (x ≡ root → ⊥) → length (get_or ls x []) ≤ p → left (get_or links x no_link).list (get_or links x no_link).place < left x p
+  pub less-up : (x p : ℕ) → root < length ls → Reach ls root x → (x ≡ root → ⊥) → length (get_or ls x []) ≤ p
+      → left (get_or links x no_link).list (get_or links x no_link).place < left x p
   less-up x p lt w apart end = go x w apart end
     where
-      go : (y : ℕ) → Reach ls root y → (y ≡ root → ⊥) → length (get_or ls y []) ≤ p → left (get_or links y no_link).list (get_or links y no_link).place < left y p
+      go : (y : ℕ) → Reach ls root y → (y ≡ root → ⊥) → length (get_or ls y []) ≤ p
+          → left (get_or links y no_link).list (get_or links y no_link).place < left y p
       go y here a h = absurd (a refl)
       go y (next l q m e v) a h =
           let up : get_or links y no_link ≡ record { list = l; place = q + 1 } = linked.up l q y e in
-          let d : size_above ls links root (length ls) y ≡ 1 + (size_from ls l (q + 1) + size_above ls links root (length ls) l) = left-next l q y lt v e in
+          let d : size_above ls links root (length ls) y
+          ≡ 1 + (size_from ls l (q + 1) + size_above ls links root (length ls) l) = left-next l q y lt v e in
           subst (λ (k : Link). left k.list k.place < left y p) (sym up) (omega arith)

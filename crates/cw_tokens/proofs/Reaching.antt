@@ -32,7 +32,8 @@ module _ (ls : List (List Token)) (tied : IsTied ls) where
       absurd (omega arith)
 
   -- of the tokens of one list at most one leads to a list
-  pub siblings : (m q r x y n : ℕ) → refers ls m q ≡ Some x → refers ls m r ≡ Some y → Reach ls x n → Reach ls y n → q ≡ r
+  pub siblings : (m q r x y n : ℕ) → refers ls m q ≡ Some x → refers ls m r ≡ Some y → Reach ls x n → Reach ls y n
+      → q ≡ r
   siblings m q r x y n e f a b = elim (comparable x y n a b) [
     | inl w ↦ child-reach m q r x y e f w
     | inr w ↦ sym (child-reach m r q y x f e w)

@@ -1,15 +1,18 @@
 -- One token is written, and the tree of the root is the one whose first identifier is reserved.
-use Rattle.std.proofs.Common.{◌≡◌, ℕ, zero, suc, ◌+◌, ◌<◌, ◌≤◌, List, [], ◌∷◌, length, Some, None, inl, inr, take, set, get_or, refl, sym, ap, ◌∙◌, subst, arith}
+use Rattle.std.proofs.Common.{◌≡◌, ℕ, zero, suc, ◌+◌, ◌<◌, ◌≤◌, List, [], ◌∷◌, length, Some, None, inl, inr, take, set}
+use Rattle.std.proofs.Common.{get_or, refl, sym, ap, ◌∙◌, subst, arith}
 use Rattle.std.specs.List.{slice_get, sum_by}
 use Rattle.std.proofs.lemmas.List.Sums.{sum_by-set}
 use Rattle.std.proofs.lemmas.List.{get_or-set_same, get_or-set_other, length-set}
 use Rattle.std.proofs.lemmas.Bool.{cases_eq}
 use Rattle.cw_base.specs.declared.category.Cat.TheVariants.{RawInt}
-use Rattle.cw_trees.specs.Tree.{Leaf, Tree, Empty, Then, Sub, Inner, Search, Found, Stopped, Nothing, or_else, search_leaf, first_ident, reserve_first}
+use Rattle.cw_trees.specs.Tree.{Leaf, Tree, Empty, Then, Sub, Inner, Search, Found, Stopped, Nothing, or_else}
+use Rattle.cw_trees.specs.Tree.{search_leaf, first_ident, reserve_first}
 use Rattle.cw_tokens.specs.declared.token.Token.{Token}
 use Rattle.cw_tokens.specs.declared.token.Token.TheVariants.{Ident, Reserved}
 use Rattle.cw_tokens.specs.declared.walk.Spot.{Spot}
-use Rattle.cw_tokens.specs.Shapes.{Shape, Plain, Below, InnerBelow, shape, ref_of, item_of, tree_in, trees_from, unfolded}
+use Rattle.cw_tokens.specs.Shapes.{Shape, Plain, Below, InnerBelow, shape, ref_of, item_of, tree_in, trees_from}
+use Rattle.cw_tokens.specs.Shapes.{unfolded}
 use Rattle.cw_tokens.specs.References.{token_ref, refers, IsTied, Reach, here, next}
 use Rattle.cw_tokens.specs.Walking.{before, Path, top, down, Finds, found_name}
 use Rattle.cw_tokens.specs.Counting.{token_count}
@@ -24,12 +27,15 @@ use Rattle.cw_tokens.proofs.Reaching.{comparable, siblings}
 some-none : (n : ℕ) (s : Search) → s ≡ Found n → found_name s ≡ None → ⊥
 some-none n s e h = absurd (let k : found_name (Found n) ≡ None = sym (ap found_name e) ∙ h in cc)
 
-reserve-then : (s : Search) (leaf : Leaf) (rest : Tree) → search_leaf leaf ≡ s → found_name (or_else s (first_ident rest)) ≡ None → (found_name (first_ident rest) ≡ None → reserve_first rest ≡ rest) → reserve_first (Then leaf rest) ≡ Then leaf rest
+reserve-then : (s : Search) (leaf : Leaf) (rest : Tree) → search_leaf leaf ≡ s
+    → found_name (or_else s (first_ident rest)) ≡ None → (found_name (first_ident rest) ≡ None → reserve_first rest
+    ≡ rest) → reserve_first (Then leaf rest) ≡ Then leaf rest
 reserve-then (Found name) leaf rest e h rec = absurd (some-none name (Found name) refl h)
 reserve-then Stopped leaf rest e h rec = rw (e, reserve_first) refl
 reserve-then Nothing leaf rest e h rec = rw (e, reserve_first) (ap (Then leaf) (rec h))
 
-reserve-sub : (s : Search) (tree rest : Tree) → first_ident tree ≡ s → found_name (or_else s (first_ident rest)) ≡ None → (found_name (first_ident rest) ≡ None → reserve_first rest ≡ rest) → reserve_first (Sub tree rest) ≡ Sub tree rest
+reserve-sub : (s : Search) (tree rest : Tree) → first_ident tree ≡ s → found_name (or_else s (first_ident rest)) ≡ None
+    → (found_name (first_ident rest) ≡ None → reserve_first rest ≡ rest) → reserve_first (Sub tree rest) ≡ Sub tree rest
 reserve-sub (Found name) tree rest e h rec = absurd (some-none name (Found name) refl h)
 reserve-sub Stopped tree rest e h rec = rw (e, reserve_first) refl
 reserve-sub Nothing tree rest e h rec = rw (e, reserve_first) (ap (Sub tree) (rec h))
@@ -46,33 +52,42 @@ or_else-none (Found name) t h = absurd (let k : Found name ≡ Nothing = h in cc
 or_else-none Stopped t h = absurd (let k : Stopped ≡ Nothing = h in cc)
 or_else-none Nothing t h = (refl, h)
 
-skip-item : (trees : List Tree) (s : Shape) (rest : Tree) → item_search trees s ≡ Nothing → item_of trees s (reserve_first rest) ≡ reserve_first (item_of trees s rest)
-skip-item trees (Plain leaf) rest h = let e : search_leaf leaf ≡ Nothing = (or_else-none (search_leaf leaf) Nothing h).0 in rw (e, reserve_first) refl
-skip-item trees (Below x) rest h = let e : first_ident (get_or trees x Empty) ≡ Nothing = (or_else-none (first_ident (get_or trees x Empty)) Nothing h).0 in rw (e, reserve_first) refl
+skip-item : (trees : List Tree) (s : Shape) (rest : Tree) → item_search trees s ≡ Nothing
+    → item_of trees s (reserve_first rest) ≡ reserve_first (item_of trees s rest)
+skip-item trees (Plain leaf) rest h = let e : search_leaf leaf ≡ Nothing =
+    (or_else-none (search_leaf leaf) Nothing h).0 in rw (e, reserve_first) refl
+skip-item trees (Below x) rest h = let e : first_ident (get_or trees x Empty) ≡ Nothing =
+    (or_else-none (first_ident (get_or trees x Empty)) Nothing h).0 in rw (e, reserve_first) refl
 skip-item trees (InnerBelow x) rest h = refl
 
 -- a list whose token p is changed to one whose item is the reserved one
-reserve-at : (old new : List Tree) (ts : List Token) (p : ℕ) (t u : Token) → slice_get ts p ≡ Some t → first_ident (tree_in old (take p ts)) ≡ Nothing
+reserve-at : (old new : List Tree) (ts : List Token) (p : ℕ) (t u : Token) → slice_get ts p ≡ Some t
+    → first_ident (tree_in old (take p ts)) ≡ Nothing
     → ((q x : ℕ) → (q ≡ p → ⊥) → token_ref (slice_get ts q) ≡ Some x → get_or old x Empty ≡ get_or new x Empty)
     → ((rest : Tree) → item_of new (shape u) rest ≡ reserve_first (item_of old (shape t) rest))
     → tree_in new (set ts p u) ≡ reserve_first (tree_in old ts)
 reserve-at old new [] p t u e n same h = cc
 reserve-at old new (v ∷ ts) zero t u e n same h =
     let first : v ≡ t = some-is v t e in
-    ap (item_of new (shape u)) (sym (tree_in-same old new ts (λ q x k. same (suc q) x (λ d. cc) k))) ∙ (h (tree_in old ts) ∙ ap (λ w. reserve_first (item_of old (shape w) (tree_in old ts))) (sym first))
+    ap (item_of new (shape u)) (sym (tree_in-same old new ts (λ q x k. same (suc q) x (λ d. cc) k)))
+    ∙ (h (tree_in old ts) ∙ ap (λ w. reserve_first (item_of old (shape w) (tree_in old ts))) (sym first))
   where
     some-is : (a b : Token) → Some a ≡ Some b → a ≡ b
     some-is a b k = cc
 reserve-at old new (v ∷ ts) (suc p) t u e n same h =
-    let both : (item_search old (shape v) ≡ Nothing) × (first_ident (tree_in old (take p ts)) ≡ Nothing) = or_else-none _ _ (sym (first-item old (shape v) (tree_in old (take p ts))) ∙ n) in
-    item_of-same new old (shape v) (tree_in new (set ts p u)) (reserve_first (tree_in old ts)) (λ x k. sym (same 0 x (λ d. cc) k)) (reserve-at old new ts p t u e both.1 (λ q x ne k. same (suc q) x (λ d. ne (pred-is q p d)) k) h)
+    let both : (item_search old (shape v) ≡ Nothing) × (first_ident (tree_in old (take p ts)) ≡ Nothing) =
+    or_else-none _ _ (sym (first-item old (shape v) (tree_in old (take p ts))) ∙ n) in
+    item_of-same new old (shape v) (tree_in new (set ts p u)) (reserve_first (tree_in old ts))
+    (λ x k. sym (same 0 x (λ d. cc) k)) (reserve-at old new ts p t u e both.1
+    (λ q x ne k. same (suc q) x (λ d. ne (pred-is q p d)) k) h)
     ∙ skip-item old (shape v) (tree_in old ts) both.0
   where
     pred-is : (a b : ℕ) → suc a ≡ suc b → a ≡ b
     pred-is a b k = cc
 
 -- One token of one list is written, which refers to nothing before and after.
-module _ (old : List (List Token)) (l p : ℕ) (t u : Token) (tied : IsTied old) (inside : l < length old) (at : slice_get (get_or old l []) p ≡ Some t)
+module _ (old : List (List Token)) (l p : ℕ) (t u : Token) (tied : IsTied old) (inside : l < length old)
+    (at : slice_get (get_or old l []) p ≡ Some t)
     (was : ref_of (shape t) ≡ None) (is : ref_of (shape u) ≡ None) where
   abbrev new : List (List Token)
   new = set old l (set (get_or old l []) p u)
@@ -83,7 +98,8 @@ module _ (old : List (List Token)) (l p : ℕ) (t u : Token) (tied : IsTied old)
   pub this-list : get_or new l [] ≡ set (get_or old l []) p u
   this-list = get_or-set_same old l (set (get_or old l []) p u) [] inside
 
-  ref-written : (ts : List Token) (i q : ℕ) → slice_get ts i ≡ Some t → token_ref (slice_get (set ts i u) q) ≡ token_ref (slice_get ts q)
+  ref-written : (ts : List Token) (i q : ℕ) → slice_get ts i ≡ Some t → token_ref (slice_get (set ts i u) q)
+      ≡ token_ref (slice_get ts q)
   ref-written [] i q e = refl
   ref-written (v ∷ ts) zero zero e = is ∙ (sym was ∙ ap (λ w. ref_of (shape w)) (sym (some-is v t e)))
     where
@@ -95,7 +111,8 @@ module _ (old : List (List Token)) (l p : ℕ) (t u : Token) (tied : IsTied old)
 
   pub written-refs : (k q : ℕ) → refers new k q ≡ refers old k q
   written-refs k q = elim (cases_eq k l) [
-    | inl e ↦ ap (λ i. refers new i q) e ∙ (ap (λ ts. token_ref (slice_get ts q)) this-list ∙ (ref-written (get_or old l []) p q at ∙ ap (λ i. refers old i q) (sym e)))
+    | inl e ↦ ap (λ i. refers new i q) e ∙ (ap (λ ts. token_ref (slice_get ts q)) this-list
+        ∙ (ref-written (get_or old l []) p q at ∙ ap (λ i. refers old i q) (sym e)))
     | inr e ↦ ap (λ ts. token_ref (slice_get ts q)) (other-list k e)
   ]
 
@@ -110,10 +127,12 @@ module _ (old : List (List Token)) (l p : ℕ) (t u : Token) (tied : IsTied old)
 
   -- a tree in which the list does not stand is as it was
   pub unaffected : (k : ℕ) → (Reach old k l → ⊥) → unfolded old k ≡ unfolded new k
-  unaffected k h = unfolded-same old new k tied written-tied (sym written-length) (λ j r. sym (other-list j (λ e. h (subst (λ i. Reach old k i) e r))))
+  unaffected k h = unfolded-same old new k tied written-tied (sym written-length)
+      (λ j r. sym (other-list j (λ e. h (subst (λ i. Reach old k i) e r))))
 
   -- the list itself
-  this-tree : first_ident (before old l p) ≡ Nothing → ((rest : Tree) → item_of (trees_from [] new) (shape u) rest ≡ reserve_first (item_of (trees_from [] old) (shape t) rest)) → unfolded new l ≡ reserve_first (unfolded old l)
+  this-tree : first_ident (before old l p) ≡ Nothing → ((rest : Tree) → item_of (trees_from [] new) (shape u) rest
+      ≡ reserve_first (item_of (trees_from [] old) (shape t) rest)) → unfolded new l ≡ reserve_first (unfolded old l)
   this-tree none item =
       let lt : l < length new = let e : length new ≡ length old = written-length in omega arith in
       unfold-is new l written-tied lt
@@ -124,7 +143,8 @@ module _ (old : List (List Token)) (l p : ℕ) (t u : Token) (tied : IsTied old)
       ∙ ap reserve_first (sym (unfold-is old l tied inside))))
 
   -- a list on the way down to it
-  upper-tree : (m q x : ℕ) (v : Token) → slice_get (get_or old m []) q ≡ Some v → shape v ≡ Below x → first_ident (before old m q) ≡ Nothing → (n : ℕ) → first_ident (unfolded old x) ≡ Found n → Reach old x l
+  upper-tree : (m q x : ℕ) (v : Token) → slice_get (get_or old m []) q ≡ Some v → shape v ≡ Below x
+      → first_ident (before old m q) ≡ Nothing → (n : ℕ) → first_ident (unfolded old x) ≡ Found n → Reach old x l
       → unfolded new x ≡ reserve_first (unfolded old x) → unfolded new m ≡ reserve_first (unfolded old m)
   upper-tree m q x v e h none n f r done =
       let ref : refers old m q ≡ Some x = ap token_ref e ∙ ap ref_of h in
@@ -148,30 +168,40 @@ module _ (old : List (List Token)) (l p : ℕ) (t u : Token) (tied : IsTied old)
           some-is a b g = cc
       set-same (y ∷ ts) (suc i) w k = ap (λ zs. y ∷ zs) (set-same ts i w k)
 
-      sub : (rest : Tree) → item_of (trees_from [] new) (shape v) rest ≡ reserve_first (item_of (trees_from [] old) (shape v) rest)
-      sub rest = ap (λ s. item_of (trees_from [] new) s rest) h ∙ (ap (λ s. Sub s rest) done ∙ (sym (found (unfolded old x) f) ∙ ap (λ s. reserve_first (item_of (trees_from [] old) s rest)) (sym h)))
+      sub : (rest : Tree) → item_of (trees_from [] new) (shape v) rest
+          ≡ reserve_first (item_of (trees_from [] old) (shape v) rest)
+      sub rest = ap (λ s. item_of (trees_from [] new) s rest) h
+          ∙ (ap (λ s. Sub s rest) done ∙ (sym (found (unfolded old x) f)
+          ∙ ap (λ s. reserve_first (item_of (trees_from [] old) s rest)) (sym h)))
         where
-          found : (tree : Tree) → first_ident tree ≡ Found n → reserve_first (Sub tree rest) ≡ Sub (reserve_first tree) rest
+          found : (tree : Tree) → first_ident tree ≡ Found n → reserve_first (Sub tree rest)
+              ≡ Sub (reserve_first tree) rest
           found tree g = rw (g, reserve_first) refl
 
-  climb : (root m n : ℕ) → root < length old → Path old root m → first_ident (unfolded old m) ≡ Found n → Reach old m l → unfolded new m ≡ reserve_first (unfolded old m) → unfolded new root ≡ reserve_first (unfolded old root)
+  climb : (root m n : ℕ) → root < length old → Path old root m → first_ident (unfolded old m) ≡ Found n → Reach old m l
+      → unfolded new m ≡ reserve_first (unfolded old m) → unfolded new root ≡ reserve_first (unfolded old root)
   climb root m n lt top f r done = done
   climb root m n lt (down k q x v e h none w) f r done =
       let ref : refers old k q ≡ Some m = ap token_ref e ∙ ap ref_of h in
-      climb root k n lt w (below-first old root tied k q m v e h none (path-in old root tied k lt w) (Found n) not-nothing f) (reach-trans old k m l (next k q m ref here) r) (upper-tree k q m v e h none n f r done)
+      climb root k n lt w (below-first old root tied k q m v e h none (path-in old root tied k lt w) (Found n)
+      not-nothing f) (reach-trans old k m l (next k q m ref here) r) (upper-tree k q m v e h none n f r done)
     where
       not-nothing : Found n ≡ Nothing → ⊥
       not-nothing g = cc
 
 -- a token that is written over another leaves the number of tokens as it is
-count-written : (lists : List (List Token)) (l p : ℕ) (t : Token) → l < length lists → token_count (set lists l (set (get_or lists l []) p t)) ≡ token_count lists
+count-written : (lists : List (List Token)) (l p : ℕ) (t : Token) → l < length lists
+    → token_count (set lists l (set (get_or lists l []) p t)) ≡ token_count lists
 count-written lists l p t inside =
     let same : length (set (get_or lists l []) p t) ≡ length (get_or lists l []) = length-set (get_or lists l []) p t in
-    let sums : sum_by length (set lists l (set (get_or lists l []) p t)) + length (get_or lists l []) ≡ sum_by length lists + length (set (get_or lists l []) p t) = sum_by-set length lists l (set (get_or lists l []) p t) [] inside in
+    let sums : sum_by length (set lists l (set (get_or lists l []) p t)) + length (get_or lists l [])
+    ≡ sum_by length lists + length (set (get_or lists l []) p t) =
+    sum_by-set length lists l (set (get_or lists l []) p t) [] inside in
     omega arith
 
 -- the spot of the first identifier is written
-module _ (old : List (List Token)) (root : ℕ) (spot : Spot) (tied : IsTied old) (lt : root < length old) (f : Finds old root spot) where
+module _ (old : List (List Token)) (root : ℕ) (spot : Spot) (tied : IsTied old) (lt : root < length old)
+    (f : Finds old root spot) where
   abbrev pub written : List (List Token)
   written = set old spot.list (set (get_or old spot.list []) spot.place (Reserved spot.name spot.number RawInt))
 
@@ -179,23 +209,34 @@ module _ (old : List (List Token)) (root : ℕ) (spot : Spot) (tied : IsTied old
   word = Reserved spot.name spot.number RawInt
 
   first-here : first_ident (unfolded old spot.list) ≡ Found spot.name.index
-  first-here = ap first_ident (unfold-is old spot.list tied f.walks.inside) ∙ first-at (trees_from [] old) (get_or old spot.list []) spot.place (Ident spot.name spot.number) f.token f.walks.none
+  first-here = ap first_ident (unfold-is old spot.list tied f.walks.inside)
+      ∙ first-at (trees_from [] old) (get_or old spot.list []) spot.place (Ident spot.name spot.number) f.token
+      f.walks.none
 
   pub finds-reserves : Reserves old written root
   finds-reserves = record {
-    tree = climb old spot.list spot.place (Ident spot.name spot.number) word tied f.walks.inside f.token refl refl root spot.list spot.name.index lt f.walks.path first-here here
-        (this-tree old spot.list spot.place (Ident spot.name spot.number) word tied f.walks.inside f.token refl refl f.walks.none (λ rest. refl));
-    other_lists = λ k up down. other-list old spot.list spot.place (Ident spot.name spot.number) word tied f.walks.inside f.token refl refl k (λ e. down (subst (λ i. Reach old root i) (sym e) (reach-of old root spot.list f.walks.path)));
-    other_trees = λ k up down. sym (unaffected old spot.list spot.place (Ident spot.name spot.number) word tied f.walks.inside f.token refl refl k (λ r. elim (comparable old tied k root spot.list r (reach-of old root spot.list f.walks.path)) [ inl w ↦ up w | inr w ↦ down w ]));
-    same_length = written-length old spot.list spot.place (Ident spot.name spot.number) word tied f.walks.inside f.token refl refl;
-    same_refs = written-refs old spot.list spot.place (Ident spot.name spot.number) word tied f.walks.inside f.token refl refl;
+    tree = climb old spot.list spot.place (Ident spot.name spot.number) word tied f.walks.inside f.token refl refl root
+        spot.list spot.name.index lt f.walks.path first-here here
+        (this-tree old spot.list spot.place (Ident spot.name spot.number) word tied f.walks.inside f.token refl refl
+        f.walks.none (λ rest. refl));
+    other_lists = λ k up down. other-list old spot.list spot.place (Ident spot.name spot.number) word tied
+        f.walks.inside f.token refl refl k (λ e. down
+        (subst (λ i. Reach old root i) (sym e) (reach-of old root spot.list f.walks.path)));
+    other_trees = λ k up down. sym (unaffected old spot.list spot.place (Ident spot.name spot.number) word tied
+        f.walks.inside f.token refl refl k (λ r. elim (comparable old tied k root spot.list r
+        (reach-of old root spot.list f.walks.path)) [ inl w ↦ up w | inr w ↦ down w ]));
+    same_length = written-length old spot.list spot.place (Ident spot.name spot.number) word tied f.walks.inside f.token
+        refl refl;
+    same_refs = written-refs old spot.list spot.place (Ident spot.name spot.number) word tied f.walks.inside f.token
+        refl refl;
     same_count = count-written old spot.list spot.place word f.walks.inside;
   }
 
   pub finds-token : ReservesToken old written spot.name
   finds-token = record { list = spot.list; place = spot.place; number = spot.number; was = f.token; is = refl }
 
-pub none-reserves : (old : List (List Token)) (root : ℕ) → found_name (first_ident (unfolded old root)) ≡ None → Reserves old old root
+pub none-reserves : (old : List (List Token)) (root : ℕ) → found_name (first_ident (unfolded old root)) ≡ None
+    → Reserves old old root
 none-reserves old root h = record {
   tree = sym (reserve-none (unfolded old root) h);
   other_lists = λ k up down. refl;

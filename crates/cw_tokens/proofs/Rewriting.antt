@@ -1,5 +1,6 @@
 -- A token of the vector is written over.
-use Rattle.std.proofs.Common.{◌≡◌, ℕ, ◌+◌, ◌-◌, ◌<◌, ◌≤◌, Bool, true, false, List, [], length, Some, drop, set, get_or, refl, sym, ap, ◌∙◌, subst, arith}
+use Rattle.std.proofs.Common.{◌≡◌, ℕ, ◌+◌, ◌-◌, ◌<◌, ◌≤◌, Bool, true, false, List, [], length, Some, drop, set, get_or}
+use Rattle.std.proofs.Common.{refl, sym, ap, ◌∙◌, subst, arith}
 use Rattle.std.proofs.lemmas.List.{drop-set-lt, length-set, length-take}
 use Rattle.std.proofs.lemmas.Option.{slice_get_within}
 use Rattle.cw_base.specs.declared.category.Cat.TheVariants.{RawInt}
@@ -16,15 +17,18 @@ use Rattle.cw_tokens.proofs.Storing.{view_of}
 use Rattle.cw_tokens.proofs.Reserve.{finds-reserves, finds-token, written}
 
 -- the fields after the identifier at a spot has become a reserved word, where the ones before were seen as v
-pub record Rewrites (b : Bool) (from : ℕ) (es : List ℕ) (ts : List Token) (ks : List Link) (s t e k : ℕ) (root : ℕ) (spot : Spot) (place : ℕ) (v : StoredLists) : Type 0 where
+pub record Rewrites (b : Bool) (from : ℕ) (es : List ℕ) (ts : List Token) (ks : List Link) (s t e k : ℕ) (root : ℕ)
+    (spot : Spot) (place : ℕ) (v : StoredLists) : Type 0 where
   pub inside : place < length ts
   pub stored : IsStored b from es (set ts place (Reserved spot.name spot.number RawInt)) ks s t e k
   pub building : built b es (set ts place (Reserved spot.name spot.number RawInt)) ≡ v.building
   pub reserves : Reserves v.lists (cut 0 es (set ts place (Reserved spot.name spot.number RawInt))) root
   pub token : ReservesToken v.lists (cut 0 es (set ts place (Reserved spot.name spot.number RawInt))) spot.name
 
-module _ (b : Bool) (from : ℕ) (es : List ℕ) (ts : List Token) (ks : List Link) (s t e k : ℕ) (root : ℕ) (spot : Spot) (place : ℕ) (old : IsStored b from es ts ks s t e k)
-    (lt : root < length (cut 0 es ts)) (f : Finds (cut 0 es ts) root spot) (at : place ≡ start_of 0 es spot.list + spot.place) where
+module _ (b : Bool) (from : ℕ) (es : List ℕ) (ts : List Token) (ks : List Link) (s t e k : ℕ) (root : ℕ) (spot : Spot)
+    (place : ℕ) (old : IsStored b from es ts ks s t e k)
+    (lt : root < length (cut 0 es ts)) (f : Finds (cut 0 es ts) root spot) (at : place
+    ≡ start_of 0 es spot.list + spot.place) where
   abbrev word : Token
   word = Reserved spot.name spot.number RawInt
 
@@ -39,11 +43,17 @@ module _ (b : Bool) (from : ℕ) (es : List ℕ) (ts : List Token) (ks : List Li
       let sp : Spans 0 es spot.list = spans 0 es spot.list old.ascending in-list in
       let o : start_of 0 es spot.list ≤ get_or es spot.list 0 = sp.order in
       let h : get_or es spot.list 0 ≤ last_end 0 es = sp.high in
-      let len : length (get_or (cut 0 es ts) spot.list []) ≤ get_or es spot.list 0 - start_of 0 es spot.list = omega (arith, ap length (get_or-cut 0 es ts spot.list old.ascending in-list), length-take (get_or es spot.list 0 - start_of 0 es spot.list) (drop (start_of 0 es spot.list - 0) ts)) in
+      let len : length (get_or (cut 0 es ts) spot.list []) ≤ get_or es spot.list 0 - start_of 0 es spot.list =
+      omega (
+        arith,
+        ap length (get_or-cut 0 es ts spot.list old.ascending in-list),
+        length-take (get_or es spot.list 0 - start_of 0 es spot.list) (drop (start_of 0 es spot.list - 0) ts),
+      ) in
       let p : spot.place < length (get_or (cut 0 es ts) spot.list []) = in-cut in
       omega arith
 
-  new-lists : cut 0 es (set ts place word) ≡ written (cut 0 es ts) root spot (linked-tied (cut 0 es ts) ks (linked-lists (cut 0 es ts) (built b es ts) ks old.linked)) lt f
+  new-lists : cut 0 es (set ts place word) ≡ written (cut 0 es ts) root spot
+      (linked-tied (cut 0 es ts) ks (linked-lists (cut 0 es ts) (built b es ts) ks old.linked)) lt f
   new-lists = cut-set 0 es ts spot.list spot.place place word old.ascending in-list in-cut (omega arith)
 
   same-built : (c : Bool) → built c es (set ts place word) ≡ built c es ts
@@ -51,7 +61,8 @@ module _ (b : Bool) (from : ℕ) (es : List ℕ) (ts : List Token) (ks : List Li
   same-built false = refl
 
   reserves-here : Reserves (cut 0 es ts) (cut 0 es (set ts place word)) root
-  reserves-here = rw new-lists (finds-reserves (cut 0 es ts) root spot (linked-tied (cut 0 es ts) ks (linked-lists (cut 0 es ts) (built b es ts) ks old.linked)) lt f)
+  reserves-here = rw new-lists (finds-reserves (cut 0 es ts) root spot
+      (linked-tied (cut 0 es ts) ks (linked-lists (cut 0 es ts) (built b es ts) ks old.linked)) lt f)
 
   pub rewrites-own : Rewrites b from es ts ks s t e k root spot place (view_of b es ts s)
   rewrites-own = record {
@@ -66,13 +77,21 @@ module _ (b : Bool) (from : ℕ) (es : List ℕ) (ts : List Token) (ks : List Li
       all = λ n. old.all n ∙ sym (length-set ts place word);
       as_many = old.as_many;
       linked = subst (λ o. IsLinked (with_built (cut 0 es (set ts place word)) o) ks) (sym (same-built b))
-          (linked-same (with_built (cut 0 es ts) (built b es ts)) (with_built (cut 0 es (set ts place word)) (built b es ts)) ks (refers-with (cut 0 es ts) (cut 0 es (set ts place word)) (built b es ts) reserves-here.same_length reserves-here.same_refs) old.linked);
+          (linked-same (with_built (cut 0 es ts) (built b es ts))
+          (with_built (cut 0 es (set ts place word)) (built b es ts)) ks
+          (refers-with (cut 0 es ts) (cut 0 es (set ts place word)) (built b es ts) reserves-here.same_length
+          reserves-here.same_refs) old.linked);
     };
     building = same-built b;
     reserves = reserves-here;
-    token = rw new-lists (finds-token (cut 0 es ts) root spot (linked-tied (cut 0 es ts) ks (linked-lists (cut 0 es ts) (built b es ts) ks old.linked)) lt f);
+    token = rw new-lists (finds-token (cut 0 es ts) root spot
+        (linked-tied (cut 0 es ts) ks (linked-lists (cut 0 es ts) (built b es ts) ks old.linked)) lt f);
   }
 
-pub rewrites-view : (b : Bool) (from : ℕ) (es : List ℕ) (ts : List Token) (ks : List Link) (s t e k : ℕ) (root : ℕ) (spot : Spot) (place : ℕ) (v : StoredLists) → IsStored b from es ts ks s t e k → view_of b es ts s ≡ v
-    → root < length (cut 0 es ts) → Finds (cut 0 es ts) root spot → place ≡ start_of 0 es spot.list + spot.place → Rewrites b from es ts ks s t e k root spot place v
-rewrites-view b from es ts ks s t e k root spot place v old q lt f at = subst (λ (w : StoredLists). Rewrites b from es ts ks s t e k root spot place w) q (rewrites-own b from es ts ks s t e k root spot place old lt f at)
+pub rewrites-view : (b : Bool) (from : ℕ) (es : List ℕ) (ts : List Token) (ks : List Link) (s t e k : ℕ) (root : ℕ)
+    (spot : Spot) (place : ℕ) (v : StoredLists) → IsStored b from es ts ks s t e k → view_of b es ts s ≡ v
+    → root < length (cut 0 es ts) → Finds (cut 0 es ts) root spot → place ≡ start_of 0 es spot.list + spot.place
+    → Rewrites b from es ts ks s t e k root spot place v
+rewrites-view b from es ts ks s t e k root spot place v old q lt f at =
+    subst (λ (w : StoredLists). Rewrites b from es ts ks s t e k root spot place w) q
+    (rewrites-own b from es ts ks s t e k root spot place old lt f at)

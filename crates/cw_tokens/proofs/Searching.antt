@@ -1,5 +1,6 @@
 -- The walk that looks for the first identifier of a tree.
-use Rattle.std.proofs.Common.{◌≡◌, ℕ, zero, suc, ◌+◌, ◌<◌, ◌≤◌, List, [], ◌∷◌, length, Some, None, take, drop, get_or, refl, sym, ap, ◌∙◌, subst, add-one, arith}
+use Rattle.std.proofs.Common.{◌≡◌, ℕ, zero, suc, ◌+◌, ◌<◌, ◌≤◌, List, [], ◌∷◌, length, Some, None, take, drop, get_or}
+use Rattle.std.proofs.Common.{refl, sym, ap, ◌∙◌, subst, add-one, arith}
 use Rattle.std.specs.List.{slice_get}
 use Rattle.std.proofs.lemmas.List.{take_all, take-take}
 use Rattle.std.proofs.lemmas.Option.{slice_get_within}
@@ -8,7 +9,8 @@ use Rattle.cw_tokens.specs.declared.token.Token.{Token}
 use Rattle.cw_tokens.specs.declared.token.Token.TheVariants.{Ident}
 use Rattle.cw_tokens.specs.declared.store.Link.{Link}
 use Rattle.cw_tokens.specs.declared.walk.Spot.{Spot}
-use Rattle.cw_tokens.specs.Shapes.{Shape, Plain, Below, InnerBelow, shape, ref_of, item_of, tree_in, trees_from, unfolded}
+use Rattle.cw_tokens.specs.Shapes.{Shape, Plain, Below, InnerBelow, shape, ref_of, item_of, tree_in, trees_from}
+use Rattle.cw_tokens.specs.Shapes.{unfolded}
 use Rattle.cw_tokens.specs.References.{token_ref, refers, IsTied}
 use Rattle.cw_tokens.specs.Stored.{no_link, IsLinked}
 use Rattle.cw_tokens.specs.Walking.{IsPassed, stops_at, before, Path, top, down, Walks, Finds, found_name}
@@ -25,7 +27,8 @@ or_else-first Nothing t u = refl
 abbrev pub item_search : List Tree → Shape → Search
 item_search trees s = first_ident (item_of trees s Empty)
 
-pub first-item : (trees : List Tree) (s : Shape) (rest : Tree) → first_ident (item_of trees s rest) ≡ or_else (item_search trees s) (first_ident rest)
+pub first-item : (trees : List Tree) (s : Shape) (rest : Tree) → first_ident (item_of trees s rest)
+    ≡ or_else (item_search trees s) (first_ident rest)
 first-item trees (Plain leaf) rest = go (search_leaf leaf)
   where
     go : (x : Search) → or_else x (first_ident rest) ≡ or_else (or_else x Nothing) (first_ident rest)
@@ -49,14 +52,17 @@ drop-at (u ∷ ts) zero t e = ap (λ v. v ∷ ts) (some-is u t e)
 drop-at (u ∷ ts) (suc p) t e = drop-at ts p t e
 
 -- what a list holds is what stands before a place, and then what stands from there on
-first-split : (trees : List Tree) (ts : List Token) (p : ℕ) → first_ident (tree_in trees ts) ≡ or_else (first_ident (tree_in trees (take p ts))) (first_ident (tree_in trees (drop p ts)))
+first-split : (trees : List Tree) (ts : List Token) (p : ℕ) → first_ident (tree_in trees ts)
+    ≡ or_else (first_ident (tree_in trees (take p ts))) (first_ident (tree_in trees (drop p ts)))
 first-split trees ts zero = refl
 first-split trees [] (suc p) = refl
 first-split trees (t ∷ ts) (suc p) =
     first-item trees (shape t) (tree_in trees ts)
     ∙ (ap (or_else (item_search trees (shape t))) (first-split trees ts p)
-    ∙ (sym (or_else-first (item_search trees (shape t)) (first_ident (tree_in trees (take p ts))) (first_ident (tree_in trees (drop p ts))))
-    ∙ ap (λ s. or_else s (first_ident (tree_in trees (drop p ts)))) (sym (first-item trees (shape t) (tree_in trees (take p ts))))))
+    ∙ (sym (or_else-first (item_search trees (shape t)) (first_ident (tree_in trees (take p ts)))
+    (first_ident (tree_in trees (drop p ts))))
+    ∙ ap (λ s. or_else s (first_ident (tree_in trees (drop p ts))))
+    (sym (first-item trees (shape t) (tree_in trees (take p ts))))))
 
 take-at : (ts : List Token) (p : ℕ) (t : Token) → slice_get ts p ≡ Some t → take p (take (suc p) ts) ≡ take p ts
 take-at ts p t e = take-take p (suc p) ts (omega arith)
@@ -70,17 +76,21 @@ drop-take-at (u ∷ ts) zero t e = ap (λ v. v ∷ []) (some-is u t e)
 drop-take-at (u ∷ ts) (suc p) t e = drop-take-at ts p t e
 
 -- nothing stands before p, so the list's search is that of token p and what follows
-pub first-at : (trees : List Tree) (ts : List Token) (p : ℕ) (t : Token) → slice_get ts p ≡ Some t → first_ident (tree_in trees (take p ts)) ≡ Nothing
+pub first-at : (trees : List Tree) (ts : List Token) (p : ℕ) (t : Token) → slice_get ts p ≡ Some t
+    → first_ident (tree_in trees (take p ts)) ≡ Nothing
     → first_ident (tree_in trees ts) ≡ first_ident (item_of trees (shape t) (tree_in trees (drop (suc p) ts)))
-first-at trees ts p t e n = first-split trees ts p ∙ (ap (λ s. or_else s (first_ident (tree_in trees (drop p ts)))) n ∙ ap (λ us. first_ident (tree_in trees us)) (drop-at ts p t e))
+first-at trees ts p t e n = first-split trees ts p ∙ (ap (λ s. or_else s (first_ident (tree_in trees (drop p ts)))) n
+    ∙ ap (λ us. first_ident (tree_in trees us)) (drop-at ts p t e))
 
 -- and the search before p + 1 is that of token p
-pub first-before : (trees : List Tree) (ts : List Token) (p : ℕ) (t : Token) → slice_get ts p ≡ Some t → first_ident (tree_in trees (take p ts)) ≡ Nothing
+pub first-before : (trees : List Tree) (ts : List Token) (p : ℕ) (t : Token) → slice_get ts p ≡ Some t
+    → first_ident (tree_in trees (take p ts)) ≡ Nothing
     → first_ident (tree_in trees (take (p + 1) ts)) ≡ item_search trees (shape t)
 first-before trees ts p t e n =
     ap (λ i. first_ident (tree_in trees (take i ts))) (add-one p)
     ∙ (first-split trees (take (suc p) ts) p
-    ∙ (ap (λ us. or_else (first_ident (tree_in trees us)) (first_ident (tree_in trees (drop p (take (suc p) ts))))) (take-at ts p t e)
+    ∙ (ap (λ us. or_else (first_ident (tree_in trees us)) (first_ident (tree_in trees (drop p (take (suc p) ts)))))
+    (take-at ts p t e)
     ∙ (ap (λ s. or_else s (first_ident (tree_in trees (drop p (take (suc p) ts))))) n
     ∙ ap (λ us. first_ident (tree_in trees us)) (drop-take-at ts p t e))))
 
@@ -106,7 +116,9 @@ module _ (ls : List (List Token)) (root : ℕ) (tied : IsTied ls) where
       let b : m < length ls = refers-within ls m p l r in
       omega arith
 
-  pub below-first : (m p x : ℕ) (t : Token) → slice_get (get_or ls m []) p ≡ Some t → shape t ≡ Below x → first_ident (before ls m p) ≡ Nothing → m < length ls → (s : Search) → (s ≡ Nothing → ⊥) → first_ident (unfolded ls x) ≡ s → first_ident (unfolded ls m) ≡ s
+  pub below-first : (m p x : ℕ) (t : Token) → slice_get (get_or ls m []) p ≡ Some t → shape t ≡ Below x
+      → first_ident (before ls m p) ≡ Nothing → m < length ls → (s : Search) → (s ≡ Nothing → ⊥)
+      → first_ident (unfolded ls x) ≡ s → first_ident (unfolded ls m) ≡ s
   below-first m p x t e h n lt s some f =
       ap first_ident (unfold-is ls m tied lt)
       ∙ (first-at trees (get_or ls m []) p t e n
@@ -115,28 +127,36 @@ module _ (ls : List (List Token)) (root : ℕ) (tied : IsTied ls) where
       ∙ or_else-stays s (first_ident (tree_in trees (drop (suc p) (get_or ls m [])))) some)))
 
   -- what is found in a list on the way is found in the root
-  pub root-first : (l : ℕ) → root < length ls → Path ls root l → (s : Search) → (s ≡ Nothing → ⊥) → first_ident (unfolded ls l) ≡ s → first_ident (unfolded ls root) ≡ s
+  pub root-first : (l : ℕ) → root < length ls → Path ls root l → (s : Search) → (s ≡ Nothing → ⊥)
+      → first_ident (unfolded ls l) ≡ s → first_ident (unfolded ls root) ≡ s
   root-first l lt top s some f = f
-  root-first l lt (down m p x t e h n w) s some f = root-first m lt w s some (below-first m p l t e h n (path-in m lt w) s some f)
+  root-first l lt (down m p x t e h n w) s some f =
+      root-first m lt w s some (below-first m p l t e h n (path-in m lt w) s some f)
 
   -- the search at a token that ends it
-  at-token : (l p : ℕ) (t : Token) → root < length ls → Walks ls root l p → slice_get (get_or ls l []) p ≡ Some t → (s : Search) → (s ≡ Nothing → ⊥)
+  at-token : (l p : ℕ) (t : Token) → root < length ls → Walks ls root l p → slice_get (get_or ls l []) p ≡ Some t
+      → (s : Search) → (s ≡ Nothing → ⊥)
       → ((rest : Tree) → first_ident (item_of trees (shape t) rest) ≡ s) → first_ident (unfolded ls root) ≡ s
   at-token l p t lt w e s some f =
-      root-first l lt w.path s some (ap first_ident (unfold-is ls l tied w.inside) ∙ (first-at trees (get_or ls l []) p t e w.none ∙ f (tree_in trees (drop (suc p) (get_or ls l [])))))
+      root-first l lt w.path s some (ap first_ident (unfold-is ls l tied w.inside)
+      ∙ (first-at trees (get_or ls l []) p t e w.none ∙ f (tree_in trees (drop (suc p) (get_or ls l [])))))
 
-  pub walks-found : (spot : Spot) → root < length ls → Walks ls root spot.list spot.place → slice_get (get_or ls spot.list []) spot.place ≡ Some (Ident spot.name spot.number) → Finds ls root spot
+  pub walks-found : (spot : Spot) → root < length ls → Walks ls root spot.list spot.place
+      → slice_get (get_or ls spot.list []) spot.place ≡ Some (Ident spot.name spot.number) → Finds ls root spot
   walks-found spot lt w e = record {
     walks = w;
     token = e;
-    first = at-token spot.list spot.place (Ident spot.name spot.number) lt w e (Found spot.name.index) (not-nothing spot.name.index) (λ rest. refl);
+    first = at-token spot.list spot.place (Ident spot.name spot.number) lt w e (Found spot.name.index)
+        (not-nothing spot.name.index) (λ rest. refl);
   }
     where
       not-nothing : (n : ℕ) → Found n ≡ Nothing → ⊥
       not-nothing n k = cc
 
-  pub walks-stopped : (l p : ℕ) (t : Token) → root < length ls → Walks ls root l p → slice_get (get_or ls l []) p ≡ Some t → stops_at (shape t) ≡ Stopped → found_name (first_ident (unfolded ls root)) ≡ None
-  walks-stopped l p t lt w e h = ap found_name (at-token l p t lt w e Stopped not-nothing (λ rest. stopped (shape t) rest h))
+  pub walks-stopped : (l p : ℕ) (t : Token) → root < length ls → Walks ls root l p → slice_get (get_or ls l []) p
+      ≡ Some t → stops_at (shape t) ≡ Stopped → found_name (first_ident (unfolded ls root)) ≡ None
+  walks-stopped l p t lt w e h = ap found_name (at-token l p t lt w e Stopped not-nothing
+      (λ rest. stopped (shape t) rest h))
     where
       not-nothing : Stopped ≡ Nothing → ⊥
       not-nothing k = cc
@@ -146,14 +166,17 @@ module _ (ls : List (List Token)) (root : ℕ) (tied : IsTied ls) where
       stopped (Below x) rest k = cc
       stopped (InnerBelow x) rest k = cc
 
-  pub walks-ended : (p : ℕ) → Walks ls root root p → length (get_or ls root []) ≤ p → found_name (first_ident (unfolded ls root)) ≡ None
+  pub walks-ended : (p : ℕ) → Walks ls root root p → length (get_or ls root []) ≤ p
+      → found_name (first_ident (unfolded ls root)) ≡ None
   walks-ended p w h =
-      ap found_name (ap first_ident (unfold-is ls root tied w.inside) ∙ (ap (λ us. first_ident (tree_in trees us)) (sym (take_all p (get_or ls root []) h)) ∙ w.none))
+      ap found_name (ap first_ident (unfold-is ls root tied w.inside)
+      ∙ (ap (λ us. first_ident (tree_in trees us)) (sym (take_all p (get_or ls root []) h)) ∙ w.none))
 
   pub walks-start : root < length ls → Walks ls root root 0
   walks-start lt = record { path = top; none = refl; inside = lt; within = omega arith }
 
-  pub walks-pass : (l p : ℕ) (t : Token) → Walks ls root l p → slice_get (get_or ls l []) p ≡ Some t → IsPassed (shape t) → Walks ls root l (p + 1)
+  pub walks-pass : (l p : ℕ) (t : Token) → Walks ls root l p → slice_get (get_or ls l []) p ≡ Some t
+      → IsPassed (shape t) → Walks ls root l (p + 1)
   walks-pass l p t w e h = record {
     path = w.path;
     none = first-before trees (get_or ls l []) p t e w.none ∙ passed-none trees (shape t) h;
@@ -161,7 +184,8 @@ module _ (ls : List (List Token)) (root : ℕ) (tied : IsTied ls) where
     within = let lt : p < length (get_or ls l []) = slice_get_within (get_or ls l []) p t e in omega arith;
   }
 
-  pub walks-down : (l p x : ℕ) (t : Token) → Walks ls root l p → slice_get (get_or ls l []) p ≡ Some t → shape t ≡ Below x → Walks ls root x 0
+  pub walks-down : (l p x : ℕ) (t : Token) → Walks ls root l p → slice_get (get_or ls l []) p ≡ Some t → shape t
+      ≡ Below x → Walks ls root x 0
   walks-down l p x t w e h =
       let r : refers ls l p ≡ Some x = ap token_ref e ∙ ap ref_of h in
       let a : x < l = tied.earlier l p x r in
@@ -169,14 +193,17 @@ module _ (ls : List (List Token)) (root : ℕ) (tied : IsTied ls) where
       record { path = down l p x t e h w.none w.path; none = refl; inside = omega arith; within = omega arith }
 
 -- At the end of a list that holds nothing the walk goes on behind the token that refers to it.
-pub walks-up : (ls : List (List Token)) (links : List Link) (root x p : ℕ) → IsLinked ls links → Walks ls root x p → length (get_or ls x []) ≤ p → (x ≡ root → ⊥)
+pub walks-up : (ls : List (List Token)) (links : List Link) (root x p : ℕ) → IsLinked ls links → Walks ls root x p
+    → length (get_or ls x []) ≤ p → (x ≡ root → ⊥)
     → Walks ls root (get_or links x no_link).list (get_or links x no_link).place
 walks-up ls links root x p linked w end apart = go x w.path apart nothing
   where
     nothing : first_ident (unfolded ls x) ≡ Nothing
-    nothing = ap first_ident (unfold-is ls x (linked-tied ls links linked) w.inside) ∙ (ap (λ us. first_ident (tree_in (trees_from [] ls) us)) (sym (take_all p (get_or ls x []) end)) ∙ w.none)
+    nothing = ap first_ident (unfold-is ls x (linked-tied ls links linked) w.inside)
+        ∙ (ap (λ us. first_ident (tree_in (trees_from [] ls) us)) (sym (take_all p (get_or ls x []) end)) ∙ w.none)
 
-    go : (y : ℕ) → Path ls root y → (y ≡ root → ⊥) → first_ident (unfolded ls y) ≡ Nothing → Walks ls root (get_or links y no_link).list (get_or links y no_link).place
+    go : (y : ℕ) → Path ls root y → (y ≡ root → ⊥) → first_ident (unfolded ls y) ≡ Nothing
+        → Walks ls root (get_or links y no_link).list (get_or links y no_link).place
     go y top a n = absurd (a refl)
     go y (down l q m t e h none path) a n =
         let r : refers ls l q ≡ Some y = ap token_ref e ∙ ap ref_of h in
@@ -184,7 +211,8 @@ walks-up ls links root x p linked w end apart = go x w.path apart nothing
         let lt : q < length (get_or ls l []) = slice_get_within (get_or ls l []) q t e in
         subst (λ (k : Link). Walks ls root k.list k.place) (sym up) (record {
           path = path;
-          none = first-before (trees_from [] ls) (get_or ls l []) q t e none ∙ (ap (item_search (trees_from [] ls)) h ∙ ap (λ s. or_else s Nothing) n);
+          none = first-before (trees_from [] ls) (get_or ls l []) q t e none
+              ∙ (ap (item_search (trees_from [] ls)) h ∙ ap (λ s. or_else s Nothing) n);
           inside = refers-within ls l q y r;
           within = omega arith;
         })

@@ -1,9 +1,13 @@
 -- The laws of a flat list that is trimmed as its items come.
-use Rattle.std.proofs.Common.{◌≡◌, ℕ, ◌+◌, ◌<◌, ◌≤◌, Bool, true, false, ◌&&◌, ◌||◌, List, [], ◌∷◌, ◌++◌, length, get_or, set, take, drop, refl, sym, ap, ◌∙◌, subst, arith}
-use Rattle.std.proofs.lemmas.List.{append_assoc, append-nil, map-append, map_push, take-append-drop, drop-append-le, take-append-le, take_all, drop_all, drop-set-lt}
+use Rattle.std.proofs.Common.{◌≡◌, ℕ, ◌+◌, ◌<◌, ◌≤◌, Bool, true, false, ◌&&◌, ◌||◌, List, [], ◌∷◌, ◌++◌, length, get_or}
+use Rattle.std.proofs.Common.{set, take, drop, refl, sym, ap, ◌∙◌, subst, arith}
+use Rattle.std.proofs.lemmas.List.{append_assoc, append-nil, map-append, map_push, take-append-drop, drop-append-le}
+use Rattle.std.proofs.lemmas.List.{take-append-le, take_all, drop_all, drop-set-lt}
 use Rattle.cw_trees.specs.declared.Control.{Control}
 use Rattle.cw_trees.specs.declared.Control.TheVariants as controls
-use Rattle.cw_trees.specs.Flat.{Item, SourceItem, IdentItem, ReservedItem, SignItem, Open, Close, is_break, is_break_sign, is_run_sign, is_wall_sign, is_gap, is_inserted, begins_after, ends_text, trim_back, trim_front, trimmed, without_inserted}
+use Rattle.cw_trees.specs.Flat.{Item, SourceItem, IdentItem, ReservedItem, SignItem, Open, Close, is_break}
+use Rattle.cw_trees.specs.Flat.{is_break_sign, is_run_sign, is_wall_sign, is_gap, is_inserted, begins_after, ends_text}
+use Rattle.cw_trees.specs.Flat.{trim_back, trim_front, trimmed, without_inserted}
 use Rattle.cw_tokens.specs.declared.flat.FlatItem.{FlatItem}
 use Rattle.cw_tokens.specs.declared.flat.FlatItem.TheVariants as FlatItems
 use Rattle.cw_tokens.specs.FlatItems.{item_is, items_are}
@@ -11,7 +15,8 @@ use Rattle.cw_tokens.specs.Trimming.{unbroken, gap_before, AllGaps, Trims, parte
 use Rattle.cw_tokens.proofs.Trimming.{rest-more, item-and-rest, stored, front_step}
 
 -- what is in no gap is no break
-sign-in-none : (control : Control) → (is_run_sign control || is_wall_sign control) ≡ false → is_break_sign control ≡ false
+sign-in-none : (control : Control) → (is_run_sign control || is_wall_sign control) ≡ false → is_break_sign control
+    ≡ false
 sign-in-none controls.Blank e = e
 sign-in-none controls.OptionalBreak e = e
 sign-in-none controls.Break e = e
@@ -49,44 +54,66 @@ ends-gaps [] items all = refl
 ends-gaps (gap ∷ gaps) items all = ends-gap gap (gaps ++ items) all.0 ∙ ends-gaps gaps items all.1
 
 -- before the end of a text the breaks of a gap go, and elsewhere they stay
-gaps-end : (gaps items : List Item) → AllGaps gaps → ends_text items ≡ true → trim_back (gaps ++ items) ≡ unbroken gaps ++ trim_back items
+gaps-end : (gaps items : List Item) → AllGaps gaps → ends_text items ≡ true → trim_back (gaps ++ items)
+    ≡ unbroken gaps ++ trim_back items
 gaps-end [] items all ends = refl
 gaps-end (gap ∷ gaps) items all ends =
-    ap (λ (b : Bool). elim (is_break gap && b) [ true ↦ trim_back (gaps ++ items) | false ↦ gap ∷ trim_back (gaps ++ items) ]) (ends-gaps gaps items all.1 ∙ ends)
-    ∙ ap (λ (l : List Item). elim (is_break gap && true) [ true ↦ l | false ↦ gap ∷ l ]) (gaps-end gaps items all.1 ends)
+    ap (λ (b : Bool). elim (is_break gap && b) [
+      | true ↦ trim_back (gaps ++ items)
+      | false ↦ gap ∷ trim_back (gaps ++ items)
+    ]) (ends-gaps gaps items all.1 ∙ ends)
+    ∙ ap (λ (l : List Item). elim (is_break gap && true) [ true ↦ l | false ↦ gap ∷ l ])
+    (gaps-end gaps items all.1 ends)
     ∙ go (is_break gap)
   where
-    go : (b : Bool) → elim (b && true) [ true ↦ unbroken gaps ++ trim_back items | false ↦ gap ∷ (unbroken gaps ++ trim_back items) ] ≡ elim b [ true ↦ unbroken gaps | false ↦ gap ∷ unbroken gaps ] ++ trim_back items
+    go : (b : Bool) → elim (b && true) [
+      | true ↦ unbroken gaps ++ trim_back items
+      | false ↦ gap ∷ (unbroken gaps ++ trim_back items)
+    ] ≡ elim b [
+      | true ↦ unbroken gaps
+      | false ↦ gap ∷ unbroken gaps
+    ] ++ trim_back items
     go true = refl
     go false = refl
 
-gaps-stay : (gaps items : List Item) → AllGaps gaps → ends_text items ≡ false → trim_back (gaps ++ items) ≡ gaps ++ trim_back items
+gaps-stay : (gaps items : List Item) → AllGaps gaps → ends_text items ≡ false → trim_back (gaps ++ items)
+    ≡ gaps ++ trim_back items
 gaps-stay [] items all ends = refl
 gaps-stay (gap ∷ gaps) items all ends =
-    ap (λ (b : Bool). elim (is_break gap && b) [ true ↦ trim_back (gaps ++ items) | false ↦ gap ∷ trim_back (gaps ++ items) ]) (ends-gaps gaps items all.1 ∙ ends)
+    ap (λ (b : Bool). elim (is_break gap && b) [
+      | true ↦ trim_back (gaps ++ items)
+      | false ↦ gap ∷ trim_back (gaps ++ items)
+    ]) (ends-gaps gaps items all.1 ∙ ends)
     ∙ go (is_break gap)
     ∙ ap (λ (l : List Item). gap ∷ l) (gaps-stay gaps items all.1 ends)
   where
-    go : (b : Bool) → elim (b && false) [ true ↦ trim_back (gaps ++ items) | false ↦ gap ∷ trim_back (gaps ++ items) ] ≡ gap ∷ trim_back (gaps ++ items)
+    go : (b : Bool) → elim (b && false) [ true ↦ trim_back (gaps ++ items) | false ↦ gap ∷ trim_back (gaps ++ items) ]
+        ≡ gap ∷ trim_back (gaps ++ items)
     go true = refl
     go false = refl
 
 -- what stays of a gap and the item behind it, which is in none
-gap-and-item : (gaps : List Item) (item : Item) (items : List Item) → AllGaps gaps → is_gap item ≡ false → trim_back (gaps ++ item ∷ items) ≡ gap_before item gaps ++ item ∷ trim_back items
+gap-and-item : (gaps : List Item) (item : Item) (items : List Item) → AllGaps gaps → is_gap item ≡ false
+    → trim_back (gaps ++ item ∷ items) ≡ gap_before item gaps ++ item ∷ trim_back items
 gap-and-item gaps Close items all e = gaps-end gaps (Close ∷ items) all refl
 gap-and-item gaps Open items all e = gaps-stay gaps (Open ∷ items) all refl
 gap-and-item gaps (SourceItem number) items all e = gaps-stay gaps (SourceItem number ∷ items) all refl
 gap-and-item gaps (IdentItem name number) items all e = gaps-stay gaps (IdentItem name number ∷ items) all refl
 gap-and-item gaps (ReservedItem name number) items all e = gaps-stay gaps (ReservedItem name number ∷ items) all refl
 gap-and-item gaps (SignItem control) items all e =
-    gaps-stay gaps (SignItem control ∷ items) all (ap (λ (b : Bool). elim b [ true ↦ ends_text items | false ↦ false ]) e)
-    ∙ ap (λ (b : Bool). gaps ++ elim (b && ends_text items) [ true ↦ trim_back items | false ↦ SignItem control ∷ trim_back items ]) (sign-in-none control e)
+    gaps-stay gaps (SignItem control ∷ items) all (ap (λ (b : Bool). elim b [ true ↦ ends_text items | false ↦ false ])
+    e)
+    ∙ ap (λ (b : Bool). gaps ++ elim (b && ends_text items) [
+      | true ↦ trim_back items
+      | false ↦ SignItem control ∷ trim_back items
+    ]) (sign-in-none control e)
 
 all-push : (gaps : List Item) (item : Item) → AllGaps gaps → is_gap item ≡ true → AllGaps (gaps ++ item ∷ [])
 all-push [] item all e = (e, tt)
 all-push (gap ∷ gaps) item all e = (all.0, all-push gaps item all.1 e)
 
-module _ (gap : ℕ) (items : List FlatItem) (begins : Bool) (item : FlatItem) (given : List Item) (within : gap ≤ length items) (stands : StandsFor (parted gap items begins) given) where
+module _ (gap : ℕ) (items : List FlatItem) (begins : Bool) (item : FlatItem) (given : List Item)
+    (within : gap ≤ length items) (stands : StandsFor (parted gap items begins) given) where
   abbrev came : Item
   came = item_is item
 
@@ -94,48 +121,63 @@ module _ (gap : ℕ) (items : List FlatItem) (begins : Bool) (item : FlatItem) (
   front more = trim_front (begins_after begins came) (without_inserted more)
 
   -- all items with one more, and whatever comes behind it
-  one-more : (is_inserted came || (begins && is_break came)) ≡ false → (more : List Item) → trimmed ((given ++ came ∷ []) ++ more) ≡ items_are (take gap items) ++ trim_back (items_are (drop gap items) ++ came ∷ front more)
+  one-more : (is_inserted came || (begins && is_break came)) ≡ false → (more : List Item)
+      → trimmed ((given ++ came ∷ []) ++ more) ≡ items_are (take gap items)
+      ++ trim_back (items_are (drop gap items) ++ came ∷ front more)
   one-more stays more =
       ap trimmed (append_assoc given (came ∷ []) more)
       ∙ stands.stays (came ∷ more)
-      ∙ ap (λ (l : List Item). items_are (take gap items) ++ trim_back (items_are (drop gap items) ++ l)) (front_step begins came more false stays)
+      ∙ ap (λ (l : List Item). items_are (take gap items) ++ trim_back (items_are (drop gap items) ++ l))
+      (front_step begins came more false stays)
 
   -- an item of a gap
-  pub stands-gap : (is_inserted came || (begins && is_break came)) ≡ false → is_gap came ≡ true → StandsFor (parted gap (items ++ item ∷ []) (begins_after begins came)) (given ++ came ∷ [])
+  pub stands-gap : (is_inserted came || (begins && is_break came)) ≡ false → is_gap came ≡ true
+      → StandsFor (parted gap (items ++ item ∷ []) (begins_after begins came)) (given ++ came ∷ [])
   stands-gap stays in_gap =
-      let longer : items_are (drop gap (items ++ item ∷ [])) ≡ items_are (drop gap items) ++ came ∷ [] = ap items_are (drop-append-le gap items (item ∷ []) within) ∙ map_push item_is (drop gap items) item in
+      let longer : items_are (drop gap (items ++ item ∷ [])) ≡ items_are (drop gap items) ++ came ∷ [] =
+      ap items_are (drop-append-le gap items (item ∷ []) within) ∙ map_push item_is (drop gap items) item in
       record {
         gaps = subst AllGaps (sym longer) (all-push (items_are (drop gap items)) came stands.gaps in_gap);
         stays = λ more.
             one-more stays more
-            ∙ ap (λ (l : List Item). items_are (take gap items) ++ trim_back l) (sym (append_assoc (items_are (drop gap items)) (came ∷ []) (front more)))
+            ∙ ap (λ (l : List Item). items_are (take gap items) ++ trim_back l)
+            (sym (append_assoc (items_are (drop gap items)) (came ∷ []) (front more)))
             ∙ ap (λ (l : List Item). items_are (take gap items) ++ trim_back (l ++ front more)) (sym longer)
-            ∙ ap (λ (l : List FlatItem). items_are l ++ trim_back (items_are (drop gap (items ++ item ∷ [])) ++ front more)) (sym (take-append-le gap items (item ∷ []) within));
+            ∙ ap (λ (l : List FlatItem). items_are l ++ trim_back (items_are (drop gap (items ++ item ∷ []))
+            ++ front more)) (sym (take-append-le gap items (item ∷ []) within));
       }
 
   -- an item that is in no gap: the gap before it is settled too
-  pub stands-settled : (kept : List FlatItem) → (is_inserted came || (begins && is_break came)) ≡ false → is_gap came ≡ false
+  pub stands-settled : (kept : List FlatItem) → (is_inserted came || (begins && is_break came)) ≡ false → is_gap came
+      ≡ false
       → items_are kept ≡ items_are (take gap items) ++ gap_before came (items_are (drop gap items))
-      → StandsFor (parted (length (kept ++ item ∷ [])) (kept ++ item ∷ []) (begins_after begins came)) (given ++ came ∷ [])
+      → StandsFor (parted (length (kept ++ item ∷ [])) (kept ++ item ∷ []) (begins_after begins came))
+      (given ++ came ∷ [])
   stands-settled kept stays in_none is =
       let all = kept ++ item ∷ [] in
       let settled : take (length all) all ≡ all = take_all (length all) all (omega arith) in
       let none : drop (length all) all ≡ [] = drop_all (length all) all (omega arith) in
-      let whole : items_are all ≡ (items_are (take gap items) ++ gap_before came (items_are (drop gap items))) ++ came ∷ [] = map_push item_is kept item ∙ ap (λ (l : List Item). l ++ came ∷ []) is in
+      let whole : items_are all ≡ (items_are (take gap items) ++ gap_before came (items_are (drop gap items))) ++ came
+      ∷ [] = map_push item_is kept item ∙ ap (λ (l : List Item). l ++ came ∷ []) is in
       record {
         gaps = subst (λ (l : List FlatItem). AllGaps (items_are l)) (sym none) tt;
         stays = λ more.
             one-more stays more
-            ∙ ap (λ (l : List Item). items_are (take gap items) ++ l) (gap-and-item (items_are (drop gap items)) came (front more) stands.gaps in_none)
-            ∙ sym (append_assoc (items_are (take gap items)) (gap_before came (items_are (drop gap items))) (came ∷ trim_back (front more)))
-            ∙ sym (append_assoc (items_are (take gap items) ++ gap_before came (items_are (drop gap items))) (came ∷ []) (trim_back (front more)))
+            ∙ ap (λ (l : List Item). items_are (take gap items) ++ l) (gap-and-item (items_are (drop gap items)) came
+            (front more) stands.gaps in_none)
+            ∙ sym (append_assoc (items_are (take gap items)) (gap_before came (items_are (drop gap items)))
+            (came ∷ trim_back (front more)))
+            ∙ sym (append_assoc (items_are (take gap items) ++ gap_before came (items_are (drop gap items))) (came ∷ [])
+            (trim_back (front more)))
             ∙ ap (λ (l : List Item). l ++ trim_back (front more)) (sym whole)
             ∙ ap (λ (l : List FlatItem). items_are l ++ trim_back (front more)) (sym settled)
-            ∙ ap (λ (l : List FlatItem). items_are (take (length all) all) ++ trim_back (items_are l ++ front more)) (sym none);
+            ∙ ap (λ (l : List FlatItem). items_are (take (length all) all) ++ trim_back (items_are l ++ front more))
+            (sym none);
       }
 
 -- at the end
-pub stands-end : (trims : Trims) (given kept : List Item) → StandsFor trims given → kept ≡ items_are trims.settled ++ unbroken (items_are trims.gap) → kept ≡ trimmed given
+pub stands-end : (trims : Trims) (given kept : List Item) → StandsFor trims given
+    → kept ≡ items_are trims.settled ++ unbroken (items_are trims.gap) → kept ≡ trimmed given
 stands-end trims given kept stands is =
     is
     ∙ ap (λ (l : List Item). items_are trims.settled ++ l) (sym (append-nil (unbroken (items_are trims.gap))))
@@ -144,10 +186,14 @@ stands-end trims given kept stands is =
     ∙ ap trimmed (append-nil given)
 
 -- a gap stays as it is before an item that ends no text
-pub gap-untouched : (items : List FlatItem) (gap : ℕ) (next : FlatItem) → (next ≡ FlatItems.Close → ⊥) → items_are items ≡ items_are (take gap items) ++ gap_before (item_is next) (items_are (drop gap items))
-gap-untouched items gap next other = ap items_are (sym (take-append-drop gap items)) ∙ map-append item_is (take gap items) (drop gap items) ∙ ap (λ (l : List Item). items_are (take gap items) ++ l) (sym (go next other))
+pub gap-untouched : (items : List FlatItem) (gap : ℕ) (next : FlatItem) → (next ≡ FlatItems.Close → ⊥) → items_are items
+    ≡ items_are (take gap items) ++ gap_before (item_is next) (items_are (drop gap items))
+gap-untouched items gap next other = ap items_are (sym (take-append-drop gap items))
+    ∙ map-append item_is (take gap items) (drop gap items)
+    ∙ ap (λ (l : List Item). items_are (take gap items) ++ l) (sym (go next other))
   where
-    go : (item : FlatItem) → (item ≡ FlatItems.Close → ⊥) → gap_before (item_is item) (items_are (drop gap items)) ≡ items_are (drop gap items)
+    go : (item : FlatItem) → (item ≡ FlatItems.Close → ⊥) → gap_before (item_is item) (items_are (drop gap items))
+        ≡ items_are (drop gap items)
     go FlatItems.Close o = absurd (o refl)
     go FlatItems.Open o = refl
     go (FlatItems.Source number) o = refl
@@ -160,21 +206,31 @@ pub record KeepsUnbroken (old items : List FlatItem) (gap i kept : ℕ) : Type 0
   pub low : kept ≤ i
   pub behind : gap ≤ kept
   pub rest : drop i items ≡ drop i old
-  pub front : items_are (take kept items) ++ unbroken (items_are (drop i old)) ≡ items_are (take gap old) ++ unbroken (items_are (drop gap old))
+  pub front : items_are (take kept items) ++ unbroken (items_are (drop i old))
+      ≡ items_are (take gap old) ++ unbroken (items_are (drop gap old))
 
 pub unbroken-start : (items : List FlatItem) (gap : ℕ) → KeepsUnbroken items items gap gap gap
 unbroken-start items gap = record { low = omega arith; behind = omega arith; rest = refl; front = refl }
 
-module _ (old items : List FlatItem) (gap i kept : ℕ) (d : FlatItem) (within : i < length items) (k : KeepsUnbroken old items gap i kept) where
+module _ (old items : List FlatItem) (gap i kept : ℕ) (d : FlatItem) (within : i < length items)
+    (k : KeepsUnbroken old items gap i kept) where
   abbrev here : Item
   here = item_is (get_or items i d)
 
-  next : (b : Bool) → is_break here ≡ b → unbroken (items_are (drop i old)) ≡ elim b [ true ↦ unbroken (items_are (drop (i + 1) old)) | false ↦ here ∷ unbroken (items_are (drop (i + 1) old)) ]
+  next : (b : Bool) → is_break here ≡ b → unbroken (items_are (drop i old))
+      ≡ elim b [
+        | true ↦ unbroken (items_are (drop (i + 1) old))
+        | false ↦ here ∷ unbroken (items_are (drop (i + 1) old))
+      ]
   next b is =
       ap unbroken (item-and-rest old items i d within k.rest)
-      ∙ ap (λ (c : Bool). elim c [ true ↦ unbroken (items_are (drop (i + 1) old)) | false ↦ here ∷ unbroken (items_are (drop (i + 1) old)) ]) is
+      ∙ ap (λ (c : Bool). elim c [
+        | true ↦ unbroken (items_are (drop (i + 1) old))
+        | false ↦ here ∷ unbroken (items_are (drop (i + 1) old))
+      ]) is
 
-  pub unbroken-kept : is_break here ≡ false → KeepsUnbroken old (set items kept (get_or items i d)) gap (i + 1) (kept + 1)
+  pub unbroken-kept : is_break here ≡ false → KeepsUnbroken old (set items kept (get_or items i d)) gap (i + 1)
+      (kept + 1)
   unbroken-kept is =
       let low : kept ≤ i = k.low in
       let behind : gap ≤ kept = k.behind in

@@ -1,7 +1,10 @@
 -- The steps of the trimming of a flat list in its own place: what stays is moved to the front of the list.
-use Rattle.std.proofs.Common.{◌≡◌, ℕ, ◌+◌, ◌<◌, ◌≤◌, Bool, true, false, ◌&&◌, ◌||◌, List, [], ◌∷◌, ◌++◌, length, get_or, set, take, drop, reverse, refl, sym, ap, ◌∙◌, arith, length-drop}
-use Rattle.std.proofs.lemmas.List.{append_assoc, drop_more, drop-set-lt, map_push, reverse-append, reverse-reverse, take_more, take_more_set, take_all, drop_all, append-nil}
-use Rattle.cw_trees.specs.Flat.{Item, SourceItem, IdentItem, ReservedItem, SignItem, Open, Close, is_break, is_gap, is_inserted, begins_after, ends_text, trim_back, trim_front, trimmed, without_inserted}
+use Rattle.std.proofs.Common.{◌≡◌, ℕ, ◌+◌, ◌<◌, ◌≤◌, Bool, true, false, ◌&&◌, ◌||◌, List, [], ◌∷◌, ◌++◌, length, get_or}
+use Rattle.std.proofs.Common.{set, take, drop, reverse, refl, sym, ap, ◌∙◌, arith, length-drop}
+use Rattle.std.proofs.lemmas.List.{append_assoc, drop_more, drop-set-lt, map_push, reverse-append, reverse-reverse}
+use Rattle.std.proofs.lemmas.List.{take_more, take_more_set, take_all, drop_all, append-nil}
+use Rattle.cw_trees.specs.Flat.{Item, SourceItem, IdentItem, ReservedItem, SignItem, Open, Close, is_break, is_gap}
+use Rattle.cw_trees.specs.Flat.{is_inserted, begins_after, ends_text, trim_back, trim_front, trimmed, without_inserted}
 use Rattle.cw_tokens.specs.declared.flat.FlatItem.{FlatItem}
 use Rattle.cw_tokens.specs.FlatItems.{item_is, items_are}
 use Rattle.cw_tokens.specs.Trimming.{ends_before}
@@ -10,7 +13,8 @@ use Rattle.cw_tokens.specs.Trimming.{ends_before}
 pub record KeepsFront (old items : List FlatItem) (i kept : ℕ) (begins : Bool) : Type 0 where
   pub low : kept ≤ i
   pub rest : drop i items ≡ drop i old
-  pub front : items_are (take kept items) ++ trim_front begins (without_inserted (items_are (drop i old))) ≡ trim_front true (without_inserted (items_are old))
+  pub front : items_are (take kept items) ++ trim_front begins (without_inserted (items_are (drop i old)))
+      ≡ trim_front true (without_inserted (items_are old))
 
 -- the same for the walk over a list whose last item is first
 pub record KeepsBack (old items : List FlatItem) (i kept : ℕ) (ends : Bool) : Type 0 where
@@ -20,7 +24,8 @@ pub record KeepsBack (old items : List FlatItem) (i kept : ℕ) (ends : Bool) : 
   pub ending : ends ≡ ends_text (reverse (items_are (take i old)))
 
 -- the item at the place, in the list that is changed and in the old one
-module _ (old items : List FlatItem) (i : ℕ) (d : FlatItem) (within : i < length items) (rest : drop i items ≡ drop i old) where
+module _ (old items : List FlatItem) (i : ℕ) (d : FlatItem) (within : i < length items) (rest : drop i items
+    ≡ drop i old) where
   within-old : i < length old
   within-old = omega (arith, ap length rest, length-drop i items, length-drop i old)
 
@@ -34,9 +39,11 @@ module _ (old items : List FlatItem) (i : ℕ) (d : FlatItem) (within : i < leng
   rest-more = cc (parts)
 
   pub item-and-rest : items_are (drop i old) ≡ item_is (get_or items i d) ∷ items_are (drop (i + 1) old)
-  item-and-rest = ap items_are (drop_more old i d within-old) ∙ ap (λ x. item_is x ∷ items_are (drop (i + 1) old)) (sym same-item)
+  item-and-rest = ap items_are (drop_more old i d within-old)
+      ∙ ap (λ x. item_is x ∷ items_are (drop (i + 1) old)) (sym same-item)
 
-  item-and-front : reverse (items_are (take (i + 1) old)) ≡ item_is (get_or items i d) ∷ reverse (items_are (take i old))
+  item-and-front : reverse (items_are (take (i + 1) old))
+      ≡ item_is (get_or items i d) ∷ reverse (items_are (take i old))
   item-and-front =
       ap (λ l. reverse (items_are l)) (take_more old i d within-old)
       ∙ ap reverse (map_push item_is (take i old) (get_or old i d))
@@ -44,31 +51,49 @@ module _ (old items : List FlatItem) (i : ℕ) (d : FlatItem) (within : i < leng
       ∙ ap (λ x. item_is x ∷ reverse (items_are (take i old))) (sym same-item)
 
 -- an item that stays
-pub stored : (items : List FlatItem) (kept : ℕ) (item : FlatItem) → kept < length items → items_are (take (kept + 1) (set items kept item)) ≡ items_are (take kept items) ++ item_is item ∷ []
+pub stored : (items : List FlatItem) (kept : ℕ) (item : FlatItem) → kept < length items
+    → items_are (take (kept + 1) (set items kept item)) ≡ items_are (take kept items) ++ item_is item ∷ []
 stored items kept item low = ap items_are (take_more_set items kept item low) ∙ map_push item_is (take kept items) item
 
-pub front_step : (begins : Bool) (item : Item) (items : List Item) (b : Bool) → (is_inserted item || (begins && is_break item)) ≡ b
-    → trim_front begins (without_inserted (item ∷ items)) ≡ elim b [ true ↦ trim_front begins (without_inserted items) | false ↦ item ∷ trim_front (begins_after begins item) (without_inserted items) ]
+pub front_step : (begins : Bool) (item : Item) (items : List Item) (b : Bool)
+    → (is_inserted item || (begins && is_break item)) ≡ b
+    → trim_front begins (without_inserted (item ∷ items)) ≡ elim b [
+      | true ↦ trim_front begins (without_inserted items)
+      | false ↦ item ∷ trim_front (begins_after begins item) (without_inserted items)
+    ]
 front_step begins item items b is =
-    go (is_inserted item) ∙ ap (λ (c : Bool). elim c [ true ↦ trim_front begins (without_inserted items) | false ↦ item ∷ trim_front (begins_after begins item) (without_inserted items) ]) is
+    go (is_inserted item) ∙ ap (λ (c : Bool). elim c [
+      | true ↦ trim_front begins (without_inserted items)
+      | false ↦ item ∷ trim_front (begins_after begins item) (without_inserted items)
+    ]) is
   where
-    go : (c : Bool) → trim_front begins (elim c [ true ↦ without_inserted items | false ↦ item ∷ without_inserted items ]) ≡ elim (c || (begins && is_break item)) [ true ↦ trim_front begins (without_inserted items) | false ↦ item ∷ trim_front (begins_after begins item) (without_inserted items) ]
+    go : (c : Bool) → trim_front begins (elim c [
+      | true ↦ without_inserted items
+      | false ↦ item ∷ without_inserted items
+    ])
+        ≡ elim (c || (begins && is_break item)) [
+          | true ↦ trim_front begins (without_inserted items)
+          | false ↦ item ∷ trim_front (begins_after begins item) (without_inserted items)
+        ]
     go true = refl
     go false = refl
 
-module _ (old items : List FlatItem) (i kept : ℕ) (begins : Bool) (d : FlatItem) (within : i < length items) (k : KeepsFront old items i kept begins) where
+module _ (old items : List FlatItem) (i kept : ℕ) (begins : Bool) (d : FlatItem) (within : i < length items)
+    (k : KeepsFront old items i kept begins) where
   abbrev item : Item
   item = item_is (get_or items i d)
 
-  next-front : (b : Bool) → (is_inserted item || (begins && is_break item)) ≡ b → trim_front begins (without_inserted (items_are (drop i old))) ≡ elim b [
-    | true ↦ trim_front begins (without_inserted (items_are (drop (i + 1) old)))
-    | false ↦ item ∷ trim_front (begins_after begins item) (without_inserted (items_are (drop (i + 1) old)))
-  ]
+  next-front : (b : Bool) → (is_inserted item || (begins && is_break item)) ≡ b
+      → trim_front begins (without_inserted (items_are (drop i old))) ≡ elim b [
+        | true ↦ trim_front begins (without_inserted (items_are (drop (i + 1) old)))
+        | false ↦ item ∷ trim_front (begins_after begins item) (without_inserted (items_are (drop (i + 1) old)))
+      ]
   next-front b is =
       ap (λ l. trim_front begins (without_inserted l)) (item-and-rest old items i d within k.rest)
       ∙ front_step begins item (items_are (drop (i + 1) old)) b is
 
-  pub front-kept : (is_inserted item || (begins && is_break item)) ≡ false → KeepsFront old (set items kept (get_or items i d)) (i + 1) (kept + 1) (begins_after begins item)
+  pub front-kept : (is_inserted item || (begins && is_break item)) ≡ false
+      → KeepsFront old (set items kept (get_or items i d)) (i + 1) (kept + 1) (begins_after begins item)
   front-kept is =
       let low : kept ≤ i = k.low in
       let behind = trim_front (begins_after begins item) (without_inserted (items_are (drop (i + 1) old))) in
@@ -94,30 +119,36 @@ and-elim : (b e : Bool) → (b && e) ≡ elim b [ true ↦ e | false ↦ false ]
 and-elim true e = refl
 and-elim false e = refl
 
-ends-more : (ends : Bool) (item : Item) (items : List Item) → ends ≡ ends_text items → ends_before ends item ≡ ends_text (item ∷ items)
+ends-more : (ends : Bool) (item : Item) (items : List Item) → ends ≡ ends_text items → ends_before ends item
+    ≡ ends_text (item ∷ items)
 ends-more ends Close items is = refl
 ends-more ends Open items is = refl
 ends-more ends (SourceItem number) items is = refl
 ends-more ends (IdentItem name number) items is = refl
 ends-more ends (ReservedItem name number) items is = refl
-ends-more ends (SignItem control) items is = ap (λ (e : Bool). is_gap (SignItem control) && e) is ∙ and-elim (is_gap (SignItem control)) (ends_text items)
+ends-more ends (SignItem control) items is = ap (λ (e : Bool). is_gap (SignItem control) && e) is
+    ∙ and-elim (is_gap (SignItem control)) (ends_text items)
 
-module _ (old items : List FlatItem) (i kept : ℕ) (ends : Bool) (d : FlatItem) (within : i < length items) (k : KeepsBack old items i kept ends) where
+module _ (old items : List FlatItem) (i kept : ℕ) (ends : Bool) (d : FlatItem) (within : i < length items)
+    (k : KeepsBack old items i kept ends) where
   abbrev here : Item
   here = item_is (get_or items i d)
 
   abbrev before : List Item
   before = reverse (items_are (take i old))
 
-  next-back : (b : Bool) → (is_break here && ends) ≡ b → trim_back (reverse (items_are (take (i + 1) old))) ≡ elim b [ true ↦ trim_back before | false ↦ here ∷ trim_back before ]
+  next-back : (b : Bool) → (is_break here && ends) ≡ b → trim_back (reverse (items_are (take (i + 1) old)))
+      ≡ elim b [ true ↦ trim_back before | false ↦ here ∷ trim_back before ]
   next-back b is =
       ap trim_back (item-and-front old items i d within k.rest)
-      ∙ ap (λ (c : Bool). elim c [ true ↦ trim_back before | false ↦ here ∷ trim_back before ]) (sym (ap (λ (e : Bool). is_break here && e) k.ending) ∙ is)
+      ∙ ap (λ (c : Bool). elim c [ true ↦ trim_back before | false ↦ here ∷ trim_back before ])
+      (sym (ap (λ (e : Bool). is_break here && e) k.ending) ∙ is)
 
   next-ending : ends_before ends here ≡ ends_text (reverse (items_are (take (i + 1) old)))
   next-ending = ends-more ends here before k.ending ∙ ap ends_text (sym (item-and-front old items i d within k.rest))
 
-  pub back-kept : (is_break here && ends) ≡ false → KeepsBack old (set items kept (get_or items i d)) (i + 1) (kept + 1) (ends_before ends here)
+  pub back-kept : (is_break here && ends) ≡ false → KeepsBack old (set items kept (get_or items i d)) (i + 1) (kept + 1)
+      (ends_before ends here)
   back-kept is =
       let low : kept ≤ i = k.low in
       record {
@@ -141,9 +172,11 @@ module _ (old items : List FlatItem) (i kept : ℕ) (ends : Bool) (d : FlatItem)
       }
 
 -- a list that was changed through a reference is the changed part alone
-pub whole : {X : Type 0} (n : ℕ) (xs ys : List X) → length xs ≡ n → length ys ≤ length xs → take n (xs ++ drop (length xs) ys) ≡ xs
+pub whole : {X : Type 0} (n : ℕ) (xs ys : List X) → length xs ≡ n → length ys ≤ length xs
+    → take n (xs ++ drop (length xs) ys) ≡ xs
 whole n xs ys is less =
-    ap (λ l. take n (xs ++ l)) (drop_all (length xs) ys less) ∙ ap (take n) (append-nil xs) ∙ take_all n xs (omega arith)
+    ap (λ l. take n (xs ++ l)) (drop_all (length xs) ys less) ∙ ap (take n) (append-nil xs)
+    ∙ take_all n xs (omega arith)
 
 pub items-reversed : (items : List FlatItem) → items_are (reverse items) ≡ reverse (items_are items)
 items-reversed [] = refl
@@ -154,6 +187,7 @@ items-reversed (item ∷ items) =
     ∙ sym (reverse-append (item_is item ∷ []) (items_are items))
 
 -- both walks together
-pub trims : (old front turned back : List Item) → front ≡ trim_front true (without_inserted old) → turned ≡ reverse front → reverse back ≡ trim_back (reverse turned) → reverse back ≡ trimmed old
+pub trims : (old front turned back : List Item) → front ≡ trim_front true (without_inserted old)
+    → turned ≡ reverse front → reverse back ≡ trim_back (reverse turned) → reverse back ≡ trimmed old
 trims old front turned back begins turns ends =
     ends ∙ ap (λ l. trim_back (reverse l)) turns ∙ ap trim_back (reverse-reverse front ∙ begins)

@@ -1,41 +1,56 @@
 -- The trees of a store.
-use Rattle.std.proofs.Common.{◌≡◌, ℕ, zero, suc, ◌+◌, ◌<◌, ◌≤◌, List, [], ◌∷◌, ◌++◌, length, Some, inl, inr, get_or, refl, sym, ap, ◌∙◌, arith}
+use Rattle.std.proofs.Common.{◌≡◌, ℕ, zero, suc, ◌+◌, ◌<◌, ◌≤◌, List, [], ◌∷◌, ◌++◌, length, Some, inl, inr, get_or}
+use Rattle.std.proofs.Common.{refl, sym, ap, ◌∙◌, arith}
 use Rattle.std.specs.List.{slice_get}
 use Rattle.std.proofs.lemmas.List.{get_or_append_left, get_or_at, get_or_past, length_push}
 use Rattle.std.proofs.lemmas.Bool.{cases_lt}
 use Rattle.cw_trees.specs.Tree.{Tree, Empty, Then, Sub, Inner}
 use Rattle.cw_tokens.specs.declared.token.Token.{Token}
-use Rattle.cw_tokens.specs.Shapes.{Shape, Plain, Below, InnerBelow, shape, ref_of, item_of, tree_in, trees_from, unfolded}
+use Rattle.cw_tokens.specs.Shapes.{Shape, Plain, Below, InnerBelow, shape, ref_of, item_of, tree_in, trees_from}
+use Rattle.cw_tokens.specs.Shapes.{unfolded}
 use Rattle.cw_tokens.specs.References.{token_ref, refers, IsTied, Reach, here, next}
 
 pub length-trees : (done : List Tree) (ls : List (List Token)) → length (trees_from done ls) ≡ length done + length ls
 length-trees done [] = omega arith
-length-trees done (ts ∷ ls) = omega (arith, length-trees (done ++ tree_in done ts ∷ []) ls, length_push done (tree_in done ts))
+length-trees done (ts ∷ ls) = omega (
+  arith,
+  length-trees (done ++ tree_in done ts ∷ []) ls,
+  length_push done (tree_in done ts),
+)
 
-pub trees-front : (done : List Tree) (ls : List (List Token)) (i : ℕ) → i < length done → get_or (trees_from done ls) i Empty ≡ get_or done i Empty
+pub trees-front : (done : List Tree) (ls : List (List Token)) (i : ℕ) → i < length done
+    → get_or (trees_from done ls) i Empty ≡ get_or done i Empty
 trees-front done [] i h = refl
 trees-front done (ts ∷ ls) i h =
     let lt : i < length (done ++ tree_in done ts ∷ []) = omega (arith, length_push done (tree_in done ts)) in
     trees-front (done ++ tree_in done ts ∷ []) ls i lt ∙ get_or_append_left done (tree_in done ts ∷ []) Empty i h
 
 -- an item, and a tree, depend only on the trees to which they refer
-pub item_of-same : (old new : List Tree) (s : Shape) (a b : Tree) → ((x : ℕ) → ref_of s ≡ Some x → get_or old x Empty ≡ get_or new x Empty) → a ≡ b → item_of old s a ≡ item_of new s b
+pub item_of-same : (old new : List Tree) (s : Shape) (a b : Tree)
+    → ((x : ℕ) → ref_of s ≡ Some x → get_or old x Empty ≡ get_or new x Empty) → a ≡ b → item_of old s a
+    ≡ item_of new s b
 item_of-same old new (Plain leaf) a b h e = ap (Then leaf) e
-item_of-same old new (Below x) a b h e = let k : get_or old x Empty ≡ get_or new x Empty = h x refl in ap (λ t. Sub t a) k ∙ ap (Sub (get_or new x Empty)) e
-item_of-same old new (InnerBelow x) a b h e = let k : get_or old x Empty ≡ get_or new x Empty = h x refl in ap (λ t. Inner t a) k ∙ ap (Inner (get_or new x Empty)) e
+item_of-same old new (Below x) a b h e = let k : get_or old x Empty ≡ get_or new x Empty =
+    h x refl in ap (λ t. Sub t a) k ∙ ap (Sub (get_or new x Empty)) e
+item_of-same old new (InnerBelow x) a b h e = let k : get_or old x Empty ≡ get_or new x Empty =
+    h x refl in ap (λ t. Inner t a) k ∙ ap (Inner (get_or new x Empty)) e
 
-pub tree_in-same : (old new : List Tree) (ts : List Token) → ((q x : ℕ) → token_ref (slice_get ts q) ≡ Some x → get_or old x Empty ≡ get_or new x Empty) → tree_in old ts ≡ tree_in new ts
+pub tree_in-same : (old new : List Tree) (ts : List Token) → ((q x : ℕ) → token_ref (slice_get ts q) ≡ Some x
+    → get_or old x Empty ≡ get_or new x Empty) → tree_in old ts ≡ tree_in new ts
 tree_in-same old new [] h = refl
-tree_in-same old new (t ∷ ts) h = item_of-same old new (shape t) (tree_in old ts) (tree_in new ts) (h 0) (tree_in-same old new ts (λ q x k. h (suc q) x k))
+tree_in-same old new (t ∷ ts) h = item_of-same old new (shape t) (tree_in old ts) (tree_in new ts) (h 0)
+    (tree_in-same old new ts (λ q x k. h (suc q) x k))
 
 -- the tree of a list is that of its tokens over the trees of all lists
-unfold-at : (done : List Tree) (ls : List (List Token)) (i : ℕ) → ((l p x : ℕ) → refers ls l p ≡ Some x → x < length done + l) → i < length ls
+unfold-at : (done : List Tree) (ls : List (List Token)) (i : ℕ)
+    → ((l p x : ℕ) → refers ls l p ≡ Some x → x < length done + l) → i < length ls
     → get_or (trees_from done ls) (length done + i) Empty ≡ tree_in (trees_from done ls) (get_or ls i [])
 unfold-at done [] i h lt = absurd (omega arith)
 unfold-at done (ts ∷ ls) zero h lt =
     let more : List Tree = done ++ tree_in done ts ∷ [] in
     let z : length done + 0 ≡ length done = omega arith in
-    let inside : length done < length (done ++ tree_in done ts ∷ []) = omega (arith, length_push done (tree_in done ts)) in
+    let inside : length done < length (done ++ tree_in done ts ∷ []) =
+    omega (arith, length_push done (tree_in done ts)) in
     ap (λ n. get_or (trees_from (done ++ tree_in done ts ∷ []) ls) n Empty) z
     ∙ (trees-front (done ++ tree_in done ts ∷ []) ls (length done) inside
     ∙ (get_or_at done (tree_in done ts) [] Empty (length done) refl
@@ -43,30 +58,40 @@ unfold-at done (ts ∷ ls) zero h lt =
     let low : x < length done + 0 = h 0 q x k in
     let a : x < length done = omega arith in
     let b : x < length (done ++ tree_in done ts ∷ []) = omega (arith, length_push done (tree_in done ts)) in
-    sym (trees-front (done ++ tree_in done ts ∷ []) ls x b ∙ get_or_append_left done (tree_in done ts ∷ []) Empty x a))))
+    sym (trees-front (done ++ tree_in done ts ∷ []) ls x b
+    ∙ get_or_append_left done (tree_in done ts ∷ []) Empty x a))))
 unfold-at done (ts ∷ ls) (suc i) h lt =
-    let e : length done + suc i ≡ length (done ++ tree_in done ts ∷ []) + i = omega (arith, length_push done (tree_in done ts)) in
+    let e : length done + suc i ≡ length (done ++ tree_in done ts ∷ []) + i =
+    omega (arith, length_push done (tree_in done ts)) in
     ap (λ n. get_or (trees_from (done ++ tree_in done ts ∷ []) ls) n Empty) e
-    ∙ unfold-at (done ++ tree_in done ts ∷ []) ls i (λ l p x k. let low : x < length done + suc l = h (suc l) p x k in omega (arith, length_push done (tree_in done ts))) (omega arith)
+    ∙ unfold-at (done ++ tree_in done ts ∷ []) ls i (λ l p x k. let low : x < length done + suc l = h (suc l) p x k in
+    omega (arith, length_push done (tree_in done ts))) (omega arith)
 
-pub unfold-is : (ls : List (List Token)) (i : ℕ) → IsTied ls → i < length ls → unfolded ls i ≡ tree_in (trees_from [] ls) (get_or ls i [])
+pub unfold-is : (ls : List (List Token)) (i : ℕ) → IsTied ls → i < length ls → unfolded ls i
+    ≡ tree_in (trees_from [] ls) (get_or ls i [])
 unfold-is ls i tied lt =
     let e : 0 + i ≡ i = omega arith in
-    ap (λ n. get_or (trees_from [] ls) n Empty) (sym e) ∙ unfold-at [] ls i (λ l p x k. let low : x < l = tied.earlier l p x k in omega arith) lt
+    ap (λ n. get_or (trees_from [] ls) n Empty) (sym e)
+    ∙ unfold-at [] ls i (λ l p x k. let low : x < l = tied.earlier l p x k in omega arith) lt
 
 pub unfold-past : (ls : List (List Token)) (i : ℕ) → length ls ≤ i → unfolded ls i ≡ Empty
 unfold-past ls i h = get_or_past (trees_from [] ls) i Empty (omega (arith, length-trees [] ls))
 
 -- one list more changes no tree
-pub trees-more : (done : List Tree) (ls : List (List Token)) (ts : List Token) → trees_from done (ls ++ ts ∷ []) ≡ trees_from done ls ++ tree_in (trees_from done ls) ts ∷ []
+pub trees-more : (done : List Tree) (ls : List (List Token)) (ts : List Token) → trees_from done (ls ++ ts ∷ [])
+    ≡ trees_from done ls ++ tree_in (trees_from done ls) ts ∷ []
 trees-more done [] ts = refl
 trees-more done (us ∷ ls) ts = trees-more (done ++ tree_in done us ∷ []) ls ts
 
-pub unfolded-old : (ls : List (List Token)) (ts : List Token) (i : ℕ) → i < length ls → unfolded (ls ++ ts ∷ []) i ≡ unfolded ls i
-unfolded-old ls ts i h = rw (trees-more [] ls ts) (get_or_append_left (trees_from [] ls) (tree_in (trees_from [] ls) ts ∷ []) Empty i (omega (arith, length-trees [] ls)))
+pub unfolded-old : (ls : List (List Token)) (ts : List Token) (i : ℕ) → i < length ls → unfolded (ls ++ ts ∷ []) i
+    ≡ unfolded ls i
+unfolded-old ls ts i h = rw (trees-more [] ls ts) (get_or_append_left (trees_from [] ls) (tree_in (trees_from [] ls) ts
+    ∷ []) Empty i (omega (arith, length-trees [] ls)))
 
-pub unfolded-new : (ls : List (List Token)) (ts : List Token) → unfolded (ls ++ ts ∷ []) (length ls) ≡ tree_in (trees_from [] ls) ts
-unfolded-new ls ts = rw (trees-more [] ls ts) (get_or_at (trees_from [] ls) (tree_in (trees_from [] ls) ts) [] Empty (length ls) (length-trees [] ls ∙ (omega arith)))
+pub unfolded-new : (ls : List (List Token)) (ts : List Token) → unfolded (ls ++ ts ∷ []) (length ls)
+    ≡ tree_in (trees_from [] ls) ts
+unfolded-new ls ts = rw (trees-more [] ls ts) (get_or_at (trees_from [] ls) (tree_in (trees_from [] ls) ts) [] Empty
+    (length ls) (length-trees [] ls ∙ (omega arith)))
 
 -- Reaching
 pub reach-trans : (ls : List (List Token)) (a b d : ℕ) → Reach ls a b → Reach ls b d → Reach ls a d
@@ -81,7 +106,8 @@ reach-le ls a b tied (next l p n e s) =
     omega arith
 
 -- a tree depends only on the lists that its root reaches
-same-below : (old new : List (List Token)) (n k : ℕ) → k < n → IsTied old → IsTied new → length old ≡ length new → ((j : ℕ) → Reach old k j → get_or old j [] ≡ get_or new j []) → unfolded old k ≡ unfolded new k
+same-below : (old new : List (List Token)) (n k : ℕ) → k < n → IsTied old → IsTied new → length old ≡ length new
+    → ((j : ℕ) → Reach old k j → get_or old j [] ≡ get_or new j []) → unfolded old k ≡ unfolded new k
 same-below old new zero k lt to tn len same = absurd (omega arith)
 same-below old new (suc n) k lt to tn len same = elim (cases_lt k (length old)) [
   | inl h ↦
@@ -97,5 +123,6 @@ same-below old new (suc n) k lt to tn len same = elim (cases_lt k (length old)) 
       unfold-past old k h ∙ sym (unfold-past new k m)
 ]
 
-pub unfolded-same : (old new : List (List Token)) (k : ℕ) → IsTied old → IsTied new → length old ≡ length new → ((j : ℕ) → Reach old k j → get_or old j [] ≡ get_or new j []) → unfolded old k ≡ unfolded new k
+pub unfolded-same : (old new : List (List Token)) (k : ℕ) → IsTied old → IsTied new → length old ≡ length new
+    → ((j : ℕ) → Reach old k j → get_or old j [] ≡ get_or new j []) → unfolded old k ≡ unfolded new k
 unfolded-same old new k to tn len same = same-below old new (suc k) k (omega arith) to tn len same

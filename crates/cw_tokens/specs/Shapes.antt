@@ -1,8 +1,10 @@
 -- Lists of tokens as trees.
 use Rattle.std.specs.Prelude.{ℕ, List, [], ◌∷◌, ◌++◌, Option, Some, None, get_or}
-use Rattle.cw_trees.specs.Tree.{Leaf, Tree, Empty, Then, Sub, Inner, Source as source_leaf, Ident as ident_leaf, Reserved as reserved_leaf, Sign}
+use Rattle.cw_trees.specs.Tree.{Leaf, Tree, Empty, Then, Sub, Inner, Source as source_leaf, Ident as ident_leaf}
+use Rattle.cw_trees.specs.Tree.{Reserved as reserved_leaf, Sign}
 use Rattle.cw_tokens.specs.declared.token.Token.{Token}
-use Rattle.cw_tokens.specs.declared.token.Token.TheVariants.{Source, Ident, Reserved, Control, Inner as InnerOf, «List» as ListOf}
+use Rattle.cw_tokens.specs.declared.token.Token.TheVariants.{Source, Ident, Reserved, Control, Inner as InnerOf}
+use Rattle.cw_tokens.specs.declared.token.Token.TheVariants.{«List» as ListOf}
 
 -- a token as an item of a tree: a leaf, or the list that stands below it, as it is or as an inner text
 pub data Shape : Type 0 where

@@ -1,5 +1,6 @@
 -- What contracts see of a store, and what its fields keep.
-use Rattle.std.specs.Prelude.{◌≡◌, ℕ, zero, suc, ◌+◌, ◌-◌, ◌<◌, ◌≤◌, Bool, true, false, List, [], ◌∷◌, ◌++◌, length, Option, Some, None, take, drop, set, get_or}
+use Rattle.std.specs.Prelude.{◌≡◌, ℕ, zero, suc, ◌+◌, ◌-◌, ◌<◌, ◌≤◌, Bool, true, false, List, [], ◌∷◌, ◌++◌, length}
+use Rattle.std.specs.Prelude.{Option, Some, None, take, drop, set, get_or}
 use Rattle.cw_tokens.specs.declared.token.Token.{Token}
 use Rattle.cw_tokens.specs.declared.store.Link.{Link}
 use Rattle.cw_tokens.specs.Shapes.{shape, ref_of}
@@ -64,8 +65,10 @@ pub record IsLinked (lists : List (List Token)) (links : List Link) : Type 0 whe
   pub earlier : (l p x : ℕ) → refers lists l p ≡ Some x → x < l
   pub up : (l p x : ℕ) → refers lists l p ≡ Some x → get_or links x no_link ≡ record { list = l; place = p + 1 }
 
--- what the fields of a store keep, among them where the list that is being built begins; the rooms are the capacities of its three vectors
-pub record IsStored (building : Bool) (from : ℕ) (ends : List ℕ) (tokens : List Token) (links : List Link) (spare token_room end_room link_room : ℕ) : Type 0 where
+-- what the fields of a store keep, among them where the list that is being built begins; the rooms are the capacities
+-- of its three vectors
+pub record IsStored (building : Bool) (from : ℕ) (ends : List ℕ) (tokens : List Token) (links : List Link)
+    (spare token_room end_room link_room : ℕ) : Type 0 where
   pub for_tokens : length tokens + spare ≤ token_room
   pub for_ends : length ends + one_if building + spare ≤ end_room
   pub for_links : length links + one_if building + spare ≤ link_room

@@ -35,4 +35,5 @@ parted from items begins = record { settled = take from items; gap = drop from i
 -- the items that came are trimmed so far: with more, whatever it is, the same stays of both
 pub record StandsFor (trims : Trims) (given : List Item) : Type 0 where
   pub gaps : AllGaps (items_are trims.gap)
-  pub stays : (more : List Item) → trimmed (given ++ more) ≡ items_are trims.settled ++ trim_back (items_are trims.gap ++ trim_front trims.begins (without_inserted more))
+  pub stays : (more : List Item) → trimmed (given ++ more)
+      ≡ items_are trims.settled ++ trim_back (items_are trims.gap ++ trim_front trims.begins (without_inserted more))

@@ -1,7 +1,9 @@
 -- The walk through a tree in its store: down by the tokens that refer to lists, and up by the links.
-use Rattle.std.specs.Prelude.{◌≡◌, ℕ, zero, suc, ◌+◌, ◌<◌, ◌≤◌, true, false, eqb, List, [], ◌∷◌, length, Option, Some, None, take, drop, get_or, slice_get}
+use Rattle.std.specs.Prelude.{◌≡◌, ℕ, zero, suc, ◌+◌, ◌<◌, ◌≤◌, true, false, eqb, List, [], ◌∷◌, length, Option, Some}
+use Rattle.std.specs.Prelude.{None, take, drop, get_or, slice_get}
 use Rattle.cw_names.specs.declared.NameId.{NameId}
-use Rattle.cw_trees.specs.Tree.{Tree, Empty, Then, Sub, Inner, Search, Found, Stopped, Nothing, search_leaf, first_ident}
+use Rattle.cw_trees.specs.Tree.{Tree, Empty, Then, Sub, Inner, Search, Found, Stopped, Nothing, search_leaf}
+use Rattle.cw_trees.specs.Tree.{first_ident}
 use Rattle.cw_tokens.specs.declared.token.Token.{Token}
 use Rattle.cw_tokens.specs.declared.token.Token.TheVariants.{Ident}
 use Rattle.cw_tokens.specs.declared.store.Link.{Link}
@@ -47,7 +49,8 @@ before lists l p = tree_in (trees_from [] lists) (take p (get_or lists l []))
 -- a way down from the root to a list, before which stands nothing that ends a search
 pub data Path (lists : List (List Token)) (root : ℕ) : ℕ → Type 0 where
   top : Path lists root root
-  down : (l p x : ℕ) (token : Token) → slice_get (get_or lists l []) p ≡ Some token → shape token ≡ Below x → first_ident (before lists l p) ≡ Nothing → Path lists root l → Path lists root x
+  down : (l p x : ℕ) (token : Token) → slice_get (get_or lists l []) p ≡ Some token → shape token ≡ Below x
+      → first_ident (before lists l p) ≡ Nothing → Path lists root l → Path lists root x
 
 -- the search stands at a place of a list and has found nothing
 pub record Walks (lists : List (List Token)) (root list place : ℕ) : Type 0 where
@@ -76,5 +79,6 @@ abbrev pub size_above : List (List Token) → List Link → ℕ → ℕ → ℕ 
 size_above lists links root zero l = 0
 size_above lists links root (suc n) l = elim (eqb l root) [
   | true ↦ 0
-  | false ↦ 1 + (size_from lists (get_or links l no_link).list (get_or links l no_link).place + size_above lists links root n (get_or links l no_link).list)
+  | false ↦ 1 + (size_from lists (get_or links l no_link).list (get_or links l no_link).place
+      + size_above lists links root n (get_or links l no_link).list)
 ]

@@ -24,13 +24,16 @@ run_of tex index list ending =
     Made Idx (codes "foo.idx") ∷ (byte_events Idx (lines index) ++
     Made Scn (codes "foo.scn") ∷ (byte_events Scn (lines list) ++ says (codes "Done.") ++ all_say ending)))
 
--- The marks of a declaration are underlined. What one section declares and another uses is underlined in the first alone.
+-- The marks of a declaration are underlined. What one section declares and another uses is underlined in the first
+-- alone.
 a_declaration : events (woven (codes "+s" ∷ foo) (foo_w (codes "@ @c int i;" ∷ codes "@ @c i=i+1;" ∷ []))) ≡
     run_of
     (codes "\\input cwebmac" ∷ codes "\\M{1}" ∷ codes "\\Y\\B\\&{int} \\|i;\\par" ∷ codes "\\fi" ∷ [] ∷
-    codes "\\M{2}" ∷ codes "\\Y\\B$\\|i\\K\\|i+\\T{1};$\\par" ∷ codes "\\fi" ∷ [] ∷ codes "\\inx" ∷ codes "\\fin" ∷ codes "\\end" ∷ [])
+    codes "\\M{2}" ∷ codes "\\Y\\B$\\|i\\K\\|i+\\T{1};$\\par" ∷ codes "\\fi" ∷ [] ∷ codes "\\inx" ∷ codes "\\fin"
+    ∷ codes "\\end" ∷ [])
     (codes "\\I\\|i, \\[1]." ∷ []) []
-    (codes "sections 2" ∷ codes "scraps 9" ∷ codes "productions 7" ∷ codes "lines 12" ∷ codes "(No errors were found.)" ∷ [])
+    (codes "sections 2" ∷ codes "scraps 9" ∷ codes "productions 7" ∷ codes "lines 12" ∷ codes "(No errors were found.)"
+    ∷ [])
 unfolding digits cut_behind divide new_lines web_lines says translated normal log count positions looks productions
 a_declaration = refl
 
@@ -38,7 +41,8 @@ a_declaration = refl
 a_late_typedef : events (woven foo (foo_w (codes "@ @c int *tt;" ∷ codes "@ @c typedef int tt;" ∷ []))) ≡
     run_of
     (codes "\\input cwebmac" ∷ codes "\\M{1}" ∷ codes "\\Y\\B\\&{int} ${}{*}\\\\{tt};$\\par" ∷ codes "\\fi" ∷ [] ∷
-    codes "\\M{2}" ∷ codes "\\Y\\B\\&{typedef} \\&{int} \\&{tt};\\par" ∷ codes "\\fi" ∷ [] ∷ codes "\\inx" ∷ codes "\\fin" ∷ codes "\\end" ∷ [])
+    codes "\\M{2}" ∷ codes "\\Y\\B\\&{typedef} \\&{int} \\&{tt};\\par" ∷ codes "\\fi" ∷ [] ∷ codes "\\inx"
+    ∷ codes "\\fin" ∷ codes "\\end" ∷ [])
     (codes "\\I\\&{tt}, \\[1], \\[2]." ∷ []) []
     (codes "(No errors were found.)" ∷ [])
 unfolding digits cut_behind divide new_lines web_lines says translated normal log count positions looks productions
@@ -47,8 +51,10 @@ a_late_typedef = refl
 -- The list of section names tells where each is used.
 a_used_name : events (woven foo (foo_w (codes "@ @<Add@>= x;" ∷ codes "@ @c @<Add@>;" ∷ []))) ≡
     run_of
-    (codes "\\input cwebmac" ∷ codes "\\M{1}" ∷ codes "\\Y\\B\\X1:Add\\X${}\\E{}$\\6" ∷ codes "\\|x;\\par" ∷ codes "\\U2." ∷ codes "\\fi" ∷ [] ∷
-    codes "\\M{2}" ∷ codes "\\Y\\B\\X1:Add\\X;\\par" ∷ codes "\\fi" ∷ [] ∷ codes "\\inx" ∷ codes "\\fin" ∷ codes "\\end" ∷ [])
+    (codes "\\input cwebmac" ∷ codes "\\M{1}" ∷ codes "\\Y\\B\\X1:Add\\X${}\\E{}$\\6" ∷ codes "\\|x;\\par"
+    ∷ codes "\\U2." ∷ codes "\\fi" ∷ [] ∷
+    codes "\\M{2}" ∷ codes "\\Y\\B\\X1:Add\\X;\\par" ∷ codes "\\fi" ∷ [] ∷ codes "\\inx" ∷ codes "\\fin" ∷ codes "\\end"
+    ∷ [])
     [] (codes "\\I\\X1:Add\\X" ∷ codes "\\U2." ∷ [])
     (codes "(No errors were found.)" ∷ [])
 unfolding digits cut_behind divide new_lines web_lines says translated normal log count positions looks productions

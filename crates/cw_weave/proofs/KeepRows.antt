@@ -18,11 +18,13 @@ use Rattle.cw_weave.specs.Woven.{woven}
 use Rattle.cw_weave.proofs.Rows.{events, foo, foo_w, lines, with_file}
 
 abbrev hello_tex : List ℕ
-hello_tex = lines (codes "\\input cwebmac" ∷ codes "% limbo" ∷ codes "\\M{1}Hello." ∷ codes "\\fi" ∷ [] ∷ codes "\\inx" ∷ codes "\\fin" ∷ codes "\\end" ∷ [])
+hello_tex = lines (codes "\\input cwebmac" ∷ codes "% limbo" ∷ codes "\\M{1}Hello." ∷ codes "\\fi" ∷ [] ∷ codes "\\inx"
+    ∷ codes "\\fin" ∷ codes "\\end" ∷ [])
 
 -- the web, an old TeX file and an old index that is empty
 abbrev hello_over : List ℕ → NamedFiles
-hello_over old = with_file (codes "foo.idx") [] (with_file (codes "foo.tex") old (foo_w (codes "% limbo" ∷ codes "@ Hello." ∷ [])))
+hello_over old = with_file (codes "foo.idx") [] (with_file (codes "foo.tex") old
+    (foo_w (codes "% limbo" ∷ codes "@ Hello." ∷ [])))
 
 abbrev hello_run : Event → List Event
 hello_run ended =
@@ -35,6 +37,7 @@ old_files_that_are_the_same : events (woven (codes "+k" ∷ foo) (hello_over hel
 unfolding digits cut_behind divide new_lines web_lines says translated normal log count positions looks productions
 old_files_that_are_the_same = refl
 
-an_old_file_with_a_byte_more : events (woven (codes "+k" ∷ foo) (hello_over (hello_tex ++ 10 ∷ []))) ≡ hello_run (Replaced Tex)
+an_old_file_with_a_byte_more : events (woven (codes "+k" ∷ foo) (hello_over (hello_tex ++ 10 ∷ [])))
+    ≡ hello_run (Replaced Tex)
 unfolding digits cut_behind divide new_lines web_lines says translated normal log count positions looks productions
 an_old_file_with_a_byte_more = refl

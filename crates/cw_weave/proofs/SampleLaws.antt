@@ -18,22 +18,32 @@ use Rattle.cw_weave.specs.TexFile.{handed, tex_file}
 use Rattle.cw_weave.specs.Written.{IsTexFile}
 use Rattle.cw_weave.specs.declared.tex_file.TexFile.{TexFile}
 
-pub sample-book : (n : ℕ) {web : WebState} {b : Book} → web ≡ sample_web n → b ≡ handed (book web.lines) → b ≡ sample_book n
+pub sample-book : (n : ℕ) {web : WebState} {b : Book} → web ≡ sample_web n → b ≡ handed (book web.lines)
+    → b ≡ sample_book n
 sample-book n web is = is ∙ ap (λ (w : WebState). handed (book w.lines)) web
 
-pub sample-tex : (n : ℕ) {web : WebState} {flags : Flags} {b : Book} → web ≡ sample_web n → flags ≡ start_flags → b ≡ sample_book n
+pub sample-tex : (n : ℕ) {web : WebState} {flags : Flags} {b : Book} → web ≡ sample_web n → flags ≡ start_flags
+    → b ≡ sample_book n
     → tex_file (text_of web.lines) flags b ≡ sample_tex n
 sample-tex n web flags is = (λ i. tex_file (text_of (web i).lines) (flags i) (is i))
 
 -- the limit of the steps
 pub sample-bound : (n before now : ℕ) {flags : Flags} {d : Done ℕ} → flags ≡ start_flags → d ≡ sample_tex n
     → now ≤ before + limit_in flags d.ended → now ≤ before + sample_looks n
-sample-bound n before now flags is bound = subst (λ (k : ℕ). now ≤ before + k) (λ i. limit_in (flags i) (is i).ended) bound
+sample-bound n before now flags is bound = subst (λ (k : ℕ). now ≤ before + k) (λ i. limit_in (flags i) (is i).ended)
+    bound
 
 -- the numbers that are told
-pub sample-told : (n : ℕ) {flags : Flags} {d : Done ℕ} {t : TexFile} {totals : Totals} → flags ≡ start_flags → d ≡ sample_tex n → IsTexFile flags d t
+pub sample-told : (n : ℕ) {flags : Flags} {d : Done ℕ} {t : TexFile} {totals : Totals} → flags ≡ start_flags
+    → d ≡ sample_tex n → IsTexFile flags d t
     → totals.sections ≡ length (sample_book n).outline.sections → totals.scraps ≡ as_count t.counts.scraps
     → totals.productions ≡ as_count t.counts.productions → totals.lines ≡ t.lines.line.lines → totals ≡ sample_totals n
 sample-told n flags is file sections scraps productions lines =
-    (λ i. record { sections = sections i; scraps = (scraps ∙ ap as_count file.scraps) i; productions = (productions ∙ ap as_count file.productions) i; lines = (lines ∙ file.lines) i })
+    (λ i. record {
+      sections = sections i;
+      scraps = (scraps ∙ ap as_count file.scraps) i;
+      productions = (productions
+          ∙ ap as_count file.productions) i;
+      lines = (lines ∙ file.lines) i;
+    })
     ∙ (λ i. totals_of (flags i) (sample_book n).outline.sections (is i))

@@ -18,9 +18,12 @@ use Rattle.cw_weave.specs.Woven.{woven}
 use Rattle.cw_weave.proofs.Rows.{all_say, lines, no_files}
 
 -- A section is printed on nine lines.
-a_section : (sample_tex 1).out ≡ lines (codes "\\input cwebmac" ∷ codes "\\M{1}Section 1 adds." ∷ codes "\\Y\\B\\X1:Step 1.\\X${}\\E{}$\\6" ∷
-    codes "\\&{if} ${}(\\|a>\\T{1}){}$\\5${}\\{\\1{}$\\6" ∷ codes "${}\\|b\\MRL{+{\\K}}\\T{1};{}$\\6" ∷ codes "${}\\|c(\\T{1},\\39\\|a);{}$\\6" ∷
-    codes "\\4${}\\}\\2{}$\\6" ∷ codes "\\&{else}\\1\\5\\&{while} (\\|b)\\1\\5${}\\|b\\MM;\\2{}$\\2\\par" ∷ codes "\\fi" ∷ [] ∷
+a_section : (sample_tex 1).out ≡ lines (codes "\\input cwebmac" ∷ codes "\\M{1}Section 1 adds."
+    ∷ codes "\\Y\\B\\X1:Step 1.\\X${}\\E{}$\\6" ∷
+    codes "\\&{if} ${}(\\|a>\\T{1}){}$\\5${}\\{\\1{}$\\6" ∷ codes "${}\\|b\\MRL{+{\\K}}\\T{1};{}$\\6"
+    ∷ codes "${}\\|c(\\T{1},\\39\\|a);{}$\\6" ∷
+    codes "\\4${}\\}\\2{}$\\6" ∷ codes "\\&{else}\\1\\5\\&{while} (\\|b)\\1\\5${}\\|b\\MM;\\2{}$\\2\\par" ∷ codes "\\fi"
+    ∷ [] ∷
     codes "\\inx" ∷ codes "\\fin" ∷ codes "\\end" ∷ [])
 unfolding digits cut_behind divide says translated normal log count positions looks productions
 a_section = refl

@@ -28,7 +28,8 @@ broken-new f is put = ap (λ (l : Line). l.broken) (puts-new_line f.out is put)
 -- ## The TeX file
 
 pub tex-counted : {flags : Flags} {d : Done ℕ} {marks : List Occurrence} {old new : Press} {counts : Counts}
-    → Presses flags d marks old new (Ok counts) → old.line.line ≡ new_line Tex → {lines : LineState} → lines.line ≡ new.line.line
+    → Presses flags d marks old new (Ok counts) → old.line.line ≡ new_line Tex → {lines : LineState} → lines.line
+    ≡ new.line.line
     → IsTexFile flags d (record { lines = lines; counts = counts })
 tex-counted pressed is same = record {
   broken = ap (λ (l : Line). l.broken) (same ∙ puts-new_line Tex is pressed.puts);
@@ -38,7 +39,8 @@ tex-counted pressed is same = record {
 }
 
 pub tex-left : (source : Source) {old new : Press} {counts : Counts}
-    → Presses (flags_in source) (tex_in source old.book) (marks_in source old.book) old new (Ok counts) → new.book ≡ left_in source old.book
+    → Presses (flags_in source) (tex_in source old.book) (marks_in source old.book) old new (Ok counts) → new.book
+    ≡ left_in source old.book
 tex-left source {old = old} {new = new} pressed =
     let names : new.book.names ≡ (tex_in source old.book).names = pressed.names in
     let occurrences : new.book.xrefs ≡ old.book.xrefs ++ marks_in source old.book = pressed.occurrences in
@@ -53,11 +55,13 @@ tex-left source {old = old} {new = new} pressed =
 
 -- ## Steps
 
-pub tex-looks : (text : List ℕ) (flags : Flags) (b : Book) (before now : ℕ) → now ≤ before + limit_in flags (tex_file text flags b).ended
+pub tex-looks : (text : List ℕ) (flags : Flags) (b : Book) (before now : ℕ)
+    → now ≤ before + limit_in flags (tex_file text flags b).ended
     → now ≤ before + book_looks text flags b
 tex-looks text flags b before now bound = omega (arith, bound)
 
-pub all-looks : (text : List ℕ) (flags : Flags) (b : Book) (before mid now : ℕ) {left : Book} → left ≡ left_by text flags b (tex_file text flags b)
+pub all-looks : (text : List ℕ) (flags : Flags) (b : Book) (before mid now : ℕ) {left : Book}
+    → left ≡ left_by text flags b (tex_file text flags b)
     → mid ≤ before + limit_in flags (tex_file text flags b).ended → now ≤ mid + list_looks flags.index text flags left
     → now ≤ before + book_looks text flags b
 all-looks text flags b before mid now is first second =

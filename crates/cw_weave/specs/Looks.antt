@@ -43,6 +43,7 @@ command_looks (Usage flags) named = 0
 command_looks (Sample sections) named = sample_looks sections
 command_looks (Weave line) named = web_looks line.flags (merged named line.web line.change)
 
--- the limits of all C texts that a run translates, for the words of a command line, over files that are there by their names
+-- the limits of all C texts that a run translates, for the words of a command line, over files that are there by their
+-- names
 abbrev pub looks_of : List (List ℕ) → NamedFiles → ℕ
 looks_of words named = command_looks (command_of words) named

@@ -23,9 +23,11 @@ use Rattle.cw_texpart.specs.declared.counts.Counts.{Counts}
 use Rattle.cw_weave.specs.TexFile.{left_by, marks_of, tex_file}
 use Rattle.cw_weave.specs.declared.source.Source.{Source}
 
--- Sections were printed: their bytes were put, their names are left, these marks were added to the occurrences, and their C texts are
+-- Sections were printed: their bytes were put, their names are left, these marks were added to the occurrences, and
+-- their C texts are
 -- counted. Where the call was refused, it put a first part of the bytes.
-pub record Presses (flags : Flags) (d : Done ℕ) (marks : List Occurrence) (old new : Press) (result : Result Counts PutError) : Type 0 where
+pub record Presses (flags : Flags) (d : Done ℕ) (marks : List Occurrence) (old new : Press)
+    (result : Result Counts PutError) : Type 0 where
   pub puts : Puts d.out old.line new.line old.told new.told result
   pub names : OnOk result (new.book.names ≡ d.names)
   pub occurrences : OnOk result (new.book.xrefs ≡ old.book.xrefs ++ marks)

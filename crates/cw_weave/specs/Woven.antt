@@ -1,4 +1,5 @@
--- The woven book: what is printed and written for the words of a command line, over files that are there by their names, and the
+-- The woven book: what is printed and written for the words of a command line, over files that are there by their
+-- names, and the
 -- status of the run.
 use Rattle.std.specs.Prelude.{◌≡◌, ℕ, Bool, true, false, List, [], ◌∷◌, ◌++◌, Option, Some, None, map}
 use Rattle.std.specs.List.{flat_map}
@@ -33,7 +34,8 @@ use Rattle.cw_run.specs.Saying.{says, says_if}
 use Rattle.cw_run.specs.Statistics.{statistics_if}
 use Rattle.cw_run.specs.Stops.{stopped}
 use Rattle.cw_weave.specs.Statistics.{totals_of}
-use Rattle.cw_run.specs.Terminal.{banner, usage_text, no_web_text, no_change_text, too_long_text, output_text, index_text, done_text}
+use Rattle.cw_run.specs.Terminal.{banner, usage_text, no_web_text, no_change_text, too_long_text, output_text}
+use Rattle.cw_run.specs.Terminal.{index_text, done_text}
 use Rattle.cw_weave.specs.Sample.{sample_run}
 use Rattle.cw_weave.specs.TexFile.{handed, left_by, tex_file}
 use Rattle.cw_run.specs.declared.statistics.Totals.{Totals}
@@ -69,13 +71,15 @@ abbrev pub output_events : Flags → OutFile → NamedFiles → List Event
 output_events flags f named = says_if flags.progress output_text ++ file_events flags.keep f named
 
 abbrev pub index_events : Bool → Flags → List OutFile → NamedFiles → List Event
-index_events true flags files named = says_if flags.progress index_text ++ flat_map (λ f. file_events flags.keep f named) files
+index_events true flags files named = says_if flags.progress index_text
+    ++ flat_map (λ f. file_events flags.keep f named) files
 index_events false flags files named = []
 
 abbrev pub files_events : Flags → OutFile → List OutFile → NamedFiles → List Event
 files_events flags tex index named = output_events flags tex named ++ index_events flags.index flags index named
 
--- The end of the run: a line for each line of the files that had no good place to be cut, the statistics, and the closing line, by
+-- The end of the run: a line for each line of the files that had no good place to be cut, the statistics, and the
+-- closing line, by
 -- which the run ends.
 abbrev pub ending_run : Flags → List Broken → Totals → Bool → Bool → Run
 ending_run flags broken totals faulty noted = record {
@@ -91,7 +95,8 @@ end_of flags broken totals notes =
     ending_run flags broken totals (has_error (notes ++ broken_notes broken)) (has_note (notes ++ broken_notes broken))
 
 -- The notes, the TeX file, the index and the list of section names, and the end of the run.
-abbrev pub weave_files : CommandLine → List (List ℕ) → List SecName → List Note → Totals → OutFile → List OutFile → NamedFiles → Run
+abbrev pub weave_files : CommandLine → List (List ℕ) → List SecName → List Note → Totals → OutFile → List OutFile
+    → NamedFiles → Run
 weave_files line files kept notes totals tex index named = record {
   rest =
       note_events files kept notes ++ (files_events line.flags tex index named
@@ -133,7 +138,8 @@ weave_command_of (Weave line) named = with_banner line.flags (weave_web line (me
 abbrev pub woven : List (List ℕ) → NamedFiles → Run
 woven words named = weave_command_of (command_of words) named
 
--- What a run has done: it emitted exactly the events and answers exactly the status; or a first part of the events, after a fault of
+-- What a run has done: it emitted exactly the events and answers exactly the status; or a first part of the events,
+-- after a fault of
 -- the desk or for want of memory.
 abbrev pub Outcome : Run → Told → Told → Exit → Type 0
 Outcome run before now Clean = (now.journal ≡ grown before.journal run.rest) × (run.exit ≡ Clean)

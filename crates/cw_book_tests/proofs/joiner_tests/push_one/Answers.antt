@@ -6,7 +6,8 @@ use Rattle.cw_book_tests.proofs.joiner_tests.push_one.Goals as goal
 
 pub push-requires-clause-come : goal.push-requires-clause-come
 push-requires-clause-come c =
-    subst (λ (n : ℕ). CanCome n c.args.joiner.now.depth c.args.token.item) c.len.ensures.value (c.if-not-is_plain.ensures c.args.joiner.now.depth)
+    subst (λ (n : ℕ). CanCome n c.args.joiner.now.depth c.args.token.item) c.len.ensures.value
+    (c.if-not-is_plain.ensures c.args.joiner.now.depth)
 
 pub returns : goal.returns
 returns c = record {

@@ -4,7 +4,8 @@ use Rattle.cw_base.specs.declared.category.Cat.{Cat}
 use Rattle.cw_names.specs.Names.{Entry, with_category}
 use Rattle.cw_c_tests.proofs.name_tests.changed.Goals as goal
 
-length-with : (place : ℕ) (category : Cat) (names : List Entry) → length (with_category place category names) ≡ length names
+length-with : (place : ℕ) (category : Cat) (names : List Entry) → length (with_category place category names)
+    ≡ length names
 length-with place category [] = refl
 length-with zero category (e ∷ names) = refl
 length-with (suc place) category (e ∷ names) = ap suc (length-with place category names)

@@ -6,7 +6,8 @@ use Rattle.cw_index.proofs.collation.compare_bytes.Goals as goal
 
 pub returns-then-first-second : goal.returns-then-first-second
 returns-then-first-second c =
-    sym (class_cmp-same (class_of c.args.first)) ∙ ap (λ byte. class_cmp (class_of c.args.first) (class_of byte)) c.if-first-second.true
+    sym (class_cmp-same (class_of c.args.first)) ∙ ap (λ byte. class_cmp (class_of c.args.first) (class_of byte))
+    c.if-first-second.true
 
 pub returns : goal.returns
 returns c =

@@ -20,9 +20,11 @@ returns-in-Ok-Some-clause-loads g c = λ files is.
     let state = state_of [] c.add_file.new.self in
     let m = c.new-m.ensures in
     let first : read file.name file.bytes start_state ≡ Some state =
-    read-first [] file.name file.bytes c.new-m.result m.web m.sum m.mark m.nothing c.requires ∙ ap (λ (m : Merger). Some (state_of [] m)) (sym c.in_ok-source.ensures.ok) in
+    read-first [] file.name file.bytes c.new-m.result m.web m.sum m.mark m.nothing c.requires
+    ∙ ap (λ (m : Merger). Some (state_of [] m)) (sym c.in_ok-source.ensures.ok) in
     let finds = rw c.in-Ok-Some.field-0-is at (c.in-Ok-Some.ensures.finds files is) in
-    let change : found (get files) (change_name word) ≡ Some c.in-Ok-Some.change = ap (found (get files)) (sym c.in_ok-name.ensures) ∙ finds in
+    let change : found (get files) (change_name word) ≡ Some c.in-Ok-Some.change =
+    ap (found (get files)) (sym c.in_ok-name.ensures) ∙ finds in
     let bytes = ap (λ (source : Source). source.bytes) c.in_ok-source.ensures.source in
     let P : Merged → Type 0 = λ given. Loads given c.merge_found.result in
     subst P

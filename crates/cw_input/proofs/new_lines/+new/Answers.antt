@@ -20,7 +20,8 @@ put_new_line-returns-in-Ok-Some-clause-gives g t c = λ files is change.
     rw leads (c.put_new_lines.ensures.gives files (c.put_line.ensures.same.same_files ∙ is) change)
 
 pub put_new_line-returns-in-Err-clause-gives : goal.put_new_line-returns-in-Err-clause-gives
-put_new_line-returns-in-Err-clause-gives g t c = λ files is change. c.in-Err.ensures.leads files is change (new_lines (get files) (c.args.left - 1))
+put_new_line-returns-in-Err-clause-gives g t c = λ files is change. c.in-Err.ensures.leads files is change
+    (new_lines (get files) (c.args.left - 1))
 
 pub put_new_lines-lines-init : goal.put_new_lines-lines-init
 put_new_lines-lines-init g t c = record {
@@ -32,7 +33,8 @@ put_new_lines-lines-init g t c = record {
   files = omega arith;
   sum = c.requires.room.for_bytes;
   meets = refl;
-  gives = λ files is change. new_lines-walk (get files) c.args.left (file_lines c.args.source.now.file c.as_slice-bytes.result.now) (state_of change c.args.m.now);
+  gives = λ files is change. new_lines-walk (get files) c.args.left
+      (file_lines c.args.source.now.file c.as_slice-bytes.result.now) (state_of change c.args.m.now);
   same = search rules;
 }
 
@@ -41,11 +43,15 @@ put_new_lines-returns-in_err-put_new_line-clause-gives g t c = λ files is chang
     let inv = c.lines.invariant in
     let file = c.args.source.now.file in
     let bytes = c.as_slice-bytes.result.now in
-    let each : FileLine → MergeState → Option MergeState = put (get files) true (into_at c.args.left (new_lines (get files) (c.args.left - 1))) in
-    let whole = ap (λ (all : List ℕ). new_lines (get files) c.args.left (file_lines file all) (state_of change c.args.m.now)) (sym inv.all) ∙ inv.gives files is change in
+    let each : FileLine → MergeState → Option MergeState =
+    put (get files) true (into_at c.args.left (new_lines (get files) (c.args.left - 1))) in
+    let whole = ap (λ (all : List ℕ). new_lines (get files) c.args.left (file_lines file all)
+    (state_of change c.args.m.now)) (sym inv.all) ∙ inv.gives files is change in
     let p = err_from_is_err_and c.from_residual.result c.from_residual.ensures.1 in
     rw (p.1, p.2) (fails_as
-    (each (line_of (slice_range bytes c.lines.at c.cut_line-cut.result.«end») (record { file = file; line = c.lines.line + 1 })) (state_of change c.lines.m))
+    (each (line_of (slice_range bytes c.lines.at c.cut_line-cut.result.«end»)
+    (record { file = file; line = c.lines.line + 1 })) (state_of change c.lines.m))
     (new_lines (get files) c.args.left (file_lines file c.args.source.now.bytes) (state_of change c.args.m.now)) _
-    (λ none. whole ∙ walk-fails each file c.lines.line c.lines.at c.cut_line-cut.result.next _ bytes (state_of change c.lines.m) c.cut_line-cut.ensures.lines none)
+    (λ none. whole ∙ walk-fails each file c.lines.line c.lines.at c.cut_line-cut.result.next _ bytes
+    (state_of change c.lines.m) c.cut_line-cut.ensures.lines none)
     (c.in_err-put_new_line.ensures.gives files (inv.same.same_files ∙ is) change))

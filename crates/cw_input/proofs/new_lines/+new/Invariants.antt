@@ -1,5 +1,7 @@
--- Each deeper file leaves one depth less, and a line comes before the lines of its file. In the lines of a file, those that are left give
--- from the state so far what all give from the first state; and the room that was enough at first is enough for what is left.
+-- Each deeper file leaves one depth less, and a line comes before the lines of its file. In the lines of a file, those
+-- that are left give
+-- from the state so far what all give from the first state; and the room that was enough at first is enough for what is
+-- left.
 use Rattle.std.proofs.Common.{◌≡◌, ℕ, ◌+◌, ◌-◌, ◌*◌, ◌≤◌, List, Some, true, length}
 use Rattle.std.specs.FinMap.{get}
 use Rattle.cw_base.specs.declared.limits.TheConstants.{INPUT_LIMIT}
@@ -23,13 +25,16 @@ invariant-put_new_lines-lines g l = let told = g.D.Desk.told in record {
   within : l.at ≤ length l.bytes;
   count : l.line ≤ l.at;
   more_files : length l.fn.m.web.files ≤ length l.m.web.files;
-  text : length (text_of l.m.web.lines) + 2 * (length l.bytes - l.at) + 2 * (INPUT_LIMIT - l.m.sum) ≤ length (text_of l.fn.m.web.lines) + 2 * length l.bytes + 2 * (INPUT_LIMIT - l.fn.m.sum);
-  files : length l.m.web.files + (length l.bytes - l.at) + (INPUT_LIMIT - l.m.sum) ≤ length l.fn.m.web.files + length l.bytes + (INPUT_LIMIT - l.fn.m.sum);
+  text : length (text_of l.m.web.lines) + 2 * (length l.bytes - l.at) + 2 * (INPUT_LIMIT - l.m.sum)
+      ≤ length (text_of l.fn.m.web.lines) + 2 * length l.bytes + 2 * (INPUT_LIMIT - l.fn.m.sum);
+  files : length l.m.web.files + (length l.bytes - l.at) + (INPUT_LIMIT - l.m.sum) ≤ length l.fn.m.web.files
+      + length l.bytes + (INPUT_LIMIT - l.fn.m.sum);
   sum : l.m.sum ≤ INPUT_LIMIT;
   meets : l.m.meets ≡ l.fn.m.meets;
   gives : (files : Files) → (told l.fn.desk).files ≡ Some files → (change : List ℕ) →
       new_lines (get files) l.left (file_lines l.source.file l.bytes) (state_of change l.fn.m)
-      ≡ walk (put (get files) true (into_at l.left (new_lines (get files) (l.left - 1)))) (lines_from l.source.file l.line l.at l.bytes) (Some (state_of change l.m));
+      ≡ walk (put (get files) true (into_at l.left (new_lines (get files) (l.left - 1))))
+      (lines_from l.source.file l.line l.at l.bytes) (Some (state_of change l.m));
   same : OnlyReads (told l.fn.desk) (told l.desk);
 }
 

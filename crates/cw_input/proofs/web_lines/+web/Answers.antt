@@ -20,7 +20,8 @@ give_line-returns-in-Ok-Some-clause-gives g t c = λ files is.
     rw leads (c.give_lines.ensures.gives files (c.take_web_line.ensures.same.same_files ∙ is))
 
 pub give_line-returns-in-Err-clause-gives : goal.give_line-returns-in-Err-clause-gives
-give_line-returns-in-Err-clause-gives g t c = λ files is. c.in-Err.ensures.leads files is (web_lines (get files) (c.args.left - 1))
+give_line-returns-in-Err-clause-gives g t c = λ files is. c.in-Err.ensures.leads files is
+    (web_lines (get files) (c.args.left - 1))
 
 pub give_lines-lines-init : goal.give_lines-lines-init
 give_lines-lines-init g t c = record {
@@ -32,7 +33,8 @@ give_lines-lines-init g t c = record {
   files = omega arith;
   sum = c.requires.room.for_bytes;
   met = c.requires.met;
-  gives = λ files is. web_lines-walk (get files) c.args.left (file_lines c.args.source.now.file c.as_slice-bytes.result.now) (state_of c.args.change.now c.args.m.now);
+  gives = λ files is. web_lines-walk (get files) c.args.left
+      (file_lines c.args.source.now.file c.as_slice-bytes.result.now) (state_of c.args.change.now c.args.m.now);
   same = search rules;
 }
 
@@ -41,11 +43,16 @@ give_lines-returns-in_err-give_line-clause-gives g t c = λ files is.
     let inv = c.lines.invariant in
     let file = c.args.source.now.file in
     let bytes = c.as_slice-bytes.result.now in
-    let each : FileLine → MergeState → Option MergeState = take_line (get files) (into_at c.args.left (web_lines (get files) (c.args.left - 1))) in
-    let whole = ap (λ (all : List ℕ). web_lines (get files) c.args.left (file_lines file all) (state_of c.args.change.now c.args.m.now)) (sym inv.all) ∙ inv.gives files is in
+    let each : FileLine → MergeState → Option MergeState =
+    take_line (get files) (into_at c.args.left (web_lines (get files) (c.args.left - 1))) in
+    let whole = ap (λ (all : List ℕ). web_lines (get files) c.args.left (file_lines file all)
+    (state_of c.args.change.now c.args.m.now)) (sym inv.all) ∙ inv.gives files is in
     let p = err_from_is_err_and c.from_residual.result c.from_residual.ensures.1 in
     rw (p.1, p.2) (fails_as
-    (each (line_of (slice_range bytes c.lines.at c.cut_line-cut.result.«end») (record { file = file; line = c.lines.line + 1 })) (state_of c.args.change.now c.lines.m))
-    (web_lines (get files) c.args.left (file_lines file c.args.source.now.bytes) (state_of c.args.change.now c.args.m.now)) _
-    (λ none. whole ∙ walk-fails each file c.lines.line c.lines.at c.cut_line-cut.result.next _ bytes (state_of c.args.change.now c.lines.m) c.cut_line-cut.ensures.lines none)
+    (each (line_of (slice_range bytes c.lines.at c.cut_line-cut.result.«end»)
+    (record { file = file; line = c.lines.line + 1 })) (state_of c.args.change.now c.lines.m))
+    (web_lines (get files) c.args.left (file_lines file c.args.source.now.bytes)
+    (state_of c.args.change.now c.args.m.now)) _
+    (λ none. whole ∙ walk-fails each file c.lines.line c.lines.at c.cut_line-cut.result.next _ bytes
+    (state_of c.args.change.now c.lines.m) c.cut_line-cut.ensures.lines none)
     (c.in_err-give_line.ensures.gives files (inv.same.same_files ∙ is)))

@@ -17,14 +17,26 @@ returns-clause-gives c =
     let text : List ℕ = c.args.text.now in
     let comment = c.args.comment in
     let rest = drop 1 s.comments in
-    let new : State = record { at = s.at; part = c.passed-state.result; comments = c.set_top.new.self; pending = record { first = c.note_unless.result; second = None; body = None; last = None }; clear = s.clear } in
+    let new : State = record {
+      at = s.at;
+      part = c.passed-state.result;
+      comments = c.set_top.new.self;
+      pending = record { first = c.note_unless.result; second = None; body = None; last = None };
+      clear = s.clear;
+    } in
     let hash_line = in_hash_line s.part in
     let token = (λ i. token_of (sym c.in_hash_line.ensures i) kinds.InnerText s.at 0 []) ∙ sym c.token-token.ensures in
-    let note = ap (λ n. note_answers (pending_notes text (record { first = n; second = None; body = None; last = None }))) (sym c.note_unless.ensures) in
+    let note = ap
+    (λ n. note_answers (pending_notes text (record { first = n; second = None; body = None; last = None })))
+    (sym c.note_unless.ensures) in
     zero-gives text s new _ c.requires.step.quiet c.requires.step.place refl
     (c.requires.found
-    ∙ (λ i. before (inner_cut hash_line s.at s.at ++ comment_end (sym (in_hash_line-passed s.part) i) comment s.at 0 []) (line_end (passed s.part) rest (last_at text s.at) s.at))
+    ∙ (λ i. before (inner_cut hash_line s.at s.at ++ comment_end (sym (in_hash_line-passed s.part) i) comment s.at 0 [])
+    (line_end (passed s.part) rest (last_at text s.at) s.at))
     ∙ ap (before (inner_cut hash_line s.at s.at))
-    (sym (found-comment-line text (passed s.part) comment.start comment.braces s.at comment.long rest c.requires.newline c.requires.short)
-    ∙ (λ i. found_at text (record { part = sym c.passed-state.ensures.value i; comments = sym c.set_top.ensures i }) s.at))
-    ∙ (λ i. before (Finish (token i) ∷ note i) (found_at text (record { part = c.passed-state.result; comments = c.set_top.new.self }) s.at)))
+    (sym (found-comment-line text (passed s.part) comment.start comment.braces s.at comment.long rest c.requires.newline
+    c.requires.short)
+    ∙ (λ i. found_at text (record { part = sym c.passed-state.ensures.value i; comments = sym c.set_top.ensures i })
+    s.at))
+    ∙ (λ i. before (Finish (token i) ∷ note i) (found_at text
+    (record { part = c.passed-state.result; comments = c.set_top.new.self }) s.at)))

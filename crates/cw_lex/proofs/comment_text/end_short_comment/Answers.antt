@@ -18,15 +18,27 @@ returns-clause-gives c =
     let text : List ℕ = c.args.text.now in
     let comment = c.args.comment in
     let rest = drop 1 s.comments in
-    let new : State = record { at = s.at; part = s.part; comments = c.pop.new.self; pending = c.braces_note-state.result; clear = s.clear } in
+    let new : State = record {
+      at = s.at;
+      part = s.part;
+      comments = c.pop.new.self;
+      pending = c.braces_note-state.result;
+      clear = s.clear;
+    } in
     let token = (λ i. token_of (sym c.in_hash_line.ensures i) (sym c.kind_of.ensures i) s.at 0 [])
     ∙ sym c.token-token.ensures in
-    let nested : is_code s.part rest ≡ true = top-nested s.part s.comments comment rest c.requires.step.ready.nested c.requires.top in
+    let nested : is_code s.part rest ≡ true = top-nested s.part s.comments comment rest c.requires.step.ready.nested
+    c.requires.top in
     zero-gives text s new _ c.requires.step.quiet c.requires.step.place refl
     (c.requires.found
-    ∙ (λ i. before (Finish (token i) ∷ one-note text c.braces_note-state.result _ c.braces_note-state.ensures i) (line_end s.part rest (last_at text s.at) s.at))
-    ∙ ap (before (Finish (seen c.token-token.result) ∷ note_answers (pending_notes text c.braces_note-state.result))) (sym (found-newline text s.part rest s.at c.requires.newline nested) ∙ ap (λ cs. found_at text (record { part = s.part; comments = cs }) s.at) (sym c.pop.ensures.rest)))
+    ∙ (λ i. before (Finish (token i) ∷ one-note text c.braces_note-state.result _ c.braces_note-state.ensures i)
+    (line_end s.part rest (last_at text s.at) s.at))
+    ∙ ap (before (Finish (seen c.token-token.result) ∷ note_answers (pending_notes text c.braces_note-state.result)))
+    (sym (found-newline text s.part rest s.at c.requires.newline nested)
+    ∙ ap (λ cs. found_at text (record { part = s.part; comments = cs }) s.at) (sym c.pop.ensures.rest)))
 
 pub returns-clause-ready : goal.returns-clause-ready
-returns-clause-ready c = ready-pop c.args.text.now c.args.state.now c.args.comment c.pop.new.self c.braces_note-state.result c.args.state.now.at
-    c.requires.step.ready (c.requires.top ∙ ap (λ l. c.args.comment ∷ l) (sym c.pop.ensures.rest)) (omega arith) (omega arith) (one-inside (length c.args.text.now) c.braces_note-state.result _ c.braces_note-state.ensures)
+returns-clause-ready c = ready-pop c.args.text.now c.args.state.now c.args.comment c.pop.new.self
+    c.braces_note-state.result c.args.state.now.at
+    c.requires.step.ready (c.requires.top ∙ ap (λ l. c.args.comment ∷ l) (sym c.pop.ensures.rest)) (omega arith)
+    (omega arith) (one-inside (length c.args.text.now) c.braces_note-state.result _ c.braces_note-state.ensures)

@@ -13,7 +13,14 @@ pub returns-clause-gives : goal.returns-clause-gives
 returns-clause-gives c =
     let s = c.args.state.now in
     let text : List ℕ = c.args.text.now in
-    let new : State = record { at = s.at + 1; part = parts.TexInner; comments = s.comments; pending = s.pending; clear = s.clear } in
-    one-gives text s new _ _ 0 (moved (where_of s) parts.TexInner) c.requires.step.quiet c.requires.step.place c.requires.found
+    let new : State = record {
+      at = s.at + 1;
+      part = parts.TexInner;
+      comments = s.comments;
+      pending = s.pending;
+      clear = s.clear;
+    } in
+    one-gives text s new _ _ 0 (moved (where_of s) parts.TexInner) c.requires.step.quiet c.requires.step.place
+    c.requires.found
     (ap Begin (token-here text s.at 1 kinds.InnerText false _ c.requires.step.place c.token-token.ensures))
     c.requires.step.quiet (omega arith) (omega arith) refl

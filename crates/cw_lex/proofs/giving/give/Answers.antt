@@ -15,9 +15,16 @@ returns-clause-gives c =
     let s = c.args.state.now in
     let text : List ℕ = c.args.text.now in
     let cut = c.args.cut in
-    let new : State = record { at = s.at + cut.size; part = c.args.part; comments = s.comments; pending = cut.pending; clear = s.clear } in
+    let new : State = record {
+      at = s.at + cut.size;
+      part = c.args.part;
+      comments = s.comments;
+      pending = cut.pending;
+      clear = s.clear;
+    } in
     let f = one c.args.hash_line (moved (where_of s) c.args.part) s.at (bytes_at text s.at) (cut_of text cut) in
-    let token = ap (λ bs. token_of c.args.hash_line cut.kind s.at cut.size bs) (sym (bytes-here text s.at c.requires.step.place)) ∙ sym c.token-token.ensures in
+    let token = ap (λ bs. token_of c.args.hash_line cut.kind s.at cut.size bs)
+    (sym (bytes-here text s.at c.requires.step.place)) ∙ sym c.token-token.ensures in
     step-gives text s new _ f c.requires.step.quiet c.requires.step.place c.requires.found
     (ap (λ t. Token t ∷ note_answers (pending_notes text cut.pending)) token)
     (omega (arith, c.requires.cut.some)) (omega (arith, c.requires.cut.within)) refl

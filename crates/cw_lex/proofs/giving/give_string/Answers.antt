@@ -15,15 +15,24 @@ returns-clause-gives c =
     let s = c.args.state.now in
     let text : List ℕ = c.args.text.now in
     let cut = c.string-cut.result in
-    let new : State = record { at = s.at + cut.size; part = c.pass.new.self; comments = s.comments; pending = cut.pending; clear = s.clear } in
+    let new : State = record {
+      at = s.at + cut.size;
+      part = c.pass.new.self;
+      comments = s.comments;
+      pending = cut.pending;
+      clear = s.clear;
+    } in
     let next = moved (where_of s) (passed s.part) in
     let bytes = bytes_at text s.at in
     let place : s.at < length text = c.requires.string.0 in
     let found = c.requires.string.1 ∙ ap (one (in_hash_line s.part) next s.at bytes) (sym c.string-cut.ensures.same) in
-    let token = c.token-token.ensures ∙ (λ i. token_of (c.in_hash_line.ensures i) cut.kind s.at cut.size (drop s.at text)) in
+    let token = c.token-token.ensures ∙ (λ i. token_of (c.in_hash_line.ensures i) cut.kind s.at cut.size
+    (drop s.at text)) in
     step-gives text s new _ (one (in_hash_line s.part) next s.at bytes (cut_of text cut)) c.requires.quiet place found
-    (ap (λ t. Token t ∷ note_answers (pending_notes text cut.pending)) (token-here text s.at cut.size cut.kind (in_hash_line s.part) _ place token))
-    (omega (arith, c.string-cut.ensures.fits.some)) c.string-cut.ensures.fits.within (λ i. moved (where_of s) (c.pass.ensures.value i))
+    (ap (λ t. Token t ∷ note_answers (pending_notes text cut.pending))
+    (token-here text s.at cut.size cut.kind (in_hash_line s.part) _ place token))
+    (omega (arith, c.string-cut.ensures.fits.some)) c.string-cut.ensures.fits.within
+    (λ i. moved (where_of s) (c.pass.ensures.value i))
 
 pub returns-clause-ready : goal.returns-clause-ready
 returns-clause-ready c =

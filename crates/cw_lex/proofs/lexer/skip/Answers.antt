@@ -19,5 +19,8 @@ returns-then-is_head-clause-skipped c =
     let s = c.args.state.now in
     let head : is_head_part s.part s.comments ≡ true = sym c.if-is_head.ensures in
     record {
-      none = λ within. head-skipped s.part s.comments (last_at c.args.text.now (s.at + c.run.result)) (slice_index c.args.text.now (s.at + c.run.result)) (drop ((s.at + c.run.result) + 1) c.args.text.now) head (run-behind Blank c.args.text.now s.at c.run.result (c.run.ensures.value ∙ ap (run Blank) c.from.ensures.value) within);
+      none = λ within. head-skipped s.part s.comments (last_at c.args.text.now (s.at + c.run.result))
+          (slice_index c.args.text.now (s.at + c.run.result)) (drop ((s.at + c.run.result) + 1) c.args.text.now) head
+          (run-behind Blank c.args.text.now s.at c.run.result (c.run.ensures.value
+          ∙ ap (run Blank) c.from.ensures.value) within);
     }

@@ -7,4 +7,5 @@ use Rattle.cw_lex.proofs.lexer.skip_in_calm.Goals as goal
 
 pub returns-clause-same : goal.returns-clause-same
 returns-clause-same c =
-    calm-coming c.args.text.now c.args.state.now c.run.result c.requires.calm.text (c.run.ensures.value ∙ ap (run White) c.from.ensures.value)
+    calm-coming c.args.text.now c.args.state.now c.run.result c.requires.calm.text (c.run.ensures.value
+    ∙ ap (run White) c.from.ensures.value)

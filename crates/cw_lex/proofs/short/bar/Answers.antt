@@ -10,14 +10,16 @@ pub returns-then-ends_inner : goal.returns-then-ends_inner
 returns-then-ends_inner c =
     let s = c.args.state.now in
     inner-ends c.args.text.now s.part s.comments s.at c.requires.calm c.requires.place c.requires.bar
-    (ap (λ bytes. ends_at_bar s.part s.comments && not (begins 124 bytes)) (sym c.from-rest.ensures.value) ∙ sym c.if-ends_inner.ensures)
+    (ap (λ bytes. ends_at_bar s.part s.comments && not (begins 124 bytes)) (sym c.from-rest.ensures.value)
+    ∙ sym c.if-ends_inner.ensures)
 
 pub returns-in-Some : goal.returns-in-Some
 returns-in-Some c =
     let s = c.args.state.now in
     let text = c.args.text.now in
     bar-short text s.part s.comments s.at c.size.result c.in-Some.sign c.requires.calm c.requires.bar
-    (ap (λ bytes. ends_at_bar s.part s.comments && not (begins 124 bytes)) (sym c.from-rest.ensures.value) ∙ (sym c.ends_inner.ensures ∙ c.if-ends_inner.false))
+    (ap (λ bytes. ends_at_bar s.part s.comments && not (begins 124 bytes)) (sym c.from-rest.ensures.value)
+    ∙ (sym c.ends_inner.ensures ∙ c.if-ends_inner.false))
     ((λ i. longest all_signs (c.requires.bar i ∷ sym c.from-rest.ensures.value i)) ∙ sym c.in-Some.ensures.value)
     c.size.ensures.some c.size.ensures.value
     (omega (arith, c.in-Some.ensures.within, c.size.ensures.value, c.from-rest.ensures.length))

@@ -6,4 +6,5 @@ use Rattle.cw_lex.proofs.short.end.Goals as goal
 pub returns : goal.returns
 returns c =
     let s = c.args.state.now in
-    calm-end c.args.text.now s.part s.comments s.at c.requires.calm c.requires.end (sym c.ends_at_bar.ensures ∙ c.if-ends_at_bar.false)
+    calm-end c.args.text.now s.part s.comments s.at c.requires.calm c.requires.end (sym c.ends_at_bar.ensures
+    ∙ c.if-ends_at_bar.false)

@@ -14,12 +14,21 @@ returns-clause-gives c =
     let text : List ℕ = c.args.text.now in
     let short = c.args.short in
     let settled = calm-part s.part s.comments c.requires.calm.text in
-    let new : State = record { at = s.at + short.size; part = s.part; comments = s.comments; pending = s.pending; clear = s.clear } in
+    let new : State = record {
+      at = s.at + short.size;
+      part = s.part;
+      comments = s.comments;
+      pending = s.pending;
+      clear = s.clear;
+    } in
     let place : s.at < length text = omega (arith, c.requires.short.some, c.requires.short.within) in
-    let token = c.token-token.ensures ∙ (λ i. token_of (sym settled.hash_line i) short.kind s.at short.size (drop s.at text)) in
-    one-gives text s new _ _ (short.size - 1) (moved (where_of s) (passed s.part)) c.requires.calm.quiet place c.requires.short.found
+    let token = c.token-token.ensures ∙ (λ i. token_of (sym settled.hash_line i) short.kind s.at short.size
+    (drop s.at text)) in
+    one-gives text s new _ _ (short.size - 1) (moved (where_of s) (passed s.part)) c.requires.calm.quiet place
+    c.requires.short.found
     (ap Token (token-here text s.at short.size short.kind (in_hash_line s.part) _ place token))
-    c.requires.calm.quiet (omega (arith, c.requires.short.some)) c.requires.short.within (λ i. moved (where_of s) (sym settled.same i))
+    c.requires.calm.quiet (omega (arith, c.requires.short.some)) c.requires.short.within
+    (λ i. moved (where_of s) (sym settled.same i))
 
 pub returns-clause-ready : goal.returns-clause-ready
 returns-clause-ready c =

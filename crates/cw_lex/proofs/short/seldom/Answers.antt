@@ -6,5 +6,6 @@ use Rattle.cw_lex.proofs.short.seldom.Goals as goal
 pub returns-then-is_quote : goal.returns-then-is_quote
 returns-then-is_quote c =
     let s = c.args.state.now in
-    string-begins c.args.text.now s.part s.comments s.at c.requires.calm c.requires.place c.requires.letter c.requires.digit
+    string-begins c.args.text.now s.part s.comments s.at c.requires.calm c.requires.place c.requires.letter
+    c.requires.digit
     (sym c.if-is_quote.ensures)

@@ -9,8 +9,11 @@ pub returns-in-Some : goal.returns-in-Some
 returns-in-Some c =
     let s = c.args.state.now in
     let text = c.args.text.now in
-    sign-short text s.part s.comments s.at c.size.result c.in-Some.sign c.requires.calm c.requires.place c.requires.letter c.requires.digit
-    (ap (is_alone (slice_index text s.at)) (sym c.from-rest.ensures.value) ∙ (sym c.is_alone.ensures ∙ c.if-not-is_alone.false))
-    (ap (λ bytes. longest all_signs (slice_index text s.at ∷ bytes)) (sym c.from-rest.ensures.value) ∙ sym c.in-Some.ensures.value)
+    sign-short text s.part s.comments s.at c.size.result c.in-Some.sign c.requires.calm c.requires.place
+    c.requires.letter c.requires.digit
+    (ap (is_alone (slice_index text s.at)) (sym c.from-rest.ensures.value)
+    ∙ (sym c.is_alone.ensures ∙ c.if-not-is_alone.false))
+    (ap (λ bytes. longest all_signs (slice_index text s.at ∷ bytes)) (sym c.from-rest.ensures.value)
+    ∙ sym c.in-Some.ensures.value)
     c.size.ensures.some c.size.ensures.value
     (omega (arith, c.in-Some.ensures.within, c.size.ensures.value, c.from-rest.ensures.length))

@@ -28,16 +28,20 @@ use Rattle.cw_phase1.proofs.phase.phase_one.Goals as goal
 
 pub returns-clause-names : goal.returns-clause-names
 returns-clause-names c =
-    c.in_ok-book.ensures.names ∙ (ap (λ (t : Told). t.words.names) c.in_ok-held.ensures.told ∙ all-names c.args.web.now.lines (placed (answers_of c.args.web.now.lines)))
+    c.in_ok-book.ensures.names ∙ (ap (λ (t : Told). t.words.names) c.in_ok-held.ensures.told
+    ∙ all-names c.args.web.now.lines (placed (answers_of c.args.web.now.lines)))
 
 pub returns-clause-xrefs : goal.returns-clause-xrefs
 returns-clause-xrefs c =
-    c.in_ok-book.ensures.xrefs ∙ (ap (λ (t : Told). t.words.xrefs) c.in_ok-held.ensures.told ∙ all-occurrences c.args.web.now.lines (placed (answers_of c.args.web.now.lines)))
+    c.in_ok-book.ensures.xrefs ∙ (ap (λ (t : Told). t.words.xrefs) c.in_ok-held.ensures.told
+    ∙ all-occurrences c.args.web.now.lines (placed (answers_of c.args.web.now.lines)))
 
 kept : (c : goal.In_ok-book) → with_references c.in_ok-held.held.told.named.references c.in_ok-held.held.kept
     ≡ section_names (kept_after [] (answers_of c.args.web.now.lines)) (placed (answers_of c.args.web.now.lines))
 kept c =
-    (λ i. with_references ((ap (λ (t : Told). t.named.references) c.in_ok-held.ensures.told ∙ all-references c.args.web.now.lines (placed (answers_of c.args.web.now.lines))) i) (c.in_ok-held.ensures.kept i)) ∙
+    (λ i. with_references ((ap (λ (t : Told). t.named.references) c.in_ok-held.ensures.told
+    ∙ all-references c.args.web.now.lines (placed (answers_of c.args.web.now.lines))) i)
+    (c.in_ok-held.ensures.kept i)) ∙
     all-referred (references_of (placed (answers_of c.args.web.now.lines))) (answers_of c.args.web.now.lines)
 
 pub returns-clause-sec_names : goal.returns-clause-sec_names
@@ -45,17 +49,24 @@ returns-clause-sec_names c = c.in_ok-book.ensures.sec_names ∙ kept c
 
 pub returns-clause-name_uses : goal.returns-clause-name_uses
 returns-clause-name_uses c =
-    c.in_ok-book.ensures.name_uses ∙ (ap (λ (t : Told). t.named.uses) c.in_ok-held.ensures.told ∙ all-uses c.args.web.now.lines (placed (answers_of c.args.web.now.lines)))
+    c.in_ok-book.ensures.name_uses ∙ (ap (λ (t : Told). t.named.uses) c.in_ok-held.ensures.told
+    ∙ all-uses c.args.web.now.lines (placed (answers_of c.args.web.now.lines)))
 
 pub returns-clause-limbo : goal.returns-clause-limbo
 returns-clause-limbo c =
-    c.in_ok-book.ensures.limbo ∙ (ap (λ (t : Told). span 0 (or_else t.sections.limbo_end (length (text_of c.args.web.now.lines)))) c.in_ok-held.ensures.told ∙
-    ap (span 0) (all-limbo c.args.web.now.lines (length (text_of c.args.web.now.lines)) (placed (answers_of c.args.web.now.lines))))
+    c.in_ok-book.ensures.limbo
+    ∙ (ap (λ (t : Told). span 0 (or_else t.sections.limbo_end (length (text_of c.args.web.now.lines))))
+    c.in_ok-held.ensures.told ∙
+    ap (span 0) (all-limbo c.args.web.now.lines (length (text_of c.args.web.now.lines))
+    (placed (answers_of c.args.web.now.lines))))
 
 pub returns-clause-sections : goal.returns-clause-sections
 returns-clause-sections c =
-    c.in_ok-book.ensures.sections ∙ (ap (λ (t : Told). closing c.args.web.now.lines (length (text_of c.args.web.now.lines)) t.sections) c.in_ok-held.ensures.told ∙
-    all-sections c.args.web.now.lines (length (text_of c.args.web.now.lines)) (placed (answers_of c.args.web.now.lines)))
+    c.in_ok-book.ensures.sections
+    ∙ (ap (λ (t : Told). closing c.args.web.now.lines (length (text_of c.args.web.now.lines)) t.sections)
+    c.in_ok-held.ensures.told ∙
+    all-sections c.args.web.now.lines (length (text_of c.args.web.now.lines))
+    (placed (answers_of c.args.web.now.lines)))
 
 pub returns-clause-notes : goal.returns-clause-notes
 returns-clause-notes c = c.in_ok-book.ensures.notes ∙ (λ i. c.in_ok-held.ensures.notes i ++ name_notes (kept c i))
@@ -66,14 +77,19 @@ abbrev tokens : goal.In_ok-book → List Placed
 tokens c = placed (answers_of c.args.web.now.lines)
 
 follow : (c : goal.In_ok-book) → Follow 0 (length (text_of c.args.web.now.lines)) (tokens c)
-follow c = follows (text_of c.args.web.now.lines) 0 (length (text_of c.args.web.now.lines)) at_limbo [] (answers_of c.args.web.now.lines) c.in_ok-held.ensures.covers
+follow c = follows (text_of c.args.web.now.lines) 0 (length (text_of c.args.web.now.lines)) at_limbo []
+    (answers_of c.args.web.now.lines) c.in_ok-held.ensures.covers
 
 pub returns-clause-references : goal.returns-clause-references
 returns-clause-references c =
-    subst (λ (sections : List Section). All (RefersUpTo (length sections)) c.in_ok-book.book.sec_names) (sym (returns-clause-sections c))
-    (subst (All (RefersUpTo (length (sections_of c.args.web.now.lines (length (text_of c.args.web.now.lines)) (tokens c))))) (sym (returns-clause-sec_names c))
-    (all-refer c.args.web.now.lines (length (text_of c.args.web.now.lines)) (kept_after [] (answers_of c.args.web.now.lines)) (tokens c)
-    (all-rise c.args.web.now.lines (length (text_of c.args.web.now.lines)) (tokens c) (numbered at_limbo [] (answers_of c.args.web.now.lines))
+    subst (λ (sections : List Section). All (RefersUpTo (length sections)) c.in_ok-book.book.sec_names)
+    (sym (returns-clause-sections c))
+    (subst (All (RefersUpTo (length (sections_of c.args.web.now.lines (length (text_of c.args.web.now.lines))
+    (tokens c))))) (sym (returns-clause-sec_names c))
+    (all-refer c.args.web.now.lines (length (text_of c.args.web.now.lines))
+    (kept_after [] (answers_of c.args.web.now.lines)) (tokens c)
+    (all-rise c.args.web.now.lines (length (text_of c.args.web.now.lines)) (tokens c)
+    (numbered at_limbo [] (answers_of c.args.web.now.lines))
     (unnamed at_limbo [] (answers_of c.args.web.now.lines)
     (c.limbo_law.ensures (text_of c.args.web.now.lines) 0 (length (text_of c.args.web.now.lines)))))))
 
@@ -81,19 +97,24 @@ uses : (c : goal.In_ok-book) → All (λ (u : NameUse). u.name < length c.in_ok-
 uses c =
     uses-below (length c.in_ok-held.held.kept) (tokens c) (fits at_limbo [] (answers_of c.args.web.now.lines))
     (subst (λ (references : List Reference). All (λ r. r.name < length c.in_ok-held.held.kept) references)
-    (ap (λ (t : Told). t.named.references) c.in_ok-held.ensures.told ∙ all-references c.args.web.now.lines (tokens c)) c.in_ok-held.ensures.ids)
+    (ap (λ (t : Told). t.named.references) c.in_ok-held.ensures.told ∙ all-references c.args.web.now.lines (tokens c))
+    c.in_ok-held.ensures.ids)
 
 pub returns-clause-use_ids : goal.returns-clause-use_ids
 returns-clause-use_ids c =
     subst (λ n. All (λ (u : NameUse). u.name < n) c.in_ok-book.book.name_uses) (sym c.in_ok-book.ensures.count)
-    (subst (λ (us : List NameUse). All (λ (u : NameUse). u.name < length c.in_ok-held.held.kept) us) (sym (returns-clause-name_uses c)) (uses c))
+    (subst (λ (us : List NameUse). All (λ (u : NameUse). u.name < length c.in_ok-held.held.kept) us)
+    (sym (returns-clause-name_uses c)) (uses c))
 
 pub returns-clause-section_names : goal.returns-clause-section_names
 returns-clause-section_names c =
-    subst (λ (sections : List Section). All (IsNamedBy c.in_ok-book.book.name_uses) sections) (sym (returns-clause-sections c))
-    (subst (λ (us : List NameUse). All (IsNamedBy us) (sections_of c.args.web.now.lines (length (text_of c.args.web.now.lines)) (tokens c)))
+    subst (λ (sections : List Section). All (IsNamedBy c.in_ok-book.book.name_uses) sections)
+    (sym (returns-clause-sections c))
+    (subst (λ (us : List NameUse). All (IsNamedBy us)
+    (sections_of c.args.web.now.lines (length (text_of c.args.web.now.lines)) (tokens c)))
     (sym (returns-clause-name_uses c))
-    (all-named c.args.web.now.lines [] 0 (length (text_of c.args.web.now.lines)) (tokens c) (All-nil (λ (u : NameUse). u.place < 0)) (follow c)
+    (all-named c.args.web.now.lines [] 0 (length (text_of c.args.web.now.lines)) (tokens c)
+    (All-nil (λ (u : NameUse). u.place < 0)) (follow c)
     (fits at_limbo [] (answers_of c.args.web.now.lines))))
 
 pub returns-clause-section_ids : goal.returns-clause-section_ids
@@ -103,7 +124,8 @@ returns-clause-section_ids c =
 
 pub returns-clause-spans : goal.returns-clause-spans
 returns-clause-spans c =
-    subst (λ (sections : List Section). All (LiesIn (length (text_of c.args.web.now.lines))) sections) (sym (returns-clause-sections c))
+    subst (λ (sections : List Section). All (LiesIn (length (text_of c.args.web.now.lines))) sections)
+    (sym (returns-clause-sections c))
     (all-lie c.args.web.now.lines 0 (length (text_of c.args.web.now.lines)) (tokens c) (follow c))
 
 pub returns-clause-limbo_span : goal.returns-clause-limbo_span
@@ -113,6 +135,7 @@ returns-clause-limbo_span c =
 
 pub returns-clause-texts : goal.returns-clause-texts
 returns-clause-texts c =
-    subst (λ (names : List SecName). All (λ (n : SecName). length n.text ≤ length (text_of c.args.web.now.lines)) names) (sym (returns-clause-sec_names c))
+    subst (λ (names : List SecName). All (λ (n : SecName). length n.text ≤ length (text_of c.args.web.now.lines)) names)
+    (sym (returns-clause-sec_names c))
     (all-short (text_of c.args.web.now.lines) (answers_of c.args.web.now.lines) (references_of (tokens c))
     c.in_ok-held.ensures.covers)

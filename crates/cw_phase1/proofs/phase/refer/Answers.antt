@@ -11,6 +11,8 @@ none = record { name = 0; section = 0; how = Defined }
 
 pub add_ref-requires : goal.add_ref-requires
 add_ref-requires c = rw c.id.ensures
-    (subst (λ n. (slice_index_or c.as_slice-reference-items.result.now c.loop-reference.reference-index none).name < n) (sym c.loop-reference.invariant.len)
+    (subst (λ n. (slice_index_or c.as_slice-reference-items.result.now c.loop-reference.reference-index none).name < n)
+    (sym c.loop-reference.invariant.len)
     (of-kept c.as_slice-reference-items.result.now (length c.args.names.now) c.loop-reference.reference-index none
-    (subst (AreOfKept c.args.names.now) (sym c.as_slice-reference-items.ensures) c.requires) c.loop-reference-test.true))
+    (subst (AreOfKept c.args.names.now) (sym c.as_slice-reference-items.ensures) c.requires)
+    c.loop-reference-test.true))

@@ -6,7 +6,8 @@ use Rattle.cw_phase1.specs.LinePlaces.{offset}
 use Rattle.cw_phase1.specs.Places.{holds_changed}
 use Rattle.cw_phase1.proofs.PlaceLaws.{changed-skip, changed-behind, changed-hit, changed-plain, changed-before}
 use Rattle.cw_phase1.proofs.places.holds_changed.Goals as goal
-use Rattle.cw_phase1.proofs.places.holds_changed.Goals.{else-line-via-then-line+else-start-line, else-line-via-else-line}
+use Rattle.cw_phase1.proofs.places.holds_changed.Goals.{else-line-via-then-line+else-start-line}
+use Rattle.cw_phase1.proofs.places.holds_changed.Goals.{else-line-via-else-line}
 
 abbrev blank : MergedLine
 blank = record { text = []; place = nowhere; changed = false }
@@ -20,7 +21,8 @@ loop-i-init c =
       within = omega arith;
       rest =
           ap (λ n. holds_changed (drop i lines) n c.args.start c.args.«end») (sym (zero-add (offset lines i))) ∙
-          sym (changed-skip lines 0 i c.args.start c.args.«end» (omega arith) (let begins : offset lines i ≤ c.args.start = c.line_at-i.ensures.begins in omega arith));
+          sym (changed-skip lines 0 i c.args.start c.args.«end» (omega arith) (let begins : offset lines i
+          ≤ c.args.start = c.line_at-i.ensures.begins in omega arith));
     }
 
 pub returns-then-line-end : goal.returns-then-line-end
@@ -29,16 +31,21 @@ returns-then-line-end c =
     let i = c.loop-i.i in
     sym (sym c.loop-i.invariant.rest ∙
     changed-behind (drop i lines) (offset lines i) c.args.start c.args.«end»
-    (let start : c.line_of-line.result.start ≡ offset lines i = c.line_of-line.ensures.start in let past : c.args.«end» ≤ c.line_of-line.result.start = c.if-line-end.true in omega arith))
+    (let start : c.line_of-line.result.start ≡ offset lines i = c.line_of-line.ensures.start in let past : c.args.«end»
+    ≤ c.line_of-line.result.start = c.if-line-end.true in omega arith))
 
 pub returns-then-start-line : goal.returns-then-start-line
 returns-then-start-line c =
     let lines = c.args.web.now.lines in
     let i = c.loop-i.i in
     sym (sym c.loop-i.invariant.rest ∙
-    changed-hit lines i c.args.start c.args.«end» blank (let count : c.line_count-in-loop-i.result ≡ length lines = c.line_count-in-loop-i.ensures in let inside : i < c.line_count-in-loop-i.result = c.loop-i-test.true in omega arith) (sym (c.line_of-line.ensures.changed blank) ∙ c.if-line.true)
-    (let start : c.line_of-line.result.start ≡ offset lines i = c.line_of-line.ensures.start in let before : c.line_of-line.result.start < c.args.«end» = c.if-line-end.false in omega arith)
-    (let ends : c.line_of-line.result.«end» ≡ offset lines i + length (get_or lines i blank).text = c.line_of-line.ensures.ends blank in
+    changed-hit lines i c.args.start c.args.«end» blank (let count : c.line_count-in-loop-i.result
+    ≡ length lines = c.line_count-in-loop-i.ensures in let inside : i < c.line_count-in-loop-i.result =
+    c.loop-i-test.true in omega arith) (sym (c.line_of-line.ensures.changed blank) ∙ c.if-line.true)
+    (let start : c.line_of-line.result.start ≡ offset lines i = c.line_of-line.ensures.start in
+    let before : c.line_of-line.result.start < c.args.«end» = c.if-line-end.false in omega arith)
+    (let ends : c.line_of-line.result.«end» ≡ offset lines i
+    + length (get_or lines i blank).text = c.line_of-line.ensures.ends blank in
     let reaches : c.args.start ≤ c.line_of-line.result.«end» = c.if-start-line.true in omega arith))
 
 pub loop-i-preserved : goal.loop-i-preserved
@@ -53,9 +60,12 @@ loop-i-preserved c =
       rest = elim c.else-line.branch [
         | else-line-via-then-line+else-start-line w ↦
             sym (changed-before lines i c.args.start c.args.«end» blank inside
-            (let ends : c.line_of-line.result.«end» ≡ offset lines i + length (get_or lines i blank).text = c.line_of-line.ensures.ends blank in
-            let before : c.line_of-line.result.«end» < c.args.start = w.if-start-line.false in omega arith)) ∙ c.loop-i.invariant.rest
+            (let ends : c.line_of-line.result.«end»
+            ≡ offset lines i + length (get_or lines i blank).text = c.line_of-line.ensures.ends blank in
+            let before : c.line_of-line.result.«end» < c.args.start = w.if-start-line.false in omega arith))
+            ∙ c.loop-i.invariant.rest
         | else-line-via-else-line w ↦
-            sym (changed-plain lines i c.args.start c.args.«end» blank inside (sym (c.line_of-line.ensures.changed blank) ∙ w.if-line.false)) ∙ c.loop-i.invariant.rest
+            sym (changed-plain lines i c.args.start c.args.«end» blank inside
+            (sym (c.line_of-line.ensures.changed blank) ∙ w.if-line.false)) ∙ c.loop-i.invariant.rest
       ];
     }

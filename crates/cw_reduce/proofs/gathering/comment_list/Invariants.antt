@@ -6,4 +6,5 @@ use Rattle.cw_reduce.proofs.GatherLines.{parts_from}
 use Rattle.cw_reduce.proofs.gathering.comment_list.Given as goal
 
 abbrev pub invariant-loop-part : goal.invariant-loop-part
-invariant-loop-part l = Builds l.fn.store.lists (comment_tokens l.number l.parts) (parts_from l.part-index l.parts) l.store × (length l.parts + 2 ≤ l.store.spare + l.part-index)
+invariant-loop-part l = Builds l.fn.store.lists (comment_tokens l.number l.parts) (parts_from l.part-index l.parts)
+    l.store × (length l.parts + 2 ≤ l.store.spare + l.part-index)

@@ -4,4 +4,5 @@ use Rattle.cw_reduce.proofs.GatherSteps.{may-behind-dollar}
 use Rattle.cw_reduce.proofs.gathering.push_in_text.Goals as goal
 
 pub push-requires-clause-reference : goal.push-requires-clause-reference
-push-requires-clause-reference c = may-behind-dollar c.args.store.now c.push_dollar.new.store c.args.part.left (ListOf c.args.part.list) c.push_dollar.ensures.building c.push_dollar.ensures.lists c.requires.reference
+push-requires-clause-reference c = may-behind-dollar c.args.store.now c.push_dollar.new.store c.args.part.left
+    (ListOf c.args.part.list) c.push_dollar.ensures.building c.push_dollar.ensures.lists c.requires.reference

@@ -3,4 +3,5 @@ use Rattle.std.specs.Prelude.{◌≡◌, ◌+◌, ◌++◌, take, option_map}
 use Rattle.cw_reduce.proofs.heads.push_words.Given as goal
 
 abbrev pub invariant-loop-word : goal.invariant-loop-word
-invariant-loop-word l = (l.store.building ≡ option_map (λ tokens. tokens ++ take l.word-index l.words) l.fn.store.building) × (l.store.lists ≡ l.fn.store.lists) × (l.store.spare + l.word-index ≡ l.fn.store.spare)
+invariant-loop-word l = (l.store.building ≡ option_map (λ tokens. tokens ++ take l.word-index l.words)
+    l.fn.store.building) × (l.store.lists ≡ l.fn.store.lists) × (l.store.spare + l.word-index ≡ l.fn.store.spare)

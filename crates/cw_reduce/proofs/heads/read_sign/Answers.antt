@@ -10,42 +10,85 @@ use Rattle.cw_reduce.proofs.heads.read_sign.Goals as goal
 
 pub returns-in_default : goal.returns-in_default
 returns-in_default c =
-    let s = unsigned-signs c.args.name c.args.lexer.now c.next_answer-next.new.lexer c.next_answer-next.result c.unsigned.result c.unsigned.ensures.head c.unsigned.ensures.name c.unsigned.ensures.next c.next_answer-next.ensures c.requires.nested c.requires.start
-    (unsigned-other (seen c.args.name) c.args.lexer.now c.next_answer-next.new.lexer c.next_answer-next.result c.next_answer-next.ensures c.in_default.not-Token) in
+    let s = unsigned-signs c.args.name c.args.lexer.now c.next_answer-next.new.lexer c.next_answer-next.result
+    c.unsigned.result c.unsigned.ensures.head c.unsigned.ensures.name c.unsigned.ensures.next
+    c.next_answer-next.ensures c.requires.nested c.requires.start
+    (unsigned-other (seen c.args.name) c.args.lexer.now c.next_answer-next.new.lexer c.next_answer-next.result
+    c.next_answer-next.ensures c.in_default.not-Token) in
     record { head = s.head; line = s.line; rest = s.rest_is; nested = s.nested; start = s.starts }
 
 pub returns-then-not-is_head_sign-clause-head : goal.returns-then-not-is_head_sign-clause-head
-returns-then-not-is_head_sign-clause-head c = (unsigned-signs c.args.name c.args.lexer.now c.next_answer-next.new.lexer c.next_answer-next.result c.unsigned-then-not-is_head_sign.result c.unsigned-then-not-is_head_sign.ensures.head c.unsigned-then-not-is_head_sign.ensures.name c.unsigned-then-not-is_head_sign.ensures.next c.next_answer-next.ensures c.requires.nested c.requires.start
-    (unsigned-token c.args.lexer.now c.next_answer-next.new.lexer c.in-Token.sign c.in-Token.ensures (nested-behind (seen c.args.name) c.args.lexer.now c.requires.nested) (seen c.args.name) (sym c.is_head_sign.ensures ∙ c.if-not-is_head_sign.true))).head
+returns-then-not-is_head_sign-clause-head c = (unsigned-signs c.args.name c.args.lexer.now c.next_answer-next.new.lexer
+    c.next_answer-next.result c.unsigned-then-not-is_head_sign.result c.unsigned-then-not-is_head_sign.ensures.head
+    c.unsigned-then-not-is_head_sign.ensures.name c.unsigned-then-not-is_head_sign.ensures.next
+    c.next_answer-next.ensures c.requires.nested c.requires.start
+    (unsigned-token c.args.lexer.now c.next_answer-next.new.lexer c.in-Token.sign c.in-Token.ensures
+    (nested-behind (seen c.args.name) c.args.lexer.now c.requires.nested) (seen c.args.name)
+    (sym c.is_head_sign.ensures ∙ c.if-not-is_head_sign.true))).head
 
 pub returns-then-not-is_head_sign-clause-rest : goal.returns-then-not-is_head_sign-clause-rest
-returns-then-not-is_head_sign-clause-rest c = (unsigned-signs c.args.name c.args.lexer.now c.next_answer-next.new.lexer c.next_answer-next.result c.unsigned-then-not-is_head_sign.result c.unsigned-then-not-is_head_sign.ensures.head c.unsigned-then-not-is_head_sign.ensures.name c.unsigned-then-not-is_head_sign.ensures.next c.next_answer-next.ensures c.requires.nested c.requires.start
-    (unsigned-token c.args.lexer.now c.next_answer-next.new.lexer c.in-Token.sign c.in-Token.ensures (nested-behind (seen c.args.name) c.args.lexer.now c.requires.nested) (seen c.args.name) (sym c.is_head_sign.ensures ∙ c.if-not-is_head_sign.true))).rest_is
+returns-then-not-is_head_sign-clause-rest c = (unsigned-signs c.args.name c.args.lexer.now c.next_answer-next.new.lexer
+    c.next_answer-next.result c.unsigned-then-not-is_head_sign.result c.unsigned-then-not-is_head_sign.ensures.head
+    c.unsigned-then-not-is_head_sign.ensures.name c.unsigned-then-not-is_head_sign.ensures.next
+    c.next_answer-next.ensures c.requires.nested c.requires.start
+    (unsigned-token c.args.lexer.now c.next_answer-next.new.lexer c.in-Token.sign c.in-Token.ensures
+    (nested-behind (seen c.args.name) c.args.lexer.now c.requires.nested) (seen c.args.name)
+    (sym c.is_head_sign.ensures ∙ c.if-not-is_head_sign.true))).rest_is
 
 pub returns-then-not-is_head_sign-clause-nested : goal.returns-then-not-is_head_sign-clause-nested
-returns-then-not-is_head_sign-clause-nested c = (unsigned-signs c.args.name c.args.lexer.now c.next_answer-next.new.lexer c.next_answer-next.result c.unsigned-then-not-is_head_sign.result c.unsigned-then-not-is_head_sign.ensures.head c.unsigned-then-not-is_head_sign.ensures.name c.unsigned-then-not-is_head_sign.ensures.next c.next_answer-next.ensures c.requires.nested c.requires.start
-    (unsigned-token c.args.lexer.now c.next_answer-next.new.lexer c.in-Token.sign c.in-Token.ensures (nested-behind (seen c.args.name) c.args.lexer.now c.requires.nested) (seen c.args.name) (sym c.is_head_sign.ensures ∙ c.if-not-is_head_sign.true))).nested
+returns-then-not-is_head_sign-clause-nested c = (unsigned-signs c.args.name c.args.lexer.now
+    c.next_answer-next.new.lexer c.next_answer-next.result c.unsigned-then-not-is_head_sign.result
+    c.unsigned-then-not-is_head_sign.ensures.head c.unsigned-then-not-is_head_sign.ensures.name
+    c.unsigned-then-not-is_head_sign.ensures.next c.next_answer-next.ensures c.requires.nested c.requires.start
+    (unsigned-token c.args.lexer.now c.next_answer-next.new.lexer c.in-Token.sign c.in-Token.ensures
+    (nested-behind (seen c.args.name) c.args.lexer.now c.requires.nested) (seen c.args.name)
+    (sym c.is_head_sign.ensures ∙ c.if-not-is_head_sign.true))).nested
 
 pub returns-then-not-is_head_sign-clause-start : goal.returns-then-not-is_head_sign-clause-start
-returns-then-not-is_head_sign-clause-start c = (unsigned-signs c.args.name c.args.lexer.now c.next_answer-next.new.lexer c.next_answer-next.result c.unsigned-then-not-is_head_sign.result c.unsigned-then-not-is_head_sign.ensures.head c.unsigned-then-not-is_head_sign.ensures.name c.unsigned-then-not-is_head_sign.ensures.next c.next_answer-next.ensures c.requires.nested c.requires.start
-    (unsigned-token c.args.lexer.now c.next_answer-next.new.lexer c.in-Token.sign c.in-Token.ensures (nested-behind (seen c.args.name) c.args.lexer.now c.requires.nested) (seen c.args.name) (sym c.is_head_sign.ensures ∙ c.if-not-is_head_sign.true))).starts
+returns-then-not-is_head_sign-clause-start c = (unsigned-signs c.args.name c.args.lexer.now c.next_answer-next.new.lexer
+    c.next_answer-next.result c.unsigned-then-not-is_head_sign.result c.unsigned-then-not-is_head_sign.ensures.head
+    c.unsigned-then-not-is_head_sign.ensures.name c.unsigned-then-not-is_head_sign.ensures.next
+    c.next_answer-next.ensures c.requires.nested c.requires.start
+    (unsigned-token c.args.lexer.now c.next_answer-next.new.lexer c.in-Token.sign c.in-Token.ensures
+    (nested-behind (seen c.args.name) c.args.lexer.now c.requires.nested) (seen c.args.name)
+    (sym c.is_head_sign.ensures ∙ c.if-not-is_head_sign.true))).starts
 
 pub overflow_cast-result-2 : goal.overflow_cast-result-2
 overflow_cast-result-2 c =
-    let h : c.in-Token.sign.span.start < 4294967296 = (subst (StartsBelow (2 ^ 32)) c.in-Token.ensures (starts-notes (2 ^ 32) c.args.lexer.now c.requires.start.1)).0 in
+    let h : c.in-Token.sign.span.start < 4294967296 =
+    (subst (StartsBelow (2 ^ 32)) c.in-Token.ensures
+    (starts-notes (2 ^ 32) c.args.lexer.now c.requires.start.1)).0 in
     first_of (search rules, omega (arith, h))
 
 pub returns-clause-head : goal.returns-clause-head
-returns-clause-head c = ap (λ x. x.head) (signed c.args.lexer.now c.next_answer-next.new.lexer c.in-Token.sign c.in-Token.ensures (nested-behind (seen c.args.name) c.args.lexer.now c.requires.nested) (seen c.args.name) (sym c.is_head_sign.ensures ∙ c.if-not-is_head_sign.false))
+returns-clause-head c = ap (λ x. x.head) (signed c.args.lexer.now c.next_answer-next.new.lexer c.in-Token.sign
+    c.in-Token.ensures (nested-behind (seen c.args.name) c.args.lexer.now c.requires.nested) (seen c.args.name)
+    (sym c.is_head_sign.ensures ∙ c.if-not-is_head_sign.false))
 
 pub returns-clause-rest : goal.returns-clause-rest
 returns-clause-rest c =
-    let sign = signed c.args.lexer.now c.next_answer-next.new.lexer c.in-Token.sign c.in-Token.ensures (nested-behind (seen c.args.name) c.args.lexer.now c.requires.nested) (seen c.args.name) (sym c.is_head_sign.ensures ∙ c.if-not-is_head_sign.false) in
-    let inner = nested-behind (seen c.in-Token.sign) c.next_answer-next.new.lexer (token-nested c.args.lexer.now c.next_answer-next.new.lexer c.in-Token.sign c.in-Token.ensures (nested-behind (seen c.args.name) c.args.lexer.now c.requires.nested)) in
-    (ahead-of c.next_answer-next.new.lexer c.next_answer.new.lexer c.next_answer.result c.next_answer.ensures inner (subst (StartsBelow (2 ^ 32)) c.in-Token.ensures (starts-notes (2 ^ 32) c.args.lexer.now c.requires.start.1)).1).same ∙ ap (λ x. x.rest) (sym sign)
+    let sign = signed c.args.lexer.now c.next_answer-next.new.lexer c.in-Token.sign c.in-Token.ensures
+    (nested-behind (seen c.args.name) c.args.lexer.now c.requires.nested) (seen c.args.name)
+    (sym c.is_head_sign.ensures ∙ c.if-not-is_head_sign.false) in
+    let inner = nested-behind (seen c.in-Token.sign) c.next_answer-next.new.lexer
+    (token-nested c.args.lexer.now c.next_answer-next.new.lexer c.in-Token.sign c.in-Token.ensures
+    (nested-behind (seen c.args.name) c.args.lexer.now c.requires.nested)) in
+    (ahead-of c.next_answer-next.new.lexer c.next_answer.new.lexer c.next_answer.result c.next_answer.ensures inner
+    (subst (StartsBelow (2 ^ 32)) c.in-Token.ensures
+    (starts-notes (2 ^ 32) c.args.lexer.now c.requires.start.1)).1).same ∙ ap (λ x. x.rest) (sym sign)
 
 pub returns-clause-nested : goal.returns-clause-nested
-returns-clause-nested c = (ahead-of c.next_answer-next.new.lexer c.next_answer.new.lexer c.next_answer.result c.next_answer.ensures (nested-behind (seen c.in-Token.sign) c.next_answer-next.new.lexer (token-nested c.args.lexer.now c.next_answer-next.new.lexer c.in-Token.sign c.in-Token.ensures (nested-behind (seen c.args.name) c.args.lexer.now c.requires.nested))) (subst (StartsBelow (2 ^ 32)) c.in-Token.ensures (starts-notes (2 ^ 32) c.args.lexer.now c.requires.start.1)).1).nested
+returns-clause-nested c = (ahead-of c.next_answer-next.new.lexer c.next_answer.new.lexer c.next_answer.result
+    c.next_answer.ensures (nested-behind (seen c.in-Token.sign) c.next_answer-next.new.lexer
+    (token-nested c.args.lexer.now c.next_answer-next.new.lexer c.in-Token.sign c.in-Token.ensures
+    (nested-behind (seen c.args.name) c.args.lexer.now c.requires.nested)))
+    (subst (StartsBelow (2 ^ 32)) c.in-Token.ensures
+    (starts-notes (2 ^ 32) c.args.lexer.now c.requires.start.1)).1).nested
 
 pub returns-clause-start : goal.returns-clause-start
-returns-clause-start c = (ahead-of c.next_answer-next.new.lexer c.next_answer.new.lexer c.next_answer.result c.next_answer.ensures (nested-behind (seen c.in-Token.sign) c.next_answer-next.new.lexer (token-nested c.args.lexer.now c.next_answer-next.new.lexer c.in-Token.sign c.in-Token.ensures (nested-behind (seen c.args.name) c.args.lexer.now c.requires.nested))) (subst (StartsBelow (2 ^ 32)) c.in-Token.ensures (starts-notes (2 ^ 32) c.args.lexer.now c.requires.start.1)).1).starts
+returns-clause-start c = (ahead-of c.next_answer-next.new.lexer c.next_answer.new.lexer c.next_answer.result
+    c.next_answer.ensures (nested-behind (seen c.in-Token.sign) c.next_answer-next.new.lexer
+    (token-nested c.args.lexer.now c.next_answer-next.new.lexer c.in-Token.sign c.in-Token.ensures
+    (nested-behind (seen c.args.name) c.args.lexer.now c.requires.nested)))
+    (subst (StartsBelow (2 ^ 32)) c.in-Token.ensures
+    (starts-notes (2 ^ 32) c.args.lexer.now c.requires.start.1)).1).starts

@@ -4,7 +4,8 @@ use Rattle.cw_reduce.proofs.HeadAnswers.{ReadsWords}
 use Rattle.cw_reduce.proofs.heads.read_words.Given as goal
 
 abbrev pub invariant-loop-word : goal.invariant-loop-word
-invariant-loop-word l = ReadsWords l.initial.wanted l.initial.lexer l.initial.names l.initial.words.items l.wanted l.lexer l.names l.words.items
+invariant-loop-word l = ReadsWords l.initial.wanted l.initial.lexer l.initial.names l.initial.words.items l.wanted
+    l.lexer l.names l.words.items
 
 abbrev pub decreases-loop-word : goal.decreases-loop-word
 decreases-loop-word l = length l.lexer

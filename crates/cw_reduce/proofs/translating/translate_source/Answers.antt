@@ -18,25 +18,67 @@ use Rattle.cw_reduce.proofs.translating.translate_source.Goals as goal
 
 pub returns-clause-text : goal.returns-clause-text
 returns-clause-text g c =
-    IfOk-weaker c.translate_headed.result (λ done. IsTranslated c.args.context.now.flags.now c.translate_headed.new.work.store.now.lists c.translate_headed.new.work.names.now c.translate_headed.new.work.marks.now done c.args.work.now.steps.now c.translate_headed.new.work.steps.now (headed_text c.args.context.now.flags.now (name_texts c.args.context.now.sec_names.now c.args.context.now.uses.now) c.read_head.new.store.lists c.in_ok-begun.begun.head (answers_ahead c.in_ok-begun.begun ++ c.read_head.new.lexer) (begin c.read_head.new.names (marked_names c.args.work.now.marks.now)))) (λ done. IsTranslated c.args.context.now.flags.now c.translate_headed.new.work.store.now.lists c.translate_headed.new.work.names.now c.translate_headed.new.work.marks.now done c.args.work.now.steps.now c.translate_headed.new.work.steps.now (translated c.args.context.now.flags.now (name_texts c.args.context.now.sec_names.now c.args.context.now.uses.now) c.args.source.now c.args.work.now.names.now (marked_names c.args.work.now.marks.now)))
-    (λ done e. subst (λ text. IsTranslated c.args.context.now.flags.now c.translate_headed.new.work.store.now.lists c.translate_headed.new.work.names.now c.translate_headed.new.work.marks.now done c.args.work.now.steps.now c.translate_headed.new.work.steps.now text) (headed-translated c.args.context.now.flags.now (name_texts c.args.context.now.sec_names.now c.args.context.now.uses.now) (texts-nested c.args.context.now.sec_names.now c.args.context.now.uses.now) c.read_head.new.store.lists c.in_ok-begun.begun.head (answers_ahead c.in_ok-begun.begun ++ c.read_head.new.lexer) c.args.source.now c.args.work.now.names.now c.read_head.new.names (marked_names c.args.work.now.marks.now) c.in_ok-begun.ensures.made c.in_ok-begun.ensures.rest) e) c.translate_headed.ensures.text
+    IfOk-weaker c.translate_headed.result (λ done. IsTranslated c.args.context.now.flags.now
+    c.translate_headed.new.work.store.now.lists c.translate_headed.new.work.names.now
+    c.translate_headed.new.work.marks.now done c.args.work.now.steps.now c.translate_headed.new.work.steps.now
+    (headed_text c.args.context.now.flags.now (name_texts c.args.context.now.sec_names.now
+    c.args.context.now.uses.now) c.read_head.new.store.lists c.in_ok-begun.begun.head
+    (answers_ahead c.in_ok-begun.begun ++ c.read_head.new.lexer)
+    (begin c.read_head.new.names (marked_names c.args.work.now.marks.now))))
+    (λ done. IsTranslated c.args.context.now.flags.now c.translate_headed.new.work.store.now.lists
+    c.translate_headed.new.work.names.now c.translate_headed.new.work.marks.now done c.args.work.now.steps.now
+    c.translate_headed.new.work.steps.now (translated c.args.context.now.flags.now
+    (name_texts c.args.context.now.sec_names.now c.args.context.now.uses.now) c.args.source.now
+    c.args.work.now.names.now (marked_names c.args.work.now.marks.now)))
+    (λ done e. subst (λ text. IsTranslated c.args.context.now.flags.now c.translate_headed.new.work.store.now.lists
+    c.translate_headed.new.work.names.now c.translate_headed.new.work.marks.now done c.args.work.now.steps.now
+    c.translate_headed.new.work.steps.now text) (headed-translated c.args.context.now.flags.now
+    (name_texts c.args.context.now.sec_names.now c.args.context.now.uses.now)
+    (texts-nested c.args.context.now.sec_names.now c.args.context.now.uses.now) c.read_head.new.store.lists
+    c.in_ok-begun.begun.head (answers_ahead c.in_ok-begun.begun ++ c.read_head.new.lexer) c.args.source.now
+    c.args.work.now.names.now c.read_head.new.names (marked_names c.args.work.now.marks.now)
+    c.in_ok-begun.ensures.made c.in_ok-begun.ensures.rest) e) c.translate_headed.ensures.text
 
 pub returns-clause-others : goal.returns-clause-others
 returns-clause-others g c =
-    IfOk-weaker c.translate_headed.result (λ done. Keeps c.read_head.new.store.lists c.translate_headed.new.work.store.now.lists (roots_of (head_line c.in_ok-begun.begun.head)) (done.list.index ∷ []))
-    (λ done. Keeps c.args.work.now.store.now.lists c.translate_headed.new.work.store.now.lists [] (done.list.index ∷ []))
-    (λ done k. keeps-trans c.args.work.now.store.now.lists c.read_head.new.store.lists c.translate_headed.new.work.store.now.lists [] (roots_of (head_line c.in_ok-begun.begun.head)) (done.list.index ∷ []) c.in_ok-begun.ensures.keeps k) c.translate_headed.ensures.keeps
+    IfOk-weaker c.translate_headed.result (λ done. Keeps c.read_head.new.store.lists
+    c.translate_headed.new.work.store.now.lists (roots_of (head_line c.in_ok-begun.begun.head))
+    (done.list.index ∷ []))
+    (λ done. Keeps c.args.work.now.store.now.lists c.translate_headed.new.work.store.now.lists []
+    (done.list.index ∷ []))
+    (λ done k. keeps-trans c.args.work.now.store.now.lists c.read_head.new.store.lists
+    c.translate_headed.new.work.store.now.lists [] (roots_of (head_line c.in_ok-begun.begun.head))
+    (done.list.index ∷ []) c.in_ok-begun.ensures.keeps k) c.translate_headed.ensures.keeps
 
 pub returns-clause-bound : goal.returns-clause-bound
 returns-clause-bound g c =
-    subst (λ (text : Ended). c.translate_headed.new.work.steps.now ≤ c.args.work.now.steps.now + limit_in c.args.context.now.flags.now text.known.ended) (headed-translated c.args.context.now.flags.now (name_texts c.args.context.now.sec_names.now c.args.context.now.uses.now) (texts-nested c.args.context.now.sec_names.now c.args.context.now.uses.now) c.read_head.new.store.lists c.in_ok-begun.begun.head (answers_ahead c.in_ok-begun.begun ++ c.read_head.new.lexer) c.args.source.now c.args.work.now.names.now c.read_head.new.names (marked_names c.args.work.now.marks.now) c.in_ok-begun.ensures.made c.in_ok-begun.ensures.rest) c.translate_headed.ensures.bound
+    subst (λ (text : Ended). c.translate_headed.new.work.steps.now ≤ c.args.work.now.steps.now
+    + limit_in c.args.context.now.flags.now text.known.ended) (headed-translated c.args.context.now.flags.now
+    (name_texts c.args.context.now.sec_names.now c.args.context.now.uses.now)
+    (texts-nested c.args.context.now.sec_names.now c.args.context.now.uses.now) c.read_head.new.store.lists
+    c.in_ok-begun.begun.head (answers_ahead c.in_ok-begun.begun ++ c.read_head.new.lexer) c.args.source.now
+    c.args.work.now.names.now c.read_head.new.names (marked_names c.args.work.now.marks.now)
+    c.in_ok-begun.ensures.made c.in_ok-begun.ensures.rest) c.translate_headed.ensures.bound
 
 pub returns-in_err-begun-clause-refused : goal.returns-in_err-begun-clause-refused
-returns-in_err-begun-clause-refused g c = on-err c.from_residual.result (NamesOfText c.args.context.now.flags.now (name_texts c.args.context.now.sec_names.now c.args.context.now.uses.now) c.args.source.now c.args.work.now.names.now (marked_names c.args.work.now.marks.now) c.read_head.new.names)
+returns-in_err-begun-clause-refused g c = on-err c.from_residual.result
+    (NamesOfText c.args.context.now.flags.now (name_texts c.args.context.now.sec_names.now c.args.context.now.uses.now)
+    c.args.source.now c.args.work.now.names.now (marked_names c.args.work.now.marks.now) c.read_head.new.names)
     (in_head c.in_err-begun.ensures.no_names)
 
 pub returns-clause-refused : goal.returns-clause-refused
 returns-clause-refused g c =
-    on-err-weaker c.translate_headed.result (NamesOfHeaded c.args.context.now.flags.now (name_texts c.args.context.now.sec_names.now c.args.context.now.uses.now) c.in_ok-begun.begun.head (answers_ahead c.in_ok-begun.begun ++ c.read_head.new.lexer) (head_begun c.read_head.new.store.lists c.in_ok-begun.begun.head (begin c.read_head.new.names (marked_names c.args.work.now.marks.now))) c.translate_headed.new.work.names.now)
-    (NamesOfText c.args.context.now.flags.now (name_texts c.args.context.now.sec_names.now c.args.context.now.uses.now) c.args.source.now c.args.work.now.names.now (marked_names c.args.work.now.marks.now) c.translate_headed.new.work.names.now)
-    (λ h. behind_head c.read_head.new.store.lists c.in_ok-begun.begun.head (answers_ahead c.in_ok-begun.begun ++ c.read_head.new.lexer) c.read_head.new.names c.in_ok-begun.ensures.rest (c.in_ok-begun.ensures.made c.args.context.now.flags.now (name_texts c.args.context.now.sec_names.now c.args.context.now.uses.now) (begin c.args.work.now.names.now (marked_names c.args.work.now.marks.now))) h) c.translate_headed.ensures.refused
+    on-err-weaker c.translate_headed.result (NamesOfHeaded c.args.context.now.flags.now
+    (name_texts c.args.context.now.sec_names.now c.args.context.now.uses.now) c.in_ok-begun.begun.head
+    (answers_ahead c.in_ok-begun.begun ++ c.read_head.new.lexer)
+    (head_begun c.read_head.new.store.lists c.in_ok-begun.begun.head
+    (begin c.read_head.new.names (marked_names c.args.work.now.marks.now))) c.translate_headed.new.work.names.now)
+    (NamesOfText c.args.context.now.flags.now (name_texts c.args.context.now.sec_names.now c.args.context.now.uses.now)
+    c.args.source.now c.args.work.now.names.now (marked_names c.args.work.now.marks.now)
+    c.translate_headed.new.work.names.now)
+    (λ h. behind_head c.read_head.new.store.lists c.in_ok-begun.begun.head (answers_ahead c.in_ok-begun.begun
+    ++ c.read_head.new.lexer) c.read_head.new.names c.in_ok-begun.ensures.rest
+    (c.in_ok-begun.ensures.made c.args.context.now.flags.now
+    (name_texts c.args.context.now.sec_names.now c.args.context.now.uses.now)
+    (begin c.args.work.now.names.now (marked_names c.args.work.now.marks.now))) h)
+    c.translate_headed.ensures.refused

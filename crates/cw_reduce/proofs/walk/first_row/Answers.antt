@@ -7,9 +7,18 @@ use Rattle.cw_reduce.proofs.walk.first_row.Goals as goal
 pub returns-then-may_fit-clause-first : goal.returns-then-may_fit-clause-first
 returns-then-may_fit-clause-first g c =
     let zero : c.args.place + 0 ≡ c.args.place = omega arith in
-    first-line c.args.line.now c.args.place _ _ (rw ((rw zero at c.cat_behind-first.ensures.cat), c.cat_behind-second.ensures.cat, c.cat_behind-third.ensures.cat, c.cat_behind-fourth.ensures.cat) (window-line c.args.line.now c.args.place)) c.first_of_four.ensures.first c.first_of_four.ensures.from_one c.first_of_four.ensures.to_last
+    first-line c.args.line.now c.args.place _ _ (rw (
+      (rw zero at c.cat_behind-first.ensures.cat),
+      c.cat_behind-second.ensures.cat,
+      c.cat_behind-third.ensures.cat,
+      c.cat_behind-fourth.ensures.cat,
+    )
+    (window-line c.args.line.now c.args.place)) c.first_of_four.ensures.first c.first_of_four.ensures.from_one
+    c.first_of_four.ensures.to_last
 
 pub returns-clause-first : goal.returns-clause-first
 returns-clause-first g c =
     let zero : c.args.place + 0 ≡ c.args.place = omega arith in
-    none-line c.args.line.now c.args.place c.cat_behind-first.result c.cat_behind-second.result (rw zero at c.cat_behind-first.ensures.cat) c.cat_behind-second.ensures.cat (c.may_fit.ensures.none c.if-may_fit.false)
+    none-line c.args.line.now c.args.place c.cat_behind-first.result c.cat_behind-second.result
+    (rw zero at c.cat_behind-first.ensures.cat) c.cat_behind-second.ensures.cat
+    (c.may_fit.ensures.none c.if-may_fit.false)

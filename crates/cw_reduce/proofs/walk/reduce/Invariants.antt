@@ -5,7 +5,8 @@ use Rattle.cw_reduce.proofs.WalkLoop.{InLoop}
 use Rattle.cw_reduce.proofs.walk.reduce.Given as goal
 
 abbrev pub invariant-loop-place : goal.invariant-loop-place
-invariant-loop-place g l = InLoop l.flags l.initial.line l.initial.store l.initial.names l.initial.marks l.initial.steps l.line l.store l.names l.marks l.steps l.place l.productions
+invariant-loop-place g l = InLoop l.flags l.initial.line l.initial.store l.initial.names l.initial.marks l.initial.steps
+    l.line l.store l.names l.marks l.steps l.place l.productions
 
 abbrev pub decreases-loop-place : goal.decreases-loop-place
 decreases-loop-place g l = walk_left l.place (state_of l.store.lists l.line l.marks l.names)

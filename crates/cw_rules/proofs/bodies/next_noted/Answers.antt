@@ -26,5 +26,6 @@ loop-place-preserved c =
     record {
       within = behind.within;
       braces = behind.braces;
-      value = behind.notes ∙ sym (noted-at c.args.text.now c.loop-place.i c.step-next.result None goes here next) ∙ c.loop-place.invariant.value;
+      value = behind.notes ∙ sym (noted-at c.args.text.now c.loop-place.i c.step-next.result None goes here next)
+          ∙ c.loop-place.invariant.value;
     }

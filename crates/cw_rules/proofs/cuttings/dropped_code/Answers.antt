@@ -7,4 +7,5 @@ use Rattle.cw_rules.proofs.cuttings.dropped_code.Goals as goal
 pub returns-clause-same : goal.returns-clause-same
 returns-clause-same c =
     ap (cut_of c.args.text.now) c.dropped.ensures
-    ∙ dropped-cut c.args.text.now c.control_or_plain.result c.args.note c.args.at _ c.control_or_plain.ensures.first c.control_or_plain.ensures.same
+    ∙ dropped-cut c.args.text.now c.control_or_plain.result c.args.note c.args.at _ c.control_or_plain.ensures.first
+    c.control_or_plain.ensures.same

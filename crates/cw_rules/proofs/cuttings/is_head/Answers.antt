@@ -9,4 +9,5 @@ use Rattle.cw_rules.proofs.cuttings.is_head.Goals as goal
 pub returns : goal.returns
 returns c =
     c.is_head_from.ensures
-    ∙ ap (λ bs. is_head_by (extent (at_start SectionName (c.args.at + 2)) bs) bs) (sym (drop-two c.args.text.now c.args.at))
+    ∙ ap (λ bs. is_head_by (extent (at_start SectionName (c.args.at + 2)) bs) bs)
+    (sym (drop-two c.args.text.now c.args.at))

@@ -8,7 +8,9 @@ use Rattle.cw_tokens.proofs.trim.keep_from_back.Goals.{then-not-drops_last, else
 pub loop-i-preserved : goal.loop-i-preserved
 loop-i-preserved c = rw c.already_ends-ends.ensures (elim c.if-not-drops_last.branch [
   | then-not-drops_last w ↦
-      rw w.items-is (rw w.kept-is (back-kept c.args.items.now c.loop-i.items c.loop-i.i c.loop-i.kept c.loop-i.ends (Source 0) (omega arith) c.loop-i.invariant (sym c.drops_last.ensures ∙ w.if-not-drops_last.true)))
+      rw w.items-is (rw w.kept-is (back-kept c.args.items.now c.loop-i.items c.loop-i.i c.loop-i.kept c.loop-i.ends
+      (Source 0) (omega arith) c.loop-i.invariant (sym c.drops_last.ensures ∙ w.if-not-drops_last.true)))
   | else-not-drops_last w ↦
-      rw w.items-is (rw w.kept-is (back-dropped c.args.items.now c.loop-i.items c.loop-i.i c.loop-i.kept c.loop-i.ends (Source 0) (omega arith) c.loop-i.invariant (sym c.drops_last.ensures ∙ w.if-not-drops_last.false)))
+      rw w.items-is (rw w.kept-is (back-dropped c.args.items.now c.loop-i.items c.loop-i.i c.loop-i.kept c.loop-i.ends
+      (Source 0) (omega arith) c.loop-i.invariant (sym c.drops_last.ensures ∙ w.if-not-drops_last.false)))
 ])

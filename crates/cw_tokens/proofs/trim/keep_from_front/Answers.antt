@@ -8,7 +8,12 @@ use Rattle.cw_tokens.proofs.trim.keep_from_front.Goals.{then-not-drops, else-not
 pub loop-i-preserved : goal.loop-i-preserved
 loop-i-preserved c = elim c.if-not-drops.branch [
   | then-not-drops w ↦
-      rw w.items-is (rw w.kept-is (rw w.begins-is (rw w.still_begins-begins.ensures (front-kept c.args.items.now c.loop-i.items c.loop-i.i c.loop-i.kept c.loop-i.begins (Source 0) (omega arith) c.loop-i.invariant (sym c.drops.ensures ∙ w.if-not-drops.true)))))
+      rw w.items-is
+      (rw w.kept-is (rw w.begins-is (rw w.still_begins-begins.ensures
+      (front-kept c.args.items.now c.loop-i.items c.loop-i.i c.loop-i.kept c.loop-i.begins (Source 0) (omega arith)
+      c.loop-i.invariant (sym c.drops.ensures ∙ w.if-not-drops.true)))))
   | else-not-drops w ↦
-      rw w.items-is (rw w.kept-is (rw w.begins-is (front-dropped c.args.items.now c.loop-i.items c.loop-i.i c.loop-i.kept c.loop-i.begins (Source 0) (omega arith) c.loop-i.invariant (sym c.drops.ensures ∙ w.if-not-drops.false))))
+      rw w.items-is
+      (rw w.kept-is (rw w.begins-is (front-dropped c.args.items.now c.loop-i.items c.loop-i.i c.loop-i.kept
+      c.loop-i.begins (Source 0) (omega arith) c.loop-i.invariant (sym c.drops.ensures ∙ w.if-not-drops.false))))
 ]

@@ -11,7 +11,9 @@ loop-i-init c = unbroken-start c.args.items.now c.args.gap
 pub loop-i-preserved : goal.loop-i-preserved
 loop-i-preserved c = elim c.if-not-breaks.branch [
   | then-not-breaks w ↦
-      rw w.items-is (rw w.kept-is (unbroken-kept c.args.items.now c.loop-i.items c.args.gap c.loop-i.i c.loop-i.kept (Source 0) (omega arith) c.loop-i.invariant (sym c.breaks.ensures ∙ w.if-not-breaks.true)))
+      rw w.items-is (rw w.kept-is (unbroken-kept c.args.items.now c.loop-i.items c.args.gap c.loop-i.i c.loop-i.kept
+      (Source 0) (omega arith) c.loop-i.invariant (sym c.breaks.ensures ∙ w.if-not-breaks.true)))
   | else-not-breaks w ↦
-      rw w.items-is (rw w.kept-is (unbroken-dropped c.args.items.now c.loop-i.items c.args.gap c.loop-i.i c.loop-i.kept (Source 0) (omega arith) c.loop-i.invariant (sym c.breaks.ensures ∙ w.if-not-breaks.false)))
+      rw w.items-is (rw w.kept-is (unbroken-dropped c.args.items.now c.loop-i.items c.args.gap c.loop-i.i c.loop-i.kept
+      (Source 0) (omega arith) c.loop-i.invariant (sym c.breaks.ensures ∙ w.if-not-breaks.false)))
 ]

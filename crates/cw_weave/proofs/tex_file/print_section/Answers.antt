@@ -21,7 +21,8 @@ copy_tex-requires g c = record {
 
 pub returns-in_err-begun : goal.returns-in_err-begun
 returns-in_err-begun g c = λ s there.
-    section-stopped (text_in c.args.source) (flags_in c.args.source) c.args.section s (c.in_err-begun.ensures s there) c.from_residual.ensures.1
+    section-stopped (text_in c.args.source) (flags_in c.args.source) c.args.section s (c.in_err-begun.ensures s there)
+    c.from_residual.ensures.1
 
 pub weave_section-requires : goal.weave_section-requires
 weave_section-requires g c =
@@ -34,7 +35,8 @@ weave_section-requires g c =
       first = c.requires.first;
       last = subst (λ (l : Lasting). c.args.section ≤ length l.outline.sections) (sym begun.same) c.requires.last;
       kept = subst (λ (l : Lasting). AreNamesOf l.sec_names l.name_uses) (sym begun.same) c.requires.printable.kept;
-      whole = λ s there. (all-at (IsWholeSection (text_in c.args.source)) sections (c.args.section - 1) c.requires.printable.whole
+      whole = λ s there. (all-at (IsWholeSection (text_in c.args.source)) sections (c.args.section - 1)
+          c.requires.printable.whole
           (subst (λ (l : Lasting). slice_get l.outline.sections (c.args.section - 1) ≡ Some s) begun.same there)).rest;
     }
 
@@ -42,17 +44,20 @@ pub returns-in_err-rest : goal.returns-in_err-rest
 returns-in_err-rest g c = λ s there.
     let begun = c.in_ok-begun.ensures s there in
     section-refused (text_in c.args.source) (flags_in c.args.source) c.args.section s begun
-    (c.in_err-rest.ensures s (subst (λ (l : Lasting). slice_get l.outline.sections (c.args.section - 1) ≡ Some s) (sym begun.same) there)) c.from_residual-in_err-rest.ensures.1
+    (c.in_err-rest.ensures s (subst (λ (l : Lasting). slice_get l.outline.sections (c.args.section - 1)
+    ≡ Some s) (sym begun.same) there)) c.from_residual-in_err-rest.ensures.1
 
 pub returns-in_err-plus : goal.returns-in_err-plus
 returns-in_err-plus g c = λ s there.
     let begun = c.in_ok-begun.ensures s there in
     section-wanting (text_in c.args.source) (flags_in c.args.source) c.args.section s begun
-    (c.in_ok-rest.ensures s (subst (λ (l : Lasting). slice_get l.outline.sections (c.args.section - 1) ≡ Some s) (sym begun.same) there)) c.from_residual-in_err-plus.ensures.1
+    (c.in_ok-rest.ensures s (subst (λ (l : Lasting). slice_get l.outline.sections (c.args.section - 1) ≡ Some s)
+    (sym begun.same) there)) c.from_residual-in_err-plus.ensures.1
 
 pub returns : goal.returns
 returns g c = λ s there.
     let begun = c.in_ok-begun.ensures s there in
     section-printed (text_in c.args.source) (flags_in c.args.source) c.args.section s begun
-    (c.in_ok-rest.ensures s (subst (λ (l : Lasting). slice_get l.outline.sections (c.args.section - 1) ≡ Some s) (sym begun.same) there))
+    (c.in_ok-rest.ensures s (subst (λ (l : Lasting). slice_get l.outline.sections (c.args.section - 1) ≡ Some s)
+    (sym begun.same) there))
     (record { scraps = c.in_ok-plus.ensures.scraps; productions = c.in_ok-plus.ensures.productions })

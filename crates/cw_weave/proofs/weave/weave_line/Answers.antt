@@ -24,10 +24,13 @@ returns-in-Err-NoWeb-clause-runs g c = λ files is.
     ap (λ (word : List ℕ). merged (get files) word c.args.line.now.change) (sym c.as_slice.ensures) ∙
     ap (λ (change : Option (List ℕ)). merged (get files) c.as_slice.result.now change) (sym c.change_word.ensures)
     ∙ (rw c.in-Err-NoWeb.field-0-is at (c.in-Err-NoWeb.ensures.loads files is)) in
-    runs-after {b = g.D.Desk.told c.load.new.desk} c.in-Err-NoWeb.ensures.same (rw missing (runs-known (ap (λ (word : List ℕ). stopped (no_web_text word)) c.as_slice-in-Err-NoWeb.ensures) c.stop_without_web.ensures))
+    runs-after {b = g.D.Desk.told c.load.new.desk} c.in-Err-NoWeb.ensures.same
+    (rw missing (runs-known (ap (λ (word : List ℕ). stopped (no_web_text word)) c.as_slice-in-Err-NoWeb.ensures)
+    c.stop_without_web.ensures))
 
 pub returns-in-Err-NoWeb-clause-real : goal.returns-in-Err-NoWeb-clause-real
-returns-in-Err-NoWeb-clause-real g c = ok-real c.stop_without_web.result Errors (λ e. cc) c.stop_without_web.ensures.exit
+returns-in-Err-NoWeb-clause-real g c = ok-real c.stop_without_web.result Errors (λ e. cc)
+    c.stop_without_web.ensures.exit
 
 pub returns-in-Err-NoChange-clause-runs : goal.returns-in-Err-NoChange-clause-runs
 returns-in-Err-NoChange-clause-runs g c = λ files is.
@@ -35,19 +38,25 @@ returns-in-Err-NoChange-clause-runs g c = λ files is.
     ap (λ (word : List ℕ). merged (get files) word c.args.line.now.change) (sym c.as_slice.ensures) ∙
     ap (λ (change : Option (List ℕ)). merged (get files) c.as_slice.result.now change) (sym c.change_word.ensures)
     ∙ (rw c.in-Err-NoChange.field-0-is at (c.in-Err-NoChange.ensures.loads files is)) in
-    runs-after {b = g.D.Desk.told c.load.new.desk} c.in-Err-NoChange.ensures.same (rw missing (runs-known (ap (λ (word : List ℕ). stopped (no_change_text word)) c.change_text.ensures) c.stop_without_change.ensures))
+    runs-after {b = g.D.Desk.told c.load.new.desk} c.in-Err-NoChange.ensures.same
+    (rw missing (runs-known (ap (λ (word : List ℕ). stopped (no_change_text word)) c.change_text.ensures)
+    c.stop_without_change.ensures))
 
 pub returns-in-Err-NoChange-clause-real : goal.returns-in-Err-NoChange-clause-real
-returns-in-Err-NoChange-clause-real g c = ok-real c.stop_without_change.result Errors (λ e. cc) c.stop_without_change.ensures.exit
+returns-in-Err-NoChange-clause-real g c = ok-real c.stop_without_change.result Errors (λ e. cc)
+    c.stop_without_change.ensures.exit
 
 pub returns-in-Ok-clause-faults : goal.returns-in-Ok-clause-faults
 returns-in-Ok-clause-faults g c = faults-then c.in-Ok.ensures.same.faults_kept c.weave_web.ensures.runs.emits.faults
 
 pub returns-in-Err-NoWeb-clause-faults : goal.returns-in-Err-NoWeb-clause-faults
-returns-in-Err-NoWeb-clause-faults g c = faults-then c.in-Err-NoWeb.ensures.same.faults_kept (emits-faults c.stop_without_web.ensures.emits)
+returns-in-Err-NoWeb-clause-faults g c = faults-then c.in-Err-NoWeb.ensures.same.faults_kept
+    (emits-faults c.stop_without_web.ensures.emits)
 
 pub returns-in-Err-NoChange-clause-faults : goal.returns-in-Err-NoChange-clause-faults
-returns-in-Err-NoChange-clause-faults g c = faults-then c.in-Err-NoChange.ensures.same.faults_kept (emits-faults c.stop_without_change.ensures.emits)
+returns-in-Err-NoChange-clause-faults g c = faults-then c.in-Err-NoChange.ensures.same.faults_kept
+    (emits-faults c.stop_without_change.ensures.emits)
 
 pub returns-in-Err-TooLong-clause-faults : goal.returns-in-Err-TooLong-clause-faults
-returns-in-Err-TooLong-clause-faults g c = faults-then c.in-Err-TooLong.ensures.same.faults_kept (emits-faults c.stop.ensures.emits)
+returns-in-Err-TooLong-clause-faults g c = faults-then c.in-Err-TooLong.ensures.same.faults_kept
+    (emits-faults c.stop.ensures.emits)

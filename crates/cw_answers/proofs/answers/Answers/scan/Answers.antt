@@ -8,7 +8,8 @@ use Rattle.cw_answers.proofs.answers.Answers.scan.Goals as goal
 
 pub loop-token-init : goal.loop-token-init
 loop-token-init c =
-    subst (λ l. Keeping c.args.text.now c.args.text.now c.over-lexer.result l c.over-lexer.result) (sym c.clear.ensures.items)
+    subst (λ l. Keeping c.args.text.now c.args.text.now c.over-lexer.result l c.over-lexer.result)
+    (sym c.clear.ensures.items)
     (begin c.args.text.now c.args.text.now c.args.span.start c.args.span.end c.over-lexer.result refl c.requires.within
     c.over-lexer.ensures.covers c.over-lexer.ensures.within)
 
@@ -25,10 +26,12 @@ loop-token-preserved c =
       | in-Begin w ↦ step (Begin (seen w.in-Begin.token)) c.loop-token.lexer c.next.new.self c.in_ok-push.ensures.items
           w.in-Begin.ensures (ap (answer_at text) w.kept-is ∙ ap Begin w.of-in-Begin.ensures.same)
           (subst (IsWithin (length text)) (sym w.kept-is) w.of-in-Begin.ensures.within) c.loop-token.invariant
-      | in-Finish w ↦ step (Finish (seen w.in-Finish.token)) c.loop-token.lexer c.next.new.self c.in_ok-push.ensures.items
+      | in-Finish w ↦ step (Finish (seen w.in-Finish.token)) c.loop-token.lexer c.next.new.self
+          c.in_ok-push.ensures.items
           w.in-Finish.ensures (ap (answer_at text) w.kept-is ∙ ap Finish w.of-in-Finish.ensures.same)
           (subst (IsWithin (length text)) (sym w.kept-is) w.of-in-Finish.ensures.within) c.loop-token.invariant
-      | in-Note+in_ok-of-in-Note w ↦ step (Note w.in-Note.kind w.in-Note.place) c.loop-token.lexer c.next.new.self c.in_ok-push.ensures.items
+      | in-Note+in_ok-of-in-Note w ↦ step (Note w.in-Note.kind w.in-Note.place) c.loop-token.lexer c.next.new.self
+          c.in_ok-push.ensures.items
           w.in-Note.ensures
           (ap (answer_at text) w.kept-is
           ∙ (λ i. Note (w.in_ok-of-in-Note.ensures.0 i) (w.in_ok-of-in-Note.ensures.1 i)))

@@ -6,7 +6,8 @@ use Rattle.cw_lex.proofs.comments.Comments.push.Goals as goal
 
 pub returns : goal.returns
 returns c =
-    let count : c.self.inside.count ≡ length c.args.self.now = sym (innermost-length c.self.inside.rows c.self.inside.count) ∙ ap length c.self.view_is in
+    let count : c.self.inside.count ≡ length c.args.self.now =
+    sym (innermost-length c.self.inside.rows c.self.inside.count) ∙ ap length c.self.view_is in
     ap (innermost _) (add-one c.self.inside.count)
     ∙ ap (λ rows. innermost rows (suc c.self.inside.count)) c.put.ensures
     ∙ innermost-push c.self.inside.rows c.self.inside.count c.args.comment c.self.invariant.1 (omega (arith, count))

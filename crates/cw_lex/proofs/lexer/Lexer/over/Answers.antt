@@ -9,9 +9,11 @@ use Rattle.cw_lex.proofs.lexer.Lexer.over.Goals as goal
 pub returns-clause-covers : goal.returns-clause-covers
 returns-clause-covers c =
     let P : List Answer → Type 0 = Covers c.args.text.now c.args.start c.args.end in
-    subst P (sym c.starting.ensures) (tokens-cover c.args.text.now c.args.start c.args.end c.args.mode c.requires.order c.requires.within)
+    subst P (sym c.starting.ensures) (tokens-cover c.args.text.now c.args.start c.args.end c.args.mode c.requires.order
+    c.requires.within)
 
 pub returns-clause-within : goal.returns-clause-within
 returns-clause-within c =
     let P : List Answer → Type 0 = λ answers. AreWithin c.args.start c.args.end answers in
-    subst P (sym c.starting.ensures) (tokens-within c.args.text.now c.args.start c.args.end c.args.mode c.requires.order c.requires.within)
+    subst P (sym c.starting.ensures) (tokens-within c.args.text.now c.args.start c.args.end c.args.mode c.requires.order
+    c.requires.within)

@@ -15,4 +15,5 @@ returns-clause-value c =
     ∙ ap (λ e. option_map f (option_map entry_of e)) (sym c.in-Some.ensures.entry)
 
 pub returns-clause-real : goal.returns-clause-real
-returns-clause-real c = found c.self.inside.categories.entries c.args.id.index _ (sym c.in-Some.ensures.entry) c.self.invariant.real
+returns-clause-real c = found c.self.inside.categories.entries c.args.id.index _ (sym c.in-Some.ensures.entry)
+    c.self.invariant.real

@@ -10,7 +10,8 @@ both kind a b is same = ap (λ k. k && pointwise nat_eq a b) is ∙ (bytes_decid
 
 pub returns-then-are_same-clause-place : goal.returns-then-are_same-clause-place
 returns-then-are_same-clause-place c =
-    wanted-place (record { kind = c.args.kind; text = c.args.text }) c.self.inside.categories.entries c.in_ok-index.field-0.now
+    wanted-place (record { kind = c.args.kind; text = c.args.text }) c.self.inside.categories.entries
+    c.in_ok-index.field-0.now
     (c.in_ok-key.key.now, c.in_ok-key.field-0-1.now) c.len.ensures.unique (sym c.in_ok-key.ensures.entry)
     (both _ _ _ (sym c.is.ensures ∙ c.if-is.true) (c.are_same.ensures c.if-are_same.true ∙ c.as_slice.ensures.value))
     ∙ ap (place_of c.args.kind c.args.text.now) c.self.view_is

@@ -18,5 +18,6 @@ invariant_of-self c =
     let entries = c.self.inside.categories.entries in
     record {
       real = changed entries c.args.id.index c.args.category c.requires.category c.self.invariant.real;
-      words = subst BeginsWithWords (sym (with_category-map entries c.args.id.index c.args.category)) (words-changed c.args.id.index c.args.category (map entry_of entries) c.self.invariant.words);
+      words = subst BeginsWithWords (sym (with_category-map entries c.args.id.index c.args.category))
+          (words-changed c.args.id.index c.args.category (map entry_of entries) c.self.invariant.words);
     }

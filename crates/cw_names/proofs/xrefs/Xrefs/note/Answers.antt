@@ -6,4 +6,5 @@ use Rattle.cw_names.proofs.xrefs.Xrefs.note.Goals as goal
 
 pub mention-requires-clause-ascending : goal.mention-requires-clause-ascending
 mention-requires-clause-ascending c =
-    subst AreAscending (sym (c.grow.ensures.same c.args.id.index ∙ c.self.invariant c.args.id.index)) (mentions-ascending c.args.id.index c.self.inside.noted.items)
+    subst AreAscending (sym (c.grow.ensures.same c.args.id.index ∙ c.self.invariant c.args.id.index))
+    (mentions-ascending c.args.id.index c.self.inside.noted.items)

@@ -7,6 +7,8 @@ use Rattle.cw_phase1.proofs.words.Words.tell.Goals as goal
 pub returns-in_ok-second-in-SecondName-clause-told : goal.returns-in_ok-second-in-SecondName-clause-told
 returns-in_ok-second-in-SecondName-clause-told c =
     c.format.ensures.names ∙
-    second-told c.in-SecondName.silent (placed_of c.args.p.now) c.args.self.now c.word-in-SecondName.new.self c.in_ok-second-in-SecondName.second
-    c.in-SecondName.is c.in_ok-second-in-SecondName.ensures.id c.in_ok-second-in-SecondName.ensures.first c.in_ok-second-in-SecondName.ensures.names
+    second-told c.in-SecondName.silent (placed_of c.args.p.now) c.args.self.now c.word-in-SecondName.new.self
+    c.in_ok-second-in-SecondName.second
+    c.in-SecondName.is c.in_ok-second-in-SecondName.ensures.id c.in_ok-second-in-SecondName.ensures.first
+    c.in_ok-second-in-SecondName.ensures.names
     c.in_ok-second-in-SecondName.ensures.waits c.in_ok-second-in-SecondName.ensures.xrefs

@@ -15,33 +15,144 @@ use Rattle.cw_reduce.proofs.NameSteps.{part_answers, text-opened, text-read, tex
 use Rattle.cw_reduce.proofs.translating.Translator.inner_text.Goals as goal
 
 pub read-requires-clause-translating : goal.read-requires-clause-translating
-read-requires-clause-translating g c = (text-opened c.args.context.now.flags.now c.args.work.now.store.now c.args.work.now.names.now c.args.work.now.marks.now c.args.self.now c.open_text.new.self c.args.work.now.steps.now (part_answers c.args.text.now c.args.span) c.requires.translating c.in_ok-open_text.ensures).translating
+read-requires-clause-translating g c = (text-opened c.args.context.now.flags.now c.args.work.now.store.now
+    c.args.work.now.names.now c.args.work.now.marks.now c.args.self.now c.open_text.new.self c.args.work.now.steps.now
+    (part_answers c.args.text.now c.args.span) c.requires.translating c.in_ok-open_text.ensures).translating
 
 pub read-requires-clause-start : goal.read-requires-clause-start
-read-requires-clause-start g c = within-starts 4294967296 c.args.span.start c.args.span.end c.over-lexer.result (omega (arith, c.requires.within, c.requires.short)) c.over-lexer.ensures.within
+read-requires-clause-start g c = within-starts 4294967296 c.args.span.start c.args.span.end c.over-lexer.result
+    (omega (arith, c.requires.within, c.requires.short)) c.over-lexer.ensures.within
 
 pub returns-in_err-open_text-clause-names : goal.returns-in_err-open_text-clause-names
-returns-in_err-open_text-clause-names g c = on-err c.from_residual.result (NamesAmong c.args.context.now.flags.now (text_answers (part_answers c.args.text.now c.args.span)) (progress_of c.args.work.now.store.now.lists c.args.work.now.names.now c.args.work.now.marks.now c.args.self.now []) c.args.work.now.names.now) (same-names c.args.context.now.flags.now (text_answers (part_answers c.args.text.now c.args.span)) (progress_of c.args.work.now.store.now.lists c.args.work.now.names.now c.args.work.now.marks.now c.args.self.now []))
+returns-in_err-open_text-clause-names g c = on-err c.from_residual.result
+    (NamesAmong c.args.context.now.flags.now (text_answers (part_answers c.args.text.now c.args.span))
+    (progress_of c.args.work.now.store.now.lists c.args.work.now.names.now c.args.work.now.marks.now c.args.self.now [])
+    c.args.work.now.names.now) (same-names c.args.context.now.flags.now
+    (text_answers (part_answers c.args.text.now c.args.span))
+    (progress_of c.args.work.now.store.now.lists c.args.work.now.names.now c.args.work.now.marks.now c.args.self.now
+    []))
 
 pub returns-in_err-read-clause-names : goal.returns-in_err-read-clause-names
-returns-in_err-read-clause-names g c = on-err c.from_residual-in_err-read.result (NamesAmong c.args.context.now.flags.now (text_answers (part_answers c.args.text.now c.args.span)) (progress_of c.args.work.now.store.now.lists c.args.work.now.names.now c.args.work.now.marks.now c.args.self.now []) c.read.new.work.names.now)
-    (text-fails c.args.context.now.flags.now c.args.work.now.store.now c.args.work.now.names.now c.args.work.now.marks.now c.args.self.now c.open_text.new.self c.args.work.now.steps.now (part_answers c.args.text.now c.args.span) c.requires.translating c.in_ok-open_text.ensures c.read.new.work.names.now (subst (λ l. NamesAmong c.args.context.now.flags.now (until_section l) (progress_of c.args.work.now.store.now.lists c.args.work.now.names.now c.args.work.now.marks.now c.open_text.new.self []) c.read.new.work.names.now) c.over-lexer.ensures.tokens c.in_err-read.ensures.names))
+returns-in_err-read-clause-names g c = on-err c.from_residual-in_err-read.result
+    (NamesAmong c.args.context.now.flags.now (text_answers (part_answers c.args.text.now c.args.span))
+    (progress_of c.args.work.now.store.now.lists c.args.work.now.names.now c.args.work.now.marks.now c.args.self.now [])
+    c.read.new.work.names.now)
+    (text-fails c.args.context.now.flags.now c.args.work.now.store.now c.args.work.now.names.now
+    c.args.work.now.marks.now c.args.self.now c.open_text.new.self c.args.work.now.steps.now
+    (part_answers c.args.text.now c.args.span) c.requires.translating c.in_ok-open_text.ensures
+    c.read.new.work.names.now (subst (λ l. NamesAmong c.args.context.now.flags.now (until_section l)
+    (progress_of c.args.work.now.store.now.lists c.args.work.now.names.now c.args.work.now.marks.now
+    c.open_text.new.self []) c.read.new.work.names.now) c.over-lexer.ensures.tokens c.in_err-read.ensures.names))
 
 pub returns-in_err-read-clause-bound : goal.returns-in_err-read-clause-bound
-returns-in_err-read-clause-bound g c = text-few c.args.context.now.flags.now c.args.work.now.store.now c.args.work.now.names.now c.args.work.now.marks.now c.args.self.now c.open_text.new.self c.args.work.now.steps.now (part_answers c.args.text.now c.args.span) c.requires.translating c.in_ok-open_text.ensures c.read.new.work.steps.now (subst (λ l. c.read.new.work.steps.now ≤ c.args.work.now.steps.now + limit_in c.args.context.now.flags.now (after_answers c.args.context.now.flags.now (until_section l) (progress_of c.args.work.now.store.now.lists c.args.work.now.names.now c.args.work.now.marks.now c.open_text.new.self [])).known.ended) c.over-lexer.ensures.tokens c.in_err-read.ensures.bound)
+returns-in_err-read-clause-bound g c = text-few c.args.context.now.flags.now c.args.work.now.store.now
+    c.args.work.now.names.now c.args.work.now.marks.now c.args.self.now c.open_text.new.self c.args.work.now.steps.now
+    (part_answers c.args.text.now c.args.span) c.requires.translating c.in_ok-open_text.ensures
+    c.read.new.work.steps.now (subst (λ l. c.read.new.work.steps.now ≤ c.args.work.now.steps.now
+    + limit_in c.args.context.now.flags.now (after_answers c.args.context.now.flags.now (until_section l)
+    (progress_of c.args.work.now.store.now.lists c.args.work.now.names.now c.args.work.now.marks.now
+    c.open_text.new.self [])).known.ended) c.over-lexer.ensures.tokens c.in_err-read.ensures.bound)
 
 pub returns-clause-come : goal.returns-clause-come
-returns-clause-come g c = on-ok3 c.finish.result (IsTranslating c.finish.new.store c.finish.new.names c.finish.new.self) (Keeps c.read.new.work.store.now.lists c.finish.new.store.lists (all_roots c.read.new.self.nesting) (all_roots c.finish.new.self.nesting))
-    (HasCome c.args.context.now.flags.now c.read.new.self c.read.new.work.steps.now c.finish.new.store.lists c.finish.new.names c.finish.new.marks c.finish.new.self c.finish.new.steps (after_finish c.args.context.now.flags.now (progress_of c.read.new.work.store.now.lists c.read.new.work.names.now c.read.new.work.marks.now c.read.new.self []).frames (progress_of c.read.new.work.store.now.lists c.read.new.work.names.now c.read.new.work.marks.now c.read.new.self []).known))
-    (HasCome c.args.context.now.flags.now c.args.self.now c.args.work.now.steps.now c.finish.new.store.lists c.finish.new.names c.finish.new.marks c.finish.new.self c.finish.new.steps (after_answers c.args.context.now.flags.now (text_answers (part_answers c.args.text.now c.args.span)) (progress_of c.args.work.now.store.now.lists c.args.work.now.names.now c.args.work.now.marks.now c.args.self.now [])))
-    (λ is keeps come. last-come c.args.context.now.flags.now (text_answers (part_answers c.args.text.now c.args.span)) c.args.work.now.store.now c.args.work.now.names.now c.args.work.now.marks.now c.args.self.now c.args.work.now.steps.now (Finish text_token ∷ []) c.read.new.work.store.now c.read.new.work.names.now c.read.new.work.marks.now c.read.new.self c.read.new.work.steps.now (text-read c.args.context.now.flags.now c.args.work.now.store.now c.args.work.now.names.now c.args.work.now.marks.now c.args.self.now c.open_text.new.self c.args.work.now.steps.now (part_answers c.args.text.now c.args.span) c.requires.translating c.in_ok-open_text.ensures c.read.new.work.store.now c.read.new.work.names.now c.read.new.work.marks.now c.read.new.self c.read.new.work.steps.now c.in_ok-read.ensures.translating c.in_ok-read.ensures.keeps (subst (λ l. HasCome c.args.context.now.flags.now c.open_text.new.self c.args.work.now.steps.now c.read.new.work.store.now.lists c.read.new.work.names.now c.read.new.work.marks.now c.read.new.self c.read.new.work.steps.now (after_answers c.args.context.now.flags.now (until_section l) (progress_of c.args.work.now.store.now.lists c.args.work.now.names.now c.args.work.now.marks.now c.open_text.new.self []))) c.over-lexer.ensures.tokens c.in_ok-read.ensures.come) (subst (λ l. c.read.new.work.steps.now ≤ c.args.work.now.steps.now + limit_in c.args.context.now.flags.now (after_answers c.args.context.now.flags.now (until_section l) (progress_of c.args.work.now.store.now.lists c.args.work.now.names.now c.args.work.now.marks.now c.open_text.new.self [])).known.ended) c.over-lexer.ensures.tokens c.in_ok-read.ensures.bound)) c.finish.new.store c.finish.new.names c.finish.new.marks c.finish.new.self c.finish.new.steps is keeps come c.finish.ensures.bound) c.finish.ensures.translating c.finish.ensures.keeps c.finish.ensures.come
+returns-clause-come g c = on-ok3 c.finish.result (IsTranslating c.finish.new.store c.finish.new.names c.finish.new.self)
+    (Keeps c.read.new.work.store.now.lists c.finish.new.store.lists (all_roots c.read.new.self.nesting)
+    (all_roots c.finish.new.self.nesting))
+    (HasCome c.args.context.now.flags.now c.read.new.self c.read.new.work.steps.now c.finish.new.store.lists
+    c.finish.new.names c.finish.new.marks c.finish.new.self c.finish.new.steps
+    (after_finish c.args.context.now.flags.now
+    (progress_of c.read.new.work.store.now.lists c.read.new.work.names.now c.read.new.work.marks.now c.read.new.self
+    []).frames (progress_of c.read.new.work.store.now.lists c.read.new.work.names.now c.read.new.work.marks.now
+    c.read.new.self []).known))
+    (HasCome c.args.context.now.flags.now c.args.self.now c.args.work.now.steps.now c.finish.new.store.lists
+    c.finish.new.names c.finish.new.marks c.finish.new.self c.finish.new.steps
+    (after_answers c.args.context.now.flags.now (text_answers (part_answers c.args.text.now c.args.span))
+    (progress_of c.args.work.now.store.now.lists c.args.work.now.names.now c.args.work.now.marks.now c.args.self.now
+    [])))
+    (λ is keeps come. last-come c.args.context.now.flags.now (text_answers (part_answers c.args.text.now c.args.span))
+    c.args.work.now.store.now c.args.work.now.names.now c.args.work.now.marks.now c.args.self.now
+    c.args.work.now.steps.now (Finish text_token ∷ []) c.read.new.work.store.now c.read.new.work.names.now
+    c.read.new.work.marks.now c.read.new.self c.read.new.work.steps.now
+    (text-read c.args.context.now.flags.now c.args.work.now.store.now c.args.work.now.names.now
+    c.args.work.now.marks.now c.args.self.now c.open_text.new.self c.args.work.now.steps.now
+    (part_answers c.args.text.now c.args.span) c.requires.translating c.in_ok-open_text.ensures
+    c.read.new.work.store.now c.read.new.work.names.now c.read.new.work.marks.now c.read.new.self
+    c.read.new.work.steps.now c.in_ok-read.ensures.translating c.in_ok-read.ensures.keeps
+    (subst (λ l. HasCome c.args.context.now.flags.now c.open_text.new.self c.args.work.now.steps.now
+    c.read.new.work.store.now.lists c.read.new.work.names.now c.read.new.work.marks.now c.read.new.self
+    c.read.new.work.steps.now (after_answers c.args.context.now.flags.now (until_section l)
+    (progress_of c.args.work.now.store.now.lists c.args.work.now.names.now c.args.work.now.marks.now
+    c.open_text.new.self []))) c.over-lexer.ensures.tokens c.in_ok-read.ensures.come)
+    (subst (λ l. c.read.new.work.steps.now ≤ c.args.work.now.steps.now + limit_in c.args.context.now.flags.now
+    (after_answers c.args.context.now.flags.now (until_section l)
+    (progress_of c.args.work.now.store.now.lists c.args.work.now.names.now c.args.work.now.marks.now
+    c.open_text.new.self [])).known.ended) c.over-lexer.ensures.tokens c.in_ok-read.ensures.bound))
+    c.finish.new.store c.finish.new.names c.finish.new.marks c.finish.new.self c.finish.new.steps is keeps come
+    c.finish.ensures.bound) c.finish.ensures.translating c.finish.ensures.keeps c.finish.ensures.come
 
 pub returns-clause-keeps : goal.returns-clause-keeps
-returns-clause-keeps g c = on-ok1 c.finish.result (Keeps c.read.new.work.store.now.lists c.finish.new.store.lists (all_roots c.read.new.self.nesting) (all_roots c.finish.new.self.nesting)) (Keeps c.args.work.now.store.now.lists c.finish.new.store.lists (all_roots c.args.self.now.nesting) (all_roots c.finish.new.self.nesting))
-    (λ k. keeps-trans c.args.work.now.store.now.lists c.read.new.work.store.now.lists c.finish.new.store.lists (all_roots c.args.self.now.nesting) (all_roots c.read.new.self.nesting) (all_roots c.finish.new.self.nesting) (text-read c.args.context.now.flags.now c.args.work.now.store.now c.args.work.now.names.now c.args.work.now.marks.now c.args.self.now c.open_text.new.self c.args.work.now.steps.now (part_answers c.args.text.now c.args.span) c.requires.translating c.in_ok-open_text.ensures c.read.new.work.store.now c.read.new.work.names.now c.read.new.work.marks.now c.read.new.self c.read.new.work.steps.now c.in_ok-read.ensures.translating c.in_ok-read.ensures.keeps (subst (λ l. HasCome c.args.context.now.flags.now c.open_text.new.self c.args.work.now.steps.now c.read.new.work.store.now.lists c.read.new.work.names.now c.read.new.work.marks.now c.read.new.self c.read.new.work.steps.now (after_answers c.args.context.now.flags.now (until_section l) (progress_of c.args.work.now.store.now.lists c.args.work.now.names.now c.args.work.now.marks.now c.open_text.new.self []))) c.over-lexer.ensures.tokens c.in_ok-read.ensures.come) (subst (λ l. c.read.new.work.steps.now ≤ c.args.work.now.steps.now + limit_in c.args.context.now.flags.now (after_answers c.args.context.now.flags.now (until_section l) (progress_of c.args.work.now.store.now.lists c.args.work.now.names.now c.args.work.now.marks.now c.open_text.new.self [])).known.ended) c.over-lexer.ensures.tokens c.in_ok-read.ensures.bound)).keeps k) c.finish.ensures.keeps
+returns-clause-keeps g c = on-ok1 c.finish.result (Keeps c.read.new.work.store.now.lists c.finish.new.store.lists
+    (all_roots c.read.new.self.nesting) (all_roots c.finish.new.self.nesting))
+    (Keeps c.args.work.now.store.now.lists c.finish.new.store.lists (all_roots c.args.self.now.nesting)
+    (all_roots c.finish.new.self.nesting))
+    (λ k. keeps-trans c.args.work.now.store.now.lists c.read.new.work.store.now.lists c.finish.new.store.lists
+    (all_roots c.args.self.now.nesting) (all_roots c.read.new.self.nesting) (all_roots c.finish.new.self.nesting)
+    (text-read c.args.context.now.flags.now c.args.work.now.store.now c.args.work.now.names.now
+    c.args.work.now.marks.now c.args.self.now c.open_text.new.self c.args.work.now.steps.now
+    (part_answers c.args.text.now c.args.span) c.requires.translating c.in_ok-open_text.ensures
+    c.read.new.work.store.now c.read.new.work.names.now c.read.new.work.marks.now c.read.new.self
+    c.read.new.work.steps.now c.in_ok-read.ensures.translating c.in_ok-read.ensures.keeps
+    (subst (λ l. HasCome c.args.context.now.flags.now c.open_text.new.self c.args.work.now.steps.now
+    c.read.new.work.store.now.lists c.read.new.work.names.now c.read.new.work.marks.now c.read.new.self
+    c.read.new.work.steps.now (after_answers c.args.context.now.flags.now (until_section l)
+    (progress_of c.args.work.now.store.now.lists c.args.work.now.names.now c.args.work.now.marks.now
+    c.open_text.new.self []))) c.over-lexer.ensures.tokens c.in_ok-read.ensures.come)
+    (subst (λ l. c.read.new.work.steps.now ≤ c.args.work.now.steps.now + limit_in c.args.context.now.flags.now
+    (after_answers c.args.context.now.flags.now (until_section l)
+    (progress_of c.args.work.now.store.now.lists c.args.work.now.names.now c.args.work.now.marks.now
+    c.open_text.new.self [])).known.ended) c.over-lexer.ensures.tokens c.in_ok-read.ensures.bound)).keeps k)
+    c.finish.ensures.keeps
 
 pub returns-clause-names : goal.returns-clause-names
-returns-clause-names g c = on-err c.finish.result (NamesAmong c.args.context.now.flags.now (text_answers (part_answers c.args.text.now c.args.span)) (progress_of c.args.work.now.store.now.lists c.args.work.now.names.now c.args.work.now.marks.now c.args.self.now []) c.finish.new.names) (last-fails c.args.context.now.flags.now (text_answers (part_answers c.args.text.now c.args.span)) c.args.work.now.store.now c.args.work.now.names.now c.args.work.now.marks.now c.args.self.now c.args.work.now.steps.now (Finish text_token ∷ []) c.read.new.work.store.now c.read.new.work.names.now c.read.new.work.marks.now c.read.new.self c.read.new.work.steps.now (text-read c.args.context.now.flags.now c.args.work.now.store.now c.args.work.now.names.now c.args.work.now.marks.now c.args.self.now c.open_text.new.self c.args.work.now.steps.now (part_answers c.args.text.now c.args.span) c.requires.translating c.in_ok-open_text.ensures c.read.new.work.store.now c.read.new.work.names.now c.read.new.work.marks.now c.read.new.self c.read.new.work.steps.now c.in_ok-read.ensures.translating c.in_ok-read.ensures.keeps (subst (λ l. HasCome c.args.context.now.flags.now c.open_text.new.self c.args.work.now.steps.now c.read.new.work.store.now.lists c.read.new.work.names.now c.read.new.work.marks.now c.read.new.self c.read.new.work.steps.now (after_answers c.args.context.now.flags.now (until_section l) (progress_of c.args.work.now.store.now.lists c.args.work.now.names.now c.args.work.now.marks.now c.open_text.new.self []))) c.over-lexer.ensures.tokens c.in_ok-read.ensures.come) (subst (λ l. c.read.new.work.steps.now ≤ c.args.work.now.steps.now + limit_in c.args.context.now.flags.now (after_answers c.args.context.now.flags.now (until_section l) (progress_of c.args.work.now.store.now.lists c.args.work.now.names.now c.args.work.now.marks.now c.open_text.new.self [])).known.ended) c.over-lexer.ensures.tokens c.in_ok-read.ensures.bound)) c.finish.new.names (c.finish.ensures.names text_token))
+returns-clause-names g c = on-err c.finish.result (NamesAmong c.args.context.now.flags.now
+    (text_answers (part_answers c.args.text.now c.args.span))
+    (progress_of c.args.work.now.store.now.lists c.args.work.now.names.now c.args.work.now.marks.now c.args.self.now [])
+    c.finish.new.names) (last-fails c.args.context.now.flags.now
+    (text_answers (part_answers c.args.text.now c.args.span)) c.args.work.now.store.now c.args.work.now.names.now
+    c.args.work.now.marks.now c.args.self.now c.args.work.now.steps.now (Finish text_token ∷ [])
+    c.read.new.work.store.now c.read.new.work.names.now c.read.new.work.marks.now c.read.new.self
+    c.read.new.work.steps.now (text-read c.args.context.now.flags.now c.args.work.now.store.now
+    c.args.work.now.names.now c.args.work.now.marks.now c.args.self.now c.open_text.new.self c.args.work.now.steps.now
+    (part_answers c.args.text.now c.args.span) c.requires.translating c.in_ok-open_text.ensures
+    c.read.new.work.store.now c.read.new.work.names.now c.read.new.work.marks.now c.read.new.self
+    c.read.new.work.steps.now c.in_ok-read.ensures.translating c.in_ok-read.ensures.keeps
+    (subst (λ l. HasCome c.args.context.now.flags.now c.open_text.new.self c.args.work.now.steps.now
+    c.read.new.work.store.now.lists c.read.new.work.names.now c.read.new.work.marks.now c.read.new.self
+    c.read.new.work.steps.now (after_answers c.args.context.now.flags.now (until_section l)
+    (progress_of c.args.work.now.store.now.lists c.args.work.now.names.now c.args.work.now.marks.now
+    c.open_text.new.self []))) c.over-lexer.ensures.tokens c.in_ok-read.ensures.come)
+    (subst (λ l. c.read.new.work.steps.now ≤ c.args.work.now.steps.now + limit_in c.args.context.now.flags.now
+    (after_answers c.args.context.now.flags.now (until_section l)
+    (progress_of c.args.work.now.store.now.lists c.args.work.now.names.now c.args.work.now.marks.now
+    c.open_text.new.self [])).known.ended) c.over-lexer.ensures.tokens c.in_ok-read.ensures.bound)) c.finish.new.names
+    (c.finish.ensures.names text_token))
 
 pub returns-clause-bound : goal.returns-clause-bound
-returns-clause-bound g c = last-few c.args.context.now.flags.now (text_answers (part_answers c.args.text.now c.args.span)) c.args.work.now.store.now c.args.work.now.names.now c.args.work.now.marks.now c.args.self.now c.args.work.now.steps.now (Finish text_token ∷ []) c.read.new.work.store.now c.read.new.work.names.now c.read.new.work.marks.now c.read.new.self c.read.new.work.steps.now (text-read c.args.context.now.flags.now c.args.work.now.store.now c.args.work.now.names.now c.args.work.now.marks.now c.args.self.now c.open_text.new.self c.args.work.now.steps.now (part_answers c.args.text.now c.args.span) c.requires.translating c.in_ok-open_text.ensures c.read.new.work.store.now c.read.new.work.names.now c.read.new.work.marks.now c.read.new.self c.read.new.work.steps.now c.in_ok-read.ensures.translating c.in_ok-read.ensures.keeps (subst (λ l. HasCome c.args.context.now.flags.now c.open_text.new.self c.args.work.now.steps.now c.read.new.work.store.now.lists c.read.new.work.names.now c.read.new.work.marks.now c.read.new.self c.read.new.work.steps.now (after_answers c.args.context.now.flags.now (until_section l) (progress_of c.args.work.now.store.now.lists c.args.work.now.names.now c.args.work.now.marks.now c.open_text.new.self []))) c.over-lexer.ensures.tokens c.in_ok-read.ensures.come) (subst (λ l. c.read.new.work.steps.now ≤ c.args.work.now.steps.now + limit_in c.args.context.now.flags.now (after_answers c.args.context.now.flags.now (until_section l) (progress_of c.args.work.now.store.now.lists c.args.work.now.names.now c.args.work.now.marks.now c.open_text.new.self [])).known.ended) c.over-lexer.ensures.tokens c.in_ok-read.ensures.bound)) c.finish.new.steps c.finish.ensures.bound
+returns-clause-bound g c = last-few c.args.context.now.flags.now
+    (text_answers (part_answers c.args.text.now c.args.span)) c.args.work.now.store.now c.args.work.now.names.now
+    c.args.work.now.marks.now c.args.self.now c.args.work.now.steps.now (Finish text_token ∷ [])
+    c.read.new.work.store.now c.read.new.work.names.now c.read.new.work.marks.now c.read.new.self
+    c.read.new.work.steps.now (text-read c.args.context.now.flags.now c.args.work.now.store.now
+    c.args.work.now.names.now c.args.work.now.marks.now c.args.self.now c.open_text.new.self c.args.work.now.steps.now
+    (part_answers c.args.text.now c.args.span) c.requires.translating c.in_ok-open_text.ensures
+    c.read.new.work.store.now c.read.new.work.names.now c.read.new.work.marks.now c.read.new.self
+    c.read.new.work.steps.now c.in_ok-read.ensures.translating c.in_ok-read.ensures.keeps
+    (subst (λ l. HasCome c.args.context.now.flags.now c.open_text.new.self c.args.work.now.steps.now
+    c.read.new.work.store.now.lists c.read.new.work.names.now c.read.new.work.marks.now c.read.new.self
+    c.read.new.work.steps.now (after_answers c.args.context.now.flags.now (until_section l)
+    (progress_of c.args.work.now.store.now.lists c.args.work.now.names.now c.args.work.now.marks.now
+    c.open_text.new.self []))) c.over-lexer.ensures.tokens c.in_ok-read.ensures.come)
+    (subst (λ l. c.read.new.work.steps.now ≤ c.args.work.now.steps.now + limit_in c.args.context.now.flags.now
+    (after_answers c.args.context.now.flags.now (until_section l)
+    (progress_of c.args.work.now.store.now.lists c.args.work.now.names.now c.args.work.now.marks.now
+    c.open_text.new.self [])).known.ended) c.over-lexer.ensures.tokens c.in_ok-read.ensures.bound)) c.finish.new.steps
+    c.finish.ensures.bound

@@ -9,7 +9,10 @@ use Rattle.cw_reduce.proofs.NameSteps.{all_part_answers}
 use Rattle.cw_reduce.proofs.translating.Translator.inner_texts.Given as goal
 
 abbrev pub invariant-loop-span : goal.invariant-loop-span
-invariant-loop-span g l = Reads l.context.flags.now (texts_answers (parts_of_name l.text)) l.initial.work.store.now l.initial.work.names.now l.initial.work.marks.now l.initial.self l.initial.work.steps.now (all_part_answers l.text (parts_at l.text l.from)) l.work.store.now l.work.names.now l.work.marks.now l.self l.work.steps.now × (l.from ≤ length l.text) × IsSameWork l.initial.work l.work
+invariant-loop-span g l = Reads l.context.flags.now (texts_answers (parts_of_name l.text)) l.initial.work.store.now
+    l.initial.work.names.now l.initial.work.marks.now l.initial.self l.initial.work.steps.now
+    (all_part_answers l.text (parts_at l.text l.from)) l.work.store.now l.work.names.now l.work.marks.now l.self
+    l.work.steps.now × (l.from ≤ length l.text) × IsSameWork l.initial.work l.work
 
 abbrev pub decreases-loop-span : goal.decreases-loop-span
 decreases-loop-span g l = length l.text - l.from

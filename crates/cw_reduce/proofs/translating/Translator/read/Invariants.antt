@@ -7,7 +7,10 @@ use Rattle.cw_reduce.proofs.AnswerSteps.{Reads}
 use Rattle.cw_reduce.proofs.translating.Translator.read.Given as goal
 
 abbrev pub invariant-loop-answer : goal.invariant-loop-answer
-invariant-loop-answer g l = Reads l.context.flags.now (until_section l.initial.lexer) l.initial.work.store.now l.initial.work.names.now l.initial.work.marks.now l.initial.self l.initial.work.steps.now (until_section l.lexer) l.work.store.now l.work.names.now l.work.marks.now l.self l.work.steps.now × StartsBelow (2 ^ 32) l.lexer × IsSameWork l.initial.work l.work
+invariant-loop-answer g l = Reads l.context.flags.now (until_section l.initial.lexer) l.initial.work.store.now
+    l.initial.work.names.now l.initial.work.marks.now l.initial.self l.initial.work.steps.now (until_section l.lexer)
+    l.work.store.now l.work.names.now l.work.marks.now l.self l.work.steps.now × StartsBelow (2 ^ 32) l.lexer
+    × IsSameWork l.initial.work l.work
 
 abbrev pub decreases-loop-answer : goal.decreases-loop-answer
 decreases-loop-answer g l = length l.lexer

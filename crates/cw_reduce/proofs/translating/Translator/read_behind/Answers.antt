@@ -8,44 +8,259 @@ use Rattle.cw_reduce.specs.Naming.{with_texts}
 use Rattle.cw_reduce.specs.Opening.{HasCome, IsTranslating, all_roots, answers_in, progress_of}
 use Rattle.cw_reduce.specs.Reading.{after_answers}
 use Rattle.cw_reduce.specs.Retyping.{NamesAmong}
-use Rattle.cw_reduce.proofs.AnswerSteps.{last-come, last-fails, last-few, on-err, on-err-weaker, on-ok1, on-ok3, reads-fails, reads-few, starts-split}
+use Rattle.cw_reduce.proofs.AnswerSteps.{last-come, last-fails, last-few, on-err, on-err-weaker, on-ok1, on-ok3}
+use Rattle.cw_reduce.proofs.AnswerSteps.{reads-fails, reads-few, starts-split}
 use Rattle.cw_reduce.proofs.HeadSteps.{all_behind, behind-begins, behind-first, behind-next, cut-first}
 use Rattle.cw_reduce.proofs.NameSteps.{with-texts-append}
 use Rattle.cw_reduce.proofs.translating.Translator.read_behind.Goals as goal
 
 pub name_ahead-requires-clause-start : goal.name_ahead-requires-clause-start
-name_ahead-requires-clause-start g c = (starts-split 4294967296 (name_ahead c.args.begun.now.name) (answers_in c.args.begun.now.next) (starts-split 4294967296 (name_ahead c.args.begun.now.name ++ answers_in c.args.begun.now.next) c.args.lexer.now c.requires.start).0).0
+name_ahead-requires-clause-start g c = (starts-split 4294967296 (name_ahead c.args.begun.now.name)
+    (answers_in c.args.begun.now.next) (starts-split 4294967296 (name_ahead c.args.begun.now.name
+    ++ answers_in c.args.begun.now.next) c.args.lexer.now c.requires.start).0).0
 
 pub named_answer-requires-clause-start : goal.named_answer-requires-clause-start
-named_answer-requires-clause-start g c = (starts-split 4294967296 (name_ahead c.args.begun.now.name) (answers_in c.args.begun.now.next) (starts-split 4294967296 (name_ahead c.args.begun.now.name ++ answers_in c.args.begun.now.next) c.args.lexer.now c.requires.start).0).1
+named_answer-requires-clause-start g c = (starts-split 4294967296 (name_ahead c.args.begun.now.name)
+    (answers_in c.args.begun.now.next) (starts-split 4294967296 (name_ahead c.args.begun.now.name
+    ++ answers_in c.args.begun.now.next) c.args.lexer.now c.requires.start).0).1
 
 pub read_named-requires-clause-start : goal.read_named-requires-clause-start
-read_named-requires-clause-start g c = (starts-split 4294967296 (name_ahead c.args.begun.now.name ++ answers_in c.args.begun.now.next) c.args.lexer.now c.requires.start).1
+read_named-requires-clause-start g c = (starts-split 4294967296 (name_ahead c.args.begun.now.name
+    ++ answers_in c.args.begun.now.next) c.args.lexer.now c.requires.start).1
 
 pub returns-in_err-name_ahead-clause-names : goal.returns-in_err-name_ahead-clause-names
-returns-in_err-name_ahead-clause-names g c = on-err c.from_residual.result (NamesAmong c.args.context.now.flags.now (all_behind c.args.context.now.flags.now (name_texts c.args.context.now.sec_names.now c.args.context.now.uses.now) c.args.work.now.store.now c.args.work.now.names.now c.args.work.now.marks.now c.args.self.now c.args.work.now.steps.now (name_ahead c.args.begun.now.name) (answers_in c.args.begun.now.next) c.args.lexer.now) (progress_of c.args.work.now.store.now.lists c.args.work.now.names.now c.args.work.now.marks.now c.args.self.now []) c.name_ahead.new.work.names.now) (reads-fails c.args.context.now.flags.now (all_behind c.args.context.now.flags.now (name_texts c.args.context.now.sec_names.now c.args.context.now.uses.now) c.args.work.now.store.now c.args.work.now.names.now c.args.work.now.marks.now c.args.self.now c.args.work.now.steps.now (name_ahead c.args.begun.now.name) (answers_in c.args.begun.now.next) c.args.lexer.now) c.args.work.now.store.now c.args.work.now.names.now c.args.work.now.marks.now c.args.self.now c.args.work.now.steps.now (all_behind c.args.context.now.flags.now (name_texts c.args.context.now.sec_names.now c.args.context.now.uses.now) c.args.work.now.store.now c.args.work.now.names.now c.args.work.now.marks.now c.args.self.now c.args.work.now.steps.now (name_ahead c.args.begun.now.name) (answers_in c.args.begun.now.next) c.args.lexer.now) c.args.work.now.store.now c.args.work.now.names.now c.args.work.now.marks.now c.args.self.now c.args.work.now.steps.now (behind-begins c.args.context.now.flags.now (name_texts c.args.context.now.sec_names.now c.args.context.now.uses.now) c.args.work.now.store.now c.args.work.now.names.now c.args.work.now.marks.now c.args.self.now c.args.work.now.steps.now (name_ahead c.args.begun.now.name) (answers_in c.args.begun.now.next) c.args.lexer.now c.requires.translating) (with_texts (name_texts c.args.context.now.sec_names.now c.args.context.now.uses.now) (name_ahead c.args.begun.now.name)) (with_texts (name_texts c.args.context.now.sec_names.now c.args.context.now.uses.now) (answers_in c.args.begun.now.next ++ c.args.lexer.now)) (cut-first c.args.context.now.flags.now (name_texts c.args.context.now.sec_names.now c.args.context.now.uses.now) c.args.work.now.store.now c.args.work.now.names.now c.args.work.now.marks.now c.args.self.now c.args.work.now.steps.now (name_ahead c.args.begun.now.name) (answers_in c.args.begun.now.next) c.args.lexer.now) c.name_ahead.new.work.names.now c.in_err-name_ahead.ensures.names)
+returns-in_err-name_ahead-clause-names g c = on-err c.from_residual.result
+    (NamesAmong c.args.context.now.flags.now (all_behind c.args.context.now.flags.now
+    (name_texts c.args.context.now.sec_names.now c.args.context.now.uses.now) c.args.work.now.store.now
+    c.args.work.now.names.now c.args.work.now.marks.now c.args.self.now c.args.work.now.steps.now
+    (name_ahead c.args.begun.now.name) (answers_in c.args.begun.now.next) c.args.lexer.now)
+    (progress_of c.args.work.now.store.now.lists c.args.work.now.names.now c.args.work.now.marks.now c.args.self.now [])
+    c.name_ahead.new.work.names.now) (reads-fails c.args.context.now.flags.now
+    (all_behind c.args.context.now.flags.now (name_texts c.args.context.now.sec_names.now c.args.context.now.uses.now)
+    c.args.work.now.store.now c.args.work.now.names.now c.args.work.now.marks.now c.args.self.now
+    c.args.work.now.steps.now (name_ahead c.args.begun.now.name) (answers_in c.args.begun.now.next) c.args.lexer.now)
+    c.args.work.now.store.now c.args.work.now.names.now c.args.work.now.marks.now c.args.self.now
+    c.args.work.now.steps.now (all_behind c.args.context.now.flags.now
+    (name_texts c.args.context.now.sec_names.now c.args.context.now.uses.now) c.args.work.now.store.now
+    c.args.work.now.names.now c.args.work.now.marks.now c.args.self.now c.args.work.now.steps.now
+    (name_ahead c.args.begun.now.name) (answers_in c.args.begun.now.next) c.args.lexer.now) c.args.work.now.store.now
+    c.args.work.now.names.now c.args.work.now.marks.now c.args.self.now c.args.work.now.steps.now
+    (behind-begins c.args.context.now.flags.now (name_texts c.args.context.now.sec_names.now
+    c.args.context.now.uses.now) c.args.work.now.store.now c.args.work.now.names.now c.args.work.now.marks.now
+    c.args.self.now c.args.work.now.steps.now (name_ahead c.args.begun.now.name) (answers_in c.args.begun.now.next)
+    c.args.lexer.now c.requires.translating) (with_texts
+    (name_texts c.args.context.now.sec_names.now c.args.context.now.uses.now) (name_ahead c.args.begun.now.name))
+    (with_texts (name_texts c.args.context.now.sec_names.now c.args.context.now.uses.now)
+    (answers_in c.args.begun.now.next ++ c.args.lexer.now))
+    (cut-first c.args.context.now.flags.now (name_texts c.args.context.now.sec_names.now c.args.context.now.uses.now)
+    c.args.work.now.store.now c.args.work.now.names.now c.args.work.now.marks.now c.args.self.now
+    c.args.work.now.steps.now (name_ahead c.args.begun.now.name) (answers_in c.args.begun.now.next) c.args.lexer.now)
+    c.name_ahead.new.work.names.now c.in_err-name_ahead.ensures.names)
 
 pub returns-in_err-name_ahead-clause-bound : goal.returns-in_err-name_ahead-clause-bound
-returns-in_err-name_ahead-clause-bound g c = reads-few c.args.context.now.flags.now (all_behind c.args.context.now.flags.now (name_texts c.args.context.now.sec_names.now c.args.context.now.uses.now) c.args.work.now.store.now c.args.work.now.names.now c.args.work.now.marks.now c.args.self.now c.args.work.now.steps.now (name_ahead c.args.begun.now.name) (answers_in c.args.begun.now.next) c.args.lexer.now) c.args.work.now.store.now c.args.work.now.names.now c.args.work.now.marks.now c.args.self.now c.args.work.now.steps.now (all_behind c.args.context.now.flags.now (name_texts c.args.context.now.sec_names.now c.args.context.now.uses.now) c.args.work.now.store.now c.args.work.now.names.now c.args.work.now.marks.now c.args.self.now c.args.work.now.steps.now (name_ahead c.args.begun.now.name) (answers_in c.args.begun.now.next) c.args.lexer.now) c.args.work.now.store.now c.args.work.now.names.now c.args.work.now.marks.now c.args.self.now c.args.work.now.steps.now (behind-begins c.args.context.now.flags.now (name_texts c.args.context.now.sec_names.now c.args.context.now.uses.now) c.args.work.now.store.now c.args.work.now.names.now c.args.work.now.marks.now c.args.self.now c.args.work.now.steps.now (name_ahead c.args.begun.now.name) (answers_in c.args.begun.now.next) c.args.lexer.now c.requires.translating) (with_texts (name_texts c.args.context.now.sec_names.now c.args.context.now.uses.now) (name_ahead c.args.begun.now.name)) (with_texts (name_texts c.args.context.now.sec_names.now c.args.context.now.uses.now) (answers_in c.args.begun.now.next ++ c.args.lexer.now)) (cut-first c.args.context.now.flags.now (name_texts c.args.context.now.sec_names.now c.args.context.now.uses.now) c.args.work.now.store.now c.args.work.now.names.now c.args.work.now.marks.now c.args.self.now c.args.work.now.steps.now (name_ahead c.args.begun.now.name) (answers_in c.args.begun.now.next) c.args.lexer.now) c.name_ahead.new.work.steps.now c.in_err-name_ahead.ensures.bound
+returns-in_err-name_ahead-clause-bound g c = reads-few c.args.context.now.flags.now
+    (all_behind c.args.context.now.flags.now (name_texts c.args.context.now.sec_names.now c.args.context.now.uses.now)
+    c.args.work.now.store.now c.args.work.now.names.now c.args.work.now.marks.now c.args.self.now
+    c.args.work.now.steps.now (name_ahead c.args.begun.now.name) (answers_in c.args.begun.now.next) c.args.lexer.now)
+    c.args.work.now.store.now c.args.work.now.names.now c.args.work.now.marks.now c.args.self.now
+    c.args.work.now.steps.now (all_behind c.args.context.now.flags.now
+    (name_texts c.args.context.now.sec_names.now c.args.context.now.uses.now) c.args.work.now.store.now
+    c.args.work.now.names.now c.args.work.now.marks.now c.args.self.now c.args.work.now.steps.now
+    (name_ahead c.args.begun.now.name) (answers_in c.args.begun.now.next) c.args.lexer.now) c.args.work.now.store.now
+    c.args.work.now.names.now c.args.work.now.marks.now c.args.self.now c.args.work.now.steps.now
+    (behind-begins c.args.context.now.flags.now (name_texts c.args.context.now.sec_names.now
+    c.args.context.now.uses.now) c.args.work.now.store.now c.args.work.now.names.now c.args.work.now.marks.now
+    c.args.self.now c.args.work.now.steps.now (name_ahead c.args.begun.now.name) (answers_in c.args.begun.now.next)
+    c.args.lexer.now c.requires.translating) (with_texts
+    (name_texts c.args.context.now.sec_names.now c.args.context.now.uses.now) (name_ahead c.args.begun.now.name))
+    (with_texts (name_texts c.args.context.now.sec_names.now c.args.context.now.uses.now)
+    (answers_in c.args.begun.now.next ++ c.args.lexer.now))
+    (cut-first c.args.context.now.flags.now (name_texts c.args.context.now.sec_names.now c.args.context.now.uses.now)
+    c.args.work.now.store.now c.args.work.now.names.now c.args.work.now.marks.now c.args.self.now
+    c.args.work.now.steps.now (name_ahead c.args.begun.now.name) (answers_in c.args.begun.now.next) c.args.lexer.now)
+    c.name_ahead.new.work.steps.now c.in_err-name_ahead.ensures.bound
 
 pub returns-in_err-named_answer-clause-names : goal.returns-in_err-named_answer-clause-names
-returns-in_err-named_answer-clause-names g c = on-err c.from_residual-in_err-named_answer.result (NamesAmong c.args.context.now.flags.now (all_behind c.args.context.now.flags.now (name_texts c.args.context.now.sec_names.now c.args.context.now.uses.now) c.args.work.now.store.now c.args.work.now.names.now c.args.work.now.marks.now c.args.self.now c.args.work.now.steps.now (name_ahead c.args.begun.now.name) (answers_in c.args.begun.now.next) c.args.lexer.now) (progress_of c.args.work.now.store.now.lists c.args.work.now.names.now c.args.work.now.marks.now c.args.self.now []) c.named_answer.new.work.names.now) (reads-fails c.args.context.now.flags.now (all_behind c.args.context.now.flags.now (name_texts c.args.context.now.sec_names.now c.args.context.now.uses.now) c.args.work.now.store.now c.args.work.now.names.now c.args.work.now.marks.now c.args.self.now c.args.work.now.steps.now (name_ahead c.args.begun.now.name) (answers_in c.args.begun.now.next) c.args.lexer.now) c.args.work.now.store.now c.args.work.now.names.now c.args.work.now.marks.now c.args.self.now c.args.work.now.steps.now (with_texts (name_texts c.args.context.now.sec_names.now c.args.context.now.uses.now) (answers_in c.args.begun.now.next ++ c.args.lexer.now)) c.name_ahead.new.work.store.now c.name_ahead.new.work.names.now c.name_ahead.new.work.marks.now c.name_ahead.new.self c.name_ahead.new.work.steps.now (behind-first c.args.context.now.flags.now (name_texts c.args.context.now.sec_names.now c.args.context.now.uses.now) c.args.work.now.store.now c.args.work.now.names.now c.args.work.now.marks.now c.args.self.now c.args.work.now.steps.now (name_ahead c.args.begun.now.name) (answers_in c.args.begun.now.next) c.args.lexer.now c.requires.translating c.name_ahead.new.work.store.now c.name_ahead.new.work.names.now c.name_ahead.new.work.marks.now c.name_ahead.new.self c.name_ahead.new.work.steps.now c.in_ok-name_ahead.ensures.translating c.in_ok-name_ahead.ensures.keeps c.in_ok-name_ahead.ensures.come c.in_ok-name_ahead.ensures.bound) (with_texts (name_texts c.args.context.now.sec_names.now c.args.context.now.uses.now) (answers_in c.args.begun.now.next)) (with_texts (name_texts c.args.context.now.sec_names.now c.args.context.now.uses.now) c.args.lexer.now) (with-texts-append (name_texts c.args.context.now.sec_names.now c.args.context.now.uses.now) (answers_in c.args.begun.now.next) c.args.lexer.now) c.named_answer.new.work.names.now c.in_err-named_answer.ensures.names)
+returns-in_err-named_answer-clause-names g c = on-err c.from_residual-in_err-named_answer.result
+    (NamesAmong c.args.context.now.flags.now (all_behind c.args.context.now.flags.now
+    (name_texts c.args.context.now.sec_names.now c.args.context.now.uses.now) c.args.work.now.store.now
+    c.args.work.now.names.now c.args.work.now.marks.now c.args.self.now c.args.work.now.steps.now
+    (name_ahead c.args.begun.now.name) (answers_in c.args.begun.now.next) c.args.lexer.now)
+    (progress_of c.args.work.now.store.now.lists c.args.work.now.names.now c.args.work.now.marks.now c.args.self.now [])
+    c.named_answer.new.work.names.now) (reads-fails c.args.context.now.flags.now
+    (all_behind c.args.context.now.flags.now (name_texts c.args.context.now.sec_names.now c.args.context.now.uses.now)
+    c.args.work.now.store.now c.args.work.now.names.now c.args.work.now.marks.now c.args.self.now
+    c.args.work.now.steps.now (name_ahead c.args.begun.now.name) (answers_in c.args.begun.now.next) c.args.lexer.now)
+    c.args.work.now.store.now c.args.work.now.names.now c.args.work.now.marks.now c.args.self.now
+    c.args.work.now.steps.now (with_texts (name_texts c.args.context.now.sec_names.now c.args.context.now.uses.now)
+    (answers_in c.args.begun.now.next ++ c.args.lexer.now)) c.name_ahead.new.work.store.now
+    c.name_ahead.new.work.names.now c.name_ahead.new.work.marks.now c.name_ahead.new.self
+    c.name_ahead.new.work.steps.now (behind-first c.args.context.now.flags.now
+    (name_texts c.args.context.now.sec_names.now c.args.context.now.uses.now) c.args.work.now.store.now
+    c.args.work.now.names.now c.args.work.now.marks.now c.args.self.now c.args.work.now.steps.now
+    (name_ahead c.args.begun.now.name) (answers_in c.args.begun.now.next) c.args.lexer.now c.requires.translating
+    c.name_ahead.new.work.store.now c.name_ahead.new.work.names.now c.name_ahead.new.work.marks.now
+    c.name_ahead.new.self c.name_ahead.new.work.steps.now c.in_ok-name_ahead.ensures.translating
+    c.in_ok-name_ahead.ensures.keeps c.in_ok-name_ahead.ensures.come c.in_ok-name_ahead.ensures.bound)
+    (with_texts (name_texts c.args.context.now.sec_names.now c.args.context.now.uses.now)
+    (answers_in c.args.begun.now.next)) (with_texts
+    (name_texts c.args.context.now.sec_names.now c.args.context.now.uses.now) c.args.lexer.now)
+    (with-texts-append (name_texts c.args.context.now.sec_names.now c.args.context.now.uses.now)
+    (answers_in c.args.begun.now.next) c.args.lexer.now) c.named_answer.new.work.names.now
+    c.in_err-named_answer.ensures.names)
 
 pub returns-in_err-named_answer-clause-bound : goal.returns-in_err-named_answer-clause-bound
-returns-in_err-named_answer-clause-bound g c = reads-few c.args.context.now.flags.now (all_behind c.args.context.now.flags.now (name_texts c.args.context.now.sec_names.now c.args.context.now.uses.now) c.args.work.now.store.now c.args.work.now.names.now c.args.work.now.marks.now c.args.self.now c.args.work.now.steps.now (name_ahead c.args.begun.now.name) (answers_in c.args.begun.now.next) c.args.lexer.now) c.args.work.now.store.now c.args.work.now.names.now c.args.work.now.marks.now c.args.self.now c.args.work.now.steps.now (with_texts (name_texts c.args.context.now.sec_names.now c.args.context.now.uses.now) (answers_in c.args.begun.now.next ++ c.args.lexer.now)) c.name_ahead.new.work.store.now c.name_ahead.new.work.names.now c.name_ahead.new.work.marks.now c.name_ahead.new.self c.name_ahead.new.work.steps.now (behind-first c.args.context.now.flags.now (name_texts c.args.context.now.sec_names.now c.args.context.now.uses.now) c.args.work.now.store.now c.args.work.now.names.now c.args.work.now.marks.now c.args.self.now c.args.work.now.steps.now (name_ahead c.args.begun.now.name) (answers_in c.args.begun.now.next) c.args.lexer.now c.requires.translating c.name_ahead.new.work.store.now c.name_ahead.new.work.names.now c.name_ahead.new.work.marks.now c.name_ahead.new.self c.name_ahead.new.work.steps.now c.in_ok-name_ahead.ensures.translating c.in_ok-name_ahead.ensures.keeps c.in_ok-name_ahead.ensures.come c.in_ok-name_ahead.ensures.bound) (with_texts (name_texts c.args.context.now.sec_names.now c.args.context.now.uses.now) (answers_in c.args.begun.now.next)) (with_texts (name_texts c.args.context.now.sec_names.now c.args.context.now.uses.now) c.args.lexer.now) (with-texts-append (name_texts c.args.context.now.sec_names.now c.args.context.now.uses.now) (answers_in c.args.begun.now.next) c.args.lexer.now) c.named_answer.new.work.steps.now c.in_err-named_answer.ensures.bound
+returns-in_err-named_answer-clause-bound g c = reads-few c.args.context.now.flags.now
+    (all_behind c.args.context.now.flags.now (name_texts c.args.context.now.sec_names.now c.args.context.now.uses.now)
+    c.args.work.now.store.now c.args.work.now.names.now c.args.work.now.marks.now c.args.self.now
+    c.args.work.now.steps.now (name_ahead c.args.begun.now.name) (answers_in c.args.begun.now.next) c.args.lexer.now)
+    c.args.work.now.store.now c.args.work.now.names.now c.args.work.now.marks.now c.args.self.now
+    c.args.work.now.steps.now (with_texts (name_texts c.args.context.now.sec_names.now c.args.context.now.uses.now)
+    (answers_in c.args.begun.now.next ++ c.args.lexer.now)) c.name_ahead.new.work.store.now
+    c.name_ahead.new.work.names.now c.name_ahead.new.work.marks.now c.name_ahead.new.self
+    c.name_ahead.new.work.steps.now (behind-first c.args.context.now.flags.now
+    (name_texts c.args.context.now.sec_names.now c.args.context.now.uses.now) c.args.work.now.store.now
+    c.args.work.now.names.now c.args.work.now.marks.now c.args.self.now c.args.work.now.steps.now
+    (name_ahead c.args.begun.now.name) (answers_in c.args.begun.now.next) c.args.lexer.now c.requires.translating
+    c.name_ahead.new.work.store.now c.name_ahead.new.work.names.now c.name_ahead.new.work.marks.now
+    c.name_ahead.new.self c.name_ahead.new.work.steps.now c.in_ok-name_ahead.ensures.translating
+    c.in_ok-name_ahead.ensures.keeps c.in_ok-name_ahead.ensures.come c.in_ok-name_ahead.ensures.bound)
+    (with_texts (name_texts c.args.context.now.sec_names.now c.args.context.now.uses.now)
+    (answers_in c.args.begun.now.next)) (with_texts
+    (name_texts c.args.context.now.sec_names.now c.args.context.now.uses.now) c.args.lexer.now)
+    (with-texts-append (name_texts c.args.context.now.sec_names.now c.args.context.now.uses.now)
+    (answers_in c.args.begun.now.next) c.args.lexer.now) c.named_answer.new.work.steps.now
+    c.in_err-named_answer.ensures.bound
 
 pub returns-clause-come : goal.returns-clause-come
-returns-clause-come g c = on-ok3 c.read_named.result (IsTranslating c.read_named.new.work.store.now c.read_named.new.work.names.now c.read_named.new.self) (Keeps c.named_answer.new.work.store.now.lists c.read_named.new.work.store.now.lists (all_roots c.named_answer.new.self.nesting) (all_roots c.read_named.new.self.nesting))
-    (HasCome c.args.context.now.flags.now c.named_answer.new.self c.named_answer.new.work.steps.now c.read_named.new.work.store.now.lists c.read_named.new.work.names.now c.read_named.new.work.marks.now c.read_named.new.self c.read_named.new.work.steps.now (after_answers c.args.context.now.flags.now (with_texts (name_texts c.args.context.now.sec_names.now c.args.context.now.uses.now) c.args.lexer.now) (progress_of c.named_answer.new.work.store.now.lists c.named_answer.new.work.names.now c.named_answer.new.work.marks.now c.named_answer.new.self [])))
-    (HasCome c.args.context.now.flags.now c.args.self.now c.args.work.now.steps.now c.read_named.new.work.store.now.lists c.read_named.new.work.names.now c.read_named.new.work.marks.now c.read_named.new.self c.read_named.new.work.steps.now (after_answers c.args.context.now.flags.now (all_behind c.args.context.now.flags.now (name_texts c.args.context.now.sec_names.now c.args.context.now.uses.now) c.args.work.now.store.now c.args.work.now.names.now c.args.work.now.marks.now c.args.self.now c.args.work.now.steps.now (name_ahead c.args.begun.now.name) (answers_in c.args.begun.now.next) c.args.lexer.now) (progress_of c.args.work.now.store.now.lists c.args.work.now.names.now c.args.work.now.marks.now c.args.self.now [])))
-    (λ is keeps come. last-come c.args.context.now.flags.now (all_behind c.args.context.now.flags.now (name_texts c.args.context.now.sec_names.now c.args.context.now.uses.now) c.args.work.now.store.now c.args.work.now.names.now c.args.work.now.marks.now c.args.self.now c.args.work.now.steps.now (name_ahead c.args.begun.now.name) (answers_in c.args.begun.now.next) c.args.lexer.now) c.args.work.now.store.now c.args.work.now.names.now c.args.work.now.marks.now c.args.self.now c.args.work.now.steps.now (with_texts (name_texts c.args.context.now.sec_names.now c.args.context.now.uses.now) c.args.lexer.now) c.named_answer.new.work.store.now c.named_answer.new.work.names.now c.named_answer.new.work.marks.now c.named_answer.new.self c.named_answer.new.work.steps.now (behind-next c.args.context.now.flags.now (name_texts c.args.context.now.sec_names.now c.args.context.now.uses.now) c.args.work.now.store.now c.args.work.now.names.now c.args.work.now.marks.now c.args.self.now c.args.work.now.steps.now (name_ahead c.args.begun.now.name) (answers_in c.args.begun.now.next) c.args.lexer.now c.name_ahead.new.work.store.now c.name_ahead.new.work.names.now c.name_ahead.new.work.marks.now c.name_ahead.new.self c.name_ahead.new.work.steps.now (behind-first c.args.context.now.flags.now (name_texts c.args.context.now.sec_names.now c.args.context.now.uses.now) c.args.work.now.store.now c.args.work.now.names.now c.args.work.now.marks.now c.args.self.now c.args.work.now.steps.now (name_ahead c.args.begun.now.name) (answers_in c.args.begun.now.next) c.args.lexer.now c.requires.translating c.name_ahead.new.work.store.now c.name_ahead.new.work.names.now c.name_ahead.new.work.marks.now c.name_ahead.new.self c.name_ahead.new.work.steps.now c.in_ok-name_ahead.ensures.translating c.in_ok-name_ahead.ensures.keeps c.in_ok-name_ahead.ensures.come c.in_ok-name_ahead.ensures.bound) c.named_answer.new.work.store.now c.named_answer.new.work.names.now c.named_answer.new.work.marks.now c.named_answer.new.self c.named_answer.new.work.steps.now c.in_ok-named_answer.ensures.translating c.in_ok-named_answer.ensures.keeps c.in_ok-named_answer.ensures.come c.in_ok-named_answer.ensures.bound) c.read_named.new.work.store.now c.read_named.new.work.names.now c.read_named.new.work.marks.now c.read_named.new.self c.read_named.new.work.steps.now is keeps come c.read_named.ensures.bound) c.read_named.ensures.translating c.read_named.ensures.keeps c.read_named.ensures.come
+returns-clause-come g c = on-ok3 c.read_named.result (IsTranslating c.read_named.new.work.store.now
+    c.read_named.new.work.names.now c.read_named.new.self) (Keeps c.named_answer.new.work.store.now.lists
+    c.read_named.new.work.store.now.lists (all_roots c.named_answer.new.self.nesting)
+    (all_roots c.read_named.new.self.nesting))
+    (HasCome c.args.context.now.flags.now c.named_answer.new.self c.named_answer.new.work.steps.now
+    c.read_named.new.work.store.now.lists c.read_named.new.work.names.now c.read_named.new.work.marks.now
+    c.read_named.new.self c.read_named.new.work.steps.now
+    (after_answers c.args.context.now.flags.now
+    (with_texts (name_texts c.args.context.now.sec_names.now c.args.context.now.uses.now) c.args.lexer.now)
+    (progress_of c.named_answer.new.work.store.now.lists c.named_answer.new.work.names.now
+    c.named_answer.new.work.marks.now c.named_answer.new.self [])))
+    (HasCome c.args.context.now.flags.now c.args.self.now c.args.work.now.steps.now
+    c.read_named.new.work.store.now.lists c.read_named.new.work.names.now c.read_named.new.work.marks.now
+    c.read_named.new.self c.read_named.new.work.steps.now
+    (after_answers c.args.context.now.flags.now
+    (all_behind c.args.context.now.flags.now (name_texts c.args.context.now.sec_names.now
+    c.args.context.now.uses.now) c.args.work.now.store.now c.args.work.now.names.now c.args.work.now.marks.now
+    c.args.self.now c.args.work.now.steps.now (name_ahead c.args.begun.now.name) (answers_in c.args.begun.now.next)
+    c.args.lexer.now) (progress_of c.args.work.now.store.now.lists c.args.work.now.names.now
+    c.args.work.now.marks.now c.args.self.now [])))
+    (λ is keeps come. last-come c.args.context.now.flags.now
+    (all_behind c.args.context.now.flags.now (name_texts c.args.context.now.sec_names.now
+    c.args.context.now.uses.now) c.args.work.now.store.now c.args.work.now.names.now c.args.work.now.marks.now
+    c.args.self.now c.args.work.now.steps.now (name_ahead c.args.begun.now.name) (answers_in c.args.begun.now.next)
+    c.args.lexer.now) c.args.work.now.store.now c.args.work.now.names.now c.args.work.now.marks.now c.args.self.now
+    c.args.work.now.steps.now (with_texts (name_texts c.args.context.now.sec_names.now c.args.context.now.uses.now)
+    c.args.lexer.now) c.named_answer.new.work.store.now c.named_answer.new.work.names.now
+    c.named_answer.new.work.marks.now c.named_answer.new.self c.named_answer.new.work.steps.now
+    (behind-next c.args.context.now.flags.now (name_texts c.args.context.now.sec_names.now
+    c.args.context.now.uses.now) c.args.work.now.store.now c.args.work.now.names.now c.args.work.now.marks.now
+    c.args.self.now c.args.work.now.steps.now (name_ahead c.args.begun.now.name) (answers_in c.args.begun.now.next)
+    c.args.lexer.now c.name_ahead.new.work.store.now c.name_ahead.new.work.names.now c.name_ahead.new.work.marks.now
+    c.name_ahead.new.self c.name_ahead.new.work.steps.now
+    (behind-first c.args.context.now.flags.now
+    (name_texts c.args.context.now.sec_names.now c.args.context.now.uses.now) c.args.work.now.store.now
+    c.args.work.now.names.now c.args.work.now.marks.now c.args.self.now c.args.work.now.steps.now
+    (name_ahead c.args.begun.now.name) (answers_in c.args.begun.now.next) c.args.lexer.now c.requires.translating
+    c.name_ahead.new.work.store.now c.name_ahead.new.work.names.now c.name_ahead.new.work.marks.now
+    c.name_ahead.new.self c.name_ahead.new.work.steps.now c.in_ok-name_ahead.ensures.translating
+    c.in_ok-name_ahead.ensures.keeps c.in_ok-name_ahead.ensures.come c.in_ok-name_ahead.ensures.bound)
+    c.named_answer.new.work.store.now c.named_answer.new.work.names.now c.named_answer.new.work.marks.now
+    c.named_answer.new.self c.named_answer.new.work.steps.now c.in_ok-named_answer.ensures.translating
+    c.in_ok-named_answer.ensures.keeps c.in_ok-named_answer.ensures.come c.in_ok-named_answer.ensures.bound)
+    c.read_named.new.work.store.now c.read_named.new.work.names.now c.read_named.new.work.marks.now
+    c.read_named.new.self c.read_named.new.work.steps.now is keeps come c.read_named.ensures.bound)
+    c.read_named.ensures.translating c.read_named.ensures.keeps c.read_named.ensures.come
 
 pub returns-clause-keeps : goal.returns-clause-keeps
-returns-clause-keeps g c = on-ok1 c.read_named.result (Keeps c.named_answer.new.work.store.now.lists c.read_named.new.work.store.now.lists (all_roots c.named_answer.new.self.nesting) (all_roots c.read_named.new.self.nesting)) (Keeps c.args.work.now.store.now.lists c.read_named.new.work.store.now.lists (all_roots c.args.self.now.nesting) (all_roots c.read_named.new.self.nesting))
-    (λ k. keeps-trans c.args.work.now.store.now.lists c.named_answer.new.work.store.now.lists c.read_named.new.work.store.now.lists (all_roots c.args.self.now.nesting) (all_roots c.named_answer.new.self.nesting) (all_roots c.read_named.new.self.nesting) (behind-next c.args.context.now.flags.now (name_texts c.args.context.now.sec_names.now c.args.context.now.uses.now) c.args.work.now.store.now c.args.work.now.names.now c.args.work.now.marks.now c.args.self.now c.args.work.now.steps.now (name_ahead c.args.begun.now.name) (answers_in c.args.begun.now.next) c.args.lexer.now c.name_ahead.new.work.store.now c.name_ahead.new.work.names.now c.name_ahead.new.work.marks.now c.name_ahead.new.self c.name_ahead.new.work.steps.now (behind-first c.args.context.now.flags.now (name_texts c.args.context.now.sec_names.now c.args.context.now.uses.now) c.args.work.now.store.now c.args.work.now.names.now c.args.work.now.marks.now c.args.self.now c.args.work.now.steps.now (name_ahead c.args.begun.now.name) (answers_in c.args.begun.now.next) c.args.lexer.now c.requires.translating c.name_ahead.new.work.store.now c.name_ahead.new.work.names.now c.name_ahead.new.work.marks.now c.name_ahead.new.self c.name_ahead.new.work.steps.now c.in_ok-name_ahead.ensures.translating c.in_ok-name_ahead.ensures.keeps c.in_ok-name_ahead.ensures.come c.in_ok-name_ahead.ensures.bound) c.named_answer.new.work.store.now c.named_answer.new.work.names.now c.named_answer.new.work.marks.now c.named_answer.new.self c.named_answer.new.work.steps.now c.in_ok-named_answer.ensures.translating c.in_ok-named_answer.ensures.keeps c.in_ok-named_answer.ensures.come c.in_ok-named_answer.ensures.bound).keeps k) c.read_named.ensures.keeps
+returns-clause-keeps g c = on-ok1 c.read_named.result (Keeps c.named_answer.new.work.store.now.lists
+    c.read_named.new.work.store.now.lists (all_roots c.named_answer.new.self.nesting)
+    (all_roots c.read_named.new.self.nesting)) (Keeps c.args.work.now.store.now.lists
+    c.read_named.new.work.store.now.lists (all_roots c.args.self.now.nesting) (all_roots c.read_named.new.self.nesting))
+    (λ k. keeps-trans c.args.work.now.store.now.lists c.named_answer.new.work.store.now.lists
+    c.read_named.new.work.store.now.lists (all_roots c.args.self.now.nesting)
+    (all_roots c.named_answer.new.self.nesting) (all_roots c.read_named.new.self.nesting)
+    (behind-next c.args.context.now.flags.now (name_texts c.args.context.now.sec_names.now
+    c.args.context.now.uses.now) c.args.work.now.store.now c.args.work.now.names.now c.args.work.now.marks.now
+    c.args.self.now c.args.work.now.steps.now (name_ahead c.args.begun.now.name) (answers_in c.args.begun.now.next)
+    c.args.lexer.now c.name_ahead.new.work.store.now c.name_ahead.new.work.names.now c.name_ahead.new.work.marks.now
+    c.name_ahead.new.self c.name_ahead.new.work.steps.now
+    (behind-first c.args.context.now.flags.now
+    (name_texts c.args.context.now.sec_names.now c.args.context.now.uses.now) c.args.work.now.store.now
+    c.args.work.now.names.now c.args.work.now.marks.now c.args.self.now c.args.work.now.steps.now
+    (name_ahead c.args.begun.now.name) (answers_in c.args.begun.now.next) c.args.lexer.now c.requires.translating
+    c.name_ahead.new.work.store.now c.name_ahead.new.work.names.now c.name_ahead.new.work.marks.now
+    c.name_ahead.new.self c.name_ahead.new.work.steps.now c.in_ok-name_ahead.ensures.translating
+    c.in_ok-name_ahead.ensures.keeps c.in_ok-name_ahead.ensures.come c.in_ok-name_ahead.ensures.bound)
+    c.named_answer.new.work.store.now c.named_answer.new.work.names.now c.named_answer.new.work.marks.now
+    c.named_answer.new.self c.named_answer.new.work.steps.now c.in_ok-named_answer.ensures.translating
+    c.in_ok-named_answer.ensures.keeps c.in_ok-named_answer.ensures.come c.in_ok-named_answer.ensures.bound).keeps
+    k) c.read_named.ensures.keeps
 
 pub returns-clause-names : goal.returns-clause-names
-returns-clause-names g c = on-err-weaker c.read_named.result (NamesAmong c.args.context.now.flags.now (with_texts (name_texts c.args.context.now.sec_names.now c.args.context.now.uses.now) c.args.lexer.now) (progress_of c.named_answer.new.work.store.now.lists c.named_answer.new.work.names.now c.named_answer.new.work.marks.now c.named_answer.new.self []) c.read_named.new.work.names.now) (NamesAmong c.args.context.now.flags.now (all_behind c.args.context.now.flags.now (name_texts c.args.context.now.sec_names.now c.args.context.now.uses.now) c.args.work.now.store.now c.args.work.now.names.now c.args.work.now.marks.now c.args.self.now c.args.work.now.steps.now (name_ahead c.args.begun.now.name) (answers_in c.args.begun.now.next) c.args.lexer.now) (progress_of c.args.work.now.store.now.lists c.args.work.now.names.now c.args.work.now.marks.now c.args.self.now []) c.read_named.new.work.names.now) (last-fails c.args.context.now.flags.now (all_behind c.args.context.now.flags.now (name_texts c.args.context.now.sec_names.now c.args.context.now.uses.now) c.args.work.now.store.now c.args.work.now.names.now c.args.work.now.marks.now c.args.self.now c.args.work.now.steps.now (name_ahead c.args.begun.now.name) (answers_in c.args.begun.now.next) c.args.lexer.now) c.args.work.now.store.now c.args.work.now.names.now c.args.work.now.marks.now c.args.self.now c.args.work.now.steps.now (with_texts (name_texts c.args.context.now.sec_names.now c.args.context.now.uses.now) c.args.lexer.now) c.named_answer.new.work.store.now c.named_answer.new.work.names.now c.named_answer.new.work.marks.now c.named_answer.new.self c.named_answer.new.work.steps.now (behind-next c.args.context.now.flags.now (name_texts c.args.context.now.sec_names.now c.args.context.now.uses.now) c.args.work.now.store.now c.args.work.now.names.now c.args.work.now.marks.now c.args.self.now c.args.work.now.steps.now (name_ahead c.args.begun.now.name) (answers_in c.args.begun.now.next) c.args.lexer.now c.name_ahead.new.work.store.now c.name_ahead.new.work.names.now c.name_ahead.new.work.marks.now c.name_ahead.new.self c.name_ahead.new.work.steps.now (behind-first c.args.context.now.flags.now (name_texts c.args.context.now.sec_names.now c.args.context.now.uses.now) c.args.work.now.store.now c.args.work.now.names.now c.args.work.now.marks.now c.args.self.now c.args.work.now.steps.now (name_ahead c.args.begun.now.name) (answers_in c.args.begun.now.next) c.args.lexer.now c.requires.translating c.name_ahead.new.work.store.now c.name_ahead.new.work.names.now c.name_ahead.new.work.marks.now c.name_ahead.new.self c.name_ahead.new.work.steps.now c.in_ok-name_ahead.ensures.translating c.in_ok-name_ahead.ensures.keeps c.in_ok-name_ahead.ensures.come c.in_ok-name_ahead.ensures.bound) c.named_answer.new.work.store.now c.named_answer.new.work.names.now c.named_answer.new.work.marks.now c.named_answer.new.self c.named_answer.new.work.steps.now c.in_ok-named_answer.ensures.translating c.in_ok-named_answer.ensures.keeps c.in_ok-named_answer.ensures.come c.in_ok-named_answer.ensures.bound) c.read_named.new.work.names.now) c.read_named.ensures.names
+returns-clause-names g c = on-err-weaker c.read_named.result
+    (NamesAmong c.args.context.now.flags.now (with_texts
+    (name_texts c.args.context.now.sec_names.now c.args.context.now.uses.now) c.args.lexer.now)
+    (progress_of c.named_answer.new.work.store.now.lists c.named_answer.new.work.names.now
+    c.named_answer.new.work.marks.now c.named_answer.new.self []) c.read_named.new.work.names.now)
+    (NamesAmong c.args.context.now.flags.now (all_behind c.args.context.now.flags.now
+    (name_texts c.args.context.now.sec_names.now c.args.context.now.uses.now) c.args.work.now.store.now
+    c.args.work.now.names.now c.args.work.now.marks.now c.args.self.now c.args.work.now.steps.now
+    (name_ahead c.args.begun.now.name) (answers_in c.args.begun.now.next) c.args.lexer.now)
+    (progress_of c.args.work.now.store.now.lists c.args.work.now.names.now c.args.work.now.marks.now c.args.self.now [])
+    c.read_named.new.work.names.now) (last-fails c.args.context.now.flags.now
+    (all_behind c.args.context.now.flags.now (name_texts c.args.context.now.sec_names.now c.args.context.now.uses.now)
+    c.args.work.now.store.now c.args.work.now.names.now c.args.work.now.marks.now c.args.self.now
+    c.args.work.now.steps.now (name_ahead c.args.begun.now.name) (answers_in c.args.begun.now.next) c.args.lexer.now)
+    c.args.work.now.store.now c.args.work.now.names.now c.args.work.now.marks.now c.args.self.now
+    c.args.work.now.steps.now (with_texts (name_texts c.args.context.now.sec_names.now c.args.context.now.uses.now)
+    c.args.lexer.now) c.named_answer.new.work.store.now c.named_answer.new.work.names.now
+    c.named_answer.new.work.marks.now c.named_answer.new.self c.named_answer.new.work.steps.now
+    (behind-next c.args.context.now.flags.now (name_texts c.args.context.now.sec_names.now c.args.context.now.uses.now)
+    c.args.work.now.store.now c.args.work.now.names.now c.args.work.now.marks.now c.args.self.now
+    c.args.work.now.steps.now (name_ahead c.args.begun.now.name) (answers_in c.args.begun.now.next) c.args.lexer.now
+    c.name_ahead.new.work.store.now c.name_ahead.new.work.names.now c.name_ahead.new.work.marks.now
+    c.name_ahead.new.self c.name_ahead.new.work.steps.now
+    (behind-first c.args.context.now.flags.now (name_texts c.args.context.now.sec_names.now c.args.context.now.uses.now)
+    c.args.work.now.store.now c.args.work.now.names.now c.args.work.now.marks.now c.args.self.now
+    c.args.work.now.steps.now (name_ahead c.args.begun.now.name) (answers_in c.args.begun.now.next) c.args.lexer.now
+    c.requires.translating c.name_ahead.new.work.store.now c.name_ahead.new.work.names.now
+    c.name_ahead.new.work.marks.now c.name_ahead.new.self c.name_ahead.new.work.steps.now
+    c.in_ok-name_ahead.ensures.translating c.in_ok-name_ahead.ensures.keeps c.in_ok-name_ahead.ensures.come
+    c.in_ok-name_ahead.ensures.bound) c.named_answer.new.work.store.now c.named_answer.new.work.names.now
+    c.named_answer.new.work.marks.now c.named_answer.new.self c.named_answer.new.work.steps.now
+    c.in_ok-named_answer.ensures.translating c.in_ok-named_answer.ensures.keeps c.in_ok-named_answer.ensures.come
+    c.in_ok-named_answer.ensures.bound) c.read_named.new.work.names.now) c.read_named.ensures.names
 
 pub returns-clause-bound : goal.returns-clause-bound
-returns-clause-bound g c = last-few c.args.context.now.flags.now (all_behind c.args.context.now.flags.now (name_texts c.args.context.now.sec_names.now c.args.context.now.uses.now) c.args.work.now.store.now c.args.work.now.names.now c.args.work.now.marks.now c.args.self.now c.args.work.now.steps.now (name_ahead c.args.begun.now.name) (answers_in c.args.begun.now.next) c.args.lexer.now) c.args.work.now.store.now c.args.work.now.names.now c.args.work.now.marks.now c.args.self.now c.args.work.now.steps.now (with_texts (name_texts c.args.context.now.sec_names.now c.args.context.now.uses.now) c.args.lexer.now) c.named_answer.new.work.store.now c.named_answer.new.work.names.now c.named_answer.new.work.marks.now c.named_answer.new.self c.named_answer.new.work.steps.now (behind-next c.args.context.now.flags.now (name_texts c.args.context.now.sec_names.now c.args.context.now.uses.now) c.args.work.now.store.now c.args.work.now.names.now c.args.work.now.marks.now c.args.self.now c.args.work.now.steps.now (name_ahead c.args.begun.now.name) (answers_in c.args.begun.now.next) c.args.lexer.now c.name_ahead.new.work.store.now c.name_ahead.new.work.names.now c.name_ahead.new.work.marks.now c.name_ahead.new.self c.name_ahead.new.work.steps.now (behind-first c.args.context.now.flags.now (name_texts c.args.context.now.sec_names.now c.args.context.now.uses.now) c.args.work.now.store.now c.args.work.now.names.now c.args.work.now.marks.now c.args.self.now c.args.work.now.steps.now (name_ahead c.args.begun.now.name) (answers_in c.args.begun.now.next) c.args.lexer.now c.requires.translating c.name_ahead.new.work.store.now c.name_ahead.new.work.names.now c.name_ahead.new.work.marks.now c.name_ahead.new.self c.name_ahead.new.work.steps.now c.in_ok-name_ahead.ensures.translating c.in_ok-name_ahead.ensures.keeps c.in_ok-name_ahead.ensures.come c.in_ok-name_ahead.ensures.bound) c.named_answer.new.work.store.now c.named_answer.new.work.names.now c.named_answer.new.work.marks.now c.named_answer.new.self c.named_answer.new.work.steps.now c.in_ok-named_answer.ensures.translating c.in_ok-named_answer.ensures.keeps c.in_ok-named_answer.ensures.come c.in_ok-named_answer.ensures.bound) c.read_named.new.work.steps.now c.read_named.ensures.bound
+returns-clause-bound g c = last-few c.args.context.now.flags.now
+    (all_behind c.args.context.now.flags.now (name_texts c.args.context.now.sec_names.now c.args.context.now.uses.now)
+    c.args.work.now.store.now c.args.work.now.names.now c.args.work.now.marks.now c.args.self.now
+    c.args.work.now.steps.now (name_ahead c.args.begun.now.name) (answers_in c.args.begun.now.next) c.args.lexer.now)
+    c.args.work.now.store.now c.args.work.now.names.now c.args.work.now.marks.now c.args.self.now
+    c.args.work.now.steps.now (with_texts (name_texts c.args.context.now.sec_names.now c.args.context.now.uses.now)
+    c.args.lexer.now) c.named_answer.new.work.store.now c.named_answer.new.work.names.now
+    c.named_answer.new.work.marks.now c.named_answer.new.self c.named_answer.new.work.steps.now
+    (behind-next c.args.context.now.flags.now (name_texts c.args.context.now.sec_names.now c.args.context.now.uses.now)
+    c.args.work.now.store.now c.args.work.now.names.now c.args.work.now.marks.now c.args.self.now
+    c.args.work.now.steps.now (name_ahead c.args.begun.now.name) (answers_in c.args.begun.now.next) c.args.lexer.now
+    c.name_ahead.new.work.store.now c.name_ahead.new.work.names.now c.name_ahead.new.work.marks.now
+    c.name_ahead.new.self c.name_ahead.new.work.steps.now
+    (behind-first c.args.context.now.flags.now (name_texts c.args.context.now.sec_names.now c.args.context.now.uses.now)
+    c.args.work.now.store.now c.args.work.now.names.now c.args.work.now.marks.now c.args.self.now
+    c.args.work.now.steps.now (name_ahead c.args.begun.now.name) (answers_in c.args.begun.now.next) c.args.lexer.now
+    c.requires.translating c.name_ahead.new.work.store.now c.name_ahead.new.work.names.now
+    c.name_ahead.new.work.marks.now c.name_ahead.new.self c.name_ahead.new.work.steps.now
+    c.in_ok-name_ahead.ensures.translating c.in_ok-name_ahead.ensures.keeps c.in_ok-name_ahead.ensures.come
+    c.in_ok-name_ahead.ensures.bound) c.named_answer.new.work.store.now c.named_answer.new.work.names.now
+    c.named_answer.new.work.marks.now c.named_answer.new.self c.named_answer.new.work.steps.now
+    c.in_ok-named_answer.ensures.translating c.in_ok-named_answer.ensures.keeps c.in_ok-named_answer.ensures.come
+    c.in_ok-named_answer.ensures.bound) c.read_named.new.work.steps.now c.read_named.ensures.bound

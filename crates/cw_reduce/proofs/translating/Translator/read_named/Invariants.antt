@@ -8,7 +8,11 @@ use Rattle.cw_reduce.proofs.AnswerSteps.{Reads}
 use Rattle.cw_reduce.proofs.translating.Translator.read_named.Given as goal
 
 abbrev pub invariant-loop-self : goal.invariant-loop-self
-invariant-loop-self g l = Reads l.context.flags.now (with_texts (name_texts l.context.sec_names.now l.context.uses.now) l.initial.lexer) l.initial.work.store.now l.initial.work.names.now l.initial.work.marks.now l.initial.self l.initial.work.steps.now (with_texts (name_texts l.context.sec_names.now l.context.uses.now) l.lexer) l.work.store.now l.work.names.now l.work.marks.now l.self l.work.steps.now × StartsBelow (2 ^ 32) l.lexer × IsSameWork l.initial.work l.work
+invariant-loop-self g l = Reads l.context.flags.now (with_texts (name_texts l.context.sec_names.now l.context.uses.now)
+    l.initial.lexer) l.initial.work.store.now l.initial.work.names.now l.initial.work.marks.now l.initial.self
+    l.initial.work.steps.now (with_texts (name_texts l.context.sec_names.now l.context.uses.now) l.lexer)
+    l.work.store.now l.work.names.now l.work.marks.now l.self l.work.steps.now × StartsBelow (2 ^ 32) l.lexer
+    × IsSameWork l.initial.work l.work
 
 abbrev pub decreases-loop-self : goal.decreases-loop-self
 decreases-loop-self g l = length l.lexer

@@ -18,4 +18,10 @@ list_at-requires-clause-list c =
 pub returns : goal.returns
 returns c =
     let k = kept-view _ _ _ _ _ _ c.self.view_is c.requires.list in
-    record { name = c.only_name.ensures ∙ (ap only_name_of (c.list_at.ensures ∙ rw (c.deref.ensures.value, c.deref-2.ensures.value) refl) ∙ (bare-list (cut 0 c.self.inside.ends.items c.self.inside.tokens.items) c.args.id.index (linked-tied _ _ (linked-lists _ _ _ c.self.invariant.linked)) k.in_cut ∙ ap (λ (v : StoredLists). name_at (bare_name (unfolded v.lists c.args.id.index))) c.self.view_is)) }
+    record {
+      name = c.only_name.ensures
+          ∙ (ap only_name_of (c.list_at.ensures ∙ rw (c.deref.ensures.value, c.deref-2.ensures.value) refl)
+          ∙ (bare-list (cut 0 c.self.inside.ends.items c.self.inside.tokens.items) c.args.id.index
+          (linked-tied _ _ (linked-lists _ _ _ c.self.invariant.linked)) k.in_cut
+          ∙ ap (λ (v : StoredLists). name_at (bare_name (unfolded v.lists c.args.id.index))) c.self.view_is));
+    }

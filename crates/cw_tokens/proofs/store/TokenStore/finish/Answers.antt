@@ -6,7 +6,14 @@ use Rattle.cw_tokens.proofs.store.TokenStore.finish.Goals as goal
 pub invariant_of-self : goal.invariant_of-self
 invariant_of-self c =
     let f = finish-view _ _ _ _ _ _ _ _ _ _ c.self.invariant c.self.view_is c.requires.building in
-    rw (c.push_reserved.ensures.items, c.push_reserved-2.ensures.items, c.push_reserved.ensures.capacity, c.push_reserved-2.ensures.capacity, c.len.ensures, c.self.inside.tokens.ok.0) f.stored
+    rw (
+      c.push_reserved.ensures.items,
+      c.push_reserved-2.ensures.items,
+      c.push_reserved.ensures.capacity,
+      c.push_reserved-2.ensures.capacity,
+      c.len.ensures,
+      c.self.inside.tokens.ok.0,
+    ) f.stored
 
 pub returns-clause-id : goal.returns-clause-id
 returns-clause-id c =

@@ -9,4 +9,5 @@ find-requires-clause-root c =
     rw c.deref-2.ensures.value k.in_ends
 
 pub find-requires-clause-linked : goal.find-requires-clause-linked
-find-requires-clause-linked c = rw (c.deref.ensures.value, c.deref-2.ensures.value, c.deref-3.ensures.value) (linked-lists _ _ _ c.self.invariant.linked)
+find-requires-clause-linked c = rw (c.deref.ensures.value, c.deref-2.ensures.value, c.deref-3.ensures.value)
+    (linked-lists _ _ _ c.self.invariant.linked)

@@ -9,4 +9,5 @@ flatten-requires-clause-root c =
     rw c.deref-2.ensures.value k.in_ends
 
 pub flatten-requires-clause-linked : goal.flatten-requires-clause-linked
-flatten-requires-clause-linked c = rw (c.deref.ensures.value, c.deref-2.ensures.value, c.deref-3.ensures.value) (linked-lists _ _ _ c.self.invariant.linked)
+flatten-requires-clause-linked c = rw (c.deref.ensures.value, c.deref-2.ensures.value, c.deref-3.ensures.value)
+    (linked-lists _ _ _ c.self.invariant.linked)

@@ -8,4 +8,5 @@ use Rattle.cw_tokens.proofs.trimmer.Trimmer.done.Goals as goal
 pub returns : goal.returns
 returns c = λ given stands.
     ap items_are c.of.ensures
-    ∙ stands-end _ given _ (subst (λ (t : Trims). StandsFor t given) (sym c.self.view_is) stands) c.take_breaks.ensures.items
+    ∙ stands-end _ given _ (subst (λ (t : Trims). StandsFor t given) (sym c.self.view_is) stands)
+    c.take_breaks.ensures.items
