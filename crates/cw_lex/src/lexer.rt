@@ -21,7 +21,7 @@ use crate::ends::{cut_off, is_section_at};
 use crate::giving::{give, give_note, give_string};
 use crate::plain::{format_name, head_text, limbo_text, macro_name, parameter, tex_text};
 use crate::short::{Quick, give_short, quick_at};
-use crate::state::{Clear, Stand, State};
+use crate::state::{Clear, Stand, State, is_calm_part};
 use crate::{Lexed, Mode, Sign, TokKind};
 use cw_base::NoteKind;
 use cw_rules::classes::{Class, begins_with, from, is_letter, run};
@@ -69,18 +69,23 @@ impl<'a> Lexer<'a> {
         requires within { end ≤ length text.now }
         ensures { result ≡ tokens_of text.now start end mode }
     {
+        let part = beginning(mode);
         Lexer {
             text: &text[..end],
-            stand: Stand::new(State {
-                at: start,
-                part: beginning(mode),
-                comments: Comments::new(),
-                pending: Pending::new(),
-                clear: Clear {
-                    from: start + 1,
-                    to: start,
+            // Written in its place, since a state is large.
+            stand: Stand {
+                state: State {
+                    at: start,
+                    part,
+                    comments: Comments::new(),
+                    pending: Pending::new(),
+                    clear: Clear {
+                        from: start + 1,
+                        to: start,
+                    },
                 },
-            }),
+                calm: is_calm_part(part),
+            },
         }
     }
 

@@ -37,19 +37,8 @@ pub(crate) struct Stand {
     pub calm: bool,
 }
 
-impl Stand {
-    /// The same for a state.
-    pub(crate) fn new(state: State) -> Stand
-        ensures same { result.state ≡ state }
-        ensures calm { result.calm ≡ true → IsCalm result.state }
-    {
-        let calm = state.is_calm();
-        Stand { state, calm }
-    }
-}
-
-// Whether a part is C text that stays as it is behind each token.
-fn is_calm_part(part: Part) -> bool
+/// Whether a part is C text that stays as it is behind each token.
+pub(crate) fn is_calm_part(part: Part) -> bool
     ensures { result ≡ is_calm_part part }
 {
     matches!(
