@@ -1,2 +1,4 @@
 -- The proofs of kept answers: what stands while they come.
 mod Standing
+mod Reading
+pub mod Staying

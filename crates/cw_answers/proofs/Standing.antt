@@ -6,15 +6,9 @@ use Rattle.cw_rules.specs.Answers.{Answer, Token, Begin, Finish, Note, Seen}
 use Rattle.cw_rules.specs.Order.{Covers, AreWithin, Stands, LiesWithin}
 use Rattle.cw_answers.specs.declared.kept.Kept.{Kept}
 use Rattle.cw_answers.specs.Kept.{StandsIn, IsWithin, answer_at, answers_at}
+use Rattle.cw_answers.specs.Reading.{Stand}
 use Rattle.std.proofs.Math.Seq.{drop-cons}
 use Rattle.std.proofs.lemmas.List.{map-append, append_assoc}
-
--- The token of an answer stands in the text.
-abbrev pub Stand : List ℕ → Answer → Type 0
-Stand text (Token t) = StandsIn text t
-Stand text (Begin t) = StandsIn text t
-Stand text (Finish t) = StandsIn text t
-Stand text (Note kind place) = Unit {0}
 
 stands : (text : List ℕ) (from start end : ℕ) (t : Seen) → end ≤ length text → Stands text from t
     → LiesWithin start end t.span → StandsIn text t

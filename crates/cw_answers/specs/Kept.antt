@@ -1,6 +1,5 @@
 -- The answers of a scan as they are kept: each token by where its bytes lie in the text.
 use Rattle.std.specs.Prelude.{◌≡◌, ℕ, ◌≤◌, List, map, length, slice_range}
-use Rattle.std.specs.List.{All}
 use Rattle.cw_rules.specs.Answers.{Answer, Token, Begin, Finish, Note, Seen}
 use Rattle.cw_answers.specs.declared.kept.Stretch.{Stretch}
 use Rattle.cw_answers.specs.declared.kept.Kept.{Kept}
@@ -39,8 +38,3 @@ pub record StandsIn (text : List ℕ) (token : Seen) : Type 0 where
   pub order : token.span.start ≤ token.span.end
   pub within : token.span.end ≤ length text
   pub slice : token.text ≡ slice_range text token.span.start token.span.end
-
--- Answers are gone through again: so many are behind, and all lie in the text.
-pub record IsUnder (text : List ℕ) (kept : List Kept) (place : ℕ) : Type 0 where
-  pub within : All (IsWithin (length text)) kept
-  pub reached : place ≤ length kept

@@ -3,5 +3,7 @@
 
 mod answers;
 mod kept;
+mod reader;
 
-pub use answers::{Again, Answers};
+pub use answers::Answers;
+pub use reader::Reader;

@@ -8,7 +8,7 @@ use Rattle.std.proofs.lemmas.List.{append-nil, append_assoc}
 use Rattle.std.proofs.lemmas.List.Elements.{All-cons}
 use Rattle.cw_base.specs.declared.flags.Flags.{Flags}
 use Rattle.cw_rules.specs.Answers.{Answer, Seen, Token, Begin, Finish, Note, Gives, seen}
-use Rattle.cw_lex.specs.Nested.{is_section_kind, is_section_answer, until_section}
+use Rattle.cw_lex.specs.Nested.{until_section}
 use Rattle.cw_rules.specs.Order.{AreWithin}
 use Rattle.cw_rules.specs.declared.codes.Code.{Code}
 use Rattle.cw_rules.specs.declared.tokens.Lexed.{Lexed}

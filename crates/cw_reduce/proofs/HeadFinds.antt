@@ -1,15 +1,14 @@
 -- What stands behind heads, as they are read.
-use Rattle.std.proofs.Common.{◌≡◌, ℕ, ◌<◌, ◌^◌, Bool, true, false, Option, Some, None, List, [], ◌∷◌, ◌++◌, refl, sym}
+use Rattle.std.proofs.Common.{◌≡◌, ◌^◌, Bool, true, false, Some, None, List, [], ◌∷◌, ◌++◌, refl, sym}
 use Rattle.std.proofs.Common.{ap, ◌∙◌, subst}
 use Rattle.cw_rules.specs.Answers.{Answer, Token, Begin, Finish, Note, Seen, seen, Gives, is_head_sign}
-use Rattle.cw_rules.specs.declared.codes.Code.{Code}
 use Rattle.cw_rules.specs.declared.codes.Code.TheVariants as code
 use Rattle.cw_rules.specs.declared.tokens.Lexed.{Lexed}
 use Rattle.cw_rules.specs.declared.tokens.Lexed.TheVariants as lexed
 use Rattle.cw_rules.specs.declared.tokens.Tok.{Tok}
 use Rattle.cw_rules.specs.declared.tokens.TokKind.{TokKind}
 use Rattle.cw_rules.specs.declared.tokens.TokKind.TheVariants as kind
-use Rattle.cw_lex.specs.Heads.{Head, Headless, Named, Headed, headed, headed_by, headless, head_words, named_headed}
+use Rattle.cw_lex.specs.Heads.{Head, Headless, Named, Headed, headed, headed_by, headless, named_headed}
 use Rattle.cw_lex.specs.Heads.{wanted_by, without_words}
 use Rattle.cw_lex.specs.Nest.{Nest, Leaf, group, nests, first_nest, nest}
 use Rattle.cw_lex.specs.Nested.{IsNested}

@@ -7,14 +7,14 @@ use Rattle.cw_base.specs.declared.category.Cat.TheVariants as cat
 use Rattle.cw_base.specs.Flags.{start_flags}
 use Rattle.cw_base.specs.declared.flags.Flags.{Flags}
 use Rattle.cw_base.specs.declared.mode.MathMode.TheVariants.{Text}
-use Rattle.cw_rules.specs.Answers.{Answer, Token as TokenAnswer, Seen}
+use Rattle.cw_rules.specs.Answers.{Answer, Seen}
 use Rattle.cw_rules.specs.declared.codes.Code.TheVariants as code
 use Rattle.cw_lex.specs.declared.heads.Wanted.{Wanted}
 use Rattle.cw_lex.specs.declared.heads.Wanted.TheVariants as wants
 use Rattle.cw_rules.specs.declared.tokens.TokKind.{TokKind}
 use Rattle.cw_rules.specs.declared.tokens.TokKind.TheVariants as kind
-use Rattle.cw_lex.specs.Heads.{Head, Macro, Format, Silent, Headed, headed_by, head_words, wanted_by, without_words}
-use Rattle.cw_lex.specs.Nest.{Nest, Leaf as LeafNest, nest}
+use Rattle.cw_lex.specs.Heads.{Head, Macro, Format, Silent, headed_by, head_words, wanted_by}
+use Rattle.cw_lex.specs.Nest.{Nest, nest}
 use Rattle.cw_lex.specs.Nested.{IsNested}
 use Rattle.cw_names.specs.Names.{Entry}
 use Rattle.cw_trees.specs.declared.Control.TheVariants as control

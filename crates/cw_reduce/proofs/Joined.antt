@@ -6,7 +6,7 @@ use Rattle.cw_rules.specs.Answers.{Answer, Token, Begin, Finish, Note, Seen}
 use Rattle.cw_rules.specs.declared.codes.Code.TheVariants as code
 use Rattle.cw_rules.specs.declared.tokens.TokKind.{TokKind}
 use Rattle.cw_rules.specs.declared.tokens.TokKind.TheVariants as kind
-use Rattle.cw_lex.specs.Nest.{Nest, End, leaf, group, nests, nest, first_nest}
+use Rattle.cw_lex.specs.Nest.{Nest, End, leaf, group, nests, first_nest}
 use Rattle.cw_lex.specs.Nested.{Level, InCode, InComment, after_token as level_token, after_begin as level_begin}
 use Rattle.cw_lex.specs.Nested.{after_finish as level_finish, levels_after, all_levels_after}
 use Rattle.cw_trees.specs.Joining.{Scrap}

@@ -14,4 +14,3 @@ pub mod Naming
 pub mod HeadReading
 pub mod Heading
 pub mod Working
-pub mod Sources

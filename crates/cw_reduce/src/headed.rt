@@ -5,6 +5,7 @@ ghost use Rattle.cw_tokens.specs.Shapes.{unfolded};
 ghost use Rattle.cw_scraps.specs.Changing.{Keeps};
 ghost use Rattle.cw_scraps.specs.Lines.{AreRoots, IsNamedBelow, IsSoundLine, roots_of};
 ghost use Rattle.cw_scraps.specs.Marking.{marked_names};
+ghost use Rattle.cw_answers.specs.Reading.{IsReadUp};
 ghost use Rattle.cw_reduce.specs.declared.nesting.Open.TheVariants as Opens;
 ghost use Rattle.cw_reduce.specs.Counting.{limit_in};
 ghost use Rattle.cw_reduce.specs.declared.holders.Holder.TheVariants as Holders;
@@ -21,9 +22,9 @@ ghost use Rattle.cw_reduce.specs.Working.{HasComeOver, IsSameWork, progress_over
 
 use crate::heads::{Beginning, HeadRead};
 use crate::holders::Holder;
-use crate::source::Source;
 use crate::translating::{Translated, Translator};
 use crate::work::{Context, Work};
+use cw_answers::Reader;
 use cw_base::{Cat, Ledger, MathMode, Memory};
 use cw_lex::Lexed;
 use cw_scraps::ScrapLine;
@@ -152,78 +153,81 @@ impl Translator {
     fn read_behind<L: Ledger>(
         &mut self,
         begun: &Beginning,
-        lexer: &mut Source,
+        reader: &mut Reader,
         context: &Context,
         work: &mut Work<L>,
     ) -> Result<(), Memory>
-        requires start { StartsBelow (2 ^ 32) (answers_ahead begun.now ++ lexer.old) }
+        requires start { StartsBelow (2 ^ 32) (answers_ahead begun.now ++ reader.old.coming) }
         requires kept { AreNamesOf context.now.sec_names.now context.now.uses.now }
         requires translating { IsTranslating work.old.store.now work.old.names.now self.old }
+        ensures read { OnOk result (IsReadUp reader.old reader.new) }
         ensures translating { OnOk result (IsTranslating work.new.store.now work.new.names.now self.new) }
         ensures come { OnOk result (HasComeOver context.now.flags.now self.old work.old self.new work.new
             (after_answers context.now.flags.now (with_texts (texts_in context.now) (answers_ahead begun.now ++
-            lexer.old)) (progress_over work.old self.old))) }
+            reader.old.coming)) (progress_over work.old self.old))) }
         ensures keeps { OnOk result (Keeps work.old.store.now.lists work.new.store.now.lists
             (all_roots self.old.nesting) (all_roots self.new.nesting)) }
         ensures names { OnErr result (NamesAmong context.now.flags.now (with_texts (texts_in context.now)
-            (answers_ahead begun.now ++ lexer.old)) (progress_over work.old self.old) work.new.names.now) }
+            (answers_ahead begun.now ++ reader.old.coming)) (progress_over work.old self.old) work.new.names.now) }
         ensures bound { work.new.steps.now ≤ work.old.steps.now +
             limit_in context.now.flags.now (after_answers context.now.flags.now (with_texts (texts_in context.now)
-            (answers_ahead begun.now ++ lexer.old)) (progress_over work.old self.old)).known.ended }
+            (answers_ahead begun.now ++ reader.old.coming)) (progress_over work.old self.old)).known.ended }
         ensures same { IsSameWork work.old work.new }
         ensures idle { work.new.store.now.building ≡ None }
     {
         self.name_ahead(begun, context, work)?;
         self.named_answer(&begun.next, context, work)?;
-        self.read_named(lexer, context, work)
+        self.read_named(reader, context, work)
     }
 
     /// A text with its head.
     fn read_headed<L: Ledger>(
         &mut self,
         begun: &Beginning,
-        lexer: &mut Source,
+        reader: &mut Reader,
         context: &Context,
         work: &mut Work<L>,
     ) -> Result<(), Memory>
-        requires start { StartsBelow (2 ^ 32) (answers_ahead begun.now ++ lexer.old) }
+        requires start { StartsBelow (2 ^ 32) (answers_ahead begun.now ++ reader.old.coming) }
         requires kept { AreNamesOf context.now.sec_names.now context.now.uses.now }
         requires translating { IsTranslating work.old.store.now work.old.names.now self.old }
+        ensures read { OnOk result (IsReadUp reader.old reader.new) }
         ensures translating { OnOk result (IsTranslating work.new.store.now work.new.names.now self.new) }
         ensures come { OnOk result (HasComeOver context.now.flags.now self.old work.old self.new work.new
             (after_answers context.now.flags.now (with_texts (texts_in context.now) (answers_ahead begun.now ++
-            lexer.old)) (after_head context.now.flags.now (texts_in context.now) begun.now.head
+            reader.old.coming)) (after_head context.now.flags.now (texts_in context.now) begun.now.head
             (progress_over work.old self.old)))) }
         ensures keeps { OnOk result (Keeps work.old.store.now.lists work.new.store.now.lists
             (all_roots self.old.nesting) (all_roots self.new.nesting)) }
         ensures names { OnErr result (NamesOfHeaded context.now.flags.now (texts_in context.now) begun.now.head
-            (answers_ahead begun.now ++ lexer.old) (progress_over work.old self.old) work.new.names.now) }
+            (answers_ahead begun.now ++ reader.old.coming) (progress_over work.old self.old) work.new.names.now) }
         ensures bound { work.new.steps.now ≤ work.old.steps.now +
             limit_in context.now.flags.now (after_answers context.now.flags.now (with_texts (texts_in context.now)
-            (answers_ahead begun.now ++ lexer.old)) (after_head context.now.flags.now (texts_in context.now)
+            (answers_ahead begun.now ++ reader.old.coming)) (after_head context.now.flags.now (texts_in context.now)
             begun.now.head (progress_over work.old self.old))).known.ended }
         ensures same { IsSameWork work.old work.new }
         ensures idle { work.new.store.now.building ≡ None }
     {
         self.head_name(begun.head, context, work)?;
-        self.read_behind(begun, lexer, context, work)
+        self.read_behind(begun, reader, context, work)
     }
 }
 
 /// Translates a text that begins with this head.
 pub(crate) fn translate_headed<L: Ledger>(
     begun: &Beginning,
-    lexer: &mut Source,
+    reader: &mut Reader,
     context: &Context,
     work: &mut Work<L>,
 ) -> Result<Translated, Memory>
     requires sound { IsSoundLine work.old.store.now work.old.names.now (head_line begun.now.head) }
-    requires start { StartsBelow (2 ^ 32) (answers_ahead begun.now ++ lexer.old) }
-    requires nested { IsNested (answers_ahead begun.now ++ lexer.old) }
+    requires start { StartsBelow (2 ^ 32) (answers_ahead begun.now ++ reader.old.coming) }
+    requires nested { IsNested (answers_ahead begun.now ++ reader.old.coming) }
     requires kept { AreNamesOf context.now.sec_names.now context.now.uses.now }
+    ensures read { OnOk result (IsReadUp reader.old reader.new) }
     ensures text { IfOk result (λ done. IsTranslated context.now.flags.now work.new.store.now.lists work.new.names.now
         work.new.marks.now done work.old.steps.now work.new.steps.now (headed_text context.now.flags.now
-        (texts_in context.now) work.old.store.now.lists begun.now.head (answers_ahead begun.now ++ lexer.old)
+        (texts_in context.now) work.old.store.now.lists begun.now.head (answers_ahead begun.now ++ reader.old.coming)
         (begin work.old.names.now (marked_names work.old.marks.now)))) }
     ensures few { IfOk result (λ done. done.productions ≤ 8 * done.scraps) }
     ensures named { IfOk result (λ done. IsNamedBelow (length work.new.names.now) (unfolded work.new.store.now.lists
@@ -232,16 +236,16 @@ pub(crate) fn translate_headed<L: Ledger>(
     ensures keeps { IfOk result (λ done. Keeps work.old.store.now.lists work.new.store.now.lists
         (roots_of (head_line begun.now.head)) (done.list.index ∷ [])) }
     ensures refused { OnErr result (NamesOfHeaded context.now.flags.now (texts_in context.now) begun.now.head
-        (answers_ahead begun.now ++ lexer.old) (head_begun work.old.store.now.lists begun.now.head
+        (answers_ahead begun.now ++ reader.old.coming) (head_begun work.old.store.now.lists begun.now.head
         (begin work.old.names.now (marked_names work.old.marks.now))) work.new.names.now) }
     ensures bound { work.new.steps.now ≤ work.old.steps.now +
         limit_in context.now.flags.now (headed_text context.now.flags.now (texts_in context.now)
-        work.old.store.now.lists begun.now.head (answers_ahead begun.now ++ lexer.old)
+        work.old.store.now.lists begun.now.head (answers_ahead begun.now ++ reader.old.coming)
         (begin work.old.names.now (marked_names work.old.marks.now))).known.ended }
     ensures same { IsSameWork work.old work.new }
     ensures idle { work.new.store.now.building ≡ None }
 {
     let mut translator = Translator::with_head(begun.head, context.alloc)?;
-    translator.read_headed(begun, lexer, context, work)?;
+    translator.read_headed(begun, reader, context, work)?;
     translator.end(context, work)
 }

@@ -3,6 +3,7 @@ ghost use Rattle.std.specs.Prelude.{◌≡◌, ◌+◌, ◌^◌, ◌<◌, ◌≤
 ghost use Rattle.std.specs.Prelude.{Some, IfOk, OnOk, OnErr};
 ghost use Rattle.cw_base.specs.declared.flags.Flags.{Flags};
 ghost use Rattle.cw_rules.specs.Answers.{Gives, Token as TokenAnswer, seen};
+ghost use Rattle.cw_answers.specs.Reading.{Stays};
 ghost use Rattle.cw_lex.specs.Heads.{headed, headed_by, named_headed, wanted_by, without_words};
 ghost use Rattle.cw_rules.specs.Answers.{is_head_sign};
 ghost use Rattle.cw_lex.specs.Nest.{nest};
@@ -20,7 +21,7 @@ ghost use Rattle.cw_reduce.specs.HeadReading.{macro_tokens, read_made, without_n
 ghost use Rattle.cw_reduce.specs.Opening.{StartsBelow, answers_in};
 ghost use Rattle.cw_reduce.specs.Translating.{Known, NameTexts, dollared, head_made, spelled, with_names};
 
-use crate::source::Source;
+use cw_answers::Reader;
 use cw_base::{MathMode, Memory};
 use cw_lex::{Code, Lexed, Tok, TokKind, Wanted};
 use cw_names::Names;
@@ -52,39 +53,43 @@ pub(crate) struct Beginning<'a> {
 
 /// Reads the head with which a text begins, where it has one, and passes over the notes in it.
 pub(crate) fn read_head<'a>(
-    lexer: &mut Source<'_, 'a>,
+    reader: &mut Reader<'a>,
     alloc: Global,
     names: &mut Names,
     store: &mut TokenStore,
 ) -> Result<Beginning<'a>, Memory>
-    requires nested { IsNested lexer.old }
-    requires start { StartsBelow (2 ^ 32) lexer.old }
+    requires nested { IsNested reader.old.coming }
+    requires start { StartsBelow (2 ^ 32) reader.old.coming }
     requires idle { store.old.building ≡ None }
     // What the head makes is that of the definition, and the names are those behind its words.
     ensures made { IfOk result (λ begun. (flags : Flags) (named : NameTexts) (known : Known) →
-        head_made flags named (headed (nest lexer.old)).head (with_names names.old known) ≡
+        head_made flags named (headed (nest reader.old.coming)).head (with_names names.old known) ≡
         read_made flags named store.new.lists begun.head (with_names names.new known)) }
-    ensures names { OnOk result (names.new ≡ (spelled (words_in (headed (nest lexer.old)).head) names.old).names) }
+    ensures names { OnOk result (names.new ≡
+        (spelled (words_in (headed (nest reader.old.coming)).head) names.old).names) }
     // The answers behind it are those of what the definition leaves.
-    ensures rest { IfOk result (λ begun. nest (answers_ahead begun ++ lexer.new) ≡ (headed (nest lexer.old)).rest) }
-    ensures nested { IfOk result (λ begun. IsNested (answers_ahead begun ++ lexer.new)) }
-    ensures start { IfOk result (λ begun. StartsBelow (2 ^ 32) (answers_ahead begun ++ lexer.new)) }
+    ensures rest { IfOk result (λ begun. nest (answers_ahead begun ++ reader.new.coming) ≡
+        (headed (nest reader.old.coming)).rest) }
+    ensures nested { IfOk result (λ begun. IsNested (answers_ahead begun ++ reader.new.coming)) }
+    ensures start { IfOk result (λ begun. StartsBelow (2 ^ 32) (answers_ahead begun ++ reader.new.coming)) }
+    ensures all { Stays reader.old.all reader.new.all }
     // Its scrap is sound, and the lists that the store held stay.
     ensures sound { IfOk result (λ begun. IsSoundLine store.new names.new (head_line begun.head)) }
     ensures keeps { IfOk result (λ begun. Keeps store.old.lists store.new.lists [] (roots_of (head_line begun.head))) }
     ensures idle { store.new.building ≡ None }
-    ensures no_names { OnErr result (NamesWithin (words_in (headed (nest lexer.old)).head) names.old names.new) }
+    ensures no_names { OnErr result (NamesWithin (words_in (headed (nest reader.old.coming)).head) names.old
+        names.new) }
     ensures no_lists { OnErr result (store.new.lists ≡ store.old.lists) }
 {
-    let first = next_answer(lexer);
+    let first = next_answer(reader);
     let Lexed::Token(token) = first else {
         return Ok(headless(first));
     };
     if is_definition(token.kind) {
-        return definition_head(token, lexer, alloc, names, store);
+        return definition_head(token, reader, alloc, names, store);
     }
     if is_name(token.kind) {
-        return Ok(read_sign(token, lexer));
+        return Ok(read_sign(token, reader));
     }
     Ok(headless(first))
 }
@@ -132,11 +137,12 @@ fn headless<'a>(next: Lexed<'a>) -> Beginning<'a>
 }
 
 /// The next answer that is no note.
-fn next_answer<'a>(lexer: &mut Source<'_, 'a>) -> Lexed<'a>
-    ensures { Gives (without_notes lexer.old) result lexer.new }
+fn next_answer<'a>(reader: &mut Reader<'a>) -> Lexed<'a>
+    ensures gives { Gives (without_notes reader.old.coming) result reader.new.coming }
+    ensures all { Stays reader.old.all reader.new.all }
 {
     loop {
-        let answer = lexer.next();
+        let answer = reader.next();
         if !matches!(answer, Lexed::Note(..)) {
             return answer;
         }
@@ -144,16 +150,18 @@ fn next_answer<'a>(lexer: &mut Source<'_, 'a>) -> Lexed<'a>
 }
 
 /// Reads the sign behind a section name, where it stands there.
-fn read_sign<'a>(name: Tok<'a>, lexer: &mut Source<'_, 'a>) -> Beginning<'a>
-    requires nested { IsNested (TokenAnswer (seen name) ∷ lexer.old) }
-    requires start { StartsBelow (2 ^ 32) (TokenAnswer (seen name) ∷ lexer.old) }
-    ensures head { (named_headed (seen name.entry) (nest lexer.old)).head ≡ head_named result.head }
+fn read_sign<'a>(name: Tok<'a>, reader: &mut Reader<'a>) -> Beginning<'a>
+    requires nested { IsNested (TokenAnswer (seen name) ∷ reader.old.coming) }
+    requires start { StartsBelow (2 ^ 32) (TokenAnswer (seen name) ∷ reader.old.coming) }
+    ensures head { (named_headed (seen name.entry) (nest reader.old.coming)).head ≡ head_named result.head }
     ensures line { head_line result.head ≡ [] }
-    ensures rest { nest (answers_ahead result ++ lexer.new) ≡ (named_headed (seen name.entry) (nest lexer.old)).rest }
-    ensures nested { IsNested (answers_ahead result ++ lexer.new) }
-    ensures start { StartsBelow (2 ^ 32) (answers_ahead result ++ lexer.new) }
+    ensures rest { nest (answers_ahead result ++ reader.new.coming) ≡
+        (named_headed (seen name.entry) (nest reader.old.coming)).rest }
+    ensures nested { IsNested (answers_ahead result ++ reader.new.coming) }
+    ensures start { StartsBelow (2 ^ 32) (answers_ahead result ++ reader.new.coming) }
+    ensures all { Stays reader.old.all reader.new.all }
 {
-    let next = next_answer(lexer);
+    let next = next_answer(reader);
     let Lexed::Token(sign) = next else {
         return unsigned(name, next);
     };
@@ -163,7 +171,7 @@ fn read_sign<'a>(name: Tok<'a>, lexer: &mut Source<'_, 'a>) -> Beginning<'a>
     Beginning {
         head: HeadRead::Named(name.span.start as u32, sign.span.start as u32),
         name: None,
-        next: next_answer(lexer),
+        next: next_answer(reader),
     }
 }
 
@@ -190,35 +198,36 @@ fn unsigned<'a>(name: Tok<'a>, next: Lexed<'a>) -> Beginning<'a>
 /// Reads the head of a definition behind its code.
 fn definition_head<'a>(
     code: Tok<'a>,
-    lexer: &mut Source<'_, 'a>,
+    reader: &mut Reader<'a>,
     alloc: Global,
     names: &mut Names,
     store: &mut TokenStore,
 ) -> Result<Beginning<'a>, Memory>
     requires code { is_definition code.kind ≡ true }
-    requires nested { IsNested (TokenAnswer (seen code) ∷ lexer.old) }
-    requires start { StartsBelow (2 ^ 32) (TokenAnswer (seen code) ∷ lexer.old) }
+    requires nested { IsNested (TokenAnswer (seen code) ∷ reader.old.coming) }
+    requires start { StartsBelow (2 ^ 32) (TokenAnswer (seen code) ∷ reader.old.coming) }
     requires idle { store.old.building ≡ None }
     ensures made { IfOk result (λ begun. (flags : Flags) (named : NameTexts) (known : Known) →
-        head_made flags named (headed_by code.entry.kind (seen code.entry) (nest lexer.old)).head
+        head_made flags named (headed_by code.entry.kind (seen code.entry) (nest reader.old.coming)).head
         (with_names names.old known) ≡ read_made flags named store.new.lists begun.head (with_names names.new known)) }
     ensures names { OnOk result (names.new ≡ (spelled (words_in (headed_by code.entry.kind (seen code.entry)
-        (nest lexer.old)).head) names.old).names) }
-    ensures rest { IfOk result (λ begun. nest (answers_ahead begun ++ lexer.new) ≡
-        (headed_by code.entry.kind (seen code.entry) (nest lexer.old)).rest) }
-    ensures nested { IfOk result (λ begun. IsNested (answers_ahead begun ++ lexer.new)) }
-    ensures start { IfOk result (λ begun. StartsBelow (2 ^ 32) (answers_ahead begun ++ lexer.new)) }
+        (nest reader.old.coming)).head) names.old).names) }
+    ensures rest { IfOk result (λ begun. nest (answers_ahead begun ++ reader.new.coming) ≡
+        (headed_by code.entry.kind (seen code.entry) (nest reader.old.coming)).rest) }
+    ensures nested { IfOk result (λ begun. IsNested (answers_ahead begun ++ reader.new.coming)) }
+    ensures start { IfOk result (λ begun. StartsBelow (2 ^ 32) (answers_ahead begun ++ reader.new.coming)) }
+    ensures all { Stays reader.old.all reader.new.all }
     ensures sound { IfOk result (λ begun. IsSoundLine store.new names.new (head_line begun.head)) }
     ensures keeps { IfOk result (λ begun. Keeps store.old.lists store.new.lists [] (roots_of (head_line begun.head))) }
     ensures idle { store.new.building ≡ None }
     ensures no_names { OnErr result (NamesWithin (words_in (headed_by code.entry.kind (seen code.entry)
-        (nest lexer.old)).head) names.old names.new) }
+        (nest reader.old.coming)).head) names.old names.new) }
     ensures no_lists { OnErr result (store.new.lists ≡ store.old.lists) }
 {
     store.tied_law();
     let wanted = wanted_by(code.kind);
     let mut words = Vec::new(alloc);
-    let next = read_words(wanted, lexer, &mut words, names)?;
+    let next = read_words(wanted, reader, &mut words, names)?;
     let head = words_head(wanted, code.span.start as u32, &words, store)?;
     Ok(Beginning {
         head,
@@ -230,21 +239,22 @@ fn definition_head<'a>(
 /// Reads the words of a head that wants this, up to the first answer behind them.
 fn read_words<'a>(
     wanted: Wanted,
-    lexer: &mut Source<'_, 'a>,
+    reader: &mut Reader<'a>,
     words: &mut Vec<Token>,
     names: &mut Names,
 ) -> Result<Lexed<'a>, Memory>
-    requires start { StartsBelow (2 ^ 32) lexer.old }
+    requires start { StartsBelow (2 ^ 32) reader.old.coming }
     ensures words { OnOk result (words.new.items ≡ words.old.items ++
-        (spelled (answer_words wanted lexer.old) names.old).tokens) }
-    ensures names { OnOk result (names.new ≡ (spelled (answer_words wanted lexer.old) names.old).names) }
-    ensures rest { IfOk result (λ next. answers_in next ++ lexer.new ≡ without_words wanted lexer.old) }
-    ensures start { IfOk result (λ next. StartsBelow (2 ^ 32) (answers_in next ++ lexer.new)) }
-    ensures no_names { OnErr result (NamesWithin (answer_words wanted lexer.old) names.old names.new) }
+        (spelled (answer_words wanted reader.old.coming) names.old).tokens) }
+    ensures names { OnOk result (names.new ≡ (spelled (answer_words wanted reader.old.coming) names.old).names) }
+    ensures rest { IfOk result (λ next. answers_in next ++ reader.new.coming ≡ without_words wanted reader.old.coming) }
+    ensures start { IfOk result (λ next. StartsBelow (2 ^ 32) (answers_in next ++ reader.new.coming)) }
+    ensures all { Stays reader.old.all reader.new.all }
+    ensures no_names { OnErr result (NamesWithin (answer_words wanted reader.old.coming) names.old names.new) }
 {
     let mut wanted = wanted;
     loop {
-        let answer = next_answer(lexer);
+        let answer = next_answer(reader);
         let Lexed::Token(word) = answer else {
             return Ok(answer);
         };

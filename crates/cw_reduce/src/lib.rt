@@ -9,14 +9,13 @@ mod kinds;
 mod laws;
 mod naming;
 mod nesting;
-mod source;
 mod translating;
 mod uncut;
 mod walk;
 mod work;
 
 pub use laws::translation_laws;
-pub use translating::{Translated, translate, translate_answers};
+pub use translating::{Translated, translate, translate_read};
 pub use uncut::{is_plain_c, is_uncut};
 pub use walk::{Reduced, reduce};
 pub use work::{Context, Work};

@@ -5,6 +5,7 @@ ghost use Rattle.cw_rules.specs.declared.tokens.Mode.TheVariants.{Inner};
 ghost use Rattle.cw_lex.specs.Lexing.{tokens_of};
 ghost use Rattle.cw_lex.specs.Nested.{until_section};
 ghost use Rattle.cw_scraps.specs.Changing.{Keeps};
+ghost use Rattle.cw_answers.specs.Reading.{IsReadUp};
 ghost use Rattle.cw_reduce.specs.Counting.{limit_in};
 ghost use Rattle.cw_reduce.specs.NameParts.{AreNamesOf, parts_by_kind, parts_of_name};
 ghost use Rattle.cw_reduce.specs.Naming.{held_answers, is_name_answer, is_name_kind, text_answers, texts_answers};
@@ -15,9 +16,9 @@ ghost use Rattle.cw_reduce.specs.Retyping.{NamesAmong};
 ghost use Rattle.cw_reduce.specs.Working.{HasComeOver, IsSameWork, progress_over, texts_in};
 
 use crate::holders::Holder;
-use crate::source::Source;
 use crate::translating::Translator;
 use crate::work::{Context, Work};
+use cw_answers::Reader;
 use cw_base::{Ledger, Memory, Span};
 use cw_lex::{Code, Lexed, Lexer, Mode, Tok, TokKind};
 use cw_secnames::{SecKind, next_part};
@@ -251,29 +252,30 @@ impl Translator {
     /// All answers, in which section names stand for their texts.
     pub(crate) fn read_named<L: Ledger>(
         &mut self,
-        lexer: &mut Source,
+        reader: &mut Reader,
         context: &Context,
         work: &mut Work<L>,
     ) -> Result<(), Memory>
-        requires start { StartsBelow (2 ^ 32) lexer.old }
+        requires start { StartsBelow (2 ^ 32) reader.old.coming }
         requires kept { AreNamesOf context.now.sec_names.now context.now.uses.now }
         requires translating { IsTranslating work.old.store.now work.old.names.now self.old }
+        ensures read { OnOk result (IsReadUp reader.old reader.new) }
         ensures translating { OnOk result (IsTranslating work.new.store.now work.new.names.now self.new) }
         ensures come { OnOk result (HasComeOver context.now.flags.now self.old work.old self.new work.new
-            (after_answers context.now.flags.now (with_texts (texts_in context.now) lexer.old)
+            (after_answers context.now.flags.now (with_texts (texts_in context.now) reader.old.coming)
             (progress_over work.old self.old))) }
         ensures keeps { OnOk result (Keeps work.old.store.now.lists work.new.store.now.lists
             (all_roots self.old.nesting) (all_roots self.new.nesting)) }
-        ensures names { OnErr result (NamesAmong context.now.flags.now (with_texts (texts_in context.now) lexer.old)
-            (progress_over work.old self.old) work.new.names.now) }
+        ensures names { OnErr result (NamesAmong context.now.flags.now
+            (with_texts (texts_in context.now) reader.old.coming) (progress_over work.old self.old) work.new.names.now) }
         ensures bound { work.new.steps.now ≤ work.old.steps.now +
             limit_in context.now.flags.now (after_answers context.now.flags.now (with_texts (texts_in context.now)
-            lexer.old) (progress_over work.old self.old)).known.ended }
+            reader.old.coming) (progress_over work.old self.old)).known.ended }
         ensures same { IsSameWork work.old work.new }
         ensures idle { work.new.store.now.building ≡ None }
     {
         loop {
-            let answer = lexer.next();
+            let answer = reader.next();
             if matches!(answer, Lexed::End) {
                 return Ok(());
             }

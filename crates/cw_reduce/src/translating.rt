@@ -7,6 +7,7 @@ ghost use Rattle.cw_table.specs.Rewriting.{State};
 ghost use Rattle.cw_table.specs.WalkCounts.{reservings, ticks};
 ghost use Rattle.cw_trees.specs.Joining.{whole};
 ghost use Rattle.cw_tokens.specs.Shapes.{unfolded};
+ghost use Rattle.cw_answers.specs.Reading.{IsReadUp};
 ghost use Rattle.cw_rules.specs.Answers.{Finish, Seen, seen};
 ghost use Rattle.cw_lex.specs.Lexing.{tokens_of};
 ghost use Rattle.cw_lex.specs.Nested.{IsNested, begins_section_in, is_c_mode, until_section};
@@ -33,11 +34,10 @@ use crate::heads::read_head;
 use crate::holders::{Holder, held_list};
 use crate::kinds::makes_leaf;
 use crate::nesting::{CommentText, Nesting, Open};
-use crate::source::Source;
 use crate::uncut::ends_text;
 use crate::walk::reduce;
 use crate::work::{Context, Work};
-use cw_answers::Again;
+use cw_answers::Reader;
 use cw_base::{Flags, Ledger, Memory, Span, Steps};
 use cw_lex::{Lexed, Lexer, Mode, Tok, TokKind};
 use cw_names::Names;
@@ -365,56 +365,27 @@ impl Translator {
     }
 }
 
-/// Translates a C text by its answers.
-fn translate_source<L: Ledger>(
-    source: &mut Source,
+/// Translates a C text by the answers of its scan, which are read to the end, and kept where the reader keeps them: the
+/// same as `translate` of a text that has these answers. No section code may cut the text.
+pub fn translate_read<L: Ledger>(
+    reader: &mut Reader,
     context: &Context,
     work: &mut Work<L>,
 ) -> Result<Translated, Memory>
-    requires nested { IsNested source.old }
-    requires start { StartsBelow (2 ^ 32) source.old }
-    requires kept { AreNamesOf context.now.sec_names.now context.now.uses.now }
-    requires idle { work.old.store.now.building ≡ None }
-    ensures text { IfOk result (λ done. IsTranslated context.now.flags.now work.new.store.now.lists work.new.names.now
-        work.new.marks.now done work.old.steps.now work.new.steps.now (translated context.now.flags.now
-        (texts_in context.now) source.old work.old.names.now (marked_names work.old.marks.now))) }
-    ensures few { IfOk result (λ done. done.productions ≤ 8 * done.scraps) }
-    ensures bound { work.new.steps.now ≤ work.old.steps.now + limit_in context.now.flags.now
-        (translated context.now.flags.now (texts_in context.now) source.old work.old.names.now
-        (marked_names work.old.marks.now)).known.ended }
-    ensures root { IfOk result (λ done. AreRoots work.new.store.now.lists (done.list.index ∷ [])) }
-    ensures named { IfOk result (λ done. IsNamedBelow (length work.new.names.now) (unfolded work.new.store.now.lists
-        done.list.index)) }
-    ensures others { IfOk result (λ done. Keeps work.old.store.now.lists work.new.store.now.lists []
-        (done.list.index ∷ [])) }
-    ensures idle { work.new.store.now.building ≡ None }
-    ensures refused { OnErr result (NamesOfText context.now.flags.now (texts_in context.now) source.old
-        work.old.names.now (marked_names work.old.marks.now) work.new.names.now) }
-    ensures same { IsSameWork work.old work.new }
-{
-    let begun = read_head(source, context.alloc, work.names, work.store)?;
-    translate_headed(&begun, source, context, work)
-}
-
-/// Translates a C text by the answers that its scan gave, those that are still to come: the same as `translate` of a
-/// text that has these answers. No section code may cut the text.
-pub fn translate_answers<L: Ledger>(
-    again: &Again,
-    context: &Context,
-    work: &mut Work<L>,
-) -> Result<Translated, Memory>
-    requires nested { IsNested again.now }
-    requires start { StartsBelow (2 ^ 32) again.now }
+    requires nested { IsNested reader.old.coming }
+    requires start { StartsBelow (2 ^ 32) reader.old.coming }
     requires kept { AreNamesOf context.now.sec_names.now context.now.uses.now }
     requires idle { work.old.store.now.building ≡ None }
     // The tree, the names with their categories, the marks and the counts are those of the definition.
     ensures text { IfOk result (λ done. IsTranslated context.now.flags.now work.new.store.now.lists work.new.names.now
         work.new.marks.now done work.old.steps.now work.new.steps.now (translated context.now.flags.now
-        (texts_in context.now) again.now work.old.names.now (marked_names work.old.marks.now))) }
+        (texts_in context.now) reader.old.coming work.old.names.now (marked_names work.old.marks.now))) }
+    // No answer is still to come, and all are kept that could be.
+    ensures read { OnOk result (IsReadUp reader.old reader.new) }
     ensures few { IfOk result (λ done. done.productions ≤ 8 * done.scraps) }
     // Whatever it answers: of each text of n scraps 132 n steps, and n for each production by a row that reserves.
     ensures bound { work.new.steps.now ≤ work.old.steps.now + limit_in context.now.flags.now
-        (translated context.now.flags.now (texts_in context.now) again.now work.old.names.now
+        (translated context.now.flags.now (texts_in context.now) reader.old.coming work.old.names.now
         (marked_names work.old.marks.now)).known.ended }
     // The list is one of the store to which no list refers, and the names in its tree are names.
     ensures root { IfOk result (λ done. AreRoots work.new.store.now.lists (done.list.index ∷ [])) }
@@ -426,11 +397,12 @@ pub fn translate_answers<L: Ledger>(
     ensures idle { work.new.store.now.building ≡ None }
     // The names are those at a word of the head or at an answer, or those after some productions of a text that has
     // ended.
-    ensures refused { OnErr result (NamesOfText context.now.flags.now (texts_in context.now) again.now
+    ensures refused { OnErr result (NamesOfText context.now.flags.now (texts_in context.now) reader.old.coming
         work.old.names.now (marked_names work.old.marks.now) work.new.names.now) }
     ensures same { IsSameWork work.old work.new }
 {
-    translate_source(&mut Source::kept(again), context, work)
+    let begun = read_head(reader, context.alloc, work.names, work.store)?;
+    translate_headed(&begun, reader, context, work)
 }
 
 /// Translates a C text, whose first byte stands at `span.start`: its head is read, its tokens become scraps, the inner
@@ -491,7 +463,7 @@ pub fn translate<L: Ledger>(
     ensures refused { OnErr result (NamesOfText flags.now (name_texts sec_names.now uses.now)
         (tokens_of text.now span.start span.end mode) names.old (marked_names marks.old) names.new) }
 {
-    let mut source = Source::scanned(Lexer::over(text, span.start, span.end, mode));
+    let mut reader = Reader::over(alloc, text, span, mode);
     let context = Context {
         sec_names,
         uses,
@@ -504,5 +476,5 @@ pub fn translate<L: Ledger>(
         marks,
         steps,
     };
-    translate_source(&mut source, &context, &mut work)
+    translate_read(&mut reader, &context, &mut work)
 }

@@ -1,9 +1,11 @@
 -- A C text is translated, its marks are noted, and then it is printed.
 use Rattle.std.proofs.Common.{◌≡◌, ℕ, ◌+◌, ◌≤◌, ◌≢◌, refl, sym, ap, ◌∙◌, subst, ne_eqb, List, [], ◌∷◌, ◌++◌}
-use Rattle.std.proofs.Common.{append_assoc, length, map, take}
+use Rattle.std.proofs.Common.{append_assoc, length, map, take, inl, inr, None, Option}
 use Rattle.std.specs.Prelude.{Err, IsErrAnd, Ok, Result, Some, slice_get}
 use Rattle.std.proofs.lemmas.List.{append-nil, map-append, take_all, take_more}
 use Rattle.std.proofs.lemmas.Option.{get_or_from_slice_get, slice_get_within}
+use Rattle.cw_answers.specs.Reading.{Stays}
+use Rattle.cw_answers.proofs.Staying.{stays-trans}
 use Rattle.cw_base.specs.declared.memory.Memory.{Memory}
 use Rattle.cw_desk.specs.Told.{Told}
 use Rattle.cw_lex.specs.Lexing.{tokens_of}
@@ -21,6 +23,7 @@ use Rattle.cw_print.specs.Walk.{tree_bytes}
 use Rattle.cw_reduce.specs.Counting.{limit_in, productions_in, scraps_in, ticks_in}
 use Rattle.cw_reduce.specs.NameParts.{name_texts}
 use Rattle.cw_reduce.specs.Translating.{Ended, translated}
+use Rattle.cw_rules.specs.Answers.{Answer}
 use Rattle.cw_trees.specs.Tree.{Tree}
 use Rattle.cw_texpart.specs.declared.counts.Counts.{Counts}
 use Rattle.cw_texpart.specs.declared.texts.CText.{CText}
@@ -183,3 +186,16 @@ pub unprinted-woven : {T : Type 0} {s : Setting} {d : Done ℕ} {old now : Book}
     → Weaves s d (record { book = old; line = line; told = told; steps = before })
     (record { book = now; line = line'; told = told'; steps = after }) result
 unprinted-woven t put is = weaves-refused _ (puts-failing refl put is) t.same t.bound is
+
+-- what is kept of a scan that was read to its end are the answers of the scan
+pub kept-tokens : (tokens answers : List Answer) (read left : Option (List Answer)) → Stays (Some tokens) read
+    → Stays read left → left ≡ Some answers → answers ≡ tokens
+kept-tokens tokens answers read left h k is = by (stays-trans (Some tokens) read left h k)
+  where
+    taken : Option (List Answer) → List Answer
+    taken (Some list) = list
+    taken None = []
+
+    by : Stays (Some tokens) left → answers ≡ tokens
+    by (inl e) = ap taken (sym is ∙ e)
+    by (inr e) = absurd (let n : Some answers ≡ None = sym is ∙ e in cc)

@@ -13,7 +13,7 @@ ghost use Rattle.cw_texpart.specs.Weaving.{Weaves, underlined};
 ghost use Rattle.cw_tokens.specs.Shapes.{unfolded};
 
 use crate::Counts;
-use cw_answers::Answers;
+use cw_answers::{Answers, Reader};
 use cw_base::{Flags, Ledger, Memory, Span, Steps};
 use cw_desk::Desk;
 use cw_lex::Mode;
@@ -21,11 +21,12 @@ use cw_lines::{LineOut, PutError};
 use cw_names::Xrefs;
 use cw_phase1::Book;
 use cw_print::{KeptText, print_answers};
-use cw_reduce::{Context, Work, translate_answers};
+use cw_reduce::{Context, Work, translate_read};
 use cw_scraps::Marks;
 use cw_tokens::{ListId, TokenStore};
 use std::alloc::Global;
 use std::marker::Model;
+use std::mem;
 
 /// A C text of a web's text: where it stands, how it is scanned, and how it is printed.
 #[derive(Clone, Copy)]
@@ -215,7 +216,8 @@ pub(crate) fn translate_into<'a, L: Ledger>(
 {
     store.reset();
     make_room(store, c.span, c.inner)?;
-    answers.scan(c.text, c.span, c.mode)?;
+    let room = mem::replace(answers, Answers::new_in(alloc));
+    let mut reader = Reader::keeping(room, c.text, c.span, c.mode);
     let mut marks = Marks::new_in(alloc);
     let context = Context {
         sec_names: &book.sec_names,
@@ -229,7 +231,8 @@ pub(crate) fn translate_into<'a, L: Ledger>(
         marks: &mut marks,
         steps,
     };
-    let done = translate_answers(&answers.again(), &context, &mut work)?;
+    let done = translate_read(&mut reader, &context, &mut work)?;
+    *answers = reader.finish()?;
     note_marks(&marks, c.section, &mut book.xrefs)?;
     Ok(Translated {
         list: done.list,

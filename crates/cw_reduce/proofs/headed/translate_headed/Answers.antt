@@ -32,20 +32,20 @@ returns-clause-text g c = IfOk-weaker c.end.result (λ done. HasEnded c.args.con
     c.end.new.work.store.now.lists c.end.new.work.names.now c.end.new.work.marks.now done c.args.work.now.steps.now
     c.end.new.work.steps.now (headed_text c.args.context.now.flags.now
     (name_texts c.args.context.now.sec_names.now c.args.context.now.uses.now) c.args.work.now.store.now.lists
-    c.args.begun.now.head (answers_ahead c.args.begun.now ++ c.args.lexer.now)
+    c.args.begun.now.head (answers_ahead c.args.begun.now ++ c.args.reader.now.coming)
     (begin c.args.work.now.names.now (marked_names c.args.work.now.marks.now))))
     (λ done e. whole-done c.args.context.now.flags.now
     (name_texts c.args.context.now.sec_names.now c.args.context.now.uses.now)
     (texts-nested c.args.context.now.sec_names.now c.args.context.now.uses.now) c.args.work.now.store.now
     c.args.work.now.names.now c.args.work.now.marks.now c.args.begun.now.head (answers_ahead c.args.begun.now
-    ++ c.args.lexer.now) c.requires.nested c.in_ok-translator.translator c.in_ok-translator.ensures
+    ++ c.args.reader.now.coming) c.requires.nested c.in_ok-translator.translator c.in_ok-translator.ensures
     c.end.new.work.store.now.lists c.end.new.work.names.now c.end.new.work.marks.now done c.args.work.now.steps.now
     c.end.new.work.steps.now (text-done c.args.context.now.flags.now c.in_ok-translator.translator
     c.read_headed.new.self c.args.work.now.steps.now c.read_headed.new.work.steps.now c.end.new.work.steps.now
     c.read_headed.new.work.store.now.lists c.read_headed.new.work.names.now c.read_headed.new.work.marks.now
     (after_answers c.args.context.now.flags.now
     (with_texts (name_texts c.args.context.now.sec_names.now c.args.context.now.uses.now)
-    (answers_ahead c.args.begun.now ++ c.args.lexer.now))
+    (answers_ahead c.args.begun.now ++ c.args.reader.now.coming))
     (after_head c.args.context.now.flags.now (name_texts c.args.context.now.sec_names.now
     c.args.context.now.uses.now) c.args.begun.now.head
     (progress_of c.args.work.now.store.now.lists c.args.work.now.names.now c.args.work.now.marks.now
@@ -68,24 +68,24 @@ returns-clause-keeps g c = IfOk-weaker c.end.result (λ done. Keeps c.read_heade
 pub returns-in_err-translator-clause-refused : goal.returns-in_err-translator-clause-refused
 returns-in_err-translator-clause-refused g c = on-err c.from_residual.result
     (NamesOfHeaded c.args.context.now.flags.now (name_texts c.args.context.now.sec_names.now
-    c.args.context.now.uses.now) c.args.begun.now.head (answers_ahead c.args.begun.now ++ c.args.lexer.now)
+    c.args.context.now.uses.now) c.args.begun.now.head (answers_ahead c.args.begun.now ++ c.args.reader.now.coming)
     (head_begun c.args.work.now.store.now.lists c.args.begun.now.head
     (begin c.args.work.now.names.now (marked_names c.args.work.now.marks.now))) c.args.work.now.names.now)
     (whole-start c.args.context.now.flags.now (name_texts c.args.context.now.sec_names.now c.args.context.now.uses.now)
-    c.args.begun.now.head (answers_ahead c.args.begun.now ++ c.args.lexer.now)
+    c.args.begun.now.head (answers_ahead c.args.begun.now ++ c.args.reader.now.coming)
     (head_begun c.args.work.now.store.now.lists c.args.begun.now.head
     (begin c.args.work.now.names.now (marked_names c.args.work.now.marks.now))))
 
 pub returns-in_err-read_headed-clause-refused : goal.returns-in_err-read_headed-clause-refused
 returns-in_err-read_headed-clause-refused g c = on-err c.from_residual-in_err-read_headed.result
     (NamesOfHeaded c.args.context.now.flags.now (name_texts c.args.context.now.sec_names.now
-    c.args.context.now.uses.now) c.args.begun.now.head (answers_ahead c.args.begun.now ++ c.args.lexer.now)
+    c.args.context.now.uses.now) c.args.begun.now.head (answers_ahead c.args.begun.now ++ c.args.reader.now.coming)
     (head_begun c.args.work.now.store.now.lists c.args.begun.now.head
     (begin c.args.work.now.names.now (marked_names c.args.work.now.marks.now))) c.read_headed.new.work.names.now)
     (whole-way c.args.context.now.flags.now (name_texts c.args.context.now.sec_names.now c.args.context.now.uses.now)
     (texts-nested c.args.context.now.sec_names.now c.args.context.now.uses.now) c.args.work.now.store.now
     c.args.work.now.names.now c.args.work.now.marks.now c.args.begun.now.head (answers_ahead c.args.begun.now
-    ++ c.args.lexer.now) c.requires.nested c.in_ok-translator.translator c.in_ok-translator.ensures
+    ++ c.args.reader.now.coming) c.requires.nested c.in_ok-translator.translator c.in_ok-translator.ensures
     c.read_headed.new.work.names.now c.in_err-read_headed.ensures.names)
 
 pub returns-in_err-read_headed-clause-bound : goal.returns-in_err-read_headed-clause-bound
@@ -93,24 +93,24 @@ returns-in_err-read_headed-clause-bound g c = whole-some c.args.context.now.flag
     (name_texts c.args.context.now.sec_names.now c.args.context.now.uses.now)
     (texts-nested c.args.context.now.sec_names.now c.args.context.now.uses.now) c.args.work.now.store.now
     c.args.work.now.names.now c.args.work.now.marks.now c.args.begun.now.head (answers_ahead c.args.begun.now
-    ++ c.args.lexer.now) c.requires.nested c.in_ok-translator.translator c.in_ok-translator.ensures
+    ++ c.args.reader.now.coming) c.requires.nested c.in_ok-translator.translator c.in_ok-translator.ensures
     c.args.work.now.steps.now c.read_headed.new.work.steps.now c.in_err-read_headed.ensures.bound
 
 pub returns-clause-refused : goal.returns-clause-refused
 returns-clause-refused g c = on-err c.end.result (NamesOfHeaded c.args.context.now.flags.now
     (name_texts c.args.context.now.sec_names.now c.args.context.now.uses.now) c.args.begun.now.head
-    (answers_ahead c.args.begun.now ++ c.args.lexer.now)
+    (answers_ahead c.args.begun.now ++ c.args.reader.now.coming)
     (head_begun c.args.work.now.store.now.lists c.args.begun.now.head
     (begin c.args.work.now.names.now (marked_names c.args.work.now.marks.now))) c.end.new.work.names.now)
     (whole-way c.args.context.now.flags.now (name_texts c.args.context.now.sec_names.now c.args.context.now.uses.now)
     (texts-nested c.args.context.now.sec_names.now c.args.context.now.uses.now) c.args.work.now.store.now
     c.args.work.now.names.now c.args.work.now.marks.now c.args.begun.now.head (answers_ahead c.args.begun.now
-    ++ c.args.lexer.now) c.requires.nested c.in_ok-translator.translator c.in_ok-translator.ensures
+    ++ c.args.reader.now.coming) c.requires.nested c.in_ok-translator.translator c.in_ok-translator.ensures
     c.end.new.work.names.now (whole-ends c.args.context.now.flags.now c.in_ok-translator.translator
     c.read_headed.new.self c.args.work.now.steps.now c.read_headed.new.work.steps.now
     c.read_headed.new.work.store.now.lists c.read_headed.new.work.names.now c.read_headed.new.work.marks.now
     (name_texts c.args.context.now.sec_names.now c.args.context.now.uses.now) c.args.begun.now.head
-    (answers_ahead c.args.begun.now ++ c.args.lexer.now)
+    (answers_ahead c.args.begun.now ++ c.args.reader.now.coming)
     (progress_of c.args.work.now.store.now.lists c.args.work.now.names.now c.args.work.now.marks.now
     c.in_ok-translator.translator []) c.in_ok-read_headed.ensures.come c.end.new.work.names.now c.end.ensures.retypes))
 
@@ -119,14 +119,14 @@ returns-clause-bound g c = whole-few c.args.context.now.flags.now
     (name_texts c.args.context.now.sec_names.now c.args.context.now.uses.now)
     (texts-nested c.args.context.now.sec_names.now c.args.context.now.uses.now) c.args.work.now.store.now
     c.args.work.now.names.now c.args.work.now.marks.now c.args.begun.now.head (answers_ahead c.args.begun.now
-    ++ c.args.lexer.now) c.requires.nested c.in_ok-translator.translator c.in_ok-translator.ensures
+    ++ c.args.reader.now.coming) c.requires.nested c.in_ok-translator.translator c.in_ok-translator.ensures
     c.args.work.now.steps.now c.end.new.work.steps.now
     (spent-done c.args.context.now.flags.now c.in_ok-translator.translator c.read_headed.new.self
     c.args.work.now.steps.now c.read_headed.new.work.steps.now c.end.new.work.steps.now
     c.read_headed.new.work.store.now.lists c.read_headed.new.work.names.now c.read_headed.new.work.marks.now
     (after_answers c.args.context.now.flags.now (with_texts
     (name_texts c.args.context.now.sec_names.now c.args.context.now.uses.now) (answers_ahead c.args.begun.now
-    ++ c.args.lexer.now)) (after_head c.args.context.now.flags.now
+    ++ c.args.reader.now.coming)) (after_head c.args.context.now.flags.now
     (name_texts c.args.context.now.sec_names.now c.args.context.now.uses.now) c.args.begun.now.head
     (progress_of c.args.work.now.store.now.lists c.args.work.now.names.now c.args.work.now.marks.now
     c.in_ok-translator.translator []))) (ap (λ (x : Translator). x.scraps) c.in_ok-translator.ensures)

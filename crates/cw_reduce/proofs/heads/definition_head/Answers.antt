@@ -16,36 +16,40 @@ use Rattle.cw_reduce.proofs.heads.definition_head.Goals as goal
 
 pub returns-in_err-next-clause-no_names : goal.returns-in_err-next-clause-no_names
 returns-in_err-next-clause-no_names c = on-err c.from_residual.result
-    (NamesWithin (words_in (headed_by c.args.code.kind (seen c.args.code) (nest c.args.lexer.now)).head)
+    (NamesWithin (words_in (headed_by c.args.code.kind (seen c.args.code) (nest c.args.reader.now.coming)).head)
     c.args.names.now c.read_words.new.names)
-    (definition-within c.args.code.kind (seen c.args.code) c.args.lexer.now c.args.names.now c.read_words.new.names
+    (definition-within c.args.code.kind (seen c.args.code) c.args.reader.now.coming c.args.names.now
+    c.read_words.new.names
     c.requires.code c.requires.nested
-    (subst (λ w. NamesWithin (answer_words w c.args.lexer.now) c.args.names.now c.read_words.new.names)
+    (subst (λ w. NamesWithin (answer_words w c.args.reader.now.coming) c.args.names.now c.read_words.new.names)
     c.wanted_by-wanted.ensures c.in_err-next.ensures.no_names))
 
 pub words_head-requires-clause-plain : goal.words_head-requires-clause-plain
-words_head-requires-clause-plain c = words-plain c.wanted_by-wanted.result c.args.lexer.now c.args.names.now
+words_head-requires-clause-plain c = words-plain c.wanted_by-wanted.result c.args.reader.now.coming c.args.names.now
     c.read_words.new.words.items c.deref.result.now c.new-words.result.items c.in_ok-next.ensures.words
     c.new-words.ensures.items c.deref.ensures.value
 
 pub returns-in_err-head-clause-no_names : goal.returns-in_err-head-clause-no_names
 returns-in_err-head-clause-no_names c = on-err c.from_residual-in_err-head.result
-    (NamesWithin (words_in (headed_by c.args.code.kind (seen c.args.code) (nest c.args.lexer.now)).head)
+    (NamesWithin (words_in (headed_by c.args.code.kind (seen c.args.code) (nest c.args.reader.now.coming)).head)
     c.args.names.now c.read_words.new.names)
-    (definition-within c.args.code.kind (seen c.args.code) c.args.lexer.now c.args.names.now c.read_words.new.names
+    (definition-within c.args.code.kind (seen c.args.code) c.args.reader.now.coming c.args.names.now
+    c.read_words.new.names
     c.requires.code c.requires.nested
-    (all-within (answer_words (wanted_by c.args.code.kind) c.args.lexer.now) c.args.names.now c.read_words.new.names
-    (subst (λ w. c.read_words.new.names ≡ (spelled (answer_words w c.args.lexer.now) c.args.names.now).names)
+    (all-within (answer_words (wanted_by c.args.code.kind) c.args.reader.now.coming) c.args.names.now
+    c.read_words.new.names
+    (subst (λ w. c.read_words.new.names ≡ (spelled (answer_words w c.args.reader.now.coming) c.args.names.now).names)
     c.wanted_by-wanted.ensures c.in_ok-next.ensures.names)))
 
 pub returns-clause-made : goal.returns-clause-made
-returns-clause-made c = (definition-defines c.args.code.kind (seen c.args.code) c.args.lexer.now c.args.store.now
+returns-clause-made c = (definition-defines c.args.code.kind (seen c.args.code) c.args.reader.now.coming
+    c.args.store.now
     c.words_head.new.store c.args.names.now c.read_words.new.names c.in_ok-head.head c.requires.code
-    (nested-behind (seen c.args.code) c.args.lexer.now c.requires.nested)
-    (subst (λ w. c.read_words.new.names ≡ (spelled (answer_words w c.args.lexer.now) c.args.names.now).names)
+    (nested-behind (seen c.args.code) c.args.reader.now.coming c.requires.nested)
+    (subst (λ w. c.read_words.new.names ≡ (spelled (answer_words w c.args.reader.now.coming) c.args.names.now).names)
     c.wanted_by-wanted.ensures c.in_ok-next.ensures.names)
     (tied-idle c.args.store.now c.requires.idle c.tied_law.ensures) c.requires.idle c.words_head.ensures.idle
-    (words-there c.wanted_by-wanted.result c.args.code.kind c.args.lexer.now c.args.names.now
+    (words-there c.wanted_by-wanted.result c.args.code.kind c.args.reader.now.coming c.args.names.now
     c.read_words.new.words.items c.deref.result.now c.new-words.result.items c.args.code.span.start c.in_ok-head.head
     c.args.store.now.lists c.words_head.new.store.lists c.args.store.now.lists c.wanted_by-wanted.ensures
     c.in_ok-next.ensures.words c.new-words.ensures.items c.deref.ensures.value c.in_ok-head.ensures.lists refl)
@@ -53,44 +57,48 @@ returns-clause-made c = (definition-defines c.args.code.kind (seen c.args.code) 
 
 pub returns-clause-names : goal.returns-clause-names
 returns-clause-names c = (subst (λ w. c.read_words.new.names
-    ≡ (spelled (answer_words w c.args.lexer.now) c.args.names.now).names) c.wanted_by-wanted.ensures
+    ≡ (spelled (answer_words w c.args.reader.now.coming) c.args.names.now).names) c.wanted_by-wanted.ensures
     c.in_ok-next.ensures.names) ∙ ap (λ ws. (spelled ws c.args.names.now).names)
-    (sym (behind c.args.code.kind (seen c.args.code) c.args.lexer.now c.requires.code
-    (nested-behind (seen c.args.code) c.args.lexer.now c.requires.nested)).words)
+    (sym (behind c.args.code.kind (seen c.args.code) c.args.reader.now.coming c.requires.code
+    (nested-behind (seen c.args.code) c.args.reader.now.coming c.requires.nested)).words)
 
 pub returns-clause-rest : goal.returns-clause-rest
-returns-clause-rest c = (definition-rest c.args.code.kind (seen c.args.code) c.args.lexer.now
-    (answers_in c.in_ok-next.next ++ c.read_words.new.lexer) c.requires.code c.requires.nested
-    (subst (λ w. answers_in c.in_ok-next.next ++ c.read_words.new.lexer ≡ without_words w c.args.lexer.now)
+returns-clause-rest c = (definition-rest c.args.code.kind (seen c.args.code) c.args.reader.now.coming
+    (answers_in c.in_ok-next.next ++ c.read_words.new.reader.coming) c.requires.code c.requires.nested
+    (subst (λ w. answers_in c.in_ok-next.next ++ c.read_words.new.reader.coming
+    ≡ without_words w c.args.reader.now.coming)
     c.wanted_by-wanted.ensures c.in_ok-next.ensures.rest)).1
 
 pub returns-clause-nested : goal.returns-clause-nested
-returns-clause-nested c = (definition-rest c.args.code.kind (seen c.args.code) c.args.lexer.now
-    (answers_in c.in_ok-next.next ++ c.read_words.new.lexer) c.requires.code c.requires.nested
-    (subst (λ w. answers_in c.in_ok-next.next ++ c.read_words.new.lexer ≡ without_words w c.args.lexer.now)
+returns-clause-nested c = (definition-rest c.args.code.kind (seen c.args.code) c.args.reader.now.coming
+    (answers_in c.in_ok-next.next ++ c.read_words.new.reader.coming) c.requires.code c.requires.nested
+    (subst (λ w. answers_in c.in_ok-next.next ++ c.read_words.new.reader.coming
+    ≡ without_words w c.args.reader.now.coming)
     c.wanted_by-wanted.ensures c.in_ok-next.ensures.rest)).0
 
 pub returns-clause-sound : goal.returns-clause-sound
-returns-clause-sound c = (definition-defines c.args.code.kind (seen c.args.code) c.args.lexer.now c.args.store.now
+returns-clause-sound c = (definition-defines c.args.code.kind (seen c.args.code) c.args.reader.now.coming
+    c.args.store.now
     c.words_head.new.store c.args.names.now c.read_words.new.names c.in_ok-head.head c.requires.code
-    (nested-behind (seen c.args.code) c.args.lexer.now c.requires.nested)
-    (subst (λ w. c.read_words.new.names ≡ (spelled (answer_words w c.args.lexer.now) c.args.names.now).names)
+    (nested-behind (seen c.args.code) c.args.reader.now.coming c.requires.nested)
+    (subst (λ w. c.read_words.new.names ≡ (spelled (answer_words w c.args.reader.now.coming) c.args.names.now).names)
     c.wanted_by-wanted.ensures c.in_ok-next.ensures.names)
     (tied-idle c.args.store.now c.requires.idle c.tied_law.ensures) c.requires.idle c.words_head.ensures.idle
-    (words-there c.wanted_by-wanted.result c.args.code.kind c.args.lexer.now c.args.names.now
+    (words-there c.wanted_by-wanted.result c.args.code.kind c.args.reader.now.coming c.args.names.now
     c.read_words.new.words.items c.deref.result.now c.new-words.result.items c.args.code.span.start c.in_ok-head.head
     c.args.store.now.lists c.words_head.new.store.lists c.args.store.now.lists c.wanted_by-wanted.ensures
     c.in_ok-next.ensures.words c.new-words.ensures.items c.deref.ensures.value c.in_ok-head.ensures.lists refl)
     (λ n. fits-by c.args.code.kind (seen c.args.code) n)).makes.sound
 
 pub returns-clause-keeps : goal.returns-clause-keeps
-returns-clause-keeps c = (definition-defines c.args.code.kind (seen c.args.code) c.args.lexer.now c.args.store.now
+returns-clause-keeps c = (definition-defines c.args.code.kind (seen c.args.code) c.args.reader.now.coming
+    c.args.store.now
     c.words_head.new.store c.args.names.now c.read_words.new.names c.in_ok-head.head c.requires.code
-    (nested-behind (seen c.args.code) c.args.lexer.now c.requires.nested)
-    (subst (λ w. c.read_words.new.names ≡ (spelled (answer_words w c.args.lexer.now) c.args.names.now).names)
+    (nested-behind (seen c.args.code) c.args.reader.now.coming c.requires.nested)
+    (subst (λ w. c.read_words.new.names ≡ (spelled (answer_words w c.args.reader.now.coming) c.args.names.now).names)
     c.wanted_by-wanted.ensures c.in_ok-next.ensures.names)
     (tied-idle c.args.store.now c.requires.idle c.tied_law.ensures) c.requires.idle c.words_head.ensures.idle
-    (words-there c.wanted_by-wanted.result c.args.code.kind c.args.lexer.now c.args.names.now
+    (words-there c.wanted_by-wanted.result c.args.code.kind c.args.reader.now.coming c.args.names.now
     c.read_words.new.words.items c.deref.result.now c.new-words.result.items c.args.code.span.start c.in_ok-head.head
     c.args.store.now.lists c.words_head.new.store.lists c.args.store.now.lists c.wanted_by-wanted.ensures
     c.in_ok-next.ensures.words c.new-words.ensures.items c.deref.ensures.value c.in_ok-head.ensures.lists refl)

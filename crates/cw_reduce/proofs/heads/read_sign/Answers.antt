@@ -1,7 +1,7 @@
 -- A section name with its sign heads a C part; without one it heads nothing, and what was read is handed on.
 use Rattle.std.proofs.Common.{◌^◌, ◌<◌, arith, rules, ap, subst, sym, ◌∙◌}
+use Rattle.cw_answers.proofs.Staying.{stays-trans}
 use Rattle.cw_rules.specs.Answers.{seen}
-use Rattle.cw_rules.specs.declared.tokens.Lexed.TheVariants as lexed
 use Rattle.cw_lex.proofs.HeadNests.{nested-behind}
 use Rattle.cw_reduce.specs.Opening.{StartsBelow}
 use Rattle.cw_reduce.proofs.HeadFinds.{ahead-of, signed, token-nested, unsigned-other, unsigned-signs, unsigned-token}
@@ -10,85 +10,110 @@ use Rattle.cw_reduce.proofs.heads.read_sign.Goals as goal
 
 pub returns-in_default : goal.returns-in_default
 returns-in_default c =
-    let s = unsigned-signs c.args.name c.args.lexer.now c.next_answer-next.new.lexer c.next_answer-next.result
+    let s = unsigned-signs c.args.name c.args.reader.now.coming c.next_answer-next.new.reader.coming
+    c.next_answer-next.result
     c.unsigned.result c.unsigned.ensures.head c.unsigned.ensures.name c.unsigned.ensures.next
-    c.next_answer-next.ensures c.requires.nested c.requires.start
-    (unsigned-other (seen c.args.name) c.args.lexer.now c.next_answer-next.new.lexer c.next_answer-next.result
-    c.next_answer-next.ensures c.in_default.not-Token) in
-    record { head = s.head; line = s.line; rest = s.rest_is; nested = s.nested; start = s.starts }
+    c.next_answer-next.ensures.gives c.requires.nested c.requires.start
+    (unsigned-other (seen c.args.name) c.args.reader.now.coming c.next_answer-next.new.reader.coming
+    c.next_answer-next.result
+    c.next_answer-next.ensures.gives c.in_default.not-Token) in
+    record {
+      head = s.head;
+      line = s.line;
+      rest = s.rest_is;
+      nested = s.nested;
+      start = s.starts;
+      all = c.next_answer-next.ensures.all;
+    }
 
 pub returns-then-not-is_head_sign-clause-head : goal.returns-then-not-is_head_sign-clause-head
-returns-then-not-is_head_sign-clause-head c = (unsigned-signs c.args.name c.args.lexer.now c.next_answer-next.new.lexer
+returns-then-not-is_head_sign-clause-head c =
+    (unsigned-signs c.args.name c.args.reader.now.coming c.next_answer-next.new.reader.coming
     c.next_answer-next.result c.unsigned-then-not-is_head_sign.result c.unsigned-then-not-is_head_sign.ensures.head
     c.unsigned-then-not-is_head_sign.ensures.name c.unsigned-then-not-is_head_sign.ensures.next
-    c.next_answer-next.ensures c.requires.nested c.requires.start
-    (unsigned-token c.args.lexer.now c.next_answer-next.new.lexer c.in-Token.sign c.in-Token.ensures
-    (nested-behind (seen c.args.name) c.args.lexer.now c.requires.nested) (seen c.args.name)
+    c.next_answer-next.ensures.gives c.requires.nested c.requires.start
+    (unsigned-token c.args.reader.now.coming c.next_answer-next.new.reader.coming c.in-Token.sign
+    c.in-Token.ensures.gives
+    (nested-behind (seen c.args.name) c.args.reader.now.coming c.requires.nested) (seen c.args.name)
     (sym c.is_head_sign.ensures ∙ c.if-not-is_head_sign.true))).head
 
 pub returns-then-not-is_head_sign-clause-rest : goal.returns-then-not-is_head_sign-clause-rest
-returns-then-not-is_head_sign-clause-rest c = (unsigned-signs c.args.name c.args.lexer.now c.next_answer-next.new.lexer
+returns-then-not-is_head_sign-clause-rest c =
+    (unsigned-signs c.args.name c.args.reader.now.coming c.next_answer-next.new.reader.coming
     c.next_answer-next.result c.unsigned-then-not-is_head_sign.result c.unsigned-then-not-is_head_sign.ensures.head
     c.unsigned-then-not-is_head_sign.ensures.name c.unsigned-then-not-is_head_sign.ensures.next
-    c.next_answer-next.ensures c.requires.nested c.requires.start
-    (unsigned-token c.args.lexer.now c.next_answer-next.new.lexer c.in-Token.sign c.in-Token.ensures
-    (nested-behind (seen c.args.name) c.args.lexer.now c.requires.nested) (seen c.args.name)
+    c.next_answer-next.ensures.gives c.requires.nested c.requires.start
+    (unsigned-token c.args.reader.now.coming c.next_answer-next.new.reader.coming c.in-Token.sign
+    c.in-Token.ensures.gives
+    (nested-behind (seen c.args.name) c.args.reader.now.coming c.requires.nested) (seen c.args.name)
     (sym c.is_head_sign.ensures ∙ c.if-not-is_head_sign.true))).rest_is
 
 pub returns-then-not-is_head_sign-clause-nested : goal.returns-then-not-is_head_sign-clause-nested
-returns-then-not-is_head_sign-clause-nested c = (unsigned-signs c.args.name c.args.lexer.now
-    c.next_answer-next.new.lexer c.next_answer-next.result c.unsigned-then-not-is_head_sign.result
+returns-then-not-is_head_sign-clause-nested c = (unsigned-signs c.args.name c.args.reader.now.coming
+    c.next_answer-next.new.reader.coming c.next_answer-next.result c.unsigned-then-not-is_head_sign.result
     c.unsigned-then-not-is_head_sign.ensures.head c.unsigned-then-not-is_head_sign.ensures.name
-    c.unsigned-then-not-is_head_sign.ensures.next c.next_answer-next.ensures c.requires.nested c.requires.start
-    (unsigned-token c.args.lexer.now c.next_answer-next.new.lexer c.in-Token.sign c.in-Token.ensures
-    (nested-behind (seen c.args.name) c.args.lexer.now c.requires.nested) (seen c.args.name)
+    c.unsigned-then-not-is_head_sign.ensures.next c.next_answer-next.ensures.gives c.requires.nested c.requires.start
+    (unsigned-token c.args.reader.now.coming c.next_answer-next.new.reader.coming c.in-Token.sign
+    c.in-Token.ensures.gives
+    (nested-behind (seen c.args.name) c.args.reader.now.coming c.requires.nested) (seen c.args.name)
     (sym c.is_head_sign.ensures ∙ c.if-not-is_head_sign.true))).nested
 
 pub returns-then-not-is_head_sign-clause-start : goal.returns-then-not-is_head_sign-clause-start
-returns-then-not-is_head_sign-clause-start c = (unsigned-signs c.args.name c.args.lexer.now c.next_answer-next.new.lexer
+returns-then-not-is_head_sign-clause-start c =
+    (unsigned-signs c.args.name c.args.reader.now.coming c.next_answer-next.new.reader.coming
     c.next_answer-next.result c.unsigned-then-not-is_head_sign.result c.unsigned-then-not-is_head_sign.ensures.head
     c.unsigned-then-not-is_head_sign.ensures.name c.unsigned-then-not-is_head_sign.ensures.next
-    c.next_answer-next.ensures c.requires.nested c.requires.start
-    (unsigned-token c.args.lexer.now c.next_answer-next.new.lexer c.in-Token.sign c.in-Token.ensures
-    (nested-behind (seen c.args.name) c.args.lexer.now c.requires.nested) (seen c.args.name)
+    c.next_answer-next.ensures.gives c.requires.nested c.requires.start
+    (unsigned-token c.args.reader.now.coming c.next_answer-next.new.reader.coming c.in-Token.sign
+    c.in-Token.ensures.gives
+    (nested-behind (seen c.args.name) c.args.reader.now.coming c.requires.nested) (seen c.args.name)
     (sym c.is_head_sign.ensures ∙ c.if-not-is_head_sign.true))).starts
 
 pub overflow_cast-result-2 : goal.overflow_cast-result-2
 overflow_cast-result-2 c =
     let h : c.in-Token.sign.span.start < 4294967296 =
-    (subst (StartsBelow (2 ^ 32)) c.in-Token.ensures
-    (starts-notes (2 ^ 32) c.args.lexer.now c.requires.start.1)).0 in
+    (subst (StartsBelow (2 ^ 32)) c.in-Token.ensures.gives
+    (starts-notes (2 ^ 32) c.args.reader.now.coming c.requires.start.1)).0 in
     first_of (search rules, omega (arith, h))
 
 pub returns-clause-head : goal.returns-clause-head
-returns-clause-head c = ap (λ x. x.head) (signed c.args.lexer.now c.next_answer-next.new.lexer c.in-Token.sign
-    c.in-Token.ensures (nested-behind (seen c.args.name) c.args.lexer.now c.requires.nested) (seen c.args.name)
+returns-clause-head c = ap (λ x. x.head) (signed c.args.reader.now.coming c.next_answer-next.new.reader.coming
+    c.in-Token.sign
+    c.in-Token.ensures.gives (nested-behind (seen c.args.name) c.args.reader.now.coming c.requires.nested)
+    (seen c.args.name)
     (sym c.is_head_sign.ensures ∙ c.if-not-is_head_sign.false))
 
 pub returns-clause-rest : goal.returns-clause-rest
 returns-clause-rest c =
-    let sign = signed c.args.lexer.now c.next_answer-next.new.lexer c.in-Token.sign c.in-Token.ensures
-    (nested-behind (seen c.args.name) c.args.lexer.now c.requires.nested) (seen c.args.name)
+    let sign = signed c.args.reader.now.coming c.next_answer-next.new.reader.coming c.in-Token.sign
+    c.in-Token.ensures.gives
+    (nested-behind (seen c.args.name) c.args.reader.now.coming c.requires.nested) (seen c.args.name)
     (sym c.is_head_sign.ensures ∙ c.if-not-is_head_sign.false) in
-    let inner = nested-behind (seen c.in-Token.sign) c.next_answer-next.new.lexer
-    (token-nested c.args.lexer.now c.next_answer-next.new.lexer c.in-Token.sign c.in-Token.ensures
-    (nested-behind (seen c.args.name) c.args.lexer.now c.requires.nested)) in
-    (ahead-of c.next_answer-next.new.lexer c.next_answer.new.lexer c.next_answer.result c.next_answer.ensures inner
-    (subst (StartsBelow (2 ^ 32)) c.in-Token.ensures
-    (starts-notes (2 ^ 32) c.args.lexer.now c.requires.start.1)).1).same ∙ ap (λ x. x.rest) (sym sign)
+    let inner = nested-behind (seen c.in-Token.sign) c.next_answer-next.new.reader.coming
+    (token-nested c.args.reader.now.coming c.next_answer-next.new.reader.coming c.in-Token.sign c.in-Token.ensures.gives
+    (nested-behind (seen c.args.name) c.args.reader.now.coming c.requires.nested)) in
+    (ahead-of c.next_answer-next.new.reader.coming c.next_answer.new.reader.coming c.next_answer.result
+    c.next_answer.ensures.gives inner
+    (subst (StartsBelow (2 ^ 32)) c.in-Token.ensures.gives
+    (starts-notes (2 ^ 32) c.args.reader.now.coming c.requires.start.1)).1).same ∙ ap (λ x. x.rest) (sym sign)
 
 pub returns-clause-nested : goal.returns-clause-nested
-returns-clause-nested c = (ahead-of c.next_answer-next.new.lexer c.next_answer.new.lexer c.next_answer.result
-    c.next_answer.ensures (nested-behind (seen c.in-Token.sign) c.next_answer-next.new.lexer
-    (token-nested c.args.lexer.now c.next_answer-next.new.lexer c.in-Token.sign c.in-Token.ensures
-    (nested-behind (seen c.args.name) c.args.lexer.now c.requires.nested)))
-    (subst (StartsBelow (2 ^ 32)) c.in-Token.ensures
-    (starts-notes (2 ^ 32) c.args.lexer.now c.requires.start.1)).1).nested
+returns-clause-nested c = (ahead-of c.next_answer-next.new.reader.coming c.next_answer.new.reader.coming
+    c.next_answer.result
+    c.next_answer.ensures.gives (nested-behind (seen c.in-Token.sign) c.next_answer-next.new.reader.coming
+    (token-nested c.args.reader.now.coming c.next_answer-next.new.reader.coming c.in-Token.sign c.in-Token.ensures.gives
+    (nested-behind (seen c.args.name) c.args.reader.now.coming c.requires.nested)))
+    (subst (StartsBelow (2 ^ 32)) c.in-Token.ensures.gives
+    (starts-notes (2 ^ 32) c.args.reader.now.coming c.requires.start.1)).1).nested
 
 pub returns-clause-start : goal.returns-clause-start
-returns-clause-start c = (ahead-of c.next_answer-next.new.lexer c.next_answer.new.lexer c.next_answer.result
-    c.next_answer.ensures (nested-behind (seen c.in-Token.sign) c.next_answer-next.new.lexer
-    (token-nested c.args.lexer.now c.next_answer-next.new.lexer c.in-Token.sign c.in-Token.ensures
-    (nested-behind (seen c.args.name) c.args.lexer.now c.requires.nested)))
-    (subst (StartsBelow (2 ^ 32)) c.in-Token.ensures
-    (starts-notes (2 ^ 32) c.args.lexer.now c.requires.start.1)).1).starts
+returns-clause-start c = (ahead-of c.next_answer-next.new.reader.coming c.next_answer.new.reader.coming
+    c.next_answer.result
+    c.next_answer.ensures.gives (nested-behind (seen c.in-Token.sign) c.next_answer-next.new.reader.coming
+    (token-nested c.args.reader.now.coming c.next_answer-next.new.reader.coming c.in-Token.sign c.in-Token.ensures.gives
+    (nested-behind (seen c.args.name) c.args.reader.now.coming c.requires.nested)))
+    (subst (StartsBelow (2 ^ 32)) c.in-Token.ensures.gives
+    (starts-notes (2 ^ 32) c.args.reader.now.coming c.requires.start.1)).1).starts
+
+pub returns-clause-all : goal.returns-clause-all
+returns-clause-all c = stays-trans _ _ _ c.next_answer-next.ensures.all c.next_answer.ensures.all

@@ -1,5 +1,6 @@
 -- A word that the head wants is one word more; the first answer that is none ends the words.
-use Rattle.std.proofs.Common.{◌<◌, ◌++◌, length, ap, sym, ◌∙◌}
+use Rattle.std.proofs.Common.{◌++◌, ap, sym, ◌∙◌}
+use Rattle.cw_answers.proofs.Staying.{stays-trans}
 use Rattle.cw_rules.specs.declared.tokens.Lexed.TheVariants as lexed
 use Rattle.cw_reduce.specs.HeadReading.{NamesWithin, answer_words}
 use Rattle.cw_reduce.specs.Opening.{answers_in}
@@ -10,68 +11,90 @@ use Rattle.cw_reduce.proofs.heads.read_words.Goals as goal
 
 pub returns-in_default : goal.returns-in_default
 returns-in_default c =
-    let ahead = answers_in c.next_answer-answer.result ++ c.next_answer-answer.new.lexer in
-    let e = ends-other c.loop-word.wanted c.loop-word.lexer c.next_answer-answer.new.lexer c.next_answer-answer.result
-    c.next_answer-answer.ensures c.in_default.not-Token in
+    let ahead = answers_in c.next_answer-answer.result ++ c.next_answer-answer.new.reader.coming in
+    let e = ends-other c.loop-word.wanted c.loop-word.reader.coming c.next_answer-answer.new.reader.coming
+    c.next_answer-answer.result
+    c.next_answer-answer.ensures.gives c.in_default.not-Token in
     record {
-      words = reads-tokens c.args.wanted c.args.lexer.now c.args.names.now c.args.words.now.items c.loop-word.wanted
-          c.loop-word.lexer c.loop-word.names c.loop-word.words.items c.loop-word.invariant ahead e;
-      names = reads-names c.args.wanted c.args.lexer.now c.args.names.now c.args.words.now.items c.loop-word.wanted
-          c.loop-word.lexer c.loop-word.names c.loop-word.words.items c.loop-word.invariant ahead e;
-      rest = reads-left c.args.wanted c.args.lexer.now c.args.names.now c.args.words.now.items c.loop-word.wanted
-          c.loop-word.lexer c.loop-word.names c.loop-word.words.items c.loop-word.invariant ahead e;
-      start = reads-starts c.args.wanted c.args.lexer.now c.args.names.now c.args.words.now.items c.loop-word.wanted
-          c.loop-word.lexer c.loop-word.names c.loop-word.words.items c.loop-word.invariant c.next_answer-answer.result
-          c.next_answer-answer.new.lexer c.next_answer-answer.ensures;
+      words = reads-tokens c.args.wanted c.args.reader.now.coming c.args.names.now c.args.words.now.items
+          c.loop-word.wanted
+          c.loop-word.reader.coming c.loop-word.names c.loop-word.words.items c.loop-word.invariant.0 ahead e;
+      names = reads-names c.args.wanted c.args.reader.now.coming c.args.names.now c.args.words.now.items
+          c.loop-word.wanted
+          c.loop-word.reader.coming c.loop-word.names c.loop-word.words.items c.loop-word.invariant.0 ahead e;
+      rest = reads-left c.args.wanted c.args.reader.now.coming c.args.names.now c.args.words.now.items
+          c.loop-word.wanted
+          c.loop-word.reader.coming c.loop-word.names c.loop-word.words.items c.loop-word.invariant.0 ahead e;
+      start = reads-starts c.args.wanted c.args.reader.now.coming c.args.names.now c.args.words.now.items
+          c.loop-word.wanted
+          c.loop-word.reader.coming c.loop-word.names c.loop-word.words.items c.loop-word.invariant.0
+          c.next_answer-answer.result
+          c.next_answer-answer.new.reader.coming c.next_answer-answer.ensures.gives;
+      all = stays-trans _ _ _ c.loop-word.invariant.1 c.next_answer-answer.ensures.all;
       no_names = tt;
     }
 
 pub returns-in_default-behind-clause-words : goal.returns-in_default-behind-clause-words
-returns-in_default-behind-clause-words c = reads-tokens c.args.wanted c.args.lexer.now c.args.names.now
-    c.args.words.now.items c.loop-word.wanted c.loop-word.lexer c.loop-word.names c.loop-word.words.items
-    c.loop-word.invariant (answers_in (lexed.Token c.in-Token.word) ++ c.next_answer-answer.new.lexer)
-    (ends-token c.loop-word.wanted c.loop-word.lexer c.next_answer-answer.new.lexer c.in-Token.word c.in-Token.ensures
+returns-in_default-behind-clause-words c = reads-tokens c.args.wanted c.args.reader.now.coming c.args.names.now
+    c.args.words.now.items c.loop-word.wanted c.loop-word.reader.coming c.loop-word.names c.loop-word.words.items
+    c.loop-word.invariant.0 (answers_in (lexed.Token c.in-Token.word) ++ c.next_answer-answer.new.reader.coming)
+    (ends-token c.loop-word.wanted c.loop-word.reader.coming c.next_answer-answer.new.reader.coming c.in-Token.word
+    c.in-Token.ensures.gives
     (sym c.behind.ensures ∙ c.in_default-behind.is))
 
 pub returns-in_default-behind-clause-names : goal.returns-in_default-behind-clause-names
-returns-in_default-behind-clause-names c = reads-names c.args.wanted c.args.lexer.now c.args.names.now
-    c.args.words.now.items c.loop-word.wanted c.loop-word.lexer c.loop-word.names c.loop-word.words.items
-    c.loop-word.invariant (answers_in (lexed.Token c.in-Token.word) ++ c.next_answer-answer.new.lexer)
-    (ends-token c.loop-word.wanted c.loop-word.lexer c.next_answer-answer.new.lexer c.in-Token.word c.in-Token.ensures
+returns-in_default-behind-clause-names c = reads-names c.args.wanted c.args.reader.now.coming c.args.names.now
+    c.args.words.now.items c.loop-word.wanted c.loop-word.reader.coming c.loop-word.names c.loop-word.words.items
+    c.loop-word.invariant.0 (answers_in (lexed.Token c.in-Token.word) ++ c.next_answer-answer.new.reader.coming)
+    (ends-token c.loop-word.wanted c.loop-word.reader.coming c.next_answer-answer.new.reader.coming c.in-Token.word
+    c.in-Token.ensures.gives
     (sym c.behind.ensures ∙ c.in_default-behind.is))
 
 pub returns-in_default-behind-clause-rest : goal.returns-in_default-behind-clause-rest
-returns-in_default-behind-clause-rest c = ap (λ l. answers_in l ++ c.next_answer-answer.new.lexer) c.in-Token.is
-    ∙ reads-left c.args.wanted c.args.lexer.now c.args.names.now c.args.words.now.items c.loop-word.wanted
-    c.loop-word.lexer c.loop-word.names c.loop-word.words.items c.loop-word.invariant
-    (answers_in (lexed.Token c.in-Token.word) ++ c.next_answer-answer.new.lexer)
-    (ends-token c.loop-word.wanted c.loop-word.lexer c.next_answer-answer.new.lexer c.in-Token.word c.in-Token.ensures
+returns-in_default-behind-clause-rest c = ap (λ l. answers_in l ++ c.next_answer-answer.new.reader.coming) c.in-Token.is
+    ∙ reads-left c.args.wanted c.args.reader.now.coming c.args.names.now c.args.words.now.items c.loop-word.wanted
+    c.loop-word.reader.coming c.loop-word.names c.loop-word.words.items c.loop-word.invariant.0
+    (answers_in (lexed.Token c.in-Token.word) ++ c.next_answer-answer.new.reader.coming)
+    (ends-token c.loop-word.wanted c.loop-word.reader.coming c.next_answer-answer.new.reader.coming c.in-Token.word
+    c.in-Token.ensures.gives
     (sym c.behind.ensures ∙ c.in_default-behind.is))
 
 pub returns-in_default-behind-clause-start : goal.returns-in_default-behind-clause-start
-returns-in_default-behind-clause-start c = reads-starts c.args.wanted c.args.lexer.now c.args.names.now
-    c.args.words.now.items c.loop-word.wanted c.loop-word.lexer c.loop-word.names c.loop-word.words.items
-    c.loop-word.invariant c.next_answer-answer.result c.next_answer-answer.new.lexer c.next_answer-answer.ensures
+returns-in_default-behind-clause-start c = reads-starts c.args.wanted c.args.reader.now.coming c.args.names.now
+    c.args.words.now.items c.loop-word.wanted c.loop-word.reader.coming c.loop-word.names c.loop-word.words.items
+    c.loop-word.invariant.0 c.next_answer-answer.result c.next_answer-answer.new.reader.coming
+    c.next_answer-answer.ensures.gives
 
 pub word_token-requires-clause-start : goal.word_token-requires-clause-start
-word_token-requires-clause-start c = (reads-starts c.args.wanted c.args.lexer.now c.args.names.now
-    c.args.words.now.items c.loop-word.wanted c.loop-word.lexer c.loop-word.names c.loop-word.words.items
-    c.loop-word.invariant (lexed.Token c.in-Token.word) c.next_answer-answer.new.lexer c.in-Token.ensures).0
+word_token-requires-clause-start c = (reads-starts c.args.wanted c.args.reader.now.coming c.args.names.now
+    c.args.words.now.items c.loop-word.wanted c.loop-word.reader.coming c.loop-word.names c.loop-word.words.items
+    c.loop-word.invariant.0 (lexed.Token c.in-Token.word) c.next_answer-answer.new.reader.coming
+    c.in-Token.ensures.gives).0
 
 pub loop-word-smaller : goal.loop-word-smaller
-loop-word-smaller c = token-shorter c.loop-word.lexer c.next_answer-answer.new.lexer c.in-Token.word c.in-Token.ensures
+loop-word-smaller c = token-shorter c.loop-word.reader.coming c.next_answer-answer.new.reader.coming c.in-Token.word
+    c.in-Token.ensures.gives
 
 pub loop-word-preserved : goal.loop-word-preserved
-loop-word-preserved c = reads-word c.args.wanted c.args.lexer.now c.args.names.now c.args.words.now.items
-    c.loop-word.wanted c.loop-word.lexer c.loop-word.names c.loop-word.words.items c.loop-word.invariant
-    c.in-Token.word c.next_answer-answer.new.lexer c.in-Token.ensures c.in-Some.next (sym c.behind.ensures
-    ∙ c.in-Some.is) c.word_token.new.names c.in_ok-word_token.ensures.names
-    c.in_ok-word_token.field-0 c.push.new.self.items c.in_ok-word_token.ensures.token c.in_ok-push.ensures.items
+loop-word-preserved c = (
+  reads-word c.args.wanted c.args.reader.now.coming c.args.names.now c.args.words.now.items
+      c.loop-word.wanted c.loop-word.reader.coming c.loop-word.names c.loop-word.words.items c.loop-word.invariant.0
+      c.in-Token.word c.next_answer-answer.new.reader.coming c.in-Token.ensures.gives c.in-Some.next
+      (sym c.behind.ensures ∙ c.in-Some.is) c.word_token.new.names c.in_ok-word_token.ensures.names
+      c.in_ok-word_token.field-0 c.push.new.self.items c.in_ok-word_token.ensures.token c.in_ok-push.ensures.items,
+  stays-trans _ _ _ c.loop-word.invariant.1 c.next_answer-answer.ensures.all,
+)
 
 pub returns-in_err-push-clause-no_names : goal.returns-in_err-push-clause-no_names
 returns-in_err-push-clause-no_names c = on-err c.from_residual-in_err-push.result
-    (NamesWithin (answer_words c.args.wanted c.args.lexer.now) c.args.names.now c.word_token.new.names)
-    (word-within c.args.wanted c.args.lexer.now c.args.names.now c.args.words.now.items c.loop-word.wanted
-    c.loop-word.lexer c.loop-word.names c.loop-word.words.items c.loop-word.invariant
-    c.in-Token.word c.next_answer-answer.new.lexer c.in-Token.ensures c.in-Some.next (sym c.behind.ensures
+    (NamesWithin (answer_words c.args.wanted c.args.reader.now.coming) c.args.names.now c.word_token.new.names)
+    (word-within c.args.wanted c.args.reader.now.coming c.args.names.now c.args.words.now.items c.loop-word.wanted
+    c.loop-word.reader.coming c.loop-word.names c.loop-word.words.items c.loop-word.invariant.0
+    c.in-Token.word c.next_answer-answer.new.reader.coming c.in-Token.ensures.gives c.in-Some.next (sym c.behind.ensures
     ∙ c.in-Some.is) c.word_token.new.names c.in_ok-word_token.ensures.names)
+
+pub returns-in_default-behind-clause-all : goal.returns-in_default-behind-clause-all
+returns-in_default-behind-clause-all c = stays-trans _ _ _ c.loop-word.invariant.1 c.next_answer-answer.ensures.all
+
+pub returns-in_err-push-clause-all : goal.returns-in_err-push-clause-all
+returns-in_err-push-clause-all c = stays-trans _ _ _ c.loop-word.invariant.1 c.next_answer-answer.ensures.all

@@ -1,5 +1,5 @@
 -- Where two categories tell that no row fits, the pointer is one further and four steps are counted.
-use Rattle.std.proofs.Common.{◌≡◌, ◌+◌, ◌<◌, length, refl, arith}
+use Rattle.std.proofs.Common.{refl, arith}
 use Rattle.cw_reduce.specs.Reduction.{goes-on}
 use Rattle.cw_reduce.proofs.WalkSteps.{none-line}
 use Rattle.cw_reduce.proofs.walk.look_from.Goals as goal

@@ -1,7 +1,7 @@
 -- The kept answer behind so many stands for theirs.
-use Rattle.std.proofs.Common.{◌≡◌, ◌<◌, List, ap, subst, sym, ◌∙◌, drop, ◌∷◌, ◌+◌, length, arith}
+use Rattle.std.proofs.Common.{◌≡◌, ◌<◌, ap, subst, sym, ◌∙◌, drop, ◌∷◌, ◌+◌, length}
 use Rattle.std.proofs.lemmas.List.{drop-map, length-map}
-use Rattle.cw_rules.specs.Answers.{Answer, Gives}
+use Rattle.cw_rules.specs.Answers.{Gives}
 use Rattle.cw_answers.specs.Kept.{answer_at, answers_at}
 use Rattle.cw_answers.proofs.Standing.{ahead}
 use Rattle.cw_answers.proofs.answers.Answers.at.Goals as goal

@@ -1,5 +1,5 @@
 -- An inner text of a name begins, is read up to a section code, and ends: these are its answers.
-use Rattle.std.proofs.Common.{◌≡◌, ◌+◌, ◌≤◌, [], ◌∷◌, subst, arith}
+use Rattle.std.proofs.Common.{◌+◌, ◌≤◌, [], ◌∷◌, subst, arith}
 use Rattle.cw_rules.specs.Answers.{Finish}
 use Rattle.cw_lex.specs.Nested.{until_section}
 use Rattle.cw_scraps.specs.Changing.{Keeps}

@@ -1,5 +1,5 @@
 -- A section name begins, its inner texts are read, and it ends: these are the answers that it stands for.
-use Rattle.std.proofs.Common.{◌≡◌, ◌+◌, ◌≤◌, [], ◌∷◌, subst, arith}
+use Rattle.std.proofs.Common.{[], ◌∷◌}
 use Rattle.cw_rules.specs.Answers.{Finish}
 use Rattle.cw_scraps.specs.Changing.{Keeps}
 use Rattle.cw_scraps.proofs.Applied.{keeps-trans}

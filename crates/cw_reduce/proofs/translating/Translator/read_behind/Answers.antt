@@ -17,67 +17,73 @@ use Rattle.cw_reduce.proofs.translating.Translator.read_behind.Goals as goal
 pub name_ahead-requires-clause-start : goal.name_ahead-requires-clause-start
 name_ahead-requires-clause-start g c = (starts-split 4294967296 (name_ahead c.args.begun.now.name)
     (answers_in c.args.begun.now.next) (starts-split 4294967296 (name_ahead c.args.begun.now.name
-    ++ answers_in c.args.begun.now.next) c.args.lexer.now c.requires.start).0).0
+    ++ answers_in c.args.begun.now.next) c.args.reader.now.coming c.requires.start).0).0
 
 pub named_answer-requires-clause-start : goal.named_answer-requires-clause-start
 named_answer-requires-clause-start g c = (starts-split 4294967296 (name_ahead c.args.begun.now.name)
     (answers_in c.args.begun.now.next) (starts-split 4294967296 (name_ahead c.args.begun.now.name
-    ++ answers_in c.args.begun.now.next) c.args.lexer.now c.requires.start).0).1
+    ++ answers_in c.args.begun.now.next) c.args.reader.now.coming c.requires.start).0).1
 
 pub read_named-requires-clause-start : goal.read_named-requires-clause-start
 read_named-requires-clause-start g c = (starts-split 4294967296 (name_ahead c.args.begun.now.name
-    ++ answers_in c.args.begun.now.next) c.args.lexer.now c.requires.start).1
+    ++ answers_in c.args.begun.now.next) c.args.reader.now.coming c.requires.start).1
 
 pub returns-in_err-name_ahead-clause-names : goal.returns-in_err-name_ahead-clause-names
 returns-in_err-name_ahead-clause-names g c = on-err c.from_residual.result
     (NamesAmong c.args.context.now.flags.now (all_behind c.args.context.now.flags.now
     (name_texts c.args.context.now.sec_names.now c.args.context.now.uses.now) c.args.work.now.store.now
     c.args.work.now.names.now c.args.work.now.marks.now c.args.self.now c.args.work.now.steps.now
-    (name_ahead c.args.begun.now.name) (answers_in c.args.begun.now.next) c.args.lexer.now)
+    (name_ahead c.args.begun.now.name) (answers_in c.args.begun.now.next) c.args.reader.now.coming)
     (progress_of c.args.work.now.store.now.lists c.args.work.now.names.now c.args.work.now.marks.now c.args.self.now [])
     c.name_ahead.new.work.names.now) (reads-fails c.args.context.now.flags.now
     (all_behind c.args.context.now.flags.now (name_texts c.args.context.now.sec_names.now c.args.context.now.uses.now)
     c.args.work.now.store.now c.args.work.now.names.now c.args.work.now.marks.now c.args.self.now
-    c.args.work.now.steps.now (name_ahead c.args.begun.now.name) (answers_in c.args.begun.now.next) c.args.lexer.now)
+    c.args.work.now.steps.now (name_ahead c.args.begun.now.name) (answers_in c.args.begun.now.next)
+    c.args.reader.now.coming)
     c.args.work.now.store.now c.args.work.now.names.now c.args.work.now.marks.now c.args.self.now
     c.args.work.now.steps.now (all_behind c.args.context.now.flags.now
     (name_texts c.args.context.now.sec_names.now c.args.context.now.uses.now) c.args.work.now.store.now
     c.args.work.now.names.now c.args.work.now.marks.now c.args.self.now c.args.work.now.steps.now
-    (name_ahead c.args.begun.now.name) (answers_in c.args.begun.now.next) c.args.lexer.now) c.args.work.now.store.now
+    (name_ahead c.args.begun.now.name) (answers_in c.args.begun.now.next) c.args.reader.now.coming)
+    c.args.work.now.store.now
     c.args.work.now.names.now c.args.work.now.marks.now c.args.self.now c.args.work.now.steps.now
     (behind-begins c.args.context.now.flags.now (name_texts c.args.context.now.sec_names.now
     c.args.context.now.uses.now) c.args.work.now.store.now c.args.work.now.names.now c.args.work.now.marks.now
     c.args.self.now c.args.work.now.steps.now (name_ahead c.args.begun.now.name) (answers_in c.args.begun.now.next)
-    c.args.lexer.now c.requires.translating) (with_texts
+    c.args.reader.now.coming c.requires.translating) (with_texts
     (name_texts c.args.context.now.sec_names.now c.args.context.now.uses.now) (name_ahead c.args.begun.now.name))
     (with_texts (name_texts c.args.context.now.sec_names.now c.args.context.now.uses.now)
-    (answers_in c.args.begun.now.next ++ c.args.lexer.now))
+    (answers_in c.args.begun.now.next ++ c.args.reader.now.coming))
     (cut-first c.args.context.now.flags.now (name_texts c.args.context.now.sec_names.now c.args.context.now.uses.now)
     c.args.work.now.store.now c.args.work.now.names.now c.args.work.now.marks.now c.args.self.now
-    c.args.work.now.steps.now (name_ahead c.args.begun.now.name) (answers_in c.args.begun.now.next) c.args.lexer.now)
+    c.args.work.now.steps.now (name_ahead c.args.begun.now.name) (answers_in c.args.begun.now.next)
+    c.args.reader.now.coming)
     c.name_ahead.new.work.names.now c.in_err-name_ahead.ensures.names)
 
 pub returns-in_err-name_ahead-clause-bound : goal.returns-in_err-name_ahead-clause-bound
 returns-in_err-name_ahead-clause-bound g c = reads-few c.args.context.now.flags.now
     (all_behind c.args.context.now.flags.now (name_texts c.args.context.now.sec_names.now c.args.context.now.uses.now)
     c.args.work.now.store.now c.args.work.now.names.now c.args.work.now.marks.now c.args.self.now
-    c.args.work.now.steps.now (name_ahead c.args.begun.now.name) (answers_in c.args.begun.now.next) c.args.lexer.now)
+    c.args.work.now.steps.now (name_ahead c.args.begun.now.name) (answers_in c.args.begun.now.next)
+    c.args.reader.now.coming)
     c.args.work.now.store.now c.args.work.now.names.now c.args.work.now.marks.now c.args.self.now
     c.args.work.now.steps.now (all_behind c.args.context.now.flags.now
     (name_texts c.args.context.now.sec_names.now c.args.context.now.uses.now) c.args.work.now.store.now
     c.args.work.now.names.now c.args.work.now.marks.now c.args.self.now c.args.work.now.steps.now
-    (name_ahead c.args.begun.now.name) (answers_in c.args.begun.now.next) c.args.lexer.now) c.args.work.now.store.now
+    (name_ahead c.args.begun.now.name) (answers_in c.args.begun.now.next) c.args.reader.now.coming)
+    c.args.work.now.store.now
     c.args.work.now.names.now c.args.work.now.marks.now c.args.self.now c.args.work.now.steps.now
     (behind-begins c.args.context.now.flags.now (name_texts c.args.context.now.sec_names.now
     c.args.context.now.uses.now) c.args.work.now.store.now c.args.work.now.names.now c.args.work.now.marks.now
     c.args.self.now c.args.work.now.steps.now (name_ahead c.args.begun.now.name) (answers_in c.args.begun.now.next)
-    c.args.lexer.now c.requires.translating) (with_texts
+    c.args.reader.now.coming c.requires.translating) (with_texts
     (name_texts c.args.context.now.sec_names.now c.args.context.now.uses.now) (name_ahead c.args.begun.now.name))
     (with_texts (name_texts c.args.context.now.sec_names.now c.args.context.now.uses.now)
-    (answers_in c.args.begun.now.next ++ c.args.lexer.now))
+    (answers_in c.args.begun.now.next ++ c.args.reader.now.coming))
     (cut-first c.args.context.now.flags.now (name_texts c.args.context.now.sec_names.now c.args.context.now.uses.now)
     c.args.work.now.store.now c.args.work.now.names.now c.args.work.now.marks.now c.args.self.now
-    c.args.work.now.steps.now (name_ahead c.args.begun.now.name) (answers_in c.args.begun.now.next) c.args.lexer.now)
+    c.args.work.now.steps.now (name_ahead c.args.begun.now.name) (answers_in c.args.begun.now.next)
+    c.args.reader.now.coming)
     c.name_ahead.new.work.steps.now c.in_err-name_ahead.ensures.bound
 
 pub returns-in_err-named_answer-clause-names : goal.returns-in_err-named_answer-clause-names
@@ -85,51 +91,55 @@ returns-in_err-named_answer-clause-names g c = on-err c.from_residual-in_err-nam
     (NamesAmong c.args.context.now.flags.now (all_behind c.args.context.now.flags.now
     (name_texts c.args.context.now.sec_names.now c.args.context.now.uses.now) c.args.work.now.store.now
     c.args.work.now.names.now c.args.work.now.marks.now c.args.self.now c.args.work.now.steps.now
-    (name_ahead c.args.begun.now.name) (answers_in c.args.begun.now.next) c.args.lexer.now)
+    (name_ahead c.args.begun.now.name) (answers_in c.args.begun.now.next) c.args.reader.now.coming)
     (progress_of c.args.work.now.store.now.lists c.args.work.now.names.now c.args.work.now.marks.now c.args.self.now [])
     c.named_answer.new.work.names.now) (reads-fails c.args.context.now.flags.now
     (all_behind c.args.context.now.flags.now (name_texts c.args.context.now.sec_names.now c.args.context.now.uses.now)
     c.args.work.now.store.now c.args.work.now.names.now c.args.work.now.marks.now c.args.self.now
-    c.args.work.now.steps.now (name_ahead c.args.begun.now.name) (answers_in c.args.begun.now.next) c.args.lexer.now)
+    c.args.work.now.steps.now (name_ahead c.args.begun.now.name) (answers_in c.args.begun.now.next)
+    c.args.reader.now.coming)
     c.args.work.now.store.now c.args.work.now.names.now c.args.work.now.marks.now c.args.self.now
     c.args.work.now.steps.now (with_texts (name_texts c.args.context.now.sec_names.now c.args.context.now.uses.now)
-    (answers_in c.args.begun.now.next ++ c.args.lexer.now)) c.name_ahead.new.work.store.now
+    (answers_in c.args.begun.now.next ++ c.args.reader.now.coming)) c.name_ahead.new.work.store.now
     c.name_ahead.new.work.names.now c.name_ahead.new.work.marks.now c.name_ahead.new.self
     c.name_ahead.new.work.steps.now (behind-first c.args.context.now.flags.now
     (name_texts c.args.context.now.sec_names.now c.args.context.now.uses.now) c.args.work.now.store.now
     c.args.work.now.names.now c.args.work.now.marks.now c.args.self.now c.args.work.now.steps.now
-    (name_ahead c.args.begun.now.name) (answers_in c.args.begun.now.next) c.args.lexer.now c.requires.translating
+    (name_ahead c.args.begun.now.name) (answers_in c.args.begun.now.next) c.args.reader.now.coming
+    c.requires.translating
     c.name_ahead.new.work.store.now c.name_ahead.new.work.names.now c.name_ahead.new.work.marks.now
     c.name_ahead.new.self c.name_ahead.new.work.steps.now c.in_ok-name_ahead.ensures.translating
     c.in_ok-name_ahead.ensures.keeps c.in_ok-name_ahead.ensures.come c.in_ok-name_ahead.ensures.bound)
     (with_texts (name_texts c.args.context.now.sec_names.now c.args.context.now.uses.now)
     (answers_in c.args.begun.now.next)) (with_texts
-    (name_texts c.args.context.now.sec_names.now c.args.context.now.uses.now) c.args.lexer.now)
+    (name_texts c.args.context.now.sec_names.now c.args.context.now.uses.now) c.args.reader.now.coming)
     (with-texts-append (name_texts c.args.context.now.sec_names.now c.args.context.now.uses.now)
-    (answers_in c.args.begun.now.next) c.args.lexer.now) c.named_answer.new.work.names.now
+    (answers_in c.args.begun.now.next) c.args.reader.now.coming) c.named_answer.new.work.names.now
     c.in_err-named_answer.ensures.names)
 
 pub returns-in_err-named_answer-clause-bound : goal.returns-in_err-named_answer-clause-bound
 returns-in_err-named_answer-clause-bound g c = reads-few c.args.context.now.flags.now
     (all_behind c.args.context.now.flags.now (name_texts c.args.context.now.sec_names.now c.args.context.now.uses.now)
     c.args.work.now.store.now c.args.work.now.names.now c.args.work.now.marks.now c.args.self.now
-    c.args.work.now.steps.now (name_ahead c.args.begun.now.name) (answers_in c.args.begun.now.next) c.args.lexer.now)
+    c.args.work.now.steps.now (name_ahead c.args.begun.now.name) (answers_in c.args.begun.now.next)
+    c.args.reader.now.coming)
     c.args.work.now.store.now c.args.work.now.names.now c.args.work.now.marks.now c.args.self.now
     c.args.work.now.steps.now (with_texts (name_texts c.args.context.now.sec_names.now c.args.context.now.uses.now)
-    (answers_in c.args.begun.now.next ++ c.args.lexer.now)) c.name_ahead.new.work.store.now
+    (answers_in c.args.begun.now.next ++ c.args.reader.now.coming)) c.name_ahead.new.work.store.now
     c.name_ahead.new.work.names.now c.name_ahead.new.work.marks.now c.name_ahead.new.self
     c.name_ahead.new.work.steps.now (behind-first c.args.context.now.flags.now
     (name_texts c.args.context.now.sec_names.now c.args.context.now.uses.now) c.args.work.now.store.now
     c.args.work.now.names.now c.args.work.now.marks.now c.args.self.now c.args.work.now.steps.now
-    (name_ahead c.args.begun.now.name) (answers_in c.args.begun.now.next) c.args.lexer.now c.requires.translating
+    (name_ahead c.args.begun.now.name) (answers_in c.args.begun.now.next) c.args.reader.now.coming
+    c.requires.translating
     c.name_ahead.new.work.store.now c.name_ahead.new.work.names.now c.name_ahead.new.work.marks.now
     c.name_ahead.new.self c.name_ahead.new.work.steps.now c.in_ok-name_ahead.ensures.translating
     c.in_ok-name_ahead.ensures.keeps c.in_ok-name_ahead.ensures.come c.in_ok-name_ahead.ensures.bound)
     (with_texts (name_texts c.args.context.now.sec_names.now c.args.context.now.uses.now)
     (answers_in c.args.begun.now.next)) (with_texts
-    (name_texts c.args.context.now.sec_names.now c.args.context.now.uses.now) c.args.lexer.now)
+    (name_texts c.args.context.now.sec_names.now c.args.context.now.uses.now) c.args.reader.now.coming)
     (with-texts-append (name_texts c.args.context.now.sec_names.now c.args.context.now.uses.now)
-    (answers_in c.args.begun.now.next) c.args.lexer.now) c.named_answer.new.work.steps.now
+    (answers_in c.args.begun.now.next) c.args.reader.now.coming) c.named_answer.new.work.steps.now
     c.in_err-named_answer.ensures.bound
 
 pub returns-clause-come : goal.returns-clause-come
@@ -141,7 +151,7 @@ returns-clause-come g c = on-ok3 c.read_named.result (IsTranslating c.read_named
     c.read_named.new.work.store.now.lists c.read_named.new.work.names.now c.read_named.new.work.marks.now
     c.read_named.new.self c.read_named.new.work.steps.now
     (after_answers c.args.context.now.flags.now
-    (with_texts (name_texts c.args.context.now.sec_names.now c.args.context.now.uses.now) c.args.lexer.now)
+    (with_texts (name_texts c.args.context.now.sec_names.now c.args.context.now.uses.now) c.args.reader.now.coming)
     (progress_of c.named_answer.new.work.store.now.lists c.named_answer.new.work.names.now
     c.named_answer.new.work.marks.now c.named_answer.new.self [])))
     (HasCome c.args.context.now.flags.now c.args.self.now c.args.work.now.steps.now
@@ -151,25 +161,28 @@ returns-clause-come g c = on-ok3 c.read_named.result (IsTranslating c.read_named
     (all_behind c.args.context.now.flags.now (name_texts c.args.context.now.sec_names.now
     c.args.context.now.uses.now) c.args.work.now.store.now c.args.work.now.names.now c.args.work.now.marks.now
     c.args.self.now c.args.work.now.steps.now (name_ahead c.args.begun.now.name) (answers_in c.args.begun.now.next)
-    c.args.lexer.now) (progress_of c.args.work.now.store.now.lists c.args.work.now.names.now
+    c.args.reader.now.coming) (progress_of c.args.work.now.store.now.lists c.args.work.now.names.now
     c.args.work.now.marks.now c.args.self.now [])))
     (λ is keeps come. last-come c.args.context.now.flags.now
     (all_behind c.args.context.now.flags.now (name_texts c.args.context.now.sec_names.now
     c.args.context.now.uses.now) c.args.work.now.store.now c.args.work.now.names.now c.args.work.now.marks.now
     c.args.self.now c.args.work.now.steps.now (name_ahead c.args.begun.now.name) (answers_in c.args.begun.now.next)
-    c.args.lexer.now) c.args.work.now.store.now c.args.work.now.names.now c.args.work.now.marks.now c.args.self.now
+    c.args.reader.now.coming) c.args.work.now.store.now c.args.work.now.names.now c.args.work.now.marks.now
+    c.args.self.now
     c.args.work.now.steps.now (with_texts (name_texts c.args.context.now.sec_names.now c.args.context.now.uses.now)
-    c.args.lexer.now) c.named_answer.new.work.store.now c.named_answer.new.work.names.now
+    c.args.reader.now.coming) c.named_answer.new.work.store.now c.named_answer.new.work.names.now
     c.named_answer.new.work.marks.now c.named_answer.new.self c.named_answer.new.work.steps.now
     (behind-next c.args.context.now.flags.now (name_texts c.args.context.now.sec_names.now
     c.args.context.now.uses.now) c.args.work.now.store.now c.args.work.now.names.now c.args.work.now.marks.now
     c.args.self.now c.args.work.now.steps.now (name_ahead c.args.begun.now.name) (answers_in c.args.begun.now.next)
-    c.args.lexer.now c.name_ahead.new.work.store.now c.name_ahead.new.work.names.now c.name_ahead.new.work.marks.now
+    c.args.reader.now.coming c.name_ahead.new.work.store.now c.name_ahead.new.work.names.now
+    c.name_ahead.new.work.marks.now
     c.name_ahead.new.self c.name_ahead.new.work.steps.now
     (behind-first c.args.context.now.flags.now
     (name_texts c.args.context.now.sec_names.now c.args.context.now.uses.now) c.args.work.now.store.now
     c.args.work.now.names.now c.args.work.now.marks.now c.args.self.now c.args.work.now.steps.now
-    (name_ahead c.args.begun.now.name) (answers_in c.args.begun.now.next) c.args.lexer.now c.requires.translating
+    (name_ahead c.args.begun.now.name) (answers_in c.args.begun.now.next) c.args.reader.now.coming
+    c.requires.translating
     c.name_ahead.new.work.store.now c.name_ahead.new.work.names.now c.name_ahead.new.work.marks.now
     c.name_ahead.new.self c.name_ahead.new.work.steps.now c.in_ok-name_ahead.ensures.translating
     c.in_ok-name_ahead.ensures.keeps c.in_ok-name_ahead.ensures.come c.in_ok-name_ahead.ensures.bound)
@@ -191,12 +204,14 @@ returns-clause-keeps g c = on-ok1 c.read_named.result (Keeps c.named_answer.new.
     (behind-next c.args.context.now.flags.now (name_texts c.args.context.now.sec_names.now
     c.args.context.now.uses.now) c.args.work.now.store.now c.args.work.now.names.now c.args.work.now.marks.now
     c.args.self.now c.args.work.now.steps.now (name_ahead c.args.begun.now.name) (answers_in c.args.begun.now.next)
-    c.args.lexer.now c.name_ahead.new.work.store.now c.name_ahead.new.work.names.now c.name_ahead.new.work.marks.now
+    c.args.reader.now.coming c.name_ahead.new.work.store.now c.name_ahead.new.work.names.now
+    c.name_ahead.new.work.marks.now
     c.name_ahead.new.self c.name_ahead.new.work.steps.now
     (behind-first c.args.context.now.flags.now
     (name_texts c.args.context.now.sec_names.now c.args.context.now.uses.now) c.args.work.now.store.now
     c.args.work.now.names.now c.args.work.now.marks.now c.args.self.now c.args.work.now.steps.now
-    (name_ahead c.args.begun.now.name) (answers_in c.args.begun.now.next) c.args.lexer.now c.requires.translating
+    (name_ahead c.args.begun.now.name) (answers_in c.args.begun.now.next) c.args.reader.now.coming
+    c.requires.translating
     c.name_ahead.new.work.store.now c.name_ahead.new.work.names.now c.name_ahead.new.work.marks.now
     c.name_ahead.new.self c.name_ahead.new.work.steps.now c.in_ok-name_ahead.ensures.translating
     c.in_ok-name_ahead.ensures.keeps c.in_ok-name_ahead.ensures.come c.in_ok-name_ahead.ensures.bound)
@@ -208,30 +223,33 @@ returns-clause-keeps g c = on-ok1 c.read_named.result (Keeps c.named_answer.new.
 pub returns-clause-names : goal.returns-clause-names
 returns-clause-names g c = on-err-weaker c.read_named.result
     (NamesAmong c.args.context.now.flags.now (with_texts
-    (name_texts c.args.context.now.sec_names.now c.args.context.now.uses.now) c.args.lexer.now)
+    (name_texts c.args.context.now.sec_names.now c.args.context.now.uses.now) c.args.reader.now.coming)
     (progress_of c.named_answer.new.work.store.now.lists c.named_answer.new.work.names.now
     c.named_answer.new.work.marks.now c.named_answer.new.self []) c.read_named.new.work.names.now)
     (NamesAmong c.args.context.now.flags.now (all_behind c.args.context.now.flags.now
     (name_texts c.args.context.now.sec_names.now c.args.context.now.uses.now) c.args.work.now.store.now
     c.args.work.now.names.now c.args.work.now.marks.now c.args.self.now c.args.work.now.steps.now
-    (name_ahead c.args.begun.now.name) (answers_in c.args.begun.now.next) c.args.lexer.now)
+    (name_ahead c.args.begun.now.name) (answers_in c.args.begun.now.next) c.args.reader.now.coming)
     (progress_of c.args.work.now.store.now.lists c.args.work.now.names.now c.args.work.now.marks.now c.args.self.now [])
     c.read_named.new.work.names.now) (last-fails c.args.context.now.flags.now
     (all_behind c.args.context.now.flags.now (name_texts c.args.context.now.sec_names.now c.args.context.now.uses.now)
     c.args.work.now.store.now c.args.work.now.names.now c.args.work.now.marks.now c.args.self.now
-    c.args.work.now.steps.now (name_ahead c.args.begun.now.name) (answers_in c.args.begun.now.next) c.args.lexer.now)
+    c.args.work.now.steps.now (name_ahead c.args.begun.now.name) (answers_in c.args.begun.now.next)
+    c.args.reader.now.coming)
     c.args.work.now.store.now c.args.work.now.names.now c.args.work.now.marks.now c.args.self.now
     c.args.work.now.steps.now (with_texts (name_texts c.args.context.now.sec_names.now c.args.context.now.uses.now)
-    c.args.lexer.now) c.named_answer.new.work.store.now c.named_answer.new.work.names.now
+    c.args.reader.now.coming) c.named_answer.new.work.store.now c.named_answer.new.work.names.now
     c.named_answer.new.work.marks.now c.named_answer.new.self c.named_answer.new.work.steps.now
     (behind-next c.args.context.now.flags.now (name_texts c.args.context.now.sec_names.now c.args.context.now.uses.now)
     c.args.work.now.store.now c.args.work.now.names.now c.args.work.now.marks.now c.args.self.now
-    c.args.work.now.steps.now (name_ahead c.args.begun.now.name) (answers_in c.args.begun.now.next) c.args.lexer.now
+    c.args.work.now.steps.now (name_ahead c.args.begun.now.name) (answers_in c.args.begun.now.next)
+    c.args.reader.now.coming
     c.name_ahead.new.work.store.now c.name_ahead.new.work.names.now c.name_ahead.new.work.marks.now
     c.name_ahead.new.self c.name_ahead.new.work.steps.now
     (behind-first c.args.context.now.flags.now (name_texts c.args.context.now.sec_names.now c.args.context.now.uses.now)
     c.args.work.now.store.now c.args.work.now.names.now c.args.work.now.marks.now c.args.self.now
-    c.args.work.now.steps.now (name_ahead c.args.begun.now.name) (answers_in c.args.begun.now.next) c.args.lexer.now
+    c.args.work.now.steps.now (name_ahead c.args.begun.now.name) (answers_in c.args.begun.now.next)
+    c.args.reader.now.coming
     c.requires.translating c.name_ahead.new.work.store.now c.name_ahead.new.work.names.now
     c.name_ahead.new.work.marks.now c.name_ahead.new.self c.name_ahead.new.work.steps.now
     c.in_ok-name_ahead.ensures.translating c.in_ok-name_ahead.ensures.keeps c.in_ok-name_ahead.ensures.come
@@ -244,19 +262,22 @@ pub returns-clause-bound : goal.returns-clause-bound
 returns-clause-bound g c = last-few c.args.context.now.flags.now
     (all_behind c.args.context.now.flags.now (name_texts c.args.context.now.sec_names.now c.args.context.now.uses.now)
     c.args.work.now.store.now c.args.work.now.names.now c.args.work.now.marks.now c.args.self.now
-    c.args.work.now.steps.now (name_ahead c.args.begun.now.name) (answers_in c.args.begun.now.next) c.args.lexer.now)
+    c.args.work.now.steps.now (name_ahead c.args.begun.now.name) (answers_in c.args.begun.now.next)
+    c.args.reader.now.coming)
     c.args.work.now.store.now c.args.work.now.names.now c.args.work.now.marks.now c.args.self.now
     c.args.work.now.steps.now (with_texts (name_texts c.args.context.now.sec_names.now c.args.context.now.uses.now)
-    c.args.lexer.now) c.named_answer.new.work.store.now c.named_answer.new.work.names.now
+    c.args.reader.now.coming) c.named_answer.new.work.store.now c.named_answer.new.work.names.now
     c.named_answer.new.work.marks.now c.named_answer.new.self c.named_answer.new.work.steps.now
     (behind-next c.args.context.now.flags.now (name_texts c.args.context.now.sec_names.now c.args.context.now.uses.now)
     c.args.work.now.store.now c.args.work.now.names.now c.args.work.now.marks.now c.args.self.now
-    c.args.work.now.steps.now (name_ahead c.args.begun.now.name) (answers_in c.args.begun.now.next) c.args.lexer.now
+    c.args.work.now.steps.now (name_ahead c.args.begun.now.name) (answers_in c.args.begun.now.next)
+    c.args.reader.now.coming
     c.name_ahead.new.work.store.now c.name_ahead.new.work.names.now c.name_ahead.new.work.marks.now
     c.name_ahead.new.self c.name_ahead.new.work.steps.now
     (behind-first c.args.context.now.flags.now (name_texts c.args.context.now.sec_names.now c.args.context.now.uses.now)
     c.args.work.now.store.now c.args.work.now.names.now c.args.work.now.marks.now c.args.self.now
-    c.args.work.now.steps.now (name_ahead c.args.begun.now.name) (answers_in c.args.begun.now.next) c.args.lexer.now
+    c.args.work.now.steps.now (name_ahead c.args.begun.now.name) (answers_in c.args.begun.now.next)
+    c.args.reader.now.coming
     c.requires.translating c.name_ahead.new.work.store.now c.name_ahead.new.work.names.now
     c.name_ahead.new.work.marks.now c.name_ahead.new.self c.name_ahead.new.work.steps.now
     c.in_ok-name_ahead.ensures.translating c.in_ok-name_ahead.ensures.keeps c.in_ok-name_ahead.ensures.come

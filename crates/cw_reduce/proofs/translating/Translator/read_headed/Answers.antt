@@ -17,7 +17,7 @@ use Rattle.cw_reduce.proofs.translating.Translator.read_headed.Goals as goal
 pub returns-in_err-head_name-clause-names : goal.returns-in_err-head_name-clause-names
 returns-in_err-head_name-clause-names g c = on-err c.from_residual.result
     (NamesOfHeaded c.args.context.now.flags.now (name_texts c.args.context.now.sec_names.now
-    c.args.context.now.uses.now) c.args.begun.now.head (answers_ahead c.args.begun.now ++ c.args.lexer.now)
+    c.args.context.now.uses.now) c.args.begun.now.head (answers_ahead c.args.begun.now ++ c.args.reader.now.coming)
     (progress_of c.args.work.now.store.now.lists c.args.work.now.names.now c.args.work.now.marks.now c.args.self.now [])
     c.head_name.new.work.names.now) (in_name c.in_err-head_name.ensures.names)
 
@@ -27,7 +27,7 @@ returns-in_err-head_name-clause-bound g c = omega (
   c.in_err-head_name.ensures.bound,
   limit-more c.args.context.now.flags.now (with_texts
       (name_texts c.args.context.now.sec_names.now c.args.context.now.uses.now) (answers_ahead c.args.begun.now
-      ++ c.args.lexer.now)) (after_head c.args.context.now.flags.now
+      ++ c.args.reader.now.coming)) (after_head c.args.context.now.flags.now
       (name_texts c.args.context.now.sec_names.now c.args.context.now.uses.now) c.args.begun.now.head
       (progress_of c.args.work.now.store.now.lists c.args.work.now.names.now c.args.work.now.marks.now c.args.self.now
       [])),
@@ -39,13 +39,13 @@ returns-clause-come g c = on-ok1 c.read_behind.result (HasCome c.args.context.no
     c.read_behind.new.work.marks.now c.read_behind.new.self c.read_behind.new.work.steps.now
     (after_answers c.args.context.now.flags.now (with_texts
     (name_texts c.args.context.now.sec_names.now c.args.context.now.uses.now) (answers_ahead c.args.begun.now
-    ++ c.args.lexer.now)) (progress_of c.head_name.new.work.store.now.lists c.head_name.new.work.names.now
+    ++ c.args.reader.now.coming)) (progress_of c.head_name.new.work.store.now.lists c.head_name.new.work.names.now
     c.head_name.new.work.marks.now c.head_name.new.self []))) (HasCome c.args.context.now.flags.now c.args.self.now
     c.args.work.now.steps.now c.read_behind.new.work.store.now.lists c.read_behind.new.work.names.now
     c.read_behind.new.work.marks.now c.read_behind.new.self c.read_behind.new.work.steps.now
     (after_answers c.args.context.now.flags.now (with_texts
     (name_texts c.args.context.now.sec_names.now c.args.context.now.uses.now) (answers_ahead c.args.begun.now
-    ++ c.args.lexer.now)) (after_head c.args.context.now.flags.now
+    ++ c.args.reader.now.coming)) (after_head c.args.context.now.flags.now
     (name_texts c.args.context.now.sec_names.now c.args.context.now.uses.now) c.args.begun.now.head
     (progress_of c.args.work.now.store.now.lists c.args.work.now.names.now c.args.work.now.marks.now c.args.self.now
     []))))
@@ -56,7 +56,7 @@ returns-clause-come g c = on-ok1 c.read_behind.result (HasCome c.args.context.no
     (progress_of c.args.work.now.store.now.lists c.args.work.now.names.now c.args.work.now.marks.now c.args.self.now
     [])) c.in_ok-head_name.ensures.come (with_texts
     (name_texts c.args.context.now.sec_names.now c.args.context.now.uses.now) (answers_ahead c.args.begun.now
-    ++ c.args.lexer.now)) c.read_behind.new.work.store.now.lists c.read_behind.new.work.names.now
+    ++ c.args.reader.now.coming)) c.read_behind.new.work.store.now.lists c.read_behind.new.work.names.now
     c.read_behind.new.work.marks.now c.read_behind.new.self c.read_behind.new.work.steps.now)
     c.read_behind.ensures.come
 
@@ -75,10 +75,10 @@ pub returns-clause-names : goal.returns-clause-names
 returns-clause-names g c = on-err-weaker c.read_behind.result
     (NamesAmong c.args.context.now.flags.now (with_texts
     (name_texts c.args.context.now.sec_names.now c.args.context.now.uses.now) (answers_ahead c.args.begun.now
-    ++ c.args.lexer.now)) (progress_of c.head_name.new.work.store.now.lists c.head_name.new.work.names.now
+    ++ c.args.reader.now.coming)) (progress_of c.head_name.new.work.store.now.lists c.head_name.new.work.names.now
     c.head_name.new.work.marks.now c.head_name.new.self []) c.read_behind.new.work.names.now)
     (NamesOfHeaded c.args.context.now.flags.now (name_texts c.args.context.now.sec_names.now
-    c.args.context.now.uses.now) c.args.begun.now.head (answers_ahead c.args.begun.now ++ c.args.lexer.now)
+    c.args.context.now.uses.now) c.args.begun.now.head (answers_ahead c.args.begun.now ++ c.args.reader.now.coming)
     (progress_of c.args.work.now.store.now.lists c.args.work.now.names.now c.args.work.now.marks.now c.args.self.now [])
     c.read_behind.new.work.names.now)
     (λ h. behind (then-fails c.args.context.now.flags.now c.args.self.now c.head_name.new.self c.args.work.now.steps.now
@@ -88,12 +88,12 @@ returns-clause-names g c = on-err-weaker c.read_behind.result
     (progress_of c.args.work.now.store.now.lists c.args.work.now.names.now c.args.work.now.marks.now c.args.self.now
     [])) c.in_ok-head_name.ensures.come (with_texts
     (name_texts c.args.context.now.sec_names.now c.args.context.now.uses.now) (answers_ahead c.args.begun.now
-    ++ c.args.lexer.now)) c.read_behind.new.work.names.now
+    ++ c.args.reader.now.coming)) c.read_behind.new.work.names.now
     (subst (λ list. NamesOnTheWay c.args.context.now.flags.now list
     (progress_of c.head_name.new.work.store.now.lists c.head_name.new.work.names.now c.head_name.new.work.marks.now
     c.head_name.new.self []) c.read_behind.new.work.names.now)
     (append-nil (with_texts (name_texts c.args.context.now.sec_names.now c.args.context.now.uses.now)
-    (answers_ahead c.args.begun.now ++ c.args.lexer.now))) (h [])))) c.read_behind.ensures.names
+    (answers_ahead c.args.begun.now ++ c.args.reader.now.coming))) (h [])))) c.read_behind.ensures.names
 
 pub returns-clause-bound : goal.returns-clause-bound
 returns-clause-bound g c = then-few c.args.context.now.flags.now c.args.self.now c.head_name.new.self
@@ -103,5 +103,5 @@ returns-clause-bound g c = then-few c.args.context.now.flags.now c.args.self.now
     c.args.begun.now.head (progress_of c.args.work.now.store.now.lists c.args.work.now.names.now
     c.args.work.now.marks.now c.args.self.now [])) c.in_ok-head_name.ensures.come
     (with_texts (name_texts c.args.context.now.sec_names.now c.args.context.now.uses.now)
-    (answers_ahead c.args.begun.now ++ c.args.lexer.now)) c.read_behind.new.work.steps.now
+    (answers_ahead c.args.begun.now ++ c.args.reader.now.coming)) c.read_behind.new.work.steps.now
     c.in_ok-head_name.ensures.bound c.read_behind.ensures.bound

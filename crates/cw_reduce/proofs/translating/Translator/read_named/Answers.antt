@@ -1,5 +1,6 @@
 -- One answer more, a section name with its text, is one step of the reading, also where memory is wanting.
 use Rattle.std.proofs.Common.{[]}
+use Rattle.cw_answers.proofs.Staying.{stays-trans}
 use Rattle.cw_reduce.specs.NameParts.{name_texts}
 use Rattle.cw_reduce.specs.Naming.{with_texts}
 use Rattle.cw_reduce.specs.Opening.{answers_in, progress_of}
@@ -12,53 +13,57 @@ use Rattle.cw_reduce.proofs.translating.Translator.read_named.Goals as goal
 pub loop-self-preserved : goal.loop-self-preserved
 loop-self-preserved g c = (
   reads-more c.args.context.now.flags.now (with_texts
-      (name_texts c.args.context.now.sec_names.now c.args.context.now.uses.now) c.args.lexer.now)
+      (name_texts c.args.context.now.sec_names.now c.args.context.now.uses.now) c.args.reader.now.coming)
       c.args.work.now.store.now c.args.work.now.names.now c.args.work.now.marks.now c.args.self.now
       c.args.work.now.steps.now (with_texts (name_texts c.args.context.now.sec_names.now c.args.context.now.uses.now)
-      c.loop-self.lexer) c.loop-self.work.store.now c.loop-self.work.names.now c.loop-self.work.marks.now
+      c.loop-self.reader.coming) c.loop-self.work.store.now c.loop-self.work.names.now c.loop-self.work.marks.now
       c.loop-self.self c.loop-self.work.steps.now c.loop-self.invariant.0
       (with_texts (name_texts c.args.context.now.sec_names.now c.args.context.now.uses.now)
       (answers_in c.next-answer.result)) (with_texts
-      (name_texts c.args.context.now.sec_names.now c.args.context.now.uses.now) c.next-answer.new.self)
-      (with-texts-next (name_texts c.args.context.now.sec_names.now c.args.context.now.uses.now) c.loop-self.lexer
-      c.next-answer.new.self c.next-answer.result c.next-answer.ensures)
+      (name_texts c.args.context.now.sec_names.now c.args.context.now.uses.now) c.next-answer.new.self.coming)
+      (with-texts-next (name_texts c.args.context.now.sec_names.now c.args.context.now.uses.now)
+      c.loop-self.reader.coming
+      c.next-answer.new.self.coming c.next-answer.result c.next-answer.ensures.gives)
       c.named_answer.new.work.store.now c.named_answer.new.work.names.now c.named_answer.new.work.marks.now
       c.named_answer.new.self c.named_answer.new.work.steps.now c.in_ok-named_answer.ensures.translating
       c.in_ok-named_answer.ensures.keeps c.in_ok-named_answer.ensures.come c.in_ok-named_answer.ensures.bound,
-  (starts-next 4294967296 c.loop-self.lexer c.next-answer.new.self c.next-answer.result c.next-answer.ensures
+  (starts-next 4294967296 c.loop-self.reader.coming c.next-answer.new.self.coming c.next-answer.result
+      c.next-answer.ensures.gives
       c.loop-self.invariant.1).1,
   same-work _ _ _ c.loop-self.invariant.2 c.in_ok-named_answer.ensures.same,
+  stays-trans _ _ _ c.loop-self.invariant.3 c.next-answer.ensures.all,
 )
 
 pub returns-in_err-named_answer-clause-names : goal.returns-in_err-named_answer-clause-names
 returns-in_err-named_answer-clause-names g c = on-err c.from_residual.result
     (NamesAmong c.args.context.now.flags.now (with_texts
-    (name_texts c.args.context.now.sec_names.now c.args.context.now.uses.now) c.args.lexer.now)
+    (name_texts c.args.context.now.sec_names.now c.args.context.now.uses.now) c.args.reader.now.coming)
     (progress_of c.args.work.now.store.now.lists c.args.work.now.names.now c.args.work.now.marks.now c.args.self.now [])
     c.named_answer.new.work.names.now)
     (reads-fails c.args.context.now.flags.now (with_texts
-    (name_texts c.args.context.now.sec_names.now c.args.context.now.uses.now) c.args.lexer.now)
+    (name_texts c.args.context.now.sec_names.now c.args.context.now.uses.now) c.args.reader.now.coming)
     c.args.work.now.store.now c.args.work.now.names.now c.args.work.now.marks.now c.args.self.now
     c.args.work.now.steps.now (with_texts (name_texts c.args.context.now.sec_names.now c.args.context.now.uses.now)
-    c.loop-self.lexer) c.loop-self.work.store.now c.loop-self.work.names.now c.loop-self.work.marks.now
+    c.loop-self.reader.coming) c.loop-self.work.store.now c.loop-self.work.names.now c.loop-self.work.marks.now
     c.loop-self.self c.loop-self.work.steps.now c.loop-self.invariant.0
     (with_texts (name_texts c.args.context.now.sec_names.now c.args.context.now.uses.now)
     (answers_in c.next-answer.result)) (with_texts
-    (name_texts c.args.context.now.sec_names.now c.args.context.now.uses.now) c.next-answer.new.self)
-    (with-texts-next (name_texts c.args.context.now.sec_names.now c.args.context.now.uses.now) c.loop-self.lexer
-    c.next-answer.new.self c.next-answer.result c.next-answer.ensures) c.named_answer.new.work.names.now
+    (name_texts c.args.context.now.sec_names.now c.args.context.now.uses.now) c.next-answer.new.self.coming)
+    (with-texts-next (name_texts c.args.context.now.sec_names.now c.args.context.now.uses.now) c.loop-self.reader.coming
+    c.next-answer.new.self.coming c.next-answer.result c.next-answer.ensures.gives) c.named_answer.new.work.names.now
     c.in_err-named_answer.ensures.names)
 
 pub returns-in_err-named_answer-clause-bound : goal.returns-in_err-named_answer-clause-bound
 returns-in_err-named_answer-clause-bound g c = reads-few c.args.context.now.flags.now
-    (with_texts (name_texts c.args.context.now.sec_names.now c.args.context.now.uses.now) c.args.lexer.now)
+    (with_texts (name_texts c.args.context.now.sec_names.now c.args.context.now.uses.now) c.args.reader.now.coming)
     c.args.work.now.store.now c.args.work.now.names.now c.args.work.now.marks.now c.args.self.now
     c.args.work.now.steps.now (with_texts (name_texts c.args.context.now.sec_names.now c.args.context.now.uses.now)
-    c.loop-self.lexer) c.loop-self.work.store.now c.loop-self.work.names.now c.loop-self.work.marks.now c.loop-self.self
+    c.loop-self.reader.coming) c.loop-self.work.store.now c.loop-self.work.names.now c.loop-self.work.marks.now
+    c.loop-self.self
     c.loop-self.work.steps.now c.loop-self.invariant.0
     (with_texts (name_texts c.args.context.now.sec_names.now c.args.context.now.uses.now)
     (answers_in c.next-answer.result)) (with_texts
-    (name_texts c.args.context.now.sec_names.now c.args.context.now.uses.now) c.next-answer.new.self)
-    (with-texts-next (name_texts c.args.context.now.sec_names.now c.args.context.now.uses.now) c.loop-self.lexer
-    c.next-answer.new.self c.next-answer.result c.next-answer.ensures) c.named_answer.new.work.steps.now
+    (name_texts c.args.context.now.sec_names.now c.args.context.now.uses.now) c.next-answer.new.self.coming)
+    (with-texts-next (name_texts c.args.context.now.sec_names.now c.args.context.now.uses.now) c.loop-self.reader.coming
+    c.next-answer.new.self.coming c.next-answer.result c.next-answer.ensures.gives) c.named_answer.new.work.steps.now
     c.in_err-named_answer.ensures.bound

@@ -1,6 +1,8 @@
 -- The head that is read, and the text behind it, give the translation; the lists that the store held stay.
-use Rattle.std.proofs.Common.{◌+◌, ◌≤◌, [], ◌∷◌, ◌++◌, subst, rules}
+use Rattle.std.proofs.Common.{◌+◌, ◌≤◌, [], ◌∷◌, ◌++◌, subst}
 use Rattle.std.proofs.lemmas.Result.{IfOk-weaker}
+use Rattle.cw_answers.specs.Reading.{IsReadUp}
+use Rattle.cw_answers.proofs.Staying.{read-up-behind}
 use Rattle.cw_scraps.specs.Changing.{Keeps}
 use Rattle.cw_scraps.specs.Lines.{roots_of}
 use Rattle.cw_scraps.specs.Marking.{marked_names}
@@ -11,10 +13,10 @@ use Rattle.cw_reduce.specs.Heading.{NamesOfHeaded, NamesOfText, behind_head, hea
 use Rattle.cw_reduce.specs.NameParts.{name_texts}
 use Rattle.cw_reduce.specs.Opening.{IsTranslated}
 use Rattle.cw_reduce.specs.Translating.{Ended, begin, translated}
-use Rattle.cw_reduce.proofs.AnswerSteps.{on-err, on-err-weaker}
+use Rattle.cw_reduce.proofs.AnswerSteps.{on-err, on-err-weaker, on-ok1}
 use Rattle.cw_reduce.proofs.HeadSteps.{headed-translated}
 use Rattle.cw_reduce.proofs.NamedJoined.{texts-nested}
-use Rattle.cw_reduce.proofs.translating.translate_source.Goals as goal
+use Rattle.cw_reduce.proofs.translating.translate_read.Goals as goal
 
 pub returns-clause-text : goal.returns-clause-text
 returns-clause-text g c =
@@ -23,19 +25,20 @@ returns-clause-text g c =
     c.translate_headed.new.work.marks.now done c.args.work.now.steps.now c.translate_headed.new.work.steps.now
     (headed_text c.args.context.now.flags.now (name_texts c.args.context.now.sec_names.now
     c.args.context.now.uses.now) c.read_head.new.store.lists c.in_ok-begun.begun.head
-    (answers_ahead c.in_ok-begun.begun ++ c.read_head.new.lexer)
+    (answers_ahead c.in_ok-begun.begun ++ c.read_head.new.reader.coming)
     (begin c.read_head.new.names (marked_names c.args.work.now.marks.now))))
     (λ done. IsTranslated c.args.context.now.flags.now c.translate_headed.new.work.store.now.lists
     c.translate_headed.new.work.names.now c.translate_headed.new.work.marks.now done c.args.work.now.steps.now
     c.translate_headed.new.work.steps.now (translated c.args.context.now.flags.now
-    (name_texts c.args.context.now.sec_names.now c.args.context.now.uses.now) c.args.source.now
+    (name_texts c.args.context.now.sec_names.now c.args.context.now.uses.now) c.args.reader.now.coming
     c.args.work.now.names.now (marked_names c.args.work.now.marks.now)))
     (λ done e. subst (λ text. IsTranslated c.args.context.now.flags.now c.translate_headed.new.work.store.now.lists
     c.translate_headed.new.work.names.now c.translate_headed.new.work.marks.now done c.args.work.now.steps.now
     c.translate_headed.new.work.steps.now text) (headed-translated c.args.context.now.flags.now
     (name_texts c.args.context.now.sec_names.now c.args.context.now.uses.now)
     (texts-nested c.args.context.now.sec_names.now c.args.context.now.uses.now) c.read_head.new.store.lists
-    c.in_ok-begun.begun.head (answers_ahead c.in_ok-begun.begun ++ c.read_head.new.lexer) c.args.source.now
+    c.in_ok-begun.begun.head (answers_ahead c.in_ok-begun.begun ++ c.read_head.new.reader.coming)
+    c.args.reader.now.coming
     c.args.work.now.names.now c.read_head.new.names (marked_names c.args.work.now.marks.now)
     c.in_ok-begun.ensures.made c.in_ok-begun.ensures.rest) e) c.translate_headed.ensures.text
 
@@ -56,29 +59,36 @@ returns-clause-bound g c =
     + limit_in c.args.context.now.flags.now text.known.ended) (headed-translated c.args.context.now.flags.now
     (name_texts c.args.context.now.sec_names.now c.args.context.now.uses.now)
     (texts-nested c.args.context.now.sec_names.now c.args.context.now.uses.now) c.read_head.new.store.lists
-    c.in_ok-begun.begun.head (answers_ahead c.in_ok-begun.begun ++ c.read_head.new.lexer) c.args.source.now
+    c.in_ok-begun.begun.head (answers_ahead c.in_ok-begun.begun ++ c.read_head.new.reader.coming)
+    c.args.reader.now.coming
     c.args.work.now.names.now c.read_head.new.names (marked_names c.args.work.now.marks.now)
     c.in_ok-begun.ensures.made c.in_ok-begun.ensures.rest) c.translate_headed.ensures.bound
 
 pub returns-in_err-begun-clause-refused : goal.returns-in_err-begun-clause-refused
 returns-in_err-begun-clause-refused g c = on-err c.from_residual.result
     (NamesOfText c.args.context.now.flags.now (name_texts c.args.context.now.sec_names.now c.args.context.now.uses.now)
-    c.args.source.now c.args.work.now.names.now (marked_names c.args.work.now.marks.now) c.read_head.new.names)
+    c.args.reader.now.coming c.args.work.now.names.now (marked_names c.args.work.now.marks.now) c.read_head.new.names)
     (in_head c.in_err-begun.ensures.no_names)
 
 pub returns-clause-refused : goal.returns-clause-refused
 returns-clause-refused g c =
     on-err-weaker c.translate_headed.result (NamesOfHeaded c.args.context.now.flags.now
     (name_texts c.args.context.now.sec_names.now c.args.context.now.uses.now) c.in_ok-begun.begun.head
-    (answers_ahead c.in_ok-begun.begun ++ c.read_head.new.lexer)
+    (answers_ahead c.in_ok-begun.begun ++ c.read_head.new.reader.coming)
     (head_begun c.read_head.new.store.lists c.in_ok-begun.begun.head
     (begin c.read_head.new.names (marked_names c.args.work.now.marks.now))) c.translate_headed.new.work.names.now)
     (NamesOfText c.args.context.now.flags.now (name_texts c.args.context.now.sec_names.now c.args.context.now.uses.now)
-    c.args.source.now c.args.work.now.names.now (marked_names c.args.work.now.marks.now)
+    c.args.reader.now.coming c.args.work.now.names.now (marked_names c.args.work.now.marks.now)
     c.translate_headed.new.work.names.now)
     (λ h. behind_head c.read_head.new.store.lists c.in_ok-begun.begun.head (answers_ahead c.in_ok-begun.begun
-    ++ c.read_head.new.lexer) c.read_head.new.names c.in_ok-begun.ensures.rest
+    ++ c.read_head.new.reader.coming) c.read_head.new.names c.in_ok-begun.ensures.rest
     (c.in_ok-begun.ensures.made c.args.context.now.flags.now
     (name_texts c.args.context.now.sec_names.now c.args.context.now.uses.now)
     (begin c.args.work.now.names.now (marked_names c.args.work.now.marks.now))) h)
     c.translate_headed.ensures.refused
+
+pub returns-clause-read : goal.returns-clause-read
+returns-clause-read g c = on-ok1 c.translate_headed.result
+    (IsReadUp c.read_head.new.reader c.translate_headed.new.reader)
+    (IsReadUp c.args.reader.now c.translate_headed.new.reader)
+    (read-up-behind _ _ _ c.in_ok-begun.ensures.all) c.translate_headed.ensures.read

@@ -1,0 +1,18 @@
+-- The tokens of a scan stand in its text, and nothing is kept yet.
+use Rattle.std.proofs.Common.{All, length, subst, sym, ◌∙◌}
+use Rattle.std.proofs.lemmas.List.Elements.{All-nil}
+use Rattle.cw_answers.specs.Kept.{IsWithin}
+use Rattle.cw_answers.proofs.Standing.{all-stand}
+use Rattle.cw_answers.proofs.reader.Reader.keeping.Goals as goal
+
+pub invariant_of-result : goal.invariant_of-result
+invariant_of-result c =
+    let span = c.args.span in
+    let text = c.args.text.now in
+    record {
+      within = λ _. subst (All (IsWithin (length text))) (sym (c.reserve.ensures.items ∙ c.clear.ensures.items))
+          (All-nil (IsWithin (length text)));
+      short = c.requires.short;
+      stand = all-stand text span.start span.start span.end span.end c.over.result c.requires.within
+          c.over.ensures.covers c.over.ensures.within;
+    }
