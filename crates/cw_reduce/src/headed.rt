@@ -30,11 +30,14 @@ use cw_lex::Lexed;
 use cw_scraps::ScrapLine;
 use std::alloc::Global;
 
+// For how many scraps a text's line has room at first, so that those of most texts are never moved.
+const FIRST_SCRAPS: usize = 64;
+
 /// The scrap of a head, where it has one.
 fn line_of(head: HeadRead, alloc: Global) -> Result<ScrapLine, Memory>
     ensures { IfOk result (λ line. line ≡ head_line head) }
 {
-    let mut line = ScrapLine::new_in(alloc);
+    let mut line = ScrapLine::with_room(alloc, FIRST_SCRAPS)?;
     match head {
         HeadRead::Dead(list) => {
             line.add(Cat::Dead, list, MathMode::Text, MathMode::Text)?;

@@ -1,6 +1,6 @@
 //! A line of scraps: the two ends of one vector, with a gap between them.
 ghost use Rattle.std.specs.Prelude.{◌≡◌, ◌≢◌, ◌+◌, ◌-◌, ◌^◌, ◌<◌, ◌≤◌, ◌↔◌, [], ◌∷◌, ◌++◌, length, take, drop, set};
-ghost use Rattle.std.specs.Prelude.{IsTrue, IfSome, OnOk, OnErr, slice_index_or};
+ghost use Rattle.std.specs.Prelude.{IsTrue, IfOk, IfSome, OnOk, OnErr, slice_index_or};
 ghost use Rattle.cw_base.specs.declared.category.Cat.TheVariants.{End};
 ghost use Rattle.cw_scraps.specs.Gap.{around, IsGap};
 ghost use Rattle.cw_scraps.specs.Lines.{no_entry};
@@ -62,6 +62,19 @@ impl ScrapLine {
             left: 0,
             right: 0,
         }
+    }
+
+    /// A line without scraps that has room for so many.
+    pub fn with_room(alloc: Global, count: usize) -> Result<ScrapLine, Memory>
+        ensures { IfOk result (λ line. line ≡ []) }
+    {
+        let mut items = Vec::new(alloc);
+        items.reserve(count)?;
+        Ok(ScrapLine {
+            items,
+            left: 0,
+            right: 0,
+        })
     }
 
     /// Puts a scrap behind the others. After `Memory` the line is as before.
