@@ -1,15 +1,126 @@
 -- Of the tokens that a scan finds by their numbers.
-use Rattle.std.proofs.Common.{◌≡◌, ◌≢◌, ℕ, ◌==◌, ◌<◌, ◌≤◌, false, List, arith, drop, length}
-use Rattle.cw_rules.specs.Answers.{Answer}
+use Rattle.std.proofs.Common.{◌≡◌, ◌≢◌, ℕ, suc, ◌+◌, ◌-◌, ◌<◌, ◌≤◌, ◌^◌, List, [], ◌++◌, Some, None}
+use Rattle.std.proofs.Common.{append_assoc, arith, ap, refl, sym, ◌∙◌, subst, drop, length, take}
+use Rattle.std.proofs.lemmas.List.{take_all}
+use Rattle.std.proofs.Math.Seq.{take-add}
 use Rattle.cw_lex.specs.Nested.{until_section}
-use Rattle.cw_print.specs.Found.{numbered, IsAhead}
+use Rattle.cw_rules.specs.declared.tokens.Lexed.{Lexed}
+use Rattle.cw_rules.specs.declared.tokens.Lexed.TheVariants as lexed
+use Rattle.cw_rules.specs.declared.tokens.Tok.{Tok}
+use Rattle.cw_rules.specs.Answers.{Answer, Gives, seen}
+use Rattle.cw_print.specs.declared.scan.Seek.{Seek}
+use Rattle.cw_print.specs.Found.{numbered, HasNoNumber, HasNumber, IsAhead}
+use Rattle.cw_print.specs.Scanning.{IsSeeking}
 
-other : (n number : ℕ) → n ≢ number → (n == number) ≡ false
-other n number l = grind arith
+-- the answers from a place on, up to another
+abbrev pub ahead-of : List Answer → ℕ → ℕ → List Answer
+ahead-of all place end = take (end - place) (drop place all)
 
 -- What a walk to the token of a number has left: the token, and the numbers that lie ahead.
-pub record Passes (number : ℕ) (all : List Answer) (place from : ℕ) : Type 0 where
-  pub found : numbered number (until_section (drop place all)) ≡ numbered number (until_section all)
-  pub ahead : IsAhead (until_section all) from (until_section (drop place all))
-  pub within : place ≤ length all
+pub record Passes (number : ℕ) (all : List Answer) (place end from : ℕ) : Type 0 where
+  pub found : numbered number (ahead-of all place end) ≡ numbered number (take end all)
+  pub ahead : IsAhead (take end all) from (ahead-of all place end)
+  pub order : place ≤ end
+  pub within : end ≤ length all
   pub above : number < from
+
+gives-taken : (answer : Lexed) (n : ℕ) (old new : List Answer) → Gives old answer new
+    → Gives (take (suc n) old) answer (take n new)
+gives-taken (lexed.Token t) n old new g = rw g refl
+gives-taken (lexed.Begin t) n old new g = rw g refl
+gives-taken (lexed.Finish t) n old new g = rw g refl
+gives-taken (lexed.Note kind place) n old new g = rw g refl
+gives-taken lexed.End n old new (old-none, new-none) = rw (old-none, new-none) (refl, take_all n [] (omega arith))
+
+gives-ahead : (answer : Lexed) (all : List Answer) (place end : ℕ) → place < end
+    → Gives (drop place all) answer (drop (place + 1) all)
+    → Gives (ahead-of all place end) answer (ahead-of all (place + 1) end)
+gives-ahead answer all place end less g =
+    subst (λ (n : ℕ). Gives (take n (drop place all)) answer (ahead-of all (place + 1) end))
+    (let e : suc (end - (place + 1)) ≡ end - place = omega (arith, less) in e)
+    (gives-taken answer (end - (place + 1)) (drop place all) (drop (place + 1) all) g)
+
+-- the walk goes on behind an answer whose token has another number
+pub passes-token : (answer : Lexed) (token : Tok) (number : ℕ) (all : List Answer) (place end from more : ℕ)
+    → place < end → Gives (drop place all) answer (drop (place + 1) all) → HasNumber answer token
+    → token.span.start ≢ number → from ≤ more
+    → ((m : ℕ) → more ≤ m → m < 2 ^ 32 → token.span.start ≢ m)
+    → Passes number all place end from → Passes number all (place + 1) end more
+passes-token answer token number all place end from more less g has other-number larger beyond p = record {
+  found = sym (has.passed number _ _ (gives-ahead answer all place end less g) other-number) ∙ p.found;
+  ahead = record {
+    same = λ m l fits. sym (has.passed m _ _ (gives-ahead answer all place end less g) (beyond m l fits))
+        ∙ p.ahead.same m (omega (arith, l, larger)) fits;
+  };
+  order = omega (arith, less);
+  within = p.within;
+  above = omega (arith, p.above, larger);
+}
+
+-- and behind one without a token
+pub passes-none : (answer : Lexed) (number : ℕ) (all : List Answer) (place end from : ℕ)
+    → place < end → Gives (drop place all) answer (drop (place + 1) all) → HasNoNumber answer
+    → Passes number all place end from → Passes number all (place + 1) end from
+passes-none answer number all place end from less g none p = record {
+  found = sym (none number _ _ (gives-ahead answer all place end less g)) ∙ p.found;
+  ahead = record {
+    same = λ m l fits. sym (none m _ _ (gives-ahead answer all place end less g)) ∙ p.ahead.same m l fits;
+  };
+  order = omega (arith, less);
+  within = p.within;
+  above = p.above;
+}
+
+-- the token of the number is found
+pub found-at : (answer : Lexed) (token : Tok) (number : ℕ) (all : List Answer) (place end from : ℕ)
+    → place < end → Gives (drop place all) answer (drop (place + 1) all) → HasNumber answer token
+    → token.span.start ≡ number → Passes number all place end from
+    → Some (seen token) ≡ numbered number (take end all)
+found-at answer token number all place end from less g has is p =
+    sym (subst (λ (n : ℕ). numbered n (ahead-of all place end) ≡ Some (seen token)) is
+    (has.found _ _ (gives-ahead answer all place end less g))) ∙ p.found
+
+-- and the walk then stands behind it
+pub seeks-behind : (answer : Lexed) (token : Tok) (number : ℕ) (all : List Answer) (place end from : ℕ)
+    → place < end → Gives (drop place all) answer (drop (place + 1) all) → HasNumber answer token
+    → token.span.start ≡ number → Passes number all place end from
+    → IsSeeking all (record { place = place + 1; «end» = end; from = from })
+seeks-behind answer token number all place end from less g has is p = record {
+  order = omega (arith, less);
+  within = p.within;
+  ahead = record {
+    same = λ m l fits. sym (has.passed m _ _ (gives-ahead answer all place end less g)
+        (let e : token.span.start ≢ m = grind (arith, is, l, p.above) in e)) ∙ p.ahead.same m l fits;
+  };
+}
+
+-- no answer is left
+ahead-none : (all : List Answer) (end : ℕ) → ahead-of all end end ≡ []
+ahead-none all end = ap (λ (n : ℕ). take n (drop end all)) (let e : end - end ≡ 0 = omega arith in e)
+
+pub found-none : (number : ℕ) (all : List Answer) (end from : ℕ) → Passes number all end end from
+    → None ≡ numbered number (take end all)
+found-none number all end from p = sym (ap (numbered number) (ahead-none all end)) ∙ p.found
+
+pub seeks-from : (number : ℕ) (all : List Answer) (place end from : ℕ) → Passes number all place end from
+    → IsSeeking all (record { place = place; «end» = end; from = from })
+seeks-from number all place end from p = record { order = p.order; within = p.within; ahead = p.ahead }
+
+pub passes-begun : (number : ℕ) (all : List Answer) (seek : Seek) → number < 2 ^ 32 → seek.from ≤ number
+    → IsSeeking all seek → Passes number all seek.place seek.«end» (number + 1)
+passes-begun number all seek fits l s = record {
+  found = s.ahead.same number l fits;
+  ahead = record { same = λ m more small. s.ahead.same m (omega (arith, l, more)) small };
+  order = s.order;
+  within = s.within;
+  above = omega arith;
+}
+
+-- ## Up to a section code
+
+pub until-on : (all new : List Answer) (place : ℕ) → take 1 (drop place all) ++ until_section new
+    ≡ until_section (drop place all) → take place all ++ until_section (drop place all) ≡ until_section all
+    → take (place + 1) all ++ until_section new ≡ until_section all
+until-on all new place one e = ap (λ (l : List Answer). l ++ until_section new) (take-add place 1 all)
+    ∙ append_assoc (take place all) (take 1 (drop place all)) (until_section new)
+    ∙ ap (λ (l : List Answer). take place all ++ l) one ∙ e

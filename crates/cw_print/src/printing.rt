@@ -60,7 +60,6 @@ struct Printer<'s, 'a> {
 impl<'s, 'a> Printer<'s, 'a> {
     // A printer that stands before the first item.
     fn over(alloc: Global, c: KeptText<'s, 'a>) -> Printer<'s, 'a>
-        requires uncut { begins_section_in c.answers.now ≡ false }
         ensures { IsBehind (source_of c.entry) c.entry.inner [] result }
     {
         let manner = Manner {
@@ -220,7 +219,6 @@ fn print_items<D: Desk>(
     desk: &mut D,
 ) -> Result<(), PutError>
     requires can { CanWrite (D.told desk.old) out.old }
-    requires uncut { begins_section_in c.answers.now ≡ false }
     requires come { AllMay (MayCome (length c.book.now.names)) 0 (items_are items.now) }
     ensures { Puts (printed c.entry.inner (shown (source_of c.entry) (items_are items.now))) out.old out.new
         (D.told desk.old) (D.told desk.new) result }

@@ -1,7 +1,6 @@
 //! The walk over the items of a C text, which makes the bytes that they print by where they stand.
 ghost use Rattle.std.specs.Prelude.{◌≡◌, ◌++◌, Bool, None, Option, IfSome, OnOk, option_map};
 ghost use Rattle.cw_rules.specs.Answers.{seen};
-ghost use Rattle.cw_lex.specs.Nested.{until_section};
 ghost use Rattle.cw_print.specs.Found.{numbered};
 ghost use Rattle.cw_print.specs.Showing.{found};
 ghost use Rattle.cw_print.specs.Sources.{titles};
@@ -47,14 +46,13 @@ pub(crate) struct TextWalk<'s, 'a> {
 }
 
 impl<'s, 'a> Model for TextWalk<'s, 'a> {
-    ghost use Rattle.cw_lex.specs.Nested.{until_section};
-    ghost use Rattle.cw_print.specs.Scanning.{IsSeeking};
+    ghost use Rattle.cw_print.specs.Scanning.{among, IsSeeking};
     ghost use Rattle.cw_print.specs.Walked.{Walked};
 
     ghost Value = { Walked };
 
     ghost view = { λ w. record {
-      fixed = record { answers = until_section w.answers.now; wraps = w.manner.wraps; first = w.manner.first };
+      fixed = record { answers = among w.answers.now w.seek; wraps = w.manner.wraps; first = w.manner.first };
       stand = record { name = w.name; braces = w.braces };
     } };
 
@@ -64,14 +62,14 @@ impl<'s, 'a> Model for TextWalk<'s, 'a> {
 impl<'s, 'a> TextWalk<'s, 'a> {
     /// A walk that stands before the first item of the text with these answers.
     pub(crate) fn over(alloc: Global, answers: &'s Answers<'a>, manner: Manner) -> TextWalk<'s, 'a>
-        ensures answers { result.fixed.answers ≡ until_section answers.now }
+        ensures answers { result.fixed.answers ≡ answers.now }
         ensures wraps { result.fixed.wraps ≡ manner.wraps }
         ensures first { result.fixed.first ≡ manner.first }
         ensures outside { result.stand ≡ outside }
     {
         TextWalk {
             answers,
-            seek: Seek::new(),
+            seek: Seek::over(answers),
             alloc,
             name: None,
             braces: OpenBraces::new_in(alloc),

@@ -3,4 +3,4 @@ use Rattle.cw_print.proofs.ScanLaws.{Passes}
 use Rattle.cw_print.proofs.scan.find_ahead.Given as goal
 
 abbrev pub invariant-loop-place : goal.invariant-loop-place
-invariant-loop-place l = Passes l.number l.answers l.place l.from
+invariant-loop-place l = Passes l.number l.answers l.place l.«end» l.from

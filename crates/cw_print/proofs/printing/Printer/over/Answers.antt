@@ -1,6 +1,5 @@
--- No section code ends the scan.
+-- The answers are those of the text.
 use Rattle.std.proofs.Common.{refl, ◌∙◌}
-use Rattle.cw_lex.proofs.Nesting.{until-none}
 use Rattle.cw_print.proofs.printing.Printer.over.Goals as goal
 
 pub returns : goal.returns
@@ -8,8 +7,7 @@ returns c = record {
   titles = refl;
   names = refl;
   fixed = λ i. record {
-    answers = (c.over.ensures.answers
-        ∙ until-none c.args.c.answers.now c.requires.uncut) i;
+    answers = c.over.ensures.answers i;
     wraps = c.over.ensures.wraps i;
     first = (c.over.ensures.first ∙ c.is_first.ensures) i;
   };

@@ -1,0 +1,7 @@
+-- No section code stands before the place.
+use Rattle.std.proofs.Common.{◌≡◌, ◌++◌, take, drop}
+use Rattle.cw_lex.specs.Nested.{until_section}
+use Rattle.cw_print.proofs.scan.section_place.Given as goal
+
+abbrev pub invariant-loop-place : goal.invariant-loop-place
+invariant-loop-place l = take l.place l.answers ++ until_section (drop l.place l.answers) ≡ until_section l.answers
