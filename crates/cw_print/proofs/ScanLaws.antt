@@ -1,5 +1,5 @@
 -- Of the tokens that a scan finds by their numbers.
-use Rattle.std.proofs.Common.{◌≡◌, ◌≢◌, ℕ, suc, ◌+◌, ◌-◌, ◌<◌, ◌≤◌, ◌^◌, List, [], ◌++◌, Some, None}
+use Rattle.std.proofs.Common.{◌≡◌, ◌≢◌, ℕ, suc, ◌+◌, ◌-◌, ◌<◌, ◌≤◌, ◌^◌, List, [], ◌++◌, Option, Some, None}
 use Rattle.std.proofs.Common.{append_assoc, arith, ap, refl, sym, ◌∙◌, subst, drop, length, take}
 use Rattle.std.proofs.lemmas.List.{take_all}
 use Rattle.std.proofs.Math.Seq.{take-add}
@@ -7,7 +7,7 @@ use Rattle.cw_lex.specs.Nested.{until_section}
 use Rattle.cw_rules.specs.declared.tokens.Lexed.{Lexed}
 use Rattle.cw_rules.specs.declared.tokens.Lexed.TheVariants as lexed
 use Rattle.cw_rules.specs.declared.tokens.Tok.{Tok}
-use Rattle.cw_rules.specs.Answers.{Answer, Gives, seen}
+use Rattle.cw_rules.specs.Answers.{Answer, Gives, Seen, seen}
 use Rattle.cw_print.specs.declared.scan.Seek.{Seek}
 use Rattle.cw_print.specs.Found.{numbered, HasNoNumber, HasNumber, IsAhead}
 use Rattle.cw_print.specs.Scanning.{IsSeeking}
@@ -115,6 +115,39 @@ passes-begun number all seek fits l s = record {
   within = s.within;
   above = omega arith;
 }
+
+-- each number from one on has its token behind an answer
+pub seeks-on : (answer : Lexed) (all : List Answer) (place end from more : ℕ) → place < end → from ≤ more
+    → Gives (drop place all) answer (drop (place + 1) all)
+    → ((m : ℕ) (old new : List Answer) → more ≤ m → Gives old answer new → numbered m old ≡ numbered m new)
+    → IsSeeking all (record { place = place; «end» = end; from = from })
+    → IsSeeking all (record { place = place + 1; «end» = end; from = more })
+seeks-on answer all place end from more less larger g same s = record {
+  order = omega (arith, less);
+  within = s.within;
+  ahead = record {
+    same = λ m l fits. sym (same m _ _ l (gives-ahead answer all place end less g))
+        ∙ s.ahead.same m (omega (arith, l, larger)) fits;
+  };
+}
+
+-- fewer numbers are known to lie ahead
+pub seeks-less : (all : List Answer) (place end from more : ℕ) → from ≤ more
+    → IsSeeking all (record { place = place; «end» = end; from = from })
+    → IsSeeking all (record { place = place; «end» = end; from = more })
+seeks-less all place end from more larger s = record {
+  order = s.order;
+  within = s.within;
+  ahead = record { same = λ m l fits. s.ahead.same m (omega (arith, l, larger)) fits };
+}
+
+-- what is said of the token of a number holds as it stands ahead
+pub of-ahead : (P : Option Seen → Type 0) (answer : Lexed) (number : ℕ) (all : List Answer) (place end : ℕ)
+    → place < end → number < 2 ^ 32 → Gives (drop place all) answer (drop (place + 1) all)
+    → ((old new : List Answer) → Gives old answer new → P (numbered number old))
+    → IsSeeking all (record { place = place; «end» = end; from = number }) → P (numbered number (take end all))
+of-ahead P answer number all place end less fits g says s =
+    subst P (s.ahead.same number (omega arith) fits) (says _ _ (gives-ahead answer all place end less g))
 
 -- ## Up to a section code
 

@@ -1,5 +1,5 @@
 -- The bytes that the items of a flat list print, each by itself, in their order; and those of the whole list.
-use Rattle.std.specs.Prelude.{ℕ, ◌+◌, ◌-◌, ◌&&◌, Bool, true, false, List, [], ◌∷◌, ◌++◌, Option, Some, None, codes}
+use Rattle.std.specs.Prelude.{◌≡◌, ℕ, ◌+◌, ◌-◌, ◌&&◌, Bool, true, false, List, [], ◌∷◌, ◌++◌, Option, Some, None, codes}
 use Rattle.std.specs.Prelude.{decimal, drop, slice_range}
 use Rattle.cw_base.specs.declared.span.Span.{Span}
 use Rattle.cw_names.specs.Names.{Entry}
@@ -8,6 +8,7 @@ use Rattle.cw_lex.specs.Lexing.{tokens_of}
 use Rattle.cw_lex.specs.Limbo.{is_name_kind}
 use Rattle.cw_lex.specs.Nested.{until_section}
 use Rattle.cw_rules.specs.declared.tokens.Mode.TheVariants.{Inner}
+use Rattle.cw_rules.specs.declared.signs.Sign.{Sign}
 use Rattle.cw_trees.specs.declared.Control.{Control}
 use Rattle.cw_trees.specs.declared.Control.TheVariants.{CommentEnd, NameText, NameEnd}
 use Rattle.cw_trees.specs.Tree.{Tree}
@@ -17,6 +18,7 @@ use Rattle.cw_secnames.specs.Parts.{inner_parts}
 use Rattle.cw_join.specs.Tokens.{text_at}
 use Rattle.cw_print.specs.Escaping.{typewriter}
 use Rattle.cw_print.specs.Comments.{closing_braces}
+use Rattle.cw_print.specs.Tokens.{sign_macro}
 use Rattle.cw_print.specs.Showing.{TokenShown, found, innermost, others}
 use Rattle.cw_print.specs.Found.{numbered}
 
@@ -152,6 +154,12 @@ seen_shown first title token stand = elim (is_name token) [
   | true ↦ named_shown title stand
   | false ↦ found_shown first token stand
 ]
+
+-- A token prints as a sign, wherever it stands.
+abbrev pub PrintsSign : Sign → Option Seen → Type 0
+PrintsSign sign token =
+    (first : Bool) (title : Option Title) (stand : Stand) → seen_shown first title token stand
+    ≡ prints (sign_macro sign) stand
 
 abbrev pub outer_shown : Fixed → Option Title → ℕ → Stand → Shown
 outer_shown f title number stand = seen_shown f.first title (numbered number f.answers) stand

@@ -1,5 +1,5 @@
 //! The answers of a C text, among which tokens are found by their numbers.
-ghost use Rattle.std.specs.Prelude.{◌≡◌, ◌≤◌, ◌<◌, ◌^◌, ◌++◌, List, [], Some, IfNone, IfOk, IfSome, length, option_map, take};
+ghost use Rattle.std.specs.Prelude.{◌≡◌, ◌≤◌, ◌<◌, ◌^◌, ◌++◌, ℕ, List, [], IfNone, IfOk, IfSome, length, option_map, take};
 ghost use Rattle.std.specs.Bool.{OnFalse, OnTrue};
 ghost use Rattle.cw_rules.specs.Answers.{Answer, Gives, seen};
 ghost use Rattle.cw_rules.specs.declared.tokens.Mode.TheVariants.{Inner};
@@ -7,10 +7,11 @@ ghost use Rattle.cw_lex.specs.Lexing.{tokens_of};
 ghost use Rattle.cw_lex.specs.Nested.{is_section_kind, until_section};
 ghost use Rattle.cw_print.specs.Found.{numbered, HasNoNumber, HasNumber};
 ghost use Rattle.cw_print.specs.Scanning.{among, IsSeeking};
+ghost use Rattle.cw_print.specs.Walk.{PrintsSign};
 
 use cw_answers::Answers;
 use cw_base::{Memory, Span};
-use cw_lex::{Code, Lexed, Mode, Tok, TokKind};
+use cw_lex::{Code, Lexed, Mode, Sign, Tok, TokKind};
 use std::alloc::Global;
 use std::marker::Model;
 
@@ -48,8 +49,30 @@ impl Seek {
         }
     }
 
-    /// The token that has this number, if there is one.
+    /// The sign that has this number, where it lies ahead and only tokens of lesser numbers come before it: most tokens
+    /// are such signs.
     #[inline(always)]
+    pub(crate) fn next_sign(&mut self, answers: &Answers, number: u32) -> Option<Sign>
+        requires seeking { IsSeeking answers.now self.old }
+        ensures sign { IfSome result (λ sign. PrintsSign sign (numbered number (among answers.now self.old))) }
+        ensures seeking { IsSeeking answers.now self.new }
+        ensures same { self.new.end ≡ self.old.end }
+    {
+        let number = number as usize;
+        if self.from > number {
+            return None;
+        }
+        let place = place_behind_lesser(answers, *self, number);
+        if place == self.end {
+            return None;
+        }
+        let sign = sign_of(answers.at(place), number)?;
+        self.place = place + 1;
+        self.from = number + 1;
+        Some(sign)
+    }
+
+    /// The token that has this number, if there is one.
     pub(crate) fn find<'a>(&mut self, answers: &Answers<'a>, number: u32) -> Option<Tok<'a>>
         requires seeking { IsSeeking answers.now self.old }
         ensures found { option_map seen result ≡ numbered number (among answers.now self.old) }
@@ -57,22 +80,6 @@ impl Seek {
         ensures same { self.new.end ≡ self.old.end }
     {
         let number = number as usize;
-        if let Some((token, behind)) = next_token(answers, *self, number) {
-            *self = behind;
-            return Some(token);
-        }
-        self.find_anew(answers, number)
-    }
-
-    // The same where it isn't the next one, as few tokens are.
-    #[inline(never)]
-    fn find_anew<'a>(&mut self, answers: &Answers<'a>, number: usize) -> Option<Tok<'a>>
-        requires number { number < 2 ^ 32 }
-        requires seeking { IsSeeking answers.now self.old }
-        ensures found { option_map seen result ≡ numbered number (among answers.now self.old) }
-        ensures seeking { IsSeeking answers.now self.new }
-        ensures same { self.new.end ≡ self.old.end }
-    {
         let (found, behind) = find_ahead(answers, self.begun(number), number);
         *self = behind;
         found
@@ -195,33 +202,49 @@ fn token_of<'a>(answer: Lexed<'a>) -> Option<Tok<'a>>
     }
 }
 
-// The token of a number, if that lies ahead and only tokens of lesser numbers come before it, and where the seeking then
-// stands.
+// Whether the seeking of a number goes on behind an answer: it has a token of a lesser number, or none.
 #[inline(always)]
-fn next_token<'a>(answers: &Answers<'a>, seek: Seek, number: usize) -> Option<(Tok<'a>, Seek)>
+fn is_lesser(answer: Lexed, number: usize) -> bool
+    ensures { OnTrue result ((m : ℕ) (old new : List Answer) → number ≤ m → Gives old answer.entry new
+        → numbered m old ≡ numbered m new) }
+{
+    match token_of(answer) {
+        Some(token) => token.span.start < number,
+        None => true,
+    }
+}
+
+// The place of the first token ahead whose number isn't lesser, or the end.
+#[inline(always)]
+fn place_behind_lesser(answers: &Answers, seek: Seek, number: usize) -> usize
     requires number { number < 2 ^ 32 }
     requires seeking { IsSeeking answers.now seek }
-    ensures found { IfSome result (λ next. Some (seen next.0) ≡ numbered number (among answers.now seek)) }
-    ensures seeking { IfSome result (λ next. IsSeeking answers.now next.1) }
-    ensures same { IfSome result (λ next. next.1.end ≡ seek.end) }
+    requires ahead { seek.from ≤ number }
+    ensures { IsSeeking answers.now (record { place = result; «end» = seek.end; from = number }) }
 {
-    if number < seek.from {
-        return None;
-    }
-    let end = seek.end;
-    for place in seek.place..end {
-        if let Some(token) = token_of(answers.at(place)) {
-            if token.span.start == number {
-                let place = place + 1;
-                let from = number + 1;
-                return Some((token, Seek { place, end, from }));
-            }
-            if token.span.start > number {
-                return None;
-            }
+    for place in seek.place..seek.end {
+        if !is_lesser(answers.at(place), number) {
+            return place;
         }
     }
-    None
+    seek.end
+}
+
+// The sign of an answer, if it is one of this number.
+#[inline(always)]
+fn sign_of(answer: Lexed, number: usize) -> Option<Sign>
+    ensures sign { IfSome result (λ sign. (old new : List Answer) → Gives old answer.entry new
+        → PrintsSign sign (numbered number old)) }
+    ensures others { IfSome result (λ sign. (m : ℕ) (old new : List Answer) → number < m
+        → Gives old answer.entry new → numbered m old ≡ numbered m new) }
+{
+    match answer {
+        Lexed::Token(token) if token.span.start == number => match token.kind {
+            TokKind::Sign(sign) => Some(sign),
+            _ => None,
+        },
+        _ => None,
+    }
 }
 
 // Goes on to the token of a number that lies ahead if there is one, and answers it and where the seeking then stands.

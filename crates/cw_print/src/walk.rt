@@ -18,7 +18,7 @@ use crate::showing::put_found;
 use crate::signs::put_sign;
 use cw_answers::Answers;
 use cw_base::{Bytes, Memory};
-use cw_lex::{Code, Sign, Tok, TokKind};
+use cw_lex::{Code, Tok, TokKind};
 use cw_phase1::Book;
 use cw_trees::Control;
 use std::alloc::Global;
@@ -90,13 +90,26 @@ impl<'s, 'a> TextWalk<'s, 'a> {
         ensures stand { OnOk result (self.new ≡ behind self.old
             (source_shown self.old.fixed (titles book.now number) self.old.stand.name number self.old.stand)) }
     {
+        if self.name.is_none() {
+            if let Some(sign) = self.seek.next_sign(self.answers, number) {
+                return put_sign(out, sign);
+            }
+        }
+        self.show_other(out, number, book)
+    }
+
+    // The same of any token. It stands apart, since most tokens are signs.
+    #[inline(never)]
+    fn show_other(&mut self, out: &mut Bytes, number: u32, book: &'s Book) -> Result<(), Memory>
+        ensures bytes { OnOk result (out.new ≡ out.old
+            ++ (source_shown self.old.fixed (titles book.now number) self.old.stand.name number self.old.stand).bytes) }
+        ensures stand { OnOk result (self.new ≡ behind self.old
+            (source_shown self.old.fixed (titles book.now number) self.old.stand.name number self.old.stand)) }
+    {
         if let Some(name) = &mut self.name {
             return show_in_name(out, self.manner.first, name, number, &mut self.braces);
         }
         let token = self.seek.find(self.answers, number);
-        if let Some(sign) = sign_of(token) {
-            return put_sign(out, sign);
-        }
         if is_name(token) {
             return self.begin_name(out, number, book);
         }
@@ -167,8 +180,7 @@ impl<'s, 'a> TextWalk<'s, 'a> {
     }
 }
 
-// Appends what a token of an inner text of a section name prints. It stands apart, since few tokens are one.
-#[inline(never)]
+// Appends what a token of an inner text of a section name prints.
 fn show_in_name(
     out: &mut Bytes,
     first: bool,
@@ -183,21 +195,6 @@ fn show_in_name(
 {
     let token = name.find(number);
     put_found(out, first, token, braces)
-}
-
-// The sign that was found, if it is one: most tokens are, and print the same wherever they stand.
-#[inline(always)]
-fn sign_of(token: Option<Tok>) -> Option<Sign>
-    ensures { IfSome result (λ sign. (first : Bool) (title : Option Title) (stand : Stand)
-        → seen_shown first title (option_map seen token.entry) stand ≡ prints (sign_macro sign) stand) }
-{
-    match token {
-        Some(token) => match token.kind {
-            TokKind::Sign(sign) => Some(sign),
-            _ => None,
-        },
-        None => None,
-    }
 }
 
 // Whether a token was found and is a section name.
