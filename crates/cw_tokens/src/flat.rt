@@ -81,6 +81,14 @@ impl FlatTokens {
         self.items[i]
     }
 
+    /// All items.
+    #[inline(always)]
+    pub fn items(&self) -> &[FlatItem]
+        ensures { result.now ≡ self.now }
+    {
+        self.items.as_slice()
+    }
+
     /// Leaves out the marks that print nothing, and the breaks and blanks with which the text and its inner texts begin
     /// or end. It takes no memory.
     pub fn trim(&mut self)
@@ -157,6 +165,9 @@ struct Above<'a> {
     rest: &'a [Token],
     closes: usize,
 }
+
+// Most trees are less deep.
+const DEEP: usize = 32;
 
 /// Lays the tree of a list flat and trims it in the same walk.
 pub fn flatten_trimmed(
@@ -242,7 +253,10 @@ fn put_above<'a>(above: &mut Vec<Above<'a>>, rest: &'a [Token], closes: usize) -
     if closes == 0 && rest.is_empty() {
         return Ok(());
     }
-    above.push(Above { rest, closes })?;
+    if above.len() == above.capacity() {
+        above.reserve(DEEP)?;
+    }
+    above.push_reserved(Above { rest, closes });
     Ok(())
 }
 
