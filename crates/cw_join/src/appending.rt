@@ -1,6 +1,7 @@
 //! The joining of items behind bytes in memory, which go to a line together.
 ghost use Rattle.std.specs.Prelude.{◌≡◌, ◌∷◌, ◌++◌, [], false, List, OnOk, OnErr, length};
-ghost use Rattle.cw_trees.specs.Printing.{Printable, opened};
+ghost use Rattle.std.specs.Bool.{OnFalse};
+ghost use Rattle.cw_trees.specs.Printing.{Printable, indent_bytes, opened};
 ghost use Rattle.cw_tokens.specs.FlatItems.{item_is};
 ghost use Rattle.cw_join.specs.Appending.{StaysBefore};
 ghost use Rattle.cw_join.specs.Early.{added, late, run_front};
@@ -61,8 +62,8 @@ impl Joiner {
         ensures state { OnOk result (self.new ≡ record self.old { run = run_more self.old.run control }) }
         ensures stays { OnErr result (StaysBefore out.old out.new) }
     {
-        if !self.is_inner() {
-            append_few(indent(control), out)?;
+        if is_indent(control) && !self.is_inner() {
+            append_indent(control, out)?;
         }
         self.run = self.run.with(control);
         Ok(())
@@ -88,6 +89,22 @@ impl Joiner {
         self.depth = depth_behind(self.depth, item);
         Ok(())
     }
+}
+
+// Whether a control moves the lines that come to the right or to the left.
+fn is_indent(control: Control) -> bool
+    ensures { OnFalse result (indent_bytes control ≡ []) }
+{
+    matches!(control, Control::Indent | Control::Outdent)
+}
+
+// Appends what it prints then. It stands apart, since few controls are one.
+#[inline(never)]
+fn append_indent(control: Control, out: &mut Bytes) -> Result<(), Memory>
+    ensures bytes { OnOk result (out.new ≡ out.old ++ indent_bytes control) }
+    ensures stays { OnErr result (StaysBefore out.old out.new) }
+{
+    append_few(indent(control), out)
 }
 
 // Appends what a run prints when it has ended.
