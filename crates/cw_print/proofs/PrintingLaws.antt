@@ -1,11 +1,12 @@
 -- The printing of a list, item by item: what was printed, and what may still come.
 use Rattle.std.proofs.Common.{◌≡◌, ℕ, suc, ◌+◌, ◌<◌, ◌≤◌, Bool, Option, Some, None, Err, Ok, List, [], ◌∷◌, ◌++◌}
-use Rattle.std.proofs.Common.{length, take, drop, slice_get, refl, ap, sym, ◌∙◌, subst, arith}
+use Rattle.std.proofs.Common.{length, take, drop, get_or, slice_get, refl, ap, sym, ◌∙◌, subst, arith}
 use Rattle.std.specs.Prelude.{Result, IsErrAnd, ⊤, option_map}
 use Rattle.std.proofs.lemmas.List.{append-nil, append_assoc, drop_all, drop_more, length-map, take-append-drop}
 use Rattle.std.proofs.lemmas.List.{take_all, take_more}
 use Rattle.std.proofs.lemmas.List.Sums.{fold_push}
-use Rattle.std.proofs.lemmas.Option.{get_or_from_slice_get, slice_get-map, slice_get_within}
+use Rattle.std.proofs.lemmas.Option.{get_or_from_slice_get, slice_get-get_or, slice_get-map}
+use Rattle.std.proofs.lemmas.Option.{slice_get_within}
 use Rattle.cw_desk.specs.Told.{Told}
 use Rattle.cw_trees.specs.Flat.{Item}
 use Rattle.cw_trees.specs.declared.Control.{Control}
@@ -173,6 +174,10 @@ puts-part inner s items n begun is =
     (puts-stop (first.rest ++ late inner (shown s items)) begun is)
 
 -- ## Midway
+
+pub at-index : (items : List FlatItem) (i : ℕ) (other item : FlatItem) → get_or items i other ≡ item
+    → i < length items → slice_get items i ≡ Some item
+at-index items i other item is inside = slice_get-get_or items i other inside ∙ ap Some is
 
 module _ (items : List FlatItem) (i : ℕ) (item : FlatItem) (is : slice_get items i ≡ Some item) where
   there : slice_get (items_are items) i ≡ Some (item_is item)

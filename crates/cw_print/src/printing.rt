@@ -21,7 +21,7 @@ ghost use Rattle.cw_print.specs.Walk.{Source, bracket, tree_bytes, wrapped};
 
 use crate::book_titles::is_first;
 use crate::scan::scanned;
-use crate::walk::{Manner, TextWalk};
+use crate::walk::{Manner, TextWalk, is_placed};
 use cw_answers::Answers;
 use cw_base::{Bytes, Flags, Memory, Span};
 use cw_desk::Desk;
@@ -77,7 +77,7 @@ impl<'s, 'a> Printer<'s, 'a> {
     // function for one item grows too large to be put in line.
     fn print(
         &mut self,
-        items: &FlatTokens,
+        items: &[FlatItem],
         from: usize,
         to: usize,
         buffer: &mut Bytes,
@@ -91,7 +91,7 @@ impl<'s, 'a> Printer<'s, 'a> {
             → OnOk result (Midway s inner (items_are items.now) to self.new) }
     {
         for i in from..to {
-            match items.item(i) {
+            match items[i] {
                 FlatItem::Source(number) => self.source(number, buffer)?,
                 FlatItem::Control(control) => self.control(control, buffer)?,
                 FlatItem::Ident(name, number) => self.ident(name, number, buffer)?,
@@ -121,6 +121,24 @@ impl<'s, 'a> Printer<'s, 'a> {
     // The same of a control.
     #[inline(always)]
     fn control(&mut self, control: Control, buffer: &mut Bytes) -> Result<(), Memory>
+        requires come { CanCome (length self.old.book.now.names) self.old.joiner.depth (FlatControl control) }
+        ensures bytes { (s : Source) (inner : Bool) (items : List Item) → IsBehind s inner items self.old
+            → OnOk result (buffer.new ≡ buffer.old
+            ++ added inner (shown s items) (shown_next s items (item_is (FlatControl control)))) }
+        ensures behind { (s : Source) (inner : Bool) (items : List Item) → IsBehind s inner items self.old
+            → OnOk result (IsBehind s inner (items ++ item_is (FlatControl control) ∷ []) self.new) }
+    {
+        if is_placed(control) {
+            return self.placed(control, buffer);
+        }
+        self.joiner
+            .append(FlatItem::Control(control), &self.book.names, buffer)?;
+        Ok(())
+    }
+
+    // The same of one that prints by where it stands, as few do.
+    #[inline(never)]
+    fn placed(&mut self, control: Control, buffer: &mut Bytes) -> Result<(), Memory>
         requires come { CanCome (length self.old.book.now.names) self.old.joiner.depth (FlatControl control) }
         ensures bytes { (s : Source) (inner : Bool) (items : List Item) → IsBehind s inner items self.old
             → OnOk result (buffer.new ≡ buffer.old
@@ -214,7 +232,7 @@ fn cleared(buffer: Bytes) -> Bytes
 fn print_items<D: Desk>(
     alloc: Global,
     c: KeptText,
-    items: &FlatTokens,
+    items: &[FlatItem],
     out: &mut LineOut,
     desk: &mut D,
 ) -> Result<(), PutError>
@@ -315,7 +333,7 @@ pub fn print_answers<D: Desk>(
         return print_name(wraps, c.book.names.text(name), out, desk);
     }
     put_bracket(wraps, b"\\PB{", out, desk)?;
-    print_items(alloc, c, &items, out, desk)?;
+    print_items(alloc, c, items.items(), out, desk)?;
     put_bracket(wraps, b"}", out, desk)
 }
 

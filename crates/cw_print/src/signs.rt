@@ -57,5 +57,8 @@ pub(crate) fn sign_macro(sign: Sign) -> &'static [u8]
 pub(crate) fn put_sign(out: &mut Bytes, sign: Sign) -> Result<(), Memory>
     ensures { OnOk result (out.new ≡ out.old ++ sign_macro sign) }
 {
-    put_few(out, sign_macro(sign))
+    match sign_macro(sign) {
+        [byte] => out.push(*byte),
+        bytes => put_few(out, bytes),
+    }
 }

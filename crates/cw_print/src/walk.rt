@@ -1,5 +1,6 @@
 //! The walk over the items of a C text, which makes the bytes that they print by where they stand.
-ghost use Rattle.std.specs.Prelude.{◌≡◌, ◌++◌, Bool, None, Option, IfSome, OnOk, option_map};
+ghost use Rattle.std.specs.Prelude.{◌≡◌, ◌++◌, [], Bool, None, Option, IfSome, OnOk, option_map};
+ghost use Rattle.std.specs.Bool.{OnFalse};
 ghost use Rattle.cw_rules.specs.Answers.{seen};
 ghost use Rattle.cw_print.specs.Found.{numbered};
 ghost use Rattle.cw_print.specs.Showing.{found};
@@ -131,22 +132,7 @@ impl<'s, 'a> TextWalk<'s, 'a> {
     }
 
     /// Appends what a control prints by where it stands; signs that print the same everywhere print nothing here.
-    #[inline(always)]
     pub(crate) fn show_control(&mut self, out: &mut Bytes, control: Control) -> Result<(), Memory>
-        ensures bytes { OnOk result (out.new ≡ out.old ++ (control_shown control self.old.stand).bytes) }
-        ensures stand { OnOk result (self.new ≡ behind self.old (control_shown control self.old.stand)) }
-    {
-        match control {
-            Control::CommentEnd | Control::NameText | Control::NameEnd => self.show_placed(
-                out, control,
-            ),
-            _ => Ok(()),
-        }
-    }
-
-    // The same. It stands apart, since few controls are the end of a comment or in a name.
-    #[inline(never)]
-    fn show_placed(&mut self, out: &mut Bytes, control: Control) -> Result<(), Memory>
         ensures bytes { OnOk result (out.new ≡ out.old ++ (control_shown control self.old.stand).bytes) }
         ensures stand { OnOk result (self.new ≡ behind self.old (control_shown control self.old.stand)) }
     {
@@ -178,6 +164,16 @@ impl<'s, 'a> TextWalk<'s, 'a> {
         }
         Ok(())
     }
+}
+
+/// Whether a control prints by where it stands: the end of a comment, or a place in a section name.
+pub(crate) fn is_placed(control: Control) -> bool
+    ensures { OnFalse result ((stand : Stand) → control_shown control stand ≡ prints [] stand) }
+{
+    matches!(
+        control,
+        Control::CommentEnd | Control::NameText | Control::NameEnd
+    )
 }
 
 // Appends what a token of an inner text of a section name prints.

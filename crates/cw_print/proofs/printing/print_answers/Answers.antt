@@ -4,6 +4,7 @@ use Rattle.std.proofs.lemmas.List.{append_assoc}
 use Rattle.cw_trees.specs.Flat.{Item, flat, trimmed}
 use Rattle.cw_trees.specs.Printing.{ident_bytes, printed}
 use Rattle.cw_trees.specs.Tree.{Tree}
+use Rattle.cw_tokens.specs.FlatItems.{items_are}
 use Rattle.cw_tokens.specs.Shapes.{unfolded}
 use Rattle.cw_lines.specs.WritesLaws.{puts-bytes, puts-failing, puts-longer, puts-then}
 use Rattle.cw_print.specs.Coming.{AllMay, MayCome}
@@ -41,7 +42,7 @@ returns-in-Some g c =
 pub print_items-requires-clause-come : goal.print_items-requires-clause-come
 print_items-requires-clause-come g c =
     subst (λ (items : List Item). AllMay (MayCome (length c.args.c.book.now.names)) 0 items)
-    (sym c.in_ok-items.ensures.items)
+    (sym (ap items_are c.items-2.ensures ∙ c.in_ok-items.ensures.items))
     (trimmed-may (length c.args.c.book.now.names) (unfolded c.args.store.now.lists c.args.id.index) c.requires.named)
 
 pub returns-in_err-put_bracket : goal.returns-in_err-put_bracket
@@ -63,7 +64,7 @@ returns-in_err-print_items g c =
     record {
       puts = puts-failing
           ((λ i. (bracket (c.is_wrapped-wraps.ensures i) (codes "\\PB{")
-          ++ printed c.args.c.inner (shown s (c.in_ok-items.ensures.items i))) ++ bracket wraps (codes "}"))
+          ++ printed c.args.c.inner (shown s ((ap items_are c.items-2.ensures ∙ c.in_ok-items.ensures.items) i))) ++ bracket wraps (codes "}"))
           ∙ append_assoc (bracket wraps (codes "\\PB{")) (printed c.args.c.inner (shown s (trimmed (flat tree))))
           (bracket wraps (codes "}")))
           (puts-longer (bracket wraps (codes "}")) (puts-then c.in_ok-put_bracket.ensures c.in_err-print_items.ensures))
@@ -76,7 +77,7 @@ returns g c =
     record {
       puts = puts-bytes
           (λ i. bracket (c.is_wrapped-wraps.ensures i) (codes "\\PB{")
-          ++ (printed c.args.c.inner (shown s (c.in_ok-items.ensures.items i))
+          ++ (printed c.args.c.inner (shown s ((ap items_are c.items-2.ensures ∙ c.in_ok-items.ensures.items) i))
           ++ bracket (c.is_wrapped-wraps.ensures i) (codes "}")))
           (puts-then c.in_ok-put_bracket.ensures (puts-then c.in_ok-print_items.ensures c.put_bracket-2.ensures));
     }

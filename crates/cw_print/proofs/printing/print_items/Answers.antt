@@ -1,5 +1,5 @@
 -- One item goes behind another, and at the end comes what is left of a run.
-use Rattle.std.proofs.Common.{Bool, [], ◌+◌, ap, ◌++◌, ◌∙◌, take, arith}
+use Rattle.std.proofs.Common.{length, Bool, [], ◌+◌, ap, ◌++◌, ◌∙◌, take, arith}
 use Rattle.cw_tokens.specs.FlatItems.{items_are}
 use Rattle.cw_lines.specs.WritesLaws.{can-after, puts-bytes, puts-none}
 use Rattle.cw_join.specs.Early.{late}
@@ -69,7 +69,7 @@ returns-in_err-print-2 g c =
 
 pub append_end-requires : goal.append_end-requires
 append_end-requires g c = record {
-  closed = midway-ended c.args.items.now c.len-2.result (omega arith) (source_of c.args.c) c.args.c.inner
+  closed = midway-ended c.args.items.now (length c.args.items.now) (omega arith) (source_of c.args.c) c.args.c.inner
       c.print-2.new.self
       (c.in_ok-print-2.ensures.midway (source_of c.args.c) c.args.c.inner c.loop-at.invariant.midway);
 }
@@ -85,14 +85,14 @@ put_all-requires-2 g c = record { can = can-after c.requires.can c.loop-at.invar
 pub returns : goal.returns
 returns g c =
     let end = c.in_ok-print-2.ensures.midway (source_of c.args.c) c.args.c.inner c.loop-at.invariant.midway in
-    puts-all c.args.items.now c.len-2.result (omega arith) c.args.c.inner (source_of c.args.c) c.print-2.new.buffer
+    puts-all c.args.items.now (length c.args.items.now) (omega arith) c.args.c.inner (source_of c.args.c) c.print-2.new.buffer
     c.append_end.new.out
-    (waits-on c.args.c.inner (source_of c.args.c) (items_are c.args.items.now) c.loop-at.at c.len-2.result
+    (waits-on c.args.c.inner (source_of c.args.c) (items_are c.args.items.now) c.loop-at.at (length c.args.items.now)
     c.loop-at.buffer c.print-2.new.buffer c.loop-at.invariant.waiting
     (c.in_ok-print-2.ensures.bytes (source_of c.args.c) c.args.c.inner c.loop-at.invariant.midway))
-    (c.in_ok-append_end.ensures.bytes (shown (source_of c.args.c) (take c.len-2.result (items_are c.args.items.now)))
+    (c.in_ok-append_end.ensures.bytes (shown (source_of c.args.c) (take (length c.args.items.now) (items_are c.args.items.now)))
     end.behind.stands
     ∙ ap (λ (b : Bool). c.print-2.new.buffer
-    ++ late b (shown (source_of c.args.c) (take c.len-2.result (items_are c.args.items.now))))
+    ++ late b (shown (source_of c.args.c) (take (length c.args.items.now) (items_are c.args.items.now))))
     end.behind.same_inner)
     (puts-bytes c.as_slice-2.ensures c.put_all-2.ensures.puts)
