@@ -1,7 +1,7 @@
 -- More is read, and the next bytes are compared.
 use Rattle.std.proofs.Common.{◌≡◌, ◌<◌, ◌+◌, ◌-◌, ◌++◌, ℕ, List, Some, length, take, drop, sym, ap, ◌∙◌, arith}
 use Rattle.std.proofs.Common.{length-drop, take-add}
-use Rattle.std.proofs.lemmas.List.{length-take, length-take-le, take_rest}
+use Rattle.std.proofs.lemmas.List.{length-take-le, take_rest}
 use Rattle.cw_lines.specs.ComparedLaws.{compares-bytes, compares-more}
 use Rattle.cw_lines.specs.WritesLaws.{writes-fail, writes-file, writes-then}
 use Rattle.cw_lines.proofs.comparison.Comparison.compare.Goals as goal

@@ -1,13 +1,9 @@
 -- The division that was found is the one that the line has.
-use Rattle.std.proofs.Common.{◌≡◌, ℕ, ◌≤◌, Err, List, [], ◌∷◌, ◌++◌, length, take, drop, sym, ap, ◌∙◌, subst, arith}
-use Rattle.std.proofs.lemmas.Result.{err_from_is_err_and}
-use Rattle.cw_base.specs.declared.event.Out.{Out}
-use Rattle.cw_desk.specs.Journal.{byte_events}
+use Rattle.std.proofs.Common.{◌≡◌, ℕ, ◌≤◌, List, ◌++◌, length, drop, sym, ap, ◌∙◌, subst, arith}
 use Rattle.cw_lines.specs.Cut.{divide, comment_mark}
 use Rattle.cw_lines.specs.CutLaws.{divide-short}
 use Rattle.cw_lines.specs.Division.{Divides}
-use Rattle.cw_lines.specs.Line.{Line, LineState}
-use Rattle.cw_lines.specs.WritesLaws.{adds-fail, adds-events, adds-nothing}
+use Rattle.cw_lines.specs.Line.{LineState}
 use Rattle.cw_lines.specs.declared.division.Division.{Division}
 use Rattle.cw_lines.proofs.line_out.LineOut.cut.Goals as goal
 
