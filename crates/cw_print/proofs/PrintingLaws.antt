@@ -1,8 +1,9 @@
 -- The printing of a list, item by item: what was printed, and what may still come.
-use Rattle.std.proofs.Common.{◌≡◌, ℕ, suc, ◌+◌, ◌<◌, ◌≤◌, Bool, Option, Some, None, Err, Ok, List, [], ◌∷◌, ◌++◌}
+use Rattle.std.proofs.Common.{◌≡◌, ℕ, suc, ◌+◌, ◌-◌, ◌<◌, ◌≤◌, Bool, Option, Some, None, Err, Ok, List, [], ◌∷◌, ◌++◌}
 use Rattle.std.proofs.Common.{length, take, drop, get_or, slice_get, refl, ap, sym, ◌∙◌, subst, arith}
 use Rattle.std.specs.Prelude.{Result, IsErrAnd, ⊤, option_map}
-use Rattle.std.proofs.lemmas.List.{append-nil, append_assoc, drop_all, drop_more, length-map, take-append-drop}
+use Rattle.std.proofs.lemmas.List.{append-nil, append_assoc, drop_all, drop_more, get_or-drop, get_or-take, length-map}
+use Rattle.std.proofs.lemmas.List.{take-append-drop}
 use Rattle.std.proofs.lemmas.List.{take_all, take_more}
 use Rattle.std.proofs.lemmas.List.Sums.{fold_push}
 use Rattle.std.proofs.lemmas.Option.{get_or_from_slice_get, slice_get-get_or, slice_get-map}
@@ -179,6 +180,13 @@ pub at-index : (items : List FlatItem) (i : ℕ) (other item : FlatItem) → get
     → i < length items → slice_get items i ≡ Some item
 at-index items i other item is inside = slice_get-get_or items i other inside ∙ ap Some is
 
+pub at-slice : (items : List FlatItem) (from to k : ℕ) (other item : FlatItem)
+    → get_or (take (to - from) (drop from items)) k other ≡ item → k < to - from → to ≤ length items
+    → slice_get items (from + k) ≡ Some item
+at-slice items from to k other item is below within = at-index items (from + k) other item
+    (sym (get_or-drop from items k other) ∙ sym (get_or-take (to - from) (drop from items) k other below) ∙ is)
+    (omega (arith, below, within))
+
 module _ (items : List FlatItem) (i : ℕ) (item : FlatItem) (is : slice_get items i ≡ Some item) where
   there : slice_get (items_are items) i ≡ Some (item_is item)
   there = slice_get-map item_is items i ∙ ap (λ (o : Option FlatItem). option_map item_is o) is
@@ -272,6 +280,12 @@ module _ (items : List FlatItem) (i : ℕ) (item : FlatItem) (is : slice_get ite
             ∙ early-more inner s (take i (items_are items)) (item_is item)
             ∙ ap (λ (l : List Item). early inner (shown s l)) (sym (taken items i item is)),
       )
+
+pub printed-behind : (items : List Item) (from k : ℕ) (first printer : Printer) (old new : List ℕ)
+    → Printed items from (from + k + 1) first printer old new → Printed items from (from + (k + 1)) first printer old new
+printed-behind items from k first printer old new so =
+    subst (λ (n : ℕ). Printed items from n first printer old new)
+    (let e : from + k + 1 ≡ from + (k + 1) = omega arith in e) so
 
 -- all items up to the last place are printed
 module _ (items : List Item) (from i to : ℕ) (first printer : Printer) (old new : List ℕ)

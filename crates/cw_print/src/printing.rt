@@ -90,8 +90,8 @@ impl<'s, 'a> Printer<'s, 'a> {
         ensures midway { (s : Source) (inner : Bool) → Midway s inner (items_are items.now) from self.old
             → OnOk result (Midway s inner (items_are items.now) to self.new) }
     {
-        for i in from..to {
-            match items[i] {
+        for item in &items[from..to] {
+            match *item {
                 FlatItem::Source(number) => self.source(number, buffer)?,
                 FlatItem::Control(control) => self.control(control, buffer)?,
                 FlatItem::Ident(name, number) => self.ident(name, number, buffer)?,
