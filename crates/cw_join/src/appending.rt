@@ -170,6 +170,9 @@ fn append_sign(control: Control, out: &mut Bytes) -> Result<(), Memory>
     match control {
         Control::ToMath => append_few(b"${}", out),
         Control::ToText => append_few(b"{}$", out),
-        _ => append_few(sign(control, &[]), out),
+        _ => match sign(control, &[]) {
+            [byte] => out.push(*byte),
+            bytes => append_few(bytes, out),
+        },
     }
 }
