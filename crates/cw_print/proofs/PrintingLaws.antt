@@ -282,7 +282,8 @@ module _ (items : List FlatItem) (i : ℕ) (item : FlatItem) (is : slice_get ite
       )
 
 pub printed-behind : (items : List Item) (from k : ℕ) (first printer : Printer) (old new : List ℕ)
-    → Printed items from (from + k + 1) first printer old new → Printed items from (from + (k + 1)) first printer old new
+    → Printed items from (from + k + 1) first printer old new
+    → Printed items from (from + (k + 1)) first printer old new
 printed-behind items from k first printer old new so =
     subst (λ (n : ℕ). Printed items from n first printer old new)
     (let e : from + k + 1 ≡ from + (k + 1) = omega arith in e) so

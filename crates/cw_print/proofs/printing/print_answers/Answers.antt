@@ -64,7 +64,8 @@ returns-in_err-print_items g c =
     record {
       puts = puts-failing
           ((λ i. (bracket (c.is_wrapped-wraps.ensures i) (codes "\\PB{")
-          ++ printed c.args.c.inner (shown s ((ap items_are c.items-2.ensures ∙ c.in_ok-items.ensures.items) i))) ++ bracket wraps (codes "}"))
+          ++ printed c.args.c.inner (shown s ((ap items_are c.items-2.ensures ∙ c.in_ok-items.ensures.items) i)))
+          ++ bracket wraps (codes "}"))
           ∙ append_assoc (bracket wraps (codes "\\PB{")) (printed c.args.c.inner (shown s (trimmed (flat tree))))
           (bracket wraps (codes "}")))
           (puts-longer (bracket wraps (codes "}")) (puts-then c.in_ok-put_bracket.ensures c.in_err-print_items.ensures))

@@ -85,12 +85,14 @@ put_all-requires-2 g c = record { can = can-after c.requires.can c.loop-at.invar
 pub returns : goal.returns
 returns g c =
     let end = c.in_ok-print-2.ensures.midway (source_of c.args.c) c.args.c.inner c.loop-at.invariant.midway in
-    puts-all c.args.items.now (length c.args.items.now) (omega arith) c.args.c.inner (source_of c.args.c) c.print-2.new.buffer
+    puts-all c.args.items.now (length c.args.items.now) (omega arith) c.args.c.inner (source_of c.args.c)
+    c.print-2.new.buffer
     c.append_end.new.out
     (waits-on c.args.c.inner (source_of c.args.c) (items_are c.args.items.now) c.loop-at.at (length c.args.items.now)
     c.loop-at.buffer c.print-2.new.buffer c.loop-at.invariant.waiting
     (c.in_ok-print-2.ensures.bytes (source_of c.args.c) c.args.c.inner c.loop-at.invariant.midway))
-    (c.in_ok-append_end.ensures.bytes (shown (source_of c.args.c) (take (length c.args.items.now) (items_are c.args.items.now)))
+    (c.in_ok-append_end.ensures.bytes (shown (source_of c.args.c)
+    (take (length c.args.items.now) (items_are c.args.items.now)))
     end.behind.stands
     ∙ ap (λ (b : Bool). c.print-2.new.buffer
     ++ late b (shown (source_of c.args.c) (take (length c.args.items.now) (items_are c.args.items.now))))
