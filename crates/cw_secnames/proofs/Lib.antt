@@ -2,6 +2,7 @@
 mod Rows
 pub mod Entering
 pub mod Finding
+pub mod Linked
 pub mod Marked
 pub mod Nearest
 pub mod NamedMarks

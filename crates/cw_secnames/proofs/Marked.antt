@@ -1,120 +1,37 @@
 -- The positions that are found by marks hold those of all names near a text.
-use Rattle.std.proofs.Common.{nat_lt, ◌≡◌, ℕ, zero, suc, ◌+◌, ◌-◌, ◌^◌, ◌<◌, ◌≤◌, ◌&&◌, ◌||◌, ◌==◌, ◌⊎◌, inl, inr, Bool}
-use Rattle.std.proofs.Common.{true, false, not, nat_eq, List, [], ◌∷◌, ◌++◌, map, length, take, get_or, cond, refl, ap}
-use Rattle.std.proofs.Common.{◌∙◌, sym, subst, arith, min, length-take, take_all, take-take, eq-eqb, nat_cmp, is_eq}
-use Rattle.std.proofs.Common.{is_lt, is_le, Ordering, Less, Equal, Greater}
+use Rattle.std.proofs.Common.{nat_lt, ◌≡◌, ℕ, zero, suc, ◌+◌, ◌<◌, ◌≤◌, ◌&&◌, ◌||◌, ◌==◌, ◌⊎◌, inl, inr, Bool}
+use Rattle.std.proofs.Common.{true, false, nat_eq, List, [], ◌∷◌, ◌++◌, length, take, get_or, refl, ap}
+use Rattle.std.proofs.Common.{◌∙◌, sym, subst, arith, min, length-take, take_all, take-take}
 use Rattle.std.proofs.lemmas.Bool.{ltb-true}
-use Rattle.std.specs.Ordering.{ordering_then, MatchOrdering}
-use Rattle.std.specs.List.{list_any}
-use Rattle.std.specs.Cmp.{tied_then}
 use Rattle.std.specs.Cmp.Lexicographic.{same_text, pointwise}
-use Rattle.std.proofs.lemmas.Cmp.{ranked, tied_itself, nat_cmp_total, nat_list_eq_equiv}
-use Rattle.std.proofs.lemmas.Map.Views.{any-filter_same}
+use Rattle.std.proofs.lemmas.Cmp.{nat_list_eq_equiv}
 use Rattle.std.proofs.lemmas.List.Folds.{list_any-append}
-use Rattle.std.specs.BTreeMap.{is_at}
-use Rattle.std.specs.BTreeMap.Range.{range_contains}
-use Rattle.std.specs.declared.ops.Bound.TheVariants.{Included}
-use Rattle.std.specs.BTreeSet.{BTreeSet, contains}
 use Rattle.cw_base.proofs.TestLaws.{one-left, one-right}
 use Rattle.cw_secnames.specs.declared.kinds.SecKind.{SecKind}
 use Rattle.cw_secnames.specs.declared.marks.Marks.{Marks}
 use Rattle.cw_secnames.specs.Kept.{begins}
-use Rattle.cw_secnames.specs.Marks.{first_mark, next_mark, mark_from, mark_of, is_kept_length, last_kept, pair_cmp, Has}
-use Rattle.cw_secnames.specs.Marks.{HasAll, positions_at, is_in, wholes_at, IsMarked, KeepsMarks, IsNear}
+use Rattle.cw_secnames.specs.Marks.{first_mark, next_mark, mark_from, mark_of, is_kept_length, last_kept, Has, HasAll}
+use Rattle.cw_secnames.specs.Marks.{positions_at, is_in, wholes_at, IsMarked, KeepsMarks, IsNear}
 
--- ## What a set has under a mark
-
-same-by : (o : Ordering) (a b : ℕ) → is_eq o ≡ true → MatchOrdering o (a < b) (a ≡ b) (b < a) → a ≡ b
-same-by Less a b h m = absurd (cc)
-same-by Equal a b h m = m
-same-by Greater a b h m = absurd (cc)
+-- ## What tables have under a mark
 
 pub both : (a b : Bool) → (a && b) ≡ true → (a ≡ true) × (b ≡ true)
 both true b h = (refl, h)
 both false b h = absurd (cc)
 
--- a pair that is equal to another has its parts
-parts : (mark k : ℕ) (pair : ℕ × ℕ) → is_at (pair_cmp (mark, k)) pair ≡ true → (mark ≡ pair.0) × (k ≡ pair.1)
-parts mark k pair h =
-    let each : (is_eq (nat_cmp mark pair.0) ≡ true) × (is_eq (nat_cmp k pair.1) ≡ true) =
-    both (is_eq (nat_cmp mark pair.0)) (is_eq (nat_cmp k pair.1)) (tied_then (nat_cmp mark pair.0) (nat_cmp k pair.1)
-    ∙ h) in (
-      same-by (nat_cmp mark pair.0) mark pair.0 each.0 (ranked mark pair.0 (nat_cmp mark pair.0) refl),
-      same-by (nat_cmp k pair.1) k pair.1 each.1 (ranked k pair.1 (nat_cmp k pair.1) refl),
-    )
-
-low-by : (o : Ordering) (a b : ℕ) → a ≤ b → MatchOrdering o (a < b) (a ≡ b) (b < a) → is_le o ≡ true
-low-by Less a b h m = refl
-low-by Equal a b h m = refl
-low-by Greater a b h m = absurd (omega arith)
-
-high-by : (o : Ordering) (a b : ℕ) → b ≤ a → MatchOrdering o (a < b) (a ≡ b) (b < a) → not (is_lt o) ≡ true
-high-by Less a b h m = absurd (omega arith)
-high-by Equal a b h m = refl
-high-by Greater a b h m = refl
-
 pub and-yes : (a b : Bool) → a ≡ true → b ≡ true → (a && b) ≡ true
 and-yes true b h k = k
 and-yes false b h k = absurd (cc)
 
-ranges : (mark k : ℕ) → k < 2 ^ 32 → range_contains pair_cmp (Included (mark, 0)) (Included (mark, 2 ^ 32 - 1))
-    (mark, k) ≡ true
-ranges mark k h =
-    let tied : nat_cmp mark mark ≡ Equal = tied_itself nat_cmp_total mark in
-    and-yes (is_le (pair_cmp (mark, 0) (mark, k))) (not (is_lt (pair_cmp (mark, 2 ^ 32 - 1) (mark, k))))
-    (ap (λ o. is_le (ordering_then o (nat_cmp 0 k))) tied
-    ∙ low-by (nat_cmp 0 k) 0 k (omega arith) (ranked 0 k (nat_cmp 0 k) refl))
-    (ap (λ o. not (is_lt (ordering_then o (nat_cmp (2 ^ 32 - 1) k)))) tied
-    ∙ high-by (nat_cmp (2 ^ 32 - 1) k) (2 ^ 32 - 1) k (omega arith) (ranked (2 ^ 32 - 1) k (nat_cmp (2 ^ 32 - 1) k)
-    refl))
-
-in-range : (mark k : ℕ) → k < 2 ^ 32 → (pair : ℕ × ℕ) → is_at (pair_cmp (mark, k)) pair ≡ true
-    → range_contains pair_cmp (Included (mark, 0)) (Included (mark, 2 ^ 32 - 1)) pair ≡ true
-in-range mark k h pair at =
-    let each : (mark ≡ pair.0) × (k ≡ pair.1) = parts mark k pair at in
-    let same : (mark, k) ≡ pair = ap (λ (a : ℕ). (a, k)) each.0 ∙ ap (λ (b : ℕ). (pair.0, b)) each.1 in
-    subst (λ p. range_contains pair_cmp (Included (mark, 0)) (Included (mark, 2 ^ 32 - 1)) p ≡ true) same
-    (ranges mark k h)
-
 pub or-yes : (a b : Bool) → (a || b) ≡ true → (a ≡ true) ⊎ (b ≡ true)
 or-yes true b h = inl refl
 or-yes false b h = inr h
-
-in-map : (mark k : ℕ) (pairs : List (ℕ × ℕ)) → list_any (is_at (pair_cmp (mark, k))) pairs ≡ true
-    → is_in k (map (λ pair. pair.1) pairs) ≡ true
-in-map mark k [] h = absurd (cc)
-in-map mark k (pair ∷ pairs) h =
-    elim (or-yes (is_at (pair_cmp (mark, k)) pair) (list_any (is_at (pair_cmp (mark, k))) pairs) h) [
-      | inl at ↦
-          let e : (mark ≡ pair.0) × (k ≡ pair.1) = parts mark k pair at in
-          one-left (pair.1 == k) (is_in k (map (λ p. p.1) pairs)) (eq-eqb pair.1 k (sym e.1))
-      | inr later ↦ one-right (pair.1 == k) (is_in k (map (λ p. p.1) pairs)) (in-map mark k pairs later)
-    ]
-
-pub is-at : (set : BTreeSet (ℕ × ℕ)) (mark k : ℕ) → k < 2 ^ 32 → Has set mark k → is_in k (positions_at mark set) ≡ true
-is-at set mark k small h =
-    in-map mark k _
-    (any-filter_same (is_at (pair_cmp (mark, k))) (range_contains pair_cmp (Included (mark, 0))
-    (Included (mark, 2 ^ 32 - 1))) true (in-range mark k small) set.keys ∙ h)
 
 pub in-left : (k : ℕ) (xs ys : List ℕ) → is_in k xs ≡ true → is_in k (xs ++ ys) ≡ true
 in-left k xs ys h = list_any-append (λ other. other == k) xs ys ∙ one-left (is_in k xs) (is_in k ys) h
 
 pub in-right : (k : ℕ) (xs ys : List ℕ) → is_in k ys ≡ true → is_in k (xs ++ ys) ≡ true
 in-right k xs ys h = list_any-append (λ other. other == k) xs ys ∙ one-right (is_in k xs) (is_in k ys) h
-
-cond-yes : (b c : Bool) → c ≡ true → cond b true c ≡ true
-cond-yes true c h = refl
-cond-yes false c h = h
-
-pub keeps-old : (old new : BTreeSet (ℕ × ℕ)) (pair : ℕ × ℕ)
-    → ((q : ℕ × ℕ) → contains pair_cmp new q ≡ cond (is_at (pair_cmp pair) q) true (contains pair_cmp old q))
-    → HasAll old new
-keeps-old old new pair h mark k has = h (mark, k) ∙ cond-yes (is_at (pair_cmp pair) (mark, k))
-    (contains pair_cmp old (mark, k)) has
-
-pub keeps-same : (old new : BTreeSet (ℕ × ℕ)) → new.keys ≡ old.keys → HasAll old new
-keeps-same old new h mark k has = ap (list_any (is_at (pair_cmp (mark, k)))) h ∙ has
 
 -- ## A byte more
 
@@ -165,7 +82,7 @@ found-here true marks kind text count k mark below is m =
     let long : marks.shortest ≤ length (take count text) = m.long in
     absurd (omega (arith, size))
 found-here false marks kind text count k mark below is m =
-    is-at marks.wholes mark k m.small (subst (λ n. Has marks.wholes n k) (sym is) m.whole)
+    subst (λ n. Has marks.wholes n k) (sym is) m.whole
 
 shorter-more : (marks : Marks) (kind : SecKind) (text : List ℕ) (count mark : ℕ) (near : List ℕ)
     → mark ≡ mark_of kind (take count text)
@@ -238,8 +155,7 @@ longer marks kind text other k at m h most kept =
     let below : length text ≤ length other = not-longer text other h in
     let same : take at other ≡ take at text =
     sym (ap (take at) (begins-take text other h) ∙ take-take at (length text) other most) in
-    is-at marks.starts (mark_of kind (take at text)) k m.small
-    (subst (λ t. Has marks.starts (mark_of kind t) k) same (m.starts at (omega arith) kept))
+    subst (λ t. Has marks.starts (mark_of kind t) k) same (m.starts at (omega arith) kept)
 
 decide : (a b : ℕ) → a ≤ b → (a < b) ⊎ (a ≡ b)
 decide a b h = grind arith
@@ -281,7 +197,6 @@ found-end marks kind text other count mark start k near f end m h =
 pub keeps-all : (marks more : Marks) → more.shortest ≤ marks.shortest → HasAll marks.wholes more.wholes
     → HasAll marks.starts more.starts → KeepsMarks marks more
 keeps-all marks more low wholes starts kind text k m = record {
-  small = m.small;
   long = let long : marks.shortest ≤ length text = m.long in omega arith;
   whole = wholes (mark_of kind text) k m.whole;
   starts = λ count h kept. starts (mark_of kind (take count text)) k (m.starts count h kept);
@@ -339,11 +254,10 @@ enter-more old marks more kind text k count mark new d e h byte shortest wholes 
           (λ kept. subst (λ m. Has more.starts m k) is (has kept));
     }
 
-pub enter-last : (old marks more : Marks) (kind : SecKind) (text : List ℕ) (k count mark : ℕ) → k < 2 ^ 32
+pub enter-last : (old marks more : Marks) (kind : SecKind) (text : List ℕ) (k count mark : ℕ)
     → more.shortest ≤ length text → Marking old marks kind text k count mark
     → length text ≤ count → HasAll marks.starts more.starts → Has more.wholes mark k → IsMarked more kind text k
-enter-last old marks more kind text k count mark small long e end grows has = record {
-  small = small;
+enter-last old marks more kind text k count mark long e end grows has = record {
   long = long;
   whole = subst (λ m. Has more.wholes m k) (e.mark_is ∙ ap (mark_of kind) (take_all count text end)) has;
   starts = λ at h kept. grows (mark_of kind (take at text)) k (e.starts at (omega arith) kept);

@@ -1,11 +1,12 @@
 -- How a kept name lies in memory.
-use Rattle.std.specs.Prelude.{ℕ, ◌<◌, List, [], ◌∷◌, Option, Some, None}
-use Rattle.std.specs.Global.{Box}
+use Rattle.std.specs.Prelude.{ℕ, ◌<◌, List, [], ◌∷◌}
 use Rattle.cw_secnames.specs.declared.kinds.Earliest.{Earliest}
 use Rattle.cw_secnames.specs.declared.kinds.Earliest.TheVariants.{Nobody, One, Several}
 use Rattle.cw_secnames.specs.declared.kinds.RefKind.{RefKind}
 use Rattle.cw_secnames.specs.declared.kinds.RefKind.TheVariants.{Defined, Used, Cited}
 use Rattle.cw_secnames.specs.declared.referrers.NameReferrers.{NameReferrers}
+use Rattle.cw_secnames.specs.declared.referrers.NameReferrers.TheVariants as names
+use Rattle.cw_secnames.specs.declared.referrers.Lists.{Lists as InLists}
 use Rattle.cw_secnames.specs.declared.referrers.Referrers.{Referrers}
 use Rattle.cw_secnames.specs.declared.referrers.Referrers.TheVariants as referrers
 use Rattle.cw_secnames.specs.declared.sec_names.Kept.{Kept}
@@ -27,8 +28,15 @@ pub record Lists : Type 0 where
 abbrev pub no_lists : Lists
 no_lists = record { defined = []; used = []; cited = [] }
 
+abbrev pub lists_in : InLists → Lists
+lists_in l = record { defined = numbers_of l.defined; used = numbers_of l.used; cited = numbers_of l.cited }
+
 abbrev pub lists_of : NameReferrers → Lists
-lists_of r = record { defined = numbers_of r.defined; used = numbers_of r.used; cited = numbers_of r.cited }
+lists_of names.Nobody = no_lists
+lists_of (names.Defined n) = record no_lists { defined = n ∷ [] }
+lists_of (names.Used n) = record no_lists { used = n ∷ [] }
+lists_of (names.Both d u) = record no_lists { defined = d ∷ []; used = u ∷ [] }
+lists_of (names.Lists lists) = lists_in lists.value
 
 abbrev pub with_in : RefKind → ℕ → Lists → Lists
 with_in Defined section l = record l { defined = with_number section l.defined }
@@ -40,19 +48,14 @@ listed Defined l = l.defined
 listed Used l = l.used
 listed Cited l = l.cited
 
--- those of a name; one to which nothing refers has none
-abbrev pub kept_lists : Option (Box NameReferrers) → Lists
-kept_lists None = no_lists
-kept_lists (Some referrers) = lists_of referrers.value
-
 abbrev pub name_of : Kept → SecName
 name_of n = record {
   kind = n.kind;
   text = n.text.items;
   complete = n.complete;
-  defined = (kept_lists n.referrers).defined;
-  used = (kept_lists n.referrers).used;
-  cited = (kept_lists n.referrers).cited;
+  defined = (lists_of n.referrers).defined;
+  used = (lists_of n.referrers).used;
+  cited = (lists_of n.referrers).cited;
 }
 
 -- the earliest names are among so many

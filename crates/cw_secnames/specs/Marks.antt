@@ -1,14 +1,13 @@
 -- Marks: numbers by which the names near a text are found.
-use Rattle.std.specs.Prelude.{◌≡◌, ℕ, ◌+◌, ◌-◌, ◌*◌, ◌^◌, ◌%◌, ◌<◌, ◌≤◌, Bool, true, false, ◌&&◌, ◌||◌, ◌==◌, nat_lt}
-use Rattle.std.specs.Prelude.{List, [], ◌∷◌, length, take, map}
-use Rattle.std.specs.List.{list_any}
-use Rattle.std.specs.Ordering.{nat_cmp, ordering_then}
-use Rattle.std.specs.declared.cmp.Ordering.{Ordering}
-use Rattle.std.specs.declared.ops.Bound.TheVariants.{Included}
-use Rattle.std.specs.BTreeSet.{BTreeSet, contains, keys_between}
+use Rattle.std.specs.Prelude.{◌≡◌, ℕ, zero, suc, ◌+◌, ◌*◌, ◌/◌, ◌^◌, ◌%◌, ◌≤◌, Bool, true, false, ◌&&◌, ◌||◌, ◌==◌}
+use Rattle.std.specs.Prelude.{nat_lt, List, [], ◌∷◌, ◌++◌, length, take, Option, Some, None, slice_get, slice_index_or}
+use Rattle.std.specs.List.{flat_map, list_any}
 use Rattle.cw_secnames.specs.declared.kinds.SecKind.{SecKind}
 use Rattle.cw_secnames.specs.declared.kinds.SecKind.TheVariants.{Named, File}
 use Rattle.cw_secnames.specs.declared.marks.Marks.{Marks}
+use Rattle.cw_secnames.specs.declared.tables.Link.{Link}
+use Rattle.cw_secnames.specs.declared.tables.Table.{Table}
+use Rattle.cw_secnames.specs.declared.tables.Tables.{Tables}
 use Rattle.cw_secnames.specs.Kept.{SecName, same_kind, begins}
 
 -- The mark of a kind alone, and the mark of a text with a byte more.
@@ -38,32 +37,60 @@ is_kept_length count = count % step_at count == 0
 abbrev pub last_kept : ℕ → ℕ → ℕ → ℕ
 last_kept count mark start = elim (is_kept_length count) [ true ↦ mark | false ↦ start ]
 
--- A set of marks, each with the position of a name.
-abbrev pub pair_cmp : ℕ × ℕ → ℕ × ℕ → Ordering
-pair_cmp a b = ordering_then (nat_cmp a.0 b.0) (nat_cmp a.1 b.1)
+-- Where a mark stands in a table: half of it tells the row among so many, and the links of a row have the other half.
+abbrev pub row_of : ℕ → ℕ → ℕ
+row_of mark rows = (mark / 65536) % rows
 
-abbrev pub Has : BTreeSet (ℕ × ℕ) → ℕ → ℕ → Type 0
-Has set mark k = contains pair_cmp set (mark, k) ≡ true
+abbrev pub sign_of : ℕ → ℕ
+sign_of mark = mark % 65536
 
--- the second set has what the first has
-abbrev pub HasAll : BTreeSet (ℕ × ℕ) → BTreeSet (ℕ × ℕ) → Type 0
-HasAll set more = (mark k : ℕ) → Has set mark k → Has more mark k
+-- the place of the last link of a mark's row, where there is a row
+abbrev pub last_place : ℕ → Table → ℕ
+last_place mark table = slice_index_or table.rows.items (row_of mark (length table.rows.items)) 65535
 
--- the positions under a mark
-abbrev pub positions_at : ℕ → BTreeSet (ℕ × ℕ) → List ℕ
-positions_at mark set = map (λ pair. pair.1) (keys_between pair_cmp (Included (mark, 0)) (Included (mark, 2 ^ 32 - 1))
-    set)
+-- the positions of the links with a sign, from one place on back through its row, of so many links at most
+abbrev pub with_sign : Bool → ℕ → List ℕ → List ℕ
+with_sign true position before = position ∷ before
+with_sign false position before = before
+
+abbrev pub at_link : ℕ → (ℕ → List ℕ) → Option Link → List ℕ
+at_link sign before None = []
+at_link sign before (Some link) = with_sign (link.sign == sign) link.position (before link.before)
+
+abbrev pub back_from : List Link → ℕ → ℕ → ℕ → List ℕ
+back_from links zero sign place = []
+back_from links (suc count) sign place = at_link sign (back_from links count sign) (slice_get links place)
+
+-- the positions under a mark in a table
+abbrev pub positions_in : ℕ → Table → List ℕ
+positions_in mark table = back_from table.links.items (length table.links.items) (sign_of mark) (last_place mark table)
+
+-- and in all tables
+abbrev pub positions_at : ℕ → Tables → List ℕ
+positions_at mark tables = flat_map (positions_in mark) tables.full.items ++ positions_in mark tables.latest
+
+abbrev pub is_in : ℕ → List ℕ → Bool
+is_in k positions = list_any (λ other. other == k) positions
+
+abbrev pub HasIn : Table → ℕ → ℕ → Type 0
+HasIn table mark k = is_in k (positions_in mark table) ≡ true
+
+abbrev pub HasAllIn : Table → Table → Type 0
+HasAllIn table more = (mark k : ℕ) → HasIn table mark k → HasIn more mark k
+
+abbrev pub Has : Tables → ℕ → ℕ → Type 0
+Has tables mark k = is_in k (positions_at mark tables) ≡ true
+
+-- the second tables have what the first have
+abbrev pub HasAll : Tables → Tables → Type 0
+HasAll tables more = (mark k : ℕ) → Has tables mark k → Has more mark k
 
 -- those of whole texts of so many bytes, where some name is as short
 abbrev pub wholes_at : Marks → ℕ → ℕ → List ℕ
 wholes_at marks count mark = elim (nat_lt count marks.shortest) [ true ↦ [] | false ↦ positions_at mark marks.wholes ]
 
-abbrev pub is_in : ℕ → List ℕ → Bool
-is_in k positions = list_any (λ other. other == k) positions
-
 -- A name of this kind and text is found by its marks.
 pub record IsMarked (marks : Marks) (kind : SecKind) (text : List ℕ) (k : ℕ) : Type 0 where
-  pub small : k < 2 ^ 32
   pub long : marks.shortest ≤ length text
   pub whole : Has marks.wholes (mark_of kind text) k
   pub starts : (count : ℕ) → count ≤ length text → is_kept_length count ≡ true

@@ -8,6 +8,7 @@ mod name_uses;
 mod parts;
 mod referrers;
 mod sec_names;
+mod tables;
 
 pub use kinds::{Earliest, Entered, RefKind, SecId, SecKind};
 pub use name_uses::NameUses;

@@ -11,14 +11,13 @@ ghost use Rattle.cw_secnames.specs.Marks.{
   KeepsMarks,
   last_kept,
   next_mark,
-  positions_at,
   wholes_at,
 };
 
 use crate::SecKind;
+use crate::tables::Tables;
 use cw_base::Memory;
 use std::alloc::Global;
-use std::collections::BTreeSet;
 
 /// The positions of names, by marks. A mark is made of a kind and some bytes. Equal bytes have one mark; other bytes
 /// rarely have it too, so that a name found by a mark has still to be looked at.
@@ -28,9 +27,9 @@ use std::collections::BTreeSet;
 #[derive(Drop)]
 pub(crate) struct Marks {
     // The mark of each name's whole text.
-    wholes: BTreeSet<(u32, u32)>,
+    wholes: Tables,
     // The marks of what each name's text begins with.
-    starts: BTreeSet<(u32, u32)>,
+    starts: Tables,
     // No name's text has fewer bytes.
     shortest: usize,
     alloc: Global,
@@ -68,30 +67,15 @@ fn is_kept_length(count: usize) -> bool
     count % step == 0
 }
 
-// A set keeps what it has, also where memory is wanted.
-fn put(set: &mut BTreeSet<(u32, u32)>, mark: u32, index: u32) -> Result<(), Memory>
-    ensures keeps { HasAll set.old set.new }
-    ensures ok { OnOk result (Has set.new mark index) }
-{
-    set.insert((mark, index))?;
-    Ok(())
-}
-
 // Puts a mark of what a name begins with, if its length is one of those that are kept.
-fn put_start(
-    set: &mut BTreeSet<(u32, u32)>,
-    count: usize,
-    mark: u32,
-    index: u32,
-) -> Result<(), Memory>
-    ensures keeps { HasAll set.old set.new }
-    ensures ok { OnOk result (is_kept_length count ≡ true → Has set.new mark index) }
+fn put_start(tables: &mut Tables, count: usize, mark: u32, index: u32) -> Result<(), Memory>
+    ensures keeps { HasAll tables.old tables.new }
+    ensures ok { OnOk result (is_kept_length count ≡ true → Has tables.new mark index) }
 {
     if !is_kept_length(count) {
         return Ok(());
     }
-    put(set, mark, index)?;
-    Ok(())
+    tables.put(mark, index)
 }
 
 // The last kept mark, after the mark of so many bytes.
@@ -101,25 +85,11 @@ fn last_kept(count: usize, mark: u32, start: u32) -> u32
     if is_kept_length(count) { mark } else { start }
 }
 
-// Adds the positions under a mark behind others.
-fn add_marked(
-    positions: &mut Vec<usize>,
-    set: &BTreeSet<(u32, u32)>,
-    mark: u32,
-) -> Result<(), Memory>
-    ensures { OnOk result (positions.new.items ≡ positions.old.items ++ positions_at mark set.now) }
-{
-    for pair in set.range((mark, 0)..=(mark, u32::MAX)) {
-        positions.push(pair.1 as usize)?;
-    }
-    Ok(())
-}
-
 impl Marks {
     pub(crate) fn new_in(alloc: Global) -> Marks {
         Marks {
-            wholes: BTreeSet::new(alloc),
-            starts: BTreeSet::new(alloc),
+            wholes: Tables::new_in(alloc),
+            starts: Tables::new_in(alloc),
             shortest: usize::MAX,
             alloc,
         }
@@ -148,7 +118,7 @@ impl Marks {
             mark = next_mark(mark, text[count]);
             put_start(&mut self.starts, count + 1, mark, index)?;
         }
-        put(&mut self.wholes, mark, index)?;
+        self.wholes.put(mark, index)?;
         Ok(())
     }
 
@@ -160,7 +130,7 @@ impl Marks {
         if count < self.shortest {
             return Ok(());
         }
-        add_marked(positions, &self.wholes, mark)
+        self.wholes.add_to(positions, mark)
     }
 
     // The positions of the names of a kind that begin a text or that it begins, and maybe others.
@@ -176,7 +146,7 @@ impl Marks {
             mark = next_mark(mark, text[count]);
             start = last_kept(count + 1, mark, start);
         }
-        add_marked(&mut near, &self.starts, start)?;
+        self.starts.add_to(&mut near, start)?;
         Ok(near)
     }
 }

@@ -22,7 +22,7 @@ ghost use Rattle.cw_secnames.specs.Kept.{
   with_text,
 };
 ghost use Rattle.cw_secnames.specs.References.{with_reference, with_section};
-ghost use Rattle.cw_secnames.specs.Inside.{IsWithin, kept_lists, listed, name_of};
+ghost use Rattle.cw_secnames.specs.Inside.{IsWithin, listed, lists_of, name_of};
 ghost use Rattle.cw_secnames.specs.Asked.{chosen, is_below, is_lesser, kind_asked, passes, passes_at};
 ghost use Rattle.cw_secnames.specs.Marks.{HoldNear};
 ghost use Rattle.cw_secnames.specs.declared.kinds.SecKind.TheVariants.{Named};
@@ -43,8 +43,7 @@ pub(crate) struct Kept {
     kind: SecKind,
     complete: bool,
     text: Vec<u8>,
-    // While nothing refers to the name there is none.
-    referrers: Option<Box<NameReferrers>>,
+    referrers: NameReferrers,
 }
 
 /// The kept names, in order of entry.
@@ -147,25 +146,14 @@ impl Kept {
         ensures ok { OnOk result (name_of self.new ≡ with_section how section (name_of self.old)) }
         ensures err { OnErr result (name_of self.new ≡ name_of self.old) }
     {
-        match &mut self.referrers {
-            Some(referrers) => referrers.add(alloc, how, section),
-            None => {
-                let mut referrers = NameReferrers::none();
-                referrers.add(alloc, how, section)?;
-                self.referrers = Some(Box::new(alloc, referrers)?);
-                Ok(())
-            }
-        }
+        self.referrers.add(alloc, how, section)
     }
 
     // The sections that refer to the name in one way.
     fn listed(&self, how: RefKind) -> &[u32]
-        ensures { result.now ≡ listed how (kept_lists self.now.referrers) }
+        ensures { result.now ≡ listed how (lists_of self.now.referrers) }
     {
-        match &self.referrers {
-            Some(referrers) => referrers.listed(how),
-            None => &[],
-        }
+        self.referrers.listed(how)
     }
 
     fn is_candidate(&self, prefix: &[u8]) -> bool
@@ -300,7 +288,7 @@ impl SecNames {
             kind,
             text,
             complete,
-            referrers: None,
+            referrers: NameReferrers::Nobody,
         })?;
         Ok(SecId { index })
     }

@@ -33,5 +33,5 @@ returns-clause-keeps c =
     (λ mark k h. c.put.ensures.keeps mark k (c.loop-count.invariant.wholes mark k h)) c.loop-count.invariant.keeps
 
 pub returns-clause-ok : goal.returns-clause-ok
-returns-clause-ok c = enter-last _ _ _ _ _ _ _ _ c.ranges.index.fits (let e = c.loop-count.invariant.shortest in
+returns-clause-ok c = enter-last _ _ _ _ _ _ _ _ (let e = c.loop-count.invariant.shortest in
     omega (arith, e)) c.loop-count.invariant c.loop-count-test.false (λ mark k h. h) c.in_ok-put.ensures.ok

@@ -14,5 +14,5 @@ loop-count-preserved c =
 
 pub returns : goal.returns
 returns c = λ other k marked near.
-    subst (λ all. is_in k all ≡ true) (sym c.in_ok-add_marked.ensures)
+    subst (λ all. is_in k all ≡ true) (sym c.in_ok-add_to.ensures)
     (found-end _ _ _ other _ _ _ k _ c.loop-count.invariant c.loop-count-test.false marked near)
