@@ -8,6 +8,7 @@ use Rattle.cw_phase1.specs.declared.packed.Row.{Row}
 use Rattle.cw_phase1.specs.declared.packed.RowDepth.{RowDepth}
 use Rattle.cw_phase1.specs.declared.packed.RowDepth.TheVariants as rows
 use Rattle.cw_phase1.specs.declared.packed.ShortSpan.{ShortSpan}
+use Rattle.cw_phase1.specs.declared.packed.Whole.{Whole}
 use Rattle.cw_phase1.specs.declared.sections.Depth.{Depth}
 use Rattle.cw_phase1.specs.declared.sections.Depth.TheVariants.{Minus, Zero, Digits}
 use Rattle.cw_phase1.specs.declared.sections.Section.{Section}
@@ -27,9 +28,21 @@ abbrev pub section_of : Row → Section
 section_of r = record {
   starred = r.starred;
   depth = depth_of r.depth;
-  tex = span_of r.tex;
-  definitions = span_of r.definitions;
-  c_part = span_of r.c_part;
+  tex = record { start = r.start; «end» = r.tex_end };
+  definitions = record { start = r.tex_end; «end» = r.definitions_end };
+  c_part = record { start = r.definitions_end; «end» = r.«end» };
   name = name_of r.name;
   changed = r.changed;
+}
+
+-- the section whose parts lie one behind the other
+abbrev pub whole_section : Whole → Section
+whole_section w = record {
+  starred = w.starred;
+  depth = w.depth;
+  tex = record { start = w.start; «end» = w.tex_end };
+  definitions = record { start = w.tex_end; «end» = w.definitions_end };
+  c_part = record { start = w.definitions_end; «end» = w.«end» };
+  name = w.name;
+  changed = w.changed;
 }

@@ -1,6 +1,6 @@
 //! Sections in a row, as they lie in memory: with places of 32 bits.
 ghost use Rattle.std.specs.Prelude.{◌≡◌, ◌<◌, [], ◌∷◌, ◌++◌, Some, IfOk, OnOk, length, slice_get};
-ghost use Rattle.cw_phase1.specs.Packed.{depth_of, name_of, section_of, span_of};
+ghost use Rattle.cw_phase1.specs.Packed.{depth_of, name_of, section_of, span_of, whole_section};
 
 use crate::{Depth, Section};
 use cw_base::{Memory, Span};
@@ -23,12 +23,27 @@ pub(crate) enum RowDepth {
     Digits(ShortSpan),
 }
 
-/// A section in less than half of the memory.
+/// A section whose parts lie one behind the other.
+#[derive(Clone, Copy)]
+pub(crate) struct Whole {
+    pub starred: bool,
+    pub depth: Depth,
+    // Where the TeX part begins, and where each part ends.
+    pub start: usize,
+    pub tex_end: usize,
+    pub definitions_end: usize,
+    pub end: usize,
+    pub name: Option<SecId>,
+    pub changed: bool,
+}
+
+/// A section in a third of the memory.
 #[derive(Clone, Copy)]
 pub(crate) struct Row {
-    tex: ShortSpan,
-    definitions: ShortSpan,
-    c_part: ShortSpan,
+    start: u32,
+    tex_end: u32,
+    definitions_end: u32,
+    end: u32,
     depth: RowDepth,
     name: Option<u32>,
     starred: bool,
@@ -78,6 +93,12 @@ impl ShortSpan {
             end: self.end as usize,
         }
     }
+}
+
+fn span(start: u32, end: u32) -> Span
+    ensures { result ≡ span_of (record { start = start; «end» = «end» }) }
+{
+    ShortSpan { start, end }.span()
 }
 
 impl RowDepth {
@@ -130,13 +151,14 @@ fn name_of(name: Option<u32>) -> Option<SecId>
 }
 
 impl Row {
-    fn of(section: &Section) -> Result<Row, Memory>
-        ensures { IfOk result (λ row. section_of row ≡ section.now) }
+    fn of(section: &Whole) -> Result<Row, Memory>
+        ensures { IfOk result (λ row. section_of row ≡ whole_section section.now) }
     {
         Ok(Row {
-            tex: ShortSpan::of(section.tex)?,
-            definitions: ShortSpan::of(section.definitions)?,
-            c_part: ShortSpan::of(section.c_part)?,
+            start: short(section.start)?,
+            tex_end: short(section.tex_end)?,
+            definitions_end: short(section.definitions_end)?,
+            end: short(section.end)?,
             depth: RowDepth::of(section.depth)?,
             name: short_name(section.name)?,
             starred: section.starred,
@@ -150,9 +172,9 @@ impl Row {
         Section {
             starred: self.starred,
             depth: self.depth.depth(),
-            tex: self.tex.span(),
-            definitions: self.definitions.span(),
-            c_part: self.c_part.span(),
+            tex: span(self.start, self.tex_end),
+            definitions: span(self.tex_end, self.definitions_end),
+            c_part: span(self.definitions_end, self.end),
             name: name_of(self.name),
             changed: self.changed,
         }
@@ -168,8 +190,8 @@ impl SectionList {
         }
     }
 
-    pub(crate) fn push(&mut self, section: Section) -> Result<(), Memory>
-        ensures { OnOk result (self.new ≡ self.old ++ section ∷ []) }
+    pub(crate) fn push(&mut self, section: Whole) -> Result<(), Memory>
+        ensures { OnOk result (self.new ≡ self.old ++ whole_section section ∷ []) }
     {
         let row = Row::of(&section)?;
         self.rows.push(row)?;

@@ -2,11 +2,12 @@
 ghost use Rattle.std.specs.Prelude.{◌≡◌, ◌+◌, ◌^◌, ◌<◌, ◌≤◌, [], true, false, None, Some, length, drop, take_while, OnOk};
 ghost use Rattle.cw_rules.specs.Answers.{seen};
 ghost use Rattle.cw_rules.specs.Bytes.{is_digit};
+ghost use Rattle.cw_phase1.specs.Packed.{whole_section};
 ghost use Rattle.cw_phase1.specs.Placing.{placed_of};
 ghost use Rattle.cw_phase1.specs.Sections.{depth_at, ends_definitions, ends_tex, is_section_code, is_starred};
 ghost use Rattle.cw_phase1.specs.Outlining.{closed_at, closing, open_with, opened, or_else, or_here, section_told, with_token};
 
-use crate::packed::SectionList;
+use crate::packed::{SectionList, Whole};
 use crate::places::holds_changed;
 use crate::placing::Placed;
 use crate::{Part, Role};
@@ -178,26 +179,16 @@ impl Open {
     }
 
     // The section, which ends at a place.
-    fn closed_at(&self, web: &Web, end: usize) -> Section
-        ensures { result ≡ closed_at web.now.lines end self.now }
+    fn closed_at(&self, web: &Web, end: usize) -> Whole
+        ensures { whole_section result ≡ closed_at web.now.lines end self.now }
     {
-        let tex_end = or_else(self.tex_end, end);
-        let definitions_end = or_else(self.definitions_end, end);
-        Section {
+        Whole {
             starred: self.starred,
             depth: self.depth,
-            tex: Span {
-                start: self.behind,
-                end: tex_end,
-            },
-            definitions: Span {
-                start: tex_end,
-                end: definitions_end,
-            },
-            c_part: Span {
-                start: definitions_end,
-                end,
-            },
+            start: self.behind,
+            tex_end: or_else(self.tex_end, end),
+            definitions_end: or_else(self.definitions_end, end),
+            end,
             name: self.name,
             changed: holds_changed(web, self.start, end),
         }
