@@ -61,7 +61,8 @@ from-last : (links : List Link) (new : Link) (sign k : ℕ)
     ≡ true
     → is_in k (back_from (links ++ new ∷ []) (length (links ++ new ∷ [])) sign (length links)) ≡ true
 from-last links new sign k h =
-    subst (λ count. is_in k (back_from (links ++ new ∷ []) count sign (length links)) ≡ true) (sym (size-more links new))
+    subst (λ count. is_in k (back_from (links ++ new ∷ []) count sign (length links))
+    ≡ true) (sym (size-more links new))
     (subst (λ found. is_in k (at_link sign (back_from (links ++ new ∷ []) (length links) sign) found) ≡ true)
     (sym (last-found links new)) h)
 
@@ -88,7 +89,8 @@ under-more rows links new row mark k within before h (inl same) =
     (ap (λ r. get_or rows r 65535) same ∙ sym before) h in
     let place : get_or (begun rows row links) (row_of mark (length rows)) 65535 ≡ length links =
     ap (λ r. get_or (begun rows row links) r 65535) same ∙ get_or-set_same rows row (length links) 65535 within in
-    subst (λ p. is_in k (back_from (links ++ new ∷ []) (length (links ++ new ∷ [])) (sign_of mark) p) ≡ true) (sym place)
+    subst (λ p. is_in k (back_from (links ++ new ∷ []) (length (links ++ new ∷ [])) (sign_of mark) p)
+    ≡ true) (sym place)
     (from-last links new (sign_of mark) k
     (behind-sign (new.sign == sign_of mark) new.position k
     (back_from (links ++ new ∷ []) (length links) (sign_of mark) new.before)
@@ -97,7 +99,8 @@ under-more rows links new row mark k within before h (inr other) =
     let place : get_or (begun rows row links) (row_of mark (length rows)) 65535
     ≡ get_or rows (row_of mark (length rows)) 65535 =
     get_or-set_other rows row (row_of mark (length rows)) (length links) 65535 other in
-    subst (λ p. is_in k (back_from (links ++ new ∷ []) (length (links ++ new ∷ [])) (sign_of mark) p) ≡ true) (sym place)
+    subst (λ p. is_in k (back_from (links ++ new ∷ []) (length (links ++ new ∷ [])) (sign_of mark) p)
+    ≡ true) (sym place)
     (back-more links new (length links) (length (links ++ new ∷ [])) (sign_of mark)
     (get_or rows (row_of mark (length rows)) 65535) k (omega (arith, size-more links new)) h)
 
@@ -119,7 +122,8 @@ has-under rows links all new row place mark within is at same sign =
     let before : List ℕ = back_from (links ++ new ∷ []) (length links) (sign_of mark) new.before in
     rw (is, at, length-set rows row (length links), here)
     (from-last links new (sign_of mark) new.position
-    (subst (λ b. is_in new.position (with_sign b new.position before) ≡ true) (sym (eq-eqb new.sign (sign_of mark) sign))
+    (subst (λ b. is_in new.position (with_sign b new.position before)
+    ≡ true) (sym (eq-eqb new.sign (sign_of mark) sign))
     (one-left (new.position == new.position) (is_in new.position before) (eq-eqb new.position new.position refl))))
 
 -- ## The links of a row, one after another

@@ -1,12 +1,13 @@
-//! Positions by marks, in tables that stay where they are.
+//! Positions by marks. A table that is full stays as it is, and the next positions go to a new one.
 ghost use Rattle.std.specs.Prelude.{◌≡◌, ◌<◌, ◌==◌, [], ℕ, true, ◌++◌, length, IfOk, OnOk};
-ghost use Rattle.cw_secnames.specs.Marks.{Has, HasAll, HasAllIn, HasIn, last_place, positions_at, positions_in, row_of, sign_of, with_sign};
+ghost use Rattle.cw_secnames.specs.Marks.{Has, HasAll, HasAllIn, HasIn, last_place, positions_at, positions_in};
+ghost use Rattle.cw_secnames.specs.Marks.{row_of, sign_of, with_sign};
 
 use cw_base::Memory;
 use std::alloc::Global;
 use std::mem::replace;
 
-// The rows of the first table, and those of each further one.
+// How many rows the first table has, and each further one.
 const FIRST_ROWS: usize = 1024;
 
 const ROWS: usize = 16384;
@@ -32,7 +33,7 @@ pub(crate) struct Table {
     links: Vec<Link>,
 }
 
-/// Positions by marks. Only the last table gets more.
+/// Positions by marks. Many take little memory, since no table is copied where it would grow beyond its limit.
 #[derive(Drop)]
 pub(crate) struct Tables {
     full: Vec<Table>,
