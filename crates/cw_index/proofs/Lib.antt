@@ -4,6 +4,7 @@ mod OrderLaws
 mod OrderRows
 mod RowLaws
 mod StandLaws
+mod EnteredLaws
 mod PuttingLaws
 mod AloneLaws
 mod SectionLaws

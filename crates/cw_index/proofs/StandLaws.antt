@@ -1,6 +1,6 @@
 -- The names that stand in a text are sorted one after another.
 use Rattle.std.proofs.Common.{◌≡◌, ℕ, zero, suc, Bool, true, false, ◌+◌, ◌-◌, ◌==◌, ◌<◌, ◌≤◌, arith, refl, sym, ap, ◌∙◌}
-use Rattle.std.proofs.Common.{List, [], ◌∷◌, ◌++◌, Option, Some, None, drop, get_or, length, map}
+use Rattle.std.proofs.Common.{List, ◌++◌, Some, drop, get_or, length, map}
 use Rattle.std.specs.Prelude.{slice_index, slice_range}
 use Rattle.std.specs.Ordering.{on}
 use Rattle.std.specs.BTreeSet.{insert_key}
@@ -8,7 +8,7 @@ use Rattle.std.proofs.lemmas.List.{drop_all, drop_more, get_or-drop, take_rest}
 use Rattle.memchr.specs.Find.{Nowhere, Passes, is_byte}
 use Rattle.std.proofs.lemmas.List.Sums.{fold-append}
 use Rattle.cw_rules.specs.Bytes.{at_sign}
-use Rattle.cw_secnames.specs.Kept.{SecName, id}
+use Rattle.cw_secnames.specs.Kept.{SecName}
 use Rattle.cw_secnames.specs.Uses.{NameUse}
 use Rattle.cw_index.specs.declared.standing.Standing.{Standing}
 use Rattle.cw_index.specs.Sorted.{sorted_on}
@@ -24,14 +24,13 @@ sorted-append : (xs ys stands : List Stand)
     → sorted_on stand_cmp stands (xs ++ ys) ≡ sorted_on stand_cmp (sorted_on stand_cmp stands xs) ys
 sorted-append xs ys stands = fold-append (insert_key stand_cmp) stands xs ys
 
-pub stands-step : (kept : List SecName) (uses : List NameUse) (text : List ℕ) (i : ℕ) (s : Option Standing)
-    (stands stands' : List Stand) → i < length text
-    → stands_of s ≡ stand_if (slice_index text i == at_sign) kept uses i
-    → stands' ≡ sorted_on stand_cmp stands (stands_of s)
+pub stands-step : (kept : List SecName) (uses : List NameUse) (text : List ℕ) (i : ℕ) (stands stands' : List Stand)
+    → i < length text
+    → stands' ≡ sorted_on stand_cmp stands (stand_if (slice_index text i == at_sign) kept uses i)
     → with_stands kept uses (i + 1) (drop (i + 1) text) stands' ≡ with_stands kept uses i (drop i text) stands
-stands-step kept uses text i s stands stands' within is more =
+stands-step kept uses text i stands stands' within more =
     let here : List Stand = stand_if (slice_index text i == at_sign) kept uses i in
-    ap (with_stands kept uses (i + 1) (drop (i + 1) text)) (more ∙ ap (sorted_on stand_cmp stands) is)
+    ap (with_stands kept uses (i + 1) (drop (i + 1) text)) more
     ∙ sym (sorted-append here (stands_from kept uses (i + 1) (drop (i + 1) text)) stands)
     ∙ ap (λ (later : List ℕ). with_stands kept uses i later stands) (sym (drop_more text i 0 within))
 

@@ -5,26 +5,30 @@ ghost use Rattle.std.specs.Prelude.{
   ◌^◌,
   ◌<◌,
   ◌≤◌,
+  ◌⊎◌,
+  [],
   ℕ,
   IfOk,
   OnOk,
   Some,
   false,
+  get_or,
   length,
   map,
   refl,
   slice_get,
   slice_index,
+  true,
 };
+ghost use Rattle.std.specs.BTreeSet.{insert_key};
 ghost use Rattle.std.specs.Cmp;
 ghost use Rattle.std.specs.Ordering.{as_partial_cmp, eq_by_cmp, on};
 ghost use Rattle.cw_rules.specs.Bytes.{at_sign};
 ghost use Rattle.cw_secnames.specs.Kept.{SecName};
-ghost use Rattle.cw_secnames.specs.Uses.{name_at};
 ghost use Rattle.cw_index.specs.Sorted.{sorted, sorted_on};
-ghost use Rattle.cw_index.specs.Standing.{has_any, has_reference, kept_stand, kind_place, listed_names, named_stand};
+ghost use Rattle.cw_index.specs.Standing.{has_any, has_reference, kept_stand, kind_place, listed_names};
 ghost use Rattle.cw_index.specs.Standing.{stand_cmp, stand_if, stands_from};
-ghost use Rattle.cw_index.specs.StandingForms.{stand_of, stands_of};
+ghost use Rattle.cw_index.specs.StandingForms.{IsSorting, stand_of, stands_of};
 ghost use Rattle.cw_index.specs.StandingLaws.{stand_cmp-total};
 
 use cw_base::Memory;
@@ -44,9 +48,10 @@ pub(crate) struct Listed {
 /// A section name that stands in the web. Names of one kind and one text are equal.
 #[derive(Clone, Copy)]
 pub(crate) struct Standing<'a> {
-    kind: SecKind,
     text: &'a [u8],
-    listed: Listed,
+    id: SecId,
+    place: u32,
+    kind: SecKind,
 }
 
 // The place of a kind among those of one text.
@@ -99,6 +104,17 @@ impl<'a> Ord for Standing<'a> {
     }
 }
 
+impl<'a> Standing<'a> {
+    fn listed(self) -> Listed
+        ensures { result ≡ (stand_of self.entry).listed }
+    {
+        Listed {
+            id: self.id,
+            place: self.place,
+        }
+    }
+}
+
 fn has_any(sections: &[u32]) -> bool
     ensures { result ≡ has_any sections.now }
 {
@@ -127,50 +143,106 @@ fn kept_stand<'a>(names: &'a SecNames, listed: Listed) -> Option<Standing<'a>>
         return None;
     }
     Some(Standing {
-        kind: names.kind(listed.id),
         text: names.text(listed.id),
-        listed,
+        id: listed.id,
+        place: listed.place,
+        kind: names.kind(listed.id),
     })
 }
 
-// The name that stands at a place.
-fn named_stand<'a>(names: &'a SecNames, uses: &NameUses, place: u32) -> Option<Standing<'a>>
-    ensures { stands_of result ≡ named_stand names.now (name_at place uses.now) place }
-{
-    match uses.at(place) {
-        Some(id) => kept_stand(names, Listed { id, place }),
-        None => None,
-    }
+/// The names that stand in the web, sorted, and which of the kept names they are.
+#[derive(Drop)]
+pub(crate) struct Sorting<'a> {
+    stands: BTreeSet<Standing<'a>>,
+    entered: Vec<bool>,
 }
 
-// The name that begins with the byte at a place of the text.
-fn stand_at<'a>(
-    text: &[u8],
-    names: &'a SecNames,
-    uses: &NameUses,
-    place: usize,
-) -> Option<Standing<'a>>
-    requires within { place < length text.now }
-    requires short { length text.now ≤ 2 ^ 24 }
-    ensures { stands_of result ≡ stand_if (slice_index text.now place == at_sign) names.now uses.now place }
-{
-    if text[place] == b'@' {
-        return named_stand(names, uses, place as u32);
+impl<'a> Sorting<'a> {
+    // No names, of so many that are kept.
+    fn of_kept(alloc: Global, count: usize) -> Result<Sorting<'a>, Memory>
+        ensures stands { IfOk result (λ sorting. sorting.stands.keys ≡ []) }
+        ensures entered { IfOk result (λ sorting. (k : ℕ) → get_or sorting.entered.items k false ≡ false) }
+    {
+        let entered = vec![in alloc; false; count]?;
+        Ok(Sorting {
+            stands: BTreeSet::new(alloc),
+            entered,
+        })
     }
-    None
-}
 
-// Puts a name at its place, unless it stands there already.
-fn enter<'a>(stands: &mut BTreeSet<Standing<'a>>, stand: Option<Standing<'a>>) -> Result<(), Memory>
-    ensures { OnOk result (map stand_of stands.new.keys
-        ≡ sorted_on stand_cmp (map stand_of stands.old.keys) (stands_of stand.entry)) }
-{
-    match stand {
-        Some(stand) => {
-            stands.insert(stand)?;
-            Ok(())
+    fn has_entered(&self, index: usize) -> bool
+        ensures { result ≡ get_or self.now.entered.items index false }
+    {
+        index < self.entered.len() && self.entered[index]
+    }
+
+    // The name at a position is entered.
+    fn mark(&mut self, index: usize)
+        ensures stands { self.new.stands ≡ self.old.stands }
+        ensures entered { (k : ℕ) → get_or self.new.entered.items k false ≡ true
+            → (k ≡ index) ⊎ (get_or self.old.entered.items k false ≡ true) }
+    {
+        if index < self.entered.len() {
+            self.entered[index] = true;
         }
-        None => Ok(()),
+    }
+
+    // Puts a name at its place.
+    fn insert(&mut self, stand: Standing<'a>) -> Result<(), Memory>
+        ensures stands { OnOk result
+            (self.new.stands.keys ≡ insert_key (on stand_of stand_cmp) self.old.stands.keys stand.entry) }
+        ensures entered { OnOk result ((k : ℕ) → get_or self.new.entered.items k false ≡ true
+            → (k ≡ stand.entry.id.index) ⊎ (get_or self.old.entered.items k false ≡ true)) }
+    {
+        self.stands.insert(stand)?;
+        self.mark(stand.id.index);
+        Ok(())
+    }
+
+    // Puts a kept name at its place, where a section refers to it, unless it stands there already.
+    fn enter(&mut self, names: &'a SecNames, listed: Listed) -> Result<(), Memory>
+        requires { IsSorting names.now self.old }
+        ensures stands { OnOk result (map stand_of self.new.stands.keys
+            ≡ sorted_on stand_cmp (map stand_of self.old.stands.keys)
+            (kept_stand (slice_get names.now listed.id.index) listed)) }
+        ensures entered { OnOk result (IsSorting names.now self.new) }
+    {
+        if self.has_entered(listed.id.index) {
+            return Ok(());
+        }
+        match kept_stand(names, listed) {
+            Some(stand) => {
+                self.insert(stand)?;
+                Ok(())
+            }
+            None => Ok(()),
+        }
+    }
+
+    // The same of the name that begins with the byte at a place of the text.
+    fn enter_at(
+        &mut self,
+        text: &[u8],
+        names: &'a SecNames,
+        uses: &NameUses,
+        place: usize,
+    ) -> Result<(), Memory>
+        requires within { place < length text.now }
+        requires short { length text.now ≤ 2 ^ 24 }
+        requires sorting { IsSorting names.now self.old }
+        ensures stands { OnOk result (map stand_of self.new.stands.keys
+            ≡ sorted_on stand_cmp (map stand_of self.old.stands.keys)
+            (stand_if (slice_index text.now place == at_sign) names.now uses.now place)) }
+        ensures entered { OnOk result (IsSorting names.now self.new) }
+    {
+        if text[place] != b'@' {
+            return Ok(());
+        }
+        let place = place as u32;
+        match uses.at(place) {
+            Some(id) => self.enter(names, Listed { id, place }),
+            None => Ok(()),
+        }
     }
 }
 
@@ -198,13 +270,13 @@ fn sorted_stands<'a>(
     ensures { IfOk result (λ stands. map stand_of stands.keys
         ≡ sorted stand_cmp (stands_from names.now uses.now 0 text.now)) }
 {
-    let mut stands = BTreeSet::new(alloc);
+    let mut sorting = Sorting::of_kept(alloc, names.len())?;
     let mut place = next_sign(text, 0);
     while place < text.len() {
-        let stand = stand_at(text, names, uses, place);
-        enter(&mut stands, stand)?;
+        sorting.enter_at(text, names, uses, place)?;
         place = next_sign(text, place + 1);
     }
+    let Sorting { stands, entered: _ } = sorting;
     Ok(stands)
 }
 
@@ -221,7 +293,7 @@ pub(crate) fn listed_names(
     let stands = sorted_stands(alloc, text, names, uses)?;
     let mut listed = Vec::new(alloc);
     for stand in stands {
-        listed.push(stand.listed)?;
+        listed.push(stand.listed())?;
     }
     Ok(listed)
 }
