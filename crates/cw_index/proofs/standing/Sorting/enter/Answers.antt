@@ -16,7 +16,8 @@ returns-then-has_entered-clause-stands c =
 
 pub returns-in_ok-insert-in-Some-clause-stands : goal.returns-in_ok-insert-in-Some-clause-stands
 returns-in_ok-insert-in-Some-clause-stands c =
-    entered c.in-Some.stand c.args.self.now.stands.keys c.insert.new.self.stands.keys c.in_ok-insert-in-Some.ensures.stands
+    entered c.in-Some.stand c.args.self.now.stands.keys c.insert.new.self.stands.keys
+    c.in_ok-insert-in-Some.ensures.stands
     ∙ ap (sorted_on stand_cmp (map stand_of c.args.self.now.stands.keys)) (ap stands_of (sym c.in-Some.is)
     ∙ c.kept_stand.ensures)
 
