@@ -5,26 +5,39 @@ use cw_base::{Bytes, Memory};
 use std::alloc::Global;
 use std::test::Fail;
 
-/// What a run of one section without notes tells. With flag x it has the index too.
-fn whole(alloc: Global, section: &[u8], index: &[u8], with_index: bool) -> Result<Bytes, Memory> {
-    let mut text = Bytes::new_in(alloc);
-    text.append(
-        b"[term]This is CWEAVE (profile 2)\nWriting the output file...\n[tex] is foo.tex\n",
-    )?;
-    text.append(b"[tex]\\input cwebmac\n\\M{1}\n")?;
+/// What a run of one section tells before it.
+const BEGINNING: &[u8] = b"[term]This is CWEAVE (profile 2)
+Writing the output file...
+[tex] is foo.tex
+[tex]\\input cwebmac
+\\M{1}
+";
+
+/// Appends what it tells of the index.
+fn append_index(text: &mut Bytes, index: &[u8]) -> Result<(), Memory> {
+    text.append(b"\\inx\n\\fin\n\\end\n[term]Writing the index...\n[idx] is foo.idx\n")?;
+    if !index.is_empty() {
+        text.append(b"[idx]")?;
+        text.append(index)?;
+    }
+    text.append(b"[scn] is foo.scn\n")
+}
+
+/// Appends the section and what follows it.
+fn append_rest(text: &mut Bytes, section: &[u8], index: Option<&[u8]>) -> Result<(), Memory> {
     text.append(section)?;
     text.append(b"\\fi\n\n")?;
-    if with_index {
-        text.append(b"\\inx\n\\fin\n\\end\n[term]Writing the index...\n[idx] is foo.idx\n")?;
-        if !index.is_empty() {
-            text.append(b"[idx]")?;
-            text.append(index)?;
-        }
-        text.append(b"[scn] is foo.scn\n")?;
-    } else {
-        text.append(b"\\end\n")?;
+    match index {
+        Some(index) => append_index(text, index)?,
+        None => text.append(b"\\end\n")?,
     }
-    text.append(b"[term]Done.\n(No errors were found.)\nClean")?;
+    text.append(b"[term]Done.\n(No errors were found.)\nClean")
+}
+
+/// What a run of one section without notes tells. With flag x it has the index too.
+fn whole(alloc: Global, section: &[u8], index: Option<&[u8]>) -> Result<Bytes, Memory> {
+    let mut text = Bytes::from_slice(alloc, BEGINNING)?;
+    append_rest(&mut text, section, index)?;
     Ok(text)
 }
 
@@ -96,11 +109,11 @@ fn part_told(alloc: Global, text: &[u8], words: &[&[u8]]) -> Result<Bytes, Memor
 #[test]
 fn each_section_and_its_index(rt: HostRuntime) -> Result<(), Fail> {
     let no_index = b"-x".as_slice();
-    for (text, section, index) in ROWS {
+    for (text, section, index) in &ROWS {
         let seen = part_told(rt.alloc(), text, &[FOO])?;
-        expect(&rt, &seen, &whole(rt.alloc(), section, index, true)?);
+        expect(&rt, &seen, &whole(rt.alloc(), section, Some(*index))?);
         let seen = part_told(rt.alloc(), text, &[no_index, FOO])?;
-        expect(&rt, &seen, &whole(rt.alloc(), section, index, false)?);
+        expect(&rt, &seen, &whole(rt.alloc(), section, None)?);
     }
     Ok(())
 }

@@ -51,10 +51,10 @@ Errors",
 
 #[test]
 fn changes_that_end_too_soon(rt: HostRuntime) -> Result<(), Fail> {
-    for (change, wanted) in ENDED {
+    for (change, wanted) in &ENDED {
         let files = [
             (b"foo.w".as_slice(), b"@ One.\n@c a;\nb;\n".as_slice()),
-            (b"foo.ch".as_slice(), change),
+            (b"foo.ch".as_slice(), *change),
         ];
         expect_told(&rt, rt.alloc(), &[FOO, FOO], &files, wanted)?;
     }

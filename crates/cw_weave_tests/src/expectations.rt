@@ -48,8 +48,7 @@ pub(crate) fn expect_calls(
     calls: u64,
 ) -> Result<(), Fail> {
     let seen = told_by(alloc, words, desk)?;
-    assert_eq!(rt; seen.as_slice(), wanted);
-    assert_eq!(rt; desk.calls(), calls, "the number of its calls");
+    assert_eq!(rt; (seen.as_slice(), desk.calls()), (wanted, calls));
     Ok(())
 }
 
@@ -79,7 +78,12 @@ fn whole_run(
     files: &[(&[u8], &[u8])],
 ) -> Result<(Bytes, u64), Memory> {
     let mut desk = desk_with(alloc, files)?;
-    way.weave(alloc, words, &mut desk)?;
-    let all = journal_text(alloc, desk.journal())?;
+    let all = run_over(alloc, way, words, &mut desk)?;
     Ok((all, desk.calls()))
+}
+
+/// The journal of a run over this desk.
+fn run_over(alloc: Global, way: Way, words: &[&[u8]], desk: &mut MemDesk) -> Result<Bytes, Memory> {
+    way.weave(alloc, words, desk)?;
+    journal_text(alloc, desk.journal())
 }

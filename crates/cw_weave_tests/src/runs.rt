@@ -6,11 +6,16 @@ use cw_desk::{Batch, Desk, Flushed, MemDesk, QuietDesk};
 use cw_weave::weave_command;
 use std::alloc::Global;
 
-fn list_of(alloc: Global, words: &[&[u8]]) -> Result<Words, Memory> {
-    let mut list = Words::new_in(alloc);
+fn push_words(list: &mut Words, words: &[&[u8]]) -> Result<(), Memory> {
     for word in words {
         list.push(word)?;
     }
+    Ok(())
+}
+
+fn list_of(alloc: Global, words: &[&[u8]]) -> Result<Words, Memory> {
+    let mut list = Words::new_in(alloc);
+    push_words(&mut list, words)?;
     Ok(list)
 }
 
@@ -173,18 +178,29 @@ pub fn told_in(
     Ok(text)
 }
 
-/// What a run over `foo.w` with these bytes prints on the terminal, and behind it how it ended.
-pub fn terminal_told(alloc: Global, words: &[&[u8]], web: &[u8]) -> Result<Bytes, Memory> {
-    let mut desk = web_desk(alloc, web, &[])?;
-    let exit = weave(alloc, words, &mut desk)?;
-    let mut text = Bytes::new_in(alloc);
-    for event in desk.journal() {
+/// Appends what is printed on the terminal.
+fn append_terminal(text: &mut Bytes, journal: &[Event]) -> Result<(), Memory> {
+    for event in journal {
         if let Event::Byte(Out::Term, byte) = event {
             text.push(*byte)?;
         }
     }
+    Ok(())
+}
+
+/// What is printed on the terminal, and behind it how the run ended.
+fn terminal_text(alloc: Global, journal: &[Event], exit: Exit) -> Result<Bytes, Memory> {
+    let mut text = Bytes::new_in(alloc);
+    append_terminal(&mut text, journal)?;
     text.append(exit_name(exit))?;
     Ok(text)
+}
+
+/// What a run over `foo.w` with these bytes prints on the terminal, and behind it how it ended.
+pub fn terminal_told(alloc: Global, words: &[&[u8]], web: &[u8]) -> Result<Bytes, Memory> {
+    let mut desk = web_desk(alloc, web, &[])?;
+    let exit = weave(alloc, words, &mut desk)?;
+    terminal_text(alloc, desk.journal(), exit)
 }
 
 /// Whether a run over this desk ends with a fault where its call of this number fails, without a further call, and

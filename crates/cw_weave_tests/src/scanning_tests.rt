@@ -6,18 +6,22 @@ use std::alloc::Global;
 use std::process::Abort;
 use std::test::Fail;
 
-/// What a run prints on the terminal that makes these notes, which are of errors.
-fn noted(alloc: Global, notes: &[u8]) -> Result<Bytes, Memory> {
-    let mut text = Bytes::new_in(alloc);
-    text.append(b"This is CWEAVE (profile 2)\n")?;
-    text.append(notes)?;
-    text.append(
-        b"Writing the output file...
+/// What a run prints behind its notes, which are of errors.
+const ENDING: &[u8] = b"Writing the output file...
 Writing the index...
 Done.
 (Pardon me, but I think I spotted something wrong.)
-Errors",
-    )?;
+Errors";
+
+fn append_notes(text: &mut Bytes, notes: &[u8]) -> Result<(), Memory> {
+    text.append(notes)?;
+    text.append(ENDING)
+}
+
+/// What a run prints on the terminal that makes these notes.
+fn noted(alloc: Global, notes: &[u8]) -> Result<Bytes, Memory> {
+    let mut text = Bytes::from_slice(alloc, b"This is CWEAVE (profile 2)\n")?;
+    append_notes(&mut text, notes)?;
     Ok(text)
 }
 
@@ -29,43 +33,44 @@ fn expect_notes(rt: &impl Abort, alloc: Global, web: &[u8], notes: &[u8]) -> Res
 }
 
 // One web for each note that limbo and TeX text can make, with its line.
+const ROWS: [(&[u8], &[u8]); 8] = [
+    (
+        b"a\n@ b\nc@3d\n",
+        b"! Unknown control code (l. 3 of foo.w)\n",
+    ),
+    (
+        b"a\nb@cd\n@ e\n",
+        b"! Double @ should be used in limbo (l. 2 of foo.w)\n",
+    ),
+    (
+        b"@ a\nb@/c\n",
+        b"! You can't do that in TeX text (l. 2 of foo.w)\n",
+    ),
+    (
+        b"a\n@q b\nc\n@ d\n",
+        b"! Control text didn't end (l. 2 of foo.w)\n",
+    ),
+    (
+        b"a\n@ b\n\n@q c",
+        b"! Control text didn't end (l. 4 of foo.w)\n",
+    ),
+    (
+        b"a\n@ @q b@,c@>\n",
+        b"! Control codes are forbidden in control text (l. 2 of foo.w)\n",
+    ),
+    (
+        b"a\n@s\nb 3\n@ c\n",
+        b"! Improper format definition (l. 2 of foo.w)\n",
+    ),
+    (
+        b"a\nb @s c\n@ d\n",
+        b"! Improper format definition (l. 2 of foo.w)\n",
+    ),
+];
+
 #[test]
 fn each_note_of_scanning(rt: HostRuntime) -> Result<(), Fail> {
-    let rows = [
-        (
-            b"a\n@ b\nc@3d\n".as_slice(),
-            b"! Unknown control code (l. 3 of foo.w)\n".as_slice(),
-        ),
-        (
-            b"a\nb@cd\n@ e\n",
-            b"! Double @ should be used in limbo (l. 2 of foo.w)\n",
-        ),
-        (
-            b"@ a\nb@/c\n",
-            b"! You can't do that in TeX text (l. 2 of foo.w)\n",
-        ),
-        (
-            b"a\n@q b\nc\n@ d\n",
-            b"! Control text didn't end (l. 2 of foo.w)\n",
-        ),
-        (
-            b"a\n@ b\n\n@q c",
-            b"! Control text didn't end (l. 4 of foo.w)\n",
-        ),
-        (
-            b"a\n@ @q b@,c@>\n",
-            b"! Control codes are forbidden in control text (l. 2 of foo.w)\n",
-        ),
-        (
-            b"a\n@s\nb 3\n@ c\n",
-            b"! Improper format definition (l. 2 of foo.w)\n",
-        ),
-        (
-            b"a\nb @s c\n@ d\n",
-            b"! Improper format definition (l. 2 of foo.w)\n",
-        ),
-    ];
-    for (web, note) in rows {
+    for (web, note) in &ROWS {
         expect_notes(&rt, rt.alloc(), web, note)?;
     }
     Ok(())

@@ -309,16 +309,17 @@ Errors",
     )
 }
 
+const NO_SAMPLES: [&[&[u8]]; 5] = [
+    &[b"--sample"],
+    &[b"--sample", b"0"],
+    &[b"--sample", b"01"],
+    &[b"--sample", b"2001"],
+    &[b"--sample", b"3", b"4"],
+];
+
 #[test]
 fn no_sample(rt: HostRuntime) -> Result<(), Fail> {
-    let faults: [&[&[u8]]; 5] = [
-        &[b"--sample".as_slice()],
-        &[b"--sample".as_slice(), b"0".as_slice()],
-        &[b"--sample".as_slice(), b"01".as_slice()],
-        &[b"--sample".as_slice(), b"2001".as_slice()],
-        &[b"--sample".as_slice(), b"3".as_slice(), b"4".as_slice()],
-    ];
-    for words in faults {
+    for words in &NO_SAMPLES {
         expect_web(
             &rt,
             rt.alloc(),
