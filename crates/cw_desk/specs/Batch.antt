@@ -48,8 +48,10 @@ pub record HandsOn (out : Out) (answer : Flushed) (old_waiting new_waiting : Lis
   pub less : length new_waiting ≤ length old_waiting
   pub failed : answer ≡ Failed → Rose old.faults new.faults
 
--- What a put does with what waits. Bytes of the file for which bytes wait are laid behind them, and the desk below isn't
--- called, as long as there is room; bytes of another file wait anew; and none waits once bytes were put to the terminal.
+-- What a put does with what waits. Bytes of the file for which bytes wait are laid behind them, and the desk below
+-- isn't
+-- called, as long as there is room; bytes of another file wait anew; and none waits once bytes were put to the
+-- terminal.
 pub record Gathers {D : Type 0} (out : Out) (bytes : List ℕ) (result : Taken) (old new : Gathering D) : Type 0 where
   pub no_call : out ≢ Term → out ≡ old.out → length old.waiting < ROOM → new.below ≡ old.below
   pub behind : (n : ℕ) → result ≡ Bytes n → out ≢ Term → out ≡ old.out → length old.waiting < ROOM
