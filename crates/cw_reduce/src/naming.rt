@@ -267,7 +267,8 @@ impl Translator {
         ensures keeps { OnOk result (Keeps work.old.store.now.lists work.new.store.now.lists
             (all_roots self.old.nesting) (all_roots self.new.nesting)) }
         ensures names { OnErr result (NamesAmong context.now.flags.now
-            (with_texts (texts_in context.now) reader.old.coming) (progress_over work.old self.old) work.new.names.now) }
+            (with_texts (texts_in context.now) reader.old.coming) (progress_over work.old self.old)
+            work.new.names.now) }
         ensures bound { work.new.steps.now ≤ work.old.steps.now +
             limit_in context.now.flags.now (after_answers context.now.flags.now (with_texts (texts_in context.now)
             reader.old.coming) (progress_over work.old self.old)).known.ended }
