@@ -1,8 +1,10 @@
 //! Tests of answers that are kept: they are those of a scanner, and their room serves one text after another.
+ghost use Rattle.std.specs.Prelude.{◌≤◌};
+
 use crate::lexer_tests::show;
-use cw_answers::Answers;
+use cw_answers::{Answers, Reader};
 use cw_base::{Memory, Span};
-use cw_lex::{Lexer, Mode};
+use cw_lex::{Lexed, Lexer, Mode};
 use std::alloc::Global;
 use std::test::Fail;
 
@@ -38,5 +40,31 @@ fn kept_of_two(alloc: Global) -> Result<[(usize, bool); 2], Memory> {
 #[test]
 fn answers_are_kept_as_they_are_scanned(rt: HostRuntime) -> Result<(), Fail> {
     assert_eq!(rt; kept_of_two(rt.alloc())?, [(15, true), (5, true)]);
+    Ok(())
+}
+
+// What a reader keeps of a C text, and how many answers it hands out.
+fn read_of(alloc: Global, span: Span) -> Result<(usize, usize), Memory>
+    requires order { span.start ≤ span.end }
+    requires within { span.end ≤ 29 }
+{
+    let mut reader = Reader::keeping(
+        Answers::new_in(alloc),
+        b"if (a) b = \"c\"; /* |d| and */",
+        span,
+        Mode::CPart,
+    );
+    for count in 0..100 {
+        if let Lexed::End = reader.next() {
+            return Ok((count, reader.finish()?.len()));
+        }
+    }
+    Err(Memory)
+}
+
+#[test]
+fn a_reader_keeps_what_it_hands_out(rt: HostRuntime) -> Result<(), Fail> {
+    let span = Span { start: 0, end: 29 };
+    assert_eq!(rt; read_of(rt.alloc(), span)?, (15, 15));
     Ok(())
 }
