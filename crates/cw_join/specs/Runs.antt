@@ -6,7 +6,7 @@ use Rattle.cw_trees.specs.Printing.{break_bytes, is_backup, is_cancel, strength,
 use Rattle.cw_join.specs.declared.run.Pause.{Pause}
 use Rattle.cw_join.specs.declared.run.Pause.TheVariants.{Nothing, Blank, OptionalBreak, Break, BigBreak}
 use Rattle.cw_join.specs.declared.run.Run.{Run}
-use Rattle.cw_join.specs.declared.run.Run.TheVariants.{Empty, Begun}
+use Rattle.cw_join.specs.declared.run.Run.TheVariants.{Empty, Plain, Marked}
 
 -- the strength of its strongest break or blank, and whether it has a Cancel and a Backup
 pub record RunState : Type 0 where
@@ -54,7 +54,8 @@ strength_of BigBreak = 4
 
 abbrev pub state_of : Run → RunState
 state_of Empty = record { strength = 0; cancelled = false; backed = false }
-state_of (Begun pause cancelled backed) = record {
+state_of (Plain pause) = record { strength = strength_of pause; cancelled = false; backed = false }
+state_of (Marked pause cancelled backed) = record {
   strength = strength_of pause;
   cancelled = cancelled;
   backed = backed;

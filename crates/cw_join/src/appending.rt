@@ -5,7 +5,7 @@ ghost use Rattle.cw_trees.specs.Printing.{Printable, indent_bytes, opened};
 ghost use Rattle.cw_tokens.specs.FlatItems.{item_is};
 ghost use Rattle.cw_join.specs.Appending.{StaysBefore};
 ghost use Rattle.cw_join.specs.Early.{added, late, run_front};
-ghost use Rattle.cw_join.specs.Runs.{pause_bytes, run_more, run_state, state_back, state_of, strength_of};
+ghost use Rattle.cw_join.specs.Runs.{run_more, run_state, state_back};
 ghost use Rattle.cw_join.specs.Standing.{Stands};
 ghost use Rattle.cw_join.specs.Stretches.{is_inner};
 ghost use Rattle.cw_join.specs.Tokens.{CanCome, IsNamed, alone, control_bytes, item_bytes};
@@ -49,7 +49,7 @@ impl Joiner {
         ensures inner { OnOk result (self.new.inner ≡ self.old.inner) }
         ensures stays { OnErr result (StaysBefore out.old out.new) }
     {
-        append_run(self.run, self.is_inner(), out)?;
+        self.append_rare_run(out)?;
         self.run = Run::new();
         Ok(())
     }
@@ -62,11 +62,37 @@ impl Joiner {
         ensures state { OnOk result (self.new ≡ record self.old { run = run_more self.old.run control }) }
         ensures stays { OnErr result (StaysBefore out.old out.new) }
     {
-        if is_indent(control) && !self.is_inner() {
-            append_indent(control, out)?;
+        self.run.add(control);
+        if is_indent(control) {
+            return append_indent(control, self.is_inner(), out);
         }
-        self.run = self.run.with(control);
         Ok(())
+    }
+
+    // Appends what the run prints when it has ended. Most print a blank.
+    #[inline(always)]
+    fn append_run(&self, out: &mut Bytes) -> Result<(), Memory>
+        ensures bytes { OnOk result (out.new
+            ≡ out.old ++ state_back (is_inner self.now.inner self.now.depth) self.now.run) }
+        ensures stays { OnErr result (StaysBefore out.old out.new) }
+    {
+        match self.run {
+            Run::Plain(Pause::Blank) => out.push(b' '),
+            Run::Plain(pause) if !self.is_inner() => append_few(pause.bytes(), out),
+            _ => self.append_rare_run(out),
+        }
+    }
+
+    // The same of a run that may have a Cancel or a Backup, or stand in inner text. It stands apart, since few do.
+    #[inline(never)]
+    fn append_rare_run(&self, out: &mut Bytes) -> Result<(), Memory>
+        ensures bytes { OnOk result (out.new
+            ≡ out.old ++ state_back (is_inner self.now.inner self.now.depth) self.now.run) }
+        ensures stays { OnErr result (StaysBefore out.old out.new) }
+    {
+        let inner = self.is_inner();
+        append_few(self.run.pause(inner), out)?;
+        append_few(step(self.run.backs(inner)), out)
     }
 
     // Any other item ends the run.
@@ -82,7 +108,7 @@ impl Joiner {
         ensures stays { OnErr result (StaysBefore out.old out.new) }
     {
         if !self.run.is_empty() {
-            append_run(self.run, self.is_inner(), out)?;
+            self.append_run(out)?;
             self.run = Run::new();
         }
         append_item(item, names, out)?;
@@ -98,52 +124,16 @@ fn is_indent(control: Control) -> bool
     matches!(control, Control::Indent | Control::Outdent)
 }
 
-// Appends what it prints then. It stands apart, since few controls are one.
+// Appends what it prints at once, in inner text or outside. It stands apart, since few controls are one.
 #[inline(never)]
-fn append_indent(control: Control, out: &mut Bytes) -> Result<(), Memory>
-    ensures bytes { OnOk result (out.new ≡ out.old ++ indent_bytes control) }
+fn append_indent(control: Control, inner: bool, out: &mut Bytes) -> Result<(), Memory>
+    ensures bytes { OnOk result (out.new ≡ out.old ++ run_front inner (control ∷ [])) }
     ensures stays { OnErr result (StaysBefore out.old out.new) }
 {
+    if inner {
+        return Ok(());
+    }
     append_few(indent(control), out)
-}
-
-// Appends what a run prints when it has ended.
-#[inline(always)]
-fn append_run(run: Run, inner: bool, out: &mut Bytes) -> Result<(), Memory>
-    ensures bytes { OnOk result (out.new ≡ out.old ++ state_back inner (state_of run)) }
-    ensures stays { OnErr result (StaysBefore out.old out.new) }
-{
-    match run {
-        Run::Begun {
-            pause,
-            cancelled: false,
-            backed: false,
-        } => append_pause(pause, inner, out),
-        _ => append_rare_run(run, inner, out),
-    }
-}
-
-// The same of a run that may have a Cancel or a Backup. Few have one.
-#[inline(never)]
-fn append_rare_run(run: Run, inner: bool, out: &mut Bytes) -> Result<(), Memory>
-    ensures bytes { OnOk result (out.new ≡ out.old ++ state_back inner (state_of run)) }
-    ensures stays { OnErr result (StaysBefore out.old out.new) }
-{
-    append_few(run.pause(inner), out)?;
-    append_few(step(run.backs(inner)), out)
-}
-
-// Appends a break or a blank. Most are blanks.
-#[inline(always)]
-fn append_pause(pause: Pause, inner: bool, out: &mut Bytes) -> Result<(), Memory>
-    ensures bytes { OnOk result (out.new ≡ out.old
-        ++ pause_bytes inner (record { strength = strength_of pause; cancelled = false; backed = false })) }
-    ensures stays { OnErr result (StaysBefore out.old out.new) }
-{
-    match pause {
-        Pause::Blank => append_few(b" ", out),
-        _ => append_few(pause.bytes_in(inner), out),
-    }
 }
 
 // Appends the bytes of a name or of a sign.

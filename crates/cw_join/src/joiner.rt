@@ -24,9 +24,9 @@ use std::marker::Model;
 /// break, and whether it has a Cancel and a Backup. It takes no memory.
 #[derive(Drop)]
 pub struct Joiner {
+    pub(crate) run: Run,
     pub(crate) inner: bool,
     pub(crate) depth: u64,
-    pub(crate) run: Run,
 }
 
 impl Model for Joiner {
@@ -115,7 +115,7 @@ impl Joiner {
             indent(control)
         };
         put_some(front, out, desk)?;
-        self.run = self.run.with(control);
+        self.run.add(control);
         Ok(())
     }
 

@@ -20,10 +20,12 @@ pub(crate) enum Pause {
 }
 
 /// What is kept of a run: of one that has begun the strongest break or blank, and whether it has a Cancel and a Backup.
+/// Most have neither.
 #[derive(Clone, Copy)]
 pub(crate) enum Run {
     Empty,
-    Begun {
+    Plain(Pause),
+    Marked {
         pause: Pause,
         cancelled: bool,
         backed: bool,
@@ -65,7 +67,7 @@ impl Pause {
         }
     }
 
-    fn bytes(self) -> &'static [u8]
+    pub(crate) fn bytes(self) -> &'static [u8]
         ensures { result.now ≡ break_bytes (strength_of self) }
     {
         match self {
@@ -105,26 +107,64 @@ impl Run {
         matches!(self, Run::Empty)
     }
 
-    /// The run with one control more.
+    /// Adds a control, in place: most runs end after one or two.
     #[inline(always)]
-    pub(crate) fn with(self, control: Control) -> Run
-        ensures { state_of result ≡ run_more (state_of self) control }
+    pub(crate) fn add(&mut self, control: Control)
+        ensures { state_of self.new ≡ run_more (state_of self.old) control }
+    {
+        match control {
+            Control::Blank | Control::OptionalBreak | Control::Break | Control::BigBreak => {
+                self.add_pause(Pause::of(control));
+            }
+            Control::Cancel | Control::Backup => self.add_mark(control),
+            _ => {}
+        }
+    }
+
+    #[inline(always)]
+    fn add_pause(&mut self, other: Pause)
+        ensures { state_of self.new ≡ record (state_of self.old) {
+          strength = max (state_of self.old).strength (strength_of other);
+        } }
     {
         match self {
-            Run::Empty => Run::Begun {
-                pause: Pause::of(control),
-                cancelled: is_cancel(control),
-                backed: is_backup(control),
-            },
-            Run::Begun {
+            Run::Empty => {
+                *self = Run::Plain(other);
+            }
+            Run::Plain(pause) => {
+                *pause = pause.stronger(other);
+            }
+            Run::Marked { pause, .. } => {
+                *pause = pause.stronger(other);
+            }
+        }
+    }
+
+    // It stands apart, since few controls are a Cancel or a Backup.
+    #[inline(never)]
+    fn add_mark(&mut self, control: Control)
+        ensures { state_of self.new ≡ run_more (state_of self.old) control }
+    {
+        let (pause, cancelled, backed) = self.parts();
+        *self = Run::Marked {
+            pause: pause.stronger(Pause::of(control)),
+            cancelled: cancelled || is_cancel(control),
+            backed: backed || is_backup(control),
+        };
+    }
+
+    // The strongest break or blank, and whether there is a Cancel and a Backup.
+    fn parts(self) -> (Pause, bool, bool)
+        ensures { state_of self ≡ record { strength = strength_of result.0; cancelled = result.1; backed = result.2 } }
+    {
+        match self {
+            Run::Empty => (Pause::Nothing, false, false),
+            Run::Plain(pause) => (pause, false, false),
+            Run::Marked {
                 pause,
                 cancelled,
                 backed,
-            } => Run::Begun {
-                pause: pause.stronger(Pause::of(control)),
-                cancelled: cancelled || is_cancel(control),
-                backed: backed || is_backup(control),
-            },
+            } => (pause, cancelled, backed),
         }
     }
 
@@ -133,7 +173,8 @@ impl Run {
         ensures { result.now ≡ pause_bytes inner (state_of self) }
     {
         match self {
-            Run::Begun {
+            Run::Plain(pause) => pause.bytes_in(inner),
+            Run::Marked {
                 pause,
                 cancelled,
                 ..
@@ -147,12 +188,12 @@ impl Run {
         ensures { result ≡ backs inner (state_of self) }
     {
         match self {
-            Run::Begun {
+            Run::Marked {
                 cancelled,
                 backed,
                 ..
             } => !inner && !cancelled && backed,
-            Run::Empty => false,
+            Run::Empty | Run::Plain(_) => false,
         }
     }
 }
