@@ -52,9 +52,9 @@ pub struct KeptText<'s, 'a> {
 // Where the printing of a C text stands.
 #[derive(Drop)]
 struct Printer<'s, 'a> {
-    book: &'s Book,
-    walk: TextWalk<'s, 'a>,
     joiner: Joiner,
+    walk: TextWalk<'s, 'a>,
+    book: &'s Book,
 }
 
 impl<'s, 'a> Printer<'s, 'a> {
@@ -128,27 +128,12 @@ impl<'s, 'a> Printer<'s, 'a> {
         ensures behind { (s : Source) (inner : Bool) (items : List Item) → IsBehind s inner items self.old
             → OnOk result (IsBehind s inner (items ++ item_is (FlatControl control) ∷ []) self.new) }
     {
+        self.joiner
+            .append(FlatItem::Control(control), &self.book.names, buffer)?;
         if is_placed(control) {
-            return self.placed(control, buffer);
+            return self.walk.show_control(buffer, control);
         }
-        self.joiner
-            .append(FlatItem::Control(control), &self.book.names, buffer)?;
         Ok(())
-    }
-
-    // The same of one that prints by where it stands, as few do.
-    #[inline(never)]
-    fn placed(&mut self, control: Control, buffer: &mut Bytes) -> Result<(), Memory>
-        requires come { CanCome (length self.old.book.now.names) self.old.joiner.depth (FlatControl control) }
-        ensures bytes { (s : Source) (inner : Bool) (items : List Item) → IsBehind s inner items self.old
-            → OnOk result (buffer.new ≡ buffer.old
-            ++ added inner (shown s items) (shown_next s items (item_is (FlatControl control)))) }
-        ensures behind { (s : Source) (inner : Bool) (items : List Item) → IsBehind s inner items self.old
-            → OnOk result (IsBehind s inner (items ++ item_is (FlatControl control) ∷ []) self.new) }
-    {
-        self.joiner
-            .append(FlatItem::Control(control), &self.book.names, buffer)?;
-        self.walk.show_control(buffer, control)
     }
 
     // The same of an identifier, which prints the same everywhere. It stands apart, so that the loop stays small.

@@ -132,6 +132,7 @@ impl<'s, 'a> TextWalk<'s, 'a> {
     }
 
     /// Appends what a control prints by where it stands; signs that print the same everywhere print nothing here.
+    #[inline(never)]
     pub(crate) fn show_control(&mut self, out: &mut Bytes, control: Control) -> Result<(), Memory>
         ensures bytes { OnOk result (out.new ≡ out.old ++ (control_shown control self.old.stand).bytes) }
         ensures stand { OnOk result (self.new ≡ behind self.old (control_shown control self.old.stand)) }
