@@ -1,5 +1,5 @@
 //! The answers of a C text, among which tokens are found by their numbers.
-ghost use Rattle.std.specs.Prelude.{◌≡◌, ◌≤◌, ◌<◌, ◌^◌, ◌++◌, ℕ, List, [], IfNone, IfOk, IfSome, length, option_map};
+ghost use Rattle.std.specs.Prelude.{◌≡◌, ◌+◌, ◌≤◌, ◌<◌, ◌^◌, ◌++◌, ℕ, List, [], IfNone, IfOk, IfSome, length, option_map};
 ghost use Rattle.std.specs.Prelude.{take};
 ghost use Rattle.std.specs.Bool.{OnFalse, OnTrue};
 ghost use Rattle.cw_rules.specs.Answers.{Answer, Gives, seen};
@@ -63,11 +63,7 @@ impl Seek {
         if self.from > number {
             return None;
         }
-        let place = place_behind_lesser(answers, *self, number);
-        if place == self.end {
-            return None;
-        }
-        let sign = sign_of(answers.at(place), number)?;
+        let (place, sign) = sign_ahead(answers, *self, number)?;
         self.place = place + 1;
         self.from = number + 1;
         Some(sign)
@@ -215,20 +211,24 @@ fn is_lesser(answer: Lexed, number: usize) -> bool
     }
 }
 
-// The place of the first token ahead whose number isn't lesser, or the end.
+// The sign of a number and its place, where only tokens of lesser numbers come before it.
 #[inline(always)]
-fn place_behind_lesser(answers: &Answers, seek: Seek, number: usize) -> usize
+fn sign_ahead(answers: &Answers, seek: Seek, number: usize) -> Option<(usize, Sign)>
     requires number { number < 2 ^ 32 }
     requires seeking { IsSeeking answers.now seek }
     requires ahead { seek.from ≤ number }
-    ensures { IsSeeking answers.now (record { place = result; «end» = seek.end; from = number }) }
+    ensures sign { IfSome result (λ found. PrintsSign found.1 (numbered number (among answers.now seek))) }
+    ensures behind { IfSome result (λ found. IsSeeking answers.now
+        (record { place = found.0 + 1; «end» = seek.end; from = number + 1 })) }
 {
     for place in seek.place..seek.end {
-        if !is_lesser(answers.at(place), number) {
-            return place;
+        let answer = answers.at(place);
+        if !is_lesser(answer, number) {
+            let sign = sign_of(answer, number)?;
+            return Some((place, sign));
         }
     }
-    seek.end
+    None
 }
 
 // The sign of an answer, if it is one of this number.

@@ -1,6 +1,6 @@
 -- The number and those above it have their tokens ahead.
 use Rattle.cw_print.specs.Scanning.{IsSeeking}
-use Rattle.cw_print.proofs.scan.place_behind_lesser.Given as goal
+use Rattle.cw_print.proofs.scan.sign_ahead.Given as goal
 
 abbrev pub invariant-loop-place : goal.invariant-loop-place
 invariant-loop-place l =
