@@ -14,7 +14,7 @@ use crate::joiner::{Joiner, depth_behind, step};
 use crate::names_behind::{append_few, append_ident, append_reserved};
 use crate::naming::text_of;
 use crate::pieces::sign;
-use crate::run::{Pause, Run, indent, run_control};
+use crate::run::{Pause, Run, run_control};
 use cw_base::{Bytes, Memory};
 use cw_names::Names;
 use cw_tokens::FlatItem;
@@ -79,6 +79,10 @@ impl Joiner {
         match self.run {
             Run::Plain(Pause::Blank) => out.push(b' '),
             Run::Plain(pause) if !self.is_inner() => append_few(pause.bytes(), out),
+            Run::Marked {
+                cancelled: true,
+                ..
+            } => Ok(()),
             _ => self.append_rare_run(out),
         }
     }
@@ -130,10 +134,11 @@ fn append_indent(control: Control, inner: bool, out: &mut Bytes) -> Result<(), M
     ensures bytes { OnOk result (out.new ≡ out.old ++ run_front inner (control ∷ [])) }
     ensures stays { OnErr result (StaysBefore out.old out.new) }
 {
-    if inner {
-        return Ok(());
+    match control {
+        Control::Indent if !inner => append_few(b"\\1", out),
+        Control::Outdent if !inner => append_few(b"\\2", out),
+        _ => Ok(()),
     }
-    append_few(indent(control), out)
 }
 
 // Appends the bytes of a name or of a sign.

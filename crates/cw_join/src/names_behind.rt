@@ -22,6 +22,7 @@ pub(crate) fn append_ident(name: &[u8], out: &mut Bytes) -> Result<(), Memory>
 }
 
 /// Appends a reserved word.
+#[inline(always)]
 pub(crate) fn append_reserved(name: &[u8], out: &mut Bytes) -> Result<(), Memory>
     ensures bytes { OnOk result (out.new ≡ out.old ++ reserved_bytes name.now) }
     ensures stays { OnErr result (StaysBefore out.old out.new) }

@@ -143,28 +143,40 @@ impl Run {
     // It stands apart, since few controls are a Cancel or a Backup.
     #[inline(never)]
     fn add_mark(&mut self, control: Control)
+        requires { strength control ≡ 0 }
         ensures { state_of self.new ≡ run_more (state_of self.old) control }
     {
-        let (pause, cancelled, backed) = self.parts();
-        *self = Run::Marked {
-            pause: pause.stronger(Pause::of(control)),
-            cancelled: cancelled || is_cancel(control),
-            backed: backed || is_backup(control),
-        };
-    }
-
-    // The strongest break or blank, and whether there is a Cancel and a Backup.
-    fn parts(self) -> (Pause, bool, bool)
-        ensures { state_of self ≡ record { strength = strength_of result.0; cancelled = result.1; backed = result.2 } }
-    {
         match self {
-            Run::Empty => (Pause::Nothing, false, false),
-            Run::Plain(pause) => (pause, false, false),
+            Run::Empty => {
+                *self = Run::marked(Pause::Nothing, control);
+            }
+            Run::Plain(pause) => {
+                let pause = *pause;
+                *self = Run::marked(pause, control);
+            }
             Run::Marked {
-                pause,
                 cancelled,
                 backed,
-            } => (pause, cancelled, backed),
+                ..
+            } => {
+                *cancelled = *cancelled || is_cancel(control);
+                *backed = *backed || is_backup(control);
+            }
+        }
+    }
+
+    // The run of a break or a blank and of a control that is neither.
+    fn marked(pause: Pause, control: Control) -> Run
+        ensures { state_of result ≡ record {
+          strength = strength_of pause;
+          cancelled = is_cancel_sign control;
+          backed = is_backup_sign control;
+        } }
+    {
+        Run::Marked {
+            pause,
+            cancelled: is_cancel(control),
+            backed: is_backup(control),
         }
     }
 
