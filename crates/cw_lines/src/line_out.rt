@@ -1,12 +1,13 @@
 //! The line of an output that is being filled, and cut where it would hold more than 80 bytes.
 ghost use Rattle.std.specs.Prelude.{◌≡◌, ◌≢◌, ◌==◌, ◌+◌, ◌<◌, ◌≤◌, [], ◌∷◌, ◌++◌, ◌↔◌, IfNone, IfOk, IfSome, IsTrue};
-ghost use Rattle.std.specs.Prelude.{None, OnOk, Some, length, take, true};
+ghost use Rattle.std.specs.Prelude.{None, OnOk, Some, drop, length, take, true};
 ghost use Rattle.std.specs.Bool.{OnTrue, OnFalse};
 ghost use Rattle.cw_desk.specs.Journal.{byte_events};
 ghost use Rattle.cw_desk.specs.Meaning.{Files};
 ghost use Rattle.cw_lines.specs.Compared.{Compares, agrees_of, id_of, left};
 ghost use Rattle.cw_lines.specs.Cut.{comment_mark, number_if};
 ghost use Rattle.cw_lines.specs.Line.{divided, new_line, with_byte, with_text, HasNoLineEnd, HoldsLine, IsEndedLine};
+ghost use Rattle.cw_lines.specs.Whole.{WholeLines};
 ghost use Rattle.cw_lines.specs.Writes.{CanCompare, CanWrite, Puts, Writes};
 
 use crate::comparison::Comparison;
@@ -19,6 +20,7 @@ use cw_desk::{Desk, FileId};
 use memchr::memchr;
 use std::alloc::Global;
 use std::marker::Model;
+use std::mem::replace;
 
 /// The bytes of a line that isn't complete.
 type Pending = ArrayVec<u8, 80>;
@@ -164,16 +166,40 @@ impl LineOut {
         ensures line { OnOk result (self.new.line ≡ (divided self.old.line).line) }
         ensures short { HoldsLine self.new }
     {
-        let division = divide(self.pending.as_slice());
+        let line = replace(&mut self.pending, Pending::new());
+        let at = self.cut_off(line.as_slice(), desk)?;
+        self.append(&line.as_slice()[at..]);
+        Ok(())
+    }
+
+    /// Divides a full line where it stands, when nothing is pending, and writes its first part. Where the next line
+    /// begins with `%`, that is pending then; the rest of the line begins at the place that is told.
+    fn cut_off<D: Desk>(&mut self, line: &[u8], desk: &mut D) -> Result<usize, PutError>
+        requires can { CanWrite (D.told desk.old) self.old }
+        requires full { length line.now ≡ 80 }
+        requires empty { self.old.line.pending ≡ [] }
+        ensures writes { Writes (id_of self.old.compared) (byte_events self.old.line.out
+            (divided (with_text self.old.line line.now)).written)
+            (D.told desk.old) (D.told desk.new) result }
+        ensures compares { OnOk result (Compares (divided (with_text self.old.line line.now)).written
+            self.old.compared self.new.compared (D.told desk.old) (D.told desk.new)) }
+        ensures same_out { self.new.line.out ≡ self.old.line.out }
+        ensures same_file { id_of self.new.compared ≡ id_of self.old.compared }
+        ensures within { IfOk result (λ at. at ≤ 80) }
+        ensures line { IfOk result (λ at. with_text self.new.line (drop at line.now) ≡
+            (divided (with_text self.old.line line.now)).line) }
+        ensures short { HoldsLine self.new }
+    {
+        let division = divide(line);
         let number = self.lines.saturating_add(1);
         self.lines = number;
         note_broken(&mut self.broken, division.broken, number)?;
-        let (first, behind) = self.pending.as_slice().split_at(division.at);
-        let line = ended_line(first, division.percent);
-        let next = begun_line(division.comment, behind);
-        self.emit(line.as_slice(), desk)?;
-        self.pending = next;
-        Ok(())
+        let first = ended_line(&line[..division.at], division.percent);
+        self.emit(first.as_slice(), desk)?;
+        if division.comment {
+            self.pending.push(b'%');
+        }
+        Ok(division.at)
     }
 
     /// Puts one byte. Byte 10 ends the line; where the line is full and another byte comes, it is cut.
@@ -206,20 +232,50 @@ impl LineOut {
         self.put_lines(bytes, desk)
     }
 
-    /// Puts bytes line by line.
+    /// Puts bytes line by line. Where nothing is pending, whole lines that stand one behind another are written
+    /// together, and a longer line is cut where it stands.
     #[inline(never)]
     fn put_lines<D: Desk>(&mut self, bytes: &[u8], desk: &mut D) -> Result<(), PutError>
         requires can { CanWrite (D.told desk.old) self.old }
         ensures puts { Puts bytes.now self.old self.new (D.told desk.old) (D.told desk.new) result }
         ensures short { HoldsLine self.new }
     {
+        let mut from = 0;
         let mut at = 0;
+        let mut count = 0;
         while let Some(size) = first_line(&bytes[at..]) {
             let end = at + size;
-            self.put_line(&bytes[at..end], desk)?;
-            at = end;
+            if !self.is_empty() {
+                self.put_line(&bytes[at..end], desk)?;
+                at = end;
+                from = end;
+            } else if size <= 81 {
+                count += 1;
+                at = end;
+            } else {
+                self.put_whole(&bytes[from..at], count, desk)?;
+                count = 0;
+                at += self.cut_off(&bytes[at..at + 80], desk)?;
+                from = at;
+            }
+        }
+        if from < at {
+            self.put_whole(&bytes[from..at], count, desk)?;
         }
         self.put_text(&bytes[at..], desk)?;
+        Ok(())
+    }
+
+    /// Writes so many whole lines as they stand, when nothing is pending.
+    fn put_whole<D: Desk>(&mut self, lines: &[u8], count: u64, desk: &mut D) -> Result<(), PutError>
+        requires can { CanWrite (D.told desk.old) self.old }
+        requires whole { WholeLines lines.now count }
+        requires empty { self.old.line.pending ≡ [] }
+        ensures puts { Puts lines.now self.old self.new (D.told desk.old) (D.told desk.new) result }
+        ensures short { HoldsLine self.new }
+    {
+        self.emit(lines, desk)?;
+        self.lines = self.lines.saturating_add(count);
         Ok(())
     }
 
@@ -230,25 +286,8 @@ impl LineOut {
         ensures puts { Puts bytes.now self.old self.new (D.told desk.old) (D.told desk.new) result }
         ensures short { HoldsLine self.new }
     {
-        if self.is_empty() && bytes.len() <= 81 {
-            return self.put_whole(bytes, desk);
-        }
         self.put_text(&bytes[..bytes.len() - 1], desk)?;
         self.end_line(desk)
-    }
-
-    /// Writes a line that fits, when nothing is pending.
-    fn put_whole<D: Desk>(&mut self, bytes: &[u8], desk: &mut D) -> Result<(), PutError>
-        requires can { CanWrite (D.told desk.old) self.old }
-        requires line { IsEndedLine bytes.now }
-        requires empty { length self.old.line.pending ≡ 0 }
-        requires short { length bytes.now ≤ 81 }
-        ensures puts { Puts bytes.now self.old self.new (D.told desk.old) (D.told desk.new) result }
-        ensures short { HoldsLine self.new }
-    {
-        self.emit(bytes, desk)?;
-        self.lines = self.lines.saturating_add(1);
-        Ok(())
     }
 
     /// Puts bytes of which none ends a line: as many as have room, and the next one behind each cut.
@@ -332,19 +371,6 @@ fn note_broken(numbers: &mut Vec<u64>, broken: bool, number: u64) -> Result<(), 
         return Err(PutError::Memory);
     }
     Ok(())
-}
-
-/// The line that begins with what a cut left.
-fn begun_line(comment: bool, rest: &[u8]) -> Pending
-    requires { length (comment_mark comment ++ rest.now) ≤ 80 }
-    ensures { result.items ≡ comment_mark comment ++ rest.now }
-{
-    let mut line = Pending::new();
-    if comment {
-        line.push(b'%');
-    }
-    append(&mut line, rest);
-    line
 }
 
 /// How many bytes the first line has with its end, where it has one.

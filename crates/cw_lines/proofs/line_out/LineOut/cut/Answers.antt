@@ -1,26 +1,23 @@
--- The division that was found is the one that the line has.
-use Rattle.std.proofs.Common.{◌≡◌, ℕ, ◌≤◌, List, ◌++◌, length, drop, sym, ap, ◌∙◌, subst, arith}
-use Rattle.cw_lines.specs.Cut.{divide, comment_mark}
-use Rattle.cw_lines.specs.CutLaws.{divide-short}
-use Rattle.cw_lines.specs.Division.{Divides}
+-- What is left has room.
+use Rattle.std.proofs.Common.{◌≡◌, ℕ, ◌+◌, ◌-◌, ◌<◌, ◌≤◌, List, length, take, drop, ap, sym, ◌∙◌, subst, arith}
+use Rattle.std.proofs.lemmas.List.{take_rest}
 use Rattle.cw_lines.specs.Line.{LineState}
-use Rattle.cw_lines.specs.declared.division.Division.{Division}
+use Rattle.cw_lines.proofs.Leaving.{cut-room}
 use Rattle.cw_lines.proofs.line_out.LineOut.cut.Goals as goal
 
-rest_short : (pending line rest : List ℕ) (d : Division) → length pending ≡ 80 → line ≡ pending → rest ≡ drop d.at line
-    → Divides pending d
-    → length (comment_mark d.comment ++ rest) ≤ 80
-rest_short pending line rest d full same left parts =
-    let is : (divide pending).rest ≡ comment_mark d.comment ++ rest =
-    parts.rest ∙ ap (λ (text : List ℕ). comment_mark d.comment ++ text) (sym (left ∙ ap (drop d.at) same)) in
-    omega (arith, divide-short pending full, ap length is)
+fits : (pending line : List ℕ) (at : ℕ) → length pending + length (drop at line) < 80
+    → length pending + length (take (length line - at) (drop at line)) ≤ 80
+fits pending line at room =
+    let same : length (take (length line - at) (drop at line)) ≡ length (drop at line) = ap length (take_rest line at) in
+    omega (arith, room, same)
 
-pub begun_line-next-requires : goal.begun_line-next-requires
-begun_line-next-requires g c =
-    let pending_is : c.self.inside.pending.items ≡ c.args.self.now.line.pending =
-    ap (λ (l : LineState). l.line.pending) c.self.view_is in
-    rest_short c.args.self.now.line.pending c.as_slice-2.result.now c.split_at.result.1.now c.divide-division.result
-    c.requires.full
-    (c.as_slice-2.ensures.value ∙ pending_is) c.split_at.ensures.back
-    (subst (λ (line : List ℕ). Divides line c.divide-division.result) (c.as_slice.ensures.value
-    ∙ pending_is) c.divide-division.ensures.parts)
+pub append-requires : goal.append-requires
+append-requires g c =
+    let line : c.as_slice.result.now ≡ c.as_slice-2.result.now =
+    c.as_slice.ensures.value ∙ sym c.as_slice-2.ensures.value in
+    let full : length c.as_slice.result.now ≡ 80 = ap length (c.as_slice.ensures.value ∙ ap (λ l. l.items) c.replace-line.ensures.value
+    ∙ ap (λ (l : LineState). l.line.pending) c.self.view_is) ∙ c.requires.full in
+    fits c.cut_off.new.self.line.pending c.as_slice-2.result.now c.in_ok-at.at
+    (subst (λ (bytes : List ℕ). length c.cut_off.new.self.line.pending + length (drop c.in_ok-at.at bytes) < 80) line
+    (cut-room _ c.cut_off.new.self.line c.as_slice.result.now c.in_ok-at.at (ap (λ l. l.items) c.replace-line.ensures.after ∙ c.new.ensures)
+    full c.in_ok-at.ensures.line))
