@@ -1,4 +1,5 @@
--- Calls that put the first of some bytes: what they wrote, and that putting the rest writes what all the bytes complete.
+-- Calls that put the first of some bytes: what they wrote, and that putting the rest writes what all the bytes
+-- complete.
 use Rattle.std.proofs.Common.{◌≡◌, ◌≢◌, ℕ, ◌+◌, ◌<◌, ◌≤◌, Ok, Err, List, [], ◌∷◌, ◌++◌, length, take, drop, refl, sym}
 use Rattle.std.proofs.Common.{ap, ◌∙◌, subst, append_assoc, arith, length-append}
 use Rattle.std.specs.Prelude.{⊤, Result, IsErrAnd, get_or}

@@ -1,6 +1,6 @@
 //! The answers of a C text, among which tokens are found by their numbers.
-ghost use Rattle.std.specs.Prelude.{◌≡◌, ◌+◌, ◌≤◌, ◌<◌, ◌^◌, ◌++◌, ℕ, List, [], IfNone, IfOk, IfSome, length, option_map};
-ghost use Rattle.std.specs.Prelude.{take};
+ghost use Rattle.std.specs.Prelude.{◌≡◌, ◌+◌, ◌≤◌, ◌<◌, ◌^◌, ◌++◌, ℕ, List, [], IfNone};
+ghost use Rattle.std.specs.Prelude.{IfOk, IfSome, length, option_map, take};
 ghost use Rattle.std.specs.Bool.{OnFalse, OnTrue};
 ghost use Rattle.cw_rules.specs.Answers.{Answer, Gives, seen};
 ghost use Rattle.cw_rules.specs.declared.tokens.Mode.TheVariants.{Inner};
