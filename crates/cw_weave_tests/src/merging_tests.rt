@@ -130,8 +130,8 @@ fn ten_files_deep(rt: HostRuntime) -> Result<(), Fail> {
 #[test]
 fn eleven_files_deep(rt: HostRuntime) -> Result<(), Fail> {
     let mut desk = web_desk(rt.alloc(), b"@i f1\n", &nested(b"@i f11\n@ Deep.\n"))?;
-    // Three calls for each of eleven files, six lines on the terminal, seven of the TeX file, of which the last four are
-    // written together, and three outputs. The eleventh file is not opened.
+    // Three calls for each of eleven files, six lines on the terminal, seven of the TeX file, of which the last four
+    // are written together, and three outputs. The eleventh file is not opened.
     expect_calls(
         &rt,
         rt.alloc(),
