@@ -257,6 +257,10 @@ impl LineOut {
                 count = 0;
                 at += self.cut_off(&bytes[at..at + 80], desk)?;
                 from = at;
+                if end - at <= 81 && self.is_empty() {
+                    count = 1;
+                    at = end;
+                }
             }
         }
         if from < at {

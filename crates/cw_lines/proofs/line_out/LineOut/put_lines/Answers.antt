@@ -1,11 +1,12 @@
 -- Whole lines wait behind what is put; each line goes behind those before it.
 use Rattle.std.proofs.Common.{◌≡◌, ℕ, ◌+◌, ◌-◌, ◌<◌, ◌≤◌, List, [], ◌++◌, length, take, drop, sym, ap, ◌∙◌, subst}
 use Rattle.std.proofs.Common.{arith}
-use Rattle.std.proofs.Common.{Bool, true, false, ◌==◌, refl, length-drop, take-add}
+use Rattle.std.proofs.Common.{◌≢◌, ◌∷◌, Bool, true, false, ◌==◌, refl, length-append, length-drop, take-add}
 use Rattle.std.specs.Prelude.{nat_lt}
 use Rattle.std.proofs.lemmas.Bool.{eqb-true}
 use Rattle.std.proofs.lemmas.Bool.Decides.{nat_tests}
-use Rattle.std.proofs.lemmas.List.{drop-drop, length-take-le, nil_from_length, take_rest, take-append-drop}
+use Rattle.std.proofs.lemmas.List.{drop-append-le, drop-drop, drop-take, length-take-le, nil_from_length, take_rest, take-append-drop}
+use Rattle.std.proofs.lemmas.List.Elements.{All-drop}
 use Rattle.cw_desk.specs.Told.{Told}
 use Rattle.cw_lines.specs.Line.{IsEndedLine, Line, LineState, divided, with_text}
 use Rattle.cw_lines.specs.Whole.{WholeLines}
@@ -218,6 +219,65 @@ loop-size-preserved g c =
       count = omega arith;
       whole = subst (λ (lines : List ℕ). WholeLines lines 0) (sym (none-from bytes next next (omega arith))) whole-none;
       empty = λ less. absurd (omega arith);
+      put = leaves-as (drop-drop c.in_ok-at.field-0 at bytes)
+          (leaves-cut (drop at bytes) (take (at + 80 - at) (drop at bytes)) c.in_ok-at.field-0
+          (caught-up c.loop-size.from at c.loop-size.invariant.order c.loop-size.invariant.put
+          c.in_ok-put_whole.ensures.puts) long (first-80 bytes at)
+          (whole-empty c.loop-size.invariant.whole c.in_ok-put_whole.ensures.puts none) c.in_ok-at.ensures.within
+          c.in_ok-at.ensures.same_out c.in_ok-at.ensures.same_file c.in_ok-at.ensures.line c.in_ok-at.ensures.writes
+          c.in_ok-at.ensures.compares);
+    }
+
+-- what is left of a line that was cut is a line
+rest-ended : (bytes : List ℕ) (at size cut : ℕ) → IsEndedLine (take size (drop at bytes))
+    → size ≤ length (drop at bytes) → 81 < size → cut ≤ 80
+    → IsEndedLine (take (at + size - (at + cut)) (drop (at + cut) bytes))
+rest-ended bytes at size cut is within few inside =
+    let count : length is.text + 1 ≡ size =
+    sym (length-append is.text (10 ∷ [])) ∙ sym (ap length is.ended) ∙ length-take-le size (drop at bytes) within in
+    let all : cut + (size - cut) ≡ size = omega (arith, few, inside) in
+    let less : at + size - (at + cut) ≡ size - cut = omega arith in
+    record {
+      text = drop cut is.text;
+      ended = ap (λ n. take n (drop (at + cut) bytes)) less
+          ∙ ap (λ (rest : List ℕ). take (size - cut) rest) (sym (drop-drop cut at bytes))
+          ∙ sym (drop-take cut (size - cut) (drop at bytes))
+          ∙ ap (λ n. drop cut (take n (drop at bytes))) all
+          ∙ ap (drop cut) is.ended
+          ∙ drop-append-le cut is.text (10 ∷ []) (omega (arith, count, few, inside));
+      one = All-drop (λ byte. byte ≢ 10) cut is.text is.one;
+    }
+
+pub loop-size-preserved-then-is_empty : goal.loop-size-preserved-then-is_empty
+loop-size-preserved-then-is_empty g c =
+    let bytes : List ℕ = c.args.bytes.now in
+    let at : ℕ = c.loop-size.at in
+    let end : ℕ = c.loop-size.at + c.in-Some.size in
+    let next : ℕ = c.loop-size.at + c.in_ok-at.field-0 in
+    let none : c.loop-size.self.line.pending ≡ [] =
+    nil_from_length c.loop-size.self.line.pending
+    (eqb-true (length c.loop-size.self.line.pending) 0 (sym c.if-not-is_empty.ensures.empty)) in
+    let empty : c.cut_off.new.self.line.pending ≡ [] =
+    nil_from_length c.cut_off.new.self.line.pending
+    (eqb-true (length c.cut_off.new.self.line.pending) 0 (sym c.if-is_empty.ensures.empty)) in
+    let few : 81 < c.in-Some.size = omega (arith, c.if-size-le81.false) in
+    let long : Long (drop at bytes) = long-line bytes at c.in-Some.size c.in-Some.ensures.line
+    c.in-Some.ensures.size.1 few in
+    let within : c.in-Some.size ≤ length (drop at bytes) =
+    first-within bytes at c.in-Some.size c.in-Some.ensures.size.1 in
+    let ends : end ≤ length bytes = end-within bytes at c.in-Some.size c.loop-size.invariant.within within in
+    let line : IsEndedLine (take (end - next) (drop next bytes)) =
+    rest-ended bytes at c.in-Some.size c.in_ok-at.field-0
+    (first-ended bytes at c.in-Some.size c.in-Some.ensures.line) within few c.in_ok-at.ensures.within in
+    let short : length (take (end - next) (drop next bytes)) ≤ 81 =
+    omega (arith, length-take-le (end - next) (drop next bytes) (omega (arith, ends, length-drop next bytes)),
+    c.if-end-at-le81.true) in
+    record {
+      order = omega (arith, few, c.in_ok-at.ensures.within);
+      within = ends;
+      count = omega (arith, few);
+      whole = whole-more whole-none line short;
+      empty = λ less. empty;
       put = leaves-as (drop-drop c.in_ok-at.field-0 at bytes)
           (leaves-cut (drop at bytes) (take (at + 80 - at) (drop at bytes)) c.in_ok-at.field-0
           (caught-up c.loop-size.from at c.loop-size.invariant.order c.loop-size.invariant.put
