@@ -270,8 +270,11 @@ loop-size-preserved-then-is_empty g c =
     rest-ended bytes at c.in-Some.size c.in_ok-at.field-0
     (first-ended bytes at c.in-Some.size c.in-Some.ensures.line) within few c.in_ok-at.ensures.within in
     let short : length (take (end - next) (drop next bytes)) ≤ 81 =
-    omega (arith, length-take-le (end - next) (drop next bytes) (omega (arith, ends, length-drop next bytes)),
-    c.if-end-at-le81.true) in
+    omega (
+      arith,
+      length-take-le (end - next) (drop next bytes) (omega (arith, ends, length-drop next bytes)),
+      c.if-end-at-le81.true,
+    ) in
     record {
       order = omega (arith, few, c.in_ok-at.ensures.within);
       within = ends;
