@@ -14,8 +14,8 @@ use Rattle.cw_tokens.specs.declared.walk.Part.TheVariants.{InnerBelow as inner_p
 use Rattle.cw_tokens.specs.Shapes.{Shape, Plain, Below, InnerBelow, shape, ref_of, item_of, tree_in, trees_from}
 use Rattle.cw_tokens.specs.Shapes.{unfolded}
 use Rattle.cw_tokens.specs.References.{token_ref, IsTied}
-use Rattle.cw_tokens.specs.Ahead.{AboveWithin, GoesAbove, MayStandFor, ReferWithin, RefersWithin, closing_of}
-use Rattle.cw_tokens.specs.Ahead.{flat_above, size_of}
+use Rattle.cw_tokens.specs.Ahead.{GoesAbove, MayStandFor, ReferWithin, RefersWithin, closing_of}
+use Rattle.cw_tokens.specs.Ahead.{flat_above, size_of, Lays, TrimsAhead}
 use Rattle.cw_tokens.specs.FlatItems.{item_is, IsPart}
 use Rattle.cw_tokens.specs.Trimming.{Trims, StandsFor}
 use Rattle.cw_tokens.specs.Walking.{size}
@@ -109,15 +109,6 @@ module _ (ls : List (List Token)) (tied : IsTied ls) where
       ≡ tree_in (trees_from [] ls) ts
   list-tree x ts lt e = unfold-is ls x tied lt ∙ ap (tree_in (trees_from [] ls)) (sym e)
 
--- items were given of the walk, and those that stay of them are kept; the others are to come
-pub record TrimsAhead (lists : List (List Token)) (rest : List Token) (above : List Above) (trims : Trims)
-    (all : List Item) : Type 0 where
-  pub given : List Item
-  pub is : given ++ (flat (tree_in (trees_from [] lists) rest) ++ flat_above lists above) ≡ all
-  pub stands : StandsFor trims given
-  pub within : ReferWithin (length lists) rest
-  pub others : AboveWithin (length lists) above
-
 pub ahead-start : (ls : List (List Token)) (root : ℕ) (items : List Token) (trims : Trims) → IsTied ls
     → root < length ls → StandsFor trims [] → items ≡ get_or ls root []
     → TrimsAhead ls items [] trims (flat (unfolded ls root))
@@ -129,18 +120,56 @@ ahead-start ls root items trims tied lt stands e = record {
   others = tt {0};
 }
 
-pub at-first : (ls : List (List Token)) (rest : List Token) (d : Token) (above : List Above) (trims : Trims)
-    (all : List Item) → TrimsAhead ls rest above trims all → 1 ≤ length rest
-    → TrimsAhead ls (slice_index_or rest 0 d ∷ take (length rest - 1) (drop 1 rest)) above trims all
-at-first ls rest d above trims all w h = subst (λ ts. TrimsAhead ls ts above trims all) (first-is rest d h) w
-
-pub less-first : (ls : List (List Token)) (rest : List Token) (d : Token) (n k : ℕ) → 1 ≤ length rest
-    → n < size (tree_in (trees_from [] ls) (slice_index_or rest 0 d ∷ take (length rest - 1) (drop 1 rest))) + k
-    → n < size (tree_in (trees_from [] ls) rest) + k
-less-first ls rest d n k h lt = subst (λ ts. n < size (tree_in (trees_from [] ls) ts) + k) (sym (first-is rest d h)) lt
-
 append-cons : (xs ys : List Item) (x : Item) → (xs ++ x ∷ []) ++ ys ≡ xs ++ x ∷ ys
 append-cons xs ys x = append_assoc xs (x ∷ []) ys
+
+below-inside : (ls : List (List Token)) (t u : Token) (m : MayStandFor ls t u) (x : ℕ)
+    → IsPart (shape u) (below_part x) → x < length ls
+below-inside ls t u m x is = m.within x (ap ref_of (below-ref (shape u) x is))
+
+inner-inside : (ls : List (List Token)) (t u : Token) (m : MayStandFor ls t u) (x : ℕ)
+    → IsPart (shape u) (inner_part x) → x < length ls
+inner-inside ls t u m x is = m.within x (ap ref_of (inner-ref (shape u) x is))
+
+-- there is less to walk behind a token
+module _ (ls : List (List Token)) (t : Token) (behind : List Token) (above : List Above) (u : Token)
+    (m : MayStandFor ls t u) where
+  leaf-less : (item : FlatItem) → IsPart (shape u) (leaf_part item)
+      → size (tree_in (trees_from [] ls) behind) + size_of ls above < size
+      (item_of (trees_from [] ls) (shape t) (tree_in (trees_from [] ls) behind)) + size_of ls above
+  leaf-less item is = omega (arith, less (shape u) is, m.smaller (tree_in (trees_from [] ls) behind))
+    where
+      less : (s : Shape) → IsPart s (leaf_part item)
+          → size (tree_in (trees_from [] ls) behind) < size
+          (item_of (trees_from [] ls) s (tree_in (trees_from [] ls) behind))
+      less (Plain leaf) e = omega arith
+      less (Below x) e = absurd e
+      less (InnerBelow x) e = absurd e
+
+  module _ (x : ℕ) (below : List Token) (tied : IsTied ls) (read : below ≡ get_or ls x []) (new : List Above) where
+    below-less-of : x < length ls → (s : Shape) (closes : ℕ)
+        → size (item_of (trees_from [] ls) s (tree_in (trees_from [] ls) behind))
+        ≡ 2 + (size (unfolded ls x) + size (tree_in (trees_from [] ls) behind)) → s ≡ shape u
+        → GoesAbove behind closes above new
+        → size (tree_in (trees_from [] ls) below) + size_of ls new < size
+        (item_of (trees_from [] ls) (shape t) (tree_in (trees_from [] ls) behind)) + size_of ls above
+    below-less-of inside s closes e same up =
+        let a : size (unfolded ls x) ≡ size (tree_in (trees_from [] ls) below) =
+        ap size (list-tree ls tied x below inside read) in
+        let b : size (item_of (trees_from [] ls) s (tree_in (trees_from [] ls) behind))
+        ≡ size (item_of (trees_from [] ls) (shape u) (tree_in (trees_from [] ls) behind)) =
+        ap (λ (s : Shape). size (item_of (trees_from [] ls) s (tree_in (trees_from [] ls) behind))) same in
+        omega (arith, a, b, e, up.larger ls, m.smaller (tree_in (trees_from [] ls) behind))
+
+    below-smaller : IsPart (shape u) (below_part x) → GoesAbove behind 0 above new
+        → size (tree_in (trees_from [] ls) below) + size_of ls new < size
+        (item_of (trees_from [] ls) (shape t) (tree_in (trees_from [] ls) behind)) + size_of ls above
+    below-smaller is up = below-less-of (below-inside ls t u m x is) (Below x) 0 refl (sym (below-ref (shape u) x is)) up
+
+    inner-smaller : IsPart (shape u) (inner_part x) → GoesAbove behind 1 above new
+        → size (tree_in (trees_from [] ls) below) + size_of ls new < size
+        (item_of (trees_from [] ls) (shape t) (tree_in (trees_from [] ls) behind)) + size_of ls above
+    inner-smaller is up = below-less-of (inner-inside ls t u m x is) (InnerBelow x) 1 refl (sym (inner-ref (shape u) x is)) up
 
 module _ (ls : List (List Token)) (t : Token) (behind : List Token) (above : List Above) (trims : Trims)
     (all : List Item) (w : TrimsAhead ls (t ∷ behind) above trims all) (u : Token) (m : MayStandFor ls t u) where
@@ -169,38 +198,20 @@ module _ (ls : List (List Token)) (t : Token) (behind : List Token) (above : Lis
       first (Below x) e = absurd e
       first (InnerBelow x) e = absurd e
 
-  pub leaf-less : (item : FlatItem) → IsPart (shape u) (leaf_part item)
-      → size (tree_in (trees_from [] ls) behind) + size_of ls above < size
-      (item_of (trees_from [] ls) (shape t) (tree_in (trees_from [] ls) behind)) + size_of ls above
-  leaf-less item is = omega (arith, less (shape u) is, m.smaller (tree_in (trees_from [] ls) behind))
-    where
-      less : (s : Shape) → IsPart s (leaf_part item)
-          → size (tree_in (trees_from [] ls) behind) < size
-          (item_of (trees_from [] ls) s (tree_in (trees_from [] ls) behind))
-      less (Plain leaf) e = omega arith
-      less (Below x) e = absurd e
-      less (InnerBelow x) e = absurd e
-
   module _ (x : ℕ) (below : List Token) (tied : IsTied ls) (read : below ≡ get_or ls x []) (new : List Above) where
-    pub below-inside : IsPart (shape u) (below_part x) → x < length ls
-    below-inside is = m.within x (ap ref_of (below-ref (shape u) x is))
-
-    pub inner-inside : IsPart (shape u) (inner_part x) → x < length ls
-    inner-inside is = m.within x (ap ref_of (inner-ref (shape u) x is))
-
     pub ahead-below : IsPart (shape u) (below_part x) → GoesAbove behind 0 above new → TrimsAhead ls below new trims all
     ahead-below is up = record {
       given = w.given;
       is = ap (λ xs. w.given ++ (flat (tree_in (trees_from [] ls) below) ++ xs)) (up.items ls)
           ∙ (ap (λ (t : Tree). w.given ++ (flat t ++ (flat (tree_in (trees_from [] ls) behind) ++ flat_above ls above)))
-          (sym (list-tree ls tied x below (below-inside is) read))
+          (sym (list-tree ls tied x below (below-inside ls t u m x is) read))
           ∙ (ap (λ xs. w.given ++ xs) (sym
           (append_assoc (flat (unfolded ls x)) (flat (tree_in (trees_from [] ls) behind)) (flat_above ls above)))
           ∙ (ap (λ (s : Shape). w.given ++ (flat (item_of (trees_from [] ls) s (tree_in (trees_from [] ls) behind))
           ++ flat_above ls above)) (sym (below-ref (shape u) x is))
           ∙ by-other)));
       stands = w.stands;
-      within = list-within ls tied x below (below-inside is) read;
+      within = list-within ls tied x below (below-inside ls t u m x is) read;
       others = up.within (length ls) w.within.1 w.others;
     }
 
@@ -214,7 +225,7 @@ module _ (ls : List (List Token)) (t : Token) (behind : List Token) (above : Lis
           ++ (close_item ∷ (flat (tree_in (trees_from [] ls) behind) ++ flat_above ls above))) open_item
           ∙ (ap (λ (t : Tree). w.given ++ open_item ∷ (flat t
           ++ (close_item ∷ (flat (tree_in (trees_from [] ls) behind) ++ flat_above ls above))))
-          (sym (list-tree ls tied x below (inner-inside is) read))
+          (sym (list-tree ls tied x below (inner-inside ls t u m x is) read))
           ∙ (ap (λ xs. w.given ++ open_item ∷ xs)
           (sym (append_assoc (flat (unfolded ls x)) (close_item ∷ flat (tree_in (trees_from [] ls) behind))
           (flat_above ls above)))
@@ -222,33 +233,77 @@ module _ (ls : List (List Token)) (t : Token) (behind : List Token) (above : Lis
           ++ flat_above ls above)) (sym (inner-ref (shape u) x is))
           ∙ by-other))));
       stands = push w.given w.stands;
-      within = list-within ls tied x below (inner-inside is) read;
+      within = list-within ls tied x below (inner-inside ls t u m x is) read;
       others = up.within (length ls) w.within.1 w.others;
     }
 
-    below-less-of : x < length ls → (s : Shape) (closes : ℕ)
-        → size (item_of (trees_from [] ls) s (tree_in (trees_from [] ls) behind))
-        ≡ 2 + (size (unfolded ls x) + size (tree_in (trees_from [] ls) behind)) → s ≡ shape u
-        → GoesAbove behind closes above new
-        → size (tree_in (trees_from [] ls) below) + size_of ls new < size
-        (item_of (trees_from [] ls) (shape t) (tree_in (trees_from [] ls) behind)) + size_of ls above
-    below-less-of inside s closes e same up =
-        let a : size (unfolded ls x) ≡ size (tree_in (trees_from [] ls) below) =
-        ap size (list-tree ls tied x below inside read) in
-        let b : size (item_of (trees_from [] ls) s (tree_in (trees_from [] ls) behind))
-        ≡ size (item_of (trees_from [] ls) (shape u) (tree_in (trees_from [] ls) behind)) =
-        ap (λ (s : Shape). size (item_of (trees_from [] ls) s (tree_in (trees_from [] ls) behind))) same in
-        omega (arith, a, b, e, up.larger ls, m.smaller (tree_in (trees_from [] ls) behind))
+pub lays-start : (ls : List (List Token)) (first : List Token) (old : List Above) (before : Trims)
+    → ReferWithin (length ls) first → Lays ls first old before first old before
+lays-start ls first old before within = record {
+  items = λ all w. w;
+  no_more = omega arith;
+  within = within;
+}
 
-    pub below-smaller : IsPart (shape u) (below_part x) → GoesAbove behind 0 above new
-        → size (tree_in (trees_from [] ls) below) + size_of ls new < size
-        (item_of (trees_from [] ls) (shape t) (tree_in (trees_from [] ls) behind)) + size_of ls above
-    below-smaller is up = below-less-of (below-inside is) (Below x) 0 refl (sym (below-ref (shape u) x is)) up
+pub first-within : (count : ℕ) (rest : List Token) (d : Token) → ReferWithin count rest → 1 ≤ length rest
+    → RefersWithin count (slice_index_or rest 0 d)
+first-within count [] d w some = absurd (omega arith)
+first-within count (t ∷ ts) d w some = w.0
 
-    pub inner-smaller : IsPart (shape u) (inner_part x) → GoesAbove behind 1 above new
-        → size (tree_in (trees_from [] ls) below) + size_of ls new < size
-        (item_of (trees_from [] ls) (shape t) (tree_in (trees_from [] ls) behind)) + size_of ls above
-    inner-smaller is up = below-less-of (inner-inside is) (InnerBelow x) 1 refl (sym (inner-ref (shape u) x is)) up
+-- a walk goes on by one token
+module _ (ls : List (List Token)) (tied : IsTied ls) (first : List Token) (old : List Above) (before : Trims)
+    (rest : List Token) (above : List Above) (trims : Trims) (w : Lays ls first old before rest above trims)
+    (d : Token) (some : 1 ≤ length rest) (u : Token) (m : MayStandFor ls (slice_index_or rest 0 d) u) where
+  abbrev t : Token
+  t = slice_index_or rest 0 d
+
+  abbrev behind : List Token
+  behind = take (length rest - 1) (drop 1 rest)
+
+  now : Lays ls first old before (t ∷ behind) above trims
+  now = subst (λ ts. Lays ls first old before ts above trims) (first-is rest d some) w
+
+  pub lays-leaf : (new : Trims) (item : FlatItem) → IsPart (shape u) (leaf_part item)
+      → ((given : List Item) → StandsFor trims given → StandsFor new (given ++ item_is item ∷ []))
+      → Lays ls first old before behind above new
+  lays-leaf new item is push = record {
+    items = λ all a. ahead-leaf ls t behind above trims all (now.items all a) u m new item is push;
+    no_more = omega (arith, leaf-less ls t behind above u m item is, now.no_more);
+    within = now.within.1;
+  }
+
+  pub lays-below : (x : ℕ) (below : List Token) → below ≡ get_or ls x [] → (new : List Above)
+      → IsPart (shape u) (below_part x) → GoesAbove behind 0 above new → Lays ls first old before below new trims
+  lays-below x below read new is up = record {
+    items = λ all a. ahead-below ls t behind above trims all (now.items all a) u m x below tied read new is up;
+    no_more = omega (arith, below-smaller ls t behind above u m x below tied read new is up, now.no_more);
+    within = list-within ls tied x below (below-inside ls t u m x is) read;
+  }
+
+  pub list-less : (x : ℕ) (below : List Token) → below ≡ get_or ls x [] → (new : List Above)
+      → IsPart (shape u) (below_part x) → GoesAbove behind 0 above new → size (tree_in (trees_from [] ls) below) + size_of ls new
+      < size (tree_in (trees_from [] ls) rest) + size_of ls above
+  list-less x below read new is up = subst (λ ts. size (tree_in (trees_from [] ls) below) + size_of ls new
+      < size (tree_in (trees_from [] ls) ts) + size_of ls above) (sym (first-is rest d some))
+      (below-smaller ls t behind above u m x below tied read new is up)
+
+  pub inner-less : (x : ℕ) (below : List Token) → below ≡ get_or ls x [] → (new : List Above)
+      → IsPart (shape u) (inner_part x) → GoesAbove behind 1 above new → size (tree_in (trees_from [] ls) below) + size_of ls new
+      < size (tree_in (trees_from [] ls) rest) + size_of ls above
+  inner-less x below read new is up = subst (λ ts. size (tree_in (trees_from [] ls) below) + size_of ls new
+      < size (tree_in (trees_from [] ls) ts) + size_of ls above) (sym (first-is rest d some))
+      (inner-smaller ls t behind above u m x below tied read new is up)
+
+  pub lays-inner : (x : ℕ) (below : List Token) → below ≡ get_or ls x [] → (new : List Above) (after : Trims)
+      → IsPart (shape u) (inner_part x) → GoesAbove behind 1 above new
+      → ((given : List Item) → StandsFor trims given → StandsFor after (given ++ open_item ∷ []))
+      → Lays ls first old before below new after
+  lays-inner x below read new after is up push = record {
+    items = λ all a.
+        ahead-inner ls t behind above trims all (now.items all a) u m x below tied read new after is up push;
+    no_more = omega (arith, inner-smaller ls t behind above u m x below tied read new is up, now.no_more);
+    within = list-within ls tied x below (inner-inside ls t u m x is) read;
+  }
 
 -- a list has ended, and the one above it goes on
 pub ahead-up : (ls : List (List Token)) (up : Above) (ups : List Above) (trims new : Trims) (all : List Item)
@@ -264,15 +319,13 @@ ahead-up ls up ups trims new all w push = record {
   others = w.others.1;
 }
 
-pub ahead-popped : (ls : List (List Token)) (rest : List Token) (old ups : List Above) (up : Above) (trims new : Trims)
-    (all : List Item) → TrimsAhead ls rest (reverse old) trims all
-    → length rest < 1 → old ≡ ups ++ up ∷ []
+pub ahead-popped : (ls : List (List Token)) (old ups : List Above) (up : Above) (trims new : Trims) (all : List Item)
+    → TrimsAhead ls [] (reverse old) trims all → old ≡ ups ++ up ∷ []
     → ((given : List Item) → StandsFor trims given → StandsFor new (given ++ closing_of up.closes))
     → TrimsAhead ls up.rest.now (reverse ups) new all
-ahead-popped ls rest old ups up trims new all w none last push =
+ahead-popped ls old ups up trims new all w last push =
     ahead-up ls up (reverse ups) trims new all
-    (subst (λ ts. TrimsAhead ls ts (up ∷ reverse ups) trims all) (none-is rest none)
-    (subst (λ above. TrimsAhead ls rest above trims all) (last-first ups old up last) w)) push
+    (subst (λ above. TrimsAhead ls [] above trims all) (last-first ups old up last) w) push
 
 pub less-popped : (ls : List (List Token)) (rest : List Token) (old ups : List Above) (up : Above) → old ≡ ups
     ++ up ∷ []
@@ -284,9 +337,12 @@ less-popped ls rest old ups up last =
     omega (arith, e)
 
 -- all have ended
-pub ahead-end : (ls : List (List Token)) (trims : Trims) (all kept : List Item) → TrimsAhead ls [] [] trims all
+pub ahead-end : (ls : List (List Token)) (above : List Above) (trims : Trims) (all kept : List Item)
+    → TrimsAhead ls [] (reverse above) trims all → length above ≡ 0
     → ((given : List Item) → StandsFor trims given → kept ≡ trimmed given) → kept ≡ trimmed all
-ahead-end ls trims all kept w done = done w.given w.stands ∙ ap trimmed (sym (append-nil w.given) ∙ w.is)
+ahead-end ls [] trims all kept w none done =
+    done w.given w.stands ∙ ap trimmed (sym (append-nil w.given) ∙ w.is)
+ahead-end ls (up ∷ ups) trims all kept w none done = absurd (omega (arith, none))
 
 -- a bracket closes
 pub closes-one : {E : Type 0} (closes : ℕ) (result : Result Unit E) (old new : Trims) → (closes ≡ 0 → ⊥)

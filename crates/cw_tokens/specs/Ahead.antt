@@ -5,6 +5,7 @@ use Rattle.cw_trees.specs.Tree.{Tree}
 use Rattle.cw_tokens.specs.declared.token.Token.{Token}
 use Rattle.cw_tokens.specs.declared.flat.Above.{Above}
 use Rattle.cw_tokens.specs.Shapes.{shape, ref_of, item_of, tree_in, trees_from}
+use Rattle.cw_tokens.specs.Trimming.{Trims, StandsFor}
 use Rattle.cw_tokens.specs.Walking.{size}
 
 -- a token refers to no list but the first so many
@@ -49,3 +50,21 @@ pub record GoesAbove (rest : List Token) (closes : ℕ) (old new : List Above) :
   pub larger : (lists : List (List Token))
       → size_of lists new ≤ 1 + (size (tree_in (trees_from [] lists) rest) + size_of lists old)
   pub within : (count : ℕ) → ReferWithin count rest → AboveWithin count old → AboveWithin count new
+
+-- items were given of the walk, and those that stay of them are kept; the others are to come
+pub record TrimsAhead (lists : List (List Token)) (rest : List Token) (above : List Above) (trims : Trims)
+    (all : List Item) : Type 0 where
+  pub given : List Item
+  pub is : given ++ (flat (tree_in (trees_from [] lists) rest) ++ flat_above lists above) ≡ all
+  pub stands : StandsFor trims given
+  pub within : ReferWithin (length lists) rest
+  pub others : AboveWithin (length lists) above
+
+-- from a list and those above it the walk has come to others: with those to come all items are the same as before,
+-- and there is no more to walk
+pub record Lays (lists : List (List Token)) (first : List Token) (old : List Above) (before : Trims)
+    (rest : List Token) (new : List Above) (after : Trims) : Type 0 where
+  pub items : (all : List Item) → TrimsAhead lists first old before all → TrimsAhead lists rest new after all
+  pub no_more : size (tree_in (trees_from [] lists) rest) + size_of lists new
+      ≤ size (tree_in (trees_from [] lists) first) + size_of lists old
+  pub within : ReferWithin (length lists) rest

@@ -1,11 +1,11 @@
 //! A tree laid flat: its items in order, as they stand or trimmed in the same walk.
 ghost use Rattle.std.specs.Prelude.{◌≡◌, ◌+◌, ◌-◌, ◌<◌, ◌≤◌, List, ◌++◌, length, IfOk, OnOk, Some, IsTrue, ◌↔◌};
-ghost use Rattle.std.specs.Prelude.{reverse, slice_get};
+ghost use Rattle.std.specs.Prelude.{[], reverse, slice_get};
 ghost use Rattle.cw_trees.specs.Flat.{Item, flat, trimmed};
 ghost use Rattle.cw_tokens.specs.Shapes.{shape, unfolded};
 ghost use Rattle.cw_tokens.specs.Stored.{cut, last_end, IsAscending, IsLinked};
 ghost use Rattle.cw_tokens.specs.FlatItems.{items_are, closing};
-ghost use Rattle.cw_tokens.specs.Ahead.{GoesAbove, MayStandFor, RefersWithin, closing_of};
+ghost use Rattle.cw_tokens.specs.Ahead.{GoesAbove, Lays, MayStandFor, ReferWithin, RefersWithin, closing_of};
 ghost use Rattle.cw_tokens.specs.References.{IsTied};
 ghost use Rattle.cw_tokens.specs.Trimming.{StandsFor};
 
@@ -186,44 +186,66 @@ pub fn flatten_trimmed(
     let mut above: Vec<Above> = Vec::new(alloc);
     let mut rest = list_at(tokens, ends, root);
     loop {
-        match rest {
-            [token, behind @ ..] => match alone_below(tokens, ends, *token) {
-                // An arm for each kind, so that the trimmer needn't ask for it again.
-                Token::Source(number, _) => {
-                    out.push(FlatItem::Source(number))?;
-                    rest = behind;
-                }
-                Token::Ident(name, number) => {
-                    out.push(FlatItem::Ident(name, number))?;
-                    rest = behind;
-                }
-                Token::Reserved(name, number, _) => {
-                    out.push(FlatItem::Reserved(name, number))?;
-                    rest = behind;
-                }
-                Token::Control(control) => {
-                    out.push(FlatItem::Control(control))?;
-                    rest = behind;
-                }
-                Token::List(below) => {
-                    put_above(&mut above, behind, 0)?;
-                    rest = list_at(tokens, ends, below.index);
-                }
-                Token::Inner(below) => {
-                    out.push(FlatItem::Open)?;
-                    put_above(&mut above, behind, 1)?;
-                    rest = list_at(tokens, ends, below.index);
-                }
-            },
-            [] => match above.pop() {
-                Some(up) => {
-                    close_trimmed(up.closes, &mut out)?;
-                    rest = up.rest;
-                }
-                None => return Ok(out.done()),
-            },
+        lay_rest(tokens, ends, rest, &mut above, &mut out)?;
+        match above.pop() {
+            Some(up) => {
+                close_trimmed(up.closes, &mut out)?;
+                rest = up.rest;
+            }
+            None => return Ok(out.done()),
         }
     }
+}
+
+/// Lays what is to come of a list flat, and goes into the lists below it on the way, up to where one ends. What is then
+/// still to come of the others stands above.
+#[inline(always)]
+fn lay_rest<'a>(
+    tokens: &'a [Token],
+    ends: &[usize],
+    first: &'a [Token],
+    above: &mut Vec<Above<'a>>,
+    out: &mut Trimmer,
+) -> Result<(), Memory>
+    requires ascending { IsAscending 0 ends.now }
+    requires within { last_end 0 ends.now ≤ length tokens.now }
+    requires tied { IsTied (cut 0 ends.now tokens.now) }
+    requires refer { ReferWithin (length (cut 0 ends.now tokens.now)) first.now }
+    ensures { OnOk result (Lays (cut 0 ends.now tokens.now) first.now (reverse above.old.items) out.old
+        [] (reverse above.new.items) out.new) }
+{
+    let mut rest = first;
+    while let [token, behind @ ..] = rest {
+        // An arm for each kind, so that the trimmer needn't ask for it again.
+        match alone_below(tokens, ends, *token) {
+            Token::Source(number, _) => {
+                out.push(FlatItem::Source(number))?;
+                rest = behind;
+            }
+            Token::Ident(name, number) => {
+                out.push(FlatItem::Ident(name, number))?;
+                rest = behind;
+            }
+            Token::Reserved(name, number, _) => {
+                out.push(FlatItem::Reserved(name, number))?;
+                rest = behind;
+            }
+            Token::Control(control) => {
+                out.push(FlatItem::Control(control))?;
+                rest = behind;
+            }
+            Token::List(below) => {
+                put_above(above, behind, 0)?;
+                rest = list_at(tokens, ends, below.index);
+            }
+            Token::Inner(below) => {
+                out.push(FlatItem::Open)?;
+                put_above(above, behind, 1)?;
+                rest = list_at(tokens, ends, below.index);
+            }
+        }
+    }
+    Ok(())
 }
 
 /// The token that is laid flat in place of another: of a list that is one token that one, as most lists are.
