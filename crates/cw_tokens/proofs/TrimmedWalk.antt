@@ -123,13 +123,12 @@ ahead-start ls root items trims tied lt stands e = record {
 append-cons : (xs ys : List Item) (x : Item) → (xs ++ x ∷ []) ++ ys ≡ xs ++ x ∷ ys
 append-cons xs ys x = append_assoc xs (x ∷ []) ys
 
-below-inside : (ls : List (List Token)) (t u : Token) (m : MayStandFor ls t u) (x : ℕ)
-    → IsPart (shape u) (below_part x) → x < length ls
-below-inside ls t u m x is = m.within x (ap ref_of (below-ref (shape u) x is))
+module _ (ls : List (List Token)) (t u : Token) (m : MayStandFor ls t u) (x : ℕ) where
+  below-inside : IsPart (shape u) (below_part x) → x < length ls
+  below-inside is = m.within x (ap ref_of (below-ref (shape u) x is))
 
-inner-inside : (ls : List (List Token)) (t u : Token) (m : MayStandFor ls t u) (x : ℕ)
-    → IsPart (shape u) (inner_part x) → x < length ls
-inner-inside ls t u m x is = m.within x (ap ref_of (inner-ref (shape u) x is))
+  inner-inside : IsPart (shape u) (inner_part x) → x < length ls
+  inner-inside is = m.within x (ap ref_of (inner-ref (shape u) x is))
 
 -- there is less to walk behind a token
 module _ (ls : List (List Token)) (t : Token) (behind : List Token) (above : List Above) (u : Token)
@@ -280,19 +279,20 @@ module _ (ls : List (List Token)) (tied : IsTied ls) (first : List Token) (old :
     within = list-within ls tied x below (below-inside ls t u m x is) read;
   }
 
-  pub list-less : (x : ℕ) (below : List Token) → below ≡ get_or ls x [] → (new : List Above)
-      → IsPart (shape u) (below_part x) → GoesAbove behind 0 above new → size (tree_in (trees_from [] ls) below) + size_of ls new
-      < size (tree_in (trees_from [] ls) rest) + size_of ls above
-  list-less x below read new is up = subst (λ ts. size (tree_in (trees_from [] ls) below) + size_of ls new
-      < size (tree_in (trees_from [] ls) ts) + size_of ls above) (sym (first-is rest d some))
-      (below-smaller ls t behind above u m x below tied read new is up)
+  module _ (x : ℕ) (below : List Token) (read : below ≡ get_or ls x []) (new : List Above) where
+    pub list-less : IsPart (shape u) (below_part x) → GoesAbove behind 0 above new
+        → size (tree_in (trees_from [] ls) below) + size_of ls new
+        < size (tree_in (trees_from [] ls) rest) + size_of ls above
+    list-less is up = subst (λ ts. size (tree_in (trees_from [] ls) below) + size_of ls new
+        < size (tree_in (trees_from [] ls) ts) + size_of ls above) (sym (first-is rest d some))
+        (below-smaller ls t behind above u m x below tied read new is up)
 
-  pub inner-less : (x : ℕ) (below : List Token) → below ≡ get_or ls x [] → (new : List Above)
-      → IsPart (shape u) (inner_part x) → GoesAbove behind 1 above new → size (tree_in (trees_from [] ls) below) + size_of ls new
-      < size (tree_in (trees_from [] ls) rest) + size_of ls above
-  inner-less x below read new is up = subst (λ ts. size (tree_in (trees_from [] ls) below) + size_of ls new
-      < size (tree_in (trees_from [] ls) ts) + size_of ls above) (sym (first-is rest d some))
-      (inner-smaller ls t behind above u m x below tied read new is up)
+    pub inner-less : IsPart (shape u) (inner_part x) → GoesAbove behind 1 above new
+        → size (tree_in (trees_from [] ls) below) + size_of ls new
+        < size (tree_in (trees_from [] ls) rest) + size_of ls above
+    inner-less is up = subst (λ ts. size (tree_in (trees_from [] ls) below) + size_of ls new
+        < size (tree_in (trees_from [] ls) ts) + size_of ls above) (sym (first-is rest d some))
+        (inner-smaller ls t behind above u m x below tied read new is up)
 
   pub lays-inner : (x : ℕ) (below : List Token) → below ≡ get_or ls x [] → (new : List Above) (after : Trims)
       → IsPart (shape u) (inner_part x) → GoesAbove behind 1 above new

@@ -23,7 +23,8 @@ loop-rest-preserved-in-Ident c =
 pub loop-rest-preserved-in-Reserved : goal.loop-rest-preserved-in-Reserved
 loop-rest-preserved-in-Reserved c =
     lays-leaf _ c.requires.tied _ _ _ _ _ _ c.loop-rest.invariant _ c.in-len1-up.len_at_least _ c.alone_below.ensures _
-    (flat_item.Reserved c.in-Reserved.name c.in-Reserved.number) (rw c.in-Reserved.is refl) c.in_ok-push-in-Reserved.ensures
+    (flat_item.Reserved c.in-Reserved.name c.in-Reserved.number) (rw c.in-Reserved.is refl)
+    c.in_ok-push-in-Reserved.ensures
 
 pub loop-rest-preserved-in-Control : goal.loop-rest-preserved-in-Control
 loop-rest-preserved-in-Control c =
