@@ -40,6 +40,83 @@ sign-in-none controls.CommentEnd e = refl
 sign-in-none controls.NameText e = refl
 sign-in-none controls.NameEnd e = refl
 
+-- what is in a gap prints something
+sign-in-gap : (control : Control) → (is_run_sign control || is_wall_sign control) ≡ true
+    → is_inserted (SignItem control) ≡ false
+sign-in-gap controls.Blank e = refl
+sign-in-gap controls.OptionalBreak e = refl
+sign-in-gap controls.Break e = refl
+sign-in-gap controls.BigBreak e = refl
+sign-in-gap controls.Cancel e = refl
+sign-in-gap controls.Backup e = refl
+sign-in-gap controls.Wall e = refl
+sign-in-gap controls.Indent e = refl
+sign-in-gap controls.Outdent e = refl
+sign-in-gap controls.OptionalLineBreak0 e = refl
+sign-in-gap controls.OptionalLineBreak9 e = refl
+sign-in-gap controls.ThinSpace e = refl
+sign-in-gap controls.OpenBrace e = refl
+sign-in-gap controls.CloseBrace e = refl
+sign-in-gap controls.OpenRelation e = refl
+sign-in-gap controls.Inserted e = cc
+sign-in-gap controls.ToMath e = refl
+sign-in-gap controls.ToText e = refl
+sign-in-gap controls.Dollar e = refl
+sign-in-gap controls.CommentEnd e = refl
+sign-in-gap controls.NameText e = refl
+sign-in-gap controls.NameEnd e = refl
+
+neither : (a b : Bool) → a ≡ false → b ≡ false → (a || b) ≡ false
+neither true b p q = p
+neither false b p q = q
+
+pub not-both : (a b : Bool) → b ≡ false → (a && b) ≡ false
+not-both true b q = q
+not-both false b q = refl
+
+-- which items stay
+stays-in-gap : (begins : Bool) (item : Item) → is_gap item ≡ true → (begins && is_break item) ≡ false
+    → (is_inserted item || (begins && is_break item)) ≡ false
+stays-in-gap begins item e none = neither (is_inserted item) (begins && is_break item) (go item e) none
+  where
+    go : (item : Item) → is_gap item ≡ true → is_inserted item ≡ false
+    go Close e = refl
+    go Open e = refl
+    go (SourceItem number) e = refl
+    go (IdentItem name number) e = refl
+    go (ReservedItem name number) e = refl
+    go (SignItem control) e = sign-in-gap control e
+
+pub stays-in-none : (begins : Bool) (item : Item) → is_gap item ≡ false → is_inserted item ≡ false
+    → (is_inserted item || (begins && is_break item)) ≡ false
+stays-in-none begins item e none =
+    neither (is_inserted item) (begins && is_break item) none (not-both begins (is_break item) (go item e))
+  where
+    go : (item : Item) → is_gap item ≡ false → is_break item ≡ false
+    go Close e = refl
+    go Open e = refl
+    go (SourceItem number) e = refl
+    go (IdentItem name number) e = refl
+    go (ReservedItem name number) e = refl
+    go (SignItem control) e = sign-in-none control e
+
+pub no-beginning : (begins b : Bool) → begins ≡ false → (begins && b) ≡ false
+no-beginning true b e = cc
+no-beginning false b e = refl
+
+-- a text that only has gaps still does behind one more
+both-true : (a b : Bool) → b ≡ true → (a && b) ≡ a
+both-true true b e = e
+both-true false b e = refl
+
+begins-in-gap : (begins : Bool) (item : Item) → is_gap item ≡ true → begins_after begins item ≡ begins
+begins-in-gap begins Close e = cc
+begins-in-gap begins Open e = cc
+begins-in-gap begins (SourceItem number) e = cc
+begins-in-gap begins (IdentItem name number) e = cc
+begins-in-gap begins (ReservedItem name number) e = cc
+begins-in-gap begins (SignItem control) e = both-true begins (is_gap (SignItem control)) e
+
 -- a gap ends a text where what stands behind it does
 ends-gap : (gap : Item) (items : List Item) → is_gap gap ≡ true → ends_text (gap ∷ items) ≡ ends_text items
 ends-gap Close items e = cc
@@ -131,7 +208,7 @@ module _ (gap : ℕ) (items : List FlatItem) (begins : Bool) (item : FlatItem) (
       (front_step begins came more false stays)
 
   -- an item of a gap
-  pub stands-gap : (is_inserted came || (begins && is_break came)) ≡ false → is_gap came ≡ true
+  stands-gap : (is_inserted came || (begins && is_break came)) ≡ false → is_gap came ≡ true
       → StandsFor (parted gap (items ++ item ∷ []) (begins_after begins came)) (given ++ came ∷ [])
   stands-gap stays in_gap =
       let longer : items_are (drop gap (items ++ item ∷ [])) ≡ items_are (drop gap items) ++ came ∷ [] =
@@ -146,6 +223,11 @@ module _ (gap : ℕ) (items : List FlatItem) (begins : Bool) (item : FlatItem) (
             ∙ ap (λ (l : List FlatItem). items_are l ++ trim_back (items_are (drop gap (items ++ item ∷ []))
             ++ front more)) (sym (take-append-le gap items (item ∷ []) within));
       }
+
+  pub stands-longer : is_gap came ≡ true → (begins && is_break came) ≡ false
+      → StandsFor (parted gap (items ++ item ∷ []) begins) (given ++ came ∷ [])
+  stands-longer in_gap none = subst (λ b. StandsFor (parted gap (items ++ item ∷ []) b) (given ++ came ∷ []))
+      (begins-in-gap begins came in_gap) (stands-gap (stays-in-gap begins came in_gap none) in_gap)
 
   -- an item that is in no gap: the gap before it is settled too
   pub stands-settled : (kept : List FlatItem) → (is_inserted came || (begins && is_break came)) ≡ false → is_gap came

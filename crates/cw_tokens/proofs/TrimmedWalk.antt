@@ -163,12 +163,14 @@ module _ (ls : List (List Token)) (t : Token) (behind : List Token) (above : Lis
     below-smaller : IsPart (shape u) (below_part x) → GoesAbove behind 0 above new
         → size (tree_in (trees_from [] ls) below) + size_of ls new < size
         (item_of (trees_from [] ls) (shape t) (tree_in (trees_from [] ls) behind)) + size_of ls above
-    below-smaller is up = below-less-of (below-inside ls t u m x is) (Below x) 0 refl (sym (below-ref (shape u) x is)) up
+    below-smaller is up =
+        below-less-of (below-inside ls t u m x is) (Below x) 0 refl (sym (below-ref (shape u) x is)) up
 
     inner-smaller : IsPart (shape u) (inner_part x) → GoesAbove behind 1 above new
         → size (tree_in (trees_from [] ls) below) + size_of ls new < size
         (item_of (trees_from [] ls) (shape t) (tree_in (trees_from [] ls) behind)) + size_of ls above
-    inner-smaller is up = below-less-of (inner-inside ls t u m x is) (InnerBelow x) 1 refl (sym (inner-ref (shape u) x is)) up
+    inner-smaller is up =
+        below-less-of (inner-inside ls t u m x is) (InnerBelow x) 1 refl (sym (inner-ref (shape u) x is)) up
 
 module _ (ls : List (List Token)) (t : Token) (behind : List Token) (above : List Above) (trims : Trims)
     (all : List Item) (w : TrimsAhead ls (t ∷ behind) above trims all) (u : Token) (m : MayStandFor ls t u) where

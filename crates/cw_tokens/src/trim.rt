@@ -58,7 +58,7 @@ fn keep_from_back(items: &mut [FlatItem]) -> usize
 }
 
 #[inline(always)]
-fn inserted(item: FlatItem) -> bool
+pub(crate) fn inserted(item: FlatItem) -> bool
     ensures { result ≡ is_inserted (item_is item) }
 {
     match item {

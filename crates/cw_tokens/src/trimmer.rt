@@ -5,7 +5,7 @@ ghost use Rattle.cw_tokens.specs.FlatItems.{item_is, items_are};
 ghost use Rattle.cw_tokens.specs.Trimming.{StandsFor, gap_before, unbroken};
 
 use crate::flat::{FlatItem, FlatTokens};
-use crate::trim::{breaks, drops, gaps, still_begins};
+use crate::trim::{breaks, gaps, inserted, still_begins};
 use cw_base::Memory;
 use std::alloc::Global;
 use std::marker::Model;
@@ -49,14 +49,17 @@ impl Trimmer {
         ensures { OnOk result ((given : List Item) → StandsFor self.old given →
             StandsFor self.new (given ++ item_is item ∷ [])) }
     {
-        if drops(self.begins, item) {
-            return Ok(());
-        }
-        self.begins = still_begins(self.begins, item);
         if gaps(item) {
+            if self.begins && breaks(item) {
+                return Ok(());
+            }
             self.items.push(item)?;
             return Ok(());
         }
+        if inserted(item) {
+            return Ok(());
+        }
+        self.begins = still_begins(self.begins, item);
         end_gap(&mut self.items, self.gap, item);
         self.items.push(item)?;
         self.gap = self.items.len();
