@@ -1,8 +1,9 @@
 -- The laws of a flat list that is trimmed as its items come.
 use Rattle.std.proofs.Common.{◌≡◌, ℕ, ◌+◌, ◌<◌, ◌≤◌, Bool, true, false, ◌&&◌, ◌||◌, List, [], ◌∷◌, ◌++◌, length, get_or}
-use Rattle.std.proofs.Common.{set, take, drop, refl, sym, ap, ◌∙◌, subst, arith}
+use Rattle.std.proofs.Common.{set, take, drop, refl, sym, ap, ◌∙◌, subst, arith, eqb}
 use Rattle.std.proofs.lemmas.List.{append_assoc, append-nil, map-append, map_push, take-append-drop, drop-append-le}
-use Rattle.std.proofs.lemmas.List.{take-append-le, take_all, drop_all, drop-set-lt}
+use Rattle.std.proofs.lemmas.List.{take-append-le, take_all, drop_all, drop-set-lt, length-append}
+use Rattle.std.proofs.lemmas.Bool.{eq-eqb, eqb-true}
 use Rattle.cw_trees.specs.declared.Control.{Control}
 use Rattle.cw_trees.specs.declared.Control.TheVariants as controls
 use Rattle.cw_trees.specs.Flat.{Item, SourceItem, IdentItem, ReservedItem, SignItem, Open, Close, is_break}
@@ -87,7 +88,7 @@ stays-in-gap begins item e none = neither (is_inserted item) (begins && is_break
     go (ReservedItem name number) e = refl
     go (SignItem control) e = sign-in-gap control e
 
-pub stays-in-none : (begins : Bool) (item : Item) → is_gap item ≡ false → is_inserted item ≡ false
+stays-in-none : (begins : Bool) (item : Item) → is_gap item ≡ false → is_inserted item ≡ false
     → (is_inserted item || (begins && is_break item)) ≡ false
 stays-in-none begins item e none =
     neither (is_inserted item) (begins && is_break item) none (not-both begins (is_break item) (go item e))
@@ -116,6 +117,26 @@ begins-in-gap begins (SourceItem number) e = cc
 begins-in-gap begins (IdentItem name number) e = cc
 begins-in-gap begins (ReservedItem name number) e = cc
 begins-in-gap begins (SignItem control) e = both-true begins (is_gap (SignItem control)) e
+
+-- a text begins behind the bracket that opens it, and behind no other item than gaps
+after-open : (begins : Bool) (item : FlatItem) → item ≡ FlatItems.Open → begins_after begins (item_is item) ≡ true
+after-open begins item is = ap (λ i. begins_after begins (item_is i)) is
+
+after-other : (begins : Bool) (item : FlatItem) → is_gap (item_is item) ≡ false → (item ≡ FlatItems.Open → ⊥)
+    → begins_after begins (item_is item) ≡ false
+after-other begins FlatItems.Open e other = absurd (other refl)
+after-other begins FlatItems.Close e other = not-both begins false refl
+after-other begins (FlatItems.Source number) e other = not-both begins false refl
+after-other begins (FlatItems.Ident name number) e other = not-both begins false refl
+after-other begins (FlatItems.Reserved name number) e other = not-both begins false refl
+after-other begins (FlatItems.Control control) e other = not-both begins (is_gap (SignItem control)) e
+
+pub not-same : (a b : ℕ) → (a ≡ b → ⊥) → eqb a b ≡ false
+not-same a b other = go (eqb a b) refl
+  where
+    go : (c : Bool) → eqb a b ≡ c → c ≡ false
+    go true e = absurd (other (eqb-true a b e))
+    go false e = refl
 
 -- a gap ends a text where what stands behind it does
 ends-gap : (gap : Item) (items : List Item) → is_gap gap ≡ true → ends_text (gap ∷ items) ≡ ends_text items
@@ -230,7 +251,7 @@ module _ (gap : ℕ) (items : List FlatItem) (begins : Bool) (item : FlatItem) (
       (begins-in-gap begins came in_gap) (stands-gap (stays-in-gap begins came in_gap none) in_gap)
 
   -- an item that is in no gap: the gap before it is settled too
-  pub stands-settled : (kept : List FlatItem) → (is_inserted came || (begins && is_break came)) ≡ false → is_gap came
+  stands-settled : (kept : List FlatItem) → (is_inserted came || (begins && is_break came)) ≡ false → is_gap came
       ≡ false
       → items_are kept ≡ items_are (take gap items) ++ gap_before came (items_are (drop gap items))
       → StandsFor (parted (length (kept ++ item ∷ [])) (kept ++ item ∷ []) (begins_after begins came))
@@ -256,6 +277,29 @@ module _ (gap : ℕ) (items : List FlatItem) (begins : Bool) (item : FlatItem) (
             ∙ ap (λ (l : List FlatItem). items_are (take (length all) all) ++ trim_back (items_are l ++ front more))
             (sym none);
       }
+
+  module _ (kept : List FlatItem) (in_none : is_gap came ≡ false) (stays : is_inserted came ≡ false)
+      (is : items_are kept ≡ items_are (take gap items) ++ gap_before came (items_are (drop gap items))) where
+    abbrev all : List FlatItem
+    all = kept ++ item ∷ []
+
+    settled : StandsFor (parted (length all) all (begins_after begins came)) (given ++ came ∷ [])
+    settled = stands-settled kept (stays-in-none begins came in_none stays) in_none is
+
+    pub stands-opened : item ≡ FlatItems.Open
+        → StandsFor (parted (length all) all (eqb (length all) (length all))) (given ++ came ∷ [])
+    stands-opened opens = subst (λ b. StandsFor (parted (length all) all b) (given ++ came ∷ []))
+        (after-open begins item opens ∙ sym (eq-eqb (length all) (length all) refl)) settled
+
+    pub stands-other : (text : ℕ) → text ≤ length kept → (item ≡ FlatItems.Open → ⊥)
+        → StandsFor (parted (length all) all (eqb (length all) text)) (given ++ came ∷ [])
+    stands-other text before other =
+        subst (λ b. StandsFor (parted (length all) all b) (given ++ came ∷ []))
+        (after-other begins item in_none other
+        ∙ sym (not-same (length all) text longer)) settled
+      where
+        longer : length (kept ++ item ∷ []) ≡ text → ⊥
+        longer e = omega (arith, e, before, length-append kept (item ∷ []))
 
 -- at the end
 pub stands-end : (trims : Trims) (given kept : List Item) → StandsFor trims given

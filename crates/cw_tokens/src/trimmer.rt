@@ -5,7 +5,7 @@ ghost use Rattle.cw_tokens.specs.FlatItems.{item_is, items_are};
 ghost use Rattle.cw_tokens.specs.Trimming.{StandsFor, gap_before, unbroken};
 
 use crate::flat::{FlatItem, FlatTokens};
-use crate::trim::{breaks, gaps, inserted, still_begins};
+use crate::trim::{breaks, gaps, inserted};
 use cw_base::Memory;
 use std::alloc::Global;
 use std::marker::Model;
@@ -16,19 +16,19 @@ pub struct Trimmer {
     items: Vec<FlatItem>,
     // Where the gap begins with which the items end.
     gap: usize,
-    // Whether the text at hand only has gaps so far.
-    begins: bool,
+    // Where the text at hand begins. It only has gaps so far where the gap begins there too.
+    text: usize,
 }
 
 impl Model for Trimmer {
-    ghost use Rattle.std.specs.Prelude.{◌≤◌, length};
+    ghost use Rattle.std.specs.Prelude.{◌≤◌, eqb, length};
     ghost use Rattle.cw_tokens.specs.Trimming.{Trims, parted};
 
     ghost Value = { Trims };
 
-    ghost view = { λ t. parted t.gap t.items.items t.begins };
+    ghost view = { λ t. parted t.gap t.items.items (eqb t.gap t.text) };
 
-    ghost invariant = { λ t. t.gap ≤ length t.items.items };
+    ghost invariant = { λ t. (t.gap ≤ length t.items.items) × (t.text ≤ t.gap) };
 }
 
 impl Trimmer {
@@ -39,7 +39,7 @@ impl Trimmer {
         Ok(Trimmer {
             items: Vec::with_capacity(alloc, n)?,
             gap: 0,
-            begins: true,
+            text: 0,
         })
     }
 
@@ -50,7 +50,8 @@ impl Trimmer {
             StandsFor self.new (given ++ item_is item ∷ [])) }
     {
         if gaps(item) {
-            if self.begins && breaks(item) {
+            // A break with which a text begins is left out.
+            if self.gap == self.text && breaks(item) {
                 return Ok(());
             }
             self.items.push(item)?;
@@ -59,10 +60,12 @@ impl Trimmer {
         if inserted(item) {
             return Ok(());
         }
-        self.begins = still_begins(self.begins, item);
         end_gap(&mut self.items, self.gap, item);
         self.items.push(item)?;
         self.gap = self.items.len();
+        if let FlatItem::Open = item {
+            self.text = self.gap;
+        }
         Ok(())
     }
 

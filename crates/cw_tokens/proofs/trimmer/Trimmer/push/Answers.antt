@@ -1,32 +1,37 @@
 -- The trimmer stands for one item more: it goes into the gap, or the gap is settled and the item stays.
-use Rattle.std.proofs.Common.{◌≡◌, false, ◌&&◌, sym, ◌∙◌, subst}
+use Rattle.std.proofs.Common.{◌≡◌, ◌≤◌, false, ◌&&◌, eqb, length, sym, ◌∙◌, subst, arith}
 use Rattle.cw_trees.specs.Flat.{is_break}
 use Rattle.cw_tokens.specs.FlatItems.{item_is}
 use Rattle.cw_tokens.specs.Trimming.{StandsFor, Trims}
-use Rattle.cw_tokens.proofs.Standing.{no-beginning, not-both, stands-longer, stands-settled, stays-in-none}
+use Rattle.cw_tokens.proofs.Standing.{no-beginning, not-both, not-same, stands-longer, stands-opened, stands-other}
 use Rattle.cw_tokens.proofs.trimmer.Trimmer.push.Goals as goal
 use Rattle.cw_tokens.proofs.trimmer.Trimmer.push.Goals.{else-self-via-then-self+else-breaks, else-self-via-else-self}
 
 pub returns-then-gaps : goal.returns-then-gaps
 returns-then-gaps c = λ given stands.
-    let in_gap = sym c.gaps.ensures ∙ c.if-gaps.true in
-    let none : (c.self.inside.begins && is_break (item_is c.args.item)) ≡ false = elim c.else-self.branch [
+    let none : (eqb c.self.inside.gap c.self.inside.text && is_break (item_is c.args.item)) ≡ false =
+    elim c.else-self.branch [
       | else-self-via-then-self+else-breaks w ↦ not-both _ _ (sym w.breaks.ensures ∙ w.if-breaks.false)
-      | else-self-via-else-self w ↦ no-beginning _ _ w.if-self.false
+      | else-self-via-else-self w ↦ no-beginning _ _ (not-same _ _ w.if-self.false)
     ] in
     rw c.in_ok-push.ensures.items
-    (stands-longer c.self.inside.gap c.self.inside.items.items c.self.inside.begins c.args.item given c.self.invariant
-    (subst (λ (t : Trims). StandsFor t given) (sym c.self.view_is) stands) in_gap none)
+    (stands-longer c.self.inside.gap c.self.inside.items.items _ c.args.item given c.self.invariant.0
+    (subst (λ (t : Trims). StandsFor t given) (sym c.self.view_is) stands) (sym c.gaps.ensures ∙ c.if-gaps.true) none)
 
-pub returns : goal.returns
-returns c = λ given stands.
-    let in_none = sym c.gaps.ensures ∙ c.if-gaps.false in
-    rw (
-      c.len-self-inside.ensures,
-      c.push-2.new.self.ok.0,
-      c.in_ok-push-2.ensures.items,
-      c.still_begins-self-inside.ensures,
-    )
-    (stands-settled c.self.inside.gap c.self.inside.items.items c.self.inside.begins c.args.item given c.self.invariant
+pub returns-in-Open : goal.returns-in-Open
+returns-in-Open c = λ given stands.
+    rw (c.len-self-inside.ensures, c.push-2.new.self.ok.0, c.in_ok-push-2.ensures.items)
+    (stands-opened c.self.inside.gap c.self.inside.items.items _ c.args.item given c.self.invariant.0
     (subst (λ (t : Trims). StandsFor t given) (sym c.self.view_is) stands) c.end_gap.new.items.items
-    (stays-in-none _ _ in_none (sym c.inserted.ensures ∙ c.if-inserted.false)) in_none c.end_gap.ensures.items)
+    (sym c.gaps.ensures ∙ c.if-gaps.false) (sym c.inserted.ensures ∙ c.if-inserted.false) c.end_gap.ensures.items
+    c.in-Open.is)
+
+pub returns-in_default : goal.returns-in_default
+returns-in_default c = λ given stands.
+    let behind : c.self.inside.gap ≤ length c.end_gap.new.items.items = c.end_gap.ensures.within in
+    let before : c.self.inside.text ≤ c.self.inside.gap = c.self.invariant.1 in
+    rw (c.len-self-inside.ensures, c.push-2.new.self.ok.0, c.in_ok-push-2.ensures.items)
+    (stands-other c.self.inside.gap c.self.inside.items.items _ c.args.item given c.self.invariant.0
+    (subst (λ (t : Trims). StandsFor t given) (sym c.self.view_is) stands) c.end_gap.new.items.items
+    (sym c.gaps.ensures ∙ c.if-gaps.false) (sym c.inserted.ensures ∙ c.if-inserted.false) c.end_gap.ensures.items
+    c.self.inside.text (omega arith) c.in_default.not-Open)
