@@ -1,11 +1,11 @@
 //! The joining of items behind bytes in memory, which go to a line together.
 ghost use Rattle.std.specs.Prelude.{◌≡◌, ◌∷◌, ◌++◌, [], false, List, OnOk, OnErr, length};
 ghost use Rattle.std.specs.Bool.{OnFalse};
-ghost use Rattle.cw_trees.specs.Printing.{Printable, indent_bytes, opened};
+ghost use Rattle.cw_trees.specs.Printing.{Printable, break_bytes, indent_bytes, opened};
 ghost use Rattle.cw_tokens.specs.FlatItems.{item_is};
 ghost use Rattle.cw_join.specs.Appending.{StaysBefore};
 ghost use Rattle.cw_join.specs.Early.{added, late, run_front};
-ghost use Rattle.cw_join.specs.Runs.{run_more, run_state, state_back};
+ghost use Rattle.cw_join.specs.Runs.{run_more, run_state, state_back, strength_of};
 ghost use Rattle.cw_join.specs.Standing.{Stands};
 ghost use Rattle.cw_join.specs.Stretches.{is_inner};
 ghost use Rattle.cw_join.specs.Tokens.{CanCome, IsNamed, alone, control_bytes, item_bytes};
@@ -78,7 +78,7 @@ impl Joiner {
     {
         match self.run {
             Run::Plain(Pause::Blank) => out.push(b' '),
-            Run::Plain(pause) if !self.is_inner() => append_few(pause.bytes(), out),
+            Run::Plain(pause) if !self.is_inner() => append_break(pause, out),
             Run::Marked {
                 cancelled: true,
                 ..
@@ -141,6 +141,36 @@ fn append_indent(control: Control, inner: bool, out: &mut Bytes) -> Result<(), M
     }
 }
 
+// Appends what a break prints outside of inner text. No loop stands in it, so that the loop over the items keeps its
+// values in registers.
+#[inline(always)]
+fn append_break(pause: Pause, out: &mut Bytes) -> Result<(), Memory>
+    ensures bytes { OnOk result (out.new ≡ out.old ++ break_bytes (strength_of pause)) }
+    ensures stays { OnErr result (StaysBefore out.old out.new) }
+{
+    match pause.bytes() {
+        [first, second] => {
+            out.push(*first)?;
+            out.push(*second)
+        }
+        [first, second, third] => {
+            out.push(*first)?;
+            out.push(*second)?;
+            out.push(*third)
+        }
+        bytes => append_many(bytes, out),
+    }
+}
+
+// Appends bytes one by one. It stands apart, since few signs print as many.
+#[inline(never)]
+fn append_many(bytes: &[u8], out: &mut Bytes) -> Result<(), Memory>
+    ensures bytes { OnOk result (out.new ≡ out.old ++ bytes.now) }
+    ensures stays { OnErr result (StaysBefore out.old out.new) }
+{
+    append_few(bytes, out)
+}
+
 // Appends the bytes of a name or of a sign.
 #[inline(always)]
 fn append_item(item: FlatItem, names: &Names, out: &mut Bytes) -> Result<(), Memory>
@@ -166,8 +196,9 @@ fn append_sign(control: Control, out: &mut Bytes) -> Result<(), Memory>
         Control::ToMath => append_few(b"${}", out),
         Control::ToText => append_few(b"{}$", out),
         _ => match sign(control, &[]) {
+            [] => Ok(()),
             [byte] => out.push(*byte),
-            bytes => append_few(bytes, out),
+            bytes => append_many(bytes, out),
         },
     }
 }

@@ -52,13 +52,25 @@ pub(crate) fn sign_macro(sign: Sign) -> &'static [u8]
     }
 }
 
-/// Appends what a sign prints.
+/// Appends what a sign prints. No loop stands in it, so that the loop over the items keeps its values in registers.
 #[inline(always)]
 pub(crate) fn put_sign(out: &mut Bytes, sign: Sign) -> Result<(), Memory>
     ensures { OnOk result (out.new ≡ out.old ++ sign_macro sign) }
 {
     match sign_macro(sign) {
         [byte] => out.push(*byte),
-        bytes => put_few(out, bytes),
+        [first, second] => {
+            out.push(*first)?;
+            out.push(*second)
+        }
+        bytes => put_many(out, bytes),
     }
+}
+
+// Appends bytes one by one. It stands apart, since few signs print as many.
+#[inline(never)]
+fn put_many(out: &mut Bytes, bytes: &[u8]) -> Result<(), Memory>
+    ensures { OnOk result (out.new ≡ out.old ++ bytes.now) }
+{
+    put_few(out, bytes)
 }
