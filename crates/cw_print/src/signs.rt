@@ -1,5 +1,5 @@
 //! The macros of signs.
-ghost use Rattle.std.specs.Prelude.{◌≡◌, ◌++◌, OnOk};
+ghost use Rattle.std.specs.Prelude.{◌≡◌, ◌∷◌, ◌++◌, [], IfSome, OnOk};
 ghost use Rattle.cw_print.specs.Tokens.{sign_macro};
 
 use crate::escaping::put_few;
@@ -52,13 +52,38 @@ pub(crate) fn sign_macro(sign: Sign) -> &'static [u8]
     }
 }
 
+// The byte of a sign that prints one: most do.
+fn lone_byte(sign: Sign) -> Option<u8>
+    ensures { IfSome result (λ byte. sign_macro sign ≡ byte ∷ []) }
+{
+    match sign {
+        Sign::Slash => Some(b'/'),
+        Sign::Dot => Some(b'.'),
+        Sign::Less => Some(b'<'),
+        Sign::Greater => Some(b'>'),
+        Sign::Plus => Some(b'+'),
+        Sign::Minus => Some(b'-'),
+        Sign::Star => Some(b'*'),
+        Sign::LeftParen => Some(b'('),
+        Sign::LeftBracket => Some(b'['),
+        Sign::RightParen => Some(b')'),
+        Sign::RightBracket => Some(b']'),
+        Sign::Comma => Some(b','),
+        Sign::Semicolon => Some(b';'),
+        Sign::Colon => Some(b':'),
+        _ => None,
+    }
+}
+
 /// Appends what a sign prints. No loop stands in it, so that the loop over the items keeps its values in registers.
 #[inline(always)]
 pub(crate) fn put_sign(out: &mut Bytes, sign: Sign) -> Result<(), Memory>
     ensures { OnOk result (out.new ≡ out.old ++ sign_macro sign) }
 {
+    if let Some(byte) = lone_byte(sign) {
+        return out.push(byte);
+    }
     match sign_macro(sign) {
-        [byte] => out.push(*byte),
         [first, second] => {
             out.push(*first)?;
             out.push(*second)
