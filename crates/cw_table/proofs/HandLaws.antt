@@ -2,17 +2,21 @@
 use Rattle.std.proofs.Common.{◌≡◌, ◌<◌, ◌≤◌, ◌+◌, ◌-◌, ◌∙◌, sym, ap, ℕ, List, [], length, get_or, take, unwrap_or}
 use Rattle.std.proofs.Common.{Option, Some, None, Bool, true, false, eqb, refl, arith, eqb-true}
 use Rattle.std.specs.Prelude.{slice_get}
-use Rattle.std.proofs.lemmas.List.{get_or-take, length-take, length-take-le}
+use Rattle.std.proofs.Common.{map, option_map}
+use Rattle.std.proofs.lemmas.List.{get_or-map, get_or-take, length-take, length-take-le}
 use Rattle.std.proofs.lemmas.Option.{slice_get-get_or}
 use Rattle.cw_base.specs.declared.category.Cat.TheVariants.{RawInt}
 use Rattle.cw_base.proofs.CategoryLaws.{each-of}
 use Rattle.cw_table.specs.declared.productions.Head.{Head}
 use Rattle.cw_table.specs.declared.productions.TheConstants.{TESTS, USUAL, OTHER, HEADS, ROW_COUNT}
+use Rattle.cw_table.specs.declared.productions.TheConstants.{USUAL_INSERTIONS, OTHER_INSERTIONS}
 use Rattle.cw_table.specs.declared.types.Choice.TheVariants.{Always}
+use Rattle.cw_table.specs.declared.types.Insertion.{Insertion}
 use Rattle.cw_table.specs.declared.types.Piece.{Piece}
 use Rattle.cw_table.specs.declared.types.Piece.TheVariants.{Scrap}
 use Rattle.cw_table.specs.declared.types.Row.{Row}
 use Rattle.cw_table.specs.declared.types.RowResult.TheVariants.{Is}
+use Rattle.cw_table.specs.Insertions.{insertion_of}
 use Rattle.cw_table.specs.Joined.{joined}
 use Rattle.cw_table.specs.Productions.{productions}
 use Rattle.cw_table.specs.Rows.{no_row, pieces_by, row_numbered, row_of}
@@ -112,3 +116,40 @@ other-pieces i other row lt on is =
     ∙ row-sound (i + 1) (omega arith) (omega arith)) in
     has other (get_or OTHER i []) (get_or HEADS i no_head).other_count row (ap (λ b. pieces_by b row) on
     ∙ ap (pieces_by true) (sym (row-at i lt ∙ is))) s.other_short (other-places i lt)
+
+-- what the data inserts is what its pieces insert
+abbrev inserted : List Piece → List Insertion
+inserted ps = map insertion_of ps
+
+usual-inserted : USUAL_INSERTIONS ≡ map inserted USUAL
+usual-inserted = refl
+
+other-inserted : OTHER_INSERTIONS ≡ map inserted OTHER
+other-inserted = refl
+
+inserted-at : (rows : List (List Piece)) (i j : ℕ) (d : List Insertion) (e : Insertion) → i < length rows
+    → j < length (get_or rows i []) → get_or (get_or (map inserted rows) i d) j e
+    ≡ insertion_of (get_or (get_or rows i []) j (Scrap 0))
+inserted-at rows i j d e row place =
+    ap (λ ins. get_or ins j e) (get_or-map inserted rows i [] d row)
+    ∙ get_or-map insertion_of (get_or rows i []) j (Scrap 0) e place
+
+pub usual-insertion : (i j : ℕ) (d : List Insertion) (e : Insertion) (other : Bool) (row : Row) → i < ROW_COUNT
+    → other ≡ false → row_of productions (i + 1) ≡ row → j < length (pieces_by other row)
+    → option_map insertion_of (slice_get (pieces_by other row) j) ≡ Some (get_or (get_or USUAL_INSERTIONS i d) j e)
+usual-insertion i j d e other row lt off is inside =
+    let has : HasPieces other (get_or USUAL i []) (get_or HEADS i no_head).usual_count row =
+    usual-pieces i other row lt off is in
+    ap (option_map insertion_of) (has.piece j inside)
+    ∙ ap Some (sym (ap (λ rows. get_or (get_or rows i d) j e) usual-inserted
+    ∙ inserted-at USUAL i j d e (omega arith) (omega (arith, usual-places i lt, has.below j inside))))
+
+pub other-insertion : (i j : ℕ) (d : List Insertion) (e : Insertion) (other : Bool) (row : Row) → i < ROW_COUNT
+    → other ≡ true → row_of productions (i + 1) ≡ row → j < length (pieces_by other row)
+    → option_map insertion_of (slice_get (pieces_by other row) j) ≡ Some (get_or (get_or OTHER_INSERTIONS i d) j e)
+other-insertion i j d e other row lt on is inside =
+    let has : HasPieces other (get_or OTHER i []) (get_or HEADS i no_head).other_count row =
+    other-pieces i other row lt on is in
+    ap (option_map insertion_of) (has.piece j inside)
+    ∙ ap Some (sym (ap (λ rows. get_or (get_or rows i d) j e) other-inserted
+    ∙ inserted-at OTHER i j d e (omega arith) (omega (arith, other-places i lt, has.below j inside))))

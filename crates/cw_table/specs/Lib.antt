@@ -2,6 +2,7 @@
 pub mod Masks
 pub mod Joined
 pub mod Rows
+pub mod Insertions
 pub mod Productions
 pub mod Fitting
 pub mod Safe

@@ -1,11 +1,12 @@
 //! Rows at hand: what a reducer reads of a production, from the program's own data, with no table made for it.
-ghost use Rattle.std.specs.Prelude.{◌≡◌, ◌≤◌, ◌<◌, Some, true, length, slice_get};
+ghost use Rattle.std.specs.Prelude.{◌≡◌, ◌≤◌, ◌<◌, Some, true, length, option_map, slice_get};
+ghost use Rattle.cw_table.specs.Insertions.{insertion_of};
 ghost use Rattle.cw_table.specs.Productions.{productions};
 ghost use Rattle.cw_table.specs.Rows.{pieces_by, row_of};
 ghost use Rattle.cw_table.specs.Sound.{row_is_sound};
 
-use crate::productions::{HEADS, OTHER, ROW_COUNT, USUAL};
-use crate::types::{Choice, Piece, RowNo, RowResult};
+use crate::productions::{HEADS, OTHER, OTHER_INSERTIONS, ROW_COUNT, USUAL, USUAL_INSERTIONS};
+use crate::types::{Choice, Insertion, Piece, RowNo, RowResult};
 use std::marker::Model;
 
 /// A production of the table. Its parts are read where they stand in the program's data.
@@ -113,6 +114,19 @@ impl RowAtHand {
             OTHER[self.index][i]
         } else {
             USUAL[self.index][i]
+        }
+    }
+
+    /// What a piece of its usual translation, or of the other one, puts into a translation.
+    #[inline(always)]
+    pub fn insertion(&self, other: bool, i: usize) -> Insertion
+        requires { i < length (pieces_by other self.now) }
+        ensures { option_map insertion_of (slice_get (pieces_by other self.now) i) ≡ Some result }
+    {
+        if other {
+            OTHER_INSERTIONS[self.index][i]
+        } else {
+            USUAL_INSERTIONS[self.index][i]
         }
     }
 }

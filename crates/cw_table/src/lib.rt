@@ -18,4 +18,4 @@ pub use laws::{distance_laws, rewriting_laws, walk_laws};
 pub use masks::{first_of_four, first_production, may_fit};
 pub use productions::{ROW_COUNT, table};
 pub use ranks::rank;
-pub use types::{Action, Choice, Piece, Pieces, Row, RowNo, RowResult, Table};
+pub use types::{Action, Choice, Insertion, Piece, Pieces, Row, RowNo, RowResult, Table};

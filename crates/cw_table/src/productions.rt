@@ -4,8 +4,9 @@ ghost use Rattle.std.specs.List.{All, list_all};
 ghost use Rattle.cw_table.specs.Productions.{productions};
 ghost use Rattle.cw_table.specs.Sound.{IsSound, are_numbered, row_is_sound};
 
-use crate::types::{Action, Choice, Piece, Pieces, Row, RowNo, RowResult, Table};
-use cw_base::{Cat, CatSet};
+use crate::types::{Action, Choice, Insertion, Piece, Pieces, Row, RowNo, RowResult, Table};
+use cw_base::{Cat, CatSet, MathMode};
+use cw_trees::Control;
 
 // A row is written as its number, its tests, the first scrap that it replaces and how many these are,
 // its result, and its pieces, in which a digit is a tested scrap. A test is a choice of categories;
@@ -167,23 +168,46 @@ macro_rules! piece {
     ($sign:ident) => { Piece::$sign };
 }
 
-// Twelve pieces, the first of which are given.
+// What a piece puts into a translation: a control with the mode that it needs, or a scrap with the mode in which it is
+// joined where it could be in either.
+macro_rules! insertion {
+    (0) => { Insertion::Scrap(0, MathMode::Maybe) };
+    (1) => { Insertion::Scrap(1, MathMode::Maybe) };
+    (2) => { Insertion::Scrap(2, MathMode::Maybe) };
+    (3) => { Insertion::Scrap(3, MathMode::Maybe) };
+    (math) => { Insertion::Scrap(2, MathMode::Math) };
+    (OpenBrace) => { Insertion::Sign(Control::OpenBrace, MathMode::Math) };
+    (CloseBrace) => { Insertion::Sign(Control::CloseBrace, MathMode::Math) };
+    (OpenRelation) => { Insertion::Sign(Control::OpenRelation, MathMode::Math) };
+    (Wall) => { Insertion::Sign(Control::Wall, MathMode::Maybe) };
+    (Indent) => { Insertion::Sign(Control::Indent, MathMode::Maybe) };
+    (Outdent) => { Insertion::Sign(Control::Outdent, MathMode::Maybe) };
+    (OptionalLineBreak0) => { Insertion::Sign(Control::OptionalLineBreak0, MathMode::Maybe) };
+    (OptionalLineBreak9) => { Insertion::Sign(Control::OptionalLineBreak9, MathMode::Maybe) };
+    (ThinSpace) => { Insertion::Sign(Control::ThinSpace, MathMode::Maybe) };
+    (Inserted) => { Insertion::Sign(Control::Inserted, MathMode::Maybe) };
+    (Unused) => { Insertion::Sign(Control::Inserted, MathMode::Maybe) };
+    ($sign:ident) => { Insertion::Sign(Control::$sign, MathMode::Text) };
+}
+
+// Twelve pieces, the first of which are given, each shown by a macro.
 macro_rules! pad {
-    ([$($done:tt)*] [] [$($unused:ident)*]) => { [$(piece!($done),)* $(Piece::$unused),*] };
-    ([$($done:tt)*] [$next:tt $($rest:tt)*] [$unused:ident $($more:ident)*]) => {
-        pad!([$($done)* $next] [$($rest)*] [$($more)*])
+    ($show:ident [$($done:tt)*] [] [$($unused:ident)*]) => { [$($show!($done),)* $($show!($unused)),*] };
+    ($show:ident [$($done:tt)*] [$next:tt $($rest:tt)*] [$unused:ident $($more:ident)*]) => {
+        pad!($show [$($done)* $next] [$($rest)*] [$($more)*])
     };
 }
 
 macro_rules! pieces {
-    ($($piece:tt)+) => {
-        pad!([] [$($piece)+] [Unused Unused Unused Unused Unused Unused Unused Unused Unused Unused Unused Unused])
+    ($show:ident $($piece:tt)+) => {
+        pad!($show [] [$($piece)+]
+            [Unused Unused Unused Unused Unused Unused Unused Unused Unused Unused Unused Unused])
     };
 }
 
 macro_rules! pieces_or {
-    ([$($usual:tt)+]) => { pieces!($($usual)+) };
-    ([$($usual:tt)+] [$($other:tt)+]) => { pieces!($($other)+) };
+    ($show:ident [$($usual:tt)+]) => { pieces!($show $($usual)+) };
+    ($show:ident [$($usual:tt)+] [$($other:tt)+]) => { pieces!($show $($other)+) };
 }
 
 macro_rules! count {
@@ -225,14 +249,28 @@ macro_rules! usual_of {
     ($($number:literal: $([$($test:tt)+]),+; $offset:literal + $replaced:literal => $how:tt $what:tt;
         [$($usual:tt)+] $(or $choice:ident [$($other:tt)+])? $(underline $underline:literal)?
         $(reserve $reserve:literal)?;)+
-    ) => { [$(pieces!($($usual)+)),+] };
+    ) => { [$(pieces!(piece $($usual)+)),+] };
+}
+
+macro_rules! usual_insertions_of {
+    ($($number:literal: $([$($test:tt)+]),+; $offset:literal + $replaced:literal => $how:tt $what:tt;
+        [$($usual:tt)+] $(or $choice:ident [$($other:tt)+])? $(underline $underline:literal)?
+        $(reserve $reserve:literal)?;)+
+    ) => { [$(pieces!(insertion $($usual)+)),+] };
 }
 
 macro_rules! other_of {
     ($($number:literal: $([$($test:tt)+]),+; $offset:literal + $replaced:literal => $how:tt $what:tt;
         [$($usual:tt)+] $(or $choice:ident [$($other:tt)+])? $(underline $underline:literal)?
         $(reserve $reserve:literal)?;)+
-    ) => { [$(pieces_or!([$($usual)+] $([$($other)+])?)),+] };
+    ) => { [$(pieces_or!(piece [$($usual)+] $([$($other)+])?)),+] };
+}
+
+macro_rules! other_insertions_of {
+    ($($number:literal: $([$($test:tt)+]),+; $offset:literal + $replaced:literal => $how:tt $what:tt;
+        [$($usual:tt)+] $(or $choice:ident [$($other:tt)+])? $(underline $underline:literal)?
+        $(reserve $reserve:literal)?;)+
+    ) => { [$(pieces_or!(insertion [$($usual)+] $([$($other)+])?)),+] };
 }
 
 macro_rules! heads_of {
@@ -263,6 +301,14 @@ static TESTS: [[CatSet; 4]; ROW_COUNT] = productions!(tests_of);
 pub(crate) static USUAL: [[Piece; 12]; ROW_COUNT] = productions!(usual_of);
 
 pub(crate) static OTHER: [[Piece; 12]; ROW_COUNT] = productions!(other_of);
+
+pub(crate) static USUAL_INSERTIONS: [[Insertion; 12]; ROW_COUNT] = productions!(
+    usual_insertions_of
+);
+
+pub(crate) static OTHER_INSERTIONS: [[Insertion; 12]; ROW_COUNT] = productions!(
+    other_insertions_of
+);
 
 pub(crate) static HEADS: [Head; ROW_COUNT] = productions!(heads_of);
 

@@ -2,7 +2,8 @@
 ghost use Rattle.std.specs.Prelude.{true, ◌≡◌, ◌≤◌, IfSome, Some};
 
 use crate::masks::first_production;
-use cw_base::{Cat, CatSet};
+use cw_base::{Cat, CatSet, MathMode};
+use cw_trees::Control;
 use std::marker::Model;
 
 /// The number of a production, from 1 on.
@@ -62,6 +63,15 @@ pub enum Piece {
     OpenRelation,
     /// A mark that prints nothing: no identifier is looked for behind it.
     Inserted,
+}
+
+/// What a piece puts into a translation.
+#[derive(Clone, Copy, PartialEq, Eq, Debug)]
+pub enum Insertion {
+    /// The tested scrap of this number, joined in this mode where both its modes are maybe.
+    Scrap(u8, MathMode),
+    /// The control that a sign stands for, and the mode that it needs.
+    Sign(Control, MathMode),
 }
 
 /// The pieces of a translation, the first `count` of the twelve places; the rest holds `Unused`.
