@@ -76,6 +76,27 @@ toggle-short Text Text = omega arith
 toggle-short Text Maybe = omega arith
 toggle-short Maybe left = omega arith
 
+-- Where nothing has a mode yet, none is known so far.
+begun-next : (left mode l r : MathMode) → (left ≡ Maybe → mode ≡ Maybe) → first_mode left l ≡ Maybe → after mode l r
+    ≡ Maybe
+begun-next Maybe mode Maybe r begun e = begun refl
+begun-next Maybe mode Text r begun e = absurd (apart e)
+  where
+    apart : ◌≡◌ {A = MathMode} Text Maybe → ⊥
+    apart k = cc
+begun-next Maybe mode Math r begun e = absurd (apart e)
+  where
+    apart : ◌≡◌ {A = MathMode} Math Maybe → ⊥
+    apart k = cc
+begun-next Text mode l r begun e = absurd (apart e)
+  where
+    apart : ◌≡◌ {A = MathMode} Text Maybe → ⊥
+    apart k = cc
+begun-next Math mode l r begun e = absurd (apart e)
+  where
+    apart : ◌≡◌ {A = MathMode} Math Maybe → ⊥
+    apart k = cc
+
 toggle-first : (mode left : MathMode) → mode ≡ Maybe → toggle mode left ≡ []
 toggle-first mode left e = ap (λ m. toggle m left) e
 
@@ -132,6 +153,7 @@ joins-start lists entries pieces spare store same is spent run roots = record {
   spent = omega arith;
   few = omega arith;
   start = λ e. refl;
+  begun = λ e. refl;
   tokens = refl;
   left_is = refl;
   right_is = refl;
@@ -225,6 +247,7 @@ module _ (lists : List (List Token)) (entries : List LineEntry) (pieces : List P
     spent = spent-next;
     few = few-next i refl;
     start = λ e. absurd (omega arith);
+    begun = begun-next left mode ins.left ins.right j.begun;
     tokens = tokens-next;
     left_is = left-next;
     right_is = right-next;

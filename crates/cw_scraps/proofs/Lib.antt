@@ -2,6 +2,7 @@
 pub mod Gaps
 pub mod RowPieces
 pub mod Buildings
+pub mod Insertions
 pub mod Changings
 pub mod Reservings
 pub mod JoinedTrees

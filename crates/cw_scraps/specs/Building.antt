@@ -19,6 +19,7 @@ pub record Joins (lists : List (List Token)) (entries : List LineEntry) (pieces 
   pub spent : store.spare + length done + 1 ≡ spare
   pub few : length done ≤ 2 * i - 1
   pub start : i ≡ 0 → mode ≡ Maybe
+  pub begun : left ≡ Maybe → mode ≡ Maybe
   pub tokens : done ++ tokens_of mode (map (inserting entries) (drop i pieces))
       ≡ tokens_of Maybe (map (inserting entries) pieces)
   pub left_is : first_mode left (left_of (map (inserting entries) (drop i pieces)))

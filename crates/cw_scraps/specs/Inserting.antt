@@ -3,11 +3,13 @@ use Rattle.std.specs.Prelude.{◌≡◌, ℕ, ◌+◌, ◌-◌, ◌<◌, ◌≤�
 use Rattle.cw_base.specs.declared.category.Cat.{Cat}
 use Rattle.cw_base.specs.declared.mode.MathMode.{MathMode}
 use Rattle.cw_base.specs.declared.mode.MathMode.TheVariants.{Text, Math, Maybe}
-use Rattle.cw_trees.specs.declared.Control.{Control}
 use Rattle.cw_trees.specs.declared.Control.TheVariants as control
-use Rattle.cw_trees.specs.Joining.{needs, after, first_mode}
+use Rattle.cw_trees.specs.Joining.{after, first_mode}
+use Rattle.cw_table.specs.declared.types.Insertion.{Insertion}
+use Rattle.cw_table.specs.declared.types.Insertion.TheVariants as insertion
 use Rattle.cw_table.specs.declared.types.Piece.{Piece}
 use Rattle.cw_table.specs.declared.types.Piece.TheVariants as piece
+use Rattle.cw_table.specs.Insertions.{insertion_of}
 use Rattle.cw_table.specs.Sound.{scraps_in, numbers_from}
 use Rattle.cw_tokens.specs.declared.token.Token.{Token}
 use Rattle.cw_tokens.specs.declared.token.Token.TheVariants.{Control as ControlOf, «List» as ListOf}
@@ -19,47 +21,37 @@ use Rattle.cw_scraps.specs.Lines.{no_entry}
 abbrev pub entry_cats : List LineEntry → List Cat
 entry_cats entries = map (λ entry. entry.cat) entries
 
--- the control of a piece that is no scrap
-abbrev pub sign_of : Piece → Control
-sign_of (piece.Scrap k) = control.Inserted
-sign_of (piece.MathScrap k) = control.Inserted
-sign_of piece.Unused = control.Inserted
-sign_of piece.Blank = control.Blank
-sign_of piece.OptionalBreak = control.OptionalBreak
-sign_of piece.Break = control.Break
-sign_of piece.BigBreak = control.BigBreak
-sign_of piece.Cancel = control.Cancel
-sign_of piece.Backup = control.Backup
-sign_of piece.Wall = control.Wall
-sign_of piece.Indent = control.Indent
-sign_of piece.Outdent = control.Outdent
-sign_of piece.OptionalLineBreak0 = control.OptionalLineBreak0
-sign_of piece.OptionalLineBreak9 = control.OptionalLineBreak9
-sign_of piece.ThinSpace = control.ThinSpace
-sign_of piece.OpenBrace = control.OpenBrace
-sign_of piece.CloseBrace = control.CloseBrace
-sign_of piece.OpenRelation = control.OpenRelation
-sign_of piece.Inserted = control.Inserted
-
-abbrev pub control_insert : Control → Insert
-control_insert sign = record { token = ControlOf sign; left = needs sign; right = needs sign }
-
 abbrev pub entry_insert : LineEntry → Insert
 entry_insert entry = record { token = ListOf entry.list; left = entry.left; right = entry.right }
+
+-- a token with these modes, or in another mode where it could be in either
+abbrev pub insert_in : MathMode → Token → MathMode → MathMode → Insert
+insert_in mode token Maybe Maybe = record { token = token; left = mode; right = mode }
+insert_in mode token left right = record { token = token; left = left; right = right }
 
 -- the same, in math where it could be in either mode
 abbrev pub math_insert : Token → MathMode → MathMode → Insert
 math_insert token Maybe Maybe = record { token = token; left = Math; right = Math }
 math_insert token left right = record { token = token; left = left; right = right }
 
--- what a piece puts into the list, where these entries stand from the row's place on
+-- what an insertion puts into the list, where these entries stand from the row's place on
+abbrev pub inserted_by : List LineEntry → Insertion → Insert
+inserted_by entries (insertion.Sign sign mode) = record { token = ControlOf sign; left = mode; right = mode }
+inserted_by entries (insertion.Scrap k mode) = insert_in mode (ListOf (get_or entries k no_entry).list)
+    (get_or entries k no_entry).left (get_or entries k no_entry).right
+
+-- what a piece puts into it
 abbrev pub inserting : List LineEntry → Piece → Insert
 inserting entries (piece.Scrap k) = entry_insert (get_or entries k no_entry)
 inserting entries (piece.MathScrap k) = math_insert (ListOf (get_or entries k no_entry).list)
     (get_or entries k no_entry).left (get_or entries k no_entry).right
-inserting entries sign = control_insert (sign_of sign)
+inserting entries sign = inserted_by entries (insertion_of sign)
 
--- a scrap among the pieces is one of the line
+-- a scrap among the insertions, or among the pieces, is one of the line
+abbrev pub IsInsertionWithin : ℕ → ℕ → Insertion → Type 0
+IsInsertionWithin place count (insertion.Scrap k mode) = place + k < count
+IsInsertionWithin place count (insertion.Sign sign mode) = Unit {0}
+
 abbrev pub IsPieceWithin : ℕ → ℕ → Piece → Type 0
 IsPieceWithin place count (piece.Scrap k) = place + k < count
 IsPieceWithin place count (piece.MathScrap k) = place + k < count

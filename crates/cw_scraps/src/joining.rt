@@ -2,16 +2,18 @@
 ghost use Rattle.std.specs.Prelude.{◌≡◌, ◌+◌, ◌-◌, ◌<◌, ◌≤◌, ◌++◌, [], ◌∷◌, length, drop, map, IsSome, option_map};
 ghost use Rattle.cw_base.specs.declared.mode.MathMode.TheVariants.{Maybe};
 ghost use Rattle.cw_table.specs.Rows.{pieces_by};
+ghost use Rattle.cw_tokens.specs.declared.token.Token.TheVariants.{Control as ControlOf};
 ghost use Rattle.cw_tokens.specs.Stored.{MayBePushed};
 ghost use Rattle.cw_scraps.specs.Lines.{roots_of, AreRoots};
-ghost use Rattle.cw_scraps.specs.Inserting.{inserting, toggle, toggled, tokens_of, left_of, right_after, IsPieceWithin};
-ghost use Rattle.cw_scraps.specs.Inserting.{IsRun};
+ghost use Rattle.cw_trees.specs.Joining.{after, first_mode};
+ghost use Rattle.cw_scraps.specs.Inserting.{inserted_by, inserting, toggle, toggled, tokens_of, left_of, right_after};
+ghost use Rattle.cw_scraps.specs.Inserting.{IsInsertionWithin, IsRun};
 
 use crate::PRODUCTION_TOKENS;
 use crate::line::{Part, ScrapLine};
-use crate::pieces::{Insert, after, first_mode, insert_of, math_scrap_insert, scrap_insert};
+use crate::pieces::{Insert, after, first_mode, scrap_insert, scrap_insert_in};
 use cw_base::MathMode;
-use cw_table::{Piece, RowAtHand};
+use cw_table::{Insertion, RowAtHand};
 use cw_tokens::{Token, TokenStore};
 use cw_trees::Control;
 
@@ -38,76 +40,169 @@ pub fn join(
     ensures right { result.right ≡ right_after Maybe (map (inserting (drop place line.now)) (pieces_by other row.now)) }
 {
     store.begin();
-    let mut left = MathMode::Maybe;
-    let mut mode = MathMode::Maybe;
+    let mut modes = Modes {
+        left: MathMode::Maybe,
+        right: MathMode::Maybe,
+    };
     for i in 0..row.piece_count(other) {
-        let ends = put_piece(line, place, row.piece(other, i), mode, store);
-        left = first_mode(left, ends.left);
-        mode = after(mode, ends.left, ends.right);
+        modes = put_piece(line, place, row.insertion(other, i), modes, store);
     }
     let list = store.finish();
     Part {
         list,
-        left,
-        right: mode,
+        left: modes.left,
+        right: modes.right,
     }
 }
 
-/// The modes in which what was put into a list begins and ends.
+/// The modes in which what was put into a list so far begins and ends.
 #[derive(Clone, Copy)]
 struct Modes {
     left: MathMode,
     right: MathMode,
 }
 
-/// Puts a piece into the list that is being built, and before it the toggle that it needs.
+/// Puts what a piece inserts into the list that is being built, and before it the toggle that it needs.
 #[inline(always)]
 fn put_piece(
     line: &ScrapLine,
     place: usize,
-    piece: Piece,
-    mode: MathMode,
+    insertion: Insertion,
+    modes: Modes,
     store: &mut TokenStore,
 ) -> Modes
-    requires piece { IsPieceWithin place (length line.now) piece }
+    requires within { IsInsertionWithin place (length line.now) insertion }
+    requires begun { modes.left ≡ Maybe → modes.right ≡ Maybe }
     requires building { IsSome store.old.building }
     requires room { 2 ≤ store.old.spare }
-    requires reference { MayBePushed (toggled mode (inserting (drop place line.now) piece).left store.old)
-        (inserting (drop place line.now) piece).token }
-    ensures left { result.left ≡ (inserting (drop place line.now) piece).left }
-    ensures right { result.right ≡ (inserting (drop place line.now) piece).right }
+    requires reference { MayBePushed
+        (toggled modes.right (inserted_by (drop place line.now) insertion).left store.old)
+        (inserted_by (drop place line.now) insertion).token }
+    ensures left { result.left ≡ first_mode modes.left (inserted_by (drop place line.now) insertion).left }
+    ensures right { result.right ≡ after modes.right (inserted_by (drop place line.now) insertion).left
+        (inserted_by (drop place line.now) insertion).right }
     ensures building { store.new.building ≡ option_map (λ tokens. tokens ++
-        (inserting (drop place line.now) piece).token ∷ []) (toggled mode (inserting (drop place line.now) piece).left
-        store.old).building }
+        (inserted_by (drop place line.now) insertion).token ∷ [])
+        (toggled modes.right (inserted_by (drop place line.now) insertion).left store.old).building }
     ensures lists { store.new.lists ≡ store.old.lists }
-    ensures spare { store.new.spare + 1 + length (toggle mode (inserting (drop place line.now) piece).left) ≡
-        store.old.spare }
+    ensures spare { store.new.spare + 1 +
+        length (toggle modes.right (inserted_by (drop place line.now) insertion).left) ≡ store.old.spare }
 {
-    match piece {
-        Piece::Scrap(k) => put(scrap_insert(line, place, k), mode, store),
-        Piece::MathScrap(k) => put(math_scrap_insert(line, place, k), mode, store),
-        _ => put(insert_of(line, place, piece), mode, store),
+    match insertion {
+        Insertion::Sign(control, mode) => put_sign(control, mode, modes, store),
+        Insertion::Scrap(k, MathMode::Maybe) => put_scrap(
+            scrap_insert(line, place, k),
+            modes,
+            store,
+        ),
+        Insertion::Scrap(k, mode) => put_scrap(scrap_insert_in(mode, line, place, k), modes, store),
     }
 }
 
-/// Puts a token into the list that is being built, and before it the toggle that it needs.
+/// Puts a control that needs a mode into the list that is being built, and before it the toggle that it needs.
 #[inline(always)]
-fn put(insert: Insert, mode: MathMode, store: &mut TokenStore) -> Modes
+fn put_sign(control: Control, mode: MathMode, modes: Modes, store: &mut TokenStore) -> Modes
+    requires begun { modes.left ≡ Maybe → modes.right ≡ Maybe }
     requires building { IsSome store.old.building }
     requires room { 2 ≤ store.old.spare }
-    requires reference { MayBePushed (toggled mode insert.left store.old) insert.token }
-    ensures left { result.left ≡ insert.left }
-    ensures right { result.right ≡ insert.right }
-    ensures building { store.new.building ≡ option_map (λ tokens. tokens ++ insert.token ∷
-        []) (toggled mode insert.left store.old).building }
+    ensures left { result.left ≡ first_mode modes.left mode }
+    ensures right { result.right ≡ after modes.right mode mode }
+    ensures building { store.new.building ≡ option_map (λ tokens. tokens ++ ControlOf control ∷
+        []) (toggled modes.right mode store.old).building }
     ensures lists { store.new.lists ≡ store.old.lists }
-    ensures spare { store.new.spare + 1 + length (toggle mode insert.left) ≡ store.old.spare }
+    ensures spare { store.new.spare + 1 + length (toggle modes.right mode) ≡ store.old.spare }
 {
-    push_toggle(mode, insert.left, store);
+    let modes = put_toggle(mode, mode, modes, store);
+    store.push(Token::Control(control));
+    modes
+}
+
+/// Puts the token of a scrap into the list that is being built, and before it the toggle that it needs.
+#[inline(always)]
+fn put_scrap(insert: Insert, modes: Modes, store: &mut TokenStore) -> Modes
+    requires begun { modes.left ≡ Maybe → modes.right ≡ Maybe }
+    requires building { IsSome store.old.building }
+    requires room { 2 ≤ store.old.spare }
+    requires reference { MayBePushed (toggled modes.right insert.left store.old) insert.token }
+    ensures left { result.left ≡ first_mode modes.left insert.left }
+    ensures right { result.right ≡ after modes.right insert.left insert.right }
+    ensures building { store.new.building ≡ option_map (λ tokens. tokens ++ insert.token ∷
+        []) (toggled modes.right insert.left store.old).building }
+    ensures lists { store.new.lists ≡ store.old.lists }
+    ensures spare { store.new.spare + 1 + length (toggle modes.right insert.left) ≡ store.old.spare }
+{
+    let modes = put_scrap_toggle(insert.left, insert.right, modes, store);
     store.push(insert.token);
+    modes
+}
+
+/// Puts the toggle that a piece with these two modes needs, and answers the modes behind the piece. Quick where the
+/// piece begins in the mode so far.
+#[inline(always)]
+fn put_toggle(left: MathMode, right: MathMode, modes: Modes, store: &mut TokenStore) -> Modes
+    requires begun { modes.left ≡ Maybe → modes.right ≡ Maybe }
+    requires building { IsSome store.old.building }
+    requires room { 0 < store.old.spare }
+    ensures left { result.left ≡ first_mode modes.left left }
+    ensures right { result.right ≡ after modes.right left right }
+    ensures building { store.new.building ≡
+        option_map (λ tokens. tokens ++ toggle modes.right left) store.old.building }
+    ensures lists { store.new.lists ≡ store.old.lists }
+    ensures spare { store.new.spare + length (toggle modes.right left) ≡ store.old.spare }
+{
+    if left == modes.right {
+        return Modes {
+            left: modes.left,
+            right: after(modes.right, left, right),
+        };
+    }
+    if left == MathMode::Maybe {
+        return modes;
+    }
+    switch_mode(left, right, modes, store)
+}
+
+/// The same, quick for a piece that could be in either mode, as most scraps.
+#[inline(always)]
+fn put_scrap_toggle(left: MathMode, right: MathMode, modes: Modes, store: &mut TokenStore) -> Modes
+    requires begun { modes.left ≡ Maybe → modes.right ≡ Maybe }
+    requires building { IsSome store.old.building }
+    requires room { 0 < store.old.spare }
+    ensures left { result.left ≡ first_mode modes.left left }
+    ensures right { result.right ≡ after modes.right left right }
+    ensures building { store.new.building ≡
+        option_map (λ tokens. tokens ++ toggle modes.right left) store.old.building }
+    ensures lists { store.new.lists ≡ store.old.lists }
+    ensures spare { store.new.spare + length (toggle modes.right left) ≡ store.old.spare }
+{
+    if left == MathMode::Maybe {
+        return modes;
+    }
+    if left == modes.right {
+        return Modes {
+            left: modes.left,
+            right,
+        };
+    }
+    switch_mode(left, right, modes, store)
+}
+
+/// The same for any piece.
+#[inline(always)]
+fn switch_mode(left: MathMode, right: MathMode, modes: Modes, store: &mut TokenStore) -> Modes
+    requires building { IsSome store.old.building }
+    requires room { 0 < store.old.spare }
+    ensures left { result.left ≡ first_mode modes.left left }
+    ensures right { result.right ≡ after modes.right left right }
+    ensures building { store.new.building ≡
+        option_map (λ tokens. tokens ++ toggle modes.right left) store.old.building }
+    ensures lists { store.new.lists ≡ store.old.lists }
+    ensures spare { store.new.spare + length (toggle modes.right left) ≡ store.old.spare }
+{
+    push_toggle(modes.right, left, store);
     Modes {
-        left: insert.left,
-        right: insert.right,
+        left: first_mode(modes.left, left),
+        right: after(modes.right, left, right),
     }
 }
 

@@ -1,17 +1,17 @@
 //! What a piece of a production puts into a list.
 ghost use Rattle.std.specs.Prelude.{◌≡◌, ℕ, ◌+◌, ◌<◌, [], ◌∷◌, length, drop};
-ghost use Rattle.cw_trees.specs.Joining.{needs, after, first_mode};
-ghost use Rattle.cw_table.specs.declared.types.Piece.TheVariants.{Scrap, MathScrap};
+ghost use Rattle.cw_base.specs.declared.mode.MathMode.TheVariants.{Maybe};
+ghost use Rattle.cw_trees.specs.Joining.{after, first_mode};
+ghost use Rattle.cw_table.specs.declared.types.Insertion.TheVariants.{Scrap};
 ghost use Rattle.cw_table.specs.declared.types.RowResult.TheVariants.{SameAs};
 ghost use Rattle.cw_table.specs.Rows.{pieces_by, result_at};
 ghost use Rattle.cw_table.specs.Rewriting.{alone, takes_other};
-ghost use Rattle.cw_scraps.specs.Inserting.{entry_cats, sign_of, math_insert, control_insert, inserting, IsPieceWithin};
+ghost use Rattle.cw_scraps.specs.Inserting.{entry_cats, insert_in, inserted_by};
 
 use crate::line::ScrapLine;
 use cw_base::{Cat, Flags, MathMode};
 use cw_table::{Choice, Piece, RowAtHand, RowResult};
 use cw_tokens::Token;
-use cw_trees::Control;
 
 /// A token of a new list, and the modes in which it begins and ends.
 #[derive(Clone, Copy)]
@@ -19,59 +19,6 @@ pub struct Insert {
     pub token: Token,
     pub left: MathMode,
     pub right: MathMode,
-}
-
-/// The control of a piece that is no scrap.
-fn sign_of(piece: Piece) -> Control
-    ensures { result ≡ sign_of piece }
-{
-    match piece {
-        Piece::Blank => Control::Blank,
-        Piece::OptionalBreak => Control::OptionalBreak,
-        Piece::Break => Control::Break,
-        Piece::BigBreak => Control::BigBreak,
-        Piece::Cancel => Control::Cancel,
-        Piece::Backup => Control::Backup,
-        Piece::Wall => Control::Wall,
-        Piece::Indent => Control::Indent,
-        Piece::Outdent => Control::Outdent,
-        Piece::OptionalLineBreak0 => Control::OptionalLineBreak0,
-        Piece::OptionalLineBreak9 => Control::OptionalLineBreak9,
-        Piece::ThinSpace => Control::ThinSpace,
-        Piece::OpenBrace => Control::OpenBrace,
-        Piece::CloseBrace => Control::CloseBrace,
-        Piece::OpenRelation => Control::OpenRelation,
-        Piece::Scrap(_) | Piece::MathScrap(_) | Piece::Unused | Piece::Inserted =>
-            Control::Inserted,
-    }
-}
-
-/// The mode that a control needs; `Maybe` where it needs none.
-pub fn needs(control: Control) -> MathMode
-    ensures { result ≡ needs control }
-{
-    match control {
-        Control::Blank
-        | Control::OptionalBreak
-        | Control::Break
-        | Control::BigBreak
-        | Control::Cancel
-        | Control::Backup
-        | Control::ToMath
-        | Control::CommentEnd => MathMode::Text,
-        Control::OpenBrace | Control::CloseBrace | Control::OpenRelation | Control::ToText =>
-            MathMode::Math,
-        Control::Wall
-        | Control::Indent
-        | Control::Outdent
-        | Control::OptionalLineBreak0
-        | Control::OptionalLineBreak9
-        | Control::ThinSpace
-        | Control::Inserted
-        | Control::Dollar
-        | Control::NameText
-        | Control::NameEnd => MathMode::Maybe,
-    }
 }
 
 /// The mode so far after a piece: as before where its left mode is `Maybe`, else its right mode.
@@ -94,35 +41,24 @@ pub fn first_mode(mode: MathMode, later: MathMode) -> MathMode
     }
 }
 
-fn in_math(token: Token, left: MathMode, right: MathMode) -> Insert
-    ensures { result ≡ math_insert token left right }
+fn in_mode(mode: MathMode, token: Token, left: MathMode, right: MathMode) -> Insert
+    ensures { result ≡ insert_in mode token left right }
 {
     match (left, right) {
         (MathMode::Maybe, MathMode::Maybe) => Insert {
             token,
-            left: MathMode::Math,
-            right: MathMode::Math,
+            left: mode,
+            right: mode,
         },
         _ => Insert { token, left, right },
     }
 }
 
-fn sign_insert(control: Control) -> Insert
-    ensures { result ≡ control_insert control }
-{
-    let mode = needs(control);
-    Insert {
-        token: Token::Control(control),
-        left: mode,
-        right: mode,
-    }
-}
-
 /// What a scrap puts into the list of a production at a place.
-#[inline]
+#[inline(always)]
 pub fn scrap_insert(line: &ScrapLine, place: usize, k: u8) -> Insert
     requires { place + k < length line.now }
-    ensures { result ≡ inserting (drop place line.now) (Scrap k) }
+    ensures { result ≡ inserted_by (drop place line.now) (Scrap k Maybe) }
 {
     let _length = line.len();
     let entry = line.behind(place, k);
@@ -133,30 +69,15 @@ pub fn scrap_insert(line: &ScrapLine, place: usize, k: u8) -> Insert
     }
 }
 
-/// The same for a scrap that is joined as math.
+/// The same for a scrap that is joined in a mode where it could be in either.
 #[inline]
-pub fn math_scrap_insert(line: &ScrapLine, place: usize, k: u8) -> Insert
+pub fn scrap_insert_in(mode: MathMode, line: &ScrapLine, place: usize, k: u8) -> Insert
     requires { place + k < length line.now }
-    ensures { result ≡ inserting (drop place line.now) (MathScrap k) }
+    ensures { result ≡ inserted_by (drop place line.now) (Scrap k mode) }
 {
     let _length = line.len();
     let entry = line.behind(place, k);
-    in_math(Token::List(entry.list), entry.left, entry.right)
-}
-
-/// What a piece puts into the list of a production at a place.
-#[inline]
-#[inline(always)]
-pub fn insert_of(line: &ScrapLine, place: usize, piece: Piece) -> Insert
-    requires { IsPieceWithin place (length line.now) piece }
-    ensures { result ≡ inserting (drop place line.now) piece }
-{
-    let _length = line.len();
-    match piece {
-        Piece::Scrap(k) => scrap_insert(line, place, k),
-        Piece::MathScrap(k) => math_scrap_insert(line, place, k),
-        _ => sign_insert(sign_of(piece)),
-    }
+    in_mode(mode, Token::List(entry.list), entry.left, entry.right)
 }
 
 /// The scrap that stays as it is: where one scrap is replaced and the pieces are that scrap alone.

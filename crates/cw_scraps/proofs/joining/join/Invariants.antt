@@ -5,5 +5,5 @@ use Rattle.cw_scraps.specs.Building.{Joins}
 use Rattle.cw_scraps.proofs.joining.join.Given as goal
 
 abbrev pub invariant-loop-i : goal.invariant-loop-i
-invariant-loop-i l = Joins l.fn.store.lists (drop l.place l.line) (pieces_by l.other l.row) l.fn.store.spare l.i l.left
-    l.mode l.store
+invariant-loop-i l = Joins l.fn.store.lists (drop l.place l.line) (pieces_by l.other l.row) l.fn.store.spare l.i
+    l.modes.left l.modes.right l.store

@@ -1,0 +1,101 @@
+-- What the insertion of a piece puts into the list that is being built is what the piece puts there.
+use Rattle.std.proofs.Common.{◌≡◌, ℕ, ◌+◌, ◌<◌, ◌≤◌, List, [], ◌∷◌, ◌++◌, length, drop, get_or, Some, refl, sym, ap}
+use Rattle.std.proofs.Common.{◌∙◌, subst, option_map}
+use Rattle.std.proofs.lemmas.List.{drop_more}
+use Rattle.std.proofs.lemmas.Option.{slice_get-get_or}
+use Rattle.std.specs.Prelude.{slice_get}
+use Rattle.cw_base.specs.declared.mode.MathMode.{MathMode}
+use Rattle.cw_base.specs.declared.mode.MathMode.TheVariants.{Text, Math, Maybe}
+use Rattle.cw_trees.specs.Joining.{after, first_mode}
+use Rattle.cw_table.specs.declared.types.Insertion.{Insertion}
+use Rattle.cw_table.specs.declared.types.Piece.{Piece}
+use Rattle.cw_table.specs.declared.types.Piece.TheVariants as piece
+use Rattle.cw_table.specs.Insertions.{insertion_of}
+use Rattle.cw_tokens.specs.declared.token.Token.{Token}
+use Rattle.cw_tokens.specs.declared.token.Token.TheVariants.{«List» as ListOf}
+use Rattle.cw_tokens.specs.Stored.{StoredLists, MayBePushed}
+use Rattle.cw_scraps.specs.declared.line.LineEntry.{LineEntry}
+use Rattle.cw_scraps.specs.declared.pieces.Insert.{Insert}
+use Rattle.cw_scraps.specs.Lines.{no_entry, roots_of, AreRoots}
+use Rattle.cw_scraps.specs.Inserting.{insert_in, inserted_by, inserting, math_insert, toggle, toggled}
+use Rattle.cw_scraps.specs.Inserting.{IsInsertionWithin, IsPieceWithin}
+use Rattle.cw_scraps.specs.Building.{Joins}
+use Rattle.cw_scraps.proofs.Buildings.{joins-next, joins-put, joins-within}
+
+-- the next of the pieces, by its insertion
+pub record Inserts (pieces : List Piece) (i : ℕ) (insertion : Insertion) : Type 0 where
+  pub piece : Piece
+  pub at : drop i pieces ≡ piece ∷ drop (i + 1) pieces
+  pub is : insertion_of piece ≡ insertion
+
+pub inserts : (pieces : List Piece) (i : ℕ) (insertion : Insertion) → i < length pieces
+    → option_map insertion_of (slice_get pieces i) ≡ Some insertion → Inserts pieces i insertion
+inserts pieces i insertion inside is = record {
+  piece = get_or pieces i piece.Unused;
+  at = drop_more pieces i piece.Unused inside;
+  is = same (ap (option_map insertion_of) (sym (slice_get-get_or pieces i piece.Unused inside)) ∙ is);
+}
+  where
+    same : Some (insertion_of (get_or pieces i piece.Unused)) ≡ Some insertion
+        → insertion_of (get_or pieces i piece.Unused) ≡ insertion
+    same e = cc
+
+-- a scrap that is joined as it is, or in math
+plain : (token : Token) (l r : MathMode) → ◌≡◌ {A = Insert} (record { token = token; left = l; right = r })
+    (insert_in Maybe token l r)
+plain token Maybe Maybe = refl
+plain token Maybe Text = refl
+plain token Maybe Math = refl
+plain token Text r = refl
+plain token Math r = refl
+
+math : (token : Token) (l r : MathMode) → math_insert token l r ≡ insert_in Math token l r
+math token Maybe Maybe = refl
+math token Maybe Text = refl
+math token Maybe Math = refl
+math token Text r = refl
+math token Math r = refl
+
+inserting-is : (entries : List LineEntry) (p : Piece) → inserting entries p ≡ inserted_by entries (insertion_of p)
+inserting-is entries (piece.Scrap k) =
+    plain (ListOf (get_or entries k no_entry).list) (get_or entries k no_entry).left (get_or entries k no_entry).right
+inserting-is entries (piece.MathScrap k) =
+    math (ListOf (get_or entries k no_entry).list) (get_or entries k no_entry).left (get_or entries k no_entry).right
+inserting-is entries _ = refl
+
+within-is : (place count : ℕ) (p : Piece) → IsPieceWithin place count p → IsInsertionWithin place count (insertion_of p)
+within-is place count (piece.Scrap k) h = h
+within-is place count (piece.MathScrap k) h = h
+within-is place count _ h = tt
+
+module _ (lists : List (List Token)) (entries : List LineEntry) (pieces : List Piece) (spare i : ℕ)
+    (left mode : MathMode) (store : StoredLists) (j : Joins lists entries pieces spare i left mode store)
+    (insertion : Insertion) (next : Inserts pieces i insertion) (roots : AreRoots lists (roots_of entries)) where
+  same : inserting entries next.piece ≡ inserted_by entries insertion
+  same = inserting-is entries next.piece ∙ ap (inserted_by entries) next.is
+
+  pub inserts-within : (place count : ℕ) → count ≡ place + length entries → 2 ≤ store.spare
+      → IsInsertionWithin place count insertion
+  inserts-within place count long room =
+      subst (IsInsertionWithin place count) next.is (within-is place count next.piece
+      (joins-within lists entries pieces spare i left mode store j next.piece next.at roots place count long room))
+
+  pub inserts-put : 2 ≤ store.spare
+      → MayBePushed (toggled mode (inserted_by entries insertion).left store) (inserted_by entries insertion).token
+  inserts-put room =
+      subst (λ (x : Insert). MayBePushed (toggled mode x.left store) x.token) same
+      (joins-put lists entries pieces spare i left mode store j next.piece next.at roots room)
+
+  pub inserts-next : (new : StoredLists) → new.building
+      ≡ option_map (λ tokens. tokens ++ (inserted_by entries insertion).token ∷ [])
+      (toggled mode (inserted_by entries insertion).left store).building → new.lists ≡ store.lists
+      → new.spare + 1 + length (toggle mode (inserted_by entries insertion).left) ≡ store.spare
+      → Joins lists entries pieces spare (i + 1) (first_mode left (inserted_by entries insertion).left)
+      (after mode (inserted_by entries insertion).left (inserted_by entries insertion).right) new
+  inserts-next new built same_lists spent =
+      subst (λ (x : Insert). Joins lists entries pieces spare (i + 1) (first_mode left x.left)
+      (after mode x.left x.right) new) same
+      (joins-next lists entries pieces spare i left mode store j next.piece next.at roots new
+      (subst (λ (x : Insert). new.building ≡ option_map (λ tokens. tokens ++ x.token ∷ [])
+      (toggled mode x.left store).building) (sym same) built) same_lists
+      (subst (λ (x : Insert). new.spare + 1 + length (toggle mode x.left) ≡ store.spare) (sym same) spent))
