@@ -11,7 +11,7 @@ ghost use Rattle.cw_scraps.specs.Inserting.{IsInsertionWithin, IsRun};
 
 use crate::PRODUCTION_TOKENS;
 use crate::line::{Part, ScrapLine};
-use crate::pieces::{Insert, after, first_mode, scrap_insert, scrap_insert_in};
+use crate::pieces::{Insert, first_mode, scrap_insert, scrap_insert_in};
 use cw_base::MathMode;
 use cw_table::{Insertion, RowAtHand};
 use cw_tokens::{Token, TokenStore};
@@ -99,7 +99,8 @@ fn put_piece(
     }
 }
 
-/// Puts a control that needs a mode into the list that is being built, and before it the toggle that it needs.
+/// Puts a control that needs a mode into the list that is being built, and before it the toggle that it needs. Mostly
+/// the mode is the one so far, which stays.
 #[inline(always)]
 fn put_sign(control: Control, mode: MathMode, modes: Modes, store: &mut TokenStore) -> Modes
     requires begun { modes.left ≡ Maybe → modes.right ≡ Maybe }
@@ -112,6 +113,10 @@ fn put_sign(control: Control, mode: MathMode, modes: Modes, store: &mut TokenSto
     ensures lists { store.new.lists ≡ store.old.lists }
     ensures spare { store.new.spare + 1 + length (toggle modes.right mode) ≡ store.old.spare }
 {
+    if mode == modes.right {
+        store.push(Token::Control(control));
+        return modes;
+    }
     let modes = put_toggle(mode, mode, modes, store);
     store.push(Token::Control(control));
     modes
@@ -131,40 +136,14 @@ fn put_scrap(insert: Insert, modes: Modes, store: &mut TokenStore) -> Modes
     ensures lists { store.new.lists ≡ store.old.lists }
     ensures spare { store.new.spare + 1 + length (toggle modes.right insert.left) ≡ store.old.spare }
 {
-    let modes = put_scrap_toggle(insert.left, insert.right, modes, store);
+    let modes = put_toggle(insert.left, insert.right, modes, store);
     store.push(insert.token);
     modes
 }
 
-/// Puts the toggle that a piece with these two modes needs, and answers the modes behind the piece. Quick where the
-/// piece begins in the mode so far.
+/// Puts the toggle that a piece with these two modes needs, and answers the modes behind the piece.
 #[inline(always)]
 fn put_toggle(left: MathMode, right: MathMode, modes: Modes, store: &mut TokenStore) -> Modes
-    requires begun { modes.left ≡ Maybe → modes.right ≡ Maybe }
-    requires building { IsSome store.old.building }
-    requires room { 0 < store.old.spare }
-    ensures left { result.left ≡ first_mode modes.left left }
-    ensures right { result.right ≡ after modes.right left right }
-    ensures building { store.new.building ≡
-        option_map (λ tokens. tokens ++ toggle modes.right left) store.old.building }
-    ensures lists { store.new.lists ≡ store.old.lists }
-    ensures spare { store.new.spare + length (toggle modes.right left) ≡ store.old.spare }
-{
-    if left == modes.right {
-        return Modes {
-            left: modes.left,
-            right: after(modes.right, left, right),
-        };
-    }
-    if left == MathMode::Maybe {
-        return modes;
-    }
-    switch_mode(left, right, modes, store)
-}
-
-/// The same, quick for a piece that could be in either mode, as most scraps.
-#[inline(always)]
-fn put_scrap_toggle(left: MathMode, right: MathMode, modes: Modes, store: &mut TokenStore) -> Modes
     requires begun { modes.left ≡ Maybe → modes.right ≡ Maybe }
     requires building { IsSome store.old.building }
     requires room { 0 < store.old.spare }
@@ -184,25 +163,10 @@ fn put_scrap_toggle(left: MathMode, right: MathMode, modes: Modes, store: &mut T
             right,
         };
     }
-    switch_mode(left, right, modes, store)
-}
-
-/// The same for any piece.
-#[inline(always)]
-fn switch_mode(left: MathMode, right: MathMode, modes: Modes, store: &mut TokenStore) -> Modes
-    requires building { IsSome store.old.building }
-    requires room { 0 < store.old.spare }
-    ensures left { result.left ≡ first_mode modes.left left }
-    ensures right { result.right ≡ after modes.right left right }
-    ensures building { store.new.building ≡
-        option_map (λ tokens. tokens ++ toggle modes.right left) store.old.building }
-    ensures lists { store.new.lists ≡ store.old.lists }
-    ensures spare { store.new.spare + length (toggle modes.right left) ≡ store.old.spare }
-{
     push_toggle(modes.right, left, store);
     Modes {
         left: first_mode(modes.left, left),
-        right: after(modes.right, left, right),
+        right,
     }
 }
 

@@ -1,7 +1,7 @@
 //! What a piece of a production puts into a list.
 ghost use Rattle.std.specs.Prelude.{◌≡◌, ℕ, ◌+◌, ◌<◌, [], ◌∷◌, length, drop};
 ghost use Rattle.cw_base.specs.declared.mode.MathMode.TheVariants.{Maybe};
-ghost use Rattle.cw_trees.specs.Joining.{after, first_mode};
+ghost use Rattle.cw_trees.specs.Joining.{first_mode};
 ghost use Rattle.cw_table.specs.declared.types.Insertion.TheVariants.{Scrap};
 ghost use Rattle.cw_table.specs.declared.types.RowResult.TheVariants.{SameAs};
 ghost use Rattle.cw_table.specs.Rows.{pieces_by, result_at};
@@ -19,16 +19,6 @@ pub struct Insert {
     pub token: Token,
     pub left: MathMode,
     pub right: MathMode,
-}
-
-/// The mode so far after a piece: as before where its left mode is `Maybe`, else its right mode.
-pub fn after(mode: MathMode, left: MathMode, right: MathMode) -> MathMode
-    ensures { result ≡ after mode left right }
-{
-    match left {
-        MathMode::Maybe => mode,
-        MathMode::Text | MathMode::Math => right,
-    }
 }
 
 /// The first of two modes that is not `Maybe`.
