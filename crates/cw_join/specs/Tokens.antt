@@ -1,6 +1,6 @@
 -- What an item prints where it is in no run.
 use Rattle.std.specs.Prelude.{◌≡◌, ℕ, ◌<◌, ◌||◌, Bool, codes, eqb, true, false, List, [], ◌∷◌, option_map, slice_get}
-use Rattle.std.specs.Prelude.{unwrap_or}
+use Rattle.std.specs.Prelude.{None, unwrap_or}
 use Rattle.cw_names.specs.Names.{Entry}
 use Rattle.cw_tokens.specs.declared.flat.FlatItem.{FlatItem}
 use Rattle.cw_tokens.specs.declared.flat.FlatItem.TheVariants.{Source, Ident, Reserved, Control, Open, Close}
@@ -8,7 +8,7 @@ use Rattle.cw_tokens.specs.FlatItems.{item_is}
 use Rattle.cw_trees.specs.declared.Control.{Control as Sign}
 use Rattle.cw_trees.specs.declared.Control.TheVariants.{CommentEnd, NameText, NameEnd}
 use Rattle.cw_trees.specs.Flat.{is_inserted_sign}
-use Rattle.cw_trees.specs.Printing.{Printable, ident_bytes, reserved_bytes, sign_bytes}
+use Rattle.cw_trees.specs.Printing.{Printable, ident_bytes, opened, reserved_bytes, run_sign, sign_bytes}
 use Rattle.cw_join.specs.declared.token.FlatToken.{FlatToken}
 
 -- a byte that has a backslash in a name
@@ -73,3 +73,9 @@ pub record CanCome (names depth : ℕ) (item : FlatItem) : Type 0 where
   pub named : IsNamed names item
   pub room : HasRoom depth item
   pub prints : is_inserted item ≡ false
+
+-- An item that is in no run prints this one byte, whatever the names are, and opens and closes nothing.
+pub record PrintsByte (item : FlatItem) (byte : ℕ) : Type 0 where
+  pub in_no_run : run_sign (item_is item) ≡ None
+  pub bytes : (names : List Entry) → item_bytes names item [] ≡ byte ∷ []
+  pub depth : (depth : ℕ) → opened depth (item_is item) ≡ depth

@@ -1,6 +1,7 @@
 //! The joining of items behind bytes in memory, which go to a line together.
-ghost use Rattle.std.specs.Prelude.{◌≡◌, ◌∷◌, ◌++◌, [], false, List, OnOk, OnErr, length};
+ghost use Rattle.std.specs.Prelude.{◌≡◌, ◌∷◌, ◌++◌, [], false, IfSome, List, OnOk, OnErr, length};
 ghost use Rattle.std.specs.Bool.{OnFalse};
+ghost use Rattle.cw_trees.specs.declared.Control.TheVariants.{OpenRelation};
 ghost use Rattle.cw_trees.specs.Printing.{Printable, break_bytes, indent_bytes, opened};
 ghost use Rattle.cw_tokens.specs.FlatItems.{item_is};
 ghost use Rattle.cw_join.specs.Appending.{StaysBefore};
@@ -8,7 +9,7 @@ ghost use Rattle.cw_join.specs.Early.{added, late, run_front};
 ghost use Rattle.cw_join.specs.Runs.{run_more, run_state, state_back, strength_of};
 ghost use Rattle.cw_join.specs.Standing.{Stands};
 ghost use Rattle.cw_join.specs.Stretches.{is_inner};
-ghost use Rattle.cw_join.specs.Tokens.{CanCome, IsNamed, alone, control_bytes, item_bytes};
+ghost use Rattle.cw_join.specs.Tokens.{CanCome, IsNamed, PrintsByte, alone, control_bytes, item_bytes};
 
 use crate::joiner::{Joiner, depth_behind, step};
 use crate::names_behind::{append_few, append_ident, append_reserved};
@@ -26,6 +27,28 @@ impl Joiner {
     /// behind.
     #[inline(always)]
     pub fn append(&mut self, item: FlatItem, names: &Names, out: &mut Bytes) -> Result<(), Memory>
+        requires come { CanCome (length names.now) self.old.depth item }
+        ensures bytes { (ps : List Printable) → Stands self.old ps
+            → OnOk result (out.new ≡ out.old ++ added self.old.inner ps (alone names.now item)) }
+        ensures stands { (ps : List Printable) (p : Printable) → Stands self.old ps → p.item ≡ item_is item
+            → OnOk result (Stands self.new (ps ++ p ∷ [])) }
+        ensures inner { OnOk result (self.new.inner ≡ self.old.inner) }
+        ensures stays { OnErr result (StaysBefore out.old out.new) }
+    {
+        match lone_byte(item) {
+            Some(byte) => self.append_byte(byte, out),
+            None => self.append_longer(item, names, out),
+        }
+    }
+
+    // The same of any item. Few that get here are a control of one byte.
+    #[inline(always)]
+    fn append_longer(
+        &mut self,
+        item: FlatItem,
+        names: &Names,
+        out: &mut Bytes,
+    ) -> Result<(), Memory>
         requires come { CanCome (length names.now) self.old.depth item }
         ensures bytes { (ps : List Printable) → Stands self.old ps
             → OnOk result (out.new ≡ out.old ++ added self.old.inner ps (alone names.now item)) }
@@ -111,13 +134,50 @@ impl Joiner {
         }) }
         ensures stays { OnErr result (StaysBefore out.old out.new) }
     {
+        self.finish_run(out)?;
+        append_item(item, names, out)?;
+        self.depth = depth_behind(self.depth, item);
+        Ok(())
+    }
+
+    // So does a control of one byte.
+    #[inline(always)]
+    fn append_byte(&mut self, byte: u8, out: &mut Bytes) -> Result<(), Memory>
+        ensures bytes { OnOk result (out.new ≡ out.old
+            ++ (state_back (is_inner self.old.inner self.old.depth) self.old.run ++ byte ∷ [])) }
+        ensures state { OnOk result (self.new ≡ record self.old { run = run_state [] }) }
+        ensures stays { OnErr result (StaysBefore out.old out.new) }
+    {
+        self.finish_run(out)?;
+        out.push(byte)
+    }
+
+    // Appends what the run has still to print, if there is one. The next item begins a new one.
+    #[inline(always)]
+    fn finish_run(&mut self, out: &mut Bytes) -> Result<(), Memory>
+        ensures bytes { OnOk result (out.new
+            ≡ out.old ++ state_back (is_inner self.old.inner self.old.depth) self.old.run) }
+        ensures state { OnOk result (self.new ≡ record self.old { run = run_state [] }) }
+        ensures stays { OnErr result (StaysBefore out.old out.new) }
+    {
         if !self.run.is_empty() {
             self.append_run(out)?;
             self.run = Run::new();
         }
-        append_item(item, names, out)?;
-        self.depth = depth_behind(self.depth, item);
         Ok(())
+    }
+}
+
+// The byte of a control that prints one and is in no run. Most controls are such.
+#[inline(always)]
+fn lone_byte(item: FlatItem) -> Option<u8>
+    ensures { IfSome result (PrintsByte item) }
+{
+    match item {
+        FlatItem::Control(Control::OpenBrace) => Some(b'{'),
+        FlatItem::Control(Control::CloseBrace) => Some(b'}'),
+        FlatItem::Control(Control::Dollar) => Some(b'$'),
+        _ => None,
     }
 }
 
@@ -186,7 +246,7 @@ fn append_item(item: FlatItem, names: &Names, out: &mut Bytes) -> Result<(), Mem
     }
 }
 
-// Appends what a control prints that is in no run. Most begin or end a formula.
+// Appends what a control prints that is in no run. Many begin or end a formula, or begin a relation.
 #[inline(always)]
 fn append_sign(control: Control, out: &mut Bytes) -> Result<(), Memory>
     ensures bytes { OnOk result (out.new ≡ out.old ++ control_bytes control []) }
@@ -195,10 +255,20 @@ fn append_sign(control: Control, out: &mut Bytes) -> Result<(), Memory>
     match control {
         Control::ToMath => append_few(b"${}", out),
         Control::ToText => append_few(b"{}$", out),
+        Control::OpenRelation => append_relation(out),
         _ => match sign(control, &[]) {
             [] => Ok(()),
             [byte] => out.push(*byte),
             bytes => append_many(bytes, out),
         },
     }
+}
+
+// Appends what begins a relation. It stands apart, so that the loop over the items stays small.
+#[inline(never)]
+fn append_relation(out: &mut Bytes) -> Result<(), Memory>
+    ensures bytes { OnOk result (out.new ≡ out.old ++ control_bytes OpenRelation []) }
+    ensures stays { OnErr result (StaysBefore out.old out.new) }
+{
+    out.append(b"\\MRL{")
 }
