@@ -4,6 +4,7 @@ pub mod Constants
 pub mod Texts
 pub mod Comments
 pub mod Tokens
+pub mod Signs
 pub mod Found
 pub mod Scanning
 pub mod Showing

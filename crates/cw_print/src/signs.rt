@@ -1,5 +1,6 @@
 //! The macros of signs.
-ghost use Rattle.std.specs.Prelude.{◌≡◌, ◌∷◌, ◌++◌, [], IfSome, OnOk};
+ghost use Rattle.std.specs.Prelude.{◌≡◌, ◌∷◌, ◌++◌, [], OnOk};
+ghost use Rattle.cw_print.specs.Signs.{HasForm};
 ghost use Rattle.cw_print.specs.Tokens.{sign_macro};
 
 use crate::escaping::put_few;
@@ -52,26 +53,46 @@ pub(crate) fn sign_macro(sign: Sign) -> &'static [u8]
     }
 }
 
-// The byte of a sign that prints one: most do.
-fn lone_byte(sign: Sign) -> Option<u8>
-    ensures { IfSome result (λ byte. sign_macro sign ≡ byte ∷ []) }
+// What a sign prints, by its length: itself, a backslash and a letter, or more.
+#[derive(Clone, Copy)]
+enum Form {
+    Itself(u8),
+    Letter(u8),
+    Longer,
+}
+
+#[inline(always)]
+fn form_of(sign: Sign) -> Form
+    ensures { HasForm sign result }
 {
     match sign {
-        Sign::Slash => Some(b'/'),
-        Sign::Dot => Some(b'.'),
-        Sign::Less => Some(b'<'),
-        Sign::Greater => Some(b'>'),
-        Sign::Plus => Some(b'+'),
-        Sign::Minus => Some(b'-'),
-        Sign::Star => Some(b'*'),
-        Sign::LeftParen => Some(b'('),
-        Sign::LeftBracket => Some(b'['),
-        Sign::RightParen => Some(b')'),
-        Sign::RightBracket => Some(b']'),
-        Sign::Comma => Some(b','),
-        Sign::Semicolon => Some(b';'),
-        Sign::Colon => Some(b':'),
-        _ => None,
+        Sign::Slash => Form::Itself(b'/'),
+        Sign::Dot => Form::Itself(b'.'),
+        Sign::Less => Form::Itself(b'<'),
+        Sign::Greater => Form::Itself(b'>'),
+        Sign::Assign => Form::Letter(b'K'),
+        Sign::Equal => Form::Letter(b'E'),
+        Sign::NotEqual => Form::Letter(b'I'),
+        Sign::AtMost => Form::Letter(b'Z'),
+        Sign::AtLeast => Form::Letter(b'G'),
+        Sign::AndAnd => Form::Letter(b'W'),
+        Sign::OrOr => Form::Letter(b'V'),
+        Sign::Not => Form::Letter(b'R'),
+        Sign::Plus => Form::Itself(b'+'),
+        Sign::Minus => Form::Itself(b'-'),
+        Sign::Hash => Form::Letter(b'#'),
+        Sign::Star => Form::Itself(b'*'),
+        Sign::Question => Form::Letter(b'?'),
+        Sign::LeftParen => Form::Itself(b'('),
+        Sign::LeftBracket => Form::Itself(b'['),
+        Sign::RightParen => Form::Itself(b')'),
+        Sign::RightBracket => Form::Itself(b']'),
+        Sign::LeftBrace => Form::Letter(b'{'),
+        Sign::RightBrace => Form::Letter(b'}'),
+        Sign::Comma => Form::Itself(b','),
+        Sign::Semicolon => Form::Itself(b';'),
+        Sign::Colon => Form::Itself(b':'),
+        _ => Form::Longer,
     }
 }
 
@@ -80,16 +101,19 @@ fn lone_byte(sign: Sign) -> Option<u8>
 pub(crate) fn put_sign(out: &mut Bytes, sign: Sign) -> Result<(), Memory>
     ensures { OnOk result (out.new ≡ out.old ++ sign_macro sign) }
 {
-    if let Some(byte) = lone_byte(sign) {
-        return out.push(byte);
+    match form_of(sign) {
+        Form::Itself(byte) => out.push(byte),
+        Form::Letter(letter) => put_two(out, b'\\', letter),
+        Form::Longer => put_many(out, sign_macro(sign)),
     }
-    match sign_macro(sign) {
-        [first, second] => {
-            out.push(*first)?;
-            out.push(*second)
-        }
-        bytes => put_many(out, bytes),
-    }
+}
+
+#[inline(always)]
+fn put_two(out: &mut Bytes, first: u8, second: u8) -> Result<(), Memory>
+    ensures { OnOk result (out.new ≡ out.old ++ (first ∷ second ∷ [])) }
+{
+    out.push(first)?;
+    out.push(second)
 }
 
 // Appends bytes one by one. It stands apart, since few signs print as many.
