@@ -1,6 +1,6 @@
 -- The walk that lays a tree flat and trims it.
 use Rattle.std.proofs.Common.{◌≡◌, ℕ, zero, suc, ◌+◌, ◌-◌, ◌<◌, ◌≤◌, List, [], ◌∷◌, ◌++◌, length, reverse}
-use Rattle.std.proofs.Common.{slice_index_or, take, drop, Option, Some, None, Result, OnOk, get_or, refl, sym, ap, ◌∙◌}
+use Rattle.std.proofs.Common.{slice_index_or, take, drop, Some, Result, OnOk, get_or, refl, sym, ap, ◌∙◌}
 use Rattle.std.proofs.Common.{subst, arith}
 use Rattle.std.specs.List.{slice_get}
 use Rattle.std.proofs.lemmas.List.{append_assoc, append-nil, reverse-append, take_all}
@@ -14,7 +14,7 @@ use Rattle.cw_tokens.specs.declared.walk.Part.TheVariants.{InnerBelow as inner_p
 use Rattle.cw_tokens.specs.Shapes.{Shape, Plain, Below, InnerBelow, shape, ref_of, item_of, tree_in, trees_from}
 use Rattle.cw_tokens.specs.Shapes.{unfolded}
 use Rattle.cw_tokens.specs.References.{token_ref, IsTied}
-use Rattle.cw_tokens.specs.Ahead.{GoesAbove, MayStandFor, ReferWithin, RefersWithin, closing_of}
+use Rattle.cw_tokens.specs.Ahead.{GoesAbove, IsLoneWord, MayStandFor, ReferWithin, RefersWithin, closing_of}
 use Rattle.cw_tokens.specs.Ahead.{flat_above, size_of, Lays, TrimsAhead}
 use Rattle.cw_tokens.specs.FlatItems.{item_is, IsPart}
 use Rattle.cw_tokens.specs.Trimming.{Trims, StandsFor}
@@ -54,15 +54,6 @@ item-size trees (Plain leaf) rest = omega arith
 item-size trees (Below x) rest = omega arith
 item-size trees (InnerBelow x) rest = omega arith
 
--- how far below a token the list may stand to which it refers
-abbrev pub below-of : Option ℕ → ℕ
-below-of None = 0
-below-of (Some x) = suc x
-
-below-less : (o : Option ℕ) (x : ℕ) → ((y : ℕ) → o ≡ Some y → y < x) → below-of o < suc x
-below-less None x h = omega arith
-below-less (Some y) x h = let low : y < x = h y refl in omega arith
-
 pub stands-itself : (ls : List (List Token)) (token : Token) → RefersWithin (length ls) token
     → MayStandFor ls token token
 stands-itself ls token within = record { same = λ rest. refl; smaller = λ rest. omega arith; within = within }
@@ -75,10 +66,6 @@ module _ (ls : List (List Token)) (tied : IsTied ls) where
 
     only-tree : get_or (trees_from [] ls) x Empty ≡ item_of (trees_from [] ls) (shape only) Empty
     only-tree = unfold-is ls x tied lt ∙ ap (tree_in (trees_from [] ls)) (sym one)
-
-    pub only-less : (s : Shape) → s ≡ Below x → below-of (ref_of (shape only)) < below-of (ref_of s)
-    only-less s e = subst (λ (r : Shape). below-of (ref_of (shape only)) < below-of (ref_of r)) (sym e)
-        (below-less (ref_of (shape only)) x only-earlier)
 
     pub only-stands : (token at : Token) → MayStandFor ls token at → shape at ≡ Below x → MayStandFor ls token only
     only-stands token at m e = record {
@@ -251,6 +238,13 @@ pub first-within : (count : ℕ) (rest : List Token) (d : Token) → ReferWithin
 first-within count [] d w some = absurd (omega arith)
 first-within count (t ∷ ts) d w some = w.0
 
+-- the first token, as it is read, may stand for itself
+pub first-itself : (ls : List (List Token)) (rest : List Token) (d u : Token) → slice_index_or rest 0 d ≡ u
+    → ReferWithin (length ls) rest → 1 ≤ length rest → MayStandFor ls (slice_index_or rest 0 d) u
+first-itself ls rest d u e within some =
+    subst (λ (t : Token). MayStandFor ls (slice_index_or rest 0 d) t) e
+    (stands-itself ls (slice_index_or rest 0 d) (first-within (length ls) rest d within some))
+
 -- a walk goes on by one token
 module _ (ls : List (List Token)) (tied : IsTied ls) (first : List Token) (old : List Above) (before : Trims)
     (rest : List Token) (above : List Above) (trims : Trims) (w : Lays ls first old before rest above trims)
@@ -306,6 +300,18 @@ module _ (ls : List (List Token)) (tied : IsTied ls) (first : List Token) (old :
     no_more = omega (arith, inner-smaller ls t behind above u m x below tied read new is up, now.no_more);
     within = list-within ls tied x below (inner-inside ls t u m x is) read;
   }
+
+-- A list of one word is laid flat as that word.
+pub lays-word : (ls : List (List Token)) (tied : IsTied ls) (first : List Token) (old : List Above) (before : Trims)
+    (rest : List Token) (above : List Above) (trims : Trims) (w : Lays ls first old before rest above trims) (d : Token)
+    (some : 1 ≤ length rest) (u : Token) (m : MayStandFor ls (slice_index_or rest 0 d) u) (x : ℕ) (below : List Token)
+    → below ≡ get_or ls x [] → IsPart (shape u) (below_part x) → (item : FlatItem) → IsLoneWord below item
+    → {new : Trims} → ((given : List Item) → StandsFor trims given → StandsFor new (given ++ item_is item ∷ []))
+    → Lays ls first old before (take (length rest - 1) (drop 1 rest)) above new
+lays-word ls tied first old before rest above trims w d some u m x below read is item word {new} push =
+    lays-leaf ls tied first old before rest above trims w d some word.only
+    (only-stands ls tied x word.only (below-inside ls (slice_index_or rest 0 d) u m x is) (sym word.is ∙ read)
+    (slice_index_or rest 0 d) u m (below-ref (shape u) x is)) new item word.part push
 
 -- a list has ended, and the one above it goes on
 pub ahead-up : (ls : List (List Token)) (up : Above) (ups : List Above) (trims new : Trims) (all : List Item)

@@ -4,6 +4,9 @@ use Rattle.cw_trees.specs.Flat.{Item, Close as close_item, flat}
 use Rattle.cw_trees.specs.Tree.{Tree}
 use Rattle.cw_tokens.specs.declared.token.Token.{Token}
 use Rattle.cw_tokens.specs.declared.flat.Above.{Above}
+use Rattle.cw_tokens.specs.declared.flat.FlatItem.{FlatItem}
+use Rattle.cw_tokens.specs.declared.walk.Part.TheVariants.{Leaf}
+use Rattle.cw_tokens.specs.FlatItems.{IsPart}
 use Rattle.cw_tokens.specs.Shapes.{shape, ref_of, item_of, tree_in, trees_from}
 use Rattle.cw_tokens.specs.Trimming.{Trims, StandsFor}
 use Rattle.cw_tokens.specs.Walking.{size}
@@ -27,6 +30,12 @@ pub record MayStandFor (lists : List (List Token)) (token other : Token) : Type 
   pub smaller : (rest : Tree) → size (item_of (trees_from [] lists) (shape other) rest) ≤ size
       (item_of (trees_from [] lists) (shape token) rest)
   pub within : RefersWithin (length lists) other
+
+-- the list is one token, which is this item
+pub record IsLoneWord (list : List Token) (item : FlatItem) : Type 0 where
+  pub only : Token
+  pub is : list ≡ only ∷ []
+  pub part : IsPart (shape only) (Leaf item)
 
 -- the brackets of so many inner texts that end together, of which there is one at most
 abbrev pub closing_of : ℕ → List Item

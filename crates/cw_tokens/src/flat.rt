@@ -1,11 +1,12 @@
 //! A tree laid flat: its items in order, as they stand or trimmed in the same walk.
-ghost use Rattle.std.specs.Prelude.{◌≡◌, ◌+◌, ◌-◌, ◌<◌, ◌≤◌, List, ◌++◌, length, IfOk, OnOk, Some, IsTrue, ◌↔◌};
+ghost use Rattle.std.specs.Prelude.{◌≡◌, ◌+◌, ◌-◌, ◌<◌, ◌≤◌, List, ◌++◌, length, IfOk, IfSome, OnOk, Some, IsTrue};
+ghost use Rattle.std.specs.Prelude.{◌↔◌};
 ghost use Rattle.std.specs.Prelude.{[], reverse, slice_get};
 ghost use Rattle.cw_trees.specs.Flat.{Item, flat, trimmed};
 ghost use Rattle.cw_tokens.specs.Shapes.{shape, unfolded};
 ghost use Rattle.cw_tokens.specs.Stored.{cut, last_end, IsAscending, IsLinked};
 ghost use Rattle.cw_tokens.specs.FlatItems.{items_are, closing};
-ghost use Rattle.cw_tokens.specs.Ahead.{GoesAbove, Lays, MayStandFor, ReferWithin, RefersWithin, closing_of};
+ghost use Rattle.cw_tokens.specs.Ahead.{GoesAbove, IsLoneWord, Lays, ReferWithin, closing_of};
 ghost use Rattle.cw_tokens.specs.References.{IsTied};
 ghost use Rattle.cw_tokens.specs.Trimming.{StandsFor};
 
@@ -217,7 +218,7 @@ fn lay_rest<'a>(
     let mut rest = first;
     while let [token, behind @ ..] = rest {
         // An arm for each kind, so that the trimmer needn't ask for it again.
-        match alone_below(tokens, ends, *token) {
+        match *token {
             Token::Source(number, _) => {
                 out.push(FlatItem::Source(number))?;
                 rest = behind;
@@ -235,8 +236,17 @@ fn lay_rest<'a>(
                 rest = behind;
             }
             Token::List(below) => {
-                put_above(above, behind, 0)?;
-                rest = list_at(tokens, ends, below.index);
+                let list = list_at(tokens, ends, below.index);
+                match lone_word(list) {
+                    Some(word) => {
+                        out.push(word)?;
+                        rest = behind;
+                    }
+                    None => {
+                        put_above(above, behind, 0)?;
+                        rest = list;
+                    }
+                }
             }
             Token::Inner(below) => {
                 out.push(FlatItem::Open)?;
@@ -248,23 +258,20 @@ fn lay_rest<'a>(
     Ok(())
 }
 
-/// The token that is laid flat in place of another: of a list that is one token that one, as most lists are.
+/// The item of a list of one token that refers to none and is no control, as most lists are.
 #[inline(always)]
-fn alone_below(tokens: &[Token], ends: &[usize], token: Token) -> Token
-    requires ascending { IsAscending 0 ends.now }
-    requires within { last_end 0 ends.now ≤ length tokens.now }
-    requires tied { IsTied (cut 0 ends.now tokens.now) }
-    requires stored { RefersWithin (length ends.now) token }
-    ensures { MayStandFor (cut 0 ends.now tokens.now) token result }
+fn lone_word(list: &[Token]) -> Option<FlatItem>
+    ensures { IfSome result (IsLoneWord list.now) }
 {
-    let mut at = token;
-    while let Token::List(below) = at {
-        let [only] = list_at(tokens, ends, below.index) else {
-            return at;
-        };
-        at = *only;
+    let [only] = list else {
+        return None;
+    };
+    match *only {
+        Token::Source(number, _) => Some(FlatItem::Source(number)),
+        Token::Ident(name, number) => Some(FlatItem::Ident(name, number)),
+        Token::Reserved(name, number, _) => Some(FlatItem::Reserved(name, number)),
+        Token::Control(_) | Token::List(_) | Token::Inner(_) => None,
     }
-    at
 }
 
 /// Puts what is still to come of a list above the one below it. Of a list that ends with that one nothing is to come.
