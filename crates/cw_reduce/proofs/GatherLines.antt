@@ -1,6 +1,6 @@
 -- How the list of a whole line, and that of a comment, is built one scrap or part after the other.
 use Rattle.std.proofs.Common.{◌≡◌, ℕ, ◌+◌, ◌<◌, ◌≤◌, List, [], ◌∷◌, ◌++◌, length, map, drop, get_or, refl, sym, ap, ◌∙◌}
-use Rattle.std.proofs.Common.{subst, option_map, add-one}
+use Rattle.std.proofs.Common.{subst, Some, option_map, add-one, arith}
 use Rattle.std.specs.Option.{option_to_list}
 use Rattle.std.proofs.lemmas.List.{drop_more, drop_all}
 use Rattle.cw_tokens.specs.declared.token.Token.{Token}
@@ -14,7 +14,8 @@ use Rattle.cw_scraps.specs.Lines.{scraps_of, roots_of, no_entry, AreRoots}
 use Rattle.cw_reduce.specs.declared.gathering.CommentPart.{CommentPart}
 use Rattle.cw_reduce.specs.Translating.{comment_tree}
 use Rattle.cw_reduce.specs.Gathering.{refs_in, Gathers, text_tokens, separator, part_seen, inner_lists, token_of}
-use Rattle.cw_reduce.proofs.GatherSteps.{Builds, builds-more, builds-pushed, builds-may, builds-lists, builds-gathers}
+use Rattle.cw_reduce.proofs.GatherSteps.{Builds, builds-start, builds-more, builds-pushed, builds-may, builds-lists}
+use Rattle.cw_reduce.proofs.GatherSteps.{builds-gathers}
 use Rattle.cw_reduce.proofs.GatherTrees.{whole_from, comment_end, comment_tokens, text-refs, whole-cons, whole-refs}
 use Rattle.cw_reduce.proofs.GatherTrees.{whole-unfolded, comment-unfolded, comment-refs}
 
@@ -107,3 +108,31 @@ module _ (lists : List (List Token)) (number : ℕ) (parts : List CommentPart) (
   pub parts-gathers : Gathers lists new (inner_lists parts) list
   parts-gathers = builds-gathers lists (comment_tokens number parts) store new (inner_lists parts) list b n_lists place
       (comment-refs number parts)
+
+-- A scrap that stands alone.
+module _ (lists : List (List Token)) (entry : LineEntry) (store : StoredLists) (building : store.building ≡ Some [])
+    (same : store.lists ≡ lists) (p : Part) (at : p ≡ part_of entry) where
+  abbrev one : List LineEntry
+  one = entry ∷ []
+
+  starts : Builds lists (whole_from 0 one) (whole_from 0 (drop 0 one)) store
+  starts = builds-start lists (whole_from 0 one) store building same
+
+  separated : store.building ≡ option_map (λ tokens. tokens ++ separator 0) store.building
+  separated = building ∙ ap (option_map (λ tokens. tokens ++ separator 0)) (sym building)
+
+  pub one-may : AreRoots lists (roots_of one) → MayBePushed store (ListOf p.list)
+  one-may roots = line-may lists one 0 store starts p (omega arith) at store separated refl roots
+
+  module _ (new : StoredLists) (pushed : new.building
+      ≡ option_map (λ tokens. tokens ++ text_tokens p.left p.list p.right) store.building)
+      (kept : new.lists ≡ store.lists) (ended : List (List Token)) (list : ℕ) (n_lists : ended
+      ≡ new.lists ++ option_to_list new.building) (number : list ≡ length new.lists) where
+    all-pushed : Builds lists (whole_from 0 one) (whole_from 1 (drop 1 one)) new
+    all-pushed = line-more lists one 0 store starts p (omega arith) at store separated refl new pushed kept
+
+    pub one-tree : unfolded ended list ≡ whole (scraps_of lists one)
+    one-tree = line-tree lists one 1 new all-pushed (omega arith) ended list n_lists number
+
+    pub one-gathers : Gathers lists ended (roots_of one) list
+    one-gathers = line-gathers lists one 1 new all-pushed (omega arith) ended list n_lists number

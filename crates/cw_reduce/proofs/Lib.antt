@@ -33,4 +33,6 @@ pub mod HeadMakes
 pub mod HeadFinds
 pub mod HeadLists
 pub mod HeadSteps
+pub mod AloneSteps
+pub mod FirstSteps
 mod WorkLaws

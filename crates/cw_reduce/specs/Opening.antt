@@ -16,7 +16,9 @@ use Rattle.cw_table.specs.WalkCounts.{ticks}
 use Rattle.cw_tokens.specs.declared.token.Token.{Token as StoredToken}
 use Rattle.cw_tokens.specs.Shapes.{unfolded}
 use Rattle.cw_tokens.specs.Stored.{StoredLists}
+use Rattle.cw_scraps.specs.declared.leaves.Leaf.{Leaf}
 use Rattle.cw_scraps.specs.declared.line.LineEntry.{LineEntry}
+use Rattle.cw_scraps.specs.Leaves.{entry_of}
 use Rattle.cw_scraps.specs.Lines.{scraps_of, roots_of, AreRoots, IsNamedBelow}
 use Rattle.cw_scraps.specs.Marking.{MarkList, marked_names}
 use Rattle.cw_reduce.specs.declared.gathering.CommentPart.{CommentPart}
@@ -52,6 +54,10 @@ begun_by kind.LongComment number all = Comment (holder.Comment number) [] ∷ al
 begun_by kind.ShortComment number all = Comment (holder.Comment number) [] ∷ all
 begun_by (kind.Code c) number all = Comment (holder.Name number) [] ∷ all
 begun_by _ number all = all
+
+-- a translation that has read a leaf alone
+abbrev pub of_leaf : Leaf → Translator
+of_leaf leaf = record { nesting = CText (entry_of leaf ∷ []) ∷ []; scraps = 0; productions = 0 }
 
 -- what is open, with the trees of its lists
 abbrev pub frame_of : List (List StoredToken) → Open → Frame

@@ -1,15 +1,17 @@
 //! The lists that a translation makes beside productions: those of comments, and of scraps that are left.
-ghost use Rattle.std.specs.Prelude.{◌≡◌, ◌+◌, ◌<◌, ◌≤◌, ◌++◌, length, map, IsSome, None, IfOk, OnErr, option_map};
+ghost use Rattle.std.specs.Prelude.{◌≡◌, ◌+◌, ◌<◌, ◌≤◌, [], ◌∷◌, ◌++◌, length, map, IsSome, None, IfOk, OnErr};
+ghost use Rattle.std.specs.Prelude.{option_map};
 ghost use Rattle.cw_trees.specs.Joining.{whole};
 ghost use Rattle.cw_tokens.specs.declared.token.Token.TheVariants.{«List» as ListOf};
 ghost use Rattle.cw_tokens.specs.Shapes.{unfolded};
 ghost use Rattle.cw_tokens.specs.Stored.{MayBePushed};
+ghost use Rattle.cw_scraps.specs.Leaves.{entry_of};
 ghost use Rattle.cw_scraps.specs.Lines.{scraps_of, roots_of, AreRoots};
 ghost use Rattle.cw_reduce.specs.Translating.{comment_tree};
 ghost use Rattle.cw_reduce.specs.Gathering.{Gathers, dollar, text_tokens, separator, part_seen, inner_lists, token_of};
 
 use cw_base::{MathMode, Memory};
-use cw_scraps::{Part, ScrapLine};
+use cw_scraps::{Leaf, Part, ScrapLine};
 use cw_tokens::{ListId, Token, TokenStore};
 use cw_trees::Control;
 
@@ -39,6 +41,28 @@ pub(crate) fn put_together(line: &ScrapLine, store: &mut TokenStore) -> Result<L
         push_separator(i, store);
         push_in_text(line.part_at(i), store);
     }
+    Ok(store.finish())
+}
+
+/// Puts a scrap that stands alone into a new list.
+pub(crate) fn put_alone(leaf: Leaf, store: &mut TokenStore) -> Result<ListId, Memory>
+    requires idle { store.old.building ≡ None }
+    requires roots { AreRoots store.old.lists (roots_of (entry_of leaf ∷ [])) }
+    ensures tree { IfOk result (λ list. unfolded store.new.lists list.index ≡
+        whole (scraps_of store.old.lists (entry_of leaf ∷ []))) }
+    ensures gathers { IfOk result (λ list. Gathers store.old.lists store.new.lists (roots_of (entry_of leaf ∷ []))
+        list.index) }
+    ensures idle { store.new.building ≡ None }
+    ensures refused { OnErr result (store.new.lists ≡ store.old.lists) }
+{
+    store.reserve(5)?;
+    store.begin();
+    let part = Part {
+        list: leaf.list,
+        left: leaf.left,
+        right: leaf.right,
+    };
+    push_in_text(part, store);
     Ok(store.finish())
 }
 

@@ -1,5 +1,7 @@
 //! A text behind its head, where the head is read.
-ghost use Rattle.std.specs.Prelude.{◌≡◌, ◌≤◌, ◌+◌, ◌*◌, ◌^◌, [], ◌∷◌, ◌++◌, length, IfOk, OnOk, OnErr, None};
+ghost use Rattle.std.specs.Prelude.{◌≡◌, ◌≢◌, ◌≤◌, ◌+◌, ◌*◌, ◌^◌, [], ◌∷◌, ◌++◌, length, IfOk, OnOk, OnErr, None};
+ghost use Rattle.cw_base.specs.declared.category.Cat.TheVariants as Cats;
+ghost use Rattle.cw_rules.specs.Answers.{Gives};
 ghost use Rattle.cw_lex.specs.Nested.{IsNested};
 ghost use Rattle.cw_tokens.specs.Shapes.{unfolded};
 ghost use Rattle.cw_scraps.specs.Changing.{Keeps};
@@ -9,25 +11,25 @@ ghost use Rattle.cw_answers.specs.Reading.{IsReadUp};
 ghost use Rattle.cw_reduce.specs.declared.nesting.Open.TheVariants as Opens;
 ghost use Rattle.cw_reduce.specs.Counting.{limit_in};
 ghost use Rattle.cw_reduce.specs.declared.holders.Holder.TheVariants as Holders;
-ghost use Rattle.cw_reduce.specs.HeadReading.{answers_ahead, head_line, name_ahead};
+ghost use Rattle.cw_reduce.specs.HeadReading.{answers_ahead, head_line, name_ahead, without_notes};
 ghost use Rattle.cw_reduce.specs.Heading.{NamesOfHead, NamesOfHeaded, NamesOfHeld, after_head, after_held, head_begun};
-ghost use Rattle.cw_reduce.specs.Heading.{headed_text};
+ghost use Rattle.cw_reduce.specs.Heading.{NamesOfText, headed_text};
 ghost use Rattle.cw_reduce.specs.NameParts.{AreNamesOf};
 ghost use Rattle.cw_reduce.specs.Naming.{with_texts};
-ghost use Rattle.cw_reduce.specs.Opening.{IsTranslated, IsTranslating, StartsBelow, all_roots};
+ghost use Rattle.cw_reduce.specs.Opening.{IsTranslated, IsTranslating, StartsBelow, all_roots, answers_in, of_leaf};
 ghost use Rattle.cw_reduce.specs.Reading.{after_answers};
 ghost use Rattle.cw_reduce.specs.Retyping.{NamesAmong};
-ghost use Rattle.cw_reduce.specs.Translating.{begin};
+ghost use Rattle.cw_reduce.specs.Translating.{begin, translated};
 ghost use Rattle.cw_reduce.specs.Working.{HasComeOver, IsSameWork, progress_over, texts_in};
 
-use crate::heads::{Beginning, HeadRead};
+use crate::heads::{Beginning, HeadRead, read_head};
 use crate::holders::Holder;
 use crate::translating::{Translated, Translator};
 use crate::work::{Context, Work};
 use cw_answers::Reader;
 use cw_base::{Cat, Ledger, MathMode, Memory};
 use cw_lex::Lexed;
-use cw_scraps::ScrapLine;
+use cw_scraps::{Leaf, ScrapLine};
 use std::alloc::Global;
 
 // For how many scraps a text's line has room at first, so that those of most texts are never moved.
@@ -57,6 +59,16 @@ impl Translator {
         }) }
     {
         let line = line_of(head, alloc)?;
+        Translator::over(line, alloc)
+    }
+
+    /// Nothing is counted yet, and the text begins with this scrap.
+    pub(crate) fn with_leaf(leaf: Leaf, alloc: Global) -> Result<Translator, Memory>
+        requires { leaf.cat ≢ Cats.End }
+        ensures { IfOk result (λ t. t ≡ of_leaf leaf) }
+    {
+        let mut line = ScrapLine::with_room(alloc, FIRST_SCRAPS)?;
+        line.add(leaf.cat, leaf.list, leaf.left, leaf.right)?;
         Translator::over(line, alloc)
     }
 
@@ -153,7 +165,7 @@ impl Translator {
     }
 
     /// The answers behind a head: those that were read beyond it, and then all others.
-    fn read_behind<L: Ledger>(
+    pub(crate) fn read_behind<L: Ledger>(
         &mut self,
         begun: &Beginning,
         reader: &mut Reader,
@@ -251,4 +263,41 @@ pub(crate) fn translate_headed<L: Ledger>(
     let mut translator = Translator::with_head(begun.head, context.alloc)?;
     translator.read_headed(begun, reader, context, work)?;
     translator.end(context, work)
+}
+
+/// Translates a text that has this first answer, with its head.
+#[inline(never)]
+pub(crate) fn translate_with_head<'a, L: Ledger>(
+    first: Lexed<'a>,
+    reader: &mut Reader<'a>,
+    context: &Context,
+    work: &mut Work<L>,
+) -> Result<Translated, Memory>
+    requires gives { Gives (without_notes (answers_in first ++ reader.old.coming)) first reader.old.coming }
+    requires nested { IsNested (answers_in first ++ reader.old.coming) }
+    requires start { StartsBelow (2 ^ 32) (answers_in first ++ reader.old.coming) }
+    requires kept { AreNamesOf context.now.sec_names.now context.now.uses.now }
+    requires idle { work.old.store.now.building ≡ None }
+    ensures text { IfOk result (λ done. IsTranslated context.now.flags.now work.new.store.now.lists work.new.names.now
+        work.new.marks.now done work.old.steps.now work.new.steps.now (translated context.now.flags.now
+        (texts_in context.now) (answers_in first.entry ++ reader.old.coming) work.old.names.now
+        (marked_names work.old.marks.now))) }
+    ensures read { OnOk result (IsReadUp reader.old reader.new) }
+    ensures few { IfOk result (λ done. done.productions ≤ 8 * done.scraps) }
+    ensures bound { work.new.steps.now ≤ work.old.steps.now + limit_in context.now.flags.now
+        (translated context.now.flags.now (texts_in context.now) (answers_in first.entry ++ reader.old.coming)
+        work.old.names.now (marked_names work.old.marks.now)).known.ended }
+    ensures root { IfOk result (λ done. AreRoots work.new.store.now.lists (done.list.index ∷ [])) }
+    ensures named { IfOk result (λ done. IsNamedBelow (length work.new.names.now) (unfolded work.new.store.now.lists
+        done.list.index)) }
+    ensures others { IfOk result (λ done. Keeps work.old.store.now.lists work.new.store.now.lists []
+        (done.list.index ∷ [])) }
+    ensures refused { OnErr result (NamesOfText context.now.flags.now (texts_in context.now)
+        (answers_in first.entry ++ reader.old.coming) work.old.names.now (marked_names work.old.marks.now)
+        work.new.names.now) }
+    ensures same { IsSameWork work.old work.new }
+    ensures idle { work.new.store.now.building ≡ None }
+{
+    let begun = read_head(first, reader, context.alloc, work.names, work.store)?;
+    translate_headed(&begun, reader, context, work)
 }

@@ -51,25 +51,28 @@ pub(crate) struct Beginning<'a> {
     pub(crate) next: Lexed<'a>,
 }
 
-/// Reads the head with which a text begins, where it has one, and passes over the notes in it.
+/// Reads the head with which a text begins, where it has one: this is its first answer, and notes are passed over.
 pub(crate) fn read_head<'a>(
+    first: Lexed<'a>,
     reader: &mut Reader<'a>,
     alloc: Global,
     names: &mut Names,
     store: &mut TokenStore,
 ) -> Result<Beginning<'a>, Memory>
-    requires nested { IsNested reader.old.coming }
-    requires start { StartsBelow (2 ^ 32) reader.old.coming }
+    requires gives { Gives (without_notes (answers_in first ++ reader.old.coming)) first reader.old.coming }
+    requires nested { IsNested (answers_in first ++ reader.old.coming) }
+    requires start { StartsBelow (2 ^ 32) (answers_in first ++ reader.old.coming) }
     requires idle { store.old.building ≡ None }
     // What the head makes is that of the definition, and the names are those behind its words.
     ensures made { IfOk result (λ begun. (flags : Flags) (named : NameTexts) (known : Known) →
-        head_made flags named (headed (nest reader.old.coming)).head (with_names names.old known) ≡
-        read_made flags named store.new.lists begun.head (with_names names.new known)) }
+        head_made flags named (headed (nest (answers_in first.entry ++ reader.old.coming))).head
+        (with_names names.old known) ≡ read_made flags named store.new.lists begun.head
+        (with_names names.new known)) }
     ensures names { OnOk result (names.new ≡
-        (spelled (words_in (headed (nest reader.old.coming)).head) names.old).names) }
+        (spelled (words_in (headed (nest (answers_in first.entry ++ reader.old.coming))).head) names.old).names) }
     // The answers behind it are those of what the definition leaves.
     ensures rest { IfOk result (λ begun. nest (answers_ahead begun ++ reader.new.coming) ≡
-        (headed (nest reader.old.coming)).rest) }
+        (headed (nest (answers_in first.entry ++ reader.old.coming))).rest) }
     ensures nested { IfOk result (λ begun. IsNested (answers_ahead begun ++ reader.new.coming)) }
     ensures start { IfOk result (λ begun. StartsBelow (2 ^ 32) (answers_ahead begun ++ reader.new.coming)) }
     ensures all { Stays reader.old.all reader.new.all }
@@ -77,11 +80,10 @@ pub(crate) fn read_head<'a>(
     ensures sound { IfOk result (λ begun. IsSoundLine store.new names.new (head_line begun.head)) }
     ensures keeps { IfOk result (λ begun. Keeps store.old.lists store.new.lists [] (roots_of (head_line begun.head))) }
     ensures idle { store.new.building ≡ None }
-    ensures no_names { OnErr result (NamesWithin (words_in (headed (nest reader.old.coming)).head) names.old
-        names.new) }
+    ensures no_names { OnErr result (NamesWithin (words_in (headed (nest (answers_in first.entry ++
+        reader.old.coming))).head) names.old names.new) }
     ensures no_lists { OnErr result (store.new.lists ≡ store.old.lists) }
 {
-    let first = next_answer(reader);
     let Lexed::Token(token) = first else {
         return Ok(headless(first));
     };
@@ -124,7 +126,7 @@ fn wanted_by(kind: TokKind) -> Wanted
 }
 
 /// No head, before this answer.
-fn headless<'a>(next: Lexed<'a>) -> Beginning<'a>
+pub(crate) fn headless<'a>(next: Lexed<'a>) -> Beginning<'a>
     ensures head { result.head ≡ Heads.None }
     ensures name { result.name ≡ None }
     ensures next { result.next ≡ next.entry }
@@ -137,7 +139,7 @@ fn headless<'a>(next: Lexed<'a>) -> Beginning<'a>
 }
 
 /// The next answer that is no note.
-fn next_answer<'a>(reader: &mut Reader<'a>) -> Lexed<'a>
+pub(crate) fn next_answer<'a>(reader: &mut Reader<'a>) -> Lexed<'a>
     ensures gives { Gives (without_notes reader.old.coming) result reader.new.coming }
     ensures all { Stays reader.old.all reader.new.all }
 {

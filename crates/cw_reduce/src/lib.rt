@@ -1,6 +1,7 @@
 //! Productions are applied to C texts, leftmost place and first row first, until none fits.
 #![tactic(auto)]
 
+mod alone;
 mod gathering;
 mod headed;
 mod heads;

@@ -22,15 +22,16 @@ ghost use Rattle.cw_reduce.specs.Heading.{NamesOfText};
 ghost use Rattle.cw_reduce.specs.NameParts.{AreNamesOf, name_texts};
 ghost use Rattle.cw_reduce.specs.Opening.{HasCome, HasEnded, IsTranslated, IsTranslating, StartsBelow, all_roots};
 ghost use Rattle.cw_reduce.specs.Opening.{answers_in, begun_by, progress_of};
-ghost use Rattle.cw_reduce.specs.Reading.{after_answers, after_finish, after_token, begun, last_scraps};
+ghost use Rattle.cw_reduce.specs.Reading.{after_answers, after_finish, after_token, last_scraps};
 ghost use Rattle.cw_reduce.specs.Reduction.{words_of};
 ghost use Rattle.cw_reduce.specs.Retyping.{NamesAmong, Retypes, RetypesIn};
 ghost use Rattle.cw_reduce.specs.Translating.{state_in, translated, with_categories};
 ghost use Rattle.cw_reduce.specs.Working.{HasComeOver, IsSameWork, progress_over, texts_in};
 
+use crate::alone::{first_leaf, translate_from};
 use crate::gathering::{CommentPart, put_together};
-use crate::headed::translate_headed;
-use crate::heads::read_head;
+use crate::headed::translate_with_head;
+use crate::heads::next_answer;
 use crate::holders::{Holder, held_list};
 use crate::kinds::makes_leaf;
 use crate::nesting::{CommentText, Nesting, Open};
@@ -401,8 +402,11 @@ pub fn translate_read<L: Ledger>(
         work.old.names.now (marked_names work.old.marks.now) work.new.names.now) }
     ensures same { IsSameWork work.old work.new }
 {
-    let begun = read_head(reader, context.alloc, work.names, work.store)?;
-    translate_headed(&begun, reader, context, work)
+    let first = next_answer(reader);
+    match first_leaf(&first) {
+        Some(token) => translate_from(token, reader, context, work),
+        None => translate_with_head(first, reader, context, work),
+    }
 }
 
 /// Translates a C text, whose first byte stands at `span.start`: its head is read, its tokens become scraps, the inner

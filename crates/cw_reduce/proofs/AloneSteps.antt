@@ -1,0 +1,89 @@
+-- A text of one scrap at which no row fits is reduced already.
+use Rattle.std.proofs.Common.{◌≡◌, ℕ, Bool, true, false, not, ◌+◌, ◌*◌, ◌≤◌, None, List, [], ◌∷◌, refl, sym, ap}
+use Rattle.std.proofs.Common.{◌∙◌}
+use Rattle.std.proofs.Common.{arith}
+use Rattle.cw_base.specs.declared.category.Cat.{Cat}
+use Rattle.cw_base.specs.declared.category.Cat.TheVariants.{End}
+use Rattle.cw_base.specs.declared.flags.Flags.{Flags}
+use Rattle.cw_names.specs.Names.{Entry}
+use Rattle.cw_table.specs.Fitting.{first_of}
+use Rattle.cw_table.specs.Productions.{productions}
+use Rattle.cw_table.specs.Reaching.{IsAfter}
+use Rattle.cw_table.specs.Rewriting.{State}
+use Rattle.cw_table.specs.WalkCounts.{reservings}
+use Rattle.cw_table.proofs.Examples.{productions-sound}
+use Rattle.cw_table.proofs.FirstLaws.{first-window}
+use Rattle.cw_tokens.specs.declared.token.Token.{Token}
+use Rattle.cw_tokens.specs.Shapes.{unfolded}
+use Rattle.cw_tokens.specs.Stored.{StoredLists}
+use Rattle.cw_trees.specs.Joining.{whole}
+use Rattle.cw_scraps.specs.Applying.{state_of}
+use Rattle.cw_scraps.specs.declared.leaves.Leaf.{Leaf}
+use Rattle.cw_scraps.specs.Leaves.{entry_of}
+use Rattle.cw_scraps.specs.Lines.{IsSoundLine, scraps_of}
+use Rattle.cw_scraps.specs.Marking.{MarkList}
+use Rattle.cw_reduce.specs.declared.translating.Translated.{Translated}
+use Rattle.cw_reduce.specs.Counting.{limit_in}
+use Rattle.cw_reduce.specs.Opening.{IsTranslated, of_leaf, progress_of}
+use Rattle.cw_reduce.specs.Reading.{Progress, all_ended}
+use Rattle.cw_reduce.specs.Retyping.{NamesOnTheWay, at_end}
+use Rattle.cw_reduce.proofs.EndSteps.{spent-done, text-done}
+use Rattle.cw_reduce.proofs.AnswerSteps.{stay-come}
+use Rattle.cw_reduce.proofs.Retypings.{retypes, retyped-names}
+use Rattle.cw_reduce.proofs.WalkSteps.{GoesOn, WalkEnds, Walks, goes-on, walk-ends, walk-reaches, walk-starts}
+
+not-true : (b : Bool) → not b ≡ true → b ≡ false
+not-true true e = cc
+not-true false e = refl
+
+-- no row fits where none fits before the end
+pub alone-none : (cat : Cat) (may : Bool)
+    → (may ≡ false → (third fourth : Cat) → first_of productions (cat ∷ End ∷ third ∷ fourth ∷ []) ≡ None)
+    → not may ≡ true → first_of productions (cat ∷ []) ≡ None
+alone-none cat may none e = sym (first-window productions (cat ∷ []) productions-sound)
+    ∙ none (not-true may e) End End
+
+module _ (flags : Flags) (store : StoredLists) (names : List Entry) (marks : MarkList) (leaf : Leaf) (steps : ℕ)
+    (sound : IsSoundLine store names (entry_of leaf ∷ [])) (none : first_of productions (leaf.cat ∷ []) ≡ None) where
+  abbrev state : State
+  state = state_of store.lists (entry_of leaf ∷ []) marks names
+
+  abbrev here_now : Progress
+  here_now = progress_of store.lists names marks (of_leaf leaf) []
+
+  begins : Walks flags state state 0 0 steps steps
+  begins = walk-starts flags state steps sound.fine
+
+  goes : GoesOn flags state state 0 0 steps steps
+  goes = goes-on flags state state 0 0 steps steps begins (omega arith) none
+
+  ends : WalkEnds flags state state 0 steps (steps + 4)
+  ends = walk-ends flags state state 1 0 steps (steps + 4) goes.next (omega arith)
+
+  after : IsAfter productions flags state state
+  after = walk-reaches flags state state 0 0 steps steps begins
+
+  pub alone-done : (lists : List (List Token)) (done : Translated) (steps2 : ℕ)
+      → unfolded lists done.list.index ≡ whole (scraps_of store.lists (entry_of leaf ∷ [])) → done.scraps ≡ 1
+      → done.productions ≡ 0 → steps2 ≡ steps + 4
+      → IsTranslated flags lists names marks done steps steps2 (all_ended flags here_now)
+  alone-done lists done steps2 tree scraps none_done spent =
+      text-done flags (of_leaf leaf) (of_leaf leaf) steps steps steps2 store.lists names marks here_now refl refl
+      (stay-come flags store names marks (of_leaf leaf) steps) lists names marks done (record {
+        tree = tree ∙ ap (λ (s : State). whole s.scraps) ends.normal;
+        names_are = retyped-names flags state state names names ends.normal refl refl;
+        marks_are = ap (λ (s : State). s.marks) ends.normal;
+        scraps = scraps;
+        productions_are = omega (arith, none_done, ends.number);
+        steps_are = spent ∙ ends.ticked;
+      })
+
+  pub alone-fails : NamesOnTheWay flags [] here_now names
+  alone-fails = at_end here_now names (retypes flags state state names names after refl refl)
+
+  pub alone-spent : (steps2 : ℕ) → steps2 ≡ steps + 4
+      → steps2 ≤ steps + limit_in flags (all_ended flags here_now).known.ended
+  alone-spent steps2 spent =
+      let few : steps2 ≤ steps + (132 * 1 + 1 * reservings productions flags state) = omega (arith, spent) in
+      spent-done flags (of_leaf leaf) (of_leaf leaf) steps steps steps2 store.lists names marks here_now refl refl
+      (stay-come flags store names marks (of_leaf leaf) steps) (omega arith) few
