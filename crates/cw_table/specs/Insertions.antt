@@ -12,7 +12,8 @@ use Rattle.cw_table.specs.declared.types.Piece.TheVariants as piece
 abbrev pub needing : Control → Insertion
 needing sign = Sign sign (needs sign)
 
--- a scrap with the mode in which it is joined where it could be in either, or the control of a sign; no row counts an Unused place
+-- a scrap with the mode in which it is joined where it could be in either, or the control of a sign; no row counts an
+-- Unused place
 abbrev pub insertion_of : Piece → Insertion
 insertion_of (piece.Scrap k) = Scrap k Maybe
 insertion_of (piece.MathScrap k) = Scrap k Math
