@@ -35,28 +35,9 @@ impl Joiner {
         ensures inner { OnOk result (self.new.inner ≡ self.old.inner) }
         ensures stays { OnErr result (StaysBefore out.old out.new) }
     {
-        match lone_byte(item) {
-            Some(byte) => self.append_byte(byte, out),
-            None => self.append_longer(item, names, out),
+        if let Some(byte) = lone_byte(item) {
+            return self.append_byte(byte, out);
         }
-    }
-
-    // The same of any item. Few that get here are a control of one byte.
-    #[inline(always)]
-    fn append_longer(
-        &mut self,
-        item: FlatItem,
-        names: &Names,
-        out: &mut Bytes,
-    ) -> Result<(), Memory>
-        requires come { CanCome (length names.now) self.old.depth item }
-        ensures bytes { (ps : List Printable) → Stands self.old ps
-            → OnOk result (out.new ≡ out.old ++ added self.old.inner ps (alone names.now item)) }
-        ensures stands { (ps : List Printable) (p : Printable) → Stands self.old ps → p.item ≡ item_is item
-            → OnOk result (Stands self.new (ps ++ p ∷ [])) }
-        ensures inner { OnOk result (self.new.inner ≡ self.old.inner) }
-        ensures stays { OnErr result (StaysBefore out.old out.new) }
-    {
         match run_control(item) {
             Some(control) => self.append_control(control, out),
             None => self.append_other(item, names, out),
