@@ -19,7 +19,7 @@ use Rattle.cw_tokens.proofs.Linking.{refers-more, pushed-ref}
 use Rattle.cw_scraps.specs.declared.line.LineEntry.{LineEntry}
 use Rattle.cw_scraps.specs.declared.pieces.Insert.{Insert}
 use Rattle.cw_scraps.specs.Lines.{no_entry, roots_of, AreRoots}
-use Rattle.cw_scraps.specs.Inserting.{math_insert, inserting, IsPieceWithin, toggle, toggled, tokens_of, left_of}
+use Rattle.cw_scraps.specs.Inserting.{insert_in, inserting, IsPieceWithin, toggle, toggled, tokens_of, left_of}
 use Rattle.cw_scraps.specs.Inserting.{right_after, IsRun}
 use Rattle.cw_scraps.specs.Building.{Joins}
 
@@ -100,7 +100,7 @@ begun-next Math mode l r begun e = absurd (apart e)
 toggle-first : (mode left : MathMode) → mode ≡ Maybe → toggle mode left ≡ []
 toggle-first mode left e = ap (λ m. toggle m left) e
 
-math-token : (token : Token) (l r : MathMode) → (math_insert token l r).token ≡ token
+math-token : (token : Token) (l r : MathMode) → (insert_in Math token l r).token ≡ token
 math-token token Maybe Maybe = refl
 math-token token Maybe Text = refl
 math-token token Maybe Math = refl

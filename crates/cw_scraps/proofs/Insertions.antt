@@ -17,7 +17,7 @@ use Rattle.cw_tokens.specs.Stored.{StoredLists, MayBePushed}
 use Rattle.cw_scraps.specs.declared.line.LineEntry.{LineEntry}
 use Rattle.cw_scraps.specs.declared.pieces.Insert.{Insert}
 use Rattle.cw_scraps.specs.Lines.{no_entry, roots_of, AreRoots}
-use Rattle.cw_scraps.specs.Inserting.{insert_in, inserted_by, inserting, math_insert, toggle, toggled}
+use Rattle.cw_scraps.specs.Inserting.{insert_in, inserted_by, inserting, toggle, toggled}
 use Rattle.cw_scraps.specs.Inserting.{IsInsertionWithin, IsPieceWithin}
 use Rattle.cw_scraps.specs.Building.{Joins}
 use Rattle.cw_scraps.proofs.Buildings.{joins-next, joins-put, joins-within}
@@ -40,7 +40,7 @@ inserts pieces i insertion inside is = record {
         → insertion_of (get_or pieces i piece.Unused) ≡ insertion
     same e = cc
 
--- a scrap that is joined as it is, or in math
+-- a scrap that is joined as it is
 plain : (token : Token) (l r : MathMode) → ◌≡◌ {A = Insert} (record { token = token; left = l; right = r })
     (insert_in Maybe token l r)
 plain token Maybe Maybe = refl
@@ -49,18 +49,9 @@ plain token Maybe Math = refl
 plain token Text r = refl
 plain token Math r = refl
 
-math : (token : Token) (l r : MathMode) → math_insert token l r ≡ insert_in Math token l r
-math token Maybe Maybe = refl
-math token Maybe Text = refl
-math token Maybe Math = refl
-math token Text r = refl
-math token Math r = refl
-
 inserting-is : (entries : List LineEntry) (p : Piece) → inserting entries p ≡ inserted_by entries (insertion_of p)
 inserting-is entries (piece.Scrap k) =
     plain (ListOf (get_or entries k no_entry).list) (get_or entries k no_entry).left (get_or entries k no_entry).right
-inserting-is entries (piece.MathScrap k) =
-    math (ListOf (get_or entries k no_entry).list) (get_or entries k no_entry).left (get_or entries k no_entry).right
 inserting-is entries _ = refl
 
 within-is : (place count : ℕ) (p : Piece) → IsPieceWithin place count p → IsInsertionWithin place count (insertion_of p)

@@ -16,7 +16,7 @@ use Rattle.cw_tokens.specs.Shapes.{shape, item_of, tree_in, trees_from, unfolded
 use Rattle.cw_scraps.specs.declared.line.LineEntry.{LineEntry}
 use Rattle.cw_scraps.specs.declared.pieces.Insert.{Insert}
 use Rattle.cw_scraps.specs.Lines.{seen, scraps_of, no_entry}
-use Rattle.cw_scraps.specs.Inserting.{math_insert, inserting, IsPieceWithin, toggle, tokens_of, left_of, right_after}
+use Rattle.cw_scraps.specs.Inserting.{insert_in, inserting, IsPieceWithin, toggle, tokens_of, left_of, right_after}
 use Rattle.cw_scraps.proofs.Buildings.{Kind, scrap, sign, kind, Goes, goes}
 use Rattle.cw_scraps.proofs.Reservings.{seen-get}
 
@@ -66,7 +66,7 @@ cons-right mode (Mark control) js = refl
 
 math-matches : (trees : List Tree) (token : Token) (tree : Tree) (l r : MathMode)
     → ((rest : Tree) → item_of trees (shape token) rest ≡ Sub tree rest)
-    → Matches trees (math_insert token l r) (math_piece tree l r)
+    → Matches trees (insert_in Math token l r) (math_piece tree l r)
 math-matches trees token tree Maybe Maybe h = record { item = h; left = refl; right = refl }
 math-matches trees token tree Maybe Text h = record { item = h; left = refl; right = refl }
 math-matches trees token tree Maybe Math h = record { item = h; left = refl; right = refl }

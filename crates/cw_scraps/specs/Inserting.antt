@@ -29,11 +29,6 @@ abbrev pub insert_in : MathMode → Token → MathMode → MathMode → Insert
 insert_in mode token Maybe Maybe = record { token = token; left = mode; right = mode }
 insert_in mode token left right = record { token = token; left = left; right = right }
 
--- the same, in math where it could be in either mode
-abbrev pub math_insert : Token → MathMode → MathMode → Insert
-math_insert token Maybe Maybe = record { token = token; left = Math; right = Math }
-math_insert token left right = record { token = token; left = left; right = right }
-
 -- what an insertion puts into the list, where these entries stand from the row's place on
 abbrev pub inserted_by : List LineEntry → Insertion → Insert
 inserted_by entries (insertion.Sign sign mode) = record { token = ControlOf sign; left = mode; right = mode }
@@ -43,9 +38,7 @@ inserted_by entries (insertion.Scrap k mode) = insert_in mode (ListOf (get_or en
 -- what a piece puts into it
 abbrev pub inserting : List LineEntry → Piece → Insert
 inserting entries (piece.Scrap k) = entry_insert (get_or entries k no_entry)
-inserting entries (piece.MathScrap k) = math_insert (ListOf (get_or entries k no_entry).list)
-    (get_or entries k no_entry).left (get_or entries k no_entry).right
-inserting entries sign = inserted_by entries (insertion_of sign)
+inserting entries other = inserted_by entries (insertion_of other)
 
 -- a scrap among the insertions, or among the pieces, is one of the line
 abbrev pub IsInsertionWithin : ℕ → ℕ → Insertion → Type 0

@@ -1,5 +1,4 @@
 -- The row at hand is that of the production's number, and room for a mark changes nothing else.
-use Rattle.std.proofs.Common.{◌≡◌, ◌+◌, ◌≤◌, arith}
 use Rattle.cw_scraps.proofs.line.ScrapLine.apply_in_room.Goals as goal
 
 pub apply_naming-requires-clause-fits : goal.apply_naming-requires-clause-fits

@@ -1,5 +1,5 @@
 -- The new scrap stands behind the gap, in the place of the last that it replaces; the gap has taken in the others.
-use Rattle.std.proofs.Common.{◌≡◌, ◌+◌, ◌-◌, ◌<◌, ◌≤◌, length, take, drop, set, refl, ap, ◌∙◌, arith}
+use Rattle.std.proofs.Common.{◌≡◌, ◌+◌, ◌-◌, ◌≤◌, length, set, refl, ap, ◌∙◌, arith}
 use Rattle.std.proofs.lemmas.List.{with_items_is}
 use Rattle.cw_scraps.specs.Gap.{around, IsGap}
 use Rattle.cw_scraps.proofs.Gaps.{over-within, replaced-behind}
