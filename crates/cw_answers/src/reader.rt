@@ -10,6 +10,7 @@ use cw_base::{Memory, NoteKind, Span};
 use cw_lex::{Lexed, Lexer, Mode};
 use std::alloc::Global;
 use std::marker::Model;
+use std::mem;
 
 /// What is kept of a scan, and whether that is each answer so far.
 #[derive(Drop)]
@@ -82,23 +83,21 @@ impl<'a> Reader<'a> {
         }
     }
 
-    /// A scanner of a span that keeps its answers, in the room of those that were kept before, which is made as large
-    /// as most texts want it.
-    pub fn keeping(room: Answers<'a>, text: &'a [u8], span: Span, mode: Mode) -> Reader<'a>
+    /// Begins anew over a span, in its own place, and keeps its answers in the room of those that were kept before,
+    /// which is made as large as most texts want it.
+    pub fn restart(&mut self, room: Answers<'a>, text: &'a [u8], span: Span, mode: Mode)
         requires order { span.start ≤ span.end }
         requires within { span.end ≤ length text.now }
         requires short { length text.now < 2 ^ 32 }
-        ensures coming { result.coming ≡ tokens_of text.now span.start span.end mode }
-        ensures all { Stays (Some (tokens_of text.now span.start span.end mode)) result.all }
+        ensures coming { self.new.coming ≡ tokens_of text.now span.start span.end mode }
+        ensures all { Stays (Some (tokens_of text.now span.start span.end mode)) self.new.all }
     {
         let mut items = room.into_room();
         items.clear();
         let whole = items.reserve(first_room(span)).is_ok();
-        Reader {
-            text,
-            lexer: Lexer::over(text, span.start, span.end, mode),
-            room: Room { items, whole },
-        }
+        self.room = Room { items, whole };
+        self.text = text;
+        self.lexer.restart(text, span.start, span.end, mode);
     }
 
     /// The next answer. Where there is no memory to keep it, none is kept from then on.
@@ -129,15 +128,17 @@ impl<'a> Reader<'a> {
         }
     }
 
-    /// All answers of the scan, where all have come; `Memory` where not each is kept.
-    pub fn finish(self) -> Result<Answers<'a>, Memory>
-        requires { self.coming ≡ [] }
-        ensures { IfOk result (λ answers. self.entry.all ≡ Some answers) }
+    /// Hands out all answers of the scan, where all have come, and keeps none; `Memory` where not each is kept.
+    pub fn take_answers(&mut self, alloc: Global) -> Result<Answers<'a>, Memory>
+        requires { self.old.coming ≡ [] }
+        ensures { IfOk result (λ answers. self.old.all ≡ Some answers) }
     {
         if !self.room.whole {
             return Err(Memory);
         }
-        Ok(Answers::of(self.text, self.room.items))
+        self.room.whole = false;
+        let items = mem::replace(&mut self.room.items, Vec::new(alloc));
+        Ok(Answers::of(self.text, items))
     }
 }
 

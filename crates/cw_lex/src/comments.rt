@@ -80,6 +80,13 @@ impl Comments {
         }
     }
 
+    /// No comment is open any more. What was told of them stays in its place.
+    pub(crate) fn clear(&mut self)
+        ensures { self.new ≡ [] }
+    {
+        self.count = 0;
+    }
+
     pub(crate) fn len(&self) -> usize
         ensures value { result ≡ length self.now }
         ensures most { length self.now ≤ 21 }

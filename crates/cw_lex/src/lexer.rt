@@ -89,6 +89,37 @@ impl<'a> Lexer<'a> {
         }
     }
 
+    /// Begins anew, over the bytes of a text from `start` up to `end`, in this mode, in its own place.
+    pub fn restart(&mut self, text: &'a [u8], start: usize, end: usize, mode: Mode)
+        requires order { start ≤ end }
+        requires within { end ≤ length text.now }
+        ensures tokens { self.new ≡ tokens_of text.now start end mode }
+        ensures covers { Covers text.now start end self.new }
+        ensures within { AreWithin start end self.new }
+    {
+        self.begin(text, start, end, mode);
+    }
+
+    // The same, before it is said where the spans stand.
+    fn begin(&mut self, text: &'a [u8], start: usize, end: usize, mode: Mode)
+        requires order { start ≤ end }
+        requires within { end ≤ length text.now }
+        ensures { self.new ≡ tokens_of text.now start end mode }
+    {
+        let part = beginning(mode);
+        self.text = &text[..end];
+        let state = &mut self.stand.state;
+        state.at = start;
+        state.part = part;
+        state.comments.clear();
+        state.pending = Pending::new();
+        state.clear = Clear {
+            from: start + 1,
+            to: start,
+        };
+        self.stand.calm = is_calm_part(part);
+    }
+
     /// The next answer. It takes no memory.
     #[inline(always)]
     pub fn next(&mut self) -> Lexed<'a>

@@ -48,15 +48,12 @@ fn read_of(alloc: Global, span: Span) -> Result<(usize, usize), Memory>
     requires order { span.start ≤ span.end }
     requires within { span.end ≤ 29 }
 {
-    let mut reader = Reader::keeping(
-        Answers::new_in(alloc),
-        b"if (a) b = \"c\"; /* |d| and */",
-        span,
-        Mode::CPart,
-    );
+    let text = b"if (a) b = \"c\"; /* |d| and */";
+    let mut reader = Reader::over(alloc, text, span, Mode::CPart);
+    reader.restart(Answers::new_in(alloc), text, span, Mode::CPart);
     for count in 0..100 {
         if let Lexed::End = reader.next() {
-            return Ok((count, reader.finish()?.len()));
+            return Ok((count, reader.take_answers(alloc)?.len()));
         }
     }
     Err(Memory)

@@ -19,15 +19,13 @@ use crate::copying::{end_line_if, holds_bytes};
 use crate::heads::put_head;
 use crate::inks::put_token;
 use crate::pieces::{Piece, Pieces};
-use crate::texts::{StoredTree, translate_into};
+use crate::texts::{Rooms, StoredTree, translate_into};
 use crate::{CText, Counts};
-use cw_answers::Answers;
 use cw_base::{Flags, Ledger, Span, Steps, Web};
 use cw_desk::Desk;
 use cw_lex::{Mode, Tok};
 use cw_lines::{LineOut, PutError};
 use cw_phase1::{Book, Section};
-use cw_tokens::TokenStore;
 use std::alloc::Global;
 use std::marker::Model;
 
@@ -40,8 +38,7 @@ pub(crate) struct TexPart<'a> {
     section: u32,
     flags: &'a Flags,
     alloc: Global,
-    store: TokenStore,
-    answers: Answers<'a>,
+    rooms: Rooms<'a>,
 }
 
 impl<'a> Model for TexPart<'a> {
@@ -96,11 +93,11 @@ fn put_inner<D: Desk, L: Ledger>(
         section: t.section,
         flags: t.flags,
     };
-    let translated = translate_into(&mut t.store, &mut t.answers, t.alloc, c, book, steps)?;
+    let translated = translate_into(&mut t.rooms, t.alloc, c, book, steps)?;
     let tree = StoredTree {
         text: c,
-        answers: &t.answers,
-        store: &t.store,
+        answers: &t.rooms.answers,
+        store: &t.rooms.store,
         list: translated.list,
     };
     tree.print(t.alloc, book, out, desk)?;
@@ -249,8 +246,7 @@ pub fn copy_tex<D: Desk, L: Ledger>(
         section,
         flags,
         alloc,
-        store: TokenStore::new_in(alloc),
-        answers: Answers::new_in(alloc),
+        rooms: Rooms::new_in(alloc),
     };
     put_section(&mut t, head, book, out, desk, steps)
 }

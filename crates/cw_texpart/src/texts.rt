@@ -58,6 +58,25 @@ pub(crate) struct Translated {
     pub counts: Counts,
 }
 
+/// What the translation of a C text works in, which may be kept from text to text.
+#[derive(Drop)]
+pub(crate) struct Rooms<'a> {
+    pub store: TokenStore,
+    pub answers: Answers<'a>,
+    pub reader: Reader<'a>,
+}
+
+impl<'a> Rooms<'a> {
+    /// Nothing is kept yet. It takes no memory.
+    pub(crate) fn new_in(alloc: Global) -> Rooms<'a> {
+        Rooms {
+            store: TokenStore::new_in(alloc),
+            answers: Answers::new_in(alloc),
+            reader: Reader::over(alloc, b"", Span { start: 0, end: 0 }, Mode::Inner),
+        }
+    }
+}
+
 /// The list of a C text's tree, in the store that has it, with the answers of the text's scan.
 #[derive(Clone, Copy)]
 pub(crate) struct StoredTree<'s, 'a> {
@@ -177,13 +196,12 @@ pub fn translate_text<'a, L: Ledger>(
         ≡ (text_printed c.entry (lasting book.old) book.old.names).out) }
     ensures named { IfOk result (λ text. IsNamedBelow (length book.new.names) (tree_of text)) }
 {
-    let mut store = TokenStore::new_in(alloc);
-    let mut answers = Answers::new_in(alloc);
-    let done = translate_into(&mut store, &mut answers, alloc, c, book, steps)?;
+    let mut rooms = Rooms::new_in(alloc);
+    let done = translate_into(&mut rooms, alloc, c, book, steps)?;
     Ok(TranslatedText {
         text: c,
-        answers,
-        store,
+        answers: rooms.answers,
+        store: rooms.store,
         list: done.list,
         counts: done.counts,
     })
@@ -191,8 +209,7 @@ pub fn translate_text<'a, L: Ledger>(
 
 /// The same in a store and in a room for answers that may have been used before.
 pub(crate) fn translate_into<'a, L: Ledger>(
-    store: &mut TokenStore,
-    answers: &mut Answers<'a>,
+    rooms: &mut Rooms<'a>,
     alloc: Global,
     c: CText<'a>,
     book: &mut Book,
@@ -206,18 +223,19 @@ pub(crate) fn translate_into<'a, L: Ledger>(
     requires kept { AreNamesOf book.old.sec_names book.old.name_uses }
     ensures translates { Translates (setting_of c.entry (lasting book.old))
         (text_printed c.entry (lasting book.old) book.old.names) book.old book.new steps.old steps.new
-        (stored c.entry store.new.lists result) }
+        (stored c.entry rooms.new.store.lists result) }
     ensures printed { IfOk result (λ done. text_bytes c.entry book.new
-        (tree_of (in_store c.entry store.new.lists done))
+        (tree_of (in_store c.entry rooms.new.store.lists done))
         ≡ (text_printed c.entry (lasting book.old) book.old.names).out) }
     ensures named { IfOk result
-        (λ done. IsNamedBelow (length book.new.names) (tree_of (in_store c.entry store.new.lists done))) }
-    ensures kept { IfOk result (λ done. IsKept c.entry answers.new done.list.index (length store.new.lists)) }
+        (λ done. IsNamedBelow (length book.new.names) (tree_of (in_store c.entry rooms.new.store.lists done))) }
+    ensures kept { IfOk result
+        (λ done. IsKept c.entry rooms.new.answers done.list.index (length rooms.new.store.lists)) }
 {
-    store.reset();
-    make_room(store, c.span, c.inner)?;
-    let room = mem::replace(answers, Answers::new_in(alloc));
-    let mut reader = Reader::keeping(room, c.text, c.span, c.mode);
+    rooms.store.reset();
+    make_room(&mut rooms.store, c.span, c.inner)?;
+    let room = mem::replace(&mut rooms.answers, Answers::new_in(alloc));
+    rooms.reader.restart(room, c.text, c.span, c.mode);
     let mut marks = Marks::new_in(alloc);
     let context = Context {
         sec_names: &book.sec_names,
@@ -227,12 +245,12 @@ pub(crate) fn translate_into<'a, L: Ledger>(
     };
     let mut work = Work {
         names: &mut book.names,
-        store,
+        store: &mut rooms.store,
         marks: &mut marks,
         steps,
     };
-    let done = translate_read(&mut reader, &context, &mut work)?;
-    *answers = reader.finish()?;
+    let done = translate_read(&mut rooms.reader, &context, &mut work)?;
+    rooms.answers = rooms.reader.take_answers(alloc)?;
     note_marks(&marks, c.section, &mut book.xrefs)?;
     Ok(Translated {
         list: done.list,

@@ -12,13 +12,13 @@ use Rattle.cw_texpart.proofs.texts.translate_into.Goals as goal
 
 pub translate_read-requires-clause-nested : goal.translate_read-requires-clause-nested
 translate_read-requires-clause-nested g c =
-    subst IsNested (sym c.keeping-reader.ensures.coming)
+    subst IsNested (sym c.restart.ensures.coming)
     (c-texts-nested c.args.c.text.now c.args.c.span.start c.args.c.span.end c.args.c.mode c.requires.c_text
     c.requires.uncut)
 
 pub translate_read-requires-clause-start : goal.translate_read-requires-clause-start
 translate_read-requires-clause-start g c =
-    subst (StartsBelow 4294967296) (sym c.keeping-reader.ensures.coming)
+    subst (StartsBelow 4294967296) (sym c.restart.ensures.coming)
     (within-starts 4294967296 c.args.c.span.start c.args.c.span.end
     (tokens_of c.args.c.text.now c.args.c.span.start c.args.c.span.end c.args.c.mode)
     (omega (arith, c.requires.within, c.requires.short))
@@ -27,7 +27,7 @@ translate_read-requires-clause-start g c =
 
 pub returns-clause-kept : goal.returns-clause-kept
 returns-clause-kept g c =
-    let same = kept-tokens _ _ _ _ c.keeping-reader.ensures.all c.in_ok-done.ensures.read.all c.in_ok-answers.ensures in
+    let same = kept-tokens _ _ _ _ c.restart.ensures.all c.in_ok-done.ensures.read.all c.in_ok-rooms.ensures in
     record {
       answers_are = same;
       uncut = subst (λ (answers : List Answer). begins_section_in answers ≡ false) (sym same) c.requires.uncut;

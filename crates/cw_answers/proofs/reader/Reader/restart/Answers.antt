@@ -3,16 +3,16 @@ use Rattle.std.proofs.Common.{All, length, subst, sym, ◌∙◌}
 use Rattle.std.proofs.lemmas.List.Elements.{All-nil}
 use Rattle.cw_answers.specs.Kept.{IsWithin}
 use Rattle.cw_answers.proofs.Standing.{all-stand}
-use Rattle.cw_answers.proofs.reader.Reader.keeping.Goals as goal
+use Rattle.cw_answers.proofs.reader.Reader.restart.Goals as goal
 
-pub invariant_of-result : goal.invariant_of-result
-invariant_of-result c =
+pub invariant_of-self : goal.invariant_of-self
+invariant_of-self c =
     let span = c.args.span in
     let text = c.args.text.now in
     record {
       within = λ _. subst (All (IsWithin (length text))) (sym (c.reserve.ensures.items ∙ c.clear.ensures.items))
           (All-nil (IsWithin (length text)));
       short = c.requires.short;
-      stand = all-stand text span.start span.start span.end span.end c.over.result c.requires.within
-          c.over.ensures.covers c.over.ensures.within;
+      stand = all-stand text span.start span.start span.end span.end c.restart.new.self c.requires.within
+          c.restart.ensures.covers c.restart.ensures.within;
     }
