@@ -6,6 +6,7 @@ ghost use Rattle.cw_phase1.specs.Ending.{AreOfKept, IsScanned, notes_at, section
 ghost use Rattle.cw_phase1.specs.Holding.{held_of};
 ghost use Rattle.cw_phase1.specs.Notes.{name_note as noted_name, name_notes};
 ghost use Rattle.cw_phase1.specs.Outlining.{closing, or_else};
+ghost use Rattle.cw_phase1.specs.Ready.{held_start};
 ghost use Rattle.cw_phase1.specs.Sections.{span};
 ghost use Rattle.cw_phase1.specs.Sound.{IsNamedBy, LiesIn, RefersUpTo};
 
@@ -49,28 +50,29 @@ pub fn phase_one(alloc: Global, web: &Web) -> Result<Book, Memory>
 fn scan<'a>(alloc: Global, web: &'a Web) -> Result<Held<'a>, Memory>
     ensures { IfOk result (λ h. IsScanned web.now.lines (held_of h)) }
 {
+    let mut held = Held::new_in(alloc)?;
+    take_answers(web, &mut held)?;
+    Ok(held)
+}
+
+// The same, where nothing is held yet.
+fn take_answers<'a>(web: &'a Web, held: &mut Held<'a>) -> Result<(), Memory>
+    requires { held_of held.old ≡ held_start }
+    ensures { OnOk result (IsScanned web.now.lines (held_of held.new)) }
+{
     let text = web.text();
     let mut lexer = Lexer::over(text, 0, text.len(), Mode::Limbo);
-    let mut held = Held::new_in(alloc)?;
     'answers: loop {
         match lexer.next() {
-            Lexed::Token(token) => {
-                held.token(web, token)?;
-            }
-            Lexed::Begin(_begin) => {
-                held.begin(web)?;
-            }
-            Lexed::Finish(_finish) => {
-                held.finish(web)?;
-            }
-            Lexed::Note(kind, place) => {
-                held.note(web, kind, place)?;
-            }
+            Lexed::Token(token) => held.token(web, token)?,
+            Lexed::Begin(_begin) => held.begin(web)?,
+            Lexed::Finish(_finish) => held.finish(web)?,
+            Lexed::Note(kind, place) => held.note(web, kind, place)?,
             Lexed::End => break,
         }
     }
     held.finish(web)?;
-    Ok(held)
+    Ok(())
 }
 
 // Adds each reference to its name.

@@ -8,12 +8,12 @@ use Rattle.cw_rules.specs.declared.tokens.Mode.TheVariants as modes
 use Rattle.cw_phase1.specs.Holding.{held_of}
 use Rattle.cw_phase1.proofs.Underway.{Underway, start, is-token, section-fits, ready-settles, token-step, begin-step}
 use Rattle.cw_phase1.proofs.Underway.{finish-step, note-step, scanned, waiting-kept}
-use Rattle.cw_phase1.proofs.phase.scan.Goals as goal
+use Rattle.cw_phase1.proofs.phase.take_answers.Goals as goal
 
 pub answers-init : goal.answers-init
 answers-init c =
-    start c.args.web.now.lines (text_of c.args.web.now.lines) c.over-lexer.result (held_of c.in_ok-held.held)
-    c.in_ok-held.ensures
+    start c.args.web.now.lines (text_of c.args.web.now.lines) c.over-lexer.result (held_of c.args.held.now)
+    c.requires
     (subst (λ (text : List ℕ). Covers text 0 (length text) c.over-lexer.result) c.text-text.ensures.lines
     c.over-lexer.ensures.covers)
     (subst (λ (text : List ℕ). length text ≤ 16777216) c.text-text.ensures.lines c.text-text.ensures.limit)
@@ -41,23 +41,23 @@ finish-requires c = ready-settles c.answers.invariant.from (held_of c.answers.he
 pub finish-requires-2 : goal.finish-requires-2
 finish-requires-2 c = ready-settles c.answers.invariant.from (held_of c.answers.held) c.answers.invariant.ready
 
-pub answers-preserved-in-Continue-branch-2 : goal.answers-preserved-in-Continue-branch-2
-answers-preserved-in-Continue-branch-2 c =
+pub answers-preserved-in-Continue-1 : goal.answers-preserved-in-Continue-1
+answers-preserved-in-Continue-1 c =
     token-step c.args.web.now.lines (text_of c.args.web.now.lines) c.over-lexer.result (held_of c.answers.held)
     (held_of c.token.new.self) (seen c.in-Token.token) c.next.new.self
     (subst (Underway c.args.web.now.lines _ _ (held_of c.answers.held)) c.in-Token.ensures c.answers.invariant)
     c.in_ok-token-in-Token.ensures.held (waiting-kept c.token.new.self.waiting _ c.in_ok-token-in-Token.ensures.kept)
     c.in_ok-token-in-Token.ensures.grows c.in_ok-token-in-Token.ensures.one
 
-pub answers-preserved-in-Continue-branch-3 : goal.answers-preserved-in-Continue-branch-3
-answers-preserved-in-Continue-branch-3 c =
+pub answers-preserved-in-Continue-branch-2 : goal.answers-preserved-in-Continue-branch-2
+answers-preserved-in-Continue-branch-2 c =
     begin-step c.args.web.now.lines (text_of c.args.web.now.lines) c.over-lexer.result (held_of c.answers.held)
     (held_of c.begin.new.self) (seen c.in-Begin._begin) c.next.new.self
     (subst (Underway c.args.web.now.lines _ _ (held_of c.answers.held)) c.in-Begin.ensures c.answers.invariant)
     c.in_ok-begin-in-Begin.ensures
 
-pub answers-preserved-in-Continue-branch-4 : goal.answers-preserved-in-Continue-branch-4
-answers-preserved-in-Continue-branch-4 c =
+pub answers-preserved-in-Continue-branch-3 : goal.answers-preserved-in-Continue-branch-3
+answers-preserved-in-Continue-branch-3 c =
     finish-step c.args.web.now.lines (text_of c.args.web.now.lines) c.over-lexer.result (held_of c.answers.held)
     (held_of c.finish.new.self) (seen c.in-Finish._finish) c.next.new.self
     (subst (Underway c.args.web.now.lines _ _ (held_of c.answers.held)) c.in-Finish.ensures c.answers.invariant)
