@@ -145,6 +145,8 @@ fn make_book(web: &Web, held: Held) -> Result<Book, Memory>
     ensures notes { IfOk result (λ b. b.outline.notes ≡
         held.entry.notes ++ name_notes (with_references held.entry.told.named.references held.entry.kept)) }
 {
+    let mut held = held;
+    complete(web, &mut held)?;
     let Held {
         standing: _,
         waiting: _,
@@ -165,23 +167,18 @@ fn make_book(web: &Web, held: Held) -> Result<Book, Memory>
         waits: _,
         xrefs,
     } = words;
-    let Named { uses, references } = named;
-    let size = web.text().len();
-    let mut sections = sections;
-    sections.close(web, size)?;
+    let Named {
+        uses,
+        references: _,
+    } = named;
     let limbo = Span {
         start: 0,
-        end: or_else(sections.limbo_end, size),
+        end: or_else(sections.limbo_end, web.text().len()),
     };
-    let mut sec_names = kept;
-    sec_names.release();
-    refer(&mut sec_names, &references)?;
-    let mut notes = notes;
-    note_names(&sec_names, &mut notes)?;
     Ok(Book {
         names,
         xrefs,
-        sec_names,
+        sec_names: kept,
         name_uses: uses,
         outline: Outline {
             limbo,
@@ -189,4 +186,25 @@ fn make_book(web: &Web, held: Held) -> Result<Book, Memory>
             notes,
         },
     })
+}
+
+// Closes the last section, and adds what is known of the kept names when all answers came.
+fn complete(web: &Web, held: &mut Held) -> Result<(), Memory>
+    requires ids { AreOfKept held.old.kept held.old.told.named.references }
+    requires few { length held.old.kept ≤ 16777216 }
+    ensures words { OnOk result (held.new.told.words ≡ held.old.told.words) }
+    ensures named { OnOk result (held.new.told.named ≡ held.old.told.named) }
+    ensures sections { OnOk result (held.new.told.sections ≡ record held.old.told.sections {
+      closed = closing web.now.lines (length (text_of web.now.lines)) held.old.told.sections;
+    }) }
+    ensures kept { OnOk result
+        (held.new.kept ≡ with_references held.old.told.named.references held.old.kept) }
+    ensures count { OnOk result (length held.new.kept ≡ length held.old.kept) }
+    ensures notes { OnOk result (held.new.notes ≡
+        held.old.notes ++ name_notes (with_references held.old.told.named.references held.old.kept)) }
+{
+    held.told.sections.close(web, web.text().len())?;
+    held.kept.release();
+    refer(&mut held.kept, &held.told.named.references)?;
+    note_names(&held.kept, &mut held.notes)
 }
