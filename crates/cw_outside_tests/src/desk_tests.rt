@@ -63,12 +63,24 @@ fn write_in_memory(desk: &mut MemDesk) -> (Result<Taken, MadeOut>, u64, bool) {
     (taken, desk.calls(), is_made_and_written(desk.journal()))
 }
 
+/// What the desk answers that is read and then written to.
+type Used = (
+    (Opened, [Fetched; 4], [u8; 3]),
+    (Result<Taken, MadeOut>, u64, bool),
+);
+
+fn use_until_failing(desk: &mut MemDesk) -> Result<Used, Fail> {
+    Ok((read_until_failing(desk)?, write_in_memory(desk)))
+}
+
+fn used_until_failing(alloc: Global) -> Result<Used, Fail> {
+    let mut desk = failing_desk(alloc)?;
+    use_until_failing(&mut desk)
+}
+
 #[test]
 fn a_desk_in_memory(rt: HostRuntime) -> Result<(), Fail> {
-    let (read, written) = {
-        let mut desk = failing_desk(rt.alloc())?;
-        (read_until_failing(&mut desk)?, write_in_memory(&mut desk))
-    };
+    let (read, written) = used_until_failing(rt.alloc())?;
     let reads = [
         Fetched::Got(3),
         Fetched::Got(2),
@@ -116,12 +128,24 @@ fn write_quietly(desk: &mut QuietDesk) -> (Result<Taken, MadeOut>, u64, usize) {
     (taken, desk.calls(), desk.journal().len())
 }
 
+/// What the desk answers that is read and then written to.
+type UsedQuietly = (
+    (Opened, Fetched, [u8; 2]),
+    (Result<Taken, MadeOut>, u64, usize),
+);
+
+fn use_quietly(desk: &mut QuietDesk) -> Result<UsedQuietly, Fail> {
+    Ok((read_quietly(desk)?, write_quietly(desk)))
+}
+
+fn used_quietly(alloc: Global) -> Result<UsedQuietly, Fail> {
+    let mut desk = slow_desk(alloc)?;
+    use_quietly(&mut desk)
+}
+
 #[test]
 fn a_desk_on_which_nothing_fails(rt: HostRuntime) -> Result<(), Fail> {
-    let (read, written) = {
-        let mut desk = slow_desk(rt.alloc())?;
-        (read_quietly(&mut desk)?, write_quietly(&mut desk))
-    };
+    let (read, written) = used_quietly(rt.alloc())?;
     assert_eq!(rt; read, (Opened::Missing, Fetched::Got(2), *b"by"));
     assert_eq!(rt; written, (Ok(Taken::Bytes(2)), 5, 3));
     Ok(())
@@ -152,13 +176,21 @@ fn write_files(desk: &mut FileDesk) -> [Result<Taken, MadeOut>; 3] {
     ]
 }
 
+/// All that is answered for real files.
+fn used_files(
+    rt: HostRuntime,
+) -> (
+    ([Opened; 2], [Option<[Fetched; 2]>; 2]),
+    [Result<Taken, MadeOut>; 3],
+) {
+    let mut desk = FileDesk::new_in(rt, rt.alloc());
+    (read_files(&mut desk), write_files(&mut desk))
+}
+
 #[test]
 fn a_desk_of_real_files(rt: HostRuntime) -> Result<(), Fail> {
-    let (read, written) = {
-        let mut desk = FileDesk::new_in(rt, rt.alloc());
-        (read_files(&mut desk), write_files(&mut desk))
-    };
-    let reads = [Fetched::End, Fetched::Got(8)].map(|answer| Some([answer; 2]));
+    let (read, written) = used_files(rt);
+    let reads = [Some([Fetched::End; 2]), Some([Fetched::Got(8); 2])];
     assert_eq!(rt; read, ([Opened::Missing; 2], reads));
     let writes = [Ok(Taken::Bytes(1)), Err(MadeOut::Failed), Ok(Taken::Failed)];
     assert_eq!(rt; written, writes);
@@ -226,13 +258,18 @@ fn read_and_write_in_batch(alloc: Global, below: &mut MemDesk) -> bool {
 
 /// Whether the calls succeed without a batch and through one, and whether the same is written; and how many calls there
 /// are.
+fn used_alike(alloc: Global, plain: &mut MemDesk, below: &mut MemDesk) -> ([bool; 3], [u64; 2]) {
+    let plainly = read_and_write(plain);
+    let batched = read_and_write_in_batch(alloc, below);
+    let alike = is_same_journal(plain.journal(), below.journal());
+    ([plainly, batched, alike], [plain.calls(), below.calls()])
+}
+
+/// The same on two desks with a file.
 fn both_ways(alloc: Global) -> Result<([bool; 3], [u64; 2]), Memory> {
     let mut plain = desk_with_a_file(alloc)?;
     let mut below = desk_with_a_file(alloc)?;
-    let plainly = read_and_write(&mut plain);
-    let batched = read_and_write_in_batch(alloc, &mut below);
-    let alike = is_same_journal(plain.journal(), below.journal());
-    Ok(([plainly, batched, alike], [plain.calls(), below.calls()]))
+    Ok(used_alike(alloc, &mut plain, &mut below))
 }
 
 #[test]

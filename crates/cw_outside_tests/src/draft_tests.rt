@@ -162,18 +162,37 @@ fn replace_file(
     Ok((replaced, [renewed, !fs::exists(&rt, draft)?]))
 }
 
-/// The same for a file of the old bytes.
+/// What keeping a file and then replacing it answer.
+fn end_both(
+    rt: HostRuntime,
+    desk: &mut FileDesk,
+    path: &str,
+    draft: &str,
+) -> Result<[(Ended, [bool; 2]); 2], Fail> {
+    let kept = keep_file(rt, desk, path, draft)?;
+    Ok([kept, replace_file(rt, desk, path, draft)?])
+}
+
+/// The same for one desk.
 fn keep_and_replace(
     rt: HostRuntime,
     path: &str,
     draft: &str,
 ) -> Result<[(Ended, [bool; 2]); 2], Fail> {
-    fs::write(&rt, path, "old")?;
     let mut desk = FileDesk::new_in(rt, rt.alloc());
-    let kept = keep_file(rt, &mut desk, path, draft)?;
-    let replaced = replace_file(rt, &mut desk, path, draft)?;
+    end_both(rt, &mut desk, path, draft)
+}
+
+/// The same for a file of the old bytes, which is gone behind it.
+fn keep_and_replace_old(
+    rt: HostRuntime,
+    path: &str,
+    draft: &str,
+) -> Result<[(Ended, [bool; 2]); 2], Fail> {
+    fs::write(&rt, path, "old")?;
+    let ended = keep_and_replace(rt, path, draft)?;
     fs::remove_file(&rt, path)?;
-    Ok([kept, replaced])
+    Ok(ended)
 }
 
 /// The path of a draft.
@@ -185,7 +204,7 @@ fn draft_of(rt: HostRuntime, path: &str) -> Result<String, Fail> {
 fn drafts_of_real_files(rt: HostRuntime) -> Result<(), Fail> {
     let path = new_path(rt, "a.tex")?;
     let draft = draft_of(rt, path.as_str())?;
-    let seen = keep_and_replace(rt, path.as_str(), draft.as_str())?;
+    let seen = keep_and_replace_old(rt, path.as_str(), draft.as_str())?;
     let wanted = [3, 8].map(|size| ((Taken::Bytes(size), true, MadeOut::Done), [true; 2]));
     assert_eq!(rt; seen, wanted);
     Ok(())
@@ -219,14 +238,23 @@ fn lost_draft(
 }
 
 /// All these answers.
+fn refused_on(
+    rt: HostRuntime,
+    desk: &mut FileDesk,
+    path: &str,
+    draft: &str,
+) -> Result<([MadeOut; 2], [MadeOut; 3]), Fail> {
+    let paths = refused_paths(desk);
+    Ok((paths, lost_draft(rt, desk, path, draft)?))
+}
+
 fn refused_drafts(
     rt: HostRuntime,
     path: &str,
     draft: &str,
 ) -> Result<([MadeOut; 2], [MadeOut; 3]), Fail> {
     let mut desk = FileDesk::new_in(rt, rt.alloc());
-    let paths = refused_paths(&mut desk);
-    Ok((paths, lost_draft(rt, &mut desk, path, draft)?))
+    refused_on(rt, &mut desk, path, draft)
 }
 
 #[test]

@@ -1,8 +1,8 @@
 //! Reading over files in memory.
 
-ghost use Rattle.std.specs.Prelude.{◌<◌, length};
+ghost use Rattle.std.specs.Prelude.{◌≡◌, ◌<◌, [], OnOk, length};
 
-use crate::desks::desk_with;
+use crate::desks::{desk_with, expect};
 use cw_base::{Bytes, LineInfo, Memory, Note, Web, Words};
 use cw_desk::MemDesk;
 use cw_input::{Command, LoadError, load, read_command};
@@ -67,8 +67,7 @@ fn expect_loaded(
     change: Option<&[u8]>,
     wanted: &[u8],
 ) -> Result<(), Fail> {
-    let text = loaded(alloc, files, change)?;
-    assert_eq!(rt; text.as_slice(), wanted);
+    expect(rt, &loaded(alloc, files, change)?, wanted);
     Ok(())
 }
 
@@ -203,23 +202,42 @@ last
     )
 }
 
-// How loading the web `foo` of files with so many bytes ends, when the first line of the web includes one.
-fn load_sizes(
+// Adds a file that begins as given and goes on with so many times a byte.
+fn add_long_file(
     alloc: Global,
-    web: usize,
-    change: usize,
-    included: usize,
-) -> Result<Result<usize, LoadError>, Fail> {
+    desk: &mut MemDesk,
+    name: &[u8],
+    begin: &[u8],
+    rest: (u8, usize),
+) -> Result<(), Memory>
+    requires { desk.old.rests ≡ [] }
+    ensures unread { OnOk result (desk.new.rests ≡ []) }
+{
+    let (byte, count) = rest;
+    let mut text = Bytes::from_slice(alloc, begin)?;
+    text.append(vec![in alloc; byte; count]?.as_slice())?;
+    desk.add_file(name, text.as_slice())
+}
+
+fn add_long_files(alloc: Global, desk: &mut MemDesk, sizes: [usize; 3]) -> Result<(), Memory>
+    requires { desk.old.rests ≡ [] }
+{
+    let [web, change, included] = sizes;
+    add_long_file(alloc, desk, b"foo.w", b"@ii\n", (b'a', web))?;
+    add_long_file(alloc, desk, b"foo.ch", b"", (b'b', change))?;
+    add_long_file(alloc, desk, b"i", b"", (b'c', included))
+}
+
+// How many bytes the web `foo` has, or how loading it fails.
+fn load_length(alloc: Global, desk: &mut MemDesk) -> Result<usize, LoadError> {
+    Ok(load(alloc, desk, b"foo", Some(b"foo"))?.text().len())
+}
+
+// How loading the web `foo` of files with so many bytes ends, when the first line of the web includes one.
+fn load_sizes(alloc: Global, sizes: [usize; 3]) -> Result<Result<usize, LoadError>, Memory> {
     let mut desk = MemDesk::new_in(alloc);
-    let mut text = Bytes::from_slice(alloc, b"@ii\n")?;
-    text.append(vec![in alloc; b'a'; web]?.as_slice())?;
-    desk.add_file(b"foo.w", text.as_slice())?;
-    desk.add_file(b"foo.ch", vec![in alloc; b'b'; change]?.as_slice())?;
-    desk.add_file(b"i", vec![in alloc; b'c'; included]?.as_slice())?;
-    match load(alloc, &mut desk, b"foo", Some(b"foo")) {
-        Ok(web) => Ok(Ok(web.text().len())),
-        Err(error) => Ok(Err(error)),
-    }
+    add_long_files(alloc, &mut desk, sizes)?;
+    Ok(load_length(alloc, &mut desk))
 }
 
 // The bytes of the web behind its first line, of its change file and of the file that it includes, and how loading it
@@ -237,8 +255,8 @@ const SIZES: [Sizes; 6] = [
 
 #[test]
 fn the_limit_on_bytes(rt: HostRuntime) -> Result<(), Fail> {
-    for ([web, change, included], wanted) in &SIZES {
-        assert_eq!(rt; load_sizes(rt.alloc(), *web, *change, *included)?, *wanted);
+    for (sizes, wanted) in &SIZES {
+        assert_eq!(rt; load_sizes(rt.alloc(), *sizes)?, *wanted);
     }
     Ok(())
 }
@@ -304,12 +322,18 @@ fn command_of(alloc: Global, line: &[&[u8]]) -> Result<Command, Memory> {
     read_command(alloc, &words)
 }
 
+// Whether what a command line asks for is as it should, and whether it has a fault.
+fn told(alloc: Global, line: &[&[u8]]) -> Result<[bool; 2], Memory> {
+    let command = command_of(alloc, line)?;
+    Ok([is_as_asked(&command), matches!(command, Command::Usage(_))])
+}
+
 const LINE: [&[u8]; 6] = [b"-bx", b"d/foo.w", b"+b", b"foo", b"out", b"more"];
 
 #[test]
 fn command_lines(rt: HostRuntime) -> Result<(), Fail> {
-    let asked = is_as_asked(&command_of(rt.alloc(), &LINE[..5])?);
-    let refused = matches!(command_of(rt.alloc(), &LINE)?, Command::Usage(_));
-    assert_eq!(rt; [asked, refused], [true, true]);
+    let asked = told(rt.alloc(), &LINE[..5])?;
+    let refused = told(rt.alloc(), &LINE)?;
+    assert_eq!(rt; [asked, refused], [[true, false], [false, true]]);
     Ok(())
 }

@@ -1,7 +1,7 @@
 //! What no clause says: that the calls succeed, and the lines that they print.
 ghost use Rattle.std.specs.Prelude.{◌<◌, IfOk, length};
 
-use crate::desks::expect;
+use crate::desks::{desk_with, expect};
 use cw_base::{Bytes, Event, Exit, Flags, Memory, Note, NoteKind, Out, Place, Web};
 use cw_desk::MemDesk;
 use cw_lines::PutError;
@@ -102,23 +102,40 @@ fn stops(rt: HostRuntime) -> Result<(), Fail> {
     Ok(())
 }
 
-/// What three notes are printed as.
-fn printed_notes(alloc: Global) -> Result<Bytes, Fail> {
-    let mut desk = MemDesk::new_in(alloc);
-    let web = web_of(alloc, b"foo.w")?;
-    let mut names = SecNames::new_in(alloc);
-    names.enter(SecKind::Named, b"Read it")?;
+fn say_notes(noted: Noted, desk: &mut MemDesk) -> Result<(), PutError> {
     let notes = [
         note(NoteKind::LinesDiffer, 3, 7),
         note(NoteKind::NeverUsed, 0, 0),
         note(NoteKind::NeverDefined, 1, 0),
     ];
+    print_notes(noted, &notes, desk)
+}
+
+/// The names of one section.
+fn names_with(alloc: Global, name: &[u8]) -> Result<SecNames, Memory>
+    requires { 0 < length name.now }
+{
+    let mut names = SecNames::new_in(alloc);
+    names.enter(SecKind::Named, name)?;
+    Ok(names)
+}
+
+/// Prints three notes on a web of one name.
+fn say_notes_of_web(alloc: Global, desk: &mut MemDesk) -> Result<(), Fail> {
+    let web = web_of(alloc, b"foo.w")?;
+    let names = names_with(alloc, b"Read it")?;
     let noted = Noted {
         alloc,
         web: &web,
         names: &names,
     };
-    print_notes(noted, &notes, &mut desk)?;
+    Ok(say_notes(noted, desk)?)
+}
+
+/// What three notes are printed as.
+fn printed_notes(alloc: Global) -> Result<Bytes, Fail> {
+    let mut desk = MemDesk::new_in(alloc);
+    say_notes_of_web(alloc, &mut desk)?;
     Ok(printed(alloc, &desk)?)
 }
 
@@ -136,13 +153,17 @@ fn notes(rt: HostRuntime) -> Result<(), Fail> {
     Ok(())
 }
 
+/// Puts a long line to a file, and says that it had to be broken.
+fn say_broken(alloc: Global, desk: &mut MemDesk) -> Result<(), PutError> {
+    let mut lines = begin_file(alloc, desk, Out::Tex, b"foo.tex", false)?;
+    lines.put_all(&[b'a'; 100], desk)?;
+    print_broken(alloc, b"foo.tex", &lines, desk)
+}
+
 /// What is printed of a line that had to be broken.
 fn printed_broken(alloc: Global) -> Result<Bytes, Fail> {
     let mut desk = MemDesk::new_in(alloc);
-    let mut lines = begin_file(alloc, &mut desk, Out::Tex, b"foo.tex", false)?;
-    let long = vec![in alloc; b'a'; 100]?;
-    lines.put_all(long.as_slice(), &mut desk)?;
-    print_broken(alloc, b"foo.tex", &lines, &mut desk)?;
+    say_broken(alloc, &mut desk)?;
     Ok(printed(alloc, &desk)?)
 }
 
@@ -154,14 +175,18 @@ fn broken_lines(rt: HostRuntime) -> Result<(), Fail> {
     Ok(())
 }
 
+/// Writes a line to a draft.
+fn write_draft(alloc: Global, desk: &mut MemDesk, name: &[u8]) -> Result<(), PutError> {
+    let mut lines = begin_file(alloc, desk, Out::Idx, name, true)?;
+    lines.put_all(b"line\n", desk)?;
+    end_file(desk, Out::Idx, &mut lines, true)?;
+    Ok(())
+}
+
 /// Writes a line to a draft over an old file, and tells whether the old file was kept.
 fn is_kept(alloc: Global, name: &[u8]) -> Result<bool, Fail> {
-    let mut desk = MemDesk::new_in(alloc);
-    desk.add_file(b"a.idx", b"line\n")?;
-    desk.add_file(b"b.idx", b"line\n\n")?;
-    let mut lines = begin_file(alloc, &mut desk, Out::Idx, name, true)?;
-    lines.put_all(b"line\n", &mut desk)?;
-    end_file(&mut desk, Out::Idx, &mut lines, true)?;
+    let mut desk = desk_with(alloc, &[(b"a.idx", b"line\n"), (b"b.idx", b"line\n\n")])?;
+    write_draft(alloc, &mut desk, name)?;
     Ok(matches!(desk.journal().last(), Some(Event::Kept(Out::Idx))))
 }
 
