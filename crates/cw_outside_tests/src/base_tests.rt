@@ -50,11 +50,11 @@ fn both_ledgers_count(rt: HostRuntime) {
 #[test]
 fn notes_exits_and_flags(rt: HostRuntime) {
     let message = NoteKind::CodeInTexText.message();
-    assert_eq!(rt; message, "You can't do that in TeX text");
     let grades = [
         NoteKind::NeverUsed.grade(),
         NoteKind::AmbiguousPrefix.grade(),
     ];
-    let seen = (grades, Exit::Fault.code(), Flags::start().index);
-    assert_eq!(rt; seen, ([Grade::Harmless, Grade::Error], 2, true));
+    let seen = (message, grades, Exit::Fault.code(), Flags::start().index);
+    let wanted = "You can't do that in TeX text";
+    assert_eq!(rt; seen, (wanted, [Grade::Harmless, Grade::Error], 2, true));
 }

@@ -1,6 +1,7 @@
 //! What no clause says of desks: that calls succeed, and what the system answers.
-ghost use Rattle.std.specs.Prelude.{◌<◌, length};
+ghost use Rattle.std.specs.Prelude.{◌≡◌, ◌<◌, [], length};
 
+use crate::desks::desk_with;
 use cw_base::{Event, Memory, Out};
 use cw_desk::{
     Batch, CountDesk, Desk, Fetched, FileDesk, Flushed, MadeOut, MemDesk, Opened, QuietDesk, Taken,
@@ -39,15 +40,11 @@ fn read_until_failing(desk: &mut MemDesk) -> Result<(Opened, [Fetched; 4], [u8; 
     Ok((missing, [first, second, third, fourth], bytes))
 }
 
-/// A desk with two files of one name, which gives three bytes at first, and whose fifth call fails.
-fn failing_desk(alloc: Global) -> Result<MemDesk, Memory> {
-    let mut desk = MemDesk::new_in(alloc);
-    desk.add_file(b"a", b"old")?;
-    desk.add_file(b"a", b"bytes")?;
+/// The desk gives three bytes at first, and its fifth call fails.
+fn set_failing(desk: &mut MemDesk) -> Result<(), Memory> {
     desk.limit(3)?;
     desk.limit(9)?;
-    desk.fail_at(5)?;
-    Ok(desk)
+    desk.fail_at(5)
 }
 
 fn is_made_and_written(journal: &[Event]) -> bool {
@@ -70,11 +67,13 @@ type Used = (
 );
 
 fn use_until_failing(desk: &mut MemDesk) -> Result<Used, Fail> {
+    set_failing(desk)?;
     Ok((read_until_failing(desk)?, write_in_memory(desk)))
 }
 
+/// The same on a desk with two files of one name.
 fn used_until_failing(alloc: Global) -> Result<Used, Fail> {
-    let mut desk = failing_desk(alloc)?;
+    let mut desk = desk_with(alloc, &[(b"a", b"old"), (b"a", b"bytes")])?;
     use_until_failing(&mut desk)
 }
 
@@ -114,12 +113,12 @@ fn read_quietly(desk: &mut QuietDesk) -> Result<(Opened, Fetched, [u8; 2]), Fail
     Ok((missing, fetched, [buffer[0], buffer[1]]))
 }
 
-/// A desk with a file that gives and takes two bytes at a time.
-fn slow_desk(alloc: Global) -> Result<QuietDesk, Memory> {
-    let mut desk = QuietDesk::new_in(alloc);
+/// The desk has a file then, and gives and takes two bytes at a time.
+fn set_slow(desk: &mut QuietDesk) -> Result<(), Memory>
+    requires { desk.old.rests ≡ [] }
+{
     desk.add_file(b"a", b"bytes")?;
-    desk.limit(2)?;
-    Ok(desk)
+    desk.limit(2)
 }
 
 /// The answer of a desk that is written to, how often it was called, and how long its journal is.
@@ -134,12 +133,15 @@ type UsedQuietly = (
     (Result<Taken, MadeOut>, u64, usize),
 );
 
-fn use_quietly(desk: &mut QuietDesk) -> Result<UsedQuietly, Fail> {
+fn use_quietly(desk: &mut QuietDesk) -> Result<UsedQuietly, Fail>
+    requires { desk.old.rests ≡ [] }
+{
+    set_slow(desk)?;
     Ok((read_quietly(desk)?, write_quietly(desk)))
 }
 
 fn used_quietly(alloc: Global) -> Result<UsedQuietly, Fail> {
-    let mut desk = slow_desk(alloc)?;
+    let mut desk = QuietDesk::new_in(alloc);
     use_quietly(&mut desk)
 }
 
@@ -218,9 +220,7 @@ fn read_and_write<D: Desk>(desk: &mut D) -> bool {
 }
 
 fn desk_with_a_file(alloc: Global) -> Result<MemDesk, Memory> {
-    let mut desk = MemDesk::new_in(alloc);
-    desk.add_file(b"a", b"bytes")?;
-    Ok(desk)
+    desk_with(alloc, &[(b"a", b"bytes")])
 }
 
 fn is_same_event(event: &Event, other: &Event) -> bool {
@@ -290,11 +290,15 @@ fn flushed_at_end(alloc: Global, below: &mut MemDesk) -> Flushed {
 }
 
 /// The same where a call of the desk below fails, and how many calls of it there are.
+fn fail_below(alloc: Global, below: &mut MemDesk, call: u64) -> Result<(Flushed, u64), Memory> {
+    below.fail_at(call)?;
+    let flushed = flushed_at_end(alloc, below);
+    Ok((flushed, below.calls()))
+}
+
 fn flushed_where_call_fails(alloc: Global, call: u64) -> Result<(Flushed, u64), Memory> {
     let mut below = desk_with_a_file(alloc)?;
-    below.fail_at(call)?;
-    let flushed = flushed_at_end(alloc, &mut below);
-    Ok((flushed, below.calls()))
+    fail_below(alloc, &mut below, call)
 }
 
 #[test]

@@ -85,11 +85,15 @@ fn drafts_in_memory(rt: HostRuntime) {
 }
 
 /// Whether drafts succeed where a call fails, and how many calls and events there are.
+fn fail_on(desk: &mut MemDesk, call: u64) -> Result<(bool, u64, u64), Memory> {
+    desk.fail_at(call)?;
+    let succeeded = draft_twice(desk);
+    Ok((succeeded, desk.calls(), desk.journal().len() as u64))
+}
+
 fn where_call_fails(alloc: Global, call: u64) -> Result<(bool, u64, u64), Memory> {
     let mut desk = MemDesk::new_in(alloc);
-    desk.fail_at(call)?;
-    let succeeded = draft_twice(&mut desk);
-    Ok((succeeded, desk.calls(), desk.journal().len() as u64))
+    fail_on(&mut desk, call)
 }
 
 #[test]

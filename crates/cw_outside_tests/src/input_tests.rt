@@ -12,14 +12,20 @@ use std::test::Fail;
 
 // A web as a text: its lines, then where each was read with a `*` where it is marked, then its notes as the program
 // prints them.
-fn shown(alloc: Global, web: &Web) -> Result<Bytes, Fail> {
-    let mut out = Bytes::from_slice(alloc, web.text())?;
+fn show(alloc: Global, web: &Web, out: &mut Bytes) -> Result<(), Fail> {
+    out.append(web.text())?;
     for i in 0..web.line_count() {
-        show_line(alloc, web, web.line(i), &mut out)?;
+        show_line(alloc, web, web.line(i), out)?;
     }
     for note in web.notes() {
-        show_note(alloc, web, *note, &mut out)?;
+        show_note(alloc, web, *note, out)?;
     }
+    Ok(())
+}
+
+fn shown(alloc: Global, web: &Web) -> Result<Bytes, Fail> {
+    let mut out = Bytes::new_in(alloc);
+    show(alloc, web, &mut out)?;
     Ok(out)
 }
 
@@ -275,11 +281,19 @@ const FILES: [(&[u8], &[u8]); 3] = [
     (b"a", b"last"),
 ];
 
-// The error where a call of the desk fails.
-fn error_where_call_fails(alloc: Global, call: u64) -> Result<Option<LoadError>, Memory> {
-    let mut desk = desk_with(alloc, &FILES)?;
+// How loading the web ends where a call of the desk fails.
+fn fail_on(
+    alloc: Global,
+    desk: &mut MemDesk,
+    call: u64,
+) -> Result<Result<usize, LoadError>, Memory> {
     desk.fail_at(call)?;
-    Ok(load(alloc, &mut desk, b"foo", Some(b"foo")).err())
+    Ok(load_length(alloc, desk))
+}
+
+fn load_where_call_fails(alloc: Global, call: u64) -> Result<Result<usize, LoadError>, Memory> {
+    let mut desk = desk_with(alloc, &FILES)?;
+    fail_on(alloc, &mut desk, call)
 }
 
 #[test]
@@ -294,7 +308,7 @@ fn errors_of_the_desk(rt: HostRuntime) -> Result<(), Fail> {
             None
         };
         assert_eq!(rt;
-            (call, error_where_call_fails(rt.alloc(), call)?),
+            (call, load_where_call_fails(rt.alloc(), call)?.err()),
             (call, wanted)
         );
     }

@@ -1,5 +1,7 @@
 //! Tests of lines: a long name is cut, a put that fails is a fault, and a byte that ends no line is pending.
-ghost use Rattle.std.specs.Prelude.{OnOk};
+ghost use Rattle.std.specs.Prelude.{IsTrue, OnOk};
+ghost use Rattle.cw_base.specs.declared.event.Out.TheVariants.{Tex};
+ghost use Rattle.cw_desk.specs.Meaning.{is_open};
 ghost use Rattle.cw_desk.specs.Mem.{tell};
 ghost use Rattle.cw_lines.specs.Writes.{CanWrite};
 
@@ -20,12 +22,11 @@ fn put_bytes(line: &mut LineOut, bytes: &[u8], desk: &mut MemDesk) -> Result<(),
 }
 
 /// Puts a long name on a line, ends the line, and tells whether it had begun before.
-fn put_long_name(alloc: Global, line: &mut LineOut, desk: &mut MemDesk) -> Result<bool, Fail>
+fn put_long_name(line: &mut LineOut, desk: &mut MemDesk) -> Result<bool, PutError>
     requires can { CanWrite (tell desk.old) line.old }
 {
-    let name = vec![in alloc; b'a'; 200]?;
     put_bytes(line, b"\\M{1}\n\\Y\\B\\\\{", desk)?;
-    put_bytes(line, name.as_slice(), desk)?;
+    put_bytes(line, &[b'a'; 200], desk)?;
     put_bytes(line, b"}\\par\n\\fi", desk)?;
     let begun = !line.is_empty();
     line.end_line(desk)?;
@@ -33,20 +34,33 @@ fn put_long_name(alloc: Global, line: &mut LineOut, desk: &mut MemDesk) -> Resul
     Ok(begun)
 }
 
-/// All that is written then; whether the third and the fourth line are broken, and whether the line was begun and is
-/// ended; and the number of lines.
-fn long_name(alloc: Global) -> Result<(Bytes, [bool; 3], u64), Fail> {
-    let mut desk = desk_with_tex(alloc)?;
-    let mut line = LineOut::new_in(alloc, Out::Tex);
-    let begun = put_long_name(alloc, &mut line, &mut desk)?;
+/// Whether the third and the fourth line are broken then, and whether the line was begun and is ended; and the number of
+/// lines.
+fn shape_of_long_name(line: &mut LineOut, desk: &mut MemDesk) -> Result<([bool; 3], u64), PutError>
+    requires can { CanWrite (tell desk.old) line.old }
+{
+    let begun = put_long_name(line, desk)?;
     let broken = line.broken() == [3, 4].as_slice();
-    let text = written(alloc, desk.journal())?;
-    Ok((text, [broken, begun, line.is_empty()], line.lines()))
+    Ok(([broken, begun, line.is_empty()], line.lines()))
+}
+
+/// The same on a line of its own, and all that is written then.
+fn long_name_on(alloc: Global, desk: &mut MemDesk) -> Result<(Bytes, ([bool; 3], u64)), Fail>
+    requires { IsTrue (is_open desk.old.outputs Tex) }
+{
+    let mut line = LineOut::new_in(alloc, Out::Tex);
+    let shape = shape_of_long_name(&mut line, desk)?;
+    Ok((written(alloc, desk.journal())?, shape))
+}
+
+fn long_name(alloc: Global) -> Result<(Bytes, ([bool; 3], u64)), Fail> {
+    let mut desk = desk_with_tex(alloc)?;
+    long_name_on(alloc, &mut desk)
 }
 
 #[test]
 fn a_long_name_is_cut(rt: HostRuntime) -> Result<(), Fail> {
-    let (text, lines, count) = long_name(rt.alloc())?;
+    let (text, shape) = long_name(rt.alloc())?;
     expect(
         &rt,
         &text,
@@ -59,19 +73,31 @@ aaaaaaaaaaaaaaaaaaaaaaaaaaaaaaaaaaaaaaaaaaaaa}\\par
 Done.
 ",
     );
-    assert_eq!(rt; (lines, count), ([true; 3], 6));
+    assert_eq!(rt; shape, ([true; 3], 6));
     Ok(())
 }
 
-/// Whether a put is a fault where the third call fails; how many calls there are, and what is written.
-fn put_with_fault(alloc: Global) -> Result<(bool, u64, Bytes), Memory> {
-    let mut desk = desk_with_tex(alloc)?;
+/// Whether a put is a fault.
+fn put_fails(alloc: Global, desk: &mut MemDesk) -> bool
+    requires { IsTrue (is_open desk.old.outputs Tex) }
+{
+    let mut line = LineOut::new_in(alloc, Out::Tex);
+    line.put_all(b"abc\nd\n", desk) == Err(PutError::Fault)
+}
+
+/// The same where the third call fails; how many calls there are, and what is written.
+fn put_with_fault_on(alloc: Global, desk: &mut MemDesk) -> Result<(bool, u64, Bytes), Memory>
+    requires { IsTrue (is_open desk.old.outputs Tex) }
+{
     desk.limit(2)?;
     desk.fail_at(3)?;
-    let mut line = LineOut::new_in(alloc, Out::Tex);
-    let failed = line.put_all(b"abc\nd\n", &mut desk) == Err(PutError::Fault);
-    let text = written(alloc, desk.journal())?;
-    Ok((failed, desk.calls(), text))
+    let failed = put_fails(alloc, desk);
+    Ok((failed, desk.calls(), written(alloc, desk.journal())?))
+}
+
+fn put_with_fault(alloc: Global) -> Result<(bool, u64, Bytes), Memory> {
+    let mut desk = desk_with_tex(alloc)?;
+    put_with_fault_on(alloc, &mut desk)
 }
 
 #[test]
@@ -83,11 +109,17 @@ fn a_failing_put_is_a_fault(rt: HostRuntime) -> Result<(), Fail> {
 }
 
 /// Whether a line has begun by its first byte, and how many calls there were.
+fn put_one_byte_on(alloc: Global, desk: &mut MemDesk) -> Result<(bool, u64), PutError>
+    requires { IsTrue (is_open desk.old.outputs Tex) }
+{
+    let mut line = LineOut::new_in(alloc, Out::Tex);
+    line.put(b'a', desk)?;
+    Ok((!line.is_empty(), desk.calls()))
+}
+
 fn put_one_byte(alloc: Global) -> Result<(bool, u64), Fail> {
     let mut desk = desk_with_tex(alloc)?;
-    let mut line = LineOut::new_in(alloc, Out::Tex);
-    line.put(b'a', &mut desk)?;
-    Ok((!line.is_empty(), desk.calls()))
+    Ok(put_one_byte_on(alloc, &mut desk)?)
 }
 
 #[test]

@@ -50,10 +50,14 @@ fn say_lines(desk: &mut MemDesk) -> Result<(), PutError> {
     say(desk, Message::Done)
 }
 
+fn print_lines(alloc: Global, desk: &mut MemDesk) -> Result<Bytes, Fail> {
+    say_lines(desk)?;
+    Ok(printed(alloc, desk)?)
+}
+
 fn printed_lines(alloc: Global) -> Result<Bytes, Fail> {
     let mut desk = MemDesk::new_in(alloc);
-    say_lines(&mut desk)?;
-    Ok(printed(alloc, &desk)?)
+    print_lines(alloc, &mut desk)
 }
 
 #[test]
@@ -78,10 +82,14 @@ fn stop_thrice(alloc: Global, desk: &mut MemDesk) -> Result<[Exit; 3], PutError>
 }
 
 /// How three runs end that are stopped, and what they say.
+fn stopped_on(alloc: Global, desk: &mut MemDesk) -> Result<([Exit; 3], Bytes), Fail> {
+    let exits = stop_thrice(alloc, desk)?;
+    Ok((exits, printed(alloc, desk)?))
+}
+
 fn stopped(alloc: Global) -> Result<([Exit; 3], Bytes), Fail> {
     let mut desk = MemDesk::new_in(alloc);
-    let exits = stop_thrice(alloc, &mut desk)?;
-    Ok((exits, printed(alloc, &desk)?))
+    stopped_on(alloc, &mut desk)
 }
 
 #[test]
@@ -220,10 +228,14 @@ fn close_thrice(alloc: Global, desk: &mut MemDesk) -> Result<[Exit; 3], PutError
 }
 
 /// How three runs end, and what they say.
+fn closed_on(alloc: Global, desk: &mut MemDesk) -> Result<([Exit; 3], Bytes), Fail> {
+    let exits = close_thrice(alloc, desk)?;
+    Ok((exits, printed(alloc, desk)?))
+}
+
 fn closed(alloc: Global) -> Result<([Exit; 3], Bytes), Fail> {
     let mut desk = MemDesk::new_in(alloc);
-    let exits = close_thrice(alloc, &mut desk)?;
-    Ok((exits, printed(alloc, &desk)?))
+    closed_on(alloc, &mut desk)
 }
 
 #[test]
