@@ -14,7 +14,24 @@ use cw_trees::Control;
 use std::alloc::Global;
 use std::test::Fail;
 
-// The category and the mode of the scrap of a token at place 3, and whether its list has these items.
+// The category and the mode of the scrap of a token, and whether its list has these items.
+fn leaf_in(
+    alloc: Global,
+    names: &mut Names,
+    store: &mut TokenStore,
+    token: &Tok,
+    items: &[FlatItem],
+) -> Result<(Cat, MathMode, bool), Memory>
+    requires kind { MakesLeaf token.now.kind }
+    requires start { token.now.span.start < 2 ^ 32 }
+    requires idle { store.old.building ≡ None }
+{
+    let leaf = scrap_of(token, names, store)?;
+    let is_flat = is_flat(alloc, store, leaf.list, items)?;
+    Ok((leaf.cat, leaf.left, is_flat))
+}
+
+// The same of a token at place 3, with the names of the start.
 fn leaf(
     alloc: Global,
     kind: TokKind,
@@ -32,9 +49,7 @@ fn leaf(
         span: Span { start: 3, end: 4 },
         hash_line,
     };
-    let leaf = scrap_of(&token, &mut names, &mut store)?;
-    let is_flat = is_flat(alloc, &store, leaf.list, items)?;
-    Ok((leaf.cat, leaf.left, is_flat))
+    leaf_in(alloc, &mut names, &mut store, &token, items)
 }
 
 // Whether that scrap has this category and mode, and its list these items.

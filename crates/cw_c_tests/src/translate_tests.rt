@@ -323,6 +323,11 @@ fn told(alloc: Global, sample: &Sample) -> Result<(Bytes, u64, u64), Memory> {
     told_on(alloc, &mut desk, sample)
 }
 
+// The bytes have to be those of a sample.
+fn expect(rt: &impl Abort, bytes: &Bytes, sample: &Sample, i: usize) {
+    assert_eq!(rt; bytes.as_slice(), sample.bytes, "text {i}");
+}
+
 // A sample has to print its bytes. The answer is how many scraps it has, and in how many productions it is reduced.
 fn expect_bytes(
     rt: &impl Abort,
@@ -331,7 +336,7 @@ fn expect_bytes(
     i: usize,
 ) -> Result<(u64, u64), Memory> {
     let (bytes, scraps, productions) = told(alloc, sample)?;
-    assert_eq!(rt; bytes.as_slice(), sample.bytes, "text {i}");
+    expect(rt, &bytes, sample, i);
     Ok((scraps, productions))
 }
 
@@ -346,10 +351,17 @@ fn worked_texts_have_their_bytes_and_counts(rt: HostRuntime) -> Result<(), Fail>
 }
 
 // The marks of a C part.
+fn marks_on(alloc: Global, desk: &mut Desk, text: &[u8]) -> Result<usize, Memory>
+    requires kept { AreNamesOf desk.old.sec_names desk.old.uses }
+    requires idle { desk.old.store.building ≡ None }
+{
+    translated(alloc, desk, text, Mode::CPart)?;
+    Ok(desk.marks.len())
+}
+
 fn marks_of(alloc: Global, text: &[u8]) -> Result<usize, Memory> {
     let mut desk = desk_of(alloc)?;
-    translated(alloc, &mut desk, text, Mode::CPart)?;
-    Ok(desk.marks.len())
+    marks_on(alloc, &mut desk, text)
 }
 
 #[test]
