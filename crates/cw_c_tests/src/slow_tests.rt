@@ -90,10 +90,16 @@ fn end_alike(slow: &mut Bench, walked: &mut Bench, text: &[u8]) -> Result<bool, 
     Ok(productions[0] == productions[1] && agree(slow, walked))
 }
 
+fn walk_ends_as(slow: &mut Bench, alloc: Global, text: &[u8]) -> Result<bool, Memory>
+    requires slow { IsSoundLine slow.old.store slow.old.names slow.old.line }
+{
+    let mut walked = bench_of_words(alloc)?;
+    end_alike(slow, &mut walked, text)
+}
+
 fn ends_alike(alloc: Global, text: &[u8]) -> Result<bool, Memory> {
     let mut slow = bench_of_words(alloc)?;
-    let mut walked = bench_of_words(alloc)?;
-    end_alike(&mut slow, &mut walked, text)
+    walk_ends_as(&mut slow, alloc, text)
 }
 
 // The first text of which they leave something else.

@@ -72,40 +72,76 @@ fn reduced(
     reduce_both(&mut bench, first, second)
 }
 
-#[test]
-fn a_declaration_is_one_scrap_with_two_marks(rt: HostRuntime) -> Result<(), Fail> {
-    let done = reduced(rt.alloc(), (b"Ta=b+c,*d;", 1), (b"", 0))?;
-    assert_eq!(rt; (done.scraps, done.productions, done.marks), (1, 10, 2));
-    Ok(())
+// A line of tokens, so many times the first and then so many times the second, and what is left of it and counted.
+struct Line {
+    first: (&'static [u8], usize),
+    second: (&'static [u8], usize),
+    scraps: usize,
+    productions: Option<u64>,
+    steps: Option<u64>,
+    marks: Option<usize>,
 }
 
-#[test]
-fn nested_choices_are_one_scrap(rt: HostRuntime) -> Result<(), Fail> {
-    let done = reduced(rt.alloc(), (b"I(a)b;EI(c){d;}Ee;", 1), (b"", 0))?;
-    assert_eq!(rt; (done.scraps, done.productions), (1, 12));
-    Ok(())
-}
+const LINES: [Line; 5] = [
+    // A declaration is one scrap with two marks.
+    Line {
+        first: (b"Ta=b+c,*d;", 1),
+        second: (b"", 0),
+        scraps: 1,
+        productions: Some(10),
+        steps: None,
+        marks: Some(2),
+    },
+    // Nested choices are one scrap.
+    Line {
+        first: (b"I(a)b;EI(c){d;}Ee;", 1),
+        second: (b"", 0),
+        scraps: 1,
+        productions: Some(12),
+        steps: None,
+        marks: None,
+    },
+    // What stays at the left is not looked at again.
+    Line {
+        first: (b")", 200),
+        second: (b"a;", 200),
+        scraps: 201,
+        productions: Some(399),
+        steps: Some(4796),
+        marks: None,
+    },
+    // A million scraps become one.
+    Line {
+        first: (b"a;", 500000),
+        second: (b"", 0),
+        scraps: 1,
+        productions: Some(999999),
+        steps: None,
+        marks: None,
+    },
+    // A line without scraps stays.
+    Line {
+        first: (b"", 1),
+        second: (b"", 0),
+        scraps: 0,
+        productions: None,
+        steps: Some(0),
+        marks: None,
+    },
+];
 
 #[test]
-fn what_stays_at_the_left_is_not_looked_at_again(rt: HostRuntime) -> Result<(), Fail> {
-    let done = reduced(rt.alloc(), (b")", 200), (b"a;", 200))?;
-    assert_eq!(rt;
-        (done.scraps, done.productions, done.steps),
-        (201, 399, 4796)
-    );
-    Ok(())
-}
-
-#[test]
-fn a_million_scraps_become_one(rt: HostRuntime) -> Result<(), Fail> {
-    let done = reduced(rt.alloc(), (b"a;", 500000), (b"", 0))?;
-    assert_eq!(rt; (done.scraps, done.productions), (1, 999999));
-    Ok(())
-}
-
-#[test]
-fn a_line_without_scraps_stays(rt: HostRuntime) -> Result<(), Fail> {
-    let done = reduced(rt.alloc(), (b"", 1), (b"", 0))?;
-    assert_eq!(rt; (done.scraps, done.steps), (0, 0));
+fn worked_lines_have_their_counts(rt: HostRuntime) -> Result<(), Fail> {
+    for (i, line) in LINES.iter().enumerate() {
+        let done = reduced(rt.alloc(), line.first, line.second)?;
+        let seen = (done.scraps, done.productions, done.steps, done.marks);
+        let wanted = (
+            line.scraps,
+            line.productions.unwrap_or(done.productions),
+            line.steps.unwrap_or(done.steps),
+            line.marks.unwrap_or(done.marks),
+        );
+        assert_eq!(rt; seen, wanted, "line {i}");
+    }
     Ok(())
 }
