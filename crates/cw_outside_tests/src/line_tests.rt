@@ -34,8 +34,8 @@ fn put_long_name(line: &mut LineOut, desk: &mut MemDesk) -> Result<bool, PutErro
     Ok(begun)
 }
 
-/// Whether the third and the fourth line are broken then, and whether the line was begun and is ended; and the number of
-/// lines.
+/// Whether the third and the fourth line are broken then, and whether the line was begun and is ended; and the number
+/// of lines.
 fn shape_of_long_name(line: &mut LineOut, desk: &mut MemDesk) -> Result<([bool; 3], u64), PutError>
     requires can { CanWrite (tell desk.old) line.old }
 {
