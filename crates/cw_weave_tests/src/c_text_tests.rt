@@ -1,6 +1,7 @@
 //! Webs of one C part: the section and the index, with flag x and without.
 use crate::expectations::expect;
-use crate::{FOO, web_told};
+use crate::runs::{FOO, told};
+use crate::texts::text_of;
 use cw_base::{Bytes, Memory};
 use std::alloc::Global;
 use std::test::Fail;
@@ -13,32 +14,36 @@ Writing the output file...
 \\M{1}
 ";
 
-/// Appends what it tells of the index.
-fn append_index(text: &mut Bytes, index: &[u8]) -> Result<(), Memory> {
-    text.append(b"\\inx\n\\fin\n\\end\n[term]Writing the index...\n[idx] is foo.idx\n")?;
-    if !index.is_empty() {
-        text.append(b"[idx]")?;
-        text.append(index)?;
-    }
-    text.append(b"[scn] is foo.scn\n")
+/// What it tells between the section and the index.
+const INDEXING: &[u8] =
+    b"\\fi\n\n\\inx\n\\fin\n\\end\n[term]Writing the index...\n[idx] is foo.idx\n";
+
+/// How it ends, without notes.
+const CLEAN: &[u8] = b"[term]Done.\n(No errors were found.)\nClean";
+
+/// What a run of one section tells, with the index.
+fn with_index<'x>(alloc: Global, section: &'x [u8], index: &'x [u8]) -> Result<Bytes, Memory> {
+    let pieces: [(&[u8], usize); 7] = [
+        (BEGINNING, 1),
+        (section, 1),
+        (INDEXING, 1),
+        (b"[idx]", usize::from(!index.is_empty())),
+        (index, 1),
+        (b"[scn] is foo.scn\n", 1),
+        (CLEAN, 1),
+    ];
+    text_of(alloc, &pieces)
 }
 
-/// Appends the section and what follows it.
-fn append_rest(text: &mut Bytes, section: &[u8], index: Option<&[u8]>) -> Result<(), Memory> {
-    text.append(section)?;
-    text.append(b"\\fi\n\n")?;
-    match index {
-        Some(index) => append_index(text, index)?,
-        None => text.append(b"\\end\n")?,
-    }
-    text.append(b"[term]Done.\n(No errors were found.)\nClean")
-}
-
-/// What a run of one section without notes tells. With flag x it has the index too.
-fn whole(alloc: Global, section: &[u8], index: Option<&[u8]>) -> Result<Bytes, Memory> {
-    let mut text = Bytes::from_slice(alloc, BEGINNING)?;
-    append_rest(&mut text, section, index)?;
-    Ok(text)
+/// What it tells with flag x.
+fn without_index(alloc: Global, section: &[u8]) -> Result<Bytes, Memory> {
+    let pieces: [(&[u8], usize); 4] = [
+        (BEGINNING, 1),
+        (section, 1),
+        (b"\\fi\n\n\\end\n", 1),
+        (CLEAN, 1),
+    ];
+    text_of(alloc, &pieces)
 }
 
 /// A text of a C part, what its section prints, and its index.
@@ -100,20 +105,18 @@ ${}\\}{}$ \\&{bar};\\6
 
 /// What a run over a section of this C part tells.
 fn part_told(alloc: Global, text: &[u8], words: &[&[u8]]) -> Result<Bytes, Memory> {
-    let mut web = Bytes::from_slice(alloc, b"@ @c ")?;
-    web.append(text)?;
-    web.push(b'\n')?;
-    web_told(alloc, web.as_slice(), &[], words)
+    let pieces: [(&[u8], usize); 3] = [(b"@ @c ", 1), (text, 1), (b"\n", 1)];
+    let web = text_of(alloc, &pieces)?;
+    told(alloc, words, &[(b"foo.w", web.as_slice())])
 }
 
 #[test]
 fn each_section_and_its_index(rt: HostRuntime) -> Result<(), Fail> {
-    let no_index = b"-x".as_slice();
     for (text, section, index) in &ROWS {
         let seen = part_told(rt.alloc(), text, &[FOO])?;
-        expect(&rt, &seen, &whole(rt.alloc(), section, Some(*index))?);
-        let seen = part_told(rt.alloc(), text, &[no_index, FOO])?;
-        expect(&rt, &seen, &whole(rt.alloc(), section, None)?);
+        expect(&rt, &seen, &with_index(rt.alloc(), section, index)?);
+        let seen = part_told(rt.alloc(), text, &[b"-x", FOO])?;
+        expect(&rt, &seen, &without_index(rt.alloc(), section)?);
     }
     Ok(())
 }

@@ -1,10 +1,22 @@
 //! Runs that have to tell what is expected of them.
-use crate::{Way, desk_with, ends_at, journal_text, told, told_by, web_told};
+use crate::runs::{Way, desk_with, ends_at, journal_text, told, told_in};
 use cw_base::{Bytes, Memory};
 use cw_desk::MemDesk;
 use std::alloc::Global;
 use std::process::Abort;
 use std::test::Fail;
+
+/// A run, and what it has to tell.
+pub(crate) struct Run {
+    /// What it shows.
+    pub(crate) name: &'static str,
+    /// The words of its command line.
+    pub(crate) words: &'static [&'static [u8]],
+    /// The files of its desk.
+    pub(crate) files: &'static [(&'static [u8], &'static [u8])],
+    /// Its journal, and how it ends.
+    pub(crate) told: &'static [u8],
+}
 
 /// What was seen has to be what is wanted.
 pub(crate) fn expect(rt: &impl Abort, seen: &Bytes, wanted: &Bytes) {
@@ -24,31 +36,42 @@ pub(crate) fn expect_told(
     Ok(())
 }
 
-/// So has a run over `foo.w` with these bytes, beside other files.
-pub(crate) fn expect_web(
-    rt: &impl Abort,
-    alloc: Global,
-    web: &[u8],
-    others: &[(&[u8], &[u8])],
-    words: &[&[u8]],
-    wanted: &[u8],
-) -> Result<(), Fail> {
-    let seen = web_told(alloc, web, others, words)?;
-    assert_eq!(rt; seen.as_slice(), wanted);
+/// Each of these runs has to tell what is expected of it.
+pub(crate) fn expect_runs(rt: &impl Abort, alloc: Global, runs: &[Run]) -> Result<(), Fail> {
+    for run in runs {
+        let seen = told(alloc, run.words, run.files)?;
+        assert_eq!(rt; seen.as_slice(), run.told, "{}", run.name);
+    }
     Ok(())
 }
 
-/// And so has a run over this desk, which it has to call so many times.
-pub(crate) fn expect_calls(
-    rt: &impl Abort,
-    alloc: Global,
-    desk: &mut MemDesk,
-    words: &[&[u8]],
-    wanted: &[u8],
-    calls: u64,
-) -> Result<(), Fail> {
-    let seen = told_by(alloc, words, desk)?;
-    assert_eq!(rt; (seen.as_slice(), desk.calls()), (wanted, calls));
+/// A run of which a call may fail, and the number of its calls.
+pub(crate) struct Counted {
+    /// The run.
+    pub(crate) run: Run,
+    /// The number of the call that fails.
+    pub(crate) fails_at: Option<u64>,
+    /// How many calls there have to be.
+    pub(crate) calls: u64,
+}
+
+/// What a run tells, and how many calls there are.
+fn told_counted(alloc: Global, counted: &Counted) -> Result<(Bytes, u64), Memory> {
+    let mut desk = desk_with(alloc, counted.run.files)?;
+    if let Some(call) = counted.fails_at {
+        desk.fail_at(call)?;
+    }
+    let text = told_in(Way::Direct, alloc, counted.run.words, &mut desk)?;
+    Ok((text, desk.calls()))
+}
+
+/// Each of these runs has to tell what is expected of it, by so many calls.
+pub(crate) fn expect_calls(rt: &impl Abort, alloc: Global, rows: &[Counted]) -> Result<(), Fail> {
+    for row in rows {
+        let (seen, calls) = told_counted(alloc, row)?;
+        let wanted = (row.run.told, row.calls);
+        assert_eq!(rt; (seen.as_slice(), calls), wanted, "{}", row.run.name);
+    }
     Ok(())
 }
 

@@ -1,6 +1,7 @@
-//! Four webs, one of them over old files too, where each call fails in turn, a call moves one byte, or nothing fails.
+//! Webs, some of them over old files too, where each call fails in turn, a call moves one byte, or nothing fails.
 use crate::expectations::{expect_faults, expect_told};
-use crate::{FOO, HELLO, Way, desk_with, told_by, weave_quietly};
+use crate::quiet::weave_quietly;
+use crate::runs::{FOO, HELLO, Way, desk_with, told_in};
 use cw_base::{Bytes, Exit, Memory, Words};
 use cw_desk::{MemDesk, QuietDesk};
 use std::alloc::Global;
@@ -53,45 +54,93 @@ const KEPT: [(&[u8], &[u8]); 3] = [
     (b"foo.idx", b""),
 ];
 
-/// Runs: the words and the files of each.
-const RUNS: [([&[u8]; 3], &[(&[u8], &[u8])]); 5] = [
-    ([b"+b", FOO, b"-"], &[(b"foo.w", HELLO)]),
-    ([b"+b", FOO, FOO], &CHANGED),
-    ([b"+b", FOO, b"-"], &NESTED),
-    ([b"+b", FOO, b"-"], &[(b"foo.w", GREETING)]),
-    ([b"+k", FOO, b"-"], &KEPT),
+/// An old TeX file that agrees with the new one for some of its bytes.
+pub(crate) const BEGUN: [(&[u8], &[u8]); 2] = [
+    (b"foo.w", HELLO),
+    (b"foo.tex", b"\\input cwebmac\n% limbo\n"),
+];
+
+/// A run, and how its desk is called.
+struct Called {
+    way: Way,
+    /// How many bytes the first read or put moves where each other one moves one.
+    first: usize,
+    words: &'static [&'static [u8]],
+    files: &'static [(&'static [u8], &'static [u8])],
+}
+
+const RUNS: [Called; 7] = [
+    Called {
+        way: Way::Direct,
+        first: 1,
+        words: &[b"+b", FOO, b"-"],
+        files: &[(b"foo.w", HELLO)],
+    },
+    Called {
+        way: Way::Direct,
+        first: 1,
+        words: &[b"+b", FOO, FOO],
+        files: &CHANGED,
+    },
+    Called {
+        way: Way::Direct,
+        first: 1,
+        words: &[b"+b", FOO, b"-"],
+        files: &NESTED,
+    },
+    Called {
+        way: Way::Direct,
+        first: 1,
+        words: &[b"+b", FOO, b"-"],
+        files: &[(b"foo.w", GREETING)],
+    },
+    Called {
+        way: Way::Direct,
+        first: 1,
+        words: &[b"+k", FOO, b"-"],
+        files: &KEPT,
+    },
+    Called {
+        way: Way::Direct,
+        first: 3,
+        words: &[FOO],
+        files: &[(b"foo.w", HELLO)],
+    },
+    Called {
+        way: Way::Gathered,
+        first: 1,
+        words: &[b"+k", FOO],
+        files: &BEGUN,
+    },
 ];
 
 #[test]
 fn each_call_fails_in_turn(rt: HostRuntime) -> Result<(), Fail> {
-    for (words, files) in &RUNS {
-        expect_faults(&rt, rt.alloc(), Way::Direct, words, files)?;
+    for run in &RUNS {
+        expect_faults(&rt, rt.alloc(), run.way, run.words, run.files)?;
     }
     Ok(())
 }
 
-/// A desk with these files, on which a call moves one byte.
-fn bytewise_desk(alloc: Global, files: &[(&[u8], &[u8])]) -> Result<MemDesk, Memory> {
-    let mut desk = desk_with(alloc, files)?;
+/// A desk with the files of a run, on which a call moves few bytes.
+fn slow_desk(alloc: Global, run: &Called) -> Result<MemDesk, Memory> {
+    let mut desk = desk_with(alloc, run.files)?;
+    desk.limit(run.first.max(1))?;
     desk.limit(1)?;
     Ok(desk)
 }
 
 /// What a run over it tells.
-fn told_bytewise(
-    alloc: Global,
-    words: &[&[u8]],
-    files: &[(&[u8], &[u8])],
-) -> Result<Bytes, Memory> {
-    let mut desk = bytewise_desk(alloc, files)?;
-    told_by(alloc, words, &mut desk)
+fn told_slowly(alloc: Global, run: &Called) -> Result<Bytes, Memory> {
+    let mut desk = slow_desk(alloc, run)?;
+    told_in(Way::Direct, alloc, run.words, &mut desk)
 }
 
 #[test]
 fn a_byte_at_a_time(rt: HostRuntime) -> Result<(), Fail> {
-    for (words, files) in &RUNS {
-        let bytewise = told_bytewise(rt.alloc(), words, files)?;
-        expect_told(&rt, rt.alloc(), words, files, bytewise.as_slice())?;
+    for run in &RUNS {
+        let slow = told_slowly(rt.alloc(), run)?;
+        expect_told(&rt, rt.alloc(), run.words, run.files, slow.as_slice())?;
     }
     Ok(())
 }

@@ -1,36 +1,20 @@
-//! Webs as deep, as long and with as many statements as they may be.
-use crate::{FOO, terminal_told};
-use cw_base::{Bytes, Memory};
+//! Webs as deep, as long and with as many statements as they may be, and such as are deeper or longer.
+use crate::runs::{FOO, terminal_told};
+use crate::texts::{Piece, text_of};
 use std::alloc::Global;
 use std::process::Abort;
 use std::test::Fail;
 
-/// A run over this web has to print what is wanted on the terminal, and to end as it says.
-fn expect_terminal(
-    rt: &impl Abort,
-    alloc: Global,
-    words: &[&[u8]],
-    web: &Bytes,
-    wanted: &[u8],
-) -> Result<(), Fail> {
-    let seen = terminal_told(alloc, words, web.as_slice())?;
-    assert_eq!(rt; seen.as_slice(), wanted);
-    Ok(())
+/// A large web, and what its run prints.
+struct Large {
+    name: &'static str,
+    words: &'static [&'static [u8]],
+    web: &'static [Piece<'static>],
+    printed: &'static [u8],
 }
 
-/// A statement with a comment that has C text with a comment, and so on to this depth.
-fn nested(alloc: Global, depth: usize) -> Result<Bytes, Memory> {
-    let mut web = Bytes::from_slice(alloc, b"@ @c ")?;
-    for _ in 0..depth {
-        web.append(b"a /* |")?;
-    }
-    web.push(b'a')?;
-    for _ in 0..depth {
-        web.append(b"| */")?;
-    }
-    web.push(b'\n')?;
-    Ok(web)
-}
+/// 63 letters, as a line.
+const LINE: &[u8] = b"aaaaaaaaaaaaaaaaaaaaaaaaaaaaaaaaaaaaaaaaaaaaaaaaaaaaaaaaaaaaaaa\n";
 
 const CLEAN: &[u8] = b"This is CWEAVE (profile 2)
 Writing the output file...
@@ -39,22 +23,32 @@ Done.
 (No errors were found.)
 Clean";
 
-#[test]
-fn twenty_texts_deep(rt: HostRuntime) -> Result<(), Fail> {
-    let web = nested(rt.alloc(), 20)?;
-    expect_terminal(&rt, rt.alloc(), &[FOO], &web, CLEAN)
-}
-
-// Both bars of the text that would be too deep are bytes.
-#[test]
-fn one_text_too_deep(rt: HostRuntime) -> Result<(), Fail> {
-    let web = nested(rt.alloc(), 21)?;
-    expect_terminal(
-        &rt,
-        rt.alloc(),
-        &[FOO],
-        &web,
-        b"This is CWEAVE (profile 2)
+const DEEP: [Large; 3] = [
+    // A statement with a comment that has C text with a comment, and so on.
+    Large {
+        name: "twenty texts deep",
+        words: &[FOO],
+        web: &[
+            (b"@ @c ", 1),
+            (b"a /* |", 20),
+            (b"a", 1),
+            (b"| */", 20),
+            (b"\n", 1),
+        ],
+        printed: CLEAN,
+    },
+    // Both bars of the text that would be too deep are bytes.
+    Large {
+        name: "one text too deep",
+        words: &[FOO],
+        web: &[
+            (b"@ @c ", 1),
+            (b"a /* |", 21),
+            (b"a", 1),
+            (b"| */", 21),
+            (b"\n", 1),
+        ],
+        printed: b"This is CWEAVE (profile 2)
 ! C text is nested too deeply (l. 1 of foo.w)
 ! C text is nested too deeply (l. 1 of foo.w)
 Writing the output file...
@@ -62,28 +56,23 @@ Writing the index...
 Done.
 (Pardon me, but I think I spotted something wrong.)
 Errors",
-    )
-}
+    },
+    Large {
+        name: "too long",
+        words: &[FOO],
+        web: &[(b"a", 8_388_609)],
+        printed: b"This is CWEAVE (profile 2)
+! Input is longer than 8388608 bytes
+(That was a fatal error, my friend.)
+Errors",
+    },
+];
 
-/// A section with so many statements on one line.
-fn statements(alloc: Global, count: usize) -> Result<Bytes, Memory> {
-    let mut web = Bytes::from_slice(alloc, b"@ @c ")?;
-    for _ in 0..count {
-        web.append(b"a;")?;
-    }
-    web.push(b'\n')?;
-    Ok(web)
-}
-
-#[test]
-fn many_statements_on_one_line(rt: HostRuntime) -> Result<(), Fail> {
-    let web = statements(rt.alloc(), 500_000)?;
-    expect_terminal(
-        &rt,
-        rt.alloc(),
-        &[b"-x".as_slice(), b"+s".as_slice(), FOO],
-        &web,
-        b"This is CWEAVE (profile 2)
+const STATEMENTS: Large = Large {
+    name: "many statements on one line",
+    words: &[b"-x", b"+s", FOO],
+    web: &[(b"@ @c ", 1), (b"a;", 500_000), (b"\n", 1)],
+    printed: b"This is CWEAVE (profile 2)
 Writing the output file...
 Done.
 sections 1
@@ -92,28 +81,38 @@ productions 999999
 lines 500005
 (No errors were found.)
 Clean",
-    )
+};
+
+// A section of 8,388,608 bytes.
+const LONGEST: Large = Large {
+    name: "a web as long as it may be",
+    words: &[FOO],
+    web: &[(b"@ ", 1), (b"a", 61), (b"\n", 1), (LINE, 131_071)],
+    printed: CLEAN,
+};
+
+/// A run over this web has to print what is wanted.
+fn expect_large(rt: &impl Abort, alloc: Global, large: &Large) -> Result<(), Fail> {
+    let web = text_of(alloc, large.web)?;
+    let seen = terminal_told(alloc, large.words, web.as_slice())?;
+    assert_eq!(rt; seen.as_slice(), large.printed, "{}", large.name);
+    Ok(())
 }
 
-fn add_line(web: &mut Bytes, length: usize) -> Result<(), Memory> {
-    for _ in 0..length {
-        web.push(b'a')?;
+#[test]
+fn deep_webs_and_one_too_long(rt: HostRuntime) -> Result<(), Fail> {
+    for large in &DEEP {
+        expect_large(&rt, rt.alloc(), large)?;
     }
-    web.push(b'\n')
+    Ok(())
 }
 
-/// A section of 8,388,608 bytes.
-fn longest(alloc: Global) -> Result<Bytes, Memory> {
-    let mut web = Bytes::from_slice(alloc, b"@ ")?;
-    add_line(&mut web, 61)?;
-    for _ in 1..131_072 {
-        add_line(&mut web, 63)?;
-    }
-    Ok(web)
+#[test]
+fn many_statements_on_one_line(rt: HostRuntime) -> Result<(), Fail> {
+    expect_large(&rt, rt.alloc(), &STATEMENTS)
 }
 
 #[test]
 fn a_web_as_long_as_it_may_be(rt: HostRuntime) -> Result<(), Fail> {
-    let web = longest(rt.alloc())?;
-    expect_terminal(&rt, rt.alloc(), &[FOO], &web, CLEAN)
+    expect_large(&rt, rt.alloc(), &LONGEST)
 }

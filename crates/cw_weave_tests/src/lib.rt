@@ -4,8 +4,6 @@
 #[cfg(test)]
 mod c_text_tests;
 #[cfg(test)]
-mod change_tests;
-#[cfg(test)]
 mod counted_tests;
 #[cfg(test)]
 mod desk_failing_tests;
@@ -16,8 +14,6 @@ mod failing_tests;
 #[cfg(test)]
 mod forty_sections;
 #[cfg(test)]
-mod forty_tests;
-#[cfg(test)]
 mod keeping_tests;
 #[cfg(test)]
 mod large_tests;
@@ -25,9 +21,9 @@ mod large_tests;
 mod merging_tests;
 #[cfg(test)]
 mod printed_tests;
-mod runs;
+mod quiet;
 #[cfg(test)]
-mod sample_tests;
+mod runs;
 #[cfg(test)]
 mod scanning_tests;
 #[cfg(test)]
@@ -35,9 +31,8 @@ mod section_tests;
 #[cfg(test)]
 mod small_section_tests;
 #[cfg(test)]
+mod texts;
+#[cfg(test)]
 mod weave_tests;
 
-pub use runs::{
-    FOO, HELLO, Way, append_journal, desk_with, ends_at, journal_text, steps_of, terminal_told,
-    told, told_by, told_in, weave, weave_gathered, weave_quietly, web_desk, web_told,
-};
+pub use quiet::weave_quietly;

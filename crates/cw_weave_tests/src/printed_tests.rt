@@ -1,20 +1,24 @@
 //! Whole runs over webs with one of each printed token: constants, strings, comments, other bytes, heads, and section
 //! names with inner texts.
-use crate::FOO;
-use crate::expectations::expect_web;
+use crate::expectations::{Run, expect_runs};
+use crate::runs::FOO;
 use std::test::Fail;
 
 const CHANGE: &[u8] = b"@x\n@ @<A |1| b@>=x;\n@y\n@ @<A |1| b@>=y;\n@z\n";
 
-#[test]
-fn tokens_and_a_changed_name(rt: HostRuntime) -> Result<(), Fail> {
-    expect_web(
-        &rt,
-        rt.alloc(),
-        b"@ @c f(0x1f,\"a b\"); /* {x} */ @<A |1| b@>;\n@ @<A |1| b@>=x;\n",
-        &[(b"foo.ch".as_slice(), CHANGE)],
-        &[b"-x".as_slice(), FOO, b"foo.ch".as_slice()],
-        b"[term]This is CWEAVE (profile 2)
+/// Runs, and what each has to tell.
+const RUNS: [Run; 3] = [
+    Run {
+        name: "tokens and a changed name",
+        words: &[b"-x", FOO, b"foo.ch"],
+        files: &[
+            (
+                b"foo.w",
+                b"@ @c f(0x1f,\"a b\"); /* {x} */ @<A |1| b@>;\n@ @<A |1| b@>=x;\n",
+            ),
+            (b"foo.ch", CHANGE),
+        ],
+        told: b"[term]This is CWEAVE (profile 2)
 Writing the output file...
 [tex] is foo.tex
 [tex]\\input cwebmac
@@ -33,18 +37,15 @@ Writing the output file...
 [term]Done.
 (No errors were found.)
 Clean",
-    )
-}
-
-#[test]
-fn heads_and_a_name_with_two_inner_texts(rt: HostRuntime) -> Result<(), Fail> {
-    expect_web(
-        &rt,
-        rt.alloc(),
-        b"@ @d f(a,b) a+b\n@f x int\n@c @<A |1| b |2| c@>;\n@ @<A |1| b |2| c@>=\na_b=`;\n",
-        &[],
-        &[b"-x".as_slice(), FOO],
-        b"[term]This is CWEAVE (profile 2)
+    },
+    Run {
+        name: "heads and a name with two inner texts",
+        words: &[b"-x", FOO],
+        files: &[(
+            b"foo.w",
+            b"@ @d f(a,b) a+b\n@f x int\n@c @<A |1| b |2| c@>;\n@ @<A |1| b |2| c@>=\na_b=`;\n",
+        )],
+        told: b"[term]This is CWEAVE (profile 2)
 Writing the output file...
 [tex] is foo.tex
 [tex]\\input cwebmac
@@ -64,19 +65,14 @@ $\\\\{a\\_b}\\K\\.{`};$\\par
 [term]Done.
 (No errors were found.)
 Clean",
-    )
-}
-
-// A lone number sign is a sign, a lone backslash is printed as a byte, and the comment gets the brace that it lacks.
-#[test]
-fn a_number_sign_a_backslash_and_an_open_brace(rt: HostRuntime) -> Result<(), Fail> {
-    expect_web(
-        &rt,
-        rt.alloc(),
-        b"@ @c a#b\\; /* {x */\n",
-        &[],
-        &[b"-x".as_slice(), FOO],
-        b"[term]This is CWEAVE (profile 2)
+    },
+    // A lone number sign is a sign, a lone backslash is printed as a byte, and the comment gets the brace that it
+    // lacks.
+    Run {
+        name: "a number sign a backslash and an open brace",
+        words: &[b"-x", FOO],
+        files: &[(b"foo.w", b"@ @c a#b\\; /* {x */\n")],
+        told: b"[term]This is CWEAVE (profile 2)
 ! Missing } in comment (l. 1 of foo.w)
 Writing the output file...
 [tex] is foo.tex
@@ -89,5 +85,10 @@ Writing the output file...
 [term]Done.
 (Pardon me, but I think I spotted something wrong.)
 Errors",
-    )
+    },
+];
+
+#[test]
+fn each_printed_token(rt: HostRuntime) -> Result<(), Fail> {
+    expect_runs(&rt, rt.alloc(), &RUNS)
 }

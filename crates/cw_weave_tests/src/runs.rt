@@ -1,10 +1,16 @@
 //! Runs, and what they told.
-ghost use Rattle.std.specs.Prelude.{◌≡◌, ◌≢◌, [], IfOk};
+ghost use Rattle.std.specs.Prelude.{◌≡◌, [], IfOk};
 
 use cw_base::{Bytes, Event, Exit, Kept, Memory, Out, Silent, Steps, Words};
-use cw_desk::{Batch, Desk, Flushed, MemDesk, QuietDesk};
+use cw_desk::{Batch, Desk, Flushed, MemDesk};
 use cw_weave::weave_command;
 use std::alloc::Global;
+
+/// The name of most webs here, as a word.
+pub(crate) const FOO: &[u8] = b"foo";
+
+/// A web of one section without C text.
+pub(crate) const HELLO: &[u8] = b"% limbo\n@ Hello.\n";
 
 fn push_words(list: &mut Words, words: &[&[u8]]) -> Result<(), Memory> {
     for word in words {
@@ -20,13 +26,17 @@ fn list_of(alloc: Global, words: &[&[u8]]) -> Result<Words, Memory> {
 }
 
 /// Weaves what these words ask for.
-pub fn weave<D: Desk>(alloc: Global, words: &[&[u8]], desk: &mut D) -> Result<Exit, Memory> {
+pub(crate) fn weave<D: Desk>(alloc: Global, words: &[&[u8]], desk: &mut D) -> Result<Exit, Memory> {
     let list = list_of(alloc, words)?;
     Ok(weave_command(alloc, &list, desk, &mut Steps::<Silent>::new()))
 }
 
 /// Weaves over a batch of the desk, as the program does: what waits at the end is handed on, but not after a failure.
-pub fn weave_gathered(alloc: Global, words: &[&[u8]], desk: &mut MemDesk) -> Result<Exit, Memory> {
+pub(crate) fn weave_gathered(
+    alloc: Global,
+    words: &[&[u8]],
+    desk: &mut MemDesk,
+) -> Result<Exit, Memory> {
     let mut batch = Batch::new_in(alloc, desk);
     let exit = weave(alloc, words, &mut batch)?;
     if exit == Exit::Fault || exit == Exit::Memory {
@@ -42,8 +52,8 @@ pub fn weave_gathered(alloc: Global, words: &[&[u8]], desk: &mut MemDesk) -> Res
 }
 
 /// How a run calls its desk: for each line, or for many together.
-#[derive(Clone, Copy, Debug, PartialEq, Eq)]
-pub enum Way {
+#[derive(Clone, Copy)]
+pub(crate) enum Way {
     /// By the desk itself.
     Direct,
     /// By a batch of it.
@@ -52,7 +62,12 @@ pub enum Way {
 
 impl Way {
     /// Weaves what these words ask for.
-    pub fn weave(self, alloc: Global, words: &[&[u8]], desk: &mut MemDesk) -> Result<Exit, Memory> {
+    pub(crate) fn weave(
+        self,
+        alloc: Global,
+        words: &[&[u8]],
+        desk: &mut MemDesk,
+    ) -> Result<Exit, Memory> {
         match self {
             Way::Direct => weave(alloc, words, desk),
             Way::Gathered => weave_gathered(alloc, words, desk),
@@ -61,18 +76,15 @@ impl Way {
 }
 
 /// How a run over a desk ends, and how many steps it counts.
-pub fn steps_of(alloc: Global, words: &[&[u8]], desk: &mut MemDesk) -> Result<(Exit, u64), Memory> {
+pub(crate) fn steps_of(
+    alloc: Global,
+    words: &[&[u8]],
+    desk: &mut MemDesk,
+) -> Result<(Exit, u64), Memory> {
     let list = list_of(alloc, words)?;
     let mut steps = Steps::<Kept>::new();
     let exit = weave_command(alloc, &list, desk, &mut steps);
     Ok((exit, steps.count()))
-}
-
-/// How a run ends over a desk on which nothing fails: a fault can't come.
-pub fn weave_quietly(alloc: Global, words: &Words, desk: &mut QuietDesk) -> Exit
-    ensures { result ≢ Exit.Fault }
-{
-    weave_command(alloc, words, desk, &mut Steps::<Silent>::new())
 }
 
 fn out_name(out: Out) -> &'static [u8] {
@@ -85,7 +97,7 @@ fn out_name(out: Out) -> &'static [u8] {
 }
 
 /// Appends a journal as a text: each run of bytes on one output begins with its name in brackets.
-pub fn append_journal(text: &mut Bytes, journal: &[Event]) -> Result<(), Memory> {
+fn append_journal(text: &mut Bytes, journal: &[Event]) -> Result<(), Memory> {
     let mut last = None;
     for event in journal {
         match event {
@@ -129,28 +141,15 @@ fn exit_name(exit: Exit) -> &'static [u8] {
     }
 }
 
-/// The name of most webs here, as a word.
-pub const FOO: &[u8] = b"foo";
-
-/// A web of one section without C text.
-pub const HELLO: &[u8] = b"% limbo\n@ Hello.\n";
-
 /// A journal as a text of its own.
-pub fn journal_text(alloc: Global, journal: &[Event]) -> Result<Bytes, Memory> {
+pub(crate) fn journal_text(alloc: Global, journal: &[Event]) -> Result<Bytes, Memory> {
     let mut text = Bytes::new_in(alloc);
     append_journal(&mut text, journal)?;
     Ok(text)
 }
 
-/// A desk on which `foo.w` has these bytes, beside other files.
-pub fn web_desk(alloc: Global, web: &[u8], others: &[(&[u8], &[u8])]) -> Result<MemDesk, Memory> {
-    let mut desk = desk_with(alloc, others)?;
-    desk.add_file(b"foo.w", web)?;
-    Ok(desk)
-}
-
 /// A desk with these files, of which none is opened.
-pub fn desk_with(alloc: Global, files: &[(&[u8], &[u8])]) -> Result<MemDesk, Memory>
+pub(crate) fn desk_with(alloc: Global, files: &[(&[u8], &[u8])]) -> Result<MemDesk, Memory>
     ensures unread { IfOk result (λ desk. desk.rests ≡ []) }
 {
     let mut desk = MemDesk::new_in(alloc);
@@ -160,13 +159,8 @@ pub fn desk_with(alloc: Global, files: &[(&[u8], &[u8])]) -> Result<MemDesk, Mem
     Ok(desk)
 }
 
-/// What a run over a desk tells: its journal, and behind it how it ended.
-pub fn told_by(alloc: Global, words: &[&[u8]], desk: &mut MemDesk) -> Result<Bytes, Memory> {
-    told_in(Way::Direct, alloc, words, desk)
-}
-
 /// The same where the desk is called in this way.
-pub fn told_in(
+pub(crate) fn told_in(
     way: Way,
     alloc: Global,
     words: &[&[u8]],
@@ -176,6 +170,16 @@ pub fn told_in(
     let mut text = journal_text(alloc, desk.journal())?;
     text.append(exit_name(exit))?;
     Ok(text)
+}
+
+/// What a run over these files tells.
+pub(crate) fn told(
+    alloc: Global,
+    words: &[&[u8]],
+    files: &[(&[u8], &[u8])],
+) -> Result<Bytes, Memory> {
+    let mut desk = desk_with(alloc, files)?;
+    told_in(Way::Direct, alloc, words, &mut desk)
 }
 
 /// Appends what is printed on the terminal.
@@ -197,15 +201,15 @@ fn terminal_text(alloc: Global, journal: &[Event], exit: Exit) -> Result<Bytes, 
 }
 
 /// What a run over `foo.w` with these bytes prints on the terminal, and behind it how it ended.
-pub fn terminal_told(alloc: Global, words: &[&[u8]], web: &[u8]) -> Result<Bytes, Memory> {
-    let mut desk = web_desk(alloc, web, &[])?;
+pub(crate) fn terminal_told(alloc: Global, words: &[&[u8]], web: &[u8]) -> Result<Bytes, Memory> {
+    let mut desk = desk_with(alloc, &[(b"foo.w".as_slice(), web)])?;
     let exit = weave(alloc, words, &mut desk)?;
     terminal_text(alloc, desk.journal(), exit)
 }
 
 /// Whether a run over this desk ends with a fault where its call of this number fails, without a further call, and
 /// has told a beginning of this.
-pub fn ends_at(
+pub(crate) fn ends_at(
     way: Way,
     alloc: Global,
     words: &[&[u8]],
@@ -217,19 +221,4 @@ pub fn ends_at(
     let exit = way.weave(alloc, words, desk)?;
     let part = journal_text(alloc, desk.journal())?;
     Ok(exit == Exit::Fault && desk.calls() == call && all.starts_with(part.as_slice()))
-}
-
-/// What a run over these files tells.
-pub fn told(alloc: Global, words: &[&[u8]], files: &[(&[u8], &[u8])]) -> Result<Bytes, Memory> {
-    told_by(alloc, words, &mut desk_with(alloc, files)?)
-}
-
-/// What a run tells over `foo.w` with these bytes, beside other files.
-pub fn web_told(
-    alloc: Global,
-    web: &[u8],
-    others: &[(&[u8], &[u8])],
-    words: &[&[u8]],
-) -> Result<Bytes, Memory> {
-    told_by(alloc, words, &mut web_desk(alloc, web, others)?)
 }

@@ -1,7 +1,7 @@
 //! Whole runs over webs that make notes of scanning, one by one and in order.
 use crate::expectations::expect;
-use crate::{FOO, terminal_told};
-use cw_base::{Bytes, Memory};
+use crate::runs::{FOO, terminal_told};
+use crate::texts::text_of;
 use std::alloc::Global;
 use std::process::Abort;
 use std::test::Fail;
@@ -13,27 +13,20 @@ Done.
 (Pardon me, but I think I spotted something wrong.)
 Errors";
 
-fn append_notes(text: &mut Bytes, notes: &[u8]) -> Result<(), Memory> {
-    text.append(notes)?;
-    text.append(ENDING)
-}
-
-/// What a run prints on the terminal that makes these notes.
-fn noted(alloc: Global, notes: &[u8]) -> Result<Bytes, Memory> {
-    let mut text = Bytes::from_slice(alloc, b"This is CWEAVE (profile 2)\n")?;
-    append_notes(&mut text, notes)?;
-    Ok(text)
-}
-
 /// A run over this web has to make these notes.
 fn expect_notes(rt: &impl Abort, alloc: Global, web: &[u8], notes: &[u8]) -> Result<(), Fail> {
     let seen = terminal_told(alloc, &[FOO], web)?;
-    expect(rt, &seen, &noted(alloc, notes)?);
+    let pieces: [(&[u8], usize); 3] = [
+        (b"This is CWEAVE (profile 2)\n", 1),
+        (notes, 1),
+        (ENDING, 1),
+    ];
+    expect(rt, &seen, &text_of(alloc, &pieces)?);
     Ok(())
 }
 
 // One web for each note that limbo and TeX text can make, with its line.
-const ROWS: [(&[u8], &[u8]); 8] = [
+const ROWS: [(&[u8], &[u8]); 9] = [
     (
         b"a\n@ b\nc@3d\n",
         b"! Unknown control code (l. 3 of foo.w)\n",
@@ -66,22 +59,8 @@ const ROWS: [(&[u8], &[u8]); 8] = [
         b"a\nb @s c\n@ d\n",
         b"! Improper format definition (l. 2 of foo.w)\n",
     ),
-];
-
-#[test]
-fn each_note_of_scanning(rt: HostRuntime) -> Result<(), Fail> {
-    for (web, note) in &ROWS {
-        expect_notes(&rt, rt.alloc(), web, note)?;
-    }
-    Ok(())
-}
-
-// Notes stand in the order of the text, behind those of reading.
-#[test]
-fn notes_in_order(rt: HostRuntime) -> Result<(), Fail> {
-    expect_notes(
-        &rt,
-        rt.alloc(),
+    // Notes stand in the order of the text, behind those of reading.
+    (
         b"@i\na@tb\n@ c@3\n@t d@,@> e\n",
         b"! Include file name not given (l. 1 of foo.w)
 ! Double @ should be used in limbo (l. 2 of foo.w)
@@ -89,5 +68,13 @@ fn notes_in_order(rt: HostRuntime) -> Result<(), Fail> {
 ! You can't do that in TeX text (l. 4 of foo.w)
 ! Control codes are forbidden in control text (l. 4 of foo.w)
 ",
-    )
+    ),
+];
+
+#[test]
+fn each_note_of_scanning(rt: HostRuntime) -> Result<(), Fail> {
+    for (web, notes) in &ROWS {
+        expect_notes(&rt, rt.alloc(), web, notes)?;
+    }
+    Ok(())
 }

@@ -1,12 +1,13 @@
 //! Webs of sections: what a TeX part, definitions, names and footnotes print, and their indexes and section lists.
-use crate::FOO;
-use crate::expectations::expect_web;
-use cw_base::{Bytes, Memory};
+use crate::expectations::expect;
+use crate::runs::{FOO, told};
+use crate::texts::text_of;
 use std::alloc::Global;
+use std::process::Abort;
 use std::test::Fail;
 
-/// A web, and what its run tells.
-const ROWS: [(&[u8], &[u8]); 7] = [
+/// A web, and what its run tells of its sections, of its index and at the end.
+const ROWS: [(&[u8], &[u8], &[u8], &[u8]); 7] = [
     // Two names begin with the prefix.
     (
         b"@ @<Read a@>= x;\n@ @<Read b@>= y;\n@ @c @<Read...@>;\n",
@@ -31,7 +32,8 @@ Writing the output file...
 \\Y\\B\\X1:Read a\\X;\\par
 \\fi
 
-\\inx
+",
+        b"\\inx
 \\fin
 \\end
 [term]Writing the index...
@@ -40,7 +42,8 @@ Writing the output file...
 [scn]\\I\\X1:Read a\\X
 \\U3.
 \\I\\X2:Read b\\X
-[term]Done.
+[term]",
+        b"Done.
 (Pardon me, but I think I spotted something wrong.)
 Errors",
     ),
@@ -56,7 +59,8 @@ Writing the output file...
 \\Y\\B\\&{foo} \\|x;\\par
 \\fi
 
-\\inx
+",
+        b"\\inx
 \\fin
 \\end
 [term]Writing the index...
@@ -64,7 +68,8 @@ Writing the output file...
 [idx]\\I\\&{foo}, 1.
 \\I\\|x, \\[1].
 [scn] is foo.scn
-[term]Done.
+[term]",
+        b"Done.
 (No errors were found.)
 Clean",
     ),
@@ -88,14 +93,16 @@ Writing the output file...
 \\|y;\\par
 \\fi
 
-\\inx
+",
+        b"\\inx
 \\fin
 \\end
 [term]Writing the index...
 [idx] is foo.idx
 [scn] is foo.scn
 [scn]\\I\\X1:Read\\X
-[term]Done.
+[term]",
+        b"Done.
 (Pardon me, but I think I spotted something wrong.)
 Errors",
     ),
@@ -127,7 +134,8 @@ Then \\PB{\\X3:\\.{out}\\X}.
 \\Q1.
 \\fi
 
-\\inx
+",
+        b"\\inx
 \\fin
 \\end
 [term]Writing the index...
@@ -141,7 +149,8 @@ Then \\PB{\\X3:\\.{out}\\X}.
 \\Q1.
 \\I\\X3:\\.{out}\\X
 \\Q1.
-[term]Done.
+[term]",
+        b"Done.
 (Did you see the warning message above?)
 Clean",
     ),
@@ -158,7 +167,8 @@ Writing the output file...
 \\B\\4\\D$\\|b$\\5\\T{2}\\par
 \\fi
 
-\\inx
+",
+        b"\\inx
 \\fin
 \\end
 [term]Writing the index...
@@ -167,7 +177,8 @@ Writing the output file...
 \\I\\|b, \\[1].
 \\I\\&{foo}, 1.
 [scn] is foo.scn
-[term]Done.
+[term]",
+        b"Done.
 (No errors were found.)
 Clean",
     ),
@@ -213,7 +224,8 @@ Writing the output file...
 \\M{6}Last \\PB{\\X1:N\\X}.
 \\fi
 
-\\inx
+",
+        b"\\inx
 \\fin
 \\end
 [term]Writing the index...
@@ -222,7 +234,8 @@ Writing the output file...
 [scn]\\I\\X1:N\\X
 \\Qs4, 5\\ETs6.
 \\U4.
-[term]Done.
+[term]",
+        b"Done.
 (No errors were found.)
 Clean",
     ),
@@ -248,7 +261,8 @@ aaaaaaaaa.
 \\Y\\B\\X1:Print the table of all the names that were found in the files which \nwere read\\X;\\par
 \\fi
 
-\\inx
+",
+        b"\\inx
 \\fin
 \\con
 [term]Writing the index...
@@ -256,53 +270,44 @@ aaaaaaaaa.
 [scn] is foo.scn
 [scn]\\I\\X1:Print the table of all the names that were found in the files which were \nread\\X
 \\U2.
-[term]Done.
+[term]",
+        b"Done.
 ! Line had to be broken (output l. 10 of foo.tex)
 (Did you see the warning message above?)
 Clean",
     ),
 ];
 
+/// A run over this web has to tell these pieces, one behind the other.
+fn expect_pieces(
+    rt: &impl Abort,
+    alloc: Global,
+    words: &[&[u8]],
+    web: &[u8],
+    pieces: [&[u8]; 3],
+) -> Result<(), Fail> {
+    let [sections, index, end] = pieces;
+    let seen = told(alloc, words, &[(b"foo.w", web)])?;
+    let wanted = text_of(alloc, &[(sections, 1), (index, 1), (end, 1)])?;
+    expect(rt, &seen, &wanted);
+    Ok(())
+}
+
 #[test]
 fn each_web_and_its_files(rt: HostRuntime) -> Result<(), Fail> {
-    for (web, wanted) in &ROWS {
-        expect_web(&rt, rt.alloc(), web, &[], &[FOO], wanted)?;
+    for (web, sections, index, end) in &ROWS {
+        let pieces = [*sections, *index, *end];
+        expect_pieces(&rt, rt.alloc(), &[FOO], web, pieces)?;
     }
     Ok(())
 }
 
-/// What a run tells without flag x, by what it tells with it: the TeX file asks for no index, and none is said or
-/// written.
-fn without_index(alloc: Global, told: &[u8]) -> Result<Bytes, Memory> {
-    let mut text = Bytes::new_in(alloc);
-    append_without_index(&mut text, told)?;
-    Ok(text)
-}
-
-fn append_without_index(text: &mut Bytes, told: &[u8]) -> Result<(), Memory> {
-    let mut skips = false;
-    for (i, byte) in told.iter().enumerate() {
-        let rest = &told[i..];
-        if rest.starts_with(b"\\inx\n") {
-            text.append(b"\\end\n[term]")?;
-            skips = true;
-        }
-        if rest.starts_with(b"Done.\n") {
-            skips = false;
-        }
-        if !skips {
-            text.push(*byte)?;
-        }
-    }
-    Ok(())
-}
-
+// The TeX file asks for no index, and none is said or written.
 #[test]
 fn each_web_without_its_index(rt: HostRuntime) -> Result<(), Fail> {
-    for (web, wanted) in &ROWS {
-        let words = [b"-x".as_slice(), FOO];
-        let wanted = without_index(rt.alloc(), wanted)?;
-        expect_web(&rt, rt.alloc(), web, &[], &words, wanted.as_slice())?;
+    for (web, sections, _, end) in &ROWS {
+        let pieces = [*sections, b"\\end\n[term]".as_slice(), *end];
+        expect_pieces(&rt, rt.alloc(), &[b"-x", FOO], web, pieces)?;
     }
     Ok(())
 }

@@ -1,20 +1,19 @@
 //! Whole runs over webs with C parts, definitions and section names, their indexes and their section lists.
-use crate::expectations::expect_web;
-use crate::{FOO, web_told};
+use crate::expectations::{Run, expect_runs};
+use crate::forty_sections::{TOLD, WEB};
+use crate::runs::{FOO, told};
+use crate::texts::append_pieces;
 use cw_base::{Bytes, Memory};
-use itoa::Buffer;
 use std::alloc::Global;
 use std::test::Fail;
 
-#[test]
-fn a_declaration_with_its_index(rt: HostRuntime) -> Result<(), Fail> {
-    expect_web(
-        &rt,
-        rt.alloc(),
-        b"@ @c int a=b+c, *d;\n",
-        &[],
-        &[FOO],
-        b"[term]This is CWEAVE (profile 2)
+/// Runs, and what each has to tell.
+const RUNS: [Run; 7] = [
+    Run {
+        name: "a declaration with its index",
+        words: &[FOO],
+        files: &[(b"foo.w", b"@ @c int a=b+c, *d;\n")],
+        told: b"[term]This is CWEAVE (profile 2)
 Writing the output file...
 [tex] is foo.tex
 [tex]\\input cwebmac
@@ -33,19 +32,16 @@ Writing the output file...
 [term]Done.
 (No errors were found.)
 Clean",
-    )
-}
-
-#[test]
-fn lines_that_had_to_be_broken(rt: HostRuntime) -> Result<(), Fail> {
-    expect_web(
-        &rt,
-        rt.alloc(),
-        b"@ @c aaaaaaaaaaaaaaaaaaaaaaaaaaaaaaaaaaaaaaaaaaaaaaaaaaaaaaaaaaaaaaaaaaaaaaaaaaaaaaaaaaaaaaaaaaaaaaaaaaaa\
+    },
+    Run {
+        name: "lines that had to be broken",
+        words: &[b"-x", FOO],
+        files: &[(
+            b"foo.w",
+            b"@ @c aaaaaaaaaaaaaaaaaaaaaaaaaaaaaaaaaaaaaaaaaaaaaaaaaaaaaaaaaaaaaaaaaaaaaaaaaaaaaaaaaaaaaaaaaaaaaaaaaaaa\
 aaaaaaaaaaaaaaaaaaaaaaaaaaaaaaaaaaaaaaaaaaaaaaaaaaaaaaaaaaaaaaaaaaaaaaaaaaaaaaaaaaaaaaaaaaaaaaaaaaaa\n",
-        &[],
-        &[b"-x".as_slice(), FOO],
-        b"[term]This is CWEAVE (profile 2)
+        )],
+        told: b"[term]This is CWEAVE (profile 2)
 Writing the output file...
 [tex] is foo.tex
 [tex]\\input cwebmac
@@ -62,18 +58,12 @@ aaaaaaaaaaaaaaaaaaaaaaaaaaaaaaaaaaaaaaaaaaaaa}\\par
 ! Line had to be broken (output l. 5 of foo.tex)
 (Did you see the warning message above?)
 Clean",
-    )
-}
-
-#[test]
-fn statistics_with_an_index(rt: HostRuntime) -> Result<(), Fail> {
-    expect_web(
-        &rt,
-        rt.alloc(),
-        b"@ @c int i;\n@ @c i=i+1;\n",
-        &[],
-        &[b"+s".as_slice(), FOO],
-        b"[term]This is CWEAVE (profile 2)
+    },
+    Run {
+        name: "statistics with an index",
+        words: &[b"+s", FOO],
+        files: &[(b"foo.w", b"@ @c int i;\n@ @c i=i+1;\n")],
+        told: b"[term]This is CWEAVE (profile 2)
 Writing the output file...
 [tex] is foo.tex
 [tex]\\input cwebmac
@@ -99,15 +89,13 @@ productions 7
 lines 12
 (No errors were found.)
 Clean",
-    )
-}
-
-#[test]
-fn an_ordinary_web(rt: HostRuntime) -> Result<(), Fail> {
-    expect_web(
-        &rt,
-        rt.alloc(),
-        b"\\def\\title{Hello}
+    },
+    Run {
+        name: "an ordinary web",
+        words: &[FOO],
+        files: &[(
+            b"foo.w",
+            b"\\def\\title{Hello}
 @* Hello. This program greets |n| times.
 @d n 3
 @c
@@ -122,9 +110,8 @@ int main(void)
 @<Greet@>=
 printf(\"Hello\\n\"); /* |i| is unused */
 ",
-        &[],
-        &[FOO],
-        b"[term]This is CWEAVE (profile 2)
+        )],
+        told: b"[term]This is CWEAVE (profile 2)
 Writing the output file...
 [tex] is foo.tex
 [tex]\\input cwebmac
@@ -161,18 +148,15 @@ ${}\\{\\1{}$\\6
 [term]Done.
 (No errors were found.)
 Clean",
-    )
-}
-
-#[test]
-fn conflicting_names_and_a_format(rt: HostRuntime) -> Result<(), Fail> {
-    expect_web(
-        &rt,
-        rt.alloc(),
-        b"@ @<Read@>= x;\n@ @<Read b@>= y;\n@ @f foo int\n@c foo x; /* b |x /* c |y| */| */\n",
-        &[],
-        &[b"-e".as_slice(), FOO],
-        b"[term]This is CWEAVE (profile 2)
+    },
+    Run {
+        name: "conflicting names and a format",
+        words: &[b"-e", FOO],
+        files: &[(
+            b"foo.w",
+            b"@ @<Read@>= x;\n@ @<Read b@>= y;\n@ @f foo int\n@c foo x; /* b |x /* c |y| */| */\n",
+        )],
+        told: b"[term]This is CWEAVE (profile 2)
 ! Name conflicts with another (l. 2 of foo.w)
 ! Never used: <Read>
 Writing the output file...
@@ -206,43 +190,63 @@ Writing the output file...
 [term]Done.
 (Pardon me, but I think I spotted something wrong.)
 Errors",
-    )
+    },
+    Run {
+        name: "forty sections by a second way",
+        words: &[b"-e", b"+s", FOO],
+        files: &[(b"foo.w", WEB)],
+        told: TOLD,
+    },
+    Run {
+        name: "the largest sample",
+        words: &[b"--sample", b"2000"],
+        files: &[],
+        told: b"[term]sections 2000
+scraps 58000
+productions 40000
+lines 18004
+Clean",
+    },
+];
+
+#[test]
+fn each_book(rt: HostRuntime) -> Result<(), Fail> {
+    expect_runs(&rt, rt.alloc(), &RUNS)
 }
 
-fn add_section(web: &mut Vec<u8>, number: u32) -> Result<(), Memory> {
-    let mut buffer = Buffer::new();
-    let k = buffer.format(number).as_bytes();
-    let pieces: [&[u8]; 9] = [
-        b"@ Section ",
-        k,
-        b" adds.\n@<Step ",
-        k,
-        b".@>=\nif (a>",
-        k,
-        b") { b+=",
-        k,
-        b"; c(",
+/// Appends a section whose number has two digits.
+fn add_section(web: &mut Bytes, number: u8) -> Result<(), Memory> {
+    let digits = [b'0' + number / 10, b'0' + number % 10];
+    let number = digits.as_slice();
+    let pieces: [(&[u8], usize); 11] = [
+        (b"@ Section ", 1),
+        (number, 1),
+        (b" adds.\n@<Step ", 1),
+        (number, 1),
+        (b".@>=\nif (a>", 1),
+        (number, 1),
+        (b") { b+=", 1),
+        (number, 1),
+        (b"; c(", 1),
+        (number, 1),
+        (b",a); } else while (b) b--;\n", 1),
     ];
-    for piece in pieces {
-        web.extend_from_slice(piece)?;
-    }
-    web.extend_from_slice(k)?;
-    web.extend_from_slice(b",a); } else while (b) b--;\n")?;
-    Ok(())
+    append_pieces(web, &pieces)
 }
 
-fn forty(alloc: Global) -> Result<Vec<u8>, Memory> {
-    let mut web = Vec::new(alloc);
-    for before in 0..40 {
-        add_section(&mut web, before + 1)?;
+/// Sections from number 10 up to 49.
+fn add_forty(web: &mut Bytes) -> Result<(), Memory> {
+    for number in 10..50 {
+        add_section(web, number)?;
     }
-    Ok(web)
+    Ok(())
 }
 
 /// What the run over forty sections tells, with statistics.
 fn forty_told(alloc: Global) -> Result<Bytes, Memory> {
-    let words = [b"-e".as_slice(), b"+s".as_slice(), FOO];
-    web_told(alloc, forty(alloc)?.as_slice(), &[], &words)
+    let mut web = Bytes::new_in(alloc);
+    add_forty(&mut web)?;
+    told(alloc, &[b"-e", b"+s", FOO], &[(b"foo.w", web.as_slice())])
 }
 
 // Each section has 29 scraps, 20 productions and 9 lines. The section list counts for none of them.
