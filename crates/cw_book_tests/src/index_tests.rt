@@ -2,8 +2,7 @@
 ghost use Rattle.cw_lines.specs.Writes.{CanWrite};
 ghost use Rattle.cw_reduce.specs.NameParts.{AreNamesOf};
 
-use crate::pieces::{Piece, printed};
-use crate::small_webs::expect;
+use crate::pieces::{Expected, Piece, expect_printed};
 use cw_base::{Flags, Kept, Memory, Out, Steps, Web};
 use cw_desk::Desk;
 use cw_index::{are_names_whole, compare_entries, write_closing, write_index, write_names};
@@ -56,22 +55,6 @@ pub(crate) fn put_index<D: Desk>(
     })
 }
 
-#[test]
-fn an_index_is_written(rt: HostRuntime) -> Result<(), Fail> {
-    let lines: &[&[u8]] = &[
-        b"@* One. |main|".as_slice(),
-        b"@d EOF n".as_slice(),
-        b"@ Two.".as_slice(),
-        b"@c x1=main; @.t_t@>".as_slice(),
-    ];
-    let (text, counts) = printed(rt.alloc(), lines, Piece::Index, Out::Idx)?;
-    let wanted: &[u8] =
-        b"\\I\\.{EOF}, \\[1].\n\\I\\\\{main}, 1, 2.\n\\I\\.{t_t}, 2.\n\\I\\\\{x1}, 2.\n\\inx\n\\fin\n\\con\n";
-    expect(&rt, &text, wanted);
-    assert_eq!(rt; counts, (0, 0));
-    Ok(())
-}
-
 // The section list, once its C texts were found whole.
 pub(crate) fn list_names<D: Desk>(
     alloc: Global,
@@ -91,19 +74,40 @@ pub(crate) fn list_names<D: Desk>(
     write_names(alloc, web, book, &Flags::start(), out, desk, &mut steps)
 }
 
+/// Webs, and their index or section list.
+const ROWS: [Expected; 2] = [
+    Expected {
+        name: "an index is written",
+        lines: &[
+            b"@* One. |main|",
+            b"@d EOF n",
+            b"@ Two.",
+            b"@c x1=main; @.t_t@>",
+        ],
+        piece: Piece::Index,
+        output: Out::Idx,
+        text: b"\\I\\.{EOF}, \\[1].\n\\I\\\\{main}, 1, 2.\n\\I\\.{t_t}, 2.\n\\I\\\\{x1}, 2.\n\\inx\n\\fin\n\\con\n",
+        scraps: Some(0),
+        productions: Some(0),
+    },
+    Expected {
+        name: "a section list is written",
+        lines: &[
+            b"@ One, @<b|n|@>.",
+            b"@ Two.",
+            b"@<b|n|@>=@<B@>; @<B@>",
+            b"@ Three.",
+            b"@(B@>=x; @<b|n|@>",
+        ],
+        piece: Piece::SectionList,
+        output: Out::Idx,
+        text: b"\\I\\X0:B\\X\n\\U2.\n\\I\\X3:\\.{B}\\X\n\\I\\X2:b\\PB{\\|n}\\X\n\\Q1.\n\\U3.\n",
+        scraps: Some(4),
+        productions: None,
+    },
+];
+
 #[test]
-fn a_section_list_is_written(rt: HostRuntime) -> Result<(), Fail> {
-    let lines: &[&[u8]] = &[
-        b"@ One, @<b|n|@>.".as_slice(),
-        b"@ Two.".as_slice(),
-        b"@<b|n|@>=@<B@>; @<B@>".as_slice(),
-        b"@ Three.".as_slice(),
-        b"@(B@>=x; @<b|n|@>".as_slice(),
-    ];
-    let (text, (scraps, _)) = printed(rt.alloc(), lines, Piece::SectionList, Out::Idx)?;
-    assert_eq!(rt; scraps, 4);
-    let wanted: &[u8] =
-        b"\\I\\X0:B\\X\n\\U2.\n\\I\\X3:\\.{B}\\X\n\\I\\X2:b\\PB{\\|n}\\X\n\\Q1.\n\\U3.\n";
-    expect(&rt, &text, wanted);
-    Ok(())
+fn an_index_and_a_section_list_are_written(rt: HostRuntime) -> Result<(), Fail> {
+    expect_printed(&rt, rt.alloc(), &ROWS)
 }

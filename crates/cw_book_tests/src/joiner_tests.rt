@@ -8,7 +8,8 @@ ghost use Rattle.cw_trees.specs.Printing.{Printable};
 ghost use Rattle.cw_join.specs.Standing.{Stands};
 ghost use Rattle.cw_join.specs.Tokens.{CanCome};
 
-use crate::small_webs::{desk_with, written};
+use crate::desks::desk_with;
+use crate::small_webs::written;
 use cw_base::{Bytes, Memory, Out};
 use cw_desk::MemDesk;
 use cw_join::{FlatToken, Joiner};
@@ -150,19 +151,23 @@ fn printed(
     Ok(written(alloc, desk.journal())?)
 }
 
-#[test]
-fn names_signs_and_runs_are_printed(rt: HostRuntime) -> Result<(), Fail> {
-    let text = printed(rt.alloc(), false, &IDENTIFIERS, &TEXT)?;
-    assert_eq!(rt;
-        text.as_slice(),
-        b"\\\\{\\_next\\_of\\$}\\1\\6\n\\4${}\\|x\\K\\.{EOF}{}$;\n".as_slice()
-    );
-    Ok(())
-}
+/// Whether a text is an inner one, its identifiers, its items, and what it prints.
+const ROWS: [(bool, &[&[u8]], &[(FlatItem, &[u8])], &[u8]); 2] = [
+    (
+        false,
+        &IDENTIFIERS,
+        &TEXT,
+        b"\\\\{\\_next\\_of\\$}\\1\\6\n\\4${}\\|x\\K\\.{EOF}{}$;\n",
+    ),
+    // An inner text prints a blank for a run.
+    (true, &[], &INNER_TEXT, b"a b\n"),
+];
 
 #[test]
-fn inner_text_prints_a_blank_for_a_run(rt: HostRuntime) -> Result<(), Fail> {
-    let text = printed(rt.alloc(), true, &[], &INNER_TEXT)?;
-    assert_eq!(rt; text.as_slice(), b"a b\n".as_slice());
+fn names_signs_and_runs_are_printed(rt: HostRuntime) -> Result<(), Fail> {
+    for (inner, identifiers, items, wanted) in &ROWS {
+        let text = printed(rt.alloc(), *inner, identifiers, items)?;
+        assert_eq!(rt; text.as_slice(), *wanted);
+    }
     Ok(())
 }

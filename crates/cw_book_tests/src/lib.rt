@@ -1,6 +1,7 @@
 //! Tests of the book of small webs: section names, the first phase, joining, printing, parts, the index.
 #![tactic(auto)]
 
+pub mod desks;
 #[cfg(test)]
 mod index_tests;
 #[cfg(test)]
@@ -13,6 +14,7 @@ mod phase_tests;
 mod pieces;
 #[cfg(test)]
 mod section_name_tests;
-pub mod small_webs;
+#[cfg(test)]
+mod small_webs;
 #[cfg(test)]
 mod tex_part_tests;

@@ -2,8 +2,7 @@
 ghost use Rattle.cw_lines.specs.Writes.{CanWrite};
 ghost use Rattle.cw_reduce.specs.NameParts.{AreNamesOf};
 
-use crate::pieces::{Piece, printed};
-use crate::small_webs::expect;
+use crate::pieces::{Expected, Piece, expect_printed};
 use cw_base::{Flags, Kept, Out, Steps, Web};
 use cw_desk::Desk;
 use cw_lines::{LineOut, PutError};
@@ -36,30 +35,39 @@ pub(crate) fn put_rest<D: Desk>(
     weave_section(alloc, web, book, 1, &Flags::start(), out, desk, &mut steps)
 }
 
-#[test]
-fn parts_are_printed(rt: HostRuntime) -> Result<(), Fail> {
-    let lines: &[&[u8]] = &[
-        b"@ @d n 3",
-        b"@s foo int",
-        b"@f foo int",
-        b"@<A@>= foo x;",
-        b"@ @<A@>= y;",
-        b"@ @c @<A@>;",
-    ];
-    let (text, _) = printed(rt.alloc(), lines, Piece::Rest, Out::Tex)?;
-    let wanted: &[u8] = b"\\Y\\B\\4\\D$\\|n$\\5\\T{3}\\par\n\
+/// Webs, and what stands behind the TeX part of their first section.
+const ROWS: [Expected; 2] = [
+    Expected {
+        name: "parts are printed",
+        lines: &[
+            b"@ @d n 3",
+            b"@s foo int",
+            b"@f foo int",
+            b"@<A@>= foo x;",
+            b"@ @<A@>= y;",
+            b"@ @c @<A@>;",
+        ],
+        piece: Piece::Rest,
+        output: Out::Tex,
+        text: b"\\Y\\B\\4\\D$\\|n$\\5\\T{3}\\par\n\
         \\B\\4\\F\\&{foo}\\5\\&{int}\\par\n\
         \\Y\\B\\X1:A\\X${}\\E{}$\\6\n\
-        \\&{foo} \\|x;\\par\n\\A2.\n\\U3.\n\\fi\n\n";
-    expect(&rt, &text, wanted);
-    Ok(())
-}
+        \\&{foo} \\|x;\\par\n\\A2.\n\\U3.\n\\fi\n\n",
+        scraps: None,
+        productions: None,
+    },
+    Expected {
+        name: "a section without parts ends",
+        lines: &[b"@ A.", b"@c @^b@>"],
+        piece: Piece::Rest,
+        output: Out::Tex,
+        text: b"\\fi\n\n",
+        scraps: None,
+        productions: None,
+    },
+];
 
 #[test]
-fn a_section_without_parts_ends(rt: HostRuntime) -> Result<(), Fail> {
-    let lines: &[&[u8]] = &[b"@ A.", b"@c @^b@>"];
-    let (text, _) = printed(rt.alloc(), lines, Piece::Rest, Out::Tex)?;
-    let wanted: &[u8] = b"\\fi\n\n";
-    expect(&rt, &text, wanted);
-    Ok(())
+fn parts_are_printed(rt: HostRuntime) -> Result<(), Fail> {
+    expect_printed(&rt, rt.alloc(), &ROWS)
 }

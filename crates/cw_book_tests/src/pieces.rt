@@ -2,9 +2,10 @@
 ghost use Rattle.cw_lines.specs.Writes.{CanWrite};
 ghost use Rattle.cw_reduce.specs.NameParts.{AreNamesOf};
 
+use crate::desks::desk_with;
 use crate::index_tests::{list_names, put_index};
 use crate::part_tests::put_rest;
-use crate::small_webs::{book_of, desk_with, web_of, written};
+use crate::small_webs::{book_of, web_of, written};
 use crate::tex_part_tests::put_first;
 use cw_base::{Bytes, Out, Web};
 use cw_desk::Desk;
@@ -12,6 +13,7 @@ use cw_lines::{LineOut, PutError};
 use cw_phase1::Book;
 use cw_texpart::{Counts, copy_limbo};
 use std::alloc::Global;
+use std::process::Abort;
 use std::test::Fail;
 
 /// A piece of a book.
@@ -51,7 +53,7 @@ fn put_piece<D: Desk>(
 }
 
 /// What a piece of a web's book prints on an output, and the scraps and productions that are counted for it.
-pub(crate) fn printed(
+fn printed(
     alloc: Global,
     lines: &[&[u8]],
     piece: Piece,
@@ -64,4 +66,36 @@ pub(crate) fn printed(
     let counts = put_piece(alloc, &web, &mut book, piece, &mut out, &mut desk)?;
     let text = written(alloc, desk.journal())?;
     Ok((text, (counts.scraps, counts.productions)))
+}
+
+/// A web, a piece of its book, and what that has to print.
+pub(crate) struct Expected {
+    /// What it shows.
+    pub(crate) name: &'static str,
+    /// The lines of the web.
+    pub(crate) lines: &'static [&'static [u8]],
+    pub(crate) piece: Piece,
+    /// Where it is put.
+    pub(crate) output: Out,
+    pub(crate) text: &'static [u8],
+    /// The scraps that are counted for it, where they are known.
+    pub(crate) scraps: Option<u64>,
+    /// And the productions.
+    pub(crate) productions: Option<u64>,
+}
+
+/// Each piece has to print what is expected of it.
+pub(crate) fn expect_printed(
+    rt: &impl Abort,
+    alloc: Global,
+    rows: &[Expected],
+) -> Result<(), Fail> {
+    for row in rows {
+        let (text, (scraps, productions)) = printed(alloc, row.lines, row.piece, row.output)?;
+        let seen = (text.as_slice(), scraps, productions);
+        let scraps = row.scraps.unwrap_or(scraps);
+        let productions = row.productions.unwrap_or(productions);
+        assert_eq!(rt; seen, (row.text, scraps, productions), "{}", row.name);
+    }
+    Ok(())
 }

@@ -1,14 +1,10 @@
-//! Small webs, their books, and desks on which one output is made, for the tests of this crate.
-ghost use Rattle.std.specs.Prelude.{IfOk, IsTrue};
-ghost use Rattle.cw_desk.specs.Meaning.{is_open};
+//! Small webs, their books, and what was written, for the tests of this crate.
+ghost use Rattle.std.specs.Prelude.{IfOk};
 ghost use Rattle.cw_reduce.specs.NameParts.{AreNamesOf};
 
-use cw_base::{Bytes, Event, Memory, Out, Place, Web};
-use cw_desk::{Desk, MadeOut, MemDesk};
+use cw_base::{Bytes, Event, Memory, Place, Web};
 use cw_phase1::{Book, phase_one};
 use std::alloc::Global;
-#[cfg(test)]
-use std::process::Abort;
 
 // One line more, where the web has room for it.
 fn add(web: &mut Web, line: &[u8], number: u32) -> Result<(), Memory> {
@@ -26,7 +22,7 @@ fn add(web: &mut Web, line: &[u8], number: u32) -> Result<(), Memory> {
 }
 
 /// A web of these lines, of the file `t.w`.
-pub fn web_of(alloc: Global, lines: &[&[u8]]) -> Result<Web, Memory> {
+pub(crate) fn web_of(alloc: Global, lines: &[&[u8]]) -> Result<Web, Memory> {
     let mut web = Web::new_in(alloc);
     web.add_file(b"t.w")?;
     let mut number = 0u32;
@@ -38,7 +34,7 @@ pub fn web_of(alloc: Global, lines: &[&[u8]]) -> Result<Web, Memory> {
 }
 
 /// The book of a web.
-pub fn book_of(alloc: Global, web: &Web) -> Result<Book, Memory>
+pub(crate) fn book_of(alloc: Global, web: &Web) -> Result<Book, Memory>
     ensures { IfOk result (λ book. AreNamesOf book.sec_names book.name_uses) }
 {
     let _text = web.text();
@@ -46,25 +42,8 @@ pub fn book_of(alloc: Global, web: &Web) -> Result<Book, Memory>
     Ok(book)
 }
 
-/// A desk on which an output is made.
-pub fn desk_with(alloc: Global, out: Out) -> Result<MemDesk, Memory>
-    ensures { IfOk result (λ desk. IsTrue (is_open desk.outputs out)) }
-{
-    let mut desk = MemDesk::new_in(alloc);
-    match desk.make(out, b"made") {
-        MadeOut::Done => Ok(desk),
-        _ => Err(Memory),
-    }
-}
-
-/// What was written has to be what is wanted.
-#[cfg(test)]
-pub(crate) fn expect(rt: &impl Abort, seen: &Bytes, wanted: &[u8]) {
-    assert_eq!(rt; seen.as_slice(), wanted);
-}
-
 /// All bytes that were written.
-pub fn written(alloc: Global, journal: &[Event]) -> Result<Bytes, Memory> {
+pub(crate) fn written(alloc: Global, journal: &[Event]) -> Result<Bytes, Memory> {
     let mut text = Bytes::new_in(alloc);
     for event in journal {
         if let Event::Byte(_, byte) = event {

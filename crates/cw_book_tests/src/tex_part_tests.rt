@@ -2,8 +2,7 @@
 ghost use Rattle.cw_lines.specs.Writes.{CanWrite};
 ghost use Rattle.cw_reduce.specs.NameParts.{AreNamesOf};
 
-use crate::pieces::{Piece, printed};
-use crate::small_webs::expect;
+use crate::pieces::{Expected, Piece, expect_printed};
 use cw_base::{Flags, Kept, Out, Steps, Web};
 use cw_desk::Desk;
 use cw_lines::{LineOut, PutError};
@@ -35,29 +34,35 @@ pub(crate) fn put_first<D: Desk>(
     copy_tex(alloc, web, book, 1, &Flags::start(), out, desk, &mut steps)
 }
 
-#[test]
-fn limbo_is_copied(rt: HostRuntime) -> Result<(), Fail> {
-    let lines: &[&[u8]] = &[b"% a@@b", b"@l", b"@q c@>", b"", b"@ A"];
-    let (text, (scraps, _)) = printed(rt.alloc(), lines, Piece::Limbo, Out::Tex)?;
-    assert_eq!(rt; scraps, 0);
-    let wanted: &[u8] = b"\\input cwebmac\n% a@b\n\\ATL\n\n";
-    expect(&rt, &text, wanted);
-    Ok(())
-}
+/// Webs, and their limbo or the start of their first section.
+const ROWS: [Expected; 2] = [
+    Expected {
+        name: "limbo is copied",
+        lines: &[b"% a@@b", b"@l", b"@q c@>", b"", b"@ A"],
+        piece: Piece::Limbo,
+        output: Out::Tex,
+        text: b"\\input cwebmac\n% a@b\n\\ATL\n\n",
+        scraps: Some(0),
+        productions: None,
+    },
+    Expected {
+        name: "a section is copied",
+        lines: &[
+            b"@*07 Deep@@.",
+            b"@^a@>",
+            b"",
+            b"See |f(n)|",
+            b"and @<A|n|@>.",
+        ],
+        piece: Piece::Start,
+        output: Out::Tex,
+        text: b"\\N{7}{1}Deep@.\n\nSee \\PB{\\|f(\\|n)}\nand \\PB{\\X0:A\\PB{\\|n}\\X}.\n",
+        scraps: Some(6),
+        productions: Some(3),
+    },
+];
 
 #[test]
-fn a_section_is_copied(rt: HostRuntime) -> Result<(), Fail> {
-    let lines: &[&[u8]] = &[
-        b"@*07 Deep@@.",
-        b"@^a@>",
-        b"",
-        b"See |f(n)|",
-        b"and @<A|n|@>.",
-    ];
-    let (text, counts) = printed(rt.alloc(), lines, Piece::Start, Out::Tex)?;
-    assert_eq!(rt; counts, (6, 3));
-    let wanted: &[u8] =
-        b"\\N{7}{1}Deep@.\n\nSee \\PB{\\|f(\\|n)}\nand \\PB{\\X0:A\\PB{\\|n}\\X}.\n";
-    expect(&rt, &text, wanted);
-    Ok(())
+fn limbo_and_a_section_are_copied(rt: HostRuntime) -> Result<(), Fail> {
+    expect_printed(&rt, rt.alloc(), &ROWS)
 }
