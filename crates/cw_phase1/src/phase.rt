@@ -51,12 +51,12 @@ fn scan<'a>(alloc: Global, web: &'a Web) -> Result<Held<'a>, Memory>
     ensures { IfOk result (λ h. IsScanned web.now.lines (held_of h)) }
 {
     let mut held = Held::new_in(alloc)?;
-    take_answers(web, &mut held)?;
+    hold_answers(web, &mut held)?;
     Ok(held)
 }
 
 // The same, where nothing is held yet.
-fn take_answers<'a>(web: &'a Web, held: &mut Held<'a>) -> Result<(), Memory>
+fn hold_answers<'a>(web: &'a Web, held: &mut Held<'a>) -> Result<(), Memory>
     requires { held_of held.old ≡ held_start }
     ensures { OnOk result (IsScanned web.now.lines (held_of held.new)) }
 {

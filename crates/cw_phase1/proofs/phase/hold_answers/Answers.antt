@@ -8,7 +8,7 @@ use Rattle.cw_rules.specs.declared.tokens.Mode.TheVariants as modes
 use Rattle.cw_phase1.specs.Holding.{held_of}
 use Rattle.cw_phase1.proofs.Underway.{Underway, start, is-token, section-fits, ready-settles, token-step, begin-step}
 use Rattle.cw_phase1.proofs.Underway.{finish-step, note-step, scanned, waiting-kept}
-use Rattle.cw_phase1.proofs.phase.take_answers.Goals as goal
+use Rattle.cw_phase1.proofs.phase.hold_answers.Goals as goal
 
 pub answers-init : goal.answers-init
 answers-init c =

@@ -3,7 +3,7 @@ use Rattle.std.proofs.Common.{length}
 use Rattle.cw_base.specs.Web.{text_of}
 use Rattle.cw_phase1.specs.Holding.{held_of}
 use Rattle.cw_phase1.proofs.Underway.{Underway}
-use Rattle.cw_phase1.proofs.phase.take_answers.Given as goal
+use Rattle.cw_phase1.proofs.phase.hold_answers.Given as goal
 
 abbrev pub invariant-answers : goal.invariant-answers
 invariant-answers l = Underway l.web.lines (text_of l.web.lines) l.initial.lexer (held_of l.held) l.lexer
