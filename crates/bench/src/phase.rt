@@ -1,4 +1,6 @@
 //! Makes the books of webs.
+ghost use Rattle.std.specs.Prelude.{◌≡◌, []};
+
 use crate::samples::{LARGEST, SMALL, is_wanted, put_number};
 use cw_base::{Memory, Place, Web};
 use cw_phase1::{Book, phase_one};
@@ -109,20 +111,19 @@ fn add_lines(
     Ok(())
 }
 
-// The web whose piece is repeated up to the size.
-fn web_of(alloc: Global, size: usize, sample: &Sample) -> Result<Web, Memory> {
-    let mut web = Web::new_in(alloc);
-    let mut buffer = Vec::new(alloc);
+// Adds the lines of a sample to a web, its piece repeated up to the size.
+fn fill(web: &mut Web, buffer: &mut Vec<u8>, size: usize, sample: &Sample) -> Result<(), Memory>
+    requires { web.old.files ≡ [] }
+{
     web.add_file(b"bench.w")?;
-    add_lines(&mut web, &mut buffer, sample.begin, 0)?;
+    add_lines(web, buffer, sample.begin, 0)?;
     for number in 0..size {
         if web.text().len() >= size {
             break;
         }
-        add_lines(&mut web, &mut buffer, sample.piece, number)?;
+        add_lines(web, buffer, sample.piece, number)?;
     }
-    add_lines(&mut web, &mut buffer, sample.end, 0)?;
-    Ok(web)
+    add_lines(web, buffer, sample.end, 0)
 }
 
 // The first phase alone, whose instructions are counted.
@@ -140,9 +141,19 @@ struct Counts {
     notes: usize,
 }
 
+// What they hold of a sample.
 fn told(alloc: Global, size: usize, sample: &Sample) -> Result<Counts, Memory> {
-    let web = web_of(alloc, size, sample)?;
-    let book = measured(alloc, &web)?;
+    let mut web = Web::new_in(alloc);
+    told_in(alloc, &mut web, size, sample)
+}
+
+// The same in a web that is empty.
+fn told_in(alloc: Global, web: &mut Web, size: usize, sample: &Sample) -> Result<Counts, Memory>
+    requires { web.old.files ≡ [] }
+{
+    let mut buffer = Vec::new(alloc);
+    fill(web, &mut buffer, size, sample)?;
+    let book = measured(alloc, web)?;
     Ok(Counts {
         bytes: web.text().len(),
         sections: book.section_count(),

@@ -142,11 +142,18 @@ fn left(alloc: Global, count: usize) -> Result<usize, Memory> {
         marks: Marks::new_in(alloc),
         steps: Steps::new(),
     };
+    left_in(&mut bench, count)
+}
+
+// The same in a line that is empty.
+fn left_in(bench: &mut Bench, count: usize) -> Result<usize, Memory>
+    requires { IsSoundLine bench.old.store bench.old.names bench.old.line }
+{
     let table = table();
     add_all(count, &mut bench.line, &mut bench.store, &mut bench.names)?;
     let place = count / 4 * 2;
-    once(&mut bench, &table, place)?;
-    once(&mut bench, &table, place)?;
+    once(bench, &table, place)?;
+    once(bench, &table, place)?;
     Ok(bench.line.len())
 }
 
