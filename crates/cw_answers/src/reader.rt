@@ -1,5 +1,5 @@
 //! A scanner whose answers are kept as they come.
-ghost use Rattle.std.specs.Prelude.{◌≡◌, ◌≤◌, ◌<◌, ◌^◌, [], length, IfOk, Some};
+ghost use Rattle.std.specs.Prelude.{◌≡◌, ◌≤◌, ◌<◌, ◌^◌, [], length, IfOk, None, Some};
 ghost use Rattle.cw_rules.specs.Answers.{Gives};
 ghost use Rattle.cw_lex.specs.Lexing.{tokens_of};
 ghost use Rattle.cw_answers.specs.Reading.{Goes, GoesByNote, Stays};
@@ -132,6 +132,8 @@ impl<'a> Reader<'a> {
     pub fn take_answers(&mut self, alloc: Global) -> Result<Answers<'a>, Memory>
         requires { self.old.coming ≡ [] }
         ensures { IfOk result (λ answers. self.old.all ≡ Some answers) }
+        ensures coming { self.new.coming ≡ [] }
+        ensures all { self.new.all ≡ None }
     {
         if !self.room.whole {
             return Err(Memory);

@@ -207,7 +207,7 @@ pub fn translate_text<'a, L: Ledger>(
     })
 }
 
-/// The same in a store and in a room for answers that may have been used before.
+/// The same with a store, a reader and a room for answers that may have been used before.
 pub(crate) fn translate_into<'a, L: Ledger>(
     rooms: &mut Rooms<'a>,
     alloc: Global,
