@@ -131,7 +131,7 @@ impl<'a> Reader<'a> {
     /// Hands out all answers of the scan, where all have come, and keeps none; `Memory` where not each is kept.
     pub fn take_answers(&mut self, alloc: Global) -> Result<Answers<'a>, Memory>
         requires { self.old.coming ≡ [] }
-        ensures { IfOk result (λ answers. self.old.all ≡ Some answers) }
+        ensures answers { IfOk result (λ answers. self.old.all ≡ Some answers) }
         ensures coming { self.new.coming ≡ [] }
         ensures all { self.new.all ≡ None }
     {

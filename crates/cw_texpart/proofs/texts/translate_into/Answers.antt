@@ -27,7 +27,7 @@ translate_read-requires-clause-start g c =
 
 pub returns-clause-kept : goal.returns-clause-kept
 returns-clause-kept g c =
-    let same = kept-tokens _ _ _ _ c.restart.ensures.all c.in_ok-done.ensures.read.all c.in_ok-rooms.ensures in
+    let same = kept-tokens _ _ _ _ c.restart.ensures.all c.in_ok-done.ensures.read.all c.in_ok-rooms.ensures.answers in
     record {
       answers_are = same;
       uncut = subst (λ (answers : List Answer). begins_section_in answers ≡ false) (sym same) c.requires.uncut;
