@@ -74,6 +74,30 @@ fn include_file<D: Desk>(
         m.note(NoteKind::IncludeTooDeep, 0, place)?;
         return Ok(None);
     }
+    include_named(desk, m, name, place, left)
+}
+
+// The same of a line with a name, where a file may be included.
+fn include_named<D: Desk>(
+    desk: &mut D,
+    m: &mut Merger,
+    name: &[u8],
+    place: Place,
+    left: u32,
+) -> Result<Option<Source>, LoadError>
+    requires name { 0 < length name.now }
+    requires left { 0 < left }
+    requires place { place.file < length m.old.web.files }
+    requires room { HasRoom 1 1 m.old }
+    ensures leads { (files : Files) → (D.told desk.old).files ≡ Some files → (change : List ℕ)
+        (next : List FileLine → MergeState → Option MergeState) →
+        Leads (include (get files) (into_at left next) name.now place (state_of change m.old)) next
+        (state_of change m.new) result }
+    ensures leaves { Leaves 1 1 0 0 left m.old m.new result }
+    ensures meets { OnOk result (m.new.meets ≡ m.old.meets) }
+    ensures same { OnlyReads (D.told desk.old) (D.told desk.new) }
+    ensures fault { IsErrOf result LoadError.Fault → Rose (D.told desk.old).faults (D.told desk.new).faults }
+{
     let name = Bytes::from_slice(m.alloc, name)?;
     match find_file(m.alloc, desk, name, INPUT_LIMIT - m.sum) {
         Ok(Some(file)) => {

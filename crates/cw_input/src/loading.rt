@@ -1,13 +1,15 @@
 //! Reading a web with its change file: the files are found and read, and their lines merged.
 
-ghost use Rattle.std.specs.Prelude.{◌≡◌, ◌*◌, ◌+◌, ◌-◌, ◌<◌, ◌≤◌, [], IsErrOf, None, Some, IfOk, length};
-ghost use Rattle.std.specs.Prelude.{option_and_then, option_copied};
+ghost use Rattle.std.specs.Prelude.{◌≡◌, ◌*◌, ◌+◌, ◌-◌, ◌<◌, ◌≤◌, [], IsErrOf, None, Some, IfOk};
+ghost use Rattle.std.specs.Prelude.{false, length, option_and_then, option_copied};
 ghost use Rattle.std.specs.FinMap.{get};
+ghost use Rattle.cw_base.specs.Web.{empty_web};
 ghost use Rattle.cw_desk.specs.Meaning.{Files, Rose};
 ghost use Rattle.cw_desk.specs.Told.{OnlyReads};
 ghost use Rattle.cw_input.specs.Answers.{FindsWeb, Loads, Merges};
 ghost use Rattle.cw_input.specs.Causes.{ComesWhere, IsTooLong, LacksChange, LacksWeb};
 ghost use Rattle.cw_input.specs.Lines.{file_lines};
+ghost use Rattle.cw_input.specs.Loading.{LoadsInto};
 ghost use Rattle.cw_input.specs.Fold.{advance, read};
 ghost use Rattle.cw_input.specs.Folded.{merge_web, merge_with, start_state, taken};
 ghost use Rattle.cw_input.specs.Merged.{change_word, found, merged, web_file};
@@ -179,9 +181,33 @@ fn merge_changed<D: Desk>(
     ensures fault { IsErrOf result LoadError.Fault → Rose (D.told desk.old).faults (D.told desk.new).faults }
 {
     let mut m = Merger::new(alloc);
+    match merge_with_change(desk, &mut m, file, word) {
+        Ok(()) => Ok(m.web),
+        Err(error) => Err(error),
+    }
+}
+
+// The same, into what is merged, where nothing is yet.
+fn merge_with_change<D: Desk>(
+    desk: &mut D,
+    m: &mut Merger,
+    file: Found,
+    word: &[u8],
+) -> Result<(), LoadError>
+    requires web { m.old.web ≡ empty_web }
+    requires sum { m.old.sum ≡ 0 }
+    requires mark { m.old.mark ≡ false }
+    requires nothing { m.old.meets ≡ Meets.Nothing }
+    requires bytes { length file.bytes ≤ INPUT_LIMIT }
+    ensures loads { (files : Files) → (D.told desk.old).files ≡ Some files →
+        LoadsInto (merge_with (get files) file.bytes (Some word.now) (read file.name file.bytes start_state))
+        m.new.web result }
+    ensures same { OnlyReads (D.told desk.old) (D.told desk.new) }
+    ensures fault { IsErrOf result LoadError.Fault → Rose (D.told desk.old).faults (D.told desk.new).faults }
+{
     let source = m.add_file(file)?;
-    let name = change_file_name(alloc, word)?;
-    match find_file(alloc, desk, name, INPUT_LIMIT - m.sum) {
+    let name = change_file_name(m.alloc, word)?;
+    match find_file(m.alloc, desk, name, INPUT_LIMIT - m.sum) {
         Ok(Some(change)) => merge_found(desk, m, &source, change),
         Ok(None) => Err(LoadError::NoChange),
         Err(error) => Err(error),
@@ -191,33 +217,49 @@ fn merge_changed<D: Desk>(
 // The same, when both files have been read, and the web's file has been added.
 fn merge_found<D: Desk>(
     desk: &mut D,
-    m: Merger,
+    m: &mut Merger,
     source: &Source,
     change: Found,
-) -> Result<Web, LoadError>
-    requires nothing { m.meets ≡ Meets.Nothing }
-    requires files { length m.web.files ≡ 1 }
-    requires lines { m.web.lines ≡ [] }
+) -> Result<(), LoadError>
+    requires nothing { m.old.meets ≡ Meets.Nothing }
+    requires files { length m.old.web.files ≡ 1 }
+    requires lines { m.old.web.lines ≡ [] }
     requires source { source.now.file ≡ 0 }
-    requires sum { m.sum ≡ length source.now.bytes }
+    requires sum { m.old.sum ≡ length source.now.bytes }
     requires bytes { length source.now.bytes + length change.bytes ≤ INPUT_LIMIT }
     ensures loads { (files : Files) → (D.told desk.old).files ≡ Some files →
-        Loads (taken (get files) source.now.bytes
+        LoadsInto (taken (get files) source.now.bytes
         (option_and_then (advance (get files) Outside (record { file = 1; line = 0 }) (file_lines 1 change.bytes))
-        (read change.name change.bytes (state_of [] m)))) result }
+        (read change.name change.bytes (state_of [] m.old)))) m.new.web result }
     ensures same { OnlyReads (D.told desk.old) (D.told desk.new) }
     ensures fault { IsErrOf result LoadError.Fault → Rose (D.told desk.old).faults (D.told desk.new).faults }
 {
-    let mut m = m;
     let change = m.add_file(change)?;
-    let bytes = change.bytes.as_slice();
+    merge_both(desk, change.bytes.as_slice(), m, source)
+}
+
+// The lines of a change file and those of the web, when both files have been added.
+fn merge_both<D: Desk>(
+    desk: &mut D,
+    change: &[u8],
+    m: &mut Merger,
+    source: &Source,
+) -> Result<(), LoadError>
+    requires files { length m.old.web.files ≡ 2 }
+    requires lines { m.old.web.lines ≡ [] }
+    requires source { source.now.file ≡ 0 }
+    requires sum { m.old.sum ≡ length source.now.bytes + length change.now }
+    requires bytes { m.old.sum ≤ INPUT_LIMIT }
+    ensures loads { (files : Files) → (D.told desk.old).files ≡ Some files →
+        LoadsInto (taken (get files) source.now.bytes
+        (advance (get files) Outside (record { file = 1; line = 0 }) (file_lines 1 change.now)
+        (state_of change.now m.old))) m.new.web result }
+    ensures same { OnlyReads (D.told desk.old) (D.told desk.new) }
+    ensures fault { IsErrOf result LoadError.Fault → Rose (D.told desk.old).faults (D.told desk.new).faults }
+{
     let begin = Cursor { at: 0, line: 0 };
-    match advance_change(desk, bytes, &mut m, Phase::Outside, begin) {
-        Ok(()) => (),
-        Err(error) => return Err(error),
-    }
-    match merge_lines(desk, bytes, &mut m, source) {
-        Ok(()) => Ok(m.web),
+    match advance_change(desk, change, m, Phase::Outside, begin) {
+        Ok(()) => merge_lines(desk, change, m, source),
         Err(error) => Err(error),
     }
 }
