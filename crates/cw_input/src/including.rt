@@ -1,20 +1,24 @@
 //! A line that no change drops: it is appended, or includes a file.
 
-ghost use Rattle.std.specs.Prelude.{◌≡◌, ◌≢◌, ◌+◌, ◌<◌, ℕ, All, IsErrOf, List, OnOk, Option, Some, length};
+ghost use Rattle.std.specs.Prelude.{◌≡◌, ◌≢◌, ◌+◌, ◌-◌, ◌<◌, ◌≤◌, ℕ, All, IfOk, IfSome, IsErrOf, List, OnOk};
+ghost use Rattle.std.specs.Prelude.{Option, Some, length};
 ghost use Rattle.std.specs.FinMap.{get};
 ghost use Rattle.cw_desk.specs.Meaning.{Files, Rose};
 ghost use Rattle.cw_desk.specs.Told.{OnlyReads};
-ghost use Rattle.cw_input.specs.Answers.{Leads, Leaves};
+ghost use Rattle.cw_input.specs.Answers.{Finds, Leads, Leaves};
 ghost use Rattle.cw_input.specs.Lines.{FileLine};
 ghost use Rattle.cw_input.specs.Fold.{MergeState, include, put};
+ghost use Rattle.cw_input.specs.Merged.{found};
 ghost use Rattle.cw_input.specs.State.{HasRoom, into_at, line_of, state_of};
 
 use crate::error::LoadError;
+use crate::found::Found;
 use crate::lines::included_name;
 use crate::merger::{Merger, Source};
 use crate::reading::find_file;
 use cw_base::{Bytes, INPUT_LIMIT, NoteKind, Place};
 use cw_desk::Desk;
+use std::alloc::Global;
 
 /// A line that no group takes, when so many files deep may still be included: any line is appended,
 /// but of an include line the file is answered whose lines follow.
@@ -98,8 +102,7 @@ fn include_named<D: Desk>(
     ensures same { OnlyReads (D.told desk.old) (D.told desk.new) }
     ensures fault { IsErrOf result LoadError.Fault → Rose (D.told desk.old).faults (D.told desk.new).faults }
 {
-    let name = Bytes::from_slice(m.alloc, name)?;
-    match find_file(m.alloc, desk, name, INPUT_LIMIT - m.sum) {
+    match find_included(m.alloc, desk, name, m.sum) {
         Ok(Some(file)) => {
             let source = m.add_file(file)?;
             Ok(Some(source))
@@ -110,4 +113,22 @@ fn include_named<D: Desk>(
         }
         Err(error) => Err(error),
     }
+}
+
+// The file of an include line is looked for and read, when so many bytes have been.
+fn find_included<D: Desk>(
+    alloc: Global,
+    desk: &mut D,
+    name: &[u8],
+    sum: usize,
+) -> Result<Option<Found>, LoadError>
+    requires { sum ≤ INPUT_LIMIT }
+    ensures finds { (files : Files) → (D.told desk.old).files ≡ Some files →
+        Finds (found (get files) name.now) (INPUT_LIMIT - sum) result }
+    ensures within { IfOk result (λ answer. IfSome answer (λ file. length file.bytes ≤ INPUT_LIMIT - sum)) }
+    ensures same { OnlyReads (D.told desk.old) (D.told desk.new) }
+    ensures fault { IsErrOf result LoadError.Fault → Rose (D.told desk.old).faults (D.told desk.new).faults }
+{
+    let name = Bytes::from_slice(alloc, name)?;
+    find_file(alloc, desk, name, INPUT_LIMIT - sum)
 }

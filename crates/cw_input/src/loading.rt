@@ -1,19 +1,19 @@
 //! Reading a web with its change file: the files are found and read, and their lines merged.
 
-ghost use Rattle.std.specs.Prelude.{◌≡◌, ◌*◌, ◌+◌, ◌-◌, ◌<◌, ◌≤◌, [], IsErrOf, None, Some, IfOk};
+ghost use Rattle.std.specs.Prelude.{◌≡◌, ◌*◌, ◌+◌, ◌-◌, ◌<◌, ◌≤◌, [], IsErrOf, None, Some, IfOk, IfSome};
 ghost use Rattle.std.specs.Prelude.{false, length, option_and_then, option_copied};
 ghost use Rattle.std.specs.FinMap.{get};
 ghost use Rattle.cw_base.specs.Web.{empty_web};
 ghost use Rattle.cw_desk.specs.Meaning.{Files, Rose};
 ghost use Rattle.cw_desk.specs.Told.{OnlyReads};
-ghost use Rattle.cw_input.specs.Answers.{FindsWeb, Loads, Merges};
+ghost use Rattle.cw_input.specs.Answers.{Finds, FindsWeb, Loads, Merges};
 ghost use Rattle.cw_input.specs.Causes.{ComesWhere, IsTooLong, LacksChange, LacksWeb};
 ghost use Rattle.cw_input.specs.Lines.{file_lines};
 ghost use Rattle.cw_input.specs.Loading.{LoadsInto};
 ghost use Rattle.cw_input.specs.Fold.{advance, read};
 ghost use Rattle.cw_input.specs.Folded.{merge_web, merge_with, start_state, taken};
 ghost use Rattle.cw_input.specs.Merged.{change_word, found, merged, web_file};
-ghost use Rattle.cw_input.specs.Names.{second_name};
+ghost use Rattle.cw_input.specs.Names.{change_name, second_name};
 ghost use Rattle.cw_input.specs.State.{HasRoom, IsMet, ahead, state_of};
 ghost use Rattle.cw_input.specs.declared.phase.Phase.TheVariants.{Outside};
 
@@ -206,15 +206,32 @@ fn merge_with_change<D: Desk>(
     ensures fault { IsErrOf result LoadError.Fault → Rose (D.told desk.old).faults (D.told desk.new).faults }
 {
     let source = m.add_file(file)?;
-    let name = change_file_name(m.alloc, word)?;
-    match find_file(m.alloc, desk, name, INPUT_LIMIT - m.sum) {
+    match find_change(m.alloc, desk, word, m.sum) {
         Ok(Some(change)) => merge_found(desk, m, &source, change),
         Ok(None) => Err(LoadError::NoChange),
         Err(error) => Err(error),
     }
 }
 
-// The same, when both files have been read, and the web's file has been added.
+// The change file of a word is looked for and read, when so many bytes have been.
+fn find_change<D: Desk>(
+    alloc: Global,
+    desk: &mut D,
+    word: &[u8],
+    sum: usize,
+) -> Result<Option<Found>, LoadError>
+    requires { sum ≤ INPUT_LIMIT }
+    ensures finds { (files : Files) → (D.told desk.old).files ≡ Some files →
+        Finds (found (get files) (change_name word.now)) (INPUT_LIMIT - sum) result }
+    ensures within { IfOk result (λ answer. IfSome answer (λ file. length file.bytes ≤ INPUT_LIMIT - sum)) }
+    ensures same { OnlyReads (D.told desk.old) (D.told desk.new) }
+    ensures fault { IsErrOf result LoadError.Fault → Rose (D.told desk.old).faults (D.told desk.new).faults }
+{
+    let name = change_file_name(alloc, word)?;
+    find_file(alloc, desk, name, INPUT_LIMIT - sum)
+}
+
+// Both files are merged, when they have been read, and the web's file has been added.
 fn merge_found<D: Desk>(
     desk: &mut D,
     m: &mut Merger,

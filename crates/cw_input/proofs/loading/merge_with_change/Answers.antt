@@ -22,13 +22,12 @@ returns-in-Ok-Some-clause-loads g c = λ files is.
     let first : read file.name file.bytes start_state ≡ Some state =
     read-first [] file.name file.bytes c.args.m.now asked.web asked.sum asked.mark asked.nothing asked.bytes
     ∙ ap (λ (m : Merger). Some (state_of [] m)) (sym c.in_ok-source.ensures.ok) in
-    let finds = rw c.in-Ok-Some.field-0-is at (c.in-Ok-Some.ensures.finds files is) in
     let change : found (get files) (change_name word) ≡ Some c.in-Ok-Some.change =
-    ap (found (get files)) (sym c.in_ok-name.ensures) ∙ finds in
+    rw c.in-Ok-Some.field-0-is at (c.in-Ok-Some.ensures.finds files is) in
     let bytes = ap (λ (source : Source). source.bytes) c.in_ok-source.ensures.source in
     let P : Merged → Type 0 = λ given. LoadsInto given c.merge_found.new.m.web c.merge_found.result in
     subst P
     (sym (ap (merge_with (get files) file.bytes (Some word)) first
     ∙ ap (λ (given : Option Found). merge_change (get files) file.bytes given state) change
     ∙ ap (λ (web : List ℕ). merge_change (get files) web (Some c.in-Ok-Some.change) state) (sym bytes)))
-    (c.merge_found.ensures.loads files (c.find_file.ensures.same.same_files ∙ is))
+    (c.merge_found.ensures.loads files (c.find_change.ensures.same.same_files ∙ is))
