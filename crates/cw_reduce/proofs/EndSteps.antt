@@ -1,27 +1,32 @@
 -- The whole text ends.
-use Rattle.std.proofs.Common.{◌≡◌, ℕ, ◌+◌, ◌≤◌, List, [], ◌∷◌, ◌++◌, length, ap, ◌∙◌, subst, arith}
+use Rattle.std.proofs.Common.{◌≡◌, ℕ, ◌+◌, ◌*◌, ◌≤◌, List, [], ◌∷◌, ◌++◌, length, refl, sym, ap, ◌∙◌, subst, arith}
+use Rattle.std.proofs.lemmas.List.{length-map}
 use Rattle.cw_base.specs.declared.flags.Flags.{Flags}
 use Rattle.cw_rules.specs.Answers.{Answer}
 use Rattle.cw_names.specs.Names.{Entry}
-use Rattle.cw_table.specs.Normal.{count}
+use Rattle.cw_table.specs.Normal.{count, normal}
 use Rattle.cw_table.specs.Productions.{productions}
 use Rattle.cw_table.specs.Rewriting.{State}
-use Rattle.cw_table.specs.WalkCounts.{ticks}
+use Rattle.cw_table.specs.WalkCounts.{reservings, ticks}
 use Rattle.cw_tokens.specs.declared.token.Token.{Token as StoredToken}
 use Rattle.cw_tokens.specs.Stored.{StoredLists}
+use Rattle.cw_trees.specs.Joining.{whole}
+use Rattle.cw_scraps.specs.declared.line.LineEntry.{LineEntry}
+use Rattle.cw_scraps.specs.Applying.{state_of}
 use Rattle.cw_scraps.specs.Changing.{Keeps}
-use Rattle.cw_scraps.specs.Lines.{roots_of, IsOutside, IsSoundLine}
+use Rattle.cw_scraps.specs.Lines.{seen, scraps_of, roots_of, IsOutside, IsSoundLine}
 use Rattle.cw_scraps.specs.Marking.{MarkList}
 use Rattle.cw_reduce.specs.declared.nesting.Open.{Open}
 use Rattle.cw_reduce.specs.declared.nesting.Open.TheVariants.{CText, Comment}
 use Rattle.cw_reduce.specs.declared.translating.Translated.{Translated}
 use Rattle.cw_reduce.specs.declared.translating.Translator.{Translator}
 use Rattle.cw_reduce.specs.Counting.{scraps_in, productions_in, ticks_in, text_limit, limit_in}
-use Rattle.cw_reduce.specs.Opening.{last_line, all_roots, IsTranslating, progress_of, HasCome, HasEnded, IsTranslated}
-use Rattle.cw_reduce.specs.Retyping.{NamesOnTheWay, later}
+use Rattle.cw_reduce.specs.Opening.{last_line, all_roots, IsTranslating, frames_of, progress_of, HasCome, HasEnded}
+use Rattle.cw_reduce.specs.Opening.{IsTranslated}
+use Rattle.cw_reduce.specs.Retyping.{NamesOnTheWay, Retypes, RetypesIn, later}
 use Rattle.cw_reduce.specs.Reading.{Progress, last_scraps, after_answer, after_answers, all_ended}
-use Rattle.cw_reduce.specs.Translating.{Ended, state_in}
-use Rattle.cw_reduce.proofs.FinishSteps.{open-line}
+use Rattle.cw_reduce.specs.Translating.{Ended, state_in, with_categories}
+use Rattle.cw_reduce.proofs.FinishSteps.{LineDone, known_of, open-line}
 use Rattle.cw_reduce.proofs.LeafSteps.{empty-line}
 use Rattle.cw_reduce.proofs.Sums.{sum-end}
 
@@ -50,6 +55,51 @@ last-keeps old new ss [] k = k
 last-keeps old new ss (CText line ∷ []) k = k
 last-keeps old new ss (CText line ∷ (inner ∷ outer)) k = wider old new (all_roots (CText line ∷ (inner ∷ outer))) ss k
 last-keeps old new ss (Comment number parts ∷ outer) k = wider old new (all_roots (Comment number parts ∷ outer)) ss k
+
+-- its scraps are all that are left
+last-scraps-are : (lists : List (List StoredToken)) (all : List Open) → scraps_of lists (last_line all)
+    ≡ last_scraps (frames_of lists all)
+last-scraps-are lists [] = refl
+last-scraps-are lists (CText line ∷ []) = refl
+last-scraps-are lists (CText line ∷ (inner ∷ outer)) = refl
+last-scraps-are lists (Comment number parts ∷ outer) = refl
+
+module _ (flags : Flags) (old new : StoredLists) (names names' : List Entry) (marks marks' : MarkList)
+    (t : Translator) (line : List LineEntry) (line_is : line ≡ last_line t.nesting) where
+  abbrev left_state : State
+  left_state = state_in (last_scraps (frames_of old.lists t.nesting)) (known_of names marks)
+
+  left-is : state_of old.lists line marks names ≡ left_state
+  left-is = ap (λ scraps. state_in scraps (known_of names marks))
+      (ap (scraps_of old.lists) line_is ∙ last-scraps-are old.lists t.nesting)
+
+  pub line-ended : (done : Translated) (scraps applied steps steps' : ℕ)
+      → LineDone flags old new names names' marks marks' line done steps steps' → scraps ≡ t.scraps + done.scraps
+      → applied ≡ t.productions + done.productions
+      → HasEnded flags t steps new.lists names' marks'
+      (record { list = done.list; scraps = scraps; productions = applied }) steps'
+      (progress_of old.lists names marks t [])
+  line-ended done scraps applied steps steps' d scraps_are productions_are = record {
+    tree = d.tree ∙ ap (λ (s : State). whole (normal productions flags s).scraps) left-is;
+    names_are = d.names_are ∙ ap (λ (s : State). with_categories (normal productions flags s).cats names) left-is;
+    marks_are = d.marks_are ∙ ap (λ (s : State). (normal productions flags s).marks) left-is;
+    scraps = scraps_are ∙ ap (λ n. t.scraps + n) (d.scraps
+        ∙ (sym (length-map line (seen old.lists)) ∙ ap (λ (s : State). length s.scraps) left-is));
+    productions_are = productions_are ∙ ap (λ n. t.productions + n) (d.productions_are
+        ∙ ap (λ (s : State). count productions flags s) left-is);
+    steps_are = d.steps_are ∙ ap (λ (s : State). steps + ticks productions flags s) left-is;
+  }
+
+  pub line-retypes : Retypes flags (state_of old.lists line marks names) names names'
+      → RetypesIn flags (last_scraps (frames_of old.lists t.nesting)) (known_of names marks) names'
+  line-retypes r = subst (λ s. Retypes flags s names names') left-is r
+
+  pub line-bound : (steps steps' : ℕ) → steps' ≤ steps
+      + (132 * length line + length line * reservings productions flags (state_of old.lists line marks names))
+      → steps' ≤ steps + text_limit flags left_state
+  line-bound steps steps' h = subst (λ s. steps' ≤ steps + text_limit flags s) left-is
+      (subst (λ n. steps' ≤ steps + (132 * n + n * reservings productions flags
+      (state_of old.lists line marks names))) (sym (length-map line (seen old.lists))) h)
 
 pub way-end : (flags : Flags) (answers : List Answer) (p q : Progress) (new : List Entry)
     → q ≡ after_answers flags answers p → NamesOnTheWay flags [] q new → NamesOnTheWay flags answers p new
