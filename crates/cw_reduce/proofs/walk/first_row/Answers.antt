@@ -22,3 +22,22 @@ returns-clause-first g c =
     none-line c.args.line.now c.args.place c.cat_behind-first.result c.cat_behind-second.result
     (rw zero at c.cat_behind-first.ensures.cat) c.cat_behind-second.ensures.cat
     (c.may_fit.ensures.none c.if-may_fit.false)
+
+-- four steps are counted, on each way
+pub returns-then-may_fit-clause-steps : goal.returns-then-may_fit-clause-steps
+returns-then-may_fit-clause-steps g c = omega (
+  arith,
+  c.cat_behind-first.ensures.steps,
+  c.cat_behind-second.ensures.steps,
+  c.cat_behind-fourth.ensures.steps,
+  c.cat_behind-third.ensures.steps,
+)
+
+pub returns-clause-steps : goal.returns-clause-steps
+returns-clause-steps g c = omega (
+  arith,
+  c.cat_behind-first.ensures.steps,
+  c.cat_behind-second.ensures.steps,
+  c.tick.ensures,
+  c.tick-2.ensures,
+)
