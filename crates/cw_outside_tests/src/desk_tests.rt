@@ -1,8 +1,8 @@
 //! What no clause says of desks: that calls succeed, and what the system answers.
 ghost use Rattle.std.specs.Prelude.{◌≡◌, ◌<◌, [], length};
 
-use crate::desks::desk_with;
-use cw_base::{Event, Memory, Out};
+use crate::told::{Told, desk_with, tells};
+use cw_base::{Memory, Out};
 use cw_desk::{
     Batch, CountDesk, Desk, Fetched, FileDesk, Flushed, MadeOut, MemDesk, Opened, QuietDesk, Taken,
 };
@@ -47,17 +47,13 @@ fn set_failing(desk: &mut MemDesk) -> Result<(), Memory> {
     desk.fail_at(5)
 }
 
-fn is_made_and_written(journal: &[Event]) -> bool {
-    matches!(
-        journal,
-        [Event::Made(Out::Tex, name), Event::Byte(Out::Tex, b'x')] if name.as_slice() == b"a.tex".as_slice()
-    )
-}
+/// What its journal has then.
+const WRITTEN: [Told<'static>; 2] = [("made", Out::Tex, b"a.tex"), ("byte", Out::Tex, b"x")];
 
 /// The answer of a desk that is written to, how often it was called, and whether its journal has that and no more.
 fn write_in_memory(desk: &mut MemDesk) -> (Result<Taken, MadeOut>, u64, bool) {
     let taken = make_and_put(desk, Out::Tex, b"a.tex", b"x");
-    (taken, desk.calls(), is_made_and_written(desk.journal()))
+    (taken, desk.calls(), tells(desk.journal(), &WRITTEN))
 }
 
 /// What the desk answers that is read and then written to.
@@ -223,30 +219,18 @@ fn desk_with_a_file(alloc: Global) -> Result<MemDesk, Memory> {
     desk_with(alloc, &[(b"a", b"bytes")])
 }
 
-fn is_same_event(event: &Event, other: &Event) -> bool {
-    match (event, other) {
-        (Event::Made(out, name), Event::Made(other_out, other_name)) => {
-            out == other_out && name.as_slice() == other_name.as_slice()
-        }
-        (Event::Drafted(out, name), Event::Drafted(other_out, other_name)) => {
-            out == other_out && name.as_slice() == other_name.as_slice()
-        }
-        (Event::Byte(out, byte), Event::Byte(other_out, other_byte)) => {
-            out == other_out && byte == other_byte
-        }
-        (Event::Kept(out), Event::Kept(other_out)) => out == other_out,
-        (Event::Replaced(out), Event::Replaced(other_out)) => out == other_out,
-        _ => false,
-    }
-}
-
-fn is_same_journal(journal: &[Event], other: &[Event]) -> bool {
-    journal.len() == other.len()
-        && journal
-            .iter()
-            .zip(other)
-            .all(|(event, other)| is_same_event(event, other))
-}
+/// What the journal has then.
+const READ_AND_WRITTEN: [Told<'static>; 9] = [
+    ("made", Out::Tex, b"a.tex"),
+    ("byte", Out::Tex, b"x"),
+    ("byte", Out::Tex, b"y"),
+    ("byte", Out::Tex, b"z"),
+    ("byte", Out::Term, b"!"),
+    ("byte", Out::Tex, b"w"),
+    ("made", Out::Idx, b"a.idx"),
+    ("byte", Out::Idx, b"i"),
+    ("byte", Out::Tex, b"v"),
+];
 
 /// Reads and writes through a batch, and tells whether each call succeeded, that at its end included.
 fn read_and_write_in_batch(alloc: Global, below: &mut MemDesk) -> bool {
@@ -256,17 +240,20 @@ fn read_and_write_in_batch(alloc: Global, below: &mut MemDesk) -> bool {
     succeeded && flushed == Flushed::Done
 }
 
-/// Whether the calls succeed without a batch and through one, and whether the same is written; and how many calls there
+/// Whether the calls succeed without a batch and through one, and whether both write the same; and how many calls there
 /// are.
-fn used_alike(alloc: Global, plain: &mut MemDesk, below: &mut MemDesk) -> ([bool; 3], [u64; 2]) {
-    let plainly = read_and_write(plain);
-    let batched = read_and_write_in_batch(alloc, below);
-    let alike = is_same_journal(plain.journal(), below.journal());
-    ([plainly, batched, alike], [plain.calls(), below.calls()])
+fn used_alike(alloc: Global, plain: &mut MemDesk, below: &mut MemDesk) -> ([bool; 4], [u64; 2]) {
+    let succeeded = [
+        read_and_write(plain),
+        read_and_write_in_batch(alloc, below),
+        tells(plain.journal(), &READ_AND_WRITTEN),
+        tells(below.journal(), &READ_AND_WRITTEN),
+    ];
+    (succeeded, [plain.calls(), below.calls()])
 }
 
 /// The same on two desks with a file.
-fn both_ways(alloc: Global) -> Result<([bool; 3], [u64; 2]), Memory> {
+fn both_ways(alloc: Global) -> Result<([bool; 4], [u64; 2]), Memory> {
     let mut plain = desk_with_a_file(alloc)?;
     let mut below = desk_with_a_file(alloc)?;
     Ok(used_alike(alloc, &mut plain, &mut below))
@@ -274,7 +261,7 @@ fn both_ways(alloc: Global) -> Result<([bool; 3], [u64; 2]), Memory> {
 
 #[test]
 fn a_batch_writes_the_same_in_fewer_calls(rt: HostRuntime) -> Result<(), Fail> {
-    assert_eq!(rt; both_ways(rt.alloc())?, ([true; 3], [11, 10]));
+    assert_eq!(rt; both_ways(rt.alloc())?, ([true; 4], [11, 10]));
     Ok(())
 }
 

@@ -1,6 +1,7 @@
 //! What no clause says of drafts: that the calls succeed, and what becomes of real files.
 
-use cw_base::{Event, Memory, Out};
+use crate::told::{Told, tells};
+use cw_base::{Memory, Out};
 use cw_desk::{Batch, CountDesk, Desk, FileDesk, Flushed, MadeOut, MemDesk, QuietDesk, Taken};
 use std::alloc::Global;
 use std::fs;
@@ -16,45 +17,27 @@ fn draft_twice<D: Desk>(desk: &mut D) -> bool {
         && desk.replace(Out::Tex) == MadeOut::Done
 }
 
-fn is_drafted(event: &Event) -> bool {
-    matches!(event, Event::Drafted(Out::Tex, _))
-}
-
-fn is_byte(event: &Event) -> bool {
-    matches!(event, Event::Byte(Out::Tex, b'x'))
-}
-
-fn is_kept(event: &Event) -> bool {
-    matches!(event, Event::Kept(Out::Tex))
-}
-
-fn is_replaced(event: &Event) -> bool {
-    matches!(event, Event::Replaced(Out::Tex))
-}
-
-fn is_drafted_twice(journal: &[Event]) -> bool {
-    let [first, second, third, fourth, fifth] = journal else {
-        return false;
-    };
-    is_drafted(first)
-        && is_byte(second)
-        && is_kept(third)
-        && is_drafted(fourth)
-        && is_replaced(fifth)
-}
+/// What the journal has then.
+const DRAFTED: [Told<'static>; 5] = [
+    ("drafted", Out::Tex, b"a.tex"),
+    ("byte", Out::Tex, b"x"),
+    ("kept", Out::Tex, b""),
+    ("drafted", Out::Tex, b"a.tex"),
+    ("replaced", Out::Tex, b""),
+];
 
 /// Whether the calls succeed on a desk in memory, and whether its journal tells of them.
 fn in_memory(alloc: Global) -> [bool; 2] {
     let mut desk = MemDesk::new_in(alloc);
     let succeeded = draft_twice(&mut desk);
-    [succeeded, is_drafted_twice(desk.journal())]
+    [succeeded, tells(desk.journal(), &DRAFTED)]
 }
 
 /// The same of a desk on which nothing fails.
 fn quietly(alloc: Global) -> [bool; 2] {
     let mut desk = QuietDesk::new_in(alloc);
     let succeeded = draft_twice(&mut desk);
-    [succeeded, is_drafted_twice(desk.journal())]
+    [succeeded, tells(desk.journal(), &DRAFTED)]
 }
 
 /// Whether the calls succeed through a batch, that at its end included.
@@ -69,7 +52,7 @@ fn draft_in_batch(alloc: Global, below: &mut MemDesk) -> bool {
 fn through_batch(alloc: Global) -> [bool; 2] {
     let mut below = MemDesk::new_in(alloc);
     let succeeded = draft_in_batch(alloc, &mut below);
-    [succeeded, is_drafted_twice(below.journal())]
+    [succeeded, tells(below.journal(), &DRAFTED)]
 }
 
 #[test]

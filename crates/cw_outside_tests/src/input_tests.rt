@@ -2,7 +2,7 @@
 
 ghost use Rattle.std.specs.Prelude.{◌≡◌, ◌<◌, [], OnOk, length};
 
-use crate::desks::{desk_with, expect};
+use crate::told::{desk_with, expect};
 use cw_base::{Bytes, LineInfo, Memory, Note, Web, Words};
 use cw_desk::MemDesk;
 use cw_input::{Command, LoadError, load, read_command};

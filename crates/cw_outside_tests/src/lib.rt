@@ -16,3 +16,5 @@ mod line_tests;
 mod run_tests;
 #[cfg(test)]
 mod sample_tests;
+#[cfg(test)]
+mod told;

@@ -5,7 +5,8 @@ ghost use Rattle.cw_desk.specs.Meaning.{is_open};
 ghost use Rattle.cw_desk.specs.Mem.{tell};
 ghost use Rattle.cw_lines.specs.Writes.{CanWrite};
 
-use crate::desks::{desk_with_tex, expect, written};
+use crate::desks::desk_with_tex;
+use crate::told::{expect, written};
 use cw_base::{Bytes, Memory, Out};
 use cw_desk::MemDesk;
 use cw_lines::{LineOut, PutError, write_all};

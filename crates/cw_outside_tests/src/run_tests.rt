@@ -1,7 +1,7 @@
 //! What no clause says: that the calls succeed, and the lines that they print.
 ghost use Rattle.std.specs.Prelude.{◌<◌, IfOk, length};
 
-use crate::desks::{desk_with, expect};
+use crate::told::{desk_with, written};
 use cw_base::{Bytes, Event, Exit, Flags, Memory, Note, NoteKind, Out, Place, Web};
 use cw_desk::MemDesk;
 use cw_lines::PutError;
@@ -11,18 +11,8 @@ use cw_run::{
 };
 use cw_secnames::{SecKind, SecNames};
 use std::alloc::Global;
+use std::process::Abort;
 use std::test::Fail;
-
-/// All bytes that were printed.
-fn printed(alloc: Global, desk: &MemDesk) -> Result<Bytes, Memory> {
-    let mut text = Bytes::new_in(alloc);
-    for event in desk.journal() {
-        if let Event::Byte(_, byte) = event {
-            text.push(*byte)?;
-        }
-    }
-    Ok(text)
-}
 
 fn note(kind: NoteKind, value: u32, line: u32) -> Note
     ensures { result.place.file < 1 }
@@ -50,64 +40,11 @@ fn say_lines(desk: &mut MemDesk) -> Result<(), PutError> {
     say(desk, Message::Done)
 }
 
-fn print_lines(alloc: Global, desk: &mut MemDesk) -> Result<Bytes, Fail> {
-    say_lines(desk)?;
-    Ok(printed(alloc, desk)?)
-}
-
-fn printed_lines(alloc: Global) -> Result<Bytes, Fail> {
-    let mut desk = MemDesk::new_in(alloc);
-    print_lines(alloc, &mut desk)
-}
-
-#[test]
-fn lines(rt: HostRuntime) -> Result<(), Fail> {
-    let text = printed_lines(rt.alloc())?;
-    expect(
-        &rt,
-        &text,
-        b"This is CWEAVE (profile 2)
-Writing the index...
-Done.
-",
-    );
-    Ok(())
-}
-
 fn stop_thrice(alloc: Global, desk: &mut MemDesk) -> Result<[Exit; 3], PutError> {
     let too_long = stop(desk, Message::TooLong)?;
     let no_web = stop_without_web(alloc, desk, b"foo")?;
     let no_change = stop_without_change(alloc, desk, b"bar")?;
     Ok([too_long, no_web, no_change])
-}
-
-/// How three runs end that are stopped, and what they say.
-fn stopped_on(alloc: Global, desk: &mut MemDesk) -> Result<([Exit; 3], Bytes), Fail> {
-    let exits = stop_thrice(alloc, desk)?;
-    Ok((exits, printed(alloc, desk)?))
-}
-
-fn stopped(alloc: Global) -> Result<([Exit; 3], Bytes), Fail> {
-    let mut desk = MemDesk::new_in(alloc);
-    stopped_on(alloc, &mut desk)
-}
-
-#[test]
-fn stops(rt: HostRuntime) -> Result<(), Fail> {
-    let (exits, text) = stopped(rt.alloc())?;
-    assert_eq!(rt; exits, [Exit::Errors; 3]);
-    expect(
-        &rt,
-        &text,
-        b"! Input is longer than 8388608 bytes
-(That was a fatal error, my friend.)
-! Cannot open web file foo
-(That was a fatal error, my friend.)
-! Cannot open change file bar
-(That was a fatal error, my friend.)
-",
-    );
-    Ok(())
 }
 
 fn say_notes(noted: Noted, desk: &mut MemDesk) -> Result<(), PutError> {
@@ -140,27 +77,6 @@ fn say_notes_of_web(alloc: Global, desk: &mut MemDesk) -> Result<(), Fail> {
     Ok(say_notes(noted, desk)?)
 }
 
-/// What three notes are printed as.
-fn printed_notes(alloc: Global) -> Result<Bytes, Fail> {
-    let mut desk = MemDesk::new_in(alloc);
-    say_notes_of_web(alloc, &mut desk)?;
-    Ok(printed(alloc, &desk)?)
-}
-
-#[test]
-fn notes(rt: HostRuntime) -> Result<(), Fail> {
-    let text = printed_notes(rt.alloc())?;
-    expect(
-        &rt,
-        &text,
-        b"! 3 of the preceding lines did not match (l. 7 of foo.w)
-! Never used: <Read it>
-! Never defined: <>
-",
-    );
-    Ok(())
-}
-
 /// Puts a long line to a file, and says that it had to be broken.
 fn say_broken(alloc: Global, desk: &mut MemDesk) -> Result<(), PutError> {
     let mut lines = begin_file(alloc, desk, Out::Tex, b"foo.tex", false)?;
@@ -172,7 +88,7 @@ fn say_broken(alloc: Global, desk: &mut MemDesk) -> Result<(), PutError> {
 fn printed_broken(alloc: Global) -> Result<Bytes, Fail> {
     let mut desk = MemDesk::new_in(alloc);
     say_broken(alloc, &mut desk)?;
-    Ok(printed(alloc, &desk)?)
+    Ok(written(alloc, desk.journal())?)
 }
 
 #[test]
@@ -198,14 +114,14 @@ fn is_kept(alloc: Global, name: &[u8]) -> Result<bool, Fail> {
     Ok(matches!(desk.journal().last(), Some(Event::Kept(Out::Idx))))
 }
 
+/// New files, and whether the old file is kept in the place of each.
+const OLD_FILES: [(&[u8], bool); 3] = [(b"a.idx", true), (b"b.idx", false), (b"c.idx", false)];
+
 #[test]
 fn old_files(rt: HostRuntime) -> Result<(), Fail> {
-    let kept = [
-        is_kept(rt.alloc(), b"a.idx")?,
-        is_kept(rt.alloc(), b"b.idx")?,
-        is_kept(rt.alloc(), b"c.idx")?,
-    ];
-    assert_eq!(rt; kept, [true, false, false]);
+    for (name, wanted) in &OLD_FILES {
+        assert_eq!(rt; is_kept(rt.alloc(), name)?, *wanted);
+    }
     Ok(())
 }
 
@@ -227,24 +143,71 @@ fn close_thrice(alloc: Global, desk: &mut MemDesk) -> Result<[Exit; 3], PutError
     Ok([clean, warned, failed])
 }
 
-/// How three runs end, and what they say.
-fn closed_on(alloc: Global, desk: &mut MemDesk) -> Result<([Exit; 3], Bytes), Fail> {
-    let exits = close_thrice(alloc, desk)?;
-    Ok((exits, printed(alloc, desk)?))
+/// What is said on a desk.
+enum Part {
+    Lines,
+    Stops,
+    Notes,
+    Endings,
 }
 
-fn closed(alloc: Global) -> Result<([Exit; 3], Bytes), Fail> {
+/// Says a part, and tells how its three runs end, where it stops or closes some.
+fn say_part(alloc: Global, desk: &mut MemDesk, part: &Part) -> Result<Option<[Exit; 3]>, Fail> {
+    match part {
+        Part::Lines => say_lines(desk)?,
+        Part::Stops => return Ok(Some(stop_thrice(alloc, desk)?)),
+        Part::Notes => say_notes_of_web(alloc, desk)?,
+        Part::Endings => return Ok(Some(close_thrice(alloc, desk)?)),
+    }
+    Ok(None)
+}
+
+/// How its runs end, and what it says.
+type Said = (Option<[Exit; 3]>, Bytes);
+
+fn said_on(alloc: Global, desk: &mut MemDesk, part: &Part) -> Result<Said, Fail> {
+    let exits = say_part(alloc, desk, part)?;
+    Ok((exits, written(alloc, desk.journal())?))
+}
+
+/// The same on a desk of its own.
+fn said(alloc: Global, part: &Part) -> Result<Said, Fail> {
     let mut desk = MemDesk::new_in(alloc);
-    closed_on(alloc, &mut desk)
+    said_on(alloc, &mut desk, part)
 }
 
-#[test]
-fn endings(rt: HostRuntime) -> Result<(), Fail> {
-    let (exits, text) = closed(rt.alloc())?;
-    assert_eq!(rt; exits, [Exit::Clean, Exit::Clean, Exit::Errors]);
-    expect(
-        &rt,
-        &text,
+/// Each part, how its runs have to end, and what it has to say.
+const PARTS: [(Part, Option<[Exit; 3]>, &[u8]); 4] = [
+    (
+        Part::Lines,
+        None,
+        b"This is CWEAVE (profile 2)
+Writing the index...
+Done.
+",
+    ),
+    (
+        Part::Stops,
+        Some([Exit::Errors; 3]),
+        b"! Input is longer than 8388608 bytes
+(That was a fatal error, my friend.)
+! Cannot open web file foo
+(That was a fatal error, my friend.)
+! Cannot open change file bar
+(That was a fatal error, my friend.)
+",
+    ),
+    (
+        Part::Notes,
+        None,
+        b"! 3 of the preceding lines did not match (l. 7 of foo.w)
+! Never used: <Read it>
+! Never defined: <>
+",
+    ),
+    (
+        Part::Endings,
+        Some([Exit::Clean, Exit::Clean, Exit::Errors]),
         b"sections 3
 scraps 87
 productions 60
@@ -253,6 +216,19 @@ lines 31
 (Did you see the warning message above?)
 (Pardon me, but I think I spotted something wrong.)
 ",
-    );
+    ),
+];
+
+/// What is said has to be this, and the runs have to end so.
+fn expect_said(rt: &impl Abort, said: &Said, exits: Option<[Exit; 3]>, text: &[u8]) {
+    assert_eq!(rt; (said.0, said.1.as_slice()), (exits, text));
+}
+
+#[test]
+fn what_is_said_and_how_runs_end(rt: HostRuntime) -> Result<(), Fail> {
+    for (part, exits, text) in &PARTS {
+        let seen = said(rt.alloc(), part)?;
+        expect_said(&rt, &seen, *exits, text);
+    }
     Ok(())
 }

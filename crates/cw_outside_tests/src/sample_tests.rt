@@ -1,5 +1,5 @@
 //! What no clause says: that the sample is made.
-use crate::desks::expect;
+use crate::told::expect;
 use cw_base::{Bytes, Memory};
 use cw_sample::sample_web;
 use std::alloc::Global;
