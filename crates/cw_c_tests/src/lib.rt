@@ -1,6 +1,7 @@
 //! Tests of C texts: names, the table, the store of tokens, scraps, productions and translations.
 #![tactic(auto)]
 
+pub mod kinds;
 #[cfg(test)]
 mod leaf_tests;
 #[cfg(test)]
@@ -21,4 +22,5 @@ mod test_printing;
 mod translate_tests;
 #[cfg(test)]
 mod walk_tests;
-pub mod worked_lines;
+#[cfg(test)]
+mod worked_lines;

@@ -3,29 +3,12 @@ ghost use Rattle.std.specs.Prelude.{OnOk};
 ghost use Rattle.cw_scraps.specs.Leaves.{MakesLeaf};
 ghost use Rattle.cw_scraps.specs.Lines.{IsSoundLine};
 
+use crate::kinds::kind_of;
 use cw_base::{Memory, Span};
-use cw_lex::{Sign, Tok, TokKind};
+use cw_lex::{Tok, TokKind};
 use cw_names::Names;
 use cw_scraps::{ScrapLine, scrap_of};
 use cw_tokens::TokenStore;
-
-/// A byte stands for a token: a sign for itself, and a letter for an identifier.
-pub fn kind_of(byte: u8) -> TokKind
-    ensures { MakesLeaf result }
-{
-    match byte {
-        b'(' => TokKind::Sign(Sign::LeftParen),
-        b')' => TokKind::Sign(Sign::RightParen),
-        b'{' => TokKind::Sign(Sign::LeftBrace),
-        b'}' => TokKind::Sign(Sign::RightBrace),
-        b';' => TokKind::Sign(Sign::Semicolon),
-        b',' => TokKind::Sign(Sign::Comma),
-        b'=' => TokKind::Sign(Sign::Assign),
-        b'+' => TokKind::Sign(Sign::Plus),
-        b'*' => TokKind::Sign(Sign::Star),
-        _ => TokKind::Identifier,
-    }
-}
 
 // Some letters stand for reserved words.
 fn word_of(byte: &[u8]) -> &[u8] {
@@ -59,7 +42,7 @@ fn add(
 }
 
 /// Adds the scrap of each byte to a line.
-pub fn add_all(
+pub(crate) fn add_all(
     bytes: &[u8],
     line: &mut ScrapLine,
     store: &mut TokenStore,
