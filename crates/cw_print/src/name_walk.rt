@@ -1,6 +1,9 @@
 //! The text of a section name, piece by piece, and the tokens of its inner texts.
-ghost use Rattle.std.specs.Prelude.{◌≡◌, ◌++◌, IfOk, OnOk, option_map};
+ghost use Rattle.std.specs.Prelude.{◌≡◌, ◌+◌, ◌<◌, ◌≤◌, ◌++◌, IfOk, OnOk, length, option_map};
 ghost use Rattle.cw_rules.specs.Answers.{seen};
+ghost use Rattle.cw_rules.specs.declared.tokens.Mode.TheVariants.{Inner};
+ghost use Rattle.cw_lex.specs.Lexing.{tokens_of};
+ghost use Rattle.cw_lex.specs.Nested.{until_section};
 ghost use Rattle.cw_print.specs.Found.{numbered};
 ghost use Rattle.cw_print.specs.Titles.{title_of};
 ghost use Rattle.cw_print.specs.Walk.{behind_next, front, name_pieces, next_bytes};
@@ -8,7 +11,7 @@ ghost use Rattle.cw_print.specs.Walk.{behind_next, front, name_pieces, next_byte
 use crate::escaping::put_escaped;
 use crate::scan::Scan;
 use crate::title::{SectionTitle, put_front};
-use cw_base::{Bytes, Memory};
+use cw_base::{Bytes, Memory, Span};
 use cw_lex::Tok;
 use cw_secnames::next_part;
 use std::alloc::Global;
@@ -84,8 +87,9 @@ impl<'a> NameWalk<'a> {
         match next_part(self.text, place) {
             Some(span) => {
                 out.append(&self.text[place..span.start - 1])?;
-                self.inner = Some(Scan::over(self.alloc, self.text, span)?);
-                self.rest = Some(span.end + 1);
+                let (inner, rest) = inner_at(self.alloc, self.text, span)?;
+                self.inner = Some(inner);
+                self.rest = Some(rest);
             }
             None => {
                 out.append(&self.text[place..])?;
@@ -106,4 +110,16 @@ impl<'a> NameWalk<'a> {
             None => None,
         }
     }
+}
+
+// The inner text at a span of a name's text, and where that goes on behind its bar.
+fn inner_at<'a>(alloc: Global, text: &'a [u8], span: Span) -> Result<(Scan<'a>, usize), Memory>
+    requires order { span.start ≤ span.end }
+    requires within { span.end < length text.now }
+    ensures inner { IfOk result (λ found. found.0
+        ≡ until_section (tokens_of text.now span.start span.end Inner)) }
+    ensures rest { IfOk result (λ found. found.1 ≡ span.end + 1) }
+{
+    let inner = Scan::over(alloc, text, span)?;
+    Ok((inner, span.end + 1))
 }
