@@ -6,8 +6,8 @@ ghost use Rattle.cw_print.specs.Found.{numbered};
 ghost use Rattle.cw_print.specs.Showing.{found};
 ghost use Rattle.cw_print.specs.Sources.{titles};
 ghost use Rattle.cw_print.specs.Tokens.{sign_macro};
-ghost use Rattle.cw_print.specs.Walk.{Stand, Title, bracket, control_shown, is_name, named_shown, outside, prints};
-ghost use Rattle.cw_print.specs.Walk.{seen_shown, source_shown};
+ghost use Rattle.cw_print.specs.Walk.{Stand, Title, bracket, control_shown, is_name, named_shown, outer_shown, outside};
+ghost use Rattle.cw_print.specs.Walk.{prints, seen_shown, source_shown};
 ghost use Rattle.cw_print.specs.Walked.{behind};
 
 use crate::book_titles::title_at;
@@ -26,7 +26,7 @@ use std::alloc::Global;
 use std::marker::Model;
 
 /// How a C text is printed.
-#[derive(Clone, Copy, PartialEq, Eq, Debug)]
+#[derive(Clone, Copy)]
 pub(crate) struct Manner {
     /// Inner texts stand in `\PB{` and `}`.
     pub wraps: bool,
@@ -107,9 +107,24 @@ impl<'s, 'a> TextWalk<'s, 'a> {
         ensures stand { OnOk result (self.new ≡ behind self.old
             (source_shown self.old.fixed (titles book.now number) self.old.stand.name number self.old.stand)) }
     {
-        if let Some(name) = &mut self.name {
-            return show_in_name(out, self.manner.first, name, number, &mut self.braces);
+        match &mut self.name {
+            Some(name) => {
+                let token = name.find(number);
+                put_found(out, self.manner.first, token, &mut self.braces)
+            }
+            None => self.show_outside(out, number, book),
         }
+    }
+
+    // The same outside section names, one of which may begin.
+    #[inline(always)]
+    fn show_outside(&mut self, out: &mut Bytes, number: u32, book: &'s Book) -> Result<(), Memory>
+        requires outside { self.old.stand.name ≡ None }
+        ensures bytes { OnOk result (out.new ≡ out.old
+            ++ (outer_shown self.old.fixed (titles book.now number) number self.old.stand).bytes) }
+        ensures stand { OnOk result (self.new ≡ behind self.old
+            (outer_shown self.old.fixed (titles book.now number) number self.old.stand)) }
+    {
         let token = self.seek.find(self.answers, number);
         if is_name(token) {
             return self.begin_name(out, number, book);
@@ -175,23 +190,6 @@ pub(crate) fn is_placed(control: Control) -> bool
         control,
         Control::CommentEnd | Control::NameText | Control::NameEnd
     )
-}
-
-// Appends what a token of an inner text of a section name prints.
-fn show_in_name(
-    out: &mut Bytes,
-    first: bool,
-    name: &mut NameWalk,
-    number: u32,
-    braces: &mut OpenBraces,
-) -> Result<(), Memory>
-    ensures bytes { OnOk result (out.new
-        ≡ out.old ++ (found first (numbered number name.old.answers) braces.old).bytes) }
-    ensures braces { OnOk result (braces.new ≡ (found first (numbered number name.old.answers) braces.old).braces) }
-    ensures same { name.new ≡ name.old }
-{
-    let token = name.find(number);
-    put_found(out, first, token, braces)
 }
 
 // Whether a token was found and is a section name.
