@@ -1,5 +1,6 @@
 -- Each answer is kept behind those before it.
-use Rattle.std.proofs.Common.{refl, subst, sym, ◌∙◌, ap, length}
+use Rattle.std.proofs.Common.{refl, subst, sym, ◌∙◌, ap, length, arith}
+use Rattle.std.proofs.lemmas.Grind.{common_steps}
 use Rattle.cw_rules.specs.Answers.{Token, Begin, Finish, Note, seen}
 use Rattle.cw_answers.specs.Kept.{answer_at, IsWithin}
 use Rattle.cw_answers.proofs.Standing.{Keeping, begin, pushed}
@@ -37,3 +38,6 @@ loop-token-preserved c =
           ∙ (λ i. Note (w.in_ok-of-in-Note.ensures.0 i) (w.in_ok-of-in-Note.ensures.1 i)))
           (subst (IsWithin (length text)) (sym w.kept-is) tt) c.loop-token.invariant
     ]
+
+pub returns-in-End : goal.returns-in-End
+returns-in-End c = grind (arith, common_steps)

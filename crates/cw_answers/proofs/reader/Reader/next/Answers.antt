@@ -1,5 +1,6 @@
 -- An answer comes, and it is kept behind those before it where all are kept.
-use Rattle.std.proofs.Common.{subst, ap, ◌++◌}
+use Rattle.std.proofs.Common.{subst, ap, ◌++◌, arith}
+use Rattle.std.proofs.lemmas.Grind.{common_steps}
 use Rattle.cw_rules.specs.Answers.{Begin, Finish, Token, seen}
 use Rattle.cw_answers.specs.Reading.{Stays, all_of}
 use Rattle.cw_answers.specs.Kept.{answers_at}
@@ -33,3 +34,6 @@ returns-in-Note-clause-all c =
     (ap (λ r. r.all) c.self.view_is)
     (note-stays c.self.inside.text.now c.self.inside.room c.push_note.new.self c.in-Note.kind c.in-Note.place
     c.self.inside.lexer c.next.new.self c.in-Note.ensures c.push_note.ensures)
+
+pub returns-in-Begin-clause-all : goal.returns-in-Begin-clause-all
+returns-in-Begin-clause-all c = grind (arith, common_steps)

@@ -1,5 +1,6 @@
 -- The tokens of a scan stand in its text, and nothing is kept yet.
-use Rattle.std.proofs.Common.{All, length, subst, sym, ◌∙◌}
+use Rattle.std.proofs.Common.{All, length, subst, sym, ◌∙◌, arith}
+use Rattle.std.proofs.lemmas.Grind.{common_steps}
 use Rattle.std.proofs.lemmas.List.Elements.{All-nil}
 use Rattle.cw_answers.specs.Kept.{IsWithin}
 use Rattle.cw_answers.proofs.Standing.{all-stand}
@@ -16,3 +17,9 @@ invariant_of-self c =
       stand = all-stand text span.start span.start span.end span.end c.restart.new.self c.requires.within
           c.restart.ensures.covers c.restart.ensures.within;
     }
+
+pub returns-clause-all : goal.returns-clause-all
+returns-clause-all c = grind (arith, common_steps)
+
+pub returns-clause-coming : goal.returns-clause-coming
+returns-clause-coming c = grind (arith, common_steps)
