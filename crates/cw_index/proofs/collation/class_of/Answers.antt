@@ -1,0 +1,10 @@
+-- What a wrong body breaks here has an answer of its own, so that it fails at once.
+use Rattle.std.proofs.Common.{arith}
+use Rattle.std.proofs.lemmas.Grind.{common_steps}
+use Rattle.cw_index.proofs.collation.class_of.Goals as goal
+
+pub returns-in-65-to-90 : goal.returns-in-65-to-90
+returns-in-65-to-90 c = grind (arith, common_steps)
+
+pub returns-in-48-to-57 : goal.returns-in-48-to-57
+returns-in-48-to-57 c = grind (arith, common_steps)
