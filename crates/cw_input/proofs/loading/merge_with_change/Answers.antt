@@ -1,5 +1,6 @@
 -- The change file was found: the rest is that of the two files.
-use Rattle.std.proofs.Common.{◌≡◌, ℕ, List, [], Option, Some, ap, sym, subst, ◌∙◌}
+use Rattle.std.proofs.Common.{◌≡◌, ℕ, List, [], Option, Some, ap, sym, subst, ◌∙◌, arith}
+use Rattle.std.proofs.lemmas.Grind.{common_steps}
 use Rattle.std.specs.FinMap.{get}
 use Rattle.cw_input.specs.Fold.{read}
 use Rattle.cw_input.specs.Folded.{merge_change, merge_with, start_state}
@@ -31,3 +32,6 @@ returns-in-Ok-Some-clause-loads g c = λ files is.
     ∙ ap (λ (given : Option Found). merge_change (get files) file.bytes given state) change
     ∙ ap (λ (web : List ℕ). merge_change (get files) web (Some c.in-Ok-Some.change) state) (sym bytes)))
     (c.merge_found.ensures.loads files (c.find_change.ensures.same.same_files ∙ is))
+
+pub returns-in-Ok-None-clause-loads : goal.returns-in-Ok-None-clause-loads
+returns-in-Ok-None-clause-loads g c = grind (arith, common_steps)
