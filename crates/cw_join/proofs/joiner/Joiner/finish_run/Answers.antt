@@ -1,0 +1,7 @@
+-- What a wrong body breaks here has an answer of its own, so that it fails at once.
+use Rattle.std.proofs.Common.{arith}
+use Rattle.std.proofs.lemmas.Grind.{common_steps}
+use Rattle.cw_join.proofs.joiner.Joiner.finish_run.Goals as goal
+
+pub returns-in_ok-append_run-clause-state : goal.returns-in_ok-append_run-clause-state
+returns-in_ok-append_run-clause-state c = grind (arith, common_steps)

@@ -1,0 +1,10 @@
+-- What a wrong body breaks here has an answer of its own, so that it fails at once.
+use Rattle.std.proofs.Common.{arith}
+use Rattle.std.proofs.lemmas.Grind.{common_steps}
+use Rattle.cw_join.proofs.pieces.sign.Goals as goal
+
+pub returns-in-CommentEnd : goal.returns-in-CommentEnd
+returns-in-CommentEnd c = grind (arith, common_steps)
+
+pub returns-in-ToMath : goal.returns-in-ToMath
+returns-in-ToMath c = grind (arith, common_steps)
