@@ -1,0 +1,7 @@
+-- What a wrong body breaks here has an answer of its own, so that it fails at once.
+use Rattle.std.proofs.Common.{arith}
+use Rattle.std.proofs.lemmas.Grind.{common_steps}
+use Rattle.cw_lex.proofs.comment_text.comment_text.Goals as goal
+
+pub begin_inner-requires-clause-depth : goal.begin_inner-requires-clause-depth
+begin_inner-requires-clause-depth c = grind (arith, common_steps)

@@ -1,0 +1,6 @@
+-- What a wrong body breaks here has an answer of its own, so that it fails at once.
+use Rattle.std.proofs.Common.{rules}
+use Rattle.cw_lex.proofs.lexer.after_white.Goals as goal
+
+pub code_text-requires-clause-found : goal.code_text-requires-clause-found
+code_text-requires-clause-found c = search rules

@@ -1,0 +1,7 @@
+-- What a wrong body breaks here has an answer of its own, so that it fails at once.
+use Rattle.std.proofs.Common.{arith}
+use Rattle.std.proofs.lemmas.Grind.{common_steps}
+use Rattle.cw_lex.proofs.short.is_alone.Goals as goal
+
+pub returns-then-byte-eq46 : goal.returns-then-byte-eq46
+returns-then-byte-eq46 c = grind (arith, common_steps)

@@ -1,0 +1,7 @@
+-- What a wrong body breaks here has an answer of its own, so that it fails at once.
+use Rattle.std.proofs.Common.{arith}
+use Rattle.std.proofs.lemmas.Grind.{common_steps}
+use Rattle.cw_lex.proofs.short.quick_at.Goals as goal
+
+pub returns-then-state-text : goal.returns-then-state-text
+returns-then-state-text c = grind (arith, common_steps)
