@@ -1,0 +1,7 @@
+-- What a wrong body breaks here has an answer of its own, so that it fails at once.
+use Rattle.std.proofs.Common.{arith}
+use Rattle.std.proofs.lemmas.Grind.{common_steps}
+use Rattle.cw_phase1.proofs.sections.Open.meet.Goals as goal
+
+pub returns-then-ends_definitions : goal.returns-then-ends_definitions
+returns-then-ends_definitions c = grind (arith, common_steps)
