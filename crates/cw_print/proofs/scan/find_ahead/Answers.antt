@@ -1,5 +1,6 @@
 -- Each answer that is passed has a token of another number, or none.
 use Rattle.std.proofs.Common.{arith}
+use Rattle.std.proofs.lemmas.Grind.{common_steps}
 use Rattle.cw_print.proofs.ScanLaws.{found-at, passes-none, passes-token, seeks-behind}
 use Rattle.cw_print.proofs.scan.find_ahead.Goals as goal
 use Rattle.cw_print.proofs.scan.find_ahead.Goals.{in-Some+else-token-number, in_default}
@@ -22,3 +23,6 @@ loop-place-preserved c = elim c.match-token_of.branch [
       rw w.from-is (passes-none _ _ _ _ _ _ (omega arith) c.at.ensures w.in_default.ensures.none
       c.loop-place.invariant)
 ]
+
+pub loop-place-init : goal.loop-place-init
+loop-place-init c = grind (arith, common_steps)

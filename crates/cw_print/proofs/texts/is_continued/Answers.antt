@@ -1,0 +1,7 @@
+-- What a wrong body breaks here has an answer of its own, so that it fails at once.
+use Rattle.std.proofs.Common.{arith}
+use Rattle.std.proofs.lemmas.Grind.{common_steps}
+use Rattle.cw_print.proofs.texts.is_continued.Goals as goal
+
+pub returns-then-byte-eq92 : goal.returns-then-byte-eq92
+returns-then-byte-eq92 c = grind (arith, common_steps)
