@@ -1,5 +1,6 @@
 -- The list of a section name has the name's tree, and refers to each of its inner texts once and in order.
 use Rattle.std.proofs.Common.{◌≤◌, length, ◌∙◌, arith}
+use Rattle.std.proofs.lemmas.Grind.{common_steps}
 use Rattle.cw_reduce.proofs.GatherSteps.{builds-start, builds-pushed}
 use Rattle.cw_reduce.proofs.NameLists.{name_tokens, part-may, parts-end, sign-end, name-tree, name-gathers}
 use Rattle.cw_reduce.proofs.holders.name_list.Goals as goal
@@ -38,3 +39,6 @@ returns-clause-gathers c =
     c.push_sign.ensures.building c.push_sign.ensures.lists in
     name-gathers c.args.store.now.lists c.args.number c.args.sign c.args.parts.now c.push_sign.new.store b
     c.finish.new.self.lists c.finish.result.index c.finish.ensures.lists c.finish.ensures.id
+
+pub push_part-requires-clause-building : goal.push_part-requires-clause-building
+push_part-requires-clause-building c = grind (arith, common_steps)

@@ -1,5 +1,6 @@
 -- The answers of the scan are nested, and stand in the text.
 use Rattle.std.proofs.Common.{arith, sym, subst}
+use Rattle.std.proofs.lemmas.Grind.{common_steps}
 use Rattle.cw_lex.specs.Lexing.{tokens_of}
 use Rattle.cw_lex.specs.Nested.{IsNested}
 use Rattle.cw_lex.proofs.Nesting.{c-texts-nested}
@@ -20,3 +21,6 @@ translate_read-requires-clause-start g c =
     (tokens_of c.args.text.now c.args.span.start c.args.span.end c.args.mode)
     (omega (arith, c.requires.within, c.requires.short))
     (tokens-within c.args.text.now c.args.span.start c.args.span.end c.args.mode c.requires.order c.requires.within))
+
+pub returns-clause-tree : goal.returns-clause-tree
+returns-clause-tree g c = grind (arith, common_steps)

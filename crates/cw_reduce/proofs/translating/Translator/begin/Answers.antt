@@ -1,5 +1,6 @@
 -- What begins neither an inner text nor a comment nor a section name opens nothing.
-use Rattle.std.proofs.Common.{ap}
+use Rattle.std.proofs.Common.{ap, arith}
+use Rattle.std.proofs.lemmas.Grind.{common_steps}
 use Rattle.cw_reduce.proofs.AnswerSteps.{begun-other}
 use Rattle.cw_reduce.proofs.translating.Translator.begin.Goals as goal
 
@@ -9,3 +10,6 @@ returns-in_default c = record {
       (begun-other c.args.token.now.kind c.args.token.now.span.start c.args.self.now.nesting c.in_default.not-InnerText
       c.in_default.not-LongComment c.in_default.not-ShortComment c.in_default.not-Code);
 }
+
+pub returns-in-LongComment : goal.returns-in-LongComment
+returns-in-LongComment c = grind (arith, common_steps)

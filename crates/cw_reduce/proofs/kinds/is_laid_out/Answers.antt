@@ -1,0 +1,7 @@
+-- What a wrong body breaks here has an answer of its own, so that it fails at once.
+use Rattle.std.proofs.Common.{arith}
+use Rattle.std.proofs.lemmas.Grind.{common_steps}
+use Rattle.cw_reduce.proofs.kinds.is_laid_out.Goals as goal
+
+pub returns-in_default : goal.returns-in_default
+returns-in_default c = grind (arith, common_steps)
