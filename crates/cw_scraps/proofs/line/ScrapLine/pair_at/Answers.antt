@@ -1,0 +1,7 @@
+-- What a wrong body breaks here has an answer of its own, so that it fails at once.
+use Rattle.std.proofs.Common.{arith}
+use Rattle.std.proofs.lemmas.Grind.{common_steps}
+use Rattle.cw_scraps.proofs.line.ScrapLine.pair_at.Goals as goal
+
+pub returns-then-self-place-gt1-clause-second : goal.returns-then-self-place-gt1-clause-second
+returns-then-self-place-gt1-clause-second c = grind (arith, common_steps)
