@@ -1,5 +1,5 @@
 //! A scanner whose answers are kept as they come.
-ghost use Rattle.std.specs.Prelude.{◌≡◌, ◌≤◌, ◌<◌, ◌^◌, [], length, IfOk, None, Some};
+ghost use Rattle.std.specs.Prelude.{◌≡◌, ◌≤◌, ◌<◌, ◌^◌, [], length, IfOk, OnErr, None, Some};
 ghost use Rattle.cw_rules.specs.Answers.{Gives};
 ghost use Rattle.cw_lex.specs.Lexing.{tokens_of};
 ghost use Rattle.cw_answers.specs.Reading.{Goes, GoesByNote, Stays};
@@ -132,6 +132,7 @@ impl<'a> Reader<'a> {
     pub fn take_answers(&mut self, alloc: Global) -> Result<Answers<'a>, Memory>
         requires { self.old.coming ≡ [] }
         ensures answers { IfOk result (λ answers. self.old.all ≡ Some answers) }
+        ensures memory { OnErr result (self.old.all ≡ None) }
         ensures coming { self.new.coming ≡ [] }
         ensures all { self.new.all ≡ None }
     {
