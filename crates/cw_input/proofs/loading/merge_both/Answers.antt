@@ -2,9 +2,8 @@
 use Rattle.std.proofs.Common.{Result, Ok, Err, ap, sym, subst, ◌∙◌}
 use Rattle.std.specs.FinMap.{get}
 use Rattle.cw_base.specs.Web.{WebState}
-use Rattle.cw_input.specs.Answers.{Merges}
+use Rattle.cw_input.specs.Answers.{LoadsInto, Merges}
 use Rattle.cw_input.specs.Lines.{file_lines}
-use Rattle.cw_input.specs.Loading.{LoadsInto}
 use Rattle.cw_input.specs.Fold.{advance}
 use Rattle.cw_input.specs.Folded.{taken}
 use Rattle.cw_input.specs.Merged.{Merged}

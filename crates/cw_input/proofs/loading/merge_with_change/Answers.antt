@@ -4,7 +4,7 @@ use Rattle.std.proofs.lemmas.Grind.{common_steps}
 use Rattle.std.specs.FinMap.{get}
 use Rattle.cw_input.specs.Fold.{read}
 use Rattle.cw_input.specs.Folded.{merge_change, merge_with, start_state}
-use Rattle.cw_input.specs.Loading.{LoadsInto}
+use Rattle.cw_input.specs.Answers.{LoadsInto}
 use Rattle.cw_input.specs.Merged.{Merged, found}
 use Rattle.cw_input.specs.Names.{change_name}
 use Rattle.cw_input.specs.State.{state_of}
