@@ -1,6 +1,4 @@
 //! Worked names, by calls.
-ghost use Rattle.std.specs.Prelude.{◌≡◌, []};
-
 use cw_base::{Memory, Span};
 use cw_secnames::{Entered, NameUses, RefKind, SecId, SecKind, SecNames, next_part};
 use std::alloc::Global;
@@ -14,12 +12,12 @@ const NAMED: Option<SecKind> = Some(SecKind::Named);
 
 const FILE: Option<SecKind> = Some(SecKind::File);
 
-/// A text, of a kind where it is a whole name, and what is answered where it is entered.
-type Row = (Option<SecKind>, &'static [u8], Entered);
-
 /// Enters texts one after another, a whole name of a kind or a prefix. The number of the first that is answered
 /// otherwise.
-fn first_other(names: &mut SecNames, rows: &[Row]) -> Result<Option<usize>, Memory> {
+fn first_other(
+    names: &mut SecNames,
+    rows: &[(Option<SecKind>, &[u8], Entered)],
+) -> Result<Option<usize>, Memory> {
     for (i, (kind, text, wanted)) in rows.iter().enumerate() {
         if text.is_empty() {
             return Ok(Some(i));
@@ -43,42 +41,35 @@ fn is_kept(names: &SecNames, id: SecId, kind: SecKind, text: &[u8], complete: bo
         && names.complete(id) == complete
 }
 
-const PREFIXES: [Row; 2] = [
-    (None, b"Re", Entered::New(FIRST)),
-    (None, b"Rea", Entered::Known(FIRST)),
-];
-
-const GROWN: [Row; 3] = [
-    (NAMED, b"Read", Entered::Known(FIRST)),
-    (NAMED, b"Rea", Entered::Conflict(FIRST)),
-    (FILE, b"Rea", Entered::New(SECOND)),
-];
-
-/// The answers that are otherwise, whether the names are kept, and how many there are.
-type Grown = ([Option<usize>; 2], [bool; 3], usize);
-
-/// Enters two prefixes, and then the name that they begin and two others.
-fn grow_prefix(names: &mut SecNames) -> Result<Grown, Memory> {
-    let other_prefix = first_other(names, &PREFIXES)?;
-    let begun = is_kept(names, FIRST, SecKind::Named, b"Rea", false);
-    let other_name = first_other(names, &GROWN)?;
+/// Enters two prefixes, and then the name that they begin and two others. The answers that are otherwise, whether the
+/// names are kept, and how many there are.
+fn grown_prefix(alloc: Global) -> Result<([Option<usize>; 2], [bool; 3], usize), Memory> {
+    let mut names = SecNames::new_in(alloc);
+    let prefixes: [(_, &[u8], _); 2] = [
+        (None, b"Re", Entered::New(FIRST)),
+        (None, b"Rea", Entered::Known(FIRST)),
+    ];
+    let whole: [(_, &[u8], _); 3] = [
+        (NAMED, b"Read", Entered::Known(FIRST)),
+        (NAMED, b"Rea", Entered::Conflict(FIRST)),
+        (FILE, b"Rea", Entered::New(SECOND)),
+    ];
+    let other_prefix = first_other(&mut names, &prefixes)?;
+    let begun = is_kept(&names, FIRST, SecKind::Named, b"Rea", false);
+    let other_name = first_other(&mut names, &whole)?;
     let kept = [
         begun,
-        is_kept(names, FIRST, SecKind::Named, b"Read", true),
-        is_kept(names, SECOND, SecKind::File, b"Rea", true),
+        is_kept(&names, FIRST, SecKind::Named, b"Read", true),
+        is_kept(&names, SECOND, SecKind::File, b"Rea", true),
     ];
     Ok(([other_prefix, other_name], kept, names.len()))
 }
 
-fn grown_prefix(alloc: Global) -> Result<Grown, Memory> {
-    let mut names = SecNames::new_in(alloc);
-    grow_prefix(&mut names)
-}
-
 #[test]
 fn a_prefix_grows_to_its_name(rt: HostRuntime) -> Result<(), Fail> {
-    let wanted = ([None; 2], [true; 3], 2);
-    assert_eq!(rt; grown_prefix(rt.alloc())?, wanted);
+    let (others, kept, count) = grown_prefix(rt.alloc())?;
+    assert_eq!(rt; others, [None; 2]);
+    assert_eq!(rt; (kept, count), ([true; 3], 2));
     Ok(())
 }
 
@@ -101,35 +92,29 @@ fn is_referred(names: &SecNames, id: SecId, wanted: [&[u32]; 3]) -> bool {
         && names.cited_in(id) == cited
 }
 
-const OF_TWO_NAMES: [Row; 3] = [
-    (NAMED, b"Read a", Entered::New(FIRST)),
-    (NAMED, b"Read b", Entered::New(SECOND)),
-    (None, b"Read", Entered::Ambiguous(FIRST, SECOND)),
-];
-
-const REFERENCES: [(SecId, RefKind, u32); 5] = [
-    (FIRST, RefKind::Defined, 1),
-    (SECOND, RefKind::Defined, 2),
-    (FIRST, RefKind::Used, 3),
-    (FIRST, RefKind::Used, 3),
-    (SECOND, RefKind::Cited, 3),
-];
-
 /// Enters two names and what both begin with, and notes where they are referred to. The answer that is otherwise, and
 /// whether each is referred to so.
-fn refer_to_two(names: &mut SecNames) -> Result<(Option<usize>, [bool; 2]), Memory> {
-    let other = first_other(names, &OF_TWO_NAMES)?;
-    refer_all(names, &REFERENCES)?;
-    let referred = [
-        is_referred(names, FIRST, [&[1], &[3], &[]]),
-        is_referred(names, SECOND, [&[2], &[], &[3]]),
-    ];
-    Ok((other, referred))
-}
-
 fn ambiguous_prefix(alloc: Global) -> Result<(Option<usize>, [bool; 2]), Memory> {
     let mut names = SecNames::new_in(alloc);
-    refer_to_two(&mut names)
+    let rows: [(_, &[u8], _); 3] = [
+        (NAMED, b"Read a", Entered::New(FIRST)),
+        (NAMED, b"Read b", Entered::New(SECOND)),
+        (None, b"Read", Entered::Ambiguous(FIRST, SECOND)),
+    ];
+    let references = [
+        (FIRST, RefKind::Defined, 1),
+        (SECOND, RefKind::Defined, 2),
+        (FIRST, RefKind::Used, 3),
+        (FIRST, RefKind::Used, 3),
+        (SECOND, RefKind::Cited, 3),
+    ];
+    let other = first_other(&mut names, &rows)?;
+    refer_all(&mut names, &references)?;
+    let referred = [
+        is_referred(&names, FIRST, [&[1], &[3], &[]]),
+        is_referred(&names, SECOND, [&[2], &[], &[3]]),
+    ];
+    Ok((other, referred))
 }
 
 #[test]
@@ -157,7 +142,7 @@ fn enter_many(names: &mut SecNames) -> Result<bool, Memory> {
 const LAST: SecId = SecId { index: 300 };
 
 /// What is answered behind three hundred names.
-const BEHIND_MANY: [Row; 6] = [
+const BEHIND_MANY: [(Option<SecKind>, &[u8], Entered); 6] = [
     (
         NAMED,
         b"Read 217 of them",
@@ -178,22 +163,15 @@ const BEHIND_MANY: [Row; 6] = [
     (None, b"Read 333", Entered::Known(LAST)),
 ];
 
-const LAST_GROWN: [Row; 1] = [(NAMED, b"Read 333 of them", Entered::Known(LAST))];
-
 /// Whether three hundred names are new and a prefix behind them is kept, and the answers there that are otherwise.
-type Behind = ([bool; 2], [Option<usize>; 2]);
-
-fn enter_behind_many(names: &mut SecNames) -> Result<Behind, Memory> {
-    let are_new = enter_many(names)?;
-    let other = first_other(names, &BEHIND_MANY)?;
-    let kept = is_kept(names, LAST, SecKind::Named, b"Read 333", false);
-    let other_grown = first_other(names, &LAST_GROWN)?;
-    Ok(([are_new, kept], [other, other_grown]))
-}
-
-fn behind_many_others(alloc: Global) -> Result<Behind, Memory> {
+fn behind_many_others(alloc: Global) -> Result<([bool; 2], [Option<usize>; 2]), Memory> {
     let mut names = SecNames::new_in(alloc);
-    enter_behind_many(&mut names)
+    let grown: [(_, &[u8], _); 1] = [(NAMED, b"Read 333 of them", Entered::Known(LAST))];
+    let are_new = enter_many(&mut names)?;
+    let other = first_other(&mut names, &BEHIND_MANY)?;
+    let kept = is_kept(&names, LAST, SecKind::Named, b"Read 333", false);
+    let other_grown = first_other(&mut names, &grown)?;
+    Ok(([are_new, kept], [other, other_grown]))
 }
 
 #[test]
@@ -203,17 +181,11 @@ fn names_are_found_behind_many_others(rt: HostRuntime) -> Result<(), Fail> {
 }
 
 /// The names at two places where they stand, and at two others.
-fn names_at(uses: &mut NameUses) -> Result<[Option<SecId>; 4], Memory>
-    requires { uses.old ≡ [] }
-{
+fn names_at_places(alloc: Global) -> Result<[Option<SecId>; 4], Memory> {
+    let mut uses = NameUses::new_in(alloc);
     uses.add(2, SECOND)?;
     uses.add(19, FIRST)?;
     Ok([uses.at(2), uses.at(19), uses.at(18), uses.at(20)])
-}
-
-fn names_at_places(alloc: Global) -> Result<[Option<SecId>; 4], Memory> {
-    let mut uses = NameUses::new_in(alloc);
-    names_at(&mut uses)
 }
 
 #[test]

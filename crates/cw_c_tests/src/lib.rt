@@ -1,13 +1,20 @@
-//! Tests of C texts: names, the table, the store of tokens, scraps, productions and translations.
+//! Tests of C texts: the scanner's tokens, texts and notes, names, the table, the store of tokens, scraps, productions
+//! and translations.
 #![tactic(auto)]
 
+#[cfg(test)]
+mod kept_tests;
 pub mod kinds;
 #[cfg(test)]
 mod leaf_tests;
 #[cfg(test)]
+mod lexer_tests;
+#[cfg(test)]
 mod line_tests;
 #[cfg(test)]
 mod name_tests;
+#[cfg(test)]
+mod note_tests;
 #[cfg(test)]
 mod row_tests;
 #[cfg(test)]
@@ -18,6 +25,10 @@ mod store_tests;
 mod table_tests;
 #[cfg(test)]
 mod test_printing;
+#[cfg(test)]
+mod text_tests;
+#[cfg(test)]
+mod token_tests;
 #[cfg(test)]
 mod translate_tests;
 #[cfg(test)]

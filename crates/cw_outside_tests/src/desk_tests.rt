@@ -48,7 +48,7 @@ fn set_failing(desk: &mut MemDesk) -> Result<(), Memory> {
 }
 
 /// What its journal has then.
-const WRITTEN: [Told<'static>; 2] = [("made", Out::Tex, b"a.tex"), ("byte", Out::Tex, b"x")];
+const WRITTEN: [Told<'static>; 2] = [Told::Made(Out::Tex, b"a.tex"), Told::Byte(Out::Tex, b'x')];
 
 /// The answer of a desk that is written to, how often it was called, and whether its journal has that and no more.
 fn write_in_memory(desk: &mut MemDesk) -> (Result<Taken, MadeOut>, u64, bool) {
@@ -221,15 +221,15 @@ fn desk_with_a_file(alloc: Global) -> Result<MemDesk, Memory> {
 
 /// What the journal has then.
 const READ_AND_WRITTEN: [Told<'static>; 9] = [
-    ("made", Out::Tex, b"a.tex"),
-    ("byte", Out::Tex, b"x"),
-    ("byte", Out::Tex, b"y"),
-    ("byte", Out::Tex, b"z"),
-    ("byte", Out::Term, b"!"),
-    ("byte", Out::Tex, b"w"),
-    ("made", Out::Idx, b"a.idx"),
-    ("byte", Out::Idx, b"i"),
-    ("byte", Out::Tex, b"v"),
+    Told::Made(Out::Tex, b"a.tex"),
+    Told::Byte(Out::Tex, b'x'),
+    Told::Byte(Out::Tex, b'y'),
+    Told::Byte(Out::Tex, b'z'),
+    Told::Byte(Out::Term, b'!'),
+    Told::Byte(Out::Tex, b'w'),
+    Told::Made(Out::Idx, b"a.idx"),
+    Told::Byte(Out::Idx, b'i'),
+    Told::Byte(Out::Tex, b'v'),
 ];
 
 /// Reads and writes through a batch, and tells whether each call succeeded, that at its end included.

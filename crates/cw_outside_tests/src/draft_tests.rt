@@ -19,11 +19,11 @@ fn draft_twice<D: Desk>(desk: &mut D) -> bool {
 
 /// What the journal has then.
 const DRAFTED: [Told<'static>; 5] = [
-    ("drafted", Out::Tex, b"a.tex"),
-    ("byte", Out::Tex, b"x"),
-    ("kept", Out::Tex, b""),
-    ("drafted", Out::Tex, b"a.tex"),
-    ("replaced", Out::Tex, b""),
+    Told::Drafted(Out::Tex, b"a.tex"),
+    Told::Byte(Out::Tex, b'x'),
+    Told::Kept(Out::Tex),
+    Told::Drafted(Out::Tex, b"a.tex"),
+    Told::Replaced(Out::Tex),
 ];
 
 /// Whether the calls succeed on a desk in memory, and whether its journal tells of them.

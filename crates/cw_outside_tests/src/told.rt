@@ -5,7 +5,6 @@ use cw_base::{Bytes, Event, Memory, Out};
 use cw_desk::MemDesk;
 use std::alloc::Global;
 use std::process::Abort;
-use std::slice;
 
 /// A desk with these files, of which none is opened.
 pub(crate) fn desk_with(alloc: Global, files: &[(&[u8], &[u8])]) -> Result<MemDesk, Memory>
@@ -34,16 +33,25 @@ pub(crate) fn written(alloc: Global, journal: &[Event]) -> Result<Bytes, Memory>
     Ok(text)
 }
 
-/// An event as plain values: what it is, its output, and its name or its byte.
-pub(crate) type Told<'a> = (&'static str, Out, &'a [u8]);
+/// An event as a plain value.
+#[derive(Clone, Copy, PartialEq)]
+pub(crate) enum Told<'a> {
+    Made(Out, &'a [u8]),
+    Drafted(Out, &'a [u8]),
+    Byte(Out, u8),
+    Kept(Out),
+    Replaced(Out),
+}
 
-fn told(event: &Event) -> Told<'_> {
-    match event {
-        Event::Made(out, name) => ("made", *out, name.as_slice()),
-        Event::Drafted(out, name) => ("drafted", *out, name.as_slice()),
-        Event::Byte(out, byte) => ("byte", *out, slice::from_ref(byte)),
-        Event::Kept(out) => ("kept", *out, b""),
-        Event::Replaced(out) => ("replaced", *out, b""),
+impl<'a> Told<'a> {
+    fn of(event: &'a Event) -> Told<'a> {
+        match event {
+            Event::Made(out, name) => Told::Made(*out, name.as_slice()),
+            Event::Drafted(out, name) => Told::Drafted(*out, name.as_slice()),
+            Event::Byte(out, byte) => Told::Byte(*out, *byte),
+            Event::Kept(out) => Told::Kept(*out),
+            Event::Replaced(out) => Told::Replaced(*out),
+        }
     }
 }
 
@@ -53,7 +61,7 @@ pub(crate) fn tells(journal: &[Event], wanted: &[Told]) -> bool {
         return false;
     }
     for (event, wanted) in journal.iter().zip(wanted) {
-        if told(event) != *wanted {
+        if Told::of(event) != *wanted {
             return false;
         }
     }
