@@ -16,7 +16,7 @@ use cw_tokens::{ListId, Token, TokenStore};
 use cw_trees::Control;
 
 /// What stands in the text of a comment.
-#[derive(Clone, Copy, Debug, PartialEq, Eq)]
+#[derive(Clone, Copy)]
 pub(crate) enum CommentPart {
     /// A piece of the text, by the place of its first byte.
     Piece(u32),

@@ -31,7 +31,7 @@ use cw_trees::Control;
 use std::alloc::Global;
 
 /// The head of a text.
-#[derive(Clone, Copy, Debug, PartialEq, Eq)]
+#[derive(Clone, Copy)]
 pub(crate) enum HeadRead {
     /// None, or one that makes no scrap.
     None,

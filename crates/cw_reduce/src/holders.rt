@@ -14,7 +14,7 @@ use cw_tokens::{ListId, Token, TokenStore};
 use cw_trees::Control;
 
 /// What holds inner texts, by the place of its first byte.
-#[derive(Clone, Copy, Debug, PartialEq, Eq)]
+#[derive(Clone, Copy)]
 pub(crate) enum Holder {
     Comment(u32),
     Name(u32),
