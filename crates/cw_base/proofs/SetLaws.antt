@@ -1,6 +1,6 @@
 -- Sets of categories by their bits.
-use Rattle.std.proofs.Common.{◌≡◌, ◌≢◌, ◌<◌, ◌≤◌, ◌+◌, ◌-◌, ◌*◌, ◌^◌, ◌∙◌, sym, ap, ℕ, zero, suc, Bool, true, false}
-use Rattle.std.proofs.Common.{List, [], ◌∷◌, length, map, get_or, Option, Some, refl, arith, add-zero, zero-add, min}
+use Rattle.std.proofs.Common.{◌≡◌, ◌<◌, ◌≤◌, ◌+◌, ◌-◌, ◌*◌, ◌^◌, ◌∙◌, sym, ap, ℕ, zero, suc, Bool, true, false}
+use Rattle.std.proofs.Common.{List, [], ◌∷◌, map, get_or, Some, refl, arith, add-zero, zero-add, min}
 use Rattle.std.proofs.Common.{w64, not, eqb, ◌⊎◌, inl, inr, ◌&&◌, ◌||◌, ltb}
 use Rattle.std.specs.Prelude.{bit_and, slice_get}
 use Rattle.std.specs.List.{list_any}

@@ -1,11 +1,11 @@
 -- The table of lines and the text say the same as the list of lines.
-use Rattle.std.proofs.Common.{◌≡◌, ℕ, ◌+◌, ◌-◌, ◌<◌, ◌≤◌, List, [], ◌∷◌, ◌++◌, length, take, drop, get_or, slice_index}
-use Rattle.std.proofs.Common.{slice_index_or, slice_range, refl, ap, ◌∙◌, sym, suc, arith, append_assoc, length-append}
+use Rattle.std.proofs.Common.{◌≡◌, ℕ, ◌+◌, ◌-◌, ◌≤◌, List, [], ◌∷◌, ◌++◌, length, take, drop, get_or}
+use Rattle.std.proofs.Common.{slice_range, refl, ap, ◌∙◌, sym, suc, arith, append_assoc, length-append}
 use Rattle.std.proofs.Common.{length-drop, length-take, drop-drop, take-append-drop}
 use Rattle.std.proofs.lemmas.List.{drop_all, drop_more, drop-append-le, take-append-le, get_or_append_left, get_or_at}
-use Rattle.std.proofs.lemmas.List.{length-take-le, drop_at, take_at}
+use Rattle.std.proofs.lemmas.List.{drop_at, take_at}
 use Rattle.cw_base.specs.declared.web.LineInfo.{LineInfo}
-use Rattle.cw_base.specs.Web.{MergedLine, text_of, info_from, infos_of}
+use Rattle.cw_base.specs.Web.{text_of, info_from, infos_of}
 use Rattle.cw_base.specs.WebLayout.{read_line, read_lines, Covers}
 
 pub length-read_lines : (text : List ℕ) (infos : List LineInfo) → length (read_lines text infos) ≡ length infos

@@ -1,5 +1,5 @@
 -- Laws of the text of merged lines.
-use Rattle.std.specs.Prelude.{◌≡◌, ℕ, ◌+◌, List, [], ◌∷◌, ◌++◌, length}
+use Rattle.std.specs.Prelude.{◌≡◌, ◌+◌, List, [], ◌∷◌, ◌++◌, length}
 use Rattle.std.proofs.Common.{refl, ap, ◌∙◌, sym, append_assoc, arith, length-append}
 use Rattle.cw_base.specs.Web.{MergedLine, text_of}
 

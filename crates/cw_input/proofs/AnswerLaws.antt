@@ -1,6 +1,6 @@
 -- An error of one call is an error of the call around it.
-use Rattle.std.proofs.Common.{◌≡◌, ℕ, ◌+◌, ◌<◌, ◌≤◌, List, [], ◌∷◌, ◌++◌, length, Option, Some, None, Err, refl, ap}
-use Rattle.std.proofs.Common.{◌∙◌, le-leb}
+use Rattle.std.proofs.Common.{◌≡◌, ℕ, ◌+◌, ◌≤◌, List, [], ◌∷◌, ◌++◌, length, Option, Some, None, Err, refl, ap}
+use Rattle.std.proofs.Common.{le-leb}
 use Rattle.cw_base.specs.declared.limits.TheConstants.{INPUT_LIMIT}
 use Rattle.cw_base.specs.Web.{WebState}
 use Rattle.cw_desk.specs.Meaning.{NamedFiles}

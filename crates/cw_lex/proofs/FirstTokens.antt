@@ -1,11 +1,9 @@
 -- The token with which answers begin: behind answers without bytes, and before notes.
-use Rattle.std.proofs.Common.{◌≡◌, ℕ, ◌+◌, ◌-◌, List, [], ◌∷◌}
+use Rattle.std.proofs.Common.{◌≡◌, ℕ, List, [], ◌∷◌}
 use Rattle.std.proofs.Common.{◌++◌, refl, sym, ap, subst}
 use Rattle.std.proofs.Common.{◌⊎◌, inl, inr}
 use Rattle.cw_rules.specs.Answers.{Answer, Token, Begin, Finish, Note, Seen}
 use Rattle.cw_rules.specs.Answers.{has_sign}
-use Rattle.cw_rules.specs.Bytes.{begins}
-use Rattle.cw_lex.specs.Lexing.{answers}
 use Rattle.cw_lex.specs.Openings.{tokens_in}
 use Rattle.cw_rules.proofs.CodeStarts.{code_in}
 use Rattle.cw_rules.proofs.Taking.{AreBare, AreNotes, IsWhole, TakesAll}

@@ -1,5 +1,5 @@
 -- The inside of an include name ends before its sign, which no byte takes along.
-use Rattle.std.proofs.Common.{◌≡◌, ℕ, zero, suc, ◌+◌, ◌-◌, ◌≤◌, Bool, true, false, ◌&&◌, ◌||◌, not, ◌==◌}
+use Rattle.std.proofs.Common.{◌≡◌, ℕ, zero, suc, ◌+◌, ◌≤◌, Bool, true, false, ◌&&◌, ◌||◌, not, ◌==◌}
 use Rattle.std.proofs.Common.{List, [], ◌∷◌, drop, refl, sym, ap, ◌∙◌}
 use Rattle.std.proofs.Common.{arith}
 use Rattle.std.proofs.lemmas.Bool.{eqb-true}
@@ -8,7 +8,6 @@ use Rattle.cw_rules.specs.declared.bodies.Inside.{Inside}
 use Rattle.cw_rules.specs.Bytes.{greater}
 use Rattle.cw_rules.specs.Bytes.{at_sign, begins}
 use Rattle.cw_rules.specs.Bodies.{stops, takes_next, goes_on, stepped, ended}
-use Rattle.cw_rules.specs.Answers.{before}
 
 -- The inside of an include name ends before `>`, which no byte takes along.
 pub greater-stops : (i : Inside) (bs : List ℕ) (n : ℕ) → i.body ≡ bodies.IncludeName

@@ -1,4 +1,4 @@
--- What a wrong body breaks here has an answer of its own, so that it fails at once.
+-- `after_white`: that `code_text` may be called (`found`); said here, so that a wrong one fails at once.
 use Rattle.std.proofs.Common.{rules}
 use Rattle.cw_lex.proofs.lexer.after_white.Goals as goal
 

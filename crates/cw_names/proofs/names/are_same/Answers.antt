@@ -1,4 +1,4 @@
--- What a wrong body breaks here has an answer of its own, so that it fails at once.
+-- `are_same`: that its loop begins with what it says; said here, so that a wrong one fails at once.
 use Rattle.std.proofs.Common.{arith}
 use Rattle.std.proofs.lemmas.Grind.{common_steps}
 use Rattle.cw_names.proofs.names.are_same.Goals as goal

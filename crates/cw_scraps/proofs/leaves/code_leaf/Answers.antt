@@ -1,4 +1,4 @@
--- What a wrong body breaks here has an answer of its own, so that it fails at once.
+-- `code_leaf`: clause `form` at `LineBreak`; said here, so that a wrong one fails at once.
 use Rattle.std.proofs.Common.{arith}
 use Rattle.std.proofs.lemmas.Grind.{common_steps}
 use Rattle.cw_scraps.proofs.leaves.code_leaf.Goals as goal

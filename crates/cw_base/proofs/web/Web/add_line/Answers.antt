@@ -1,5 +1,5 @@
 -- The new line lies behind all others.
-use Rattle.std.proofs.Common.{◌≡◌, ◌+◌, ◌<◌, ◌∷◌, [], ◌++◌, length, sym, ap, ◌∙◌, arith, length-append}
+use Rattle.std.proofs.Common.{◌≡◌, ◌+◌, ◌<◌, ◌∷◌, [], ◌++◌, length, ap, ◌∙◌, arith, length-append}
 use Rattle.std.proofs.lemmas.List.Elements.{All-push}
 use Rattle.cw_base.specs.declared.web.LineInfo.{LineInfo}
 use Rattle.cw_base.specs.Web.{WebState, text_of}

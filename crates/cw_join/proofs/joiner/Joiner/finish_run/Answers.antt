@@ -1,4 +1,4 @@
--- What a wrong body breaks here has an answer of its own, so that it fails at once.
+-- `finish_run`: clause `state` behind `append_run`; said here, so that a wrong one fails at once.
 use Rattle.std.proofs.Common.{arith}
 use Rattle.std.proofs.lemmas.Grind.{common_steps}
 use Rattle.cw_join.proofs.joiner.Joiner.finish_run.Goals as goal

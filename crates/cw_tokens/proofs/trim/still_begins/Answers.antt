@@ -1,0 +1,10 @@
+-- `still_begins`: answer on one of its ways and answer at `Open`; said here, so that a wrong one fails at once.
+use Rattle.std.proofs.Common.{arith}
+use Rattle.std.proofs.lemmas.Grind.{common_steps}
+use Rattle.cw_tokens.proofs.trim.still_begins.Goals as goal
+
+pub returns-then-begins : goal.returns-then-begins
+returns-then-begins c = grind (arith, common_steps)
+
+pub returns-in-Open : goal.returns-in-Open
+returns-in-Open c = grind (arith, common_steps)
