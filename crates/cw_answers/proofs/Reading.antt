@@ -1,13 +1,13 @@
 -- A reader keeps each answer behind those before it, and all of them stand in the text.
 use Rattle.std.proofs.Common.{◌≡◌, ℕ, inl, inr, Bool, true, false, List, [], ◌∷◌, ◌++◌, All, length}
 use Rattle.std.proofs.Common.{refl, sym, ap, subst, ◌∙◌, Some}
-use Rattle.std.proofs.lemmas.List.{append_assoc, map-append}
-use Rattle.std.proofs.lemmas.List.Elements.{All-nil, All-push, All-tail}
+use Rattle.std.proofs.lemmas.List.{append_assoc}
+use Rattle.std.proofs.lemmas.List.Elements.{All-push, All-tail}
 use Rattle.cw_base.specs.declared.notes.NoteKind.{NoteKind}
 use Rattle.cw_rules.specs.Answers.{Answer, Note}
 use Rattle.cw_answers.specs.declared.kept.Kept.{Kept}
 use Rattle.cw_answers.specs.declared.reader.Room.{Room}
-use Rattle.cw_answers.specs.Kept.{IsWithin, answer_at, answers_at}
+use Rattle.cw_answers.specs.Kept.{IsWithin, answers_at}
 use Rattle.cw_answers.specs.Reading.{Goes, GoesByNote, IsReading, Stand, Stays, all_of}
 
 -- so many answers are kept behind those before them, or not each from now on
@@ -34,24 +34,6 @@ stays text old new xs l m e h = by new.whole refl
         ∙ ap (λ a. answers_at text old.items.items ++ a) (sym e))
         ∙ sym (ap (λ b. all_of b before) goes.0))
 
-kept-behind : (text : List ℕ) (old new : Room) (one : Kept) (x : Answer) → answer_at text one ≡ x → Goes old one new
-    → new.whole ≡ true → (old.whole ≡ true) × (answers_at text new.items.items ≡ answers_at text old.items.items
-    ++ x ∷ [])
-kept-behind text old new one x is g e = (
-  (g e).0,
-  ap (answers_at text) (g e).1
-      ∙ map-append (answer_at text) old.items.items (one ∷ [])
-      ∙ ap (λ a. answers_at text old.items.items ++ a ∷ []) is,
-)
-
--- an answer is kept
-pub token-stays : (text : List ℕ) (old new : Room) (one : Kept) (x : Answer) (l m : List Answer) → l ≡ x ∷ m
-    → answer_at text one ≡ x → Goes old one new
-    → Stays (all_of old.whole (answers_at text old.items.items ++ l))
-    (all_of new.whole (answers_at text new.items.items ++ m))
-token-stays text old new one x l m e is g =
-    stays text old new (x ∷ []) l m e (kept-behind text old new one x is g)
-
 pub token-reading : (text : List ℕ) (old new : Room) (one : Kept) (x : Answer) (l m : List Answer) → l ≡ x ∷ m
     → IsWithin (length text) one → Goes old one new → IsReading text old l → IsReading text new m
 token-reading text old new one x l m e w g h = record {
@@ -75,13 +57,4 @@ note-reading text old new kind place l m e g h = record {
   within = λ whole. let k = g whole in k.2 (length text) (h.within k.0);
   short = h.short;
   stand = All-tail (Stand text) (Note kind place) m (subst (All (Stand text)) e h.stand);
-}
-
--- the end
-pub end-reading : (text : List ℕ) (room : Room) (l m : List Answer) → m ≡ [] → IsReading text room l
-    → IsReading text room m
-end-reading text room l m e h = record {
-  within = h.within;
-  short = h.short;
-  stand = subst (All (Stand text)) (sym e) (All-nil (Stand text));
 }

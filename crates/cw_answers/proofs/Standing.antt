@@ -1,7 +1,7 @@
 -- The tokens of a scan stand in the text.
 use Rattle.std.proofs.Common.{◌≡◌, ℕ, ◌+◌, ◌≤◌, ◌<◌, List, [], ◌∷◌, ◌++◌, All, arith, length, refl, ap, sym, subst, ◌∙◌}
 use Rattle.std.proofs.Common.{get_or, drop, suc}
-use Rattle.std.proofs.lemmas.List.Elements.{All-nil, All-cons, All-head, All-tail, All-push}
+use Rattle.std.proofs.lemmas.List.Elements.{All-nil, All-cons, All-tail, All-push}
 use Rattle.cw_rules.specs.Answers.{Answer, Token, Begin, Finish, Note, Seen}
 use Rattle.cw_rules.specs.Order.{Covers, AreWithin, Stands, LiesWithin}
 use Rattle.cw_answers.specs.declared.kept.Kept.{Kept}
@@ -60,10 +60,6 @@ push text inside all kept k x old new gives is w h = record {
   stand = All-tail (Stand text) x new (subst (All (Stand text)) gives h.stand);
   within = All-push (IsWithin (length inside)) kept k h.within (subst (λ t. IsWithin (length t) k) (sym h.same) w);
 }
-
-pub first : (text inside : List ℕ) (all : List Answer) (kept : List Kept) (x : Answer) (old new : List Answer)
-    → old ≡ x ∷ new → Keeping text inside all kept old → Stand text x
-first text inside all kept x old new gives h = All-head (Stand text) x new (subst (All (Stand text)) gives h.stand)
 
 pub pushed : (text inside : List ℕ) (all : List Answer) (kept items : List Kept) (k : Kept) (x : Answer)
     (old new : List Answer)

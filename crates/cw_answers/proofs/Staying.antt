@@ -1,10 +1,7 @@
 -- All answers stay known over several steps.
-use Rattle.std.proofs.Common.{inl, inr, List, Option, refl, ◌∙◌}
+use Rattle.std.proofs.Common.{inl, inr, List, Option, ◌∙◌}
 use Rattle.cw_rules.specs.Answers.{Answer}
 use Rattle.cw_answers.specs.Reading.{IsReadUp, Reading, Stays}
-
-pub stays-same : (a : Option (List Answer)) → Stays a a
-stays-same a = inl refl
 
 pub stays-trans : (a b c : Option (List Answer)) → Stays a b → Stays b c → Stays a c
 stays-trans a b c (inl e) (inl f) = inl (f ∙ e)

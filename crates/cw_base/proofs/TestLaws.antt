@@ -1,5 +1,5 @@
 -- What follows from tests that are put together.
-use Rattle.std.proofs.Common.{◌≡◌, ◌⊎◌, inl, inr, Bool, true, false, not, ◌&&◌, ◌||◌, refl}
+use Rattle.std.proofs.Common.{◌≡◌, Bool, true, false, not, ◌&&◌, ◌||◌, refl}
 
 pub both-left : (a b : Bool) → (a && b) ≡ true → a ≡ true
 both-left true b h = refl
@@ -20,10 +20,6 @@ one-left false b h = absurd cc
 pub one-right : (a b : Bool) → b ≡ true → (a || b) ≡ true
 one-right true b h = refl
 one-right false b h = h
-
-pub one-of : (a b : Bool) → (a || b) ≡ true → (a ≡ true) ⊎ (b ≡ true)
-one-of true b h = inl refl
-one-of false b h = inr h
 
 pub other-one : (a b : Bool) → (a || b) ≡ true → a ≡ false → b ≡ true
 other-one true b h f = absurd cc

@@ -13,5 +13,4 @@ pub mod Open
 pub mod Put
 pub mod Quiet
 pub mod Read
-pub mod Results
 pub mod Told

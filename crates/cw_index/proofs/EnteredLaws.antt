@@ -1,7 +1,6 @@
 -- A name that is entered stays, and entering it again changes nothing.
 use Rattle.std.proofs.Common.{◌≡◌, ℕ, Bool, true, false, ◌⊎◌, inl, inr, refl, sym, ap, ◌∙◌, subst}
-use Rattle.std.proofs.Common.{List, [], ◌∷◌, Option, Some, None, map, get_or, set, zero, suc, ◌≢◌, arith, replicate}
-use Rattle.std.proofs.lemmas.List.{get_or-set_other}
+use Rattle.std.proofs.Common.{List, [], ◌∷◌, Option, Some, None, map, get_or}
 use Rattle.std.specs.Prelude.{slice_get}
 use Rattle.std.specs.BTreeSet.{insert_key}
 use Rattle.std.specs.Cmp.{IsTotalOrder}
@@ -122,18 +121,3 @@ sorting-more names old new stand listed s keys entered is k n at here l =
     ])
 
 -- ## Which names are entered
-
-pub free : (count k : ℕ) → get_or (replicate count false) k false ≡ false
-free zero k = refl
-free (suc count) zero = refl
-free (suc count) (suc k) = free count k
-
-either : (a b : ℕ) → (a ≡ b) ⊎ (a ≢ b)
-either a b = grind arith
-
-pub marked : (entered : List Bool) (index k : ℕ) → get_or (set entered index true) k false ≡ true
-    → (k ≡ index) ⊎ (get_or entered k false ≡ true)
-marked entered index k h = elim (either k index) [
-  | inl same ↦ inl same
-  | inr other ↦ inr (sym (get_or-set_other entered index k true false other) ∙ h)
-]

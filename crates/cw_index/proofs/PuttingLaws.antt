@@ -1,11 +1,11 @@
 -- Bytes are put piece by piece.
-use Rattle.std.proofs.Common.{◌≡◌, ℕ, refl, sym, ap, ◌∙◌, subst, List, [], ◌++◌, append_assoc}
+use Rattle.std.proofs.Common.{◌≡◌, ℕ, refl, ◌∙◌, subst, List, [], ◌++◌, append_assoc}
 use Rattle.std.specs.Prelude.{Result, Ok, Err, IsErrAnd}
 use Rattle.std.proofs.lemmas.List.{append-nil}
 use Rattle.cw_desk.specs.Told.{Told}
 use Rattle.cw_lines.specs.Line.{LineState, fill}
-use Rattle.cw_lines.specs.Writes.{CanWrite, HasPut, Puts}
-use Rattle.cw_lines.specs.WritesLaws.{adds-nothing, can-after, puts-bytes, puts-failed, puts-none, puts-stop, puts-then}
+use Rattle.cw_lines.specs.Writes.{HasPut, Puts}
+use Rattle.cw_lines.specs.WritesLaws.{adds-nothing, puts-bytes, puts-failed, puts-none, puts-stop, puts-then}
 use Rattle.cw_lines.specs.declared.put_error.PutError.{PutError}
 use Rattle.cw_lines.specs.declared.put_error.PutError.TheVariants.{Memory}
 
@@ -48,11 +48,6 @@ pub putting-stop : {T U : Type 0} (xs ys : List ℕ) {all : List ℕ} {old mid n
     → Puts all old new before now result
 putting-stop xs ys p puts is =
     puts-bytes (append_assoc p.done xs ys ∙ p.goes) (puts-stop ys (puts-then p.put puts) is)
-
-pub putting-ended : {T : Type 0} {all : List ℕ} {old new : LineState} {before now : Told} (value : T)
-    → Putting [] all old new before now
-    → Puts {T = T} all old new before now (Ok value)
-putting-ended value p = puts-bytes (sym (append-nil p.done) ∙ p.goes) (put-giving value p.put)
 
 pub puts-nothing : {U : Type 0} (bytes : List ℕ) (line : LineState) (told : Told) {result : Result U PutError}
     → IsErrAnd result (λ found. found ≡ Memory) → Puts bytes line line told told result

@@ -4,7 +4,7 @@ use Rattle.std.proofs.Common.{List, ◌++◌, Some, drop, get_or, length, map}
 use Rattle.std.specs.Prelude.{slice_index, slice_range}
 use Rattle.std.specs.Ordering.{on}
 use Rattle.std.specs.BTreeSet.{insert_key}
-use Rattle.std.proofs.lemmas.List.{drop_all, drop_more, get_or-drop, take_rest}
+use Rattle.std.proofs.lemmas.List.{drop_more, get_or-drop, take_rest}
 use Rattle.memchr.specs.Find.{Nowhere, Passes, is_byte}
 use Rattle.std.proofs.lemmas.List.Sums.{fold-append}
 use Rattle.cw_rules.specs.Bytes.{at_sign}
@@ -70,12 +70,6 @@ stands-skip kept uses text (suc n) i j stands e within none =
     ∙ sym (ap (λ (b : Bool). sorted_on stand_cmp stands (stand_if b kept uses i ++ stands_from kept uses (i + 1)
     (drop (i + 1) text))) (none i first before))
     ∙ ap (λ (later : List ℕ). with_stands kept uses i later stands) (sym (drop_more text i 0 inside))
-
-pub stands-end : (kept : List SecName) (uses : List NameUse) (text : List ℕ) (i : ℕ) (stands : List Stand)
-    → length text ≤ i
-    → with_stands kept uses i (drop i text) stands ≡ stands
-stands-end kept uses text i stands ended =
-    ap (λ (later : List ℕ). with_stands kept uses i later stands) (drop_all i text ended)
 
 pub entered : (s : Standing) (old new : List Standing) → new ≡ insert_key (on stand_of stand_cmp) old s
     → map stand_of new ≡ sorted_on stand_cmp (map stand_of old) (stands_of (Some s))

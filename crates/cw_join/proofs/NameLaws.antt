@@ -2,7 +2,7 @@
 use Rattle.std.proofs.Common.{◌≡◌, ◌≢◌, ℕ, suc, ◌+◌, ◌<◌, eqb, Bool, true, false, not, cond, codes, List, [], ◌∷◌, ◌++◌}
 use Rattle.std.proofs.Common.{length, take, drop, refl, sym, ap, subst, ◌∙◌, arith}
 use Rattle.std.specs.List.{list_any, position_or_len}
-use Rattle.std.proofs.lemmas.Bool.{eqb-true, eq-eqb}
+use Rattle.std.proofs.lemmas.Bool.{eqb-true}
 use Rattle.std.proofs.lemmas.List.{append_assoc}
 use Rattle.cw_desk.specs.Told.{Told}
 use Rattle.cw_lines.specs.Line.{LineState}
@@ -95,12 +95,7 @@ pieces-more done bytes rest piece behind size put begins some is front back =
     ∙ ap (λ (l : List ℕ). done ++ l) (piece-is rest size begins some is)
     ∙ put
 
--- the fonts of identifiers
-pub ident-short : (name : List ℕ) → length name ≡ 1 → ident_bytes name ≡ codes "\\|" ++ name_bytes name
-ident-short name one =
-    ap (λ (b : Bool). elim b [ true ↦ codes "\\|" ++ name_bytes name | false ↦ long_ident_bytes name ])
-    (eq-eqb (length name) 1 one)
-
+-- the fonts of longer identifiers
 long-by : (b : Bool) (name : List ℕ)
     → (elim b [
       | true ↦ codes "\\\\{" ++ name_bytes name ++ codes "}"

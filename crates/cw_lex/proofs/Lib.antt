@@ -15,7 +15,6 @@ pub mod TokensWithin
 pub mod Covering
 mod Rows
 pub mod Nesting
-pub mod NoDefinitions
 pub mod TexNesting
 pub mod Nests
 pub mod HeadNests

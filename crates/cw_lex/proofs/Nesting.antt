@@ -338,11 +338,6 @@ code-goes effects.Formats c w place bytes k s p inner = one-goes (in_tex w.part)
     (moved w (parts.FormatName place false false)) place bytes (plain (kind.Code c) 2)
     (other-tex (in_tex w.part) false k refl) (code-in-c c s) refl inner
 
--- C text
-abbrev not_end : Start → Bool
-not_end start.EndOfInner = false
-not_end _ = true
-
 -- a bar ends only what a bar may end, and a section code is none of C text
 abbrev pub Begun : Bool → Start → Type 0
 Begun ends start.EndOfInner = ends ≡ true

@@ -6,7 +6,7 @@ use Rattle.std.specs.Cmp.Lexicographic.{bytes_decides, pointwise}
 use Rattle.std.proofs.Common.{refl, sym, ap, ◌∙◌, subst, append_assoc, arith, length-append, length-drop, eq-eqb, inl}
 use Rattle.std.proofs.Common.{inr}
 use Rattle.std.proofs.lemmas.Bool.Decides.{eqb_tells}
-use Rattle.std.proofs.lemmas.List.{drop_all, drop-take, length-take, length-take-le, take-append-drop, take-append-le}
+use Rattle.std.proofs.lemmas.List.{drop_all, length-take, length-take-le, take-append-drop, take-append-le}
 use Rattle.std.proofs.lemmas.List.{take_all}
 use Rattle.cw_desk.specs.Meaning.{Files}
 use Rattle.cw_desk.specs.Told.{Told}
@@ -121,12 +121,6 @@ ahead-some buffer start end some within = omega (
   some,
 )
 
-pub ahead-range : (buffer : List ℕ) (start end : ℕ) → start ≤ end → take (end - start) (drop start buffer)
-    ≡ drop start (take end buffer)
-ahead-range buffer start end order =
-    let sum : start + (end - start) ≡ end = omega arith in
-    sym (drop-take start (end - start) buffer) ∙ ap (λ (n : ℕ). drop start (take n buffer)) sum
-
 -- whether nothing is left, by what was read
 pub left-lost : (agrees : Bool) (text : List ℕ) → agrees ≡ false → left_by agrees text ≡ Some [] → ⊥
 left-lost true text lost is = absurd cc
@@ -193,10 +187,6 @@ compares-more {first = first} more {old = old} read {new = new} {a = a} {c = c} 
       ∙ ap (left_behind more) (begun.rest files is)
       ∙ sym (left_behind-append first more (left a (Some old)));
 }
-
--- where no old file is, nothing is compared
-pub compares-nothing : (bytes : List ℕ) (a b : Told) → Compares bytes None None a b
-compares-nothing bytes a b = record { rest = λ files is. refl }
 
 pub shortens-none : (file : Option ℕ) {a b : Told} → b.rest ≡ a.rest → Shortens file a b
 shortens-none file same = record { unread = λ files is id named. ([], sym (λ i. same i id)) }

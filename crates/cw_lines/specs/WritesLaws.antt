@@ -23,9 +23,6 @@ use Rattle.cw_lines.specs.declared.put_error.PutError.TheVariants.{Fault}
 rose-later : (a b c : ℕ) → a ≤ b → Rose b c → Rose a c
 rose-later a b c kept rose = grind arith
 
-rose-earlier : (a b c : ℕ) → b ≤ c → Rose a b → Rose a c
-rose-earlier a b c kept rose = grind arith
-
 only_puts-none : (told : Told) → OnlyPuts told told
 only_puts-none told = record {
   same_names = refl;

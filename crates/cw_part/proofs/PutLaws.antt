@@ -34,10 +34,6 @@ pub putting-stopped : {T U : Type 0} {bytes : List ℕ} (rest : List ℕ) {all :
     → Puts all old new before now result
 putting-stopped rest p put is = puts-bytes p.goes (puts-then p.put (puts-stop rest put is))
 
-pub putting-ended : {T : Type 0} {all : List ℕ} {old new : LineState} {before now : Told} {value : T}
-    → Putting [] all old new before now → Puts {T = T} all old new before now (Ok value)
-putting-ended {new = new} {now = now} {value = value} p = puts-bytes p.goes (puts-then p.put (puts-none new now value))
-
 -- the same rest
 pub putting-as : {rest rest' all : List ℕ} {old new : LineState} {before now : Told} → rest ≡ rest'
     → Putting rest all old new before now → Putting rest' all old new before now

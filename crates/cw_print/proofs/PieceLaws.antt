@@ -6,17 +6,6 @@ use Rattle.std.proofs.lemmas.List.{append_assoc}
 use Rattle.cw_print.specs.Comments.{Piece, Prints, blank_for, byte_piece, closed, is_special, joined, piece, prints}
 use Rattle.cw_print.specs.Comments.{then}
 
--- Some bytes more are printed.
-more : (begun text : List ℕ) (open_first : ℕ) (out rest : List ℕ) (open_now : ℕ) (p : Piece) (after bytes : List ℕ)
-    → piece rest open_now ≡ then p (piece bytes) → after ≡ out ++ p.bytes
-    → Prints begun text open_first out rest open_now → Prints begun text open_first after bytes p.braces
-more begun text open_first out rest open_now p after bytes is appended so_far = record {
-  bytes =
-      rw (appended, append_assoc out p.bytes (piece bytes p.braces).bytes)
-      (ap (λ (q : Piece). out ++ q.bytes) (sym is) ∙ so_far.bytes);
-  braces = ap (λ (q : Piece). q.braces) (sym is) ∙ so_far.braces;
-}
-
 -- ## Bytes that print themselves
 
 record AreOther (a b c d e : Bool) : Type 0 where

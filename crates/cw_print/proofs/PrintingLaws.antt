@@ -248,10 +248,6 @@ abbrev pub Printed : (items : List Item) (from i : ℕ) (first printer : Printer
 Printed items from i first printer old new = (s : Source) (inner : Bool) → Midway s inner items from first
     → Midway s inner items i printer × PrintsOn s inner items from i old new
 
-pub printed-none : (items : List Item) (from : ℕ) (printer : Printer) (old : List ℕ)
-    → Printed items from from printer printer old old
-printed-none items from printer old = λ s inner m. (m, λ done e. e)
-
 module _ (items : List FlatItem) (i : ℕ) (item : FlatItem) (is : slice_get items i
     ≡ Some item) (from : ℕ) (first printer : Printer) (old buffer : List ℕ)
     (printed_so : Printed (items_are items) from i first printer old buffer) where

@@ -1,5 +1,5 @@
 -- Of the tokens that a scan finds by their numbers.
-use Rattle.std.proofs.Common.{◌≡◌, ◌≢◌, ℕ, suc, ◌+◌, ◌-◌, ◌<◌, ◌≤◌, ◌^◌, List, [], ◌++◌, Option, Some, None}
+use Rattle.std.proofs.Common.{◌≡◌, ◌≢◌, ℕ, suc, ◌+◌, ◌-◌, ◌<◌, ◌≤◌, ◌^◌, List, [], ◌++◌, Option, Some}
 use Rattle.std.proofs.Common.{append_assoc, arith, ap, refl, sym, ◌∙◌, subst, drop, length, take}
 use Rattle.std.proofs.lemmas.List.{take_all}
 use Rattle.std.proofs.Math.Seq.{take-add}
@@ -8,7 +8,6 @@ use Rattle.cw_rules.specs.declared.tokens.Lexed.{Lexed}
 use Rattle.cw_rules.specs.declared.tokens.Lexed.TheVariants as lexed
 use Rattle.cw_rules.specs.declared.tokens.Tok.{Tok}
 use Rattle.cw_rules.specs.Answers.{Answer, Gives, Seen, seen}
-use Rattle.cw_print.specs.declared.scan.Seek.{Seek}
 use Rattle.cw_print.specs.Found.{numbered, HasNoNumber, HasNumber, IsAhead}
 use Rattle.cw_print.specs.Scanning.{IsSeeking}
 
@@ -92,28 +91,6 @@ seeks-behind answer token number all place end from less g has is p = record {
     same = λ m l fits. sym (has.passed m _ _ (gives-ahead answer all place end less g)
         (let e : token.span.start ≢ m = grind (arith, is, l, p.above) in e)) ∙ p.ahead.same m l fits;
   };
-}
-
--- no answer is left
-ahead-none : (all : List Answer) (end : ℕ) → ahead-of all end end ≡ []
-ahead-none all end = ap (λ (n : ℕ). take n (drop end all)) (let e : end - end ≡ 0 = omega arith in e)
-
-pub found-none : (number : ℕ) (all : List Answer) (end from : ℕ) → Passes number all end end from
-    → None ≡ numbered number (take end all)
-found-none number all end from p = sym (ap (numbered number) (ahead-none all end)) ∙ p.found
-
-pub seeks-from : (number : ℕ) (all : List Answer) (place end from : ℕ) → Passes number all place end from
-    → IsSeeking all (record { place = place; «end» = end; from = from })
-seeks-from number all place end from p = record { order = p.order; within = p.within; ahead = p.ahead }
-
-pub passes-begun : (number : ℕ) (all : List Answer) (seek : Seek) → number < 2 ^ 32 → seek.from ≤ number
-    → IsSeeking all seek → Passes number all seek.place seek.«end» (number + 1)
-passes-begun number all seek fits l s = record {
-  found = s.ahead.same number l fits;
-  ahead = record { same = λ m more small. s.ahead.same m (omega (arith, l, more)) small };
-  order = s.order;
-  within = s.within;
-  above = omega arith;
 }
 
 -- each number from one on has its token behind an answer

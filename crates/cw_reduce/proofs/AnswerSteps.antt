@@ -275,16 +275,6 @@ way-behind flags done (answer ∷ answers) q p new e (later _ _ _ _ h) = later a
     (way-behind flags done answers (after_answer flags answer q) (after_answer flags answer p) new
     (ap (after_answer flags answer) e ∙ behind-answer flags done answer p) h)
 
--- a text goes on up to its end or a section code
-pub until-ends : (old new : List Answer) (answer : Lexed) → Gives old answer new → ends_text answer ≡ true
-    → until_section old ≡ []
-until-ends old new (lexed.Token t) g e = ap until_section g
-    ∙ ap (λ b. elim b [ true ↦ [] | false ↦ Token (seen t) ∷ until_section new ]) e
-until-ends old new (lexed.Begin t) g e = absurd cc
-until-ends old new (lexed.Finish t) g e = absurd cc
-until-ends old new (lexed.Note n place) g e = absurd cc
-until-ends old new lexed.End g e = ap until_section g.0
-
 pub until-goes : (old new : List Answer) (answer : Lexed) → Gives old answer new → ends_text answer ≡ false
     → until_section old ≡ answers_in answer ++ until_section new
 until-goes old new (lexed.Token t) g e = ap until_section g

@@ -4,13 +4,12 @@ use Rattle.cw_base.specs.declared.flags.Flags.{Flags}
 use Rattle.cw_rules.specs.Answers.{Answer, Token, Begin, Finish, Note, Seen}
 use Rattle.cw_rules.specs.declared.tokens.TokKind.{TokKind}
 use Rattle.cw_rules.specs.declared.tokens.TokKind.TheVariants as kind
-use Rattle.cw_names.specs.Names.{Entry}
 use Rattle.cw_trees.specs.Joining.{Scrap}
 use Rattle.cw_scraps.specs.Leaves.{LeafForm, token_form, names_with}
 use Rattle.cw_reduce.specs.declared.holders.Holder.{Holder}
 use Rattle.cw_reduce.specs.declared.holders.Holder.TheVariants as holder
 use Rattle.cw_reduce.specs.Holders.{held_scrap}
-use Rattle.cw_reduce.specs.Translating.{leaf_scrap, CommentItem, Piece, InnerText, Known, Made, begin, with_names}
+use Rattle.cw_reduce.specs.Translating.{leaf_scrap, CommentItem, Piece, InnerText, Known, Made, with_names}
 use Rattle.cw_reduce.specs.Translating.{Ended, state_in, end_from}
 
 -- What is open: C text with its scraps so far, and a comment or a section name, which holds the items so far.
@@ -87,10 +86,6 @@ after_answer flags (Note note place) p = p
 abbrev pub after_answers : Flags → List Answer → Progress → Progress
 after_answers flags [] p = p
 after_answers flags (answer ∷ answers) p = after_answers flags answers (after_answer flags answer p)
-
--- a C text begins, with these names and marks
-abbrev pub begun : List Entry → List ℕ → Progress
-begun names marks = record { frames = CText [] ∷ []; known = begin names marks }
 
 -- it ends: the scraps of the C text that is open alone are reduced and put together
 abbrev pub last_scraps : List Frame → List Scrap

@@ -72,11 +72,6 @@ stops-same more (bodies.Piece long deep) before b bs =
     λ i. (if long then b == star && begins-same more slash bs refl i else b == newline)
     || ((b == at_sign && section-same more bs i) || (b == bar && not deep))
 
--- two places in a body, up to what was taken along
-record Alike (i j : Inside) : Type 0 where
-  pub place : i.place ≡ j.place
-  pub braces : i.braces ≡ j.braces
-
 pub record SameBody (more : List ℕ) (i : Inside) (bs : List ℕ) : Type 0 where
   pub place : (ended i (bs ++ 64 ∷ more)).place ≡ (ended i bs).place
   pub braces : (ended i (bs ++ 64 ∷ more)).braces ≡ (ended i bs).braces

@@ -1,5 +1,5 @@
 -- Laws of calls that emit events: nothing, more after some, and a failure that ends the rest.
-use Rattle.std.specs.Prelude.{◌≢◌, ◌↔◌, ◌==◌, ◌&&◌, Bool, true, false, cond, bytes_eq, IsErrAnd, IfOk, IsTrue, OnErr}
+use Rattle.std.specs.Prelude.{◌≢◌, ◌==◌, ◌&&◌, Bool, true, false, cond, bytes_eq, IsErrAnd, IfOk, IsTrue, OnErr}
 use Rattle.std.specs.Prelude.{OnOk}
 use Rattle.std.specs.FinMap.{get}
 use Rattle.std.proofs.Common.{◌≡◌, ℕ, ◌≤◌, List, [], ◌∷◌, ◌++◌, Option, Some, None, Result, Ok, Err, refl, sym, ap, ◌∙◌}
@@ -15,7 +15,6 @@ use Rattle.cw_base.specs.declared.event.Out.TheVariants.{Term, Tex, Idx, Scn}
 use Rattle.cw_desk.specs.Meaning.{Files, NamedFiles, Rose, has_draft, is_open, with_draft, with_output}
 use Rattle.cw_desk.specs.MeaningLaws.{drafted-is_open, made-is_open}
 use Rattle.cw_desk.specs.Told.{Told, OnlyReads, Turns}
-use Rattle.cw_desk.specs.declared.desk.FileId.{FileId}
 use Rattle.cw_desk.specs.declared.desk.MadeOut.{MadeOut}
 use Rattle.cw_desk.specs.declared.desk.MadeOut.TheVariants.{Done, Failed, Memory as no_memory}
 use Rattle.cw_desk.specs.declared.outputs.Outputs.{Outputs}
@@ -27,7 +26,7 @@ use Rattle.cw_lines.specs.WritesLaws.{adds-nothing, puts-new, puts-new_compared}
 use Rattle.cw_lines.specs.declared.put_error.PutError.{PutError}
 use Rattle.cw_lines.specs.declared.put_error.PutError.TheVariants.{Memory}
 use Rattle.cw_run.specs.Emits.{Emits, EmitsBy, Faults, Run, Runs, RunsBy}
-use Rattle.cw_run.specs.Files.{IsBegun, OutFile, answered, begun, file_events, fresh, is_end, is_same, old_text}
+use Rattle.cw_run.specs.Files.{IsBegun, OutFile, answered, begun, file_events, is_end, is_same}
 use Rattle.cw_run.specs.Files.{settled, settled_if}
 
 is_err : {T E : Type 0} (result : Result T E) (error : E) → IsErrAnd result (λ found. found ≡ error)
@@ -56,15 +55,6 @@ writes-emits writes = record {
   same_files = writes.adds.same.same_files;
   kept = writes.adds.same.faults_kept;
   fault = writes.adds.fault;
-}
-
-pub emits-none : {T : Type 0} (told : Told) (value : T) → Emits [] told told (Ok value)
-emits-none told value = record {
-  ok = sym (grown-none told.journal);
-  err = tt;
-  same_files = refl;
-  kept = omega arith;
-  fault = λ e. cc;
 }
 
 -- another answer after the same events
@@ -245,20 +235,6 @@ draft-drafts out {a = a} Done file turns = subst (λ (outputs : Outputs). IsTrue
 draft-drafts out Failed file turns = tt
 draft-drafts out no_memory file turns = tt
 
--- what is left of an old file that was just opened
-pub left-fresh : (told : Told) (old : Option FileId) → left told (fresh old) ≡ old_text told old
-left-fresh told None = refl
-left-fresh told (Some id) = refl
-
--- nothing is left, exactly where the answer is that it is the same
-pub end-is : (same : Bool) (rest : Option (List ℕ)) → IsTrue same ↔ (rest ≡ Some []) → same ≡ is_end rest
-end-is true None is = absurd (let none = is.0 refl in cc)
-end-is true (Some []) is = refl
-end-is true (Some (byte ∷ rest)) is = absurd (let none = is.0 refl in cc)
-end-is false None is = refl
-end-is false (Some []) is = is.1 refl
-end-is false (Some (byte ∷ rest)) is = refl
-
 stripped-same : (same : Bool) (xs ys : List ℕ) → is_end (behind xs ys) ≡ bytes_eq xs ys
     → is_end (cond same (behind xs ys) None) ≡ (same && bytes_eq xs ys)
 stripped-same true xs ys is = is
@@ -351,20 +327,6 @@ runs-fail exit {error = error} {result = result} begun is = record {
   emits = emits-fail begun is;
   exit = subst (λ (r : Result Exit PutError). IfOk r (λ e. e ≡ exit)) (sym (is_err result error is)) tt;
 }
-
--- memory was refused before anything was emitted
-pub runs-nothing : (run : Run) (told : Told) {result : Result Exit PutError} → IsErrAnd result (λ found. found ≡ Memory)
-    → Runs run told told result
-runs-nothing run told {result = result} is = record {
-  emits = emits-nothing run.rest told is;
-  exit = subst (λ (r : Result Exit PutError). IfOk r (λ e. e ≡ run.exit)) (sym (is_err result Memory is)) tt;
-}
-
--- the events of a run, and its status
-pub runs-end : {T : Type 0} {events : List Event} {a b : Told} {value : T} (exit : Exit)
-    → Emits {T = T} events a b (Ok value)
-    → Runs (record { rest = events; exit = exit }) a b (Ok exit)
-runs-end exit done = record { emits = emits-value exit done; exit = refl }
 
 -- the run that is known
 pub runs-known : {known run : Run} {a b : Told} {result : Result Exit PutError} → known ≡ run → Runs known a b result

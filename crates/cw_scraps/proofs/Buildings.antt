@@ -1,9 +1,7 @@
 -- One piece more goes into the list that is being built.
 use Rattle.std.proofs.Common.{◌≡◌, ℕ, zero, suc, ◌+◌, ◌-◌, ◌*◌, ◌<◌, ◌≤◌, List, [], ◌∷◌, ◌++◌, length, map, drop}
 use Rattle.std.proofs.Common.{get_or, Option, Some, None, inl, inr, refl, sym, ap, ◌∙◌, subst, option_map, arith}
-use Rattle.std.proofs.lemmas.List.{append_assoc, append-nil, length-append, length_push, drop_more}
-use Rattle.std.proofs.lemmas.Option.{get_or_from_slice_get}
-use Rattle.std.specs.Prelude.{slice_get}
+use Rattle.std.proofs.lemmas.List.{append_assoc, append-nil, length-append, length_push}
 use Rattle.cw_base.specs.declared.mode.MathMode.{MathMode}
 use Rattle.cw_base.specs.declared.mode.MathMode.TheVariants.{Text, Math, Maybe}
 use Rattle.cw_trees.specs.Joining.{after, first_mode}
@@ -359,15 +357,3 @@ joins-within lists entries pieces spare i left mode store j p at roots place cou
     } in
     (joins-more lists entries pieces spare i left mode store j p at roots place count long toggled pushed refl refl
     (omega arith) refl refl (omega arith)).within
-
--- the piece of a number
-pub piece-at : (ps : List Piece) (i : ℕ) (p : Piece) → i < length ps → slice_get ps i ≡ Some p → drop i ps
-    ≡ p ∷ drop (i + 1) ps
-piece-at ps i p h at = drop_more ps i p h ∙ ap (λ q. q ∷ drop (i + 1) ps) (get_or_from_slice_get ps i p p at)
-
--- a list that is done
-pub record JoinsEnd (lists : List (List Token)) (entries : List LineEntry) (pieces : List Piece) (spare : ℕ)
-    (left mode : MathMode) (store : StoredLists) : Type 0 where
-  pub built : store.building ≡ Some (tokens_of Maybe (map (inserting entries) pieces))
-  pub left_is : left ≡ left_of (map (inserting entries) pieces)
-  pub right_is : mode ≡ right_after Maybe (map (inserting entries) pieces)

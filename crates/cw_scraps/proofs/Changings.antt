@@ -1,5 +1,5 @@
 -- Steps that change no reference.
-use Rattle.std.proofs.Common.{◌≡◌, ℕ, zero, suc, ◌<◌, ◌≤◌, List, [], ◌∷◌, length, get_or, None, inl, inr, refl, sym, ap}
+use Rattle.std.proofs.Common.{◌≡◌, ℕ, zero, suc, ◌<◌, ◌≤◌, List, [], ◌∷◌, length, get_or, None, inl, inr, sym, ap}
 use Rattle.std.proofs.Common.{◌∙◌, subst, arith}
 use Rattle.cw_tokens.specs.declared.token.Token.{Token}
 use Rattle.cw_tokens.specs.Shapes.{unfolded}
@@ -56,9 +56,6 @@ pub trees-outside : (old new : List (List Token)) (rs : List ℕ) (k : ℕ) → 
     → IsOutside old rs k → unfolded new k ≡ unfolded old k
 trees-outside old new rs k tied ch o = sym (unfolded-same old new k tied (tied-same old new ch.same_refs tied)
     (sym ch.same_length) (λ j r. sym (ch.others j (outside-reach old rs k j tied o r))))
-
-pub changes-none : (ls : List (List Token)) (rs : List ℕ) → Changes ls ls rs
-changes-none ls rs = record { others = λ k o. refl; same_length = refl; same_refs = λ l p. refl; same_count = refl }
 
 pub changes-trans : (a b d : List (List Token)) (rs : List ℕ) → Changes a b rs → Changes b d rs → Changes a d rs
 changes-trans a b d rs x y = record {

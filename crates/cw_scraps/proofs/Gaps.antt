@@ -1,10 +1,10 @@
 -- The gap moves, and what stands around it stays.
 use Rattle.std.proofs.Common.{◌≡◌, ℕ, zero, suc, ◌+◌, ◌-◌, ◌<◌, ◌≤◌, List, [], ◌∷◌, ◌++◌, length, take, drop, set, refl}
-use Rattle.std.proofs.Common.{sym, ap, ◌∙◌, arith, append_assoc}
+use Rattle.std.proofs.Common.{sym, ap, ◌∙◌, arith}
 use Rattle.std.proofs.Math.Seq.{drop-append-add}
 use Rattle.std.proofs.lemmas.List.{take-set-le, drop-set, drop-set-lt, set-append_left, set-append_right}
 use Rattle.std.proofs.lemmas.List.{length-take-le, length-take, length-append, length-drop, drop-set-add, take-take}
-use Rattle.std.proofs.lemmas.List.{take-append-le, drop-drop, take-append-drop, take_more_set}
+use Rattle.std.proofs.lemmas.List.{take-append-le, drop-drop}
 use Rattle.cw_scraps.specs.declared.line.LineEntry.{LineEntry}
 use Rattle.cw_scraps.specs.Gap.{around, IsGap}
 
@@ -70,9 +70,6 @@ gap-behind items l r to gap v g q le is =
     ∙ (sym (drop-append-add (take l items) (drop r items) (to - l))
     ∙ (ap (λ k. drop k (around l r items)) split ∙ ap (drop to) q)))
 
-pub gap-empty : (items : List LineEntry) (l r : ℕ) → l ≡ r → items ≡ around l r items
-gap-empty items l r is = sym (take-append-drop l items) ∙ ap (λ k. take l items ++ drop k items) is
-
 -- an entry in the place of the last of some that stand behind the gap, which takes in those before it
 pub replaced-behind : (items : List LineEntry) (at gap count last : ℕ) (e : LineEntry) (v : List LineEntry)
     → IsGap at gap items → around at gap items ≡ v → 0 < count → gap + count ≤ length items → last ≡ gap + (count - 1)
@@ -86,15 +83,6 @@ replaced-behind items at gap count last e v g q some within is =
     ∙ gap-before items at gap at v g q (omega arith))
     ∙ ap (λ us. take at v ++ us) (drop-set items last e there
     ∙ ap (λ us. e ∷ us) (gap-behind items at gap (at + count) (last + 1) v g q (omega arith) next))
-
--- an entry in the place of what the gap lies over
-pub replaced-in : (items : List LineEntry) (at gap to : ℕ) (e : LineEntry) (v : List LineEntry) → at < gap
-    → gap ≤ length items → take at items ≡ take at v → drop gap items ≡ drop to v → around (at + 1) gap (set items at e)
-    ≡ take at v ++ e ∷ drop to v
-replaced-in items at gap to e v lt within before behind =
-    ap (λ us. us ++ drop gap (set items at e)) (take_more_set items at e (omega arith) ∙ ap (λ us. us ++ e ∷ []) before)
-    ∙ (ap (λ us. (take at v ++ e ∷ []) ++ us) (drop-set-lt gap items at e lt ∙ behind)
-    ∙ append_assoc (take at v) (e ∷ []) (drop to v))
 
 -- over scraps that stand there, the gap ends within the vector
 pub over-within : (items : List LineEntry) (new : List LineEntry) (l r to gap : ℕ) (v : List LineEntry)

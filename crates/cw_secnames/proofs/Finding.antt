@@ -1,6 +1,6 @@
 -- Names in memory, and the first that pass a test.
 use Rattle.std.proofs.Common.{◌≡◌, ℕ, zero, suc, ◌+◌, ◌<◌, ◌≤◌, ◌&&◌, Bool, true, false, not, nat_lt, List, [], ◌∷◌}
-use Rattle.std.proofs.Common.{Option, Some, None, map, length, drop, take, ◌-◌, length-drop, cond, refl, ap, ◌∙◌, sym}
+use Rattle.std.proofs.Common.{Option, Some, None, map, length, drop, ◌-◌, cond, refl, ap, ◌∙◌, sym}
 use Rattle.std.proofs.Common.{subst, get_or, add-zero, zero-add, arith}
 use borrow.Author.Tests.{lt-ltb, ltb-true}
 use Rattle.cw_secnames.specs.declared.kinds.Earliest.TheVariants.{Nobody, One, Several}
@@ -8,7 +8,6 @@ use Rattle.cw_secnames.specs.declared.kinds.RefKind.{RefKind}
 use Rattle.cw_secnames.specs.References.{with_section, with_reference}
 use Rattle.std.specs.List.{position, position_or_len}
 use Rattle.std.specs.Option.{option_map}
-use Rattle.std.proofs.lemmas.List.{take_all}
 use Rattle.cw_secnames.specs.declared.sec_names.Kept.{Kept}
 use Rattle.cw_secnames.specs.Kept.{SecName, with_text, positions_from, grown, is_shorter, earliest}
 use Rattle.cw_secnames.specs.Inside.{name_of}
@@ -183,9 +182,6 @@ earliest-several test names i j h more =
     ap (λ rest. i ∷ rest) (found-first test (drop (i + 1) names) (i + 1) j more).positions)))
 
 -- ## The next one from a position on
-
-pub all-behind : {A : Type 0} → (i : ℕ) (xs : List A) → take (length xs - i) (drop i xs) ≡ drop i xs
-all-behind i xs = take_all (length xs - i) (drop i xs) (rw length-drop (omega arith))
 
 moved-none : (i : ℕ) (o : Option ℕ) → option_map (λ more. i + more) o ≡ None → o ≡ None
 moved-none i None h = refl

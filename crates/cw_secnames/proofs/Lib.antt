@@ -1,6 +1,5 @@
 -- The laws of section names: how they are entered and found, what refers to them, and their parts between bars.
 mod Rows
-pub mod Entering
 pub mod Finding
 pub mod Linked
 pub mod Marked

@@ -116,13 +116,6 @@ enter_prefix_by (earlies.Several k next) prefix kept = record { answer = Ambiguo
 abbrev pub enter_prefix : List ℕ → List SecName → Entering
 enter_prefix prefix kept = enter_prefix_by (earliest (positions_from 0 (is_candidate prefix) kept)) prefix kept
 
--- The name that is used where a name stands: the earliest one of the answer.
-abbrev pub name_in : Entered → ℕ
-name_in (Known k) = k.index
-name_in (New k) = k.index
-name_in (Ambiguous k next) = k.index
-name_in (Conflict k) = k.index
-
 -- what a name that is kept has; an id of the list has a name
 abbrev pub shown : {X : Type 0} → (SecName → X) → ℕ → List SecName → Option X
 shown part k names = option_map part (slice_get names k)

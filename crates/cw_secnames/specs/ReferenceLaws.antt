@@ -36,9 +36,6 @@ once-more n (a ∷ []) = refl
 once-more n (a ∷ b ∷ ns) = once-by (a == b) n a b ns (once-more n (b ∷ ns))
 
 -- the sections with one reference more
-section_numbers : List Reference → List ℕ
-section_numbers references = map (λ r. r.section) references
-
 pub sections-more : (name : ℕ) (how : RefKind) (references : List Reference) (r : Reference) → is_of name how r ≡ true
     → sections_of name how (references ++ r ∷ []) ≡ with_number r.section (sections_of name how references)
 sections-more name how references r h =

@@ -104,18 +104,6 @@ module _ (ls : List (List Token)) (ts : List Token) (t : Token) (links : List Li
     ];
   }
 
-pub linked-begin : (ls : List (List Token)) (links : List Link) → IsLinked ls links → IsLinked (ls ++ [] ∷ []) links
-linked-begin ls links old = record {
-  earlier = λ l p x h. old.earlier l p x (was l p x h);
-  up = λ l p x h. old.up l p x (was l p x h);
-}
-  where
-    was : (l p x : ℕ) → refers (ls ++ [] ∷ []) l p ≡ Some x → refers ls l p ≡ Some x
-    was l p x h = elim (refers-more ls [] l p x h) [ inl k ↦ k | inr k ↦ absurd (empty (k.1)) ]
-      where
-        empty : ◌≡◌ {A = Option ℕ} None (Some x) → ⊥
-        empty e = cc
-
 pub linked-finish : (ls : List (List Token)) (links : List Link) → length ls ≡ length links + 1 → IsLinked ls links
     → IsLinked ls (links ++ no_link ∷ [])
 linked-finish ls links e old = record {

@@ -28,15 +28,6 @@ pub first-is : (ts : List Token) (d : Token) → 1 ≤ length ts → ts
 first-is [] d h = absurd (omega arith)
 first-is (t ∷ ts) d h = ap (λ us. t ∷ us) (sym (take_all (length (t ∷ ts) - 1) ts (omega arith)))
 
-pub one-is : (ts : List Token) (d : Token) → 1 ≤ length ts → length ts < 2 → slice_index_or ts 0 d ∷ [] ≡ ts
-one-is [] d h k = absurd (omega arith)
-one-is (t ∷ []) d h k = refl
-one-is (t ∷ u ∷ ts) d h k = absurd (omega arith)
-
-pub none-is : (ts : List Token) → length ts < 1 → ts ≡ []
-none-is [] h = refl
-none-is (t ∷ ts) h = absurd (omega arith)
-
 pub last-first : (ups old : List Above) (up : Above) → old ≡ ups ++ up ∷ [] → reverse old ≡ up ∷ reverse ups
 last-first ups old up e = ap reverse e ∙ reverse-append ups (up ∷ [])
 
@@ -225,14 +216,6 @@ module _ (ls : List (List Token)) (t : Token) (behind : List Token) (above : Lis
       others = up.within (length ls) w.within.1 w.others;
     }
 
-pub lays-start : (ls : List (List Token)) (first : List Token) (old : List Above) (before : Trims)
-    → ReferWithin (length ls) first → Lays ls first old before first old before
-lays-start ls first old before within = record {
-  items = λ all w. w;
-  no_more = omega arith;
-  within = within;
-}
-
 pub first-within : (count : ℕ) (rest : List Token) (d : Token) → ReferWithin count rest → 1 ≤ length rest
     → RefersWithin count (slice_index_or rest 0 d)
 first-within count [] d w some = absurd (omega arith)
@@ -334,15 +317,6 @@ pub ahead-popped : (ls : List (List Token)) (old ups : List Above) (up : Above) 
 ahead-popped ls old ups up trims new all w last push =
     ahead-up ls up (reverse ups) trims new all
     (subst (λ above. TrimsAhead ls [] above trims all) (last-first ups old up last) w) push
-
-pub less-popped : (ls : List (List Token)) (rest : List Token) (old ups : List Above) (up : Above) → old ≡ ups
-    ++ up ∷ []
-    → size (tree_in (trees_from [] ls) up.rest.now) + size_of ls (reverse ups) < size (tree_in (trees_from [] ls) rest)
-    + size_of ls (reverse old)
-less-popped ls rest old ups up last =
-    let e : size_of ls (reverse old) ≡ 1 + (size (tree_in (trees_from [] ls) up.rest.now) + size_of ls (reverse ups)) =
-    ap (size_of ls) (last-first ups old up last) in
-    omega (arith, e)
 
 -- all have ended
 pub ahead-end : (ls : List (List Token)) (above : List Above) (trims : Trims) (all kept : List Item)
