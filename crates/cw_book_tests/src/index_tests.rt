@@ -1,6 +1,6 @@
 //! Indexes and section lists of small webs, by calls.
 ghost use Rattle.cw_lines.specs.Writes.{CanWrite};
-ghost use Rattle.cw_reduce.specs.NameParts.{AreNamesOf};
+ghost use Rattle.cw_translator.specs.NameParts.{AreNamesOf};
 
 use crate::pieces::{Expected, Piece, expect_printed};
 use cw_base::{Flags, Kept, Memory, Out, Steps, Web};

@@ -1,6 +1,6 @@
 //! What stands behind the TeX parts of small webs, by calls.
 ghost use Rattle.cw_lines.specs.Writes.{CanWrite};
-ghost use Rattle.cw_reduce.specs.NameParts.{AreNamesOf};
+ghost use Rattle.cw_translator.specs.NameParts.{AreNamesOf};
 
 use crate::pieces::{Expected, Piece, expect_printed};
 use cw_base::{Flags, Kept, Out, Steps, Web};

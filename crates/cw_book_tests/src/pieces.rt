@@ -1,6 +1,6 @@
 //! Pieces of the books of small webs, and what each prints.
 ghost use Rattle.cw_lines.specs.Writes.{CanWrite};
-ghost use Rattle.cw_reduce.specs.NameParts.{AreNamesOf};
+ghost use Rattle.cw_translator.specs.NameParts.{AreNamesOf};
 
 use crate::desks::desk_with;
 use crate::index_tests::{list_names, put_index};

@@ -1,6 +1,6 @@
 //! Small webs, their books, and what was written, for the tests of this crate.
 ghost use Rattle.std.specs.Prelude.{IfOk};
-ghost use Rattle.cw_reduce.specs.NameParts.{AreNamesOf};
+ghost use Rattle.cw_translator.specs.NameParts.{AreNamesOf};
 
 use cw_base::{Bytes, Event, Memory, Place, Web};
 use cw_phase1::{Book, phase_one};

@@ -1,6 +1,6 @@
 //! Worked C texts, translated by calls.
 ghost use Rattle.std.specs.Prelude.{◌≡◌, ◌<◌, length, IfOk};
-ghost use Rattle.cw_reduce.specs.NameParts.{AreNamesOf};
+ghost use Rattle.cw_translator.specs.NameParts.{AreNamesOf};
 
 use crate::test_printing::{put_run, put_sign, run_control, trimmed};
 use cw_base::{Bytes, Flags, Kept, Memory, Span, Steps};

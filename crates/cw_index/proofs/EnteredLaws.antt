@@ -119,5 +119,3 @@ sorting-more names old new stand listed s keys entered is k n at here l =
           (holds-new stand_cmp stand_cmp-total (stand_of stand) before)
       | inr earlier ↦ holds-still stand_cmp stand_cmp-total name (stand_of stand) before (s k n earlier here l)
     ])
-
--- ## Which names are entered

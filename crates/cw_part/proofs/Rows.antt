@@ -6,7 +6,7 @@ use Rattle.cw_base.specs.Web.{MergedLine, text_of}
 use Rattle.cw_part.specs.Footnotes.{footnote, name_footnotes}
 use Rattle.cw_part.specs.Sections.{sections_done}
 use Rattle.cw_phase1.specs.Book.{BookState, book}
-use Rattle.cw_reduce.specs.Translating.{translated}
+use Rattle.cw_translator.specs.Translating.{translated}
 use Rattle.cw_secnames.specs.Kept.{SecName}
 use Rattle.cw_secnames.specs.declared.kinds.SecKind.TheVariants.{Named}
 use Rattle.cw_table.specs.Normal.{count, log, normal}

@@ -33,7 +33,7 @@ use Rattle.cw_lines.specs.declared.put_error.PutError.{PutError}
 use Rattle.cw_lines.specs.declared.put_error.PutError.TheVariants.{Memory}
 use Rattle.cw_names.specs.Names.{Entry}
 use Rattle.cw_names.specs.declared.xrefs.Occurrence.{Occurrence}
-use Rattle.cw_reduce.specs.Counting.{limit_in, productions_in, scraps_in, text_limit, ticks_in}
+use Rattle.cw_translator.specs.Counting.{limit_in, productions_in, scraps_in, text_limit, ticks_in}
 use Rattle.cw_table.specs.Normal.{count}
 use Rattle.cw_table.specs.Productions.{productions}
 use Rattle.cw_table.specs.Rewriting.{State}

@@ -4,7 +4,7 @@ use Rattle.cw_rules.specs.declared.tokens.Mode.TheVariants as modes
 use Rattle.cw_names.specs.Names.{Entry}
 use Rattle.cw_part.specs.declared.definitions.Definition.{Definition}
 use Rattle.cw_phase1.specs.declared.sections.Section.{Section}
-use Rattle.cw_reduce.specs.Counting.{scraps_in}
+use Rattle.cw_translator.specs.Counting.{scraps_in}
 use Rattle.cw_texpart.specs.Done.{Done, plain, reprinted, then}
 use Rattle.cw_texpart.specs.Texts.{Setting, text_done}
 

@@ -5,8 +5,8 @@ ghost use Rattle.cw_lex.specs.Nested.{begins_section_in, is_c_mode};
 ghost use Rattle.cw_lines.specs.Writes.{CanWrite};
 ghost use Rattle.cw_part.specs.Parts.{paragraph_if};
 ghost use Rattle.cw_part.specs.PresentForms.{setting_in, text_of};
-ghost use Rattle.cw_reduce.specs.Counting.{scraps_in};
-ghost use Rattle.cw_reduce.specs.NameParts.{AreNamesOf};
+ghost use Rattle.cw_translator.specs.Counting.{scraps_in};
+ghost use Rattle.cw_translator.specs.NameParts.{AreNamesOf};
 ghost use Rattle.cw_texpart.specs.Texts.{lasting};
 ghost use Rattle.cw_texpart.specs.Weaving.{Weaves};
 

@@ -9,7 +9,7 @@ ghost use Rattle.cw_part.specs.Sections.{ending, rest_done};
 ghost use Rattle.cw_part.specs.WholeTexts.{IsWholeDefinition, IsWholeIn, IsWholeRest};
 ghost use Rattle.cw_phase1.specs.declared.sections.Section.{Section};
 ghost use Rattle.cw_rules.specs.declared.tokens.Mode.TheVariants.{CPart, Definition};
-ghost use Rattle.cw_reduce.specs.NameParts.{AreNamesOf};
+ghost use Rattle.cw_translator.specs.NameParts.{AreNamesOf};
 ghost use Rattle.cw_texpart.specs.Texts.{lasting, setting};
 ghost use Rattle.cw_texpart.specs.Weaving.{Weaves};
 

@@ -22,15 +22,15 @@ use Rattle.cw_scraps.specs.declared.leaves.Leaf.{Leaf}
 use Rattle.cw_scraps.specs.Leaves.{entry_of}
 use Rattle.cw_scraps.specs.Lines.{IsSoundLine, scraps_of}
 use Rattle.cw_scraps.specs.Marking.{MarkList}
-use Rattle.cw_reduce.specs.declared.translating.Translated.{Translated}
-use Rattle.cw_reduce.specs.Counting.{limit_in}
-use Rattle.cw_reduce.specs.Opening.{IsTranslated, of_leaf, progress_of}
-use Rattle.cw_reduce.specs.Reading.{Progress, all_ended}
-use Rattle.cw_reduce.specs.Retyping.{NamesOnTheWay, at_end}
-use Rattle.cw_reduce.proofs.EndSteps.{spent-done, text-done}
-use Rattle.cw_reduce.proofs.AnswerSteps.{stay-come}
-use Rattle.cw_reduce.proofs.Retypings.{retypes, retyped-names}
-use Rattle.cw_reduce.proofs.WalkSteps.{GoesOn, WalkEnds, Walks, goes-on, walk-ends, walk-reaches, walk-starts}
+use Rattle.cw_translator.specs.declared.translator.Translated.{Translated}
+use Rattle.cw_translator.specs.Counting.{limit_in}
+use Rattle.cw_translator.specs.Opening.{IsTranslated, of_leaf, progress_of}
+use Rattle.cw_translator.specs.Reading.{Progress, all_ended}
+use Rattle.cw_translator.specs.Retyping.{NamesOnTheWay, at_end}
+use Rattle.cw_translator.proofs.EndSteps.{spent-done, text-done}
+use Rattle.cw_translator.proofs.AnswerSteps.{stay-come}
+use Rattle.cw_translator.proofs.Retypings.{retypes, retyped-names}
+use Rattle.cw_rewrite.proofs.WalkSteps.{GoesOn, WalkEnds, Walks, goes-on, walk-ends, walk-reaches, walk-starts}
 
 not-true : (b : Bool) → not b ≡ true → b ≡ false
 not-true true e = cc

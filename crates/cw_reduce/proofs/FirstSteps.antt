@@ -20,20 +20,20 @@ use Rattle.cw_scraps.specs.declared.leaves.Leaf.{Leaf}
 use Rattle.cw_scraps.specs.Marking.{MarkList}
 use Rattle.cw_reduce.specs.declared.heads.Beginning.{Beginning}
 use Rattle.cw_reduce.specs.declared.heads.HeadRead.TheVariants as read
-use Rattle.cw_reduce.specs.declared.nesting.Open.TheVariants.{CText}
-use Rattle.cw_reduce.specs.declared.translating.Translated.{Translated}
-use Rattle.cw_reduce.specs.declared.translating.Translator.{Translator}
-use Rattle.cw_reduce.specs.Counting.{limit_in, text_limit}
+use Rattle.cw_translator.specs.declared.nesting.Open.TheVariants.{CText}
+use Rattle.cw_translator.specs.declared.translator.Translated.{Translated}
+use Rattle.cw_translator.specs.declared.translator.Translator.{Translator}
+use Rattle.cw_translator.specs.Counting.{limit_in, text_limit}
 use Rattle.cw_reduce.specs.HeadReading.{NamesWithin, answers_ahead, is_definition, is_name, name_ahead, read_made}
 use Rattle.cw_reduce.specs.HeadReading.{without_notes, words_in}
 use Rattle.cw_reduce.specs.Heading.{NamesOfText, behind, behind_head, head_begun, in_head}
-use Rattle.cw_reduce.specs.Naming.{token_answers, with_texts}
-use Rattle.cw_reduce.specs.Opening.{HasCome, HasEnded, IsTranslated, StartsBelow, answers_in, of_leaf, progress_of}
-use Rattle.cw_reduce.specs.Reading.{Progress, after_answers, after_token, all_ended, last_scraps}
-use Rattle.cw_reduce.specs.Retyping.{NamesAmong, NamesOnTheWay, RetypesIn, at_end, here, later}
-use Rattle.cw_reduce.specs.Translating.{NameTexts, begin, end_of, head_made, headed_made, state_in}
-use Rattle.cw_reduce.specs.Translating.{translated}
-use Rattle.cw_reduce.proofs.EndSteps.{spent-done, spent-within, text-done, way-end}
+use Rattle.cw_translator.specs.Naming.{token_answers, with_texts}
+use Rattle.cw_translator.specs.Opening.{HasCome, HasEnded, IsTranslated, StartsBelow, answers_in, of_leaf, progress_of}
+use Rattle.cw_translator.specs.Reading.{Progress, after_answers, after_token, all_ended, last_scraps}
+use Rattle.cw_translator.specs.Retyping.{NamesAmong, NamesOnTheWay, RetypesIn, at_end, here, later}
+use Rattle.cw_translator.specs.Translating.{NameTexts, begin, end_of, head_made, headed_made, state_in}
+use Rattle.cw_translator.specs.Translating.{translated}
+use Rattle.cw_translator.proofs.EndSteps.{spent-done, spent-within, text-done, way-end}
 use Rattle.cw_reduce.proofs.HeadFinds.{NoHead, no-head, none-token}
 use Rattle.cw_reduce.proofs.HeadSteps.{headed-translated, headed-whole}
 use Rattle.cw_reduce.proofs.NamedJoined.{AllNested}

@@ -21,9 +21,9 @@ use Rattle.cw_scraps.specs.Leaves.{LeafForm, token_form, names_with}
 use Rattle.cw_scraps.specs.Words.{is_word}
 use Rattle.cw_table.proofs.ScrapFacts.{and-both}
 use Rattle.cw_reduce.specs.HeadReading.{NamesWithin, without_notes, answer_words}
-use Rattle.cw_reduce.specs.Opening.{StartsBelow, answers_in}
-use Rattle.cw_reduce.specs.Translating.{spelled, spelled_behind, form_tokens, word_tokens}
-use Rattle.cw_reduce.proofs.AnswerSteps.{gives-is}
+use Rattle.cw_translator.specs.Opening.{StartsBelow, answers_in}
+use Rattle.cw_translator.specs.Translating.{spelled, spelled_behind, form_tokens, word_tokens}
+use Rattle.cw_translator.proofs.AnswerSteps.{gives-is}
 
 -- ## Notes
 

@@ -21,9 +21,9 @@ use Rattle.cw_reduce.specs.declared.heads.HeadRead.{HeadRead}
 use Rattle.cw_reduce.specs.declared.heads.HeadRead.TheVariants as read
 use Rattle.cw_reduce.specs.HeadReading.{NamesWithin, answer_words, answers_ahead, head_line, head_named, is_definition}
 use Rattle.cw_reduce.specs.HeadReading.{is_name, name_ahead, read_made, without_notes, words_in}
-use Rattle.cw_reduce.specs.Translating.{Known, NameTexts, head_made, spelled, with_names}
-use Rattle.cw_reduce.specs.Opening.{StartsBelow, answers_in}
-use Rattle.cw_reduce.proofs.AnswerSteps.{gives-is}
+use Rattle.cw_translator.specs.Translating.{Known, NameTexts, head_made, spelled, with_names}
+use Rattle.cw_translator.specs.Opening.{StartsBelow, answers_in}
+use Rattle.cw_translator.proofs.AnswerSteps.{gives-is}
 use Rattle.cw_reduce.proofs.HeadAnswers.{nests-notes, nested-notes, starts-notes}
 use Rattle.cw_reduce.proofs.HeadMakes.{behind}
 

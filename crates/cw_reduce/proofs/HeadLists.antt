@@ -5,7 +5,7 @@ use Rattle.std.specs.Option.{option_to_list}
 use Rattle.cw_tokens.specs.declared.token.Token.{Token}
 use Rattle.cw_tokens.specs.Shapes.{shape, ref_of}
 use Rattle.cw_tokens.specs.Stored.{StoredLists, MayBePushed}
-use Rattle.cw_reduce.specs.Gathering.{refs_in}
+use Rattle.cw_rewrite.specs.Gathering.{refs_in}
 
 none-left : (xs ys : List ℕ) → xs ++ ys ≡ [] → (xs ≡ []) × (ys ≡ [])
 none-left [] ys e = (refl, e)

@@ -31,17 +31,18 @@ use Rattle.cw_scraps.specs.Lines.{scraps_of, roots_of, AreRoots, IsSoundLine}
 use Rattle.cw_scraps.proofs.LeafForms.{leaf-sound}
 use Rattle.cw_reduce.specs.declared.heads.HeadRead.{HeadRead}
 use Rattle.cw_reduce.specs.declared.heads.HeadRead.TheVariants as read
-use Rattle.cw_reduce.specs.Gathering.{refs_in}
+use Rattle.cw_rewrite.specs.Gathering.{refs_in}
 use Rattle.cw_reduce.specs.HeadReading.{IsLast, HasTokens, answer_words, head_line, is_definition, macro_tokens}
 use Rattle.cw_reduce.specs.HeadReading.{format_tokens, with_break, read_made, words_in, words_tokens}
-use Rattle.cw_reduce.specs.Translating.{NameTexts, Known, Made, with_names, spelled, first_word, later_words, dollared}
-use Rattle.cw_reduce.specs.Translating.{dead, leaf_scrap, head_made}
+use Rattle.cw_translator.specs.Translating.{NameTexts, Known, Made, with_names, spelled, first_word, later_words}
+use Rattle.cw_translator.specs.Translating.{dollared}
+use Rattle.cw_translator.specs.Translating.{dead, leaf_scrap, head_made}
 use Rattle.cw_reduce.proofs.HeadAnswers.{word_kind, words-fit, words-same}
 use Rattle.cw_reduce.proofs.HeadReads.{HeadFits, reads-head}
 use Rattle.cw_reduce.proofs.HeadTokens.{AreNamed, spelled-named, spelled-grow, plain-refs, macro-named, format-named}
 use Rattle.cw_reduce.proofs.HeadTokens.{break-behind, later-names, head-plain, head-tree, head-good}
-use Rattle.cw_reduce.proofs.LeafSteps.{empty-line, keeps-itself}
-use Rattle.cw_reduce.proofs.OpenLaws.{plain-keeps}
+use Rattle.cw_translator.proofs.LeafSteps.{empty-line, keeps-itself}
+use Rattle.cw_translator.proofs.OpenLaws.{plain-keeps}
 
 -- ## A list that is new
 

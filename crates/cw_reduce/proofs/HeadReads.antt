@@ -31,9 +31,9 @@ use Rattle.cw_tokens.specs.declared.token.Token.TheVariants as token
 use Rattle.cw_tokens.specs.Shapes.{tree_in}
 use Rattle.cw_scraps.specs.Leaves.{sign_mode, token_form, word_form, names_with}
 use Rattle.cw_reduce.specs.TranslationLaws.{InnersRead, ReadsInText}
-use Rattle.cw_reduce.specs.Translating.{Known, spelled, form_tokens, word_tokens, first_word, later_words, dollared}
-use Rattle.cw_reduce.specs.Translating.{dead, leaf_scrap, sign_behind, head_made, headed_made, leaf_of_name, made}
-use Rattle.cw_reduce.specs.Translating.{begin, translated}
+use Rattle.cw_translator.specs.Translating.{Known, spelled, form_tokens, word_tokens, first_word, later_words, dollared}
+use Rattle.cw_translator.specs.Translating.{dead, leaf_scrap, sign_behind, head_made, headed_made, leaf_of_name, made}
+use Rattle.cw_translator.specs.Translating.{begin, translated}
 use Rattle.cw_reduce.proofs.ReadLaws.{MadeReads, reads-nothing, reads-scrap, reads-beside, reads-end, reads-made}
 use Rattle.cw_reduce.proofs.ReadLaws.{reads-leaf, reads-headed-name}
 

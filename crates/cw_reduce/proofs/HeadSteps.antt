@@ -28,29 +28,30 @@ use Rattle.cw_scraps.specs.Lines.{IsSoundLine, scraps_of}
 use Rattle.cw_scraps.specs.Marking.{MarkList, marked_names}
 use Rattle.cw_reduce.specs.declared.heads.HeadRead.{HeadRead}
 use Rattle.cw_reduce.specs.declared.heads.HeadRead.TheVariants as read
-use Rattle.cw_reduce.specs.declared.holders.Holder.{Holder}
-use Rattle.cw_reduce.specs.declared.holders.Holder.TheVariants as holder
-use Rattle.cw_reduce.specs.declared.nesting.Open.TheVariants.{CText as OpenCText}
-use Rattle.cw_reduce.specs.declared.translating.Translated.{Translated}
+use Rattle.cw_translator.specs.declared.holders.Holder.{Holder}
+use Rattle.cw_translator.specs.declared.holders.Holder.TheVariants as holder
+use Rattle.cw_translator.specs.declared.nesting.Open.TheVariants.{CText as OpenCText}
+use Rattle.cw_translator.specs.declared.translator.Translated.{Translated}
 use Rattle.cw_reduce.specs.HeadReading.{head_line, read_made}
 use Rattle.cw_reduce.specs.Heading.{NamesOfHeaded, NamesOfHeld, in_name, behind, after_head, after_held, head_begun}
 use Rattle.cw_reduce.specs.Heading.{headed_text}
-use Rattle.cw_reduce.specs.NameParts.{name_texts, parts_by_kind}
-use Rattle.cw_reduce.specs.Naming.{held_answers, with_texts}
-use Rattle.cw_reduce.specs.declared.translating.Translator.{Translator}
-use Rattle.cw_reduce.specs.Counting.{scraps_in, productions_in, ticks_in, text_limit, limit_in}
-use Rattle.cw_reduce.specs.Opening.{all_roots, progress_of, HasCome, IsSoundFrame, IsTranslated, IsTranslating}
-use Rattle.cw_reduce.specs.Reading.{CText, Progress, after_answers, all_ended, last_scraps, with_held, with_made}
-use Rattle.cw_reduce.specs.Retyping.{NamesAmong, NamesOnTheWay, RetypesIn, at_end, here}
-use Rattle.cw_reduce.specs.Translating.{Ended, Known, NameTexts, before, begin, end_of, head_made, leaf_of_name, made}
-use Rattle.cw_reduce.specs.Translating.{sign_behind, texts_named, translated, with_names}
-use Rattle.cw_reduce.proofs.AnswerSteps.{Reads, behind as behind_ended, behind-answers, reads-start, reads-more}
-use Rattle.cw_reduce.proofs.AnswerSteps.{way-behind}
+use Rattle.cw_translator.specs.NameParts.{name_texts, parts_by_kind}
+use Rattle.cw_translator.specs.Naming.{held_answers, with_texts}
+use Rattle.cw_translator.specs.declared.translator.Translator.{Translator}
+use Rattle.cw_translator.specs.Counting.{scraps_in, productions_in, ticks_in, text_limit, limit_in}
+use Rattle.cw_translator.specs.Opening.{all_roots, progress_of, HasCome, IsSoundFrame, IsTranslated, IsTranslating}
+use Rattle.cw_translator.specs.Reading.{CText, Progress, after_answers, all_ended, last_scraps, with_held, with_made}
+use Rattle.cw_translator.specs.Retyping.{NamesAmong, NamesOnTheWay, RetypesIn, at_end, here}
+use Rattle.cw_translator.specs.Translating.{Ended, Known, NameTexts, before, begin, end_of, head_made, leaf_of_name}
+use Rattle.cw_translator.specs.Translating.{made}
+use Rattle.cw_translator.specs.Translating.{sign_behind, texts_named, translated, with_names}
+use Rattle.cw_translator.proofs.AnswerSteps.{Reads, behind as behind_ended, behind-answers, reads-start, reads-more}
+use Rattle.cw_translator.proofs.AnswerSteps.{way-behind}
 use Rattle.cw_reduce.proofs.NamedJoined.{AllNested, name-law, named-translation}
 use Rattle.cw_reduce.proofs.NameSteps.{texts-paired, texts-unpaired, with-texts-append}
-use Rattle.cw_reduce.proofs.EndSteps.{spent-within, way-end}
-use Rattle.cw_reduce.proofs.FinishSteps.{same-names}
-use Rattle.cw_reduce.proofs.Sums.{sum-more}
+use Rattle.cw_translator.proofs.EndSteps.{spent-within, way-end}
+use Rattle.cw_translator.proofs.FinishSteps.{same-names}
+use Rattle.cw_translator.proofs.Sums.{sum-more}
 
 -- Answers are gone over from where a translation has come.
 module _ (flags : Flags) (t0 t1 : Translator) (steps steps1 : ℕ) (mid : List (List StoredToken)) (names1 : List Entry)

@@ -28,13 +28,13 @@ use Rattle.cw_scraps.specs.Leaves.{word_form, token_form, names_with}
 use Rattle.cw_scraps.specs.Lines.{IsNamedBelow}
 use Rattle.cw_scraps.specs.Words.{is_word}
 use Rattle.cw_scraps.proofs.LeafForms.{IsGood}
-use Rattle.cw_reduce.specs.Gathering.{refs_in}
+use Rattle.cw_rewrite.specs.Gathering.{refs_in}
 use Rattle.cw_reduce.specs.HeadReading.{macro_tokens, format_tokens, with_break}
-use Rattle.cw_reduce.specs.Translating.{spelled, form_tokens, word_tokens, first_word, later_words, dollared, dead}
-use Rattle.cw_reduce.specs.Translating.{leaf_scrap}
-use Rattle.cw_reduce.proofs.GatherSteps.{ref-place, AtPlace}
+use Rattle.cw_translator.specs.Translating.{spelled, form_tokens, word_tokens, first_word, later_words, dollared, dead}
+use Rattle.cw_translator.specs.Translating.{leaf_scrap}
+use Rattle.cw_rewrite.proofs.GatherSteps.{ref-place, AtPlace}
 use Rattle.cw_reduce.proofs.HeadAnswers.{word_kind}
-use Rattle.cw_reduce.proofs.LeafSteps.{names-grow}
+use Rattle.cw_translator.proofs.LeafSteps.{names-grow}
 
 -- tokens that refer to no list, with names that are among so many
 abbrev pub IsNamed : ℕ → Token → Type 0

@@ -29,8 +29,8 @@ use Rattle.cw_lex.specs.Heads.{named_headed, Words, no_word, word_before, head_b
 use Rattle.cw_lex.specs.declared.heads.Wanted.{Wanted}
 use Rattle.cw_lex.specs.declared.heads.Wanted.TheVariants as wants
 use Rattle.cw_reduce.specs.Visible.{starts, shown_in, shown_head, shown}
-use Rattle.cw_reduce.specs.Translating.{Known, spelled, form_tokens, first_word, later_words, dollared, sign_behind}
-use Rattle.cw_reduce.specs.Translating.{texts_named, head_made, headed_made, leaf_of_name, made, begin, translated}
+use Rattle.cw_translator.specs.Translating.{Known, spelled, form_tokens, first_word, later_words, dollared, sign_behind}
+use Rattle.cw_translator.specs.Translating.{texts_named, head_made, headed_made, leaf_of_name, made, begin, translated}
 use Rattle.cw_reduce.proofs.ShownLaws.{append-none, IsWell, Shows, shows-beside, shows-made, shows-name, struck-end}
 use Rattle.cw_reduce.proofs.ShownLaws.{struck-parts}
 use Rattle.cw_reduce.proofs.WellNests.{nest-well}

@@ -11,12 +11,14 @@ use Rattle.cw_lex.specs.Nested.{Level, InCode, InComment, after_token as level_t
 use Rattle.cw_lex.specs.Nested.{after_finish as level_finish, levels_after, all_levels_after}
 use Rattle.cw_trees.specs.Joining.{Scrap}
 use Rattle.cw_scraps.specs.Leaves.{LeafForm, token_form, names_with}
-use Rattle.cw_reduce.specs.declared.holders.Holder.TheVariants as holder
-use Rattle.cw_reduce.specs.Reading.{Frame, CText, Comment, with_scrap, with_item, with_form, Progress, extended}
-use Rattle.cw_reduce.specs.Reading.{with_made, after_token, after_begin, after_finish, after_answers}
-use Rattle.cw_reduce.specs.Translating.{CommentItem, Piece, InnerText, comment_scrap, leaf_scrap, Known, Made, nothing}
-use Rattle.cw_reduce.specs.Translating.{one_item, beside, before, end_of, as_item, form_made, with_names, token_made}
-use Rattle.cw_reduce.specs.Translating.{group_made, made, no_name}
+use Rattle.cw_translator.specs.declared.holders.Holder.TheVariants as holder
+use Rattle.cw_translator.specs.Reading.{Frame, CText, Comment, with_scrap, with_item, with_form, Progress, extended}
+use Rattle.cw_translator.specs.Reading.{with_made, after_token, after_begin, after_finish, after_answers}
+use Rattle.cw_translator.specs.Translating.{CommentItem, Piece, InnerText, comment_scrap, leaf_scrap, Known, Made}
+use Rattle.cw_translator.specs.Translating.{nothing}
+use Rattle.cw_translator.specs.Translating.{one_item, beside, before, end_of, as_item, form_made, with_names}
+use Rattle.cw_translator.specs.Translating.{token_made}
+use Rattle.cw_translator.specs.Translating.{group_made, made, no_name}
 use Rattle.cw_reduce.proofs.NestSizes.{SameSize, some-levels, first-levels, nests-size}
 
 pub append-none : {A : Type 0} (xs : List A) → xs ++ [] ≡ xs

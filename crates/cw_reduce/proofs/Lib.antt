@@ -1,19 +1,5 @@
--- The laws of reducing and translating: the walk, gathered lists, heads, section names, and what is shown.
-pub mod WalkSteps
-pub mod WalkLoop
+-- The laws of translating a whole text: heads, section names, and what is shown.
 mod TranslatedRows
-pub mod GatherSteps
-pub mod GatherTrees
-pub mod GatherLines
-pub mod GatherLaws
-pub mod Beside
-pub mod OpenLaws
-pub mod LeafSteps
-pub mod Retypings
-pub mod Sums
-pub mod FinishSteps
-pub mod AnswerSteps
-pub mod EndSteps
 pub mod NestSizes
 pub mod Joined
 pub mod ShownLaws
@@ -23,8 +9,6 @@ pub mod Limits
 pub mod InnersKept
 pub mod ReadLaws
 pub mod HeadReads
-pub mod HoldLaws
-pub mod NameLists
 pub mod NameSteps
 pub mod NamedJoined
 pub mod HeadAnswers

@@ -22,10 +22,11 @@ use Rattle.cw_table.proofs.ScrapFacts.{all-append, and-both}
 use Rattle.cw_scraps.specs.Leaves.{LeafForm, token_form}
 use Rattle.cw_lex.specs.Nest.{Nest, End, Leaf, Group, nest}
 use Rattle.cw_lex.specs.Heads.{Head, Headless, Macro, Format, Silent, Named, Headed, headed}
-use Rattle.cw_reduce.specs.Counting.{ticks_in, limit_in}
-use Rattle.cw_reduce.specs.Translating.{leaf_scrap, Known, Made, beside, state_in, end_of, form_made, token_made}
-use Rattle.cw_reduce.specs.Translating.{group_made, made, no_name, plain_text, texts_made, texts_named, leaf_of_name}
-use Rattle.cw_reduce.specs.Translating.{head_made, headed_made, begin, translated}
+use Rattle.cw_translator.specs.Counting.{ticks_in, limit_in}
+use Rattle.cw_translator.specs.Translating.{leaf_scrap, Known, Made, beside, state_in, end_of, form_made, token_made}
+use Rattle.cw_translator.specs.Translating.{group_made, made, no_name, plain_text, texts_made, texts_named}
+use Rattle.cw_translator.specs.Translating.{leaf_of_name}
+use Rattle.cw_translator.specs.Translating.{head_made, headed_made, begin, translated}
 use Rattle.cw_reduce.proofs.ShownLaws.{fine_form, token-fine}
 
 abbrev pub fine_state : State → Bool

@@ -26,10 +26,11 @@ use Rattle.cw_tokens.specs.Shapes.{tree_in}
 use Rattle.cw_scraps.specs.Leaves.{LeafForm, code_form, word_form, token_form, names_with}
 use Rattle.cw_scraps.proofs.LeafForms.{IsGood, token-good}
 use Rattle.cw_reduce.specs.TranslationLaws.{InnersRead, ReadsInText}
-use Rattle.cw_reduce.specs.Translating.{leaf_scrap, CommentItem, Piece, InnerText, comment_rest, comment_scrap, Known}
-use Rattle.cw_reduce.specs.Translating.{Made, beside, state_in, end_of, form_made, token_made, group_made, made}
-use Rattle.cw_reduce.specs.Translating.{no_name, plain_text, texts_made, texts_named, leaf_of_name, with_names}
-use Rattle.cw_reduce.proofs.GatherLaws.{comment-agrees}
+use Rattle.cw_translator.specs.Translating.{leaf_scrap, CommentItem, Piece, InnerText, comment_rest, comment_scrap}
+use Rattle.cw_translator.specs.Translating.{Known}
+use Rattle.cw_translator.specs.Translating.{Made, beside, state_in, end_of, form_made, token_made, group_made, made}
+use Rattle.cw_translator.specs.Translating.{no_name, plain_text, texts_made, texts_named, leaf_of_name, with_names}
+use Rattle.cw_translator.proofs.CommentLaws.{comment-agrees}
 use Rattle.cw_reduce.proofs.InnersKept.{inners_of, AreRead, normal-read}
 
 -- what no production joins

@@ -28,12 +28,12 @@ use Rattle.cw_tokens.specs.Shapes.{tree_in}
 use Rattle.cw_scraps.specs.Leaves.{LeafForm, code_form, word_form, token_form}
 use Rattle.cw_trees.specs.Tree.{Then, Sign, Empty}
 use Rattle.cw_trees.specs.declared.Control.TheVariants as control
-use Rattle.cw_reduce.specs.Translating.{leaf_scrap, CommentItem, Piece, InnerText, comment_rest, comment_tree}
+use Rattle.cw_translator.specs.Translating.{leaf_scrap, CommentItem, Piece, InnerText, comment_rest, comment_tree}
 use Rattle.cw_reduce.specs.Visible.{is_shown, is_shown_code, is_comment, number_if}
 use Rattle.cw_lex.specs.Nest.{Nest, End, Leaf, Group}
 use Rattle.cw_reduce.specs.Visible.{shown_token, shown_in}
-use Rattle.cw_reduce.specs.Translating.{Known, Made, beside, state_in, end_from, end_of, form_made, token_made}
-use Rattle.cw_reduce.specs.Translating.{group_made, made, plain_text, texts_made, texts_named}
+use Rattle.cw_translator.specs.Translating.{Known, Made, beside, state_in, end_from, end_of, form_made, token_made}
+use Rattle.cw_translator.specs.Translating.{group_made, made, plain_text, texts_made, texts_named}
 
 pub append-none : (ns : List ℕ) → ns ++ [] ≡ ns
 append-none [] = refl

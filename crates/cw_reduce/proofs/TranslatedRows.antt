@@ -16,9 +16,9 @@ use Rattle.cw_table.specs.Normal.{normal, log, count}
 use Rattle.cw_table.specs.NormalWalk.{positions}
 use Rattle.cw_table.specs.WalkCounts.{looks}
 use Rattle.cw_table.specs.Productions.{productions}
-use Rattle.cw_reduce.specs.Counting.{scraps_in, productions_in, logs_in}
-use Rattle.cw_reduce.specs.NameParts.{parts_of_name}
-use Rattle.cw_reduce.specs.Translating.{Ended, translated, unnamed}
+use Rattle.cw_translator.specs.Counting.{scraps_in, productions_in, logs_in}
+use Rattle.cw_translator.specs.NameParts.{parts_of_name}
+use Rattle.cw_translator.specs.Translating.{Ended, translated, unnamed}
 use Rattle.cw_reduce.specs.Visible.{shown as shown_numbers}
 
 abbrev none_named : ℕ → Bool

@@ -20,8 +20,8 @@ use Rattle.cw_scraps.specs.Lines.{scraps_of}
 use Rattle.cw_reduce.specs.declared.heads.Beginning.{Beginning}
 use Rattle.cw_reduce.specs.declared.heads.HeadRead.{HeadRead}
 use Rattle.cw_reduce.specs.declared.heads.HeadRead.TheVariants as read
-use Rattle.cw_reduce.specs.Opening.{answers_in}
-use Rattle.cw_reduce.specs.Translating.{NameTexts, Known, Made, dead, dollared, sign_behind, spelled, texts_named}
+use Rattle.cw_translator.specs.Opening.{answers_in}
+use Rattle.cw_translator.specs.Translating.{NameTexts, Known, Made, dead, dollared, sign_behind, spelled, texts_named}
 
 -- The codes of definitions, and section names, may begin heads.
 abbrev pub is_definition : TokKind → Bool

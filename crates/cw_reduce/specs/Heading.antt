@@ -9,13 +9,14 @@ use Rattle.cw_tokens.specs.declared.token.Token.{Token}
 use Rattle.cw_scraps.specs.Lines.{scraps_of}
 use Rattle.cw_reduce.specs.declared.heads.HeadRead.{HeadRead}
 use Rattle.cw_reduce.specs.declared.heads.HeadRead.TheVariants as read
-use Rattle.cw_reduce.specs.declared.holders.Holder.{Holder}
-use Rattle.cw_reduce.specs.declared.holders.Holder.TheVariants as holder
+use Rattle.cw_translator.specs.declared.holders.Holder.{Holder}
+use Rattle.cw_translator.specs.declared.holders.Holder.TheVariants as holder
 use Rattle.cw_reduce.specs.HeadReading.{NamesWithin, head_line, read_made, words_in}
-use Rattle.cw_reduce.specs.Naming.{held_answers, with_texts}
-use Rattle.cw_reduce.specs.Reading.{CText, Progress, after_answers, with_held}
-use Rattle.cw_reduce.specs.Retyping.{NamesAmong, NamesOnTheWay}
-use Rattle.cw_reduce.specs.Translating.{Ended, Known, NameTexts, before, begin, end_of, head_made, leaf_of_name, made}
+use Rattle.cw_translator.specs.Naming.{held_answers, with_texts}
+use Rattle.cw_translator.specs.Reading.{CText, Progress, after_answers, with_held}
+use Rattle.cw_translator.specs.Retyping.{NamesAmong, NamesOnTheWay}
+use Rattle.cw_translator.specs.Translating.{Ended, Known, NameTexts, before, begin, end_of, head_made, leaf_of_name}
+use Rattle.cw_translator.specs.Translating.{made}
 
 -- the translation of a text with this head and these answers behind it
 abbrev pub headed_text : Flags → NameTexts → List (List Token) → HeadRead → List Answer → Known → Ended

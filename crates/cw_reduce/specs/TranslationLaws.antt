@@ -8,8 +8,8 @@ use Rattle.cw_names.specs.Names.{Entry}
 use Rattle.cw_trees.specs.Flat.{struck}
 use Rattle.cw_trees.specs.Joining.{reads}
 use Rattle.cw_trees.specs.Tree.{Tree, Empty, Then, Sub, Inner}
-use Rattle.cw_reduce.specs.Counting.{limit_in, ticks_in}
-use Rattle.cw_reduce.specs.Translating.{NameTexts, translated}
+use Rattle.cw_translator.specs.Counting.{limit_in, ticks_in}
+use Rattle.cw_translator.specs.Translating.{NameTexts, translated}
 use Rattle.cw_reduce.specs.Visible.{shown}
 
 -- Each token of a text that is shown stands in the tree of its translation once and in order, and no other does.

@@ -14,26 +14,25 @@ ghost use Rattle.cw_scraps.specs.Leaves.{MakesLeaf, entry_of};
 ghost use Rattle.cw_scraps.specs.Lines.{AreRoots, IsNamedBelow, IsSoundLine};
 ghost use Rattle.cw_scraps.specs.Marking.{marked_names};
 ghost use Rattle.cw_answers.specs.Reading.{IsReadUp};
-ghost use Rattle.cw_reduce.specs.Counting.{limit_in};
+ghost use Rattle.cw_translator.specs.Counting.{limit_in};
 ghost use Rattle.cw_reduce.specs.Heading.{NamesOfText};
-ghost use Rattle.cw_reduce.specs.NameParts.{AreNamesOf};
-ghost use Rattle.cw_reduce.specs.Naming.{with_texts};
-ghost use Rattle.cw_reduce.specs.Opening.{IsTranslated, IsTranslating, StartsBelow, answers_in, of_leaf};
-ghost use Rattle.cw_reduce.specs.Reading.{after_answers, all_ended};
-ghost use Rattle.cw_reduce.specs.Retyping.{NamesOnTheWay};
-ghost use Rattle.cw_reduce.specs.Translating.{translated};
-ghost use Rattle.cw_reduce.specs.Working.{IsSameWork, progress_over, texts_in};
+ghost use Rattle.cw_translator.specs.NameParts.{AreNamesOf};
+ghost use Rattle.cw_translator.specs.Naming.{with_texts};
+ghost use Rattle.cw_translator.specs.Opening.{IsTranslated, IsTranslating, StartsBelow, answers_in, of_leaf};
+ghost use Rattle.cw_translator.specs.Reading.{after_answers, all_ended};
+ghost use Rattle.cw_translator.specs.Retyping.{NamesOnTheWay};
+ghost use Rattle.cw_translator.specs.Translating.{translated};
+ghost use Rattle.cw_translator.specs.Working.{IsSameWork, progress_over, texts_in};
 
-use crate::gathering::put_alone;
+use crate::headed::{read_behind, with_leaf};
 use crate::heads::headless;
-use crate::kinds::makes_leaf;
-use crate::translating::{Translated, Translator};
-use crate::work::{Context, Work};
 use cw_answers::Reader;
 use cw_base::{Cat, Ledger, Memory};
 use cw_lex::{Lexed, Tok};
-use cw_scraps::{Leaf, scrap_of};
+use cw_rewrite::put_alone;
+use cw_scraps::{Leaf, makes_leaf, scrap_of};
 use cw_table::may_fit;
+use cw_translator::{Context, Translated, Work};
 
 /// The token with which a text begins that has this first answer, where it makes a scrap of its own.
 #[inline(always)]
@@ -135,8 +134,8 @@ fn translate_on<L: Ledger>(
     ensures same { IsSameWork work.old work.new }
     ensures idle { work.new.store.now.building ≡ None }
 {
-    let mut translator = Translator::with_leaf(leaf, context.alloc)?;
-    translator.read_behind(&headless(*next), reader, context, work)?;
+    let mut translator = with_leaf(leaf, context.alloc)?;
+    read_behind(&mut translator, &headless(*next), reader, context, work)?;
     translator.end(context, work)
 }
 

@@ -8,28 +8,27 @@ ghost use Rattle.cw_scraps.specs.Changing.{Keeps};
 ghost use Rattle.cw_scraps.specs.Lines.{AreRoots, IsNamedBelow, IsSoundLine, roots_of};
 ghost use Rattle.cw_scraps.specs.Marking.{marked_names};
 ghost use Rattle.cw_answers.specs.Reading.{IsReadUp};
-ghost use Rattle.cw_reduce.specs.declared.nesting.Open.TheVariants as Opens;
-ghost use Rattle.cw_reduce.specs.Counting.{limit_in};
-ghost use Rattle.cw_reduce.specs.declared.holders.Holder.TheVariants as Holders;
+ghost use Rattle.cw_translator.specs.declared.nesting.Open.TheVariants as Opens;
+ghost use Rattle.cw_translator.specs.Counting.{limit_in};
+ghost use Rattle.cw_translator.specs.declared.holders.Holder.TheVariants as Holders;
 ghost use Rattle.cw_reduce.specs.HeadReading.{answers_ahead, head_line, name_ahead, without_notes};
 ghost use Rattle.cw_reduce.specs.Heading.{NamesOfHead, NamesOfHeaded, NamesOfHeld, after_head, after_held, head_begun};
 ghost use Rattle.cw_reduce.specs.Heading.{NamesOfText, headed_text};
-ghost use Rattle.cw_reduce.specs.NameParts.{AreNamesOf};
-ghost use Rattle.cw_reduce.specs.Naming.{with_texts};
-ghost use Rattle.cw_reduce.specs.Opening.{IsTranslated, IsTranslating, StartsBelow, all_roots, answers_in, of_leaf};
-ghost use Rattle.cw_reduce.specs.Reading.{after_answers};
-ghost use Rattle.cw_reduce.specs.Retyping.{NamesAmong};
-ghost use Rattle.cw_reduce.specs.Translating.{begin, translated};
-ghost use Rattle.cw_reduce.specs.Working.{HasComeOver, IsSameWork, progress_over, texts_in};
+ghost use Rattle.cw_translator.specs.NameParts.{AreNamesOf};
+ghost use Rattle.cw_translator.specs.Naming.{with_texts};
+ghost use Rattle.cw_translator.specs.Opening.{IsTranslated, IsTranslating, StartsBelow, all_roots, answers_in, of_leaf};
+ghost use Rattle.cw_translator.specs.Reading.{after_answers};
+ghost use Rattle.cw_translator.specs.Retyping.{NamesAmong};
+ghost use Rattle.cw_translator.specs.Translating.{begin, translated};
+ghost use Rattle.cw_translator.specs.Working.{HasComeOver, IsSameWork, progress_over, texts_in};
 
 use crate::heads::{Beginning, HeadRead, read_head};
-use crate::holders::Holder;
-use crate::translating::{Translated, Translator};
-use crate::work::{Context, Work};
+use crate::naming::{kept_name, named_answer, read_named};
 use cw_answers::Reader;
 use cw_base::{Cat, Ledger, MathMode, Memory};
 use cw_lex::Lexed;
 use cw_scraps::{Leaf, ScrapLine};
+use cw_translator::{Context, Holder, Translated, Translator, Work};
 use std::alloc::Global;
 
 // For how many scraps a text's line has room at first, so that those of most texts are never moved.
@@ -49,183 +48,188 @@ fn line_of(head: HeadRead, alloc: Global) -> Result<ScrapLine, Memory>
     }
 }
 
-impl Translator {
-    /// Nothing is counted yet, and the text begins with the scrap of this head, where the head has one.
-    fn with_head(head: HeadRead, alloc: Global) -> Result<Translator, Memory>
-        ensures { IfOk result (λ t. t ≡ record {
-          nesting = Opens.CText (head_line head) ∷ [];
-          scraps = 0;
-          productions = 0;
-        }) }
-    {
-        let line = line_of(head, alloc)?;
-        Translator::over(line, alloc)
-    }
+/// Nothing is counted yet, and the text begins with the scrap of this head, where the head has one.
+fn with_head(head: HeadRead, alloc: Global) -> Result<Translator, Memory>
+    ensures { IfOk result (λ t. t ≡ record {
+      nesting = Opens.CText (head_line head) ∷ [];
+      scraps = 0;
+      productions = 0;
+    }) }
+{
+    let line = line_of(head, alloc)?;
+    Ok(Translator::over(line, alloc))
+}
 
-    /// Nothing is counted yet, and the text begins with this scrap.
-    pub(crate) fn with_leaf(leaf: Leaf, alloc: Global) -> Result<Translator, Memory>
-        requires { leaf.cat ≢ Cats.End }
-        ensures { IfOk result (λ t. t ≡ of_leaf leaf) }
-    {
-        let mut line = ScrapLine::with_room(alloc, FIRST_SCRAPS)?;
-        line.add(leaf.cat, leaf.list, leaf.left, leaf.right)?;
-        Translator::over(line, alloc)
-    }
+/// Nothing is counted yet, and the text begins with this scrap.
+pub(crate) fn with_leaf(leaf: Leaf, alloc: Global) -> Result<Translator, Memory>
+    requires { leaf.cat ≢ Cats.End }
+    ensures { IfOk result (λ t. t ≡ of_leaf leaf) }
+{
+    let mut line = ScrapLine::with_room(alloc, FIRST_SCRAPS)?;
+    line.add(leaf.cat, leaf.list, leaf.left, leaf.right)?;
+    Ok(Translator::over(line, alloc))
+}
 
-    /// The name at the head of a C part, with its inner texts and its sign. Without a pair it stands for nothing.
-    fn name_with_sign<L: Ledger>(
-        &mut self,
-        number: u32,
-        sign: u32,
-        context: &Context,
-        work: &mut Work<L>,
-    ) -> Result<(), Memory>
-        requires kept { AreNamesOf context.now.sec_names.now context.now.uses.now }
-        requires translating { IsTranslating work.old.store.now work.old.names.now self.old }
-        ensures translating { OnOk result (IsTranslating work.new.store.now work.new.names.now self.new) }
-        ensures come { OnOk result (HasComeOver context.now.flags.now self.old work.old self.new work.new
-            (after_held context.now.flags.now (texts_in context.now number) (Holders.Head number sign)
-            (progress_over work.old self.old))) }
-        ensures keeps { OnOk result (Keeps work.old.store.now.lists work.new.store.now.lists
-            (all_roots self.old.nesting) (all_roots self.new.nesting)) }
-        ensures names { OnErr result (NamesOfHeld context.now.flags.now (texts_in context.now number)
-            (Holders.Head number sign) (progress_over work.old self.old) work.new.names.now) }
-        ensures bound { work.new.steps.now ≤ work.old.steps.now +
-            limit_in context.now.flags.now (after_held context.now.flags.now (texts_in context.now number)
-            (Holders.Head number sign) (progress_over work.old self.old)).known.ended }
-        ensures same { IsSameWork work.old work.new }
-        ensures idle { work.new.store.now.building ≡ None }
-    {
-        match context.uses.at(number) {
-            None => Ok(()),
-            Some(id) => {
-                let kind = context.sec_names.kind(id);
-                let text = context.sec_names.text(id);
-                self.kept_name(Holder::Head(number, sign), kind, text, context, work)
-            }
+/// The name at the head of a C part, with its inner texts and its sign. Without a pair it stands for nothing.
+fn name_with_sign<L: Ledger>(
+    translator: &mut Translator,
+    number: u32,
+    sign: u32,
+    context: &Context,
+    work: &mut Work<L>,
+) -> Result<(), Memory>
+    requires kept { AreNamesOf context.now.sec_names.now context.now.uses.now }
+    requires translating { IsTranslating work.old.store.now work.old.names.now translator.old }
+    ensures translating { OnOk result (IsTranslating work.new.store.now work.new.names.now translator.new) }
+    ensures come { OnOk result (HasComeOver context.now.flags.now translator.old work.old translator.new work.new
+        (after_held context.now.flags.now (texts_in context.now number) (Holders.Head number sign)
+        (progress_over work.old translator.old))) }
+    ensures keeps { OnOk result (Keeps work.old.store.now.lists work.new.store.now.lists
+        (all_roots translator.old.nesting) (all_roots translator.new.nesting)) }
+    ensures names { OnErr result (NamesOfHeld context.now.flags.now (texts_in context.now number)
+        (Holders.Head number sign) (progress_over work.old translator.old) work.new.names.now) }
+    ensures bound { work.new.steps.now ≤ work.old.steps.now +
+        limit_in context.now.flags.now (after_held context.now.flags.now (texts_in context.now number)
+        (Holders.Head number sign) (progress_over work.old translator.old)).known.ended }
+    ensures same { IsSameWork work.old work.new }
+    ensures idle { work.new.store.now.building ≡ None }
+{
+    match context.uses.at(number) {
+        None => Ok(()),
+        Some(id) => {
+            let kind = context.sec_names.kind(id);
+            let text = context.sec_names.text(id);
+            kept_name(
+                translator,
+                Holder::Head(number, sign),
+                kind,
+                text,
+                context,
+                work,
+            )
         }
     }
+}
 
-    /// What the head of a text makes beside a scrap that was made while it was read.
-    fn head_name<L: Ledger>(
-        &mut self,
-        head: HeadRead,
-        context: &Context,
-        work: &mut Work<L>,
-    ) -> Result<(), Memory>
-        requires kept { AreNamesOf context.now.sec_names.now context.now.uses.now }
-        requires translating { IsTranslating work.old.store.now work.old.names.now self.old }
-        ensures translating { OnOk result (IsTranslating work.new.store.now work.new.names.now self.new) }
-        ensures come { OnOk result (HasComeOver context.now.flags.now self.old work.old self.new work.new
-            (after_head context.now.flags.now (texts_in context.now) head (progress_over work.old self.old))) }
-        ensures keeps { OnOk result (Keeps work.old.store.now.lists work.new.store.now.lists
-            (all_roots self.old.nesting) (all_roots self.new.nesting)) }
-        ensures names { OnErr result (NamesOfHead context.now.flags.now (texts_in context.now) head
-            (progress_over work.old self.old) work.new.names.now) }
-        ensures bound { work.new.steps.now ≤ work.old.steps.now +
-            limit_in context.now.flags.now (after_head context.now.flags.now (texts_in context.now) head
-            (progress_over work.old self.old)).known.ended }
-        ensures same { IsSameWork work.old work.new }
-        ensures idle { work.new.store.now.building ≡ None }
-    {
-        match head {
-            HeadRead::Named(number, sign) => self.name_with_sign(number, sign, context, work),
-            HeadRead::Dead(_) | HeadRead::None => Ok(()),
-        }
+/// What the head of a text makes beside a scrap that was made while it was read.
+fn head_name<L: Ledger>(
+    translator: &mut Translator,
+    head: HeadRead,
+    context: &Context,
+    work: &mut Work<L>,
+) -> Result<(), Memory>
+    requires kept { AreNamesOf context.now.sec_names.now context.now.uses.now }
+    requires translating { IsTranslating work.old.store.now work.old.names.now translator.old }
+    ensures translating { OnOk result (IsTranslating work.new.store.now work.new.names.now translator.new) }
+    ensures come { OnOk result (HasComeOver context.now.flags.now translator.old work.old translator.new work.new
+        (after_head context.now.flags.now (texts_in context.now) head (progress_over work.old translator.old))) }
+    ensures keeps { OnOk result (Keeps work.old.store.now.lists work.new.store.now.lists
+        (all_roots translator.old.nesting) (all_roots translator.new.nesting)) }
+    ensures names { OnErr result (NamesOfHead context.now.flags.now (texts_in context.now) head
+        (progress_over work.old translator.old) work.new.names.now) }
+    ensures bound { work.new.steps.now ≤ work.old.steps.now +
+        limit_in context.now.flags.now (after_head context.now.flags.now (texts_in context.now) head
+        (progress_over work.old translator.old)).known.ended }
+    ensures same { IsSameWork work.old work.new }
+    ensures idle { work.new.store.now.building ≡ None }
+{
+    match head {
+        HeadRead::Named(number, sign) => name_with_sign(translator, number, sign, context, work),
+        HeadRead::Dead(_) | HeadRead::None => Ok(()),
     }
+}
 
-    /// A section name that was read because its sign might have stood behind it.
-    fn name_ahead<L: Ledger>(
-        &mut self,
-        begun: &Beginning,
-        context: &Context,
-        work: &mut Work<L>,
-    ) -> Result<(), Memory>
-        requires start { StartsBelow (2 ^ 32) (name_ahead begun.now.name) }
-        requires kept { AreNamesOf context.now.sec_names.now context.now.uses.now }
-        requires translating { IsTranslating work.old.store.now work.old.names.now self.old }
-        ensures translating { OnOk result (IsTranslating work.new.store.now work.new.names.now self.new) }
-        ensures come { OnOk result (HasComeOver context.now.flags.now self.old work.old self.new work.new
-            (after_answers context.now.flags.now (with_texts (texts_in context.now) (name_ahead begun.now.name))
-            (progress_over work.old self.old))) }
-        ensures keeps { OnOk result (Keeps work.old.store.now.lists work.new.store.now.lists
-            (all_roots self.old.nesting) (all_roots self.new.nesting)) }
-        ensures names { OnErr result (NamesAmong context.now.flags.now (with_texts (texts_in context.now)
-            (name_ahead begun.now.name)) (progress_over work.old self.old) work.new.names.now) }
-        ensures bound { work.new.steps.now ≤ work.old.steps.now +
-            limit_in context.now.flags.now (after_answers context.now.flags.now (with_texts (texts_in context.now)
-            (name_ahead begun.now.name)) (progress_over work.old self.old)).known.ended }
-        ensures same { IsSameWork work.old work.new }
-        ensures idle { work.new.store.now.building ≡ None }
-    {
-        match begun.name {
-            None => Ok(()),
-            Some(token) => self.named_answer(&Lexed::Token(token), context, work),
-        }
+/// A section name that was read because its sign might have stood behind it.
+fn name_ahead<L: Ledger>(
+    translator: &mut Translator,
+    begun: &Beginning,
+    context: &Context,
+    work: &mut Work<L>,
+) -> Result<(), Memory>
+    requires start { StartsBelow (2 ^ 32) (name_ahead begun.now.name) }
+    requires kept { AreNamesOf context.now.sec_names.now context.now.uses.now }
+    requires translating { IsTranslating work.old.store.now work.old.names.now translator.old }
+    ensures translating { OnOk result (IsTranslating work.new.store.now work.new.names.now translator.new) }
+    ensures come { OnOk result (HasComeOver context.now.flags.now translator.old work.old translator.new work.new
+        (after_answers context.now.flags.now (with_texts (texts_in context.now) (name_ahead begun.now.name))
+        (progress_over work.old translator.old))) }
+    ensures keeps { OnOk result (Keeps work.old.store.now.lists work.new.store.now.lists
+        (all_roots translator.old.nesting) (all_roots translator.new.nesting)) }
+    ensures names { OnErr result (NamesAmong context.now.flags.now (with_texts (texts_in context.now)
+        (name_ahead begun.now.name)) (progress_over work.old translator.old) work.new.names.now) }
+    ensures bound { work.new.steps.now ≤ work.old.steps.now +
+        limit_in context.now.flags.now (after_answers context.now.flags.now (with_texts (texts_in context.now)
+        (name_ahead begun.now.name)) (progress_over work.old translator.old)).known.ended }
+    ensures same { IsSameWork work.old work.new }
+    ensures idle { work.new.store.now.building ≡ None }
+{
+    match begun.name {
+        None => Ok(()),
+        Some(token) => named_answer(translator, &Lexed::Token(token), context, work),
     }
+}
 
-    /// The answers behind a head: those that were read beyond it, and then all others.
-    pub(crate) fn read_behind<L: Ledger>(
-        &mut self,
-        begun: &Beginning,
-        reader: &mut Reader,
-        context: &Context,
-        work: &mut Work<L>,
-    ) -> Result<(), Memory>
-        requires start { StartsBelow (2 ^ 32) (answers_ahead begun.now ++ reader.old.coming) }
-        requires kept { AreNamesOf context.now.sec_names.now context.now.uses.now }
-        requires translating { IsTranslating work.old.store.now work.old.names.now self.old }
-        ensures read { OnOk result (IsReadUp reader.old reader.new) }
-        ensures translating { OnOk result (IsTranslating work.new.store.now work.new.names.now self.new) }
-        ensures come { OnOk result (HasComeOver context.now.flags.now self.old work.old self.new work.new
-            (after_answers context.now.flags.now (with_texts (texts_in context.now) (answers_ahead begun.now ++
-            reader.old.coming)) (progress_over work.old self.old))) }
-        ensures keeps { OnOk result (Keeps work.old.store.now.lists work.new.store.now.lists
-            (all_roots self.old.nesting) (all_roots self.new.nesting)) }
-        ensures names { OnErr result (NamesAmong context.now.flags.now (with_texts (texts_in context.now)
-            (answers_ahead begun.now ++ reader.old.coming)) (progress_over work.old self.old) work.new.names.now) }
-        ensures bound { work.new.steps.now ≤ work.old.steps.now +
-            limit_in context.now.flags.now (after_answers context.now.flags.now (with_texts (texts_in context.now)
-            (answers_ahead begun.now ++ reader.old.coming)) (progress_over work.old self.old)).known.ended }
-        ensures same { IsSameWork work.old work.new }
-        ensures idle { work.new.store.now.building ≡ None }
-    {
-        self.name_ahead(begun, context, work)?;
-        self.named_answer(&begun.next, context, work)?;
-        self.read_named(reader, context, work)
-    }
+/// The answers behind a head: those that were read beyond it, and then all others.
+pub(crate) fn read_behind<L: Ledger>(
+    translator: &mut Translator,
+    begun: &Beginning,
+    reader: &mut Reader,
+    context: &Context,
+    work: &mut Work<L>,
+) -> Result<(), Memory>
+    requires start { StartsBelow (2 ^ 32) (answers_ahead begun.now ++ reader.old.coming) }
+    requires kept { AreNamesOf context.now.sec_names.now context.now.uses.now }
+    requires translating { IsTranslating work.old.store.now work.old.names.now translator.old }
+    ensures read { OnOk result (IsReadUp reader.old reader.new) }
+    ensures translating { OnOk result (IsTranslating work.new.store.now work.new.names.now translator.new) }
+    ensures come { OnOk result (HasComeOver context.now.flags.now translator.old work.old translator.new work.new
+        (after_answers context.now.flags.now (with_texts (texts_in context.now) (answers_ahead begun.now ++
+        reader.old.coming)) (progress_over work.old translator.old))) }
+    ensures keeps { OnOk result (Keeps work.old.store.now.lists work.new.store.now.lists
+        (all_roots translator.old.nesting) (all_roots translator.new.nesting)) }
+    ensures names { OnErr result (NamesAmong context.now.flags.now (with_texts (texts_in context.now)
+        (answers_ahead begun.now ++ reader.old.coming)) (progress_over work.old translator.old) work.new.names.now) }
+    ensures bound { work.new.steps.now ≤ work.old.steps.now +
+        limit_in context.now.flags.now (after_answers context.now.flags.now (with_texts (texts_in context.now)
+        (answers_ahead begun.now ++ reader.old.coming)) (progress_over work.old translator.old)).known.ended }
+    ensures same { IsSameWork work.old work.new }
+    ensures idle { work.new.store.now.building ≡ None }
+{
+    name_ahead(translator, begun, context, work)?;
+    named_answer(translator, &begun.next, context, work)?;
+    read_named(translator, reader, context, work)
+}
 
-    /// A text with its head.
-    fn read_headed<L: Ledger>(
-        &mut self,
-        begun: &Beginning,
-        reader: &mut Reader,
-        context: &Context,
-        work: &mut Work<L>,
-    ) -> Result<(), Memory>
-        requires start { StartsBelow (2 ^ 32) (answers_ahead begun.now ++ reader.old.coming) }
-        requires kept { AreNamesOf context.now.sec_names.now context.now.uses.now }
-        requires translating { IsTranslating work.old.store.now work.old.names.now self.old }
-        ensures read { OnOk result (IsReadUp reader.old reader.new) }
-        ensures translating { OnOk result (IsTranslating work.new.store.now work.new.names.now self.new) }
-        ensures come { OnOk result (HasComeOver context.now.flags.now self.old work.old self.new work.new
-            (after_answers context.now.flags.now (with_texts (texts_in context.now) (answers_ahead begun.now ++
-            reader.old.coming)) (after_head context.now.flags.now (texts_in context.now) begun.now.head
-            (progress_over work.old self.old)))) }
-        ensures keeps { OnOk result (Keeps work.old.store.now.lists work.new.store.now.lists
-            (all_roots self.old.nesting) (all_roots self.new.nesting)) }
-        ensures names { OnErr result (NamesOfHeaded context.now.flags.now (texts_in context.now) begun.now.head
-            (answers_ahead begun.now ++ reader.old.coming) (progress_over work.old self.old) work.new.names.now) }
-        ensures bound { work.new.steps.now ≤ work.old.steps.now +
-            limit_in context.now.flags.now (after_answers context.now.flags.now (with_texts (texts_in context.now)
-            (answers_ahead begun.now ++ reader.old.coming)) (after_head context.now.flags.now (texts_in context.now)
-            begun.now.head (progress_over work.old self.old))).known.ended }
-        ensures same { IsSameWork work.old work.new }
-        ensures idle { work.new.store.now.building ≡ None }
-    {
-        self.head_name(begun.head, context, work)?;
-        self.read_behind(begun, reader, context, work)
-    }
+/// A text with its head.
+fn read_headed<L: Ledger>(
+    translator: &mut Translator,
+    begun: &Beginning,
+    reader: &mut Reader,
+    context: &Context,
+    work: &mut Work<L>,
+) -> Result<(), Memory>
+    requires start { StartsBelow (2 ^ 32) (answers_ahead begun.now ++ reader.old.coming) }
+    requires kept { AreNamesOf context.now.sec_names.now context.now.uses.now }
+    requires translating { IsTranslating work.old.store.now work.old.names.now translator.old }
+    ensures read { OnOk result (IsReadUp reader.old reader.new) }
+    ensures translating { OnOk result (IsTranslating work.new.store.now work.new.names.now translator.new) }
+    ensures come { OnOk result (HasComeOver context.now.flags.now translator.old work.old translator.new work.new
+        (after_answers context.now.flags.now (with_texts (texts_in context.now) (answers_ahead begun.now ++
+        reader.old.coming)) (after_head context.now.flags.now (texts_in context.now) begun.now.head
+        (progress_over work.old translator.old)))) }
+    ensures keeps { OnOk result (Keeps work.old.store.now.lists work.new.store.now.lists
+        (all_roots translator.old.nesting) (all_roots translator.new.nesting)) }
+    ensures names { OnErr result (NamesOfHeaded context.now.flags.now (texts_in context.now) begun.now.head
+        (answers_ahead begun.now ++ reader.old.coming) (progress_over work.old translator.old) work.new.names.now) }
+    ensures bound { work.new.steps.now ≤ work.old.steps.now +
+        limit_in context.now.flags.now (after_answers context.now.flags.now (with_texts (texts_in context.now)
+        (answers_ahead begun.now ++ reader.old.coming)) (after_head context.now.flags.now (texts_in context.now)
+        begun.now.head (progress_over work.old translator.old))).known.ended }
+    ensures same { IsSameWork work.old work.new }
+    ensures idle { work.new.store.now.building ≡ None }
+{
+    head_name(translator, begun.head, context, work)?;
+    read_behind(translator, begun, reader, context, work)
 }
 
 /// Translates a text that begins with this head.
@@ -260,8 +264,8 @@ pub(crate) fn translate_headed<L: Ledger>(
     ensures same { IsSameWork work.old work.new }
     ensures idle { work.new.store.now.building ≡ None }
 {
-    let mut translator = Translator::with_head(begun.head, context.alloc)?;
-    translator.read_headed(begun, reader, context, work)?;
+    let mut translator = with_head(begun.head, context.alloc)?;
+    read_headed(&mut translator, begun, reader, context, work)?;
     translator.end(context, work)
 }
 

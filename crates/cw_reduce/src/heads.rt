@@ -14,12 +14,12 @@ ghost use Rattle.cw_base.specs.declared.mode.MathMode.TheVariants as Modes;
 ghost use Rattle.cw_trees.specs.declared.Control.TheVariants as Controls;
 ghost use Rattle.cw_tokens.specs.declared.token.Token.TheVariants as Tokens;
 ghost use Rattle.cw_reduce.specs.declared.heads.HeadRead.TheVariants as Heads;
-ghost use Rattle.cw_reduce.specs.Gathering.{refs_in};
+ghost use Rattle.cw_rewrite.specs.Gathering.{refs_in};
 ghost use Rattle.cw_reduce.specs.HeadReading.{HasTokens, IsLast, NamesWithin, answer_words, answers_ahead};
 ghost use Rattle.cw_reduce.specs.HeadReading.{format_tokens, head_line, head_named, is_definition, is_name};
 ghost use Rattle.cw_reduce.specs.HeadReading.{macro_tokens, read_made, without_notes, words_in, words_tokens};
-ghost use Rattle.cw_reduce.specs.Opening.{StartsBelow, answers_in};
-ghost use Rattle.cw_reduce.specs.Translating.{Known, NameTexts, dollared, head_made, spelled, with_names};
+ghost use Rattle.cw_translator.specs.Opening.{StartsBelow, answers_in};
+ghost use Rattle.cw_translator.specs.Translating.{Known, NameTexts, dollared, head_made, spelled, with_names};
 
 use cw_answers::Reader;
 use cw_base::{MathMode, Memory};

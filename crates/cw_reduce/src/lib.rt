@@ -2,21 +2,15 @@
 #![tactic(auto)]
 
 mod alone;
-mod gathering;
 mod headed;
 mod heads;
-mod holders;
-mod kinds;
 mod laws;
 mod naming;
-mod nesting;
 mod translating;
 mod uncut;
-mod walk;
-mod work;
 
+pub use cw_rewrite::{Reduced, reduce};
+pub use cw_translator::{Context, Translated, Work};
 pub use laws::translation_laws;
-pub use translating::{Translated, translate, translate_read};
+pub use translating::{translate, translate_read};
 pub use uncut::{is_plain_c, is_uncut};
-pub use walk::{Reduced, reduce};
-pub use work::{Context, Work};

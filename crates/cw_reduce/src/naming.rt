@@ -6,22 +6,21 @@ ghost use Rattle.cw_lex.specs.Lexing.{tokens_of};
 ghost use Rattle.cw_lex.specs.Nested.{until_section};
 ghost use Rattle.cw_scraps.specs.Changing.{Keeps};
 ghost use Rattle.cw_answers.specs.Reading.{IsReadUp};
-ghost use Rattle.cw_reduce.specs.Counting.{limit_in};
-ghost use Rattle.cw_reduce.specs.NameParts.{AreNamesOf, parts_by_kind, parts_of_name};
-ghost use Rattle.cw_reduce.specs.Naming.{held_answers, is_name_answer, is_name_kind, text_answers, texts_answers};
-ghost use Rattle.cw_reduce.specs.Naming.{token_answers, with_texts};
-ghost use Rattle.cw_reduce.specs.Opening.{IsTranslating, StartsBelow, all_roots, answers_in};
-ghost use Rattle.cw_reduce.specs.Reading.{after_answers, with_held};
-ghost use Rattle.cw_reduce.specs.Retyping.{NamesAmong};
-ghost use Rattle.cw_reduce.specs.Working.{HasComeOver, IsSameWork, progress_over, texts_in};
+ghost use Rattle.cw_translator.specs.Counting.{limit_in};
+ghost use Rattle.cw_translator.specs.NameParts.{AreNamesOf, parts_by_kind, parts_of_name};
+ghost use Rattle.cw_translator.specs.Naming.{held_answers, is_name_answer, is_name_kind, text_answers, texts_answers};
+ghost use Rattle.cw_translator.specs.Naming.{token_answers, with_texts};
+ghost use Rattle.cw_translator.specs.Opening.{IsTranslating, StartsBelow, all_roots, answers_in};
+ghost use Rattle.cw_translator.specs.Reading.{after_answers, with_held};
+ghost use Rattle.cw_translator.specs.Retyping.{NamesAmong};
+ghost use Rattle.cw_translator.specs.Working.{HasComeOver, IsSameWork, progress_over, texts_in};
 
-use crate::holders::Holder;
-use crate::translating::Translator;
-use crate::work::{Context, Work};
+use crate::uncut::ends_text;
 use cw_answers::Reader;
 use cw_base::{Ledger, Memory, Span};
 use cw_lex::{Code, Lexed, Lexer, Mode, Tok, TokKind};
 use cw_secnames::{SecKind, next_part};
+use cw_translator::{Context, Holder, Translator, Work};
 
 /// Whether an answer is a section name.
 fn is_name(answer: &Lexed) -> bool
@@ -36,251 +35,280 @@ fn is_name(answer: &Lexed) -> bool
     }
 }
 
-impl Translator {
-    /// An inner text of a section name, up to a section code. It lies in the name's own text.
-    fn inner_text<L: Ledger>(
-        &mut self,
-        text: &[u8],
-        span: Span,
-        context: &Context,
-        work: &mut Work<L>,
-    ) -> Result<(), Memory>
-        requires order { span.start ≤ span.end }
-        requires within { span.end ≤ length text.now }
-        requires short { length text.now ≤ 2 ^ 24 }
-        requires translating { IsTranslating work.old.store.now work.old.names.now self.old }
-        ensures translating { OnOk result (IsTranslating work.new.store.now work.new.names.now self.new) }
-        ensures come { OnOk result (HasComeOver context.now.flags.now self.old work.old self.new work.new
-            (after_answers context.now.flags.now (text_answers
-            (until_section (tokens_of text.now span.start span.end Inner))) (progress_over work.old self.old))) }
-        ensures keeps { OnOk result (Keeps work.old.store.now.lists work.new.store.now.lists
-            (all_roots self.old.nesting) (all_roots self.new.nesting)) }
-        ensures names { OnErr result (NamesAmong context.now.flags.now
-            (text_answers (until_section (tokens_of text.now span.start span.end Inner)))
-            (progress_over work.old self.old) work.new.names.now) }
-        ensures bound { work.new.steps.now ≤ work.old.steps.now +
-            limit_in context.now.flags.now (after_answers context.now.flags.now
-            (text_answers (until_section (tokens_of text.now span.start span.end Inner)))
-            (progress_over work.old self.old)).known.ended }
-        ensures same { IsSameWork work.old work.new }
-        ensures idle { work.new.store.now.building ≡ None }
-    {
-        self.open_text(context.alloc)?;
-        let mut lexer = Lexer::over(text, span.start, span.end, Mode::Inner);
-        self.read(&mut lexer, context, work)?;
-        self.finish(
-            context.flags,
-            work.names,
-            work.store,
-            work.marks,
-            work.steps,
-        )
+/// All answers of a scanner up to a section code.
+fn read_until_section<L: Ledger>(
+    translator: &mut Translator,
+    lexer: &mut Lexer,
+    context: &Context,
+    work: &mut Work<L>,
+) -> Result<(), Memory>
+    requires translating { IsTranslating work.old.store.now work.old.names.now translator.old }
+    requires start { StartsBelow (2 ^ 32) lexer.old }
+    ensures translating { OnOk result (IsTranslating work.new.store.now work.new.names.now translator.new) }
+    ensures come { OnOk result (HasComeOver context.now.flags.now translator.old work.old translator.new work.new
+        (after_answers context.now.flags.now (until_section lexer.old) (progress_over work.old translator.old))) }
+    ensures keeps { OnOk result (Keeps work.old.store.now.lists work.new.store.now.lists
+        (all_roots translator.old.nesting) (all_roots translator.new.nesting)) }
+    ensures names { OnErr result (NamesAmong context.now.flags.now (until_section lexer.old)
+        (progress_over work.old translator.old) work.new.names.now) }
+    ensures bound { work.new.steps.now ≤ work.old.steps.now +
+        limit_in context.now.flags.now (after_answers context.now.flags.now (until_section lexer.old)
+        (progress_over work.old translator.old)).known.ended }
+    ensures same { IsSameWork work.old work.new }
+    ensures idle { work.new.store.now.building ≡ None }
+{
+    loop {
+        let answer = lexer.next();
+        if ends_text(&answer) {
+            return Ok(());
+        }
+        translator.answer(&answer, context, work)?;
     }
+}
 
-    /// The inner texts of a section name, one after another.
-    fn inner_texts<L: Ledger>(
-        &mut self,
-        text: &[u8],
-        context: &Context,
-        work: &mut Work<L>,
-    ) -> Result<(), Memory>
-        requires short { length text.now ≤ 2 ^ 24 }
-        requires translating { IsTranslating work.old.store.now work.old.names.now self.old }
-        ensures translating { OnOk result (IsTranslating work.new.store.now work.new.names.now self.new) }
-        ensures come { OnOk result (HasComeOver context.now.flags.now self.old work.old self.new work.new
-            (after_answers context.now.flags.now (texts_answers (parts_of_name text.now))
-            (progress_over work.old self.old))) }
-        ensures keeps { OnOk result (Keeps work.old.store.now.lists work.new.store.now.lists
-            (all_roots self.old.nesting) (all_roots self.new.nesting)) }
-        ensures names { OnErr result (NamesAmong context.now.flags.now (texts_answers (parts_of_name text.now))
-            (progress_over work.old self.old) work.new.names.now) }
-        ensures bound { work.new.steps.now ≤ work.old.steps.now +
-            limit_in context.now.flags.now (after_answers context.now.flags.now (texts_answers (parts_of_name text.now))
-            (progress_over work.old self.old)).known.ended }
-        ensures same { IsSameWork work.old work.new }
-        ensures idle { work.new.store.now.building ≡ None }
-    {
-        let mut from = 0;
-        loop {
-            match next_part(text, from) {
-                None => return Ok(()),
-                Some(span) => {
-                    self.inner_text(text, span, context, work)?;
-                    from = span.end + 1;
-                }
+/// An inner text of a section name, up to a section code. It lies in the name's own text.
+fn inner_text<L: Ledger>(
+    translator: &mut Translator,
+    text: &[u8],
+    span: Span,
+    context: &Context,
+    work: &mut Work<L>,
+) -> Result<(), Memory>
+    requires order { span.start ≤ span.end }
+    requires within { span.end ≤ length text.now }
+    requires short { length text.now ≤ 2 ^ 24 }
+    requires translating { IsTranslating work.old.store.now work.old.names.now translator.old }
+    ensures translating { OnOk result (IsTranslating work.new.store.now work.new.names.now translator.new) }
+    ensures come { OnOk result (HasComeOver context.now.flags.now translator.old work.old translator.new work.new
+        (after_answers context.now.flags.now (text_answers
+        (until_section (tokens_of text.now span.start span.end Inner))) (progress_over work.old translator.old))) }
+    ensures keeps { OnOk result (Keeps work.old.store.now.lists work.new.store.now.lists
+        (all_roots translator.old.nesting) (all_roots translator.new.nesting)) }
+    ensures names { OnErr result (NamesAmong context.now.flags.now
+        (text_answers (until_section (tokens_of text.now span.start span.end Inner)))
+        (progress_over work.old translator.old) work.new.names.now) }
+    ensures bound { work.new.steps.now ≤ work.old.steps.now +
+        limit_in context.now.flags.now (after_answers context.now.flags.now
+        (text_answers (until_section (tokens_of text.now span.start span.end Inner)))
+        (progress_over work.old translator.old)).known.ended }
+    ensures same { IsSameWork work.old work.new }
+    ensures idle { work.new.store.now.building ≡ None }
+{
+    translator.open_text(context.alloc)?;
+    let mut lexer = Lexer::over(text, span.start, span.end, Mode::Inner);
+    read_until_section(translator, &mut lexer, context, work)?;
+    translator.finish(
+        context.flags,
+        work.names,
+        work.store,
+        work.marks,
+        work.steps,
+    )
+}
+
+/// The inner texts of a section name, one after another.
+fn inner_texts<L: Ledger>(
+    translator: &mut Translator,
+    text: &[u8],
+    context: &Context,
+    work: &mut Work<L>,
+) -> Result<(), Memory>
+    requires short { length text.now ≤ 2 ^ 24 }
+    requires translating { IsTranslating work.old.store.now work.old.names.now translator.old }
+    ensures translating { OnOk result (IsTranslating work.new.store.now work.new.names.now translator.new) }
+    ensures come { OnOk result (HasComeOver context.now.flags.now translator.old work.old translator.new work.new
+        (after_answers context.now.flags.now (texts_answers (parts_of_name text.now))
+        (progress_over work.old translator.old))) }
+    ensures keeps { OnOk result (Keeps work.old.store.now.lists work.new.store.now.lists
+        (all_roots translator.old.nesting) (all_roots translator.new.nesting)) }
+    ensures names { OnErr result (NamesAmong context.now.flags.now (texts_answers (parts_of_name text.now))
+        (progress_over work.old translator.old) work.new.names.now) }
+    ensures bound { work.new.steps.now ≤ work.old.steps.now +
+        limit_in context.now.flags.now (after_answers context.now.flags.now (texts_answers (parts_of_name text.now))
+        (progress_over work.old translator.old)).known.ended }
+    ensures same { IsSameWork work.old work.new }
+    ensures idle { work.new.store.now.building ≡ None }
+{
+    let mut from = 0;
+    loop {
+        match next_part(text, from) {
+            None => return Ok(()),
+            Some(span) => {
+                inner_text(translator, text, span, context, work)?;
+                from = span.end + 1;
             }
         }
     }
+}
 
-    /// The inner texts of a name of `@<`. A name of `@(` has none.
-    fn texts_by_kind<L: Ledger>(
-        &mut self,
-        kind: SecKind,
-        text: &[u8],
-        context: &Context,
-        work: &mut Work<L>,
-    ) -> Result<(), Memory>
-        requires short { length text.now ≤ 2 ^ 24 }
-        requires translating { IsTranslating work.old.store.now work.old.names.now self.old }
-        ensures translating { OnOk result (IsTranslating work.new.store.now work.new.names.now self.new) }
-        ensures come { OnOk result (HasComeOver context.now.flags.now self.old work.old self.new work.new
-            (after_answers context.now.flags.now (texts_answers (parts_by_kind kind text.now))
-            (progress_over work.old self.old))) }
-        ensures keeps { OnOk result (Keeps work.old.store.now.lists work.new.store.now.lists
-            (all_roots self.old.nesting) (all_roots self.new.nesting)) }
-        ensures names { OnErr result (NamesAmong context.now.flags.now (texts_answers (parts_by_kind kind text.now))
-            (progress_over work.old self.old) work.new.names.now) }
-        ensures bound { work.new.steps.now ≤ work.old.steps.now +
-            limit_in context.now.flags.now (after_answers context.now.flags.now
-            (texts_answers (parts_by_kind kind text.now)) (progress_over work.old self.old)).known.ended }
-        ensures same { IsSameWork work.old work.new }
-        ensures idle { work.new.store.now.building ≡ None }
-    {
-        match kind {
-            SecKind::Named => self.inner_texts(text, context, work),
-            SecKind::File => Ok(()),
+/// The inner texts of a name of `@<`. A name of `@(` has none.
+fn texts_by_kind<L: Ledger>(
+    translator: &mut Translator,
+    kind: SecKind,
+    text: &[u8],
+    context: &Context,
+    work: &mut Work<L>,
+) -> Result<(), Memory>
+    requires short { length text.now ≤ 2 ^ 24 }
+    requires translating { IsTranslating work.old.store.now work.old.names.now translator.old }
+    ensures translating { OnOk result (IsTranslating work.new.store.now work.new.names.now translator.new) }
+    ensures come { OnOk result (HasComeOver context.now.flags.now translator.old work.old translator.new work.new
+        (after_answers context.now.flags.now (texts_answers (parts_by_kind kind text.now))
+        (progress_over work.old translator.old))) }
+    ensures keeps { OnOk result (Keeps work.old.store.now.lists work.new.store.now.lists
+        (all_roots translator.old.nesting) (all_roots translator.new.nesting)) }
+    ensures names { OnErr result (NamesAmong context.now.flags.now (texts_answers (parts_by_kind kind text.now))
+        (progress_over work.old translator.old) work.new.names.now) }
+    ensures bound { work.new.steps.now ≤ work.old.steps.now +
+        limit_in context.now.flags.now (after_answers context.now.flags.now
+        (texts_answers (parts_by_kind kind text.now)) (progress_over work.old translator.old)).known.ended }
+    ensures same { IsSameWork work.old work.new }
+    ensures idle { work.new.store.now.building ≡ None }
+{
+    match kind {
+        SecKind::Named => inner_texts(translator, text, context, work),
+        SecKind::File => Ok(()),
+    }
+}
+
+/// A section name with the text that is kept of it: it begins, its inner texts are translated, and it ends.
+pub(crate) fn kept_name<L: Ledger>(
+    translator: &mut Translator,
+    holder: Holder,
+    kind: SecKind,
+    text: &[u8],
+    context: &Context,
+    work: &mut Work<L>,
+) -> Result<(), Memory>
+    requires short { length text.now ≤ 2 ^ 24 }
+    requires translating { IsTranslating work.old.store.now work.old.names.now translator.old }
+    ensures translating { OnOk result (IsTranslating work.new.store.now work.new.names.now translator.new) }
+    ensures come { OnOk result (HasComeOver context.now.flags.now translator.old work.old translator.new work.new
+        (after_answers context.now.flags.now (held_answers (parts_by_kind kind text.now))
+        (with_held holder (progress_over work.old translator.old)))) }
+    ensures keeps { OnOk result (Keeps work.old.store.now.lists work.new.store.now.lists
+        (all_roots translator.old.nesting) (all_roots translator.new.nesting)) }
+    ensures names { OnErr result (NamesAmong context.now.flags.now (held_answers (parts_by_kind kind text.now))
+        (with_held holder (progress_over work.old translator.old)) work.new.names.now) }
+    ensures bound { work.new.steps.now ≤ work.old.steps.now +
+        limit_in context.now.flags.now (after_answers context.now.flags.now
+        (held_answers (parts_by_kind kind text.now)) (with_held holder
+        (progress_over work.old translator.old))).known.ended }
+    ensures same { IsSameWork work.old work.new }
+    ensures idle { work.new.store.now.building ≡ None }
+{
+    translator.hold(holder, context.alloc)?;
+    texts_by_kind(translator, kind, text, context, work)?;
+    translator.finish(
+        context.flags,
+        work.names,
+        work.store,
+        work.marks,
+        work.steps,
+    )
+}
+
+/// A section name in C text. Without a pair it stands for nothing.
+fn section_name<L: Ledger>(
+    translator: &mut Translator,
+    token: &Tok,
+    context: &Context,
+    work: &mut Work<L>,
+) -> Result<(), Memory>
+    requires kind { is_name_kind token.now.kind ≡ true }
+    requires start { token.now.span.start < 2 ^ 32 }
+    requires kept { AreNamesOf context.now.sec_names.now context.now.uses.now }
+    requires translating { IsTranslating work.old.store.now work.old.names.now translator.old }
+    ensures translating { OnOk result (IsTranslating work.new.store.now work.new.names.now translator.new) }
+    ensures come { OnOk result (HasComeOver context.now.flags.now translator.old work.old translator.new work.new
+        (after_answers context.now.flags.now (token_answers (texts_in context.now) token.now.kind (seen token.now))
+        (progress_over work.old translator.old))) }
+    ensures keeps { OnOk result (Keeps work.old.store.now.lists work.new.store.now.lists
+        (all_roots translator.old.nesting) (all_roots translator.new.nesting)) }
+    ensures names { OnErr result (NamesAmong context.now.flags.now (token_answers (texts_in context.now)
+        token.now.kind (seen token.now)) (progress_over work.old translator.old) work.new.names.now) }
+    ensures bound { work.new.steps.now ≤ work.old.steps.now +
+        limit_in context.now.flags.now (after_answers context.now.flags.now (token_answers (texts_in context.now)
+        token.now.kind (seen token.now)) (progress_over work.old translator.old)).known.ended }
+    ensures same { IsSameWork work.old work.new }
+    ensures idle { work.new.store.now.building ≡ None }
+{
+    let number = token.span.start as u32;
+    match context.uses.at(number) {
+        None => Ok(()),
+        Some(id) => {
+            let kind = context.sec_names.kind(id);
+            let text = context.sec_names.text(id);
+            kept_name(translator, Holder::Name(number), kind, text, context, work)
         }
     }
+}
 
-    /// A section name with the text that is kept of it: it begins, its inner texts are translated, and it ends.
-    pub(crate) fn kept_name<L: Ledger>(
-        &mut self,
-        holder: Holder,
-        kind: SecKind,
-        text: &[u8],
-        context: &Context,
-        work: &mut Work<L>,
-    ) -> Result<(), Memory>
-        requires short { length text.now ≤ 2 ^ 24 }
-        requires translating { IsTranslating work.old.store.now work.old.names.now self.old }
-        ensures translating { OnOk result (IsTranslating work.new.store.now work.new.names.now self.new) }
-        ensures come { OnOk result (HasComeOver context.now.flags.now self.old work.old self.new work.new
-            (after_answers context.now.flags.now (held_answers (parts_by_kind kind text.now))
-            (with_held holder (progress_over work.old self.old)))) }
-        ensures keeps { OnOk result (Keeps work.old.store.now.lists work.new.store.now.lists
-            (all_roots self.old.nesting) (all_roots self.new.nesting)) }
-        ensures names { OnErr result (NamesAmong context.now.flags.now (held_answers (parts_by_kind kind text.now))
-            (with_held holder (progress_over work.old self.old)) work.new.names.now) }
-        ensures bound { work.new.steps.now ≤ work.old.steps.now +
-            limit_in context.now.flags.now (after_answers context.now.flags.now
-            (held_answers (parts_by_kind kind text.now)) (with_held holder
-            (progress_over work.old self.old))).known.ended }
-        ensures same { IsSameWork work.old work.new }
-        ensures idle { work.new.store.now.building ≡ None }
-    {
-        self.hold(holder, context.alloc)?;
-        self.texts_by_kind(kind, text, context, work)?;
-        self.finish(
-            context.flags,
-            work.names,
-            work.store,
-            work.marks,
-            work.steps,
-        )
+/// One answer of the scanner, in which section names stand for their texts.
+#[inline(always)]
+pub(crate) fn named_answer<L: Ledger>(
+    translator: &mut Translator,
+    answer: &Lexed,
+    context: &Context,
+    work: &mut Work<L>,
+) -> Result<(), Memory>
+    requires start { StartsBelow (2 ^ 32) (answers_in answer.now) }
+    requires kept { AreNamesOf context.now.sec_names.now context.now.uses.now }
+    requires translating { IsTranslating work.old.store.now work.old.names.now translator.old }
+    ensures translating { OnOk result (IsTranslating work.new.store.now work.new.names.now translator.new) }
+    ensures come { OnOk result (HasComeOver context.now.flags.now translator.old work.old translator.new work.new
+        (after_answers context.now.flags.now (with_texts (texts_in context.now) (answers_in answer.now))
+        (progress_over work.old translator.old))) }
+    ensures keeps { OnOk result (Keeps work.old.store.now.lists work.new.store.now.lists
+        (all_roots translator.old.nesting) (all_roots translator.new.nesting)) }
+    ensures names { OnErr result (NamesAmong context.now.flags.now (with_texts (texts_in context.now)
+        (answers_in answer.now)) (progress_over work.old translator.old) work.new.names.now) }
+    ensures bound { work.new.steps.now ≤ work.old.steps.now +
+        limit_in context.now.flags.now (after_answers context.now.flags.now (with_texts (texts_in context.now)
+        (answers_in answer.now)) (progress_over work.old translator.old)).known.ended }
+    ensures same { IsSameWork work.old work.new }
+    ensures idle { work.new.store.now.building ≡ None }
+{
+    if !is_name(answer) {
+        return translator.answer(answer, context, work);
     }
-
-    /// A section name in C text. Without a pair it stands for nothing.
-    fn name<L: Ledger>(
-        &mut self,
-        token: &Tok,
-        context: &Context,
-        work: &mut Work<L>,
-    ) -> Result<(), Memory>
-        requires kind { is_name_kind token.now.kind ≡ true }
-        requires start { token.now.span.start < 2 ^ 32 }
-        requires kept { AreNamesOf context.now.sec_names.now context.now.uses.now }
-        requires translating { IsTranslating work.old.store.now work.old.names.now self.old }
-        ensures translating { OnOk result (IsTranslating work.new.store.now work.new.names.now self.new) }
-        ensures come { OnOk result (HasComeOver context.now.flags.now self.old work.old self.new work.new
-            (after_answers context.now.flags.now (token_answers (texts_in context.now) token.now.kind (seen token.now))
-            (progress_over work.old self.old))) }
-        ensures keeps { OnOk result (Keeps work.old.store.now.lists work.new.store.now.lists
-            (all_roots self.old.nesting) (all_roots self.new.nesting)) }
-        ensures names { OnErr result (NamesAmong context.now.flags.now (token_answers (texts_in context.now)
-            token.now.kind (seen token.now)) (progress_over work.old self.old) work.new.names.now) }
-        ensures bound { work.new.steps.now ≤ work.old.steps.now +
-            limit_in context.now.flags.now (after_answers context.now.flags.now (token_answers (texts_in context.now)
-            token.now.kind (seen token.now)) (progress_over work.old self.old)).known.ended }
-        ensures same { IsSameWork work.old work.new }
-        ensures idle { work.new.store.now.building ≡ None }
-    {
-        let number = token.span.start as u32;
-        match context.uses.at(number) {
-            None => Ok(()),
-            Some(id) => {
-                let kind = context.sec_names.kind(id);
-                let text = context.sec_names.text(id);
-                self.kept_name(Holder::Name(number), kind, text, context, work)
-            }
-        }
+    match answer {
+        Lexed::Token(token) => section_name(translator, token, context, work),
+        _ => Ok(()),
     }
+}
 
-    /// One answer of the scanner, in which section names stand for their texts.
-    #[inline(always)]
-    pub(crate) fn named_answer<L: Ledger>(
-        &mut self,
-        answer: &Lexed,
-        context: &Context,
-        work: &mut Work<L>,
-    ) -> Result<(), Memory>
-        requires start { StartsBelow (2 ^ 32) (answers_in answer.now) }
-        requires kept { AreNamesOf context.now.sec_names.now context.now.uses.now }
-        requires translating { IsTranslating work.old.store.now work.old.names.now self.old }
-        ensures translating { OnOk result (IsTranslating work.new.store.now work.new.names.now self.new) }
-        ensures come { OnOk result (HasComeOver context.now.flags.now self.old work.old self.new work.new
-            (after_answers context.now.flags.now (with_texts (texts_in context.now) (answers_in answer.now))
-            (progress_over work.old self.old))) }
-        ensures keeps { OnOk result (Keeps work.old.store.now.lists work.new.store.now.lists
-            (all_roots self.old.nesting) (all_roots self.new.nesting)) }
-        ensures names { OnErr result (NamesAmong context.now.flags.now (with_texts (texts_in context.now)
-            (answers_in answer.now)) (progress_over work.old self.old) work.new.names.now) }
-        ensures bound { work.new.steps.now ≤ work.old.steps.now +
-            limit_in context.now.flags.now (after_answers context.now.flags.now (with_texts (texts_in context.now)
-            (answers_in answer.now)) (progress_over work.old self.old)).known.ended }
-        ensures same { IsSameWork work.old work.new }
-        ensures idle { work.new.store.now.building ≡ None }
-    {
-        if !is_name(answer) {
-            return self.answer(answer, context, work);
+/// All answers, in which section names stand for their texts.
+pub(crate) fn read_named<L: Ledger>(
+    translator: &mut Translator,
+    reader: &mut Reader,
+    context: &Context,
+    work: &mut Work<L>,
+) -> Result<(), Memory>
+    requires start { StartsBelow (2 ^ 32) reader.old.coming }
+    requires kept { AreNamesOf context.now.sec_names.now context.now.uses.now }
+    requires translating { IsTranslating work.old.store.now work.old.names.now translator.old }
+    ensures read { OnOk result (IsReadUp reader.old reader.new) }
+    ensures translating { OnOk result (IsTranslating work.new.store.now work.new.names.now translator.new) }
+    ensures come { OnOk result (HasComeOver context.now.flags.now translator.old work.old translator.new work.new
+        (after_answers context.now.flags.now (with_texts (texts_in context.now) reader.old.coming)
+        (progress_over work.old translator.old))) }
+    ensures keeps { OnOk result (Keeps work.old.store.now.lists work.new.store.now.lists
+        (all_roots translator.old.nesting) (all_roots translator.new.nesting)) }
+    ensures names { OnErr result (NamesAmong context.now.flags.now
+        (with_texts (texts_in context.now) reader.old.coming) (progress_over work.old translator.old)
+        work.new.names.now) }
+    ensures bound { work.new.steps.now ≤ work.old.steps.now +
+        limit_in context.now.flags.now (after_answers context.now.flags.now (with_texts (texts_in context.now)
+        reader.old.coming) (progress_over work.old translator.old)).known.ended }
+    ensures same { IsSameWork work.old work.new }
+    ensures idle { work.new.store.now.building ≡ None }
+{
+    loop {
+        let answer = reader.next();
+        if matches!(answer, Lexed::End) {
+            return Ok(());
         }
-        match answer {
-            Lexed::Token(token) => self.name(token, context, work),
-            _ => Ok(()),
-        }
-    }
-
-    /// All answers, in which section names stand for their texts.
-    pub(crate) fn read_named<L: Ledger>(
-        &mut self,
-        reader: &mut Reader,
-        context: &Context,
-        work: &mut Work<L>,
-    ) -> Result<(), Memory>
-        requires start { StartsBelow (2 ^ 32) reader.old.coming }
-        requires kept { AreNamesOf context.now.sec_names.now context.now.uses.now }
-        requires translating { IsTranslating work.old.store.now work.old.names.now self.old }
-        ensures read { OnOk result (IsReadUp reader.old reader.new) }
-        ensures translating { OnOk result (IsTranslating work.new.store.now work.new.names.now self.new) }
-        ensures come { OnOk result (HasComeOver context.now.flags.now self.old work.old self.new work.new
-            (after_answers context.now.flags.now (with_texts (texts_in context.now) reader.old.coming)
-            (progress_over work.old self.old))) }
-        ensures keeps { OnOk result (Keeps work.old.store.now.lists work.new.store.now.lists
-            (all_roots self.old.nesting) (all_roots self.new.nesting)) }
-        ensures names { OnErr result (NamesAmong context.now.flags.now
-            (with_texts (texts_in context.now) reader.old.coming) (progress_over work.old self.old)
-            work.new.names.now) }
-        ensures bound { work.new.steps.now ≤ work.old.steps.now +
-            limit_in context.now.flags.now (after_answers context.now.flags.now (with_texts (texts_in context.now)
-            reader.old.coming) (progress_over work.old self.old)).known.ended }
-        ensures same { IsSameWork work.old work.new }
-        ensures idle { work.new.store.now.building ≡ None }
-    {
-        loop {
-            let answer = reader.next();
-            if matches!(answer, Lexed::End) {
-                return Ok(());
-            }
-            self.named_answer(&answer, context, work)?;
-        }
+        named_answer(translator, &answer, context, work)?;
     }
 }

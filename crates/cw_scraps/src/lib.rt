@@ -3,6 +3,7 @@
 
 mod applying;
 mod joining;
+mod kinds;
 mod laws;
 mod leaves;
 mod line;
@@ -17,6 +18,7 @@ mod words;
 pub const PRODUCTION_TOKENS: usize = 24;
 
 pub use applying::Production;
+pub use kinds::makes_leaf;
 pub use laws::mode_law;
 pub use leaves::{Leaf, scrap_of};
 pub use line::{LineEntry, Part, ScrapLine};

@@ -6,7 +6,7 @@ use Rattle.cw_base.specs.Web.{MergedLine, text_of}
 use Rattle.cw_names.specs.Names.{Entry}
 use Rattle.cw_phase1.specs.Book.{BookState, book}
 use Rattle.cw_phase1.specs.declared.sections.Section.{Section}
-use Rattle.cw_reduce.specs.Translating.{translated}
+use Rattle.cw_translator.specs.Translating.{translated}
 use Rattle.cw_table.specs.Normal.{count, log, normal}
 use Rattle.cw_table.specs.NormalWalk.{positions}
 use Rattle.cw_table.specs.Productions.{productions}

@@ -16,7 +16,7 @@ use Rattle.cw_names.specs.declared.xrefs.Occurrence.{Occurrence}
 use Rattle.cw_phase1.specs.declared.book.Book.{Book}
 use Rattle.cw_lines.specs.declared.put_error.PutError.{PutError}
 use Rattle.cw_lines.specs.declared.put_error.PutError.TheVariants.{Memory as out_of_memory}
-use Rattle.cw_reduce.specs.Translating.{translated}
+use Rattle.cw_translator.specs.Translating.{translated}
 use Rattle.cw_rules.specs.Answers.{Answer}
 use Rattle.cw_texpart.specs.declared.counts.Counts.{Counts}
 use Rattle.cw_texpart.specs.Done.{Done}

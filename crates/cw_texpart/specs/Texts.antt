@@ -10,8 +10,8 @@ use Rattle.cw_phase1.specs.Outline.{OutlineState}
 use Rattle.cw_phase1.specs.declared.book.Book.{Book}
 use Rattle.cw_print.specs.Sources.{source}
 use Rattle.cw_print.specs.Walk.{tree_bytes}
-use Rattle.cw_reduce.specs.NameParts.{name_texts}
-use Rattle.cw_reduce.specs.Translating.{Ended, translated}
+use Rattle.cw_translator.specs.NameParts.{name_texts}
+use Rattle.cw_translator.specs.Translating.{Ended, translated}
 use Rattle.cw_secnames.specs.Kept.{SecName}
 use Rattle.cw_secnames.specs.Uses.{NameUse, name_at}
 use Rattle.cw_texpart.specs.Done.{Done, plain}

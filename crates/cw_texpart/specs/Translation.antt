@@ -6,7 +6,7 @@ use Rattle.cw_lex.specs.Nested.{begins_section_in}
 use Rattle.cw_rules.specs.Answers.{Answer}
 use Rattle.cw_texpart.specs.declared.texts.CText.{CText}
 use Rattle.cw_phase1.specs.declared.book.Book.{Book}
-use Rattle.cw_reduce.specs.Counting.{limit_in, productions_in, scraps_in, ticks_in}
+use Rattle.cw_translator.specs.Counting.{limit_in, productions_in, scraps_in, ticks_in}
 use Rattle.cw_tokens.specs.Shapes.{unfolded}
 use Rattle.cw_tokens.specs.declared.token.Token.{Token}
 use Rattle.cw_trees.specs.Tree.{Tree}

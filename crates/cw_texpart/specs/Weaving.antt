@@ -7,7 +7,7 @@ use Rattle.cw_lines.specs.declared.put_error.PutError.{PutError}
 use Rattle.cw_names.specs.declared.entry.NameId.{NameId}
 use Rattle.cw_names.specs.declared.xrefs.Occurrence.{Occurrence}
 use Rattle.cw_phase1.specs.declared.book.Book.{Book}
-use Rattle.cw_reduce.specs.Counting.{limit_in, productions_in, scraps_in, ticks_in}
+use Rattle.cw_translator.specs.Counting.{limit_in, productions_in, scraps_in, ticks_in}
 use Rattle.cw_texpart.specs.Done.{Done}
 use Rattle.cw_texpart.specs.Texts.{Setting, lasting}
 use Rattle.cw_texpart.specs.declared.counts.Counts.{Counts}

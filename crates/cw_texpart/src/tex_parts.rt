@@ -5,7 +5,7 @@ ghost use Rattle.cw_rules.specs.Answers.{seen};
 ghost use Rattle.cw_rules.specs.declared.tokens.Mode.TheVariants.{Inner};
 ghost use Rattle.cw_lines.specs.Writes.{CanWrite, Puts};
 ghost use Rattle.cw_phase1.specs.declared.sections.Section.{Section};
-ghost use Rattle.cw_reduce.specs.NameParts.{AreNamesOf};
+ghost use Rattle.cw_translator.specs.NameParts.{AreNamesOf};
 ghost use Rattle.cw_texpart.specs.Done.{reprinted};
 ghost use Rattle.cw_texpart.specs.Inks.{laid, token_inks};
 ghost use Rattle.cw_texpart.specs.Laying.{holds_bytes, inked};

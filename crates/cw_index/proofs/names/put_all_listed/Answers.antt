@@ -2,7 +2,7 @@
 use Rattle.std.proofs.Common.{ℕ, ◌+◌, List, drop, refl, subst, sym, arith}
 use Rattle.cw_lines.specs.WritesLaws.{can-after}
 use Rattle.cw_part.proofs.WovenLaws.{weaving-begun, weaving-next, weaving-stopped, weaving-wanting}
-use Rattle.cw_reduce.specs.NameParts.{AreNamesOf}
+use Rattle.cw_translator.specs.NameParts.{AreNamesOf}
 use Rattle.cw_texpart.specs.Texts.{Lasting, Setting, lasting}
 use Rattle.cw_index.specs.declared.standing.Listed.{Listed}
 use Rattle.cw_index.specs.ListForms.{setting_in}

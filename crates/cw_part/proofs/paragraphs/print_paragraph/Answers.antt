@@ -3,7 +3,7 @@ use Rattle.std.proofs.Common.{◌≡◌, ℕ, ◌||◌, true, false, ap, ◌∙�
 use Rattle.std.specs.Prelude.{nat_lt}
 use Rattle.cw_lines.specs.WritesLaws.{puts-bytes, puts-longer, puts-then}
 use Rattle.cw_part.specs.PresentForms.{text_of}
-use Rattle.cw_reduce.specs.Counting.{scraps_in}
+use Rattle.cw_translator.specs.Counting.{scraps_in}
 use Rattle.cw_texpart.specs.declared.counts.Counts.{Counts}
 use Rattle.cw_texpart.specs.Done.{Done}
 use Rattle.cw_texpart.specs.Texts.{lasting}

@@ -9,7 +9,7 @@ use Rattle.cw_part.specs.Definitions.{definitions_in, printed}
 use Rattle.cw_part.specs.Parts.{definition_done, definitions_done}
 use Rattle.cw_part.specs.PresentForms.{setting_in}
 use Rattle.cw_part.specs.WholeTexts.{IsWholeDefinition}
-use Rattle.cw_reduce.specs.NameParts.{AreNamesOf}
+use Rattle.cw_translator.specs.NameParts.{AreNamesOf}
 use Rattle.cw_texpart.specs.Texts.{Lasting, Setting, lasting, text_done}
 use Rattle.cw_part.proofs.SectionLaws.{fronted, moved, sums-are, weaving-as}
 use Rattle.cw_part.proofs.WovenLaws.{weaving-begun, weaving-ended, weaving-next, weaving-stopped, weaving-wanting}

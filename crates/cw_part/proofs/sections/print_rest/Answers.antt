@@ -7,7 +7,7 @@ use Rattle.cw_part.specs.Definitions.{printed_definitions}
 use Rattle.cw_part.specs.Parts.{definitions_done, part_done}
 use Rattle.cw_part.specs.PresentForms.{setting_in}
 use Rattle.cw_part.specs.Sections.{ending, rest_done}
-use Rattle.cw_reduce.specs.NameParts.{AreNamesOf}
+use Rattle.cw_translator.specs.NameParts.{AreNamesOf}
 use Rattle.cw_texpart.specs.declared.counts.Counts.{Counts}
 use Rattle.cw_texpart.specs.Done.{Done, plain, then}
 use Rattle.cw_texpart.specs.Texts.{Lasting, Setting, lasting}

@@ -4,13 +4,13 @@ use Rattle.cw_scraps.proofs.Changings.{tied-idle}
 use Rattle.cw_scraps.specs.Leaves.{entry_of}
 use Rattle.cw_scraps.specs.Lines.{IsNamedBelow, roots_of, scraps_of}
 use Rattle.cw_base.specs.declared.flags.Flags.{Flags}
-use Rattle.cw_reduce.specs.Opening.{of_leaf}
-use Rattle.cw_reduce.specs.Retyping.{NamesOnTheWay}
-use Rattle.cw_reduce.specs.Working.{progress_over}
+use Rattle.cw_translator.specs.Opening.{of_leaf}
+use Rattle.cw_translator.specs.Retyping.{NamesOnTheWay}
+use Rattle.cw_translator.specs.Working.{progress_over}
 use Rattle.cw_reduce.proofs.AloneSteps.{alone-done, alone-fails, alone-spent}
-use Rattle.cw_reduce.proofs.AnswerSteps.{on-err}
-use Rattle.cw_reduce.proofs.FinishSteps.{gathers-root}
-use Rattle.cw_reduce.proofs.GatherLaws.{gathers-keeps, whole-named}
+use Rattle.cw_translator.proofs.AnswerSteps.{on-err}
+use Rattle.cw_translator.proofs.FinishSteps.{gathers-root}
+use Rattle.cw_rewrite.proofs.GatherLaws.{gathers-keeps, whole-named}
 use Rattle.cw_reduce.proofs.alone.end_alone.Goals as goal
 
 pub returns-in_err-list-clause-refused : goal.returns-in_err-list-clause-refused

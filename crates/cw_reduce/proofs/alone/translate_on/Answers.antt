@@ -3,15 +3,16 @@ use Rattle.std.proofs.Common.{[], ◌∷◌, ◌++◌, sym, subst}
 use Rattle.std.proofs.lemmas.Result.{IfOk-weaker}
 use Rattle.cw_scraps.specs.Changing.{Keeps}
 use Rattle.cw_scraps.proofs.Applied.{keeps-trans}
-use Rattle.cw_reduce.specs.declared.translating.Translator.{Translator}
+use Rattle.cw_translator.specs.declared.translator.Translator.{Translator}
 use Rattle.cw_reduce.specs.HeadReading.{answers_ahead}
-use Rattle.cw_reduce.specs.NameParts.{name_texts}
-use Rattle.cw_reduce.specs.Naming.{with_texts}
-use Rattle.cw_reduce.specs.Opening.{HasEnded, IsTranslated, IsTranslating, StartsBelow, all_roots, answers_in, of_leaf}
-use Rattle.cw_reduce.specs.Opening.{progress_of}
-use Rattle.cw_reduce.specs.Reading.{after_answers, all_ended}
-use Rattle.cw_reduce.specs.Retyping.{NamesOnTheWay, here}
-use Rattle.cw_reduce.proofs.AnswerSteps.{on-err}
+use Rattle.cw_translator.specs.NameParts.{name_texts}
+use Rattle.cw_translator.specs.Naming.{with_texts}
+use Rattle.cw_translator.specs.Opening.{HasEnded, IsTranslated, IsTranslating, StartsBelow, all_roots, answers_in}
+use Rattle.cw_translator.specs.Opening.{of_leaf}
+use Rattle.cw_translator.specs.Opening.{progress_of}
+use Rattle.cw_translator.specs.Reading.{after_answers, all_ended}
+use Rattle.cw_translator.specs.Retyping.{NamesOnTheWay, here}
+use Rattle.cw_translator.proofs.AnswerSteps.{on-err}
 use Rattle.cw_reduce.proofs.FirstSteps.{ahead-is, on-done, on-ends, on-fails, on-some, on-spent}
 use Rattle.cw_reduce.proofs.alone.translate_on.Goals as goal
 
@@ -25,10 +26,12 @@ read_behind-requires-clause-translating g c = subst (IsTranslating c.args.work.n
     (sym c.in_ok-translator.ensures) c.requires.translating
 
 pub returns-clause-text : goal.returns-clause-text
-returns-clause-text g c = IfOk-weaker c.end.result (λ done. HasEnded c.args.context.now.flags.now c.read_behind.new.self
+returns-clause-text g c = IfOk-weaker c.end.result (λ done. HasEnded c.args.context.now.flags.now
+    c.read_behind.new.translator
     c.read_behind.new.work.steps.now c.end.new.work.store.now.lists c.end.new.work.names.now c.end.new.work.marks.now
     done c.end.new.work.steps.now (progress_of c.read_behind.new.work.store.now.lists c.read_behind.new.work.names.now
-    c.read_behind.new.work.marks.now c.read_behind.new.self [])) (λ done. IsTranslated c.args.context.now.flags.now
+    c.read_behind.new.work.marks.now c.read_behind.new.translator []))
+    (λ done. IsTranslated c.args.context.now.flags.now
     c.end.new.work.store.now.lists c.end.new.work.names.now c.end.new.work.marks.now done c.args.work.now.steps.now
     c.end.new.work.steps.now (all_ended c.args.context.now.flags.now
     (after_answers c.args.context.now.flags.now (with_texts
@@ -41,21 +44,21 @@ returns-clause-text g c = IfOk-weaker c.end.result (λ done. HasEnded c.args.con
     c.in_ok-translator.ensures (answers_ahead c.headless.result ++ c.args.reader.now.coming)
     (answers_in c.args.next.now ++ c.args.reader.now.coming)
     (ahead-is c.headless.result c.args.next.now c.args.reader.now.coming c.headless.ensures.name
-    c.headless.ensures.next) c.args.work.now.steps.now c.read_behind.new.work.steps.now c.read_behind.new.self
+    c.headless.ensures.next) c.args.work.now.steps.now c.read_behind.new.work.steps.now c.read_behind.new.translator
     c.read_behind.new.work.store.now.lists c.read_behind.new.work.names.now c.read_behind.new.work.marks.now
     c.in_ok-read_behind.ensures.come c.end.new.work.store.now.lists c.end.new.work.names.now
     c.end.new.work.marks.now done c.end.new.work.steps.now e) c.end.ensures.ended
 
 pub returns-clause-keeps : goal.returns-clause-keeps
 returns-clause-keeps g c = IfOk-weaker c.end.result (λ done. Keeps c.read_behind.new.work.store.now.lists
-    c.end.new.work.store.now.lists (all_roots c.read_behind.new.self.nesting) (done.list.index ∷ []))
+    c.end.new.work.store.now.lists (all_roots c.read_behind.new.translator.nesting) (done.list.index ∷ []))
     (λ done. Keeps c.args.work.now.store.now.lists c.end.new.work.store.now.lists (c.args.leaf.list.index ∷ [])
     (done.list.index ∷ []))
     (λ done k. keeps-trans c.args.work.now.store.now.lists c.read_behind.new.work.store.now.lists
-    c.end.new.work.store.now.lists (c.args.leaf.list.index ∷ []) (all_roots c.read_behind.new.self.nesting)
+    c.end.new.work.store.now.lists (c.args.leaf.list.index ∷ []) (all_roots c.read_behind.new.translator.nesting)
     (done.list.index ∷ [])
     (subst (λ (x : Translator). Keeps c.args.work.now.store.now.lists c.read_behind.new.work.store.now.lists
-    (all_roots x.nesting) (all_roots c.read_behind.new.self.nesting)) c.in_ok-translator.ensures
+    (all_roots x.nesting) (all_roots c.read_behind.new.translator.nesting)) c.in_ok-translator.ensures
     c.in_ok-read_behind.ensures.keeps) k) c.end.ensures.keeps
 
 pub returns-in_err-translator-clause-refused : goal.returns-in_err-translator-clause-refused
@@ -102,7 +105,7 @@ returns-clause-refused g c = on-err c.end.result (NamesOnTheWay c.args.context.n
     c.in_ok-translator.translator c.in_ok-translator.ensures (answers_ahead c.headless.result
     ++ c.args.reader.now.coming) (answers_in c.args.next.now ++ c.args.reader.now.coming)
     (ahead-is c.headless.result c.args.next.now c.args.reader.now.coming c.headless.ensures.name
-    c.headless.ensures.next) c.args.work.now.steps.now c.read_behind.new.work.steps.now c.read_behind.new.self
+    c.headless.ensures.next) c.args.work.now.steps.now c.read_behind.new.work.steps.now c.read_behind.new.translator
     c.read_behind.new.work.store.now.lists c.read_behind.new.work.names.now c.read_behind.new.work.marks.now
     c.in_ok-read_behind.ensures.come c.end.new.work.names.now c.end.ensures.retypes)
 
@@ -113,6 +116,6 @@ returns-clause-bound g c = on-spent c.args.context.now.flags.now
     c.in_ok-translator.ensures (answers_ahead c.headless.result ++ c.args.reader.now.coming) (answers_in c.args.next.now
     ++ c.args.reader.now.coming) (ahead-is c.headless.result c.args.next.now c.args.reader.now.coming
     c.headless.ensures.name c.headless.ensures.next) c.args.work.now.steps.now c.read_behind.new.work.steps.now
-    c.read_behind.new.self c.read_behind.new.work.store.now.lists c.read_behind.new.work.names.now
+    c.read_behind.new.translator c.read_behind.new.work.store.now.lists c.read_behind.new.work.names.now
     c.read_behind.new.work.marks.now c.in_ok-read_behind.ensures.come c.end.new.work.steps.now
     c.in_ok-read_behind.ensures.bound c.end.ensures.bound

@@ -7,13 +7,13 @@ use Rattle.cw_scraps.specs.Changing.{Keeps}
 use Rattle.cw_scraps.specs.Lines.{roots_of}
 use Rattle.cw_scraps.specs.Marking.{marked_names}
 use Rattle.cw_scraps.proofs.Applied.{keeps-trans}
-use Rattle.cw_reduce.specs.Counting.{limit_in}
+use Rattle.cw_translator.specs.Counting.{limit_in}
 use Rattle.cw_reduce.specs.HeadReading.{answers_ahead, head_line}
 use Rattle.cw_reduce.specs.Heading.{NamesOfHeaded, NamesOfText, behind_head, head_begun, headed_text, in_head}
-use Rattle.cw_reduce.specs.NameParts.{name_texts}
-use Rattle.cw_reduce.specs.Opening.{IsTranslated, answers_in}
-use Rattle.cw_reduce.specs.Translating.{Ended, begin, translated}
-use Rattle.cw_reduce.proofs.AnswerSteps.{on-err, on-err-weaker, on-ok1}
+use Rattle.cw_translator.specs.NameParts.{name_texts}
+use Rattle.cw_translator.specs.Opening.{IsTranslated, answers_in}
+use Rattle.cw_translator.specs.Translating.{Ended, begin, translated}
+use Rattle.cw_translator.proofs.AnswerSteps.{on-err, on-err-weaker, on-ok1}
 use Rattle.cw_reduce.proofs.HeadSteps.{headed-translated}
 use Rattle.cw_reduce.proofs.NamedJoined.{texts-nested}
 use Rattle.cw_reduce.proofs.headed.translate_with_head.Goals as goal

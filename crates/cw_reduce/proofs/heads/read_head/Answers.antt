@@ -9,12 +9,12 @@ use Rattle.cw_rules.specs.declared.tokens.Tok.{Tok}
 use Rattle.cw_lex.specs.Heads.{Headed}
 use Rattle.cw_lex.specs.Nest.{nest}
 use Rattle.cw_reduce.specs.HeadReading.{NamesWithin, answers_ahead, read_made, without_notes, words_in}
-use Rattle.cw_reduce.specs.Opening.{StartsBelow, answers_in}
-use Rattle.cw_reduce.specs.Translating.{Known, NameTexts, head_made, spelled, with_names}
+use Rattle.cw_translator.specs.Opening.{StartsBelow, answers_in}
+use Rattle.cw_translator.specs.Translating.{Known, NameTexts, head_made, spelled, with_names}
 use Rattle.cw_reduce.proofs.HeadAnswers.{starts-notes}
 use Rattle.cw_reduce.proofs.HeadFinds.{headless-other, name-token, no-head, none-token, sign-made, sign-names}
 use Rattle.cw_reduce.proofs.HeadFinds.{token-headed, token-nested}
-use Rattle.cw_reduce.proofs.LeafSteps.{empty-line, keeps-itself}
+use Rattle.cw_translator.proofs.LeafSteps.{empty-line, keeps-itself}
 use Rattle.cw_reduce.proofs.heads.read_head.Goals as goal
 
 token-gives : (first : Lexed) (t : Tok) (rest : List Answer) → first ≡ lexed.Token t

@@ -3,7 +3,7 @@ use Rattle.std.proofs.Common.{◌^◌, ◌<◌, arith, rules, ap, subst, sym, �
 use Rattle.cw_answers.proofs.Staying.{stays-trans}
 use Rattle.cw_rules.specs.Answers.{seen}
 use Rattle.cw_lex.proofs.HeadNests.{nested-behind}
-use Rattle.cw_reduce.specs.Opening.{StartsBelow}
+use Rattle.cw_translator.specs.Opening.{StartsBelow}
 use Rattle.cw_reduce.proofs.HeadFinds.{ahead-of, signed, token-nested, unsigned-other, unsigned-signs, unsigned-token}
 use Rattle.cw_reduce.proofs.HeadAnswers.{starts-notes}
 use Rattle.cw_reduce.proofs.heads.read_sign.Goals as goal

@@ -6,13 +6,13 @@ use Rattle.cw_answers.proofs.Staying.{read-up-behind}
 use Rattle.cw_rules.specs.Answers.{Gives, Token, seen}
 use Rattle.cw_rules.specs.declared.tokens.Lexed.TheVariants as lexed
 use Rattle.cw_scraps.specs.Marking.{marked_names}
-use Rattle.cw_reduce.specs.Counting.{limit_in}
+use Rattle.cw_translator.specs.Counting.{limit_in}
 use Rattle.cw_reduce.specs.HeadReading.{without_notes}
 use Rattle.cw_reduce.specs.Heading.{NamesOfText}
-use Rattle.cw_reduce.specs.NameParts.{name_texts}
-use Rattle.cw_reduce.specs.Opening.{IsTranslated, answers_in}
-use Rattle.cw_reduce.specs.Translating.{Ended, translated}
-use Rattle.cw_reduce.proofs.AnswerSteps.{on-err-weaker, on-ok1}
+use Rattle.cw_translator.specs.NameParts.{name_texts}
+use Rattle.cw_translator.specs.Opening.{IsTranslated, answers_in}
+use Rattle.cw_translator.specs.Translating.{Ended, translated}
+use Rattle.cw_translator.proofs.AnswerSteps.{on-err-weaker, on-ok1}
 use Rattle.cw_reduce.proofs.FirstSteps.{gives-again, same-text, same-way}
 use Rattle.cw_reduce.proofs.HeadFinds.{ahead-of}
 use Rattle.cw_reduce.proofs.translating.translate_read.Goals as goal

@@ -5,7 +5,7 @@ use Rattle.std.specs.Prelude.{Result}
 use Rattle.cw_lines.specs.WritesLaws.{can-after, puts-bytes}
 use Rattle.cw_lines.specs.declared.put_error.PutError.{PutError}
 use Rattle.cw_names.specs.Names.{Entry}
-use Rattle.cw_reduce.specs.NameParts.{AreNamesOf}
+use Rattle.cw_translator.specs.NameParts.{AreNamesOf}
 use Rattle.cw_texpart.specs.declared.counts.Counts.{Counts}
 use Rattle.cw_texpart.specs.Done.{reprinted}
 use Rattle.cw_texpart.specs.Inks.{end_if}

@@ -5,8 +5,8 @@ use Rattle.cw_lex.specs.Nested.{IsNested, begins_section_in}
 use Rattle.cw_lex.proofs.Nesting.{c-texts-nested}
 use Rattle.cw_lex.proofs.TokensWithin.{tokens-within}
 use Rattle.cw_rules.specs.Answers.{Answer}
-use Rattle.cw_reduce.specs.Opening.{StartsBelow}
-use Rattle.cw_reduce.proofs.AnswerSteps.{within-starts}
+use Rattle.cw_translator.specs.Opening.{StartsBelow}
+use Rattle.cw_translator.proofs.AnswerSteps.{within-starts}
 use Rattle.cw_texpart.proofs.TextLaws.{kept-tokens}
 use Rattle.cw_texpart.proofs.texts.translate_into.Goals as goal
 

@@ -1,7 +1,0 @@
--- `leaf`: clause `value` at `Comment`; said here, so that a wrong one fails at once.
-use Rattle.std.proofs.Common.{arith}
-use Rattle.std.proofs.lemmas.Grind.{common_steps}
-use Rattle.cw_reduce.proofs.holders.Holder.leaf.Goals as goal
-
-pub returns-in-Comment-clause-value : goal.returns-in-Comment-clause-value
-returns-in-Comment-clause-value c = grind (arith, common_steps)

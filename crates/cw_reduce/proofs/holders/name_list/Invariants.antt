@@ -1,9 +1,0 @@
--- The inner texts so far stand in the list, and there is room for the others, for the end and for the sign.
-use Rattle.std.proofs.Common.{◌+◌, ◌*◌, ◌≤◌, length}
-use Rattle.cw_reduce.proofs.GatherSteps.{Builds}
-use Rattle.cw_reduce.proofs.NameLists.{name_from, name_tokens}
-use Rattle.cw_reduce.proofs.holders.name_list.Given as goal
-
-abbrev pub invariant-loop-part : goal.invariant-loop-part
-invariant-loop-part l = Builds l.fn.store.lists (name_tokens l.number l.sign l.parts)
-    (name_from l.part-index l.sign l.parts) l.store × (2 * length l.parts + 3 ≤ l.store.spare + 2 * l.part-index)

@@ -1,0 +1,8 @@
+//! A line of scraps is rewritten by the productions until none fits, and what is left is put together.
+#![tactic(auto)]
+
+mod gathering;
+mod walk;
+
+pub use gathering::{put_alone, put_together};
+pub use walk::{Reduced, reduce};

@@ -1,0 +1,190 @@
+//! The reducer: a pointer goes along a line of scraps, and back after each production.
+ghost use Rattle.std.specs.Prelude.{◌≡◌, ◌+◌, ◌*◌, ◌<◌, ◌≤◌, true, drop, length, IfOk, OnOk, OnErr, MatchOption};
+ghost use Rattle.std.specs.Prelude.{MatchResult};
+ghost use Rattle.cw_table.specs.Fitting.{first_of, row_fits};
+ghost use Rattle.cw_table.specs.Normal.{count, normal, weight};
+ghost use Rattle.cw_table.specs.Productions.{productions};
+ghost use Rattle.cw_table.specs.Reaching.{IsAfter};
+ghost use Rattle.cw_table.specs.Rewriting.{cats_of, rewrite};
+ghost use Rattle.cw_table.specs.Safe.{least};
+ghost use Rattle.cw_table.specs.SourceNumbers.{numbers_of};
+ghost use Rattle.cw_table.specs.WalkCounts.{reservings, right_of_new, ticks};
+ghost use Rattle.cw_table.specs.Rows.{row_of};
+ghost use Rattle.cw_tokens.specs.Counting.{token_count};
+ghost use Rattle.cw_scraps.specs.Applying.{state_of};
+ghost use Rattle.cw_scraps.specs.Changing.{Keeps};
+ghost use Rattle.cw_scraps.specs.Inserting.{entry_cats};
+ghost use Rattle.cw_scraps.specs.Lines.{IsSoundLine, roots_of, scraps_of};
+ghost use Rattle.cw_rewrite.specs.Reduction.{GrowsByProductions, IsFirst, PassesOver, words_of};
+
+use cw_base::{Flags, Ledger, Memory, Steps};
+use cw_names::Names;
+use cw_scraps::{Marks, PRODUCTION_TOKENS, Production, ScrapLine};
+use cw_table::{ROW_COUNT, RowNo, first_of_four, may_fit, step_back};
+use cw_tokens::TokenStore;
+
+/// What was done to a line of scraps.
+#[derive(Clone, Copy, Debug, PartialEq, Eq)]
+pub struct Reduced {
+    /// The number of productions.
+    pub productions: u64,
+}
+
+/// Applies productions to a line, at the least place where one fits and by the first row that fits there, until
+/// none fits. A pointer goes along the line: where a row fits, the line is rewritten and the pointer goes back by
+/// the least safe distance of the row; where none fits, it goes on by one. Each turn counts four steps, and each
+/// production by a row that reserves counts one more for each scrap to the right of the new one. After `Memory` the
+/// line is one that the productions reach, and can be reduced further.
+pub fn reduce<L: Ledger>(
+    line: &mut ScrapLine,
+    store: &mut TokenStore,
+    names: &mut Names,
+    marks: &mut Marks,
+    flags: &Flags,
+    steps: &mut Steps<L>,
+) -> Result<Reduced, Memory>
+    requires sound { IsSoundLine store.old names.old line.old }
+    ensures normal { OnOk result (state_of store.new.lists line.new marks.new names.new ≡
+        normal productions flags.now (state_of store.old.lists line.old marks.old names.old)) }
+    ensures productions { IfOk result (λ done. done.productions ≡
+        count productions flags.now (state_of store.old.lists line.old marks.old names.old)) }
+    ensures light { IfOk result (λ done. done.productions ≤ weight (scraps_of store.old.lists line.old)) }
+    ensures few { IfOk result (λ done. done.productions ≤ 8 * length line.old) }
+    ensures after { IsAfter productions flags.now (state_of store.old.lists line.old marks.old names.old)
+        (state_of store.new.lists line.new marks.new names.new) }
+    ensures words { words_of names.new ≡ words_of names.old }
+    // Each source token stands in the trees once and in order, as before.
+    ensures numbers { numbers_of (scraps_of store.new.lists line.new) ≡
+        numbers_of (scraps_of store.old.lists line.old) }
+    ensures sound { IsSoundLine store.new names.new line.new }
+    ensures others { Keeps store.old.lists store.new.lists (roots_of line.old) (roots_of line.new) }
+    // However many tokens the lists of the scraps hold: they are not copied.
+    ensures tokens { GrowsByProductions flags.now
+        (state_of store.old.lists line.old marks.old names.old) store.old.lists
+        (state_of store.new.lists line.new marks.new names.new) store.new.lists }
+    ensures steps { OnOk result (steps.new ≡ steps.old + ticks productions flags.now (state_of store.old.lists line.old
+        marks.old names.old)) }
+    ensures no_more { steps.new ≤ steps.old + ticks productions flags.now (state_of store.old.lists line.old marks.old
+        names.old) }
+    ensures bound { steps.new ≤ steps.old + (132 * length line.old + length line.old * reservings productions flags.now
+        (state_of store.old.lists line.old marks.old names.old)) }
+{
+    let _length = line.len();
+    let mut place = 0;
+    let mut productions = 0;
+    while place < line.len() {
+        match row_at(line, place, steps) {
+            Some(row) => {
+                let production = Production { row, place, flags };
+                produce(&production, line, names, marks, store, steps)?;
+                productions += 1;
+                place = place.saturating_sub(distance(row));
+                place = look_from(line, place, steps);
+            }
+            None => place += 1,
+        }
+    }
+    Ok(Reduced { productions })
+}
+
+// The first row that fits at a place, where the line is opened. It counts four steps.
+#[inline(always)]
+pub(crate) fn row_at<L: Ledger>(
+    line: &mut ScrapLine,
+    place: usize,
+    steps: &mut Steps<L>,
+) -> Option<RowNo>
+    requires { place < length line.old }
+    ensures first { MatchOption result (first_of productions (drop place (entry_cats line.old)) ≡
+        None) (λ row. IsFirst (drop place (entry_cats line.old)) row.number) }
+    ensures same { line.new ≡ line.old }
+    ensures steps { steps.new ≡ steps.old + 4 }
+{
+    line.open(place);
+    first_row(line, place, steps)
+}
+
+// The same in a line that is only read. It counts four steps, also where two categories tell that none fits.
+#[inline(always)]
+fn first_row<L: Ledger>(line: &ScrapLine, place: usize, steps: &mut Steps<L>) -> Option<RowNo>
+    requires { place < length line.now }
+    ensures first { MatchOption result (first_of productions (drop place (entry_cats line.now)) ≡
+        None) (λ row. IsFirst (drop place (entry_cats line.now)) row.number) }
+    ensures steps { steps.new ≡ steps.old + 4 }
+{
+    let first = line.cat_behind(place, 0, steps);
+    let second = line.cat_behind(place, 1, steps);
+    if may_fit(first, second) {
+        // Where the fourth is there the third needs no test.
+        let fourth = line.cat_behind(place, 3, steps);
+        let third = line.cat_behind(place, 2, steps);
+        return first_of_four(first, second, third, fourth);
+    }
+    steps.tick();
+    steps.tick();
+    None
+}
+
+// The place at which the next look-up is worth while: behind one at which two categories tell that no row fits, for
+// which four steps are counted, or the place itself.
+#[inline(always)]
+fn look_from<L: Ledger>(line: &ScrapLine, place: usize, steps: &mut Steps<L>) -> usize
+    ensures { PassesOver line.now place steps.old result steps.new }
+{
+    let _length = line.len();
+    match line.pair_at(place) {
+        Some((first, second)) => {
+            if may_fit(first, second) {
+                return place;
+            }
+            steps.tick();
+            steps.tick();
+            steps.tick();
+            steps.tick();
+            place + 1
+        }
+        None => place,
+    }
+}
+
+// How far the pointer goes back after a row.
+fn distance(row: RowNo) -> usize
+    requires from_one { 1 ≤ row.number }
+    requires to_last { row.number ≤ ROW_COUNT }
+    ensures { result ≡ least productions (row_of productions row.number) }
+{
+    step_back(row)
+}
+
+// One production at a place, where its row fits, with the room that it needs.
+pub(crate) fn produce<L: Ledger>(
+    production: &Production,
+    line: &mut ScrapLine,
+    names: &mut Names,
+    marks: &mut Marks,
+    store: &mut TokenStore,
+    steps: &mut Steps<L>,
+) -> Result<(), Memory>
+    requires from_one { 1 ≤ production.now.row.number }
+    requires to_last { production.now.row.number ≤ ROW_COUNT }
+    requires fits { row_fits (row_of productions production.now.row.number)
+        (drop production.now.place (cats_of (scraps_of store.old.lists line.old))) ≡ true }
+    requires sound { IsSoundLine store.old names.old line.old }
+    ensures state { MatchResult result (λ _. state_of store.new.lists line.new marks.new names.new ≡
+        rewrite production.now.flags.now (row_of productions production.now.row.number) production.now.place
+        (state_of store.old.lists line.old marks.old names.old))
+        (λ _. state_of store.new.lists line.new marks.new names.new ≡ state_of store.old.lists line.old marks.old
+        names.old) }
+    ensures steps { MatchResult result (λ _. steps.new ≡ steps.old +
+        right_of_new production.now.flags.now (row_of productions production.now.row.number) production.now.place
+        (state_of store.old.lists line.old marks.old names.old)) (λ _. steps.new ≡ steps.old) }
+    ensures words { words_of names.new ≡ words_of names.old }
+    ensures sound { IsSoundLine store.new names.new line.new }
+    ensures others { Keeps store.old.lists store.new.lists (roots_of line.old) (roots_of line.new) }
+    ensures tokens { OnOk result (token_count store.new.lists ≤ token_count store.old.lists + PRODUCTION_TOKENS) }
+    ensures refused { OnErr result (store.new.lists ≡ store.old.lists) }
+{
+    store.reserve(PRODUCTION_TOKENS)?;
+    line.apply_in_room(production, names, marks, store, steps)?;
+    Ok(())
+}

@@ -1,0 +1,367 @@
+-- A text or a comment ends, and its list becomes a part of what is open around it.
+use Rattle.std.proofs.Common.{◌≡◌, ℕ, ◌+◌, ◌*◌, ◌≤◌, true, List, [], ◌∷◌, ◌++◌, length, get_or, map, None, refl, sym}
+use Rattle.std.proofs.Common.{ap, ◌∙◌, subst, add-zero, arith}
+use Rattle.std.specs.List.{All}
+use Rattle.std.proofs.lemmas.Grind.{get_or_default_zero}
+use Rattle.std.proofs.lemmas.List.{append-nil, length-map}
+use Rattle.std.proofs.lemmas.List.Elements.{All-head, All-tail, All-cons}
+use Rattle.cw_base.specs.declared.flags.Flags.{Flags}
+use Rattle.cw_rules.specs.Answers.{Answer, Finish, Seen}
+use Rattle.cw_names.specs.Names.{Entry}
+use Rattle.cw_table.specs.Normal.{normal, count, is_fine}
+use Rattle.cw_table.proofs.ScrapFacts.{and-both}
+use Rattle.cw_table.specs.Productions.{productions}
+use Rattle.cw_table.specs.Rewriting.{State}
+use Rattle.cw_table.specs.WalkCounts.{reservings, ticks}
+use Rattle.cw_tokens.specs.declared.token.ListId.{ListId}
+use Rattle.cw_tokens.specs.declared.token.Token.{Token}
+use Rattle.cw_tokens.specs.Shapes.{unfolded}
+use Rattle.cw_tokens.specs.Stored.{StoredLists}
+use Rattle.cw_tokens.specs.References.{IsTied}
+use Rattle.cw_trees.specs.Joining.{whole, scrap_agrees}
+use Rattle.cw_scraps.specs.declared.leaves.Leaf.{Leaf}
+use Rattle.cw_scraps.specs.declared.line.LineEntry.{LineEntry}
+use Rattle.cw_scraps.specs.Applying.{state_of}
+use Rattle.cw_scraps.specs.Changing.{Keeps}
+use Rattle.cw_scraps.specs.Leaves.{entry_of}
+use Rattle.cw_scraps.specs.Lines.{seen, scraps_of, roots_of, AreRoots, IsOutside, IsNamedBelow, IsSoundLine}
+use Rattle.cw_scraps.specs.Marking.{MarkList, marked_names}
+use Rattle.cw_translator.specs.declared.comments.CommentPart.{CommentPart}
+use Rattle.cw_translator.specs.declared.comments.CommentPart.TheVariants as part
+use Rattle.cw_translator.specs.declared.nesting.Open.{Open}
+use Rattle.cw_translator.specs.declared.nesting.Open.TheVariants.{CText, Comment}
+use Rattle.cw_translator.specs.declared.translator.Translated.{Translated}
+use Rattle.cw_translator.specs.declared.translator.Translator.{Translator}
+use Rattle.cw_translator.specs.declared.holders.Holder.{Holder}
+use Rattle.cw_translator.specs.Holders.{held_cat, held_leaf, held_mode, held_scrap, held_tree}
+use Rattle.cw_rewrite.specs.Gathering.{Gathers}
+use Rattle.cw_translator.specs.Commenting.{part_seen, inner_lists}
+use Rattle.cw_translator.specs.Counting.{limit_in, text_limit}
+use Rattle.cw_translator.specs.Opening.{with_entry, with_part, frame_of, frames_of, open_roots, all_roots, IsNamedItem}
+use Rattle.cw_translator.specs.Opening.{AreSoundScraps, IsSoundFrame, IsTranslating, progress_of, HasCome}
+use Rattle.cw_rewrite.specs.Reduction.{words_of}
+use Rattle.cw_translator.specs.Retyping.{Retypes, NamesAmong, here, at_finish}
+use Rattle.cw_translator.specs.Reading.{Frame, Progress, with_scrap, with_item, after_finish}
+use Rattle.cw_translator.specs.Translating.{CommentItem, InnerText, Known, with_categories}
+use Rattle.cw_translator.proofs.Beside.{outside-group, right-roots, beside-roots, beside-keeps}
+use Rattle.cw_rewrite.proofs.GatherLaws.{gathers-roots, gathers-keeps}
+use Rattle.cw_translator.proofs.HoldLaws.{held-named, held-agrees, held-fine}
+use Rattle.cw_translator.proofs.LeafSteps.{Steps, Same}
+use Rattle.cw_translator.proofs.Sums.{sum-one}
+use Rattle.cw_translator.proofs.OpenLaws.{frames-entry, frames-part, frames-same, entry-roots, part-roots, KeptRoots}
+use Rattle.cw_translator.proofs.OpenLaws.{more-frames, scrap-sound, item-sound}
+
+-- what is known where nothing has ended
+abbrev pub known_of : List Entry → MarkList → Known
+known_of names marks = record { names = names; marks = marked_names marks; ended = [] }
+
+-- what a text that ends makes: one list in place of its own
+pub record Ends (old new : StoredLists) (roots : List ℕ) (list : ℕ) : Type 0 where
+  pub root : AreRoots new.lists (list ∷ [])
+  pub keeps : Keeps old.lists new.lists roots (list ∷ [])
+  pub idle : new.building ≡ None
+
+pub gathers-root : (old new : List (List Token)) (roots : List ℕ) (list : ℕ) → Gathers old new roots list → IsTied old
+    → AreRoots old roots → AreRoots new (list ∷ [])
+gathers-root old new roots list g tied are = gathers-roots old new roots list g [] [] tied
+    (subst (AreRoots old) (sym (append-nil roots)) are)
+
+module _ (old new : StoredLists) (names : List Entry) (t : Translator) (inner : Open) (outer : List Open) (list : ℕ)
+    (is : IsTranslating old names t) (tied : IsTied old.lists)
+    (open_is : t.nesting ≡ inner ∷ outer) (ends : Ends old new (open_roots inner) list) where
+  roots : AreRoots old.lists (all_roots outer ++ open_roots inner)
+  roots = subst (λ all. AreRoots old.lists (all_roots all)) open_is is.roots
+
+  -- the new list behind the roots around it
+  pub ends-kept : KeptRoots old.lists new.lists (all_roots t.nesting) (all_roots outer ++ list ∷ [])
+  ends-kept = record {
+    roots = beside-roots old.lists new.lists (all_roots outer) (open_roots inner) (list ∷ []) tied roots ends.keeps
+        ends.root;
+    keeps = subst (λ all. Keeps old.lists new.lists (all_roots all) (all_roots outer ++ list ∷ [])) (sym open_is)
+        (beside-keeps old.lists new.lists (all_roots outer) (open_roots inner) (list ∷ []) tied roots ends.keeps
+        ends.root);
+  }
+
+  -- what is open around it stays
+  pub ends-frames : frames_of new.lists outer ≡ frames_of old.lists outer
+  ends-frames = frames-same old.lists new.lists outer (λ i d h. ends.keeps.trees (get_or (all_roots outer) i d)
+      (subst (IsOutside old.lists (open_roots inner)) (sym (get_or_default_zero (all_roots outer) i d h))
+      (outside-group old.lists (all_roots outer) (open_roots inner) roots i h)))
+
+  pub outer-sound : All (IsSoundFrame (length names)) (frames_of old.lists outer)
+  outer-sound = All-tail (IsSoundFrame (length names)) (frame_of old.lists inner) (frames_of old.lists outer)
+      (subst (λ all. All (IsSoundFrame (length names)) (frames_of old.lists all)) open_is is.sound)
+
+  pub inner-sound : IsSoundFrame (length names) (frame_of old.lists inner)
+  inner-sound = All-head (IsSoundFrame (length names)) (frame_of old.lists inner) (frames_of old.lists outer)
+      (subst (λ all. All (IsSoundFrame (length names)) (frames_of old.lists all)) open_is is.sound)
+
+-- what the innermost needs to be reduced, and its own lists
+pub open-line : (store : StoredLists) (names : List Entry) (t : Translator) (line : List LineEntry) (outer : List Open)
+    → IsTranslating store names t → t.nesting ≡ CText line ∷ outer → IsSoundLine store names line
+open-line store names t line outer is e =
+    let sound : AreSoundScraps (length names) (scraps_of store.lists line) = All-head (IsSoundFrame (length names))
+    (frame_of store.lists (CText line)) (frames_of store.lists outer)
+    (subst (λ all. All (IsSoundFrame (length names)) (frames_of store.lists all)) e is.sound) in
+    record {
+      idle = is.idle;
+      roots = right-roots store.lists (all_roots outer) (roots_of line)
+          (subst (λ all. AreRoots store.lists (all_roots all)) e is.roots);
+      named = sound.named;
+      modes = sound.modes;
+      fine = sound.fine;
+    }
+
+pub open-lists : (store : StoredLists) (names : List Entry) (t : Translator) (held_by : Holder)
+    (parts : List CommentPart) (outer : List Open) → IsTranslating store names t → t.nesting
+    ≡ Comment held_by parts ∷ outer → AreRoots store.lists (inner_lists parts)
+open-lists store names t held_by parts outer is e = right-roots store.lists (all_roots outer) (inner_lists parts)
+    (subst (λ all. AreRoots store.lists (all_roots all)) e is.roots)
+
+words-length : (new old : List Entry) → words_of new ≡ words_of old → length old ≤ length new
+words-length new old e =
+    let a : length (words_of new) ≡ length new = length-map new (λ entry. (entry.kind, entry.text)) in
+    let b : length (words_of old) ≡ length old = length-map old (λ entry. (entry.kind, entry.text)) in
+    let s : length (words_of new) ≡ length (words_of old) = ap length e in
+    omega (arith, a, b, s)
+
+-- a C text ends
+module _ (flags : Flags) (old new : StoredLists) (names names' : List Entry) (marks marks' : MarkList)
+    (t t' : Translator) (line : List LineEntry) (outer : List Open) (list : ListId) (steps steps' : ℕ)
+    (is : IsTranslating old names t) (tied : IsTied old.lists) (open_is : t.nesting ≡ CText line ∷ outer)
+    (ends : Ends old new (roots_of line) list.index)
+    (named : IsNamedBelow (length names') (unfolded new.lists list.index)) (words : words_of names' ≡ words_of names)
+    (made : t'.nesting ≡ with_part (part.InnerText list) outer) where
+  abbrev start : State
+  start = state_of old.lists line marks names
+
+  inner-frames : frames_of new.lists t'.nesting ≡ with_item (InnerText (unfolded new.lists list.index))
+      (frames_of old.lists outer)
+  inner-frames =
+      ap (frames_of new.lists) made
+      ∙ (frames-part new.lists (part.InnerText list) outer
+      ∙ ap (with_item (InnerText (unfolded new.lists list.index))) (ends-frames old new names t (CText line) outer
+      list.index is tied open_is ends))
+
+  now : KeptRoots old.lists new.lists (all_roots t.nesting) (all_roots t'.nesting)
+  now =
+      subst (λ ls. KeptRoots old.lists new.lists (all_roots t.nesting) (all_roots ls)) (sym made)
+      (part-roots old.lists new.lists (all_roots t.nesting) list.index (part.InnerText list) outer refl
+      (ends-kept old new names t (CText line) outer list.index is tied open_is ends))
+
+  pub text-steps : t'.productions ≤ 8 * t'.scraps → Steps old new names names' t t'
+  text-steps light = record {
+    translating = record {
+      idle = ends.idle;
+      roots = now.roots;
+      sound = subst (All (IsSoundFrame (length names'))) (sym inner-frames)
+          (item-sound (length names') (InnerText (unfolded new.lists list.index)) (frames_of old.lists outer) named
+          (more-frames (length names) (length names') (frames_of old.lists outer) (words-length names' names words)
+          (outer-sound old new names t (CText line) outer list.index is tied open_is ends)));
+      light = light;
+    };
+    keeps = now.keeps;
+  }
+
+  pub text-come : unfolded new.lists list.index ≡ whole (normal productions flags start).scraps
+      → names' ≡ with_categories (normal productions flags start).cats names → marked_names marks'
+      ≡ (normal productions flags start).marks
+      → t'.scraps ≡ t.scraps + length line → t'.productions ≡ t.productions + count productions flags start
+      → steps' ≡ steps + ticks productions flags start
+      → HasCome flags t steps new.lists names' marks' t' steps' (after_finish flags (frames_of old.lists t.nesting)
+      (known_of names marks))
+  text-come tree names_are marks_are scraps productions_are steps_are =
+      let m : State = normal productions flags (state_of old.lists line marks names) in
+      let size : length line ≡ length (scraps_of old.lists line) = sym (length-map line (seen old.lists)) in
+      let ended : List State = state_of old.lists line marks names ∷ [] in
+      let around : List Frame = with_item (InnerText (whole m.scraps)) (frames_of old.lists outer) in
+      subst (λ all. HasCome flags t steps new.lists names' marks' t' steps'
+      (after_finish flags (frames_of old.lists all) (known_of names marks))) (sym open_is) (record {
+        is =
+            ap (λ fs. record {
+              frames = fs;
+              known = record {
+                names = names';
+                marks = marked_names marks';
+                ended = ended;
+              };
+            }) (inner-frames ∙ ap (λ tr. with_item (InnerText tr) (frames_of old.lists outer)) tree)
+            ∙ (ap (λ ns. record {
+              frames = around;
+              known = record {
+                names = ns;
+                marks = marked_names marks';
+                ended = ended;
+              };
+            }) names_are
+            ∙ ap (λ ms. record {
+              frames = around;
+              known = record {
+                names = with_categories m.cats names;
+                marks = ms;
+                ended = ended;
+              };
+            }) marks_are);
+        scraps = scraps ∙ ap (λ n. t.scraps + n) (size ∙ sum-one (λ state. length state.scraps) start);
+        productions_are = productions_are ∙ ap (λ n. t.productions + n)
+            (sum-one (λ state. count productions flags state) start);
+        steps_are = steps_are ∙ ap (λ n. steps + n) (sum-one (λ state. ticks productions flags state) start);
+      })
+
+-- a comment ends
+module _ (flags : Flags) (old new : StoredLists) (names : List Entry) (t t' : Translator) (held_by : Holder)
+    (parts : List CommentPart) (outer : List Open) (leaf : Leaf)
+    (is : IsTranslating old names t) (tied : IsTied old.lists) (open_is : t.nesting ≡ Comment held_by parts ∷ outer)
+    (ends : Ends old new (inner_lists parts) leaf.list.index)
+    (made : t'.nesting ≡ with_entry (entry_of leaf) outer) (counts : Same t t') where
+  abbrev items : List CommentItem
+  items = map (part_seen old.lists) parts
+
+  module _ (scrap : seen new.lists (entry_of leaf) ≡ held_scrap held_by items)
+      (sound : AreSoundScraps (length names) (held_scrap held_by items ∷ [])) where
+    comment-frames : frames_of new.lists t'.nesting ≡ with_scrap (held_scrap held_by items) (frames_of old.lists outer)
+    comment-frames =
+        ap (frames_of new.lists) made
+        ∙ (frames-entry new.lists (entry_of leaf) outer
+        ∙ (ap (λ s. with_scrap s (frames_of new.lists outer)) scrap
+        ∙ ap (with_scrap (held_scrap held_by items)) (ends-frames old new names t (Comment held_by parts) outer
+        leaf.list.index is tied open_is ends)))
+
+    kept-now : KeptRoots old.lists new.lists (all_roots t.nesting) (all_roots t'.nesting)
+    kept-now =
+        subst (λ ls. KeptRoots old.lists new.lists (all_roots t.nesting) (all_roots ls)) (sym made)
+        (entry-roots old.lists new.lists (all_roots t.nesting) (entry_of leaf) outer
+        (ends-kept old new names t (Comment held_by parts) outer leaf.list.index is tied open_is ends))
+
+    pub comment-steps : Steps old new names names t t'
+    comment-steps = record {
+      translating = record {
+        idle = ends.idle;
+        roots = kept-now.roots;
+        sound = subst (All (IsSoundFrame (length names))) (sym comment-frames)
+            (scrap-sound (length names) (held_scrap held_by items) (frames_of old.lists outer) sound
+            (outer-sound old new names t (Comment held_by parts) outer leaf.list.index is tied open_is ends));
+        light = rw (counts.scraps, counts.productions) is.light;
+      };
+      keeps = kept-now.keeps;
+    }
+
+    pub comment-come : (marks : MarkList) (steps : ℕ)
+        → HasCome flags t steps new.lists names marks t' steps (after_finish flags (frames_of old.lists t.nesting)
+        (known_of names marks))
+    comment-come marks steps =
+        subst (λ all. HasCome flags t steps new.lists names marks t' steps
+        (after_finish flags (frames_of old.lists all) (known_of names marks))) (sym open_is) (record {
+          is = ap (λ fs. record { frames = fs; known = known_of names marks }) comment-frames;
+          scraps = counts.scraps ∙ sym (add-zero t.scraps);
+          productions_are = counts.productions ∙ sym (add-zero t.productions);
+          steps_are = sym (add-zero steps);
+        })
+
+-- the step as a whole
+pub record FinishStep (flags : Flags) (old new : StoredLists) (names names' : List Entry) (marks marks' : MarkList)
+    (t t' : Translator) (steps steps' : ℕ) : Type 0 where
+  pub steps_are : Steps old new names names' t t'
+  pub come : HasCome flags t steps new.lists names' marks' t' steps' (after_finish flags (frames_of old.lists t.nesting)
+      (known_of names marks))
+
+-- what is known of a line that was translated
+pub record LineDone (flags : Flags) (old new : StoredLists) (names names' : List Entry) (marks marks' : MarkList)
+    (line : List LineEntry) (done : Translated) (steps steps' : ℕ) : Type 0 where
+  pub tree : unfolded new.lists done.list.index
+      ≡ whole (normal productions flags (state_of old.lists line marks names)).scraps
+  pub scraps : done.scraps ≡ length line
+  pub productions_are : done.productions ≡ count productions flags (state_of old.lists line marks names)
+  pub few : done.productions ≤ 8 * done.scraps
+  pub names_are : names' ≡ with_categories (normal productions flags (state_of old.lists line marks names)).cats names
+  pub marks_are : marked_names marks' ≡ (normal productions flags (state_of old.lists line marks names)).marks
+  pub steps_are : steps' ≡ steps + ticks productions flags (state_of old.lists line marks names)
+  pub words : words_of names' ≡ words_of names
+  pub named : IsNamedBelow (length names') (unfolded new.lists done.list.index)
+  pub root : AreRoots new.lists (done.list.index ∷ [])
+  pub keeps : Keeps old.lists new.lists (roots_of line) (done.list.index ∷ [])
+  pub idle : new.building ≡ None
+
+pub text-step : (flags : Flags) (old new : StoredLists) (names names' : List Entry) (marks marks' : MarkList)
+    (t t' : Translator) (line : List LineEntry) (outer : List Open) (done : Translated) (steps steps' : ℕ)
+    → LineDone flags old new names names' marks marks' line done steps steps' → IsTranslating old names t
+    → IsTied old.lists → t.nesting ≡ CText line ∷ outer
+    → t'.nesting ≡ with_part (part.InnerText done.list) outer → t'.scraps ≡ t.scraps + done.scraps → t'.productions
+    ≡ t.productions + done.productions → FinishStep flags old new names names' marks marks' t t' steps steps'
+text-step flags old new names names' marks marks' t t' line outer done steps steps' d is tied open_is made scraps
+    productions_are =
+    let ends : Ends old new (roots_of line) done.list.index =
+    record { root = d.root; keeps = d.keeps; idle = d.idle } in
+    let before : t.productions ≤ 8 * t.scraps = is.light in
+    let few : done.productions ≤ 8 * done.scraps = d.few in
+    record {
+      steps_are = text-steps flags old new names names' marks marks' t t' line outer done.list steps steps' is tied
+          open_is ends d.named d.words made (omega (arith, before, few, scraps, productions_are));
+      come = text-come flags old new names names' marks marks' t t' line outer done.list steps steps' is tied open_is
+          ends d.named d.words made d.tree d.names_are d.marks_are
+          (scraps ∙ ap (λ n. t.scraps + n) d.scraps) (productions_are ∙ ap (λ n. t.productions + n) d.productions_are)
+          d.steps_are;
+    }
+
+pub comment-step : (flags : Flags) (old new : StoredLists) (names : List Entry) (marks : MarkList) (t t' : Translator)
+    (held_by : Holder) (parts : List CommentPart) (outer : List Open) (list : ListId) (steps : ℕ)
+    → unfolded new.lists list.index ≡ held_tree held_by (map (part_seen old.lists) parts)
+    → Gathers old.lists new.lists (inner_lists parts) list.index → new.building ≡ None
+    → IsTranslating old names t → IsTied old.lists → t.nesting ≡ Comment held_by parts ∷ outer
+    → t'.nesting ≡ with_entry (entry_of (held_leaf held_by list)) outer → Same t t'
+    → FinishStep flags old new names names marks marks t t' steps steps
+comment-step flags old new names marks t t' held_by parts outer list steps tree gathers idle is tied open_is made
+    counts =
+    let lists : AreRoots old.lists (inner_lists parts) = open-lists old names t held_by parts outer is open_is in
+    let ends : Ends old new (inner_lists parts) list.index =
+    record {
+      root = gathers-root old.lists new.lists (inner_lists parts) list.index gathers tied lists;
+      keeps = gathers-keeps old.lists new.lists (inner_lists parts) list.index gathers tied lists;
+      idle = idle;
+    } in
+    let leaf : Leaf = held_leaf held_by list in
+    let scrap : seen new.lists (entry_of leaf) ≡ held_scrap held_by (map (part_seen old.lists) parts) =
+    ap (λ tr. record { cat = held_cat held_by; tree = tr; left = held_mode held_by; right = held_mode held_by })
+    tree in
+    let named : All (IsNamedItem (length names)) (map (part_seen old.lists) parts) =
+    inner-sound old new names t (Comment held_by parts) outer list.index is tied open_is ends in
+    let sound : AreSoundScraps (length names) (held_scrap held_by (map (part_seen old.lists) parts) ∷ []) = record {
+      named = All-cons (λ s. IsNamedBelow (length names) s.tree) (held_scrap held_by (map (part_seen old.lists) parts))
+          [] (held-named (length names) held_by (map (part_seen old.lists) parts) named)
+          (λ k d h. absurd (omega arith));
+      modes = All-cons scrap_agrees (held_scrap held_by (map (part_seen old.lists) parts)) []
+          (held-agrees held_by (map (part_seen old.lists) parts)) (λ k d h. absurd (omega arith));
+      fine = and-both (is_fine (held_scrap held_by (map (part_seen old.lists) parts))) true
+          (held-fine held_by (map (part_seen old.lists) parts)) refl;
+    } in
+    record {
+      steps_are = comment-steps flags old new names t t' held_by parts outer leaf is tied open_is ends made counts scrap
+          sound;
+      come = comment-come flags old new names t t' held_by parts outer leaf is tied open_is ends made counts scrap sound
+          marks steps;
+    }
+
+-- the names after a text that ends, whatever it answers
+pub text-names : (flags : Flags) (store : StoredLists) (names names' : List Entry) (marks : MarkList) (t : Translator)
+    (line : List LineEntry) (outer : List Open)
+    → t.nesting ≡ CText line ∷ outer → Retypes flags (state_of store.lists line marks names) names names'
+    → (token : Seen) → NamesAmong flags (Finish token ∷ []) (progress_of store.lists names marks t []) names'
+text-names flags store names names' marks t line outer open_is r =
+    λ token rest. at_finish token rest (progress_of store.lists names marks t []) (scraps_of store.lists line)
+    (frames_of store.lists outer) names' (ap (frames_of store.lists) open_is) r
+
+pub same-names : (flags : Flags) (answers : List Answer) (p : Progress) → NamesAmong flags answers p p.known.names
+same-names flags answers p = λ rest. here (answers ++ rest) p
+
+pub text-bound : (flags : Flags) (store : StoredLists) (names : List Entry) (marks : MarkList) (t : Translator)
+    (line : List LineEntry) (outer : List Open) (steps steps' : ℕ)
+    → t.nesting ≡ CText line ∷ outer → steps' ≤ steps
+    + (132 * length line + length line * reservings productions flags (state_of store.lists line marks names))
+    → steps' ≤ steps + limit_in flags (after_finish flags (frames_of store.lists t.nesting)
+    (known_of names marks)).known.ended
+text-bound flags store names marks t line outer steps steps' open_is h =
+    subst (λ all. steps' ≤ steps + limit_in flags (after_finish flags (frames_of store.lists all)
+    (known_of names marks)).known.ended) (sym open_is)
+    (subst (λ n. steps' ≤ steps + n) (sum-one (λ state. text_limit flags state) (state_of store.lists line marks names))
+    (subst (λ n. steps' ≤ steps + (132 * n + n * reservings productions flags (state_of store.lists line marks names)))
+    (sym (length-map line (seen store.lists))) h))

@@ -1,0 +1,47 @@
+-- The names that a reduction leaves.
+use Rattle.std.proofs.Common.{◌≡◌, ℕ, List, [], ◌∷◌, drop, refl, sym, ap, ◌∙◌}
+use Rattle.cw_base.specs.declared.flags.Flags.{Flags}
+use Rattle.cw_names.specs.declared.entry.EntryKind.{EntryKind}
+use Rattle.cw_names.specs.Names.{Entry}
+use Rattle.cw_table.specs.Normal.{normal}
+use Rattle.cw_table.specs.Productions.{productions}
+use Rattle.cw_table.specs.Reaching.{IsAfter}
+use Rattle.cw_table.specs.Rewriting.{State}
+use Rattle.cw_scraps.specs.Applying.{categories}
+use Rattle.cw_rewrite.specs.Reduction.{words_of}
+use Rattle.cw_translator.specs.Retyping.{Retypes}
+use Rattle.cw_translator.specs.Translating.{with_categories}
+
+abbrev first_word : List (EntryKind × List ℕ) → EntryKind × List ℕ → EntryKind × List ℕ
+first_word [] word = word
+first_word (word ∷ words) other = word
+
+-- names are their words with their categories
+pub with-categories-is : (new old : List Entry) → words_of new ≡ words_of old
+    → new ≡ with_categories (categories new) old
+with-categories-is [] [] e = refl
+with-categories-is [] (o ∷ old) e = absurd (cc e)
+with-categories-is (n ∷ new) [] e = absurd (cc e)
+with-categories-is (n ∷ new) (o ∷ old) e =
+    let first : n.kind ≡ o.kind = ap (λ ws. (first_word ws (n.kind, n.text)).0) e in
+    let second : n.text ≡ o.text = ap (λ ws. (first_word ws (n.kind, n.text)).1) e in
+    let rest : words_of new ≡ words_of old = ap (drop 1) e in
+    ap (λ k. record { kind = k; text = n.text; category = n.category } ∷ new) first
+    ∙ (ap (λ t. record { kind = o.kind; text = t; category = n.category } ∷ new) second
+    ∙ ap (λ ns. record { kind = o.kind; text = o.text; category = n.category } ∷ ns) (with-categories-is new old rest))
+
+pub retypes : (flags : Flags) (old now : State) (names new : List Entry) → IsAfter productions flags old now → now.cats
+    ≡ categories new → words_of new ≡ words_of names → Retypes flags old names new
+retypes flags old now names new after cats words =
+    record {
+      state = now;
+      reached = after;
+      is = with-categories-is new names words
+          ∙ ap (λ cs. with_categories cs names) (sym cats);
+    }
+
+pub retyped-names : (flags : Flags) (old now : State) (names new : List Entry) → now ≡ normal productions flags old
+    → now.cats ≡ categories new → words_of new ≡ words_of names
+    → new ≡ with_categories (normal productions flags old).cats names
+retyped-names flags old now names new is cats words = with-categories-is new names words
+    ∙ ap (λ cs. with_categories cs names) (sym cats ∙ ap (λ s. s.cats) is)

@@ -1,0 +1,15 @@
+-- What begins neither an inner text nor a comment nor a section name opens nothing.
+use Rattle.std.proofs.Common.{ap, arith}
+use Rattle.std.proofs.lemmas.Grind.{common_steps}
+use Rattle.cw_translator.proofs.AnswerSteps.{begun-other}
+use Rattle.cw_translator.proofs.translator.Translator.begin.Goals as goal
+
+pub returns-in_default : goal.returns-in_default
+returns-in_default c = record {
+  begins = ap (λ all. record c.args.self.now { nesting = all })
+      (begun-other c.args.token.now.kind c.args.token.now.span.start c.args.self.now.nesting c.in_default.not-InnerText
+      c.in_default.not-LongComment c.in_default.not-ShortComment c.in_default.not-Code);
+}
+
+pub returns-in-LongComment : goal.returns-in-LongComment
+returns-in-LongComment c = grind (arith, common_steps)
