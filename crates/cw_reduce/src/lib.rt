@@ -1,4 +1,4 @@
-//! Productions are applied to C texts, leftmost place and first row first, until none fits.
+//! Whole C texts are translated: their heads, their section names, and all that stands behind.
 #![tactic(auto)]
 
 mod alone;

@@ -89,11 +89,7 @@ pub fn reduce<L: Ledger>(
 
 // The first row that fits at a place, where the line is opened. It counts four steps.
 #[inline(always)]
-pub(crate) fn row_at<L: Ledger>(
-    line: &mut ScrapLine,
-    place: usize,
-    steps: &mut Steps<L>,
-) -> Option<RowNo>
+fn row_at<L: Ledger>(line: &mut ScrapLine, place: usize, steps: &mut Steps<L>) -> Option<RowNo>
     requires { place < length line.old }
     ensures first { MatchOption result (first_of productions (drop place (entry_cats line.old)) ≡
         None) (λ row. IsFirst (drop place (entry_cats line.old)) row.number) }
@@ -157,7 +153,7 @@ fn distance(row: RowNo) -> usize
 }
 
 // One production at a place, where its row fits, with the room that it needs.
-pub(crate) fn produce<L: Ledger>(
+fn produce<L: Ledger>(
     production: &Production,
     line: &mut ScrapLine,
     names: &mut Names,

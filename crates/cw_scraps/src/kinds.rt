@@ -5,8 +5,8 @@ ghost use Rattle.cw_scraps.specs.Leaves.{MakesLeaf};
 
 use cw_lex::{Code, TokKind};
 
-/// Whether a token makes a scrap of its own, so that `scrap_of` may be asked for it. What only holds or heads others makes
-/// none: comments, inner texts, the signs of heads, and codes that say something of a name or to the index.
+/// Whether a token makes a scrap of its own, so that `scrap_of` may be asked for it. What only holds or heads others
+/// makes none: comments, inner texts, the signs of heads, and codes that say something of a name or to the index.
 pub fn makes_leaf(kind: TokKind) -> bool
     ensures { IsTrue result ↔ MakesLeaf kind }
 {
