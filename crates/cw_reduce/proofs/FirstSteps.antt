@@ -27,7 +27,7 @@ use Rattle.cw_translator.specs.Counting.{limit_in, text_limit}
 use Rattle.cw_reduce.specs.HeadReading.{NamesWithin, answers_ahead, is_definition, is_name, name_ahead, read_made}
 use Rattle.cw_reduce.specs.HeadReading.{without_notes, words_in}
 use Rattle.cw_reduce.specs.Heading.{NamesOfText, behind, behind_head, head_begun, in_head}
-use Rattle.cw_translator.specs.Naming.{token_answers, with_texts}
+use Rattle.cw_reduce.specs.Naming.{token_answers, with_texts}
 use Rattle.cw_translator.specs.Opening.{HasCome, HasEnded, IsTranslated, StartsBelow, answers_in, of_leaf, progress_of}
 use Rattle.cw_translator.specs.Reading.{Progress, after_answers, after_token, all_ended, last_scraps}
 use Rattle.cw_translator.specs.Retyping.{NamesAmong, NamesOnTheWay, RetypesIn, at_end, here, later}

@@ -23,7 +23,7 @@ use Rattle.cw_table.proofs.ScrapFacts.{and-both}
 use Rattle.cw_reduce.specs.HeadReading.{NamesWithin, without_notes, answer_words}
 use Rattle.cw_translator.specs.Opening.{StartsBelow, answers_in}
 use Rattle.cw_translator.specs.Translating.{spelled, spelled_behind, form_tokens, word_tokens}
-use Rattle.cw_translator.proofs.AnswerSteps.{gives-is}
+use Rattle.cw_reduce.proofs.ReadSteps.{gives-is}
 
 -- ## Notes
 

@@ -23,7 +23,7 @@ use Rattle.cw_reduce.specs.HeadReading.{NamesWithin, answer_words, answers_ahead
 use Rattle.cw_reduce.specs.HeadReading.{is_name, name_ahead, read_made, without_notes, words_in}
 use Rattle.cw_translator.specs.Translating.{Known, NameTexts, head_made, spelled, with_names}
 use Rattle.cw_translator.specs.Opening.{StartsBelow, answers_in}
-use Rattle.cw_translator.proofs.AnswerSteps.{gives-is}
+use Rattle.cw_reduce.proofs.ReadSteps.{gives-is}
 use Rattle.cw_reduce.proofs.HeadAnswers.{nests-notes, nested-notes, starts-notes}
 use Rattle.cw_reduce.proofs.HeadMakes.{behind}
 

@@ -36,7 +36,7 @@ use Rattle.cw_reduce.specs.HeadReading.{head_line, read_made}
 use Rattle.cw_reduce.specs.Heading.{NamesOfHeaded, NamesOfHeld, in_name, behind, after_head, after_held, head_begun}
 use Rattle.cw_reduce.specs.Heading.{headed_text}
 use Rattle.cw_translator.specs.NameParts.{name_texts, parts_by_kind}
-use Rattle.cw_translator.specs.Naming.{held_answers, with_texts}
+use Rattle.cw_reduce.specs.Naming.{held_answers, with_texts}
 use Rattle.cw_translator.specs.declared.translator.Translator.{Translator}
 use Rattle.cw_translator.specs.Counting.{scraps_in, productions_in, ticks_in, text_limit, limit_in}
 use Rattle.cw_translator.specs.Opening.{all_roots, progress_of, HasCome, IsSoundFrame, IsTranslated, IsTranslating}
@@ -45,8 +45,8 @@ use Rattle.cw_translator.specs.Retyping.{NamesAmong, NamesOnTheWay, RetypesIn, a
 use Rattle.cw_translator.specs.Translating.{Ended, Known, NameTexts, before, begin, end_of, head_made, leaf_of_name}
 use Rattle.cw_translator.specs.Translating.{made}
 use Rattle.cw_translator.specs.Translating.{sign_behind, texts_named, translated, with_names}
-use Rattle.cw_translator.proofs.AnswerSteps.{Reads, behind as behind_ended, behind-answers, reads-start, reads-more}
-use Rattle.cw_translator.proofs.AnswerSteps.{way-behind}
+use Rattle.cw_reduce.proofs.ReadSteps.{Reads, behind as behind_ended, behind-answers, reads-start, reads-more}
+use Rattle.cw_reduce.proofs.ReadSteps.{way-behind}
 use Rattle.cw_reduce.proofs.NamedJoined.{AllNested, name-law, named-translation}
 use Rattle.cw_reduce.proofs.NameSteps.{texts-paired, texts-unpaired, with-texts-append}
 use Rattle.cw_translator.proofs.EndSteps.{spent-within, way-end}

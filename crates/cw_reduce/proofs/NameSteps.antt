@@ -32,17 +32,19 @@ use Rattle.cw_translator.specs.declared.nesting.Open.TheVariants.{CText, Comment
 use Rattle.cw_translator.specs.declared.translator.Translator.{Translator}
 use Rattle.cw_translator.specs.Counting.{limit_in, productions_in, scraps_in}
 use Rattle.cw_translator.specs.NameParts.{AreNamesOf, name_texts, parts_by_kind, texts_kept, texts_of_name}
-use Rattle.cw_translator.specs.Naming.{held_answers, is_name_kind, name_answers, text_answers, text_token}
-use Rattle.cw_translator.specs.Naming.{texts_answers}
-use Rattle.cw_translator.specs.Naming.{token_answers, with_texts}
+use Rattle.cw_reduce.specs.Naming.{held_answers, is_name_kind, name_answers, text_answers, text_token}
+use Rattle.cw_reduce.specs.Naming.{texts_answers}
+use Rattle.cw_reduce.specs.Naming.{token_answers, with_texts}
 use Rattle.cw_translator.specs.Opening.{all_roots, answers_in, frames_of, IsSoundFrame, IsTranslating, progress_of}
 use Rattle.cw_translator.specs.Opening.{HasCome}
 use Rattle.cw_translator.specs.Reading.{Progress, after_token, after_begin, after_answers, with_held}
 use Rattle.cw_translator.specs.Reading.{Comment as CommentFrame}
 use Rattle.cw_translator.specs.Retyping.{NamesAmong, NamesOnTheWay, later}
 use Rattle.cw_translator.specs.Translating.{NameTexts}
-use Rattle.cw_translator.proofs.AnswerSteps.{Reads, reads-start, reads-more, reads-fails, reads-few, begin-steps}
-use Rattle.cw_translator.proofs.AnswerSteps.{begin-come, gives-is, stay-come}
+use Rattle.cw_translator.proofs.AnswerSteps.{begin-steps}
+use Rattle.cw_reduce.proofs.ReadSteps.{Reads, reads-start, reads-more, reads-fails, reads-few}
+use Rattle.cw_translator.proofs.AnswerSteps.{begin-come, stay-come}
+use Rattle.cw_reduce.proofs.ReadSteps.{gives-is}
 use Rattle.cw_translator.proofs.LeafSteps.{Steps, keeps-itself}
 
 -- An inner text has begun.

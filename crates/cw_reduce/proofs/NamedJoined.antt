@@ -28,16 +28,16 @@ use Rattle.cw_translator.specs.declared.holders.Holder.{Holder}
 use Rattle.cw_translator.specs.declared.holders.Holder.TheVariants as holder
 use Rattle.cw_translator.specs.Holders.{held_cat, held_mode, held_tree, name_rest, name_tree}
 use Rattle.cw_translator.specs.NameParts.{name_texts, parts_by_kind, texts_kept, texts_of_name}
-use Rattle.cw_translator.specs.Naming.{held_answers, name_answers, text_answers, text_token, texts_answers}
-use Rattle.cw_translator.specs.Naming.{token_answers}
-use Rattle.cw_translator.specs.Naming.{with_texts}
+use Rattle.cw_reduce.specs.Naming.{held_answers, name_answers, text_answers, text_token, texts_answers}
+use Rattle.cw_reduce.specs.Naming.{token_answers}
+use Rattle.cw_reduce.specs.Naming.{with_texts}
 use Rattle.cw_translator.specs.Reading.{Frame, CText, Comment, with_scrap, Progress, with_made, after_token}
 use Rattle.cw_translator.specs.Reading.{after_begin}
 use Rattle.cw_translator.specs.Reading.{after_finish, after_answers, all_ended, ended_in, with_held}
 use Rattle.cw_translator.specs.Translating.{CommentItem, InnerText, Known, Made, nothing, before, end_of, token_made}
 use Rattle.cw_translator.specs.Translating.{made}
 use Rattle.cw_translator.specs.Translating.{no_name, plain_text, NameTexts, texts_made, texts_named, leaf_of_name}
-use Rattle.cw_translator.proofs.AnswerSteps.{after-append}
+use Rattle.cw_reduce.proofs.ReadSteps.{after-append}
 use Rattle.cw_reduce.proofs.Joined.{append-none, closed, run, extended-nothing, extended-scrap, level-before}
 use Rattle.cw_reduce.proofs.Joined.{step-token, step-begin, pushed, token-one, begin-two, finish-one, run-leaf, run-end}
 use Rattle.cw_reduce.proofs.Joined.{run-group, run-all, one-nest}

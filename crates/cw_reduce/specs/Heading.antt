@@ -12,7 +12,7 @@ use Rattle.cw_reduce.specs.declared.heads.HeadRead.TheVariants as read
 use Rattle.cw_translator.specs.declared.holders.Holder.{Holder}
 use Rattle.cw_translator.specs.declared.holders.Holder.TheVariants as holder
 use Rattle.cw_reduce.specs.HeadReading.{NamesWithin, head_line, read_made, words_in}
-use Rattle.cw_translator.specs.Naming.{held_answers, with_texts}
+use Rattle.cw_reduce.specs.Naming.{held_answers, with_texts}
 use Rattle.cw_translator.specs.Reading.{CText, Progress, after_answers, with_held}
 use Rattle.cw_translator.specs.Retyping.{NamesAmong, NamesOnTheWay}
 use Rattle.cw_translator.specs.Translating.{Ended, Known, NameTexts, before, begin, end_of, head_made, leaf_of_name}

@@ -1,5 +1,6 @@
--- The definitions of heads, of what of a text is shown, and the laws that a translation has.
+-- The definitions of section names and heads, of what of a text is shown, and the laws that a translation has.
 pub mod Visible
 pub mod TranslationLaws
+pub mod Naming
 pub mod HeadReading
 pub mod Heading

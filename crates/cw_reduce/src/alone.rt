@@ -17,7 +17,7 @@ ghost use Rattle.cw_answers.specs.Reading.{IsReadUp};
 ghost use Rattle.cw_translator.specs.Counting.{limit_in};
 ghost use Rattle.cw_reduce.specs.Heading.{NamesOfText};
 ghost use Rattle.cw_translator.specs.NameParts.{AreNamesOf};
-ghost use Rattle.cw_translator.specs.Naming.{with_texts};
+ghost use Rattle.cw_reduce.specs.Naming.{with_texts};
 ghost use Rattle.cw_translator.specs.Opening.{IsTranslated, IsTranslating, StartsBelow, answers_in, of_leaf};
 ghost use Rattle.cw_translator.specs.Reading.{after_answers, all_ended};
 ghost use Rattle.cw_translator.specs.Retyping.{NamesOnTheWay};

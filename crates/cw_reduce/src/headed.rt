@@ -15,7 +15,7 @@ ghost use Rattle.cw_reduce.specs.HeadReading.{answers_ahead, head_line, name_ahe
 ghost use Rattle.cw_reduce.specs.Heading.{NamesOfHead, NamesOfHeaded, NamesOfHeld, after_head, after_held, head_begun};
 ghost use Rattle.cw_reduce.specs.Heading.{NamesOfText, headed_text};
 ghost use Rattle.cw_translator.specs.NameParts.{AreNamesOf};
-ghost use Rattle.cw_translator.specs.Naming.{with_texts};
+ghost use Rattle.cw_reduce.specs.Naming.{with_texts};
 ghost use Rattle.cw_translator.specs.Opening.{IsTranslated, IsTranslating, StartsBelow, all_roots, answers_in, of_leaf};
 ghost use Rattle.cw_translator.specs.Reading.{after_answers};
 ghost use Rattle.cw_translator.specs.Retyping.{NamesAmong};

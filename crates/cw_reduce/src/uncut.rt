@@ -2,7 +2,7 @@
 ghost use Rattle.std.specs.Prelude.{◌≡◌, ◌≤◌, length, true, false};
 ghost use Rattle.cw_lex.specs.Lexing.{tokens_of};
 ghost use Rattle.cw_lex.specs.Nested.{begins_section_in, is_plain_c_mode, is_section_kind};
-ghost use Rattle.cw_translator.specs.Naming.{ends_text};
+ghost use Rattle.cw_reduce.specs.Naming.{ends_text};
 
 use cw_base::Span;
 use cw_lex::{Code, Lexed, Lexer, Mode, TokKind};

@@ -1,4 +1,4 @@
--- The definitions of translations: what answers come to, how texts are reduced and put together, and their names.
+-- The definitions of translations: what answers come to, how texts are reduced and put together.
 pub mod Translating
 pub mod Counting
 pub mod Reading
@@ -7,5 +7,4 @@ pub mod Opening
 pub mod Retyping
 pub mod NameParts
 pub mod Holders
-pub mod Naming
 pub mod Working

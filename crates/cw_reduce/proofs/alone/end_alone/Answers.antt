@@ -8,7 +8,7 @@ use Rattle.cw_translator.specs.Opening.{of_leaf}
 use Rattle.cw_translator.specs.Retyping.{NamesOnTheWay}
 use Rattle.cw_translator.specs.Working.{progress_over}
 use Rattle.cw_reduce.proofs.AloneSteps.{alone-done, alone-fails, alone-spent}
-use Rattle.cw_translator.proofs.AnswerSteps.{on-err}
+use Rattle.cw_reduce.proofs.ReadSteps.{on-err}
 use Rattle.cw_translator.proofs.FinishSteps.{gathers-root}
 use Rattle.cw_rewrite.proofs.GatherLaws.{gathers-keeps, whole-named}
 use Rattle.cw_reduce.proofs.alone.end_alone.Goals as goal

@@ -9,12 +9,12 @@ use Rattle.cw_scraps.proofs.Changings.{tied-idle}
 use Rattle.cw_translator.specs.Counting.{limit_in}
 use Rattle.cw_reduce.specs.Heading.{NamesOfText}
 use Rattle.cw_translator.specs.NameParts.{name_texts}
-use Rattle.cw_translator.specs.Naming.{with_texts}
+use Rattle.cw_reduce.specs.Naming.{with_texts}
 use Rattle.cw_translator.specs.Opening.{IsTranslated, of_leaf, progress_of}
 use Rattle.cw_translator.specs.Reading.{after_answers, all_ended}
 use Rattle.cw_translator.specs.Retyping.{NamesOnTheWay}
 use Rattle.cw_translator.specs.Translating.{Ended, translated}
-use Rattle.cw_translator.proofs.AnswerSteps.{on-err, on-err-weaker}
+use Rattle.cw_reduce.proofs.ReadSteps.{on-err, on-err-weaker}
 use Rattle.cw_reduce.proofs.FirstSteps.{first-start, first-text, first-way, no_leaf}
 use Rattle.cw_reduce.proofs.HeadSteps.{head-translating}
 use Rattle.cw_translator.proofs.LeafSteps.{empty-line, leaf-step}

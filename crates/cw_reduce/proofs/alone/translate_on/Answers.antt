@@ -6,13 +6,13 @@ use Rattle.cw_scraps.proofs.Applied.{keeps-trans}
 use Rattle.cw_translator.specs.declared.translator.Translator.{Translator}
 use Rattle.cw_reduce.specs.HeadReading.{answers_ahead}
 use Rattle.cw_translator.specs.NameParts.{name_texts}
-use Rattle.cw_translator.specs.Naming.{with_texts}
+use Rattle.cw_reduce.specs.Naming.{with_texts}
 use Rattle.cw_translator.specs.Opening.{HasEnded, IsTranslated, IsTranslating, StartsBelow, all_roots, answers_in}
 use Rattle.cw_translator.specs.Opening.{of_leaf}
 use Rattle.cw_translator.specs.Opening.{progress_of}
 use Rattle.cw_translator.specs.Reading.{after_answers, all_ended}
 use Rattle.cw_translator.specs.Retyping.{NamesOnTheWay, here}
-use Rattle.cw_translator.proofs.AnswerSteps.{on-err}
+use Rattle.cw_reduce.proofs.ReadSteps.{on-err}
 use Rattle.cw_reduce.proofs.FirstSteps.{ahead-is, on-done, on-ends, on-fails, on-some, on-spent}
 use Rattle.cw_reduce.proofs.alone.translate_on.Goals as goal
 

@@ -4,11 +4,12 @@ use Rattle.cw_translator.specs.declared.holders.Holder.TheVariants as holder
 use Rattle.cw_translator.specs.Counting.{limit_in}
 use Rattle.cw_reduce.specs.Heading.{NamesOfHeld, after_held}
 use Rattle.cw_translator.specs.NameParts.{name_texts, parts_by_kind}
-use Rattle.cw_translator.specs.Naming.{held_answers}
+use Rattle.cw_reduce.specs.Naming.{held_answers}
 use Rattle.cw_translator.specs.Opening.{HasCome, progress_of}
 use Rattle.cw_translator.specs.Reading.{Progress, after_answers, with_held}
 use Rattle.cw_translator.specs.Retyping.{NamesAmong}
-use Rattle.cw_translator.proofs.AnswerSteps.{on-err-weaker, on-ok1, stay-come}
+use Rattle.cw_translator.proofs.AnswerSteps.{stay-come}
+use Rattle.cw_reduce.proofs.ReadSteps.{on-err-weaker, on-ok1}
 use Rattle.cw_reduce.proofs.HeadSteps.{head-unpaired, head-paired, head-fails}
 use Rattle.cw_reduce.proofs.NameSteps.{paired-among, paired-short}
 use Rattle.cw_reduce.proofs.headed.name_with_sign.Goals as goal

@@ -4,12 +4,12 @@ use Rattle.cw_scraps.specs.Changing.{Keeps}
 use Rattle.cw_scraps.proofs.Applied.{keeps-trans}
 use Rattle.cw_reduce.specs.HeadReading.{name_ahead}
 use Rattle.cw_translator.specs.NameParts.{name_texts}
-use Rattle.cw_translator.specs.Naming.{with_texts}
+use Rattle.cw_reduce.specs.Naming.{with_texts}
 use Rattle.cw_translator.specs.Opening.{HasCome, IsTranslating, all_roots, answers_in, progress_of}
 use Rattle.cw_translator.specs.Reading.{after_answers}
 use Rattle.cw_translator.specs.Retyping.{NamesAmong}
-use Rattle.cw_translator.proofs.AnswerSteps.{last-come, last-fails, last-few, on-err, on-err-weaker, on-ok1, on-ok3}
-use Rattle.cw_translator.proofs.AnswerSteps.{reads-fails, reads-few, starts-split}
+use Rattle.cw_reduce.proofs.ReadSteps.{last-come, last-fails, last-few, on-err, on-err-weaker, on-ok1, on-ok3}
+use Rattle.cw_reduce.proofs.ReadSteps.{reads-fails, reads-few, starts-split}
 use Rattle.cw_reduce.proofs.HeadSteps.{all_behind, behind-begins, behind-first, behind-next, cut-first}
 use Rattle.cw_reduce.proofs.NameSteps.{with-texts-append}
 use Rattle.cw_reduce.proofs.headed.read_behind.Goals as goal

@@ -6,11 +6,11 @@ use Rattle.cw_scraps.proofs.Applied.{keeps-trans}
 use Rattle.cw_reduce.specs.HeadReading.{answers_ahead}
 use Rattle.cw_reduce.specs.Heading.{NamesOfHeaded, in_name, behind, after_head}
 use Rattle.cw_translator.specs.NameParts.{name_texts}
-use Rattle.cw_translator.specs.Naming.{with_texts}
+use Rattle.cw_reduce.specs.Naming.{with_texts}
 use Rattle.cw_translator.specs.Opening.{HasCome, all_roots, progress_of}
 use Rattle.cw_translator.specs.Reading.{after_answers}
 use Rattle.cw_translator.specs.Retyping.{NamesAmong, NamesOnTheWay}
-use Rattle.cw_translator.proofs.AnswerSteps.{limit-more, on-err, on-err-weaker, on-ok1}
+use Rattle.cw_reduce.proofs.ReadSteps.{limit-more, on-err, on-err-weaker, on-ok1}
 use Rattle.cw_reduce.proofs.HeadSteps.{then-come, then-few, then-fails}
 use Rattle.cw_reduce.proofs.headed.read_headed.Goals as goal
 

@@ -9,11 +9,11 @@ use Rattle.cw_translator.specs.declared.translator.Translator.{Translator}
 use Rattle.cw_reduce.specs.HeadReading.{answers_ahead, head_line}
 use Rattle.cw_reduce.specs.Heading.{NamesOfHeaded, after_head, head_begun, headed_text}
 use Rattle.cw_translator.specs.NameParts.{name_texts}
-use Rattle.cw_translator.specs.Naming.{with_texts}
+use Rattle.cw_reduce.specs.Naming.{with_texts}
 use Rattle.cw_translator.specs.Opening.{HasEnded, IsTranslated, all_roots, progress_of}
 use Rattle.cw_translator.specs.Reading.{after_answers}
 use Rattle.cw_translator.specs.Translating.{begin}
-use Rattle.cw_translator.proofs.AnswerSteps.{on-err}
+use Rattle.cw_reduce.proofs.ReadSteps.{on-err}
 use Rattle.cw_translator.proofs.EndSteps.{text-done, spent-done}
 use Rattle.cw_reduce.proofs.HeadSteps.{head-translating, whole-done, whole-few, whole-some, whole-start, whole-way}
 use Rattle.cw_reduce.proofs.HeadSteps.{whole-ends}

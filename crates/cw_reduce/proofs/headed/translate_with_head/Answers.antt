@@ -13,7 +13,7 @@ use Rattle.cw_reduce.specs.Heading.{NamesOfHeaded, NamesOfText, behind_head, hea
 use Rattle.cw_translator.specs.NameParts.{name_texts}
 use Rattle.cw_translator.specs.Opening.{IsTranslated, answers_in}
 use Rattle.cw_translator.specs.Translating.{Ended, begin, translated}
-use Rattle.cw_translator.proofs.AnswerSteps.{on-err, on-err-weaker, on-ok1}
+use Rattle.cw_reduce.proofs.ReadSteps.{on-err, on-err-weaker, on-ok1}
 use Rattle.cw_reduce.proofs.HeadSteps.{headed-translated}
 use Rattle.cw_reduce.proofs.NamedJoined.{texts-nested}
 use Rattle.cw_reduce.proofs.headed.translate_with_head.Goals as goal

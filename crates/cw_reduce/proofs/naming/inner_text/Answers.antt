@@ -5,11 +5,11 @@ use Rattle.cw_lex.specs.Nested.{until_section}
 use Rattle.cw_scraps.specs.Changing.{Keeps}
 use Rattle.cw_scraps.proofs.Applied.{keeps-trans}
 use Rattle.cw_translator.specs.Counting.{limit_in}
-use Rattle.cw_translator.specs.Naming.{text_answers, text_token}
+use Rattle.cw_reduce.specs.Naming.{text_answers, text_token}
 use Rattle.cw_translator.specs.Opening.{all_roots, HasCome, IsTranslating, progress_of}
 use Rattle.cw_translator.specs.Reading.{after_answers, after_finish}
 use Rattle.cw_translator.specs.Retyping.{NamesAmong}
-use Rattle.cw_translator.proofs.AnswerSteps.{last-come, last-fails, last-few, on-err, on-ok1, on-ok3, within-starts}
+use Rattle.cw_reduce.proofs.ReadSteps.{last-come, last-fails, last-few, on-err, on-ok1, on-ok3, within-starts}
 use Rattle.cw_translator.proofs.FinishSteps.{same-names}
 use Rattle.cw_reduce.proofs.NameSteps.{part_answers, text-opened, text-read, text-fails, text-few}
 use Rattle.cw_reduce.proofs.naming.inner_text.Goals as goal

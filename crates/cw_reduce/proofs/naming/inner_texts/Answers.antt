@@ -2,10 +2,10 @@
 use Rattle.std.proofs.Common.{◌+◌, [], arith}
 use Rattle.cw_secnames.specs.Parts.{parts_at}
 use Rattle.cw_translator.specs.NameParts.{parts_of_name}
-use Rattle.cw_translator.specs.Naming.{text_answers, texts_answers}
+use Rattle.cw_reduce.specs.Naming.{text_answers, texts_answers}
 use Rattle.cw_translator.specs.Opening.{progress_of}
 use Rattle.cw_translator.specs.Retyping.{NamesAmong}
-use Rattle.cw_translator.proofs.AnswerSteps.{reads-few, reads-fails, reads-more, on-err}
+use Rattle.cw_reduce.proofs.ReadSteps.{reads-few, reads-fails, reads-more, on-err}
 use Rattle.cw_reduce.proofs.NameSteps.{all_part_answers, part_answers, part-next}
 use Rattle.cw_reduce.proofs.WorkLaws.{same-work}
 use Rattle.cw_reduce.proofs.naming.inner_texts.Goals as goal

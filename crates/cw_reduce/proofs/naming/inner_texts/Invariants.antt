@@ -2,9 +2,9 @@
 use Rattle.std.specs.Prelude.{◌-◌, ◌≤◌, length}
 use Rattle.cw_secnames.specs.Parts.{parts_at}
 use Rattle.cw_translator.specs.NameParts.{parts_of_name}
-use Rattle.cw_translator.specs.Naming.{texts_answers}
+use Rattle.cw_reduce.specs.Naming.{texts_answers}
 use Rattle.cw_translator.specs.Working.{IsSameWork}
-use Rattle.cw_translator.proofs.AnswerSteps.{Reads}
+use Rattle.cw_reduce.proofs.ReadSteps.{Reads}
 use Rattle.cw_reduce.proofs.NameSteps.{all_part_answers}
 use Rattle.cw_reduce.proofs.naming.inner_texts.Given as goal
 

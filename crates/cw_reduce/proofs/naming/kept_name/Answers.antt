@@ -4,11 +4,11 @@ use Rattle.cw_rules.specs.Answers.{Finish}
 use Rattle.cw_scraps.specs.Changing.{Keeps}
 use Rattle.cw_scraps.proofs.Applied.{keeps-trans}
 use Rattle.cw_translator.specs.NameParts.{parts_by_kind}
-use Rattle.cw_translator.specs.Naming.{held_answers, text_token}
+use Rattle.cw_reduce.specs.Naming.{held_answers, text_token}
 use Rattle.cw_translator.specs.Opening.{all_roots, HasCome, IsTranslating, progress_of}
 use Rattle.cw_translator.specs.Reading.{after_answers, after_finish, with_held}
 use Rattle.cw_translator.specs.Retyping.{NamesAmong}
-use Rattle.cw_translator.proofs.AnswerSteps.{last-come, last-fails, last-few, on-err, on-ok1, on-ok3}
+use Rattle.cw_reduce.proofs.ReadSteps.{last-come, last-fails, last-few, on-err, on-ok1, on-ok3}
 use Rattle.cw_translator.proofs.FinishSteps.{same-names}
 use Rattle.cw_reduce.proofs.NameSteps.{held-steps, held-come, held-keeps, held-fails, held-few, held-read}
 use Rattle.cw_reduce.proofs.NameSteps.{held-read-fails, held-read-few}

@@ -2,10 +2,10 @@
 use Rattle.std.proofs.Common.{[]}
 use Rattle.cw_answers.proofs.Staying.{stays-trans}
 use Rattle.cw_translator.specs.NameParts.{name_texts}
-use Rattle.cw_translator.specs.Naming.{with_texts}
+use Rattle.cw_reduce.specs.Naming.{with_texts}
 use Rattle.cw_translator.specs.Opening.{answers_in, progress_of}
 use Rattle.cw_translator.specs.Retyping.{NamesAmong}
-use Rattle.cw_translator.proofs.AnswerSteps.{reads-few, reads-more, reads-fails, on-err, starts-next}
+use Rattle.cw_reduce.proofs.ReadSteps.{reads-few, reads-more, reads-fails, on-err, starts-next}
 use Rattle.cw_reduce.proofs.NameSteps.{with-texts-next}
 use Rattle.cw_reduce.proofs.WorkLaws.{same-work}
 use Rattle.cw_reduce.proofs.naming.read_named.Goals as goal

@@ -2,10 +2,10 @@
 use Rattle.std.specs.Prelude.{length, ◌^◌}
 use Rattle.cw_answers.specs.Reading.{Stays}
 use Rattle.cw_translator.specs.NameParts.{name_texts}
-use Rattle.cw_translator.specs.Naming.{with_texts}
+use Rattle.cw_reduce.specs.Naming.{with_texts}
 use Rattle.cw_translator.specs.Opening.{StartsBelow}
 use Rattle.cw_translator.specs.Working.{IsSameWork}
-use Rattle.cw_translator.proofs.AnswerSteps.{Reads}
+use Rattle.cw_reduce.proofs.ReadSteps.{Reads}
 use Rattle.cw_reduce.proofs.naming.read_named.Given as goal
 
 abbrev pub invariant-loop-translator : goal.invariant-loop-translator

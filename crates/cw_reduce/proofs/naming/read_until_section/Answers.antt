@@ -3,7 +3,7 @@ use Rattle.std.proofs.Common.{[], sym, ◌∙◌}
 use Rattle.cw_lex.specs.Nested.{until_section}
 use Rattle.cw_translator.specs.Opening.{answers_in, progress_of}
 use Rattle.cw_translator.specs.Retyping.{NamesAmong}
-use Rattle.cw_translator.proofs.AnswerSteps.{reads-few, reads-more, reads-fails, on-err, starts-next, until-goes}
+use Rattle.cw_reduce.proofs.ReadSteps.{reads-few, reads-more, reads-fails, on-err, starts-next, until-goes}
 use Rattle.cw_reduce.proofs.WorkLaws.{same-work}
 use Rattle.cw_reduce.proofs.naming.read_until_section.Goals as goal
 

@@ -3,7 +3,7 @@ use Rattle.std.specs.Prelude.{length, ◌^◌}
 use Rattle.cw_lex.specs.Nested.{until_section}
 use Rattle.cw_translator.specs.Opening.{StartsBelow}
 use Rattle.cw_translator.specs.Working.{IsSameWork}
-use Rattle.cw_translator.proofs.AnswerSteps.{Reads}
+use Rattle.cw_reduce.proofs.ReadSteps.{Reads}
 use Rattle.cw_reduce.proofs.naming.read_until_section.Given as goal
 
 abbrev pub invariant-loop-answer : goal.invariant-loop-answer

@@ -3,11 +3,11 @@ use Rattle.std.proofs.Common.{[], sym, ◌∙◌}
 use Rattle.cw_rules.specs.Answers.{seen}
 use Rattle.cw_translator.specs.declared.holders.Holder.TheVariants as holder
 use Rattle.cw_translator.specs.NameParts.{name_texts, parts_by_kind}
-use Rattle.cw_translator.specs.Naming.{held_answers, token_answers}
+use Rattle.cw_reduce.specs.Naming.{held_answers, token_answers}
 use Rattle.cw_translator.specs.Opening.{progress_of}
 use Rattle.cw_translator.specs.Reading.{with_held}
 use Rattle.cw_translator.specs.Retyping.{NamesAmong}
-use Rattle.cw_translator.proofs.AnswerSteps.{on-err-weaker}
+use Rattle.cw_reduce.proofs.ReadSteps.{on-err-weaker}
 use Rattle.cw_reduce.proofs.NameSteps.{paired-among, paired-short, paired-fails}
 use Rattle.cw_reduce.proofs.naming.section_name.Goals as goal
 

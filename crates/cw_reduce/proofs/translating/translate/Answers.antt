@@ -6,7 +6,7 @@ use Rattle.cw_lex.specs.Nested.{IsNested}
 use Rattle.cw_lex.proofs.Nesting.{c-texts-nested}
 use Rattle.cw_lex.proofs.TokensWithin.{tokens-within}
 use Rattle.cw_translator.specs.Opening.{StartsBelow}
-use Rattle.cw_translator.proofs.AnswerSteps.{within-starts}
+use Rattle.cw_reduce.proofs.ReadSteps.{within-starts}
 use Rattle.cw_reduce.proofs.translating.translate.Goals as goal
 
 pub translate_read-requires-clause-nested : goal.translate_read-requires-clause-nested

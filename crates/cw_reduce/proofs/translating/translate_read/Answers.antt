@@ -12,7 +12,7 @@ use Rattle.cw_reduce.specs.Heading.{NamesOfText}
 use Rattle.cw_translator.specs.NameParts.{name_texts}
 use Rattle.cw_translator.specs.Opening.{IsTranslated, answers_in}
 use Rattle.cw_translator.specs.Translating.{Ended, translated}
-use Rattle.cw_translator.proofs.AnswerSteps.{on-err-weaker, on-ok1}
+use Rattle.cw_reduce.proofs.ReadSteps.{on-err-weaker, on-ok1}
 use Rattle.cw_reduce.proofs.FirstSteps.{gives-again, same-text, same-way}
 use Rattle.cw_reduce.proofs.HeadFinds.{ahead-of}
 use Rattle.cw_reduce.proofs.translating.translate_read.Goals as goal

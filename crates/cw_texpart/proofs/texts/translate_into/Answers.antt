@@ -6,7 +6,7 @@ use Rattle.cw_lex.proofs.Nesting.{c-texts-nested}
 use Rattle.cw_lex.proofs.TokensWithin.{tokens-within}
 use Rattle.cw_rules.specs.Answers.{Answer}
 use Rattle.cw_translator.specs.Opening.{StartsBelow}
-use Rattle.cw_translator.proofs.AnswerSteps.{within-starts}
+use Rattle.cw_reduce.proofs.ReadSteps.{within-starts}
 use Rattle.cw_texpart.proofs.TextLaws.{kept-tokens}
 use Rattle.cw_texpart.proofs.texts.translate_into.Goals as goal
 
