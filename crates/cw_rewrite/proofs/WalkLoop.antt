@@ -1,5 +1,6 @@
 -- The loop of the reducer, over a line in its store.
-use Rattle.std.proofs.Common.{◌≡◌, ℕ, ◌+◌, ◌-◌, ◌*◌, ◌^◌, ◌<◌, ◌≤◌, true, None, List, length, drop, sym, ◌∙◌, ap, arith}
+use Rattle.std.proofs.Common.{◌≡◌, ℕ, zero, suc, ◌+◌, ◌-◌, ◌*◌, ◌^◌, ◌<◌, ◌≤◌, true, None, List, length, drop, sym, ◌∙◌}
+use Rattle.std.proofs.Common.{ap, arith}
 use Rattle.cw_base.specs.declared.flags.Flags.{Flags}
 use Rattle.cw_names.specs.Names.{Entry}
 use Rattle.cw_table.specs.Fitting.{row_fits, first_of}
@@ -27,8 +28,8 @@ use Rattle.cw_scraps.specs.Marking.{MarkList}
 use Rattle.cw_scraps.proofs.Applied.{keeps-trans}
 use Rattle.cw_scraps.proofs.Productions.{cats-same}
 use Rattle.cw_scraps.proofs.Reservings.{length-scraps}
-use Rattle.cw_rewrite.specs.Reduction.{GrowsByProductions, IsFirst, PassesOver, stays, goes-on, words_of}
-use Rattle.cw_rewrite.proofs.WalkSteps.{Walks, Rewrites, rewrites, GoesOn, goes-on as goes-further, WalkEnds, walk-ends}
+use Rattle.cw_rewrite.specs.Reduction.{GrowsByProductions, HasNoMore, IsFirst, IsNext, PassesOver, words_of}
+use Rattle.cw_rewrite.proofs.WalkSteps.{Walks, Rewrites, rewrites, GoesOn, goes-on, WalkEnds, walk-ends}
 use Rattle.cw_rewrite.proofs.WalkSteps.{walk-reaches}
 
 -- what holds at each turn; the first values are those with which the reducer was called
@@ -143,7 +144,7 @@ module _ (f : Flags) (line0 : List LineEntry) (store0 : StoredLists) (names0 : L
       → steps' ≡ steps + 4 → InLoop f line0 store0 names0 marks0 steps0 line store names marks steps' (place + 1) done
   passes steps' inside none s =
       let g : GoesOn f (state_of store0.lists line0 marks0 names0) (state_of store.lists line marks names) place done
-      steps0 steps = goes-further f (state_of store0.lists line0 marks0 names0)
+      steps0 steps = goes-on f (state_of store0.lists line0 marks0 names0)
       (state_of store.lists line marks names) place done steps0 steps h.walks
       (omega (arith, length-scraps store.lists line)) (ap (λ cs. first_of productions (drop place cs))
       (cats-same store.lists line) ∙ none) in
@@ -155,12 +156,6 @@ module _ (f : Flags) (line0 : List LineEntry) (store0 : StoredLists) (names0 : L
         grown = h.grown;
         short = h.short;
       }
-
-  -- where the pointer may have gone on by one
-  pub passes-over : (place' steps' : ℕ) → PassesOver line place steps place' steps'
-      → InLoop f line0 store0 names0 marks0 steps0 line store names marks steps' place' done
-  passes-over place' steps' (stays p s) = rw (p, s) h
-  passes-over place' steps' (goes-on p s inside none) = rw p (passes steps' inside none s)
 
   pub ends : length line ≤ place → WalkEnds f (state_of store0.lists line0 marks0 names0)
       (state_of store.lists line marks names) done steps0 steps
@@ -192,8 +187,54 @@ module _ (f : Flags) (line0 : List LineEntry) (store0 : StoredLists) (names0 : L
     length-scraps store0.lists line0,
   )
 
--- what is left of the walk when the pointer may have gone on by one
-pub less-over : (line : List LineEntry) (place steps place' steps' : ℕ) (state : State)
-    → PassesOver line place steps place' steps' → walk_left place' state ≤ walk_left place state
-less-over line place steps place' steps' state (stays p s) = omega (arith, p)
-less-over line place steps place' steps' state (goes-on p s inside none) = omega (arith, p)
+-- over as many places at which no row fits
+pub passes-by : (n : ℕ) (f : Flags) (line0 : List LineEntry) (store0 : StoredLists) (names0 : List Entry)
+    (marks0 : MarkList) (steps0 : ℕ) (line : List LineEntry) (store : StoredLists) (names : List Entry)
+    (marks : MarkList) (steps place done : ℕ)
+    → InLoop f line0 store0 names0 marks0 steps0 line store names marks steps place done
+    → ((k : ℕ) → place ≤ k → k < place + n → (k < length line) × (first_of productions (drop k (entry_cats line))
+    ≡ None)) → InLoop f line0 store0 names0 marks0 steps0 line store names marks (steps + 4 * n) (place + n) done
+passes-by zero f line0 store0 names0 marks0 steps0 line store names marks steps place done h none =
+    let no_steps : steps + 4 * 0 ≡ steps = omega arith in
+    let no_place : place + 0 ≡ place = omega arith in
+    rw (no_steps, no_place) h
+passes-by (suc n) f line0 store0 names0 marks0 steps0 line store names marks steps place done h none =
+    let before : InLoop f line0 store0 names0 marks0 steps0 line store names marks (steps + 4 * n) (place + n) done =
+    passes-by n f line0 store0 names0 marks0 steps0 line store names marks steps place done h
+    (λ k from to. none k from (omega arith)) in
+    let here : (place + n < length line) × (first_of productions (drop (place + n) (entry_cats line)) ≡ None) =
+    none (place + n) (omega arith) (omega arith) in
+    let one : place + suc n ≡ place + n + 1 = omega arith in
+    rw one (passes f line0 store0 names0 marks0 steps0 line store names marks (steps + 4 * n) (place + n) done before
+    (steps + 4 * suc n) here.0 here.1 (omega arith))
+
+pub passes-over : (f : Flags) (line0 : List LineEntry) (store0 : StoredLists) (names0 : List Entry)
+    (marks0 : MarkList) (steps0 : ℕ) (line : List LineEntry) (store : StoredLists) (names : List Entry)
+    (marks : MarkList) (steps place done place' steps' : ℕ)
+    → InLoop f line0 store0 names0 marks0 steps0 line store names marks steps place done
+    → PassesOver line place steps place' steps'
+    → InLoop f line0 store0 names0 marks0 steps0 line store names marks steps' place' done
+passes-over f line0 store0 names0 marks0 steps0 line store names marks steps place done place' steps' h over =
+    let by : InLoop f line0 store0 names0 marks0 steps0 line store names marks (steps + 4 * (place' - place))
+    (place + (place' - place)) done = passes-by (place' - place) f line0 store0 names0 marks0 steps0 line store names
+    marks steps place done h (λ k from less. over.none k from (omega (arith, over.on))) in
+    let to : place + (place' - place) ≡ place' = omega (arith, over.on) in
+    rw (to, sym over.counted) at by
+
+-- the turn at the next place where a row fits, and the end behind the last one
+pub turn-next : {f : Flags} {line0 : List LineEntry} {store0 : StoredLists} {names0 : List Entry} {marks0 : MarkList}
+    {steps0 : ℕ} {line : List LineEntry} {store : StoredLists} {names : List Entry} {marks : MarkList}
+    {steps place done place' number steps' : ℕ}
+    → InLoop f line0 store0 names0 marks0 steps0 line store names marks steps place done
+    → (next : IsNext line place steps place' number steps')
+    → Turn f line0 store0 names0 marks0 steps0 line store names marks next.before place' done number
+turn-next h next = turn _ _ _ _ _ _ _ _ _ _ _ _ _
+    (passes-over _ _ _ _ _ _ _ _ _ _ _ _ _ _ _ h next.passed) _ next.inside next.first
+
+pub at-end : {f : Flags} {line0 : List LineEntry} {store0 : StoredLists} {names0 : List Entry} {marks0 : MarkList}
+    {steps0 : ℕ} {line : List LineEntry} {store : StoredLists} {names : List Entry} {marks : MarkList}
+    {steps place done steps' : ℕ}
+    → InLoop f line0 store0 names0 marks0 steps0 line store names marks steps place done
+    → (more : HasNoMore line place steps steps')
+    → InLoop f line0 store0 names0 marks0 steps0 line store names marks steps' more.end done
+at-end h more = passes-over _ _ _ _ _ _ _ _ _ _ _ _ _ _ _ h more.passed

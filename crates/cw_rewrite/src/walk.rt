@@ -15,9 +15,10 @@ ghost use Rattle.cw_scraps.specs.Applying.{state_of};
 ghost use Rattle.cw_scraps.specs.Changing.{Keeps};
 ghost use Rattle.cw_scraps.specs.Inserting.{entry_cats};
 ghost use Rattle.cw_scraps.specs.Lines.{IsSoundLine, roots_of, scraps_of};
-ghost use Rattle.cw_rewrite.specs.Reduction.{GrowsByProductions, IsFirst, PassesOver, words_of};
+ghost use Rattle.cw_rewrite.specs.Reduction.{GrowsByProductions, HasNoMore, IsFirst, IsNext, IsPairAt};
+ghost use Rattle.cw_rewrite.specs.Reduction.{words_of};
 
-use cw_base::{Flags, Ledger, Memory, Steps};
+use cw_base::{Cat, Flags, Ledger, Memory, Steps};
 use cw_names::Names;
 use cw_scraps::{Marks, PRODUCTION_TOKENS, Production, ScrapLine};
 use cw_table::{ROW_COUNT, RowNo, first_of_four, may_fit, step_back};
@@ -72,19 +73,65 @@ pub fn reduce<L: Ledger>(
     let _length = line.len();
     let mut place = 0;
     let mut productions = 0;
-    while place < line.len() {
-        match row_at(line, place, steps) {
-            Some(row) => {
-                let production = Production { row, place, flags };
-                produce(&production, line, names, marks, store, steps)?;
-                productions += 1;
-                place = place.saturating_sub(distance(row));
-                place = look_from(line, place, steps);
-            }
-            None => place += 1,
-        }
+    while let Some(found) = next_row(line, place, steps) {
+        let production = Production {
+            row: found.row,
+            place: found.place,
+            flags,
+        };
+        produce(&production, line, names, marks, store, steps)?;
+        productions += 1;
+        place = found.place.saturating_sub(distance(found.row));
     }
     Ok(Reduced { productions })
+}
+
+// A row, and the place at which it fits.
+#[derive(Clone, Copy)]
+struct Found {
+    row: RowNo,
+    place: usize,
+}
+
+// The first place from this one on where a row fits, with the first row there. Each place that is looked at counts four
+// steps. Behind a production the place mostly lies before the gap: then its first two categories are read where they
+// lie, and the line is opened only if they may fit.
+#[inline(always)]
+fn next_row<L: Ledger>(line: &mut ScrapLine, from: usize, steps: &mut Steps<L>) -> Option<Found>
+    ensures next { MatchOption result (HasNoMore line.old from steps.old steps.new)
+        (λ found. IsNext line.old from steps.old found.place found.row.number steps.new) }
+    ensures same { line.new ≡ line.old }
+{
+    let _length = line.len();
+    match line.pair_at(from, steps) {
+        Some((first, second)) => {
+            if may_fit(first, second) {
+                line.open(from);
+            }
+            match row_behind(line, from, (first, second), steps) {
+                Some(row) => Some(Found { row, place: from }),
+                None => walk_on(line, from + 1, steps),
+            }
+        }
+        None => walk_on(line, from, steps),
+    }
+}
+
+// The same, where the line is opened at each place.
+#[inline(always)]
+fn walk_on<L: Ledger>(line: &mut ScrapLine, from: usize, steps: &mut Steps<L>) -> Option<Found>
+    ensures next { MatchOption result (HasNoMore line.old from steps.old steps.new)
+        (λ found. IsNext line.old from steps.old found.place found.row.number steps.new) }
+    ensures same { line.new ≡ line.old }
+{
+    let mut place = from;
+    while place < line.len() {
+        if let Some(row) = row_at(line, place, steps) {
+            return Some(Found { row, place });
+        }
+        place += 1;
+    }
+    None
 }
 
 // The first row that fits at a place, where the line is opened. It counts four steps.
@@ -97,19 +144,27 @@ fn row_at<L: Ledger>(line: &mut ScrapLine, place: usize, steps: &mut Steps<L>) -
     ensures steps { steps.new ≡ steps.old + 4 }
 {
     line.open(place);
-    first_row(line, place, steps)
-}
-
-// The same in a line that is only read. It counts four steps, also where two categories tell that none fits.
-#[inline(always)]
-fn first_row<L: Ledger>(line: &ScrapLine, place: usize, steps: &mut Steps<L>) -> Option<RowNo>
-    requires { place < length line.now }
-    ensures first { MatchOption result (first_of productions (drop place (entry_cats line.now)) ≡
-        None) (λ row. IsFirst (drop place (entry_cats line.now)) row.number) }
-    ensures steps { steps.new ≡ steps.old + 4 }
-{
     let first = line.cat_behind(place, 0, steps);
     let second = line.cat_behind(place, 1, steps);
+    row_behind(line, place, (first, second), steps)
+}
+
+// The same in a line that is only read, by two categories that were read and counted. It counts two steps, also where
+// the two tell that no row fits and the others are not read.
+#[inline(always)]
+fn row_behind<L: Ledger>(
+    line: &ScrapLine,
+    place: usize,
+    seen: (Cat, Cat),
+    steps: &mut Steps<L>,
+) -> Option<RowNo>
+    requires place { place < length line.now }
+    requires seen { IsPairAt line.now place seen.0 seen.1 }
+    ensures first { MatchOption result (first_of productions (drop place (entry_cats line.now)) ≡
+        None) (λ row. IsFirst (drop place (entry_cats line.now)) row.number) }
+    ensures steps { steps.new ≡ steps.old + 2 }
+{
+    let (first, second) = seen;
     if may_fit(first, second) {
         // Where the fourth is there the third needs no test.
         let fourth = line.cat_behind(place, 3, steps);
@@ -119,28 +174,6 @@ fn first_row<L: Ledger>(line: &ScrapLine, place: usize, steps: &mut Steps<L>) ->
     steps.tick();
     steps.tick();
     None
-}
-
-// The place at which the next look-up is worth while: behind one at which two categories tell that no row fits, for
-// which four steps are counted, or the place itself.
-#[inline(always)]
-fn look_from<L: Ledger>(line: &ScrapLine, place: usize, steps: &mut Steps<L>) -> usize
-    ensures { PassesOver line.now place steps.old result steps.new }
-{
-    let _length = line.len();
-    match line.pair_at(place) {
-        Some((first, second)) => {
-            if may_fit(first, second) {
-                return place;
-            }
-            steps.tick();
-            steps.tick();
-            steps.tick();
-            steps.tick();
-            place + 1
-        }
-        None => place,
-    }
 }
 
 // How far the pointer goes back after a row.

@@ -1,6 +1,6 @@
 //! A line of scraps: the two ends of one vector, with a gap between them.
 ghost use Rattle.std.specs.Prelude.{◌≡◌, ◌≢◌, ◌+◌, ◌-◌, ◌^◌, ◌<◌, ◌≤◌, ◌↔◌, [], ◌∷◌, ◌++◌, length, take, drop, set};
-ghost use Rattle.std.specs.Prelude.{IsTrue, IfOk, IfSome, OnOk, OnErr, slice_index_or};
+ghost use Rattle.std.specs.Prelude.{IsTrue, IfOk, IfSome, MatchOption, OnOk, OnErr, slice_index_or};
 ghost use Rattle.cw_base.specs.declared.category.Cat.TheVariants.{End};
 ghost use Rattle.cw_scraps.specs.Gap.{around, IsGap};
 ghost use Rattle.cw_scraps.specs.Lines.{no_entry};
@@ -32,7 +32,8 @@ pub struct Part {
 }
 
 /// The scraps of a C text, in order. They lie at the two ends of one vector with a gap between them, so
-/// that a production moves only the scraps between the gap and its place.
+/// that a production moves only the scraps between the gap and its place. Whoever reads the category of one
+/// counts a step.
 #[derive(Drop)]
 pub struct ScrapLine {
     items: Vec<LineEntry>,
@@ -145,16 +146,20 @@ impl ScrapLine {
         read_cat_behind(&self.items, self.left, self.right, place, k)
     }
 
-    /// The categories of two scraps, one behind the other, where both of them lie before the gap.
+    /// The categories of two scraps, one behind the other, where both of them lie before the gap. It counts a step for
+    /// each of the two, and none where it answers nothing.
     #[inline(always)]
-    pub fn pair_at(&self, place: usize) -> Option<(Cat, Cat)>
+    pub fn pair_at<L: Ledger>(&self, place: usize, counter: &mut Steps<L>) -> Option<(Cat, Cat)>
         ensures there { IfSome result (λ pair. place + 1 < length self.now) }
         ensures first { IfSome result (λ pair. pair.0 ≡ (slice_index_or self.now place no_entry).cat) }
         ensures second { IfSome result (λ pair. pair.1 ≡ (slice_index_or self.now (place + 1) no_entry).cat) }
+        ensures steps { MatchOption result (counter.new ≡ counter.old) (λ pair. counter.new ≡ counter.old + 2) }
     {
         if place < self.left && self.left - place > 1 {
             let first = read_inside(&self.items, self.left, self.right, place);
+            counter.tick();
             let second = read_inside(&self.items, self.left, self.right, place + 1);
+            counter.tick();
             return Some((first.cat, second.cat));
         }
         None

@@ -1,192 +1,155 @@
--- Each turn rewrites and goes back, or goes on, and less of the walk is left; at the end of the line no row fits.
+-- Each turn rewrites at the next place where a row fits and goes back, and less of the walk is left; behind the last
+-- production no row fits up to the end of the line.
 use Rattle.std.proofs.Common.{arith}
 use Rattle.cw_scraps.proofs.Applied.{keeps-trans}
 use Rattle.cw_scraps.specs.Applying.{state_of}
 use Rattle.cw_scraps.specs.Lines.{roots_of}
-use Rattle.cw_rewrite.proofs.WalkLoop.{Turn, turn, Stops, stops, passes, passes-over, less-over, ends, light, few}
+use Rattle.cw_rewrite.proofs.WalkLoop.{turn-next, at-end, stops, ends, light, few}
 use Rattle.cw_rewrite.proofs.walk.reduce.Goals as goal
 
 pub produce-requires-clause-fits : goal.produce-requires-clause-fits
 produce-requires-clause-fits g c =
-    let t : Turn c.args.flags.now c.args.line.now c.args.store.now c.args.names.now c.args.marks.now c.args.steps.now
-    c.loop-place.line c.loop-place.store c.loop-place.names c.loop-place.marks c.loop-place.steps c.loop-place.place
-    c.loop-place.productions c.in-Some.row.number = turn c.args.flags.now c.args.line.now c.args.store.now
-    c.args.names.now c.args.marks.now c.args.steps.now c.loop-place.line c.loop-place.store c.loop-place.names
-    c.loop-place.marks c.loop-place.steps c.loop-place.place c.loop-place.productions c.loop-place.invariant
-    c.in-Some.row.number (omega (arith, c.len.ensures.length)) c.in-Some.ensures.first in
-    rw c.row_at.ensures.same t.fits
+    let next = c.in-Some.ensures.next in
+    let t = turn-next c.loop-found.invariant next in
+    rw c.next_row.ensures.same t.fits
 
-pub returns-in_err-produce-in-Some-clause-after : goal.returns-in_err-produce-in-Some-clause-after
-returns-in_err-produce-in-Some-clause-after g c =
-    let t : Turn c.args.flags.now c.args.line.now c.args.store.now c.args.names.now c.args.marks.now c.args.steps.now
-    c.loop-place.line c.loop-place.store c.loop-place.names c.loop-place.marks c.loop-place.steps c.loop-place.place
-    c.loop-place.productions c.in-Some.row.number = turn c.args.flags.now c.args.line.now c.args.store.now
-    c.args.names.now c.args.marks.now c.args.steps.now c.loop-place.line c.loop-place.store c.loop-place.names
-    c.loop-place.marks c.loop-place.steps c.loop-place.place c.loop-place.productions c.loop-place.invariant
-    c.in-Some.row.number (omega (arith, c.len.ensures.length)) c.in-Some.ensures.first in
-    let s : Stops c.args.flags.now c.args.line.now c.args.store.now c.args.names.now c.args.marks.now c.args.steps.now
-    c.produce.new.line c.produce.new.store c.produce.new.names c.produce.new.marks c.produce.new.steps =
-    t.refused c.produce.new.line c.produce.new.store c.produce.new.names c.produce.new.marks c.produce.new.steps
-    (rw c.row_at.ensures.same at c.in_err-produce-in-Some.ensures.state) c.in_err-produce-in-Some.ensures.refused
-    (omega (arith, c.in_err-produce-in-Some.ensures.steps, c.in-Some.ensures.steps)) in
+pub returns-in_err-produce-clause-after : goal.returns-in_err-produce-clause-after
+returns-in_err-produce-clause-after g c =
+    let next = c.in-Some.ensures.next in
+    let t = turn-next c.loop-found.invariant next in
+    let s = t.refused c.produce.new.line c.produce.new.store c.produce.new.names c.produce.new.marks
+    c.produce.new.steps (rw c.next_row.ensures.same at c.in_err-produce.ensures.state) c.in_err-produce.ensures.refused
+    (omega (arith, c.in_err-produce.ensures.steps, next.counted)) in
     s.after
 
-pub returns-in_err-produce-in-Some-clause-others : goal.returns-in_err-produce-in-Some-clause-others
-returns-in_err-produce-in-Some-clause-others g c = keeps-trans c.args.store.now.lists c.loop-place.store.lists
-    c.produce.new.store.lists (roots_of c.args.line.now) (roots_of c.loop-place.line) (roots_of c.produce.new.line)
-    c.loop-place.invariant.keeps (rw c.row_at.ensures.same at c.in_err-produce-in-Some.ensures.others)
+pub returns-in_err-produce-clause-numbers : goal.returns-in_err-produce-clause-numbers
+returns-in_err-produce-clause-numbers g c =
+    let next = c.in-Some.ensures.next in
+    let t = turn-next c.loop-found.invariant next in
+    let s = t.refused c.produce.new.line c.produce.new.store c.produce.new.names c.produce.new.marks
+    c.produce.new.steps (rw c.next_row.ensures.same at c.in_err-produce.ensures.state) c.in_err-produce.ensures.refused
+    (omega (arith, c.in_err-produce.ensures.steps, next.counted)) in
+    s.numbers
 
-pub returns-in_err-produce-in-Some-clause-no_more : goal.returns-in_err-produce-in-Some-clause-no_more
-returns-in_err-produce-in-Some-clause-no_more g c =
-    let t : Turn c.args.flags.now c.args.line.now c.args.store.now c.args.names.now c.args.marks.now c.args.steps.now
-    c.loop-place.line c.loop-place.store c.loop-place.names c.loop-place.marks c.loop-place.steps c.loop-place.place
-    c.loop-place.productions c.in-Some.row.number = turn c.args.flags.now c.args.line.now c.args.store.now
-    c.args.names.now c.args.marks.now c.args.steps.now c.loop-place.line c.loop-place.store c.loop-place.names
-    c.loop-place.marks c.loop-place.steps c.loop-place.place c.loop-place.productions c.loop-place.invariant
-    c.in-Some.row.number (omega (arith, c.len.ensures.length)) c.in-Some.ensures.first in
-    let s : Stops c.args.flags.now c.args.line.now c.args.store.now c.args.names.now c.args.marks.now c.args.steps.now
-    c.produce.new.line c.produce.new.store c.produce.new.names c.produce.new.marks c.produce.new.steps =
-    t.refused c.produce.new.line c.produce.new.store c.produce.new.names c.produce.new.marks c.produce.new.steps
-    (rw c.row_at.ensures.same at c.in_err-produce-in-Some.ensures.state) c.in_err-produce-in-Some.ensures.refused
-    (omega (arith, c.in_err-produce-in-Some.ensures.steps, c.in-Some.ensures.steps)) in
+pub returns-in_err-produce-clause-no_more : goal.returns-in_err-produce-clause-no_more
+returns-in_err-produce-clause-no_more g c =
+    let next = c.in-Some.ensures.next in
+    let t = turn-next c.loop-found.invariant next in
+    let s = t.refused c.produce.new.line c.produce.new.store c.produce.new.names c.produce.new.marks
+    c.produce.new.steps (rw c.next_row.ensures.same at c.in_err-produce.ensures.state) c.in_err-produce.ensures.refused
+    (omega (arith, c.in_err-produce.ensures.steps, next.counted)) in
     s.no_more
 
-pub returns-in_err-produce-in-Some-clause-bound : goal.returns-in_err-produce-in-Some-clause-bound
-returns-in_err-produce-in-Some-clause-bound g c =
-    let t : Turn c.args.flags.now c.args.line.now c.args.store.now c.args.names.now c.args.marks.now c.args.steps.now
-    c.loop-place.line c.loop-place.store c.loop-place.names c.loop-place.marks c.loop-place.steps c.loop-place.place
-    c.loop-place.productions c.in-Some.row.number = turn c.args.flags.now c.args.line.now c.args.store.now
-    c.args.names.now c.args.marks.now c.args.steps.now c.loop-place.line c.loop-place.store c.loop-place.names
-    c.loop-place.marks c.loop-place.steps c.loop-place.place c.loop-place.productions c.loop-place.invariant
-    c.in-Some.row.number (omega (arith, c.len.ensures.length)) c.in-Some.ensures.first in
-    let s : Stops c.args.flags.now c.args.line.now c.args.store.now c.args.names.now c.args.marks.now c.args.steps.now
-    c.produce.new.line c.produce.new.store c.produce.new.names c.produce.new.marks c.produce.new.steps =
-    t.refused c.produce.new.line c.produce.new.store c.produce.new.names c.produce.new.marks c.produce.new.steps
-    (rw c.row_at.ensures.same at c.in_err-produce-in-Some.ensures.state) c.in_err-produce-in-Some.ensures.refused
-    (omega (arith, c.in_err-produce-in-Some.ensures.steps, c.in-Some.ensures.steps)) in
+pub returns-in_err-produce-clause-bound : goal.returns-in_err-produce-clause-bound
+returns-in_err-produce-clause-bound g c =
+    let next = c.in-Some.ensures.next in
+    let t = turn-next c.loop-found.invariant next in
+    let s = t.refused c.produce.new.line c.produce.new.store c.produce.new.names c.produce.new.marks
+    c.produce.new.steps (rw c.next_row.ensures.same at c.in_err-produce.ensures.state) c.in_err-produce.ensures.refused
+    (omega (arith, c.in_err-produce.ensures.steps, next.counted)) in
     s.bound
+
+pub returns-in_err-produce-clause-tokens : goal.returns-in_err-produce-clause-tokens
+returns-in_err-produce-clause-tokens g c =
+    let next = c.in-Some.ensures.next in
+    let t = turn-next c.loop-found.invariant next in
+    let s = t.refused c.produce.new.line c.produce.new.store c.produce.new.names c.produce.new.marks
+    c.produce.new.steps (rw c.next_row.ensures.same at c.in_err-produce.ensures.state) c.in_err-produce.ensures.refused
+    (omega (arith, c.in_err-produce.ensures.steps, next.counted)) in
+    s.tokens
+
+pub returns-in_err-produce-clause-others : goal.returns-in_err-produce-clause-others
+returns-in_err-produce-clause-others g c =
+    keeps-trans c.args.store.now.lists c.loop-found.store.lists c.produce.new.store.lists (roots_of c.args.line.now)
+    (roots_of c.loop-found.line) (roots_of c.produce.new.line) c.loop-found.invariant.keeps
+    (rw c.next_row.ensures.same at c.in_err-produce.ensures.others)
 
 pub overflow_add-productions : goal.overflow_add-productions
 overflow_add-productions g c =
-    let t : Turn c.args.flags.now c.args.line.now c.args.store.now c.args.names.now c.args.marks.now c.args.steps.now
-    c.loop-place.line c.loop-place.store c.loop-place.names c.loop-place.marks c.loop-place.steps c.loop-place.place
-    c.loop-place.productions c.in-Some.row.number = turn c.args.flags.now c.args.line.now c.args.store.now
-    c.args.names.now c.args.marks.now c.args.steps.now c.loop-place.line c.loop-place.store c.loop-place.names
-    c.loop-place.marks c.loop-place.steps c.loop-place.place c.loop-place.productions c.loop-place.invariant
-    c.in-Some.row.number (omega (arith, c.len.ensures.length)) c.in-Some.ensures.first in
+    let next = c.in-Some.ensures.next in
+    let t = turn-next c.loop-found.invariant next in
     omega (arith, t.enough)
 
-pub loop-place-smaller-in-Some : goal.loop-place-smaller-in-Some
-loop-place-smaller-in-Some g c =
-    let t : Turn c.args.flags.now c.args.line.now c.args.store.now c.args.names.now c.args.marks.now c.args.steps.now
-    c.loop-place.line c.loop-place.store c.loop-place.names c.loop-place.marks c.loop-place.steps c.loop-place.place
-    c.loop-place.productions c.in-Some.row.number = turn c.args.flags.now c.args.line.now c.args.store.now
-    c.args.names.now c.args.marks.now c.args.steps.now c.loop-place.line c.loop-place.store c.loop-place.names
-    c.loop-place.marks c.loop-place.steps c.loop-place.place c.loop-place.productions c.loop-place.invariant
-    c.in-Some.row.number (omega (arith, c.len.ensures.length)) c.in-Some.ensures.first in
+pub loop-found-smaller : goal.loop-found-smaller
+loop-found-smaller g c =
+    let next = c.in-Some.ensures.next in
+    let t = turn-next c.loop-found.invariant next in
     omega (
       arith,
-      less-over _ _ _ _ _ (state_of c.produce.new.store.lists c.produce.new.line c.produce.new.marks
-          c.produce.new.names) c.look_from-place.ensures,
+      next.passed.on,
       t.less (state_of c.produce.new.store.lists c.produce.new.line c.produce.new.marks c.produce.new.names)
           c.distance.result c.saturating_sub-place.result
-          (rw c.row_at.ensures.same at c.in_ok-produce-in-Some.ensures.state) c.distance.ensures
+          (rw c.next_row.ensures.same at c.in_ok-produce.ensures.state) c.distance.ensures
           c.saturating_sub-place.ensures,
     )
 
-pub loop-place-preserved-in-Some : goal.loop-place-preserved-in-Some
-loop-place-preserved-in-Some g c =
-    let t : Turn c.args.flags.now c.args.line.now c.args.store.now c.args.names.now c.args.marks.now c.args.steps.now
-    c.loop-place.line c.loop-place.store c.loop-place.names c.loop-place.marks c.loop-place.steps c.loop-place.place
-    c.loop-place.productions c.in-Some.row.number = turn c.args.flags.now c.args.line.now c.args.store.now
-    c.args.names.now c.args.marks.now c.args.steps.now c.loop-place.line c.loop-place.store c.loop-place.names
-    c.loop-place.marks c.loop-place.steps c.loop-place.place c.loop-place.productions c.loop-place.invariant
-    c.in-Some.row.number (omega (arith, c.len.ensures.length)) c.in-Some.ensures.first in
-    passes-over _ _ _ _ _ _ _ _ _ _ _ _ _ (t.next c.distance.result c.saturating_sub-place.result c.distance.ensures
-    c.saturating_sub-place.ensures c.produce.new.line c.produce.new.store c.produce.new.names c.produce.new.marks
-    c.produce.new.steps (rw c.row_at.ensures.same at c.in_ok-produce-in-Some.ensures.state)
-    (omega (arith, (rw c.row_at.ensures.same at c.in_ok-produce-in-Some.ensures.steps), c.in-Some.ensures.steps))
-    c.in_ok-produce-in-Some.ensures.sound (rw c.row_at.ensures.same at c.in_ok-produce-in-Some.ensures.others)
-    c.in_ok-produce-in-Some.ensures.words c.in_ok-produce-in-Some.ensures.tokens) _ _ c.look_from-place.ensures
-
-pub loop-place-preserved : goal.loop-place-preserved
-loop-place-preserved g c = rw c.row_at.ensures.same (passes c.args.flags.now c.args.line.now c.args.store.now
-    c.args.names.now c.args.marks.now c.args.steps.now c.loop-place.line c.loop-place.store c.loop-place.names
-    c.loop-place.marks c.loop-place.steps c.loop-place.place c.loop-place.productions c.loop-place.invariant
-    c.row_at.new.steps (omega (arith, c.len.ensures.length)) c.in-None.ensures.first c.in-None.ensures.steps)
+pub loop-found-preserved : goal.loop-found-preserved
+loop-found-preserved g c =
+    let next = c.in-Some.ensures.next in
+    let t = turn-next c.loop-found.invariant next in
+    t.next c.distance.result c.saturating_sub-place.result c.distance.ensures c.saturating_sub-place.ensures
+    c.produce.new.line c.produce.new.store c.produce.new.names c.produce.new.marks c.produce.new.steps
+    (rw c.next_row.ensures.same at c.in_ok-produce.ensures.state)
+    (omega (arith, (rw c.next_row.ensures.same at c.in_ok-produce.ensures.steps), next.counted))
+    c.in_ok-produce.ensures.sound (rw c.next_row.ensures.same at c.in_ok-produce.ensures.others)
+    c.in_ok-produce.ensures.words c.in_ok-produce.ensures.tokens
 
 pub returns-clause-normal : goal.returns-clause-normal
-returns-clause-normal g c = (ends c.args.flags.now c.args.line.now c.args.store.now c.args.names.now c.args.marks.now
-    c.args.steps.now c.loop-place.line c.loop-place.store c.loop-place.names c.loop-place.marks c.loop-place.steps
-    c.loop-place.place c.loop-place.productions c.loop-place.invariant (omega (arith, c.len.ensures.length))).normal
+returns-clause-normal g c =
+    let more = c.in_default.ensures.next in
+    let h = at-end c.loop-found.invariant more in
+    rw c.next_row.ensures.same ((ends _ _ _ _ _ _ _ _ _ _ _ _ _ h more.past).normal)
 
 pub returns-clause-productions : goal.returns-clause-productions
-returns-clause-productions g c = (ends c.args.flags.now c.args.line.now c.args.store.now c.args.names.now
-    c.args.marks.now c.args.steps.now c.loop-place.line c.loop-place.store c.loop-place.names c.loop-place.marks
-    c.loop-place.steps c.loop-place.place c.loop-place.productions c.loop-place.invariant
-    (omega (arith, c.len.ensures.length))).number
+returns-clause-productions g c =
+    let more = c.in_default.ensures.next in
+    let h = at-end c.loop-found.invariant more in
+    (ends _ _ _ _ _ _ _ _ _ _ _ _ _ h more.past).number
 
 pub returns-clause-light : goal.returns-clause-light
-returns-clause-light g c = light c.args.flags.now c.args.line.now c.args.store.now c.args.names.now c.args.marks.now
-    c.args.steps.now c.loop-place.line c.loop-place.store c.loop-place.names c.loop-place.marks c.loop-place.steps
-    c.loop-place.place c.loop-place.productions c.loop-place.invariant (omega (arith, c.len.ensures.length))
+returns-clause-light g c =
+    let more = c.in_default.ensures.next in
+    let h = at-end c.loop-found.invariant more in
+    light _ _ _ _ _ _ _ _ _ _ _ _ _ h more.past
 
 pub returns-clause-few : goal.returns-clause-few
-returns-clause-few g c = few c.args.flags.now c.args.line.now c.args.store.now c.args.names.now c.args.marks.now
-    c.args.steps.now c.loop-place.line c.loop-place.store c.loop-place.names c.loop-place.marks c.loop-place.steps
-    c.loop-place.place c.loop-place.productions c.loop-place.invariant (omega (arith, c.len.ensures.length))
+returns-clause-few g c =
+    let more = c.in_default.ensures.next in
+    let h = at-end c.loop-found.invariant more in
+    few _ _ _ _ _ _ _ _ _ _ _ _ _ h more.past
 
 pub returns-clause-after : goal.returns-clause-after
-returns-clause-after g c = (stops c.args.flags.now c.args.line.now c.args.store.now c.args.names.now c.args.marks.now
-    c.args.steps.now c.loop-place.line c.loop-place.store c.loop-place.names c.loop-place.marks c.loop-place.steps
-    c.loop-place.place c.loop-place.productions c.loop-place.invariant (omega (arith, c.len.ensures.length))).after
-
-pub returns-clause-steps : goal.returns-clause-steps
-returns-clause-steps g c = (ends c.args.flags.now c.args.line.now c.args.store.now c.args.names.now c.args.marks.now
-    c.args.steps.now c.loop-place.line c.loop-place.store c.loop-place.names c.loop-place.marks c.loop-place.steps
-    c.loop-place.place c.loop-place.productions c.loop-place.invariant (omega (arith, c.len.ensures.length))).ticked
-
-pub returns-clause-bound : goal.returns-clause-bound
-returns-clause-bound g c = (stops c.args.flags.now c.args.line.now c.args.store.now c.args.names.now c.args.marks.now
-    c.args.steps.now c.loop-place.line c.loop-place.store c.loop-place.names c.loop-place.marks c.loop-place.steps
-    c.loop-place.place c.loop-place.productions c.loop-place.invariant (omega (arith, c.len.ensures.length))).bound
-
-pub returns-in_err-produce-in-Some-clause-numbers : goal.returns-in_err-produce-in-Some-clause-numbers
-returns-in_err-produce-in-Some-clause-numbers g c =
-    let t : Turn c.args.flags.now c.args.line.now c.args.store.now c.args.names.now c.args.marks.now c.args.steps.now
-    c.loop-place.line c.loop-place.store c.loop-place.names c.loop-place.marks c.loop-place.steps c.loop-place.place
-    c.loop-place.productions c.in-Some.row.number = turn c.args.flags.now c.args.line.now c.args.store.now
-    c.args.names.now c.args.marks.now c.args.steps.now c.loop-place.line c.loop-place.store c.loop-place.names
-    c.loop-place.marks c.loop-place.steps c.loop-place.place c.loop-place.productions c.loop-place.invariant
-    c.in-Some.row.number (omega (arith, c.len.ensures.length)) c.in-Some.ensures.first in
-    let s : Stops c.args.flags.now c.args.line.now c.args.store.now c.args.names.now c.args.marks.now c.args.steps.now
-    c.produce.new.line c.produce.new.store c.produce.new.names c.produce.new.marks c.produce.new.steps =
-    t.refused c.produce.new.line c.produce.new.store c.produce.new.names c.produce.new.marks c.produce.new.steps
-    (rw c.row_at.ensures.same at c.in_err-produce-in-Some.ensures.state) c.in_err-produce-in-Some.ensures.refused
-    (omega (arith, c.in_err-produce-in-Some.ensures.steps, c.in-Some.ensures.steps)) in
-    s.numbers
+returns-clause-after g c =
+    let more = c.in_default.ensures.next in
+    let h = at-end c.loop-found.invariant more in
+    rw c.next_row.ensures.same ((stops _ _ _ _ _ _ _ _ _ _ _ _ _ h more.past).after)
 
 pub returns-clause-numbers : goal.returns-clause-numbers
-returns-clause-numbers g c = (stops c.args.flags.now c.args.line.now c.args.store.now c.args.names.now c.args.marks.now
-    c.args.steps.now c.loop-place.line c.loop-place.store c.loop-place.names c.loop-place.marks c.loop-place.steps
-    c.loop-place.place c.loop-place.productions c.loop-place.invariant (omega (arith, c.len.ensures.length))).numbers
+returns-clause-numbers g c =
+    let more = c.in_default.ensures.next in
+    let h = at-end c.loop-found.invariant more in
+    rw c.next_row.ensures.same ((stops _ _ _ _ _ _ _ _ _ _ _ _ _ h more.past).numbers)
 
-pub returns-in_err-produce-in-Some-clause-tokens : goal.returns-in_err-produce-in-Some-clause-tokens
-returns-in_err-produce-in-Some-clause-tokens g c =
-    let t : Turn c.args.flags.now c.args.line.now c.args.store.now c.args.names.now c.args.marks.now c.args.steps.now
-    c.loop-place.line c.loop-place.store c.loop-place.names c.loop-place.marks c.loop-place.steps c.loop-place.place
-    c.loop-place.productions c.in-Some.row.number = turn c.args.flags.now c.args.line.now c.args.store.now
-    c.args.names.now c.args.marks.now c.args.steps.now c.loop-place.line c.loop-place.store c.loop-place.names
-    c.loop-place.marks c.loop-place.steps c.loop-place.place c.loop-place.productions c.loop-place.invariant
-    c.in-Some.row.number (omega (arith, c.len.ensures.length)) c.in-Some.ensures.first in
-    let s : Stops c.args.flags.now c.args.line.now c.args.store.now c.args.names.now c.args.marks.now c.args.steps.now
-    c.produce.new.line c.produce.new.store c.produce.new.names c.produce.new.marks c.produce.new.steps =
-    t.refused c.produce.new.line c.produce.new.store c.produce.new.names c.produce.new.marks c.produce.new.steps
-    (rw c.row_at.ensures.same at c.in_err-produce-in-Some.ensures.state) c.in_err-produce-in-Some.ensures.refused
-    (omega (arith, c.in_err-produce-in-Some.ensures.steps, c.in-Some.ensures.steps)) in
-    s.tokens
+pub returns-clause-steps : goal.returns-clause-steps
+returns-clause-steps g c =
+    let more = c.in_default.ensures.next in
+    let h = at-end c.loop-found.invariant more in
+    (ends _ _ _ _ _ _ _ _ _ _ _ _ _ h more.past).ticked
+
+pub returns-clause-no_more : goal.returns-clause-no_more
+returns-clause-no_more g c =
+    let more = c.in_default.ensures.next in
+    let h = at-end c.loop-found.invariant more in
+    (stops _ _ _ _ _ _ _ _ _ _ _ _ _ h more.past).no_more
+
+pub returns-clause-bound : goal.returns-clause-bound
+returns-clause-bound g c =
+    let more = c.in_default.ensures.next in
+    let h = at-end c.loop-found.invariant more in
+    (stops _ _ _ _ _ _ _ _ _ _ _ _ _ h more.past).bound
 
 pub returns-clause-tokens : goal.returns-clause-tokens
-returns-clause-tokens g c = (stops c.args.flags.now c.args.line.now c.args.store.now c.args.names.now c.args.marks.now
-    c.args.steps.now c.loop-place.line c.loop-place.store c.loop-place.names c.loop-place.marks c.loop-place.steps
-    c.loop-place.place c.loop-place.productions c.loop-place.invariant (omega (arith, c.len.ensures.length))).tokens
+returns-clause-tokens g c =
+    let more = c.in_default.ensures.next in
+    let h = at-end c.loop-found.invariant more in
+    rw c.next_row.ensures.same ((stops _ _ _ _ _ _ _ _ _ _ _ _ _ h more.past).tokens)
