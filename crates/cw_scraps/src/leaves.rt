@@ -31,7 +31,7 @@ pub struct Leaf {
 /// The scrap of a token that makes one of its own and has no nested text: an identifier, a constant, a
 /// string, a sign, the two ends of a `#` line, a code that is laid out or passed on, or any other byte.
 /// The number of the token is the place of its first byte. After `Memory` the names and the lists are as
-/// before; the room that was made stays.
+/// before, and the store has room for as many tokens or more.
 #[inline(always)]
 pub fn scrap_of(token: &Tok, names: &mut Names, store: &mut TokenStore) -> Result<Leaf, Memory>
     requires kind { MakesLeaf token.now.kind }
@@ -47,6 +47,7 @@ pub fn scrap_of(token: &Tok, names: &mut Names, store: &mut TokenStore) -> Resul
         IfOk result (λ leaf. IsSoundLine store.new names.new (line ++ entry_of leaf ∷ [])) }
     ensures no_names { OnErr result (names.new ≡ names.old) }
     ensures no_lists { OnErr result (store.new.lists ≡ store.old.lists) }
+    ensures room { OnErr result (store.old.spare ≤ store.new.spare) }
 {
     store.tied_law();
     let number = token.span.start as u32;

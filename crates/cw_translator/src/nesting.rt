@@ -1,5 +1,5 @@
 //! What is open while a text is translated: C texts with their scraps, comments with their parts.
-ghost use Rattle.std.specs.Prelude.{List, ◌≡◌, ◌≢◌, [], ◌∷◌, ◌++◌, OnOk, MatchOption, IsTrue, ◌↔◌};
+ghost use Rattle.std.specs.Prelude.{List, ◌≡◌, ◌≢◌, [], ◌∷◌, ◌++◌, OnOk, OnErr, MatchOption, IsTrue, ◌↔◌};
 ghost use Rattle.cw_base.specs.declared.category.Cat.TheVariants.{End};
 ghost use Rattle.cw_translator.specs.declared.nesting.Open.{Open};
 ghost use Rattle.cw_translator.specs.Opening.{last_line, with_entry, with_part};
@@ -119,12 +119,16 @@ impl Nesting {
         }
     }
 
-    /// Something opens.
+    /// Something opens. After `Memory` all is as before.
     pub(crate) fn begin(&mut self, inner: Open) -> Result<(), Memory>
-        ensures { OnOk result (self.new ≡ inner ∷ self.old) }
+        ensures begun { OnOk result (self.new ≡ inner ∷ self.old) }
+        ensures refused { OnErr result (self.new ≡ self.old) }
     {
+        if self.innermost.is_some() {
+            self.outer.reserve(1)?;
+        }
         if let Some(open) = self.innermost.replace(inner) {
-            self.outer.push(open)?;
+            self.outer.push_reserved(open);
         }
         Ok(())
     }

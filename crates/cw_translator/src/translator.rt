@@ -1,6 +1,6 @@
 //! A translation on its way: its answers one after another, and the end of its text.
 ghost use Rattle.std.specs.Prelude.{◌≡◌, ◌+◌, ◌*◌, ◌^◌, ◌<◌, ◌≤◌, ◌⊎◌, List, [], ◌∷◌, length, IfOk};
-ghost use Rattle.std.specs.Prelude.{OnOk, None};
+ghost use Rattle.std.specs.Prelude.{OnOk, OnErr, None};
 ghost use Rattle.cw_table.specs.Normal.{count, normal};
 ghost use Rattle.cw_table.specs.Productions.{productions};
 ghost use Rattle.cw_table.specs.Rewriting.{State};
@@ -181,16 +181,19 @@ impl Translator {
         }
     }
 
-    /// An inner text begins.
+    /// An inner text begins. After `Memory` the translation is as before.
     pub fn open_text(&mut self, alloc: Global) -> Result<(), Memory>
-        ensures { OnOk result (self.new ≡ record self.old { nesting = CTexts.CText [] ∷ self.old.nesting }) }
+        ensures begins { OnOk result (self.new ≡ record self.old { nesting = CTexts.CText [] ∷ self.old.nesting }) }
+        ensures refused { OnErr result (self.new ≡ self.old) }
     {
         self.nesting.begin(Open::CText(ScrapLine::new_in(alloc)))
     }
 
-    /// What holds inner texts begins.
+    /// What holds inner texts begins. After `Memory` the translation is as before.
     pub fn hold(&mut self, holder: Holder, alloc: Global) -> Result<(), Memory>
-        ensures { OnOk result (self.new ≡ record self.old { nesting = CTexts.Comment holder [] ∷ self.old.nesting }) }
+        ensures begins { OnOk result (self.new ≡ record self.old
+            { nesting = CTexts.Comment holder [] ∷ self.old.nesting }) }
+        ensures refused { OnErr result (self.new ≡ self.old) }
     {
         self.nesting
             .begin(Open::Comment(holder, CommentText::new_in(alloc)))

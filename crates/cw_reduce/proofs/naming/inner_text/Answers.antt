@@ -18,7 +18,7 @@ pub read_until_section-requires-clause-translating : goal.read_until_section-req
 read_until_section-requires-clause-translating g c = (text-opened c.args.context.now.flags.now c.args.work.now.store.now
     c.args.work.now.names.now c.args.work.now.marks.now c.args.translator.now c.open_text.new.self
     c.args.work.now.steps.now
-    (part_answers c.args.text.now c.args.span) c.requires.translating c.in_ok-open_text.ensures).translating
+    (part_answers c.args.text.now c.args.span) c.requires.translating c.in_ok-open_text.ensures.begins).translating
 
 pub read_until_section-requires-clause-start : goal.read_until_section-requires-clause-start
 read_until_section-requires-clause-start g c = within-starts 4294967296 c.args.span.start c.args.span.end
@@ -44,7 +44,7 @@ returns-in_err-read_until_section-clause-names g c = on-err c.from_residual-in_e
     c.read_until_section.new.work.names.now)
     (text-fails c.args.context.now.flags.now c.args.work.now.store.now c.args.work.now.names.now
     c.args.work.now.marks.now c.args.translator.now c.open_text.new.self c.args.work.now.steps.now
-    (part_answers c.args.text.now c.args.span) c.requires.translating c.in_ok-open_text.ensures
+    (part_answers c.args.text.now c.args.span) c.requires.translating c.in_ok-open_text.ensures.begins
     c.read_until_section.new.work.names.now (subst (λ l. NamesAmong c.args.context.now.flags.now (until_section l)
     (progress_of c.args.work.now.store.now.lists c.args.work.now.names.now c.args.work.now.marks.now
     c.open_text.new.self []) c.read_until_section.new.work.names.now) c.over-lexer.ensures.tokens
@@ -54,7 +54,7 @@ pub returns-in_err-read_until_section-clause-bound : goal.returns-in_err-read_un
 returns-in_err-read_until_section-clause-bound g c = text-few c.args.context.now.flags.now c.args.work.now.store.now
     c.args.work.now.names.now c.args.work.now.marks.now c.args.translator.now c.open_text.new.self
     c.args.work.now.steps.now
-    (part_answers c.args.text.now c.args.span) c.requires.translating c.in_ok-open_text.ensures
+    (part_answers c.args.text.now c.args.span) c.requires.translating c.in_ok-open_text.ensures.begins
     c.read_until_section.new.work.steps.now (subst (λ l. c.read_until_section.new.work.steps.now
     ≤ c.args.work.now.steps.now
     + limit_in c.args.context.now.flags.now (after_answers c.args.context.now.flags.now (until_section l)
@@ -88,7 +88,7 @@ returns-clause-come g c = on-ok3 c.finish.result (IsTranslating c.finish.new.sto
     c.read_until_section.new.work.marks.now c.read_until_section.new.translator c.read_until_section.new.work.steps.now
     (text-read c.args.context.now.flags.now c.args.work.now.store.now c.args.work.now.names.now
     c.args.work.now.marks.now c.args.translator.now c.open_text.new.self c.args.work.now.steps.now
-    (part_answers c.args.text.now c.args.span) c.requires.translating c.in_ok-open_text.ensures
+    (part_answers c.args.text.now c.args.span) c.requires.translating c.in_ok-open_text.ensures.begins
     c.read_until_section.new.work.store.now c.read_until_section.new.work.names.now
     c.read_until_section.new.work.marks.now c.read_until_section.new.translator
     c.read_until_section.new.work.steps.now c.in_ok-read_until_section.ensures.translating
@@ -119,7 +119,7 @@ returns-clause-keeps g c = on-ok1 c.finish.result (Keeps c.read_until_section.ne
     (all_roots c.finish.new.self.nesting)
     (text-read c.args.context.now.flags.now c.args.work.now.store.now c.args.work.now.names.now
     c.args.work.now.marks.now c.args.translator.now c.open_text.new.self c.args.work.now.steps.now
-    (part_answers c.args.text.now c.args.span) c.requires.translating c.in_ok-open_text.ensures
+    (part_answers c.args.text.now c.args.span) c.requires.translating c.in_ok-open_text.ensures.begins
     c.read_until_section.new.work.store.now c.read_until_section.new.work.names.now
     c.read_until_section.new.work.marks.now c.read_until_section.new.translator
     c.read_until_section.new.work.steps.now c.in_ok-read_until_section.ensures.translating
@@ -151,7 +151,7 @@ returns-clause-names g c = on-err c.finish.result (NamesAmong c.args.context.now
     c.read_until_section.new.work.steps.now (text-read c.args.context.now.flags.now c.args.work.now.store.now
     c.args.work.now.names.now c.args.work.now.marks.now c.args.translator.now c.open_text.new.self
     c.args.work.now.steps.now
-    (part_answers c.args.text.now c.args.span) c.requires.translating c.in_ok-open_text.ensures
+    (part_answers c.args.text.now c.args.span) c.requires.translating c.in_ok-open_text.ensures.begins
     c.read_until_section.new.work.store.now c.read_until_section.new.work.names.now
     c.read_until_section.new.work.marks.now c.read_until_section.new.translator
     c.read_until_section.new.work.steps.now c.in_ok-read_until_section.ensures.translating
@@ -179,7 +179,7 @@ returns-clause-bound g c = last-few c.args.context.now.flags.now
     c.read_until_section.new.work.steps.now (text-read c.args.context.now.flags.now c.args.work.now.store.now
     c.args.work.now.names.now c.args.work.now.marks.now c.args.translator.now c.open_text.new.self
     c.args.work.now.steps.now
-    (part_answers c.args.text.now c.args.span) c.requires.translating c.in_ok-open_text.ensures
+    (part_answers c.args.text.now c.args.span) c.requires.translating c.in_ok-open_text.ensures.begins
     c.read_until_section.new.work.store.now c.read_until_section.new.work.names.now
     c.read_until_section.new.work.marks.now c.read_until_section.new.translator
     c.read_until_section.new.work.steps.now c.in_ok-read_until_section.ensures.translating

@@ -17,7 +17,7 @@ use Rattle.cw_reduce.proofs.naming.kept_name.Goals as goal
 pub texts_by_kind-requires-clause-translating : goal.texts_by_kind-requires-clause-translating
 texts_by_kind-requires-clause-translating g c = (held-steps c.args.context.now.flags.now c.args.work.now.store.now
     c.args.work.now.names.now c.args.work.now.marks.now c.args.translator.now c.hold.new.self c.args.work.now.steps.now
-    c.args.holder c.requires.translating c.in_ok-hold.ensures).translating
+    c.args.holder c.requires.translating c.in_ok-hold.ensures.begins).translating
 
 pub returns-in_err-hold-clause-names : goal.returns-in_err-hold-clause-names
 returns-in_err-hold-clause-names g c = on-err c.from_residual.result
@@ -35,13 +35,13 @@ returns-in_err-texts_by_kind-clause-names g c = on-err c.from_residual-in_err-te
     c.args.work.now.marks.now c.args.translator.now [])) c.texts_by_kind.new.work.names.now)
     (held-read-fails c.args.context.now.flags.now c.args.work.now.store.now c.args.work.now.names.now
     c.args.work.now.marks.now c.args.translator.now c.hold.new.self c.args.work.now.steps.now c.args.holder
-    c.requires.translating c.in_ok-hold.ensures (parts_by_kind c.args.kind c.args.text.now)
+    c.requires.translating c.in_ok-hold.ensures.begins (parts_by_kind c.args.kind c.args.text.now)
     c.texts_by_kind.new.work.names.now c.in_err-texts_by_kind.ensures.names)
 
 pub returns-in_err-texts_by_kind-clause-bound : goal.returns-in_err-texts_by_kind-clause-bound
 returns-in_err-texts_by_kind-clause-bound g c = held-read-few c.args.context.now.flags.now c.args.work.now.store.now
     c.args.work.now.names.now c.args.work.now.marks.now c.args.translator.now c.hold.new.self c.args.work.now.steps.now
-    c.args.holder c.requires.translating c.in_ok-hold.ensures (parts_by_kind c.args.kind c.args.text.now)
+    c.args.holder c.requires.translating c.in_ok-hold.ensures.begins (parts_by_kind c.args.kind c.args.text.now)
     c.texts_by_kind.new.work.steps.now c.in_err-texts_by_kind.ensures.bound
 
 pub returns-clause-come : goal.returns-clause-come
@@ -61,7 +61,7 @@ returns-clause-come g c = on-ok3 c.finish.result (IsTranslating c.finish.new.sto
     c.args.work.now.marks.now c.args.translator.now []))))
     (λ is keeps come. held-come c.args.context.now.flags.now c.args.work.now.store.now c.args.work.now.names.now
     c.args.work.now.marks.now c.args.translator.now c.hold.new.self c.args.work.now.steps.now c.args.holder
-    c.requires.translating c.in_ok-hold.ensures (held_answers (parts_by_kind c.args.kind c.args.text.now))
+    c.requires.translating c.in_ok-hold.ensures.begins (held_answers (parts_by_kind c.args.kind c.args.text.now))
     c.finish.new.store.lists c.finish.new.names c.finish.new.marks c.finish.new.self c.finish.new.steps
     (last-come c.args.context.now.flags.now (held_answers (parts_by_kind c.args.kind c.args.text.now))
     c.args.work.now.store.now c.args.work.now.names.now c.args.work.now.marks.now c.hold.new.self
@@ -69,7 +69,7 @@ returns-clause-come g c = on-ok3 c.finish.result (IsTranslating c.finish.new.sto
     c.texts_by_kind.new.work.names.now c.texts_by_kind.new.work.marks.now c.texts_by_kind.new.translator
     c.texts_by_kind.new.work.steps.now (held-read c.args.context.now.flags.now c.args.work.now.store.now
     c.args.work.now.names.now c.args.work.now.marks.now c.args.translator.now c.hold.new.self c.args.work.now.steps.now
-    c.args.holder c.requires.translating c.in_ok-hold.ensures (parts_by_kind c.args.kind c.args.text.now)
+    c.args.holder c.requires.translating c.in_ok-hold.ensures.begins (parts_by_kind c.args.kind c.args.text.now)
     c.texts_by_kind.new.work.store.now c.texts_by_kind.new.work.names.now c.texts_by_kind.new.work.marks.now
     c.texts_by_kind.new.translator c.texts_by_kind.new.work.steps.now c.in_ok-texts_by_kind.ensures.translating
     c.in_ok-texts_by_kind.ensures.keeps c.in_ok-texts_by_kind.ensures.come c.in_ok-texts_by_kind.ensures.bound)
@@ -83,12 +83,12 @@ returns-clause-keeps g c = on-ok1 c.finish.result (Keeps c.texts_by_kind.new.wor
     (all_roots c.finish.new.self.nesting))
     (λ k. held-keeps c.args.context.now.flags.now c.args.work.now.store.now c.args.work.now.names.now
     c.args.work.now.marks.now c.args.translator.now c.hold.new.self c.args.work.now.steps.now c.args.holder
-    c.requires.translating c.in_ok-hold.ensures c.finish.new.store c.finish.new.self
+    c.requires.translating c.in_ok-hold.ensures.begins c.finish.new.store c.finish.new.self
     (keeps-trans c.args.work.now.store.now.lists c.texts_by_kind.new.work.store.now.lists c.finish.new.store.lists
     (all_roots c.hold.new.self.nesting) (all_roots c.texts_by_kind.new.translator.nesting)
     (all_roots c.finish.new.self.nesting) (held-read c.args.context.now.flags.now c.args.work.now.store.now
     c.args.work.now.names.now c.args.work.now.marks.now c.args.translator.now c.hold.new.self c.args.work.now.steps.now
-    c.args.holder c.requires.translating c.in_ok-hold.ensures (parts_by_kind c.args.kind c.args.text.now)
+    c.args.holder c.requires.translating c.in_ok-hold.ensures.begins (parts_by_kind c.args.kind c.args.text.now)
     c.texts_by_kind.new.work.store.now c.texts_by_kind.new.work.names.now c.texts_by_kind.new.work.marks.now
     c.texts_by_kind.new.translator c.texts_by_kind.new.work.steps.now c.in_ok-texts_by_kind.ensures.translating
     c.in_ok-texts_by_kind.ensures.keeps c.in_ok-texts_by_kind.ensures.come
@@ -101,7 +101,7 @@ returns-clause-names g c = on-err c.finish.result (NamesAmong c.args.context.now
     c.args.work.now.marks.now c.args.translator.now [])) c.finish.new.names)
     (held-fails c.args.context.now.flags.now c.args.work.now.store.now c.args.work.now.names.now
     c.args.work.now.marks.now c.args.translator.now c.hold.new.self c.args.work.now.steps.now c.args.holder
-    c.requires.translating c.in_ok-hold.ensures (held_answers (parts_by_kind c.args.kind c.args.text.now))
+    c.requires.translating c.in_ok-hold.ensures.begins (held_answers (parts_by_kind c.args.kind c.args.text.now))
     c.finish.new.names (last-fails c.args.context.now.flags.now
     (held_answers (parts_by_kind c.args.kind c.args.text.now)) c.args.work.now.store.now c.args.work.now.names.now
     c.args.work.now.marks.now c.hold.new.self c.args.work.now.steps.now (Finish text_token ∷ [])
@@ -109,7 +109,7 @@ returns-clause-names g c = on-err c.finish.result (NamesAmong c.args.context.now
     c.texts_by_kind.new.translator c.texts_by_kind.new.work.steps.now
     (held-read c.args.context.now.flags.now c.args.work.now.store.now c.args.work.now.names.now
     c.args.work.now.marks.now c.args.translator.now c.hold.new.self c.args.work.now.steps.now c.args.holder
-    c.requires.translating c.in_ok-hold.ensures (parts_by_kind c.args.kind c.args.text.now)
+    c.requires.translating c.in_ok-hold.ensures.begins (parts_by_kind c.args.kind c.args.text.now)
     c.texts_by_kind.new.work.store.now c.texts_by_kind.new.work.names.now c.texts_by_kind.new.work.marks.now
     c.texts_by_kind.new.translator c.texts_by_kind.new.work.steps.now c.in_ok-texts_by_kind.ensures.translating
     c.in_ok-texts_by_kind.ensures.keeps c.in_ok-texts_by_kind.ensures.come c.in_ok-texts_by_kind.ensures.bound)
@@ -118,14 +118,14 @@ returns-clause-names g c = on-err c.finish.result (NamesAmong c.args.context.now
 pub returns-clause-bound : goal.returns-clause-bound
 returns-clause-bound g c = held-few c.args.context.now.flags.now c.args.work.now.store.now c.args.work.now.names.now
     c.args.work.now.marks.now c.args.translator.now c.hold.new.self c.args.work.now.steps.now c.args.holder
-    c.requires.translating c.in_ok-hold.ensures (held_answers (parts_by_kind c.args.kind c.args.text.now))
+    c.requires.translating c.in_ok-hold.ensures.begins (held_answers (parts_by_kind c.args.kind c.args.text.now))
     c.finish.new.steps (last-few c.args.context.now.flags.now (held_answers (parts_by_kind c.args.kind c.args.text.now))
     c.args.work.now.store.now c.args.work.now.names.now c.args.work.now.marks.now c.hold.new.self
     c.args.work.now.steps.now (Finish text_token ∷ []) c.texts_by_kind.new.work.store.now
     c.texts_by_kind.new.work.names.now c.texts_by_kind.new.work.marks.now c.texts_by_kind.new.translator
     c.texts_by_kind.new.work.steps.now (held-read c.args.context.now.flags.now c.args.work.now.store.now
     c.args.work.now.names.now c.args.work.now.marks.now c.args.translator.now c.hold.new.self c.args.work.now.steps.now
-    c.args.holder c.requires.translating c.in_ok-hold.ensures (parts_by_kind c.args.kind c.args.text.now)
+    c.args.holder c.requires.translating c.in_ok-hold.ensures.begins (parts_by_kind c.args.kind c.args.text.now)
     c.texts_by_kind.new.work.store.now c.texts_by_kind.new.work.names.now c.texts_by_kind.new.work.marks.now
     c.texts_by_kind.new.translator c.texts_by_kind.new.work.steps.now c.in_ok-texts_by_kind.ensures.translating
     c.in_ok-texts_by_kind.ensures.keeps c.in_ok-texts_by_kind.ensures.come c.in_ok-texts_by_kind.ensures.bound)
