@@ -5,13 +5,14 @@
 # make gate     every proof, must-fail edit, test and program
 # make bench    instructions per input byte and peak memory for webs of stated sizes
 # make hostile  refused memory, failing devices, and large webs that no one would write
+# make outside  failing calls of the system with what is told of each, names, folders of CWEBINPUTS, and links
 # make picture  makes docs/hello.png anew
 PREFIX ?= /usr/local
 PROGRAM = build/cweave
 BINDIR = $(DESTDIR)$(PREFIX)/bin
 MANDIR = $(DESTDIR)$(PREFIX)/share/man/man1
 
-.PHONY: all try hello book install uninstall gate bench hostile picture clean
+.PHONY: all try hello book install uninstall gate bench hostile outside picture clean
 
 all: $(PROGRAM)
 
@@ -52,6 +53,9 @@ bench: $(PROGRAM)
 
 hostile: $(PROGRAM)
 	tools/hostile
+
+outside: $(PROGRAM)
+	tools/outside
 
 picture: $(PROGRAM)
 	tools/picture

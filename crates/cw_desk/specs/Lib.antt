@@ -1,4 +1,5 @@
 -- The definitions of desks: what each kind tells, what calls answer and change, and how a journal grows.
+pub mod Answer
 pub mod Batch
 pub mod BatchLaws
 pub mod Count
@@ -13,4 +14,6 @@ pub mod Open
 pub mod Put
 pub mod Quiet
 pub mod Read
+pub mod System
 pub mod Told
+pub mod Trail

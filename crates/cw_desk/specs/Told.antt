@@ -1,5 +1,5 @@
 -- What a desk tells, and what each call changes of it.
-use Rattle.std.specs.Prelude.{◌≡◌, ◌≢◌, ℕ, ◌<◌, ◌≤◌, List, ◌∷◌, Option, Some}
+use Rattle.std.specs.Prelude.{◌≡◌, ◌≢◌, ℕ, ◌<◌, ◌≤◌, List, ◌∷◌}
 use Rattle.cw_base.specs.declared.event.Event.{Event}
 use Rattle.cw_base.specs.declared.event.Event.TheVariants.{Drafted, Kept, Made, Replaced}
 use Rattle.cw_base.specs.declared.event.Out.{Out}
@@ -19,56 +19,67 @@ use Rattle.cw_desk.specs.declared.desk.MadeOut.TheVariants.{Failed as failed_mak
 use Rattle.cw_desk.specs.declared.desk.Taken.{Taken}
 use Rattle.cw_desk.specs.declared.desk.Taken.TheVariants.{Failed as failed_put}
 
--- A desk may tell no files (then the rests mean nothing) and no journal.
-pub record Told : Type 0 where
+-- Files agree with a desk if they would have given all that it has answered so far.
+pub record Told : Type 1 where
   pub opened : ℕ  -- how many files were opened
   pub outputs : Outputs  -- which outputs are made, and which have a draft
-  pub files : Option Files
-  pub rest : ℕ → List ℕ  -- what is unread of each opened file
-  pub journal : Option (List Event)  -- all that was made and written
+  pub agrees : Files → Type 0
+  pub rest : Files → ℕ → List ℕ  -- what of files that agree is unread of each opened file
+  pub journal : List Event  -- all that was made and written
+  pub handed : ℕ  -- so many of these events, if not more, were handed on to a desk below
   pub faults : ℕ
   pub names : List ℕ  -- the ghost names of the references through which the desk is lent
 
--- Calls that put bytes and make nothing: they change the journal alone, but that the count of faults may rise.
+-- Files that agree after some calls agreed before them.
+abbrev pub Narrows : Told → Told → Type 0
+Narrows old new = (files : Files) → new.agrees files → old.agrees files
+
+-- Calls that put bytes and make nothing: they change the journal alone, but that more of it may be handed on, fewer
+-- files may agree, and the count of faults may rise.
 pub record OnlyPuts (old new : Told) : Type 0 where
   pub same_names : new.names ≡ old.names
   pub same_opened : new.opened ≡ old.opened
   pub same_outputs : new.outputs ≡ old.outputs
-  pub same_files : new.files ≡ old.files
+  pub narrows : Narrows old new
   pub same_rests : new.rest ≡ old.rest
+  pub handed_kept : old.handed ≤ new.handed
   pub faults_kept : old.faults ≤ new.faults
 
--- Calls that open and read files: outputs, files and journal stay, and so does what is unread of the files that were
--- open before.
+-- Calls that open and read files: outputs and journal stay, and so does what is unread of the files that were open
+-- before. Fewer files may agree, more of the journal may be handed on, and the count of faults may rise.
 pub record OnlyReads (old new : Told) : Type 0 where
   pub same_names : new.names ≡ old.names
   pub opened_kept : old.opened ≤ new.opened
   pub same_outputs : new.outputs ≡ old.outputs
-  pub same_files : new.files ≡ old.files
-  pub same_rests : (i : ℕ) → i < old.opened → new.rest i ≡ old.rest i
+  pub narrows : Narrows old new
+  pub same_rests : (files : Files) (i : ℕ) → i < old.opened → new.rest files i ≡ old.rest files i
   pub same_journal : new.journal ≡ old.journal
+  pub handed_kept : old.handed ≤ new.handed
   pub faults_kept : old.faults ≤ new.faults
 
 pub record Opens (name : List ℕ) (result : Opened) (old new : Told) : Type 0 where
   pub same_names : new.names ≡ old.names
   pub next : OpensNext old.opened new.opened result
-  pub named : (files : Files) → old.files ≡ Some files → OpensNamed files name new.rest result
-  pub same_rests : (i : ℕ) → i < old.opened → new.rest i ≡ old.rest i
-  pub same_files : new.files ≡ old.files
+  pub named : (files : Files) → new.agrees files → OpensNamed files name (new.rest files) result
+  pub same_rests : (files : Files) (i : ℕ) → i < old.opened → new.rest files i ≡ old.rest files i
+  pub narrows : Narrows old new
   pub same_outputs : new.outputs ≡ old.outputs
   pub same_journal : new.journal ≡ old.journal
+  pub handed_kept : old.handed ≤ new.handed
   pub faults_kept : old.faults ≤ new.faults
   pub failed : result ≡ failed_open → Rose old.faults new.faults
 
 pub record Reads (index : ℕ) (buffer : List ℕ) (result : Fetched) (old new : Told) : Type 0 where
   pub same_names : new.names ≡ old.names
   pub some : ReadsSome buffer result
-  pub next : (files : Files) → old.files ≡ Some files → ReadsNext (old.rest index) (new.rest index) buffer result
-  pub other_rests : (i : ℕ) → i ≢ index → new.rest i ≡ old.rest i
+  pub next : (files : Files) → new.agrees files
+      → ReadsNext (old.rest files index) (new.rest files index) buffer result
+  pub other_rests : (files : Files) (i : ℕ) → i ≢ index → new.rest files i ≡ old.rest files i
   pub same_opened : new.opened ≡ old.opened
-  pub same_files : new.files ≡ old.files
+  pub narrows : Narrows old new
   pub same_outputs : new.outputs ≡ old.outputs
   pub same_journal : new.journal ≡ old.journal
+  pub handed_kept : old.handed ≤ new.handed
   pub faults_kept : old.faults ≤ new.faults
   pub failed : result ≡ failed_read → Rose old.faults new.faults
 
@@ -79,7 +90,8 @@ pub record Turns (done : Outputs) (event : Event) (result : MadeOut) (old new : 
   pub journal : new.journal ≡ grown old.journal (event_after result event)
   pub same_opened : new.opened ≡ old.opened
   pub same_rests : new.rest ≡ old.rest
-  pub same_files : new.files ≡ old.files
+  pub narrows : Narrows old new
+  pub handed_kept : old.handed ≤ new.handed
   pub faults_kept : old.faults ≤ new.faults
   pub failed : result ≡ failed_make → Rose old.faults new.faults
 

@@ -9,7 +9,7 @@ use Rattle.std.proofs.lemmas.Bool.Decides.{eqb_tells}
 use Rattle.std.proofs.lemmas.List.{drop_all, length-take, length-take-le, take-append-drop, take-append-le}
 use Rattle.std.proofs.lemmas.List.{take_all}
 use Rattle.cw_desk.specs.Meaning.{Files}
-use Rattle.cw_desk.specs.Told.{Told}
+use Rattle.cw_desk.specs.Told.{Told, Narrows}
 use Rattle.cw_lines.specs.Compared.{OldFile, Compares, Shortens, behind, left, left_behind, left_by}
 
 -- the text that is there, or another
@@ -148,13 +148,13 @@ left-read false agrees ahead rest more unread agreed none read longer ended = (
 -- ## Comparing
 
 pub compares-none : (old : Option OldFile) (told : Told) → Compares [] old old told told
-compares-none old told = record { rest = λ files is. sym (left_behind-none (left told old)) }
+compares-none old told = record { rest = λ files is. sym (left_behind-none (left files told old)) }
 
-pub compares-then : {xs ys : List ℕ} {first second third : Option OldFile} {a b c : Told} → b.files ≡ a.files
+pub compares-then : {xs ys : List ℕ} {first second third : Option OldFile} {a b c : Told} → Narrows b c
     → Compares xs first second a b → Compares ys second third b c → Compares (xs ++ ys) first third a c
-compares-then {xs = xs} {ys = ys} {first = first} {a = a} same begun ended = record {
-  rest = λ files is. ended.rest files (same ∙ is) ∙ ap (left_behind ys) (begun.rest files is)
-      ∙ sym (left_behind-append xs ys (left a first));
+compares-then {xs = xs} {ys = ys} {first = first} {a = a} narrows begun ended = record {
+  rest = λ files is. ended.rest files is ∙ ap (left_behind ys) (begun.rest files (narrows files is))
+      ∙ sym (left_behind-append xs ys (left files a first));
 }
 
 pub compares-bytes : {xs ys : List ℕ} {old new : Option OldFile} {a b : Told} → xs ≡ ys → Compares xs old new a b
@@ -171,34 +171,35 @@ compares-as {xs = xs} {old = old} {other = other} {a = a} {b = b} same is compar
 
 -- bytes were compared, then more was read, and more bytes were compared
 pub compares-more : {first : List ℕ} (more : List ℕ) {old mid : OldFile} (read : OldFile) {new : OldFile} {a b c : Told}
-    → b.files ≡ a.files
+    → Narrows b c
     → Compares first (Some old) (Some mid) a b
-    → ((files : Files) → b.files ≡ Some files → left_behind more (left c (Some read))
-    ≡ left_behind more (left b (Some mid)))
+    → ((files : Files) → c.agrees files → left_behind more (left files c (Some read))
+    ≡ left_behind more (left files b (Some mid)))
     → new.id ≡ read.id
     → ((rest : List ℕ) → left_by new.agrees (new.ahead ++ rest)
     ≡ left_behind more (left_by read.agrees (read.ahead ++ rest)))
     → Compares (first ++ more) (Some old) (Some new) a c
-compares-more {first = first} more {old = old} read {new = new} {a = a} {c = c} same begun reads file checks = record {
-  rest = λ files is.
-      checks (c.rest new.id)
-      ∙ ap (λ (id : ℕ). left_behind more (left_by read.agrees (read.ahead ++ c.rest id))) file
-      ∙ reads files (same ∙ is)
-      ∙ ap (left_behind more) (begun.rest files is)
-      ∙ sym (left_behind-append first more (left a (Some old)));
-}
+compares-more {first = first} more {old = old} read {new = new} {a = a} {c = c} narrows begun reads file
+    checks = record {
+      rest = λ files is.
+          checks (c.rest files new.id)
+          ∙ ap (λ (id : ℕ). left_behind more (left_by read.agrees (read.ahead ++ c.rest files id))) file
+          ∙ reads files is
+          ∙ ap (left_behind more) (begun.rest files (narrows files is))
+          ∙ sym (left_behind-append first more (left files a (Some old)));
+    }
 
 pub shortens-none : (file : Option ℕ) {a b : Told} → b.rest ≡ a.rest → Shortens file a b
-shortens-none file same = record { unread = λ files is id named. ([], sym (λ i. same i id)) }
+shortens-none file same = record { unread = λ files is id named. ([], sym (λ i. same i files id)) }
 
-pub shortens-then : {file : Option ℕ} {a b c : Told} → b.files ≡ a.files → Shortens file a b → Shortens file b c
+pub shortens-then : {file : Option ℕ} {a b c : Told} → Narrows b c → Shortens file a b → Shortens file b c
     → Shortens file a c
-shortens-then {c = c} same begun ended = record {
+shortens-then {c = c} narrows begun ended = record {
   unread = λ files is id named.
-      let first = begun.unread files is id named in
-      let second = ended.unread files (same ∙ is) id named in (
+      let first = begun.unread files (narrows files is) id named in
+      let second = ended.unread files is id named in (
         first.0 ++ second.0,
         first.1 ∙ ap (λ (rest : List ℕ). first.0 ++ rest) second.1
-            ∙ sym (append_assoc first.0 second.0 (c.rest id)),
+            ∙ sym (append_assoc first.0 second.0 (c.rest files id)),
       );
 }

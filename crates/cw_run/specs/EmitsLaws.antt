@@ -42,7 +42,8 @@ pub adds-emits : {T : Type 0} {events : List Event} {a b : Told} {result : Resul
 adds-emits adds = record {
   ok = adds.ok;
   err = adds.err;
-  same_files = adds.same.same_files;
+  narrows = adds.same.narrows;
+  handed = adds.same.handed_kept;
   kept = adds.same.faults_kept;
   fault = adds.fault;
 }
@@ -52,7 +53,8 @@ pub writes-emits : {T : Type 0} {file : Option ℕ} {events : List Event} {a b :
 writes-emits writes = record {
   ok = writes.adds.ok;
   err = writes.adds.err;
-  same_files = writes.adds.same.same_files;
+  narrows = writes.adds.same.narrows;
+  handed = writes.adds.same.handed_kept;
   kept = writes.adds.same.faults_kept;
   fault = writes.adds.fault;
 }
@@ -63,7 +65,8 @@ pub emits-value : {T U : Type 0} {events : List Event} {a b : Told} {value : T} 
 emits-value other done = record {
   ok = done.ok;
   err = tt;
-  same_files = done.same_files;
+  narrows = done.narrows;
+  handed = done.handed;
   kept = done.kept;
   fault = λ e. cc;
 }
@@ -73,7 +76,8 @@ pub emits-then : {T U : Type 0} {first second : List Event} {a b c : Told} {valu
 emits-then {first = first} {second = second} {a = a} {b = b} {c = c} {result = result} begun ended = record {
   ok = on_ok_weaker result (λ grew. grown-after a.journal first second begun.ok grew) ended.ok;
   err = on_err_weaker result (λ part. part-second a.journal first begun.ok part) ended.err;
-  same_files = ended.same_files ∙ begun.same_files;
+  narrows = λ files is. begun.narrows files (ended.narrows files is);
+  handed = let x : a.handed ≤ b.handed = begun.handed in let y : b.handed ≤ c.handed = ended.handed in omega arith;
   kept = let x : a.faults ≤ b.faults = begun.kept in let y : b.faults ≤ c.faults = ended.kept in omega arith;
   fault = λ is. rose-later a.faults b.faults c.faults begun.kept (ended.fault is);
 }
@@ -87,7 +91,8 @@ emits-stop {U = U} {first = first} second {a = a} {b = b} {error = error} {resul
     record {
       ok = tt;
       err = part-first second begun.err;
-      same_files = begun.same_files;
+      narrows = begun.narrows;
+      handed = begun.handed;
       kept = begun.kept;
       fault = λ e. begun.fault cc;
     } in
@@ -138,7 +143,7 @@ pub emits_by-then : {T U : Type 0} {first second : NamedFiles → List Event} {a
     → EmitsBy {T = T} first a b (Ok value) → EmitsBy second b c result
     → EmitsBy (λ named. first named ++ second named) a c result
 emits_by-then begun ended = record {
-  emits = λ files is. let done = begun.emits files is in emits-then done (ended.emits files (done.same_files ∙ is));
+  emits = λ files is. let done = ended.emits files is in emits-then (begun.emits files (done.narrows files is)) done;
   faults = faults-then begun.faults.kept ended.faults;
 }
 
@@ -185,21 +190,24 @@ pub turns-emits : {done : Outputs} {event : Event} {a b : Told} (made : MadeOut)
 turns-emits Done turns = record {
   ok = turns.journal;
   err = tt;
-  same_files = turns.same_files;
+  narrows = turns.narrows;
+  handed = turns.handed_kept;
   kept = turns.faults_kept;
   fault = λ e. cc;
 }
 turns-emits Failed turns = record {
   ok = tt;
   err = part-same _ (turns.journal ∙ grown-none _);
-  same_files = turns.same_files;
+  narrows = turns.narrows;
+  handed = turns.handed_kept;
   kept = turns.faults_kept;
   fault = λ e. turns.failed refl;
 }
 turns-emits no_memory turns = record {
   ok = tt;
   err = part-same _ (turns.journal ∙ grown-none _);
-  same_files = turns.same_files;
+  narrows = turns.narrows;
+  handed = turns.handed_kept;
   kept = turns.faults_kept;
   fault = λ e. absurd cc;
 }
@@ -263,20 +271,21 @@ pub emits_by-file : {S T U : Type 0} (keep : Bool) (f : OutFile) {old new : Line
     {value : T} {result : Result U PutError}
     → Emits {T = S} (begun keep f.out f.name ∷ []) a b (Ok lines) → IsBegun keep f.out f.name old a b
     → Puts {T = T} f.bytes old new b c (Ok value)
-    → ((files : Files) → c.files ≡ Some files → Emits (settled_if keep (is_end (left c new.compared)) f.out) c d result)
+    → ((files : Files) → d.agrees files → Emits (settled_if keep (is_end (left files c new.compared)) f.out) c d result)
     → Faults c d result
     → EmitsBy (file_events keep f) a d result
 emits_by-file keep f {old = old} {new = new} {b = b} {c = c} made is put ended faults =
     let lines = writes-emits (puts-new f.out is.line put) in
     record {
-      emits = λ files there.
-          let still : c.files ≡ Some files = lines.same_files ∙ made.same_files ∙ there in
+      emits = λ files agree.
+          let done = ended files agree in
+          let earlier : c.agrees files = done.narrows files agree in
           let bytes : List ℕ = written (cut f.bytes).lines in
-          let rest : IsTrue keep → left c new.compared ≡ left_behind bytes (get files f.name) =
-          λ asked. (puts-new_compared f.out is.line put).rest files (made.same_files ∙ there)
-          ∙ ap (left_behind bytes) (is.old files there asked) in
-          emits-then made (emits-then lines (emits-events (settled-same keep f.out bytes (get files f.name) rest)
-          (ended files still)));
+          let rest : IsTrue keep → left files c new.compared ≡ left_behind bytes (get files f.name) =
+          λ asked. (puts-new_compared f.out is.line put).rest files earlier
+          ∙ ap (left_behind bytes) (is.old files (lines.narrows files earlier) asked) in
+          let same = settled-same keep f.out bytes (get files f.name) rest in
+          emits-then made (emits-then lines (emits-events same done));
       faults = faults-then {b = b} made.kept (faults-then {b = c} lines.kept faults);
     }
 
@@ -378,9 +387,9 @@ runs_by-exit {run = run} {result = result} named runs =
     IfOk-weaker result (λ e. (named : NamedFiles) → e ≡ (run named).exit) (λ e. e ≡ (run named).exit)
     (λ e same. same named) runs.exit
 
--- over the files that are told
+-- over files that agree
 pub runs_by-over : {run : NamedFiles → Run} {a b : Told} {result : Result Exit PutError} → RunsBy run a b result
-    → (files : Files) → a.files ≡ Some files → Runs (run (get files)) a b result
+    → (files : Files) → b.agrees files → Runs (run (get files)) a b result
 runs_by-over runs files is = record {
   emits = runs.emits.emits files is;
   exit = runs_by-exit (get files) runs;
@@ -391,11 +400,13 @@ pub runs-after : {run : Run} {a b c : Told} {result : Result Exit PutError} → 
     → Runs run a c result
 runs-after {run = run} {a = a} {b = b} {c = c} {result = result} read runs = record {
   emits = record {
-    ok = subst (λ (journal : Option (List Event)). OnOk result (c.journal ≡ grown journal run.rest)) read.same_journal
+    ok = subst (λ (journal : List Event). OnOk result (c.journal ≡ grown journal run.rest)) read.same_journal
         runs.emits.ok;
-    err = subst (λ (journal : Option (List Event)). OnErr result (GrownByPart journal c.journal run.rest))
+    err = subst (λ (journal : List Event). OnErr result (GrownByPart journal c.journal run.rest))
         read.same_journal runs.emits.err;
-    same_files = runs.emits.same_files ∙ read.same_files;
+    narrows = λ files is. read.narrows files (runs.emits.narrows files is);
+    handed = let x : a.handed ≤ b.handed = read.handed_kept in let y : b.handed ≤ c.handed = runs.emits.handed in
+        omega arith;
     kept = let x : a.faults ≤ b.faults = read.faults_kept in let y : b.faults ≤ c.faults = runs.emits.kept in
         omega arith;
     fault = λ is. rose-later a.faults b.faults c.faults read.faults_kept (runs.emits.fault is);

@@ -13,7 +13,7 @@ use Rattle.cw_texpart.specs.Texts.{Setting, lasting}
 use Rattle.cw_texpart.specs.declared.counts.Counts.{Counts}
 
 -- What printing changes: the book, the line that is being filled, what the desk tells, and the number of steps.
-pub record Press : Type 0 where
+pub record Press : Type 1 where
   pub book : Book
   pub line : LineState
   pub told : Told

@@ -5,6 +5,7 @@ ghost use Rattle.cw_desk.specs.Meaning.{Files, Rose};
 ghost use Rattle.cw_input.specs.Merged.{merged};
 ghost use Rattle.cw_lines.specs.Writes.{Adds};
 ghost use Rattle.cw_phase1.specs.Book.{book};
+ghost use Rattle.cw_program.specs.Program.{Outcome};
 ghost use Rattle.cw_texpart.specs.Texts.{lasting};
 ghost use Rattle.cw_run.specs.Emits.{EmitsBy, Faults, Runs, RunsBy};
 ghost use Rattle.cw_weave.specs.Looks.{book_looks, command_looks, looks_of, web_looks};
@@ -12,7 +13,7 @@ ghost use Rattle.cw_run.specs.Notes.{note_events};
 ghost use Rattle.cw_weave.specs.Pressing.{IsPrintable, flags_in, text_in};
 ghost use Rattle.cw_weave.specs.Proper.{IsProper};
 ghost use Rattle.cw_weave.specs.TexFile.{handed};
-ghost use Rattle.cw_weave.specs.Woven.{Outcome, change_text, weave_book, weave_command_of, weave_web, woven};
+ghost use Rattle.cw_weave.specs.Woven.{change_text, weave_book, weave_command_of, weave_web, woven};
 ghost use Rattle.cw_weave.specs.Written.{AreWritten, events_of};
 
 use crate::ending::end_run;
@@ -132,11 +133,11 @@ fn weave_line<D: Desk, L: Ledger>(
     steps: &mut Steps<L>,
 ) -> Result<Exit, PutError>
     requires { 0 < length line.now.web }
-    ensures runs { (files : Files) → (D.told desk.old).files ≡ Some files →
+    ensures runs { (files : Files) → (D.told desk.new).agrees files →
         Runs (weave_web line.now (merged (get files) line.now.web line.now.change) (get files))
         (D.told desk.old) (D.told desk.new) result }
     ensures faults { Faults (D.told desk.old) (D.told desk.new) result }
-    ensures bound { (files : Files) → (D.told desk.old).files ≡ Some files →
+    ensures bound { (files : Files) → (D.told desk.new).agrees files →
         steps.new ≤ steps.old + web_looks line.now.flags (merged (get files) line.now.web line.now.change) }
     ensures real { IfOk result (λ exit. exit ≢ Exit.Fault) }
 {
@@ -166,11 +167,11 @@ fn run<D: Desk, L: Ledger>(
     steps: &mut Steps<L>,
 ) -> Result<Exit, PutError>
     requires { IsProper command.now }
-    ensures runs { (files : Files) → (D.told desk.old).files ≡ Some files →
+    ensures runs { (files : Files) → (D.told desk.new).agrees files →
         Runs (weave_command_of command.now (get files))
         (D.told desk.old) (D.told desk.new) result }
     ensures faults { Faults (D.told desk.old) (D.told desk.new) result }
-    ensures bound { (files : Files) → (D.told desk.old).files ≡ Some files →
+    ensures bound { (files : Files) → (D.told desk.new).agrees files →
         steps.new ≤ steps.old + command_looks command.now (get files) }
     ensures real { IfOk result (λ exit. exit ≢ Exit.Fault) }
 {
@@ -190,16 +191,22 @@ fn run<D: Desk, L: Ledger>(
 /// Reads the words of a command line and does what they ask for: weaves a web over the files of the desk into its
 /// outputs, and answers the status of the run. It prints nothing after a fault or want of memory, and tries no failed
 /// call again.
+///
+/// Whatever the desk is: over all files that would have given the answers that it gave, it has done what these files
+/// ask for.
 pub fn weave_command<D: Desk, L: Ledger>(
     alloc: Global,
     words: &Words,
     desk: &mut D,
     steps: &mut Steps<L>,
 ) -> Exit
-    ensures woven { (files : Files) → (D.told desk.old).files ≡ Some files →
-        Outcome (woven words.now (get files)) (D.told desk.old) (D.told desk.new) result }
+    ensures woven { (files : Files) → (D.told desk.new).agrees files →
+        Outcome (woven words.now (get files)) (D.told desk.old).journal (D.told desk.new).journal result }
+    ensures passed { (files : Files) → (D.told desk.new).agrees files →
+        (D.told desk.old).handed ≤ (D.told desk.new).handed }
+    ensures kept { (D.told desk.old).faults ≤ (D.told desk.new).faults }
     ensures fault { result ≡ Exit.Fault → Rose (D.told desk.old).faults (D.told desk.new).faults }
-    ensures steps { (files : Files) → (D.told desk.old).files ≡ Some files →
+    ensures steps { (files : Files) → (D.told desk.new).agrees files →
         steps.new ≤ steps.old + looks_of words.now (get files) }
 {
     let Ok(command) = read_command(alloc, words) else {

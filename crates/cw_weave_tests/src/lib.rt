@@ -23,6 +23,10 @@ mod merging_tests;
 mod printed_tests;
 mod quiet;
 #[cfg(test)]
+mod real_file_tests;
+#[cfg(test)]
+mod recording;
+#[cfg(test)]
 mod runs;
 #[cfg(test)]
 mod scanning_tests;
@@ -34,5 +38,7 @@ mod small_section_tests;
 mod texts;
 #[cfg(test)]
 mod weave_tests;
+#[cfg(test)]
+mod word_tests;
 
 pub use quiet::weave_quietly;

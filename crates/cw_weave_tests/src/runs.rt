@@ -2,8 +2,9 @@
 ghost use Rattle.std.specs.Prelude.{◌≡◌, [], IfOk};
 
 use cw_base::{Bytes, Event, Exit, Kept, Memory, Out, Silent, Steps, Words};
-use cw_desk::{Batch, Desk, Flushed, MemDesk};
-use cw_weave::weave_command;
+use cw_desk::{Desk, MemDesk};
+use cw_program::run_program;
+use cw_weave::{Weaver, weave_command};
 use std::alloc::Global;
 
 /// The name of most webs here, as a word.
@@ -31,24 +32,23 @@ pub(crate) fn weave<D: Desk>(alloc: Global, words: &[&[u8]], desk: &mut D) -> Re
     Ok(weave_command(alloc, &list, desk, &mut Steps::<Silent>::new()))
 }
 
-/// Weaves over a batch of the desk, as the program does: what waits at the end is handed on, but not after a failure.
+/// The command line of the program with these words.
+pub(crate) fn line_of(alloc: Global, words: &[&[u8]]) -> Result<Words, Memory> {
+    let mut line = Words::new_in(alloc);
+    line.push(b"cweave")?;
+    push_words(&mut line, words)?;
+    Ok(line)
+}
+
+/// Weaves as the program does: what it puts is gathered, and handed on at the end, but not after a failure.
 pub(crate) fn weave_gathered(
     alloc: Global,
     words: &[&[u8]],
     desk: &mut MemDesk,
 ) -> Result<Exit, Memory> {
-    let mut batch = Batch::new_in(alloc, desk);
-    let exit = weave(alloc, words, &mut batch)?;
-    if exit == Exit::Fault || exit == Exit::Memory {
-        let _below = batch.discard();
-        return Ok(exit);
-    }
-    let (flushed, _below) = batch.finish();
-    Ok(match flushed {
-        Flushed::Done => exit,
-        Flushed::Failed => Exit::Fault,
-        Flushed::Memory => Exit::Memory,
-    })
+    let line = line_of(alloc, words)?;
+    let (exit, _below) = run_program(alloc, &Weaver, &line, desk);
+    Ok(exit)
 }
 
 /// How a run calls its desk: for each line, or for many together.

@@ -1,7 +1,7 @@
 -- The lines that are left, in the phase so far, give from the state so far what all give from the first state; and the
 -- room that was
 -- enough at first is enough for what is left.
-use Rattle.std.proofs.Common.{◌≡◌, ◌+◌, ◌-◌, ◌*◌, ◌<◌, ◌≤◌, Some, length}
+use Rattle.std.proofs.Common.{◌≡◌, ◌+◌, ◌-◌, ◌*◌, ◌<◌, ◌≤◌, length}
 use Rattle.std.specs.FinMap.{get}
 use Rattle.cw_base.specs.declared.limits.TheConstants.{INPUT_LIMIT}
 use Rattle.cw_base.specs.Web.{text_of}
@@ -23,7 +23,7 @@ invariant-lines g l = let told = g.D.Desk.told in record {
       + (length l.change - l.fn.rest.at) + (INPUT_LIMIT - l.fn.m.sum);
   sum : l.m.sum ≤ INPUT_LIMIT;
   more_files : length l.fn.m.web.files ≤ length l.m.web.files;
-  gives : (files : Files) → (told l.fn.desk).files ≡ Some files →
+  gives : (files : Files) → (told l.desk).agrees files →
       advance (get files) l.fn.from (record { file = 1; line = l.fn.rest.line }) (rest_of l.change l.fn.rest)
       (state_of l.change l.fn.m)
       ≡ advance (get files) l.phase (record { file = 1; line = l.line }) (lines_from 1 l.line l.at l.change)

@@ -1,5 +1,5 @@
 -- An error in the change file or in the lines of the web is one of the whole.
-use Rattle.std.proofs.Common.{Result, Ok, Err, ap, sym, subst, ◌∙◌}
+use Rattle.std.proofs.Common.{Result, Ok, Err, ap, sym, subst}
 use Rattle.std.specs.FinMap.{get}
 use Rattle.cw_base.specs.Web.{WebState}
 use Rattle.cw_input.specs.Answers.{LoadsInto, Merges}
@@ -22,9 +22,10 @@ pub returns-in-Ok-clause-loads : goal.returns-in-Ok-clause-loads
 returns-in-Ok-clause-loads g c = λ files is.
     let web = c.args.source.now.bytes in
     let P : Merged → Type 0 = λ given. LoadsInto given c.merge_lines.new.m.web c.merge_lines.result in
-    subst P (sym (ap (taken (get files) web) (c.in-Ok.ensures.gives files is)))
+    let before = c.merge_lines.ensures.same.narrows files is in
+    subst P (sym (ap (taken (get files) web) (c.in-Ok.ensures.gives files before)))
     (loaded _ c.merge_lines.new.m.web c.merge_lines.result
-    (c.merge_lines.ensures.merges files (c.advance_change.ensures.same.same_files ∙ is)))
+    (c.merge_lines.ensures.merges files is))
 
 pub returns-in-Err-clause-loads : goal.returns-in-Err-clause-loads
 returns-in-Err-clause-loads g c = λ files is.

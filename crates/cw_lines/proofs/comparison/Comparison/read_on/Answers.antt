@@ -8,8 +8,8 @@ use Rattle.cw_lines.proofs.comparison.Comparison.read_on.Goals as goal
 pub returns-then-not-branch-clause-left : goal.returns-then-not-branch-clause-left
 returns-then-not-branch-clause-left g c files is bytes some =
     sym (left-ended bytes c.args.self.now.agrees c.args.self.now.ahead
-    ((g.D.Desk.told c.args.desk.now).rest c.args.self.now.id) some
+    ((g.D.Desk.told c.args.desk.now).rest files c.args.self.now.id) some
     (sym (ap (λ (o : OldFile). o.ahead) c.self.view_is)
     ∙ ahead-none c.self.inside.buffer c.self.inside.start c.self.inside.end c.if-self.false)
-    (subst (λ (b : Bool). OnFalse b ((g.D.Desk.told c.args.desk.now).rest c.args.self.now.id ≡ [])) c.if-not-branch.true
-    (c.in_ok-fetch.ensures.none files is)))
+    (subst (λ (b : Bool). OnFalse b ((g.D.Desk.told c.args.desk.now).rest files c.args.self.now.id ≡ []))
+    c.if-not-branch.true (c.in_ok-fetch.ensures.none files is)))

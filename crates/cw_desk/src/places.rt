@@ -1,0 +1,104 @@
+//! Where the file of a name is: at its own place, in a folder in which files are looked for, or behind a link.
+use crate::environment::variable;
+use cw_base::{Bytes, Memory};
+use std::alloc::Global;
+use std::env::Env;
+use std::fs;
+
+/// The variable whose folders, set apart by colons, are gone through for a file that isn't at its own place.
+const FOLDERS: &str = "CWEBINPUTS";
+
+/// What is behind the place of a file in that of its draft.
+const DRAFT: &[u8] = b".new";
+
+/// How many links are followed, one to the next. More of them are taken for a circle.
+const MOST_LINKS: u8 = 40;
+
+/// The folders in which the file of a name is looked for. A name from the root on, or from this folder or the one above
+/// it on, says where its file is, so there are none.
+pub(crate) fn folders_of<E: Env>(
+    env: &E,
+    alloc: Global,
+    name: &[u8],
+) -> Result<Vec<Bytes>, Memory> {
+    let says_where = [b"/".as_slice(), b"./".as_slice(), b"../".as_slice()];
+    if says_where.iter().any(|start| name.starts_with(start)) {
+        return Ok(Vec::new(alloc));
+    }
+    match variable(env, alloc, FOLDERS)? {
+        Some(list) => folders_in(alloc, list.as_slice()),
+        None => Ok(Vec::new(alloc)),
+    }
+}
+
+// The folders of a list. Between two colons with nothing between them is none.
+fn folders_in(alloc: Global, list: &[u8]) -> Result<Vec<Bytes>, Memory> {
+    let mut folders = Vec::new(alloc);
+    for folder in list.split(|byte| *byte == b':') {
+        if !folder.is_empty() {
+            folders.push(Bytes::from_slice(alloc, folder)?)?;
+        }
+    }
+    Ok(folders)
+}
+
+/// The place of a name in a folder.
+pub(crate) fn place_in(alloc: Global, folder: &[u8], name: &[u8]) -> Result<Bytes, Memory> {
+    let mut place = Bytes::from_slice(alloc, folder)?;
+    place.push(b'/')?;
+    place.append(name)?;
+    Ok(place)
+}
+
+/// The place of the draft of a file.
+pub(crate) fn draft_of(alloc: Global, place: &[u8]) -> Result<Bytes, Memory> {
+    let mut draft = Bytes::from_slice(alloc, place)?;
+    draft.append(DRAFT)?;
+    Ok(draft)
+}
+
+/// The path of a place. The system's calls take paths that are text, so a name that isn't UTF-8 has none.
+pub(crate) fn path_of(place: &[u8]) -> Option<&str> {
+    str::from_utf8(place).ok()
+}
+
+/// The place to which a name leads: behind all links, where it is one.
+pub(crate) fn behind_links(rt: &HostRuntime, alloc: Global, name: &[u8]) -> Result<Bytes, Memory> {
+    let mut place = Bytes::from_slice(alloc, name)?;
+    for _ in 0..MOST_LINKS {
+        match led_to(rt, alloc, place.as_slice())? {
+            Some(next) => place = next,
+            None => break,
+        }
+    }
+    Ok(place)
+}
+
+// Where the link at a place leads: from its own folder, unless from the root on. None where it is no link.
+fn led_to(rt: &HostRuntime, alloc: Global, link: &[u8]) -> Result<Option<Bytes>, Memory> {
+    let Some(path) = path_of(link) else {
+        return Ok(None);
+    };
+    let Ok(text) = fs::read_link(rt, path) else {
+        return Ok(None);
+    };
+    let text = text.as_path().as_str().as_bytes();
+    let from = match link.iter().rposition(|byte| *byte == b'/') {
+        Some(slash) if !text.starts_with(b"/") => slash + 1,
+        _ => 0,
+    };
+    let mut place = Bytes::from_slice(alloc, &link[..from])?;
+    place.append(text)?;
+    Ok(Some(place))
+}
+
+/// Whether there is something at a place that is no file with bytes of its own, as a device.
+pub(crate) fn is_device(rt: &HostRuntime, place: &[u8]) -> bool {
+    let Some(path) = path_of(place) else {
+        return false;
+    };
+    match fs::metadata(rt, path) {
+        Ok(found) => !found.is_file(),
+        Err(_) => false,
+    }
+}

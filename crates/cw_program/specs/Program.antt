@@ -1,0 +1,19 @@
+-- What a program is asked for, and what it has done.
+use Rattle.std.specs.Prelude.{◌≡◌, ℕ, List, drop}
+use Rattle.cw_base.specs.declared.event.Event.{Event}
+use Rattle.cw_base.specs.declared.exit.Exit.{Exit}
+use Rattle.cw_base.specs.declared.exit.Exit.TheVariants.{Clean, Errors, Fault, Memory}
+use Rattle.cw_desk.specs.Journal.{grown, GrownByPart}
+use Rattle.cw_run.specs.Emits.{Run}
+
+-- the words of a command line: all behind the program's own name
+abbrev pub words_of : List (List ℕ) → List (List ℕ)
+words_of line = drop 1 line
+
+-- What a run has done: it emitted exactly the events and answers exactly the status; or a first part of the events,
+-- after a fault of the desk or for want of memory.
+abbrev pub Outcome : Run → List Event → List Event → Exit → Type 0
+Outcome run before now Clean = (now ≡ grown before run.rest) × (run.exit ≡ Clean)
+Outcome run before now Errors = (now ≡ grown before run.rest) × (run.exit ≡ Errors)
+Outcome run before now Fault = GrownByPart before now run.rest
+Outcome run before now Memory = GrownByPart before now run.rest

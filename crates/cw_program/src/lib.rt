@@ -1,0 +1,9 @@
+//! A program from its command line to its status: its words are read, it is run on a desk, its output is gathered, and
+//! handed on at its end.
+#![tactic(auto)]
+
+mod program;
+mod words;
+
+pub use program::{Program, run_program};
+pub use words::command_line;

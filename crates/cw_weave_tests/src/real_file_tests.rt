@@ -1,0 +1,222 @@
+//! Whole runs over real files: the system's answers are those of a desk in memory with these files, and what such a desk
+//! would hold in the end stands in the files.
+use crate::recording::{Heard, Recording};
+use crate::runs::{HELLO, desk_with, line_of, weave};
+use cw_base::{Event, Exit, Memory, Out};
+use cw_desk::{FileDesk, MemDesk};
+use cw_program::run_program;
+use cw_weave::Weaver;
+use std::alloc::Global;
+use std::env::Env;
+use std::fs;
+use std::os::unix::fs::symlink;
+use std::test::Fail;
+use std::time::{SystemTime, UNIX_EPOCH};
+
+/// Files by their names, with their bytes.
+type Files = &'static [(&'static [u8], &'static [u8])];
+
+/// A run over files that are there.
+struct Run {
+    words: &'static [&'static [u8]],
+    files: Files,
+    /// Whether some files would have given all that the system answers.
+    agrees: bool,
+}
+
+const HELLO_TEX: &[u8] = b"\\input cwebmac\n% limbo\n\\M{1}Hello.\n\\fi\n\n\\inx\n\\fin\n\\end\n";
+
+const RUNS: [Run; 9] = [
+    // A file that is missing, one that is read twice, and a path through a file.
+    Run {
+        words: &[b"foo"],
+        files: &[
+            (b"foo.w", b"@i a\n@i b\n@i a\n@i a/b\n@ One.\n"),
+            (b"a", b"% a\n"),
+        ],
+        agrees: true,
+    },
+    Run {
+        words: &[b"foo", b"foo"],
+        files: &[
+            (b"foo.web", b"@ One.\n@c a;\nb;\n"),
+            (b"foo.ch", b"@x\n@c a;\n@y\n@c z;\n@z\n"),
+        ],
+        agrees: true,
+    },
+    // Neither the web nor, with it, the change file is there.
+    Run {
+        words: &[b"foo"],
+        files: &[],
+        agrees: true,
+    },
+    Run {
+        words: &[b"foo", b"bar"],
+        files: &[(b"foo.w", HELLO)],
+        agrees: true,
+    },
+    // The output is written over the web.
+    Run {
+        words: &[b"foo", b"-", b"foo.w"],
+        files: &[(b"foo.w", HELLO)],
+        agrees: true,
+    },
+    // Old files are kept and replaced, and a new one is made.
+    Run {
+        words: &[b"+k", b"foo"],
+        files: &[
+            (b"foo.w", HELLO),
+            (b"foo.tex", HELLO_TEX),
+            (b"foo.idx", b"old"),
+        ],
+        agrees: true,
+    },
+    // An input has the name of a draft.
+    Run {
+        words: &[b"+k", b"foo.tex.new", b"-", b"foo"],
+        files: &[(b"foo.tex.new", HELLO)],
+        agrees: true,
+    },
+    // Two outputs have one name, under which the second finds what the first has left.
+    Run {
+        words: &[b"+k", b"foo", b"-", b"foo.idx"],
+        files: &[(b"foo.w", HELLO), (b"foo.idx", b"old")],
+        agrees: false,
+    },
+    Run {
+        words: &[b"n\xff"],
+        files: &[],
+        agrees: true,
+    },
+];
+
+/// Goes into a new folder, in which the names of a test stand for themselves.
+fn enter_new_folder(rt: HostRuntime) -> Result<(), Fail> {
+    let now = SystemTime::now(&rt)?.duration_since(UNIX_EPOCH)?.as_nanos();
+    let above = std::env::temp_dir(&rt)?;
+    let folder = format!(in rt.alloc(); "{}/cweave-{now}", above.as_str())?;
+    fs::create_dir(&rt, folder.as_str())?;
+    rt.set_current_dir(folder.as_str())?;
+    Ok(())
+}
+
+fn write_files(rt: HostRuntime, files: &[(&[u8], &[u8])]) -> Result<(), Fail> {
+    for (name, bytes) in files {
+        let Ok(name) = str::from_utf8(name) else {
+            return Err(Fail::from("the name of a file is text"));
+        };
+        fs::write(&rt, name, *bytes)?;
+    }
+    Ok(())
+}
+
+fn has_bytes(rt: HostRuntime, name: &str, wanted: &[u8]) -> Result<bool, Fail> {
+    let bytes = fs::read(&rt, name)?;
+    Ok(bytes.as_slice() == wanted)
+}
+
+/// What a run over a recorded desk answers.
+type Answered = (Exit, Vec<Heard>);
+
+fn weave_real(rt: HostRuntime, words: &[&[u8]]) -> Result<Answered, Memory> {
+    let alloc = rt.alloc();
+    let mut desk = Recording::of(alloc, FileDesk::new_in(rt, alloc));
+    let exit = weave(alloc, words, &mut desk)?;
+    let (_, heard) = desk.into_parts();
+    Ok((exit, heard))
+}
+
+fn weave_in_memory(alloc: Global, run: &Run) -> Result<(Answered, MemDesk), Memory> {
+    let mut desk = Recording::of(alloc, desk_with(alloc, run.files)?);
+    let exit = weave(alloc, run.words, &mut desk)?;
+    let (desk, heard) = desk.into_parts();
+    Ok(((exit, heard), desk))
+}
+
+/// The bytes of an output, as a journal has them.
+fn bytes_of(alloc: Global, journal: &[Event], out: Out) -> Result<Vec<u8>, Memory> {
+    let mut bytes = Vec::new(alloc);
+    for event in journal {
+        if let Event::Byte(to, byte) = event {
+            if *to == out {
+                bytes.push(*byte)?;
+            }
+        }
+    }
+    Ok(bytes)
+}
+
+/// Whether each output that a journal has stands in its file.
+fn stands(rt: HostRuntime, journal: &[Event]) -> Result<bool, Fail> {
+    let mut all = true;
+    for event in journal {
+        if let Event::Made(out, name) | Event::Drafted(out, name) = event {
+            let bytes = bytes_of(rt.alloc(), journal, *out)?;
+            let Ok(name) = str::from_utf8(name.as_slice()) else {
+                return Err(Fail::from("the name of an output is text"));
+            };
+            all = all && has_bytes(rt, name, bytes.as_slice())?;
+        }
+    }
+    Ok(all)
+}
+
+/// Whether a run over real files answers as one in memory, and whether its outputs stand in their files.
+fn agree(rt: HostRuntime, run: &Run) -> Result<[bool; 2], Fail> {
+    enter_new_folder(rt)?;
+    write_files(rt, run.files)?;
+    let real = weave_real(rt, run.words)?;
+    let (wanted, desk) = weave_in_memory(rt.alloc(), run)?;
+    Ok([real == wanted, stands(rt, desk.journal())?])
+}
+
+#[test]
+fn real_files_answer_as_files_in_memory(rt: HostRuntime) -> Result<(), Fail> {
+    for run in &RUNS {
+        assert_eq!(rt; agree(rt, run)?, [run.agrees; 2]);
+    }
+    Ok(())
+}
+
+/// The status of the whole program.
+fn status_of(rt: HostRuntime, words: &[&[u8]]) -> Result<u8, Fail> {
+    let alloc = rt.alloc();
+    let line = line_of(alloc, words)?;
+    let (exit, _) = run_program(alloc, &Weaver, &line, FileDesk::new_in(rt, alloc));
+    Ok(exit.code())
+}
+
+/// Words for which a device fails: a folder is no web, an output has no folder, and a device is full.
+const FAILING: [&[&[u8]]; 4] = [
+    &[b"folder"],
+    &[b"foo", b"-", b"none/out"],
+    &[b"foo", b"-", b"full"],
+    &[b"+k", b"foo", b"-", b"full"],
+];
+
+#[test]
+fn a_failing_device_ends_the_program(rt: HostRuntime) -> Result<(), Fail> {
+    enter_new_folder(rt)?;
+    write_files(rt, &[(b"foo.w", HELLO)])?;
+    fs::create_dir(&rt, "folder.w")?;
+    symlink(&rt, "/dev/full", "full.tex")?;
+    for words in &FAILING {
+        assert_eq!(rt; status_of(rt, words)?, 2);
+    }
+    Ok(())
+}
+
+/// A link to an output, and what is written through it.
+#[test]
+fn an_output_is_written_through_a_link(rt: HostRuntime) -> Result<(), Fail> {
+    enter_new_folder(rt)?;
+    fs::create_dir(&rt, "inner")?;
+    write_files(rt, &[(b"foo.w", HELLO), (b"inner/old", b"old")])?;
+    symlink(&rt, "inner/link", "foo.tex")?;
+    symlink(&rt, "old", "inner/link")?;
+    let status = status_of(rt, &[b"+k", b"foo"])?;
+    let is_link = fs::symlink_metadata(&rt, "foo.tex")?.is_symlink();
+    let seen = (status, is_link, has_bytes(rt, "inner/old", HELLO_TEX)?);
+    assert_eq!(rt; seen, (0, true, true));
+    Ok(())
+}

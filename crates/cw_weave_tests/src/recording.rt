@@ -1,0 +1,102 @@
+//! A desk that keeps what the desk below it answers.
+ghost use Rattle.std.specs.Prelude.{◌≡◌};
+
+use cw_base::Out;
+use cw_desk::{Desk, Fetched, FileId, MadeOut, Opened, Taken};
+use std::alloc::Global;
+
+/// An answer about files.
+#[derive(Debug, PartialEq, Drop)]
+pub(crate) enum Heard {
+    Opened(usize),
+    Missing,
+    Read(usize, Vec<u8>),
+    End(usize),
+}
+
+/// A desk, and what it has answered about files so far. What memory was wanting for is left out.
+#[derive(Drop)]
+pub(crate) struct Recording<D: Desk + Drop> {
+    alloc: Global,
+    desk: D,
+    heard: Vec<Heard>,
+}
+
+impl<D: Desk + Drop> Recording<D> {
+    /// Nothing was asked of the desk yet.
+    pub(crate) fn of(alloc: Global, desk: D) -> Recording<D> {
+        Recording {
+            alloc,
+            desk,
+            heard: Vec::new(alloc),
+        }
+    }
+
+    /// Gives the desk back, and what it answered.
+    pub(crate) fn into_parts(self) -> (D, Vec<Heard>) {
+        let Recording {
+            alloc: _,
+            desk,
+            heard,
+        } = self;
+        (desk, heard)
+    }
+
+    fn note(&mut self, heard: Heard)
+        ensures { self.new.desk ≡ self.old.desk }
+    {
+        let _ = self.heard.push(heard);
+    }
+
+    fn note_read(&mut self, id: FileId, bytes: &[u8])
+        ensures { self.new.desk ≡ self.old.desk }
+    {
+        if let Ok(bytes) = Vec::from_slice(self.alloc, bytes) {
+            self.note(Heard::Read(id.index, bytes));
+        }
+    }
+}
+
+impl<D: Desk + Drop> Desk for Recording<D> {
+    ghost told = { λ recording. D.told recording.desk };
+
+    fn open(&mut self, name: &[u8]) -> Opened {
+        let answer = self.desk.open(name);
+        match answer {
+            Opened::File(id) => self.note(Heard::Opened(id.index)),
+            Opened::Missing => self.note(Heard::Missing),
+            Opened::Failed | Opened::Memory => {}
+        }
+        answer
+    }
+
+    fn read(&mut self, id: FileId, buffer: &mut [u8]) -> Fetched {
+        let answer = self.desk.read(id, buffer);
+        match answer {
+            Fetched::Got(count) => self.note_read(id, &buffer[..count]),
+            Fetched::End => self.note(Heard::End(id.index)),
+            Fetched::Failed | Fetched::Memory => {}
+        }
+        answer
+    }
+
+    fn make(&mut self, out: Out, name: &[u8]) -> MadeOut {
+        self.desk.make(out, name)
+    }
+
+    fn draft(&mut self, out: Out, name: &[u8]) -> MadeOut {
+        self.desk.draft(out, name)
+    }
+
+    fn keep(&mut self, out: Out) -> MadeOut {
+        self.desk.keep(out)
+    }
+
+    fn replace(&mut self, out: Out) -> MadeOut {
+        self.desk.replace(out)
+    }
+
+    fn put(&mut self, out: Out, bytes: &[u8]) -> Taken {
+        self.desk.put(out, bytes)
+    }
+}
