@@ -2,6 +2,7 @@
 pub mod Answer
 pub mod Batch
 pub mod BatchLaws
+pub mod Calls
 pub mod Count
 pub mod File
 pub mod Journal

@@ -1,36 +1,81 @@
--- What is noted of each call of the system: its answer.
-use Rattle.std.specs.Prelude.{ℕ, ◌==◌, List, Result, Ok, Err, if◌then◌else◌, take}
+-- What contracts see of the system, and what is noted of each call: its answer.
+use Rattle.std.specs.Prelude.{ℕ, ◌+◌, List, [], ◌∷◌, take}
+use Rattle.cw_base.specs.declared.event.Event.{Event}
+use Rattle.cw_base.specs.declared.event.Event.TheVariants.{Drafted, Kept, Made, Replaced}
 use Rattle.cw_base.specs.declared.event.Out.{Out}
-use Rattle.cw_desk.specs.Answer.{Opened, Missing as missing, Read, End}
-use Rattle.cw_desk.specs.Trail.{Noted, with_answer, with_bytes}
-use Rattle.cw_desk.specs.declared.failure.Failure.{Failure}
-use Rattle.std.specs.declared.io.Error.{Error}
-use Rattle.cw_desk.specs.declared.system.Look.{Look}
-use Rattle.cw_desk.specs.declared.system.Look.TheVariants.{File, Nothing, Failed as look_failed}
-use Rattle.cw_desk.specs.declared.system.Found.{Found}
-use Rattle.cw_desk.specs.declared.system.Found.TheVariants.{Here, Elsewhere, Missing, Failed, Memory}
+use Rattle.cw_desk.specs.Answer.{Answer, Opened as opened, Missing as missing, Read as read, End as ended}
+use Rattle.cw_desk.specs.Journal.{grown}
+use Rattle.cw_desk.specs.Make.{event_after, outputs_after}
+use Rattle.cw_desk.specs.Meaning.{no_outputs, with_draft, with_output, without_draft}
+use Rattle.cw_desk.specs.Put.{put_events}
+use Rattle.cw_desk.specs.declared.outputs.Outputs.{Outputs}
+use Rattle.cw_desk.specs.declared.desk.Opened.{Opened}
+use Rattle.cw_desk.specs.declared.desk.Opened.TheVariants.{File, Missing, Failed, Memory}
+use Rattle.cw_desk.specs.declared.desk.Fetched.{Fetched}
+use Rattle.cw_desk.specs.declared.desk.Fetched.TheVariants.{Got, End, Failed as failed_read, Memory as no_memory}
+use Rattle.cw_desk.specs.declared.desk.MadeOut.{MadeOut}
+use Rattle.cw_desk.specs.declared.desk.Taken.{Taken}
 
-abbrev pub after_look : ℕ → List ℕ → Look → Noted → Noted
-after_look number name (File file) noted = with_answer (Opened number name) noted
-after_look number name Nothing noted = noted
-after_look number name (look_failed error) noted = noted
+pub record SystemState : Type 0 where
+  pub opened : ℕ  -- how many files were opened
+  pub outputs : Outputs  -- which outputs are made, and which have a draft
+  pub heard : List Answer  -- what the system answered, the newest first
+  pub journal : List Event  -- what the system took and did
 
-abbrev pub after_found : ℕ → List ℕ → Found → Noted → Noted
-after_found number name (Here file) noted = with_answer (Opened number name) noted
-after_found number name (Elsewhere file) noted = with_answer (Opened number name) noted
-after_found number name Missing noted = with_answer (missing name) noted
-after_found number name (Failed error) noted = noted
-after_found number name Memory noted = noted
+-- nothing was asked
+abbrev pub untouched : SystemState
+untouched = record { opened = 0; outputs = no_outputs; heard = []; journal = [] }
 
-abbrev pub after_reading : ℕ → List ℕ → Result ℕ Error → Noted → Noted
-after_reading number buffer (Ok n) noted =
-    if n == 0 then with_answer (End number) noted else with_answer (Read number (take n buffer)) noted
-after_reading number buffer (Err error) noted = noted
+-- how many files are open after `open`
+abbrev pub count_after : Opened → ℕ → ℕ
+count_after (File id) count = count + 1
+count_after Missing count = count
+count_after Failed count = count
+count_after Memory count = count
 
-abbrev pub after_writing : Out → List ℕ → Result ℕ Error → Noted → Noted
-after_writing out bytes (Ok n) noted = with_bytes out (take n bytes) noted
-after_writing out bytes (Err error) noted = noted
+-- ## What was heard after a call: just its answer
 
-abbrev pub after_put : Out → List ℕ → Result ℕ Failure → Noted → Noted
-after_put out bytes (Ok n) noted = with_bytes out (take n bytes) noted
-after_put out bytes (Err failure) noted = noted
+abbrev pub heard_after_open : List ℕ → Opened → List Answer → List Answer
+heard_after_open name (File id) heard = opened id.index name ∷ heard
+heard_after_open name Missing heard = missing name ∷ heard
+heard_after_open name Failed heard = heard
+heard_after_open name Memory heard = heard
+
+abbrev pub heard_after_read : ℕ → List ℕ → Fetched → List Answer → List Answer
+heard_after_read index buffer (Got n) heard = read index (take n buffer) ∷ heard
+heard_after_read index buffer End heard = ended index ∷ heard
+heard_after_read index buffer failed_read heard = heard
+heard_after_read index buffer no_memory heard = heard
+
+-- ## The system after each call
+
+abbrev pub after_open : List ℕ → Opened → SystemState → SystemState
+after_open name result s = record s {
+  opened = count_after result s.opened;
+  heard = heard_after_open name result s.heard;
+}
+
+abbrev pub after_read : ℕ → List ℕ → Fetched → SystemState → SystemState
+after_read index buffer result s = record s { heard = heard_after_read index buffer result s.heard }
+
+-- a call that begins or ends an output: after Done the outputs are these, and there is this event more
+abbrev pub turned : Outputs → Event → MadeOut → SystemState → SystemState
+turned done event result s = record s {
+  outputs = outputs_after result done s.outputs;
+  journal = grown s.journal (event_after result event);
+}
+
+abbrev pub after_make : Out → List ℕ → MadeOut → SystemState → SystemState
+after_make out name result s = turned (with_output out s.outputs) (Made out name) result s
+
+abbrev pub after_draft : Out → List ℕ → MadeOut → SystemState → SystemState
+after_draft out name result s = turned (with_draft out s.outputs) (Drafted out name) result s
+
+abbrev pub after_keep : Out → MadeOut → SystemState → SystemState
+after_keep out result s = turned (without_draft out s.outputs) (Kept out) result s
+
+abbrev pub after_replace : Out → MadeOut → SystemState → SystemState
+after_replace out result s = turned (without_draft out s.outputs) (Replaced out) result s
+
+abbrev pub after_put : Out → List ℕ → Taken → SystemState → SystemState
+after_put out bytes result s = record s { journal = grown s.journal (put_events out bytes result) }

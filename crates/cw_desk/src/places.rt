@@ -50,20 +50,62 @@ pub(crate) fn place_in(alloc: Global, folder: &[u8], name: &[u8]) -> Result<Byte
     Ok(place)
 }
 
-/// The place of the draft of a file.
-pub(crate) fn draft_of(alloc: Global, place: &[u8]) -> Result<Bytes, Memory> {
-    let mut draft = Bytes::from_slice(alloc, place)?;
-    draft.append(DRAFT)?;
-    Ok(draft)
-}
-
 /// The path of a place. The system's calls take paths that are text, so a name that isn't UTF-8 has none.
 pub(crate) fn path_of(place: &[u8]) -> Option<&str> {
     str::from_utf8(place).ok()
 }
 
-/// The place to which a name leads: behind all links, where it is one.
-pub(crate) fn behind_links(rt: &HostRuntime, alloc: Global, name: &[u8]) -> Result<Bytes, Memory> {
+/// Where a draft is, and where the file is that it is for.
+#[derive(Drop)]
+pub(crate) enum DraftPlaces {
+    /// A file of its own beside the named one. Where that was found in another folder, there is none at its own place.
+    Beside {
+        draft: Bytes,
+        place: Bytes,
+        is_elsewhere: bool,
+    },
+    /// A device takes the bytes as they come: it has none that could stay.
+    Device(Bytes),
+}
+
+impl DraftPlaces {
+    /// Where the draft of a name is: beside the file to which the name leads.
+    pub(crate) fn of(
+        rt: &HostRuntime,
+        alloc: Global,
+        name: &[u8],
+        is_elsewhere: bool,
+    ) -> Result<DraftPlaces, Memory> {
+        let place = behind_links(rt, alloc, name)?;
+        if is_device(rt, place.as_slice()) {
+            return Ok(DraftPlaces::Device(place));
+        }
+        let draft = draft_of(alloc, place.as_slice())?;
+        Ok(DraftPlaces::Beside {
+            draft,
+            place,
+            is_elsewhere,
+        })
+    }
+
+    /// The place of the file that takes the draft's bytes.
+    pub(crate) fn of_draft(&self) -> &[u8] {
+        match self {
+            DraftPlaces::Beside { draft, .. } => draft.as_slice(),
+            DraftPlaces::Device(place) => place.as_slice(),
+        }
+    }
+}
+
+// The place of the draft of a file.
+fn draft_of(alloc: Global, place: &[u8]) -> Result<Bytes, Memory> {
+    let mut draft = Bytes::from_slice(alloc, place)?;
+    draft.append(DRAFT)?;
+    Ok(draft)
+}
+
+// The place to which a name leads: behind all links, where it is one.
+fn behind_links(rt: &HostRuntime, alloc: Global, name: &[u8]) -> Result<Bytes, Memory> {
     let mut place = Bytes::from_slice(alloc, name)?;
     for _ in 0..MOST_LINKS {
         match led_to(rt, alloc, place.as_slice())? {
@@ -92,8 +134,8 @@ fn led_to(rt: &HostRuntime, alloc: Global, link: &[u8]) -> Result<Option<Bytes>,
     Ok(Some(place))
 }
 
-/// Whether there is something at a place that is no file with bytes of its own, as a device.
-pub(crate) fn is_device(rt: &HostRuntime, place: &[u8]) -> bool {
+// Whether there is something at a place that is no file with bytes of its own, as a device.
+fn is_device(rt: &HostRuntime, place: &[u8]) -> bool {
     let Some(path) = path_of(place) else {
         return false;
     };

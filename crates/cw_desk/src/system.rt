@@ -1,273 +1,207 @@
-//! The calls of the system, with the note behind each. What no proof can know stands here and nowhere else: that the
-//! system was asked, and that the note says what it answered.
-ghost use Rattle.std.specs.Prelude.{◌≡◌, ◌<◌, ◌≤◌, IfOk, OnErr, OnOk, length};
-ghost use Rattle.cw_base.specs.declared.event.Event.TheVariants.{Drafted, Kept, Made, Replaced};
-ghost use Rattle.cw_base.specs.declared.event.Out.TheVariants.{Term};
-ghost use Rattle.cw_desk.specs.Answer.{End as end_of};
-ghost use Rattle.cw_desk.specs.System.{after_look, after_found, after_reading, after_writing};
-ghost use Rattle.cw_desk.specs.Trail.{nothing, noted_after, with_answer, with_event};
+//! The room of the system: its files and outputs, and a note of each answer. What no proof can know stands here and in
+//! the two files below, and nowhere else: that the system was asked, which file was meant, and that the note says what
+//! was answered. No other file can reach the notes.
+ghost use Rattle.std.specs.Prelude.{◌≡◌, ◌<◌, IsTrue, length};
+ghost use Rattle.cw_desk.specs.Meaning.{has_draft, is_open};
+ghost use Rattle.cw_desk.specs.Open.{OpensNext};
+ghost use Rattle.cw_desk.specs.Put.{TakesSome};
+ghost use Rattle.cw_desk.specs.Read.{ReadsSome};
+ghost use Rattle.cw_desk.specs.System.{after_draft, after_keep, after_make, after_open, after_put, after_read};
+ghost use Rattle.cw_desk.specs.System.{after_replace, untouched};
 
+mod calls;
+mod output;
+
+use crate::desk::{Fetched, FileId, MadeOut, Opened, Taken};
 use crate::note::Note;
-use crate::places::{folders_of, path_of, place_in};
-use crate::trail::Trail;
-use cw_base::Out;
+use calls::{Calls, Found};
+use cw_base::{Bytes, Out};
+use output::Output;
 use std::alloc::Global;
-use std::fs::{self, File};
-use std::io::{self, ErrorKind, Read, Write};
+use std::fs::File;
+use std::marker::Model;
 
-/// What is at a place.
-pub(crate) enum Look {
-    File(File),
-    Nothing,
-    Failed(io::Error),
+/// A file that was opened by its name, until its end was read.
+#[derive(Drop)]
+struct Input {
+    name: Bytes,
+    is_elsewhere: bool,
+    file: Option<File>,
 }
 
-/// What is found by a name: its file, at its own place or in a folder in which files are looked for.
-pub(crate) enum Found {
-    Here(File),
-    Elsewhere(File),
-    Missing,
-    Failed(io::Error),
-    Memory,
-}
-
-/// The system, and the trail of what it has answered.
+/// The files and outputs of the system, by their numbers and kinds.
 #[derive(Drop)]
 pub(crate) struct System {
-    pub(crate) rt: HostRuntime,
-    pub(crate) alloc: Global,
-    pub(crate) trail: Trail,
+    calls: Calls,
+    opened: Vec<Input>,
+    tex: Output,
+    idx: Output,
+    scn: Output,
 }
 
-// Whether there is no such file: none of that name, a path through a file that is no folder, or a name that no file can
-// have.
-fn is_missing(error: io::Error) -> bool {
-    matches!(
-        error.kind(),
-        ErrorKind::NotFound
-            | ErrorKind::NotADirectory
-            | ErrorKind::InvalidInput
-            | ErrorKind::InvalidFilename
-    )
+impl Model for System {
+    ghost use Rattle.std.specs.Prelude.{is_some, vec_len};
+    ghost use Rattle.cw_desk.specs.System.{SystemState};
+
+    ghost Value = { SystemState };
+
+    ghost view = { λ s. record {
+      opened = vec_len s.opened;
+      outputs = record {
+        made = record { tex = is_some s.tex.made; idx = is_some s.idx.made; scn = is_some s.scn.made };
+        drafts = record { tex = is_some s.tex.draft; idx = is_some s.idx.draft; scn = is_some s.scn.draft };
+      };
+      heard = s.calls.trail.noted.heard;
+      journal = s.calls.trail.noted.journal;
+    } };
 }
 
 impl System {
-    /// Nothing was asked.
+    /// Nothing was asked of it. It takes no memory.
     pub(crate) fn new(rt: HostRuntime, alloc: Global) -> System
-        ensures { result.trail.noted ≡ nothing }
+        ensures { result ≡ untouched }
     {
         System {
-            rt,
-            alloc,
-            trail: Trail::new(),
+            calls: Calls::new(rt, alloc),
+            opened: Vec::new(alloc),
+            tex: Output::new(),
+            idx: Output::new(),
+            scn: Output::new(),
         }
     }
 
-    // Opens the file of a name at a place.
-    fn look(&mut self, number: usize, name: &[u8], place: &[u8]) -> Look
-        ensures { self.new.trail.noted ≡ after_look number name.now result self.old.trail.noted }
-    {
-        match open_at(&self.rt, place) {
-            Ok(file) => {
-                self.trail.note(Note::Opened(number, name));
-                Look::File(file)
-            }
-            Err(error) if is_missing(error) => Look::Nothing,
-            Err(error) => Look::Failed(error),
-        }
+    /// Where a call has failed, tells on standard error which file it was about and what the system said, behind the
+    /// program's name.
+    pub(crate) fn tell_failure(&self, program: &str) {
+        self.calls.tell_failure(program);
     }
 
-    /// Opens the file of a name: at its own place, or else in the first folder that has it.
-    pub(crate) fn open(&mut self, number: usize, name: &[u8]) -> Found
-        ensures { self.new.trail.noted ≡ after_found number name.now result self.old.trail.noted }
+    /// Opens the file of a name, in the folders of files that are looked for too.
+    pub(crate) fn open(&mut self, name: &[u8]) -> Opened
+        ensures next { OpensNext self.old.opened self.new.opened result }
+        ensures noted { self.new ≡ after_open name.now result self.old }
     {
-        match self.look(number, name, name) {
-            Look::File(file) => Found::Here(file),
-            Look::Failed(error) => Found::Failed(error),
-            Look::Nothing => self.open_elsewhere(number, name),
-        }
-    }
-
-    // Opens the file of a name that has none at its own place.
-    fn open_elsewhere(&mut self, number: usize, name: &[u8]) -> Found
-        ensures { self.new.trail.noted ≡ after_found number name.now result self.old.trail.noted }
-    {
-        let Ok(folders) = folders_of(&self.rt, self.alloc, name) else {
-            return Found::Memory;
+        let index = self.opened.len();
+        let Ok(kept) = self.calls.owned(name) else {
+            return Opened::Memory;
         };
-        for folder in folders.iter() {
-            let Ok(place) = place_in(self.alloc, folder.as_slice(), name) else {
-                return Found::Memory;
-            };
-            match self.look(number, name, place.as_slice()) {
-                Look::Nothing => {}
-                Look::File(file) => return Found::Elsewhere(file),
-                Look::Failed(error) => return Found::Failed(error),
+        if self.opened.reserve(1).is_err() {
+            return Opened::Memory;
+        }
+        let (file, is_elsewhere) = match self.calls.open(index, name) {
+            Found::Here(file) => (file, false),
+            Found::Elsewhere(file) => (file, true),
+            Found::Missing => return Opened::Missing,
+            Found::Failed => return Opened::Failed,
+            Found::Memory => return Opened::Memory,
+        };
+        let input = Input {
+            name: kept,
+            is_elsewhere,
+            file: Some(file),
+        };
+        match self.opened.push(input) {
+            Ok(()) => Opened::File(FileId { index }),
+            Err(_) => Opened::Memory,
+        }
+    }
+
+    /// Reads the next bytes of an opened file into the front of the buffer. A file that has ended stays at its end.
+    pub(crate) fn read(&mut self, id: FileId, buffer: &mut [u8]) -> Fetched
+        requires given { id.index < self.old.opened }
+        requires room { 0 < length buffer.old }
+        ensures some { ReadsSome buffer.new result }
+        ensures noted { self.new ≡ after_read id.index buffer.new result self.old }
+    {
+        let input = &mut self.opened[id.index];
+        let Some(file) = &mut input.file else {
+            self.calls.trail.note(Note::End(id.index));
+            return Fetched::End;
+        };
+        let answer = self.calls.read(file, &input.name, id.index, buffer);
+        if answer == Fetched::End {
+            input.file = None;
+        }
+        answer
+    }
+
+    /// Makes a file, or empties the one that is there. Standard output is there from the start.
+    pub(crate) fn make(&mut self, out: Out, name: &[u8]) -> MadeOut
+        ensures noted { self.new ≡ after_make out name.now result self.old }
+    {
+        match out {
+            Out::Term => {
+                self.calls.trail.note(Note::Made(out, name));
+                MadeOut::Done
             }
+            Out::Tex => self.tex.make(&mut self.calls, out, name),
+            Out::Idx => self.idx.make(&mut self.calls, out, name),
+            Out::Scn => self.scn.make(&mut self.calls, out, name),
         }
-        self.trail.note(Note::Missing(name));
-        Found::Missing
     }
 
-    /// Reads the next bytes of a file into the front of the buffer, and tells how many; 0 at its end.
-    pub(crate) fn read(
-        &mut self,
-        file: &mut File,
-        number: usize,
-        buffer: &mut [u8],
-    ) -> io::Result<usize>
-        ensures some { IfOk result (λ n. n ≤ length buffer.new) }
-        ensures noted { self.new.trail.noted ≡ after_reading number buffer.new result self.old.trail.noted }
+    /// Makes a file for a draft. Standard output takes bytes as they come.
+    pub(crate) fn draft(&mut self, out: Out, name: &[u8]) -> MadeOut
+        ensures noted { self.new ≡ after_draft out name.now result self.old }
     {
-        let count = file.read(buffer)?;
-        match count {
-            0 => self.trail.note(Note::End(number)),
-            _ => self.trail.note(Note::Read(number, &buffer[..count])),
+        let is_elsewhere = self.is_elsewhere(name);
+        match out {
+            Out::Term => {
+                self.calls.trail.note(Note::Drafted(out, name));
+                MadeOut::Done
+            }
+            Out::Tex => self.tex.draft(&mut self.calls, out, name, is_elsewhere),
+            Out::Idx => self.idx.draft(&mut self.calls, out, name, is_elsewhere),
+            Out::Scn => self.scn.draft(&mut self.calls, out, name, is_elsewhere),
         }
-        Ok(count)
     }
 
-    /// Makes a file of a name, or empties the one that is there.
-    pub(crate) fn make(&mut self, out: Out, name: &[u8]) -> io::Result<File>
-        ensures done { OnOk result (self.new.trail.noted ≡ with_event (Made out name.now) self.old.trail.noted) }
-        ensures failed { OnErr result (self.new.trail.noted ≡ self.old.trail.noted) }
-    {
-        let file = create_at(&self.rt, name);
-        self.begun(file, Note::Made(out, name))
-    }
-
-    /// Makes a file for the draft of a named one, at a place of its own.
-    pub(crate) fn draft(&mut self, out: Out, name: &[u8], place: &[u8]) -> io::Result<File>
-        ensures done { OnOk result (self.new.trail.noted ≡ with_event (Drafted out name.now) self.old.trail.noted) }
-        ensures failed { OnErr result (self.new.trail.noted ≡ self.old.trail.noted) }
-    {
-        let file = create_at(&self.rt, place);
-        self.begun(file, Note::Drafted(out, name))
-    }
-
-    // What a call answered that begins an output.
-    fn begun(&mut self, answer: io::Result<File>, beginning: Note<'_>) -> io::Result<File>
-        ensures done { OnOk result (self.new.trail.noted ≡ noted_after beginning.entry self.old.trail.noted) }
-        ensures failed { OnErr result (self.new.trail.noted ≡ self.old.trail.noted) }
-    {
-        let file = answer?;
-        self.trail.note(beginning);
-        Ok(file)
-    }
-
-    /// Removes a draft, since the named file has its bytes.
-    pub(crate) fn keep(&mut self, out: Out, draft: &[u8]) -> io::Result<()>
-        ensures done { OnOk result (self.new.trail.noted ≡ with_event (Kept out) self.old.trail.noted) }
-        ensures failed { OnErr result (self.new.trail.noted ≡ self.old.trail.noted) }
-    {
-        let answer = remove_at(&self.rt, draft);
-        self.ended(answer, Note::Kept(out))
-    }
-
-    /// Gives a draft the place of a named file that has its bytes, but in another folder.
-    pub(crate) fn keep_at(&mut self, out: Out, draft: &[u8], place: &[u8]) -> io::Result<()>
-        ensures done { OnOk result (self.new.trail.noted ≡ with_event (Kept out) self.old.trail.noted) }
-        ensures failed { OnErr result (self.new.trail.noted ≡ self.old.trail.noted) }
-    {
-        let moved = rename_at(&self.rt, draft, place);
-        self.ended(moved, Note::Kept(out))
-    }
-
-    /// Gives a draft the place of the named file.
-    pub(crate) fn replace(&mut self, out: Out, draft: &[u8], place: &[u8]) -> io::Result<()>
-        ensures done { OnOk result (self.new.trail.noted ≡ with_event (Replaced out) self.old.trail.noted) }
-        ensures failed { OnErr result (self.new.trail.noted ≡ self.old.trail.noted) }
-    {
-        let answer = rename_at(&self.rt, draft, place);
-        self.ended(answer, Note::Replaced(out))
-    }
-
-    // What a call answered that ends a draft.
-    fn ended(&mut self, answer: io::Result<()>, end: Note<'_>) -> io::Result<()>
-        ensures done { OnOk result (self.new.trail.noted ≡ noted_after end.entry self.old.trail.noted) }
-        ensures failed { OnErr result (self.new.trail.noted ≡ self.old.trail.noted) }
-    {
-        answer?;
-        self.trail.note(end);
-        Ok(())
-    }
-
-    /// Writes a first part of the bytes to the file of an output, and tells how much.
-    pub(crate) fn write(&mut self, out: Out, file: &mut File, bytes: &[u8]) -> io::Result<usize>
-        ensures some { IfOk result (λ n. (0 < n) × (n ≤ length bytes.now)) }
-        ensures noted { self.new.trail.noted ≡ after_writing out bytes.now result self.old.trail.noted }
-    {
-        let answer = file.write(bytes);
-        self.taken(answer, out, bytes)
-    }
-
-    /// Writes a first part of the bytes to standard output, and tells how much.
-    pub(crate) fn print(&mut self, bytes: &[u8]) -> io::Result<usize>
-        ensures some { IfOk result (λ n. (0 < n) × (n ≤ length bytes.now)) }
-        ensures noted { self.new.trail.noted ≡ after_writing Term bytes.now result self.old.trail.noted }
-    {
-        let answer = io::writer(&self.rt).write(bytes);
-        self.taken(answer, Out::Term, bytes)
-    }
-
-    // What a call answered that writes. That nothing was taken counts as a failure.
-    fn taken(&mut self, answer: io::Result<usize>, out: Out, bytes: &[u8]) -> io::Result<usize>
-        requires { IfOk answer (λ n. n ≤ length bytes.now) }
-        ensures some { IfOk result (λ n. (0 < n) × (n ≤ length bytes.now)) }
-        ensures noted { self.new.trail.noted ≡ after_writing out bytes.now result self.old.trail.noted }
-    {
-        let count = answer?;
-        if count == 0 {
-            return Err(io::Error::from(ErrorKind::WriteZero));
+    // Whether the file of this name was opened last, and found in another folder.
+    fn is_elsewhere(&self, name: &[u8]) -> bool {
+        match self.opened.last() {
+            Some(input) => input.is_elsewhere && input.name.as_slice() == name,
+            None => false,
         }
-        self.trail.note(Note::Took(out, &bytes[..count]));
-        Ok(count)
     }
 
-    // ## What needs no call
-
-    /// A file that has ended stays at its end.
-    pub(crate) fn stays_ended(&mut self, number: usize)
-        ensures { self.new.trail.noted ≡ with_answer (end_of number) self.old.trail.noted }
+    /// Gives a draft up: the named file stays as it is.
+    pub(crate) fn keep(&mut self, out: Out) -> MadeOut
+        requires { IsTrue (has_draft self.old.outputs out) }
+        ensures noted { self.new ≡ after_keep out result self.old }
     {
-        self.trail.note(Note::End(number));
+        match out {
+            Out::Term => MadeOut::Failed,
+            Out::Tex => self.tex.keep(&mut self.calls, out),
+            Out::Idx => self.idx.keep(&mut self.calls, out),
+            Out::Scn => self.scn.keep(&mut self.calls, out),
+        }
     }
 
-    /// Standard output is there from the start, and a device takes bytes as they come: neither is begun or ended as an
-    /// output by a call.
-    pub(crate) fn turns(&mut self, note: Note<'_>)
-        ensures { self.new.trail.noted ≡ noted_after note.entry self.old.trail.noted }
+    /// Puts a draft in the place of the file that it is for.
+    pub(crate) fn replace(&mut self, out: Out) -> MadeOut
+        requires { IsTrue (has_draft self.old.outputs out) }
+        ensures noted { self.new ≡ after_replace out result self.old }
     {
-        self.trail.note(note);
+        match out {
+            Out::Term => MadeOut::Failed,
+            Out::Tex => self.tex.replace(&mut self.calls, out),
+            Out::Idx => self.idx.replace(&mut self.calls, out),
+            Out::Scn => self.scn.replace(&mut self.calls, out),
+        }
     }
-}
 
-// ## The calls by the bytes of a path
-
-fn open_at(rt: &HostRuntime, place: &[u8]) -> io::Result<File> {
-    match path_of(place) {
-        Some(path) => File::open(rt, path),
-        None => Err(io::Error::from(ErrorKind::InvalidFilename)),
-    }
-}
-
-fn create_at(rt: &HostRuntime, place: &[u8]) -> io::Result<File> {
-    match path_of(place) {
-        Some(path) => File::create(rt, path),
-        None => Err(io::Error::from(ErrorKind::InvalidFilename)),
-    }
-}
-
-fn remove_at(rt: &HostRuntime, place: &[u8]) -> io::Result<()> {
-    match path_of(place) {
-        Some(path) => fs::remove_file(rt, path),
-        None => Err(io::Error::from(ErrorKind::InvalidFilename)),
-    }
-}
-
-fn rename_at(rt: &HostRuntime, from: &[u8], to: &[u8]) -> io::Result<()> {
-    match (path_of(from), path_of(to)) {
-        (Some(from), Some(to)) => fs::rename(rt, from, to),
-        _ => Err(io::Error::from(ErrorKind::InvalidFilename)),
+    /// Writes a first part of the bytes, to the draft where there is one, and tells how much.
+    pub(crate) fn put(&mut self, out: Out, bytes: &[u8]) -> Taken
+        requires made { IsTrue (is_open self.old.outputs out) }
+        requires some { 0 < length bytes.now }
+        ensures some { TakesSome bytes.now result }
+        ensures noted { self.new ≡ after_put out bytes.now result self.old }
+    {
+        match out {
+            Out::Term => self.calls.print(bytes),
+            Out::Tex => self.tex.put(&mut self.calls, out, bytes),
+            Out::Idx => self.idx.put(&mut self.calls, out, bytes),
+            Out::Scn => self.scn.put(&mut self.calls, out, bytes),
+        }
     }
 }

@@ -1,6 +1,6 @@
 -- Nothing is noted before the last folder was looked into.
 use Rattle.std.proofs.Common.{◌≡◌}
-use Rattle.cw_desk.proofs.system.System.open_elsewhere.Given as goal
+use Rattle.cw_desk.proofs.system.calls.Calls.open_elsewhere.Given as goal
 
 abbrev pub invariant-loop-folder : goal.invariant-loop-folder
 invariant-loop-folder l = l.self.trail.noted ≡ l.fn.self.trail.noted
