@@ -4,6 +4,8 @@
 #[cfg(test)]
 mod c_text_tests;
 #[cfg(test)]
+mod changing_file_tests;
+#[cfg(test)]
 mod counted_tests;
 #[cfg(test)]
 mod desk_failing_tests;

@@ -1,5 +1,5 @@
-//! Whole runs over real files: the system's answers are those of a desk in memory with these files, and what such a desk
-//! would hold in the end stands in the files.
+//! Whole runs over real files: the system answers as a desk in memory with these files, and what that would hold in the
+//! end stands in the files.
 use crate::recording::{Heard, Recording};
 use crate::runs::{HELLO, desk_with, line_of, weave};
 use cw_base::{Event, Exit, Memory, Out};
@@ -20,13 +20,15 @@ type Files = &'static [(&'static [u8], &'static [u8])];
 struct Run {
     words: &'static [&'static [u8]],
     files: Files,
+    /// Which of these names are links on the system, and where each leads.
+    links: &'static [(&'static str, &'static str)],
     /// Whether some files would have given all that the system answers.
     agrees: bool,
 }
 
 const HELLO_TEX: &[u8] = b"\\input cwebmac\n% limbo\n\\M{1}Hello.\n\\fi\n\n\\inx\n\\fin\n\\end\n";
 
-const RUNS: [Run; 9] = [
+const RUNS: [Run; 11] = [
     // A file that is missing, one that is read twice, and a path through a file.
     Run {
         words: &[b"foo"],
@@ -34,6 +36,7 @@ const RUNS: [Run; 9] = [
             (b"foo.w", b"@i a\n@i b\n@i a\n@i a/b\n@ One.\n"),
             (b"a", b"% a\n"),
         ],
+        links: &[],
         agrees: true,
     },
     Run {
@@ -42,23 +45,27 @@ const RUNS: [Run; 9] = [
             (b"foo.web", b"@ One.\n@c a;\nb;\n"),
             (b"foo.ch", b"@x\n@c a;\n@y\n@c z;\n@z\n"),
         ],
+        links: &[],
         agrees: true,
     },
     // Neither the web nor, with it, the change file is there.
     Run {
         words: &[b"foo"],
         files: &[],
+        links: &[],
         agrees: true,
     },
     Run {
         words: &[b"foo", b"bar"],
         files: &[(b"foo.w", HELLO)],
+        links: &[],
         agrees: true,
     },
     // The output is written over the web.
     Run {
         words: &[b"foo", b"-", b"foo.w"],
         files: &[(b"foo.w", HELLO)],
+        links: &[],
         agrees: true,
     },
     // Old files are kept and replaced, and a new one is made.
@@ -69,29 +76,52 @@ const RUNS: [Run; 9] = [
             (b"foo.tex", HELLO_TEX),
             (b"foo.idx", b"old"),
         ],
+        links: &[],
         agrees: true,
     },
     // An input has the name of a draft.
     Run {
         words: &[b"+k", b"foo.tex.new", b"-", b"foo"],
         files: &[(b"foo.tex.new", HELLO)],
+        links: &[],
         agrees: true,
     },
     // Two outputs have one name, under which the second finds what the first has left.
     Run {
         words: &[b"+k", b"foo", b"-", b"foo.idx"],
         files: &[(b"foo.w", HELLO), (b"foo.idx", b"old")],
+        links: &[],
         agrees: false,
+    },
+    // The same, where the first one isn't there before: a name is missing once and there later.
+    Run {
+        words: &[b"+k", b"foo", b"-", b"foo.idx"],
+        files: &[(b"foo.w", HELLO)],
+        links: &[],
+        agrees: false,
+    },
+    // Two names of one file, and a web behind a link.
+    Run {
+        words: &[b"foo"],
+        files: &[
+            (b"web", b"@i a\n@i b\n@ One.\n"),
+            (b"foo.w", b"@i a\n@i b\n@ One.\n"),
+            (b"a", b"% a\n"),
+            (b"b", b"% a\n"),
+        ],
+        links: &[("foo.w", "web"), ("b", "a")],
+        agrees: true,
     },
     Run {
         words: &[b"n\xff"],
         files: &[],
+        links: &[],
         agrees: true,
     },
 ];
 
 /// Goes into a new folder, in which the names of a test stand for themselves.
-fn enter_new_folder(rt: HostRuntime) -> Result<(), Fail> {
+pub(crate) fn enter_new_folder(rt: HostRuntime) -> Result<(), Fail> {
     let now = SystemTime::now(&rt)?.duration_since(UNIX_EPOCH)?.as_nanos();
     let above = std::env::temp_dir(&rt)?;
     let folder = format!(in rt.alloc(); "{}/cweave-{now}", above.as_str())?;
@@ -106,6 +136,16 @@ fn write_files(rt: HostRuntime, files: &[(&[u8], &[u8])]) -> Result<(), Fail> {
             return Err(Fail::from("the name of a file is text"));
         };
         fs::write(&rt, name, *bytes)?;
+    }
+    Ok(())
+}
+
+// Makes the files of a run, and its links.
+fn make_files(rt: HostRuntime, run: &Run) -> Result<(), Fail> {
+    write_files(rt, run.files)?;
+    for (link, target) in run.links {
+        fs::remove_file(&rt, *link)?;
+        symlink(&rt, *target, *link)?;
     }
     Ok(())
 }
@@ -164,7 +204,7 @@ fn stands(rt: HostRuntime, journal: &[Event]) -> Result<bool, Fail> {
 /// Whether a run over real files answers as one in memory, and whether its outputs stand in their files.
 fn agree(rt: HostRuntime, run: &Run) -> Result<[bool; 2], Fail> {
     enter_new_folder(rt)?;
-    write_files(rt, run.files)?;
+    make_files(rt, run)?;
     let real = weave_real(rt, run.words)?;
     let (wanted, desk) = weave_in_memory(rt.alloc(), run)?;
     Ok([real == wanted, stands(rt, desk.journal())?])
@@ -186,22 +226,92 @@ fn status_of(rt: HostRuntime, words: &[&[u8]]) -> Result<u8, Fail> {
     Ok(exit.code())
 }
 
-/// Words for which a device fails: a folder is no web, an output has no folder, and a device is full.
-const FAILING: [&[&[u8]]; 4] = [
-    &[b"folder"],
-    &[b"foo", b"-", b"none/out"],
-    &[b"foo", b"-", b"full"],
-    &[b"+k", b"foo", b"-", b"full"],
+/// A run in which a device fails.
+struct Failing {
+    words: &'static [&'static [u8]],
+    /// The files that could be read before it.
+    files: Files,
+    /// The call of a desk in memory that fails so.
+    call: u64,
+}
+
+const FAILING: [Failing; 6] = [
+    // A folder can be opened, but not read.
+    Failing {
+        words: &[b"folder"],
+        files: &[(b"folder.w", b"")],
+        call: 2,
+    },
+    // A link leads to itself.
+    Failing {
+        words: &[b"circle"],
+        files: &[],
+        call: 2,
+    },
+    // An included file is a folder, so the web is read in part.
+    Failing {
+        words: &[b"bar"],
+        files: &[(b"bar.w", b"@i folder.w\n@ One.\n"), (b"folder.w", b"")],
+        call: 6,
+    },
+    // An output has no folder.
+    Failing {
+        words: &[b"foo", b"-", b"none/out"],
+        files: &[(b"foo.w", HELLO)],
+        call: 6,
+    },
+    // A device is full.
+    Failing {
+        words: &[b"foo", b"-", b"full"],
+        files: &[(b"foo.w", HELLO)],
+        call: 7,
+    },
+    Failing {
+        words: &[b"+k", b"foo", b"-", b"full"],
+        files: &[(b"foo.w", HELLO), (b"full.tex", b"")],
+        call: 8,
+    },
 ];
+
+/// Makes what the failing runs stumble over.
+fn make_traps(rt: HostRuntime) -> Result<(), Fail> {
+    enter_new_folder(rt)?;
+    write_files(
+        rt,
+        &[(b"foo.w", HELLO), (b"bar.w", b"@i folder.w\n@ One.\n")],
+    )?;
+    fs::create_dir(&rt, "folder.w")?;
+    symlink(&rt, "circle.w", "circle.w")?;
+    symlink(&rt, "/dev/full", "full.tex")?;
+    Ok(())
+}
+
+fn failing_in_memory(alloc: Global, run: &Failing) -> Result<Answered, Memory> {
+    let mut below = desk_with(alloc, run.files)?;
+    below.fail_at(run.call)?;
+    let mut desk = Recording::of(alloc, below);
+    let exit = weave(alloc, run.words, &mut desk)?;
+    let (_, heard) = desk.into_parts();
+    Ok((exit, heard))
+}
+
+#[test]
+fn a_failing_system_answers_as_a_failing_desk(rt: HostRuntime) -> Result<(), Fail> {
+    make_traps(rt)?;
+    for run in &FAILING {
+        assert_eq!(rt;
+            weave_real(rt, run.words)?,
+            failing_in_memory(rt.alloc(), run)?
+        );
+    }
+    Ok(())
+}
 
 #[test]
 fn a_failing_device_ends_the_program(rt: HostRuntime) -> Result<(), Fail> {
-    enter_new_folder(rt)?;
-    write_files(rt, &[(b"foo.w", HELLO)])?;
-    fs::create_dir(&rt, "folder.w")?;
-    symlink(&rt, "/dev/full", "full.tex")?;
-    for words in &FAILING {
-        assert_eq!(rt; status_of(rt, words)?, 2);
+    make_traps(rt)?;
+    for run in &FAILING {
+        assert_eq!(rt; status_of(rt, run.words)?, 2);
     }
     Ok(())
 }

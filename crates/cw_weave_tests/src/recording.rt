@@ -8,8 +8,8 @@ use std::alloc::Global;
 /// An answer about files.
 #[derive(Debug, PartialEq, Drop)]
 pub(crate) enum Heard {
-    Opened(usize),
-    Missing,
+    Opened(usize, Vec<u8>),
+    Missing(Vec<u8>),
     Read(usize, Vec<u8>),
     End(usize),
 }
@@ -48,6 +48,22 @@ impl<D: Desk + Drop> Recording<D> {
         let _ = self.heard.push(heard);
     }
 
+    fn note_opened(&mut self, id: FileId, name: &[u8])
+        ensures { self.new.desk ≡ self.old.desk }
+    {
+        if let Ok(name) = Vec::from_slice(self.alloc, name) {
+            self.note(Heard::Opened(id.index, name));
+        }
+    }
+
+    fn note_missing(&mut self, name: &[u8])
+        ensures { self.new.desk ≡ self.old.desk }
+    {
+        if let Ok(name) = Vec::from_slice(self.alloc, name) {
+            self.note(Heard::Missing(name));
+        }
+    }
+
     fn note_read(&mut self, id: FileId, bytes: &[u8])
         ensures { self.new.desk ≡ self.old.desk }
     {
@@ -63,8 +79,8 @@ impl<D: Desk + Drop> Desk for Recording<D> {
     fn open(&mut self, name: &[u8]) -> Opened {
         let answer = self.desk.open(name);
         match answer {
-            Opened::File(id) => self.note(Heard::Opened(id.index)),
-            Opened::Missing => self.note(Heard::Missing),
+            Opened::File(id) => self.note_opened(id, name),
+            Opened::Missing => self.note_missing(name),
             Opened::Failed | Opened::Memory => {}
         }
         answer

@@ -1,0 +1,10 @@
+-- What a wrong body breaks here has an answer of its own, so that it fails at once.
+use Rattle.std.proofs.Common.{arith}
+use Rattle.std.proofs.lemmas.Grind.{common_steps}
+use Rattle.cw_desk.proofs.system.calls.Calls.read.Goals as goal
+
+pub returns-in-Ok-clause-noted : goal.returns-in-Ok-clause-noted
+returns-in-Ok-clause-noted c = grind (arith, common_steps)
+
+pub returns-in-Ok-eq0-clause-noted : goal.returns-in-Ok-eq0-clause-noted
+returns-in-Ok-eq0-clause-noted c = grind (arith, common_steps)
