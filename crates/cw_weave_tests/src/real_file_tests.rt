@@ -226,6 +226,17 @@ fn status_of(rt: HostRuntime, words: &[&[u8]]) -> Result<u8, Fail> {
     Ok(exit.code())
 }
 
+/// The longest name that a file may have, so that its draft can't be made; first as a word, then as a file's.
+const LONG: &[u8] = b"\
+    a-name-of-251-bytes-that-is-given-as-a-word-------------------------------------------------------\
+    --------------------------------------------------------------------------------------------------\
+    -------------------------------------------------------";
+
+const LONG_TEX: &[u8] = b"\
+    a-name-of-251-bytes-that-is-given-as-a-word-------------------------------------------------------\
+    --------------------------------------------------------------------------------------------------\
+    -------------------------------------------------------.tex";
+
 /// A run in which a device fails.
 struct Failing {
     words: &'static [&'static [u8]],
@@ -235,7 +246,7 @@ struct Failing {
     call: u64,
 }
 
-const FAILING: [Failing; 6] = [
+const FAILING: [Failing; 7] = [
     // A folder can be opened, but not read.
     Failing {
         words: &[b"folder"],
@@ -260,6 +271,12 @@ const FAILING: [Failing; 6] = [
         files: &[(b"foo.w", HELLO)],
         call: 6,
     },
+    // The draft's name is too long.
+    Failing {
+        words: &[b"+k", b"foo", b"-", LONG],
+        files: &[(b"foo.w", HELLO), (LONG_TEX, b"")],
+        call: 7,
+    },
     // A device is full.
     Failing {
         words: &[b"foo", b"-", b"full"],
@@ -273,13 +290,17 @@ const FAILING: [Failing; 6] = [
     },
 ];
 
+/// What is there for the failing runs beside that.
+const WHOLE: [(&[u8], &[u8]); 3] = [
+    (b"foo.w", HELLO),
+    (b"bar.w", b"@i folder.w\n@ One.\n"),
+    (LONG_TEX, b""),
+];
+
 /// Makes what the failing runs stumble over.
 fn make_traps(rt: HostRuntime) -> Result<(), Fail> {
     enter_new_folder(rt)?;
-    write_files(
-        rt,
-        &[(b"foo.w", HELLO), (b"bar.w", b"@i folder.w\n@ One.\n")],
-    )?;
+    write_files(rt, &WHOLE)?;
     fs::create_dir(&rt, "folder.w")?;
     symlink(&rt, "circle.w", "circle.w")?;
     symlink(&rt, "/dev/full", "full.tex")?;
