@@ -251,7 +251,7 @@ const FAILING: [Failing; 7] = [
     Failing {
         words: &[b"folder"],
         files: &[(b"folder.w", b"")],
-        call: 2,
+        call: 3,
     },
     // A link leads to itself.
     Failing {
