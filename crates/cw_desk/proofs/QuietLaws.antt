@@ -1,5 +1,5 @@
 -- What a quiet desk tells is what the desk in memory that it holds tells.
-use Rattle.std.proofs.Common.{◌≡◌, ℕ, ◌==◌, Bool, List, [], if◌then◌else◌, refl, sym, ap, subst, ◌∙◌}
+use Rattle.std.proofs.Common.{◌≡◌, ℕ, ◌==◌, List, [], if◌then◌else◌, sym, ap, subst, ◌∙◌}
 use Rattle.std.specs.List.{list_any}
 use Rattle.cw_desk.specs.Mem.{MemState, called, counted, tell as tell_mem}
 use Rattle.cw_desk.specs.Quiet.{QuietState, as_mem, as_quiet, tell}

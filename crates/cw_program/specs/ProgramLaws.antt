@@ -1,7 +1,7 @@
 -- What was handed on of a run: where the desk above gathered more, a first part of it.
-use Rattle.std.specs.Prelude.{◌≡◌, ◌≢◌, ℕ, ◌+◌, ◌-◌, ◌≤◌, List, [], ◌++◌, take, drop, length, min}
-use Rattle.std.proofs.Common.{sym, ap, ◌∙◌, subst, arith, length-append, refl, append_assoc}
-use Rattle.std.proofs.lemmas.List.{take-append-drop, take-append-le, append-nil, take_all, drop-append-le}
+use Rattle.std.specs.Prelude.{◌≡◌, ◌≢◌, ℕ, ◌+◌, ◌-◌, ◌≤◌, List, [], ◌++◌, take, drop, length}
+use Rattle.std.proofs.Common.{sym, ap, ◌∙◌, subst, arith, length-append, append_assoc}
+use Rattle.std.proofs.lemmas.List.{take-append-drop, take-append-le, take_all}
 use Rattle.std.proofs.Math.Seq.{take-append-add}
 use Rattle.cw_base.specs.declared.event.Event.{Event}
 use Rattle.cw_base.specs.declared.exit.Exit.{Exit}

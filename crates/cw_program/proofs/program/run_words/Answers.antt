@@ -1,5 +1,5 @@
 -- What is handed on at the end is the run, or a first part of it.
-use Rattle.std.proofs.Common.{◌≤◌, List, ℕ, drop, length, ap, subst, arith}
+use Rattle.std.proofs.Common.{List, drop, length, ap, subst, arith}
 use Rattle.std.specs.FinMap.{get}
 use Rattle.cw_base.specs.declared.event.Event.{Event}
 use Rattle.cw_desk.specs.Batch.{Gathering, tell}
