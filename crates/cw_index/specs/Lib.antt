@@ -1,6 +1,7 @@
 -- The definitions of the index, of the section list and of the closing lines, and of the order of entries.
 pub mod Collation
 pub mod CollationLaws
+pub mod Completeness
 pub mod Sorted
 pub mod Mentions
 pub mod Index

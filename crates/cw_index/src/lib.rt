@@ -14,6 +14,6 @@ mod whole;
 pub use closing::write_closing;
 pub use collation::compare_entries;
 pub use index::write_index;
-pub use laws::whole_names_law;
+pub use laws::{index_law, whole_names_law};
 pub use names::write_names;
 pub use whole::are_names_whole;
