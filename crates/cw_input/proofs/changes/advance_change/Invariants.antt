@@ -8,6 +8,7 @@ use Rattle.cw_base.specs.Web.{text_of}
 use Rattle.cw_desk.specs.Meaning.{Files}
 use Rattle.cw_desk.specs.Told.{OnlyReads}
 use Rattle.cw_input.specs.Fold.{advance}
+use Rattle.cw_input.specs.Reading.{ReadsOn}
 use Rattle.cw_input.specs.State.{IsPhase, lines_from, rest_of, state_of}
 use Rattle.cw_input.proofs.changes.advance_change.Given as goal
 
@@ -29,6 +30,7 @@ invariant-lines g l = let told = g.D.Desk.told in record {
       ≡ advance (get files) l.phase (record { file = 1; line = l.line }) (lines_from 1 l.line l.at l.change)
       (state_of l.change l.m);
   same : OnlyReads (told l.fn.desk) (told l.desk);
+  most : ReadsOn l.fn.m.sum l.m.sum (told l.fn.desk) (told l.desk);
 }
 
 abbrev pub decreases-lines : goal.decreases-lines

@@ -1,0 +1,148 @@
+-- How much is read of the files that are opened: nothing at first, and more with each file.
+use Rattle.std.proofs.Common.{◌≡◌, ◌≢◌, ℕ, ◌+◌, ◌<◌, ◌≤◌, List, [], ◌∷◌, ◌++◌, length, sum_by, refl, sym, ap}
+use Rattle.std.proofs.Common.{subst, ◌∙◌, arith, Some, Result, Ok, Err, OnOk}
+use Rattle.std.proofs.lemmas.List.Sums.{sum_by-append}
+use Rattle.std.specs.FinMap.{get}
+use Rattle.cw_base.specs.declared.limits.TheConstants.{INPUT_LIMIT}
+use Rattle.cw_desk.specs.Meaning.{Files}
+use Rattle.cw_desk.specs.Told.{Told, Narrows, Opens}
+use Rattle.cw_desk.specs.declared.desk.FileId.{FileId}
+use Rattle.cw_desk.specs.declared.desk.Opened.TheVariants.{File}
+use Rattle.cw_input.specs.Reading.{AreRead, HasRead, ReadsAtMost, ReadsFirst, ReadsOn, ReadsOnly, ReadsTo}
+use Rattle.cw_input.specs.State.{Moves}
+use Rattle.cw_input.specs.declared.error.LoadError.{LoadError}
+use Rattle.cw_input.specs.declared.found.Found.{Found}
+use Rattle.cw_input.specs.declared.merger.Merger.{Merger}
+
+-- all files from the first on have been read
+are_read-count : (files : Files) (told : Told) (first : ℕ) (read : List (List ℕ)) → AreRead files told first read
+    → told.opened ≡ first + length read
+are_read-count files told first [] each = omega (arith, each)
+are_read-count files told first (bytes ∷ more) each =
+    omega (arith, are_read-count files told (first + 1) more each.1)
+
+-- what is unread of the files that were open
+abbrev SameRests : Files → Told → Told → Type 0
+SameRests files old new = (i : ℕ) → i < old.opened → new.rest files i ≡ old.rest files i
+
+are_read-same : (files : Files) (old new : Told) (first : ℕ) (read : List (List ℕ)) → new.opened ≡ old.opened
+    → SameRests files old new → AreRead files old first read → AreRead files new first read
+are_read-same files old new first [] opened same each = opened ∙ each
+are_read-same files old new first (bytes ∷ more) opened same each =
+    let less : first < old.opened = omega (arith, are_read-count files old (first + 1) more each.1) in (
+      (each.0.0, each.0.1 ∙ ap (λ (rest : List ℕ). Some (bytes ++ rest)) (sym (same first less))),
+      are_read-same files old new (first + 1) more opened same each.1,
+    )
+
+-- a file more is opened and read
+are_read-more : (files : Files) (old new : Told) (first : ℕ) (read : List (List ℕ)) (last : List ℕ)
+    → SameRests files old new → AreRead files new old.opened (last ∷ []) → AreRead files old first read
+    → AreRead files new first (read ++ last ∷ [])
+are_read-more files old new first [] last same done each =
+    subst (λ (n : ℕ). AreRead files new n (last ∷ [])) each done
+are_read-more files old new first (bytes ∷ more) last same done each =
+    let less : first < old.opened = omega (arith, are_read-count files old (first + 1) more each.1) in (
+      (each.0.0, each.0.1 ∙ ap (λ (rest : List ℕ). Some (bytes ++ rest)) (sym (same first less))),
+      are_read-more files old new (first + 1) more last same done each.1,
+    )
+
+sum-more : (read : List (List ℕ)) (last : List ℕ)
+    → sum_by length (read ++ last ∷ []) ≡ sum_by length read + length last
+sum-more read last = grind (arith, sum_by-append length read (last ∷ []))
+
+pub has_read-none : (files : Files) (told : Told) → HasRead files told.opened 0 told
+has_read-none files told = record { read = []; each = refl; within = omega arith }
+
+pub has_read-more : {files : Files} {first a b : ℕ} {told : Told} → a ≤ b → HasRead files first a told
+    → HasRead files first b told
+has_read-more {a = a} {b = b} more had = let within : sum_by length had.read ≤ a = had.within in record {
+  read = had.read;
+  each = had.each;
+  within = omega (arith, more, within);
+}
+
+pub reads_on-none : (sum : ℕ) (told : Told) → ReadsOn sum sum told told
+reads_on-none sum told = record { most = λ files is first had. had }
+
+pub reads_on-same : (sum : ℕ) {old new : Told} → new.opened ≡ old.opened
+    → ((files : Files) → SameRests files old new) → ReadsOn sum sum old new
+reads_on-same sum {old = old} {new = new} opened same = record {
+  most = λ files is first had. record {
+    read = had.read;
+    each = are_read-same files old new first had.read opened (same files) had.each;
+    within = had.within;
+  };
+}
+
+pub reads_on-then : {a b c : ℕ} {first second third : Told} → Narrows second third → ReadsOn a b first second
+    → ReadsOn b c second third → ReadsOn a c first third
+reads_on-then narrows begun ended = record {
+  most = λ files is from had. ended.most files is from (begun.most files (narrows files is) from had);
+}
+
+pub reads_on-more : {a b c : ℕ} {old new : Told} → b ≤ c → ReadsOn a b old new → ReadsOn a c old new
+reads_on-more more reads = record {
+  most = λ files is first had. has_read-more more (reads.most files is first had);
+}
+
+pub reads_on-from : {a b c : ℕ} {old new : Told} → a ≤ b → ReadsOn b c old new → ReadsOn a c old new
+reads_on-from more reads = record {
+  most = λ files is first had. reads.most files is first (has_read-more more had);
+}
+
+other : (i index before : ℕ) → index ≡ before → i < before → i ≢ index
+other i index before is less same = omega (arith, is, less, same)
+
+-- a file is opened and read
+pub reads_on-file : (sum most : ℕ) {name : List ℕ} {id : FileId} {first second third : Told}
+    → Opens name (File id) first second → ReadsOnly id.index second third
+    → ((files : Files) → third.agrees files
+    → ReadsAtMost most (second.rest files id.index) (third.rest files id.index))
+    → ReadsOn sum (sum + most) first third
+reads_on-file sum most {name = name} {id = id} {first = first} {second = second} {third = third} opens same reads =
+    record {
+      most = λ files is from had.
+          let of_file = reads files is in
+          let within : sum_by length had.read ≤ sum = had.within in
+          let text : get files name ≡ Some (of_file.0 ++ third.rest files first.opened) =
+          opens.named files (same.narrows files is)
+          ∙ ap (λ (text : List ℕ). Some text) of_file.1
+          ∙ ap (λ (i : ℕ). Some (of_file.0 ++ third.rest files i)) opens.next.0 in
+          record {
+            read = had.read ++ of_file.0 ∷ [];
+            each = are_read-more files first third from had.read of_file.0
+                (λ i less. same.other_rests files i (other i id.index first.opened opens.next.0 less)
+                ∙ opens.same_rests files i less)
+                ((name, text), same.same_opened ∙ opens.next.1) had.each;
+            within = omega (arith, sum-more had.read of_file.0, within, of_file.2);
+          };
+    }
+
+-- ## Answers
+
+-- nothing more is read
+pub reads_on-kept : {a b : ℕ} (told : Told) → a ≤ b → ReadsOn a b told told
+reads_on-kept {a = a} told less = reads_on-more {b = a} less (reads_on-none a told)
+
+-- a call that reads nothing after others
+pub reads_to-kept : {T : Type 0} {a : ℕ} (m new : Merger) {old now : Told} (result : Result T LoadError)
+    → OnOk result (Moves 0 0 0 0 m new) → m.sum ≤ INPUT_LIMIT → ReadsOn a m.sum old now
+    → ReadsTo a new.sum old now result
+reads_to-kept m new (Ok value) moves less reads =
+    reads_on-more {b = m.sum} (omega (arith, less, moves.of_files, moves.more_files, moves.of_bytes)) reads
+reads_to-kept m new (Err error) moves less reads = reads_on-more {b = m.sum} (omega (arith, less)) reads
+
+-- whatever is answered, at most one byte more than the limit on input
+pub reads_to-within : {T : Type 0} {a : ℕ} (text files text_left files_left : ℕ) (m new : Merger) {old now : Told}
+    (result : Result T LoadError)
+    → OnOk result (Moves text files text_left files_left m new) → ReadsTo a new.sum old now result
+    → ReadsOn a (INPUT_LIMIT + 1) old now
+reads_to-within text files text_left files_left m new (Ok value) moves reads =
+    reads_on-more {b = new.sum} (omega (arith, moves.of_bytes)) reads
+reads_to-within text files text_left files_left m new (Err error) moves reads = reads
+
+-- the file was not there under the first name
+pub reads_first-then : {first second : Told} (third : Told) (result : Result Found LoadError) → Narrows second third
+    → ReadsOn 0 0 first second → ReadsFirst second third result → ReadsFirst first third result
+reads_first-then third (Ok file) narrows begun ended = reads_on-then narrows begun ended
+reads_first-then third (Err error) narrows begun ended = reads_on-then narrows begun ended
