@@ -1,5 +1,4 @@
--- What the reading of one opened file changes of what a desk tells: what of this file is unread. Fewer files may agree
--- with the desk, and the counts of faults and of what was handed on may rise.
+-- How reading changes what a desk tells, and how much is read of one file and of all files together.
 use Rattle.std.specs.Prelude.{◌≡◌, ◌≢◌, ℕ, ◌+◌, ◌≤◌, List, [], ◌∷◌, ◌++◌, length, sum_by, Option, Some, None, Result}
 use Rattle.std.specs.Prelude.{Ok, Err}
 use Rattle.std.specs.FinMap.{get}
@@ -9,6 +8,8 @@ use Rattle.cw_desk.specs.Told.{Told, Narrows}
 use Rattle.cw_input.specs.declared.error.LoadError.{LoadError}
 use Rattle.cw_input.specs.declared.found.Found.{Found}
 
+-- The reading of one opened file changes what of this file is unread. Fewer files may agree with the desk, and the
+-- counts of faults and of what was handed on may rise.
 pub record ReadsOnly (index : ℕ) (old new : Told) : Type 0 where
   pub same_names : new.names ≡ old.names
   pub same_opened : new.opened ≡ old.opened
@@ -31,35 +32,37 @@ most_read room (Err error) = room + 1
 
 -- ## All files together
 
--- The bytes with which the files begin that were opened from a number on: just these were read of each.
+-- Of each file that was opened, from this number on, just these bytes were read: a file begins with them, and the rest
+-- of it is unread.
 abbrev pub AreRead : Files → Told → ℕ → List (List ℕ) → Type 0
 AreRead files told first [] = told.opened ≡ first
 AreRead files told first (bytes ∷ more) =
     ((name : List ℕ) × (get files name ≡ Some (bytes ++ told.rest files first))) × AreRead files told (first + 1) more
 
--- Of all these files together at most so many bytes were read.
+-- Of all files together that were opened, from this number on, at most so many bytes were read.
 pub record HasRead (files : Files) (first most : ℕ) (told : Told) : Type 0 where
   pub read : List (List ℕ)
   pub each : AreRead files told first read
   pub within : sum_by length read ≤ most
 
--- If at most so many bytes had been read before, at most so many have been now.
+-- Calls after which at most so many bytes have been read in all, if at most so many had been before them.
 pub record ReadsOn (before now : ℕ) (old new : Told) : Type 0 where
   pub most : (files : Files) → new.agrees files → (first : ℕ) → HasRead files first before old
       → HasRead files first now new
 
--- the same of a call that looks for a file, when so many bytes had been read, and so many more may be
+-- A call that looks for a file, when so many bytes had been read, and so many more may be: of a file that is there it
+-- reads all, and at an error at most one byte more than may be read.
 abbrev pub ReadsFound : ℕ → ℕ → Told → Told → Result (Option Found) LoadError → Type 0
 ReadsFound sum room old new (Ok None) = ReadsOn sum sum old new
 ReadsFound sum room old new (Ok (Some file)) = ReadsOn sum (sum + length file.bytes) old new
 ReadsFound sum room old new (Err error) = ReadsOn sum (sum + (room + 1)) old new
 
--- of one that looks for the first file
+-- the same of the first file
 abbrev pub ReadsFirst : Told → Told → Result Found LoadError → Type 0
 ReadsFirst old new (Ok file) = ReadsOn 0 (length file.bytes) old new
 ReadsFirst old new (Err error) = ReadsOn 0 (INPUT_LIMIT + 1) old new
 
--- of one that ends with the second sum; at an error at most one byte more than the limit on input
+-- calls that lead from one sum of bytes to another; at an error they read at most one byte past the limit on input
 abbrev pub ReadsTo : {T : Type 0} → ℕ → ℕ → Told → Told → Result T LoadError → Type 0
 ReadsTo before now old new (Ok value) = ReadsOn before now old new
 ReadsTo before now old new (Err error) = ReadsOn before (INPUT_LIMIT + 1) old new
