@@ -16,6 +16,11 @@ returns-in-Err-clause-finds g c = λ files is.
     (ap (option_map made) (ap (get files) (sym c.as_slice.ensures) ∙ c.in-File.ensures.named files before))
     (c.in-Err.ensures.reads files is)
 
+pub returns-in-Missing-clause-finds : goal.returns-in-Missing-clause-finds
+returns-in-Missing-clause-finds g c = λ files is.
+    let made : List ℕ → Found = λ bytes. record { name = c.args.name; bytes = bytes } in
+    ap (option_map made) (ap (get files) (sym c.as_slice.ensures) ∙ c.in-Missing.ensures.named files is)
+
 pub returns-in-Ok-clause-most : goal.returns-in-Ok-clause-most
 returns-in-Ok-clause-most g c sum =
     reads_on-file sum (length c.in-Ok.bytes) c.in-File.ensures c.in-Ok.ensures.same c.in-Ok.ensures.most
