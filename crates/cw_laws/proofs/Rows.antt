@@ -1,0 +1,29 @@
+-- A worked web: its pieces, and the bytes of each.
+use Rattle.std.proofs.Common.{◌≡◌, ℕ, false, List, [], ◌∷◌, codes, refl}
+use Rattle.cw_base.specs.declared.span.Span.{Span}
+use Rattle.cw_base.specs.Web.{MergedLine, text_of}
+use Rattle.cw_phase1.specs.Book.{book}
+use Rattle.cw_phase1.specs.Sections.{span}
+use Rattle.cw_laws.specs.Pieces.{pieces_of, bytes_of, pieces_with}
+
+abbrev line : List ℕ → ℕ → MergedLine
+line text n = record { text = text; place = record { file = 0; line = n }; changed = false }
+
+abbrev web : List MergedLine
+web =
+    line (codes "Limbo.") 1 ∷ line (codes "@*1  One.") 2 ∷ line (codes "@d a 1") 3 ∷ line (codes "@c x;") 4
+    ∷ line (codes "@  Two. @<Read@>= y;") 5 ∷ []
+
+abbrev pieces : List Span
+pieces = pieces_of (book web).limbo (book web).sections
+
+the_pieces : pieces
+    ≡ span 0 7 ∷ span 7 12 ∷ span 12 17 ∷ span 17 24 ∷ span 24 30 ∷ span 30 33 ∷ span 33 38 ∷ span 38 38 ∷ span 38 51
+    ∷ []
+the_pieces = refl
+
+the_bytes : bytes_of (text_of web) pieces ≡ text_of web
+the_bytes = refl
+
+a_code_once : pieces_with 8 pieces ≡ 1
+a_code_once = refl

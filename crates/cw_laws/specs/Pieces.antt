@@ -1,0 +1,64 @@
+-- The pieces of a web: limbo, and of each section its code, its TeX part, its definitions and its C part.
+--
+-- The code of a section is `@` before a blank or a line's end, or `@*` with its depth, and the blanks behind it on its
+-- line. It stands between the part before it and its TeX part. All other codes stand in the part that they begin: `@d`,
+-- `@f` and `@s` in the definitions, and `@c`, `@p` or a name with its sign in the C part.
+use Rattle.std.specs.Prelude.{◌≡◌, ℕ, ◌+◌, ◌<◌, ◌≤◌, Bool, true, ◌&&◌, nat_lt, nat_le, List, [], ◌∷◌, ◌++◌, length, drop}
+use Rattle.std.specs.Prelude.{slice_range, if◌then◌else◌}
+use Rattle.cw_base.specs.declared.span.Span.{Span}
+use Rattle.cw_base.specs.Web.{MergedLine, text_of}
+use Rattle.cw_rules.specs.Tokens.{section_code}
+use Rattle.cw_lex.specs.Parts.{is_section_at}
+use Rattle.cw_phase1.specs.declared.sections.Section.{Section}
+use Rattle.cw_phase1.specs.Book.{book}
+use Rattle.cw_phase1.specs.Sections.{span, is_starred}
+
+-- The pieces of sections, of which the first begins at a place, and each other one where the one before it ends.
+abbrev pub pieces_from : ℕ → List Section → List Span
+pieces_from place [] = []
+pieces_from place (s ∷ sections) =
+    span place s.tex.start ∷ s.tex ∷ s.definitions ∷ s.c_part ∷ pieces_from s.c_part.end sections
+
+abbrev pub pieces_of : Span → List Section → List Span
+pieces_of limbo sections = limbo ∷ pieces_from limbo.end sections
+
+-- Pieces lie end to end from one place up to another: each begins where the one before it ends.
+abbrev pub EndToEnd : ℕ → ℕ → List Span → Type 0
+EndToEnd from end [] = from ≡ end
+EndToEnd from end (piece ∷ pieces) =
+    (piece.start ≡ from) × (piece.start ≤ piece.end) × EndToEnd piece.end end pieces
+
+-- A section begins at a place: its code stands there, and its TeX part begins right behind the code.
+pub record BeginsAt (text : List ℕ) (place : ℕ) (s : Section) : Type 0 where
+  pub code : is_section_at text place ≡ true
+  pub behind : s.tex.start ≡ place + (section_code (drop place text)).size
+  pub starred : s.starred ≡ is_starred (section_code (drop place text)).kind
+
+abbrev pub AreBegun : List ℕ → ℕ → List Section → Type 0
+AreBegun text place [] = Unit {0}
+AreBegun text place (s ∷ sections) = BeginsAt text place s × AreBegun text s.c_part.end sections
+
+-- the bytes of pieces, one behind another
+abbrev pub bytes_of : List ℕ → List Span → List ℕ
+bytes_of text [] = []
+bytes_of text (piece ∷ pieces) = slice_range text piece.start piece.end ++ bytes_of text pieces
+
+-- how many of the pieces have the byte at a place
+abbrev pub has_byte : ℕ → Span → Bool
+has_byte place piece = nat_le piece.start place && nat_lt place piece.end
+
+abbrev pub pieces_with : ℕ → List Span → ℕ
+pieces_with place [] = 0
+pieces_with place (piece ∷ pieces) = (if has_byte place piece then 1 else 0) + pieces_with place pieces
+
+-- Limbo and sections are all of a text: their pieces lie end to end, from its first byte to its last, and each section
+-- begins with its code. So the bytes of the pieces are those of the text, and each byte stands in just one piece.
+pub record IsAllOf (text : List ℕ) (limbo : Span) (sections : List Section) : Type 0 where
+  pub end_to_end : EndToEnd 0 (length text) (pieces_of limbo sections)
+  pub begun : AreBegun text limbo.end sections
+  pub bytes : bytes_of text (pieces_of limbo sections) ≡ text
+  pub once : (place : ℕ) → place < length text → pieces_with place (pieces_of limbo sections) ≡ 1
+
+-- So it is with the book of every web.
+abbrev pub BooksAreWhole : Type 0
+BooksAreWhole = (lines : List MergedLine) → IsAllOf (text_of lines) (book lines).limbo (book lines).sections

@@ -1,0 +1,6 @@
+//! Laws that a reader of the scanner's answers and of the book expects, over the definitions of the crates below.
+#![tactic(auto)]
+
+mod book;
+
+pub use book::book_law;
