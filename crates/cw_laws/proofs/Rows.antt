@@ -1,9 +1,12 @@
--- A worked web: its pieces, and the bytes of each.
-use Rattle.std.proofs.Common.{◌≡◌, ℕ, false, List, [], ◌∷◌, codes, refl}
+-- Worked webs: the pieces of one, and the bytes of each, and where a note lies.
+use Rattle.std.proofs.Common.{◌≡◌, ℕ, false, List, [], ◌∷◌, codes, refl, arith}
 use Rattle.cw_base.specs.declared.span.Span.{Span}
 use Rattle.cw_base.specs.Web.{MergedLine, text_of}
+use Rattle.cw_rules.specs.declared.tokens.Mode.TheVariants as modes
+use Rattle.cw_lex.specs.Lexing.{tokens_of}
 use Rattle.cw_phase1.specs.Book.{book}
 use Rattle.cw_phase1.specs.Sections.{span}
+use Rattle.cw_laws.specs.NotePlaces.{NotesLie}
 use Rattle.cw_laws.specs.Pieces.{pieces_of, bytes_of, pieces_with}
 
 abbrev line : List ℕ → ℕ → MergedLine
@@ -27,3 +30,7 @@ the_bytes = refl
 
 a_code_once : pieces_with 8 pieces ≡ 1
 a_code_once = refl
+
+-- a comment without an end, of which the note tells where it begins
+a_note_lies : NotesLie 0 5 (tokens_of (codes "a /*b") 0 5 modes.CPart)
+a_note_lies = (omega arith, omega arith, tt)

@@ -1,2 +1,3 @@
--- The words of the laws: where the pieces of a web lie.
+-- The words of the laws: where the pieces of a web lie, and where the scanner's notes do.
 pub mod Pieces
+pub mod NotePlaces

@@ -2,5 +2,7 @@
 #![tactic(auto)]
 
 mod book;
+mod scanner;
 
 pub use book::book_law;
+pub use scanner::notes_law;
