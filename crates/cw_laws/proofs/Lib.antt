@@ -5,3 +5,5 @@ pub mod SectionCodes
 pub mod WholeBooks
 pub mod CutNotes
 pub mod NotePlaces
+pub mod HashLines
+pub mod WhiteSpace

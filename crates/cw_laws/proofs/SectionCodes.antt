@@ -65,7 +65,7 @@ noted-coded : (text : List ℕ) (notes : List Noted) → AreCoded text (note_ans
 noted-coded text [] = tt
 noted-coded text (n ∷ notes) = noted-coded text notes
 
-drop-on : (text : List ℕ) (place byte : ℕ) (bytes : List ℕ) → drop place text ≡ byte ∷ bytes → drop (place + 1) text
+pub drop-on : (text : List ℕ) (place byte : ℕ) (bytes : List ℕ) → drop place text ≡ byte ∷ bytes → drop (place + 1) text
     ≡ bytes
 drop-on text place byte bytes h = sym (drop-drop 1 place text) ∙ ap (drop 1) h
 
@@ -95,7 +95,7 @@ section-kind-code at.Section = refl
 section-kind-code at.StarredSection = refl
 section-kind-code _ = refl
 
-section-kind-is : (k : TokKind) → is_section_kind k ≡ is_section (kind_code k)
+pub section-kind-is : (k : TokKind) → is_section_kind k ≡ is_section (kind_code k)
 section-kind-is (kinds.Code c) = section-kind-code c
 section-kind-is _ = refl
 
@@ -116,31 +116,35 @@ taking-coded text place bytes more (Begin x ∷ xs) h t = notes-coded text xs t.
 taking-coded text place bytes more (Finish x ∷ xs) h t = notes-coded text xs t.1
 taking-coded text place bytes more (Note kind about ∷ xs) h t = absurd t
 
-plain-coded : (text : List ℕ) (w : Where) (fresh : Bool) (last place byte : ℕ) (bytes : List ℕ)
+pub no-section : (w : Where) (fresh : Bool) (last place byte : ℕ) (bytes : List ℕ)
     → (byte == at_sign && begins_section bytes) ≡ false
-    → AreCoded text (in_text w.part w.comments fresh last place byte bytes).answers
-plain-coded text w fresh last place byte bytes h =
-    let g = in_text w.part w.comments fresh last place byte bytes in
-    let plain : found w fresh last place byte bytes ≡ g =
-    ap (λ t. if t then section w place bytes else g) h in
-    let t : Takes place (byte ∷ bytes) g = subst (Takes place (byte ∷ bytes)) plain
-    (found-takes w fresh last place byte bytes) in
-    let code : code_in g.answers ≡ code_in t.rest = ap code_in t.split ∙ bare-code place t.first t.rest t.bare in
-    subst (AreCoded text) (sym t.split)
-    (append-coded text t.first t.rest (bare-coded text place t.first t.bare)
-    (taking-coded text place (byte ∷ bytes) g.more t.rest (ap is_section (sym code) ∙ no-section (is_section
-    (code_in g.answers)) refl) t.whole))
+    → is_section (code_in (in_text w.part w.comments fresh last place byte bytes).answers) ≡ false
+no-section w fresh last place byte bytes h =
+    by (is_section (code_in (in_text w.part w.comments fresh last place byte bytes).answers)) refl
   where
-    no-section : (b : Bool)
-        → is_section (code_in (in_text w.part w.comments fresh last place byte bytes).answers) ≡ b
+    by : (b : Bool) → is_section (code_in (in_text w.part w.comments fresh last place byte bytes).answers) ≡ b
         → is_section (code_in (in_text w.part w.comments fresh last place byte bytes).answers) ≡ false
-    no-section false e = e
-    no-section true e =
+    by false e = e
+    by true e =
         let g = in_text w.part w.comments fresh last place byte bytes in
         let told = (in-text-tells w.part w.comments fresh last place byte bytes).code
         (section-opens (code_in g.answers) e) in
         not-both (byte == at_sign && begins_section bytes)
         (both (byte == at_sign) (begins_section bytes) (ap (λ b. b == at_sign) told.0) (ap is_section told.1 ∙ e)) h
+
+plain-coded : (text : List ℕ) (w : Where) (fresh : Bool) (last place byte : ℕ) (bytes : List ℕ)
+    → (byte == at_sign && begins_section bytes) ≡ false
+    → AreCoded text (in_text w.part w.comments fresh last place byte bytes).answers
+plain-coded text w fresh last place byte bytes h =
+    let g = in_text w.part w.comments fresh last place byte bytes in
+    let plain : found w fresh last place byte bytes ≡ g = ap (λ t. if t then section w place bytes else g) h in
+    let t : Takes place (byte ∷ bytes) g = subst (Takes place (byte ∷ bytes)) plain
+    (found-takes w fresh last place byte bytes) in
+    let code : code_in g.answers ≡ code_in t.rest = ap code_in t.split ∙ bare-code place t.first t.rest t.bare in
+    subst (AreCoded text) (sym t.split)
+    (append-coded text t.first t.rest (bare-coded text place t.first t.bare)
+    (taking-coded text place (byte ∷ bytes) g.more t.rest
+    (ap is_section (sym code) ∙ no-section w fresh last place byte bytes h) t.whole))
 
 -- ## All answers
 
