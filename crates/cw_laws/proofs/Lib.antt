@@ -1,5 +1,4 @@
--- The laws: each piece of a web begins where the one before it ends, each section with its code, and each note is about
--- a byte of what was scanned.
+-- The laws of the book and of the scanner's answers.
 mod Rows
 pub mod SectionCodes
 pub mod WholeBooks
@@ -7,3 +6,4 @@ pub mod CutNotes
 pub mod NotePlaces
 pub mod HashLines
 pub mod WhiteSpace
+pub mod Longest

@@ -1,9 +1,14 @@
--- Worked webs: the pieces of one, and the bytes of each, and where a note lies.
-use Rattle.std.proofs.Common.{◌≡◌, ℕ, false, List, [], ◌∷◌, codes, refl, arith}
+-- A worked web with its pieces, and worked C parts with their tokens.
+use Rattle.std.proofs.Common.{◌≡◌, ℕ, false, List, [], ◌∷◌, codes, length, refl, arith}
 use Rattle.cw_base.specs.declared.span.Span.{Span}
 use Rattle.cw_base.specs.Web.{MergedLine, text_of}
 use Rattle.cw_rules.specs.declared.tokens.Mode.TheVariants as modes
+use Rattle.cw_rules.specs.declared.signs.Sign.TheVariants as signs
+use Rattle.cw_rules.specs.declared.tokens.TokKind.{TokKind}
+use Rattle.cw_rules.specs.declared.tokens.TokKind.TheVariants as kinds
+use Rattle.cw_rules.specs.Answers.{Seen}
 use Rattle.cw_lex.specs.Lexing.{tokens_of}
+use Rattle.cw_lex.specs.Openings.{tokens_in}
 use Rattle.cw_phase1.specs.Book.{book}
 use Rattle.cw_phase1.specs.Sections.{span}
 use Rattle.cw_laws.specs.NotePlaces.{NotesLie}
@@ -34,3 +39,22 @@ a_code_once = refl
 -- a comment without an end, of which the note tells where it begins
 a_note_lies : NotesLie 0 5 (tokens_of (codes "a /*b") 0 5 modes.CPart)
 a_note_lies = (omega arith, omega arith, tt)
+
+abbrev kinds_of : List Seen → List TokKind
+kinds_of [] = []
+kinds_of (t ∷ tokens) = t.kind ∷ kinds_of tokens
+
+abbrev kinds_in : List ℕ → List TokKind
+kinds_in text = kinds_of (tokens_in (tokens_of text 0 (length text) modes.CPart))
+
+the_longest : kinds_in (codes "a1+++b")
+    ≡ kinds.Identifier ∷ kinds.Sign signs.PlusPlus ∷ kinds.Sign signs.Plus ∷ kinds.Identifier ∷ []
+the_longest = refl
+
+-- In a `#` line a backslash before the line's end is passed over, and elsewhere it is a token.
+a_hash_line : kinds_in (35 ∷ 120 ∷ 92 ∷ 10 ∷ 121 ∷ 10 ∷ [])
+    ≡ kinds.HashLine ∷ kinds.Identifier ∷ kinds.Identifier ∷ kinds.HashLineEnd ∷ []
+a_hash_line = refl
+
+another_line : kinds_in (120 ∷ 92 ∷ 10 ∷ 121 ∷ 10 ∷ []) ≡ kinds.Identifier ∷ kinds.OtherByte ∷ kinds.Identifier ∷ []
+another_line = refl

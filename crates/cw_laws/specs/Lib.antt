@@ -1,4 +1,6 @@
--- The words of the laws: where the pieces of a web lie, where the scanner's notes do, and what stands between tokens.
+-- The words of the laws: where the pieces of a web lie, where the scanner's notes do, what stands between tokens, and how
+-- long these are.
 pub mod Pieces
 pub mod NotePlaces
 pub mod WhiteSpace
+pub mod Longest

@@ -5,4 +5,4 @@ mod book;
 mod scanner;
 
 pub use book::book_law;
-pub use scanner::{notes_law, white_space_law};
+pub use scanner::{longest_law, notes_law, white_space_law};

@@ -1,4 +1,5 @@
 //! Laws of the scanner's answers.
+ghost use Rattle.cw_laws.specs.Longest.{TokensAreLongest};
 ghost use Rattle.cw_laws.specs.NotePlaces.{NotesLieInTheirText};
 ghost use Rattle.cw_laws.specs.WhiteSpace.{BackslashesContinueHashLines};
 
@@ -12,4 +13,10 @@ pub fn notes_law()
 /// backslash before a line's end. It does nothing: what it ensures is for proofs.
 pub fn white_space_law()
     ensures { BackslashesContinueHashLines }
+{}
+
+/// The law of longest tokens: an identifier, a constant and a sign has as many bytes as can belong to one. It does
+/// nothing: what it ensures is for proofs.
+pub fn longest_law()
+    ensures { TokensAreLongest }
 {}

@@ -1,0 +1,6 @@
+-- Identifiers, constants and signs are the longest that begin at their places.
+use Rattle.cw_laws.proofs.Longest.{tokens-are-longest}
+use Rattle.cw_laws.proofs.scanner.longest_law.Goals as goal
+
+pub returns : goal.returns
+returns c = tokens-are-longest
