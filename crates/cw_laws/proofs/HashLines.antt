@@ -27,7 +27,8 @@ use Rattle.cw_rules.specs.Tokens.{in_hash_line, behind_include, takes_hash_line,
 use Rattle.cw_rules.specs.Tokens.{closes_on_line, moved, passed, one}
 use Rattle.cw_rules.specs.Tokens.{section_name, string, control_text, alone_size, is_quote, control_or_plain, line_end}
 use Rattle.cw_rules.specs.Tokens.{sign_or_other, start_of, is_include, behind_inner, effect_in, may_head}
-use Rattle.cw_rules.specs.Tokens.{is_head, identifier, code_by, in_code, code_text, code_token, comment_text, limbo_by, limbo_text}
+use Rattle.cw_rules.specs.Tokens.{is_head, identifier, code_by, in_code, code_text, code_token, comment_text, limbo_by}
+use Rattle.cw_rules.specs.Tokens.{limbo_text}
 use Rattle.cw_rules.specs.Tokens.{tex_by, tex_text, head_text, name_follows, macro_name, parameter_follows, parameter}
 use Rattle.cw_rules.specs.Tokens.{behind_format, format_name, behind_head, part_text, in_text, found, is_name}
 use Rattle.cw_rules.proofs.Choices.{if-both}

@@ -1,5 +1,6 @@
 -- Identifiers, constants and signs are the longest that begin at their places.
-use Rattle.std.proofs.Common.{◌≡◌, ℕ, zero, suc, ◌+◌, ◌-◌, ◌≤◌, Bool, true, false, ◌&&◌, ◌||◌, not, ◌==◌, nat_lt, nat_le}
+use Rattle.std.proofs.Common.{◌≡◌, ℕ, zero, suc, ◌+◌, ◌-◌, ◌≤◌, Bool, true, false, ◌&&◌, ◌||◌, not, ◌==◌, nat_lt}
+use Rattle.std.proofs.Common.{nat_le}
 use Rattle.std.proofs.Common.{List, [], ◌∷◌, ◌++◌, Option, Some, None, if◌then◌else◌, length, drop, take, refl, sym, ap}
 use Rattle.std.proofs.Common.{subst, ◌∙◌, arith}
 use Rattle.std.proofs.lemmas.Bool.{eqb-true}
@@ -24,11 +25,13 @@ use Rattle.cw_rules.specs.Codes.{code_at, begins_section, effect_in_limbo, effec
 use Rattle.cw_rules.specs.Constants.{constant}
 use Rattle.cw_rules.specs.Signs.{all_signs, longer, longest, spelling}
 use Rattle.cw_rules.specs.Tokens.{in_hash_line, behind_include, takes_hash_line, is_space, is_deep, ends_at_bar}
-use Rattle.cw_rules.specs.Tokens.{closes_on_line, moved, passed, one, comment_end, inner_cut, all_cut, section, is_quote}
+use Rattle.cw_rules.specs.Tokens.{closes_on_line, moved, passed, one, comment_end, inner_cut, all_cut, section}
+use Rattle.cw_rules.specs.Tokens.{is_quote}
 use Rattle.cw_rules.specs.Tokens.{section_code, section_name, string, control_text, alone_size, control_or_plain}
 use Rattle.cw_rules.specs.Tokens.{line_end, sign_or_other, start_of, effect_in, code_by, in_code, code_text, code_token}
 use Rattle.cw_rules.specs.Tokens.{comment_text, limbo_by, limbo_text, tex_by, tex_text, name_follows}
-use Rattle.cw_rules.specs.Tokens.{macro_name, parameter_follows, parameter, format_name, behind_head, part_text, in_text}
+use Rattle.cw_rules.specs.Tokens.{macro_name, parameter_follows, parameter, format_name, behind_head, part_text}
+use Rattle.cw_rules.specs.Tokens.{in_text}
 use Rattle.cw_rules.specs.Tokens.{found, is_name, include_name, piece_start}
 use Rattle.cw_rules.specs.Bodies.{one_note, note_unless, noted}
 use Rattle.cw_base.specs.declared.notes.NoteKind.{NoteKind}
@@ -318,7 +321,8 @@ module _ (text : List ℕ) where
 
   behind-head-longest : (limbo : Bool) (w : Where) (fresh : Bool) (last place byte : ℕ) (bytes : List ℕ)
       → drop place text ≡ byte ∷ bytes → Longest (behind_head limbo w fresh last place byte bytes)
-  behind-head-longest true w fresh last place byte bytes here = limbo-text-longest (moved w parts.Limbo) place byte bytes
+  behind-head-longest true w fresh last place byte bytes here =
+      limbo-text-longest (moved w parts.Limbo) place byte bytes
   behind-head-longest false w fresh last place byte bytes here =
       code-text-longest (moved w parts.Definition) fresh last place byte bytes here
 
@@ -345,12 +349,14 @@ module _ (text : List ℕ) where
       (λ h. behind-head-longest limbo w fresh last place byte bytes here)
   part-text-longest parts.TexInner w fresh last place byte bytes here =
       code-text-longest w fresh last place byte bytes here
-  part-text-longest parts.Begin w fresh last place byte bytes here = code-text-longest w fresh last place byte bytes here
+  part-text-longest parts.Begin w fresh last place byte bytes here =
+      code-text-longest w fresh last place byte bytes here
   part-text-longest (parts.Plain hash_line include) w fresh last place byte bytes here =
       code-text-longest w fresh last place byte bytes here
   part-text-longest parts.Definition w fresh last place byte bytes here =
       code-text-longest w fresh last place byte bytes here
-  part-text-longest parts.Inner w fresh last place byte bytes here = code-text-longest w fresh last place byte bytes here
+  part-text-longest parts.Inner w fresh last place byte bytes here =
+      code-text-longest w fresh last place byte bytes here
 
   in-text-longest : (part : Part) (comments : List Opened) (fresh : Bool) (last place byte : ℕ) (bytes : List ℕ)
       → drop place text ≡ byte ∷ bytes → Longest (in_text part comments fresh last place byte bytes)

@@ -1,6 +1,7 @@
 -- Between the bytes of answers stands only white space, and a backslash only in a `#` line.
 use Rattle.std.proofs.Common.{◌≡◌, ℕ, zero, suc, ◌+◌, ◌-◌, ◌<◌, ◌≤◌, Bool, true, false, ◌&&◌, ◌||◌, ◌==◌, List, [], ◌∷◌}
-use Rattle.std.proofs.Common.{◌++◌, Option, Some, None, if◌then◌else◌, length, take, drop, refl, sym, ap, subst, ◌∙◌, arith}
+use Rattle.std.proofs.Common.{◌++◌, Option, Some, None, if◌then◌else◌, length, take, drop, refl, sym, ap, subst, ◌∙◌}
+use Rattle.std.proofs.Common.{arith}
 use Rattle.std.proofs.Common.{append_assoc, length-drop, append-nil, ◌⊎◌, inl, inr}
 use Rattle.std.proofs.lemmas.Bool.{cases_lt, eqb-true}
 use Rattle.std.proofs.lemmas.List.{length-take}
@@ -225,7 +226,8 @@ answers-leave text (byte ∷ bytes) w fresh last place zero from line here size 
     let fits = found-fits w fresh last place byte bytes in
     let e : place + 0 ≡ place = omega arith in
     found-leaves text line from place (length text) (byte ∷ bytes) f _ (found-takes w fresh last place byte bytes)
-    (λ n s. subst (λ l. begins_space_in line l ≡ true) (sym here) (found-space w fresh last place byte bytes line h n s))
+    (λ n s. subst (λ l. begins_space_in line l ≡ true) (sym here)
+    (found-space w fresh last place byte bytes line h n s))
     (omega (arith, low)) (more-space text line from (place + 0) place e space)
     (λ low least space. answers-leave text bytes f.next (still_fresh fresh byte) byte (place + 1) f.more low
     (line_after line (kind_in f.answers)) (drop-on text place byte bytes here) (omega (arith, size))

@@ -17,7 +17,8 @@ use Rattle.cw_phase1.specs.declared.sections.Section.{Section}
 use Rattle.cw_phase1.specs.Book.{answers_of}
 use Rattle.cw_phase1.specs.Entering.{kept_behind}
 use Rattle.cw_phase1.specs.Roles.{Placed, at_limbo, token_step, behind_begin, placed, placed_from}
-use Rattle.cw_phase1.specs.Sections.{span, is_starred, is_section_code, ends_section, first_start, section_at, sections_of}
+use Rattle.cw_phase1.specs.Sections.{span, is_starred, is_section_code, ends_section, first_start, section_at}
+use Rattle.cw_phase1.specs.Sections.{sections_of}
 use Rattle.cw_phase1.specs.Sound.{LiesIn}
 use Rattle.cw_phase1.proofs.PartEnds.{plain-role}
 use Rattle.cw_phase1.proofs.SpanLaws.{Follow, follows, all-lie}

@@ -1,5 +1,5 @@
--- The words of the laws: where the pieces of a web lie, where the scanner's notes do, what stands between tokens, and how
--- long these are.
+-- The words of the laws: where the pieces of a web lie, where the scanner's notes do, what stands between tokens, and
+-- how long these are.
 pub mod Pieces
 pub mod NotePlaces
 pub mod WhiteSpace

@@ -3,7 +3,8 @@
 -- The code of a section is `@` before a blank or a line's end, or `@*` with its depth, and the blanks behind it on its
 -- line. It stands between the part before it and its TeX part. All other codes stand in the part that they begin: `@d`,
 -- `@f` and `@s` in the definitions, and `@c`, `@p` or a name with its sign in the C part.
-use Rattle.std.specs.Prelude.{◌≡◌, ℕ, ◌+◌, ◌<◌, ◌≤◌, Bool, true, ◌&&◌, nat_lt, nat_le, List, [], ◌∷◌, ◌++◌, length, drop}
+use Rattle.std.specs.Prelude.{◌≡◌, ℕ, ◌+◌, ◌<◌, ◌≤◌, Bool, true, ◌&&◌, nat_lt, nat_le, List, [], ◌∷◌, ◌++◌, length}
+use Rattle.std.specs.Prelude.{drop}
 use Rattle.std.specs.Prelude.{slice_range, if◌then◌else◌}
 use Rattle.cw_base.specs.declared.span.Span.{Span}
 use Rattle.cw_base.specs.Web.{MergedLine, text_of}
