@@ -1,6 +1,8 @@
 -- The laws of the book and of the scanner's answers.
 mod Rows
 pub mod SectionCodes
+pub mod Openers
+pub mod PartCodes
 pub mod WholeBooks
 pub mod CutNotes
 pub mod NotePlaces

@@ -20,10 +20,13 @@ use Rattle.cw_phase1.specs.Roles.{Placed, at_limbo, token_step, behind_begin, pl
 use Rattle.cw_phase1.specs.Sections.{span, is_starred, is_section_code, ends_section, first_start, section_at}
 use Rattle.cw_phase1.specs.Sections.{sections_of}
 use Rattle.cw_phase1.specs.Sound.{LiesIn}
-use Rattle.cw_phase1.proofs.PartEnds.{plain-role}
+use Rattle.cw_phase1.specs.declared.roles.Part.TheVariants as parts
+use Rattle.cw_phase1.proofs.PartEnds.{plain-role, section-part}
 use Rattle.cw_phase1.proofs.SpanLaws.{Follow, follows, all-lie}
 use Rattle.cw_laws.specs.Pieces.{pieces_from, pieces_of, EndToEnd, BeginsAt, AreBegun, bytes_of, has_byte, pieces_with}
 use Rattle.cw_laws.specs.Pieces.{IsAllOf, BooksAreWhole}
+use Rattle.cw_laws.proofs.Openers.{AreOpeners, openers}
+use Rattle.cw_laws.proofs.PartCodes.{IsBefore, definitions-begin, c-part-begins}
 use Rattle.cw_laws.proofs.SectionCodes.{IsCodeAt, AreCoded, coded}
 
 -- ## Pieces lie end to end
@@ -81,25 +84,34 @@ kind-of-role s t answers h = by (is_section_kind t.kind) refl
     by true e = e
     by false e = not-both _ h (plain-role s t answers e)
 
-section-begins : (text : List ℕ) (lines : List MergedLine) (size : ℕ) (t : Seen) (ps : List Placed) → IsCodeAt text t
-    → BeginsAt text t.span.start (section_at lines size t ps)
-section-begins text lines size t ps c = record { code = c.stands; behind = c.size; starred = ap is_starred c.kind }
+-- a section begins with its code, and its parts with codes of theirs
+section-begins : (text : List ℕ) (lines : List MergedLine) (size : ℕ) (t : Seen) (next : Standing)
+    (kept : List SecName) (answers : List Answer) → next.part ≡ parts.Tex → IsCodeAt text t → AreOpeners text answers
+    → BeginsAt text t.span.start (section_at lines size t (placed_from next kept answers))
+section-begins text lines size t next kept answers e c o = record {
+  code = c.stands;
+  behind = c.size;
+  starred = ap is_starred c.kind;
+  definitions = definitions-begin text size next kept answers e o;
+  c_part = c-part-begins text size next kept answers (subst IsBefore (sym e) tt) o;
+}
 
 begun : (text : List ℕ) (lines : List MergedLine) (size : ℕ) (s : Standing) (kept : List SecName)
-    (answers : List Answer) → AreCoded text answers
+    (answers : List Answer) → AreCoded text answers → AreOpeners text answers
     → AreBegun text (first_start ends_section size (placed_from s kept answers))
     (sections_of lines size (placed_from s kept answers))
-begun text lines size s kept [] c = tt
-begun text lines size s kept (Token t ∷ answers) c =
+begun text lines size s kept [] c o = tt
+begun text lines size s kept (Token t ∷ answers) c o =
     let step = token_step t.kind (has_sign answers) s t.span in
     let ps = placed_from step.next (kept_behind t kept) answers in
     begun-by text (is_section_code step.role) t.span.start (first_start ends_section size ps)
     (section_at lines size t ps) (sections_of lines size ps)
-    (λ h. section-begins text lines size t ps (c.0 (kind-of-role s t answers h))) refl
-    (begun text lines size step.next (kept_behind t kept) answers c.1)
-begun text lines size s kept (Begin t ∷ answers) c = begun text lines size (behind_begin s) kept answers c
-begun text lines size s kept (Finish t ∷ answers) c = begun text lines size s kept answers c
-begun text lines size s kept (Note kind place ∷ answers) c = begun text lines size s kept answers c
+    (λ h. let k = kind-of-role s t answers h in
+    section-begins text lines size t step.next (kept_behind t kept) answers (section-part s t answers k) (c.0 k) o.1)
+    refl (begun text lines size step.next (kept_behind t kept) answers c.1 o.1)
+begun text lines size s kept (Begin t ∷ answers) c o = begun text lines size (behind_begin s) kept answers c o
+begun text lines size s kept (Finish t ∷ answers) c o = begun text lines size s kept answers c o
+begun text lines size s kept (Note kind place ∷ answers) c o = begun text lines size s kept answers c o
 
 -- ## No byte is lost
 
@@ -190,5 +202,7 @@ books-are-whole lines =
     (tokens-cover text 0 size modes.Limbo (omega arith) (omega arith)) in
     let c : AreCoded text scanned = subst (AreCoded text) all
     (coded text text (beginning modes.Limbo) (fresh_at text 0) (last_at text 0) 0 0 refl) in
+    let o : AreOpeners text scanned = subst (AreOpeners text) all
+    (openers text text (beginning modes.Limbo) (fresh_at text 0) (last_at text 0) 0 0 refl) in
     whole text (span 0 (first_start ends_section size ps)) (sections_of lines size ps)
-    (refl, omega arith, lie lines 0 size ps f) (begun text lines size at_limbo [] scanned c)
+    (refl, omega arith, lie lines 0 size ps f) (begun text lines size at_limbo [] scanned c o)
