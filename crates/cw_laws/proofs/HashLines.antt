@@ -1,6 +1,6 @@
 -- A `#` line goes on behind what begins at a place only as its tokens say, and a backslash is passed over only in one.
-use Rattle.std.proofs.Common.{◌≡◌, ℕ, Bool, true, false, ◌&&◌, not, ◌==◌, nat_lt, List, [], ◌∷◌, ◌++◌, Option}
-use Rattle.std.proofs.Common.{Some, None, if◌then◌else◌, drop, refl, sym, ap, ◌∙◌, ◌⊎◌, inl, inr}
+use Rattle.std.proofs.Common.{◌≡◌, ℕ, Bool, true, false, ◌&&◌, not, ◌==◌, nat_lt, List, [], ◌∷◌, ◌++◌, Option, Some}
+use Rattle.std.proofs.Common.{None, if◌then◌else◌, drop, refl, sym, ap, ◌∙◌, ◌⊎◌, inl, inr}
 use Rattle.cw_base.proofs.TestLaws.{both-left, both-right}
 use Rattle.cw_base.specs.declared.notes.NoteKind.{NoteKind}
 use Rattle.cw_rules.specs.declared.bodies.Noted.{Noted}
@@ -24,13 +24,12 @@ use Rattle.cw_rules.specs.Codes.{code_at, effect_in_limbo, effect_in_tex, has_co
 use Rattle.cw_rules.specs.Constants.{constant}
 use Rattle.cw_rules.specs.Signs.{all_signs, longest}
 use Rattle.cw_rules.specs.Tokens.{in_hash_line, behind_include, takes_hash_line, is_space, is_deep, ends_at_bar}
-use Rattle.cw_rules.specs.Tokens.{closes_on_line, moved, passed, one}
-use Rattle.cw_rules.specs.Tokens.{section_name, string, control_text, alone_size, is_quote, control_or_plain, line_end}
-use Rattle.cw_rules.specs.Tokens.{sign_or_other, start_of, is_include, behind_inner, effect_in, may_head}
-use Rattle.cw_rules.specs.Tokens.{is_head, identifier, code_by, in_code, code_text, code_token, comment_text, limbo_by}
-use Rattle.cw_rules.specs.Tokens.{limbo_text}
-use Rattle.cw_rules.specs.Tokens.{tex_by, tex_text, head_text, name_follows, macro_name, parameter_follows, parameter}
-use Rattle.cw_rules.specs.Tokens.{behind_format, format_name, behind_head, part_text, in_text, found, is_name}
+use Rattle.cw_rules.specs.Tokens.{closes_on_line, moved, passed, one, section_name, string, control_text, alone_size}
+use Rattle.cw_rules.specs.Tokens.{is_quote, control_or_plain, line_end, sign_or_other, start_of, is_include}
+use Rattle.cw_rules.specs.Tokens.{behind_inner, effect_in, may_head, is_head, identifier, code_by, in_code, code_text}
+use Rattle.cw_rules.specs.Tokens.{code_token, comment_text, limbo_by, limbo_text, tex_by, tex_text, head_text}
+use Rattle.cw_rules.specs.Tokens.{name_follows, macro_name, parameter_follows, parameter, behind_format, format_name}
+use Rattle.cw_rules.specs.Tokens.{behind_head, part_text, in_text, found, is_name}
 use Rattle.cw_rules.proofs.Choices.{if-both}
 use Rattle.cw_laws.specs.WhiteSpace.{line_by}
 

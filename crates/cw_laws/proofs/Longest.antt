@@ -1,8 +1,7 @@
 -- Identifiers, constants and signs are the longest that begin at their places.
 use Rattle.std.proofs.Common.{◌≡◌, ℕ, zero, suc, ◌+◌, ◌-◌, ◌≤◌, Bool, true, false, ◌&&◌, ◌||◌, not, ◌==◌, nat_lt}
-use Rattle.std.proofs.Common.{nat_le}
-use Rattle.std.proofs.Common.{List, [], ◌∷◌, ◌++◌, Option, Some, None, if◌then◌else◌, length, drop, take, refl, sym, ap}
-use Rattle.std.proofs.Common.{subst, ◌∙◌, arith}
+use Rattle.std.proofs.Common.{nat_le, List, [], ◌∷◌, ◌++◌, Option, Some, None, if◌then◌else◌, length, drop, take, refl}
+use Rattle.std.proofs.Common.{sym, ap, subst, ◌∙◌, arith}
 use Rattle.std.proofs.lemmas.Bool.{eqb-true}
 use Rattle.cw_rules.specs.declared.bodies.Noted.{Noted}
 use Rattle.cw_rules.specs.declared.classes.Class.TheVariants as classes
@@ -26,13 +25,11 @@ use Rattle.cw_rules.specs.Constants.{constant}
 use Rattle.cw_rules.specs.Signs.{all_signs, longer, longest, spelling}
 use Rattle.cw_rules.specs.Tokens.{in_hash_line, behind_include, takes_hash_line, is_space, is_deep, ends_at_bar}
 use Rattle.cw_rules.specs.Tokens.{closes_on_line, moved, passed, one, comment_end, inner_cut, all_cut, section}
-use Rattle.cw_rules.specs.Tokens.{is_quote}
-use Rattle.cw_rules.specs.Tokens.{section_code, section_name, string, control_text, alone_size, control_or_plain}
-use Rattle.cw_rules.specs.Tokens.{line_end, sign_or_other, start_of, effect_in, code_by, in_code, code_text, code_token}
-use Rattle.cw_rules.specs.Tokens.{comment_text, limbo_by, limbo_text, tex_by, tex_text, name_follows}
-use Rattle.cw_rules.specs.Tokens.{macro_name, parameter_follows, parameter, format_name, behind_head, part_text}
-use Rattle.cw_rules.specs.Tokens.{in_text}
-use Rattle.cw_rules.specs.Tokens.{found, is_name, include_name, piece_start}
+use Rattle.cw_rules.specs.Tokens.{is_quote, section_code, section_name, string, control_text, alone_size}
+use Rattle.cw_rules.specs.Tokens.{control_or_plain, line_end, sign_or_other, start_of, effect_in, code_by, in_code}
+use Rattle.cw_rules.specs.Tokens.{code_text, code_token, comment_text, limbo_by, limbo_text, tex_by, tex_text}
+use Rattle.cw_rules.specs.Tokens.{name_follows, macro_name, parameter_follows, parameter, format_name, behind_head}
+use Rattle.cw_rules.specs.Tokens.{part_text, in_text, found, is_name, include_name, piece_start}
 use Rattle.cw_rules.specs.Bodies.{one_note, note_unless, noted}
 use Rattle.cw_base.specs.declared.notes.NoteKind.{NoteKind}
 use Rattle.cw_rules.proofs.Choices.{if-both}

@@ -1,7 +1,6 @@
 -- Each note is about a byte of what was scanned: of the token that begins, or of what is open.
 use Rattle.std.proofs.Common.{◌≡◌, ℕ, zero, suc, ◌+◌, ◌-◌, ◌<◌, ◌≤◌, Bool, true, false, ◌&&◌, ◌||◌, not, ◌==◌, nat_lt}
-use Rattle.std.proofs.Common.{List}
-use Rattle.std.proofs.Common.{[], ◌∷◌, ◌++◌, Option, Some, None, length, drop, take, refl, sym, subst, arith}
+use Rattle.std.proofs.Common.{List, [], ◌∷◌, ◌++◌, Option, Some, None, length, drop, take, refl, sym, subst, arith}
 use Rattle.std.proofs.Common.{length-drop}
 use Rattle.std.proofs.lemmas.List.{length-take}
 use Rattle.cw_base.specs.declared.notes.NoteKind.{NoteKind}
@@ -29,12 +28,11 @@ use Rattle.cw_rules.specs.Constants.{constant}
 use Rattle.cw_rules.specs.Signs.{all_signs, longest, spelling}
 use Rattle.cw_rules.specs.Tokens.{in_hash_line, behind_include, takes_hash_line, is_space, is_deep, ends_at_bar}
 use Rattle.cw_rules.specs.Tokens.{closes_on_line, moved, passed, one, skipped_byte, missing_brace, comment_end}
-use Rattle.cw_rules.specs.Tokens.{inner_cut}
-use Rattle.cw_rules.specs.Tokens.{comment_cut, part_cut, inner_or_none, all_cut, section, section_code, line_end}
-use Rattle.cw_rules.specs.Tokens.{sign_or_other, start_of, is_include, behind_word, behind_inner, effect_in}
+use Rattle.cw_rules.specs.Tokens.{inner_cut, comment_cut, part_cut, inner_or_none, all_cut, section, section_code}
+use Rattle.cw_rules.specs.Tokens.{line_end, sign_or_other, start_of, is_include, behind_word, behind_inner, effect_in}
 use Rattle.cw_rules.specs.Tokens.{may_head, is_head, code_by, in_code, code_text, identifier, string, code_token}
-use Rattle.cw_rules.specs.Tokens.{dropped_code, include_name, piece_start, comment_text, limbo_by, limbo_text}
-use Rattle.cw_rules.specs.Tokens.{tex_by, tex_text, head_text, name_follows, macro_name, parameter_follows, parameter}
+use Rattle.cw_rules.specs.Tokens.{dropped_code, include_name, piece_start, comment_text, limbo_by, limbo_text, tex_by}
+use Rattle.cw_rules.specs.Tokens.{tex_text, head_text, name_follows, macro_name, parameter_follows, parameter}
 use Rattle.cw_rules.specs.Tokens.{behind_format, format_name, behind_head, part_text, in_text, found, is_name}
 use Rattle.cw_rules.proofs.Choices.{if-both}
 use Rattle.cw_lex.specs.Lexing.{still_fresh, answers, fresh_at, last_at, beginning, tokens_of}

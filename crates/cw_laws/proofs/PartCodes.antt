@@ -1,6 +1,6 @@
 -- The definitions and the C part of a section begin with codes of theirs, where they aren't empty.
-use Rattle.std.proofs.Common.{◌≡◌, ℕ, ◌+◌, Bool, true, false, ◌||◌, not, List, [], ◌∷◌, Some, None, drop, refl, sym}
-use Rattle.std.proofs.Common.{ap, subst, ◌∙◌, inl, inr}
+use Rattle.std.proofs.Common.{◌≡◌, ℕ, ◌+◌, Bool, true, false, ◌||◌, not, List, [], ◌∷◌, Some, None, drop, refl, sym, ap}
+use Rattle.std.proofs.Common.{subst, ◌∙◌, inl, inr}
 use Rattle.cw_base.proofs.TestLaws.{both}
 use Rattle.cw_rules.specs.declared.codes.Code.{Code}
 use Rattle.cw_rules.specs.declared.tokens.Mode.TheVariants as modes
@@ -15,8 +15,7 @@ use Rattle.cw_phase1.specs.declared.roles.Standing.{Standing}
 use Rattle.cw_phase1.specs.Entering.{kept_behind}
 use Rattle.cw_phase1.specs.Roles.{defining, token_step, behind_begin, placed_from}
 use Rattle.cw_phase1.specs.Sections.{span, is_section_code, is_tex, is_program, ends_section, ends_definitions}
-use Rattle.cw_phase1.specs.Sections.{ends_tex}
-use Rattle.cw_phase1.specs.Sections.{first_start}
+use Rattle.cw_phase1.specs.Sections.{ends_tex, first_start}
 use Rattle.cw_phase1.proofs.PartEnds.{Ending, EndsBy, AtSection, AtDefinitions, AtCPart, Nowhere, ends-so, section-role}
 use Rattle.cw_phase1.proofs.PartEnds.{plain-role, plain-part}
 use Rattle.cw_laws.specs.Pieces.{BeginsBy, opens_definitions, opens_c_part}

@@ -4,9 +4,7 @@
 -- line. It stands between the part before it and its TeX part. All other codes stand in the part that they begin: `@d`,
 -- `@f` and `@s` in the definitions, and `@c`, `@p` or a name with its sign in the C part.
 use Rattle.std.specs.Prelude.{◌≡◌, ℕ, ◌+◌, ◌<◌, ◌≤◌, Bool, true, false, ◌&&◌, ◌⊎◌, nat_lt, nat_le, List, [], ◌∷◌, ◌++◌}
-use Rattle.std.specs.Prelude.{length}
-use Rattle.std.specs.Prelude.{drop}
-use Rattle.std.specs.Prelude.{slice_range, if◌then◌else◌}
+use Rattle.std.specs.Prelude.{length, drop, slice_range, if◌then◌else◌}
 use Rattle.cw_base.specs.declared.span.Span.{Span}
 use Rattle.cw_base.specs.Web.{MergedLine, text_of}
 use Rattle.cw_rules.specs.declared.codes.Code.{Code}
