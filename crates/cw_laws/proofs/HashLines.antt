@@ -31,7 +31,7 @@ use Rattle.cw_rules.specs.Tokens.{code_token, comment_text, limbo_by, limbo_text
 use Rattle.cw_rules.specs.Tokens.{name_follows, macro_name, parameter_follows, parameter, behind_format, format_name}
 use Rattle.cw_rules.specs.Tokens.{behind_head, part_text, in_text, found, is_name}
 use Rattle.cw_rules.proofs.Choices.{if-both}
-use Rattle.cw_laws.specs.WhiteSpace.{line_by}
+use Rattle.cw_laws.specs.WhiteSpace.{hash_line_by}
 
 -- ## A `#` line behind what begins at a place
 
@@ -45,7 +45,7 @@ kind_in (Note kind place ∷ answers) = kind_in answers
 
 abbrev pub line_with : Bool → Option TokKind → Bool
 line_with line None = line
-line_with line (Some kind) = line_by line kind
+line_with line (Some kind) = hash_line_by line kind
 
 -- If a `#` line goes on behind what begins at a place, its tokens say so.
 abbrev Lined : Bool → Found → Type 0
@@ -69,7 +69,7 @@ kind-none (n ∷ ns) = kind-none ns
 
 -- a kind with which no `#` line begins or ends
 abbrev IsPlain : TokKind → Type 0
-IsPlain kind = (line : Bool) → line_by line kind ≡ line
+IsPlain kind = (line : Bool) → hash_line_by line kind ≡ line
 
 one-lined : (line hash_line : Bool) (next : Where) (place : ℕ) (bytes : List ℕ) (cut : Cut) → IsPlain cut.kind
     → (in_hash_line next.part ≡ true → line ≡ true) → Lined line (one hash_line next place bytes cut)

@@ -8,4 +8,5 @@ pub mod CutNotes
 pub mod NotePlaces
 pub mod HashLines
 pub mod WhiteSpace
+pub mod Strings
 pub mod Longest

@@ -36,7 +36,11 @@ use Rattle.cw_rules.proofs.Choices.{if-both}
 use Rattle.cw_rules.proofs.Taking.{AreBare, bare-all-cut}
 use Rattle.cw_lex.specs.Lexing.{still_fresh, answers, fresh_at, last_at, beginning}
 use Rattle.cw_laws.specs.Longest.{NoneIsLonger, IsLongest, AreLongest, TokensAreLongest}
+use Rattle.cw_laws.specs.Strings.{IsString}
 use Rattle.cw_laws.proofs.SectionCodes.{drop-on}
+use Rattle.cw_laws.proofs.Strings.{string-is}
+use Rattle.cw_rules.specs.declared.bodies.Body.TheVariants as bodies
+use Rattle.cw_rules.specs.Bodies.{at_start, extent}
 
 -- ## Signs
 
@@ -209,7 +213,9 @@ module _ (text : List ℕ) where
       (λ h. one-longest (in_hash_line w.part) (moved w (passed w.part)) place all (plain kinds.Constant (constant all))
       (ap constant (sym here)))
       (λ h. if-both P (byte == quote || byte == apostrophe) (start.Quoted byte) _
-      (λ h. (tt, noted-longest text (string kinds.Quoted 1 byte place all).notes))
+      (λ h. one-longest (in_hash_line w.part) (moved w (passed w.part)) place all (string kinds.Quoted 1 byte place all)
+      (subst (λ l. IsString l (1 + (extent (at_start (bodies.Quoted byte) (place + 1)) bytes).size)) (sym here)
+      (string-is byte (place + 1) bytes h)))
       (λ h. if-both P (byte == slash && begins star bytes) start.LongComment _ (λ h. tt)
       (λ h. if-both P (byte == slash && begins slash bytes) start.ShortComment _ (λ h. tt)
       (λ h. if-both P (byte == at_sign) (start.Code (code_at bytes)) _

@@ -12,7 +12,7 @@ use Rattle.cw_lex.specs.Openings.{tokens_in}
 use Rattle.cw_phase1.specs.Book.{book}
 use Rattle.cw_phase1.specs.Sections.{span}
 use Rattle.cw_laws.specs.NotePlaces.{NotesLie}
-use Rattle.cw_laws.specs.Pieces.{pieces_of, bytes_of, pieces_with}
+use Rattle.cw_laws.specs.Pieces.{book_pieces, piece_bytes, pieces_with}
 
 abbrev line : List ℕ → ℕ → MergedLine
 line text n = record { text = text; place = record { file = 0; line = n }; changed = false }
@@ -23,14 +23,14 @@ web =
     ∷ line (codes "@  Two. @<Read@>= y;") 5 ∷ []
 
 abbrev pieces : List Span
-pieces = pieces_of (book web).limbo (book web).sections
+pieces = book_pieces (book web).limbo (book web).sections
 
 the_pieces : pieces
     ≡ span 0 7 ∷ span 7 12 ∷ span 12 17 ∷ span 17 24 ∷ span 24 30 ∷ span 30 33 ∷ span 33 38 ∷ span 38 38 ∷ span 38 51
     ∷ []
 the_pieces = refl
 
-the_bytes : bytes_of (text_of web) pieces ≡ text_of web
+the_bytes : piece_bytes (text_of web) pieces ≡ text_of web
 the_bytes = refl
 
 a_code_once : pieces_with 8 pieces ≡ 1
@@ -58,3 +58,7 @@ a_hash_line = refl
 
 another_line : kinds_in (120 ∷ 92 ∷ 10 ∷ 121 ∷ 10 ∷ []) ≡ kinds.Identifier ∷ kinds.OtherByte ∷ kinds.Identifier ∷ []
 another_line = refl
+
+-- a string with a quote behind a backslash
+a_string : kinds_in (34 ∷ 92 ∷ 34 ∷ 34 ∷ 97 ∷ []) ≡ kinds.Quoted ∷ kinds.Identifier ∷ []
+a_string = refl

@@ -23,7 +23,7 @@ use Rattle.cw_lex.specs.Lexing.{still_fresh, answers, fresh_at, last_at, beginni
 use Rattle.cw_lex.specs.Nested.{is_section_kind}
 use Rattle.cw_lex.proofs.Covering.{drop-part}
 use Rattle.cw_lex.proofs.TokensWithin.{tokens-within}
-use Rattle.cw_laws.specs.WhiteSpace.{line_by, line_behind, begins_space_in, IsSpaceIn, LeavesSpace}
+use Rattle.cw_laws.specs.WhiteSpace.{hash_line_by, hash_line_behind, begins_space_in, IsSpaceIn, LeavesSpace}
 use Rattle.cw_laws.specs.WhiteSpace.{BackslashesContinueHashLines}
 use Rattle.cw_laws.proofs.HashLines.{kind_in, line_with, in-text-lined, has_start, Starts, found-starts}
 use Rattle.cw_laws.proofs.SectionCodes.{no-section, section-kind-is, drop-on}
@@ -32,7 +32,7 @@ use Rattle.cw_laws.proofs.SectionCodes.{no-section, section-kind-is, drop-on}
 
 abbrev line_after : Bool → Option TokKind → Bool
 line_after line None = line
-line_after line (Some kind) = line_behind line kind
+line_after line (Some kind) = hash_line_behind line kind
 
 abbrev IsNoSection : Option TokKind → Type 0
 IsNoSection None = Unit {0}
@@ -45,8 +45,8 @@ no-section-in (Begin t ∷ xs) h = no-section-in xs h
 no-section-in (Finish t ∷ xs) h = no-section-in xs h
 no-section-in (Note kind place ∷ xs) h = no-section-in xs h
 
-line-grows : (a line : Bool) (kind : TokKind) → (a ≡ true → line ≡ true) → line_by a kind ≡ true
-    → line_by line kind ≡ true
+line-grows : (a line : Bool) (kind : TokKind) → (a ≡ true → line ≡ true) → hash_line_by a kind ≡ true
+    → hash_line_by line kind ≡ true
 line-grows a line kinds.HashLine h e = refl
 line-grows a line kinds.HashLineEnd h e = absurd cc
 line-grows a line _ h e = h e
@@ -55,7 +55,7 @@ after-grows : (a line : Bool) (o : Option TokKind) → (a ≡ true → line ≡ 
     → line_after line o ≡ true
 after-grows a line None h s e = h e
 after-grows a line (Some kind) h s e =
-    ap (λ b. if b then false else line_by line kind) s ∙ line-grows a line kind h e
+    ap (λ b. if b then false else hash_line_by line kind) s ∙ line-grows a line kind h e
 
 found-line : (w : Where) (fresh : Bool) (last place byte : ℕ) (bytes : List ℕ) (line : Bool)
     → (in_hash_line w.part ≡ true → line ≡ true)
@@ -165,8 +165,8 @@ whole-leaves text line from place more end bytes [] ys h s low space rest =
     (space-on text line from place space (s refl h.1)))
 whole-leaves text line from place more end bytes (Token t ∷ xs) ys h s low space rest = (
   more-space text line from place t.span.start (sym h.0.from) space,
-  notes-leave text (line_behind line t.kind) t.span.end end xs ys h.1 (rest t.span.end (omega (arith, h.0.to))
-      (no-space text (line_behind line t.kind) t.span.end ((place + 1) + more) h.0.to)),
+  notes-leave text (hash_line_behind line t.kind) t.span.end end xs ys h.1 (rest t.span.end (omega (arith, h.0.to))
+      (no-space text (hash_line_behind line t.kind) t.span.end ((place + 1) + more) h.0.to)),
 )
 whole-leaves text line from place more end bytes (Begin t ∷ xs) ys h s low space rest = (
   more-space text line from place t.span.start (sym h.0.from) space,
@@ -270,7 +270,7 @@ part-leaves : (text : List ℕ) (line : Bool) (start end from : ℕ) (xs : List 
 part-leaves text line start end from [] a c = part-space text line end from end (omega arith) c
 part-leaves text line start end from (Token t ∷ xs) a c = (
   part-space text line end from t.span.start (omega (arith, a.0.1, a.0.2)) c.0,
-  part-leaves text (line_behind line t.kind) start end t.span.end xs a.1 c.1,
+  part-leaves text (hash_line_behind line t.kind) start end t.span.end xs a.1 c.1,
 )
 part-leaves text line start end from (Begin t ∷ xs) a c = (
   part-space text line end from t.span.start (omega (arith, a.0.1, a.0.2)) c.0,

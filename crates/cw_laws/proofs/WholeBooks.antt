@@ -23,8 +23,8 @@ use Rattle.cw_phase1.specs.Sound.{LiesIn}
 use Rattle.cw_phase1.specs.declared.roles.Part.TheVariants as parts
 use Rattle.cw_phase1.proofs.PartEnds.{plain-role, section-part}
 use Rattle.cw_phase1.proofs.SpanLaws.{Follow, follows, all-lie}
-use Rattle.cw_laws.specs.Pieces.{pieces_from, pieces_of, EndToEnd, BeginsAt, AreBegun, bytes_of, has_byte, pieces_with}
-use Rattle.cw_laws.specs.Pieces.{IsAllOf, BooksAreWhole}
+use Rattle.cw_laws.specs.Pieces.{pieces_from, book_pieces, EndToEnd, BeginsAt, AreBegun, piece_bytes, has_byte}
+use Rattle.cw_laws.specs.Pieces.{pieces_with, IsAllOf, BooksAreWhole}
 use Rattle.cw_laws.proofs.Openers.{AreOpeners, openers}
 use Rattle.cw_laws.proofs.PartCodes.{IsBefore, definitions-begin, c-part-begins}
 use Rattle.cw_laws.proofs.SectionCodes.{IsCodeAt, AreCoded, coded}
@@ -132,7 +132,7 @@ ends-behind from end [] e = omega (arith, e)
 ends-behind from end (piece ∷ pieces) e = omega (arith, e.0, e.1, ends-behind piece.end end pieces e.2)
 
 bytes-join : (text : List ℕ) (from end : ℕ) (pieces : List Span) → EndToEnd from end pieces
-    → bytes_of text pieces ≡ slice_range text from end
+    → piece_bytes text pieces ≡ slice_range text from end
 bytes-join text from end [] e = sym (none (end - from) (omega (arith, e)))
   where
     none : (n : ℕ) → n ≡ 0 → take n (drop from text) ≡ []
@@ -178,13 +178,13 @@ just-one place from end (piece ∷ pieces) e h g =
 -- ## The law
 
 whole : (text : List ℕ) (limbo : Span) (sections : List Section)
-    → EndToEnd 0 (length text) (pieces_of limbo sections) → AreBegun text limbo.end sections
+    → EndToEnd 0 (length text) (book_pieces limbo sections) → AreBegun text limbo.end sections
     → IsAllOf text limbo sections
 whole text limbo sections e b = record {
   end_to_end = e;
   begun = b;
-  bytes = bytes-join text 0 (length text) (pieces_of limbo sections) e ∙ all;
-  once = λ place h. just-one place 0 (length text) (pieces_of limbo sections) e (omega arith) h;
+  bytes = bytes-join text 0 (length text) (book_pieces limbo sections) e ∙ all;
+  once = λ place h. just-one place 0 (length text) (book_pieces limbo sections) e (omega arith) h;
 }
   where
     all : slice_range text 0 (length text) ≡ text

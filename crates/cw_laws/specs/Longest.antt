@@ -1,4 +1,4 @@
--- Identifiers, constants and signs are the longest that begin at their places.
+-- Identifiers, constants and signs are the longest that begin at their places, and strings go up to their ends.
 use Rattle.std.specs.Prelude.{◌≡◌, ℕ, ◌-◌, ◌≤◌, true, List, [], ◌∷◌, drop, take, length}
 use Rattle.cw_rules.specs.declared.classes.Class.TheVariants.{Word}
 use Rattle.cw_rules.specs.declared.signs.Sign.{Sign}
@@ -11,6 +11,7 @@ use Rattle.cw_rules.specs.Bytes.{run, begins_with}
 use Rattle.cw_rules.specs.Constants.{constant}
 use Rattle.cw_rules.specs.Signs.{spelling, all_signs}
 use Rattle.cw_lex.specs.Lexing.{tokens_of}
+use Rattle.cw_laws.specs.Strings.{IsString}
 
 -- Of these signs none with which the bytes begin is longer than so many bytes.
 abbrev pub NoneIsLonger : List Sign → List ℕ → ℕ → Type 0
@@ -19,11 +20,12 @@ NoneIsLonger (sign ∷ more) bytes size =
     (begins_with (spelling sign) bytes ≡ true → length (spelling sign) ≤ size) × NoneIsLonger more bytes size
 
 -- A token of this size and kind is the longest with which the bytes begin: an identifier has all the letters and digits
--- that stand in a row, a constant all that a constant takes, and a sign is the longest of the table. The `(` of a
--- macro's parameters is one byte, as is any `(`.
+-- that stand in a row, a constant all that a constant takes, a string goes up to its end, and a sign is the longest of
+-- the table. The `(` of a macro's parameters is one byte, as is any `(`.
 abbrev pub IsLongest : List ℕ → ℕ → TokKind → Type 0
 IsLongest bytes size kinds.Identifier = size ≡ run Word bytes
 IsLongest bytes size kinds.Constant = size ≡ constant bytes
+IsLongest bytes size kinds.Quoted = IsString bytes size
 IsLongest bytes size (kinds.Sign signs.LeftParen) = size ≡ 1
 IsLongest bytes size (kinds.Sign sign) = (size ≡ length (spelling sign)) × NoneIsLonger all_signs bytes size
 IsLongest bytes size kind = Unit {0}

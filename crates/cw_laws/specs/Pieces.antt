@@ -23,8 +23,8 @@ pieces_from place [] = []
 pieces_from place (s ∷ sections) =
     span place s.tex.start ∷ s.tex ∷ s.definitions ∷ s.c_part ∷ pieces_from s.c_part.end sections
 
-abbrev pub pieces_of : Span → List Section → List Span
-pieces_of limbo sections = limbo ∷ pieces_from limbo.end sections
+abbrev pub book_pieces : Span → List Section → List Span
+book_pieces limbo sections = limbo ∷ pieces_from limbo.end sections
 
 -- Pieces lie end to end from one place up to another: each begins where the one before it ends.
 abbrev pub EndToEnd : ℕ → ℕ → List Span → Type 0
@@ -66,9 +66,9 @@ AreBegun text place [] = Unit {0}
 AreBegun text place (s ∷ sections) = BeginsAt text place s × AreBegun text s.c_part.end sections
 
 -- the bytes of pieces, one behind another
-abbrev pub bytes_of : List ℕ → List Span → List ℕ
-bytes_of text [] = []
-bytes_of text (piece ∷ pieces) = slice_range text piece.start piece.end ++ bytes_of text pieces
+abbrev pub piece_bytes : List ℕ → List Span → List ℕ
+piece_bytes text [] = []
+piece_bytes text (piece ∷ pieces) = slice_range text piece.start piece.end ++ piece_bytes text pieces
 
 -- how many of the pieces have the byte at a place
 abbrev pub has_byte : ℕ → Span → Bool
@@ -81,10 +81,10 @@ pieces_with place (piece ∷ pieces) = (if has_byte place piece then 1 else 0) +
 -- Limbo and sections are all of a text: their pieces lie end to end, from its first byte to its last, and begin with
 -- their codes. So the bytes of the pieces are those of the text, and each byte stands in just one piece.
 pub record IsAllOf (text : List ℕ) (limbo : Span) (sections : List Section) : Type 0 where
-  pub end_to_end : EndToEnd 0 (length text) (pieces_of limbo sections)
+  pub end_to_end : EndToEnd 0 (length text) (book_pieces limbo sections)
   pub begun : AreBegun text limbo.end sections
-  pub bytes : bytes_of text (pieces_of limbo sections) ≡ text
-  pub once : (place : ℕ) → place < length text → pieces_with place (pieces_of limbo sections) ≡ 1
+  pub bytes : piece_bytes text (book_pieces limbo sections) ≡ text
+  pub once : (place : ℕ) → place < length text → pieces_with place (book_pieces limbo sections) ≡ 1
 
 -- So it is with the book of every web.
 abbrev pub BooksAreWhole : Type 0

@@ -12,13 +12,13 @@ use Rattle.cw_lex.specs.Nested.{is_section_kind}
 
 -- A `#` line goes from its `#` up to its end, to a section code, or to the end of the text. So it goes on behind a
 -- token, or not.
-abbrev pub line_by : Bool → TokKind → Bool
-line_by line kinds.HashLine = true
-line_by line kinds.HashLineEnd = false
-line_by line kind = line
+abbrev pub hash_line_by : Bool → TokKind → Bool
+hash_line_by line kinds.HashLine = true
+hash_line_by line kinds.HashLineEnd = false
+hash_line_by line kind = line
 
-abbrev pub line_behind : Bool → TokKind → Bool
-line_behind line kind = if is_section_kind kind then false else line_by line kind
+abbrev pub hash_line_behind : Bool → TokKind → Bool
+hash_line_behind line kind = if is_section_kind kind then false else hash_line_by line kind
 
 -- The bytes begin with a blank or a line's end, or in a `#` line with a backslash before a line's end.
 abbrev pub begins_space_in : Bool → List ℕ → Bool
@@ -33,7 +33,7 @@ IsSpaceIn text line from end = (place : ℕ) → from ≤ place → place < end 
 abbrev pub LeavesSpace : List ℕ → Bool → ℕ → ℕ → List Answer → Type 0
 LeavesSpace text line from end [] = IsSpaceIn text line from end
 LeavesSpace text line from end (Token t ∷ answers) =
-    IsSpaceIn text line from t.span.start × LeavesSpace text (line_behind line t.kind) t.span.end end answers
+    IsSpaceIn text line from t.span.start × LeavesSpace text (hash_line_behind line t.kind) t.span.end end answers
 LeavesSpace text line from end (Begin t ∷ answers) =
     IsSpaceIn text line from t.span.start × LeavesSpace text line t.span.end end answers
 LeavesSpace text line from end (Finish t ∷ answers) =

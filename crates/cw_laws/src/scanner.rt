@@ -15,8 +15,8 @@ pub fn white_space_law()
     ensures { BackslashesContinueHashLines }
 {}
 
-/// The law of longest tokens: an identifier, a constant and a sign has as many bytes as can belong to one. It does
-/// nothing: what it ensures is for proofs.
+/// The law of longest tokens: an identifier, a constant and a sign has as many bytes as can belong to one, and a string
+/// goes up to its end. It does nothing: what it ensures is for proofs.
 pub fn longest_law()
     ensures { TokensAreLongest }
 {}

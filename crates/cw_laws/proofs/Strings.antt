@@ -1,0 +1,261 @@
+-- A string ends with its quote, before a line's end or with the text.
+use Rattle.std.proofs.Common.{◌≡◌, ℕ, ◌+◌, ◌-◌, Bool, true, false, ◌&&◌, ◌||◌, not, ◌==◌, List, [], ◌∷◌, ◌++◌}
+use Rattle.std.proofs.Common.{if◌then◌else◌, length, drop, refl, sym, ap, subst, ◌∙◌, arith, ◌⊎◌, inl, inr}
+use Rattle.std.proofs.lemmas.Bool.{eqb-true}
+use Rattle.cw_base.proofs.TestLaws.{both-right}
+use Rattle.std.proofs.Math.Seq.{drop-append_seam, drop-append-add}
+use Rattle.cw_rules.specs.declared.bodies.Body.TheVariants as bodies
+use Rattle.cw_rules.specs.declared.bodies.Inside.{Inside}
+use Rattle.cw_rules.specs.Bytes.{newline, backslash, at_sign, quote, apostrophe, begins, begins_with}
+use Rattle.cw_rules.specs.Bodies.{stops, takes_next, stepped, goes_on, ended, at_start, extent}
+use Rattle.cw_rules.proofs.Inside.{ended-le}
+use Rattle.cw_laws.specs.Strings.{is_piece, ArePieces, bytes_in, StringEnds, IsString}
+
+-- where the inside stops, before these bytes
+abbrev Stops : ℕ → ℕ → ℕ → List ℕ → Type 0
+Stops mark inside size [] = size ≡ inside
+Stops mark inside size (byte ∷ bytes) =
+    ((byte ≡ mark) × (size ≡ inside))
+    ⊎ (((byte ≡ newline) × (size ≡ inside)) ⊎ ((byte ≡ backslash) × (bytes ≡ []) × (size ≡ inside + 1)))
+
+record Split (mark : ℕ) (i : Inside) (bytes : List ℕ) : Type 0 where
+  pieces : List (List ℕ)
+  are : ArePieces mark pieces
+  rest : List ℕ
+  whole : bytes ≡ bytes_in pieces ++ rest
+  stops-so : Stops mark (length (bytes_in pieces)) ((ended i bytes).place - i.place) rest
+
+more-stops : (mark more inside size all : ℕ) (rest : List ℕ) → all ≡ more + size → Stops mark inside size rest
+    → Stops mark (more + inside) all rest
+more-stops mark more inside size all [] e h = omega (arith, e, h)
+more-stops mark more inside size all (byte ∷ bytes) e (inl h) = inl (h.0, omega (arith, e, h.1))
+more-stops mark more inside size all (byte ∷ bytes) e (inr (inl h)) = inr (inl (h.0, omega (arith, e, h.1)))
+more-stops mark more inside size all (byte ∷ bytes) e (inr (inr h)) = inr (inr (h.0, h.1, omega (arith, e, h.2)))
+
+step-ended : (i : Inside) (byte : ℕ) (bytes : List ℕ) → goes_on i (byte ∷ bytes) ≡ true
+    → ended i (byte ∷ bytes) ≡ ended (stepped i byte bytes) bytes
+step-ended i byte bytes h =
+    ap (λ t. elim t as (λ _. Inside) [ true ↦ ended (stepped i byte bytes) bytes | false ↦ i ]) h
+
+step-size : (i : Inside) (byte : ℕ) (bytes : List ℕ) → goes_on i (byte ∷ bytes) ≡ true
+    → (ended i (byte ∷ bytes)).place - i.place
+    ≡ 1 + ((ended (stepped i byte bytes) bytes).place - (stepped i byte bytes).place)
+step-size i byte bytes h =
+    omega (
+      arith,
+      ap (λ (j : Inside). j.place) (step-ended i byte bytes h),
+      ended-le (stepped i byte bytes) bytes,
+    )
+
+-- one byte, behind which no byte is taken along
+one-on : (mark : ℕ) (i : Inside) (byte : ℕ) (bytes : List ℕ) → goes_on i (byte ∷ bytes) ≡ true
+    → is_piece mark (byte ∷ []) ≡ true → Split mark (stepped i byte bytes) bytes → Split mark i (byte ∷ bytes)
+one-on mark i byte bytes h p s = record {
+  pieces = (byte ∷ []) ∷ s.pieces;
+  are = (p, s.are);
+  rest = s.rest;
+  whole = ap (λ l. byte ∷ l) s.whole;
+  stops-so =
+      subst (λ n. Stops mark n ((ended i (byte ∷ bytes)).place - i.place) s.rest)
+      (omega arith)
+      (more-stops mark 1 (length (bytes_in s.pieces)) _ ((ended i (byte ∷ bytes)).place - i.place) s.rest
+      (step-size i byte bytes h) s.stops-so);
+}
+
+-- a backslash and the byte behind it
+two-on : (mark : ℕ) (i : Inside) (byte next : ℕ) (bytes : List ℕ) → goes_on i (byte ∷ next ∷ bytes) ≡ true
+    → goes_on (stepped i byte (next ∷ bytes)) (next ∷ bytes) ≡ true → is_piece mark (byte ∷ next ∷ []) ≡ true
+    → Split mark (stepped (stepped i byte (next ∷ bytes)) next bytes) bytes → Split mark i (byte ∷ next ∷ bytes)
+two-on mark i byte next bytes h g p s = record {
+  pieces = (byte ∷ next ∷ []) ∷ s.pieces;
+  are = (p, s.are);
+  rest = s.rest;
+  whole = ap (λ l. byte ∷ next ∷ l) s.whole;
+  stops-so =
+      subst (λ n. Stops mark n ((ended i (byte ∷ next ∷ bytes)).place - i.place) s.rest)
+      (omega arith)
+      (more-stops mark 2 (length (bytes_in s.pieces)) _ ((ended i (byte ∷ next ∷ bytes)).place - i.place) s.rest
+      (omega (
+        arith,
+        step-size i byte (next ∷ bytes) h,
+        step-size (stepped i byte (next ∷ bytes)) next bytes g,
+      )) s.stops-so);
+}
+
+stop-here : (mark : ℕ) (i : Inside) (byte : ℕ) (bytes : List ℕ) → i.body ≡ bodies.Quoted mark → i.along ≡ false
+    → goes_on i (byte ∷ bytes) ≡ false → Split mark i (byte ∷ bytes)
+stop-here mark i byte bytes b a h = record {
+  pieces = [];
+  are = tt;
+  rest = byte ∷ bytes;
+  whole = refl;
+  stops-so = why (byte == mark) (byte == newline) (not (i.before == backslash)) refl refl
+      (sym (λ k. a k || not (stops (b k) i.before byte bytes)) ∙ h);
+}
+  where
+    none : (ended i (byte ∷ bytes)).place - i.place ≡ 0
+    none =
+        let same : ended i (byte ∷ bytes) ≡ i =
+        ap (λ t. elim t as (λ _. Inside) [ true ↦ ended (stepped i byte bytes) bytes | false ↦ i ]) h in
+        omega (arith, ap (λ (j : Inside). j.place) same)
+
+    why : (m n k : Bool) → (byte == mark) ≡ m → (byte == newline) ≡ n → (false || not (m || (n && k))) ≡ false
+        → Stops mark 0 ((ended i (byte ∷ bytes)).place - i.place) (byte ∷ bytes)
+    why true n k e f h = inl (eqb-true byte mark e, none)
+    why false true k e f h = inr (inl (eqb-true byte newline f, none))
+    why false false k e f h = absurd cc
+
+-- a backslash as the last byte
+last-on : (mark : ℕ) (i : Inside) (byte : ℕ) → goes_on i (byte ∷ []) ≡ true → byte ≡ backslash
+    → Split mark i (byte ∷ [])
+last-on mark i byte h e = record {
+  pieces = [];
+  are = tt;
+  rest = byte ∷ [];
+  whole = refl;
+  stops-so = inr (inr (e, refl, omega (arith, step-size i byte [] h)));
+}
+
+-- what a byte that goes on is
+record GoesOn (mark : ℕ) (i : Inside) (byte : ℕ) (bytes : List ℕ) : Type 0 where
+  not-mark : (byte == mark) ≡ false
+  along : (stepped i byte bytes).along ≡ ((byte == backslash) || (byte == at_sign && begins at_sign bytes))
+
+going : (mark : ℕ) (i : Inside) (byte : ℕ) (bytes : List ℕ) → i.body ≡ bodies.Quoted mark → i.along ≡ false
+    → goes_on i (byte ∷ bytes) ≡ true → GoesOn mark i byte bytes
+going mark i byte bytes b a h = record {
+  not-mark = by (byte == mark) (byte == newline && not (i.before == backslash))
+      (sym (λ k. a k || not (stops (b k) i.before byte bytes)) ∙ h);
+  along = λ k. not (a k) && takes_next (b k) byte bytes;
+}
+  where
+    by : (m n : Bool) → (false || not (m || n)) ≡ true → m ≡ false
+    by true n h = absurd cc
+    by false n h = refl
+
+piece-one : (mark byte : ℕ) → (byte == backslash) ≡ false → (byte == mark) ≡ false
+    → is_piece mark (byte ∷ []) ≡ true
+piece-one mark byte h g = λ k. not (h k || g k)
+
+split-none : (mark : ℕ) (i : Inside) → Split mark i []
+split-none mark i = record { pieces = []; are = tt; rest = []; whole = refl; stops-so = omega arith }
+
+split : (mark : ℕ) → (at_sign == mark) ≡ false → (i : Inside) (bytes : List ℕ) → i.body ≡ bodies.Quoted mark
+    → i.along ≡ false → Split mark i bytes
+split mark k i [] b a = split-none mark i
+split mark k i (x ∷ []) b a = by (goes_on i (x ∷ [])) refl
+  where
+    kind : (t : Bool) → (x == backslash) ≡ t → goes_on i (x ∷ []) ≡ true → Split mark i (x ∷ [])
+    kind true e h = last-on mark i x h (eqb-true x backslash e)
+    kind false e h = one-on mark i x [] h (piece-one mark x e (going mark i x [] b a h).not-mark)
+        (split-none mark (stepped i x []))
+
+    by : (t : Bool) → goes_on i (x ∷ []) ≡ t → Split mark i (x ∷ [])
+    by true h = kind (x == backslash) refl h
+    by false h = stop-here mark i x [] b a h
+split mark k i (x ∷ y ∷ ys) b a =
+    by (goes_on i (x ∷ y ∷ ys)) refl (λ e. split mark k (stepped i x (y ∷ ys)) (y ∷ ys) b e)
+    (λ e. split mark k (stepped (stepped i x (y ∷ ys)) y ys) ys b e)
+  where
+    taken : (stepped i x (y ∷ ys)).along ≡ true → goes_on (stepped i x (y ∷ ys)) (y ∷ ys) ≡ true
+    taken e = ap (λ t. t || not (stops i.body x y ys)) e
+
+    then-free : (stepped i x (y ∷ ys)).along ≡ true → (stepped (stepped i x (y ∷ ys)) y ys).along ≡ false
+    then-free e = ap (λ t. not t && takes_next i.body y ys) e
+
+    kind : (t u : Bool) → (x == backslash) ≡ t → (x == at_sign && y == at_sign) ≡ u
+        → goes_on i (x ∷ y ∷ ys) ≡ true
+        → ((stepped i x (y ∷ ys)).along ≡ false → Split mark (stepped i x (y ∷ ys)) (y ∷ ys))
+        → ((stepped (stepped i x (y ∷ ys)) y ys).along ≡ false
+        → Split mark (stepped (stepped i x (y ∷ ys)) y ys) ys) → Split mark i (x ∷ y ∷ ys)
+    kind true u e f h one two =
+        let g = going mark i x (y ∷ ys) b a h in
+        let along : (stepped i x (y ∷ ys)).along ≡ true =
+        g.along ∙ ap (λ t. t || (x == at_sign && y == at_sign)) e in
+        two-on mark i x y ys h (taken along) e (two (then-free along))
+    kind false true e f h one two =
+        let g = going mark i x (y ∷ ys) b a h in
+        let along : (stepped i x (y ∷ ys)).along ≡ true = g.along ∙ (λ j. e j || f j) in
+        let y-is : y ≡ at_sign = eqb-true y at_sign (both-right (x == at_sign) (y == at_sign) f) in
+        one-on mark i x (y ∷ ys) h (piece-one mark x e g.not-mark)
+        (one-on mark (stepped i x (y ∷ ys)) y ys (taken along)
+        (piece-one mark y (ap (λ b. b == backslash) y-is) (ap (λ b. b == mark) y-is ∙ k)) (two (then-free along)))
+    kind false false e f h one two =
+        let g = going mark i x (y ∷ ys) b a h in
+        one-on mark i x (y ∷ ys) h (piece-one mark x e g.not-mark) (one (g.along ∙ (λ j. e j || f j)))
+
+    by : (t : Bool) → goes_on i (x ∷ y ∷ ys) ≡ t
+        → ((stepped i x (y ∷ ys)).along ≡ false → Split mark (stepped i x (y ∷ ys)) (y ∷ ys))
+        → ((stepped (stepped i x (y ∷ ys)) y ys).along ≡ false
+        → Split mark (stepped (stepped i x (y ∷ ys)) y ys) ys) → Split mark i (x ∷ y ∷ ys)
+    by true h one two = kind (x == backslash) (x == at_sign && y == at_sign) refl refl h one two
+    by false h one two = stop-here mark i x (y ∷ ys) b a h
+
+-- ## Whole strings
+
+mark-is : (P : ℕ → Type 0) (mark : ℕ) → (mark == quote || mark == apostrophe) ≡ true → P quote → P apostrophe
+    → P mark
+mark-is P mark h p q = by (mark == quote) refl
+  where
+    by : (t : Bool) → (mark == quote) ≡ t → P mark
+    by true e = subst P (sym (eqb-true mark quote e)) p
+    by false e = subst P (sym (eqb-true mark apostrophe ((λ j. sym e j || (mark == apostrophe)) ∙ h))) q
+
+pub string-is : (mark place : ℕ) (bytes : List ℕ) → (mark == quote || mark == apostrophe) ≡ true
+    → IsString (mark ∷ bytes) (1 + (extent (at_start (bodies.Quoted mark) place) bytes).size)
+string-is mark place bytes h =
+    let i = at_start (bodies.Quoted mark) place in
+    let s = split mark (mark-is (λ m. (at_sign == m) ≡ false) mark h refl refl) i bytes refl refl in
+    record {
+      mark = mark;
+      quotes = h;
+      pieces = s.pieces;
+      are = s.are;
+      rest = s.rest;
+      whole = ap (λ l. mark ∷ l) s.whole;
+      ends = ends (bytes_in s.pieces) s.rest s.whole s.stops-so;
+    }
+  where
+    inside : ℕ
+    inside = (ended (at_start (bodies.Quoted mark) place) bytes).place - place
+
+    size : ℕ
+    size = (extent (at_start (bodies.Quoted mark) place) bytes).size
+
+    closed-or-not : (rest : List ℕ) (t : Bool) → drop inside bytes ≡ rest → begins_with (mark ∷ []) rest ≡ t
+        → size ≡ (if t then inside + 1 else inside)
+    closed-or-not rest t e f =
+        ap (λ t. if t then inside + 1 else inside) (ap (begins_with (mark ∷ [])) e ∙ f)
+
+    rest-is : (front rest : List ℕ) → bytes ≡ front ++ rest → inside ≡ length front → drop inside bytes ≡ rest
+    rest-is front rest w e =
+        ap (λ n. drop n bytes) e ∙ ap (drop (length front)) w ∙ drop-append_seam front rest
+
+    newline-other : (newline == mark) ≡ false
+    newline-other = mark-is (λ m. (newline == m) ≡ false) mark h refl refl
+
+    ends : (front rest : List ℕ) → bytes ≡ front ++ rest → Stops mark (length front) inside rest
+        → StringEnds mark (1 + length front) (1 + size) rest
+    ends front [] w e = omega (arith, e, closed-or-not [] false (rest-is front [] w e) refl)
+    ends front (y ∷ ys) w (inl e) = inl (
+      e.0,
+      omega (
+        arith,
+        e.1,
+        closed-or-not (y ∷ ys) true (rest-is front (y ∷ ys) w e.1)
+            (ap (λ b. b == mark && true) e.0 ∙ mark-is (λ m. (m == m && true) ≡ true) mark h refl refl),
+      ),
+    )
+    ends front (y ∷ ys) w (inr (inl e)) = inr (inl (
+      e.0,
+      omega (
+        arith,
+        e.1,
+        closed-or-not (y ∷ ys) false (rest-is front (y ∷ ys) w e.1)
+            (ap (λ b. b == mark && true) e.0 ∙ ap (λ t. t && true) newline-other),
+      ),
+    ))
+    ends front (y ∷ ys) w (inr (inr e)) =
+        let none : drop inside bytes ≡ [] =
+        ap (λ n. drop n bytes) e.2 ∙ ap (drop (length front + 1)) w ∙ drop-append-add front (y ∷ ys) 1 ∙ e.1 in
+        inr (inr (e.0, e.1, omega (arith, e.2, closed-or-not [] false none refl)))

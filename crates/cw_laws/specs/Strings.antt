@@ -1,0 +1,37 @@
+-- Where strings end.
+use Rattle.std.specs.Prelude.{◌≡◌, ℕ, ◌+◌, Bool, true, false, not, ◌||◌, ◌==◌, List, [], ◌∷◌, ◌++◌, ◌⊎◌, length}
+use Rattle.cw_rules.specs.Bytes.{newline, backslash, quote, apostrophe}
+
+-- A piece of the inside of a string: a backslash with the byte behind it, or a byte that is neither a backslash nor the
+-- quote.
+abbrev pub is_piece : ℕ → List ℕ → Bool
+is_piece mark [] = false
+is_piece mark (byte ∷ []) = not (byte == backslash || byte == mark)
+is_piece mark (byte ∷ next ∷ []) = byte == backslash
+is_piece mark (byte ∷ next ∷ more ∷ bytes) = false
+
+abbrev pub ArePieces : ℕ → List (List ℕ) → Type 0
+ArePieces mark [] = Unit {0}
+ArePieces mark (piece ∷ pieces) = (is_piece mark piece ≡ true) × ArePieces mark pieces
+
+abbrev pub bytes_in : List (List ℕ) → List ℕ
+bytes_in [] = []
+bytes_in (piece ∷ pieces) = piece ++ bytes_in pieces
+
+-- Behind so many bytes a string of this size ends, where these bytes follow: with its quote, before a line's end, or
+-- with the text, of which the last byte may be a backslash.
+abbrev pub StringEnds : ℕ → ℕ → ℕ → List ℕ → Type 0
+StringEnds mark inside size [] = size ≡ inside
+StringEnds mark inside size (byte ∷ bytes) =
+    ((byte ≡ mark) × (size ≡ inside + 1))
+    ⊎ (((byte ≡ newline) × (size ≡ inside)) ⊎ ((byte ≡ backslash) × (bytes ≡ []) × (size ≡ inside + 1)))
+
+-- A string of this size stands before other bytes: its quote, pieces, and its end.
+pub record IsString (bytes : List ℕ) (size : ℕ) : Type 0 where
+  pub mark : ℕ
+  pub quotes : (mark == quote || mark == apostrophe) ≡ true
+  pub pieces : List (List ℕ)
+  pub are : ArePieces mark pieces
+  pub rest : List ℕ
+  pub whole : bytes ≡ mark ∷ (bytes_in pieces ++ rest)
+  pub ends : StringEnds mark (1 + length (bytes_in pieces)) size rest
