@@ -9,28 +9,34 @@ use Rattle.cw_rules.specs.declared.bodies.Inside.{Inside}
 use Rattle.cw_rules.specs.Bytes.{newline, backslash, at_sign, quote, apostrophe, begins, begins_with}
 use Rattle.cw_rules.specs.Bodies.{stops, takes_next, stepped, goes_on, ended, at_start, extent}
 use Rattle.cw_rules.proofs.Inside.{ended-le}
-use Rattle.cw_laws.specs.Strings.{is_piece, ArePieces, bytes_in, StringEnds, IsString}
+use Rattle.cw_lex.specs.Lexing.{last_after}
+use Rattle.cw_laws.specs.Strings.{LinesGoOn, is_piece, ArePieces, bytes_in, StringEnds, IsString}
 
 -- where the inside stops, before these bytes
-abbrev Stops : ℕ → ℕ → ℕ → List ℕ → Type 0
-Stops mark inside size [] = size ≡ inside
-Stops mark inside size (byte ∷ bytes) =
+abbrev Stops : ℕ → ℕ → ℕ → ℕ → List ℕ → Type 0
+Stops mark last inside size [] = size ≡ inside
+Stops mark last inside size (byte ∷ bytes) =
     ((byte ≡ mark) × (size ≡ inside))
-    ⊎ (((byte ≡ newline) × (size ≡ inside)) ⊎ ((byte ≡ backslash) × (bytes ≡ []) × (size ≡ inside + 1)))
+    ⊎ (((byte ≡ newline) × ((last == backslash) ≡ false) × (size ≡ inside))
+    ⊎ ((byte ≡ backslash) × (bytes ≡ []) × (size ≡ inside + 1)))
 
 record Split (mark : ℕ) (i : Inside) (bytes : List ℕ) : Type 0 where
   pieces : List (List ℕ)
   are : ArePieces mark pieces
   rest : List ℕ
+  lines : LinesGoOn i.before (bytes_in pieces)
   whole : bytes ≡ bytes_in pieces ++ rest
-  stops-so : Stops mark (length (bytes_in pieces)) ((ended i bytes).place - i.place) rest
+  stops-so : Stops mark (last_after i.before (bytes_in pieces)) (length (bytes_in pieces))
+      ((ended i bytes).place - i.place) rest
 
-more-stops : (mark more inside size all : ℕ) (rest : List ℕ) → all ≡ more + size → Stops mark inside size rest
-    → Stops mark (more + inside) all rest
-more-stops mark more inside size all [] e h = omega (arith, e, h)
-more-stops mark more inside size all (byte ∷ bytes) e (inl h) = inl (h.0, omega (arith, e, h.1))
-more-stops mark more inside size all (byte ∷ bytes) e (inr (inl h)) = inr (inl (h.0, omega (arith, e, h.1)))
-more-stops mark more inside size all (byte ∷ bytes) e (inr (inr h)) = inr (inr (h.0, h.1, omega (arith, e, h.2)))
+more-stops : (mark last more inside size all : ℕ) (rest : List ℕ) → all ≡ more + size
+    → Stops mark last inside size rest → Stops mark last (more + inside) all rest
+more-stops mark last more inside size all [] e h = omega (arith, e, h)
+more-stops mark last more inside size all (byte ∷ bytes) e (inl h) = inl (h.0, omega (arith, e, h.1))
+more-stops mark last more inside size all (byte ∷ bytes) e (inr (inl h)) =
+    inr (inl (h.0, h.1, omega (arith, e, h.2)))
+more-stops mark last more inside size all (byte ∷ bytes) e (inr (inr h)) =
+    inr (inr (h.0, h.1, omega (arith, e, h.2)))
 
 step-ended : (i : Inside) (byte : ℕ) (bytes : List ℕ) → goes_on i (byte ∷ bytes) ≡ true
     → ended i (byte ∷ bytes) ≡ ended (stepped i byte bytes) bytes
@@ -49,32 +55,37 @@ step-size i byte bytes h =
 
 -- one byte, behind which no byte is taken along
 one-on : (mark : ℕ) (i : Inside) (byte : ℕ) (bytes : List ℕ) → goes_on i (byte ∷ bytes) ≡ true
-    → is_piece mark (byte ∷ []) ≡ true → Split mark (stepped i byte bytes) bytes → Split mark i (byte ∷ bytes)
-one-on mark i byte bytes h p s = record {
+    → is_piece mark (byte ∷ []) ≡ true → (byte ≡ newline → i.before ≡ backslash)
+    → Split mark (stepped i byte bytes) bytes → Split mark i (byte ∷ bytes)
+one-on mark i byte bytes h p line s = record {
   pieces = (byte ∷ []) ∷ s.pieces;
   are = (p, s.are);
   rest = s.rest;
+  lines = (line, s.lines);
   whole = ap (λ l. byte ∷ l) s.whole;
   stops-so =
-      subst (λ n. Stops mark n ((ended i (byte ∷ bytes)).place - i.place) s.rest)
+      subst (λ n. Stops mark (last_after byte (bytes_in s.pieces)) n ((ended i (byte ∷ bytes)).place - i.place) s.rest)
       (omega arith)
-      (more-stops mark 1 (length (bytes_in s.pieces)) _ ((ended i (byte ∷ bytes)).place - i.place) s.rest
+      (more-stops mark (last_after byte (bytes_in s.pieces)) 1 (length (bytes_in s.pieces)) _ ((ended i (byte ∷ bytes)).place - i.place) s.rest
       (step-size i byte bytes h) s.stops-so);
 }
 
 -- a backslash and the byte behind it
 two-on : (mark : ℕ) (i : Inside) (byte next : ℕ) (bytes : List ℕ) → goes_on i (byte ∷ next ∷ bytes) ≡ true
     → goes_on (stepped i byte (next ∷ bytes)) (next ∷ bytes) ≡ true → is_piece mark (byte ∷ next ∷ []) ≡ true
+    → (byte ≡ newline → i.before ≡ backslash)
     → Split mark (stepped (stepped i byte (next ∷ bytes)) next bytes) bytes → Split mark i (byte ∷ next ∷ bytes)
-two-on mark i byte next bytes h g p s = record {
+two-on mark i byte next bytes h g p line s = record {
   pieces = (byte ∷ next ∷ []) ∷ s.pieces;
   are = (p, s.are);
   rest = s.rest;
+  lines = (line, ((λ e. eqb-true byte backslash p), s.lines));
   whole = ap (λ l. byte ∷ next ∷ l) s.whole;
   stops-so =
-      subst (λ n. Stops mark n ((ended i (byte ∷ next ∷ bytes)).place - i.place) s.rest)
+      subst (λ n. Stops mark (last_after next (bytes_in s.pieces)) n ((ended i (byte ∷ next ∷ bytes)).place - i.place)
+      s.rest)
       (omega arith)
-      (more-stops mark 2 (length (bytes_in s.pieces)) _ ((ended i (byte ∷ next ∷ bytes)).place - i.place) s.rest
+      (more-stops mark (last_after next (bytes_in s.pieces)) 2 (length (bytes_in s.pieces)) _ ((ended i (byte ∷ next ∷ bytes)).place - i.place) s.rest
       (omega (
         arith,
         step-size i byte (next ∷ bytes) h,
@@ -88,8 +99,9 @@ stop-here mark i byte bytes b a h = record {
   pieces = [];
   are = tt;
   rest = byte ∷ bytes;
+  lines = tt;
   whole = refl;
-  stops-so = why (byte == mark) (byte == newline) (not (i.before == backslash)) refl refl
+  stops-so = why (byte == mark) (byte == newline) (i.before == backslash) refl refl refl
       (sym (λ k. a k || not (stops (b k) i.before byte bytes)) ∙ h);
 }
   where
@@ -99,11 +111,13 @@ stop-here mark i byte bytes b a h = record {
         ap (λ t. elim t as (λ _. Inside) [ true ↦ ended (stepped i byte bytes) bytes | false ↦ i ]) h in
         omega (arith, ap (λ (j : Inside). j.place) same)
 
-    why : (m n k : Bool) → (byte == mark) ≡ m → (byte == newline) ≡ n → (false || not (m || (n && k))) ≡ false
-        → Stops mark 0 ((ended i (byte ∷ bytes)).place - i.place) (byte ∷ bytes)
-    why true n k e f h = inl (eqb-true byte mark e, none)
-    why false true k e f h = inr (inl (eqb-true byte newline f, none))
-    why false false k e f h = absurd cc
+    why : (m n k : Bool) → (byte == mark) ≡ m → (byte == newline) ≡ n → (i.before == backslash) ≡ k
+        → (false || not (m || (n && not k))) ≡ false
+        → Stops mark i.before 0 ((ended i (byte ∷ bytes)).place - i.place) (byte ∷ bytes)
+    why true n k e f g h = inl (eqb-true byte mark e, none)
+    why false true false e f g h = inr (inl (eqb-true byte newline f, g, none))
+    why false true true e f g h = absurd cc
+    why false false k e f g h = absurd cc
 
 -- a backslash as the last byte
 last-on : (mark : ℕ) (i : Inside) (byte : ℕ) → goes_on i (byte ∷ []) ≡ true → byte ≡ backslash
@@ -112,6 +126,7 @@ last-on mark i byte h e = record {
   pieces = [];
   are = tt;
   rest = byte ∷ [];
+  lines = tt;
   whole = refl;
   stops-so = inr (inr (e, refl, omega (arith, step-size i byte [] h)));
 }
@@ -119,26 +134,37 @@ last-on mark i byte h e = record {
 -- what a byte that goes on is
 record GoesOn (mark : ℕ) (i : Inside) (byte : ℕ) (bytes : List ℕ) : Type 0 where
   not-mark : (byte == mark) ≡ false
+  line : byte ≡ newline → i.before ≡ backslash
   along : (stepped i byte bytes).along ≡ ((byte == backslash) || (byte == at_sign && begins at_sign bytes))
 
 going : (mark : ℕ) (i : Inside) (byte : ℕ) (bytes : List ℕ) → i.body ≡ bodies.Quoted mark → i.along ≡ false
     → goes_on i (byte ∷ bytes) ≡ true → GoesOn mark i byte bytes
 going mark i byte bytes b a h = record {
-  not-mark = by (byte == mark) (byte == newline && not (i.before == backslash))
-      (sym (λ k. a k || not (stops (b k) i.before byte bytes)) ∙ h);
+  not-mark = by (byte == mark) (byte == newline && not (i.before == backslash)) on;
+  line = λ e. kept (byte == mark) (byte == newline) (i.before == backslash) (ap (λ b. b == newline) e) refl on;
   along = λ k. not (a k) && takes_next (b k) byte bytes;
 }
   where
+    on : (false || not (byte == mark || (byte == newline && not (i.before == backslash)))) ≡ true
+    on = sym (λ k. a k || not (stops (b k) i.before byte bytes)) ∙ h
+
     by : (m n : Bool) → (false || not (m || n)) ≡ true → m ≡ false
     by true n h = absurd cc
     by false n h = refl
+
+    kept : (m n k : Bool) → n ≡ true → (i.before == backslash) ≡ k → (false || not (m || (n && not k))) ≡ true
+        → i.before ≡ backslash
+    kept m n true e f h = eqb-true i.before backslash f
+    kept true n false e f h = absurd cc
+    kept false true false e f h = absurd cc
+    kept false false false e f h = absurd cc
 
 piece-one : (mark byte : ℕ) → (byte == backslash) ≡ false → (byte == mark) ≡ false
     → is_piece mark (byte ∷ []) ≡ true
 piece-one mark byte h g = λ k. not (h k || g k)
 
 split-none : (mark : ℕ) (i : Inside) → Split mark i []
-split-none mark i = record { pieces = []; are = tt; rest = []; whole = refl; stops-so = omega arith }
+split-none mark i = record { pieces = []; are = tt; rest = []; lines = tt; whole = refl; stops-so = omega arith }
 
 split : (mark : ℕ) → (at_sign == mark) ≡ false → (i : Inside) (bytes : List ℕ) → i.body ≡ bodies.Quoted mark
     → i.along ≡ false → Split mark i bytes
@@ -148,6 +174,7 @@ split mark k i (x ∷ []) b a = by (goes_on i (x ∷ [])) refl
     kind : (t : Bool) → (x == backslash) ≡ t → goes_on i (x ∷ []) ≡ true → Split mark i (x ∷ [])
     kind true e h = last-on mark i x h (eqb-true x backslash e)
     kind false e h = one-on mark i x [] h (piece-one mark x e (going mark i x [] b a h).not-mark)
+        (going mark i x [] b a h).line
         (split-none mark (stepped i x []))
 
     by : (t : Bool) → goes_on i (x ∷ []) ≡ t → Split mark i (x ∷ [])
@@ -163,6 +190,9 @@ split mark k i (x ∷ y ∷ ys) b a =
     then-free : (stepped i x (y ∷ ys)).along ≡ true → (stepped (stepped i x (y ∷ ys)) y ys).along ≡ false
     then-free e = ap (λ t. not t && takes_next i.body y ys) e
 
+    no-newline : at_sign ≡ newline → ⊥
+    no-newline e = let wrong : false ≡ true = ap (λ b. b == newline) e in cc
+
     kind : (t u : Bool) → (x == backslash) ≡ t → (x == at_sign && y == at_sign) ≡ u
         → goes_on i (x ∷ y ∷ ys) ≡ true
         → ((stepped i x (y ∷ ys)).along ≡ false → Split mark (stepped i x (y ∷ ys)) (y ∷ ys))
@@ -172,17 +202,18 @@ split mark k i (x ∷ y ∷ ys) b a =
         let g = going mark i x (y ∷ ys) b a h in
         let along : (stepped i x (y ∷ ys)).along ≡ true =
         g.along ∙ ap (λ t. t || (x == at_sign && y == at_sign)) e in
-        two-on mark i x y ys h (taken along) e (two (then-free along))
+        two-on mark i x y ys h (taken along) e g.line (two (then-free along))
     kind false true e f h one two =
         let g = going mark i x (y ∷ ys) b a h in
         let along : (stepped i x (y ∷ ys)).along ≡ true = g.along ∙ (λ j. e j || f j) in
         let y-is : y ≡ at_sign = eqb-true y at_sign (both-right (x == at_sign) (y == at_sign) f) in
-        one-on mark i x (y ∷ ys) h (piece-one mark x e g.not-mark)
+        one-on mark i x (y ∷ ys) h (piece-one mark x e g.not-mark) g.line
         (one-on mark (stepped i x (y ∷ ys)) y ys (taken along)
-        (piece-one mark y (ap (λ b. b == backslash) y-is) (ap (λ b. b == mark) y-is ∙ k)) (two (then-free along)))
+        (piece-one mark y (ap (λ b. b == backslash) y-is) (ap (λ b. b == mark) y-is ∙ k))
+        (λ e. absurd (no-newline (sym y-is ∙ e))) (two (then-free along)))
     kind false false e f h one two =
         let g = going mark i x (y ∷ ys) b a h in
-        one-on mark i x (y ∷ ys) h (piece-one mark x e g.not-mark) (one (g.along ∙ (λ j. e j || f j)))
+        one-on mark i x (y ∷ ys) h (piece-one mark x e g.not-mark) g.line (one (g.along ∙ (λ j. e j || f j)))
 
     by : (t : Bool) → goes_on i (x ∷ y ∷ ys) ≡ t
         → ((stepped i x (y ∷ ys)).along ≡ false → Split mark (stepped i x (y ∷ ys)) (y ∷ ys))
@@ -211,6 +242,7 @@ string-is mark place bytes h =
       quotes = h;
       pieces = s.pieces;
       are = s.are;
+      lines = lines-behind (bytes_in s.pieces) s.lines;
       rest = s.rest;
       whole = ap (λ l. mark ∷ l) s.whole;
       ends = ends (bytes_in s.pieces) s.rest s.whole s.stops-so;
@@ -234,8 +266,20 @@ string-is mark place bytes h =
     newline-other : (newline == mark) ≡ false
     newline-other = mark-is (λ m. (newline == m) ≡ false) mark h refl refl
 
-    ends : (front rest : List ℕ) → bytes ≡ front ++ rest → Stops mark (length front) inside rest
-        → StringEnds mark (1 + length front) (1 + size) rest
+    no-zero : 0 ≡ backslash → ⊥
+    no-zero e = let wrong : false ≡ true = ap (λ b. b == backslash) e in cc
+
+    lines-behind : (front : List ℕ) → LinesGoOn 0 front → LinesGoOn mark front
+    lines-behind [] l = tt
+    lines-behind (x ∷ xs) l = (λ e. absurd (no-zero (l.0 e)), l.1)
+
+    last-behind : (front : List ℕ) → (last_after 0 front == backslash) ≡ false
+        → (last_after mark front == backslash) ≡ false
+    last-behind [] l = mark-is (λ m. (m == backslash) ≡ false) mark h refl refl
+    last-behind (x ∷ xs) l = l
+
+    ends : (front rest : List ℕ) → bytes ≡ front ++ rest → Stops mark (last_after 0 front) (length front) inside rest
+        → StringEnds mark (last_after mark front) (1 + length front) (1 + size) rest
     ends front [] w e = omega (arith, e, closed-or-not [] false (rest-is front [] w e) refl)
     ends front (y ∷ ys) w (inl e) = inl (
       e.0,
@@ -248,10 +292,11 @@ string-is mark place bytes h =
     )
     ends front (y ∷ ys) w (inr (inl e)) = inr (inl (
       e.0,
+      last-behind front e.1,
       omega (
         arith,
-        e.1,
-        closed-or-not (y ∷ ys) false (rest-is front (y ∷ ys) w e.1)
+        e.2,
+        closed-or-not (y ∷ ys) false (rest-is front (y ∷ ys) w e.2)
             (ap (λ b. b == mark && true) e.0 ∙ ap (λ t. t && true) newline-other),
       ),
     ))

@@ -1,6 +1,7 @@
 -- Where strings end.
 use Rattle.std.specs.Prelude.{◌≡◌, ℕ, ◌+◌, Bool, true, false, not, ◌||◌, ◌==◌, List, [], ◌∷◌, ◌++◌, ◌⊎◌, length}
 use Rattle.cw_rules.specs.Bytes.{newline, backslash, quote, apostrophe}
+use Rattle.cw_lex.specs.Lexing.{last_after}
 
 -- A piece of the inside of a string: a backslash with the byte behind it, or a byte that is neither a backslash nor the
 -- quote.
@@ -18,13 +19,19 @@ abbrev pub bytes_in : List (List ℕ) → List ℕ
 bytes_in [] = []
 bytes_in (piece ∷ pieces) = piece ++ bytes_in pieces
 
--- Behind so many bytes a string of this size ends, where these bytes follow: with its quote, before a line's end, or
--- with the text, of which the last byte may be a backslash.
-abbrev pub StringEnds : ℕ → ℕ → ℕ → List ℕ → Type 0
-StringEnds mark inside size [] = size ≡ inside
-StringEnds mark inside size (byte ∷ bytes) =
+-- A line's end goes on where a backslash stands before it: `before` is the byte before these.
+abbrev pub LinesGoOn : ℕ → List ℕ → Type 0
+LinesGoOn before [] = Unit {0}
+LinesGoOn before (byte ∷ bytes) = (byte ≡ newline → before ≡ backslash) × LinesGoOn byte bytes
+
+-- Behind so many bytes, of which `last` is the last one, a string of this size ends, where these bytes follow: with its
+-- quote, before a line's end behind no backslash, or with the text, of which the last byte may be a backslash.
+abbrev pub StringEnds : ℕ → ℕ → ℕ → ℕ → List ℕ → Type 0
+StringEnds mark last inside size [] = size ≡ inside
+StringEnds mark last inside size (byte ∷ bytes) =
     ((byte ≡ mark) × (size ≡ inside + 1))
-    ⊎ (((byte ≡ newline) × (size ≡ inside)) ⊎ ((byte ≡ backslash) × (bytes ≡ []) × (size ≡ inside + 1)))
+    ⊎ (((byte ≡ newline) × ((last == backslash) ≡ false) × (size ≡ inside))
+    ⊎ ((byte ≡ backslash) × (bytes ≡ []) × (size ≡ inside + 1)))
 
 -- A string of this size stands before other bytes: its quote, pieces, and its end.
 pub record IsString (bytes : List ℕ) (size : ℕ) : Type 0 where
@@ -32,6 +39,7 @@ pub record IsString (bytes : List ℕ) (size : ℕ) : Type 0 where
   pub quotes : (mark == quote || mark == apostrophe) ≡ true
   pub pieces : List (List ℕ)
   pub are : ArePieces mark pieces
+  pub lines : LinesGoOn mark (bytes_in pieces)
   pub rest : List ℕ
   pub whole : bytes ≡ mark ∷ (bytes_in pieces ++ rest)
-  pub ends : StringEnds mark (1 + length (bytes_in pieces)) size rest
+  pub ends : StringEnds mark (last_after mark (bytes_in pieces)) (1 + length (bytes_in pieces)) size rest
