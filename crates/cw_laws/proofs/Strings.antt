@@ -66,7 +66,8 @@ one-on mark i byte bytes h p line s = record {
   stops-so =
       subst (λ n. Stops mark (last_after byte (bytes_in s.pieces)) n ((ended i (byte ∷ bytes)).place - i.place) s.rest)
       (omega arith)
-      (more-stops mark (last_after byte (bytes_in s.pieces)) 1 (length (bytes_in s.pieces)) _ ((ended i (byte ∷ bytes)).place - i.place) s.rest
+      (more-stops mark (last_after byte (bytes_in s.pieces)) 1 (length (bytes_in s.pieces)) _
+      ((ended i (byte ∷ bytes)).place - i.place) s.rest
       (step-size i byte bytes h) s.stops-so);
 }
 
@@ -85,7 +86,8 @@ two-on mark i byte next bytes h g p line s = record {
       subst (λ n. Stops mark (last_after next (bytes_in s.pieces)) n ((ended i (byte ∷ next ∷ bytes)).place - i.place)
       s.rest)
       (omega arith)
-      (more-stops mark (last_after next (bytes_in s.pieces)) 2 (length (bytes_in s.pieces)) _ ((ended i (byte ∷ next ∷ bytes)).place - i.place) s.rest
+      (more-stops mark (last_after next (bytes_in s.pieces)) 2 (length (bytes_in s.pieces)) _
+      ((ended i (byte ∷ next ∷ bytes)).place - i.place) s.rest
       (omega (
         arith,
         step-size i byte (next ∷ bytes) h,
