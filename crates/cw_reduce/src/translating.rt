@@ -1,6 +1,6 @@
 //! The translation of a C text.
 ghost use Rattle.std.specs.Prelude.{◌≡◌, ◌+◌, ◌*◌, ◌^◌, ◌<◌, ◌≤◌, [], ◌∷◌, length, true, false, IfOk};
-ghost use Rattle.std.specs.Prelude.{OnOk, OnErr, None};
+ghost use Rattle.std.specs.Prelude.{OnOk, OnErr, None, is_some};
 ghost use Rattle.cw_table.specs.Productions.{productions};
 ghost use Rattle.cw_tokens.specs.Shapes.{unfolded};
 ghost use Rattle.cw_answers.specs.Reading.{IsReadUp};
@@ -11,6 +11,9 @@ ghost use Rattle.cw_scraps.specs.Lines.{AreRoots, IsNamedBelow};
 ghost use Rattle.cw_scraps.specs.Marking.{marked_names};
 ghost use Rattle.cw_translator.specs.Counting.{limit_in, productions_in, scraps_in, ticks_in};
 ghost use Rattle.cw_reduce.specs.Heading.{NamesOfText};
+ghost use Rattle.cw_reduce.specs.TranslationLaws.{ReadsInText};
+ghost use Rattle.cw_reduce.specs.Visible.{shown};
+ghost use Rattle.cw_trees.specs.Flat.{struck};
 ghost use Rattle.cw_translator.specs.NameParts.{AreNamesOf, name_texts};
 ghost use Rattle.cw_translator.specs.Opening.{IsTranslated, StartsBelow};
 ghost use Rattle.cw_translator.specs.Translating.{translated};
@@ -116,6 +119,12 @@ pub fn translate<L: Ledger>(
     ensures steps { OnOk result (steps.new ≡ steps.old + ticks_in flags.now
         (translated flags.now (name_texts sec_names.now uses.now) (tokens_of text.now span.start span.end mode)
         names.old (marked_names marks.old)).known.ended) }
+    // Each token that is shown stands in the tree once and in order, and read from text, the tree ends in text, as each
+    // inner text in it does.
+    ensures shown { IfOk result (λ done. struck (unfolded store.new.lists done.list.index) ≡
+        shown (λ number. is_some (name_texts sec_names.now uses.now number))
+        (tokens_of text.now span.start span.end mode)) }
+    ensures mode { IfOk result (λ done. ReadsInText (unfolded store.new.lists done.list.index)) }
     // Whatever it answers: of each text of n scraps 132 n steps, and n for each production by a row that reserves.
     ensures bound { steps.new ≤ steps.old + limit_in flags.now (translated flags.now (name_texts sec_names.now uses.now)
         (tokens_of text.now span.start span.end mode) names.old (marked_names marks.old)).known.ended }
