@@ -1,4 +1,4 @@
--- The laws of the book and of the scanner's answers.
+-- The laws of the book, of the scanner's answers and of TeX text.
 mod Rows
 pub mod SectionCodes
 pub mod Openers
@@ -10,3 +10,4 @@ pub mod HashLines
 pub mod WhiteSpace
 pub mod Strings
 pub mod Longest
+pub mod PlainText

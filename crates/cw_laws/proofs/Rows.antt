@@ -1,4 +1,4 @@
--- A worked web with its pieces, and worked C parts with their tokens.
+-- A worked web with its pieces, worked C parts with their tokens, and worked limbo.
 use Rattle.std.proofs.Common.{◌≡◌, ℕ, false, List, [], ◌∷◌, codes, length, refl, arith}
 use Rattle.cw_base.specs.declared.span.Span.{Span}
 use Rattle.cw_base.specs.Web.{MergedLine, text_of}
@@ -11,8 +11,10 @@ use Rattle.cw_lex.specs.Lexing.{tokens_of}
 use Rattle.cw_lex.specs.Openings.{tokens_in}
 use Rattle.cw_phase1.specs.Book.{book}
 use Rattle.cw_phase1.specs.Sections.{span}
+use Rattle.cw_texpart.specs.Limbo.{limbo_text}
 use Rattle.cw_laws.specs.NotePlaces.{NotesLie}
 use Rattle.cw_laws.specs.Pieces.{book_pieces, piece_bytes, pieces_with}
+use Rattle.cw_laws.specs.TexText.{kept_bytes, last_line_ended}
 
 abbrev line : List ℕ → ℕ → MergedLine
 line text n = record { text = text; place = record { file = 0; line = n }; changed = false }
@@ -62,3 +64,14 @@ another_line = refl
 -- a string with a quote behind a backslash
 a_string : kinds_in (34 ∷ 92 ∷ 34 ∷ 34 ∷ 97 ∷ []) ≡ kinds.Quoted ∷ kinds.Identifier ∷ []
 a_string = refl
+
+-- In limbo a bar and a backslash are bytes as others. An empty line stays, and the last line is ended.
+a_limbo : limbo_text (codes "a|b\n\n\\c") (span 0 7) ≡ codes "a|b\n\n\\c\n"
+a_limbo = refl
+
+-- Its first line's end is dropped where other bytes stand before it on its line.
+no_first_end : limbo_text (codes "a\nb") (span 1 3) ≡ codes "b\n"
+no_first_end = refl
+
+the_kept : last_line_ended (kept_bytes (codes "a\nb") (span 1 3)) ≡ codes "b\n"
+the_kept = refl

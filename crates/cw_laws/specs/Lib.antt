@@ -1,7 +1,8 @@
 -- The words of the laws: where the pieces of a web lie, where the scanner's notes do, what stands between tokens, where
--- strings end, and how long tokens are.
+-- strings end, how long tokens are, and what TeX text prints.
 pub mod Pieces
 pub mod NotePlaces
 pub mod WhiteSpace
 pub mod Strings
 pub mod Longest
+pub mod TexText

@@ -1,0 +1,9 @@
+//! The law of what limbo and TeX text print.
+ghost use Rattle.cw_laws.specs.TexText.{PlainTextIsKept};
+
+/// The law of TeX text: where it has no `@`, and in a TeX part no bar, it is printed byte for byte, and no C text is in
+/// it. Only line ends come or go: a last line without one gets one, and one with which limbo begins is dropped where
+/// other bytes stand before it on its line. It does nothing: what it ensures is for proofs.
+pub fn tex_text_law()
+    ensures { PlainTextIsKept }
+{}
