@@ -291,9 +291,10 @@ plain-text-is-kept = record { limbo = limbo; no_c_text = no-c-text; tex = tex }
     limbo : (text : List ℕ) (part : Span) → HasNo at_sign (bytes_of text part)
         → limbo_text text part ≡ last_line_ended (kept_bytes text part)
     limbo text part h =
+        let fresh : Bool = fresh_at (take part.end text) part.start in
+        let last : ℕ = last_at (take part.end text) part.start in
         ap (λ (l : List Answer). laid false (inks text l))
-        (scanned-is modes.Limbo text part ∙ limbo-answers (bytes_of text part) (fresh_at (take part.end text) part.start)
-        (last_at (take part.end text) part.start) part.start h)
+        (scanned-is modes.Limbo text part ∙ limbo-answers (bytes_of text part) fresh last part.start h)
         ∙ ap (laid false) (text-inks text part.start (bytes_of text part) (same-bytes text part))
         ∙ laid-limbo text part.start (bytes_of text part) (stand text part)
 
