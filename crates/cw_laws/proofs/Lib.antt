@@ -11,3 +11,5 @@ pub mod WhiteSpace
 pub mod Strings
 pub mod Longest
 pub mod PlainText
+mod Endings
+mod FileLaws

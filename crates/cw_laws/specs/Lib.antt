@@ -6,3 +6,4 @@ pub mod WhiteSpace
 pub mod Strings
 pub mod Longest
 pub mod TexText
+pub mod Files

@@ -1,0 +1,141 @@
+-- Each file of a run ends in a line, so all its bytes are written.
+use Rattle.std.proofs.Common.{◌≡◌, ℕ, Bool, true, false, refl, ap, ◌∙◌, List, [], ◌∷◌, ◌++◌, Option, Some, None, codes}
+use Rattle.std.proofs.Common.{inl, inr, map, slice_get}
+use Rattle.std.proofs.lemmas.Cmp.{nat_list_eq_equiv}
+use Rattle.std.specs.List.{flat_map, list_any}
+use Rattle.cw_base.specs.declared.event.Event.{Event}
+use Rattle.cw_base.specs.declared.event.Event.TheVariants.{Drafted, Kept}
+use Rattle.cw_input.specs.declared.words.CommandLine.{CommandLine}
+use Rattle.cw_lines.specs.Cut.{CutLine, cut, written}
+use Rattle.cw_lines.specs.Line.{line_events}
+use Rattle.cw_names.specs.Names.{Entry}
+use Rattle.cw_phase1.specs.declared.book.Book.{Book}
+use Rattle.cw_phase1.specs.declared.sections.Section.{Section}
+use Rattle.cw_secnames.specs.Kept.{SecName}
+use Rattle.cw_rules.specs.declared.tokens.Mode.TheVariants.{Inner}
+use Rattle.cw_part.specs.Footnotes.{footnote, footnote_numbers, number_in, of_kept, use_footnotes}
+use Rattle.cw_texpart.specs.Limbo.{limbo_bytes}
+use Rattle.cw_texpart.specs.Texts.{Setting, setting, text_done}
+use Rattle.cw_index.specs.Closing.{closing_by, closing_lines, last_line}
+use Rattle.cw_index.specs.Index.{entry_bytes, row_bytes, section_bytes}
+use Rattle.cw_index.specs.Mentions.{Row, index_rows}
+use Rattle.cw_index.specs.NameList.{all_listed, listed_done, name_ending, name_span, use_notes}
+use Rattle.cw_index.specs.Standing.{listed_names}
+use Rattle.cw_run.specs.Files.{OutFile, is_same, settled_if}
+use Rattle.cw_weave.specs.TexFile.{all_sections, left_by, tex_file}
+use Rattle.cw_weave.specs.Woven.{index_files, index_of, index_out, list_out, name_list, tex_out}
+use Rattle.cw_laws.specs.Files.{AreWritten, EndInLine, FilesAreWhole, IsWritten, files_of}
+use Rattle.cw_laws.proofs.Endings.{all-end, behind-any, both-end, none-pending}
+
+-- byte 10 is the last
+abbrev Ends : List ℕ → Type 0
+Ends bytes = (front : List ℕ) × (bytes ≡ front ++ 10 ∷ [])
+
+lines-end : (lines : List CutLine) → EndInLine (written lines)
+lines-end lines = all-end (λ (line : CutLine). line.text ++ 10 ∷ []) (λ line. inr (line.text, refl)) lines
+
+is-written : (f : OutFile) → EndInLine f.bytes → IsWritten f
+is-written f ended = record { whole = none-pending f.bytes ended; ends = lines-end (cut f.bytes).lines }
+
+-- ## The TeX file
+
+last-line : (starred : Bool) → Ends (last_line starred)
+last-line true = (codes "\\con", refl)
+last-line false = (codes "\\end", refl)
+
+closing-ends : (index starred : Bool) → Ends (closing_by index starred)
+closing-ends true starred = behind-any (codes "\\inx\n\\fin\n") (last_line starred) (last-line starred)
+closing-ends false starred = (codes "\\end", refl)
+
+tex-ends : (line : CommandLine) (text : List ℕ) (b : Book) → EndInLine (tex_file text line.flags b).out
+tex-ends line text b =
+    let closing : List ℕ = closing_lines line.flags.index b.outline.sections in
+    inr (behind-any (limbo_bytes text b.outline.limbo) ((all_sections text line.flags b).out ++ closing)
+    (behind-any (all_sections text line.flags b).out closing
+    (closing-ends line.flags.index (list_any (λ (section : Section). section.starred) b.outline.sections))))
+
+-- ## The index
+
+row-ends : (sections : List Section) (row : Row) → Ends (row_bytes sections row)
+row-ends sections row =
+    let refs : List ℕ = flat_map (section_bytes sections) row.sections in
+    behind-any (codes "\\I") (entry_bytes row.entry ++ (refs ++ codes ".\n"))
+    (behind-any (entry_bytes row.entry) (refs ++ codes ".\n") (behind-any refs (codes ".\n") (codes ".", refl)))
+
+index-ends : (left : Book) → EndInLine (index_of left)
+index-ends left =
+    all-end (row_bytes left.outline.sections) (λ row. inr (row-ends left.outline.sections row))
+    (index_rows left.names left.xrefs)
+
+-- ## The list of section names
+
+footnote-ends : (sections : List Section) (letter : List ℕ) (ns : List ℕ) → EndInLine (footnote sections letter ns)
+footnote-ends sections letter [] = inl refl
+footnote-ends sections letter (n ∷ ns) =
+    let numbers : List ℕ = footnote_numbers (map (number_in sections) (n ∷ ns)) in
+    inr (behind-any (letter ++ numbers) (codes ".\n") (codes ".", refl))
+
+uses-end : (sections : List Section) (name : SecName) → EndInLine (use_footnotes sections name)
+uses-end sections name =
+    both-end (footnote sections (codes "\\Q") name.cited) (footnote sections (codes "\\U") name.used)
+    (footnote-ends sections (codes "\\Q") name.cited) (footnote-ends sections (codes "\\U") name.used)
+
+kept-ends : (sections : List Section) (name : Option SecName) → EndInLine (of_kept (use_footnotes sections) name)
+kept-ends sections None = inl refl
+kept-ends sections (Some name) = uses-end sections name
+
+names-uses : (s : Setting) (l : _) → EndInLine (use_notes s.book l)
+names-uses s l = kept-ends s.book.outline.sections (slice_get s.book.sec_names l.id.index)
+
+line-then : (bytes : List ℕ) → EndInLine bytes → Ends (codes "\n" ++ bytes)
+line-then bytes (inl is) = ([], ap (λ (bytes : List ℕ). codes "\n" ++ bytes) is)
+line-then bytes (inr ended) = behind-any (codes "\n") bytes ended
+
+name-ends : (s : Setting) (l : _) (names : List Entry) → EndInLine (listed_done s l names).out
+name-ends s l names =
+    let text : List ℕ = (text_done s Inner false (name_span s.text l.place) names).out in
+    inr (behind-any (codes "\\I") (text ++ name_ending s l)
+    (behind-any text (name_ending s l) (line-then (use_notes s.book l) (names-uses s l))))
+
+names-end : (s : Setting) (ls : List _) (names : List Entry) → EndInLine (all_listed s ls names).out
+names-end s [] names = inl refl
+names-end s (l ∷ ls) names =
+    both-end (listed_done s l names).out (all_listed s ls (listed_done s l names).names).out (name-ends s l names)
+    (names-end s ls (listed_done s l names).names)
+
+-- ## All files
+
+index-written : (t : Bool) (line : CommandLine) (text : List ℕ) (left : Book)
+    → AreWritten (index_files t line text left)
+index-written false line text left = tt
+index-written true line text left = (
+  is-written (index_out line.outputs (index_of left)) (index-ends left),
+  (
+    is-written (list_out line.outputs (name_list text line.flags left).out)
+        (names-end (setting text line.flags 0 left)
+        (listed_names text left.sec_names left.name_uses) left.names),
+    tt,
+  ),
+)
+
+all-written : (line : CommandLine) (text : List ℕ) (b : Book) → AreWritten (files_of line text b)
+all-written line text b =
+    let tex : List ℕ = (tex_file text line.flags b).out in (
+      is-written (tex_out line.outputs tex) (tex-ends line text b),
+      index-written line.flags.index line text (left_by text line.flags b (tex_file text line.flags b)),
+    )
+
+kept-same : (f : OutFile) (old : Option (List ℕ)) → old ≡ Some (written (cut f.bytes).lines)
+    → settled_if true (is_same old (written (cut f.bytes).lines)) f.out ≡ Kept f.out ∷ []
+kept-same f old is =
+    let bytes : List ℕ = written (cut f.bytes).lines in
+    ap (λ (old : Option (List ℕ)). settled_if true (is_same old bytes) f.out) is
+    ∙ ap (λ (same : Bool). settled_if true same f.out) (nat_list_eq_equiv.refl bytes)
+
+pub files-whole : FilesAreWhole
+files-whole = record {
+  all = all-written;
+  kept = λ f named is.
+      ap (λ (end : List Event). Drafted f.out f.name ∷ (line_events f.out (cut f.bytes).lines ++ end))
+      (kept-same f (named f.name) is);
+}
