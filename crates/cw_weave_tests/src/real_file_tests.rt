@@ -316,23 +316,18 @@ fn failing_in_memory(alloc: Global, run: &Failing) -> Result<Answered, Memory> {
     Ok((exit, heard))
 }
 
+/// Whether the system's answers are those of a failing desk in memory, and the status of the whole program.
+fn failing_run(rt: HostRuntime, run: &Failing) -> Result<(bool, u8), Fail> {
+    let real = weave_real(rt, run.words)?;
+    let wanted = failing_in_memory(rt.alloc(), run)?;
+    Ok((real == wanted, status_of(rt, run.words)?))
+}
+
 #[test]
 fn a_failing_system_answers_as_a_failing_desk(rt: HostRuntime) -> Result<(), Fail> {
     make_traps(rt)?;
     for run in &FAILING {
-        assert_eq!(rt;
-            weave_real(rt, run.words)?,
-            failing_in_memory(rt.alloc(), run)?
-        );
-    }
-    Ok(())
-}
-
-#[test]
-fn a_failing_device_ends_the_program(rt: HostRuntime) -> Result<(), Fail> {
-    make_traps(rt)?;
-    for run in &FAILING {
-        assert_eq!(rt; status_of(rt, run.words)?, 2);
+        assert_eq!(rt; failing_run(rt, run)?, (true, 2));
     }
     Ok(())
 }
