@@ -21,7 +21,7 @@ use Rattle.cw_rules.specs.Tokens.{is_tex_inner, sign_or_other, inner_cut, commen
 use Rattle.cw_rules.specs.Tokens.{code_by, in_code, start_of, code_text, comment_text, in_text, section, found, is_deep}
 use Rattle.cw_lex.specs.Parts.{closing_bar}
 use Rattle.cw_rules.specs.Signs.{all_signs, longest}
-use Rattle.cw_rules.proofs.BarRules.{tex_inner}
+use Rattle.cw_rules.proofs.InnerTwins.{tex_inner}
 use Rattle.cw_rules.proofs.Choices.{if-both, and-none}
 use Rattle.cw_rules.proofs.InnerTwins.{alone, in_tex, in_text-twin}
 use Rattle.cw_lex.proofs.Openings.{section-cuts, not-both, uncut-right}

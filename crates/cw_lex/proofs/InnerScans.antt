@@ -23,7 +23,7 @@ use Rattle.cw_rules.proofs.Ahead.{drop-same, take-same}
 use Rattle.cw_lex.proofs.Walk.{fresh-more, last-more}
 use Rattle.cw_lex.proofs.Covering.{drop-part}
 use Rattle.cw_lex.proofs.PartScans.{begins-byte}
-use Rattle.cw_rules.proofs.BarRules.{tex_inner}
+use Rattle.cw_rules.proofs.InnerTwins.{tex_inner}
 use Rattle.cw_rules.proofs.InnerTwins.{alone, found-twin}
 
 -- ## Where the bar stands

@@ -42,7 +42,7 @@ use Rattle.cw_lex.proofs.InnerScans.{inner-ends-at-bar}
 use Rattle.cw_rules.proofs.NameEnds.{name-take}
 use Rattle.cw_lex.proofs.Openings.{not-both, section-cuts, bare-uncut}
 use Rattle.cw_lex.proofs.FirstTokens.{notes-sign, begun}
-use Rattle.cw_rules.proofs.BarRules.{tex_inner}
+use Rattle.cw_rules.proofs.InnerTwins.{tex_inner}
 use Rattle.cw_rules.proofs.Sizes.{extent-le}
 use Rattle.cw_lex.proofs.PartScans.{ends-with-text}
 use Rattle.cw_rules.proofs.Taking.{AreNotes, found-takes, bare-all-cut}

@@ -1,4 +1,4 @@
--- What the rules for tokens see of the bytes ahead, where an `@` stands that no token takes.
+-- What the rules for tokens see of the bytes ahead, where an `@` or a bar stands that no token takes.
 use Rattle.std.proofs.Common.{◌≡◌, ℕ, zero, suc, ◌+◌, ◌≤◌, Bool, true, false, ◌&&◌, ◌||◌, not, ◌==◌, nat_lt, List, []}
 use Rattle.std.proofs.Common.{◌∷◌, ◌++◌, codes, length, take, drop, refl, sym, ap, ◌∙◌, arith}
 use Rattle.std.specs.Prelude.{if◌then◌else◌}
@@ -30,51 +30,150 @@ take-same zero bs more h = refl
 take-same (suc n) [] more h = absurd (omega arith)
 take-same (suc n) (b ∷ bs) more h = ap (λ l. b ∷ l) (take-same n bs more (omega arith))
 
--- The bytes behind the `@` are any.
-module _ (more : List ℕ) where
-  pub begins-same : (wanted : ℕ) (bs : List ℕ) → (64 == wanted) ≡ false → begins wanted (bs ++ 64 ∷ more)
+-- the byte before which the text may end
+pub data Stop : Type 0 where
+  At : Stop
+  Bar : Stop
+
+abbrev pub byte_of : Stop → ℕ
+byte_of At = 64
+byte_of Bar = 124
+
+-- what holds of both holds of either
+pub of-both : (test : ℕ → Bool) (is : Bool) (s : Stop) → test 64 ≡ is → test 124 ≡ is → test (byte_of s) ≡ is
+of-both test is At a b = a
+of-both test is Bar a b = b
+
+-- the byte is no bar that stands right before the other
+abbrev pub IsApart : Stop → ℕ → List ℕ → Type 0
+IsApart Bar byte [] = (byte == 124) ≡ false
+IsApart _ _ _ = Unit {0}
+
+pub apart-on : (s : Stop) (byte b : ℕ) (bs : List ℕ) → IsApart s byte (b ∷ bs)
+apart-on At byte b bs = tt
+apart-on Bar byte b bs = tt
+
+-- ## A byte that a test doesn't take
+
+module _ (stop : ℕ) (more : List ℕ) where
+  pub begins-before : (wanted : ℕ) (bs : List ℕ) → (stop == wanted) ≡ false → begins wanted (bs ++ stop ∷ more)
       ≡ begins wanted bs
-  begins-same wanted [] h = h
-  begins-same wanted (b ∷ bs) h = refl
+  begins-before wanted [] h = h
+  begins-before wanted (b ∷ bs) h = refl
 
-  pub begins_by-same : (test : ℕ → Bool) (bs : List ℕ) → test 64 ≡ false → begins_by test (bs ++ 64 ∷ more)
+  begins_by-before : (test : ℕ → Bool) (bs : List ℕ) → test stop ≡ false → begins_by test (bs ++ stop ∷ more)
       ≡ begins_by test bs
-  begins_by-same test [] h = h
-  begins_by-same test (b ∷ bs) h = refl
+  begins_by-before test [] h = h
+  begins_by-before test (b ∷ bs) h = refl
 
-  pub with-same : (wanted bs : List ℕ) → list_any (λ w. 64 == w) wanted ≡ false → begins_with wanted (bs ++ 64 ∷ more)
-      ≡ begins_with wanted bs
-  with-same [] bs h = refl
-  with-same (w ∷ ws) [] h = ap (λ t. t && begins_with ws more) (or-first (64 == w) (list_any (λ w. 64 == w) ws) h)
-  with-same (w ∷ ws) (b ∷ bs) h = ap (λ t. b == w && t)
-      (with-same ws bs (or-second (64 == w) (list_any (λ w. 64 == w) ws) h))
+  pub with-before : (wanted bs : List ℕ) → list_any (λ w. stop == w) wanted ≡ false
+      → begins_with wanted (bs ++ stop ∷ more) ≡ begins_with wanted bs
+  with-before [] bs h = refl
+  with-before (w ∷ ws) [] h =
+      ap (λ t. t && begins_with ws more) (or-first (stop == w) (list_any (λ w. stop == w) ws) h)
+  with-before (w ∷ ws) (b ∷ bs) h = ap (λ t. b == w && t)
+      (with-before ws bs (or-second (stop == w) (list_any (λ w. stop == w) ws) h))
 
-  pub run-same : (class : Class) (bs : List ℕ) → is_in class 64 ≡ false → run class (bs ++ 64 ∷ more) ≡ run class bs
-  run-same class [] h = ap (λ t. elim t [ true ↦ 1 + run class more | false ↦ 0 ]) h
-  run-same class (b ∷ bs) h = ap (λ n. elim (is_in class b) [ true ↦ 1 + n | false ↦ 0 ]) (run-same class bs h)
+  pub run-before : (class : Class) (bs : List ℕ) → is_in class stop ≡ false → run class (bs ++ stop ∷ more)
+      ≡ run class bs
+  run-before class [] h = ap (λ t. elim t [ true ↦ 1 + run class more | false ↦ 0 ]) h
+  run-before class (b ∷ bs) h = ap (λ n. elim (is_in class b) [ true ↦ 1 + n | false ↦ 0 ]) (run-before class bs h)
 
-  pub section-same : (bs : List ℕ) → begins_section (bs ++ 64 ∷ more) ≡ begins_section bs
-  section-same [] = refl
+-- ## The first byte of a rule is the stop
+
+pub section-before : (s : Stop) (more : List ℕ) → begins_section (byte_of s ∷ more) ≡ false
+section-before At more = refl
+section-before Bar more = refl
+
+no-hexadecimal : (s : Stop) (more : List ℕ) → hexadecimal (byte_of s ∷ more) ≡ 0
+no-hexadecimal At more = refl
+no-hexadecimal Bar more = refl
+
+no-x : (s : Stop) (b : ℕ) (more : List ℕ) → hexadecimal (b ∷ byte_of s ∷ more) ≡ hexadecimal (b ∷ [])
+no-x s b more =
+    let none = ap (λ t. b == digit_0 && t) (of-both (is_letter_of 120) false s refl refl) ∙ and-none (b == digit_0) in
+    ap (λ t. if t && nat_lt 0 (run classes.HexDigit more) then 2 + run classes.HexDigit more else 0) none
+    ∙ sym (ap (λ t. if t && nat_lt 0 0 then 2 + 0 else 0) (and-none (b == digit_0)))
+
+no-fraction : (s : Stop) (behind : Bool) (more : List ℕ) → fraction behind (byte_of s ∷ more) ≡ 0
+no-fraction At behind more = refl
+no-fraction Bar behind more = refl
+
+no-sign : (s : Stop) (more : List ℕ) → exponent_sign (byte_of s ∷ more) ≡ 0
+no-sign At more = refl
+no-sign Bar more = refl
+
+no-exponent : (s : Stop) (more : List ℕ) → exponent (byte_of s ∷ more) ≡ 0
+no-exponent At more = refl
+no-exponent Bar more = refl
+
+-- ## Signs
+
+no-at : (sign : Sign) → list_any (λ w. 64 == w) (spelling sign) ≡ false
+no-at signs.Slash = refl
+no-at _ = refl
+
+spelling-same : (s : Stop) (more : List ℕ) (sign : Sign) (byte : ℕ) (bs : List ℕ) → IsApart s byte bs
+    → begins_with (spelling sign) (byte ∷ (bs ++ byte_of s ∷ more)) ≡ begins_with (spelling sign) (byte ∷ bs)
+spelling-same At more sign byte bs h = with-before 64 more (spelling sign) (byte ∷ bs) (no-at sign)
+spelling-same Bar more signs.Bar byte bs h = refl
+spelling-same Bar more signs.OrOr byte [] h = (λ i. h i && begins_with (124 ∷ []) (124 ∷ more))
+    ∙ sym (λ i. h i && begins_with (124 ∷ []) [])
+spelling-same Bar more signs.OrOr byte (b ∷ bs) h = refl
+spelling-same Bar more signs.Slash byte bs h = with-before 124 more (spelling signs.Slash) (byte ∷ bs) refl
+spelling-same Bar more sign byte bs h = with-before 124 more (spelling sign) (byte ∷ bs) refl
+
+longest-same : (s : Stop) (more : List ℕ) (all : List Sign) (byte : ℕ) (bs : List ℕ) → IsApart s byte bs
+    → longest all (byte ∷ (bs ++ byte_of s ∷ more)) ≡ longest all (byte ∷ bs)
+longest-same s more [] byte bs h = refl
+longest-same s more (sign ∷ all) byte bs h =
+    λ i. longer (spelling-same s more sign byte bs h i) sign (longest-same s more all byte bs h i)
+
+bar-same : (s : Stop) (more : List ℕ) (ends : Bool) (byte : ℕ) (bs : List ℕ) → IsApart s byte bs
+    → (byte == bar && (ends && not (begins bar (bs ++ byte_of s ∷ more))))
+    ≡ (byte == bar && (ends && not (begins bar bs)))
+bar-same At more ends byte bs h = ap (λ t. byte == bar && (ends && not t)) (begins-before 64 more bar bs refl)
+bar-same Bar more ends byte [] h = (λ i. h i && (ends && not true)) ∙ sym (λ i. h i && (ends && not false))
+bar-same Bar more ends byte (b ∷ bs) h = refl
+
+-- The bytes behind the stop are any.
+module _ (s : Stop) (more : List ℕ) where
+  pub begins-same : (wanted : ℕ) (bs : List ℕ) → (64 == wanted) ≡ false → (124 == wanted) ≡ false
+      → begins wanted (bs ++ byte_of s ∷ more) ≡ begins wanted bs
+  begins-same wanted bs g h = begins-before (byte_of s) more wanted bs (of-both (λ b. b == wanted) false s g h)
+
+  begins_by-same : (test : ℕ → Bool) (bs : List ℕ) → test 64 ≡ false → test 124 ≡ false
+      → begins_by test (bs ++ byte_of s ∷ more) ≡ begins_by test bs
+  begins_by-same test bs g h = begins_by-before (byte_of s) more test bs (of-both test false s g h)
+
+  pub with-same : (wanted bs : List ℕ) → list_any (λ w. 64 == w) wanted ≡ false
+      → list_any (λ w. 124 == w) wanted ≡ false → begins_with wanted (bs ++ byte_of s ∷ more) ≡ begins_with wanted bs
+  with-same wanted bs g h =
+      with-before (byte_of s) more wanted bs (of-both (λ b. list_any (λ w. b == w) wanted) false s g h)
+
+  pub run-same : (class : Class) (bs : List ℕ) → is_in class 64 ≡ false → is_in class 124 ≡ false
+      → run class (bs ++ byte_of s ∷ more) ≡ run class bs
+  run-same class bs g h = run-before (byte_of s) more class bs (of-both (is_in class) false s g h)
+
+  pub section-same : (bs : List ℕ) → begins_section (bs ++ byte_of s ∷ more) ≡ begins_section bs
+  section-same [] = section-before s more
   section-same (b ∷ bs) = refl
 
   -- ## Constants
 
-  hexadecimal-same : (bs : List ℕ) → hexadecimal (bs ++ 64 ∷ more) ≡ hexadecimal bs
-  hexadecimal-same [] = refl
-  hexadecimal-same (b ∷ []) =
-      let none = and-none (b == digit_0) in
-      ap (λ t. if t && nat_lt 0 (run classes.HexDigit more) then 2 + run classes.HexDigit more else 0) none
-      ∙ sym (ap (λ t. if t && nat_lt 0 0 then 2 + 0 else 0) none)
+  hexadecimal-same : (bs : List ℕ) → hexadecimal (bs ++ byte_of s ∷ more) ≡ hexadecimal bs
+  hexadecimal-same [] = no-hexadecimal s more
+  hexadecimal-same (b ∷ []) = no-x s b more
   hexadecimal-same (b ∷ c ∷ bs) = ap (λ n. if (b == digit_0 && is_letter_of 120 c) && nat_lt 0 n then 2 + n else 0)
-      (run-same classes.HexDigit bs refl)
+      (run-same classes.HexDigit bs refl refl)
 
-  fraction-same : (behind : Bool) (bs : List ℕ) → fraction behind (bs ++ 64 ∷ more) ≡ fraction behind bs
-  fraction-same behind [] = refl
+  fraction-same : (behind : Bool) (bs : List ℕ) → fraction behind (bs ++ byte_of s ∷ more) ≡ fraction behind bs
+  fraction-same behind [] = no-fraction s behind more
   fraction-same behind (b ∷ bs) = ap (λ n. if b == dot && (behind || nat_lt 0 n) then 1 + n else 0)
-      (run-same classes.Digit bs refl)
+      (run-same classes.Digit bs refl refl)
 
-  sign-same : (bs : List ℕ) → exponent_sign (bs ++ 64 ∷ more) ≡ exponent_sign bs
-  sign-same [] = refl
+  sign-same : (bs : List ℕ) → exponent_sign (bs ++ byte_of s ∷ more) ≡ exponent_sign bs
+  sign-same [] = no-sign s more
   sign-same (b ∷ bs) = refl
 
   sign-le : (bs : List ℕ) → exponent_sign bs ≤ length bs
@@ -85,108 +184,102 @@ module _ (more : List ℕ) where
       by true = omega arith
       by false = omega arith
 
-  exponent-same : (bs : List ℕ) → exponent (bs ++ 64 ∷ more) ≡ exponent bs
-  exponent-same [] = refl
+  exponent-same : (bs : List ℕ) → exponent (bs ++ byte_of s ∷ more) ≡ exponent bs
+  exponent-same [] = no-exponent s more
   exponent-same (b ∷ bs) =
       let size : 1 + exponent_sign bs ≤ suc (length bs) = omega (arith, sign-le bs) in
-      let s = sign-same bs in
-      let digits = ap (run classes.Digit) (drop-same (1 + exponent_sign bs) (b ∷ bs) (64 ∷ more) size)
-      ∙ run-same classes.Digit (drop (1 + exponent_sign bs) (b ∷ bs)) refl in
-      (λ i. if is_letter_of 101 b && nat_lt 0 (run classes.Digit (drop (1 + s i) (b ∷ (bs ++ 64 ∷ more)))) then
-      (1 + s i) + run classes.Digit (drop (1 + s i) (b ∷ (bs ++ 64 ∷ more))) else 0)
+      let e = sign-same bs in
+      let digits = ap (run classes.Digit) (drop-same (1 + exponent_sign bs) (b ∷ bs) (byte_of s ∷ more) size)
+      ∙ run-same classes.Digit (drop (1 + exponent_sign bs) (b ∷ bs)) refl refl in
+      (λ i. if is_letter_of 101 b && nat_lt 0 (run classes.Digit (drop (1 + e i) (b ∷ (bs ++ byte_of s ∷ more)))) then
+      (1 + e i) + run classes.Digit (drop (1 + e i) (b ∷ (bs ++ byte_of s ∷ more))) else 0)
       ∙ ap (λ n. if is_letter_of 101 b && nat_lt 0 n then (1 + exponent_sign bs) + n else 0) digits
 
-  mantissa-same : (bs : List ℕ) → mantissa (bs ++ 64 ∷ more) ≡ mantissa bs
+  mantissa-same : (bs : List ℕ) → mantissa (bs ++ byte_of s ∷ more) ≡ mantissa bs
   mantissa-same bs =
-      let d = run-same classes.Digit bs refl in
-      let rest = ap (fraction (nat_lt 0 (run classes.Digit bs))) (drop-same (run classes.Digit bs) bs (64 ∷ more)
+      let d = run-same classes.Digit bs refl refl in
+      let rest = ap (fraction (nat_lt 0 (run classes.Digit bs))) (drop-same (run classes.Digit bs) bs (byte_of s ∷ more)
       (run-le classes.Digit bs)) ∙ fraction-same (nat_lt 0 (run classes.Digit bs))
       (drop (run classes.Digit bs) bs) in
-      (λ i. d i + fraction (nat_lt 0 (d i)) (drop (d i) (bs ++ 64 ∷ more))) ∙ ap (λ n. run classes.Digit bs + n) rest
+      (λ i. d i + fraction (nat_lt 0 (d i)) (drop (d i) (bs ++ byte_of s ∷ more)))
+      ∙ ap (λ n. run classes.Digit bs + n) rest
 
-  decimal-same : (bs : List ℕ) → decimal (bs ++ 64 ∷ more) ≡ decimal bs
+  decimal-same : (bs : List ℕ) → decimal (bs ++ byte_of s ∷ more) ≡ decimal bs
   decimal-same bs =
       let m = mantissa-same bs in
-      let rest = ap exponent (drop-same (mantissa bs) bs (64 ∷ more) (mantissa-le bs))
+      let rest = ap exponent (drop-same (mantissa bs) bs (byte_of s ∷ more) (mantissa-le bs))
       ∙ exponent-same (drop (mantissa bs) bs) in
-      (λ i. if nat_lt 0 (m i) then m i + exponent (drop (m i) (bs ++ 64 ∷ more)) else 0)
+      (λ i. if nat_lt 0 (m i) then m i + exponent (drop (m i) (bs ++ byte_of s ∷ more)) else 0)
       ∙ ap (λ n. if nat_lt 0 (mantissa bs) then mantissa bs + n else 0) rest
 
-  number-same : (bs : List ℕ) → number (bs ++ 64 ∷ more) ≡ number bs
+  number-same : (bs : List ℕ) → number (bs ++ byte_of s ∷ more) ≡ number bs
   number-same bs = λ i. if nat_lt 0 (hexadecimal-same bs i) then hexadecimal-same bs i else decimal-same bs i
 
-  pub constant-same : (bs : List ℕ) → constant (bs ++ 64 ∷ more) ≡ constant bs
+  pub constant-same : (bs : List ℕ) → constant (bs ++ byte_of s ∷ more) ≡ constant bs
   constant-same bs =
       let n = number-same bs in
-      let rest = ap (run classes.Suffix) (drop-same (number bs) bs (64 ∷ more) (number-le bs))
-      ∙ run-same classes.Suffix (drop (number bs) bs) refl in
-      (λ i. if nat_lt 0 (n i) then n i + run classes.Suffix (drop (n i) (bs ++ 64 ∷ more)) else 0)
+      let rest = ap (run classes.Suffix) (drop-same (number bs) bs (byte_of s ∷ more) (number-le bs))
+      ∙ run-same classes.Suffix (drop (number bs) bs) refl refl in
+      (λ i. if nat_lt 0 (n i) then n i + run classes.Suffix (drop (n i) (bs ++ byte_of s ∷ more)) else 0)
       ∙ ap (λ k. if nat_lt 0 (number bs) then number bs + k else 0) rest
 
-  -- ## Signs
+  -- ## What begins at a byte
 
-  no-at : (sign : Sign) → list_any (λ w. 64 == w) (spelling sign) ≡ false
-  no-at signs.Slash = refl
-  no-at _ = refl
-
-  longest-same : (all : List Sign) (bs : List ℕ) → longest all (bs ++ 64 ∷ more) ≡ longest all bs
-  longest-same [] bs = refl
-  longest-same (sign ∷ all) bs = λ i. longer (with-same (spelling sign) bs (no-at sign) i) sign (longest-same all bs i)
-
-  pub start_of-same : (ends : Bool) (byte : ℕ) (bs : List ℕ)
-      → ((byte == at_sign) ≡ true → code_at (bs ++ 64 ∷ more) ≡ code_at bs) → start_of ends byte (bs ++ 64 ∷ more)
-      ≡ start_of ends byte bs
-  start_of-same ends byte bs code =
+  pub start_of-same : (ends : Bool) (byte : ℕ) (bs : List ℕ) → IsApart s byte bs
+      → ((byte == at_sign) ≡ true → code_at (bs ++ byte_of s ∷ more) ≡ code_at bs)
+      → start_of ends byte (bs ++ byte_of s ∷ more) ≡ start_of ends byte bs
+  start_of-same ends byte bs apart code =
       if-same (is_letter byte) (is_letter byte) _ _ _ _ refl (λ e. refl)
-      (λ e. if-same (nat_lt 0 (constant (byte ∷ (bs ++ 64 ∷ more)))) (nat_lt 0 (constant (byte ∷ bs))) _ _ _ _
+      (λ e. if-same (nat_lt 0 (constant (byte ∷ (bs ++ byte_of s ∷ more)))) (nat_lt 0 (constant (byte ∷ bs))) _ _ _ _
       (ap (nat_lt 0) (constant-same (byte ∷ bs))) (λ e. refl)
       (λ e. if-same (byte == quote || byte == apostrophe) (byte == quote || byte == apostrophe) _ _ _ _ refl (λ e. refl)
-      (λ e. if-same (byte == slash && begins star (bs ++ 64 ∷ more)) (byte == slash && begins star bs) _ _ _ _
-      (ap (λ t. byte == slash && t) (begins-same star bs refl)) (λ e. refl)
-      (λ e. if-same (byte == slash && begins slash (bs ++ 64 ∷ more)) (byte == slash && begins slash bs) _ _ _ _
-      (ap (λ t. byte == slash && t) (begins-same slash bs refl)) (λ e. refl)
+      (λ e. if-same (byte == slash && begins star (bs ++ byte_of s ∷ more)) (byte == slash && begins star bs) _ _ _ _
+      (ap (λ t. byte == slash && t) (begins-same star bs refl refl)) (λ e. refl)
+      (λ e. if-same (byte == slash && begins slash (bs ++ byte_of s ∷ more)) (byte == slash && begins slash bs) _ _ _ _
+      (ap (λ t. byte == slash && t) (begins-same slash bs refl refl)) (λ e. refl)
       (λ e. if-same (byte == at_sign) (byte == at_sign) _ _ _ _ refl (λ e. ap start.Code (code e))
-      (λ e. if-same (byte == bar && (ends && not (begins bar (bs ++ 64 ∷ more))))
-      (byte == bar && (ends && not (begins bar bs))) _ _ _ _
-      (ap (λ t. byte == bar && (ends && not t)) (begins-same bar bs refl)) (λ e. refl)
-      (λ e. ap sign_or_other (longest-same all_signs (byte ∷ bs)))))))))
+      (λ e. if-same (byte == bar && (ends && not (begins bar (bs ++ byte_of s ∷ more))))
+      (byte == bar && (ends && not (begins bar bs))) _ _ _ _ (bar-same s more ends byte bs apart) (λ e. refl)
+      (λ e. ap sign_or_other (longest-same s more all_signs byte bs apart))))))))
 
   -- ## Heads and sections
 
-  pub signed-same : (bs : List ℕ) → is_signed (bs ++ 64 ∷ more) ≡ is_signed bs
+  pub signed-same : (bs : List ℕ) → is_signed (bs ++ byte_of s ∷ more) ≡ is_signed bs
   signed-same bs =
       let n = run classes.Blank bs in
       let rest = drop n bs in
-      let two = with-same (codes "==") rest refl in
-      let plus_two = with-same (codes "+=") rest refl in
-      ap (λ k. nat_lt 0 (head_sign_size (drop k (bs ++ 64 ∷ more)))) (run-same classes.Blank bs refl)
-      ∙ ap (λ l. nat_lt 0 (head_sign_size l)) (drop-same n bs (64 ∷ more) (run-le classes.Blank bs))
-      ∙ (λ i. nat_lt 0 (if two i || plus_two i then 2 else (if begins-same equals rest refl i then 1 else 0)))
+      let two = with-same (codes "==") rest refl refl in
+      let plus_two = with-same (codes "+=") rest refl refl in
+      ap (λ k. nat_lt 0 (head_sign_size (drop k (bs ++ byte_of s ∷ more)))) (run-same classes.Blank bs refl refl)
+      ∙ ap (λ l. nat_lt 0 (head_sign_size l)) (drop-same n bs (byte_of s ∷ more) (run-le classes.Blank bs))
+      ∙ (λ i. nat_lt 0 (if two i || plus_two i then 2 else (if begins-same equals rest refl refl i then 1 else 0)))
 
-  white-same : (bs : List ℕ) → behind_white (bs ++ 64 ∷ more) ≡ behind_white bs ++ 64 ∷ more
+  white-same : (bs : List ℕ) → behind_white (bs ++ byte_of s ∷ more) ≡ behind_white bs ++ byte_of s ∷ more
   white-same bs =
-      ap (λ n. drop n (bs ++ 64 ∷ more)) (run-same classes.White bs refl)
-      ∙ drop-same (run classes.White bs) bs (64 ∷ more) (run-le classes.White bs)
+      ap (λ n. drop n (bs ++ byte_of s ∷ more)) (run-same classes.White bs refl refl)
+      ∙ drop-same (run classes.White bs) bs (byte_of s ∷ more) (run-le classes.White bs)
 
-  pub name-same : (bs : List ℕ) → name_follows (bs ++ 64 ∷ more) ≡ name_follows bs
-  name-same bs = ap (begins_by is_letter) (white-same bs) ∙ begins_by-same is_letter (behind_white bs) refl
+  pub name-same : (bs : List ℕ) → name_follows (bs ++ byte_of s ∷ more) ≡ name_follows bs
+  name-same bs = ap (begins_by is_letter) (white-same bs) ∙ begins_by-same is_letter (behind_white bs) refl refl
 
-  is_parameter-same : (bs : List ℕ) → is_parameter (bs ++ 64 ∷ more) ≡ is_parameter bs
-  is_parameter-same bs = λ i. begins_by-same is_letter bs refl i
-      || (begins-same comma bs refl i || (begins-same right_paren bs refl i || with-same (codes "...") bs refl i))
+  is_parameter-same : (bs : List ℕ) → is_parameter (bs ++ byte_of s ∷ more) ≡ is_parameter bs
+  is_parameter-same bs = λ i. begins_by-same is_letter bs refl refl i
+      || (begins-same comma bs refl refl i || (begins-same right_paren bs refl refl i || with-same (codes "...") bs refl
+      refl i))
 
-  pub parameter-same : (bs : List ℕ) → parameter_follows (bs ++ 64 ∷ more) ≡ parameter_follows bs
+  pub parameter-same : (bs : List ℕ) → parameter_follows (bs ++ byte_of s ∷ more) ≡ parameter_follows bs
   parameter-same bs = ap is_parameter (white-same bs) ∙ is_parameter-same (behind_white bs)
 
-  pub paren-same : (bs : List ℕ) → begins left_paren (drop (run classes.Word (bs ++ 64 ∷ more)) (bs ++ 64 ∷ more))
+  pub paren-same : (bs : List ℕ) → begins left_paren (drop (run classes.Word (bs ++ byte_of s ∷ more))
+      (bs ++ byte_of s ∷ more))
       ≡ begins left_paren (drop (run classes.Word bs) bs)
   paren-same bs =
-      ap (λ n. begins left_paren (drop n (bs ++ 64 ∷ more))) (run-same classes.Word bs refl)
-      ∙ ap (begins left_paren) (drop-same (run classes.Word bs) bs (64 ∷ more) (run-le classes.Word bs))
-      ∙ begins-same left_paren (drop (run classes.Word bs) bs) refl
+      ap (λ n. begins left_paren (drop n (bs ++ byte_of s ∷ more))) (run-same classes.Word bs refl refl)
+      ∙ ap (begins left_paren) (drop-same (run classes.Word bs) bs (byte_of s ∷ more) (run-le classes.Word bs))
+      ∙ begins-same left_paren (drop (run classes.Word bs) bs) refl refl
 
-  pub include-same : (bs : List ℕ) → is_include (bs ++ 64 ∷ more) ≡ is_include bs
-  include-same bs = λ i. with-same (codes "include") bs refl i && run-same classes.Word bs refl i == 7
+  pub include-same : (bs : List ℕ) → is_include (bs ++ byte_of s ∷ more) ≡ is_include bs
+  include-same bs = λ i. with-same (codes "include") bs refl refl i && run-same classes.Word bs refl refl i == 7
 
-  pub depth-same : (bs : List ℕ) → depth_size (bs ++ 64 ∷ more) ≡ depth_size bs
-  depth-same bs = λ i. if begins-same star bs refl i then 1 else run-same classes.Digit bs refl i
+  pub depth-same : (bs : List ℕ) → depth_size (bs ++ byte_of s ∷ more) ≡ depth_size bs
+  depth-same bs = λ i. if begins-same star bs refl refl i then 1 else run-same classes.Digit bs refl refl i

@@ -20,8 +20,12 @@ use Rattle.cw_rules.specs.Tokens.{sign_or_other, is_name, code_token, moved, one
 use Rattle.cw_rules.specs.Tokens.{comment_end, is_deep, comment_text, code_by, in_code, start_of, code_text, in_text}
 use Rattle.cw_rules.specs.Tokens.{found, skipped_byte, is_tex_inner}
 use Rattle.cw_rules.proofs.Choices.{and-none}
-use Rattle.cw_rules.proofs.BarsAhead.{section-same}
-use Rattle.cw_rules.proofs.BarRules.{tex_inner, in_text-local}
+use Rattle.cw_rules.proofs.Ahead.{Bar, section-same}
+use Rattle.cw_rules.proofs.CodeAhead.{inner-local}
+
+-- a place in inner C text of TeX text
+abbrev pub tex_inner : List Opened → Where
+tex_inner cs = record { part = parts.TexInner; comments = cs }
 
 -- a place in inner C text that is scanned by itself
 abbrev pub alone : List Opened → Where
@@ -167,13 +171,13 @@ found-twin more cs fresh last place byte bs f is fits inner = by (byte == at_sig
         × ((found (alone cs) fresh last place byte bs).next.part ≡ parts.Inner)
     by true e =
         let all : (byte == at_sign && begins_section (bs ++ 124 ∷ more)) ≡ true =
-        ap (λ t. byte == at_sign && t) (section-same more bs) ∙ e in
+        ap (λ t. byte == at_sign && t) (section-same Bar more bs) ∙ e in
         absurd (let k : true ≡ false = sym inner ∙ ap (λ (f : Found). is_tex_inner f.next.part) (sym is
         ∙ ap (λ t. if t then section (tex_inner cs) place (bs ++ 124 ∷ more) else in_text parts.TexInner cs fresh
         last place byte (bs ++ 124 ∷ more)) all) in cc)
     by false e =
         let all : (byte == at_sign && begins_section (bs ++ 124 ∷ more)) ≡ false =
-        ap (λ t. byte == at_sign && t) (section-same more bs) ∙ e in
+        ap (λ t. byte == at_sign && t) (section-same Bar more bs) ∙ e in
         let full : f ≡ in_text parts.TexInner cs fresh last place byte (bs ++ 124 ∷ more) = sym is
         ∙ ap (λ t. if t then section (tex_inner cs) place (bs ++ 124 ∷ more) else in_text parts.TexInner cs fresh
         last place byte (bs ++ 124 ∷ more)) all in
@@ -181,7 +185,7 @@ found-twin more cs fresh last place byte bs f is fits inner = by (byte == at_sig
         sym (ap (λ t. if t then section (alone cs) place bs else in_text parts.Inner cs fresh last place byte bs)
         e) in
         let local : f ≡ in_text parts.TexInner cs fresh last place byte bs = full
-        ∙ (in_text-local more cs fresh last place byte bs).same (subst (λ (f : Found). f.more ≤ length bs) full
+        ∙ (inner-local Bar more tt cs fresh last place byte bs).same (subst (λ (f : Found). f.more ≤ length bs) full
         fits) in
         let twin = (in_text-twin cs fresh last place byte bs).same
         (sym (ap (λ (f : Found). is_tex_inner f.next.part) local) ∙ inner) in

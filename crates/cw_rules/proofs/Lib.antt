@@ -11,10 +11,8 @@ pub mod Taking
 pub mod Ahead
 pub mod BodiesAhead
 pub mod IncludeEnds
+pub mod CodeAhead
 pub mod RulesAhead
-pub mod BarsAhead
-pub mod BarBodies
-pub mod BarRules
 pub mod InnerTwins
 pub mod NameEnds
 pub mod CodeStarts

@@ -1,0 +1,654 @@
+-- What begins at a place of C text or a comment is the same where the text ends before an `@` or a bar that it doesn't
+-- take.
+use Rattle.std.proofs.Common.{◌≡◌, ℕ, suc, ◌+◌, ◌-◌, ◌<◌, ◌≤◌, Bool, true, false, ◌&&◌, ◌||◌, not, ◌==◌, nat_lt, List}
+use Rattle.std.proofs.Common.{[], ◌∷◌, ◌++◌, Option, Some, None, length, take, drop, refl, sym, ap, subst, ◌∙◌, arith}
+use Rattle.std.proofs.Common.{◌⊎◌, inl, inr}
+use Rattle.std.specs.Prelude.{if◌then◌else◌}
+use Rattle.std.proofs.lemmas.Bool.{eqb-true}
+use Rattle.std.proofs.lemmas.List.{drop_all}
+use Rattle.cw_base.proofs.TestLaws.{both-right}
+use Rattle.cw_base.specs.declared.notes.NoteKind.{NoteKind}
+use Rattle.cw_base.specs.declared.notes.NoteKind.TheVariants as notes
+use Rattle.cw_rules.specs.declared.bodies.Body.TheVariants as bodies
+use Rattle.cw_rules.specs.declared.bodies.Inside.{Inside}
+use Rattle.cw_rules.specs.declared.classes.Class.TheVariants as classes
+use Rattle.cw_rules.specs.declared.codes.Code.{Code}
+use Rattle.cw_rules.specs.declared.codes.Code.TheVariants as at
+use Rattle.cw_rules.specs.declared.codes.Effect.{Effect}
+use Rattle.cw_rules.specs.declared.codes.Effect.TheVariants as effects
+use Rattle.cw_rules.specs.declared.parts.Part.{Part}
+use Rattle.cw_rules.specs.declared.parts.Part.TheVariants as parts
+use Rattle.cw_rules.specs.declared.parts.Opened.{Opened}
+use Rattle.cw_rules.specs.declared.parts.Start.{Start}
+use Rattle.cw_rules.specs.declared.parts.Start.TheVariants as start
+use Rattle.cw_rules.specs.declared.signs.Sign.TheVariants as signs
+use Rattle.cw_rules.specs.declared.tokens.TokKind.{TokKind}
+use Rattle.cw_rules.specs.declared.tokens.TokKind.TheVariants as kinds
+use Rattle.cw_rules.specs.Bytes.{newline, quote, apostrophe, hash, star, slash, less, greater, at_sign, backslash, bar}
+use Rattle.cw_rules.specs.Bytes.{run, is_in, is_letter, begins}
+use Rattle.cw_rules.specs.Constants.{constant}
+use Rattle.cw_rules.specs.declared.signs.Sign.{Sign}
+use Rattle.cw_rules.specs.Signs.{all_signs, longest, spelling}
+use Rattle.cw_rules.specs.Codes.{code_at, has_control_text}
+use Rattle.cw_rules.specs.Names.{is_void}
+use Rattle.cw_rules.specs.Bodies.{at_start, stops, extent, ended, noted, one_note, note_unless}
+use Rattle.cw_rules.specs.Answers.{Answer, Token, Begin, Finish, Where, Cut, Found, before, note_answers, plain}
+use Rattle.cw_rules.specs.Answers.{dropped}
+use Rattle.cw_rules.specs.Tokens.{comment_kind, missing_brace, sign_or_other, identifier, string, string_of}
+use Rattle.cw_rules.specs.Tokens.{closes_on_line, include_name, section_name, is_name, is_quote, control_or_plain}
+use Rattle.cw_rules.specs.Tokens.{code_token, dropped_code, is_signed, is_head, in_hash_line, behind_include, passed}
+use Rattle.cw_rules.specs.Tokens.{moved, one, comment_begin, comment_closed, is_deep, piece_start, piece, comment_text}
+use Rattle.cw_rules.specs.Tokens.{effect_in, may_head, code_by, in_code, start_of, is_space, takes_hash_line}
+use Rattle.cw_rules.specs.Tokens.{ends_at_bar, code_text, in_text}
+use Rattle.cw_rules.proofs.Choices.{if-both}
+use Rattle.cw_rules.proofs.Sizes.{run-le}
+use Rattle.cw_rules.proofs.Ahead.{Stop, At, Bar, byte_of, of-both, IsApart, apart-on, drop-same, take-same, begins-same}
+use Rattle.cw_rules.proofs.Ahead.{run-same, constant-same, start_of-same, signed-same, include-same}
+use Rattle.cw_rules.proofs.BodiesAhead.{NoStop, IsFree, body-same, extent-same, all_notes-same}
+use Rattle.cw_rules.proofs.IncludeEnds.{greater-stops}
+
+-- two cuts that are the same where the first has no more than so many bytes
+pub record CutLocal (left : ℕ) (c d : Cut) : Type 0 where
+  pub same : c.size ≤ left → c ≡ d
+
+-- and two findings
+pub record Local (left : ℕ) (f g : Found) : Type 0 where
+  pub same : f.more ≤ left → f ≡ g
+
+pub if-cut : (left : ℕ) (t : Bool) (a b c d : Cut) → (t ≡ true → CutLocal left a b) → (t ≡ false → CutLocal left c d)
+    → CutLocal left (if t then a else c) (if t then b else d)
+if-cut left true a b c d f g = f refl
+if-cut left false a b c d f g = g refl
+
+pub if-local : (left : ℕ) (t u : Bool) (a b c d : Found) → t ≡ u → (u ≡ true → Local left a b)
+    → (u ≡ false → Local left c d) → Local left (if t then a else c) (if u then b else d)
+if-local left t true a b c d e f g = subst (λ t. Local left (if t then a else c) b) (sym e) (f refl)
+if-local left t false a b c d e f g = subst (λ t. Local left (if t then a else c) d) (sym e) (g refl)
+
+pub same-local : (left : ℕ) (f g : Found) → f ≡ g → Local left f g
+same-local left f g e = record { same = λ h. e }
+
+pub before-local : (left : ℕ) (xs : List Answer) (f g : Found) → Local left f g → Local left (before xs f) (before xs g)
+before-local left xs f g l = record { same = λ h. ap (before xs) (l.same h) }
+
+-- a quote is not the stop
+abbrev QuoteIs : Stop → Start → Type 0
+QuoteIs s (start.Quoted q) = (byte_of s == q) ≡ false
+QuoteIs _ _ = Unit {0}
+
+record Quotes (stop : Stop) (s : Start) : Type 0 where
+  is : QuoteIs stop s
+
+abbrev is_code_start : Start → Bool
+is_code_start (start.Code c) = true
+is_code_start _ = false
+
+record NoCode (s : Start) : Type 0 where
+  is : is_code_start s ≡ false
+
+sign-no-code : (o : Option Sign) → is_code_start (sign_or_other o) ≡ false
+sign-no-code None = refl
+sign-no-code (Some sign) = refl
+
+abbrev standing : Part → List Opened → Where
+standing part cs = record { part = part; comments = cs }
+
+-- ## What goes on over the stop
+
+quote-over : (s : Stop) (more : List ℕ) (q before : ℕ) → (byte_of s == q) ≡ false
+    → stops (bodies.Quoted q) before (byte_of s) more ≡ false
+quote-over At more q before n = ap (λ t. t || false) n
+quote-over Bar more q before n = ap (λ t. t || false) n
+
+control-over : (s : Stop) (more : List ℕ) (before : ℕ) → IsFree s more
+    → stops bodies.ControlText before (byte_of s) more ≡ false
+control-over At more before free = free
+control-over Bar more before free = refl
+
+include-over : (s : Stop) (more : List ℕ) → 0 < run classes.IncludeName (byte_of s ∷ more)
+include-over At more = omega arith
+include-over Bar more = omega arith
+
+-- ## What the stop is taken along by
+
+pub twice : (f g : Found) → 1 ≤ f.more → Local 0 f g
+twice f g h = record { same = λ k. absurd (omega arith) }
+
+effect-at : (part : Part) (comments : List Opened) → effect_in part comments at.At ≡ effects.Drops notes.UnknownCode
+effect-at parts.Definition [] = refl
+effect-at parts.Begin [] = refl
+effect-at part comments = refl
+
+effect-bar : (part : Part) (comments : List Opened) → effect_in part comments at.OptionalBreak ≡ effects.Stands
+effect-bar parts.Definition [] = refl
+effect-bar parts.Begin [] = refl
+effect-bar part comments = refl
+
+-- an `@` and the stop are a code
+at-end : (s : Stop) (more : List ℕ) (w : Where) (place byte : ℕ) (g : Found)
+    → Local 0 (in_code (start.Code (code_at (byte_of s ∷ more))) w place (byte ∷ byte_of s ∷ more)) g
+at-end At more w place byte g =
+    subst (λ effect. Local 0 (code_by effect at.At w place (byte ∷ 64 ∷ more)) g) (sym (effect-at w.part w.comments))
+    (twice (code_by (effects.Drops notes.UnknownCode) at.At w place (byte ∷ 64 ∷ more)) g (omega arith))
+at-end Bar more w place byte g =
+    subst (λ effect. Local 0 (code_by effect at.OptionalBreak w place (byte ∷ 124 ∷ more)) g)
+    (sym (effect-bar w.part w.comments))
+    (twice (code_by effects.Stands at.OptionalBreak w place (byte ∷ 124 ∷ more)) g (omega arith))
+
+-- a bar before a bar is one sign with it
+apart-or : (s : Stop) (more : List ℕ) (ends : Bool) (w : Where) (place byte : ℕ) (g : Found)
+    → IsApart s byte [] ⊎ Local 0 (in_code (start_of ends byte (byte_of s ∷ more)) w place (byte ∷ byte_of s ∷ more)) g
+apart-or At more ends w place byte g = inl tt
+apart-or Bar more ends w place byte g = by (byte == 124) refl
+  where
+    two : (ends : Bool) → start_of ends 124 (124 ∷ more) ≡ start.Sign signs.OrOr
+    two true = refl
+    two false = refl
+
+    by : (t : Bool) → (byte == 124) ≡ t → ((byte == 124) ≡ false)
+        ⊎ Local 0 (in_code (start_of ends byte (124 ∷ more)) w place (byte ∷ 124 ∷ more)) g
+    by false e = inl e
+    by true e = inr (subst (λ s. Local 0 (in_code s w place (byte ∷ 124 ∷ more)) g)
+        (sym (ap (λ b. start_of ends b (124 ∷ more)) (eqb-true byte 124 e) ∙ two ends))
+        (twice (in_code (start.Sign signs.OrOr) w place (byte ∷ 124 ∷ more)) g (omega arith)))
+
+-- The bytes behind an `@` begin with no `>`.
+module _ (s : Stop) (more : List ℕ) (free : IsFree s more) where
+  -- a token with its bytes
+  pub one-local : (hash_line : Bool) (next other : Where) (place byte : ℕ) (bs : List ℕ) (c d : Cut)
+      → (c.size ≤ suc (length bs) → (next ≡ other) × (c ≡ d))
+      → Local (length bs) (one hash_line next place (byte ∷ (bs ++ byte_of s ∷ more)) c)
+      (one hash_line other place (byte ∷ bs) d)
+  one-local hash_line next other place byte bs c d same = record {
+    same = λ h.
+        let fits : c.size ≤ suc (length bs) = omega (arith, h) in
+        let e = same fits in
+        let f : Found = one hash_line next place (byte ∷ (bs ++ byte_of s ∷ more)) c in
+        (λ i. record {
+          answers = Token (record {
+            kind = c.kind;
+            text = take-same c.size (byte ∷ bs) (byte_of s ∷ more) fits i;
+            span = record { start = place; end = place + c.size };
+            hash_line = hash_line;
+          }) ∷ note_answers c.notes;
+          more = c.size - 1;
+          next = next;
+        })
+        ∙ (λ i. one hash_line (e.0 i) place (byte ∷ bs) (e.1 i));
+  }
+
+  pub simple-local : (hash_line : Bool) (next : Where) (place byte : ℕ) (bs : List ℕ) (c d : Cut) → c ≡ d
+      → Local (length bs) (one hash_line next place (byte ∷ (bs ++ byte_of s ∷ more)) c)
+      (one hash_line next place (byte ∷ bs) d)
+  simple-local hash_line next place byte bs c d e = one-local hash_line next next place byte bs c d (λ h. (refl, e))
+
+  -- ## Tokens
+
+  string-local : (kind : TokKind) (opening q : ℕ) (i : Inside) (bs : List ℕ) (left : ℕ) → i.body ≡ bodies.Quoted q
+      → (byte_of s == q) ≡ false → left ≡ opening + length bs
+      → CutLocal left (string_of kind opening i (bs ++ byte_of s ∷ more)) (string_of kind opening i bs)
+  string-local kind opening q i bs left b n l = record {
+    same = λ h.
+        let fits : (extent i (bs ++ byte_of s ∷ more)).size ≤ length bs = omega (arith, h, l) in
+        let no : NoStop s i.body = subst (NoStop s) (sym b) n in
+        let over : (before : ℕ) → stops i.body before (byte_of s) more ≡ false =
+        λ before. ap (λ body. stops body before (byte_of s) more) b ∙ quote-over s more q before n in
+        let e = extent-same s more i bs free no fits in
+        let m = all_notes-same s more notes.StringUnended i bs free no over fits in
+        λ j. record { kind = kind; size = opening + e.size j; notes = m j };
+  }
+
+  control-local : (c : Code) (place byte next : ℕ) (bs : List ℕ)
+      → CutLocal (suc (suc (length bs))) (control_or_plain c place (byte ∷ next ∷ (bs ++ byte_of s ∷ more)))
+      (control_or_plain c place (byte ∷ next ∷ bs))
+  control-local c place byte next bs =
+      let i : Inside = at_start bodies.ControlText (place + 2) in
+      if-cut (suc (suc (length bs))) (has_control_text c) _ _ _ _
+      (λ t. record {
+        same = λ h.
+            let fits : (extent i (bs ++ byte_of s ∷ more)).size ≤ length bs = omega (arith, h) in
+            let e = extent-same s more i bs free tt fits in
+            let m = all_notes-same s more notes.ControlTextUnended i bs free tt
+            (λ before. control-over s more before free) fits in
+            λ j. record { kind = kinds.Code c; size = 2 + e.size j; notes = m j };
+      })
+      (λ t. record { same = λ h. refl })
+
+  name-local : (c : Code) (place byte next : ℕ) (bs : List ℕ)
+      → CutLocal (suc (suc (length bs))) (section_name c place (byte ∷ next ∷ (bs ++ byte_of s ∷ more)))
+      (section_name c place (byte ∷ next ∷ bs))
+  name-local c place byte next bs = record {
+    same = λ h.
+        let i : Inside = at_start bodies.SectionName (place + 2) in
+        let fits : (extent i (bs ++ byte_of s ∷ more)).size ≤ length bs = omega (arith, h) in
+        let e = extent-same s more i bs free tt fits in
+        let name = ap (λ n. take n (bs ++ byte_of s ∷ more)) e.inner
+        ∙ take-same (extent i bs).inner_size bs (byte_of s ∷ more) e.short in
+        λ j. record {
+          kind = kinds.Code c;
+          size = 2 + e.size j;
+          notes = one_note (note_unless (e.closed j) notes.NameUnended place)
+              ++ (one_note (note_unless (not (is_void (name j))) notes.NameEmpty place) ++ e.notes j);
+        };
+  }
+
+  pub code-local : (c : Code) (place byte next : ℕ) (bs : List ℕ)
+      → CutLocal (suc (suc (length bs))) (code_token c place (byte ∷ next ∷ (bs ++ byte_of s ∷ more)))
+      (code_token c place (byte ∷ next ∷ bs))
+  code-local c place byte next bs =
+      let left = suc (suc (length bs)) in
+      if-cut left (is_name c) _ _ _ _ (λ t. name-local c place byte next bs)
+      (λ t. if-cut left (is_quote c) _ _ _ _ (λ t. string-local (kinds.Code c) 2 apostrophe
+      (at_start (bodies.Quoted apostrophe) (place + 2)) bs left refl (of-both (λ b. b == apostrophe) false s refl refl)
+      (omega arith))
+      (λ t. control-local c place byte next bs))
+
+  pub dropped-local : (note : NoteKind) (c : Code) (place byte next : ℕ) (bs : List ℕ)
+      → CutLocal (suc (suc (length bs))) (dropped_code note c place (byte ∷ next ∷ (bs ++ byte_of s ∷ more)))
+      (dropped_code note c place (byte ∷ next ∷ bs))
+  dropped-local note c place byte next bs =
+      record { same = λ h. ap (dropped note place) ((control-local c place byte next bs).same h) }
+
+  -- whether a name that ends before the `@` heads a C part
+  head-same : (place byte next : ℕ) (bs : List ℕ)
+      → (extent (at_start bodies.SectionName (place + 2)) (bs ++ byte_of s ∷ more)).size ≤ length bs
+      → is_head place (byte ∷ next ∷ (bs ++ byte_of s ∷ more)) ≡ is_head place (byte ∷ next ∷ bs)
+  head-same place byte next bs fits =
+      let i : Inside = at_start bodies.SectionName (place + 2) in
+      let e = extent-same s more i bs free tt fits in
+      let size : (extent i bs).size ≤ length bs = omega (arith, fits, e.size) in
+      (λ j. e.closed j && is_signed (drop (e.size j) (bs ++ byte_of s ∷ more)))
+      ∙ ap (λ l. (extent i bs).closed && is_signed l) (drop-same (extent i bs).size bs (byte_of s ∷ more) size)
+      ∙ ap (λ t. (extent i bs).closed && t) (signed-same s more (drop (extent i bs).size bs))
+
+  pub heads-same : (c : Code) (may : Bool) (place byte next : ℕ) (bs : List ℕ)
+      → (code_token c place (byte ∷ next ∷ (bs ++ byte_of s ∷ more))).size ≤ suc (suc (length bs))
+      → (is_name c && (may && is_head place (byte ∷ next ∷ (bs ++ byte_of s ∷ more))))
+      ≡ (is_name c && (may && is_head place (byte ∷ next ∷ bs)))
+  heads-same c may place byte next bs h = by (is_name c) refl
+    where
+      by : (t : Bool) → is_name c ≡ t → (is_name c && (may && is_head place (byte ∷ next ∷ (bs ++ byte_of s ∷ more))))
+          ≡ (is_name c && (may && is_head place (byte ∷ next ∷ bs)))
+      by true e =
+          let named : code_token c place (byte ∷ next ∷ (bs ++ byte_of s ∷ more))
+          ≡ section_name c place (byte ∷ next ∷ (bs ++ byte_of s ∷ more)) =
+          ap (λ t. if t then section_name c place (byte ∷ next ∷ (bs ++ byte_of s ∷ more)) else
+          (if is_quote c then string (kinds.Code c) 2 apostrophe place (byte ∷ next ∷ (bs ++ byte_of s ∷ more)) else
+          control_or_plain c place (byte ∷ next ∷ (bs ++ byte_of s ∷ more)))) e in
+          let size : (code_token c place (byte ∷ next ∷ (bs ++ byte_of s ∷ more))).size
+          ≡ 2 + (extent (at_start bodies.SectionName (place + 2)) (bs ++ byte_of s ∷ more)).size =
+          ap (λ (x : Cut). x.size) named in
+          ap (λ t. is_name c && (may && t)) (head-same place byte next bs (omega (arith, size, h)))
+      by false e = (λ i. e i && (may && is_head place (byte ∷ next ∷ (bs ++ byte_of s ∷ more))))
+          ∙ sym (λ i. e i && (may && is_head place (byte ∷ next ∷ bs)))
+
+  -- ## C text
+
+  code_by-local : (effect : Effect) (c : Code) (w : Where) (place byte next : ℕ) (bs : List ℕ)
+      → Local (suc (length bs)) (code_by effect c w place (byte ∷ next ∷ (bs ++ byte_of s ∷ more)))
+      (code_by effect c w place (byte ∷ next ∷ bs))
+  code_by-local effects.Stands c w place byte next bs =
+      let may = may_head w.part w.comments in
+      one-local (in_hash_line w.part) _ _ place byte (next ∷ bs)
+      (code_token c place (byte ∷ next ∷ (bs ++ byte_of s ∷ more)))
+      (code_token c place (byte ∷ next ∷ bs))
+      (λ h. (
+        ap (λ t. if t then moved w parts.Head else moved w (passed w.part))
+            (heads-same c may place byte next bs h),
+        (code-local c place byte next bs).same h,
+      ))
+  code_by-local (effects.Drops note) c w place byte next bs = one-local (in_hash_line w.part) _ _ place byte (next ∷ bs)
+      _ _ (λ h. (refl, (dropped-local note c place byte next bs).same h))
+  code_by-local effects.Defines c w place byte next bs = simple-local false (moved w (parts.MacroName place)) place byte
+      (next ∷ bs) (plain (kinds.Code c) 2) (plain (kinds.Code c) 2) refl
+  code_by-local effects.Formats c w place byte next bs = simple-local false
+      (moved w (parts.FormatName place false false)) place byte (next ∷ bs) (plain (kinds.Code c) 2)
+      (plain (kinds.Code c) 2) refl
+  code_by-local effects.BeginsC c w place byte next bs = simple-local false (moved w (parts.Plain false false)) place
+      byte (next ∷ bs) (plain (kinds.Code c) 2) (plain (kinds.Code c) 2) refl
+
+  begin-local : (long : Bool) (w : Where) (place byte : ℕ) (bs : List ℕ)
+      → Local (length bs) (comment_begin long w place (byte ∷ (bs ++ byte_of s ∷ more)))
+      (comment_begin long w place (byte ∷ bs))
+  begin-local long w place byte bs = record {
+    same = λ h. ap (λ l. record {
+      answers = Begin (record {
+        kind = comment_kind long;
+        text = l;
+        span = record { start = place; end = place + 2 };
+        hash_line = in_hash_line w.part;
+      }) ∷ [];
+      more = 1;
+      next = record {
+        part = passed w.part;
+        comments = record { start = place; long = long; braces = 0; inner = false }
+            ∷ w.comments;
+      };
+    }) (take-same 2 (byte ∷ bs) (byte_of s ∷ more) (omega (arith, h)));
+  }
+
+  -- what begins at a byte, where more than one byte is left or it is no code
+  begun-local : (b : Start) (part : Part) (cs : List Opened) (place byte : ℕ) (bs : List ℕ) → QuoteIs s b
+      → (is_code_start b ≡ true → 0 < length bs)
+      → Local (length bs) (in_code b (record { part = part; comments = cs }) place (byte ∷ (bs ++ byte_of s ∷ more)))
+      (in_code b (record { part = part; comments = cs }) place (byte ∷ bs))
+  begun-local start.Identifier part cs place byte bs q k =
+      one-local (in_hash_line part) _ _ place byte bs (identifier (byte ∷ (bs ++ byte_of s ∷ more)))
+      (identifier (byte ∷ bs))
+      (λ h. (
+        ap (λ t. record {
+          part = if in_hash_line part && t then parts.Plain true true else passed part;
+          comments = cs;
+        }) (include-same s more (byte ∷ bs)),
+        ap (plain kinds.Identifier)
+            (run-same s more classes.Word (byte ∷ bs) refl refl),
+      ))
+  begun-local start.Constant part cs place byte bs q k =
+      simple-local (in_hash_line part) _ place byte bs _ _
+      (ap (plain kinds.Constant) (constant-same s more (byte ∷ bs)))
+  begun-local (start.Quoted quoted) part cs place byte bs q k =
+      one-local (in_hash_line part) _ _ place byte bs
+      (string kinds.Quoted 1 quoted place (byte ∷ (bs ++ byte_of s ∷ more)))
+      (string kinds.Quoted 1 quoted place (byte ∷ bs))
+      (λ h. (
+        refl,
+        (string-local kinds.Quoted 1 quoted (at_start (bodies.Quoted quoted) (place + 1)) bs
+            (suc (length bs)) refl q (omega arith)).same h,
+      ))
+  begun-local start.LongComment part cs place byte bs q k = begin-local true (record { part = part; comments = cs })
+      place byte bs
+  begun-local start.ShortComment part cs place byte bs q k = begin-local false (record { part = part; comments = cs })
+      place byte bs
+  begun-local (start.Code c) part cs place byte [] q k = absurd (omega (arith, k refl))
+  begun-local (start.Code c) part cs place byte (next ∷ bs) q k =
+      code_by-local (effect_in part cs c) c (record { part = part; comments = cs }) place byte next bs
+  begun-local start.EndOfInner part cs place byte bs q k = same-local (length bs) _ _ refl
+  begun-local (start.Sign sign) part cs place byte bs q k = simple-local (in_hash_line part)
+      (record { part = passed part; comments = cs }) place byte bs (plain (kinds.Sign sign) (length (spelling sign)))
+      (plain (kinds.Sign sign) (length (spelling sign))) refl
+  begun-local start.OtherByte part cs place byte bs q k = simple-local (in_hash_line part)
+      (record { part = passed part; comments = cs }) place byte bs (plain kinds.OtherByte 1) (plain kinds.OtherByte 1)
+      refl
+
+  -- ## What an include name ends
+
+  include-run : (bs : List ℕ) → ((run classes.IncludeName (bs ++ byte_of s ∷ more) ≡ run classes.IncludeName bs)
+      × (run classes.IncludeName bs < length bs)) ⊎ ((run classes.IncludeName bs ≡ length bs)
+      × (length bs < run classes.IncludeName (bs ++ byte_of s ∷ more)))
+  include-run [] = inr (refl, include-over s more)
+  include-run (b ∷ bs) = by (is_in classes.IncludeName b) refl (include-run bs)
+    where
+      by : (t : Bool) → is_in classes.IncludeName b ≡ t
+          → ((run classes.IncludeName (bs ++ byte_of s ∷ more) ≡ run classes.IncludeName bs)
+          × (run classes.IncludeName bs < length bs))
+          ⊎ ((run classes.IncludeName bs ≡ length bs) × (length bs < run classes.IncludeName (bs ++ byte_of s ∷ more)))
+          → ((run classes.IncludeName (b ∷ (bs ++ byte_of s ∷ more)) ≡ run classes.IncludeName (b ∷ bs))
+          × (run classes.IncludeName (b ∷ bs) < suc (length bs)))
+          ⊎ ((run classes.IncludeName (b ∷ bs) ≡ suc (length bs))
+          × (suc (length bs) < run classes.IncludeName (b ∷ (bs ++ byte_of s ∷ more))))
+      by false e rec =
+          let full : run classes.IncludeName (b ∷ (bs ++ byte_of s ∷ more)) ≡ 0 =
+          ap (λ t. elim t [ true ↦ 1 + run classes.IncludeName (bs ++ byte_of s ∷ more) | false ↦ 0 ]) e in
+          let cut : run classes.IncludeName (b ∷ bs) ≡ 0 =
+          ap (λ t. elim t [ true ↦ 1 + run classes.IncludeName bs | false ↦ 0 ]) e in
+          inl (full ∙ sym cut, omega arith)
+      by true e rec =
+          let full : run classes.IncludeName (b ∷ (bs ++ byte_of s ∷ more))
+          ≡ 1 + run classes.IncludeName (bs ++ byte_of s ∷ more) =
+          ap (λ t. elim t [ true ↦ 1 + run classes.IncludeName (bs ++ byte_of s ∷ more) | false ↦ 0 ]) e in
+          let cut : run classes.IncludeName (b ∷ bs) ≡ 1 + run classes.IncludeName bs =
+          ap (λ t. elim t [ true ↦ 1 + run classes.IncludeName bs | false ↦ 0 ]) e in
+          on full cut rec
+        where
+          on : run classes.IncludeName (b ∷ (bs ++ byte_of s ∷ more))
+              ≡ 1 + run classes.IncludeName (bs ++ byte_of s ∷ more)
+              → run classes.IncludeName (b ∷ bs) ≡ 1 + run classes.IncludeName bs
+              → ((run classes.IncludeName (bs ++ byte_of s ∷ more) ≡ run classes.IncludeName bs)
+              × (run classes.IncludeName bs < length bs))
+              ⊎ ((run classes.IncludeName bs ≡ length bs)
+              × (length bs < run classes.IncludeName (bs ++ byte_of s ∷ more)))
+              → ((run classes.IncludeName (b ∷ (bs ++ byte_of s ∷ more)) ≡ run classes.IncludeName (b ∷ bs))
+              × (run classes.IncludeName (b ∷ bs) < suc (length bs)))
+              ⊎ ((run classes.IncludeName (b ∷ bs) ≡ suc (length bs))
+              × (suc (length bs) < run classes.IncludeName (b ∷ (bs ++ byte_of s ∷ more))))
+          on full cut (inl r) = inl (full ∙ ap (λ n. 1 + n) r.0 ∙ sym cut, omega (arith, r.1))
+          on full cut (inr r) = inr (omega (arith, r.0), omega (arith, r.1))
+
+  closes-cases : (bs : List ℕ) → (closes_on_line (bs ++ byte_of s ∷ more) ≡ closes_on_line bs)
+      ⊎ ((closes_on_line bs ≡ false) × (length bs < run classes.IncludeName (bs ++ byte_of s ∷ more)))
+  closes-cases bs = by (include-run bs)
+    where
+      by : ((run classes.IncludeName (bs ++ byte_of s ∷ more) ≡ run classes.IncludeName bs)
+          × (run classes.IncludeName bs < length bs))
+          ⊎ ((run classes.IncludeName bs ≡ length bs) × (length bs < run classes.IncludeName (bs ++ byte_of s ∷ more)))
+          → (closes_on_line (bs ++ byte_of s ∷ more) ≡ closes_on_line bs)
+          ⊎ ((closes_on_line bs ≡ false) × (length bs < run classes.IncludeName (bs ++ byte_of s ∷ more)))
+      by (inl r) = inl (ap (λ n. begins greater (drop n (bs ++ byte_of s ∷ more))) r.0
+          ∙ ap (begins greater) (drop-same (run classes.IncludeName bs) bs (byte_of s ∷ more)
+          (run-le classes.IncludeName bs))
+          ∙ begins-same s more greater (drop (run classes.IncludeName bs) bs) refl refl)
+      by (inr r) = inr (ap (begins greater) (drop_all (run classes.IncludeName bs) bs (omega (arith, r.0))), r.1)
+
+  include-local : (hash_line : Bool) (next : Where) (place byte : ℕ) (bs : List ℕ) → closes_on_line bs ≡ true
+      → Local (length bs) (one hash_line next place (byte ∷ (bs ++ byte_of s ∷ more))
+      (include_name place (byte ∷ (bs ++ byte_of s ∷ more))))
+      (one hash_line next place (byte ∷ bs) (include_name place (byte ∷ bs)))
+  include-local hash_line next place byte bs closes = one-local hash_line next next place byte bs
+      (include_name place (byte ∷ (bs ++ byte_of s ∷ more))) (include_name place (byte ∷ bs))
+      (λ h. (refl, same (omega (arith, h)) (include-run bs)))
+    where
+      same : run classes.IncludeName (bs ++ byte_of s ∷ more) < length bs
+          → ((run classes.IncludeName (bs ++ byte_of s ∷ more) ≡ run classes.IncludeName bs)
+          × (run classes.IncludeName bs < length bs))
+          ⊎ ((run classes.IncludeName bs ≡ length bs) × (length bs < run classes.IncludeName (bs ++ byte_of s ∷ more)))
+          → include_name place (byte ∷ (bs ++ byte_of s ∷ more)) ≡ include_name place (byte ∷ bs)
+      same least (inl r) =
+          let i : Inside = at_start bodies.IncludeName (place + 1) in
+          let n = run classes.IncludeName bs in
+          let full : begins greater (drop n (bs ++ byte_of s ∷ more))
+          ≡ true = ap (begins greater) (drop-same n bs (byte_of s ∷ more) (run-le classes.IncludeName bs))
+          ∙ begins-same s more greater (drop n bs) refl refl ∙ closes in
+          let far : (ended i (bs ++ byte_of s ∷ more)).place ≤ (place + 1) + n =
+          greater-stops i (bs ++ byte_of s ∷ more) n refl (λ a. absurd cc) full in
+          let b = body-same s more i bs (omega (arith, r.1)) in
+          λ j. record { kind = kinds.IncludeName; size = 1 + (r.0 j + 1); notes = b.notes j }
+      same least (inr r) = absurd (omega (arith, r.1, least))
+
+  include-or : (hash_line behind : Bool) (next : Where) (place byte : ℕ) (bs : List ℕ) (f g : Found)
+      → Local (length bs) f g
+      → Local (length bs) (if byte == less && (behind && closes_on_line (bs ++ byte_of s ∷ more)) then one hash_line
+      next place
+      (byte ∷ (bs ++ byte_of s ∷ more)) (include_name place (byte ∷ (bs ++ byte_of s ∷ more))) else f)
+      (if byte == less && (behind && closes_on_line bs) then one hash_line next place (byte ∷ bs)
+      (include_name place (byte ∷ bs)) else g)
+  include-or hash_line behind next place byte bs f g l = by (closes-cases bs)
+    where
+      by : (closes_on_line (bs ++ byte_of s ∷ more) ≡ closes_on_line bs)
+          ⊎ ((closes_on_line bs ≡ false) × (length bs < run classes.IncludeName (bs ++ byte_of s ∷ more)))
+          → Local (length bs) (if byte == less && (behind && closes_on_line (bs ++ byte_of s ∷ more)) then one hash_line
+          next
+          place (byte ∷ (bs ++ byte_of s ∷ more)) (include_name place (byte ∷ (bs ++ byte_of s ∷ more))) else f)
+          (if byte == less && (behind && closes_on_line bs) then one hash_line next place (byte ∷ bs)
+          (include_name place (byte ∷ bs)) else g)
+      by (inl e) =
+          if-local (length bs) (byte == less && (behind && closes_on_line (bs ++ byte_of s ∷ more)))
+          (byte == less && (behind && closes_on_line bs)) _ _ _ _ (ap (λ t. byte == less && (behind && t)) e)
+          (λ h. include-local hash_line next place byte bs
+          (both-right behind (closes_on_line bs) (both-right (byte == less) (behind && closes_on_line bs) h)))
+          (λ h. l)
+      by (inr r) = far (byte == less && (behind && closes_on_line (bs ++ byte_of s ∷ more)))
+          (ap (λ t. byte == less && (behind && t)) r.0 ∙ none (byte == less) behind)
+        where
+          none : (a b : Bool) → (a && (b && false)) ≡ false
+          none true true = refl
+          none true false = refl
+          none false b = refl
+
+          far : (t : Bool) → (byte == less && (behind && closes_on_line bs)) ≡ false
+              → Local (length bs) (if t then one hash_line next place (byte ∷ (bs ++ byte_of s ∷ more))
+              (include_name place (byte ∷ (bs ++ byte_of s ∷ more))) else f)
+              (if byte == less && (behind && closes_on_line bs) then one hash_line next place (byte ∷ bs)
+              (include_name place (byte ∷ bs)) else g)
+          far true e = record { same = λ h. absurd (omega (arith, h, r.1)) }
+          far false e = subst (λ u. Local (length bs) f (if u then one hash_line next place (byte ∷ bs)
+              (include_name place (byte ∷ bs)) else g)) (sym e) l
+
+  -- ## C text and comments
+
+  begun-quote : (ends : Bool) (byte : ℕ) (bs : List ℕ) → Quotes s (start_of ends byte bs)
+  begun-quote ends byte bs =
+      if-both (Quotes s) (is_letter byte) _ _ (λ h. record { is = tt })
+      (λ h. if-both (Quotes s) (nat_lt 0 (constant (byte ∷ bs))) _ _ (λ h. record { is = tt })
+      (λ h. if-both (Quotes s) (byte == quote || byte == apostrophe) _ _
+      (λ h. record { is = quoted (byte == quote) refl h })
+      (λ h. if-both (Quotes s) (byte == slash && begins star bs) _ _ (λ h. record { is = tt })
+      (λ h. if-both (Quotes s) (byte == slash && begins slash bs) _ _ (λ h. record { is = tt })
+      (λ h. if-both (Quotes s) (byte == at_sign) _ _ (λ h. record { is = tt })
+      (λ h. if-both (Quotes s) (byte == bar && (ends && not (begins bar bs))) _ _ (λ h. record { is = tt })
+      (λ h. record { is = sign-quote (longest all_signs (byte ∷ bs)) })))))))
+    where
+      quoted : (t : Bool) → (byte == quote) ≡ t → (byte == quote || byte == apostrophe) ≡ true → (byte_of s == byte)
+          ≡ false
+      quoted true e h = ap (λ b. byte_of s == b) (eqb-true byte quote e)
+          ∙ of-both (λ b. b == quote) false s refl refl
+      quoted false e h = ap (λ b. byte_of s == b)
+          (eqb-true byte apostrophe (ap (λ t. t || byte == apostrophe) (sym e) ∙ h))
+          ∙ of-both (λ b. b == apostrophe) false s refl refl
+
+      sign-quote : (o : Option Sign) → QuoteIs s (sign_or_other o)
+      sign-quote None = tt
+      sign-quote (Some sign) = tt
+
+  -- what begins at a byte, whatever is left
+  begun : (ends : Bool) (part : Part) (cs : List Opened) (place byte : ℕ) (bs : List ℕ)
+      → Local (length bs) (in_code (start_of ends byte (bs ++ byte_of s ∷ more)) (standing part cs) place
+      (byte ∷ (bs ++ byte_of s ∷ more))) (in_code (start_of ends byte bs) (standing part cs) place (byte ∷ bs))
+  begun ends part cs place byte (c ∷ bs) =
+      subst (λ b. Local (suc (length bs)) (in_code b (standing part cs) place (byte ∷ c ∷ (bs ++ byte_of s ∷ more)))
+      (in_code (start_of ends byte (c ∷ bs)) (standing part cs) place (byte ∷ c ∷ bs)))
+      (sym (start_of-same s more ends byte (c ∷ bs) (apart-on s byte c bs) (λ e. refl)))
+      (begun-local (start_of ends byte (c ∷ bs)) part cs place byte (c ∷ bs) (begun-quote ends byte (c ∷ bs)).is
+      (λ e. omega arith))
+  begun ends part cs place byte [] = by (byte == at_sign) refl
+      (apart-or s more ends (standing part cs) place byte (in_code (start_of ends byte []) (standing part cs) place
+      (byte ∷ [])))
+    where
+      no-code : (byte == at_sign) ≡ false → NoCode (start_of ends byte [])
+      no-code e =
+          if-both NoCode (is_letter byte) _ _ (λ h. record { is = refl })
+          (λ h. if-both NoCode (nat_lt 0 (constant (byte ∷ []))) _ _ (λ h. record { is = refl })
+          (λ h. if-both NoCode (byte == quote || byte == apostrophe) _ _ (λ h. record { is = refl })
+          (λ h. if-both NoCode (byte == slash && begins star []) _ _ (λ h. record { is = refl })
+          (λ h. if-both NoCode (byte == slash && begins slash []) _ _ (λ h. record { is = refl })
+          (λ h. if-both NoCode (byte == at_sign) _ _ (λ h. absurd (let k : true ≡ false = sym h ∙ e in cc))
+          (λ h. if-both NoCode (byte == bar && (ends && not (begins bar []))) _ _ (λ h. record { is = refl })
+          (λ h. record { is = sign-no-code (longest all_signs (byte ∷ [])) })))))))
+
+      by : (t : Bool) → (byte == at_sign) ≡ t → IsApart s byte []
+          ⊎ Local 0 (in_code (start_of ends byte (byte_of s ∷ more)) (standing part cs) place (byte ∷ byte_of s ∷ more))
+          (in_code (start_of ends byte []) (standing part cs) place (byte ∷ []))
+          → Local 0 (in_code (start_of ends byte (byte_of s ∷ more)) (standing part cs) place (byte ∷ byte_of s ∷ more))
+          (in_code (start_of ends byte []) (standing part cs) place (byte ∷ []))
+      by true e o =
+          subst (λ b. Local 0 (in_code b (standing part cs) place (byte ∷ byte_of s ∷ more))
+          (in_code (start_of ends byte []) (standing part cs) place (byte ∷ [])))
+          (sym (ap (λ b. start_of ends b (byte_of s ∷ more)) (eqb-true byte at_sign e)))
+          (at-end s more (standing part cs) place byte (in_code (start_of ends byte []) (standing part cs) place
+          (byte ∷ [])))
+      by false e (inr l) = l
+      by false e (inl apart) =
+          subst (λ b. Local 0 (in_code b (standing part cs) place (byte ∷ byte_of s ∷ more))
+          (in_code (start_of ends byte []) (standing part cs) place (byte ∷ [])))
+          (sym (start_of-same s more ends byte [] apart (λ h. absurd (let k : true ≡ false = sym h ∙ e in cc))))
+          (begun-local (start_of ends byte []) part cs place byte [] (begun-quote ends byte []).is
+          (λ h. absurd (let k : true ≡ false = sym h ∙ (no-code e).is in cc)))
+
+  pub code_text-local : (part : Part) (cs : List Opened) (fresh : Bool) (last place byte : ℕ) (bs : List ℕ)
+      → Local (length bs) (code_text (record { part = part; comments = cs }) fresh last place byte
+      (bs ++ byte_of s ∷ more))
+      (code_text (record { part = part; comments = cs }) fresh last place byte bs)
+  code_text-local part cs fresh last place byte bs =
+      let n = length bs in
+      let w : Where = record { part = part; comments = cs } in
+      if-local n (byte == newline) (byte == newline) _ _ _ _ refl (λ h. same-local n _ _ refl)
+      (λ h. if-local n (is_space part byte (bs ++ byte_of s ∷ more)) (is_space part byte bs) _ _ _ _
+      (ap (λ t. is_in classes.Blank byte || (in_hash_line part && (byte == backslash && t)))
+      (begins-same s more newline bs refl refl)) (λ h. same-local n _ _ refl)
+      (λ h. if-local n (byte == hash && (takes_hash_line part cs && fresh))
+      (byte == hash && (takes_hash_line part cs && fresh)) _ _ _ _ refl
+      (λ h. simple-local true (moved w (parts.Plain true false)) place byte bs (plain kinds.HashLine 1)
+      (plain kinds.HashLine 1) refl)
+      (λ h. include-or (in_hash_line part) (behind_include part) (moved w (passed part)) place byte bs _ _
+      (begun (ends_at_bar part cs) part cs place byte bs))))
+
+  piece-local : (part : Part) (cs : List Opened) (c : Opened) (place byte : ℕ) (bs : List ℕ)
+      → Local (length bs) (piece part cs c place (byte ∷ (bs ++ byte_of s ∷ more))) (piece part cs c place (byte ∷ bs))
+  piece-local part cs c place byte bs =
+      let i = piece_start part cs c place in
+      one-local (in_hash_line part) _ _ place byte bs
+      (record {
+        kind = kinds.Text;
+        size = (extent i (byte ∷ (bs ++ byte_of s ∷ more))).size;
+        notes = noted i (byte ∷ (bs ++ byte_of s ∷ more));
+      })
+      (record { kind = kinds.Text; size = (extent i (byte ∷ bs)).size; notes = noted i (byte ∷ bs) })
+      (λ h. let e = extent-same s more i (byte ∷ bs) free tt h in (
+        (λ j. record {
+          part = part;
+          comments = record {
+            start = c.start;
+            long = c.long;
+            braces = e.braces j;
+            inner = c.inner;
+          } ∷ cs;
+        }),
+        (λ j. record { kind = kinds.Text; size = e.size j; notes = e.notes j }),
+      ))
+
+  closed-local : (part : Part) (c : Opened) (cs : List Opened) (place byte : ℕ) (bs : List ℕ)
+      → Local (length bs) (comment_closed part c cs place (byte ∷ (bs ++ byte_of s ∷ more)))
+      (comment_closed part c cs place (byte ∷ bs))
+  closed-local part c cs place byte bs = record {
+    same = λ h. ap (λ l. record {
+      answers = Finish (record {
+        kind = comment_kind c.long;
+        text = l;
+        span = record { start = place; end = place + 2 };
+        hash_line = in_hash_line part;
+      }) ∷ missing_brace c place;
+      more = 1;
+      next = record { part = part; comments = cs };
+    }) (take-same 2 (byte ∷ bs) (byte_of s ∷ more) (omega (arith, h)));
+  }
+
+  comment_text-local : (part : Part) (c : Opened) (cs : List Opened) (last place byte : ℕ) (bs : List ℕ)
+      → Local (length bs) (comment_text part c cs last place byte (bs ++ byte_of s ∷ more))
+      (comment_text part c cs last place byte bs)
+  comment_text-local part c cs last place byte bs =
+      let n = length bs in
+      if-local n (c.long && (byte == star && begins slash (bs ++ byte_of s ∷ more)))
+      (c.long && (byte == star && begins slash bs)) _ _ _ _
+      (ap (λ t. c.long && (byte == star && t)) (begins-same s more slash bs refl refl))
+      (λ h. closed-local part c cs place byte bs)
+      (λ h. if-local n (not c.long && byte == newline) (not c.long && byte == newline) _ _ _ _ refl
+      (λ h. same-local n _ _ refl)
+      (λ h. if-local n (byte == bar && not (is_deep part (c ∷ cs))) (byte == bar && not (is_deep part (c ∷ cs))) _ _ _ _
+      refl (λ h. same-local n _ _ refl)
+      (λ h. piece-local part cs c place byte bs)))
+
+  pub within-local : (part : Part) (c : Opened) (cs : List Opened) (fresh : Bool) (last place byte : ℕ) (bs : List ℕ)
+      → Local (length bs) (in_text part (c ∷ cs) fresh last place byte (bs ++ byte_of s ∷ more))
+      (in_text part (c ∷ cs) fresh last place byte bs)
+  within-local part c cs fresh last place byte bs =
+      if-local (length bs) c.inner c.inner _ _ _ _ refl (λ h. code_text-local part (c ∷ cs) fresh last place byte bs)
+      (λ h. comment_text-local part c cs last place byte bs)
+
+-- inner C text of TeX text
+pub inner-local : (s : Stop) (more : List ℕ) (free : IsFree s more) (cs : List Opened) (fresh : Bool)
+    (last place byte : ℕ) (bs : List ℕ)
+    → Local (length bs) (in_text parts.TexInner cs fresh last place byte (bs ++ byte_of s ∷ more))
+    (in_text parts.TexInner cs fresh last place byte bs)
+inner-local s more free [] fresh last place byte bs =
+    code_text-local s more free parts.TexInner [] fresh last place byte bs
+inner-local s more free (c ∷ cs) fresh last place byte bs =
+    within-local s more free parts.TexInner c cs fresh last place byte bs
