@@ -92,7 +92,7 @@ struct Bench {
 
 // The production whose instructions are counted.
 #[inline(never)]
-fn apply(bench: &mut Bench, table: &Table<97>, row: RowNo, place: usize)
+fn apply(bench: &mut Bench, table: &Table<ROW_COUNT>, row: RowNo, place: usize)
     requires from_one { 1 ≤ row.number }
     requires to_last { row.number ≤ ROW_COUNT }
     requires fits { row_fits (row_of table.now row.number)
@@ -116,7 +116,7 @@ fn apply(bench: &mut Bench, table: &Table<97>, row: RowNo, place: usize)
 }
 
 // The production by the first row that fits at a place, where there is one.
-fn once(bench: &mut Bench, table: &Table<97>, place: usize) -> Result<(), Memory>
+fn once(bench: &mut Bench, table: &Table<ROW_COUNT>, place: usize) -> Result<(), Memory>
     requires table { table.now ≡ productions }
     requires sound { IsSoundLine bench.old.store bench.old.names bench.old.line }
     ensures sound { OnOk result (IsSoundLine bench.new.store bench.new.names bench.new.line) }

@@ -1,11 +1,11 @@
 //! Looks up 4,500 windows in the production table.
 use cw_base::{ALL_CATS, Cat};
-use cw_table::{Table, table};
+use cw_table::{ROW_COUNT, Table, table};
 use std::io;
 
 // The look-up whose instructions are counted.
 #[inline(never)]
-fn look(table: &Table<97>, window: [Cat; 4]) -> u8 {
+fn look(table: &Table<ROW_COUNT>, window: [Cat; 4]) -> u8 {
     match table.first_at(window) {
         Some(row) => row.number,
         None => 0,

@@ -48,7 +48,7 @@ impl ScrapLine {
     /// no memory: the store and the marks have the room that was reserved.
     pub fn apply<L: Ledger>(
         &mut self,
-        table: &Table<97>,
+        table: &Table<ROW_COUNT>,
         row: RowNo,
         place: usize,
         flags: &Flags,

@@ -344,7 +344,7 @@ fn row_at(i: usize) -> Row
 }
 
 /// The table of the productions.
-pub fn table() -> Table<97>
+pub fn table() -> Table<ROW_COUNT>
     ensures rows { result ≡ productions }
     ensures sound { list_all row_is_sound result ≡ true }
     ensures rules { All IsSound result }
