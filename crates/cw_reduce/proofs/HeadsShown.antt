@@ -23,7 +23,8 @@ use Rattle.cw_tokens.specs.declared.token.Token.TheVariants as token
 use Rattle.cw_tokens.specs.Shapes.{tree_in}
 use Rattle.cw_scraps.specs.Leaves.{token_form, word_form}
 use Rattle.cw_reduce.specs.Visible.{number_if}
-use Rattle.cw_lex.specs.Nest.{Nest, End, Leaf, Group, nest}
+use Rattle.cw_lex.specs.Nest.{Nest, End, Leaf, Group, nest, IsWell}
+use Rattle.cw_lex.proofs.Nests.{nest-well}
 use Rattle.cw_lex.specs.Heads.{Head, Headless, Macro, Format, Silent, Named, Headed, headed, headed_by, headless}
 use Rattle.cw_lex.specs.Heads.{named_headed, Words, no_word, word_before, head_behind, head_words}
 use Rattle.cw_lex.specs.declared.heads.Wanted.{Wanted}
@@ -31,9 +32,8 @@ use Rattle.cw_lex.specs.declared.heads.Wanted.TheVariants as wants
 use Rattle.cw_reduce.specs.Visible.{starts, shown_in, shown_head, shown}
 use Rattle.cw_translator.specs.Translating.{Known, spelled, form_tokens, first_word, later_words, dollared, sign_behind}
 use Rattle.cw_translator.specs.Translating.{texts_named, head_made, headed_made, leaf_of_name, made, begin, translated}
-use Rattle.cw_reduce.proofs.ShownLaws.{append-none, IsWell, Shows, shows-beside, shows-made, shows-name, struck-end}
+use Rattle.cw_reduce.proofs.ShownLaws.{append-none, Shows, shows-beside, shows-made, shows-name, struck-end}
 use Rattle.cw_reduce.proofs.ShownLaws.{struck-parts}
-use Rattle.cw_reduce.proofs.WellNests.{nest-well}
 
 -- The words of a head are identifiers and signs, and what follows it is well.
 pub is_word_kind : TokKind → Bool

@@ -19,7 +19,7 @@ use Rattle.cw_translator.specs.Translating.{nothing}
 use Rattle.cw_translator.specs.Translating.{one_item, beside, before, end_of, as_item, form_made, with_names}
 use Rattle.cw_translator.specs.Translating.{token_made}
 use Rattle.cw_translator.specs.Translating.{group_made, made, no_name}
-use Rattle.cw_reduce.proofs.NestSizes.{SameSize, some-levels, first-levels, nests-size}
+use Rattle.cw_lex.proofs.Nests.{SameSize, some-levels, first-levels, nests-size}
 
 pub append-none : {A : Type 0} (xs : List A) → xs ++ [] ≡ xs
 append-none [] = refl

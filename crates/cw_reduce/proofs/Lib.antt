@@ -1,10 +1,8 @@
 -- The laws of translating a whole text: heads, section names, and what is shown.
 mod TranslatedRows
 pub mod ReadSteps
-pub mod NestSizes
 pub mod Joined
 pub mod ShownLaws
-pub mod WellNests
 pub mod HeadsShown
 pub mod Limits
 pub mod InnersKept

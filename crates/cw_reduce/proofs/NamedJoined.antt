@@ -17,6 +17,7 @@ use Rattle.cw_rules.specs.declared.tokens.TokKind.TheVariants as kind
 use Rattle.cw_lex.specs.Nest.{nests, nest}
 use Rattle.cw_lex.specs.Nested.{Level, InCode, levels_after, all_levels_after, IsNested, until_section}
 use Rattle.cw_lex.proofs.Nesting.{parts-nested as c-parts-nested}
+use Rattle.cw_lex.proofs.Nests.{SameSize, first-levels, nests-size}
 use Rattle.cw_secnames.specs.Kept.{SecName}
 use Rattle.cw_secnames.specs.Parts.{inner_parts}
 use Rattle.cw_secnames.specs.Uses.{NameUse, name_at}
@@ -41,7 +42,6 @@ use Rattle.cw_reduce.proofs.ReadSteps.{after-append}
 use Rattle.cw_reduce.proofs.Joined.{append-none, closed, run, extended-nothing, extended-scrap, level-before}
 use Rattle.cw_reduce.proofs.Joined.{step-token, step-begin, pushed, token-one, begin-two, finish-one, run-leaf, run-end}
 use Rattle.cw_reduce.proofs.Joined.{run-group, run-all, one-nest}
-use Rattle.cw_reduce.proofs.NestSizes.{SameSize, first-levels, nests-size}
 
 -- An inner text of a name.
 text-law : (flags : Flags) (text : List Answer) (p : Progress) → IsNested text

@@ -30,7 +30,7 @@ use Rattle.cw_trees.specs.Tree.{Then, Sign, Empty}
 use Rattle.cw_trees.specs.declared.Control.TheVariants as control
 use Rattle.cw_translator.specs.Translating.{leaf_scrap, CommentItem, Piece, InnerText, comment_rest, comment_tree}
 use Rattle.cw_reduce.specs.Visible.{is_shown, is_shown_code, is_comment, number_if}
-use Rattle.cw_lex.specs.Nest.{Nest, End, Leaf, Group}
+use Rattle.cw_lex.specs.Nest.{Nest, End, Leaf, Group, is_text_kind, IsGroupOf, IsWell}
 use Rattle.cw_reduce.specs.Visible.{shown_token, shown_in}
 use Rattle.cw_translator.specs.Translating.{Known, Made, beside, state_in, end_from, end_of, form_made, token_made}
 use Rattle.cw_translator.specs.Translating.{group_made, made, plain_text, texts_made, texts_named}
@@ -88,11 +88,8 @@ code-fine : (c : Code) (n : ℕ) → fine_form (code_form c n) ≡ true
 code-fine code.TexBox n = refl
 code-fine _ n = refl
 
-abbrev pub is_text : TokKind → Bool
-is_text kind.Text = true
-is_text _ = false
-
-pub token-numbers : (k : TokKind) (text : List ℕ) (hash_line : Bool) (n : ℕ) (names : List Entry) → is_text k ≡ false
+pub token-numbers : (k : TokKind) (text : List ℕ) (hash_line : Bool) (n : ℕ) (names : List Entry) → is_text_kind k
+    ≡ false
     → form_numbers (token_form k text hash_line n names) ≡ number_if (is_shown k) n
 token-numbers kind.Text text hash_line n names h = absurd cc
 token-numbers kind.Identifier text hash_line n names h = word-numbers _ _ n
@@ -140,25 +137,6 @@ pub record Shows (comment : Bool) (m : Made) (numbers : List ℕ) : Type 0 where
   pub fine : list_all is_fine m.scraps ≡ true
   pub numbers_are : shown_of comment m ≡ numbers
 
--- Pieces of text stand in comments, and other tokens in C text; comments in C text, and inner texts in comments.
-abbrev pub IsInner : TokKind → Type 0
-IsInner kind.InnerText = Unit {0}
-IsInner _ = ⊥
-
-abbrev pub IsComment : TokKind → Type 0
-IsComment kind.LongComment = Unit {0}
-IsComment kind.ShortComment = Unit {0}
-IsComment _ = ⊥
-
-abbrev pub IsGroup : Bool → TokKind → Type 0
-IsGroup true k = IsInner k
-IsGroup false k = IsComment k
-
-abbrev pub IsWell : Bool → Nest → Type 0
-IsWell comment End = Unit {0}
-IsWell comment (Leaf token rest) = (is_text token.kind ≡ comment) × IsWell comment rest
-IsWell comment (Group token inner rest) = IsGroup comment token.kind × IsWell (not comment) inner × IsWell comment rest
-
 abbrev pub ShowsNames : (ℕ → Bool) → (ℕ → Known → Made) → Type 0
 ShowsNames is_named name = (number : ℕ) (known : Known)
     → Shows false (name number known) (number_if (is_named number) number)
@@ -188,7 +166,7 @@ shows-as : (comment : Bool) (m : Made) (ns ms : List ℕ) → ns ≡ ms → Show
 shows-as comment m ns ms e s = record { fine = s.fine; numbers_are = s.numbers_are ∙ e }
 
 shows-token : (is_named : ℕ → Bool) (name : ℕ → Known → Made) (comment : Bool) (k : TokKind) (token : Seen)
-    (known : Known) → ShowsNames is_named name → is_text k ≡ comment
+    (known : Known) → ShowsNames is_named name → is_text_kind k ≡ comment
     → Shows comment (token_made name k token known) (shown_token is_named k token.span.start)
 shows-token is_named name true kind.Text token known s e = record { fine = refl; numbers_are = refl }
 shows-token is_named name false kind.Text token known s e = absurd cc
@@ -221,7 +199,8 @@ shows-comment flags token m ns s = record {
       ∙ ap (λ xs. token.span.start ∷ xs) (struck-rest m.items ∙ s.numbers_are);
 }
 
-shows-group : (flags : Flags) (comment : Bool) (k : TokKind) (token : Seen) (m : Made) (ns : List ℕ) → IsGroup comment k
+shows-group : (flags : Flags) (comment : Bool) (k : TokKind) (token : Seen) (m : Made) (ns : List ℕ)
+    → IsGroupOf comment k
     → Shows (not comment) m ns → Shows comment (group_made flags k token m) (number_if (is_comment k) token.span.start
     ++ ns)
 shows-group flags true kind.InnerText token m ns w s = shows-inner flags m ns s
