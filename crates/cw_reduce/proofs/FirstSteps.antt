@@ -10,6 +10,7 @@ use Rattle.cw_rules.specs.declared.tokens.Lexed.TheVariants as lexed
 use Rattle.cw_rules.specs.declared.tokens.Tok.{Tok}
 use Rattle.cw_rules.specs.declared.tokens.TokKind.{TokKind}
 use Rattle.cw_rules.specs.declared.tokens.TokKind.TheVariants as kind
+use Rattle.cw_lex.specs.Limbo.{is_name_kind}
 use Rattle.cw_lex.specs.Heads.{headed}
 use Rattle.cw_lex.specs.Nest.{nest}
 use Rattle.cw_lex.specs.Nested.{IsNested}
@@ -24,7 +25,7 @@ use Rattle.cw_translator.specs.declared.nesting.Open.TheVariants.{CText}
 use Rattle.cw_translator.specs.declared.translator.Translated.{Translated}
 use Rattle.cw_translator.specs.declared.translator.Translator.{Translator}
 use Rattle.cw_translator.specs.Counting.{limit_in, text_limit}
-use Rattle.cw_reduce.specs.HeadReading.{NamesWithin, answers_ahead, is_definition, is_name, name_ahead, read_made}
+use Rattle.cw_reduce.specs.HeadReading.{NamesWithin, answers_ahead, is_definition, name_ahead, read_made}
 use Rattle.cw_reduce.specs.HeadReading.{without_notes, words_in}
 use Rattle.cw_reduce.specs.Heading.{NamesOfText, behind, behind_head, head_begun, in_head}
 use Rattle.cw_reduce.specs.Naming.{token_answers, with_texts}
@@ -55,7 +56,7 @@ no-definition (kind.Code code.Format) makes = cc
 no-definition (kind.Code code.SilentFormat) makes = cc
 no-definition k makes = refl
 
-no-name : (k : TokKind) → MakesLeaf k → is_name k ≡ false
+no-name : (k : TokKind) → MakesLeaf k → is_name_kind k ≡ false
 no-name (kind.Code code.SectionName) makes = cc
 no-name (kind.Code code.FileName) makes = cc
 no-name k makes = refl

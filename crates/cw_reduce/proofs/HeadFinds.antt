@@ -8,6 +8,7 @@ use Rattle.cw_rules.specs.declared.tokens.Lexed.TheVariants as lexed
 use Rattle.cw_rules.specs.declared.tokens.Tok.{Tok}
 use Rattle.cw_rules.specs.declared.tokens.TokKind.{TokKind}
 use Rattle.cw_rules.specs.declared.tokens.TokKind.TheVariants as kind
+use Rattle.cw_lex.specs.Limbo.{is_name_kind}
 use Rattle.cw_lex.specs.Heads.{Head, Headless, Named, Headed, headed, headed_by, headless, named_headed}
 use Rattle.cw_lex.specs.Heads.{wanted_by, without_words}
 use Rattle.cw_lex.specs.Nest.{Nest, Leaf, group, nests, first_nest, nest}
@@ -20,7 +21,7 @@ use Rattle.cw_reduce.specs.declared.heads.Beginning.{Beginning}
 use Rattle.cw_reduce.specs.declared.heads.HeadRead.{HeadRead}
 use Rattle.cw_reduce.specs.declared.heads.HeadRead.TheVariants as read
 use Rattle.cw_reduce.specs.HeadReading.{NamesWithin, answer_words, answers_ahead, head_line, head_named, is_definition}
-use Rattle.cw_reduce.specs.HeadReading.{is_name, name_ahead, read_made, without_notes, words_in}
+use Rattle.cw_reduce.specs.HeadReading.{name_ahead, read_made, without_notes, words_in}
 use Rattle.cw_translator.specs.Translating.{Known, NameTexts, head_made, spelled, with_names}
 use Rattle.cw_translator.specs.Opening.{StartsBelow, answers_in}
 use Rattle.cw_reduce.proofs.ReadSteps.{gives-is}
@@ -153,12 +154,13 @@ name-ahead name rest new answer g h s u =
 
 -- ## Any token
 
-pub name-headed : (k : TokKind) (t : Seen) (n : Nest) → is_name k ≡ true → headed_by k t n ≡ named_headed t n
+pub name-headed : (k : TokKind) (t : Seen) (n : Nest) → is_name_kind k ≡ true → headed_by k t n ≡ named_headed t n
 name-headed (kind.Code code.SectionName) t n e = refl
 name-headed (kind.Code code.FileName) t n e = refl
 name-headed k t n e = absurd cc
 
-pub none-headed : (k : TokKind) (t : Seen) (n : Nest) → is_definition k ≡ false → is_name k ≡ false → headed_by k t n
+pub none-headed : (k : TokKind) (t : Seen) (n : Nest) → is_definition k ≡ false → is_name_kind k ≡ false
+    → headed_by k t n
     ≡ headless (Leaf t n)
 none-headed (kind.Code code.Define) t n d e = absurd cc
 none-headed (kind.Code code.Format) t n d e = absurd cc
@@ -256,13 +258,13 @@ no-head rest new answer names lists b head named next g h s u =
     })
 
 pub none-token : (rest new : List Answer) (t : Tok) → Gives (without_notes rest) (lexed.Token t) new → IsNested rest
-    → is_definition t.kind ≡ false → is_name t.kind ≡ false → headed (nest rest) ≡ headless (nest rest)
+    → is_definition t.kind ≡ false → is_name_kind t.kind ≡ false → headed (nest rest) ≡ headless (nest rest)
 none-token rest new t g h d n = token-headed rest new t g h
     ∙ (none-headed t.kind (seen t) (nest new) d n ∙ ap headless (sym (token-nest rest new t g h)))
 
 -- the head of a named C part, or none
 pub name-token : (rest new : List Answer) (t : Tok) → Gives (without_notes rest) (lexed.Token t) new → IsNested rest
-    → is_name t.kind ≡ true → headed (nest rest) ≡ named_headed (seen t) (nest new)
+    → is_name_kind t.kind ≡ true → headed (nest rest) ≡ named_headed (seen t) (nest new)
 name-token rest new t g h n = token-headed rest new t g h ∙ name-headed t.kind (seen t) (nest new) n
 
 sign-by : (flags : Flags) (named : NameTexts) (lists : List (List StoredToken)) (known : Known) (head : HeadRead)

@@ -8,6 +8,7 @@ use Rattle.std.proofs.lemmas.Option.{get_or_from_slice_get, slice_get_within}
 use Rattle.cw_base.specs.declared.flags.Flags.{Flags}
 use Rattle.cw_base.specs.declared.span.Span.{Span}
 use Rattle.cw_rules.specs.Answers.{Answer, Seen, Token, Begin, Finish, Note, Gives}
+use Rattle.cw_lex.specs.Limbo.{is_name_kind}
 use Rattle.cw_lex.specs.Lexing.{tokens_of}
 use Rattle.cw_lex.specs.Nested.{until_section}
 use Rattle.cw_rules.specs.declared.codes.Code.TheVariants as code
@@ -32,7 +33,7 @@ use Rattle.cw_translator.specs.declared.nesting.Open.TheVariants.{CText, Comment
 use Rattle.cw_translator.specs.declared.translator.Translator.{Translator}
 use Rattle.cw_translator.specs.Counting.{limit_in, productions_in, scraps_in}
 use Rattle.cw_translator.specs.NameParts.{AreNamesOf, name_texts, parts_by_kind, texts_kept, texts_of_name}
-use Rattle.cw_reduce.specs.Naming.{held_answers, is_name_kind, name_answers, text_answers, text_token}
+use Rattle.cw_reduce.specs.Naming.{held_answers, name_answers, text_answers, text_token}
 use Rattle.cw_reduce.specs.Naming.{texts_answers}
 use Rattle.cw_reduce.specs.Naming.{token_answers, with_texts}
 use Rattle.cw_translator.specs.Opening.{all_roots, answers_in, frames_of, IsSoundFrame, IsTranslating, progress_of}

@@ -30,11 +30,6 @@ is_definition (kind.Code code.Format) = true
 is_definition (kind.Code code.SilentFormat) = true
 is_definition k = false
 
-abbrev pub is_name : TokKind → Bool
-is_name (kind.Code code.SectionName) = true
-is_name (kind.Code code.FileName) = true
-is_name k = false
-
 -- The line of scraps that a head makes. That of a named C part is made from its name.
 abbrev pub head_line : HeadRead → List LineEntry
 head_line (read.Dead list) = record { cat = cat.Dead; list = list; left = Text; right = Text } ∷ []

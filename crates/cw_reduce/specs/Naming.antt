@@ -1,6 +1,7 @@
 -- The answers over a text, in which section names have the answers of their inner texts.
 use Rattle.std.specs.Prelude.{Bool, true, false, List, [], ◌∷◌, ◌++◌, Option, Some, None}
 use Rattle.cw_rules.specs.Answers.{Answer, Token, Begin, Finish, Note, Seen}
+use Rattle.cw_lex.specs.Limbo.{is_name_kind}
 use Rattle.cw_lex.specs.Nested.{is_section_kind}
 use Rattle.cw_rules.specs.declared.codes.Code.TheVariants as code
 use Rattle.cw_rules.specs.declared.tokens.Lexed.{Lexed}
@@ -27,11 +28,6 @@ held_answers texts = texts_answers texts ++ Finish text_token ∷ []
 abbrev pub name_answers : Option (List (List Answer)) → Seen → List Answer
 name_answers None token = Token token ∷ []
 name_answers (Some texts) token = Begin token ∷ held_answers texts
-
-abbrev pub is_name_kind : TokKind → Bool
-is_name_kind (kind.Code code.SectionName) = true
-is_name_kind (kind.Code code.FileName) = true
-is_name_kind k = false
 
 abbrev pub token_answers : NameTexts → TokKind → Seen → List Answer
 token_answers named (kind.Code code.SectionName) token = name_answers (named token.span.start) token

@@ -4,6 +4,7 @@ ghost use Rattle.std.specs.Prelude.{Some, IfOk, OnOk, OnErr};
 ghost use Rattle.cw_base.specs.declared.flags.Flags.{Flags};
 ghost use Rattle.cw_rules.specs.Answers.{Gives, Token as TokenAnswer, seen};
 ghost use Rattle.cw_answers.specs.Reading.{Stays};
+ghost use Rattle.cw_lex.specs.Limbo.{is_name_kind};
 ghost use Rattle.cw_lex.specs.Heads.{headed, headed_by, named_headed, wanted_by, without_words};
 ghost use Rattle.cw_rules.specs.Answers.{is_head_sign};
 ghost use Rattle.cw_lex.specs.Nest.{nest};
@@ -16,7 +17,7 @@ ghost use Rattle.cw_tokens.specs.declared.token.Token.TheVariants as Tokens;
 ghost use Rattle.cw_reduce.specs.declared.heads.HeadRead.TheVariants as Heads;
 ghost use Rattle.cw_rewrite.specs.Gathering.{refs_in};
 ghost use Rattle.cw_reduce.specs.HeadReading.{HasTokens, IsLast, NamesWithin, answer_words, answers_ahead};
-ghost use Rattle.cw_reduce.specs.HeadReading.{format_tokens, head_line, head_named, is_definition, is_name};
+ghost use Rattle.cw_reduce.specs.HeadReading.{format_tokens, head_line, head_named, is_definition};
 ghost use Rattle.cw_reduce.specs.HeadReading.{macro_tokens, read_made, without_notes, words_in, words_tokens};
 ghost use Rattle.cw_translator.specs.Opening.{StartsBelow, answers_in};
 ghost use Rattle.cw_translator.specs.Translating.{Known, NameTexts, dollared, head_made, spelled, with_names};
@@ -108,7 +109,7 @@ fn is_definition(kind: TokKind) -> bool
 
 /// Whether a token is a section name.
 fn is_name(kind: TokKind) -> bool
-    ensures { result ≡ is_name kind }
+    ensures { result ≡ is_name_kind kind }
 {
     matches!(kind, TokKind::Code(Code::SectionName | Code::FileName))
 }

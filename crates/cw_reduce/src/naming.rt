@@ -2,13 +2,14 @@
 ghost use Rattle.std.specs.Prelude.{◌≡◌, ◌≤◌, ◌<◌, ◌+◌, ◌^◌, All, length, true, OnOk, OnErr, None};
 ghost use Rattle.cw_rules.specs.Answers.{seen};
 ghost use Rattle.cw_rules.specs.declared.tokens.Mode.TheVariants.{Inner};
+ghost use Rattle.cw_lex.specs.Limbo.{is_name_kind};
 ghost use Rattle.cw_lex.specs.Lexing.{tokens_of};
 ghost use Rattle.cw_lex.specs.Nested.{until_section};
 ghost use Rattle.cw_scraps.specs.Changing.{Keeps};
 ghost use Rattle.cw_answers.specs.Reading.{IsReadUp};
 ghost use Rattle.cw_translator.specs.Counting.{limit_in};
 ghost use Rattle.cw_translator.specs.NameParts.{AreNamesOf, parts_by_kind, parts_of_name};
-ghost use Rattle.cw_reduce.specs.Naming.{held_answers, is_name_answer, is_name_kind, text_answers, texts_answers};
+ghost use Rattle.cw_reduce.specs.Naming.{held_answers, is_name_answer, text_answers, texts_answers};
 ghost use Rattle.cw_reduce.specs.Naming.{token_answers, with_texts};
 ghost use Rattle.cw_translator.specs.Opening.{IsTranslating, StartsBelow, all_roots, answers_in};
 ghost use Rattle.cw_translator.specs.Reading.{after_answers, with_held};

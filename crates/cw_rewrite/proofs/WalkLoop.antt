@@ -28,7 +28,8 @@ use Rattle.cw_scraps.specs.Marking.{MarkList}
 use Rattle.cw_scraps.proofs.Applied.{keeps-trans}
 use Rattle.cw_scraps.proofs.Productions.{cats-same}
 use Rattle.cw_scraps.proofs.Reservings.{length-scraps}
-use Rattle.cw_rewrite.specs.Reduction.{GrowsByProductions, HasNoMore, IsFirst, IsNext, PassesOver, words_of}
+use Rattle.cw_names.specs.Words.{words_of}
+use Rattle.cw_rewrite.specs.Reduction.{GrowsByProductions, HasNoMore, IsFirst, IsNext, PassesOver}
 use Rattle.cw_rewrite.proofs.WalkSteps.{Walks, Rewrites, rewrites, GoesOn, goes-on, WalkEnds, walk-ends}
 use Rattle.cw_rewrite.proofs.WalkSteps.{walk-reaches}
 

@@ -34,7 +34,8 @@ use Rattle.cw_scraps.specs.Applying.{retyped}
 use Rattle.cw_scraps.specs.Inserting.{entry_cats}
 use Rattle.cw_scraps.specs.Lines.{no_entry}
 use Rattle.cw_scraps.proofs.FirstRows.{window-line}
-use Rattle.cw_rewrite.specs.Reduction.{IsFirst, words_of}
+use Rattle.cw_names.specs.Words.{words_of}
+use Rattle.cw_rewrite.specs.Reduction.{IsFirst}
 
 -- the number that the window gives is that of the first row that fits
 abbrev number_of : Option Row → Option RowNo

@@ -16,7 +16,7 @@ ghost use Rattle.cw_scraps.specs.Changing.{Keeps};
 ghost use Rattle.cw_scraps.specs.Inserting.{entry_cats};
 ghost use Rattle.cw_scraps.specs.Lines.{IsSoundLine, roots_of, scraps_of};
 ghost use Rattle.cw_rewrite.specs.Reduction.{GrowsByProductions, HasNoMore, IsFirst, IsNext, IsPairAt};
-ghost use Rattle.cw_rewrite.specs.Reduction.{words_of};
+ghost use Rattle.cw_names.specs.Words.{words_of};
 
 use cw_base::{Cat, Flags, Ledger, Memory, Steps};
 use cw_names::Names;

@@ -39,7 +39,7 @@ use Rattle.cw_translator.specs.Commenting.{part_seen, inner_lists}
 use Rattle.cw_translator.specs.Counting.{limit_in, text_limit}
 use Rattle.cw_translator.specs.Opening.{with_entry, with_part, frame_of, frames_of, open_roots, all_roots, IsNamedItem}
 use Rattle.cw_translator.specs.Opening.{AreSoundScraps, IsSoundFrame, IsTranslating, progress_of, HasCome}
-use Rattle.cw_rewrite.specs.Reduction.{words_of}
+use Rattle.cw_names.specs.Words.{words_of}
 use Rattle.cw_translator.specs.Retyping.{Retypes, NamesAmong, here, at_finish}
 use Rattle.cw_translator.specs.Reading.{Frame, Progress, with_scrap, with_item, after_finish}
 use Rattle.cw_translator.specs.Translating.{CommentItem, InnerText, Known, with_categories}

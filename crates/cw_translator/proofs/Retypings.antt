@@ -8,7 +8,7 @@ use Rattle.cw_table.specs.Productions.{productions}
 use Rattle.cw_table.specs.Reaching.{IsAfter}
 use Rattle.cw_table.specs.Rewriting.{State}
 use Rattle.cw_scraps.specs.Applying.{categories}
-use Rattle.cw_rewrite.specs.Reduction.{words_of}
+use Rattle.cw_names.specs.Words.{words_of}
 use Rattle.cw_translator.specs.Retyping.{Retypes}
 use Rattle.cw_translator.specs.Translating.{with_categories}
 

@@ -18,7 +18,7 @@ ghost use Rattle.cw_translator.specs.Counting.{limit_in, text_limit};
 ghost use Rattle.cw_translator.specs.Opening.{HasCome, HasEnded, IsTranslating, StartsBelow, all_roots};
 ghost use Rattle.cw_translator.specs.Opening.{answers_in, begun_by, progress_of};
 ghost use Rattle.cw_translator.specs.Reading.{after_answers, after_finish, after_token, last_scraps};
-ghost use Rattle.cw_rewrite.specs.Reduction.{words_of};
+ghost use Rattle.cw_names.specs.Words.{words_of};
 ghost use Rattle.cw_translator.specs.Retyping.{NamesAmong, Retypes, RetypesIn};
 ghost use Rattle.cw_translator.specs.Translating.{state_in, with_categories};
 ghost use Rattle.cw_translator.specs.Working.{HasComeOver, IsSameWork, progress_over};
