@@ -1,7 +1,7 @@
 -- The index is complete.
-use Rattle.std.proofs.Common.{◌≡◌, ◌≢◌, ℕ, ◌+◌, ◌<◌, ◌==◌, ◌&&◌, ◌||◌, Bool, true, false, nat_lt, nat_eq, refl, sym, ap}
+use Rattle.std.proofs.Common.{◌≡◌, ◌≢◌, ℕ, ◌+◌, ◌<◌, ◌==◌, ◌&&◌, ◌||◌, Bool, true, false, nat_eq, refl, sym, ap}
 use Rattle.std.proofs.Common.{◌∙◌, subst}
-use Rattle.std.proofs.Common.{List, [], ◌∷◌, ◌++◌, length, filter, fold, cond, arith, eq-eqb, eqb-true, ne_eqb}
+use Rattle.std.proofs.Common.{List, [], ◌∷◌, ◌++◌, length, filter, fold, cond, arith, eq-eqb, ne_eqb}
 use Rattle.std.proofs.Common.{true≢false}
 use Rattle.std.specs.List.{AllByRecursion, IsDistinct, list_any}
 use Rattle.std.specs.BTreeSet.{insert_key}
@@ -11,7 +11,8 @@ use Rattle.std.specs.Cmp.{unsigned_ties}
 use Rattle.std.specs.Ordering.{is_eq, match_ordering, ordering_reverse, ordering_then}
 use Rattle.cw_names.specs.declared.xrefs.Occurrence.{Occurrence}
 use Rattle.cw_names.specs.declared.xrefs.SectionRef.{SectionRef}
-use Rattle.cw_names.specs.Mentions.{mentions, with_mention}
+use Rattle.cw_names.specs.MentionLaws.{sections-at}
+use Rattle.cw_names.specs.Mentions.{any_in, any_underlined_in, mention_of, mentions}
 use Rattle.cw_names.specs.Names.{AreDistinct, Entry, is_entry}
 use Rattle.std.specs.Ordering.{nat_cmp}
 use Rattle.std.specs.Cmp.Lexicographic.{lists_ties, pointwise, slice_cmp}
@@ -30,10 +31,6 @@ or-false : (b : Bool) → (b || false) ≡ b
 or-false true = refl
 or-false false = refl
 
-or-true : (b : Bool) → (b || true) ≡ true
-or-true true = refl
-or-true false = refl
-
 or-swap : (a b c : Bool) → (a || (b || c)) ≡ (b || (a || c))
 or-swap true true c = refl
 or-swap true false c = refl
@@ -41,75 +38,26 @@ or-swap false b c = refl
 
 -- ## The sections of a name
 
--- one section more
-with-mention : (only : Bool) (section s : ℕ) (underlined : Bool) (ms : List SectionRef)
-    → list_any (is_at only section) (with_mention s underlined ms)
-    ≡ (is_at only section (record { section = s; underlined = underlined }) || list_any (is_at only section) ms)
-with-mention only section s underlined [] = refl
-with-mention only section s underlined (m ∷ ms) =
-    below (with-mention only section s underlined ms) (nat_lt m.section s)
+-- the occurrences, as they are listed
+all-mentions : (only : Bool) (section : ℕ) (os : List Occurrence)
+    → (any_in os section && is_listed only (mention_of os section))
+    ≡ list_any (λ (o : Occurrence). is_at only section (as_mention o)) os
+all-mentions true section [] = refl
+all-mentions false section [] = refl
+all-mentions true section (o ∷ os) = by (o.section == section) (all-mentions true section os)
   where
-    put : Bool → List SectionRef
-    put t = elim t [
-      | true ↦ m ∷ with_mention s underlined ms
-      | false ↦ elim (m.section == s) [
-        | true ↦ record m { underlined = m.underlined || underlined } ∷ ms
-        | false ↦ record { section = s; underlined = underlined } ∷ (m ∷ ms)
-      ]
-    ]
-
-    place : Bool → List SectionRef
-    place t = elim t [
-      | true ↦ record m { underlined = m.underlined || underlined } ∷ ms
-      | false ↦ record { section = s; underlined = underlined } ∷ (m ∷ ms)
-    ]
-
-    wanted : Bool
-    wanted = is_at only section (record { section = s; underlined = underlined })
-        || (is_at only section m || list_any (is_at only section) ms)
-
-    both : (o at a b rest : Bool)
-        → ((at && is_listed o (record m { underlined = a || b })) || rest)
-        ≡ ((at && is_listed o (record m { underlined = b })) || ((at && is_listed o (record m { underlined = a }))
-        || rest))
-    both true true true b rest = sym (or-true b)
-    both true true false b rest = refl
-    both true false a b rest = refl
-    both false true a b rest = refl
-    both false false a b rest = refl
-
-    at_place : (t : Bool) → (m.section == s) ≡ t → list_any (is_at only section) (place t) ≡ wanted
-    at_place false is = refl
-    at_place true is = both only (m.section == section) m.underlined underlined (list_any (is_at only section) ms)
-        ∙ ap (λ (n : ℕ). is_at only section (record { section = n; underlined = underlined })
-        || (is_at only section m || list_any (is_at only section) ms)) (eqb-true m.section s is)
-
-    below : list_any (is_at only section) (with_mention s underlined ms)
-        ≡ (is_at only section (record { section = s; underlined = underlined }) || list_any (is_at only section) ms)
-        → (t : Bool) → list_any (is_at only section) (put t) ≡ wanted
-    below more true = ap (λ b. is_at only section m || b) more
-        ∙ or-swap (is_at only section m) (is_at only section (record { section = s; underlined = underlined }))
-        (list_any (is_at only section) ms)
-    below more false = at_place (m.section == s) refl
-
--- all of them
-all-mentions : (only : Bool) (section : ℕ) (ms : List SectionRef) (os : List Occurrence)
-    → list_any (is_at only section) (fold (λ (ms : List SectionRef) (o : Occurrence). with_mention o.section
-    o.underlined ms) ms os)
-    ≡ (list_any (λ (o : Occurrence). is_at only section (as_mention o)) os || list_any (is_at only section) ms)
-all-mentions only section ms [] = refl
-all-mentions only section ms (o ∷ os) =
-    all-mentions only section (with_mention o.section o.underlined ms) os
-    ∙ ap (λ b. list_any (λ (o : Occurrence). is_at only section (as_mention o)) os || b)
-    (with-mention only section o.section o.underlined ms)
-    ∙ or-swap (list_any (λ (o : Occurrence). is_at only section (as_mention o)) os) (is_at only section (as_mention o))
-    (list_any (is_at only section) ms)
-    ∙ shift (is_at only section (as_mention o)) (list_any (λ (o : Occurrence). is_at only section (as_mention o)) os)
-    (list_any (is_at only section) ms)
+    by : (t : Bool) → (any_in os section && any_underlined_in os section) ≡ any_underlined_in os section
+        → ((t || any_in os section) && ((t && o.underlined) || any_underlined_in os section))
+        ≡ ((t && o.underlined) || any_underlined_in os section)
+    by true more = refl
+    by false more = more
+all-mentions false section (o ∷ os) = by (o.section == section) (all-mentions false section os)
   where
-    shift : (a b c : Bool) → (a || (b || c)) ≡ ((a || b) || c)
-    shift true b c = refl
-    shift false b c = refl
+    by : (t : Bool) → (any_in os section && true) ≡ list_any (λ (o : Occurrence). is_at false section (as_mention o)) os
+        → ((t || any_in os section) && true)
+        ≡ ((t && true) || list_any (λ (o : Occurrence). is_at false section (as_mention o)) os)
+    by true more = refl
+    by false more = more
 
 of-name : (only : Bool) (name section : ℕ) (os : List Occurrence)
     → list_any (λ (o : Occurrence). is_at only section (as_mention o))
@@ -157,9 +105,9 @@ pub in-row : (name section : ℕ) (entry : Entry) (os : List Occurrence)
     ≡ occurs (needs_underline name entry) name section os
 in-row name section entry os =
     in-listed (needs_underline name entry) section (mentions name os)
-    ∙ all-mentions (needs_underline name entry) section [] (filter (λ (o : Occurrence). o.name.index == name) os)
-    ∙ or-false (list_any (λ (o : Occurrence). is_at (needs_underline name entry) section (as_mention o))
-    (filter (λ (o : Occurrence). o.name.index == name) os))
+    ∙ sections-at section (is_listed (needs_underline name entry))
+    (filter (λ (o : Occurrence). o.name.index == name) os)
+    ∙ all-mentions (needs_underline name entry) section (filter (λ (o : Occurrence). o.name.index == name) os)
     ∙ of-name (needs_underline name entry) name section os
 
 -- ## The rows in their order of names

@@ -1,15 +1,22 @@
 -- The sections of a name, and the lists in which they lie.
-use Rattle.std.proofs.Common.{◌≡◌, ℕ, zero, suc, ◌<◌, ◌≤◌, ◌≢◌, ◌==◌, ◌||◌, Bool, true, false, nat_lt, List, [], ◌∷◌}
-use Rattle.std.proofs.Common.{◌++◌, length, get_or, set, insert, fold, filter, Vec, Global, refl, sym, ap, subst, ◌∙◌}
-use Rattle.std.proofs.Common.{◌⊎◌, inl, inr, arith, ◌-◌}
+use Rattle.std.proofs.Common.{◌≡◌, ℕ, zero, suc, ◌<◌, ◌≤◌, ◌≢◌, ◌==◌, ◌||◌, ◌&&◌, Bool, true, false, nat_lt, List, []}
+use Rattle.std.proofs.Common.{◌∷◌, ◌++◌, ◌+◌, max, length, get_or, set, insert, filter, cond, Vec, Global, refl, sym}
+use Rattle.std.proofs.Common.{ap, subst, ◌∙◌, inl, inr, arith, ◌-◌, ne_eqb, true≢false}
 use Rattle.std.proofs.lemmas.Bool.{lt-ltb, le-ltb, ltb-false, ltb-true, eqb-true, eq-eqb}
-use Rattle.std.proofs.lemmas.List.Kept.{AllPairs-cons}
+use Rattle.std.proofs.lemmas.List.{append-nil}
+use Rattle.std.proofs.lemmas.List.Elements.{filter-append}
+use Rattle.std.proofs.lemmas.List.Folds.{list_any-append}
+use Rattle.std.proofs.lemmas.List.Sums.{fold-append}
 use Rattle.std.proofs.lemmas.List.Sorted.{IsPartitionedBy-ltb}
 use Rattle.std.proofs.Math.Dec.{ltb}
 use Rattle.std.specs.List.Sorted.{IsPartitionPoint, IsPartitionedBy}
 use Rattle.cw_names.specs.declared.xrefs.Occurrence.{Occurrence}
 use Rattle.cw_names.specs.declared.xrefs.SectionRef.{SectionRef}
-use Rattle.cw_names.specs.Mentions.{with_mention, mentions, AreAscending, sections_at}
+use Rattle.cw_names.specs.Noted.{sections_at, with_mention}
+use Rattle.cw_names.specs.Mentions.{AreAscending, above_all, any_in, any_underlined_in, is_in, is_underlined_in}
+use Rattle.cw_names.specs.Mentions.{mentions, sections_in}
+use Rattle.cw_names.specs.MentionLaws.{Above, none-above, picked, picked-above, picked-more, sections-ascending}
+use Rattle.cw_names.specs.MentionLaws.{sections-picked, three, with_first}
 
 module _ (section : ℕ) (underlined : Bool) (m : SectionRef) (ms : List SectionRef) where
   abbrev chosen : Bool → Bool → List SectionRef
@@ -38,89 +45,175 @@ module _ (section : ℕ) (underlined : Bool) (m : SectionRef) (ms : List Section
       differ true e = absurd (let same = eqb-true m.section section e in omega arith)
       differ false e = refl
 
-three : (a b : ℕ) → (a < b) ⊎ ((a ≡ b) ⊎ (b < a))
-three a b = first (nat_lt a b) refl
+-- ## One occurrence more is an insertion
+
+module _ (section : ℕ) (underlined : Bool) where
+  above-first : (ms : List SectionRef) → Above section ms
+      → with_mention section underlined ms ≡ record { section = section; underlined = underlined } ∷ ms
+  above-first [] above = refl
+  above-first (m ∷ ms) above = goes_before section underlined m ms (above 0 m (omega arith))
+
+  module _ (test under test' under' : ℕ → Bool)
+      (others : (k : ℕ) → k ≢ section → (test' k ≡ test k) × (under' k ≡ under k))
+      (there : test' section ≡ true) (either : under' section ≡ (under section || underlined))
+      (unless : test section ≡ false → under section ≡ false) where
+    -- from a number behind the section on nothing changes
+    behind : (a n : ℕ) → section < a → picked test' under' a n ≡ picked test under a n
+    behind a zero less = refl
+    behind a (suc n) less =
+        let same : (test' a ≡ test a) × (under' a ≡ under a) = others a (λ e. omega (arith, e)) in
+        ap (λ t. with_first t (under' a) a (picked test' under' (a + 1) n)) same.0
+        ∙ ap (λ u. with_first (test a) u a (picked test' under' (a + 1) n)) same.1
+        ∙ ap (with_first (test a) (under a) a) (behind (a + 1) n (omega arith))
+
+    at-section : (n : ℕ) → picked test' under' section (suc n)
+        ≡ with_mention section underlined (picked test under section (suc n))
+    at-section n =
+        ap (λ t. with_first t (under' section) section (picked test' under' (section + 1) n)) there
+        ∙ ap (λ ms. record { section = section; underlined = under' section } ∷ ms)
+        (behind (section + 1) n (omega arith))
+        ∙ ap (λ u. record { section = section; underlined = u } ∷ rest) either
+        ∙ by (test section) refl
+      where
+        rest : List SectionRef
+        rest = picked test under (section + 1) n
+
+        by : (t : Bool) → test section ≡ t
+            → record { section = section; underlined = under section || underlined } ∷ rest
+            ≡ with_mention section underlined (with_first t (under section) section rest)
+        by true e = sym (joins section underlined (record { section = section; underlined = under section }) rest refl)
+        by false e = ap (λ u. record { section = section; underlined = u || underlined } ∷ rest) (unless e)
+            ∙ sym (above-first rest (picked-above test under section (section + 1) n (omega arith)))
+
+    inserted : (a n : ℕ) → a ≤ section → section < a + n
+        → picked test' under' a n ≡ with_mention section underlined (picked test under a n)
+    inserted a zero low high = absurd (omega arith)
+    inserted a (suc n) low high = elim (three a section) [
+      | inl less ↦ before less (inserted (a + 1) n (omega arith) (omega arith))
+      | inr other ↦ elim other [
+        | inl same ↦ subst (λ (k : ℕ). picked test' under' k (suc n)
+            ≡ with_mention section underlined (picked test under k (suc n))) (sym same) (at-section n)
+        | inr less ↦ absurd (omega arith)
+      ]
+    ]
+      where
+        by : (t : Bool) → a < section
+            → with_first t (under a) a (with_mention section underlined (picked test under (a + 1) n))
+            ≡ with_mention section underlined (with_first t (under a) a (picked test under (a + 1) n))
+        by true less = sym (passes section underlined (record { section = a; underlined = under a })
+            (picked test under (a + 1) n) less)
+        by false less = refl
+
+        before : a < section
+            → picked test' under' (a + 1) n ≡ with_mention section underlined (picked test under (a + 1) n)
+            → picked test' under' a (suc n) ≡ with_mention section underlined (picked test under a (suc n))
+        before less more =
+            let same : (test' a ≡ test a) × (under' a ≡ under a) = others a (λ e. omega (arith, e)) in
+            ap (λ t. with_first t (under' a) a (picked test' under' (a + 1) n)) same.0
+            ∙ ap (λ u. with_first (test a) u a (picked test' under' (a + 1) n)) same.1
+            ∙ ap (with_first (test a) (under a) a) more
+            ∙ by (test a) less
+
+or-false : (b : Bool) → (b || false) ≡ b
+or-false true = refl
+or-false false = refl
+
+-- where no occurrence is, none is underlined
+none-underlined : (section : ℕ) (os : List Occurrence) → any_in os section ≡ false
+    → any_underlined_in os section ≡ false
+none-underlined section [] h = refl
+none-underlined section (o ∷ os) h = by (is_in section o) h (none-underlined section os)
   where
-    second : (t : Bool) → nat_lt b a ≡ t → b ≤ a → (a ≡ b) ⊎ (b < a)
-    second true e h = inr (ltb-true b a e)
-    second false e h = let k : a ≤ b = ltb-false b a e in inl (omega arith)
+    by : (t : Bool) → (t || any_in os section) ≡ false
+        → (any_in os section ≡ false → any_underlined_in os section ≡ false)
+        → ((t && o.underlined) || any_underlined_in os section) ≡ false
+    by true e more = absurd (true≢false e)
+    by false e more = more e
 
-    first : (t : Bool) → nat_lt a b ≡ t → (a < b) ⊎ ((a ≡ b) ⊎ (b < a))
-    first true e = inl (ltb-true a b e)
-    first false e = inr (second (nat_lt b a) refl (ltb-false a b e))
+module _ (os : List Occurrence) (o : Occurrence) where
+  more : List Occurrence
+  more = os ++ o ∷ []
 
--- all sections of a list are above a number
-abbrev Above : ℕ → List SectionRef → Type 0
-Above low ms = (k : ℕ) (d : SectionRef) → k < length ms → low < (get_or ms k d).section
+  any-more : (k : ℕ) → any_in (os ++ o ∷ []) k ≡ (any_in os k || (o.section == k))
+  any-more k = list_any-append (is_in k) os (o ∷ []) ∙ ap (λ b. any_in os k || b) (or-false (o.section == k))
 
-above-cons : (low : ℕ) (m : SectionRef) (ms : List SectionRef) → low < m.section → Above low ms
-    → (k : ℕ) (d : SectionRef) → k < length (m ∷ ms) → low < (get_or (m ∷ ms) k d).section
-above-cons low m ms here rest zero d h = here
-above-cons low m ms here rest (suc k) d h = rest k d (omega arith)
+  underlined-more : (k : ℕ) → any_underlined_in (os ++ o ∷ []) k
+      ≡ (any_underlined_in os k || (o.section == k && o.underlined))
+  underlined-more k = list_any-append (is_underlined_in k) os (o ∷ [])
+      ∙ ap (λ b. any_underlined_in os k || b) (or-false (o.section == k && o.underlined))
 
-ascending-cons : (m : SectionRef) (ms : List SectionRef) → Above m.section ms → AreAscending ms → AreAscending (m ∷ ms)
-ascending-cons m ms above ascending = AllPairs-cons (λ (x y : SectionRef). x.section < y.section) m ms above ascending
+  others : (k : ℕ) → k ≢ o.section → (any_in (os ++ o ∷ []) k ≡ any_in os k)
+      × (any_underlined_in (os ++ o ∷ []) k ≡ any_underlined_in os k)
+  others k differ =
+      let not : (o.section == k) ≡ false = ne_eqb o.section k (λ same. differ (sym same)) in (
+        any-more k ∙ ap (λ b. any_in os k || b) not ∙ or-false (any_in os k),
+        underlined-more k ∙ ap (λ b. any_underlined_in os k || (b && o.underlined)) not
+            ∙ or-false (any_underlined_in os k),
+      )
 
-ascending-tail : (m : SectionRef) (ms : List SectionRef) → AreAscending (m ∷ ms) → AreAscending ms
-ascending-tail m ms ascending = λ i j d before low. ascending (suc i) (suc j) d (omega arith) (omega arith)
+  itself : (o.section == o.section) ≡ true
+  itself = eq-eqb o.section o.section refl
 
-ascending-head : (m : SectionRef) (ms : List SectionRef) → AreAscending (m ∷ ms) → Above m.section ms
-ascending-head m ms ascending = λ k d low. ascending 0 (suc k) d (omega arith) (omega arith)
+  or-true : (b : Bool) → (b || true) ≡ true
+  or-true true = refl
+  or-true false = refl
 
-above-kept : (low section : ℕ) (underlined : Bool) (ms : List SectionRef) → low < section → Above low ms
-    → Above low (with_mention section underlined ms)
-above-kept low section underlined [] less above = above-cons low (record { section = section; underlined = underlined })
-    [] less above
-above-kept low section underlined (m ∷ ms) less above = elim (three m.section section) [
-  | inl lower ↦ subst (Above low) (sym (passes section underlined m ms lower))
-      (above-cons low m (with_mention section underlined ms) here (above-kept low section underlined ms less rest))
-  | inr other ↦ elim other [
-    | inl same ↦ subst (Above low) (sym (joins section underlined m ms same))
-        (above-cons low (record m { underlined = m.underlined || underlined }) ms here rest)
-    | inr higher ↦ subst (Above low) (sym (goes_before section underlined m ms higher))
-        (above-cons low (record { section = section; underlined = underlined }) (m ∷ ms) less above)
-  ]
-]
+  most : ℕ
+  most = max (above_all os) (o.section + 1)
+
+  pub sections-more : sections_in (os ++ o ∷ []) ≡ with_mention o.section o.underlined (sections_in os)
+  unfolding most
+  sections-more =
+      sections-picked (os ++ o ∷ [])
+      ∙ ap (picked (any_in (os ++ o ∷ [])) (any_underlined_in (os ++ o ∷ [])) 0)
+      (fold-append (λ (most : ℕ) (o : Occurrence). max most (o.section + 1)) 0 os (o ∷ []))
+      ∙ inserted o.section o.underlined (any_in os) (any_underlined_in os) (any_in (os ++ o ∷ []))
+      (any_underlined_in (os ++ o ∷ [])) others
+      (any-more o.section ∙ ap (λ b. any_in os o.section || b) itself ∙ or-true (any_in os o.section))
+      (underlined-more o.section ∙ ap (λ b. any_underlined_in os o.section || (b && o.underlined)) itself)
+      (none-underlined o.section os) 0 (max (above_all os) (o.section + 1)) (omega arith) (omega arith)
+      ∙ ap (with_mention o.section o.underlined)
+      (picked-more (any_in os) (any_underlined_in os) 0 (above_all os) (max (above_all os) (o.section + 1))
+      (omega arith) (λ k low. none-above k os (omega (arith, low)))
+      ∙ sym (sections-picked os))
+
+-- the sections of a name with an occurrence of it more, or of another name
+pub mentions-more : (name : ℕ) (os : List Occurrence) (o : Occurrence) → o.name.index ≡ name
+    → mentions name (os ++ o ∷ []) ≡ with_mention o.section o.underlined (mentions name os)
+mentions-more name os o same =
+    ap sections_in (filter-append (λ (o : Occurrence). o.name.index == name) os (o ∷ [])
+    ∙ ap (λ b. filter (λ (o : Occurrence). o.name.index == name) os ++ cond b (o ∷ []) [])
+    (eq-eqb o.name.index name same))
+    ∙ sections-more (filter (λ (o : Occurrence). o.name.index == name) os) o
+
+pub mentions-same : (name : ℕ) (os : List Occurrence) (o : Occurrence) → o.name.index ≢ name
+    → mentions name (os ++ o ∷ []) ≡ mentions name os
+mentions-same name os o differ =
+    ap sections_in (filter-append (λ (o : Occurrence). o.name.index == name) os (o ∷ [])
+    ∙ ap (λ b. filter (λ (o : Occurrence). o.name.index == name) os ++ cond b (o ∷ []) [])
+    (ne_eqb o.name.index name differ)
+    ∙ append-nil (filter (λ (o : Occurrence). o.name.index == name) os))
+
+-- the lists of all names, where that of one gets a section
+pub noted-more : (name : ℕ) (os : List Occurrence) (o : Occurrence) (before after : List (Vec SectionRef Global))
+    → ((other : ℕ) → sections_at other before ≡ mentions other os)
+    → sections_at o.name.index after ≡ with_mention o.section o.underlined (sections_at o.name.index before)
+    → ((other : ℕ) → other ≢ o.name.index → sections_at other after ≡ sections_at other before)
+    → sections_at name after ≡ mentions name (os ++ o ∷ [])
+noted-more name os o before after lie here elsewhere = by (o.name.index == name) refl
   where
-    here : low < m.section
-    here = above 0 m (omega arith)
-
-    rest : Above low ms
-    rest = λ k d h. above (suc k) d (omega arith)
-
-ascending-kept : (section : ℕ) (underlined : Bool) (ms : List SectionRef) → AreAscending ms
-    → AreAscending (with_mention section underlined ms)
-ascending-kept section underlined [] ascending = ascending-cons (record { section = section; underlined = underlined })
-    [] (λ k d low. absurd (omega arith)) ascending
-ascending-kept section underlined (m ∷ ms) ascending = elim (three m.section section) [
-  | inl lower ↦ subst AreAscending (sym (passes section underlined m ms lower))
-      (ascending-cons m (with_mention section underlined ms) (above-kept m.section section underlined ms lower above)
-      (ascending-kept section underlined ms rest))
-  | inr other ↦ elim other [
-    | inl same ↦ subst AreAscending (sym (joins section underlined m ms same))
-        (ascending-cons (record m { underlined = m.underlined || underlined }) ms above rest)
-    | inr higher ↦ subst AreAscending (sym (goes_before section underlined m ms higher))
-        (ascending-cons (record { section = section; underlined = underlined }) (m ∷ ms)
-        (above-cons section m ms higher (λ k d low. let far : m.section < (get_or ms k d).section = above k d low in
-        omega arith)) ascending)
-  ]
-]
-  where
-    above : Above m.section ms
-    above = ascending-head m ms ascending
-
-    rest : AreAscending ms
-    rest = ascending-tail m ms ascending
-
-folded : (ms : List SectionRef) (os : List Occurrence) → AreAscending ms
-    → AreAscending (fold (λ ms o. with_mention o.section o.underlined ms) ms os)
-folded ms [] ascending = ascending
-folded ms (o ∷ os) ascending = folded (with_mention o.section o.underlined ms) os
-    (ascending-kept o.section o.underlined ms ascending)
+    by : (t : Bool) → (o.name.index == name) ≡ t → sections_at name after ≡ mentions name (os ++ o ∷ [])
+    by true e =
+        let same : o.name.index ≡ name = eqb-true o.name.index name e in
+        subst (λ (n : ℕ). sections_at n after ≡ mentions n (os ++ o ∷ [])) same
+        (here ∙ ap (with_mention o.section o.underlined) (lie o.name.index)
+        ∙ sym (mentions-more o.name.index os o refl))
+    by false e =
+        let differ : o.name.index ≢ name = λ same. true≢false (sym (eq-eqb o.name.index name same) ∙ e) in
+        elsewhere name (λ same. differ (sym same)) ∙ lie name ∙ sym (mentions-same name os o differ)
 
 pub mentions-ascending : (name : ℕ) (os : List Occurrence) → AreAscending (mentions name os)
-mentions-ascending name os = folded [] (filter (λ (o : Occurrence). o.name.index == name) os)
-    (λ i j d before low. absurd (omega arith))
+mentions-ascending name os = sections-ascending (filter (λ (o : Occurrence). o.name.index == name) os)
 
 -- the default of a look-up that finds something is idle
 pub any-default : {X : Type 0} (xs : List X) (k : ℕ) (d e : X) → k < length xs → get_or xs k d ≡ get_or xs k e

@@ -1,24 +1,35 @@
 -- The sections in which a name occurs.
-use Rattle.std.specs.Prelude.{ℕ, zero, suc, ◌<◌, ◌==◌, ◌||◌, Bool, true, false, nat_lt, List, [], ◌∷◌, fold, filter}
-use Rattle.std.specs.Prelude.{Vec, AllPairs}
-use Rattle.std.specs.declared.alloc.Global.{Global}
+use Rattle.std.specs.Prelude.{ℕ, ◌+◌, max, ◌<◌, ◌==◌, ◌&&◌, Bool, List, AllPairs, fold, map}
+use Rattle.std.specs.List.{filter, list_any, range_with_len}
 use Rattle.cw_names.specs.declared.xrefs.Occurrence.{Occurrence}
 use Rattle.cw_names.specs.declared.xrefs.SectionRef.{SectionRef}
 
--- A section is put at its ascending place. One that is there is underlined when either is.
-abbrev pub with_mention : ℕ → Bool → List SectionRef → List SectionRef
-with_mention section underlined [] = record { section = section; underlined = underlined } ∷ []
-with_mention section underlined (m ∷ ms) = elim (nat_lt m.section section) [
-  | true ↦ m ∷ with_mention section underlined ms
-  | false ↦ elim (m.section == section) [
-    | true ↦ record m { underlined = m.underlined || underlined } ∷ ms
-    | false ↦ record { section = section; underlined = underlined } ∷ (m ∷ ms)
-  ]
-]
+-- whether an occurrence is in a section, and whether it is underlined there
+abbrev pub is_in : ℕ → Occurrence → Bool
+is_in section o = o.section == section
 
--- The sections of occurrences, ascending, each once, underlined where any occurrence there is.
+abbrev pub is_underlined_in : ℕ → Occurrence → Bool
+is_underlined_in section o = is_in section o && o.underlined
+
+-- whether any of the occurrences is, and the section as they mention it: underlined where any of them is
+abbrev pub any_in : List Occurrence → ℕ → Bool
+any_in occurrences section = list_any (is_in section) occurrences
+
+abbrev pub any_underlined_in : List Occurrence → ℕ → Bool
+any_underlined_in occurrences section = list_any (is_underlined_in section) occurrences
+
+abbrev pub mention_of : List Occurrence → ℕ → SectionRef
+mention_of occurrences section =
+    record { section = section; underlined = any_underlined_in occurrences section }
+
+-- The least number that is above the sections of all occurrences.
+abbrev pub above_all : List Occurrence → ℕ
+above_all occurrences = fold (λ most o. max most (o.section + 1)) 0 occurrences
+
+-- The sections in which any of the occurrences is, ascending, each once.
 abbrev pub sections_in : List Occurrence → List SectionRef
-sections_in occurrences = fold (λ ms o. with_mention o.section o.underlined ms) [] occurrences
+sections_in occurrences =
+    map (mention_of occurrences) (filter (any_in occurrences) (range_with_len 0 (above_all occurrences)))
 
 -- Those of one name.
 abbrev pub mentions : ℕ → List Occurrence → List SectionRef
@@ -27,9 +38,3 @@ mentions name occurrences = sections_in (filter (λ o. o.name.index == name) occ
 -- Each section is below all later ones.
 abbrev pub AreAscending : List SectionRef → Type 0
 AreAscending ms = AllPairs (λ m later. m.section < later.section) ms
-
--- How the sections lie: a list for each name up to the last that occurs.
-abbrev pub sections_at : ℕ → List (Vec SectionRef Global) → List SectionRef
-sections_at name [] = []
-sections_at zero (list ∷ lists) = list.items
-sections_at (suc name) (list ∷ lists) = sections_at name lists

@@ -1,6 +1,6 @@
 -- One empty list more changes the sections of no name.
 use Rattle.std.proofs.Common.{ap, ◌∙◌}
-use Rattle.cw_names.specs.Mentions.{sections_at}
+use Rattle.cw_names.specs.Noted.{sections_at}
 use Rattle.cw_names.proofs.Mentions.{at-pushed}
 use Rattle.cw_names.proofs.xrefs.add_lists.Goals as goal
 

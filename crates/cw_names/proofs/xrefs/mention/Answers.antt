@@ -1,7 +1,8 @@
 -- The list of this name gets the section, or stays where memory is wanting; those of other names stay.
 use Rattle.std.proofs.Common.{◌≡◌, ◌∙◌, ap, subst, sym}
 use Rattle.std.proofs.lemmas.Result.{on_ok_weaker, on_err_weaker}
-use Rattle.cw_names.specs.Mentions.{AreAscending, sections_at, with_mention}
+use Rattle.cw_names.specs.Noted.{sections_at, with_mention}
+use Rattle.cw_names.specs.Mentions.{AreAscending}
 use Rattle.cw_names.proofs.Mentions.{at-set, at-other, at-read}
 use Rattle.cw_names.proofs.xrefs.mention.Goals as goal
 
