@@ -1,7 +1,9 @@
 -- Which tokens have names, and which section each stands in.
 use Rattle.std.proofs.Common.{◌≡◌, ℕ, zero, suc, ◌+◌, ◌<◌, ◌≤◌, ◌==◌, Bool, true, false, List, [], ◌∷◌, ◌++◌, Option}
-use Rattle.std.proofs.Common.{Some, None, All, map, length, refl, ap, sym, subst, ◌∙◌, add-zero, zero-add, arith}
+use Rattle.std.proofs.Common.{Some, None, All, map, length, refl, ap, sym, subst, ◌∙◌, ◌||◌, add-zero, zero-add, arith}
+use Rattle.std.proofs.Common.{nat_lt, true≢false}
 use Rattle.std.specs.List.{filter}
+use Rattle.std.proofs.lemmas.Bool.{eqb-true, ltb-false, ltb-true}
 use Rattle.std.proofs.lemmas.List.Elements.{All-nil, All-cons}
 use Rattle.cw_base.specs.Web.{MergedLine}
 use Rattle.cw_rules.specs.declared.codes.Code.{Code}
@@ -16,7 +18,9 @@ use Rattle.cw_secnames.specs.declared.kinds.RefKind.{RefKind}
 use Rattle.cw_secnames.specs.declared.kinds.RefKind.TheVariants.{Defined, Used, Cited}
 use Rattle.cw_secnames.specs.declared.kinds.SecId.{SecId}
 use Rattle.cw_secnames.specs.Kept.{SecName}
-use Rattle.cw_secnames.specs.References.{Reference, once, is_of, referred}
+use Rattle.cw_secnames.specs.Marks.{is_in}
+use Rattle.cw_secnames.specs.OnceLaws.{head-in, in-once, not-in, once-ascends, tail-in}
+use Rattle.cw_secnames.specs.References.{AscendFrom, Reference, once, is_of, referred}
 use Rattle.cw_secnames.specs.Uses.{NameUse}
 use Rattle.cw_phase1.specs.declared.roles.Role.{Role}
 use Rattle.cw_phase1.specs.declared.roles.Role.TheVariants as roles
@@ -232,25 +236,41 @@ rise-filter test low high (reference ∷ references) r =
     rise-filter-by (test reference) test low high reference references refl r
     (rise-filter test reference.section high references r.2)
 
-not-same : (a b : ℕ) → (a == b) ≡ false → a ≤ b → a + 1 ≤ b
-not-same a b e h = grind arith
+-- each of them is between the two
+risen : (low high : ℕ) (ns : List ℕ) → Rise low high ns → (k : ℕ) → is_in k ns ≡ true → (low ≤ k) × (k ≤ high)
+risen low high [] r k e = absurd (true≢false (sym e))
+risen low high (n ∷ ns) r k e = by (n == k) refl e (risen n high ns r.2 k)
+  where
+    by : (t : Bool) → (n == k) ≡ t → (t || is_in k ns) ≡ true → (is_in k ns ≡ true → (n ≤ k) × (k ≤ high))
+        → (low ≤ k) × (k ≤ high)
+    by true same e more = let is : n ≡ k = eqb-true n k same in (omega (arith, r.0), omega (arith, r.1))
+    by false same e more = let there : (n ≤ k) × (k ≤ high) = more e in (omega (arith, r.0, there.0), there.1)
 
-once-by : (t : Bool) (n next low high : ℕ) (ns : List ℕ) → (n == next) ≡ t → Rise low high (n ∷ next ∷ ns)
-    → ((k : ℕ) → k ≤ next → Ascend k high (once (next ∷ ns)))
-    → Ascend low high (elim t as (λ _. List ℕ) [ true ↦ once (next ∷ ns) | false ↦ n ∷ once (next ∷ ns) ])
-once-by true n next low high ns e r k = k low (omega (arith, r.0, r.2.0))
-once-by false n next low high ns e r k = (r.0, r.1, k (n + 1) (not-same n next e r.2.0))
+-- what ascends between two numbers
+between : (low high least : ℕ) (ns : List ℕ) → AscendFrom least ns
+    → ((k : ℕ) → is_in k ns ≡ true → (low ≤ k) × (k ≤ high)) → Ascend low high ns
+between low high least [] up there = tt
+between low high least (n ∷ ns) up there =
+    let here : (low ≤ n) × (n ≤ high) = there n (head-in n ns) in (
+      here.0,
+      here.1,
+      between (n + 1) high (n + 1) ns up.1 (λ k e.
+          (above k (nat_lt k (n + 1)) refl e, (there k (tail-in k n ns e)).1)),
+    )
+  where
+    above : (k : ℕ) (t : Bool) → nat_lt k (n + 1) ≡ t → is_in k ns ≡ true → n + 1 ≤ k
+    above k true less e =
+        absurd (true≢false (sym e ∙ not-in k (n + 1) ns (ltb-true k (n + 1) less) up.1))
+    above k false less e = ltb-false k (n + 1) less
 
-once-ascends : (low high : ℕ) (ns : List ℕ) → Rise low high ns → Ascend low high (once ns)
-once-ascends low high [] r = tt
-once-ascends low high (n ∷ []) r = (r.0, r.1, tt)
-once-ascends low high (n ∷ next ∷ ns) r =
-    once-by (n == next) n next low high ns refl r (λ k h. once-ascends k high (next ∷ ns) (h, r.2.1, r.2.2))
+once-between : (low high : ℕ) (ns : List ℕ) → Rise low high ns → Ascend low high (once ns)
+once-between low high ns r = between low high 0 (once ns) (once-ascends ns)
+    (λ k e. risen low high ns r k (sym (in-once k ns) ∙ e))
 
 ascend : (name : ℕ) (how : RefKind) (high : ℕ) (references : List Reference) → Rise 1 high (sections_in references)
     → Ascend 1 high (once (sections_in (filter (is_of name how) references)))
 ascend name how high references r =
-    once-ascends 1 high (sections_in (filter (is_of name how) references))
+    once-between 1 high (sections_in (filter (is_of name how) references))
     (rise-filter (is_of name how) 1 high references r)
 
 refers : (high : ℕ) (references : List Reference) (k : ℕ) (names : List SecName) → Rise 1 high (sections_in references)

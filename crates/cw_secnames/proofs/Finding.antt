@@ -1,6 +1,6 @@
 -- Names in memory, and the first that pass a test.
 use Rattle.std.proofs.Common.{◌≡◌, ℕ, zero, suc, ◌+◌, ◌<◌, ◌≤◌, ◌&&◌, Bool, true, false, not, nat_lt, List, [], ◌∷◌}
-use Rattle.std.proofs.Common.{Option, Some, None, map, length, drop, ◌-◌, cond, refl, ap, ◌∙◌, sym}
+use Rattle.std.proofs.Common.{Option, Some, None, map, length, drop, cond, refl, ap, ◌∙◌, sym}
 use Rattle.std.proofs.Common.{subst, get_or, add-zero, zero-add, arith}
 use borrow.Author.Tests.{lt-ltb, ltb-true}
 use Rattle.cw_secnames.specs.declared.kinds.Earliest.TheVariants.{Nobody, One, Several}

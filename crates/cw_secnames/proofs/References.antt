@@ -1,36 +1,169 @@
--- A number behind others.
-use Rattle.std.proofs.Common.{◌≡◌, ◌≢◌, ℕ, zero, suc, ◌-◌, ◌<◌, ◌==◌, true, false, List, [], ◌∷◌, ◌++◌, length, refl}
-use Rattle.std.proofs.Common.{ap, sym, ◌∙◌, get_or, arith}
-use borrow.Author.Tests.{eq-eqb, eqb-true}
-use Rattle.cw_secnames.specs.References.{with_number}
+-- A number more in an ascending list.
+use Rattle.std.proofs.Common.{◌≡◌, ℕ, zero, suc, ◌<◌, ◌≤◌, ◌==◌, ◌||◌, ◌+◌, Bool, true, false, List, [], ◌∷◌, ◌++◌}
+use Rattle.std.proofs.Common.{length, refl, ap, sym, subst, ◌∙◌, get_or, map, insert, slice_set, arith, Result, Ok, Err}
+use Rattle.std.proofs.Common.{MatchResult}
+use Rattle.std.specs.List.Sorted.{IsBinarySearchResult}
+use Rattle.std.specs.Ordering.{nat_cmp}
+use Rattle.std.proofs.lemmas.List.Sorted.{searched}
+use Rattle.std.proofs.lemmas.Bool.{eq-eqb, eqb-true}
+use Rattle.cw_secnames.specs.declared.kinds.RefKind.{RefKind}
+use Rattle.cw_secnames.specs.declared.kinds.RefKind.TheVariants.{Defined, Used, Cited}
+use Rattle.cw_secnames.specs.declared.sec_names.Kept.{Kept}
+use Rattle.cw_secnames.specs.Inside.{listed, lists_of, name_of}
+use Rattle.cw_secnames.specs.Kept.{SecName}
+use Rattle.cw_secnames.specs.Marks.{is_in}
+use Rattle.cw_secnames.specs.References.{Ascend, AscendFrom, ReferAscending, RefersAscending, with_number}
+use Rattle.cw_secnames.specs.References.{with_reference, with_section}
+use Rattle.cw_secnames.specs.OnceLaws.{with_number-ascends, with_number-is}
 
-before-last : (n : ℕ) → suc (suc n) - 1 ≡ suc (suc n - 1)
-before-last n = omega arith
+or-comm : (a b : Bool) → (a || b) ≡ (b || a)
+or-comm true true = refl
+or-comm true false = refl
+or-comm false true = refl
+or-comm false false = refl
 
-pub at-last : (n d : ℕ) (xs : List ℕ) → 0 < length xs → get_or xs (length xs - 1) d ≡ n → xs ≡ with_number n xs
-at-last n d [] h e = absurd (omega arith)
-at-last n d (x ∷ []) h e = rw (eq-eqb x n e, with_number) (ap (λ m. m ∷ []) e)
-at-last n d (x ∷ y ∷ xs) h e = ap (λ rest. x ∷ rest)
-    (at-last n d (y ∷ xs) (omega arith) (ap (λ k. get_or (x ∷ y ∷ xs) k d) (sym (before-last (length xs))) ∙ e))
+or-assoc : (a b c : Bool) → ((a || b) || c) ≡ (a || (b || c))
+or-assoc true b c = refl
+or-assoc false b c = refl
 
-apart : (a b : ℕ) → (a ≢ b) → (a == b) ≡ false
-apart a b h = grind arith
+or-same : (a : Bool) → (a || a) ≡ a
+or-same true = refl
+or-same false = refl
 
-pub behind-last : (n d : ℕ) (xs : List ℕ) → 0 < length xs → (get_or xs (length xs - 1) d ≢ n) → xs ++ n ∷ []
-    ≡ with_number n xs
-behind-last n d [] h e = absurd (omega arith)
-behind-last n d (x ∷ []) h e = rw (apart x n e, with_number) refl
-behind-last n d (x ∷ y ∷ xs) h e = ap (λ rest. x ∷ rest)
-    (behind-last n d (y ∷ xs) (omega arith) (λ same. e (ap (λ k. get_or (x ∷ y ∷ xs) k d) (before-last (length xs))
-    ∙ same)))
+or-false : (b : Bool) → (b || false) ≡ b
+or-false true = refl
+or-false false = refl
 
-pub behind-none : (n : ℕ) (xs : List ℕ) → length xs ≡ 0 → xs ++ n ∷ [] ≡ with_number n xs
-behind-none n [] h = refl
-behind-none n (x ∷ xs) h = absurd (omega arith)
+-- ## One or two numbers
 
-pub is-some : (n : ℕ) → (n == 0) ≡ false → 0 < n
-is-some zero h = absurd (cc)
-is-some (suc n) h = omega arith
+pub with_first : (n : ℕ) → with_number n [] ≡ n ∷ []
+with_first n = with_number-is n [] (n ∷ []) (omega arith, tt) (λ k. sym (or-false (n == k)))
 
-pub is-none : (n : ℕ) → (n == 0) ≡ true → n ≡ 0
-is-none n h = eqb-true n 0 h
+pub with_up : (a b : ℕ) → a < b → with_number b (a ∷ []) ≡ a ∷ b ∷ []
+with_up a b less = with_number-is b (a ∷ []) (a ∷ b ∷ []) (omega arith, (omega arith, tt))
+    (λ k. or-assoc (a == k) false (b == k) ∙ ap (λ t. (a == k) || t) (sym (or-false (b == k))))
+
+pub with_down : (a b : ℕ) → b < a → with_number b (a ∷ []) ≡ b ∷ a ∷ []
+with_down a b less = with_number-is b (a ∷ []) (b ∷ a ∷ []) (omega arith, (omega arith, tt))
+    (λ k. or-comm ((a == k) || false) (b == k))
+
+pub with_same : (a b : ℕ) → b ≤ a → a ≤ b → with_number b (a ∷ []) ≡ a ∷ []
+with_same a b low high = let same : b ≡ a = omega arith in
+    with_number-is b (a ∷ []) (a ∷ []) (omega arith, tt)
+    (λ k. ap (λ (n : ℕ). ((a == k) || false) || (n == k)) same ∙ by (a == k))
+  where
+    by : (t : Bool) → ((t || false) || t) ≡ (t || false)
+    by true = refl
+    by false = refl
+
+pub ruleset few = (with_first, with_up, with_down, with_same)
+
+-- ## Any number of them
+
+ascend-at : (least k : ℕ) (ns : List ℕ) → AscendFrom least ns → k < length ns → least ≤ get_or ns k 0
+ascend-at least k [] up low = absurd (omega arith)
+ascend-at least zero (n ∷ ns) up low = up.0
+ascend-at least (suc k) (n ∷ ns) up low =
+    let there : n + 1 ≤ get_or ns k 0 = ascend-at (n + 1) k ns up.1 (omega arith) in omega (arith, up.0)
+
+-- what a binary search asks
+pub rises : (least : ℕ) (ns : List ℕ) → AscendFrom least ns → (i j : ℕ) → i ≤ j → j < length ns
+    → get_or ns i 0 ≤ get_or ns j 0
+rises least [] up i j h low = absurd (omega arith)
+rises least (n ∷ ns) up zero zero h low = omega arith
+rises least (n ∷ ns) up zero (suc j) h low =
+    let there : n + 1 ≤ get_or ns j 0 = ascend-at (n + 1) j ns up.1 (omega arith) in omega arith
+rises least (n ∷ ns) up (suc i) zero h low = absurd (omega arith)
+rises least (n ∷ ns) up (suc i) (suc j) h low = rises (n + 1) ns up.1 i j (omega arith) (omega arith)
+
+found-in : (i n : ℕ) (ns : List ℕ) → i < length ns → get_or ns i 0 ≡ n → is_in n ns ≡ true
+found-in i n [] low is = absurd (omega arith)
+found-in zero n (x ∷ ns) low is = ap (λ b. b || is_in n ns) (eq-eqb x n is)
+found-in (suc i) n (x ∷ ns) low is = ap (λ b. (x == n) || b) (found-in i n ns (omega arith) is) ∙ or-comm (x == n) true
+
+pub with_there : (i n : ℕ) (ns : List ℕ) → Ascend ns → i < length ns → get_or ns i 0 ≡ n → with_number n ns ≡ ns
+with_there i n ns up low is = with_number-is n ns ns up (λ k. by k (n == k) refl)
+  where
+    by : (k : ℕ) (t : Bool) → (n == k) ≡ t → (is_in k ns || t) ≡ is_in k ns
+    by k true e = or-comm (is_in k ns) true
+        ∙ sym (subst (λ (j : ℕ). is_in j ns ≡ true) (eqb-true n k e) (found-in i n ns low is))
+    by k false e = or-false (is_in k ns)
+
+ascend-inserted : (least i n : ℕ) (ns : List ℕ) → AscendFrom least ns → i ≤ length ns → least ≤ n
+    → ((k : ℕ) → k < i → get_or ns k 0 < n) → ((k : ℕ) → i ≤ k → k < length ns → n < get_or ns k 0)
+    → AscendFrom least (insert ns i n)
+ascend-inserted least zero n [] up within low before behind = (low, tt)
+ascend-inserted least (suc i) n [] up within low before behind = absurd (omega arith)
+ascend-inserted least zero n (x ∷ ns) up within low before behind =
+    let less : n < x = behind 0 (omega arith) (omega arith) in (low, (omega arith, up.1))
+ascend-inserted least (suc i) n (x ∷ ns) up within low before behind =
+    let less : x < n = before 0 (omega arith) in (
+      up.0,
+      ascend-inserted (x + 1) i n ns up.1 (omega arith) (omega arith)
+          (λ k h. before (suc k) (omega arith)) (λ k h low. behind (suc k) (omega arith) (omega arith)),
+    )
+
+in-inserted : (i n k : ℕ) (ns : List ℕ) → (is_in k ns || (n == k)) ≡ is_in k (insert ns i n)
+in-inserted zero n k [] = sym (or-false (n == k))
+in-inserted (suc i) n k [] = sym (or-false (n == k))
+in-inserted zero n k (x ∷ ns) = or-comm (is_in k (x ∷ ns)) (n == k)
+in-inserted (suc i) n k (x ∷ ns) = or-assoc (x == k) (is_in k ns) (n == k)
+    ∙ ap (λ b. (x == k) || b) (in-inserted i n k ns)
+
+pub with_inserted : (i n : ℕ) (ns : List ℕ) → Ascend ns → i ≤ length ns
+    → ((k : ℕ) → k < i → get_or ns k 0 < n) → ((k : ℕ) → i ≤ k → k < length ns → n < get_or ns k 0)
+    → insert ns i n ≡ with_number n ns
+with_inserted i n ns up within before behind =
+    sym (with_number-is n ns (insert ns i n) (ascend-inserted 0 i n ns up within (omega arith) before behind)
+    (λ k. in-inserted i n k ns))
+
+-- what a binary search answers
+pub searched_number : (n : ℕ) (ns : List ℕ) (r : Result ℕ ℕ) → Ascend ns
+    → IsBinarySearchResult (λ other. nat_cmp other n) ns r
+    → MatchResult r (λ i. ns ≡ with_number n ns) (λ i. insert ns i n ≡ with_number n ns)
+searched_number n ns r up is = by r (searched ns n r is (rises 0 ns up))
+  where
+    by : (r : Result ℕ ℕ) → MatchResult r (λ i. (i < length ns) × (get_or ns i 0 ≡ n))
+        (λ i. (i ≤ length ns) × ((k : ℕ) → k < i → get_or ns k 0 < n)
+        × ((k : ℕ) → i ≤ k → k < length ns → n < get_or ns k 0))
+        → MatchResult r (λ i. ns ≡ with_number n ns) (λ i. insert ns i n ≡ with_number n ns)
+    by (Ok i) h = sym (with_there i n ns up h.0 h.1)
+    by (Err i) h = with_inserted i n ns up h.0 h.1 h.2
+
+-- ## Names
+
+section-ascends : (how : RefKind) (section : ℕ) (n : SecName) → RefersAscending n
+    → RefersAscending (with_section how section n)
+section-ascends Defined section n up = (with_number-ascends section n.defined, up.1, up.2)
+section-ascends Used section n up = (up.0, with_number-ascends section n.used, up.2)
+section-ascends Cited section n up = (up.0, up.1, with_number-ascends section n.cited)
+
+pub ascending-with_reference : (i : ℕ) (how : RefKind) (section : ℕ) (names : List SecName) → ReferAscending names
+    → ReferAscending (with_reference i how section names)
+ascending-with_reference i how section [] up = tt
+ascending-with_reference zero how section (n ∷ names) up = (section-ascends how section n up.0, up.1)
+ascending-with_reference (suc i) how section (n ∷ names) up =
+    (up.0, ascending-with_reference i how section names up.1)
+
+pub ascending-behind : (xs : List Kept) (x : Kept) → ReferAscending (map name_of xs) → RefersAscending (name_of x)
+    → ReferAscending (map name_of (xs ++ x ∷ []))
+ascending-behind [] x up one = (one, tt)
+ascending-behind (first ∷ xs) x up one = (up.0, ascending-behind xs x up.1 one)
+
+pub ascending-set : (xs : List Kept) (i : ℕ) (new : Kept) → ReferAscending (map name_of xs)
+    → RefersAscending (name_of new) → ReferAscending (map name_of (slice_set xs i new))
+ascending-set [] i new up one = tt
+ascending-set (x ∷ xs) zero new up one = (one, up.1)
+ascending-set (x ∷ xs) (suc i) new up one = (up.0, ascending-set xs i new up.1 one)
+
+pub ascending-at : (xs : List Kept) (i : ℕ) (d : Kept) → ReferAscending (map name_of xs) → i < length xs
+    → RefersAscending (name_of (get_or xs i d))
+ascending-at [] i d up low = absurd (omega arith)
+ascending-at (x ∷ xs) zero d up low = up.0
+ascending-at (x ∷ xs) (suc i) d up low = ascending-at xs i d up.1 (omega arith)
+
+-- in one way
+pub ascending-in : (how : RefKind) (x : Kept) → RefersAscending (name_of x) → Ascend (listed how (lists_of x.referrers))
+ascending-in Defined x up = up.0
+ascending-in Used x up = up.1
+ascending-in Cited x up = up.2

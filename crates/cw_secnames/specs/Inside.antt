@@ -11,7 +11,7 @@ use Rattle.cw_secnames.specs.declared.referrers.Referrers.{Referrers}
 use Rattle.cw_secnames.specs.declared.referrers.Referrers.TheVariants as referrers
 use Rattle.cw_secnames.specs.declared.sec_names.Kept.{Kept}
 use Rattle.cw_secnames.specs.Kept.{SecName}
-use Rattle.cw_secnames.specs.References.{with_number}
+use Rattle.cw_secnames.specs.References.{Ascend, with_number}
 
 -- the sections that refer to a name in one way
 abbrev pub numbers_of : Referrers → List ℕ
@@ -42,6 +42,10 @@ abbrev pub with_in : RefKind → ℕ → Lists → Lists
 with_in Defined section l = record l { defined = with_number section l.defined }
 with_in Used section l = record l { used = with_number section l.used }
 with_in Cited section l = record l { cited = with_number section l.cited }
+
+-- those of each way ascend
+abbrev pub ListsAscend : Lists → Type 0
+ListsAscend l = Ascend l.defined × Ascend l.used × Ascend l.cited
 
 abbrev pub listed : RefKind → Lists → List ℕ
 listed Defined l = l.defined

@@ -7,5 +7,7 @@ pub mod Uses
 pub mod Marks
 pub mod Asked
 pub mod InsideUses
+pub mod OnceLaws
 pub mod ReferenceLaws
+pub mod Sound
 pub mod NameMarks

@@ -1,6 +1,6 @@
 -- Laws of references: one reference more.
-use Rattle.std.proofs.Common.{◌≡◌, ℕ, zero, suc, ◌+◌, ◌<◌, ◌==◌, Bool, true, false, List, [], ◌∷◌, ◌++◌, map, refl, ap}
-use Rattle.std.proofs.Common.{◌∙◌, sym, arith}
+use Rattle.std.proofs.Common.{◌≡◌, ℕ, zero, suc, ◌+◌, ◌<◌, ◌==◌, true, false, List, [], ◌∷◌, ◌++◌, cond, map}
+use Rattle.std.proofs.Common.{refl, ap, ◌∙◌, arith}
 use Rattle.std.specs.List.{filter}
 use Rattle.std.proofs.lemmas.Bool.{eq-eqb}
 use Rattle.std.proofs.Common.{add-zero}
@@ -9,48 +9,27 @@ use Rattle.std.proofs.lemmas.List.Elements.{filter-append}
 use Rattle.cw_secnames.specs.declared.kinds.RefKind.{RefKind}
 use Rattle.cw_secnames.specs.declared.kinds.RefKind.TheVariants.{Defined, Used, Cited}
 use Rattle.cw_secnames.specs.Kept.{SecName}
+use Rattle.cw_secnames.specs.OnceLaws.{once-more}
 use Rattle.cw_secnames.specs.References.{Reference, once, with_number, is_of, same_way, sections_of, referred}
 use Rattle.cw_secnames.specs.References.{with_section, with_reference}
-
-front-by : (t : Bool) (n a b c : ℕ) (ns : List ℕ) → with_number n (a ∷ once (c ∷ ns))
-    ≡ a ∷ with_number n (once (c ∷ ns))
-    → with_number n (a ∷ elim t as (λ _. List ℕ) [ true ↦ once (c ∷ ns) | false ↦ b ∷ once (c ∷ ns) ])
-    ≡ a ∷ with_number n (elim t as (λ _. List ℕ) [ true ↦ once (c ∷ ns) | false ↦ b ∷ once (c ∷ ns) ])
-front-by true n a b c ns h = h
-front-by false n a b c ns h = refl
-
-front : (n a b : ℕ) (ns : List ℕ) → with_number n (a ∷ once (b ∷ ns)) ≡ a ∷ with_number n (once (b ∷ ns))
-front n a b [] = refl
-front n a b (c ∷ ns) = front-by (b == c) n a b c ns (front n a c ns)
-
-once-by : (t : Bool) (n a b : ℕ) (ns : List ℕ) → once (b ∷ (ns ++ n ∷ [])) ≡ with_number n (once (b ∷ ns))
-    → elim t as (λ _. List ℕ) [ true ↦ once (b ∷ (ns ++ n ∷ [])) | false ↦ a ∷ once (b ∷ (ns ++ n ∷ [])) ]
-    ≡ with_number n (elim t as (λ _. List ℕ) [ true ↦ once (b ∷ ns) | false ↦ a ∷ once (b ∷ ns) ])
-once-by true n a b ns h = h
-once-by false n a b ns h = ap (λ numbers. a ∷ numbers) h ∙ sym (front n a b ns)
-
--- A number behind others is kept unless it is the last one already.
-pub once-more : (n : ℕ) (ns : List ℕ) → once (ns ++ n ∷ []) ≡ with_number n (once ns)
-once-more n [] = refl
-once-more n (a ∷ []) = refl
-once-more n (a ∷ b ∷ ns) = once-by (a == b) n a b ns (once-more n (b ∷ ns))
 
 -- the sections with one reference more
 pub sections-more : (name : ℕ) (how : RefKind) (references : List Reference) (r : Reference) → is_of name how r ≡ true
     → sections_of name how (references ++ r ∷ []) ≡ with_number r.section (sections_of name how references)
 sections-more name how references r h =
-    rw (
-      filter-append (is_of name how) references (r ∷ []),
-      h,
-      map-append (λ (r : Reference). r.section)
-          (filter (is_of name how) references) (r ∷ []),
-    )
-    (once-more r.section (map (λ r. r.section) (filter (is_of name how) references)))
+    ap (λ (rs : List Reference). once (map (λ (r : Reference). r.section) rs))
+    (filter-append (is_of name how) references (r ∷ [])
+    ∙ ap (λ b. filter (is_of name how) references ++ cond b (r ∷ []) []) h)
+    ∙ ap once (map-append (λ (r : Reference). r.section) (filter (is_of name how) references) (r ∷ []))
+    ∙ once-more r.section (map (λ (r : Reference). r.section) (filter (is_of name how) references))
 
 pub sections-same : (name : ℕ) (how : RefKind) (references : List Reference) (r : Reference) → is_of name how r ≡ false
     → sections_of name how (references ++ r ∷ []) ≡ sections_of name how references
 sections-same name how references r h =
-    rw (filter-append (is_of name how) references (r ∷ []), h, append-nil (filter (is_of name how) references)) refl
+    ap (λ (rs : List Reference). once (map (λ (r : Reference). r.section) rs))
+    (filter-append (is_of name how) references (r ∷ [])
+    ∙ ap (λ b. filter (is_of name how) references ++ cond b (r ∷ []) []) h
+    ∙ append-nil (filter (is_of name how) references))
 
 not-same : (a b : ℕ) → a < b → (a == b) ≡ false
 not-same a b h = grind arith
@@ -66,12 +45,11 @@ referred-same : (references : List Reference) (r : Reference) (k : ℕ) (names :
     → referred (references ++ r ∷ []) k names ≡ referred references k names
 referred-same references r k [] h = refl
 referred-same references r k (n ∷ names) h =
-    rw (
-      sections-same k Defined references r (other-way k Defined r (not-same r.name k h)),
-      sections-same k Used references r (other-way k Used r (not-same r.name k h)),
-      sections-same k Cited references r (other-way k Cited r (not-same r.name k h)),
-      referred-same references r (k + 1) names (omega arith),
-    ) refl
+    let defined = sections-same k Defined references r (other-way k Defined r (not-same r.name k h)) in
+    let used = sections-same k Used references r (other-way k Used r (not-same r.name k h)) in
+    let cited = sections-same k Cited references r (other-way k Cited r (not-same r.name k h)) in
+    let rest = referred-same references r (k + 1) names (omega arith) in
+    (λ i. record n { defined = defined i; used = used i; cited = cited i } ∷ rest i)
 
 -- Of the three lists of a name, a reference changes the one of its way.
 at-name : (references : List Reference) (how other : RefKind) (section k : ℕ)
@@ -88,24 +66,24 @@ head-more : (references : List Reference) (how : RefKind) (section k : ℕ) (n :
       used = sections_of k Used references;
       cited = sections_of k Cited references;
     })
-head-more references Defined section k n = let r : Reference = record { name = k; how = Defined; section = section } in
-    rw (
-      sections-more k Defined references r (at-name references Defined Defined section k),
-      sections-same k Used references r (at-name references Defined Used section k),
-      sections-same k Cited references r (at-name references Defined Cited section k),
-    ) refl
-head-more references Used section k n = let r : Reference = record { name = k; how = Used; section = section } in
-    rw (
-      sections-same k Defined references r (at-name references Used Defined section k),
-      sections-more k Used references r (at-name references Used Used section k),
-      sections-same k Cited references r (at-name references Used Cited section k),
-    ) refl
-head-more references Cited section k n = let r : Reference = record { name = k; how = Cited; section = section } in
-    rw (
-      sections-same k Defined references r (at-name references Cited Defined section k),
-      sections-same k Used references r (at-name references Cited Used section k),
-      sections-more k Cited references r (at-name references Cited Cited section k),
-    ) refl
+head-more references Defined section k n =
+    let r : Reference = record { name = k; how = Defined; section = section } in
+    let defined = sections-more k Defined references r (at-name references Defined Defined section k) in
+    let used = sections-same k Used references r (at-name references Defined Used section k) in
+    let cited = sections-same k Cited references r (at-name references Defined Cited section k) in
+    (λ i. record n { defined = defined i; used = used i; cited = cited i })
+head-more references Used section k n =
+    let r : Reference = record { name = k; how = Used; section = section } in
+    let defined = sections-same k Defined references r (at-name references Used Defined section k) in
+    let used = sections-more k Used references r (at-name references Used Used section k) in
+    let cited = sections-same k Cited references r (at-name references Used Cited section k) in
+    (λ i. record n { defined = defined i; used = used i; cited = cited i })
+head-more references Cited section k n =
+    let r : Reference = record { name = k; how = Cited; section = section } in
+    let defined = sections-same k Defined references r (at-name references Cited Defined section k) in
+    let used = sections-same k Used references r (at-name references Cited Used section k) in
+    let cited = sections-more k Cited references r (at-name references Cited Cited section k) in
+    (λ i. record n { defined = defined i; used = used i; cited = cited i })
 
 -- The names from a position on, with a reference to the name at another.
 with_last : List Reference → RefKind → ℕ → ℕ → List SecName → ℕ → List SecName
@@ -121,15 +99,16 @@ referred-more references how section k i [] = refl
 referred-more references how section k zero (n ∷ names) =
     let r : Reference = record { name = k; how = how; section = section } in
     ap (with_last references how section k (n ∷ names)) (add-zero k) ∙
-    rw (head-more references how section k n, referred-same references r (k + 1) names (omega arith)) refl
+    (let rest = referred-same references r (k + 1) names (omega arith) in
+    let first = head-more references how section k n in
+    λ i. first i ∷ rest i)
 referred-more references how section k (suc i) (n ∷ names) =
     let r : Reference = record { name = (k + 1) + i; how = how; section = section } in
     let same : k + suc i ≡ (k + 1) + i = omega arith in
     let other : (((k + 1) + i) == k) ≡ false = not-same-behind ((k + 1) + i) k (omega arith) in
     ap (with_last references how section k (n ∷ names)) same ∙
-    rw (
-      sections-same k Defined references r (other-way k Defined r other),
-      sections-same k Used references r (other-way k Used r other),
-      sections-same k Cited references r (other-way k Cited r other),
-      referred-more references how section (k + 1) i names,
-    ) refl
+    (let defined = sections-same k Defined references r (other-way k Defined r other) in
+    let used = sections-same k Used references r (other-way k Used r other) in
+    let cited = sections-same k Cited references r (other-way k Cited r other) in
+    let rest = referred-more references how section (k + 1) i names in
+    λ j. record n { defined = defined j; used = used j; cited = cited j } ∷ rest j)

@@ -1,9 +1,11 @@
 -- Which sections define, use and cite each section name.
-use Rattle.std.specs.Prelude.{ℕ, zero, suc, ◌+◌, Bool, true, false, ◌&&◌, ◌==◌, List, [], ◌∷◌, map}
-use Rattle.std.specs.List.{filter}
+use Rattle.std.specs.Prelude.{ℕ, zero, suc, ◌+◌, max, ◌≤◌, Bool, true, false, ◌&&◌, ◌==◌, List, [], ◌∷◌, ◌++◌, fold}
+use Rattle.std.specs.Prelude.{map}
+use Rattle.std.specs.List.{filter, range_with_len}
 use Rattle.cw_secnames.specs.declared.kinds.RefKind.{RefKind}
 use Rattle.cw_secnames.specs.declared.kinds.RefKind.TheVariants.{Defined, Used, Cited}
 use Rattle.cw_secnames.specs.Kept.{SecName}
+use Rattle.cw_secnames.specs.Marks.{is_in}
 
 -- A section refers to a name.
 pub record Reference : Type 0 where
@@ -17,11 +19,21 @@ same_way Used Used = true
 same_way Cited Cited = true
 same_way _ _ = false
 
--- Numbers in ascending order, each kept once.
+-- The least number that is above all of these.
+abbrev pub above_all : List ℕ → ℕ
+above_all numbers = fold (λ most n. max most (n + 1)) 0 numbers
+
+-- These numbers in ascending order, each once.
 abbrev pub once : List ℕ → List ℕ
-once [] = []
-once (n ∷ []) = n ∷ []
-once (n ∷ next ∷ numbers) = elim (n == next) [ true ↦ once (next ∷ numbers) | false ↦ n ∷ once (next ∷ numbers) ]
+once numbers = filter (λ n. is_in n numbers) (range_with_len 0 (above_all numbers))
+
+-- Numbers ascend, each once, from one on.
+abbrev pub AscendFrom : ℕ → List ℕ → Type 0
+AscendFrom least [] = Unit {0}
+AscendFrom least (n ∷ numbers) = (least ≤ n) × AscendFrom (n + 1) numbers
+
+abbrev pub Ascend : List ℕ → Type 0
+Ascend numbers = AscendFrom 0 numbers
 
 -- the sections that refer to a name in one way
 abbrev pub is_of : ℕ → RefKind → Reference → Bool
@@ -42,11 +54,9 @@ referred references k (n ∷ names) =
 
 -- ## One reference more
 
--- A number behind others, unless it is the last of them already.
-abbrev pub with_number : ℕ → List ℕ → List ℕ
-with_number n [] = n ∷ []
-with_number n (last ∷ []) = elim (last == n) [ true ↦ n ∷ [] | false ↦ last ∷ n ∷ [] ]
-with_number n (first ∷ second ∷ numbers) = first ∷ with_number n (second ∷ numbers)
+-- Numbers with one more: ascending, each once.
+unfoldable pub with_number : ℕ → List ℕ → List ℕ
+with_number n numbers = once (numbers ++ n ∷ [])
 
 abbrev pub with_section : RefKind → ℕ → SecName → SecName
 with_section Defined section n = record n { defined = with_number section n.defined }
@@ -57,3 +67,13 @@ abbrev pub with_reference : ℕ → RefKind → ℕ → List SecName → List Se
 with_reference name how section [] = []
 with_reference zero how section (n ∷ names) = with_section how section n ∷ names
 with_reference (suc name) how section (n ∷ names) = n ∷ with_reference name how section names
+
+-- ## Names whose references ascend
+
+-- In each of the three ways.
+abbrev pub RefersAscending : SecName → Type 0
+RefersAscending n = Ascend n.defined × Ascend n.used × Ascend n.cited
+
+abbrev pub ReferAscending : List SecName → Type 0
+ReferAscending [] = Unit {0}
+ReferAscending (n ∷ names) = RefersAscending n × ReferAscending names

@@ -1,7 +1,7 @@
 //! The sections that refer to a name in one way.
-ghost use Rattle.std.specs.Prelude.{◌≡◌, IfOk, IfSome, OnOk, OnErr, [], ◌∷◌};
-ghost use Rattle.cw_secnames.specs.References.{with_number};
-ghost use Rattle.cw_secnames.specs.Inside.{listed, lists_in, lists_of, numbers_of, with_in};
+ghost use Rattle.std.specs.Prelude.{◌≡◌, ◌<◌, ◌≤◌, IfOk, IfSome, OnOk, OnErr, [], ◌∷◌, insert, length};
+ghost use Rattle.cw_secnames.specs.References.{Ascend, with_number};
+ghost use Rattle.cw_secnames.specs.Inside.{listed, lists_in, lists_of, ListsAscend, numbers_of, with_in};
 
 use crate::RefKind;
 use cw_base::Memory;
@@ -16,16 +16,26 @@ pub(crate) enum Referrers {
     More(Box<Vec<u32>>),
 }
 
-// Adds a section behind others, unless it is the last of them already.
+// Puts a section at a place among others.
+fn put(sections: &mut Vec<u32>, place: usize, section: u32) -> Result<(), Memory>
+    requires { place ≤ length sections.old.items }
+    ensures ok { OnOk result (sections.new.items ≡ insert sections.old.items place section) }
+    ensures err { OnErr result (sections.new.items ≡ sections.old.items) }
+{
+    sections.insert(place, section)?;
+    Ok(())
+}
+
+// Adds a section at its ascending place, unless it is there already.
 fn add_section(sections: &mut Vec<u32>, section: u32) -> Result<(), Memory>
+    requires { Ascend sections.old.items }
     ensures ok { OnOk result (sections.new.items ≡ with_number section sections.old.items) }
     ensures err { OnErr result (sections.new.items ≡ sections.old.items) }
 {
-    if !sections.is_empty() && sections[sections.len() - 1] == section {
-        return Ok(());
+    match sections.binary_search(&section) {
+        Ok(_) => Ok(()),
+        Err(place) => put(sections, place, section),
     }
-    sections.push(section)?;
-    Ok(())
 }
 
 // Two sections.
@@ -38,8 +48,10 @@ fn two(alloc: Global, first: u32, second: u32) -> Result<Referrers, Memory>
 }
 
 impl Referrers {
-    /// Adds a section behind others, unless it is the last of them already. After `Memory` they are as before.
+    /// Adds a section at its ascending place, unless it is there already. After `Memory` they are as before.
+    #[tactic(auto, using(crate::proofs::References::few))]
     pub(crate) fn add(&mut self, alloc: Global, section: u32) -> Result<(), Memory>
+        requires { Ascend (numbers_of self.old) }
         ensures ok { OnOk result (numbers_of self.new ≡ with_number section (numbers_of self.old)) }
         ensures err { OnErr result (numbers_of self.new ≡ numbers_of self.old) }
     {
@@ -47,8 +59,10 @@ impl Referrers {
             Referrers::Nobody => *self = Referrers::One(section),
             Referrers::One(first) => {
                 let first = *first;
-                if first != section {
+                if first < section {
                     *self = two(alloc, first, section)?;
+                } else if section < first {
+                    *self = two(alloc, section, first)?;
                 }
             }
             Referrers::More(sections) => add_section(sections, section)?,
@@ -88,6 +102,7 @@ impl Lists {
 
     // Adds a section that refers to the name in one way. After `Memory` they are as before.
     fn add(&mut self, alloc: Global, how: RefKind, section: u32) -> Result<(), Memory>
+        requires { ListsAscend (lists_in self.old) }
         ensures ok { OnOk result (lists_in self.new ≡ with_in how section (lists_in self.old)) }
         ensures err { OnErr result (lists_in self.new ≡ lists_in self.old) }
     {
@@ -127,6 +142,7 @@ fn in_lists(
     how: RefKind,
     section: u32,
 ) -> Result<NameReferrers, Memory>
+    requires { ListsAscend (lists_in lists) }
     ensures { IfOk result (λ more. lists_of more ≡ with_in how section (lists_in lists)) }
 {
     let mut lists = lists;
@@ -137,6 +153,7 @@ fn in_lists(
 
 impl NameReferrers {
     // The same with a section more, where that takes no memory.
+    #[tactic(auto, using(crate::proofs::References::few))]
     fn without_memory(&self, how: RefKind, section: u32) -> Option<NameReferrers>
         ensures { IfSome result (λ more. lists_of more ≡ with_in how section (lists_of self.now)) }
     {
@@ -166,6 +183,7 @@ impl NameReferrers {
 
     // The same in lists.
     fn add_to_lists(&mut self, alloc: Global, how: RefKind, section: u32) -> Result<(), Memory>
+        requires { ListsAscend (lists_of self.old) }
         ensures ok { OnOk result (lists_of self.new ≡ with_in how section (lists_of self.old)) }
         ensures err { OnErr result (lists_of self.new ≡ lists_of self.old) }
     {
@@ -186,6 +204,7 @@ impl NameReferrers {
 
     /// Adds a section that refers to the name in one way. After `Memory` they are as before.
     pub(crate) fn add(&mut self, alloc: Global, how: RefKind, section: u32) -> Result<(), Memory>
+        requires { ListsAscend (lists_of self.old) }
         ensures ok { OnOk result (lists_of self.new ≡ with_in how section (lists_of self.old)) }
         ensures err { OnErr result (lists_of self.new ≡ lists_of self.old) }
     {

@@ -21,7 +21,7 @@ ghost use Rattle.cw_secnames.specs.Kept.{
   unreferred,
   with_text,
 };
-ghost use Rattle.cw_secnames.specs.References.{with_reference, with_section};
+ghost use Rattle.cw_secnames.specs.References.{Ascend, RefersAscending, with_reference, with_section};
 ghost use Rattle.cw_secnames.specs.Inside.{IsWithin, listed, lists_of, name_of};
 ghost use Rattle.cw_secnames.specs.Asked.{chosen, is_below, is_lesser, kind_asked, passes, passes_at};
 ghost use Rattle.cw_secnames.specs.Marks.{HoldNear};
@@ -61,13 +61,13 @@ impl Model for SecNames {
     ghost use Rattle.std.specs.Prelude.{List, map};
     ghost use Rattle.cw_secnames.specs.Kept.{SecName};
     ghost use Rattle.cw_secnames.specs.Inside.{name_of};
-    ghost use Rattle.cw_secnames.specs.NameMarks.{AreMarkedNames};
+    ghost use Rattle.cw_secnames.specs.Sound.{AreSound};
 
     ghost Value = { List SecName };
 
     ghost view = { λ n. map name_of n.names.items };
 
-    ghost invariant = { λ n. AreMarkedNames n.marks 0 (map name_of n.names.items) };
+    ghost invariant = { λ n. AreSound n.marks (map name_of n.names.items) };
 }
 
 // What is asked of a name.
@@ -143,6 +143,7 @@ impl Kept {
 
     // A section more that refers to the name.
     fn add_ref(&mut self, alloc: Global, how: RefKind, section: u32) -> Result<(), Memory>
+        requires { RefersAscending (name_of self.old) }
         ensures ok { OnOk result (name_of self.new ≡ with_section how section (name_of self.old)) }
         ensures err { OnErr result (name_of self.new ≡ name_of self.old) }
     {
@@ -375,8 +376,8 @@ impl SecNames {
         }
     }
 
-    /// Adds a section that refers to a name, behind those that refer to it in this way already; a repeat of the last
-    /// one is kept once. After `Memory` the names are as before.
+    /// Adds a section that refers to a name. Those that refer to it in one way ascend, each once, in whatever order
+    /// they come; ascending ones cost the least. After `Memory` the names are as before.
     pub fn add_ref(&mut self, id: SecId, how: RefKind, section: u32) -> Result<(), Memory>
         requires { id.index < length self.old }
         ensures ok { OnOk result (self.new ≡ with_reference id.index how section self.old) }
@@ -430,7 +431,8 @@ impl SecNames {
     /// The sections that define a name, ascending.
     pub fn defined_in(&self, id: SecId) -> &[u32]
         requires { id.index < length self.now }
-        ensures { shown (λ n. n.defined) id.index self.now ≡ Some result.now }
+        ensures value { shown (λ n. n.defined) id.index self.now ≡ Some result.now }
+        ensures ascending { Ascend result.now }
     {
         self.names[id.index].listed(RefKind::Defined)
     }
@@ -438,7 +440,8 @@ impl SecNames {
     /// The sections that use a name, ascending.
     pub fn used_in(&self, id: SecId) -> &[u32]
         requires { id.index < length self.now }
-        ensures { shown (λ n. n.used) id.index self.now ≡ Some result.now }
+        ensures value { shown (λ n. n.used) id.index self.now ≡ Some result.now }
+        ensures ascending { Ascend result.now }
     {
         self.names[id.index].listed(RefKind::Used)
     }
@@ -446,7 +449,8 @@ impl SecNames {
     /// The sections that cite a name in their TeX parts, ascending.
     pub fn cited_in(&self, id: SecId) -> &[u32]
         requires { id.index < length self.now }
-        ensures { shown (λ n. n.cited) id.index self.now ≡ Some result.now }
+        ensures value { shown (λ n. n.cited) id.index self.now ≡ Some result.now }
+        ensures ascending { Ascend result.now }
     {
         self.names[id.index].listed(RefKind::Cited)
     }

@@ -17,14 +17,14 @@ returns-then-id-len g c =
 pub returns-in_err-put_footnote : goal.returns-in_err-put_footnote
 returns-in_err-put_footnote g c =
     puts-bytes (cited-first c.args.book.now.outline.sections c.args.book.now.sec_names c.args.id c.cited_in.result.now
-    c.cited_in.ensures)
+    c.cited_in.ensures.value)
     (puts-stop (of_name (used_by c.args.book.now.outline.sections) c.args.book.now.sec_names (Some c.args.id))
     c.in_err-put_footnote.ensures c.from_residual.ensures.1)
 
 pub returns : goal.returns
 returns g c =
     puts-bytes (cited-first c.args.book.now.outline.sections c.args.book.now.sec_names c.args.id c.cited_in.result.now
-    c.cited_in.ensures)
+    c.cited_in.ensures.value)
     (puts-then c.in_ok-put_footnote.ensures
     (puts-bytes (used-last c.args.book.now.outline.sections c.args.book.now.sec_names c.args.id c.used_in.result.now
-    c.used_in.ensures) c.put_footnote-2.ensures))
+    c.used_in.ensures.value) c.put_footnote-2.ensures))

@@ -9,4 +9,4 @@ returns c =
     c.in_ok-near.ensures c.args.self.now
     (sym (ap length c.self.view_is) ∙ length-named c.self.inside.names.items ∙ sym c.self.inside.names.ok.0
     ∙ sym c.len.ensures)
-    (subst (AreMarkedNames c.self.inside.marks 0) c.self.view_is c.self.invariant)
+    (subst (AreMarkedNames c.self.inside.marks 0) c.self.view_is c.self.invariant.marked)
