@@ -5,7 +5,7 @@ use Rattle.std.proofs.lemmas.List.Elements.{All-nil, All-cons, All-tail, All-pus
 use Rattle.cw_rules.specs.Answers.{Answer, Token, Begin, Finish, Note, Seen}
 use Rattle.cw_rules.specs.Order.{Covers, AreWithin, Stands, LiesWithin}
 use Rattle.cw_answers.specs.declared.kept.Kept.{Kept}
-use Rattle.cw_answers.specs.Kept.{StandsIn, IsWithin, answer_at, answers_at}
+use Rattle.cw_answers.specs.Kept.{BeginWith, StandsIn, IsWithin, answer_at, answers_at}
 use Rattle.cw_answers.specs.Reading.{Stand}
 use Rattle.std.proofs.Math.Seq.{drop-cons}
 use Rattle.std.proofs.lemmas.List.{map-append, append_assoc}
@@ -44,6 +44,12 @@ begin text inside start end answers same le c w = record {
   stand = all-stand text start start end end answers le c w;
   within = All-nil (IsWithin (length inside));
 }
+
+-- What is kept is what all answers begin with.
+pub kept-first : (text inside : List ℕ) (all all' : List Answer) (kept items : List Kept) (rest : List Answer)
+    → all ≡ all' → items ≡ kept → Keeping text inside all kept rest → BeginWith all' (answers_at inside items)
+kept-first text inside all all' kept items rest same is h =
+    (rest, sym same ∙ sym h.whole ∙ ap (λ (l : List Kept). answers_at inside l ++ rest) (sym is))
 
 -- One answer more is kept.
 pub push : (text inside : List ℕ) (all : List Answer) (kept : List Kept) (k : Kept) (x : Answer) (old new : List Answer)

@@ -1,5 +1,5 @@
 -- The answers of a scan as they are kept: each token by where its bytes lie in the text.
-use Rattle.std.specs.Prelude.{◌≡◌, ℕ, ◌≤◌, List, map, length, slice_range}
+use Rattle.std.specs.Prelude.{◌≡◌, ℕ, ◌≤◌, List, ◌++◌, map, length, slice_range}
 use Rattle.cw_rules.specs.Answers.{Answer, Token, Begin, Finish, Note, Seen}
 use Rattle.cw_answers.specs.declared.kept.Stretch.{Stretch}
 use Rattle.cw_answers.specs.declared.kept.Kept.{Kept}
@@ -22,6 +22,10 @@ answer_at text (kept.Note note) = Note note.kind note.place
 
 abbrev pub answers_at : List ℕ → List Kept → List Answer
 answers_at text answers = map (answer_at text) answers
+
+-- the first of these answers are those, and more may come
+abbrev pub BeginWith : List Answer → List Answer → Type 0
+BeginWith answers first = (rest : List Answer) × (answers ≡ first ++ rest)
 
 -- its bytes lie in a text of this length
 abbrev pub LiesIn : ℕ → Stretch → Type 0

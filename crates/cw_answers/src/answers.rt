@@ -1,8 +1,8 @@
 //! All answers of a scan, which are kept.
-ghost use Rattle.std.specs.Prelude.{◌≡◌, ◌≤◌, ◌<◌, ◌+◌, [], All, drop, length, OnOk};
+ghost use Rattle.std.specs.Prelude.{◌≡◌, ◌≤◌, ◌<◌, ◌+◌, [], All, drop, length, OnErr, OnOk};
 ghost use Rattle.cw_rules.specs.Answers.{Gives};
 ghost use Rattle.cw_lex.specs.Lexing.{tokens_of};
-ghost use Rattle.cw_answers.specs.Kept.{IsWithin, answers_at};
+ghost use Rattle.cw_answers.specs.Kept.{BeginWith, IsWithin, answers_at};
 
 use crate::kept::{Kept, NotePlace, Stretch};
 use cw_base::{Memory, Span};
@@ -56,11 +56,12 @@ impl<'a> Answers<'a> {
     }
 
     /// Scans a span, and keeps its answers in place of those before, in the same room. After `Memory` it keeps some of
-    /// them. `Memory` answers a text of 2^32 bytes or more too, since places are kept in 32 bits.
+    /// them, from the first on. `Memory` answers a text of 2^32 bytes or more too, since places are kept in 32 bits.
     pub fn scan(&mut self, text: &'a [u8], span: Span, mode: Mode) -> Result<(), Memory>
         requires order { span.start ≤ span.end }
         requires within { span.end ≤ length text.now }
-        ensures { OnOk result (self.new ≡ tokens_of text.now span.start span.end mode) }
+        ensures ok { OnOk result (self.new ≡ tokens_of text.now span.start span.end mode) }
+        ensures err { OnErr result (BeginWith (tokens_of text.now span.start span.end mode) self.new) }
     {
         self.kept.clear();
         self.text = text;
