@@ -1,6 +1,6 @@
 -- The names of a section list are whole.
 use Rattle.std.proofs.Common.{◌≡◌, ℕ, ◌+◌, ◌==◌, Bool, true, false, List, [], ◌∷◌, ◌++◌, All, Option, Some, None, refl}
-use Rattle.std.proofs.Common.{sym, ap, subst, ◌∙◌}
+use Rattle.std.proofs.Common.{sym, ap, subst, ◌∙◌, drop}
 use Rattle.std.specs.Prelude.{slice_get}
 use Rattle.std.specs.BTreeSet.{insert_key}
 use Rattle.std.proofs.lemmas.Bool.{eqb-true}
@@ -13,6 +13,7 @@ use Rattle.cw_rules.specs.declared.tokens.TokKind.{TokKind}
 use Rattle.cw_rules.specs.declared.tokens.TokKind.TheVariants as kinds
 use Rattle.cw_rules.specs.Answers.{Answer, Token, Begin, Finish, Note, Seen, has_sign}
 use Rattle.cw_rules.specs.Bytes.{at_sign}
+use Rattle.cw_rules.specs.Names.{is_void}
 use Rattle.cw_lex.specs.Limbo.{is_name_kind}
 use Rattle.cw_phase1.specs.declared.roles.Standing.{Standing}
 use Rattle.cw_phase1.specs.Book.{answers_of, book}
@@ -39,14 +40,16 @@ NamesBegin text [] = Unit {0}
 NamesBegin text (u ∷ uses) = BeginsName text u.place × NamesBegin text uses
 
 -- Only section names are kept.
-void-by : (kind : TokKind) (text : List ℕ) → is_name_kind kind ≡ false → naming_by kind text ≡ Void
-void-by (kinds.Code at.SectionName) text h = absurd (let wrong : true ≡ false = h in cc)
-void-by (kinds.Code at.FileName) text h = absurd (let wrong : true ≡ false = h in cc)
-void-by (kinds.Code code) text h = refl
-void-by kind text h = refl
+void-by : (void : Bool) (kind : TokKind) (text : List ℕ) → is_name_kind kind ≡ false
+    → naming_by void kind text ≡ Void
+void-by void (kinds.Code at.SectionName) text h = absurd (let wrong : true ≡ false = h in cc)
+void-by void (kinds.Code at.FileName) text h = absurd (let wrong : true ≡ false = h in cc)
+void-by void (kinds.Code code) text h = refl
+void-by void kind text h = refl
 
 unnamed : (t : Seen) (kept : List SecName) → is_name_kind t.kind ≡ false → entered_name t kept ≡ None
-unnamed t kept h = ap (λ n. name_of_entering (entering n kept)) (void-by t.kind (name_text t.text) h)
+unnamed t kept h = ap (λ n. name_of_entering (entering n kept))
+    (void-by (is_void (drop 2 t.text)) t.kind (name_text t.text) h)
 
 use-begins : (text : List ℕ) (name : Option SecId) (kind : TokKind) (place : ℕ) (uses : List NameUse)
     → (is_name_kind kind ≡ false → name ≡ None) → (is_name_kind kind ≡ true → BeginsName text place)

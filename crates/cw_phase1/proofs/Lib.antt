@@ -3,6 +3,7 @@ mod Rows
 pub mod PlaceLaws
 pub mod NameLaws
 pub mod Passing
+pub mod Ignored
 pub mod Outlines
 pub mod WordLaws
 pub mod Underway

@@ -9,7 +9,7 @@ use Rattle.cw_rules.specs.declared.tokens.TokKind.{TokKind}
 use Rattle.cw_rules.specs.declared.tokens.TokKind.TheVariants as kinds
 use Rattle.cw_rules.specs.Answers.{Seen, Answer, Token, Begin, Finish, Note}
 use Rattle.cw_rules.specs.Bytes.{at_sign}
-use Rattle.cw_rules.specs.Names.{uncoded}
+use Rattle.cw_rules.specs.Names.{is_void, uncoded}
 use Rattle.cw_rules.specs.Order.{Covers}
 use Rattle.cw_secnames.specs.declared.kinds.Earliest.{Earliest}
 use Rattle.cw_secnames.specs.declared.kinds.Earliest.TheVariants.{Nobody, One, Several}
@@ -19,7 +19,7 @@ use Rattle.cw_secnames.specs.Kept.{SecName, unreferred, with_text, has_text, gro
 use Rattle.cw_secnames.specs.Kept.{positions_from, is_candidate, is_shorter, grown, earliest, enter_prefix_by}
 use Rattle.cw_secnames.specs.References.{Reference, referred}
 use Rattle.cw_phase1.specs.Texts.{is_white, blank_before, single_blanks, without_first_blank, Naming, Void, Full}
-use Rattle.cw_phase1.specs.Texts.{Prefix, is_ignored, ends_in_dots, naming_by, naming, named_text, name_text}
+use Rattle.cw_phase1.specs.Texts.{Prefix, ends_in_dots, naming_by, naming, named_text, name_text, unless_void}
 use Rattle.cw_phase1.specs.Entering.{entering, kept_by, kept_behind, kept_after}
 use Rattle.cw_phase1.proofs.Underway.{covers-end, text-length}
 
@@ -81,17 +81,21 @@ short-by : (t : Bool) (n : ℕ) (x y : Naming) → IsShort n x → IsShort n y
 short-by true n x y h k = h
 short-by false n x y h k = k
 
+short-unless : (void : Bool) (n : ℕ) (x : Naming) → IsShort n x → IsShort n (unless_void void x)
+short-unless true n x h = tt
+short-unless false n x h = h
+
 short-named : (n : ℕ) (text : List ℕ) → length text ≤ n → IsShort n (named_text text)
 short-named n text h =
     short-by (ends_in_dots text) n (Prefix (take (length text - 3) text)) (Full Named text)
     (omega (arith, length-take (length text - 3) text)) h
 
-short-naming : (n : ℕ) (kind : TokKind) (text : List ℕ) → length text ≤ n → IsShort n (naming_by kind text)
-short-naming n (kinds.Code at.SectionName) text h = short-by (is_ignored text) n Void (named_text text) tt
-    (short-named n text h)
-short-naming n (kinds.Code at.FileName) text h = short-by (is_ignored text) n Void (Full File text) tt h
-short-naming n (kinds.Code code) text h = tt
-short-naming n kind text h = tt
+short-naming : (n : ℕ) (void : Bool) (kind : TokKind) (text : List ℕ) → length text ≤ n
+    → IsShort n (naming_by void kind text)
+short-naming n void (kinds.Code at.SectionName) text h = short-unless void n (named_text text) (short-named n text h)
+short-naming n void (kinds.Code at.FileName) text h = short-unless void n (Full File text) h
+short-naming n void (kinds.Code code) text h = tt
+short-naming n void kind text h = tt
 
 abbrev AreShort : ℕ → List SecName → Type 0
 AreShort n [] = Unit {0}
@@ -147,7 +151,7 @@ short-entering n (Prefix text) names t h = short-prefix n (earliest (positions_f
 short-behind : (n : ℕ) (t : Seen) (names : List SecName) → length t.text ≤ n → AreShort n names
     → AreShort n (kept_behind t names)
 short-behind n t names l h = short-entering n (naming t.kind t.text) names
-    (short-naming n t.kind (name_text t.text) (omega (arith, name-size t.text))) h
+    (short-naming n (is_void (drop 2 t.text)) t.kind (name_text t.text) (omega (arith, name-size t.text))) h
 
 short-kept : (text : List ℕ) (from : ℕ) (names : List SecName) (answers : List Answer)
     → Covers text from (length text) answers

@@ -1,12 +1,13 @@
 -- The tokens that one answer settles, and those that are still to come.
 use Rattle.std.proofs.Common.{◌≡◌, ℕ, Bool, true, false, List, [], ◌∷◌, ◌++◌, Option, Some, None, refl, ap, sym, ◌∙◌}
-use Rattle.std.proofs.Common.{append_assoc}
+use Rattle.std.proofs.Common.{append_assoc, drop}
 use Rattle.cw_base.specs.Web.{MergedLine}
 use Rattle.cw_rules.specs.declared.codes.Code.TheVariants as at
 use Rattle.cw_lex.specs.declared.heads.Wanted.{Wanted}
 use Rattle.cw_rules.specs.declared.tokens.TokKind.{TokKind}
 use Rattle.cw_rules.specs.declared.tokens.TokKind.TheVariants as kinds
 use Rattle.cw_rules.specs.Answers.{Seen, Answer, Token, Begin, Finish, Note, has_sign, is_head_sign}
+use Rattle.cw_rules.specs.Names.{is_void}
 use Rattle.cw_lex.specs.Heads.{head_behind}
 use Rattle.cw_base.specs.declared.span.Span.{Span}
 use Rattle.cw_base.specs.declared.notes.Note.{Note as NoteRecord}
@@ -55,14 +56,15 @@ name-free (kinds.Code code) headed s span h = absurd (let wrong : false ≡ true
 name-free kind headed s span h = absurd (let wrong : false ≡ true = h in cc)
 
 -- Only names are entered.
-void-by : (kind : TokKind) (text : List ℕ) → is_name kind ≡ false → naming_by kind text ≡ Void
-void-by (kinds.Code at.SectionName) text h = absurd (let wrong : true ≡ false = h in cc)
-void-by (kinds.Code at.FileName) text h = absurd (let wrong : true ≡ false = h in cc)
-void-by (kinds.Code code) text h = refl
-void-by kind text h = refl
+void-by : (void : Bool) (kind : TokKind) (text : List ℕ) → is_name kind ≡ false → naming_by void kind text ≡ Void
+void-by void (kinds.Code at.SectionName) text h = absurd (let wrong : true ≡ false = h in cc)
+void-by void (kinds.Code at.FileName) text h = absurd (let wrong : true ≡ false = h in cc)
+void-by void (kinds.Code code) text h = refl
+void-by void kind text h = refl
 
 pub enters-nothing : (t : Seen) (kept : List SecName) → is_name t.kind ≡ false → enters t kept ≡ None
-enters-nothing t kept h = ap (λ n. entering n kept) (void-by t.kind (name_text t.text) h)
+enters-nothing t kept h = ap (λ n. entering n kept)
+    (void-by (is_void (drop 2 t.text)) t.kind (name_text t.text) h)
 
 told-append : (lines : List MergedLine) (ps qs : List Placed) (t : Told) → told_all lines (ps ++ qs) t
     ≡ told_all lines qs (told_all lines ps t)

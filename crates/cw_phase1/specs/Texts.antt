@@ -4,11 +4,10 @@ use Rattle.std.specs.Prelude.{take, codes, nat_eq}
 use Rattle.std.specs.List.{ends_with}
 use Rattle.std.specs.Cmp.Lexicographic.{pointwise}
 use Rattle.cw_base.specs.Text.{is_blank}
-use Rattle.cw_rules.specs.declared.codes.Code.{Code}
 use Rattle.cw_rules.specs.declared.codes.Code.TheVariants as at
 use Rattle.cw_rules.specs.declared.tokens.TokKind.{TokKind}
 use Rattle.cw_rules.specs.declared.tokens.TokKind.TheVariants as kinds
-use Rattle.cw_rules.specs.Names.{uncoded}
+use Rattle.cw_rules.specs.Names.{is_void, uncoded}
 use Rattle.cw_secnames.specs.declared.kinds.SecKind.{SecKind}
 use Rattle.cw_secnames.specs.declared.kinds.SecKind.TheVariants.{Named, File}
 
@@ -60,27 +59,28 @@ dots = codes "..."
 abbrev pub ends_in_dots : List ℕ → Bool
 ends_in_dots text = ends_with nat_eq text dots
 
-abbrev pub is_ignored : List ℕ → Bool
-is_ignored text = length text == 0 || pointwise nat_eq text dots
-
 abbrev pub named_text : List ℕ → Naming
 named_text text = elim (ends_in_dots text) [ true ↦ Prefix (take (length text - 3) text) | false ↦ Full Named text ]
 
-abbrev pub naming_of : Code → List ℕ → Naming
-naming_of at.FileName text = elim (is_ignored text) [ true ↦ Void | false ↦ Full File text ]
-naming_of code text = elim (is_ignored text) [ true ↦ Void | false ↦ named_text text ]
+abbrev pub unless_void : Bool → Naming → Naming
+unless_void true name = Void
+unless_void false name = name
 
--- The name of a token of this kind with this text; any other token names nothing.
-abbrev pub naming_by : TokKind → List ℕ → Naming
-naming_by (kinds.Code at.SectionName) text = naming_of at.SectionName text
-naming_by (kinds.Code at.FileName) text = naming_of at.FileName text
-naming_by kind text = Void
+-- The name of a token of this kind with this reduced text, unless it is ignored; any other token names nothing.
+abbrev pub naming_by : Bool → TokKind → List ℕ → Naming
+naming_by void (kinds.Code at.SectionName) text = unless_void void (named_text text)
+naming_by void (kinds.Code at.FileName) text = unless_void void (Full File text)
+naming_by void kind text = Void
 
 abbrev pub name_text : List ℕ → List ℕ
 name_text token = reduced (uncoded (drop 2 token))
 
 abbrev pub naming : TokKind → List ℕ → Naming
-naming kind token = naming_by kind (name_text token)
+naming kind token = naming_by (is_void (drop 2 token)) kind (name_text token)
+
+-- The reduced text of an ignored name is empty or `...`.
+abbrev pub is_reduced_void : List ℕ → Bool
+is_reduced_void text = length text == 0 || pointwise nat_eq text dots
 
 -- ## A byte more of a name
 

@@ -171,7 +171,7 @@ impl<'a> Held<'a> {
         ensures one { OnOk result (length self.new.kept ≤ length self.old.kept + 1) }
     {
         name_text(&mut self.buffer, token.text)?;
-        let entered = enter(&mut self.kept, token.kind, &self.buffer)?;
+        let entered = enter(&mut self.kept, token, &self.buffer)?;
         self.standing.wanted = Wanted::Nothing;
         match entered {
             Some(entered) => {

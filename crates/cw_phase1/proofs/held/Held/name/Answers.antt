@@ -1,7 +1,51 @@
--- `name`: clause `held` at `None`; said here, so that a wrong one fails at once.
-use Rattle.std.proofs.Common.{arith}
-use Rattle.std.proofs.lemmas.Grind.{common_steps}
+-- What a name that is entered leaves, by what entering it answers.
+use Rattle.std.proofs.Common.{◌≡◌, List, Option, Some, None, sym, ap, ◌∙◌}
+use Rattle.cw_rules.specs.Answers.{Answer, Seen, seen}
+use Rattle.cw_secnames.specs.declared.kinds.Entered.{Entered}
+use Rattle.cw_secnames.specs.declared.kinds.SecId.{SecId}
+use Rattle.cw_secnames.specs.Kept.{Entering, SecName}
+use Rattle.cw_phase1.specs.Entering.{answer_of, entering, kept_by, kept_id, name_of_entering, note_by, note_on}
+use Rattle.cw_phase1.specs.Holding.{HeldState, held_of}
+use Rattle.cw_phase1.specs.Roles.{behind_begin}
+use Rattle.cw_phase1.specs.Texts.{naming}
 use Rattle.cw_phase1.proofs.held.Held.name.Goals as goal
 
+abbrev waits : Option SecId → List SecName → Option Answer → Seen → HeldState → HeldState
+waits name kept remark t h = record h {
+  pass = record { standing = behind_begin h.pass.standing; waiting = Some (record { token = t; name = name }) };
+  kept = kept;
+  remark = remark;
+}
+
+abbrev entered_held : Option Entering → Seen → HeldState → HeldState
+entered_held e t h = waits (name_of_entering e) (kept_by e h.kept) (note_by e t.span.start) t h
+
+ignored-held : (e : Option Entering) (t : Seen) (h : HeldState) (kept : List SecName) → None ≡ answer_of e
+    → kept ≡ kept_by e h.kept → waits None kept None t h ≡ entered_held e t h
+ignored-held None t h kept none same = ap (λ (kept : List SecName). waits None kept None t h) same
+ignored-held (Some e) t h kept none same =
+    absurd (let wrong : ◌≡◌ {A = Option Entered} None (Some e.answer) = none in cc)
+
+named-held : (e : Option Entering) (t : Seen) (h : HeldState) (kept : List SecName) (entered : Entered) (id : SecId)
+    (remark : Option Answer) → Some entered ≡ answer_of e → kept ≡ kept_by e h.kept → id ≡ kept_id entered
+    → remark ≡ note_on entered t.span.start → waits (Some id) kept remark t h ≡ entered_held e t h
+named-held None t h kept entered id remark some same name note =
+    absurd (let wrong : ◌≡◌ {A = Option Entered} (Some entered) None = some in cc)
+named-held (Some e) t h kept entered id remark some same name note =
+    let is : entered ≡ e.answer = let both : Some entered ≡ Some e.answer = some in cc in
+    let id_is = name ∙ ap kept_id is in
+    let note_is = note ∙ ap (λ (a : Entered). note_on a t.span.start) is in
+    (λ i. waits (Some (id_is i)) (same i) (note_is i) t h)
+
 pub returns-in-None-clause-held : goal.returns-in-None-clause-held
-returns-in-None-clause-held c = grind (arith, common_steps)
+returns-in-None-clause-held c =
+    ignored-held (entering (naming c.args.token.kind c.args.token.text.now) c.args.self.now.kept) (seen c.args.token)
+    (held_of c.args.self.now) c.enter.new.names (sym c.in-None.is ∙ c.in_ok-entered.ensures.answer)
+    c.in_ok-entered.ensures.kept
+
+pub returns-in-Some-clause-held : goal.returns-in-Some-clause-held
+returns-in-Some-clause-held c =
+    named-held (entering (naming c.args.token.kind c.args.token.text.now) c.args.self.now.kept) (seen c.args.token)
+    (held_of c.args.self.now) c.enter.new.names c.in-Some.entered c.kept_id.result _
+    (sym c.in-Some.is ∙ c.in_ok-entered.ensures.answer) c.in_ok-entered.ensures.kept c.kept_id.ensures.value
+    c.remark_on-self.ensures
