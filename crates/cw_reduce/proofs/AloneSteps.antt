@@ -1,6 +1,6 @@
 -- A text of one scrap at which no row fits is reduced already.
 use Rattle.std.proofs.Common.{◌≡◌, ℕ, Bool, true, false, not, ◌+◌, ◌*◌, ◌≤◌, None, List, [], ◌∷◌, refl, sym, ap}
-use Rattle.std.proofs.Common.{◌∙◌}
+use Rattle.std.proofs.Common.{◌∙◌, length}
 use Rattle.std.proofs.Common.{arith}
 use Rattle.cw_base.specs.declared.category.Cat.{Cat}
 use Rattle.cw_base.specs.declared.category.Cat.TheVariants.{End}
@@ -10,7 +10,8 @@ use Rattle.cw_table.specs.Fitting.{first_of}
 use Rattle.cw_table.specs.Productions.{productions}
 use Rattle.cw_table.specs.Reaching.{IsAfter}
 use Rattle.cw_table.specs.Rewriting.{State}
-use Rattle.cw_table.specs.WalkCounts.{reservings}
+use Rattle.cw_table.specs.Normal.{count}
+use Rattle.cw_table.specs.WalkCounts.{reservings, ticks}
 use Rattle.cw_table.proofs.Examples.{productions-sound}
 use Rattle.cw_table.proofs.FirstLaws.{first-window}
 use Rattle.cw_tokens.specs.declared.token.Token.{Token}
@@ -23,12 +24,11 @@ use Rattle.cw_scraps.specs.Leaves.{entry_of}
 use Rattle.cw_scraps.specs.Lines.{IsSoundLine, scraps_of}
 use Rattle.cw_scraps.specs.Marking.{MarkList}
 use Rattle.cw_translator.specs.declared.translator.Translated.{Translated}
-use Rattle.cw_translator.specs.Counting.{limit_in}
-use Rattle.cw_translator.specs.Opening.{IsTranslated, of_leaf, progress_of}
+use Rattle.cw_translator.specs.Counting.{limit_in, productions_in, scraps_in, text_limit, ticks_in}
+use Rattle.cw_translator.specs.Opening.{HasEnded, of_leaf, progress_of}
 use Rattle.cw_translator.specs.Reading.{Progress, all_ended}
 use Rattle.cw_translator.specs.Retyping.{NamesOnTheWay, at_end}
-use Rattle.cw_translator.proofs.EndSteps.{spent-done, text-done}
-use Rattle.cw_translator.proofs.AnswerSteps.{stay-come}
+use Rattle.cw_translator.proofs.Sums.{sum-one}
 use Rattle.cw_translator.proofs.Retypings.{retypes, retyped-names}
 use Rattle.cw_rewrite.proofs.WalkSteps.{GoesOn, WalkEnds, Walks, goes-on, walk-ends, walk-reaches, walk-starts}
 
@@ -66,17 +66,22 @@ module _ (flags : Flags) (store : StoredLists) (names : List Entry) (marks : Mar
   pub alone-done : (lists : List (List Token)) (done : Translated) (steps2 : ℕ)
       → unfolded lists done.list.index ≡ whole (scraps_of store.lists (entry_of leaf ∷ [])) → done.scraps ≡ 1
       → done.productions ≡ 0 → steps2 ≡ steps + 4
-      → IsTranslated flags lists names marks done steps steps2 (all_ended flags here_now)
+      → HasEnded flags (of_leaf leaf) steps lists names marks done steps2 (all_ended flags here_now)
   alone-done lists done steps2 tree scraps none_done spent =
-      text-done flags (of_leaf leaf) (of_leaf leaf) steps steps steps2 store.lists names marks here_now refl refl
-      (stay-come flags store names marks (of_leaf leaf) steps) lists names marks done (record {
+      let one : 1 ≡ scraps_in (state ∷ []) = sum-one (λ s. length s.scraps) state in
+      let applied : count productions flags state ≡ productions_in flags (state ∷ []) =
+      sum-one (λ s. count productions flags s) state in
+      let ticked : ticks productions flags state ≡ ticks_in flags (state ∷ []) =
+      sum-one (λ s. ticks productions flags s) state in
+      record {
         tree = tree ∙ ap (λ (s : State). whole s.scraps) ends.normal;
         names_are = retyped-names flags state state names names ends.normal refl refl;
         marks_are = ap (λ (s : State). s.marks) ends.normal;
-        scraps = scraps;
-        productions_are = omega (arith, none_done, ends.number);
-        steps_are = spent ∙ ends.ticked;
-      })
+        scraps = omega (arith, scraps, one);
+        productions_are = omega (arith, none_done, ends.number, applied);
+        steps_are = (let k : steps2 ≡ steps + ticks productions flags state = spent ∙ ends.ticked in
+            omega (arith, k, ticked));
+      }
 
   pub alone-fails : NamesOnTheWay flags [] here_now names
   alone-fails = at_end here_now names (retypes flags state state names names after refl refl)
@@ -84,6 +89,6 @@ module _ (flags : Flags) (store : StoredLists) (names : List Entry) (marks : Mar
   pub alone-spent : (steps2 : ℕ) → steps2 ≡ steps + 4
       → steps2 ≤ steps + limit_in flags (all_ended flags here_now).known.ended
   alone-spent steps2 spent =
-      let few : steps2 ≤ steps + (132 * 1 + 1 * reservings productions flags state) = omega (arith, spent) in
-      spent-done flags (of_leaf leaf) (of_leaf leaf) steps steps steps2 store.lists names marks here_now refl refl
-      (stay-come flags store names marks (of_leaf leaf) steps) (omega arith) few
+      let few : 132 * 1 + 1 * reservings productions flags state ≡ limit_in flags (state ∷ []) =
+      sum-one (λ s. text_limit flags s) state in
+      let k : steps2 ≤ steps + limit_in flags (state ∷ []) = omega (arith, spent, few) in k

@@ -1,7 +1,9 @@
 -- A text that begins with a token which makes a scrap: it has no head, and goes on behind that scrap.
-use Rattle.std.proofs.lemmas.List.{append-nil}
 use Rattle.std.proofs.Common.{◌≡◌, ℕ, ◌+◌, ◌≤◌, ◌^◌, false, None, List, [], ◌∷◌, ◌++◌, refl, sym, ap, ◌∙◌, subst}
+use Rattle.std.proofs.Common.{zero-add}
+use Rattle.std.specs.Prelude.{Result}
 use Rattle.cw_base.specs.declared.flags.Flags.{Flags}
+use Rattle.cw_base.specs.declared.memory.Memory.{Memory}
 use Rattle.cw_base.specs.declared.notes.NoteKind.{NoteKind}
 use Rattle.cw_rules.specs.Answers.{Answer, Token, Begin, Finish, Note, Gives, Seen, seen}
 use Rattle.cw_rules.specs.declared.codes.Code.TheVariants as code
@@ -21,27 +23,24 @@ use Rattle.cw_scraps.specs.declared.leaves.Leaf.{Leaf}
 use Rattle.cw_scraps.specs.Marking.{MarkList}
 use Rattle.cw_reduce.specs.declared.heads.Beginning.{Beginning}
 use Rattle.cw_reduce.specs.declared.heads.HeadRead.TheVariants as read
-use Rattle.cw_translator.specs.declared.nesting.Open.TheVariants.{CText}
 use Rattle.cw_translator.specs.declared.translator.Translated.{Translated}
 use Rattle.cw_translator.specs.declared.translator.Translator.{Translator}
-use Rattle.cw_translator.specs.Counting.{limit_in, text_limit}
+use Rattle.cw_translator.specs.declared.work.Work.{Work}
+use Rattle.cw_translator.specs.Counting.{productions_in, scraps_in}
 use Rattle.cw_reduce.specs.HeadReading.{NamesWithin, answers_ahead, is_definition, name_ahead, read_made}
 use Rattle.cw_reduce.specs.HeadReading.{without_notes, words_in}
-use Rattle.cw_reduce.specs.Heading.{NamesOfText, behind, behind_head, head_begun, in_head}
+use Rattle.cw_reduce.specs.Heading.{NamesOfText, behind, behind_head, head_begun, in_head, to_translation}
 use Rattle.cw_reduce.specs.Naming.{token_answers, with_texts}
-use Rattle.cw_translator.specs.Opening.{HasCome, HasEnded, IsTranslated, StartsBelow, answers_in, of_leaf, progress_of}
-use Rattle.cw_translator.specs.Reading.{Progress, after_answers, after_token, all_ended, last_scraps}
-use Rattle.cw_translator.specs.Retyping.{NamesAmong, NamesOnTheWay, RetypesIn, at_end, here, later}
-use Rattle.cw_translator.specs.Translating.{NameTexts, begin, end_of, head_made, headed_made, state_in}
+use Rattle.cw_translator.specs.Opening.{HasEnded, IsTranslated, StartsBelow, answers_in, of_leaf, of_nothing}
+use Rattle.cw_translator.specs.Reading.{Progress, after_answers, after_token, all_ended}
+use Rattle.cw_translator.specs.Retyping.{NamesOnTheWay, here, later}
+use Rattle.cw_translator.specs.Translating.{Ended, NameTexts, begin, end_of, head_made, headed_made}
 use Rattle.cw_translator.specs.Translating.{translated}
-use Rattle.cw_translator.proofs.EndSteps.{spent-done, spent-within, text-done, way-end}
+use Rattle.cw_translator.specs.Working.{EndsIn, progress_over, to_end}
+use Rattle.cw_translator.proofs.Routes.{ends-as}
 use Rattle.cw_reduce.proofs.HeadFinds.{NoHead, no-head, none-token}
 use Rattle.cw_reduce.proofs.HeadSteps.{headed-translated, headed-whole}
 use Rattle.cw_reduce.proofs.NamedJoined.{AllNested}
-
--- a translation that has read nothing
-abbrev pub no_leaf : Translator
-no_leaf = record { nesting = CText [] ∷ []; scraps = 0; productions = 0 }
 
 -- Such a token is no section name and no code of a definition.
 leaf-answers : (named : NameTexts) (k : TokKind) (token : Seen) → MakesLeaf k → token_answers named k token
@@ -145,57 +144,33 @@ pub ahead-is : (b : Beginning) (next : Lexed) (rest : List Answer) → b.name �
 ahead-is b next rest named is = ap (λ o. (name_ahead o ++ answers_in b.next) ++ rest) named
     ∙ ap (λ l. answers_in l ++ rest) is
 
-module _ (flags : Flags) (named : NameTexts) (lists : List (List StoredToken)) (names : List Entry) (marks : MarkList)
-    (leaf : Leaf) (t1 : Translator) (e : t1 ≡ of_leaf leaf) (xs ys : List Answer) (same : xs ≡ ys) (steps steps1 : ℕ)
-  where
-    abbrev stands : Progress
-    stands = progress_of lists names marks (of_leaf leaf) []
+pub leaf-as : {L : Type 0} (flags : Flags) (named : NameTexts) (leaf : Leaf) {xs ys : List Answer} {t : Translator}
+    {work new : Work L} {result : Result Translated Memory} → t ≡ of_leaf leaf → xs ≡ ys
+    → EndsIn (to_end flags (with_texts named xs) (progress_over work t)) t work new result
+    → EndsIn (to_end flags (with_texts named ys) (progress_over work (of_leaf leaf))) (of_leaf leaf) work new result
+leaf-as flags named leaf {xs = xs} {work = work} {new = new} {result = result} e same r =
+    subst (λ list. EndsIn (to_end flags (with_texts named list) (progress_over work (of_leaf leaf))) (of_leaf leaf)
+    work new result) same
+    (subst (λ x. EndsIn (to_end flags (with_texts named xs) (progress_over work x)) x work new result) e r)
 
-    abbrev comes : Progress
-    comes = after_answers flags (with_texts named xs) (progress_of lists names marks t1 [])
+-- A text from its first answer on.
+pub text-as : {L : Type 0} (flags : Flags) (named : NameTexts) (old new : List Answer) (names : List Entry)
+    (marks : List ℕ) {t : Translator} {work work' : Work L} {result : Result Translated Memory} → nest new ≡ nest old
+    → EndsIn (to_translation flags named new names marks) t work work' result
+    → EndsIn (to_translation flags named old names marks) t work work' result
+text-as flags named old new names marks same r = ends-as (same-text flags named old new names marks same)
+    (λ entries. same-way flags named old new names marks entries same) r
 
-    comes-is : comes ≡ after_answers flags (with_texts named ys) stands
-    comes-is = ap (λ t. after_answers flags (with_texts named xs) (progress_of lists names marks t [])) e
-        ∙ ap (λ zs. after_answers flags (with_texts named zs) stands) same
-
-    pub on-some : steps1 ≤ steps + limit_in flags comes.known.ended → steps1
-        ≤ steps + limit_in flags (all_ended flags (after_answers flags (with_texts named ys) stands)).known.ended
-    on-some low = subst (λ (p : Progress). steps1 ≤ steps + limit_in flags (all_ended flags p).known.ended) comes-is
-        (spent-within flags comes steps steps1 low)
-
-    pub on-fails : (new : List Entry)
-        → NamesAmong flags (with_texts named xs) (progress_of lists names marks t1 []) new
-        → NamesOnTheWay flags (with_texts named ys) stands new
-    on-fails new h = subst (λ zs. NamesOnTheWay flags (with_texts named zs) stands new) same
-        (subst (λ t. NamesOnTheWay flags (with_texts named xs) (progress_of lists names marks t []) new) e
-        (subst (λ zs. NamesOnTheWay flags zs (progress_of lists names marks t1 []) new)
-        (append-nil (with_texts named xs))
-        (h [])))
-
-    module _ (t2 : Translator) (mid : List (List StoredToken)) (names1 : List Entry) (marks1 : MarkList)
-        (come : HasCome flags t1 steps mid names1 marks1 t2 steps1 comes) where
-      pub on-done : (lists2 : List (List StoredToken)) (names2 : List Entry) (marks2 : MarkList) (done : Translated)
-          (steps2 : ℕ)
-          → HasEnded flags t2 steps1 lists2 names2 marks2 done steps2 (progress_of mid names1 marks1 t2 [])
-          → IsTranslated flags lists2 names2 marks2 done steps steps2
-          (all_ended flags (after_answers flags (with_texts named ys) stands))
-      on-done lists2 names2 marks2 done steps2 h =
-          subst (λ p. IsTranslated flags lists2 names2 marks2 done steps steps2 (all_ended flags p)) comes-is
-          (text-done flags t1 t2 steps steps1 steps2 mid names1 marks1 comes (ap (λ (x : Translator). x.scraps) e)
-          (ap (λ (x : Translator). x.productions) e) come lists2 names2 marks2 done h)
-
-      pub on-spent : (steps2 : ℕ) → steps1 ≤ steps + limit_in flags comes.known.ended
-          → steps2 ≤ steps1 + text_limit flags (state_in (last_scraps (progress_of mid names1 marks1 t2 []).frames)
-          (progress_of mid names1 marks1 t2 []).known) → steps2
-          ≤ steps + limit_in flags (all_ended flags (after_answers flags (with_texts named ys) stands)).known.ended
-      on-spent steps2 low high =
-          subst (λ (p : Progress). steps2 ≤ steps + limit_in flags (all_ended flags p).known.ended) comes-is
-          (spent-done flags t1 t2 steps steps1 steps2 mid names1 marks1 comes (ap (λ (x : Translator). x.scraps) e)
-          (ap (λ (x : Translator). x.productions) e) come low high)
-
-      pub on-ends : (new : List Entry)
-          → RetypesIn flags (last_scraps (progress_of mid names1 marks1 t2 []).frames)
-          (progress_of mid names1 marks1 t2 []).known new → NamesOnTheWay flags (with_texts named ys) stands new
-      on-ends new r =
-          let q : Progress = progress_of mid names1 marks1 t2 comes.known.ended in
-          way-end flags (with_texts named ys) stands q new (come.is ∙ comes-is) (at_end q new r)
+-- Where nothing was counted before, that is what the translation counts.
+pub text-counted : (flags : Flags) (steps steps' : ℕ) (lists : List (List StoredToken)) (names : List Entry)
+    (marks : MarkList) (done : Translated) (text : Ended)
+    → HasEnded flags of_nothing steps lists names marks done steps' text
+    → IsTranslated flags lists names marks done steps steps' text
+text-counted flags steps steps' lists names marks done text h = record {
+  tree = h.tree;
+  names_are = h.names_are;
+  marks_are = h.marks_are;
+  scraps = h.scraps ∙ zero-add (scraps_in text.known.ended);
+  productions_are = h.productions_are ∙ zero-add (productions_in flags text.known.ended);
+  steps_are = h.steps_are;
+}

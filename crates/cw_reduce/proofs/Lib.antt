@@ -18,4 +18,3 @@ pub mod HeadLists
 pub mod HeadSteps
 pub mod AloneSteps
 pub mod FirstSteps
-mod WorkLaws

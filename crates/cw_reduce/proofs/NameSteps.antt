@@ -1,18 +1,21 @@
 -- A section name, its inner texts, and a text with section names, one call after the other.
 use Rattle.std.proofs.Common.{◌≡◌, ℕ, ◌+◌, ◌^◌, ◌<◌, ◌≤◌, Bool, true, false, Option, Some, None, List, [], ◌∷◌, ◌++◌}
-use Rattle.std.proofs.Common.{length, map, get_or, nat_eq, option_map, refl, sym, ap, ◌∙◌, subst, arith}
+use Rattle.std.proofs.Common.{length, map, get_or, nat_eq, option_map, refl, sym, ap, ◌∙◌, subst, add-zero, arith}
+use Rattle.std.specs.Prelude.{Result, Ok}
 use Rattle.std.specs.List.{All, slice_get}
 use Rattle.std.proofs.lemmas.List.{append-nil, append_assoc}
 use Rattle.std.proofs.lemmas.List.Elements.{All-cons, All-head, All-tail}
 use Rattle.std.proofs.lemmas.Option.{get_or_from_slice_get, slice_get_within}
 use Rattle.cw_base.specs.declared.flags.Flags.{Flags}
+use Rattle.cw_base.specs.declared.memory.Memory.{Memory}
 use Rattle.cw_base.specs.declared.span.Span.{Span}
-use Rattle.cw_rules.specs.Answers.{Answer, Seen, Token, Begin, Finish, Note, Gives}
+use Rattle.cw_rules.specs.Answers.{Answer, Seen, Token, Begin, Finish, Note, Gives, seen}
 use Rattle.cw_lex.specs.Limbo.{is_name_kind}
 use Rattle.cw_lex.specs.Lexing.{tokens_of}
 use Rattle.cw_lex.specs.Nested.{until_section}
 use Rattle.cw_rules.specs.declared.codes.Code.TheVariants as code
 use Rattle.cw_rules.specs.declared.tokens.Lexed.{Lexed}
+use Rattle.cw_rules.specs.declared.tokens.Lexed.TheVariants as lexed
 use Rattle.cw_rules.specs.declared.tokens.Mode.TheVariants.{Inner as inner_mode}
 use Rattle.cw_rules.specs.declared.tokens.TokKind.{TokKind}
 use Rattle.cw_rules.specs.declared.tokens.TokKind.TheVariants as kind
@@ -22,68 +25,36 @@ use Rattle.cw_secnames.specs.Parts.{parts_at, IsNextPart}
 use Rattle.cw_secnames.specs.Uses.{NameUse, name_at}
 use Rattle.cw_secnames.specs.declared.kinds.SecId.{SecId}
 use Rattle.cw_secnames.specs.declared.kinds.SecKind.{SecKind}
-use Rattle.cw_tokens.specs.declared.token.Token.{Token as StoredToken}
 use Rattle.cw_tokens.specs.Stored.{StoredLists}
 use Rattle.cw_scraps.specs.Changing.{Keeps}
 use Rattle.cw_scraps.specs.Lines.{AreRoots}
-use Rattle.cw_scraps.specs.Marking.{MarkList}
 use Rattle.cw_translator.specs.declared.holders.Holder.{Holder}
 use Rattle.cw_translator.specs.declared.holders.Holder.TheVariants as holder
 use Rattle.cw_translator.specs.declared.nesting.Open.TheVariants.{CText, Comment}
 use Rattle.cw_translator.specs.declared.translator.Translator.{Translator}
-use Rattle.cw_translator.specs.Counting.{limit_in, productions_in, scraps_in}
+use Rattle.cw_translator.specs.declared.work.Work.{Work}
 use Rattle.cw_translator.specs.NameParts.{AreNamesOf, name_texts, parts_by_kind, texts_kept, texts_of_name}
-use Rattle.cw_reduce.specs.Naming.{held_answers, name_answers, text_answers, text_token}
+use Rattle.cw_reduce.specs.Naming.{held_answers, is_name_answer, name_answers, text_answers, text_token}
 use Rattle.cw_reduce.specs.Naming.{texts_answers}
 use Rattle.cw_reduce.specs.Naming.{token_answers, with_texts}
 use Rattle.cw_translator.specs.Opening.{all_roots, answers_in, frames_of, IsSoundFrame, IsTranslating, progress_of}
-use Rattle.cw_translator.specs.Opening.{HasCome}
 use Rattle.cw_translator.specs.Reading.{Progress, after_token, after_begin, after_answers, with_held}
 use Rattle.cw_translator.specs.Reading.{Comment as CommentFrame}
 use Rattle.cw_translator.specs.Retyping.{NamesAmong, NamesOnTheWay, later}
 use Rattle.cw_translator.specs.Translating.{NameTexts}
-use Rattle.cw_translator.proofs.AnswerSteps.{begin-steps}
-use Rattle.cw_reduce.proofs.ReadSteps.{Reads, reads-start, reads-more, reads-fails, reads-few}
-use Rattle.cw_translator.proofs.AnswerSteps.{begin-come, stay-come}
+use Rattle.cw_translator.specs.Working.{Advances, over, progress_over}
 use Rattle.cw_reduce.proofs.ReadSteps.{gives-is}
+use Rattle.cw_translator.proofs.AnswerRoutes.{begin-advances, unchanged}
+use Rattle.cw_translator.proofs.Routes.{Advancing, advancing-begun, advancing-next, advances-as, advances-done, advances-none}
 use Rattle.cw_translator.proofs.LeafSteps.{Steps, keeps-itself}
 
 -- An inner text has begun.
-module _ (flags : Flags) (old : StoredLists) (names : List Entry) (marks : MarkList) (t t1 : Translator) (steps : ℕ)
-    (text : List Answer)
-    (is : IsTranslating old names t) (e : t1 ≡ record t { nesting = CText [] ∷ t.nesting }) where
-  pub text-opened : Steps old old names names t t1
-  text-opened = begin-steps old names t t1 kind.InnerText 0 is e
-
-  pub text-begins : Reads flags (text_answers text) old names marks t steps (text ++ Finish text_token ∷ []) old names
-      marks t1 steps
-  text-begins = reads-more flags (text_answers text) old names marks t steps (text_answers text) old names marks t steps
-      (reads-start flags (text_answers text) old names marks t steps is)
-      (Begin text_token ∷ []) (text ++ Finish text_token ∷ []) refl old names marks t1 steps text-opened.translating
-      text-opened.keeps (begin-come flags old names marks t t1 text_token steps e) (omega arith)
-
-  pub text-read : (mid : StoredLists) (names1 : List Entry) (marks1 : MarkList) (t2 : Translator) (steps1 : ℕ)
-      → IsTranslating mid names1 t2 → Keeps old.lists mid.lists (all_roots t1.nesting) (all_roots t2.nesting)
-      → HasCome flags t1 steps mid.lists names1 marks1 t2 steps1
-      (after_answers flags text (progress_of old.lists names marks t1 []))
-      → steps1 ≤ steps + limit_in flags (after_answers flags text
-      (progress_of old.lists names marks t1 [])).known.ended
-      → Reads flags (text_answers text) old names marks t steps (Finish text_token ∷ []) mid names1 marks1 t2 steps1
-  text-read mid names1 marks1 t2 steps1 now keeps come few = reads-more flags (text_answers text) old names marks t
-      steps (text ++ Finish text_token ∷ []) old names marks t1 steps text-begins
-      text (Finish text_token ∷ []) refl mid names1 marks1 t2 steps1 now keeps come few
-
-  pub text-fails : (entries : List Entry) → NamesAmong flags text (progress_of old.lists names marks t1 []) entries
-      → NamesAmong flags (text_answers text) (progress_of old.lists names marks t []) entries
-  text-fails entries h = reads-fails flags (text_answers text) old names marks t steps (text ++ Finish text_token ∷ [])
-      old names marks t1 steps text-begins text (Finish text_token ∷ []) refl entries h
-
-  pub text-few : (steps1 : ℕ) → steps1 ≤ steps + limit_in flags
-      (after_answers flags text (progress_of old.lists names marks t1 [])).known.ended
-      → steps1 ≤ steps + limit_in flags (after_answers flags (text_answers text)
-      (progress_of old.lists names marks t [])).known.ended
-  text-few steps1 few = reads-few flags (text_answers text) old names marks t steps (text ++ Finish text_token ∷ []) old
-      names marks t1 steps text-begins text (Finish text_token ∷ []) refl steps1 few
+pub text-begun : {L : Type 0} (flags : Flags) (text : List Answer) {t t1 : Translator} {work : Work L}
+    → IsTranslating work.store.now work.names.now t → t1 ≡ record t { nesting = CText [] ∷ t.nesting }
+    → Advancing flags (text_answers text) (text ++ Finish text_token ∷ []) (progress_over work t) t work t1 work
+text-begun flags text is e = advancing-next (Begin text_token ∷ []) (text ++ Finish text_token ∷ [])
+    (advancing-begun flags (text_answers text) is) refl
+    (begin-advances {T = Unit {0}} flags text_token {result = Ok tt} is e)
 
 -- The answers of parts, and the next of them.
 abbrev pub part_answers : List ℕ → Span → List Answer
@@ -98,92 +69,41 @@ pub part-next : (text : List ℕ) (from : ℕ) (span : Span) → IsNextPart text
 part-next text from span h = ap (all_part_answers text) h.parts
 
 -- What holds inner texts has begun.
-module _ (flags : Flags) (old : StoredLists) (names : List Entry) (marks : MarkList) (t t1 : Translator) (steps : ℕ)
-    (held_by : Holder)
-    (is : IsTranslating old names t) (e : t1 ≡ record t { nesting = Comment held_by [] ∷ t.nesting }) where
-  pub held-steps : Steps old old names names t t1
-  held-steps = subst (Steps old old names names t) (sym e) (record {
-    translating = record {
-      idle = is.idle;
-      roots = subst (AreRoots old.lists) (sym (append-nil (all_roots t.nesting))) is.roots;
-      sound = All-cons (IsSoundFrame (length names)) (CommentFrame held_by []) (frames_of old.lists t.nesting)
-          (λ i d b. absurd (omega arith)) is.sound;
-      light = is.light;
-    };
-    keeps = subst (Keeps old.lists old.lists (all_roots t.nesting)) (sym (append-nil (all_roots t.nesting)))
-        (keeps-itself old.lists (all_roots t.nesting));
-  })
-
-  abbrev held_now : Progress
-  held_now = with_held held_by (progress_of old.lists names marks t [])
-
-  held-is : progress_of old.lists names marks t1 [] ≡ held_now
-  held-is = ap (λ x. progress_of old.lists names marks x []) e
-
-  held-roots : all_roots t1.nesting ≡ all_roots t.nesting
-  held-roots = ap (λ (x : Translator). all_roots x.nesting) e ∙ append-nil (all_roots t.nesting)
-
-  pub held-keeps : (new : StoredLists) (t2 : Translator)
-      → Keeps old.lists new.lists (all_roots t1.nesting) (all_roots t2.nesting)
-      → Keeps old.lists new.lists (all_roots t.nesting) (all_roots t2.nesting)
-  held-keeps new t2 k = subst (λ rs. Keeps old.lists new.lists rs (all_roots t2.nesting)) held-roots k
-
-  pub held-come : (xs : List Answer) (lists : List (List StoredToken)) (names2 : List Entry) (marks2 : MarkList)
-      (t2 : Translator) (steps2 : ℕ)
-      → HasCome flags t1 steps lists names2 marks2 t2 steps2
-      (after_answers flags xs (progress_of old.lists names marks t1 []))
-      → HasCome flags t steps lists names2 marks2 t2 steps2 (after_answers flags xs held_now)
-  held-come xs lists names2 marks2 t2 steps2 h =
-      let k : HasCome flags t1 steps lists names2 marks2 t2 steps2 (after_answers flags xs held_now) =
-      subst (λ p. HasCome flags t1 steps lists names2 marks2 t2 steps2 (after_answers flags xs p)) held-is h in
-      record {
-        is = k.is;
-        scraps = k.scraps ∙ ap (λ (x : Translator). x.scraps + scraps_in (after_answers flags xs held_now).known.ended)
-            e;
-        productions_are = k.productions_are
-            ∙ ap (λ (x : Translator). x.productions
-            + productions_in flags (after_answers flags xs held_now).known.ended) e;
-        steps_are = k.steps_are;
-      }
-
-  pub held-fails : (xs : List Answer) (entries : List Entry)
-      → NamesAmong flags xs (progress_of old.lists names marks t1 []) entries → NamesAmong flags xs held_now entries
-  held-fails xs entries h = subst (λ p. NamesAmong flags xs p entries) held-is h
-
-  pub held-few : (xs : List Answer) (steps2 : ℕ) → steps2 ≤ steps
-      + limit_in flags (after_answers flags xs (progress_of old.lists names marks t1 [])).known.ended
-      → steps2 ≤ steps + limit_in flags (after_answers flags xs held_now).known.ended
-  held-few xs steps2 h = subst (λ p. steps2 ≤ steps + limit_in flags (after_answers flags xs p).known.ended) held-is h
-
-  pub held-begins : (texts : List (List Answer)) → Reads flags (held_answers texts) old names marks t1 steps
-      (held_answers texts) old names marks t1 steps
-  held-begins texts = reads-start flags (held_answers texts) old names marks t1 steps held-steps.translating
-
-  module _ (texts : List (List Answer)) where
-    pub held-read : (mid : StoredLists) (names1 : List Entry) (marks1 : MarkList) (t2 : Translator) (steps1 : ℕ)
-        → IsTranslating mid names1 t2 → Keeps old.lists mid.lists (all_roots t1.nesting) (all_roots t2.nesting)
-        → HasCome flags t1 steps mid.lists names1 marks1 t2 steps1
-        (after_answers flags (texts_answers texts) (progress_of old.lists names marks t1 []))
-        → steps1 ≤ steps + limit_in flags (after_answers flags (texts_answers texts)
-        (progress_of old.lists names marks t1 [])).known.ended
-        → Reads flags (held_answers texts) old names marks t1 steps (Finish text_token ∷ []) mid names1 marks1 t2 steps1
-    held-read mid names1 marks1 t2 steps1 now keeps come few = reads-more flags (held_answers texts) old names marks t1
-        steps (held_answers texts) old names marks t1 steps (held-begins texts)
-        (texts_answers texts) (Finish text_token ∷ []) refl mid names1 marks1 t2 steps1 now keeps come few
-
-    pub held-read-fails : (entries : List Entry) → NamesAmong flags (texts_answers texts)
-        (progress_of old.lists names marks t1 []) entries → NamesAmong flags (held_answers texts) held_now entries
-    held-read-fails entries h = held-fails (held_answers texts) entries
-        (reads-fails flags (held_answers texts) old names marks t1 steps (held_answers texts) old names marks t1 steps
-        (held-begins texts) (texts_answers texts) (Finish text_token ∷ []) refl entries h)
-
-    pub held-read-few : (steps1 : ℕ) → steps1 ≤ steps
-        + limit_in flags (after_answers flags (texts_answers texts)
-        (progress_of old.lists names marks t1 [])).known.ended
-        → steps1 ≤ steps + limit_in flags (after_answers flags (held_answers texts) held_now).known.ended
-    held-read-few steps1 few = held-few (held_answers texts) steps1 (reads-few flags (held_answers texts) old names
-        marks t1 steps (held_answers texts) old names marks t1 steps (held-begins texts) (texts_answers texts)
-        (Finish text_token ∷ []) refl steps1 few)
+pub held-begun : {L : Type 0} (flags : Flags) (held_by : Holder) {t t1 : Translator} {work : Work L}
+    → IsTranslating work.store.now work.names.now t → t1 ≡ record t { nesting = Comment held_by [] ∷ t.nesting }
+    → (all : List Answer) → Advancing flags all all (with_held held_by (progress_over work t)) t work t1 work
+held-begun flags held_by {t = t} {t1 = t1} {work = work} is e all =
+    let store : StoredLists = work.store.now in
+    let names : List Entry = work.names.now in
+    let steps : Steps store store names names t t1 = subst (Steps store store names names t) (sym e) (record {
+      translating = record {
+        idle = is.idle;
+        roots = subst (AreRoots store.lists) (sym (append-nil (all_roots t.nesting))) is.roots;
+        sound = All-cons (IsSoundFrame (length names)) (CommentFrame held_by []) (frames_of store.lists t.nesting)
+            (λ i d b. absurd (omega arith)) is.sound;
+        light = is.light;
+      };
+      keeps = subst (Keeps store.lists store.lists (all_roots t.nesting)) (sym (append-nil (all_roots t.nesting)))
+          (keeps-itself store.lists (all_roots t.nesting));
+    }) in
+    record {
+      done = [];
+      reads = record {
+        translating = steps.translating;
+        come = record {
+          is = ap (λ x. progress_of store.lists names work.marks.now x []) e;
+          scraps = ap (λ (x : Translator). x.scraps) e ∙ sym (add-zero t.scraps);
+          productions_are = ap (λ (x : Translator). x.productions) e ∙ sym (add-zero t.productions);
+          steps_are = sym (add-zero work.steps.now);
+        };
+        keeps = steps.keeps;
+        names = tt;
+        bound = omega arith;
+        same = unchanged;
+        idle = is.idle;
+      };
+      goes = refl;
+    }
 
 -- A section name by the pair of its place.
 pub name-token : (named : NameTexts) (k : TokKind) (token : Seen) → is_name_kind k ≡ true → token_answers named k token
@@ -217,15 +137,14 @@ module _ (kept : List SecName) (uses : List NameUse) (token : Seen) (named : is_
   unpaired = name-token (name_texts kept uses) token.kind token named
       ∙ ap (λ o. name_answers o token) (ap (texts_kept kept) (none-at (name_at token.span.start uses) found))
 
-  pub unpaired-come : (flags : Flags) (store : StoredLists) (names : List Entry) (marks : MarkList) (t : Translator)
-      (steps : ℕ)
-      → HasCome flags t steps store.lists names marks t steps
-      (after_answers flags (token_answers (name_texts kept uses) token.kind token)
-      (progress_of store.lists names marks t []))
-  unpaired-come flags store names marks t steps =
-      let p : Progress = progress_of store.lists names marks t [] in
-      subst (HasCome flags t steps store.lists names marks t steps) (sym (name-passes token.kind token p named)
-      ∙ ap (λ xs. after_answers flags xs p) (sym unpaired)) (stay-come flags store names marks t steps)
+  pub unpaired-advances : {L T : Type 0} (flags : Flags) {t : Translator} {work : Work L} {value : T}
+      → IsTranslating work.store.now work.names.now t
+      → Advances (over flags (token_answers (name_texts kept uses) token.kind token) (progress_over work t)) t work t work
+      (Ok value)
+  unpaired-advances flags {t = t} {work = work} is =
+      let p : Progress = progress_over work t in
+      advances-done (sym (name-passes token.kind token p named) ∙ ap (λ xs. after_answers flags xs p) (sym unpaired))
+      (advances-none flags is)
 
 -- With one it is what is kept of the name.
 texts-shown : (o : Option SecName) (k : SecKind) (text : List ℕ) → option_map (λ (n : SecName). n.kind) o ≡ Some k
@@ -293,30 +212,19 @@ module _ (kept : List SecName) (uses : List NameUse) (token : Seen) (named : is_
     then-held flags p = ap (after_answers flags held_texts) (sym (name-begins token.kind token.span.start p named))
         ∙ ap (λ xs. after_answers flags xs p) (sym answers-are)
 
-    pub paired-come : (flags : Flags) (t : Translator) (steps : ℕ) (lists : List (List StoredToken))
-        (names : List Entry) (marks : MarkList) (t2 : Translator) (steps2 : ℕ) (p : Progress)
-        → HasCome flags t steps lists names marks t2 steps2
-        (after_answers flags held_texts (with_held (holder.Name token.span.start) p))
-        → HasCome flags t steps lists names marks t2 steps2
-        (after_answers flags (token_answers (name_texts kept uses) token.kind token) p)
-    paired-come flags t steps lists names marks t2 steps2 p h =
-        subst (HasCome flags t steps lists names marks t2 steps2) (then-held flags p) h
-
-    pub paired-few : (flags : Flags) (steps steps2 : ℕ) (p : Progress)
-        → steps2 ≤ steps + limit_in flags (after_answers flags held_texts
-        (with_held (holder.Name token.span.start) p)).known.ended
-        → steps2 ≤ steps + limit_in flags (after_answers flags (token_answers (name_texts kept uses) token.kind token)
-        p).known.ended
-    paired-few flags steps steps2 p h = subst (λ (q : Progress). steps2 ≤ steps + limit_in flags q.known.ended)
-        (then-held flags p) h
-
-    pub paired-fails : (flags : Flags) (p : Progress) (entries : List Entry)
+    paired-fails : (flags : Flags) (p : Progress) (entries : List Entry)
         → NamesAmong flags held_texts (with_held (holder.Name token.span.start) p) entries
         → NamesAmong flags (token_answers (name_texts kept uses) token.kind token) p entries
     paired-fails flags p entries h = subst (λ xs. NamesAmong flags xs p entries) (sym answers-are)
         (λ coming. later (Begin token) (held_texts ++ coming) p entries
         (subst (λ q. NamesOnTheWay flags (held_texts ++ coming) q entries)
         (sym (name-begins token.kind token.span.start p named)) (h coming)))
+
+    pub paired-advances : {L T : Type 0} (flags : Flags) (p : Progress) {t t' : Translator} {old new : Work L}
+        {result : Result T Memory}
+        → Advances (over flags held_texts (with_held (holder.Name token.span.start) p)) t old t' new result
+        → Advances (over flags (token_answers (name_texts kept uses) token.kind token) p) t old t' new result
+    paired-advances flags p r = advances-as (then-held flags p) (λ entries. paired-fails flags p entries) r
 
 pub with-texts-append : (named : NameTexts) (xs ys : List Answer) → with_texts named (xs ++ ys)
     ≡ with_texts named xs ++ with_texts named ys
@@ -332,3 +240,19 @@ pub with-texts-next : (named : NameTexts) (old new : List Answer) (answer : Lexe
     → with_texts named old ≡ with_texts named (answers_in answer) ++ with_texts named new
 with-texts-next named old new answer g = ap (with_texts named) (gives-is old new answer g)
     ∙ with-texts-append named (answers_in answer) new
+
+-- An answer that is no section name stands for itself.
+no-name-token : (named : NameTexts) (k : TokKind) (token : Seen) → is_name_kind k ≡ false
+    → token_answers named k token ≡ Token token ∷ []
+no-name-token named (kind.Code code.SectionName) token h = absurd cc
+no-name-token named (kind.Code code.FileName) token h = absurd cc
+no-name-token named k token h = refl
+
+pub no-name-answer : (named : NameTexts) (answer : Lexed) → is_name_answer answer ≡ false
+    → answers_in answer ≡ with_texts named (answers_in answer)
+no-name-answer named (lexed.Token t) h = sym (append-nil (token_answers named t.kind (seen t))
+    ∙ no-name-token named t.kind (seen t) h)
+no-name-answer named (lexed.Begin t) h = refl
+no-name-answer named (lexed.Finish t) h = refl
+no-name-answer named (lexed.Note note place) h = refl
+no-name-answer named lexed.End h = refl

@@ -38,7 +38,7 @@ use Rattle.cw_translator.specs.Reading.{after_finish, after_answers, all_ended, 
 use Rattle.cw_translator.specs.Translating.{CommentItem, InnerText, Known, Made, nothing, before, end_of, token_made}
 use Rattle.cw_translator.specs.Translating.{made}
 use Rattle.cw_translator.specs.Translating.{no_name, plain_text, NameTexts, texts_made, texts_named, leaf_of_name}
-use Rattle.cw_reduce.proofs.ReadSteps.{after-append}
+use Rattle.cw_translator.proofs.Routes.{after-append}
 use Rattle.cw_reduce.proofs.Joined.{append-none, closed, run, extended-nothing, extended-scrap, level-before}
 use Rattle.cw_reduce.proofs.Joined.{step-token, step-begin, pushed, token-one, begin-two, finish-one, run-leaf, run-end}
 use Rattle.cw_reduce.proofs.Joined.{run-group, run-all, one-nest}

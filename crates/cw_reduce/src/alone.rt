@@ -1,6 +1,5 @@
 //! A text that begins with a token which makes a scrap. Where that is all of it, no line of scraps is made.
-ghost use Rattle.std.specs.Prelude.{◌≡◌, ◌≢◌, ◌+◌, ◌*◌, ◌^◌, ◌≤◌, [], ◌∷◌, ◌++◌, length, true, IfSome, IfOk, OnOk};
-ghost use Rattle.std.specs.Prelude.{OnErr, None};
+ghost use Rattle.std.specs.Prelude.{◌≡◌, ◌≢◌, ◌^◌, [], ◌∷◌, ◌++◌, true, IfSome, OnOk, None};
 ghost use Rattle.cw_base.specs.declared.category.Cat.TheVariants as Cats;
 ghost use Rattle.cw_base.specs.declared.flags.Flags.{Flags as FlagsSeen};
 ghost use Rattle.cw_table.specs.Fitting.{first_of};
@@ -8,21 +7,15 @@ ghost use Rattle.cw_table.specs.Productions.{productions};
 ghost use Rattle.cw_rules.specs.Answers.{Token as TokenAnswer, seen};
 ghost use Rattle.cw_rules.specs.declared.tokens.Lexed.TheVariants as Lexes;
 ghost use Rattle.cw_lex.specs.Nested.{IsNested};
-ghost use Rattle.cw_tokens.specs.Shapes.{unfolded};
-ghost use Rattle.cw_scraps.specs.Changing.{Keeps};
 ghost use Rattle.cw_scraps.specs.Leaves.{MakesLeaf, entry_of};
-ghost use Rattle.cw_scraps.specs.Lines.{AreRoots, IsNamedBelow, IsSoundLine};
+ghost use Rattle.cw_scraps.specs.Lines.{IsSoundLine};
 ghost use Rattle.cw_scraps.specs.Marking.{marked_names};
 ghost use Rattle.cw_answers.specs.Reading.{IsReadUp};
-ghost use Rattle.cw_translator.specs.Counting.{limit_in};
-ghost use Rattle.cw_reduce.specs.Heading.{NamesOfText};
+ghost use Rattle.cw_reduce.specs.Heading.{to_translation};
 ghost use Rattle.cw_translator.specs.NameParts.{AreNamesOf};
 ghost use Rattle.cw_reduce.specs.Naming.{with_texts};
-ghost use Rattle.cw_translator.specs.Opening.{IsTranslated, IsTranslating, StartsBelow, answers_in, of_leaf};
-ghost use Rattle.cw_translator.specs.Reading.{after_answers, all_ended};
-ghost use Rattle.cw_translator.specs.Retyping.{NamesOnTheWay};
-ghost use Rattle.cw_translator.specs.Translating.{translated};
-ghost use Rattle.cw_translator.specs.Working.{IsSameWork, progress_over, texts_in};
+ghost use Rattle.cw_translator.specs.Opening.{IsTranslating, StartsBelow, answers_in, of_leaf, of_nothing};
+ghost use Rattle.cw_translator.specs.Working.{EndsIn, progress_over, texts_in, to_end};
 
 use crate::headed::{read_behind, with_leaf};
 use crate::heads::headless;
@@ -73,21 +66,8 @@ fn is_end(answer: &Lexed) -> bool
 fn end_alone<L: Ledger>(leaf: Leaf, work: &mut Work<L>) -> Result<Translated, Memory>
     requires sound { IsSoundLine work.old.store.now work.old.names.now (entry_of leaf ∷ []) }
     requires alone { first_of productions (leaf.cat ∷ []) ≡ None }
-    ensures text { IfOk result (λ done. (flags : FlagsSeen) → IsTranslated flags work.new.store.now.lists
-        work.new.names.now work.new.marks.now done work.old.steps.now work.new.steps.now
-        (all_ended flags (progress_over work.old (of_leaf leaf)))) }
-    ensures few { IfOk result (λ done. done.productions ≤ 8 * done.scraps) }
-    ensures named { IfOk result (λ done. IsNamedBelow (length work.new.names.now) (unfolded work.new.store.now.lists
-        done.list.index)) }
-    ensures root { IfOk result (λ done. AreRoots work.new.store.now.lists (done.list.index ∷ [])) }
-    ensures keeps { IfOk result (λ done. Keeps work.old.store.now.lists work.new.store.now.lists
-        (leaf.list.index ∷ []) (done.list.index ∷ [])) }
-    ensures refused { OnErr result ((flags : FlagsSeen) → NamesOnTheWay flags [] (progress_over work.old (of_leaf leaf))
-        work.new.names.now) }
-    ensures bound { (flags : FlagsSeen) → work.new.steps.now ≤ work.old.steps.now +
-        limit_in flags (all_ended flags (progress_over work.old (of_leaf leaf))).known.ended }
-    ensures same { IsSameWork work.old work.new }
-    ensures idle { work.new.store.now.building ≡ None }
+    ensures { (flags : FlagsSeen) → EndsIn (to_end flags [] (progress_over work.old (of_leaf leaf)))
+        (of_leaf leaf) work.old work.new result }
 {
     work.store.tied_law();
     work.steps.tick();
@@ -102,7 +82,7 @@ fn end_alone<L: Ledger>(leaf: Leaf, work: &mut Work<L>) -> Result<Translated, Me
     })
 }
 
-/// Translates a text that begins with this scrap, and goes on with this answer and all others.
+/// EndsIn a text that begins with this scrap, and goes on with this answer and all others.
 #[inline(never)]
 fn translate_on<L: Ledger>(
     leaf: Leaf,
@@ -116,30 +96,15 @@ fn translate_on<L: Ledger>(
     requires start { StartsBelow (2 ^ 32) (answers_in next.now ++ reader.old.coming) }
     requires kept { AreNamesOf context.now.sec_names.now context.now.uses.now }
     ensures read { OnOk result (IsReadUp reader.old reader.new) }
-    ensures text { IfOk result (λ done. IsTranslated context.now.flags.now work.new.store.now.lists work.new.names.now
-        work.new.marks.now done work.old.steps.now work.new.steps.now (all_ended context.now.flags.now
-        (after_answers context.now.flags.now (with_texts (texts_in context.now) (answers_in next.now ++
-        reader.old.coming)) (progress_over work.old (of_leaf leaf))))) }
-    ensures few { IfOk result (λ done. done.productions ≤ 8 * done.scraps) }
-    ensures named { IfOk result (λ done. IsNamedBelow (length work.new.names.now) (unfolded work.new.store.now.lists
-        done.list.index)) }
-    ensures root { IfOk result (λ done. AreRoots work.new.store.now.lists (done.list.index ∷ [])) }
-    ensures keeps { IfOk result (λ done. Keeps work.old.store.now.lists work.new.store.now.lists
-        (leaf.list.index ∷ []) (done.list.index ∷ [])) }
-    ensures refused { OnErr result (NamesOnTheWay context.now.flags.now (with_texts (texts_in context.now)
-        (answers_in next.now ++ reader.old.coming)) (progress_over work.old (of_leaf leaf)) work.new.names.now) }
-    ensures bound { work.new.steps.now ≤ work.old.steps.now + limit_in context.now.flags.now
-        (all_ended context.now.flags.now (after_answers context.now.flags.now (with_texts (texts_in context.now)
-        (answers_in next.now ++ reader.old.coming)) (progress_over work.old (of_leaf leaf)))).known.ended }
-    ensures same { IsSameWork work.old work.new }
-    ensures idle { work.new.store.now.building ≡ None }
+    ensures text { EndsIn (to_end context.now.flags.now (with_texts (texts_in context.now) (answers_in next.now ++
+        reader.old.coming)) (progress_over work.old (of_leaf leaf))) (of_leaf leaf) work.old work.new result }
 {
     let mut translator = with_leaf(leaf, context.alloc)?;
     read_behind(&mut translator, &headless(*next), reader, context, work)?;
     translator.end(context, work)
 }
 
-/// Translates a text that begins with this scrap.
+/// EndsIn a text that begins with this scrap.
 #[inline(always)]
 fn translate_rest<L: Ledger>(
     leaf: Leaf,
@@ -153,23 +118,8 @@ fn translate_rest<L: Ledger>(
     requires start { StartsBelow (2 ^ 32) reader.old.coming }
     requires kept { AreNamesOf context.now.sec_names.now context.now.uses.now }
     ensures read { OnOk result (IsReadUp reader.old reader.new) }
-    ensures text { IfOk result (λ done. IsTranslated context.now.flags.now work.new.store.now.lists work.new.names.now
-        work.new.marks.now done work.old.steps.now work.new.steps.now (all_ended context.now.flags.now
-        (after_answers context.now.flags.now (with_texts (texts_in context.now) reader.old.coming)
-        (progress_over work.old (of_leaf leaf))))) }
-    ensures few { IfOk result (λ done. done.productions ≤ 8 * done.scraps) }
-    ensures named { IfOk result (λ done. IsNamedBelow (length work.new.names.now) (unfolded work.new.store.now.lists
-        done.list.index)) }
-    ensures root { IfOk result (λ done. AreRoots work.new.store.now.lists (done.list.index ∷ [])) }
-    ensures keeps { IfOk result (λ done. Keeps work.old.store.now.lists work.new.store.now.lists
-        (leaf.list.index ∷ []) (done.list.index ∷ [])) }
-    ensures refused { OnErr result (NamesOnTheWay context.now.flags.now (with_texts (texts_in context.now)
-        reader.old.coming) (progress_over work.old (of_leaf leaf)) work.new.names.now) }
-    ensures bound { work.new.steps.now ≤ work.old.steps.now + limit_in context.now.flags.now
-        (all_ended context.now.flags.now (after_answers context.now.flags.now (with_texts (texts_in context.now)
-        reader.old.coming) (progress_over work.old (of_leaf leaf)))).known.ended }
-    ensures same { IsSameWork work.old work.new }
-    ensures idle { work.new.store.now.building ≡ None }
+    ensures text { EndsIn (to_end context.now.flags.now (with_texts (texts_in context.now) reader.old.coming)
+        (progress_over work.old (of_leaf leaf))) (of_leaf leaf) work.old work.new result }
 {
     let next = reader.next();
     if is_end(&next) && stays_alone(leaf.cat) {
@@ -178,7 +128,7 @@ fn translate_rest<L: Ledger>(
     translate_on(leaf, &next, reader, context, work)
 }
 
-/// Translates a text that begins with a token which makes a scrap.
+/// EndsIn a text that begins with a token which makes a scrap.
 pub(crate) fn translate_from<L: Ledger>(
     token: &Tok,
     reader: &mut Reader,
@@ -190,25 +140,9 @@ pub(crate) fn translate_from<L: Ledger>(
     requires start { StartsBelow (2 ^ 32) (TokenAnswer (seen token.now) ∷ reader.old.coming) }
     requires kept { AreNamesOf context.now.sec_names.now context.now.uses.now }
     requires idle { work.old.store.now.building ≡ None }
-    ensures text { IfOk result (λ done. IsTranslated context.now.flags.now work.new.store.now.lists work.new.names.now
-        work.new.marks.now done work.old.steps.now work.new.steps.now (translated context.now.flags.now
-        (texts_in context.now) (TokenAnswer (seen token.now) ∷ reader.old.coming) work.old.names.now
-        (marked_names work.old.marks.now))) }
     ensures read { OnOk result (IsReadUp reader.old reader.new) }
-    ensures few { IfOk result (λ done. done.productions ≤ 8 * done.scraps) }
-    ensures bound { work.new.steps.now ≤ work.old.steps.now + limit_in context.now.flags.now
-        (translated context.now.flags.now (texts_in context.now) (TokenAnswer (seen token.now) ∷ reader.old.coming)
-        work.old.names.now (marked_names work.old.marks.now)).known.ended }
-    ensures root { IfOk result (λ done. AreRoots work.new.store.now.lists (done.list.index ∷ [])) }
-    ensures named { IfOk result (λ done. IsNamedBelow (length work.new.names.now) (unfolded work.new.store.now.lists
-        done.list.index)) }
-    ensures others { IfOk result (λ done. Keeps work.old.store.now.lists work.new.store.now.lists []
-        (done.list.index ∷ [])) }
-    ensures refused { OnErr result (NamesOfText context.now.flags.now (texts_in context.now)
-        (TokenAnswer (seen token.now) ∷ reader.old.coming) work.old.names.now (marked_names work.old.marks.now)
-        work.new.names.now) }
-    ensures same { IsSameWork work.old work.new }
-    ensures idle { work.new.store.now.building ≡ None }
+    ensures text { EndsIn (to_translation context.now.flags.now (texts_in context.now) (TokenAnswer (seen token.now) ∷
+        reader.old.coming) work.old.names.now (marked_names work.old.marks.now)) of_nothing work.old work.new result }
 {
     work.store.tied_law();
     let leaf = scrap_of(token, work.names, work.store)?;

@@ -1,26 +1,19 @@
 //! A text behind its head, where the head is read.
-ghost use Rattle.std.specs.Prelude.{◌≡◌, ◌≢◌, ◌≤◌, ◌+◌, ◌*◌, ◌^◌, [], ◌∷◌, ◌++◌, length, IfOk, OnOk, OnErr, None};
+ghost use Rattle.std.specs.Prelude.{◌≡◌, ◌≢◌, ◌^◌, ◌++◌, IfOk, OnOk, None};
 ghost use Rattle.cw_base.specs.declared.category.Cat.TheVariants as Cats;
 ghost use Rattle.cw_rules.specs.Answers.{Gives};
 ghost use Rattle.cw_lex.specs.Nested.{IsNested};
-ghost use Rattle.cw_tokens.specs.Shapes.{unfolded};
-ghost use Rattle.cw_scraps.specs.Changing.{Keeps};
-ghost use Rattle.cw_scraps.specs.Lines.{AreRoots, IsNamedBelow, IsSoundLine, roots_of};
+ghost use Rattle.cw_scraps.specs.Lines.{IsSoundLine};
 ghost use Rattle.cw_scraps.specs.Marking.{marked_names};
 ghost use Rattle.cw_answers.specs.Reading.{IsReadUp};
-ghost use Rattle.cw_translator.specs.declared.nesting.Open.TheVariants as Opens;
-ghost use Rattle.cw_translator.specs.Counting.{limit_in};
 ghost use Rattle.cw_translator.specs.declared.holders.Holder.TheVariants as Holders;
 ghost use Rattle.cw_reduce.specs.HeadReading.{answers_ahead, head_line, name_ahead, without_notes};
-ghost use Rattle.cw_reduce.specs.Heading.{NamesOfHead, NamesOfHeaded, NamesOfHeld, after_head, after_held, head_begun};
-ghost use Rattle.cw_reduce.specs.Heading.{NamesOfText, headed_text};
+ghost use Rattle.cw_reduce.specs.Heading.{of_head, over_head, over_headed, over_held, to_headed, to_translation};
 ghost use Rattle.cw_translator.specs.NameParts.{AreNamesOf};
 ghost use Rattle.cw_reduce.specs.Naming.{with_texts};
-ghost use Rattle.cw_translator.specs.Opening.{IsTranslated, IsTranslating, StartsBelow, all_roots, answers_in, of_leaf};
-ghost use Rattle.cw_translator.specs.Reading.{after_answers};
-ghost use Rattle.cw_translator.specs.Retyping.{NamesAmong};
-ghost use Rattle.cw_translator.specs.Translating.{begin, translated};
-ghost use Rattle.cw_translator.specs.Working.{HasComeOver, IsSameWork, progress_over, texts_in};
+ghost use Rattle.cw_translator.specs.Opening.{IsTranslating, StartsBelow, answers_in, of_leaf, of_nothing};
+ghost use Rattle.cw_translator.specs.Translating.{begin};
+ghost use Rattle.cw_translator.specs.Working.{Advances, EndsIn, over, progress_over, texts_in};
 
 use crate::heads::{Beginning, HeadRead, read_head};
 use crate::naming::{kept_name, named_answer, read_named};
@@ -50,11 +43,7 @@ fn line_of(head: HeadRead, alloc: Global) -> Result<ScrapLine, Memory>
 
 /// Nothing is counted yet, and the text begins with the scrap of this head, where the head has one.
 fn with_head(head: HeadRead, alloc: Global) -> Result<Translator, Memory>
-    ensures { IfOk result (λ t. t ≡ record {
-      nesting = Opens.CText (head_line head) ∷ [];
-      scraps = 0;
-      productions = 0;
-    }) }
+    ensures { IfOk result (λ t. t ≡ of_head head) }
 {
     let line = line_of(head, alloc)?;
     Ok(Translator::over(line, alloc))
@@ -80,19 +69,8 @@ fn name_with_sign<L: Ledger>(
 ) -> Result<(), Memory>
     requires kept { AreNamesOf context.now.sec_names.now context.now.uses.now }
     requires translating { IsTranslating work.old.store.now work.old.names.now translator.old }
-    ensures translating { OnOk result (IsTranslating work.new.store.now work.new.names.now translator.new) }
-    ensures come { OnOk result (HasComeOver context.now.flags.now translator.old work.old translator.new work.new
-        (after_held context.now.flags.now (texts_in context.now number) (Holders.Head number sign)
-        (progress_over work.old translator.old))) }
-    ensures keeps { OnOk result (Keeps work.old.store.now.lists work.new.store.now.lists
-        (all_roots translator.old.nesting) (all_roots translator.new.nesting)) }
-    ensures names { OnErr result (NamesOfHeld context.now.flags.now (texts_in context.now number)
-        (Holders.Head number sign) (progress_over work.old translator.old) work.new.names.now) }
-    ensures bound { work.new.steps.now ≤ work.old.steps.now +
-        limit_in context.now.flags.now (after_held context.now.flags.now (texts_in context.now number)
-        (Holders.Head number sign) (progress_over work.old translator.old)).known.ended }
-    ensures same { IsSameWork work.old work.new }
-    ensures idle { work.new.store.now.building ≡ None }
+    ensures { Advances (over_held context.now.flags.now (texts_in context.now number) (Holders.Head number sign)
+        (progress_over work.old translator.old)) translator.old work.old translator.new work.new result }
 {
     match context.uses.at(number) {
         None => Ok(()),
@@ -120,18 +98,8 @@ fn head_name<L: Ledger>(
 ) -> Result<(), Memory>
     requires kept { AreNamesOf context.now.sec_names.now context.now.uses.now }
     requires translating { IsTranslating work.old.store.now work.old.names.now translator.old }
-    ensures translating { OnOk result (IsTranslating work.new.store.now work.new.names.now translator.new) }
-    ensures come { OnOk result (HasComeOver context.now.flags.now translator.old work.old translator.new work.new
-        (after_head context.now.flags.now (texts_in context.now) head (progress_over work.old translator.old))) }
-    ensures keeps { OnOk result (Keeps work.old.store.now.lists work.new.store.now.lists
-        (all_roots translator.old.nesting) (all_roots translator.new.nesting)) }
-    ensures names { OnErr result (NamesOfHead context.now.flags.now (texts_in context.now) head
-        (progress_over work.old translator.old) work.new.names.now) }
-    ensures bound { work.new.steps.now ≤ work.old.steps.now +
-        limit_in context.now.flags.now (after_head context.now.flags.now (texts_in context.now) head
-        (progress_over work.old translator.old)).known.ended }
-    ensures same { IsSameWork work.old work.new }
-    ensures idle { work.new.store.now.building ≡ None }
+    ensures { Advances (over_head context.now.flags.now (texts_in context.now) head (progress_over work.old
+        translator.old)) translator.old work.old translator.new work.new result }
 {
     match head {
         HeadRead::Named(number, sign) => name_with_sign(translator, number, sign, context, work),
@@ -149,19 +117,8 @@ fn name_ahead<L: Ledger>(
     requires start { StartsBelow (2 ^ 32) (name_ahead begun.now.name) }
     requires kept { AreNamesOf context.now.sec_names.now context.now.uses.now }
     requires translating { IsTranslating work.old.store.now work.old.names.now translator.old }
-    ensures translating { OnOk result (IsTranslating work.new.store.now work.new.names.now translator.new) }
-    ensures come { OnOk result (HasComeOver context.now.flags.now translator.old work.old translator.new work.new
-        (after_answers context.now.flags.now (with_texts (texts_in context.now) (name_ahead begun.now.name))
-        (progress_over work.old translator.old))) }
-    ensures keeps { OnOk result (Keeps work.old.store.now.lists work.new.store.now.lists
-        (all_roots translator.old.nesting) (all_roots translator.new.nesting)) }
-    ensures names { OnErr result (NamesAmong context.now.flags.now (with_texts (texts_in context.now)
-        (name_ahead begun.now.name)) (progress_over work.old translator.old) work.new.names.now) }
-    ensures bound { work.new.steps.now ≤ work.old.steps.now +
-        limit_in context.now.flags.now (after_answers context.now.flags.now (with_texts (texts_in context.now)
-        (name_ahead begun.now.name)) (progress_over work.old translator.old)).known.ended }
-    ensures same { IsSameWork work.old work.new }
-    ensures idle { work.new.store.now.building ≡ None }
+    ensures { Advances (over context.now.flags.now (with_texts (texts_in context.now) (name_ahead begun.now.name))
+        (progress_over work.old translator.old)) translator.old work.old translator.new work.new result }
 {
     match begun.name {
         None => Ok(()),
@@ -181,19 +138,9 @@ pub(crate) fn read_behind<L: Ledger>(
     requires kept { AreNamesOf context.now.sec_names.now context.now.uses.now }
     requires translating { IsTranslating work.old.store.now work.old.names.now translator.old }
     ensures read { OnOk result (IsReadUp reader.old reader.new) }
-    ensures translating { OnOk result (IsTranslating work.new.store.now work.new.names.now translator.new) }
-    ensures come { OnOk result (HasComeOver context.now.flags.now translator.old work.old translator.new work.new
-        (after_answers context.now.flags.now (with_texts (texts_in context.now) (answers_ahead begun.now ++
-        reader.old.coming)) (progress_over work.old translator.old))) }
-    ensures keeps { OnOk result (Keeps work.old.store.now.lists work.new.store.now.lists
-        (all_roots translator.old.nesting) (all_roots translator.new.nesting)) }
-    ensures names { OnErr result (NamesAmong context.now.flags.now (with_texts (texts_in context.now)
-        (answers_ahead begun.now ++ reader.old.coming)) (progress_over work.old translator.old) work.new.names.now) }
-    ensures bound { work.new.steps.now ≤ work.old.steps.now +
-        limit_in context.now.flags.now (after_answers context.now.flags.now (with_texts (texts_in context.now)
-        (answers_ahead begun.now ++ reader.old.coming)) (progress_over work.old translator.old)).known.ended }
-    ensures same { IsSameWork work.old work.new }
-    ensures idle { work.new.store.now.building ≡ None }
+    ensures reads { Advances (over context.now.flags.now (with_texts (texts_in context.now) (answers_ahead begun.now ++
+        reader.old.coming)) (progress_over work.old translator.old)) translator.old work.old translator.new work.new
+        result }
 {
     name_ahead(translator, begun, context, work)?;
     named_answer(translator, &begun.next, context, work)?;
@@ -212,27 +159,15 @@ fn read_headed<L: Ledger>(
     requires kept { AreNamesOf context.now.sec_names.now context.now.uses.now }
     requires translating { IsTranslating work.old.store.now work.old.names.now translator.old }
     ensures read { OnOk result (IsReadUp reader.old reader.new) }
-    ensures translating { OnOk result (IsTranslating work.new.store.now work.new.names.now translator.new) }
-    ensures come { OnOk result (HasComeOver context.now.flags.now translator.old work.old translator.new work.new
-        (after_answers context.now.flags.now (with_texts (texts_in context.now) (answers_ahead begun.now ++
-        reader.old.coming)) (after_head context.now.flags.now (texts_in context.now) begun.now.head
-        (progress_over work.old translator.old)))) }
-    ensures keeps { OnOk result (Keeps work.old.store.now.lists work.new.store.now.lists
-        (all_roots translator.old.nesting) (all_roots translator.new.nesting)) }
-    ensures names { OnErr result (NamesOfHeaded context.now.flags.now (texts_in context.now) begun.now.head
-        (answers_ahead begun.now ++ reader.old.coming) (progress_over work.old translator.old) work.new.names.now) }
-    ensures bound { work.new.steps.now ≤ work.old.steps.now +
-        limit_in context.now.flags.now (after_answers context.now.flags.now (with_texts (texts_in context.now)
-        (answers_ahead begun.now ++ reader.old.coming)) (after_head context.now.flags.now (texts_in context.now)
-        begun.now.head (progress_over work.old translator.old))).known.ended }
-    ensures same { IsSameWork work.old work.new }
-    ensures idle { work.new.store.now.building ≡ None }
+    ensures reads { Advances (over_headed context.now.flags.now (texts_in context.now) begun.now.head (answers_ahead
+        begun.now ++ reader.old.coming) (progress_over work.old translator.old)) translator.old work.old translator.new
+        work.new result }
 {
     head_name(translator, begun.head, context, work)?;
     read_behind(translator, begun, reader, context, work)
 }
 
-/// Translates a text that begins with this head.
+/// EndsIn a text that begins with this head.
 pub(crate) fn translate_headed<L: Ledger>(
     begun: &Beginning,
     reader: &mut Reader,
@@ -244,32 +179,16 @@ pub(crate) fn translate_headed<L: Ledger>(
     requires nested { IsNested (answers_ahead begun.now ++ reader.old.coming) }
     requires kept { AreNamesOf context.now.sec_names.now context.now.uses.now }
     ensures read { OnOk result (IsReadUp reader.old reader.new) }
-    ensures text { IfOk result (λ done. IsTranslated context.now.flags.now work.new.store.now.lists work.new.names.now
-        work.new.marks.now done work.old.steps.now work.new.steps.now (headed_text context.now.flags.now
-        (texts_in context.now) work.old.store.now.lists begun.now.head (answers_ahead begun.now ++ reader.old.coming)
-        (begin work.old.names.now (marked_names work.old.marks.now)))) }
-    ensures few { IfOk result (λ done. done.productions ≤ 8 * done.scraps) }
-    ensures named { IfOk result (λ done. IsNamedBelow (length work.new.names.now) (unfolded work.new.store.now.lists
-        done.list.index)) }
-    ensures root { IfOk result (λ done. AreRoots work.new.store.now.lists (done.list.index ∷ [])) }
-    ensures keeps { IfOk result (λ done. Keeps work.old.store.now.lists work.new.store.now.lists
-        (roots_of (head_line begun.now.head)) (done.list.index ∷ [])) }
-    ensures refused { OnErr result (NamesOfHeaded context.now.flags.now (texts_in context.now) begun.now.head
-        (answers_ahead begun.now ++ reader.old.coming) (head_begun work.old.store.now.lists begun.now.head
-        (begin work.old.names.now (marked_names work.old.marks.now))) work.new.names.now) }
-    ensures bound { work.new.steps.now ≤ work.old.steps.now +
-        limit_in context.now.flags.now (headed_text context.now.flags.now (texts_in context.now)
-        work.old.store.now.lists begun.now.head (answers_ahead begun.now ++ reader.old.coming)
-        (begin work.old.names.now (marked_names work.old.marks.now))).known.ended }
-    ensures same { IsSameWork work.old work.new }
-    ensures idle { work.new.store.now.building ≡ None }
+    ensures text { EndsIn (to_headed context.now.flags.now (texts_in context.now) work.old.store.now.lists
+        begun.now.head (answers_ahead begun.now ++ reader.old.coming) (begin work.old.names.now
+        (marked_names work.old.marks.now))) (of_head begun.now.head) work.old work.new result }
 {
     let mut translator = with_head(begun.head, context.alloc)?;
     read_headed(&mut translator, begun, reader, context, work)?;
     translator.end(context, work)
 }
 
-/// Translates a text that has this first answer, with its head.
+/// EndsIn a text that has this first answer, with its head.
 #[inline(never)]
 pub(crate) fn translate_with_head<'a, L: Ledger>(
     first: Lexed<'a>,
@@ -282,25 +201,9 @@ pub(crate) fn translate_with_head<'a, L: Ledger>(
     requires start { StartsBelow (2 ^ 32) (answers_in first ++ reader.old.coming) }
     requires kept { AreNamesOf context.now.sec_names.now context.now.uses.now }
     requires idle { work.old.store.now.building ≡ None }
-    ensures text { IfOk result (λ done. IsTranslated context.now.flags.now work.new.store.now.lists work.new.names.now
-        work.new.marks.now done work.old.steps.now work.new.steps.now (translated context.now.flags.now
-        (texts_in context.now) (answers_in first.entry ++ reader.old.coming) work.old.names.now
-        (marked_names work.old.marks.now))) }
     ensures read { OnOk result (IsReadUp reader.old reader.new) }
-    ensures few { IfOk result (λ done. done.productions ≤ 8 * done.scraps) }
-    ensures bound { work.new.steps.now ≤ work.old.steps.now + limit_in context.now.flags.now
-        (translated context.now.flags.now (texts_in context.now) (answers_in first.entry ++ reader.old.coming)
-        work.old.names.now (marked_names work.old.marks.now)).known.ended }
-    ensures root { IfOk result (λ done. AreRoots work.new.store.now.lists (done.list.index ∷ [])) }
-    ensures named { IfOk result (λ done. IsNamedBelow (length work.new.names.now) (unfolded work.new.store.now.lists
-        done.list.index)) }
-    ensures others { IfOk result (λ done. Keeps work.old.store.now.lists work.new.store.now.lists []
-        (done.list.index ∷ [])) }
-    ensures refused { OnErr result (NamesOfText context.now.flags.now (texts_in context.now)
-        (answers_in first.entry ++ reader.old.coming) work.old.names.now (marked_names work.old.marks.now)
-        work.new.names.now) }
-    ensures same { IsSameWork work.old work.new }
-    ensures idle { work.new.store.now.building ≡ None }
+    ensures text { EndsIn (to_translation context.now.flags.now (texts_in context.now) (answers_in first.entry ++
+        reader.old.coming) work.old.names.now (marked_names work.old.marks.now)) of_nothing work.old work.new result }
 {
     let begun = read_head(first, reader, context.alloc, work.names, work.store)?;
     translate_headed(&begun, reader, context, work)

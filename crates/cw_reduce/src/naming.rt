@@ -1,20 +1,17 @@
 //! Section names in a text: what a name stands for is translated where the name stands.
-ghost use Rattle.std.specs.Prelude.{◌≡◌, ◌≤◌, ◌<◌, ◌+◌, ◌^◌, All, length, true, OnOk, OnErr, None};
+ghost use Rattle.std.specs.Prelude.{◌≡◌, ◌≤◌, ◌<◌, ◌^◌, length, true, OnOk};
 ghost use Rattle.cw_rules.specs.Answers.{seen};
 ghost use Rattle.cw_rules.specs.declared.tokens.Mode.TheVariants.{Inner};
 ghost use Rattle.cw_lex.specs.Limbo.{is_name_kind};
 ghost use Rattle.cw_lex.specs.Lexing.{tokens_of};
 ghost use Rattle.cw_lex.specs.Nested.{until_section};
-ghost use Rattle.cw_scraps.specs.Changing.{Keeps};
 ghost use Rattle.cw_answers.specs.Reading.{IsReadUp};
-ghost use Rattle.cw_translator.specs.Counting.{limit_in};
 ghost use Rattle.cw_translator.specs.NameParts.{AreNamesOf, parts_by_kind, parts_of_name};
 ghost use Rattle.cw_reduce.specs.Naming.{held_answers, is_name_answer, text_answers, texts_answers};
 ghost use Rattle.cw_reduce.specs.Naming.{token_answers, with_texts};
-ghost use Rattle.cw_translator.specs.Opening.{IsTranslating, StartsBelow, all_roots, answers_in};
-ghost use Rattle.cw_translator.specs.Reading.{after_answers, with_held};
-ghost use Rattle.cw_translator.specs.Retyping.{NamesAmong};
-ghost use Rattle.cw_translator.specs.Working.{HasComeOver, IsSameWork, progress_over, texts_in};
+ghost use Rattle.cw_translator.specs.Opening.{IsTranslating, StartsBelow, answers_in};
+ghost use Rattle.cw_translator.specs.Reading.{with_held};
+ghost use Rattle.cw_translator.specs.Working.{Advances, over, progress_over, texts_in};
 
 use crate::uncut::ends_text;
 use cw_answers::Reader;
@@ -45,18 +42,8 @@ fn read_until_section<L: Ledger>(
 ) -> Result<(), Memory>
     requires translating { IsTranslating work.old.store.now work.old.names.now translator.old }
     requires start { StartsBelow (2 ^ 32) lexer.old }
-    ensures translating { OnOk result (IsTranslating work.new.store.now work.new.names.now translator.new) }
-    ensures come { OnOk result (HasComeOver context.now.flags.now translator.old work.old translator.new work.new
-        (after_answers context.now.flags.now (until_section lexer.old) (progress_over work.old translator.old))) }
-    ensures keeps { OnOk result (Keeps work.old.store.now.lists work.new.store.now.lists
-        (all_roots translator.old.nesting) (all_roots translator.new.nesting)) }
-    ensures names { OnErr result (NamesAmong context.now.flags.now (until_section lexer.old)
-        (progress_over work.old translator.old) work.new.names.now) }
-    ensures bound { work.new.steps.now ≤ work.old.steps.now +
-        limit_in context.now.flags.now (after_answers context.now.flags.now (until_section lexer.old)
-        (progress_over work.old translator.old)).known.ended }
-    ensures same { IsSameWork work.old work.new }
-    ensures idle { work.new.store.now.building ≡ None }
+    ensures { Advances (over context.now.flags.now (until_section lexer.old) (progress_over work.old translator.old))
+        translator.old work.old translator.new work.new result }
 {
     loop {
         let answer = lexer.next();
@@ -79,32 +66,13 @@ fn inner_text<L: Ledger>(
     requires within { span.end ≤ length text.now }
     requires short { length text.now ≤ 2 ^ 24 }
     requires translating { IsTranslating work.old.store.now work.old.names.now translator.old }
-    ensures translating { OnOk result (IsTranslating work.new.store.now work.new.names.now translator.new) }
-    ensures come { OnOk result (HasComeOver context.now.flags.now translator.old work.old translator.new work.new
-        (after_answers context.now.flags.now (text_answers
-        (until_section (tokens_of text.now span.start span.end Inner))) (progress_over work.old translator.old))) }
-    ensures keeps { OnOk result (Keeps work.old.store.now.lists work.new.store.now.lists
-        (all_roots translator.old.nesting) (all_roots translator.new.nesting)) }
-    ensures names { OnErr result (NamesAmong context.now.flags.now
-        (text_answers (until_section (tokens_of text.now span.start span.end Inner)))
-        (progress_over work.old translator.old) work.new.names.now) }
-    ensures bound { work.new.steps.now ≤ work.old.steps.now +
-        limit_in context.now.flags.now (after_answers context.now.flags.now
-        (text_answers (until_section (tokens_of text.now span.start span.end Inner)))
-        (progress_over work.old translator.old)).known.ended }
-    ensures same { IsSameWork work.old work.new }
-    ensures idle { work.new.store.now.building ≡ None }
+    ensures { Advances (over context.now.flags.now (text_answers (until_section (tokens_of text.now span.start span.end
+        Inner))) (progress_over work.old translator.old)) translator.old work.old translator.new work.new result }
 {
     translator.open_text(context.alloc)?;
     let mut lexer = Lexer::over(text, span.start, span.end, Mode::Inner);
     read_until_section(translator, &mut lexer, context, work)?;
-    translator.finish(
-        context.flags,
-        work.names,
-        work.store,
-        work.marks,
-        work.steps,
-    )
+    translator.finish(context, work)
 }
 
 /// The inner texts of a section name, one after another.
@@ -116,19 +84,8 @@ fn inner_texts<L: Ledger>(
 ) -> Result<(), Memory>
     requires short { length text.now ≤ 2 ^ 24 }
     requires translating { IsTranslating work.old.store.now work.old.names.now translator.old }
-    ensures translating { OnOk result (IsTranslating work.new.store.now work.new.names.now translator.new) }
-    ensures come { OnOk result (HasComeOver context.now.flags.now translator.old work.old translator.new work.new
-        (after_answers context.now.flags.now (texts_answers (parts_of_name text.now))
-        (progress_over work.old translator.old))) }
-    ensures keeps { OnOk result (Keeps work.old.store.now.lists work.new.store.now.lists
-        (all_roots translator.old.nesting) (all_roots translator.new.nesting)) }
-    ensures names { OnErr result (NamesAmong context.now.flags.now (texts_answers (parts_of_name text.now))
-        (progress_over work.old translator.old) work.new.names.now) }
-    ensures bound { work.new.steps.now ≤ work.old.steps.now +
-        limit_in context.now.flags.now (after_answers context.now.flags.now (texts_answers (parts_of_name text.now))
-        (progress_over work.old translator.old)).known.ended }
-    ensures same { IsSameWork work.old work.new }
-    ensures idle { work.new.store.now.building ≡ None }
+    ensures { Advances (over context.now.flags.now (texts_answers (parts_of_name text.now)) (progress_over work.old
+        translator.old)) translator.old work.old translator.new work.new result }
 {
     let mut from = 0;
     loop {
@@ -152,19 +109,8 @@ fn texts_by_kind<L: Ledger>(
 ) -> Result<(), Memory>
     requires short { length text.now ≤ 2 ^ 24 }
     requires translating { IsTranslating work.old.store.now work.old.names.now translator.old }
-    ensures translating { OnOk result (IsTranslating work.new.store.now work.new.names.now translator.new) }
-    ensures come { OnOk result (HasComeOver context.now.flags.now translator.old work.old translator.new work.new
-        (after_answers context.now.flags.now (texts_answers (parts_by_kind kind text.now))
-        (progress_over work.old translator.old))) }
-    ensures keeps { OnOk result (Keeps work.old.store.now.lists work.new.store.now.lists
-        (all_roots translator.old.nesting) (all_roots translator.new.nesting)) }
-    ensures names { OnErr result (NamesAmong context.now.flags.now (texts_answers (parts_by_kind kind text.now))
-        (progress_over work.old translator.old) work.new.names.now) }
-    ensures bound { work.new.steps.now ≤ work.old.steps.now +
-        limit_in context.now.flags.now (after_answers context.now.flags.now
-        (texts_answers (parts_by_kind kind text.now)) (progress_over work.old translator.old)).known.ended }
-    ensures same { IsSameWork work.old work.new }
-    ensures idle { work.new.store.now.building ≡ None }
+    ensures { Advances (over context.now.flags.now (texts_answers (parts_by_kind kind text.now)) (progress_over work.old
+        translator.old)) translator.old work.old translator.new work.new result }
 {
     match kind {
         SecKind::Named => inner_texts(translator, text, context, work),
@@ -183,30 +129,12 @@ pub(crate) fn kept_name<L: Ledger>(
 ) -> Result<(), Memory>
     requires short { length text.now ≤ 2 ^ 24 }
     requires translating { IsTranslating work.old.store.now work.old.names.now translator.old }
-    ensures translating { OnOk result (IsTranslating work.new.store.now work.new.names.now translator.new) }
-    ensures come { OnOk result (HasComeOver context.now.flags.now translator.old work.old translator.new work.new
-        (after_answers context.now.flags.now (held_answers (parts_by_kind kind text.now))
-        (with_held holder (progress_over work.old translator.old)))) }
-    ensures keeps { OnOk result (Keeps work.old.store.now.lists work.new.store.now.lists
-        (all_roots translator.old.nesting) (all_roots translator.new.nesting)) }
-    ensures names { OnErr result (NamesAmong context.now.flags.now (held_answers (parts_by_kind kind text.now))
-        (with_held holder (progress_over work.old translator.old)) work.new.names.now) }
-    ensures bound { work.new.steps.now ≤ work.old.steps.now +
-        limit_in context.now.flags.now (after_answers context.now.flags.now
-        (held_answers (parts_by_kind kind text.now)) (with_held holder
-        (progress_over work.old translator.old))).known.ended }
-    ensures same { IsSameWork work.old work.new }
-    ensures idle { work.new.store.now.building ≡ None }
+    ensures { Advances (over context.now.flags.now (held_answers (parts_by_kind kind text.now)) (with_held holder
+        (progress_over work.old translator.old))) translator.old work.old translator.new work.new result }
 {
     translator.hold(holder, context.alloc)?;
     texts_by_kind(translator, kind, text, context, work)?;
-    translator.finish(
-        context.flags,
-        work.names,
-        work.store,
-        work.marks,
-        work.steps,
-    )
+    translator.finish(context, work)
 }
 
 /// A section name in C text. Without a pair it stands for nothing.
@@ -220,19 +148,8 @@ fn section_name<L: Ledger>(
     requires start { token.now.span.start < 2 ^ 32 }
     requires kept { AreNamesOf context.now.sec_names.now context.now.uses.now }
     requires translating { IsTranslating work.old.store.now work.old.names.now translator.old }
-    ensures translating { OnOk result (IsTranslating work.new.store.now work.new.names.now translator.new) }
-    ensures come { OnOk result (HasComeOver context.now.flags.now translator.old work.old translator.new work.new
-        (after_answers context.now.flags.now (token_answers (texts_in context.now) token.now.kind (seen token.now))
-        (progress_over work.old translator.old))) }
-    ensures keeps { OnOk result (Keeps work.old.store.now.lists work.new.store.now.lists
-        (all_roots translator.old.nesting) (all_roots translator.new.nesting)) }
-    ensures names { OnErr result (NamesAmong context.now.flags.now (token_answers (texts_in context.now)
-        token.now.kind (seen token.now)) (progress_over work.old translator.old) work.new.names.now) }
-    ensures bound { work.new.steps.now ≤ work.old.steps.now +
-        limit_in context.now.flags.now (after_answers context.now.flags.now (token_answers (texts_in context.now)
-        token.now.kind (seen token.now)) (progress_over work.old translator.old)).known.ended }
-    ensures same { IsSameWork work.old work.new }
-    ensures idle { work.new.store.now.building ≡ None }
+    ensures { Advances (over context.now.flags.now (token_answers (texts_in context.now) token.now.kind (seen token.now))
+        (progress_over work.old translator.old)) translator.old work.old translator.new work.new result }
 {
     let number = token.span.start as u32;
     match context.uses.at(number) {
@@ -256,19 +173,8 @@ pub(crate) fn named_answer<L: Ledger>(
     requires start { StartsBelow (2 ^ 32) (answers_in answer.now) }
     requires kept { AreNamesOf context.now.sec_names.now context.now.uses.now }
     requires translating { IsTranslating work.old.store.now work.old.names.now translator.old }
-    ensures translating { OnOk result (IsTranslating work.new.store.now work.new.names.now translator.new) }
-    ensures come { OnOk result (HasComeOver context.now.flags.now translator.old work.old translator.new work.new
-        (after_answers context.now.flags.now (with_texts (texts_in context.now) (answers_in answer.now))
-        (progress_over work.old translator.old))) }
-    ensures keeps { OnOk result (Keeps work.old.store.now.lists work.new.store.now.lists
-        (all_roots translator.old.nesting) (all_roots translator.new.nesting)) }
-    ensures names { OnErr result (NamesAmong context.now.flags.now (with_texts (texts_in context.now)
-        (answers_in answer.now)) (progress_over work.old translator.old) work.new.names.now) }
-    ensures bound { work.new.steps.now ≤ work.old.steps.now +
-        limit_in context.now.flags.now (after_answers context.now.flags.now (with_texts (texts_in context.now)
-        (answers_in answer.now)) (progress_over work.old translator.old)).known.ended }
-    ensures same { IsSameWork work.old work.new }
-    ensures idle { work.new.store.now.building ≡ None }
+    ensures { Advances (over context.now.flags.now (with_texts (texts_in context.now) (answers_in answer.now))
+        (progress_over work.old translator.old)) translator.old work.old translator.new work.new result }
 {
     if !is_name(answer) {
         return translator.answer(answer, context, work);
@@ -290,20 +196,8 @@ pub(crate) fn read_named<L: Ledger>(
     requires kept { AreNamesOf context.now.sec_names.now context.now.uses.now }
     requires translating { IsTranslating work.old.store.now work.old.names.now translator.old }
     ensures read { OnOk result (IsReadUp reader.old reader.new) }
-    ensures translating { OnOk result (IsTranslating work.new.store.now work.new.names.now translator.new) }
-    ensures come { OnOk result (HasComeOver context.now.flags.now translator.old work.old translator.new work.new
-        (after_answers context.now.flags.now (with_texts (texts_in context.now) reader.old.coming)
-        (progress_over work.old translator.old))) }
-    ensures keeps { OnOk result (Keeps work.old.store.now.lists work.new.store.now.lists
-        (all_roots translator.old.nesting) (all_roots translator.new.nesting)) }
-    ensures names { OnErr result (NamesAmong context.now.flags.now
-        (with_texts (texts_in context.now) reader.old.coming) (progress_over work.old translator.old)
-        work.new.names.now) }
-    ensures bound { work.new.steps.now ≤ work.old.steps.now +
-        limit_in context.now.flags.now (after_answers context.now.flags.now (with_texts (texts_in context.now)
-        reader.old.coming) (progress_over work.old translator.old)).known.ended }
-    ensures same { IsSameWork work.old work.new }
-    ensures idle { work.new.store.now.building ≡ None }
+    ensures reads { Advances (over context.now.flags.now (with_texts (texts_in context.now) reader.old.coming)
+        (progress_over work.old translator.old)) translator.old work.old translator.new work.new result }
 {
     loop {
         let answer = reader.next();

@@ -36,6 +36,7 @@ use Rattle.cw_translator.specs.declared.holders.Holder.{Holder}
 use Rattle.cw_translator.specs.Holders.{held_cat, held_leaf, held_mode, held_scrap, held_tree}
 use Rattle.cw_rewrite.specs.Gathering.{Gathers}
 use Rattle.cw_translator.specs.Commenting.{part_seen, inner_lists}
+use Rattle.cw_translator.specs.LinesDone.{LineDone}
 use Rattle.cw_translator.specs.Counting.{limit_in, text_limit}
 use Rattle.cw_translator.specs.Opening.{with_entry, with_part, frame_of, frames_of, open_roots, all_roots, IsNamedItem}
 use Rattle.cw_translator.specs.Opening.{AreSoundScraps, IsSoundFrame, IsTranslating, progress_of, HasCome}
@@ -264,23 +265,6 @@ pub record FinishStep (flags : Flags) (old new : StoredLists) (names names' : Li
   pub steps_are : Steps old new names names' t t'
   pub come : HasCome flags t steps new.lists names' marks' t' steps' (after_finish flags (frames_of old.lists t.nesting)
       (known_of names marks))
-
--- what is known of a line that was translated
-pub record LineDone (flags : Flags) (old new : StoredLists) (names names' : List Entry) (marks marks' : MarkList)
-    (line : List LineEntry) (done : Translated) (steps steps' : ℕ) : Type 0 where
-  pub tree : unfolded new.lists done.list.index
-      ≡ whole (normal productions flags (state_of old.lists line marks names)).scraps
-  pub scraps : done.scraps ≡ length line
-  pub productions_are : done.productions ≡ count productions flags (state_of old.lists line marks names)
-  pub few : done.productions ≤ 8 * done.scraps
-  pub names_are : names' ≡ with_categories (normal productions flags (state_of old.lists line marks names)).cats names
-  pub marks_are : marked_names marks' ≡ (normal productions flags (state_of old.lists line marks names)).marks
-  pub steps_are : steps' ≡ steps + ticks productions flags (state_of old.lists line marks names)
-  pub words : words_of names' ≡ words_of names
-  pub named : IsNamedBelow (length names') (unfolded new.lists done.list.index)
-  pub root : AreRoots new.lists (done.list.index ∷ [])
-  pub keeps : Keeps old.lists new.lists (roots_of line) (done.list.index ∷ [])
-  pub idle : new.building ≡ None
 
 pub text-step : (flags : Flags) (old new : StoredLists) (names names' : List Entry) (marks marks' : MarkList)
     (t t' : Translator) (line : List LineEntry) (outer : List Open) (done : Translated) (steps steps' : ℕ)

@@ -12,3 +12,5 @@ pub mod AnswerSteps
 pub mod EndSteps
 pub mod HoldLaws
 pub mod NameLists
+pub mod Routes
+pub mod AnswerRoutes

@@ -7,4 +7,5 @@ pub mod Opening
 pub mod Retyping
 pub mod NameParts
 pub mod Holders
+pub mod LinesDone
 pub mod Working

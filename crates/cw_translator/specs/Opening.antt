@@ -9,10 +9,8 @@ use Rattle.cw_rules.specs.declared.tokens.Lexed.TheVariants as lexed
 use Rattle.cw_base.specs.declared.flags.Flags.{Flags}
 use Rattle.cw_names.specs.Names.{Entry}
 use Rattle.cw_trees.specs.Joining.{Scrap, scrap_agrees}
-use Rattle.cw_table.specs.Normal.{count, is_fine}
-use Rattle.cw_table.specs.Productions.{productions}
+use Rattle.cw_table.specs.Normal.{is_fine}
 use Rattle.cw_table.specs.Rewriting.{State}
-use Rattle.cw_table.specs.WalkCounts.{ticks}
 use Rattle.cw_tokens.specs.declared.token.Token.{Token as StoredToken}
 use Rattle.cw_tokens.specs.Shapes.{unfolded}
 use Rattle.cw_tokens.specs.Stored.{StoredLists}
@@ -29,9 +27,9 @@ use Rattle.cw_translator.specs.declared.translator.Translated.{Translated}
 use Rattle.cw_translator.specs.declared.translator.Translator.{Translator}
 use Rattle.cw_translator.specs.Commenting.{part_seen, inner_lists}
 use Rattle.cw_translator.specs.Counting.{scraps_in, productions_in, ticks_in}
-use Rattle.cw_translator.specs.Reading.{Frame, Progress, last_scraps, all_ended}
+use Rattle.cw_translator.specs.Reading.{Frame, Progress}
 use Rattle.cw_translator.specs.Reading.{CText as CTextFrame, Comment as CommentFrame}
-use Rattle.cw_translator.specs.Translating.{CommentItem, Piece, InnerText, Ended, state_in}
+use Rattle.cw_translator.specs.Translating.{CommentItem, Piece, InnerText, Ended}
 
 -- a scrap behind those of the innermost C text, and a part behind those of the innermost comment
 abbrev pub with_entry : LineEntry → List Open → List Open
@@ -55,7 +53,10 @@ begun_by kind.ShortComment number all = Comment (holder.Comment number) [] ∷ a
 begun_by (kind.Code c) number all = Comment (holder.Name number) [] ∷ all
 begun_by _ number all = all
 
--- a translation that has read a leaf alone
+-- a translation that has read nothing, and one that has read a leaf alone
+abbrev pub of_nothing : Translator
+of_nothing = record { nesting = CText [] ∷ []; scraps = 0; productions = 0 }
+
 abbrev pub of_leaf : Leaf → Translator
 of_leaf leaf = record { nesting = CText (entry_of leaf ∷ []) ∷ []; scraps = 0; productions = 0 }
 
@@ -129,18 +130,17 @@ pub record HasCome (flags : Flags) (t : Translator) (steps : ℕ) (lists : List 
   pub productions_are : t'.productions ≡ t.productions + productions_in flags p.known.ended
   pub steps_are : steps' ≡ steps + ticks_in flags p.known.ended
 
--- A translation has ended that stood at `p`: the text that was open was reduced, put together and counted.
+-- A translation has ended with this text: it counts what the text counts, behind what was counted before.
 pub record HasEnded (flags : Flags) (t : Translator) (steps : ℕ) (lists : List (List StoredToken)) (names : List Entry)
-    (marks : MarkList) (done : Translated) (steps' : ℕ) (p : Progress) : Type 0 where
-  pub tree : unfolded lists done.list.index ≡ (all_ended flags p).tree
-  pub names_are : names ≡ (all_ended flags p).known.names
-  pub marks_are : marked_names marks ≡ (all_ended flags p).known.marks
-  pub scraps : done.scraps ≡ t.scraps + length (last_scraps p.frames)
-  pub productions_are : done.productions ≡ t.productions
-      + count productions flags (state_in (last_scraps p.frames) p.known)
-  pub steps_are : steps' ≡ steps + ticks productions flags (state_in (last_scraps p.frames) p.known)
+    (marks : MarkList) (done : Translated) (steps' : ℕ) (text : Ended) : Type 0 where
+  pub tree : unfolded lists done.list.index ≡ text.tree
+  pub names_are : names ≡ text.known.names
+  pub marks_are : marked_names marks ≡ text.known.marks
+  pub scraps : done.scraps ≡ t.scraps + scraps_in text.known.ended
+  pub productions_are : done.productions ≡ t.productions + productions_in flags text.known.ended
+  pub steps_are : steps' ≡ steps + ticks_in flags text.known.ended
 
--- A translation has ended with this text: what it answers is what the text counts.
+-- The same where nothing was counted before.
 pub record IsTranslated (flags : Flags) (lists : List (List StoredToken)) (names : List Entry) (marks : MarkList)
     (done : Translated) (steps steps' : ℕ) (text : Ended) : Type 0 where
   pub tree : unfolded lists done.list.index ≡ text.tree

@@ -1,21 +1,18 @@
 -- The scrap of the first token, and what comes behind it, are the text, which has no head.
-use Rattle.std.proofs.Common.{◌+◌, ◌≤◌, [], ◌∷◌, refl, sym, subst}
-use Rattle.std.proofs.lemmas.Result.{IfOk-weaker}
+use Rattle.std.proofs.Common.{[], ◌∷◌, inr, refl, sym, subst, arith}
+use Rattle.std.specs.Prelude.{Ok}
 use Rattle.cw_rules.specs.Answers.{Token, seen}
-use Rattle.cw_scraps.specs.Changing.{Keeps}
 use Rattle.cw_scraps.specs.Marking.{marked_names}
-use Rattle.cw_scraps.proofs.Applied.{keeps-trans}
 use Rattle.cw_scraps.proofs.Changings.{tied-idle}
-use Rattle.cw_translator.specs.Counting.{limit_in}
 use Rattle.cw_reduce.specs.Heading.{NamesOfText}
 use Rattle.cw_translator.specs.NameParts.{name_texts}
 use Rattle.cw_reduce.specs.Naming.{with_texts}
-use Rattle.cw_translator.specs.Opening.{IsTranslated, of_leaf, progress_of}
-use Rattle.cw_translator.specs.Reading.{after_answers, all_ended}
-use Rattle.cw_translator.specs.Retyping.{NamesOnTheWay}
-use Rattle.cw_translator.specs.Translating.{Ended, translated}
-use Rattle.cw_reduce.proofs.ReadSteps.{on-err, on-err-weaker}
-use Rattle.cw_reduce.proofs.FirstSteps.{first-start, first-text, first-way, no_leaf}
+use Rattle.cw_translator.specs.Opening.{of_leaf, of_nothing}
+use Rattle.cw_translator.specs.Reading.{after_token}
+use Rattle.cw_translator.specs.Working.{progress_over}
+use Rattle.cw_translator.proofs.AnswerRoutes.{token-advances}
+use Rattle.cw_translator.proofs.Routes.{ends-as, ends-refused, ends-then}
+use Rattle.cw_reduce.proofs.FirstSteps.{first-start, first-text, first-way}
 use Rattle.cw_reduce.proofs.HeadSteps.{head-translating}
 use Rattle.cw_translator.proofs.LeafSteps.{empty-line, leaf-step}
 use Rattle.cw_reduce.proofs.NamedJoined.{texts-nested}
@@ -23,9 +20,9 @@ use Rattle.cw_reduce.proofs.alone.translate_from.Goals as goal
 
 pub translate_rest-requires-clause-translating : goal.translate_rest-requires-clause-translating
 translate_rest-requires-clause-translating g c = (leaf-step c.args.token.now.kind (seen c.args.token.now)
-    c.args.work.now.store.now c.scrap_of.new.store c.args.work.now.names.now c.scrap_of.new.names no_leaf
+    c.args.work.now.store.now c.scrap_of.new.store c.args.work.now.names.now c.scrap_of.new.names of_nothing
     (of_leaf c.in_ok-leaf.leaf) c.in_ok-leaf.leaf (head-translating c.args.work.now.store.now c.args.work.now.names.now
-    no_leaf [] refl (empty-line c.args.work.now.store.now c.args.work.now.names.now c.requires.idle))
+    of_nothing [] refl (empty-line c.args.work.now.store.now c.args.work.now.names.now c.requires.idle))
     (tied-idle c.args.work.now.store.now c.requires.idle c.tied_law.ensures) c.requires.makes c.in_ok-leaf.ensures.idle
     c.in_ok-leaf.ensures.form c.in_ok-leaf.ensures.names c.in_ok-leaf.ensures.sound refl
     (record { scraps = refl; productions = refl })).steps.translating
@@ -38,101 +35,36 @@ pub translate_rest-requires-clause-start : goal.translate_rest-requires-clause-s
 translate_rest-requires-clause-start g c = c.requires.start.1
 
 pub returns-clause-text : goal.returns-clause-text
-returns-clause-text g c = IfOk-weaker c.translate_rest.result (λ done. IsTranslated c.args.context.now.flags.now
-    c.translate_rest.new.work.store.now.lists c.translate_rest.new.work.names.now c.translate_rest.new.work.marks.now
-    done c.args.work.now.steps.now c.translate_rest.new.work.steps.now
-    (all_ended c.args.context.now.flags.now (after_answers c.args.context.now.flags.now
-    (with_texts (name_texts c.args.context.now.sec_names.now c.args.context.now.uses.now) c.args.reader.now.coming)
-    (progress_of c.scrap_of.new.store.lists c.scrap_of.new.names c.args.work.now.marks.now (of_leaf c.in_ok-leaf.leaf)
-    [])))) (λ done. IsTranslated c.args.context.now.flags.now c.translate_rest.new.work.store.now.lists
-    c.translate_rest.new.work.names.now c.translate_rest.new.work.marks.now done c.args.work.now.steps.now
-    c.translate_rest.new.work.steps.now (translated c.args.context.now.flags.now
-    (name_texts c.args.context.now.sec_names.now c.args.context.now.uses.now) (Token (seen c.args.token.now)
-    ∷ c.args.reader.now.coming) c.args.work.now.names.now (marked_names c.args.work.now.marks.now)))
-    (λ done e. subst (IsTranslated c.args.context.now.flags.now c.translate_rest.new.work.store.now.lists
-    c.translate_rest.new.work.names.now c.translate_rest.new.work.marks.now done c.args.work.now.steps.now
-    c.translate_rest.new.work.steps.now) (first-text c.args.context.now.flags.now
-    (name_texts c.args.context.now.sec_names.now c.args.context.now.uses.now)
-    (texts-nested c.args.context.now.sec_names.now c.args.context.now.uses.now) c.args.work.now.store.now.lists
-    c.args.work.now.names.now (marked_names c.args.work.now.marks.now) c.args.token.now c.requires.makes
-    c.args.reader.now.coming c.requires.nested c.requires.start
-    (progress_of c.scrap_of.new.store.lists c.scrap_of.new.names c.args.work.now.marks.now
-    (of_leaf c.in_ok-leaf.leaf) []) ((leaf-step c.args.token.now.kind (seen c.args.token.now)
-    c.args.work.now.store.now c.scrap_of.new.store c.args.work.now.names.now c.scrap_of.new.names no_leaf
-    (of_leaf c.in_ok-leaf.leaf) c.in_ok-leaf.leaf
-    (head-translating c.args.work.now.store.now c.args.work.now.names.now no_leaf [] refl
-    (empty-line c.args.work.now.store.now c.args.work.now.names.now c.requires.idle))
-    (tied-idle c.args.work.now.store.now c.requires.idle c.tied_law.ensures) c.requires.makes
-    c.in_ok-leaf.ensures.idle c.in_ok-leaf.ensures.form c.in_ok-leaf.ensures.names c.in_ok-leaf.ensures.sound refl
-    (record { scraps = refl; productions = refl })).progress c.args.work.now.marks.now [])) e)
-    c.translate_rest.ensures.text
-
-pub returns-clause-bound : goal.returns-clause-bound
-returns-clause-bound g c = subst (λ (text : Ended). c.translate_rest.new.work.steps.now ≤ c.args.work.now.steps.now
-    + limit_in c.args.context.now.flags.now text.known.ended)
-    (first-text c.args.context.now.flags.now (name_texts c.args.context.now.sec_names.now c.args.context.now.uses.now)
-    (texts-nested c.args.context.now.sec_names.now c.args.context.now.uses.now) c.args.work.now.store.now.lists
-    c.args.work.now.names.now (marked_names c.args.work.now.marks.now) c.args.token.now c.requires.makes
-    c.args.reader.now.coming c.requires.nested c.requires.start
-    (progress_of c.scrap_of.new.store.lists c.scrap_of.new.names c.args.work.now.marks.now (of_leaf c.in_ok-leaf.leaf)
-    []) ((leaf-step c.args.token.now.kind (seen c.args.token.now) c.args.work.now.store.now c.scrap_of.new.store
-    c.args.work.now.names.now c.scrap_of.new.names no_leaf (of_leaf c.in_ok-leaf.leaf) c.in_ok-leaf.leaf
-    (head-translating c.args.work.now.store.now c.args.work.now.names.now no_leaf [] refl
-    (empty-line c.args.work.now.store.now c.args.work.now.names.now c.requires.idle))
+returns-clause-text g c =
+    let step = (leaf-step c.args.token.now.kind (seen c.args.token.now)
+    c.args.work.now.store.now c.scrap_of.new.store c.args.work.now.names.now c.scrap_of.new.names of_nothing
+    (of_leaf c.in_ok-leaf.leaf) c.in_ok-leaf.leaf (head-translating c.args.work.now.store.now c.args.work.now.names.now
+    of_nothing [] refl (empty-line c.args.work.now.store.now c.args.work.now.names.now c.requires.idle))
     (tied-idle c.args.work.now.store.now c.requires.idle c.tied_law.ensures) c.requires.makes c.in_ok-leaf.ensures.idle
     c.in_ok-leaf.ensures.form c.in_ok-leaf.ensures.names c.in_ok-leaf.ensures.sound refl
-    (record { scraps = refl; productions = refl })).progress c.args.work.now.marks.now []))
-    c.translate_rest.ensures.bound
-
-pub returns-clause-others : goal.returns-clause-others
-returns-clause-others g c = IfOk-weaker c.translate_rest.result
-    (λ done. Keeps c.scrap_of.new.store.lists c.translate_rest.new.work.store.now.lists (c.in_ok-leaf.leaf.list.index
-    ∷ []) (done.list.index ∷ []))
-    (λ done. Keeps c.args.work.now.store.now.lists c.translate_rest.new.work.store.now.lists [] (done.list.index ∷ []))
-    (λ done k. keeps-trans c.args.work.now.store.now.lists c.scrap_of.new.store.lists
-    c.translate_rest.new.work.store.now.lists [] (c.in_ok-leaf.leaf.list.index ∷ []) (done.list.index ∷ [])
-    (leaf-step c.args.token.now.kind (seen c.args.token.now) c.args.work.now.store.now c.scrap_of.new.store
-    c.args.work.now.names.now c.scrap_of.new.names no_leaf (of_leaf c.in_ok-leaf.leaf) c.in_ok-leaf.leaf
-    (head-translating c.args.work.now.store.now c.args.work.now.names.now no_leaf [] refl
-    (empty-line c.args.work.now.store.now c.args.work.now.names.now c.requires.idle))
-    (tied-idle c.args.work.now.store.now c.requires.idle c.tied_law.ensures) c.requires.makes
-    c.in_ok-leaf.ensures.idle c.in_ok-leaf.ensures.form c.in_ok-leaf.ensures.names c.in_ok-leaf.ensures.sound refl
-    (record { scraps = refl; productions = refl })).steps.keeps k) c.translate_rest.ensures.keeps
-
-pub returns-in_err-leaf-clause-refused : goal.returns-in_err-leaf-clause-refused
-returns-in_err-leaf-clause-refused g c = on-err c.from_residual.result
-    (NamesOfText c.args.context.now.flags.now (name_texts c.args.context.now.sec_names.now c.args.context.now.uses.now)
-    (Token (seen c.args.token.now) ∷ c.args.reader.now.coming) c.args.work.now.names.now
-    (marked_names c.args.work.now.marks.now) c.scrap_of.new.names)
-    (subst (λ names. NamesOfText c.args.context.now.flags.now
-    (name_texts c.args.context.now.sec_names.now c.args.context.now.uses.now) (Token (seen c.args.token.now)
-    ∷ c.args.reader.now.coming) c.args.work.now.names.now (marked_names c.args.work.now.marks.now) names)
-    (sym c.in_err-leaf.ensures.no_names) (first-start c.args.context.now.flags.now
-    (name_texts c.args.context.now.sec_names.now c.args.context.now.uses.now)
+    (record { scraps = refl; productions = refl })) in
+    ends-as (first-text c.args.context.now.flags.now (name_texts c.args.context.now.sec_names.now c.args.context.now.uses.now)
     (texts-nested c.args.context.now.sec_names.now c.args.context.now.uses.now) c.args.work.now.store.now.lists
     c.args.work.now.names.now (marked_names c.args.work.now.marks.now) c.args.token.now c.requires.makes
-    c.args.reader.now.coming c.requires.nested c.requires.start))
+    c.args.reader.now.coming c.requires.nested c.requires.start
+    (after_token c.args.token.now.kind (seen c.args.token.now) (progress_over c.args.work.now of_nothing)) refl)
+    (first-way c.args.context.now.flags.now (name_texts c.args.context.now.sec_names.now c.args.context.now.uses.now)
+    (texts-nested c.args.context.now.sec_names.now c.args.context.now.uses.now) c.args.work.now.store.now.lists
+    c.args.work.now.names.now (marked_names c.args.work.now.marks.now) c.args.token.now c.requires.makes
+    c.args.reader.now.coming c.requires.nested c.requires.start
+    (after_token c.args.token.now.kind (seen c.args.token.now) (progress_over c.args.work.now of_nothing)) refl)
+    (ends-then (with_texts (name_texts c.args.context.now.sec_names.now c.args.context.now.uses.now) c.args.reader.now.coming)
+    (token-advances {T = Unit {0}} c.args.context.now.flags.now (seen c.args.token.now) {result = Ok tt}
+    step.steps.translating step.progress (record { scraps = refl; productions = refl }) step.steps.keeps
+    (inr c.in_ok-leaf.ensures.names) refl refl (record { names = refl; store = refl; marks = refl; steps = refl })
+    c.in_ok-leaf.ensures.idle) c.translate_rest.ensures.text)
 
-pub returns-clause-refused : goal.returns-clause-refused
-returns-clause-refused g c = on-err-weaker c.translate_rest.result
-    (NamesOnTheWay c.args.context.now.flags.now (with_texts
-    (name_texts c.args.context.now.sec_names.now c.args.context.now.uses.now) c.args.reader.now.coming)
-    (progress_of c.scrap_of.new.store.lists c.scrap_of.new.names c.args.work.now.marks.now (of_leaf c.in_ok-leaf.leaf)
-    []) c.translate_rest.new.work.names.now)
-    (NamesOfText c.args.context.now.flags.now (name_texts c.args.context.now.sec_names.now c.args.context.now.uses.now)
-    (Token (seen c.args.token.now) ∷ c.args.reader.now.coming) c.args.work.now.names.now
-    (marked_names c.args.work.now.marks.now) c.translate_rest.new.work.names.now)
-    (first-way c.args.context.now.flags.now (name_texts c.args.context.now.sec_names.now
-    c.args.context.now.uses.now) (texts-nested c.args.context.now.sec_names.now c.args.context.now.uses.now)
-    c.args.work.now.store.now.lists c.args.work.now.names.now (marked_names c.args.work.now.marks.now)
-    c.args.token.now c.requires.makes c.args.reader.now.coming c.requires.nested c.requires.start
-    (progress_of c.scrap_of.new.store.lists c.scrap_of.new.names c.args.work.now.marks.now
-    (of_leaf c.in_ok-leaf.leaf) []) ((leaf-step c.args.token.now.kind (seen c.args.token.now)
-    c.args.work.now.store.now c.scrap_of.new.store c.args.work.now.names.now c.scrap_of.new.names no_leaf
-    (of_leaf c.in_ok-leaf.leaf) c.in_ok-leaf.leaf
-    (head-translating c.args.work.now.store.now c.args.work.now.names.now no_leaf [] refl
-    (empty-line c.args.work.now.store.now c.args.work.now.names.now c.requires.idle))
-    (tied-idle c.args.work.now.store.now c.requires.idle c.tied_law.ensures) c.requires.makes
-    c.in_ok-leaf.ensures.idle c.in_ok-leaf.ensures.form c.in_ok-leaf.ensures.names c.in_ok-leaf.ensures.sound refl
-    (record { scraps = refl; productions = refl })).progress c.args.work.now.marks.now [])
-    c.translate_rest.new.work.names.now) c.translate_rest.ensures.refused
+pub returns-in_err-leaf-clause-text : goal.returns-in_err-leaf-clause-text
+returns-in_err-leaf-clause-text g c = ends-refused c.from_residual.ensures.1
+    (subst (λ names. NamesOfText c.args.context.now.flags.now (name_texts c.args.context.now.sec_names.now c.args.context.now.uses.now) (Token (seen c.args.token.now)
+    ∷ c.args.reader.now.coming) c.args.work.now.names.now (marked_names c.args.work.now.marks.now) names)
+    (sym c.in_err-leaf.ensures.no_names) (first-start c.args.context.now.flags.now (name_texts c.args.context.now.sec_names.now c.args.context.now.uses.now)
+    (texts-nested c.args.context.now.sec_names.now c.args.context.now.uses.now) c.args.work.now.store.now.lists
+    c.args.work.now.names.now (marked_names c.args.work.now.marks.now) c.args.token.now c.requires.makes
+    c.args.reader.now.coming c.requires.nested c.requires.start)) (omega arith)
+    (record { names = refl; store = refl; marks = refl; steps = refl }) c.in_err-leaf.ensures.idle

@@ -8,7 +8,7 @@ use Rattle.cw_scraps.proofs.Changings.{tied-idle}
 use Rattle.cw_reduce.specs.HeadReading.{NamesWithin, answer_words, words_in}
 use Rattle.cw_translator.specs.Opening.{answers_in}
 use Rattle.cw_translator.specs.Translating.{spelled}
-use Rattle.cw_reduce.proofs.ReadSteps.{on-err}
+use Rattle.cw_translator.proofs.Routes.{on-err}
 use Rattle.cw_reduce.proofs.HeadReads.{fits-by}
 use Rattle.cw_reduce.proofs.HeadMakes.{behind, definition-defines, words-plain, words-there}
 use Rattle.cw_reduce.proofs.HeadFinds.{definition-rest, definition-within, all-within}

@@ -1,7 +1,16 @@
--- `texts_by_kind`: clause `come` at `File`; said here, so that a wrong one fails at once.
-use Rattle.std.proofs.Common.{arith}
-use Rattle.std.proofs.lemmas.Grind.{common_steps}
+-- A name of `@<` has the inner texts of its text, and one of `@(` none.
+use Rattle.std.proofs.Common.{sym, ap}
+use Rattle.cw_translator.specs.NameParts.{parts_by_kind}
+use Rattle.cw_reduce.specs.Naming.{texts_answers}
+use Rattle.cw_translator.specs.Working.{progress_over}
+use Rattle.cw_translator.proofs.Routes.{answers-as, advances-none}
 use Rattle.cw_reduce.proofs.naming.texts_by_kind.Goals as goal
 
-pub returns-in-File-clause-come : goal.returns-in-File-clause-come
-returns-in-File-clause-come g c = grind (arith, common_steps)
+pub returns-in-Named : goal.returns-in-Named
+returns-in-Named g c = answers-as c.args.context.now.flags.now (progress_over c.args.work.now c.args.translator.now)
+    (ap (λ k. texts_answers (parts_by_kind k c.args.text.now)) (sym c.in-Named.is)) c.inner_texts.ensures
+
+pub returns-in-File : goal.returns-in-File
+returns-in-File g c = answers-as c.args.context.now.flags.now (progress_over c.args.work.now c.args.translator.now)
+    (ap (λ k. texts_answers (parts_by_kind k c.args.text.now)) (sym c.in-File.is))
+    (advances-none c.args.context.now.flags.now c.requires.translating)

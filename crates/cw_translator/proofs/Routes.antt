@@ -1,0 +1,588 @@
+-- Calls that read, and a call that ends a text: none, one then another, and a stop.
+use Rattle.std.proofs.Common.{◌≡◌, ℕ, ◌+◌, ◌≤◌, List, [], ◌∷◌, ◌++◌, length, ◌⊎◌, inl, inr, refl, sym, ap, ◌∙◌, subst}
+use Rattle.std.proofs.Common.{None, add-zero, arith}
+use Rattle.std.specs.Prelude.{Result, Ok, Err, IfOk, IsErrAnd, OnErr, OnOk}
+use Rattle.std.proofs.lemmas.List.{append-nil, append_assoc}
+use Rattle.std.proofs.lemmas.Result.{IfOk-weaker, on_ok_weaker}
+use Rattle.cw_base.specs.declared.flags.Flags.{Flags}
+use Rattle.cw_base.specs.declared.memory.Memory.{Memory}
+use Rattle.cw_rules.specs.Answers.{Answer, Seen, Token, Begin, Finish, Note}
+use Rattle.cw_rules.specs.declared.tokens.TokKind.{TokKind}
+use Rattle.cw_rules.specs.declared.tokens.TokKind.TheVariants as kind
+use Rattle.cw_names.specs.Names.{Entry}
+use Rattle.cw_table.specs.Normal.{count}
+use Rattle.cw_table.specs.Productions.{productions}
+use Rattle.cw_table.specs.Rewriting.{State}
+use Rattle.cw_table.specs.WalkCounts.{ticks}
+use Rattle.cw_tokens.specs.declared.token.Token.{Token as StoredToken}
+use Rattle.cw_scraps.specs.Changing.{Keeps}
+use Rattle.cw_scraps.specs.Marking.{MarkList}
+use Rattle.cw_scraps.proofs.Applied.{keeps-trans}
+use Rattle.cw_translator.specs.declared.translator.Translated.{Translated}
+use Rattle.cw_translator.specs.declared.translator.Translator.{Translator}
+use Rattle.cw_translator.specs.declared.work.Work.{Work}
+use Rattle.cw_translator.specs.Counting.{scraps_in, productions_in, ticks_in, text_limit, limit_in}
+use Rattle.cw_translator.specs.Opening.{all_roots, progress_of, HasCome, HasEnded, IsTranslating}
+use Rattle.cw_translator.specs.Retyping.{NamesOnTheWay, NamesAmong, RetypesIn, here, at_finish, at_end, later}
+use Rattle.cw_translator.specs.Reading.{Frame, Progress, with_item, after_token, after_finish, after_answer}
+use Rattle.cw_translator.specs.Reading.{after_answers, all_ended, last_scraps}
+use Rattle.cw_translator.specs.Reading.{CText as CTextFrame, Comment as CommentFrame}
+use Rattle.cw_translator.specs.Translating.{Ended, Known, InnerText, state_in, end_from}
+use Rattle.cw_translator.specs.Working.{Route, IsSameWork, Target, Advances, EndsIn, prolonged, over, progress_over}
+use Rattle.cw_translator.specs.Working.{to_end}
+use Rattle.cw_translator.proofs.AnswerSteps.{stay-come}
+use Rattle.cw_translator.proofs.LeafSteps.{keeps-itself}
+use Rattle.cw_translator.proofs.Sums.{sum-end, sum-more}
+
+-- ## Results
+
+pub on-err-weaker : {T E : Type 0} (r : Result T E) (P Q : Type 0) → (P → Q) → OnErr r P → OnErr r Q
+on-err-weaker (Ok x) P Q f h = tt
+on-err-weaker (Err e) P Q f h = f h
+
+pub on-err : {T E : Type 0} (r : Result T E) (P : Type 0) → P → OnErr r P
+on-err (Ok x) P h = tt
+on-err (Err e) P h = h
+
+pub err-ok : {T E : Type 0} (r : Result T E) (error : E) (P : Type 0) → IsErrAnd r (λ found. found ≡ error) → OnOk r P
+err-ok (Ok x) error P h = absurd h
+err-ok (Err e) error P h = tt
+
+err-if : {T E : Type 0} (r : Result T E) (error : E) (P : T → Type 0) → IsErrAnd r (λ found. found ≡ error) → IfOk r P
+err-if (Ok x) error P h = absurd h
+err-if (Err e) error P h = tt
+
+-- ## Answers
+
+pub after-append : (flags : Flags) (xs ys : List Answer) (p : Progress) → after_answers flags (xs ++ ys) p
+    ≡ after_answers flags ys (after_answers flags xs p)
+after-append flags [] ys p = refl
+after-append flags (x ∷ xs) ys p = after-append flags xs ys (after_answer flags x p)
+
+-- what has ended before is not looked at
+abbrev pub behind : List State → Progress → Progress
+behind done p = record {
+  frames = p.frames;
+  known = record {
+    names = p.known.names;
+    marks = p.known.marks;
+    ended = done
+        ++ p.known.ended;
+  };
+}
+
+behind-token : (done : List State) (k : TokKind) (token : Seen) (p : Progress) → after_token k token (behind done p)
+    ≡ behind done (after_token k token p)
+behind-token done kind.Text token p = refl
+behind-token done _ token p = refl
+
+behind-finish : (flags : Flags) (done : List State) (frames : List Frame) (known : Known)
+    → after_finish flags frames (behind done (record { frames = frames; known = known })).known
+    ≡ behind done (after_finish flags frames known)
+behind-finish flags done [] known = refl
+behind-finish flags done (CommentFrame held_by items ∷ frames) known = refl
+behind-finish flags done (CTextFrame scraps ∷ frames) known =
+    let text = end_from flags (state_in scraps known) known in
+    ap (λ ended. record {
+      frames = with_item (InnerText text.tree) frames;
+      known = record { names = text.known.names; marks = text.known.marks; ended = ended };
+    })
+    (append_assoc done known.ended (state_in scraps known ∷ []))
+
+behind-answer : (flags : Flags) (done : List State) (answer : Answer) (p : Progress)
+    → after_answer flags answer (behind done p) ≡ behind done (after_answer flags answer p)
+behind-answer flags done (Token token) p = behind-token done token.kind token p
+behind-answer flags done (Begin token) p = refl
+behind-answer flags done (Finish token) p = behind-finish flags done p.frames p.known
+behind-answer flags done (Note note place) p = refl
+
+pub behind-answers : (flags : Flags) (done : List State) (answers : List Answer) (p : Progress)
+    → after_answers flags answers (behind done p) ≡ behind done (after_answers flags answers p)
+behind-answers flags done [] p = refl
+behind-answers flags done (answer ∷ answers) p = ap (after_answers flags answers) (behind-answer flags done answer p)
+    ∙ behind-answers flags done answers (after_answer flags answer p)
+
+-- more comes behind what has ended
+pub limit-more : (flags : Flags) (answers : List Answer) (p : Progress)
+    → limit_in flags p.known.ended ≤ limit_in flags (after_answers flags answers p).known.ended
+limit-more flags answers p =
+    let fresh : Progress =
+    record { frames = p.frames; known = record { names = p.known.names; marks = p.known.marks; ended = [] } } in
+    let is : p ≡ behind p.known.ended fresh = ap (λ ended.
+    record { frames = p.frames; known = record { names = p.known.names; marks = p.known.marks; ended = ended } })
+    (sym (append-nil p.known.ended)) in
+    let e : (after_answers flags answers p).known.ended
+    ≡ p.known.ended ++ (after_answers flags answers fresh).known.ended =
+    ap (λ (q : Progress). (after_answers flags answers q).known.ended) is
+    ∙ ap (λ (q : Progress). q.known.ended) (behind-answers flags p.known.ended answers fresh) in
+    let l : limit_in flags (after_answers flags answers p).known.ended
+    ≡ limit_in flags (p.known.ended ++ (after_answers flags answers fresh).known.ended) = ap (limit_in flags) e in
+    omega (
+      arith,
+      l,
+      sum-more (λ state. text_limit flags state) p.known.ended
+          (after_answers flags answers fresh).known.ended,
+    )
+
+pub later-all : (flags : Flags) (xs ys : List Answer) (p : Progress) (new : List Entry)
+    → NamesOnTheWay flags ys (after_answers flags xs p) new → NamesOnTheWay flags (xs ++ ys) p new
+later-all flags [] ys p new h = h
+later-all flags (x ∷ xs) ys p new h = later x (xs ++ ys) p new (later-all flags xs ys (after_answer flags x p) new h)
+
+-- names on the way don't depend on what has ended before
+pub way-behind : (flags : Flags) (done : List State) (answers : List Answer) (q p : Progress) (new : List Entry)
+    → q ≡ behind done p → NamesOnTheWay flags answers p new → NamesOnTheWay flags answers q new
+way-behind flags done answers q p new e (here _ _) =
+    subst (NamesOnTheWay flags answers q) (ap (λ (x : Progress). x.known.names) e) (here answers q)
+way-behind flags done (Finish token ∷ answers) q p new e (at_finish _ _ _ scraps outer _ open_is r) = at_finish token
+    answers q scraps outer new (ap (λ (x : Progress). x.frames) e
+    ∙ open_is) (subst (λ (x : Progress). RetypesIn flags scraps x.known new) (sym e) r)
+way-behind flags done [] q p new e (at_end _ _ r) =
+    at_end q new (subst (λ (x : Progress). RetypesIn flags (last_scraps x.frames) x.known new) (sym e) r)
+way-behind flags done (answer ∷ answers) q p new e (later _ _ _ _ h) = later answer answers q new
+    (way-behind flags done answers (after_answer flags answer q) (after_answer flags answer p) new
+    (ap (after_answer flags answer) e ∙ behind-answer flags done answer p) h)
+
+-- a text that ends behind others
+abbrev text_behind : List State → Ended → Ended
+text_behind done text = record {
+  tree = text.tree;
+  known = record { names = text.known.names; marks = text.known.marks; ended = done ++ text.known.ended };
+}
+
+all-ended-behind : (flags : Flags) (done : List State) (p : Progress) → all_ended flags (behind done p)
+    ≡ text_behind done (all_ended flags p)
+all-ended-behind flags done p =
+    let text = all_ended flags p in
+    ap (λ ended. record {
+      tree = text.tree;
+      known = record { names = text.known.names; marks = text.known.marks; ended = ended };
+    })
+    (append_assoc done p.known.ended (state_in (last_scraps p.frames) p.known ∷ []))
+
+-- the texts in comments alone
+pub spent-within : (flags : Flags) (p : Progress) (steps steps1 : ℕ) → steps1 ≤ steps + limit_in flags p.known.ended
+    → steps1 ≤ steps + limit_in flags (all_ended flags p).known.ended
+spent-within flags p steps steps1 low =
+    let last = state_in (last_scraps p.frames) p.known in
+    let limits : limit_in flags p.known.ended + text_limit flags last ≡ limit_in flags (p.known.ended ++ last ∷ []) =
+    sum-end (λ state. text_limit flags state) p.known.ended last in
+    omega (arith, low, limits)
+
+pub way-end : (flags : Flags) (answers : List Answer) (p q : Progress) (new : List Entry)
+    → q ≡ after_answers flags answers p → NamesOnTheWay flags [] q new → NamesOnTheWay flags answers p new
+way-end flags [] p q new e h = subst (λ x. NamesOnTheWay flags [] x new) e h
+way-end flags (answer ∷ answers) p q new e h = later answer answers p new
+    (way-end flags answers (after_answer flags answer p) q new e h)
+
+-- ## From where a translation has come
+
+module _ (flags : Flags) (t0 t1 : Translator) (steps steps1 : ℕ) (mid : List (List StoredToken)) (names1 : List Entry)
+    (marks1 : MarkList) (p : Progress) (come : HasCome flags t0 steps mid names1 marks1 t1 steps1 p) (xs : List Answer)
+  where
+    abbrev fresh : Progress
+    fresh = progress_of mid names1 marks1 t1 []
+
+    abbrev then_now : Progress
+    then_now = after_answers flags xs fresh
+
+    now-behind : p ≡ behind p.known.ended fresh
+    now-behind = sym come.is ∙ ap (progress_of mid names1 marks1 t1) (sym (append-nil p.known.ended))
+
+    all-behind : after_answers flags xs p ≡ behind p.known.ended then_now
+    all-behind = ap (after_answers flags xs) now-behind ∙ behind-answers flags p.known.ended xs fresh
+
+    then-come : (lists : List (List StoredToken)) (names2 : List Entry) (marks2 : MarkList) (t2 : Translator)
+        (steps2 : ℕ) → HasCome flags t1 steps1 lists names2 marks2 t2 steps2 then_now
+        → HasCome flags t0 steps lists names2 marks2 t2 steps2 (after_answers flags xs p)
+    then-come lists names2 marks2 t2 steps2 h =
+        let done : List State = p.known.ended in
+        let more : List State = then_now.known.ended in
+        let scraps : scraps_in (done ++ more) ≡ scraps_in done + scraps_in more =
+        sum-more (λ state. length state.scraps) done more in
+        let applied : productions_in flags (done ++ more) ≡ productions_in flags done + productions_in flags more =
+        sum-more (λ state. count productions flags state) done more in
+        let ticked : ticks_in flags (done ++ more) ≡ ticks_in flags done + ticks_in flags more =
+        sum-more (λ state. ticks productions flags state) done more in
+        subst (HasCome flags t0 steps lists names2 marks2 t2 steps2) (sym all-behind) (record {
+          is = ap (behind done) h.is;
+          scraps = omega (arith, come.scraps, h.scraps, scraps);
+          productions_are = omega (arith, come.productions_are, h.productions_are, applied);
+          steps_are = omega (arith, come.steps_are, h.steps_are, ticked);
+        })
+
+    then-few : (steps2 : ℕ) → steps1 ≤ steps + limit_in flags p.known.ended
+        → steps2 ≤ steps1 + limit_in flags then_now.known.ended
+        → steps2 ≤ steps + limit_in flags (after_answers flags xs p).known.ended
+    then-few steps2 low high =
+        let limits : limit_in flags (p.known.ended ++ then_now.known.ended) ≡ limit_in flags p.known.ended
+        + limit_in flags then_now.known.ended = sum-more (λ state. text_limit flags state) p.known.ended
+        then_now.known.ended in
+        let k : steps2 ≤ steps + limit_in flags (p.known.ended ++ then_now.known.ended) =
+        omega (arith, low, high, limits) in
+        subst (λ (q : Progress). steps2 ≤ steps + limit_in flags q.known.ended) (sym all-behind) k
+
+    then-way : (coming : List Answer) (entries : List Entry) → NamesOnTheWay flags (xs ++ coming) fresh entries
+        → NamesOnTheWay flags (xs ++ coming) p entries
+    then-way coming entries h = way-behind flags p.known.ended (xs ++ coming) p fresh entries now-behind h
+
+    then-last : (entries : List Entry) → NamesOnTheWay flags xs fresh entries → NamesOnTheWay flags xs p entries
+    then-last entries h = way-behind flags p.known.ended xs p fresh entries now-behind h
+
+    -- the text that ends there
+    ended-behind : all_ended flags (after_answers flags xs p) ≡ text_behind p.known.ended (all_ended flags then_now)
+    ended-behind = ap (all_ended flags) all-behind ∙ all-ended-behind flags p.known.ended then_now
+
+    then-ended : (lists : List (List StoredToken)) (names2 : List Entry) (marks2 : MarkList) (done : Translated)
+        (steps2 : ℕ) → HasEnded flags t1 steps1 lists names2 marks2 done steps2 (all_ended flags then_now)
+        → HasEnded flags t0 steps lists names2 marks2 done steps2 (all_ended flags (after_answers flags xs p))
+    then-ended lists names2 marks2 done steps2 h =
+        let first : List State = p.known.ended in
+        let more : List State = (all_ended flags then_now).known.ended in
+        let scraps : scraps_in (first ++ more) ≡ scraps_in first + scraps_in more =
+        sum-more (λ state. length state.scraps) first more in
+        let applied : productions_in flags (first ++ more) ≡ productions_in flags first + productions_in flags more =
+        sum-more (λ state. count productions flags state) first more in
+        let ticked : ticks_in flags (first ++ more) ≡ ticks_in flags first + ticks_in flags more =
+        sum-more (λ state. ticks productions flags state) first more in
+        subst (HasEnded flags t0 steps lists names2 marks2 done steps2) (sym ended-behind) (record {
+          tree = h.tree;
+          names_are = h.names_are;
+          marks_are = h.marks_are;
+          scraps = omega (arith, come.scraps, h.scraps, scraps);
+          productions_are = omega (arith, come.productions_are, h.productions_are, applied);
+          steps_are = omega (arith, come.steps_are, h.steps_are, ticked);
+        })
+
+    then-spent : (steps2 : ℕ) → steps1 ≤ steps + limit_in flags p.known.ended
+        → steps2 ≤ steps1 + limit_in flags (all_ended flags then_now).known.ended
+        → steps2 ≤ steps + limit_in flags (all_ended flags (after_answers flags xs p)).known.ended
+    then-spent steps2 low high =
+        let more : List State = (all_ended flags then_now).known.ended in
+        let limits : limit_in flags (p.known.ended ++ more) ≡ limit_in flags p.known.ended + limit_in flags more =
+        sum-more (λ state. text_limit flags state) p.known.ended more in
+        let k : steps2 ≤ steps + limit_in flags (p.known.ended ++ more) = omega (arith, low, high, limits) in
+        subst (λ (text : Ended). steps2 ≤ steps + limit_in flags text.known.ended) (sym ended-behind) k
+
+-- ## A call that reads
+
+pub same-work : {L : Type 0} {a b d : Work L} → IsSameWork a b → IsSameWork b d → IsSameWork a d
+same-work x y = record {
+  names = y.names ∙ x.names;
+  store = y.store ∙ x.store;
+  marks = y.marks ∙ x.marks;
+  steps = y.steps ∙ x.steps;
+}
+
+-- nothing is read
+pub advances-none : {L T : Type 0} (flags : Flags) {t : Translator} {work : Work L} {value : T}
+    → IsTranslating work.store.now work.names.now t
+    → Advances (over flags [] (progress_over work t)) t work t work (Ok value)
+advances-none flags {t = t} {work = work} is = record {
+  translating = is;
+  come = stay-come flags work.store.now work.names.now work.marks.now t work.steps.now;
+  keeps = keeps-itself work.store.now.lists (all_roots t.nesting);
+  names = tt;
+  bound = omega arith;
+  same = record { names = refl; store = refl; marks = refl; steps = refl };
+  idle = is.idle;
+}
+
+-- memory is wanting
+pub advances-refused : {L T : Type 0} {c : Route} {t t' : Translator} {old new : Work L} {error : Memory}
+    {result : Result T Memory}
+    → IsErrAnd result (λ found. found ≡ error) → c.leaves new.names.now
+    → new.steps.now ≤ old.steps.now + limit_in c.flags c.ends.known.ended → IsSameWork old new
+    → new.store.now.building ≡ None → Advances c t old t' new result
+advances-refused {error = error} {result = result} is names bound same idle = record {
+  translating = err-ok result error _ is;
+  come = err-ok result error _ is;
+  keeps = err-ok result error _ is;
+  names = on-err result _ names;
+  bound = bound;
+  same = same;
+  idle = idle;
+}
+
+-- before anything is changed
+pub advances-unread : {L T : Type 0} (flags : Flags) (answers : List Answer) (p : Progress) {t t' : Translator}
+    {work : Work L} {error : Memory} {result : Result T Memory}
+    → IsErrAnd result (λ found. found ≡ error) → work.names.now ≡ p.known.names → work.store.now.building ≡ None
+    → Advances (over flags answers p) t work t' work result
+advances-unread flags answers p {work = work} is names idle = advances-refused is
+    (λ coming. subst (NamesOnTheWay flags (answers ++ coming) p) (sym names) (here (answers ++ coming) p))
+    (omega arith) (record { names = refl; store = refl; marks = refl; steps = refl }) idle
+
+-- the same route, said otherwise
+pub advances-as : {L T : Type 0} {c : Route} {ends : Progress} {leaves : List Entry → Type 0} {t t' : Translator}
+    {old new : Work L} {result : Result T Memory} → c.ends ≡ ends
+    → ((names : List Entry) → c.leaves names → leaves names) → Advances c t old t' new result
+    → Advances (record { flags = c.flags; ends = ends; leaves = leaves }) t old t' new result
+advances-as {c = c} {t = t} {t' = t'} {old = old} {new = new} {result = result} is among r = record {
+  translating = r.translating;
+  come = on_ok_weaker result (λ h. subst (HasCome c.flags t old.steps.now new.store.now.lists new.names.now
+      new.marks.now t' new.steps.now) is h) r.come;
+  keeps = r.keeps;
+  names = on-err-weaker result _ _ (among new.names.now) r.names;
+  bound = subst (λ (p : Progress). new.steps.now ≤ old.steps.now + limit_in c.flags p.known.ended) is r.bound;
+  same = r.same;
+  idle = r.idle;
+}
+
+-- The same for a call that was not refused: then nothing is said of names.
+pub advances-done : {L T : Type 0} {c : Route} {ends : Progress} {leaves : List Entry → Type 0} {t t' : Translator}
+    {old new : Work L} {value : T} → c.ends ≡ ends → Advances c t old t' new (Ok value)
+    → Advances {T = T} (record { flags = c.flags; ends = ends; leaves = leaves }) t old t' new (Ok value)
+advances-done {c = c} {t = t} {t' = t'} {old = old} {new = new} is r = record {
+  translating = r.translating;
+  come = subst (HasCome c.flags t old.steps.now new.store.now.lists new.names.now new.marks.now t' new.steps.now) is
+      r.come;
+  keeps = r.keeps;
+  names = tt;
+  bound = subst (λ (p : Progress). new.steps.now ≤ old.steps.now + limit_in c.flags p.known.ended) is r.bound;
+  same = r.same;
+  idle = r.idle;
+}
+
+-- one call, and then another
+pub advances-then : {L T U : Type 0} {c : Route} (ys : List Answer) {t t1 t2 : Translator} {old mid new : Work L}
+    {value : T} {result : Result U Memory}
+    → Advances c t old t1 mid (Ok value) → Advances (over c.flags ys (progress_over mid t1)) t1 mid t2 new result
+    → Advances (prolonged c ys) t old t2 new result
+advances-then {c = c} ys {t = t} {t1 = t1} {t2 = t2} {old = old} {mid = mid} {new = new} {result = result} a b = record {
+  translating = b.translating;
+  come = on_ok_weaker result (λ h. then-come c.flags t t1 old.steps.now mid.steps.now mid.store.now.lists mid.names.now
+      mid.marks.now c.ends a.come ys new.store.now.lists new.names.now new.marks.now t2 new.steps.now h) b.come;
+  keeps = on_ok_weaker result (λ k. keeps-trans old.store.now.lists mid.store.now.lists new.store.now.lists
+      (all_roots t.nesting) (all_roots t1.nesting) (all_roots t2.nesting) a.keeps k) b.keeps;
+  names = on-err-weaker result _ _ (λ h. inr (λ coming. then-way c.flags t t1 old.steps.now mid.steps.now
+      mid.store.now.lists mid.names.now mid.marks.now c.ends a.come ys coming new.names.now (h coming))) b.names;
+  bound = then-few c.flags t t1 old.steps.now mid.steps.now mid.store.now.lists mid.names.now mid.marks.now c.ends
+      a.come ys new.steps.now a.bound b.bound;
+  same = same-work a.same b.same;
+  idle = b.idle;
+}
+
+-- a call that is refused, before another
+pub advances-stopped : {L T U : Type 0} {c : Route} (ys : List Answer) {t t1 t2 : Translator} {old new : Work L}
+    {error : Memory} {result : Result U Memory}
+    → Advances {T = T} c t old t1 new (Err error) → IsErrAnd result (λ found. found ≡ error)
+    → Advances (prolonged c ys) t old t2 new result
+advances-stopped {c = c} ys {old = old} {new = new} r is =
+    let few : new.steps.now ≤ old.steps.now + limit_in c.flags c.ends.known.ended = r.bound in
+    let more : limit_in c.flags c.ends.known.ended ≤ limit_in c.flags (after_answers c.flags ys c.ends).known.ended =
+    limit-more c.flags ys c.ends in
+    advances-refused is (inl r.names) (omega (arith, few, more)) r.same r.idle
+
+-- ## Answers, and then others
+
+among-joined : (flags : Flags) (xs ys : List Answer) (p : Progress) (new : List Entry)
+    → NamesAmong flags xs p new ⊎ NamesAmong flags ys (after_answers flags xs p) new
+    → NamesAmong flags (xs ++ ys) p new
+among-joined flags xs ys p new (inl h) = λ coming.
+    subst (λ list. NamesOnTheWay flags list p new) (sym (append_assoc xs ys coming)) (h (ys ++ coming))
+among-joined flags xs ys p new (inr h) = λ coming.
+    subst (λ list. NamesOnTheWay flags list p new) (sym (append_assoc xs ys coming))
+    (later-all flags xs (ys ++ coming) p new (h coming))
+
+joined : {L T : Type 0} (flags : Flags) (xs ys : List Answer) (p : Progress) {t t' : Translator} {old new : Work L}
+    {result : Result T Memory} → Advances (prolonged (over flags xs p) ys) t old t' new result
+    → Advances (over flags (xs ++ ys) p) t old t' new result
+joined flags xs ys p r = advances-as (sym (after-append flags xs ys p)) (λ new. among-joined flags xs ys p new) r
+
+pub answers-then : {L T U : Type 0} (flags : Flags) (xs ys : List Answer) (p : Progress) {t t1 t2 : Translator}
+    {old mid new : Work L} {value : T} {result : Result U Memory}
+    → Advances (over flags xs p) t old t1 mid (Ok value) → Advances (over flags ys (progress_over mid t1)) t1 mid t2 new result
+    → Advances (over flags (xs ++ ys) p) t old t2 new result
+answers-then flags xs ys p a b = joined flags xs ys p (advances-then {c = over flags xs p} ys a b)
+
+pub answers-stopped : {L T U : Type 0} (flags : Flags) (xs ys : List Answer) (p : Progress) {t t1 t2 : Translator}
+    {old new : Work L} {error : Memory} {result : Result U Memory}
+    → Advances {T = T} (over flags xs p) t old t1 new (Err error) → IsErrAnd result (λ found. found ≡ error)
+    → Advances (over flags (xs ++ ys) p) t old t2 new result
+answers-stopped flags xs ys p r is = joined flags xs ys p (advances-stopped {c = over flags xs p} ys r is)
+
+pub answers-as : {L T : Type 0} (flags : Flags) {xs ys : List Answer} (p : Progress) {t t' : Translator}
+    {old new : Work L} {result : Result T Memory} → xs ≡ ys → Advances (over flags xs p) t old t' new result
+    → Advances (over flags ys p) t old t' new result
+answers-as flags p {t = t} {t' = t'} {old = old} {new = new} {result = result} is r =
+    subst (λ list. Advances (over flags list p) t old t' new result) is r
+
+-- Answers are read, from where the first of these calls stood; with those that are left they are all.
+pub record Advancing {L : Type 0} (flags : Flags) (all rest : List Answer) (p : Progress) (t : Translator) (old : Work L)
+    (t' : Translator) (now : Work L) : Type 0 where
+  pub done : List Answer
+  pub reads : Advances {T = Unit {0}} (over flags done p) t old t' now (Ok tt)
+  pub goes : done ++ rest ≡ all
+
+-- whatever value it answers
+valued : {L T U : Type 0} {c : Route} {t t' : Translator} {old new : Work L} {value : T} (other : U)
+    → Advances c t old t' new (Ok value) → Advances c t old t' new (Ok other)
+valued other r = record {
+  translating = r.translating;
+  come = r.come;
+  keeps = r.keeps;
+  names = tt;
+  bound = r.bound;
+  same = r.same;
+  idle = r.idle;
+}
+
+pub advancing-begun : {L : Type 0} (flags : Flags) (all : List Answer) {t : Translator} {work : Work L}
+    → IsTranslating work.store.now work.names.now t
+    → Advancing flags all all (progress_over work t) t work t work
+advancing-begun flags all is = record { done = []; reads = advances-none flags is; goes = refl }
+
+pub advancing-next : {L T : Type 0} {flags : Flags} {all rest : List Answer} {p : Progress} {t t1 t2 : Translator}
+    {old mid new : Work L} (xs next : List Answer) {value : T}
+    → Advancing flags all rest p t old t1 mid → rest ≡ xs ++ next
+    → Advances (over flags xs (progress_over mid t1)) t1 mid t2 new (Ok value)
+    → Advancing flags all next p t old t2 new
+advancing-next {flags = flags} {p = p} xs next r cut b = record {
+  done = r.done ++ xs;
+  reads = valued tt (answers-then flags r.done xs p r.reads b);
+  goes = append_assoc r.done xs next ∙ (ap (λ list. r.done ++ list) (sym cut) ∙ r.goes);
+}
+
+pub advancing-stopped : {L T U : Type 0} {flags : Flags} {all rest : List Answer} {p : Progress} {t t1 t2 t3 : Translator}
+    {old mid new : Work L} (xs next : List Answer) {error : Memory} {result : Result U Memory}
+    → Advancing flags all rest p t old t1 mid → rest ≡ xs ++ next
+    → Advances {T = T} (over flags xs (progress_over mid t1)) t1 mid t2 new (Err error)
+    → IsErrAnd result (λ found. found ≡ error) → Advances (over flags all p) t old t3 new result
+advancing-stopped {flags = flags} {p = p} xs next r cut b is =
+    answers-as flags p (append_assoc r.done xs next ∙ (ap (λ list. r.done ++ list) (sym cut) ∙ r.goes))
+    (answers-stopped flags (r.done ++ xs) next p (answers-then flags r.done xs p r.reads b) is)
+
+-- the last of several calls
+pub advancing-last : {L T : Type 0} {flags : Flags} {all rest : List Answer} {p : Progress} {t t1 t2 : Translator}
+    {old mid new : Work L} {result : Result T Memory}
+    → Advancing flags all rest p t old t1 mid → Advances (over flags rest (progress_over mid t1)) t1 mid t2 new result
+    → Advances (over flags all p) t old t2 new result
+advancing-last {flags = flags} {rest = rest} {p = p} r b =
+    answers-as flags p r.goes (answers-then flags r.done rest p r.reads b)
+
+pub advancing-ended : {L T : Type 0} {flags : Flags} {all rest : List Answer} {p : Progress} {t t' : Translator}
+    {old now : Work L} (value : T) → Advancing flags all rest p t old t' now → rest ≡ []
+    → Advances (over flags all p) t old t' now (Ok value)
+advancing-ended {flags = flags} {p = p} value r none = answers-as flags p
+    (sym (append-nil r.done) ∙ (ap (λ list. r.done ++ list) (sym none) ∙ r.goes)) (valued value r.reads)
+
+-- ## A call that ends a text
+
+-- answers are read, and then a text ends
+pub ends-then : {L T : Type 0} {c : Route} (ys : List Answer) {t0 t : Translator} {old mid new : Work L}
+    {value : T} {result : Result Translated Memory}
+    → Advances c t0 old t mid (Ok value) → EndsIn (to_end c.flags ys (progress_over mid t)) t mid new result
+    → EndsIn (to_end c.flags ys c.ends) t0 old new result
+ends-then {c = c} ys {t0 = t0} {t = t} {old = old} {mid = mid} {new = new} {result = result} a b = record {
+  text = IfOk-weaker result _ _ (λ done h. then-ended c.flags t0 t old.steps.now mid.steps.now mid.store.now.lists
+      mid.names.now mid.marks.now c.ends a.come ys new.store.now.lists new.names.now new.marks.now done new.steps.now
+      h) b.text;
+  few = b.few;
+  named = b.named;
+  root = b.root;
+  keeps = IfOk-weaker result _ _ (λ done k. keeps-trans old.store.now.lists mid.store.now.lists new.store.now.lists
+      (all_roots t0.nesting) (all_roots t.nesting) (done.list.index ∷ []) a.keeps k) b.keeps;
+  refused = on-err-weaker result _ _ (then-last c.flags t0 t old.steps.now mid.steps.now mid.store.now.lists
+      mid.names.now mid.marks.now c.ends a.come ys new.names.now) b.refused;
+  bound = then-spent c.flags t0 t old.steps.now mid.steps.now mid.store.now.lists mid.names.now mid.marks.now c.ends
+      a.come ys new.steps.now a.bound b.bound;
+  same = same-work a.same b.same;
+  idle = b.idle;
+}
+
+-- memory is wanting
+pub ends-refused : {L : Type 0} {o : Target} {t : Translator} {old new : Work L} {error : Memory}
+    {result : Result Translated Memory}
+    → IsErrAnd result (λ found. found ≡ error) → o.leaves new.names.now
+    → new.steps.now ≤ old.steps.now + limit_in o.flags o.text.known.ended → IsSameWork old new
+    → new.store.now.building ≡ None → EndsIn o t old new result
+ends-refused {error = error} {result = result} is names bound same idle = record {
+  text = err-if result error _ is;
+  few = err-if result error _ is;
+  named = err-if result error _ is;
+  root = err-if result error _ is;
+  keeps = err-if result error _ is;
+  refused = on-err result _ names;
+  bound = bound;
+  same = same;
+  idle = idle;
+}
+
+-- a call that reads is refused, before the text ends
+pub ends-stopped : {L T : Type 0} {c : Route} (ys : List Answer) {leaves : List Entry → Type 0}
+    {t0 t : Translator} {old new : Work L} {error : Memory} {result : Result Translated Memory}
+    → Advances {T = T} c t0 old t new (Err error) → IsErrAnd result (λ found. found ≡ error)
+    → ((names : List Entry) → c.leaves names → leaves names)
+    → EndsIn (record { flags = c.flags; text = all_ended c.flags (after_answers c.flags ys c.ends); leaves = leaves })
+    t0 old new result
+ends-stopped {c = c} ys {old = old} {new = new} r is among =
+    let few : new.steps.now ≤ old.steps.now + limit_in c.flags c.ends.known.ended = r.bound in
+    let more : limit_in c.flags c.ends.known.ended ≤ limit_in c.flags (after_answers c.flags ys c.ends).known.ended =
+    limit-more c.flags ys c.ends in
+    ends-refused is (among new.names.now r.names)
+    (spent-within c.flags (after_answers c.flags ys c.ends) old.steps.now new.steps.now (omega (arith, few, more)))
+    r.same r.idle
+
+-- the same outcome, said otherwise
+pub ends-as : {L : Type 0} {o : Target} {text : Ended} {leaves : List Entry → Type 0} {t : Translator}
+    {old new : Work L} {result : Result Translated Memory} → o.text ≡ text
+    → ((names : List Entry) → o.leaves names → leaves names) → EndsIn o t old new result
+    → EndsIn (record { flags = o.flags; text = text; leaves = leaves }) t old new result
+ends-as {o = o} {t = t} {old = old} {new = new} {result = result} is among r = record {
+  text = IfOk-weaker result _ _ (λ done h. subst (HasEnded o.flags t old.steps.now new.store.now.lists new.names.now
+      new.marks.now done new.steps.now) is h) r.text;
+  few = r.few;
+  named = r.named;
+  root = r.root;
+  keeps = r.keeps;
+  refused = on-err-weaker result _ _ (among new.names.now) r.refused;
+  bound = subst (λ (x : Ended). new.steps.now ≤ old.steps.now + limit_in o.flags x.known.ended) is r.bound;
+  same = r.same;
+  idle = r.idle;
+}
+
+-- answers to the end of a text
+pub ends-answers : {L T : Type 0} (flags : Flags) (xs : List Answer) (p : Progress) {t0 t : Translator}
+    {old mid new : Work L} {value : T} {result : Result Translated Memory}
+    → Advances (over flags xs p) t0 old t mid (Ok value)
+    → EndsIn (to_end flags [] (progress_over mid t)) t mid new result
+    → EndsIn (to_end flags xs p) t0 old new result
+ends-answers flags xs p a b = ends-as refl
+    (λ names h. way-end flags xs p (after_answers flags xs p) names refl h)
+    (ends-then {c = over flags xs p} [] a b)
+
+pub ends-answers-stopped : {L T : Type 0} (flags : Flags) (xs : List Answer) (p : Progress) {t0 t : Translator}
+    {old new : Work L} {error : Memory} {result : Result Translated Memory}
+    → Advances {T = T} (over flags xs p) t0 old t new (Err error) → IsErrAnd result (λ found. found ≡ error)
+    → EndsIn (to_end flags xs p) t0 old new result
+ends-answers-stopped flags xs p a is = ends-stopped {c = over flags xs p} [] a is
+    (λ names h. subst (λ list. NamesOnTheWay flags list p names) (append-nil xs) (h []))
+
+-- a call that counts no step goes before: what it made stands in place of what was open
+pub ends-behind : {L : Type 0} {o : Target} {t0 t : Translator} {old mid new : Work L}
+    {result : Result Translated Memory}
+    → Keeps old.store.now.lists mid.store.now.lists (all_roots t0.nesting) (all_roots t.nesting)
+    → t0.scraps ≡ t.scraps → t0.productions ≡ t.productions → mid.steps.now ≡ old.steps.now → IsSameWork old mid
+    → EndsIn o t mid new result → EndsIn o t0 old new result
+ends-behind {o = o} {t0 = t0} {t = t} {old = old} {mid = mid} {new = new} {result = result} keeps scraps
+    productions_are steps same r = record {
+      text = IfOk-weaker result _ _ (λ done h. record {
+        tree = h.tree;
+        names_are = h.names_are;
+        marks_are = h.marks_are;
+        scraps = h.scraps ∙ ap (λ n. n + scraps_in o.text.known.ended) (sym scraps);
+        productions_are = h.productions_are
+            ∙ ap (λ n. n + productions_in o.flags o.text.known.ended) (sym productions_are);
+        steps_are = h.steps_are ∙ ap (λ n. n + ticks_in o.flags o.text.known.ended) steps;
+      }) r.text;
+      few = r.few;
+      named = r.named;
+      root = r.root;
+      keeps = IfOk-weaker result _ _ (λ done k. keeps-trans old.store.now.lists mid.store.now.lists
+          new.store.now.lists (all_roots t0.nesting) (all_roots t.nesting) (done.list.index ∷ []) keeps k) r.keeps;
+      refused = r.refused;
+      bound = subst (λ n. new.steps.now ≤ n + limit_in o.flags o.text.known.ended) steps r.bound;
+      same = same-work same r.same;
+      idle = r.idle;
+    }
