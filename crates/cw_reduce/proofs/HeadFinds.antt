@@ -1,4 +1,10 @@
 -- What stands behind heads, as they are read.
+use Rattle.std.specs.Prelude.{Err, IsErrAnd, Ok, Result}
+use Rattle.cw_base.specs.declared.memory.Memory.{Memory}
+use Rattle.cw_tokens.specs.Stored.{StoredLists}
+use Rattle.cw_reduce.specs.HeadsRead.{HeadIsRead}
+use Rattle.cw_translator.proofs.LeafSteps.{empty-line, keeps-itself}
+use Rattle.cw_translator.proofs.Routes.{err-if, err-ok, on-err}
 use Rattle.std.proofs.Common.{◌≡◌, ◌^◌, Bool, true, false, Some, None, List, [], ◌∷◌, ◌++◌, refl, sym}
 use Rattle.std.proofs.Common.{ap, ◌∙◌, subst}
 use Rattle.cw_rules.specs.Answers.{Answer, Token, Begin, Finish, Note, Seen, seen, Gives, is_head_sign}
@@ -287,3 +293,38 @@ sign-words (read.Named number sign) names = refl
 pub sign-names : (h : Head) (head : HeadRead) (names : List Entry) → h ≡ head_named head
     → names ≡ (spelled (words_in h) names).names
 sign-names h head names e = sign-words head names ∙ ap (λ x. (spelled (words_in x) names).names) (sym e)
+
+-- A call that reads a head is refused.
+pub head-refused : {h : Headed} {old new : StoredLists} {names names' : List Entry} {coming : List Answer}
+    {error : Memory} {result : Result Beginning Memory}
+    → IsErrAnd result (λ found. found ≡ error) → NamesWithin (words_in h.head) names names' → new.lists ≡ old.lists
+    → new.building ≡ None → HeadIsRead h old names new names' coming result
+head-refused {error = error} {result = result} is within same idle = record {
+  made = err-if result error _ is;
+  spelt = err-ok result error _ is;
+  rest = err-if result error _ is;
+  nested = err-if result error _ is;
+  start = err-if result error _ is;
+  sound = err-if result error _ is;
+  keeps = err-if result error _ is;
+  idle = idle;
+  no_names = on-err result _ within;
+  no_lists = on-err result _ same;
+}
+
+-- There is none.
+pub head-none : {rest new : List Answer} {names : List Entry} {store : StoredLists} {b : Beginning}
+    → NoHead rest names store.lists b (answers_ahead b ++ new) → b.head ≡ read.None → store.building ≡ None
+    → HeadIsRead (headed (nest rest)) store names store names new (Ok b)
+head-none {names = names} {store = store} n none idle = record {
+  made = n.made;
+  spelt = n.names_are;
+  rest = n.rest_is;
+  nested = n.nested;
+  start = n.starts;
+  sound = rw none (empty-line store names idle);
+  keeps = rw none (keeps-itself store.lists []);
+  idle = idle;
+  no_names = tt;
+  no_lists = tt;
+}

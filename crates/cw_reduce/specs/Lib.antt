@@ -3,4 +3,5 @@ pub mod Visible
 pub mod TranslationLaws
 pub mod Naming
 pub mod HeadReading
+pub mod HeadsRead
 pub mod Heading

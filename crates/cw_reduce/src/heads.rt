@@ -1,7 +1,6 @@
 //! The head with which a definition or a named C part begins, as it is read.
 ghost use Rattle.std.specs.Prelude.{◌≡◌, ◌+◌, ◌^◌, ◌<◌, ◌≤◌, [], ◌∷◌, ◌++◌, length, true, option_map, IsSome, None};
 ghost use Rattle.std.specs.Prelude.{Some, IfOk, OnOk, OnErr};
-ghost use Rattle.cw_base.specs.declared.flags.Flags.{Flags};
 ghost use Rattle.cw_rules.specs.Answers.{Gives, Token as TokenAnswer, seen};
 ghost use Rattle.cw_answers.specs.Reading.{Stays};
 ghost use Rattle.cw_lex.specs.Limbo.{is_name_kind};
@@ -9,8 +8,6 @@ ghost use Rattle.cw_lex.specs.Heads.{headed, headed_by, named_headed, wanted_by,
 ghost use Rattle.cw_rules.specs.Answers.{is_head_sign};
 ghost use Rattle.cw_lex.specs.Nest.{nest};
 ghost use Rattle.cw_lex.specs.Nested.{IsNested};
-ghost use Rattle.cw_scraps.specs.Changing.{Keeps};
-ghost use Rattle.cw_scraps.specs.Lines.{IsSoundLine, roots_of};
 ghost use Rattle.cw_base.specs.declared.mode.MathMode.TheVariants as Modes;
 ghost use Rattle.cw_trees.specs.declared.Control.TheVariants as Controls;
 ghost use Rattle.cw_tokens.specs.declared.token.Token.TheVariants as Tokens;
@@ -18,9 +15,10 @@ ghost use Rattle.cw_reduce.specs.declared.heads.HeadRead.TheVariants as Heads;
 ghost use Rattle.cw_rewrite.specs.Gathering.{refs_in};
 ghost use Rattle.cw_reduce.specs.HeadReading.{HasTokens, IsLast, NamesWithin, answer_words, answers_ahead};
 ghost use Rattle.cw_reduce.specs.HeadReading.{format_tokens, head_line, head_named, is_definition};
-ghost use Rattle.cw_reduce.specs.HeadReading.{macro_tokens, read_made, without_notes, words_in, words_tokens};
+ghost use Rattle.cw_reduce.specs.HeadReading.{macro_tokens, without_notes, words_tokens};
+ghost use Rattle.cw_reduce.specs.HeadsRead.{HeadIsRead};
 ghost use Rattle.cw_translator.specs.Opening.{StartsBelow, answers_in};
-ghost use Rattle.cw_translator.specs.Translating.{Known, NameTexts, dollared, head_made, spelled, with_names};
+ghost use Rattle.cw_translator.specs.Translating.{dollared, spelled};
 
 use cw_answers::Reader;
 use cw_base::{MathMode, Memory};
@@ -64,26 +62,9 @@ pub(crate) fn read_head<'a>(
     requires nested { IsNested (answers_in first ++ reader.old.coming) }
     requires start { StartsBelow (2 ^ 32) (answers_in first ++ reader.old.coming) }
     requires idle { store.old.building ≡ None }
-    // What the head makes is that of the definition, and the names are those behind its words.
-    ensures made { IfOk result (λ begun. (flags : Flags) (named : NameTexts) (known : Known) →
-        head_made flags named (headed (nest (answers_in first.entry ++ reader.old.coming))).head
-        (with_names names.old known) ≡ read_made flags named store.new.lists begun.head
-        (with_names names.new known)) }
-    ensures names { OnOk result (names.new ≡
-        (spelled (words_in (headed (nest (answers_in first.entry ++ reader.old.coming))).head) names.old).names) }
-    // The answers behind it are those of what the definition leaves.
-    ensures rest { IfOk result (λ begun. nest (answers_ahead begun ++ reader.new.coming) ≡
-        (headed (nest (answers_in first.entry ++ reader.old.coming))).rest) }
-    ensures nested { IfOk result (λ begun. IsNested (answers_ahead begun ++ reader.new.coming)) }
-    ensures start { IfOk result (λ begun. StartsBelow (2 ^ 32) (answers_ahead begun ++ reader.new.coming)) }
+    ensures head { HeadIsRead (headed (nest (answers_in first.entry ++ reader.old.coming))) store.old names.old store.new
+        names.new reader.new.coming result }
     ensures all { Stays reader.old.all reader.new.all }
-    // Its scrap is sound, and the lists that the store held stay.
-    ensures sound { IfOk result (λ begun. IsSoundLine store.new names.new (head_line begun.head)) }
-    ensures keeps { IfOk result (λ begun. Keeps store.old.lists store.new.lists [] (roots_of (head_line begun.head))) }
-    ensures idle { store.new.building ≡ None }
-    ensures no_names { OnErr result (NamesWithin (words_in (headed (nest (answers_in first.entry ++
-        reader.old.coming))).head) names.old names.new) }
-    ensures no_lists { OnErr result (store.new.lists ≡ store.old.lists) }
 {
     let Lexed::Token(token) = first else {
         return Ok(headless(first));
@@ -210,22 +191,9 @@ fn definition_head<'a>(
     requires nested { IsNested (TokenAnswer (seen code) ∷ reader.old.coming) }
     requires start { StartsBelow (2 ^ 32) (TokenAnswer (seen code) ∷ reader.old.coming) }
     requires idle { store.old.building ≡ None }
-    ensures made { IfOk result (λ begun. (flags : Flags) (named : NameTexts) (known : Known) →
-        head_made flags named (headed_by code.entry.kind (seen code.entry) (nest reader.old.coming)).head
-        (with_names names.old known) ≡ read_made flags named store.new.lists begun.head (with_names names.new known)) }
-    ensures names { OnOk result (names.new ≡ (spelled (words_in (headed_by code.entry.kind (seen code.entry)
-        (nest reader.old.coming)).head) names.old).names) }
-    ensures rest { IfOk result (λ begun. nest (answers_ahead begun ++ reader.new.coming) ≡
-        (headed_by code.entry.kind (seen code.entry) (nest reader.old.coming)).rest) }
-    ensures nested { IfOk result (λ begun. IsNested (answers_ahead begun ++ reader.new.coming)) }
-    ensures start { IfOk result (λ begun. StartsBelow (2 ^ 32) (answers_ahead begun ++ reader.new.coming)) }
+    ensures head { HeadIsRead (headed_by code.entry.kind (seen code.entry) (nest reader.old.coming)) store.old names.old
+        store.new names.new reader.new.coming result }
     ensures all { Stays reader.old.all reader.new.all }
-    ensures sound { IfOk result (λ begun. IsSoundLine store.new names.new (head_line begun.head)) }
-    ensures keeps { IfOk result (λ begun. Keeps store.old.lists store.new.lists [] (roots_of (head_line begun.head))) }
-    ensures idle { store.new.building ≡ None }
-    ensures no_names { OnErr result (NamesWithin (words_in (headed_by code.entry.kind (seen code.entry)
-        (nest reader.old.coming)).head) names.old names.new) }
-    ensures no_lists { OnErr result (store.new.lists ≡ store.old.lists) }
 {
     store.tied_law();
     let wanted = wanted_by(code.kind);

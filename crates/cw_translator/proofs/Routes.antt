@@ -48,7 +48,7 @@ pub err-ok : {T E : Type 0} (r : Result T E) (error : E) (P : Type 0) → IsErrA
 err-ok (Ok x) error P h = absurd h
 err-ok (Err e) error P h = tt
 
-err-if : {T E : Type 0} (r : Result T E) (error : E) (P : T → Type 0) → IsErrAnd r (λ found. found ≡ error) → IfOk r P
+pub err-if : {T E : Type 0} (r : Result T E) (error : E) (P : T → Type 0) → IsErrAnd r (λ found. found ≡ error) → IfOk r P
 err-if (Ok x) error P h = absurd h
 err-if (Err e) error P h = tt
 
