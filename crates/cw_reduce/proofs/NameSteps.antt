@@ -45,7 +45,8 @@ use Rattle.cw_translator.specs.Translating.{NameTexts}
 use Rattle.cw_translator.specs.Working.{Advances, over, progress_over}
 use Rattle.cw_reduce.proofs.ReadSteps.{gives-is}
 use Rattle.cw_translator.proofs.AnswerRoutes.{begin-advances, unchanged}
-use Rattle.cw_translator.proofs.Routes.{Advancing, advancing-begun, advancing-next, advances-as, advances-done, advances-none}
+use Rattle.cw_translator.proofs.Routes.{Advancing, advancing-begun, advancing-next, advances-as, advances-done}
+use Rattle.cw_translator.proofs.Routes.{advances-none}
 use Rattle.cw_translator.proofs.LeafSteps.{Steps, keeps-itself}
 
 -- An inner text has begun.
@@ -139,7 +140,8 @@ module _ (kept : List SecName) (uses : List NameUse) (token : Seen) (named : is_
 
   pub unpaired-advances : {L T : Type 0} (flags : Flags) {t : Translator} {work : Work L} {value : T}
       → IsTranslating work.store.now work.names.now t
-      → Advances (over flags (token_answers (name_texts kept uses) token.kind token) (progress_over work t)) t work t work
+      → Advances (over flags (token_answers (name_texts kept uses) token.kind token) (progress_over work t)) t work t
+      work
       (Ok value)
   unpaired-advances flags {t = t} {work = work} is =
       let p : Progress = progress_over work t in

@@ -62,8 +62,8 @@ pub(crate) fn read_head<'a>(
     requires nested { IsNested (answers_in first ++ reader.old.coming) }
     requires start { StartsBelow (2 ^ 32) (answers_in first ++ reader.old.coming) }
     requires idle { store.old.building ≡ None }
-    ensures head { HeadIsRead (headed (nest (answers_in first.entry ++ reader.old.coming))) store.old names.old store.new
-        names.new reader.new.coming result }
+    ensures head { HeadIsRead (headed (nest (answers_in first.entry ++ reader.old.coming))) store.old names.old
+        store.new names.new reader.new.coming result }
     ensures all { Stays reader.old.all reader.new.all }
 {
     let Lexed::Token(token) = first else {

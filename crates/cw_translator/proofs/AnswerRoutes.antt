@@ -1,5 +1,6 @@
 -- What each answer of the scanner does, as one relation.
-use Rattle.std.proofs.Common.{◌≡◌, ℕ, ◌+◌, ◌*◌, ◌≤◌, List, [], ◌∷◌, length, None, ◌⊎◌, inl, inr, refl, sym, ap, ◌∙◌, subst}
+use Rattle.std.proofs.Common.{◌≡◌, ℕ, ◌+◌, ◌*◌, ◌≤◌, List, [], ◌∷◌, length, None, ◌⊎◌, inl, inr, refl, sym, ap, ◌∙◌}
+use Rattle.std.proofs.Common.{subst}
 use Rattle.std.proofs.Common.{add-zero, arith}
 use Rattle.std.specs.Prelude.{Result, Ok, IsErrAnd, OnOk}
 use Rattle.std.specs.List.{All}
@@ -26,7 +27,8 @@ use Rattle.cw_translator.specs.declared.nesting.Open.TheVariants.{CText}
 use Rattle.cw_translator.specs.declared.translator.Translator.{Translator}
 use Rattle.cw_translator.specs.declared.work.Work.{Work}
 use Rattle.cw_translator.specs.Counting.{limit_in}
-use Rattle.cw_translator.specs.Opening.{HasCome, IsSoundFrame, IsTranslating, all_roots, answers_in, begun_by, frames_of}
+use Rattle.cw_translator.specs.Opening.{HasCome, IsSoundFrame, IsTranslating, all_roots, answers_in, begun_by}
+use Rattle.cw_translator.specs.Opening.{frames_of}
 use Rattle.cw_translator.specs.Opening.{progress_of}
 use Rattle.cw_translator.specs.Reading.{after_answers, after_finish, after_token}
 use Rattle.cw_translator.specs.Retyping.{NamesAmong, Retypes, later}
@@ -43,7 +45,8 @@ unchanged = record { names = refl; store = refl; marks = refl; steps = refl }
 pub token-advances : {L T : Type 0} (flags : Flags) (token : Seen) {t t' : Translator} {old new : Work L}
     {result : Result T Memory}
     → OnOk result (IsTranslating new.store.now new.names.now t')
-    → OnOk result ((marks : MarkList) (ended : List State) → progress_of new.store.now.lists new.names.now marks t' ended
+    → OnOk result ((marks : MarkList) (ended : List State)
+    → progress_of new.store.now.lists new.names.now marks t' ended
     ≡ after_token token.kind token (progress_of old.store.now.lists old.names.now marks t ended)) → Same t t'
     → OnOk result (Keeps old.store.now.lists new.store.now.lists (all_roots t.nesting) (all_roots t'.nesting))
     → (new.names.now ≡ old.names.now) ⊎ (new.names.now ≡ names_with token.kind token.text old.names.now)
@@ -168,7 +171,8 @@ module _ {L T : Type 0} (flags : Flags) (token : Seen) {t t' : Translator} {old 
       (text-bound flags old.store.now old.names.now old.marks.now t line outer old.steps.now new.steps.now open_is few)
       same idle
 
-  pub text-advances : OnOk result (FinishStep flags old.store.now new.store.now old.names.now new.names.now old.marks.now
+  pub text-advances : OnOk result (FinishStep flags old.store.now new.store.now old.names.now new.names.now
+      old.marks.now
       new.marks.now t t' old.steps.now new.steps.now)
       → Advances (over flags (Finish token ∷ []) (progress_over old t)) t old t' new result
   text-advances step = finish-advances flags token step

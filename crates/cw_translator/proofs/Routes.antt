@@ -48,7 +48,8 @@ pub err-ok : {T E : Type 0} (r : Result T E) (error : E) (P : Type 0) → IsErrA
 err-ok (Ok x) error P h = absurd h
 err-ok (Err e) error P h = tt
 
-pub err-if : {T E : Type 0} (r : Result T E) (error : E) (P : T → Type 0) → IsErrAnd r (λ found. found ≡ error) → IfOk r P
+pub err-if : {T E : Type 0} (r : Result T E) (error : E) (P : T → Type 0) → IsErrAnd r (λ found. found ≡ error)
+    → IfOk r P
 err-if (Ok x) error P h = absurd h
 err-if (Err e) error P h = tt
 
@@ -349,19 +350,21 @@ pub advances-then : {L T U : Type 0} {c : Route} (ys : List Answer) {t t1 t2 : T
     {value : T} {result : Result U Memory}
     → Advances c t old t1 mid (Ok value) → Advances (over c.flags ys (progress_over mid t1)) t1 mid t2 new result
     → Advances (prolonged c ys) t old t2 new result
-advances-then {c = c} ys {t = t} {t1 = t1} {t2 = t2} {old = old} {mid = mid} {new = new} {result = result} a b = record {
-  translating = b.translating;
-  come = on_ok_weaker result (λ h. then-come c.flags t t1 old.steps.now mid.steps.now mid.store.now.lists mid.names.now
-      mid.marks.now c.ends a.come ys new.store.now.lists new.names.now new.marks.now t2 new.steps.now h) b.come;
-  keeps = on_ok_weaker result (λ k. keeps-trans old.store.now.lists mid.store.now.lists new.store.now.lists
-      (all_roots t.nesting) (all_roots t1.nesting) (all_roots t2.nesting) a.keeps k) b.keeps;
-  names = on-err-weaker result _ _ (λ h. inr (λ coming. then-way c.flags t t1 old.steps.now mid.steps.now
-      mid.store.now.lists mid.names.now mid.marks.now c.ends a.come ys coming new.names.now (h coming))) b.names;
-  bound = then-few c.flags t t1 old.steps.now mid.steps.now mid.store.now.lists mid.names.now mid.marks.now c.ends
-      a.come ys new.steps.now a.bound b.bound;
-  same = same-work a.same b.same;
-  idle = b.idle;
-}
+advances-then {c = c} ys {t = t} {t1 = t1} {t2 = t2} {old = old} {mid = mid} {new = new} {result = result} a b =
+    record {
+      translating = b.translating;
+      come = on_ok_weaker result (λ h. then-come c.flags t t1 old.steps.now mid.steps.now mid.store.now.lists
+          mid.names.now
+          mid.marks.now c.ends a.come ys new.store.now.lists new.names.now new.marks.now t2 new.steps.now h) b.come;
+      keeps = on_ok_weaker result (λ k. keeps-trans old.store.now.lists mid.store.now.lists new.store.now.lists
+          (all_roots t.nesting) (all_roots t1.nesting) (all_roots t2.nesting) a.keeps k) b.keeps;
+      names = on-err-weaker result _ _ (λ h. inr (λ coming. then-way c.flags t t1 old.steps.now mid.steps.now
+          mid.store.now.lists mid.names.now mid.marks.now c.ends a.come ys coming new.names.now (h coming))) b.names;
+      bound = then-few c.flags t t1 old.steps.now mid.steps.now mid.store.now.lists mid.names.now mid.marks.now c.ends
+          a.come ys new.steps.now a.bound b.bound;
+      same = same-work a.same b.same;
+      idle = b.idle;
+    }
 
 -- a call that is refused, before another
 pub advances-stopped : {L T U : Type 0} {c : Route} (ys : List Answer) {t t1 t2 : Translator} {old new : Work L}
@@ -392,7 +395,8 @@ joined flags xs ys p r = advances-as (sym (after-append flags xs ys p)) (λ new.
 
 pub answers-then : {L T U : Type 0} (flags : Flags) (xs ys : List Answer) (p : Progress) {t t1 t2 : Translator}
     {old mid new : Work L} {value : T} {result : Result U Memory}
-    → Advances (over flags xs p) t old t1 mid (Ok value) → Advances (over flags ys (progress_over mid t1)) t1 mid t2 new result
+    → Advances (over flags xs p) t old t1 mid (Ok value)
+    → Advances (over flags ys (progress_over mid t1)) t1 mid t2 new result
     → Advances (over flags (xs ++ ys) p) t old t2 new result
 answers-then flags xs ys p a b = joined flags xs ys p (advances-then {c = over flags xs p} ys a b)
 
@@ -409,7 +413,8 @@ answers-as flags p {t = t} {t' = t'} {old = old} {new = new} {result = result} i
     subst (λ list. Advances (over flags list p) t old t' new result) is r
 
 -- Answers are read, from where the first of these calls stood; with those that are left they are all.
-pub record Advancing {L : Type 0} (flags : Flags) (all rest : List Answer) (p : Progress) (t : Translator) (old : Work L)
+pub record Advancing {L : Type 0} (flags : Flags) (all rest : List Answer) (p : Progress) (t : Translator)
+    (old : Work L)
     (t' : Translator) (now : Work L) : Type 0 where
   pub done : List Answer
   pub reads : Advances {T = Unit {0}} (over flags done p) t old t' now (Ok tt)
@@ -444,7 +449,8 @@ advancing-next {flags = flags} {p = p} xs next r cut b = record {
   goes = append_assoc r.done xs next ∙ (ap (λ list. r.done ++ list) (sym cut) ∙ r.goes);
 }
 
-pub advancing-stopped : {L T U : Type 0} {flags : Flags} {all rest : List Answer} {p : Progress} {t t1 t2 t3 : Translator}
+pub advancing-stopped : {L T U : Type 0} {flags : Flags} {all rest : List Answer} {p : Progress}
+    {t t1 t2 t3 : Translator}
     {old mid new : Work L} (xs next : List Answer) {error : Memory} {result : Result U Memory}
     → Advancing flags all rest p t old t1 mid → rest ≡ xs ++ next
     → Advances {T = T} (over flags xs (progress_over mid t1)) t1 mid t2 new (Err error)

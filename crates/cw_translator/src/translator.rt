@@ -232,8 +232,8 @@ impl Translator {
     ) -> Result<(), Memory>
         requires translating { IsTranslating work.old.store.now work.old.names.now self.old }
         requires start { StartsBelow (2 ^ 32) (answers_in answer.now) }
-        ensures { Advances (over context.now.flags.now (answers_in answer.now) (progress_over work.old self.old)) self.old
-            work.old self.new work.new result }
+        ensures { Advances (over context.now.flags.now (answers_in answer.now) (progress_over work.old
+            self.old)) self.old work.old self.new work.new result }
     {
         match answer {
             Lexed::Token(token) => self.token(token, work.names, work.store),

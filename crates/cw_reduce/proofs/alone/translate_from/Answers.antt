@@ -43,7 +43,8 @@ returns-clause-text g c =
     (tied-idle c.args.work.now.store.now c.requires.idle c.tied_law.ensures) c.requires.makes c.in_ok-leaf.ensures.idle
     c.in_ok-leaf.ensures.form c.in_ok-leaf.ensures.names c.in_ok-leaf.ensures.sound refl
     (record { scraps = refl; productions = refl })) in
-    ends-as (first-text c.args.context.now.flags.now (name_texts c.args.context.now.sec_names.now c.args.context.now.uses.now)
+    ends-as (first-text c.args.context.now.flags.now
+    (name_texts c.args.context.now.sec_names.now c.args.context.now.uses.now)
     (texts-nested c.args.context.now.sec_names.now c.args.context.now.uses.now) c.args.work.now.store.now.lists
     c.args.work.now.names.now (marked_names c.args.work.now.marks.now) c.args.token.now c.requires.makes
     c.args.reader.now.coming c.requires.nested c.requires.start
@@ -53,7 +54,8 @@ returns-clause-text g c =
     c.args.work.now.names.now (marked_names c.args.work.now.marks.now) c.args.token.now c.requires.makes
     c.args.reader.now.coming c.requires.nested c.requires.start
     (after_token c.args.token.now.kind (seen c.args.token.now) (progress_over c.args.work.now of_nothing)) refl)
-    (ends-then (with_texts (name_texts c.args.context.now.sec_names.now c.args.context.now.uses.now) c.args.reader.now.coming)
+    (ends-then (with_texts (name_texts c.args.context.now.sec_names.now c.args.context.now.uses.now)
+    c.args.reader.now.coming)
     (token-advances {T = Unit {0}} c.args.context.now.flags.now (seen c.args.token.now) {result = Ok tt}
     step.steps.translating step.progress (record { scraps = refl; productions = refl }) step.steps.keeps
     (inr c.in_ok-leaf.ensures.names) refl refl (record { names = refl; store = refl; marks = refl; steps = refl })
@@ -61,9 +63,11 @@ returns-clause-text g c =
 
 pub returns-in_err-leaf-clause-text : goal.returns-in_err-leaf-clause-text
 returns-in_err-leaf-clause-text g c = ends-refused c.from_residual.ensures.1
-    (subst (λ names. NamesOfText c.args.context.now.flags.now (name_texts c.args.context.now.sec_names.now c.args.context.now.uses.now) (Token (seen c.args.token.now)
+    (subst (λ names. NamesOfText c.args.context.now.flags.now
+    (name_texts c.args.context.now.sec_names.now c.args.context.now.uses.now) (Token (seen c.args.token.now)
     ∷ c.args.reader.now.coming) c.args.work.now.names.now (marked_names c.args.work.now.marks.now) names)
-    (sym c.in_err-leaf.ensures.no_names) (first-start c.args.context.now.flags.now (name_texts c.args.context.now.sec_names.now c.args.context.now.uses.now)
+    (sym c.in_err-leaf.ensures.no_names) (first-start c.args.context.now.flags.now
+    (name_texts c.args.context.now.sec_names.now c.args.context.now.uses.now)
     (texts-nested c.args.context.now.sec_names.now c.args.context.now.uses.now) c.args.work.now.store.now.lists
     c.args.work.now.names.now (marked_names c.args.work.now.marks.now) c.args.token.now c.requires.makes
     c.args.reader.now.coming c.requires.nested c.requires.start)) (omega arith)

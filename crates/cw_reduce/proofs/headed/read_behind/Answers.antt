@@ -25,29 +25,36 @@ read_named-requires-clause-start g c = (starts-split 4294967296 (name_ahead c.ar
     ++ answers_in c.args.begun.now.next) c.args.reader.now.coming c.requires.start).1
 
 pub returns-in_err-name_ahead-clause-reads : goal.returns-in_err-name_ahead-clause-reads
-returns-in_err-name_ahead-clause-reads g c = advancing-stopped (with_texts (name_texts c.args.context.now.sec_names.now c.args.context.now.uses.now)
-    (name_ahead c.args.begun.now.name)) (with_texts (name_texts c.args.context.now.sec_names.now c.args.context.now.uses.now)
+returns-in_err-name_ahead-clause-reads g c = advancing-stopped
+    (with_texts (name_texts c.args.context.now.sec_names.now c.args.context.now.uses.now)
+    (name_ahead c.args.begun.now.name)) (with_texts
+    (name_texts c.args.context.now.sec_names.now c.args.context.now.uses.now)
     (answers_in c.args.begun.now.next ++ c.args.reader.now.coming))
     (advancing-begun c.args.context.now.flags.now
     (with_texts (name_texts c.args.context.now.sec_names.now c.args.context.now.uses.now)
     ((name_ahead c.args.begun.now.name ++ answers_in c.args.begun.now.next) ++ c.args.reader.now.coming))
     c.requires.translating)
     (cut-first (name_texts c.args.context.now.sec_names.now c.args.context.now.uses.now)
-    (name_ahead c.args.begun.now.name) (answers_in c.args.begun.now.next) c.args.reader.now.coming) c.in_err-name_ahead.ensures c.from_residual.ensures.1
+    (name_ahead c.args.begun.now.name) (answers_in c.args.begun.now.next) c.args.reader.now.coming)
+    c.in_err-name_ahead.ensures c.from_residual.ensures.1
 
 pub returns-in_err-named_answer-clause-reads : goal.returns-in_err-named_answer-clause-reads
-returns-in_err-named_answer-clause-reads g c = advancing-stopped (with_texts (name_texts c.args.context.now.sec_names.now c.args.context.now.uses.now)
-    (answers_in c.args.begun.now.next)) (with_texts (name_texts c.args.context.now.sec_names.now c.args.context.now.uses.now)
+returns-in_err-named_answer-clause-reads g c = advancing-stopped
+    (with_texts (name_texts c.args.context.now.sec_names.now c.args.context.now.uses.now)
+    (answers_in c.args.begun.now.next)) (with_texts
+    (name_texts c.args.context.now.sec_names.now c.args.context.now.uses.now)
     c.args.reader.now.coming)
     (advancing-next (with_texts (name_texts c.args.context.now.sec_names.now c.args.context.now.uses.now)
-    (name_ahead c.args.begun.now.name)) (with_texts (name_texts c.args.context.now.sec_names.now c.args.context.now.uses.now)
+    (name_ahead c.args.begun.now.name)) (with_texts
+    (name_texts c.args.context.now.sec_names.now c.args.context.now.uses.now)
     (answers_in c.args.begun.now.next ++ c.args.reader.now.coming))
     (advancing-begun c.args.context.now.flags.now
     (with_texts (name_texts c.args.context.now.sec_names.now c.args.context.now.uses.now)
     ((name_ahead c.args.begun.now.name ++ answers_in c.args.begun.now.next) ++ c.args.reader.now.coming))
     c.requires.translating)
     (cut-first (name_texts c.args.context.now.sec_names.now c.args.context.now.uses.now)
-    (name_ahead c.args.begun.now.name) (answers_in c.args.begun.now.next) c.args.reader.now.coming) c.in_ok-name_ahead.ensures)
+    (name_ahead c.args.begun.now.name) (answers_in c.args.begun.now.next) c.args.reader.now.coming)
+    c.in_ok-name_ahead.ensures)
     (with-texts-append (name_texts c.args.context.now.sec_names.now c.args.context.now.uses.now)
     (answers_in c.args.begun.now.next) c.args.reader.now.coming) c.in_err-named_answer.ensures
     c.from_residual-in_err-named_answer.ensures.1
@@ -55,16 +62,20 @@ returns-in_err-named_answer-clause-reads g c = advancing-stopped (with_texts (na
 pub returns-clause-reads : goal.returns-clause-reads
 returns-clause-reads g c = advancing-last
     (advancing-next (with_texts (name_texts c.args.context.now.sec_names.now c.args.context.now.uses.now)
-    (answers_in c.args.begun.now.next)) (with_texts (name_texts c.args.context.now.sec_names.now c.args.context.now.uses.now)
+    (answers_in c.args.begun.now.next)) (with_texts
+    (name_texts c.args.context.now.sec_names.now c.args.context.now.uses.now)
     c.args.reader.now.coming)
     (advancing-next (with_texts (name_texts c.args.context.now.sec_names.now c.args.context.now.uses.now)
-    (name_ahead c.args.begun.now.name)) (with_texts (name_texts c.args.context.now.sec_names.now c.args.context.now.uses.now)
+    (name_ahead c.args.begun.now.name)) (with_texts
+    (name_texts c.args.context.now.sec_names.now c.args.context.now.uses.now)
     (answers_in c.args.begun.now.next ++ c.args.reader.now.coming))
     (advancing-begun c.args.context.now.flags.now
     (with_texts (name_texts c.args.context.now.sec_names.now c.args.context.now.uses.now)
     ((name_ahead c.args.begun.now.name ++ answers_in c.args.begun.now.next) ++ c.args.reader.now.coming))
     c.requires.translating)
     (cut-first (name_texts c.args.context.now.sec_names.now c.args.context.now.uses.now)
-    (name_ahead c.args.begun.now.name) (answers_in c.args.begun.now.next) c.args.reader.now.coming) c.in_ok-name_ahead.ensures)
+    (name_ahead c.args.begun.now.name) (answers_in c.args.begun.now.next) c.args.reader.now.coming)
+    c.in_ok-name_ahead.ensures)
     (with-texts-append (name_texts c.args.context.now.sec_names.now c.args.context.now.uses.now)
-    (answers_in c.args.begun.now.next) c.args.reader.now.coming) c.in_ok-named_answer.ensures) c.read_named.ensures.reads
+    (answers_in c.args.begun.now.next) c.args.reader.now.coming) c.in_ok-named_answer.ensures)
+    c.read_named.ensures.reads

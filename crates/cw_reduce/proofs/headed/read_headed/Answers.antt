@@ -10,16 +10,20 @@ use Rattle.cw_reduce.proofs.headed.read_headed.Goals as goal
 
 pub returns-in_err-head_name-clause-reads : goal.returns-in_err-head_name-clause-reads
 returns-in_err-head_name-clause-reads g c = advances-as refl
-    (headed-among c.args.context.now.flags.now (name_texts c.args.context.now.sec_names.now c.args.context.now.uses.now) c.args.begun.now.head
+    (headed-among c.args.context.now.flags.now (name_texts c.args.context.now.sec_names.now c.args.context.now.uses.now)
+    c.args.begun.now.head
     (answers_ahead c.args.begun.now ++ c.args.reader.now.coming)
     (progress_over c.args.work.now c.args.translator.now))
-    (advances-stopped (with_texts (name_texts c.args.context.now.sec_names.now c.args.context.now.uses.now) (answers_ahead c.args.begun.now ++ c.args.reader.now.coming))
+    (advances-stopped (with_texts (name_texts c.args.context.now.sec_names.now c.args.context.now.uses.now)
+    (answers_ahead c.args.begun.now ++ c.args.reader.now.coming))
     c.in_err-head_name.ensures c.from_residual.ensures.1)
 
 pub returns-clause-reads : goal.returns-clause-reads
 returns-clause-reads g c = advances-as refl
-    (headed-among c.args.context.now.flags.now (name_texts c.args.context.now.sec_names.now c.args.context.now.uses.now) c.args.begun.now.head
+    (headed-among c.args.context.now.flags.now (name_texts c.args.context.now.sec_names.now c.args.context.now.uses.now)
+    c.args.begun.now.head
     (answers_ahead c.args.begun.now ++ c.args.reader.now.coming)
     (progress_over c.args.work.now c.args.translator.now))
-    (advances-then (with_texts (name_texts c.args.context.now.sec_names.now c.args.context.now.uses.now) (answers_ahead c.args.begun.now ++ c.args.reader.now.coming))
+    (advances-then (with_texts (name_texts c.args.context.now.sec_names.now c.args.context.now.uses.now)
+    (answers_ahead c.args.begun.now ++ c.args.reader.now.coming))
     c.in_ok-head_name.ensures c.read_behind.ensures.reads)

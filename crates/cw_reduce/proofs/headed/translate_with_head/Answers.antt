@@ -29,14 +29,16 @@ returns-in_err-begun-clause-text g c = ends-refused c.from_residual.ensures.1
 pub returns-clause-text : goal.returns-clause-text
 returns-clause-text g c = ends-behind c.in_ok-begun.ensures.head.keeps refl refl refl
     (record { names = refl; store = refl; marks = refl; steps = refl })
-    (ends-as (headed-translated c.args.context.now.flags.now (name_texts c.args.context.now.sec_names.now c.args.context.now.uses.now)
+    (ends-as (headed-translated c.args.context.now.flags.now
+    (name_texts c.args.context.now.sec_names.now c.args.context.now.uses.now)
     (texts-nested c.args.context.now.sec_names.now c.args.context.now.uses.now) c.read_head.new.store.lists
     c.in_ok-begun.begun.head (answers_ahead c.in_ok-begun.begun ++ c.read_head.new.reader.coming)
     (answers_in c.args.first ++ c.args.reader.now.coming) c.args.work.now.names.now c.read_head.new.names
     (marked_names c.args.work.now.marks.now) c.in_ok-begun.ensures.head.made c.in_ok-begun.ensures.head.rest)
     (λ names h. behind_head c.read_head.new.store.lists c.in_ok-begun.begun.head
     (answers_ahead c.in_ok-begun.begun ++ c.read_head.new.reader.coming) c.read_head.new.names
-    c.in_ok-begun.ensures.head.rest (c.in_ok-begun.ensures.head.made c.args.context.now.flags.now (name_texts c.args.context.now.sec_names.now c.args.context.now.uses.now)
+    c.in_ok-begun.ensures.head.rest (c.in_ok-begun.ensures.head.made c.args.context.now.flags.now
+    (name_texts c.args.context.now.sec_names.now c.args.context.now.uses.now)
     (begin c.args.work.now.names.now (marked_names c.args.work.now.marks.now))) h) c.translate_headed.ensures.text)
 
 pub returns-clause-read : goal.returns-clause-read

@@ -36,7 +36,8 @@ returns-in_err-head-clause-head c = head-refused c.from_residual-in_err-head.ens
 
 pub returns-clause-head : goal.returns-clause-head
 returns-clause-head c =
-    let named = (subst (λ w. c.read_words.new.names ≡ (spelled (answer_words w c.args.reader.now.coming) c.args.names.now).names)
+    let named = (subst (λ w. c.read_words.new.names
+    ≡ (spelled (answer_words w c.args.reader.now.coming) c.args.names.now).names)
     c.wanted_by-wanted.ensures c.in_ok-next.ensures.names) in
     let behind_it = definition-rest c.args.code.kind (seen c.args.code) c.args.reader.now.coming
     (answers_in c.in_ok-next.next ++ c.read_words.new.reader.coming) c.requires.code c.requires.nested

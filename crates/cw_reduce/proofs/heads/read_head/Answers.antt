@@ -46,7 +46,8 @@ returns-then-is_definition-clause-head c = subst (λ (h : Headed). HeadIsRead h 
     c.definition_head.new.store c.definition_head.new.names c.definition_head.new.reader.coming
     c.definition_head.result)
     (sym (token-headed (answers_in c.args.first ++ c.args.reader.now.coming) c.args.reader.now.coming c.in-Token.token
-    (token-gives c.args.first c.in-Token.token c.args.reader.now.coming c.in-Token.is) c.requires.nested)) c.definition_head.ensures.head
+    (token-gives c.args.first c.in-Token.token c.args.reader.now.coming c.in-Token.is) c.requires.nested))
+    c.definition_head.ensures.head
 
 pub read_sign-requires-clause-nested : goal.read_sign-requires-clause-nested
 read_sign-requires-clause-nested c = (token-nested (answers_in c.args.first ++ c.args.reader.now.coming)
@@ -62,7 +63,8 @@ read_sign-requires-clause-start c =
 
 pub returns-then-is_name-clause-head : goal.returns-then-is_name-clause-head
 returns-then-is_name-clause-head c =
-    let named = name-token (answers_in c.args.first ++ c.args.reader.now.coming) c.args.reader.now.coming c.in-Token.token
+    let named = name-token (answers_in c.args.first ++ c.args.reader.now.coming) c.args.reader.now.coming
+    c.in-Token.token
     (token-gives c.args.first c.in-Token.token c.args.reader.now.coming c.in-Token.is) c.requires.nested
     (sym c.is_name.ensures ∙ c.if-is_name.true) in
     record {
@@ -84,7 +86,8 @@ pub returns-clause-head : goal.returns-clause-head
 returns-clause-head c = head-none (no-head (answers_in c.args.first ++ c.args.reader.now.coming)
     c.args.reader.now.coming c.args.first c.args.names.now c.args.store.now.lists c.headless-2.result
     c.headless-2.ensures.head c.headless-2.ensures.name c.headless-2.ensures.next c.requires.gives c.requires.nested
-    c.requires.start (none-token (answers_in c.args.first ++ c.args.reader.now.coming) c.args.reader.now.coming c.in-Token.token
+    c.requires.start (none-token (answers_in c.args.first ++ c.args.reader.now.coming) c.args.reader.now.coming
+    c.in-Token.token
     (token-gives c.args.first c.in-Token.token c.args.reader.now.coming c.in-Token.is) c.requires.nested
     (sym c.is_definition.ensures ∙ c.if-is_definition.false) (sym c.is_name.ensures ∙ c.if-is_name.false)))
     c.headless-2.ensures.head c.requires.idle

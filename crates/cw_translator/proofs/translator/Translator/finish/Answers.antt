@@ -63,7 +63,8 @@ returns-in_err-list-in-Some-Comment g c = λ token. finish-advances c.args.conte
     (err-ok c.from_residual-in_err-list-in-Some-Comment.result _ _
     c.from_residual-in_err-list-in-Some-Comment.ensures.1)
     (same-names c.args.context.now.flags.now (Finish token ∷ []) (progress_over c.args.work.now c.args.self.now))
-    (omega arith) (record { names = refl; store = refl; marks = refl; steps = refl }) c.in_err-list-in-Some-Comment.ensures.idle
+    (omega arith) (record { names = refl; store = refl; marks = refl; steps = refl })
+    c.in_err-list-in-Some-Comment.ensures.idle
 
 pub returns-in_ok-list-in-Some-Comment : goal.returns-in_ok-list-in-Some-Comment
 returns-in_ok-list-in-Some-Comment g c = λ token. finish-advances c.args.context.now.flags.now token
@@ -79,7 +80,8 @@ returns-in_ok-list-in-Some-Comment g c = λ token. finish-advances c.args.contex
     ∙ ap (λ l. with_entry (entry_of l) c.end.new.self) c.leaf.ensures.value)
     (record { scraps = refl; productions = refl })) c.add_scrap.ensures)
     (same-names c.args.context.now.flags.now (Finish token ∷ []) (progress_over c.args.work.now c.args.self.now))
-    (omega arith) (record { names = refl; store = refl; marks = refl; steps = refl }) c.in_ok-list-in-Some-Comment.ensures.idle
+    (omega arith) (record { names = refl; store = refl; marks = refl; steps = refl })
+    c.in_ok-list-in-Some-Comment.ensures.idle
 
 pub returns-in-None : goal.returns-in-None
 returns-in-None g c = λ token. finish-advances c.args.context.now.flags.now token
