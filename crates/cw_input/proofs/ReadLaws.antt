@@ -1,5 +1,5 @@
--- How much is read of the files that are opened: nothing at first, and more with each file.
-use Rattle.std.proofs.Common.{◌≡◌, ◌≢◌, ℕ, ◌+◌, ◌<◌, ◌≤◌, List, [], ◌∷◌, ◌++◌, length, sum_by, refl, sym, ap}
+-- How much is read of the files that are opened: one call after another, and one file after another.
+use Rattle.std.proofs.Common.{◌≡◌, ◌≢◌, ℕ, ◌+◌, ◌<◌, ◌≤◌, List, [], ◌∷◌, ◌++◌, length, sum_by, sym, ap}
 use Rattle.std.proofs.Common.{subst, ◌∙◌, arith, Some, Result, Ok, Err, OnOk}
 use Rattle.std.proofs.lemmas.List.Sums.{sum_by-append}
 use Rattle.std.specs.FinMap.{get}
@@ -50,10 +50,7 @@ sum-more : (read : List (List ℕ)) (last : List ℕ)
     → sum_by length (read ++ last ∷ []) ≡ sum_by length read + length last
 sum-more read last = grind (arith, sum_by-append length read (last ∷ []))
 
-pub has_read-none : (files : Files) (told : Told) → HasRead files told.opened 0 told
-has_read-none files told = record { read = []; each = refl; within = omega arith }
-
-pub has_read-more : {files : Files} {first a b : ℕ} {told : Told} → a ≤ b → HasRead files first a told
+has_read-more : {files : Files} {first a b : ℕ} {told : Told} → a ≤ b → HasRead files first a told
     → HasRead files first b told
 has_read-more {a = a} {b = b} more had = let within : sum_by length had.read ≤ a = had.within in record {
   read = had.read;
