@@ -13,7 +13,7 @@ use Rattle.cw_scraps.specs.Applying.{state_of}
 use Rattle.cw_scraps.specs.Changing.{Keeps}
 use Rattle.cw_scraps.specs.Lines.{roots_of, AreRoots, IsNamedBelow}
 use Rattle.cw_scraps.specs.Marking.{MarkList, marked_names}
-use Rattle.cw_rewrite.specs.Reduction.{words_of}
+use Rattle.cw_names.specs.Words.{words_of}
 use Rattle.cw_translator.specs.declared.translator.Translated.{Translated}
 use Rattle.cw_translator.specs.Translating.{with_categories}
 
