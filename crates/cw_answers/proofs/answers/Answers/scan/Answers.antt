@@ -1,10 +1,9 @@
 -- Each answer is kept behind those before it.
-use Rattle.std.proofs.Common.{List, ◌++◌, refl, subst, sym, ◌∙◌, ap, length, arith}
+use Rattle.std.proofs.Common.{refl, subst, sym, ◌∙◌, ap, length, arith, rules}
 use Rattle.std.proofs.lemmas.Grind.{common_steps}
 use Rattle.cw_lex.specs.Lexing.{tokens_of}
-use Rattle.cw_rules.specs.Answers.{Answer, Token, Begin, Finish, Note, seen}
-use Rattle.cw_answers.specs.declared.kept.Kept.{Kept}
-use Rattle.cw_answers.specs.Kept.{answer_at, answers_at, IsWithin}
+use Rattle.cw_rules.specs.Answers.{Token, Begin, Finish, Note, seen}
+use Rattle.cw_answers.specs.Kept.{answer_at, IsWithin}
 use Rattle.cw_answers.proofs.Standing.{Keeping, begin, pushed}
 use Rattle.cw_answers.proofs.answers.Answers.scan.Goals.{in-Token, in-Begin, in-Finish, in-Note+in_ok-of-in-Note}
 use Rattle.cw_answers.proofs.answers.Answers.scan.Goals as goal
@@ -44,8 +43,7 @@ loop-token-preserved c =
 -- nothing is kept yet
 pub returns-then-text-clause-err : goal.returns-then-text-clause-err
 returns-then-text-clause-err c =
-    let tokens : List Answer = tokens_of c.args.text.now c.args.span.start c.args.span.end c.args.mode in
-    (tokens, ap (λ (l : List Kept). answers_at c.args.text.now l ++ tokens) (sym c.clear.ensures.items))
+    (tokens_of c.args.text.now c.args.span.start c.args.span.end c.args.mode, search rules)
 
 pub returns-in-End-clause-ok : goal.returns-in-End-clause-ok
 returns-in-End-clause-ok c = grind (arith, common_steps)
