@@ -85,6 +85,11 @@ rank RawUbin = 1
 rank Dot = 1
 rank _ = 0
 
+-- the category that stands past the last scrap, which is that of no name and of no scrap
+abbrev pub is_end : Cat → Bool
+is_end End = true
+is_end _ = false
+
 -- the categories that a scrap may have whose translation is exactly one unreserved identifier
 abbrev pub may_be_bare : Cat → Bool
 may_be_bare Exp = true

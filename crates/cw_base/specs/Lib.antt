@@ -1,5 +1,7 @@
--- The definitions that all crates share: categories, exits, flags, notes, words on texts, and the merged web.
+-- The definitions that all crates share: categories, conditions, exits, flags, notes, words on texts, and the merged
+-- web.
 pub mod Category
+pub mod Conditions
 pub mod Exit
 pub mod Flags
 pub mod Notes

@@ -1,6 +1,10 @@
 -- Words over byte texts that several crates speak of.
 use Rattle.std.specs.Prelude.{ℕ, ◌+◌, ◌==◌, ◌||◌, Bool, true, false, List, [], ◌∷◌, Option, Some, None, map}
 
+-- the sign that stands around C text in TeX text
+abbrev pub bar : ℕ
+bar = 124
+
 -- a blank: byte 32, 9, 11, 12 or 13
 abbrev pub is_blank : ℕ → Bool
 is_blank byte = byte == 32 || byte == 9 || byte == 11 || byte == 12 || byte == 13

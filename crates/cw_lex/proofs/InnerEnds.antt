@@ -11,7 +11,8 @@ use Rattle.cw_rules.specs.declared.parts.Start.{Start}
 use Rattle.cw_rules.specs.declared.parts.Start.TheVariants as start
 use Rattle.cw_rules.specs.declared.signs.Sign.{Sign}
 use Rattle.cw_rules.specs.Answers.{Answer, Where, Found}
-use Rattle.cw_rules.specs.Bytes.{newline, quote, hash, apostrophe, star, slash, less, at_sign, bar, begins, is_letter}
+use Rattle.cw_rules.specs.Bytes.{newline, quote, hash, apostrophe, star, slash, less, at_sign, begins, is_letter}
+use Rattle.cw_base.specs.Text.{bar}
 use Rattle.cw_rules.specs.Bytes.{is_in}
 use Rattle.cw_rules.specs.Codes.{begins_section, effect_in_c}
 use Rattle.cw_rules.specs.Constants.{constant}

@@ -6,7 +6,8 @@ use Rattle.cw_rules.specs.declared.parts.Opened.{Opened}
 use Rattle.cw_rules.specs.declared.pending.Pending.{Pending}
 use Rattle.cw_lex.specs.declared.state.State.{State}
 use Rattle.cw_rules.specs.Pending.{IsInside}
-use Rattle.cw_lex.specs.Coming.{one_if, IsNested, AllWithin, IsReady}
+use Rattle.cw_lex.specs.Coming.{IsNested, AllWithin, IsReady}
+use Rattle.cw_base.specs.Conditions.{one_if}
 use Rattle.cw_rules.specs.Tokens.{is_code, is_code_part}
 use Rattle.cw_lex.proofs.Steps.{AllWithin-more}
 

@@ -16,7 +16,8 @@ use Rattle.cw_rules.specs.declared.parts.Start.TheVariants as start
 use Rattle.cw_rules.specs.declared.tokens.Mode.TheVariants as modes
 use Rattle.cw_rules.specs.declared.tokens.TokKind.{TokKind}
 use Rattle.cw_rules.specs.declared.tokens.TokKind.TheVariants as kind
-use Rattle.cw_rules.specs.Bytes.{at_sign, bar, equals, begins, is_in, run}
+use Rattle.cw_rules.specs.Bytes.{at_sign, equals, begins, is_in, run}
+use Rattle.cw_base.specs.Text.{bar}
 use Rattle.cw_rules.specs.Codes.{code_at, begins_section, effect_in_tex}
 use Rattle.cw_rules.specs.Answers.{Answer, Token, Begin, Finish, Note, Where, Cut, Found, note_answers, plain}
 use Rattle.cw_lex.specs.Lexing.{answers, tokens_of, still_fresh, fresh_at, last_at}

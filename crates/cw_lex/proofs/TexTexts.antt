@@ -21,7 +21,8 @@ use Rattle.cw_rules.specs.declared.tokens.TokKind.TheVariants as kinds
 use Rattle.cw_rules.specs.Answers.{Answer, Token, Begin, Finish, Note, Seen, Where, Cut, Found, note_answers, token_of}
 use Rattle.cw_rules.specs.Answers.{plain, has_sign}
 use Rattle.cw_rules.specs.Bodies.{at_start, extent}
-use Rattle.cw_rules.specs.Bytes.{at_sign, bar, equals, run, begins, is_in}
+use Rattle.cw_rules.specs.Bytes.{at_sign, equals, run, begins, is_in}
+use Rattle.cw_base.specs.Text.{bar}
 use Rattle.cw_rules.specs.Codes.{code_of, code_at, is_section, begins_section, effect_in_tex}
 use Rattle.cw_lex.specs.Coming.{found_at}
 use Rattle.cw_lex.specs.Lexing.{still_fresh, joined, answers, fresh_at, last_at, answers_at, beginning, tokens_of}

@@ -1,6 +1,7 @@
 -- What is still to come of a scanner's answers, and what holds of a scanner.
 use Rattle.std.specs.Prelude.{◌≡◌, ℕ, ◌+◌, ◌-◌, ◌<◌, ◌≤◌, Bool, true, false, List, [], ◌∷◌, ◌++◌, length, drop}
 use Rattle.std.specs.Prelude.{slice_index, not, ◌&&◌, ◌==◌, Option, Some, None, if◌then◌else◌}
+use Rattle.cw_base.specs.Conditions.{one_if}
 use Rattle.cw_rules.specs.declared.classes.Class.TheVariants as classes
 use Rattle.cw_rules.specs.declared.parts.Part.{Part}
 use Rattle.cw_rules.specs.declared.parts.Part.TheVariants as parts
@@ -38,11 +39,6 @@ abbrev pub IsNested : Part → List Opened → Type 0
 IsNested part [] = Unit {0}
 IsNested part (c ∷ comments) = (is_code part comments ≡ true) × IsNested part comments
 
--- one more comment may be open where C text goes on
-abbrev pub one_if : Bool → ℕ
-one_if true = 1
-one_if false = 0
-
 -- White space of C text stands here, which gives no answer.
 abbrev pub ends_line : Part → List Opened → ℕ → Bool
 ends_line part [] last = in_hash_line part && not (last == backslash)
@@ -57,7 +53,7 @@ pub record IsClear (text : List ℕ) (c : Clear) : Type 0 where
   pub within : c.to ≤ length text
   pub runs : (place : ℕ) → c.from ≤ place → place ≤ c.to → run classes.IncludeName (drop place text) ≡ c.to - place
 
--- what holds of a scanner
+-- What holds of a scanner. One more comment may be open where C text goes on.
 pub record IsReady (text : List ℕ) (s : State) : Type 0 where
   pub within : s.at ≤ length text
   pub depth : length s.comments + one_if (is_code s.part s.comments) ≤ 21

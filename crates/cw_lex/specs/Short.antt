@@ -5,7 +5,8 @@ use Rattle.cw_rules.specs.declared.parts.Start.TheVariants as start
 use Rattle.cw_lex.specs.declared.short.Short.{Short}
 use Rattle.cw_lex.specs.declared.short.Quick.{Quick}
 use Rattle.cw_lex.specs.declared.short.Quick.TheVariants as quick
-use Rattle.cw_rules.specs.Bytes.{begins_by, is_in, quote, hash, apostrophe, dot, slash, bar}
+use Rattle.cw_rules.specs.Bytes.{begins_by, is_in, quote, hash, apostrophe, dot, slash}
+use Rattle.cw_base.specs.Text.{bar}
 use Rattle.cw_rules.specs.Answers.{Where, plain}
 use Rattle.cw_rules.specs.Tokens.{one, moved, passed, in_hash_line, in_code, inner_end}
 use Rattle.cw_lex.specs.Coming.{found_at}

@@ -6,7 +6,8 @@ use Rattle.cw_base.specs.declared.category.Cat.{Cat}
 use Rattle.cw_base.specs.declared.category.Cat.TheVariants.{Exp, End}
 use Rattle.cw_names.specs.declared.entry.Key.{Key}
 use Rattle.std.specs.List.{list_all}
-use Rattle.cw_names.specs.Inside.{is_end, entry_of, has_no_end_entry}
+use Rattle.cw_names.specs.Inside.{entry_of, has_no_end_entry}
+use Rattle.cw_base.specs.Category.{is_end}
 
 pub real : (cat : Cat) → cat ≢ End → is_end cat ≡ false
 real End differs = absurd (differs refl)

@@ -4,6 +4,7 @@ use Rattle.std.specs.List.{list_all}
 use Rattle.std.specs.Cmp.Lexicographic.{pointwise}
 use Rattle.cw_base.specs.declared.category.Cat.TheVariants.{End}
 use Rattle.cw_base.specs.declared.category.Cat.{Cat}
+use Rattle.cw_base.specs.Category.{is_end}
 use Rattle.cw_names.specs.declared.entry.Key.{Key}
 use Rattle.cw_names.specs.declared.entry.Wanted.{Wanted}
 use Rattle.cw_names.specs.Names.{Entry, same_kind}
@@ -13,10 +14,6 @@ abbrev pub entry_of : Key × Cat → Entry
 entry_of p = record { kind = p.0.kind; text = p.0.text.items; category = p.1 }
 
 -- No entry has the category of tests.
-abbrev pub is_end : Cat → Bool
-is_end End = true
-is_end _ = false
-
 abbrev pub has_no_end_entry : List (Key × Cat) → Bool
 has_no_end_entry entries = list_all (λ entry. not (is_end entry.1)) entries
 

@@ -22,7 +22,7 @@ use Rattle.cw_tokens.specs.declared.token.Token.{Token}
 use Rattle.cw_tokens.specs.declared.token.Token.TheVariants as token
 use Rattle.cw_tokens.specs.Shapes.{tree_in}
 use Rattle.cw_scraps.specs.Leaves.{token_form, word_form}
-use Rattle.cw_reduce.specs.Visible.{number_if}
+use Rattle.cw_base.specs.Conditions.{list_if}
 use Rattle.cw_lex.specs.Nest.{Nest, End, Leaf, Group, nest, IsWell}
 use Rattle.cw_lex.proofs.Nests.{nest-well}
 use Rattle.cw_lex.specs.Heads.{Head, Headless, Macro, Format, Silent, Named, Headed, headed, headed_by, headless}
@@ -184,8 +184,8 @@ well-headed (Group t inner rest) w = well-headless (Group t inner rest) w
 well-headed (Leaf t rest) w = well-by t.kind t rest w
 
 shows-named-head : (flags : Flags) (o : Option (List (List Answer))) (number sign : ℕ) (known : Known)
-    → Shows false (texts_named flags o Dead Text (sign_behind sign) number known) (number_if (is_some o) number
-    ++ number_if (is_some o) sign)
+    → Shows false (texts_named flags o Dead Text (sign_behind sign) number known) (list_if (is_some o) (number ∷ [])
+    ++ list_if (is_some o) (sign ∷ []))
 shows-named-head flags None number sign known = record { fine = refl; numbers_are = refl }
 shows-named-head flags (Some parts) number sign known =
     record { fine = refl; numbers_are = ap (λ ns. number ∷ (ns ++ [])) (struck-parts flags parts _ known) }

@@ -29,7 +29,8 @@ use Rattle.cw_scraps.specs.Leaves.{LeafForm, code_form, word_form, token_form}
 use Rattle.cw_trees.specs.Tree.{Then, Sign, Empty}
 use Rattle.cw_trees.specs.declared.Control.TheVariants as control
 use Rattle.cw_translator.specs.Translating.{leaf_scrap, CommentItem, Piece, InnerText, comment_rest, comment_tree}
-use Rattle.cw_reduce.specs.Visible.{is_shown, is_shown_code, is_comment, number_if}
+use Rattle.cw_reduce.specs.Visible.{is_shown, is_shown_code, is_comment}
+use Rattle.cw_base.specs.Conditions.{list_if}
 use Rattle.cw_lex.specs.Nest.{Nest, End, Leaf, Group, is_text_kind, IsGroupOf, IsWell}
 use Rattle.cw_reduce.specs.Visible.{shown_token, shown_in}
 use Rattle.cw_translator.specs.Translating.{Known, Made, beside, state_in, end_from, end_of, form_made, token_made}
@@ -80,7 +81,7 @@ word-fine : (c : Cat) (name : NameId) (n : ℕ) → is_fine (leaf_scrap (word_fo
 word-fine Exp name n = refl
 word-fine _ name n = refl
 
-code-numbers : (c : Code) (n : ℕ) → form_numbers (code_form c n) ≡ number_if (is_shown_code c) n
+code-numbers : (c : Code) (n : ℕ) → form_numbers (code_form c n) ≡ list_if (is_shown_code c) (n ∷ [])
 code-numbers code.TexBox n = refl
 code-numbers _ n = refl
 
@@ -90,7 +91,7 @@ code-fine _ n = refl
 
 pub token-numbers : (k : TokKind) (text : List ℕ) (hash_line : Bool) (n : ℕ) (names : List Entry) → is_text_kind k
     ≡ false
-    → form_numbers (token_form k text hash_line n names) ≡ number_if (is_shown k) n
+    → form_numbers (token_form k text hash_line n names) ≡ list_if (is_shown k) (n ∷ [])
 token-numbers kind.Text text hash_line n names h = absurd cc
 token-numbers kind.Identifier text hash_line n names h = word-numbers _ _ n
 token-numbers (kind.Code c) text hash_line n names h = code-numbers c n
@@ -139,7 +140,7 @@ pub record Shows (comment : Bool) (m : Made) (numbers : List ℕ) : Type 0 where
 
 abbrev pub ShowsNames : (ℕ → Bool) → (ℕ → Known → Made) → Type 0
 ShowsNames is_named name = (number : ℕ) (known : Known)
-    → Shows false (name number known) (number_if (is_named number) number)
+    → Shows false (name number known) (list_if (is_named number) (number ∷ []))
 
 pub shows-beside : (comment : Bool) (a b : Made) (ns ms : List ℕ) → Shows comment a ns → Shows comment b ms
     → Shows comment (beside a b) (ns ++ ms)
@@ -201,8 +202,8 @@ shows-comment flags token m ns s = record {
 
 shows-group : (flags : Flags) (comment : Bool) (k : TokKind) (token : Seen) (m : Made) (ns : List ℕ)
     → IsGroupOf comment k
-    → Shows (not comment) m ns → Shows comment (group_made flags k token m) (number_if (is_comment k) token.span.start
-    ++ ns)
+    → Shows (not comment) m ns
+    → Shows comment (group_made flags k token m) (list_if (is_comment k) (token.span.start ∷ []) ++ ns)
 shows-group flags true kind.InnerText token m ns w s = shows-inner flags m ns s
 shows-group flags false kind.LongComment token m ns w s = shows-comment flags token m ns s
 shows-group flags false kind.ShortComment token m ns w s = shows-comment flags token m ns s
@@ -232,7 +233,7 @@ struck-parts flags [] rest known = refl
 struck-parts flags (part ∷ parts) rest known = struck-parts flags parts rest (plain_text flags part known).known
 
 pub shows-name : (flags : Flags) (o : Option (List (List Answer))) (number : ℕ) (known : Known)
-    → Shows false (texts_named flags o SectionScrap Maybe Empty number known) (number_if (is_some o) number)
+    → Shows false (texts_named flags o SectionScrap Maybe Empty number known) (list_if (is_some o) (number ∷ []))
 shows-name flags None number known = record { fine = refl; numbers_are = refl }
 shows-name flags (Some parts) number known = record {
   fine = refl;

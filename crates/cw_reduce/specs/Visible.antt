@@ -1,6 +1,7 @@
 -- The tokens of a text that its translation shows: all that make a scrap or stand in a comment, but for the codes
 -- that only lay out and the end of a `#` line.
 use Rattle.std.specs.Prelude.{ℕ, Bool, true, false, List, [], ◌∷◌, ◌++◌, map}
+use Rattle.cw_base.specs.Conditions.{list_if}
 use Rattle.cw_rules.specs.Answers.{Answer, Seen}
 use Rattle.cw_rules.specs.declared.codes.Code.{Code}
 use Rattle.cw_rules.specs.declared.codes.Code.TheVariants as code
@@ -35,24 +36,20 @@ is_comment kind.LongComment = true
 is_comment kind.ShortComment = true
 is_comment _ = false
 
-abbrev pub number_if : Bool → ℕ → List ℕ
-number_if true number = number ∷ []
-number_if false number = []
-
 -- ## Whole texts
 
 -- A section name is shown where it stands for something.
 abbrev pub shown_token : (ℕ → Bool) → TokKind → ℕ → List ℕ
-shown_token is_named (kind.Code code.SectionName) number = number_if (is_named number) number
-shown_token is_named (kind.Code code.FileName) number = number_if (is_named number) number
-shown_token is_named k number = number_if (is_shown k) number
+shown_token is_named (kind.Code code.SectionName) number = list_if (is_named number) (number ∷ [])
+shown_token is_named (kind.Code code.FileName) number = list_if (is_named number) (number ∷ [])
+shown_token is_named k number = list_if (is_shown k) (number ∷ [])
 
 -- A comment is shown by its number, and then what stands in it.
 abbrev pub shown_in : (ℕ → Bool) → Nest → List ℕ
 shown_in is_named End = []
 shown_in is_named (Leaf token rest) = shown_token is_named token.kind token.span.start ++ shown_in is_named rest
 shown_in is_named (Group token inner rest) =
-    number_if (is_comment token.kind) token.span.start ++ shown_in is_named inner ++ shown_in is_named rest
+    list_if (is_comment token.kind) (token.span.start ∷ []) ++ shown_in is_named inner ++ shown_in is_named rest
 
 -- All words of a head are shown, but for those of a definition that prints nothing.
 abbrev pub starts : List Seen → List ℕ
@@ -63,7 +60,8 @@ shown_head is_named Headless = []
 shown_head is_named (Macro number words) = number ∷ starts words
 shown_head is_named (Format number words) = number ∷ starts words
 shown_head is_named (Silent words) = []
-shown_head is_named (Named number sign) = number_if (is_named number) number ++ number_if (is_named number) sign
+shown_head is_named (Named number sign) =
+    list_if (is_named number) (number ∷ []) ++ list_if (is_named number) (sign ∷ [])
 
 abbrev pub shown_headed : (ℕ → Bool) → Headed → List ℕ
 shown_headed is_named h = shown_head is_named h.head ++ shown_in is_named h.rest

@@ -8,7 +8,8 @@ use Rattle.cw_rules.specs.declared.classes.Class.TheVariants as classes
 use Rattle.cw_rules.specs.declared.signs.Sign.{Sign}
 use Rattle.cw_rules.specs.declared.signs.Sign.TheVariants as signs
 use Rattle.cw_rules.specs.declared.parts.Start.TheVariants as start
-use Rattle.cw_rules.specs.Bytes.{quote, apostrophe, star, plus, minus, slash, dot, digit_0, equals, at_sign, bar}
+use Rattle.cw_rules.specs.Bytes.{quote, apostrophe, star, plus, minus, slash, dot, digit_0, equals, at_sign}
+use Rattle.cw_base.specs.Text.{bar}
 use Rattle.cw_rules.specs.Bytes.{left_paren, right_paren, comma, run, is_in, is_letter, is_letter_of, begins, begins_by}
 use Rattle.cw_rules.specs.Bytes.{begins_with}
 use Rattle.cw_rules.specs.Signs.{all_signs, spelling, longer, longest}

@@ -15,7 +15,8 @@ use Rattle.cw_rules.specs.declared.parts.Part.TheVariants as parts
 use Rattle.cw_rules.specs.declared.parts.Opened.{Opened}
 use Rattle.cw_rules.specs.declared.signs.Sign.TheVariants as signs
 use Rattle.cw_rules.specs.declared.tokens.TokKind.TheVariants as kinds
-use Rattle.cw_rules.specs.Bytes.{star, greater, comma, right_paren, equals, at_sign, bar, run, is_in, is_letter, begins}
+use Rattle.cw_rules.specs.Bytes.{star, greater, comma, right_paren, equals, at_sign, run, is_in, is_letter, begins}
+use Rattle.cw_base.specs.Text.{bar}
 use Rattle.cw_rules.specs.Codes.{code_at, begins_section, effect_in_limbo, effect_in_tex}
 use Rattle.cw_rules.specs.Answers.{Note, Where, before, plain, dropped}
 use Rattle.cw_rules.specs.Tokens.{identifier, depth_size, section_code, moved, all_cut, section, limbo_by, limbo_text}

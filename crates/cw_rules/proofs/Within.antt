@@ -19,7 +19,8 @@ use Rattle.cw_rules.specs.declared.parts.Start.TheVariants as start
 use Rattle.cw_rules.specs.declared.signs.Sign.{Sign}
 use Rattle.cw_rules.specs.declared.tokens.TokKind.TheVariants as kinds
 use Rattle.cw_rules.specs.Bytes.{newline, quote, hash, apostrophe, star, comma, slash, less, equals, right_paren}
-use Rattle.cw_rules.specs.Bytes.{at_sign, bar, backslash, run, is_in, is_letter, begins, begins_with}
+use Rattle.cw_rules.specs.Bytes.{at_sign, backslash, run, is_in, is_letter, begins, begins_with}
+use Rattle.cw_base.specs.Text.{bar}
 use Rattle.cw_rules.specs.Signs.{all_signs, longest, spelling}
 use Rattle.cw_rules.specs.Constants.{constant}
 use Rattle.cw_rules.specs.Codes.{code_at, begins_section, effect_in_limbo, effect_in_tex}

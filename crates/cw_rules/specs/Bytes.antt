@@ -1,6 +1,6 @@
 -- The bytes and sets of bytes that the rules of the scanner name.
 use Rattle.std.specs.Prelude.{ℕ, ◌+◌, Bool, true, false, ◌&&◌, ◌||◌, not, ◌==◌, nat_le, List, [], ◌∷◌}
-use Rattle.cw_base.specs.Text.{is_blank}
+use Rattle.cw_base.specs.Text.{is_blank, bar}
 use Rattle.cw_rules.specs.declared.classes.Class.{Class}
 use Rattle.cw_rules.specs.declared.classes.Class.TheVariants.{Blank, White, Word, Digit, HexDigit, Suffix, LimboText}
 use Rattle.cw_rules.specs.declared.classes.Class.TheVariants.{TexText, IncludeName}
@@ -61,9 +61,6 @@ backslash = 92
 
 abbrev pub left_brace : ℕ
 left_brace = 123
-
-abbrev pub bar : ℕ
-bar = 124
 
 abbrev pub right_brace : ℕ
 right_brace = 125

@@ -25,7 +25,9 @@ use Rattle.cw_rules.specs.declared.signs.Sign.TheVariants as signs
 use Rattle.cw_rules.specs.declared.tokens.TokKind.{TokKind}
 use Rattle.cw_rules.specs.declared.tokens.TokKind.TheVariants as kinds
 use Rattle.cw_rules.specs.Bytes.{newline, quote, hash, apostrophe, left_paren, right_paren, star, comma, slash, less}
-use Rattle.cw_rules.specs.Bytes.{greater, equals, at_sign, backslash, bar, run, begins, begins_by, begins_with}
+use Rattle.cw_rules.specs.Bytes.{greater, equals, at_sign, backslash, run, begins, begins_by, begins_with}
+use Rattle.cw_base.specs.Conditions.{list_if}
+use Rattle.cw_base.specs.Text.{bar}
 use Rattle.cw_rules.specs.Bytes.{is_letter, is_in}
 use Rattle.cw_rules.specs.Signs.{all_signs, longest, spelling}
 use Rattle.cw_rules.specs.Constants.{constant}
@@ -252,8 +254,7 @@ part_cut (parts.FormatName code second limbo) place about = Note notes.ImproperF
 part_cut part place about = []
 
 abbrev pub inner_or_none : Bool → Bool → ℕ → ℕ → List Answer
-inner_or_none true hash_line place about = inner_cut hash_line place about
-inner_or_none false hash_line place about = []
+inner_or_none inner hash_line place about = list_if inner (inner_cut hash_line place about)
 
 abbrev pub all_cut : Part → List Opened → ℕ → ℕ → List Answer
 all_cut part [] place about = part_cut part place about

@@ -2,9 +2,7 @@
 use Rattle.std.specs.Prelude.{◌≡◌, ℕ, zero, suc, ◌+◌, ◌<◌, ◌≤◌, Bool, true, false, ◌==◌, List, [], ◌∷◌, Option, Some}
 use Rattle.std.specs.Prelude.{None, drop, length, option_map, if◌then◌else◌}
 use Rattle.cw_base.specs.declared.span.Span.{Span}
-
-abbrev pub bar : ℕ
-bar = 124
+use Rattle.cw_base.specs.Text.{bar}
 
 abbrev pub begins_with_bar : List ℕ → Bool
 begins_with_bar [] = false

@@ -1,6 +1,7 @@
 -- What contracts see of a store, and what its fields keep.
 use Rattle.std.specs.Prelude.{◌≡◌, ℕ, zero, suc, ◌+◌, ◌-◌, ◌<◌, ◌≤◌, Bool, true, false, List, [], ◌∷◌, ◌++◌, length}
 use Rattle.std.specs.Prelude.{Option, Some, None, take, drop, set, get_or}
+use Rattle.cw_base.specs.Conditions.{one_if}
 use Rattle.cw_tokens.specs.declared.token.Token.{Token}
 use Rattle.cw_tokens.specs.declared.store.Link.{Link}
 use Rattle.cw_tokens.specs.Shapes.{shape, ref_of}
@@ -43,10 +44,6 @@ start_of start (e ∷ es) (suc i) = start_of e es i
 abbrev pub built : Bool → List ℕ → List Token → Option (List Token)
 built true ends tokens = Some (drop (last_end 0 ends) tokens)
 built false ends tokens = None
-
-abbrev pub one_if : Bool → ℕ
-one_if true = 1
-one_if false = 0
 
 abbrev pub IsAscending : ℕ → List ℕ → Type 0
 IsAscending start [] = Unit {0}

@@ -2,7 +2,8 @@
 use Rattle.std.proofs.Common.{◌≡◌, not, map, sym, ap, subst, ◌∙◌}
 use Rattle.std.specs.List.{list_all}
 use Rattle.cw_names.specs.Names.{Entry}
-use Rattle.cw_names.specs.Inside.{entry_of, is_end}
+use Rattle.cw_names.specs.Inside.{entry_of}
+use Rattle.cw_base.specs.Category.{is_end}
 use Rattle.cw_names.specs.Words.{built_in_words, BeginsWithWords}
 use Rattle.cw_names.proofs.Ends.{of-view}
 use Rattle.cw_names.proofs.First.{words-first}
