@@ -19,6 +19,7 @@ use Rattle.cw_base.specs.declared.category.CatSet.{CatSet}
 use Rattle.cw_base.specs.Category.{all_cats, in_set, leaves, meet, number_of, some_of}
 use Rattle.cw_base.proofs.CategoryLaws.{every-cat, place-of}
 use Rattle.cw_base.proofs.TestLaws.{both, both-left, both-right, one-left, one-right}
+use Rattle.cw_base.proofs.TestLaws.{and-true}
 
 pub any-found : {X : Type 0} (p : X → Bool) (xs : List X) → list_any p xs ≡ true → (x : X) × (p x ≡ true)
 any-found p [] h = absurd cc
@@ -177,10 +178,6 @@ leaves-is s t fits =
 
 abbrev whole : CatSet
 whole = record { bits = 2 ^ (number_of End + 1) - 1 }
-
-and-true : (b : Bool) → (b && true) ≡ b
-and-true true = refl
-and-true false = refl
 
 pub some-is : (s : CatSet) → meet s whole ≡ some_of s
 unfolding meet some_of

@@ -49,3 +49,24 @@ one-failed-left false b h = refl
 pub one-failed-right : (a b : Bool) → (a || b) ≡ false → b ≡ false
 one-failed-right true b h = absurd cc
 one-failed-right false b h = h
+
+-- no test holds and fails
+pub not-both : {A : Type 0} (b : Bool) → b ≡ true → b ≡ false → A
+not-both true h k = absurd cc
+not-both false h k = absurd cc
+
+pub or-true : (b : Bool) → (b || true) ≡ true
+or-true true = refl
+or-true false = refl
+
+pub or-false : (b : Bool) → (b || false) ≡ b
+or-false true = refl
+or-false false = refl
+
+pub and-true : (b : Bool) → (b && true) ≡ b
+and-true true = refl
+and-true false = refl
+
+pub and-false : (b : Bool) → (b && false) ≡ false
+and-false true = refl
+and-false false = refl
