@@ -1,30 +1,27 @@
--- What contracts see of the system, and what is noted of each call: its answer.
-use Rattle.std.specs.Prelude.{ℕ, ◌+◌, List, [], ◌∷◌, take}
+-- What contracts see of the system, and what each call changes of it.
+use Rattle.std.specs.Prelude.{ℕ, ◌+◌, List}
 use Rattle.cw_base.specs.declared.event.Event.{Event}
 use Rattle.cw_base.specs.declared.event.Event.TheVariants.{Drafted, Kept, Made, Replaced}
 use Rattle.cw_base.specs.declared.event.Out.{Out}
-use Rattle.cw_desk.specs.Answer.{Answer, Opened as opened, Missing as missing, Read as read, End as ended}
-use Rattle.cw_desk.specs.Journal.{grown}
-use Rattle.cw_desk.specs.Make.{event_after, outputs_after}
+use Rattle.cw_desk.specs.Calls.{after_event, after_opening, after_reading, after_writing}
+use Rattle.cw_desk.specs.Make.{outputs_after}
 use Rattle.cw_desk.specs.Meaning.{no_outputs, with_draft, with_output, without_draft}
-use Rattle.cw_desk.specs.Put.{put_events}
+use Rattle.cw_desk.specs.Trail.{Noted, nothing}
 use Rattle.cw_desk.specs.declared.outputs.Outputs.{Outputs}
 use Rattle.cw_desk.specs.declared.desk.Opened.{Opened}
 use Rattle.cw_desk.specs.declared.desk.Opened.TheVariants.{File, Missing, Failed, Memory}
 use Rattle.cw_desk.specs.declared.desk.Fetched.{Fetched}
-use Rattle.cw_desk.specs.declared.desk.Fetched.TheVariants.{Got, End, Failed as failed_read, Memory as no_memory}
 use Rattle.cw_desk.specs.declared.desk.MadeOut.{MadeOut}
 use Rattle.cw_desk.specs.declared.desk.Taken.{Taken}
 
 pub record SystemState : Type 0 where
   pub opened : ℕ  -- how many files were opened
   pub outputs : Outputs  -- which outputs are made, and which have a draft
-  pub heard : List Answer  -- what the system answered, the newest first
-  pub journal : List Event  -- what the system took and did
+  pub noted : Noted  -- what the system answered, and what it took and did
 
 -- nothing was asked
 abbrev pub untouched : SystemState
-untouched = record { opened = 0; outputs = no_outputs; heard = []; journal = [] }
+untouched = record { opened = 0; outputs = no_outputs; noted = nothing }
 
 -- how many files are open after `open`
 abbrev pub count_after : Opened → ℕ → ℕ
@@ -33,36 +30,22 @@ count_after Missing count = count
 count_after Failed count = count
 count_after Memory count = count
 
--- ## What was heard after a call: just its answer
-
-abbrev pub heard_after_open : List ℕ → Opened → List Answer → List Answer
-heard_after_open name (File id) heard = opened id.index name ∷ heard
-heard_after_open name Missing heard = missing name ∷ heard
-heard_after_open name Failed heard = heard
-heard_after_open name Memory heard = heard
-
-abbrev pub heard_after_read : ℕ → List ℕ → Fetched → List Answer → List Answer
-heard_after_read index buffer (Got n) heard = read index (take n buffer) ∷ heard
-heard_after_read index buffer End heard = ended index ∷ heard
-heard_after_read index buffer failed_read heard = heard
-heard_after_read index buffer no_memory heard = heard
-
 -- ## The system after each call
 
 abbrev pub after_open : List ℕ → Opened → SystemState → SystemState
 after_open name result s = record s {
   opened = count_after result s.opened;
-  heard = heard_after_open name result s.heard;
+  noted = after_opening name result s.noted;
 }
 
 abbrev pub after_read : ℕ → List ℕ → Fetched → SystemState → SystemState
-after_read index buffer result s = record s { heard = heard_after_read index buffer result s.heard }
+after_read index buffer result s = record s { noted = after_reading index buffer result s.noted }
 
 -- a call that begins or ends an output: after Done the outputs are these, and there is this event more
 abbrev pub turned : Outputs → Event → MadeOut → SystemState → SystemState
 turned done event result s = record s {
   outputs = outputs_after result done s.outputs;
-  journal = grown s.journal (event_after result event);
+  noted = after_event event result s.noted;
 }
 
 abbrev pub after_make : Out → List ℕ → MadeOut → SystemState → SystemState
@@ -78,4 +61,4 @@ abbrev pub after_replace : Out → MadeOut → SystemState → SystemState
 after_replace out result s = turned (without_draft out s.outputs) (Replaced out) result s
 
 abbrev pub after_put : Out → List ℕ → Taken → SystemState → SystemState
-after_put out bytes result s = record s { journal = grown s.journal (put_events out bytes result) }
+after_put out bytes result s = record s { noted = after_writing out bytes result s.noted }

@@ -1,8 +1,7 @@
 //! The room of the system: its files and outputs, and a note of each answer. What no proof can know stands here and in
 //! the two files below, and nowhere else: that the system was asked, which file was meant, and that the note says what
 //! was answered. No other file can reach the notes.
-ghost use Rattle.std.specs.Prelude.{◌≡◌, ◌<◌, IsTrue, length};
-ghost use Rattle.cw_desk.specs.Meaning.{has_draft, is_open};
+ghost use Rattle.std.specs.Prelude.{◌≡◌, ◌<◌, length};
 ghost use Rattle.cw_desk.specs.Open.{OpensNext};
 ghost use Rattle.cw_desk.specs.Put.{TakesSome};
 ghost use Rattle.cw_desk.specs.Read.{ReadsSome};
@@ -51,8 +50,7 @@ impl Model for System {
         made = record { tex = is_some s.tex.made; idx = is_some s.idx.made; scn = is_some s.scn.made };
         drafts = record { tex = is_some s.tex.draft; idx = is_some s.idx.draft; scn = is_some s.scn.draft };
       };
-      heard = s.calls.trail.noted.heard;
-      journal = s.calls.trail.noted.journal;
+      noted = s.calls.trail.noted;
     } };
 }
 
@@ -166,7 +164,6 @@ impl System {
 
     /// Gives a draft up: the named file stays as it is.
     pub(crate) fn keep(&mut self, out: Out) -> MadeOut
-        requires { IsTrue (has_draft self.old.outputs out) }
         ensures noted { self.new ≡ after_keep out result self.old }
     {
         match out {
@@ -179,7 +176,6 @@ impl System {
 
     /// Puts a draft in the place of the file that it is for.
     pub(crate) fn replace(&mut self, out: Out) -> MadeOut
-        requires { IsTrue (has_draft self.old.outputs out) }
         ensures noted { self.new ≡ after_replace out result self.old }
     {
         match out {
@@ -192,8 +188,6 @@ impl System {
 
     /// Writes a first part of the bytes, to the draft where there is one, and tells how much.
     pub(crate) fn put(&mut self, out: Out, bytes: &[u8]) -> Taken
-        requires made { IsTrue (is_open self.old.outputs out) }
-        requires some { 0 < length bytes.now }
         ensures some { TakesSome bytes.now result }
         ensures noted { self.new ≡ after_put out bytes.now result self.old }
     {

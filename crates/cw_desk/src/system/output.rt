@@ -1,7 +1,8 @@
 //! An output on the system: the file that was made, and a draft beside it.
 ghost use Rattle.std.specs.Prelude.{◌≡◌, false, is_some, true};
 ghost use Rattle.cw_base.specs.declared.event.Event.TheVariants.{Drafted, Kept, Made, Replaced};
-ghost use Rattle.cw_desk.specs.Calls.{after_event, after_writing, is_there_after};
+ghost use Rattle.cw_desk.specs.Calls.{after_event, after_writing};
+ghost use Rattle.cw_desk.specs.Make.{if_done};
 ghost use Rattle.cw_desk.specs.Put.{TakesSome};
 
 use super::calls::Calls;
@@ -80,7 +81,7 @@ impl Output {
 
     /// Makes the file, or empties the one that is there.
     pub(super) fn make(&mut self, calls: &mut Calls, out: Out, name: &[u8]) -> MadeOut
-        ensures made { is_some self.new.made ≡ is_there_after result true (is_some self.old.made) }
+        ensures made { is_some self.new.made ≡ if_done result true (is_some self.old.made) }
         ensures draft { self.new.draft ≡ self.old.draft }
         ensures noted { calls.new.trail.noted ≡ after_event (Made out name.now) result calls.old.trail.noted }
     {
@@ -105,7 +106,7 @@ impl Output {
         is_elsewhere: bool,
     ) -> MadeOut
         ensures made { self.new.made ≡ self.old.made }
-        ensures draft { is_some self.new.draft ≡ is_there_after result true (is_some self.old.draft) }
+        ensures draft { is_some self.new.draft ≡ if_done result true (is_some self.old.draft) }
         ensures noted { calls.new.trail.noted ≡ after_event (Drafted out name.now) result calls.old.trail.noted }
     {
         let Ok(kept) = calls.owned(name) else {
@@ -131,7 +132,7 @@ impl Output {
     /// own place.
     pub(super) fn keep(&mut self, calls: &mut Calls, out: Out) -> MadeOut
         ensures made { self.new.made ≡ self.old.made }
-        ensures draft { is_some self.new.draft ≡ is_there_after result false (is_some self.old.draft) }
+        ensures draft { is_some self.new.draft ≡ if_done result false (is_some self.old.draft) }
         ensures noted { calls.new.trail.noted ≡ after_event (Kept out) result calls.old.trail.noted }
     {
         let ended = match &self.draft {
@@ -147,7 +148,7 @@ impl Output {
     /// Puts the draft in the place of the file that it is for.
     pub(super) fn replace(&mut self, calls: &mut Calls, out: Out) -> MadeOut
         ensures made { self.new.made ≡ self.old.made }
-        ensures draft { is_some self.new.draft ≡ is_there_after result false (is_some self.old.draft) }
+        ensures draft { is_some self.new.draft ≡ if_done result false (is_some self.old.draft) }
         ensures noted { calls.new.trail.noted ≡ after_event (Replaced out) result calls.old.trail.noted }
     {
         let ended = match &self.draft {
