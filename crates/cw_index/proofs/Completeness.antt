@@ -190,19 +190,15 @@ in-rows n section (first ∷ before) after entry os =
 
 -- ## Rows that are put in order
 
-abbrev Each : {X : Type 0} → (X → Type 0) → List X → Type 0
-Each P [] = Unit {0}
-Each P (x ∷ xs) = P x × Each P xs
-
 abbrev Apart : {X : Type 0} → (X → X → Ordering) → X → X → Type 0
 Apart order x k = order k x ≢ Equal
 
 abbrev AreApart : {X : Type 0} → (X → X → Ordering) → List X → Type 0
 AreApart order [] = Unit {0}
-AreApart order (x ∷ xs) = Each (Apart order x) xs × AreApart order xs
+AreApart order (x ∷ xs) = AllByRecursion (Apart order x) xs × AreApart order xs
 
 module _ {X : Type 0} (order : X → X → Ordering) where
-  any-inserted : (test : X → Bool) (xs : List X) (k : X) → Each (λ (x : X). Apart order x k) xs
+  any-inserted : (test : X → Bool) (xs : List X) (k : X) → AllByRecursion (λ (x : X). Apart order x k) xs
       → list_any test (insert_key order xs k) ≡ (test k || list_any test xs)
   any-inserted test [] k apart = refl
   any-inserted test (x ∷ xs) k apart = by (any-inserted test xs k apart.1) (order k x) apart.0
@@ -214,21 +210,22 @@ module _ {X : Type 0} (order : X → X → Ordering) where
       by more Equal not = absurd (not refl)
       by more Greater not = ap (λ b. test x || b) more ∙ or-swap (test x) (test k) (list_any test xs)
 
-  each-inserted : (P : X → Type 0) (xs : List X) (k : X) → P k → Each P xs → Each P (insert_key order xs k)
+  each-inserted : (P : X → Type 0) (xs : List X) (k : X) → P k → AllByRecursion P xs
+      → AllByRecursion P (insert_key order xs k)
   each-inserted P [] k one each = (one, tt)
   each-inserted P (x ∷ xs) k one each = by (each-inserted P xs k one each.1) (order k x)
     where
-      by : Each P (insert_key order xs k) → (o : Ordering)
-          → Each P (match_ordering o (k ∷ x ∷ xs) (x ∷ xs) (x ∷ insert_key order xs k))
+      by : AllByRecursion P (insert_key order xs k) → (o : Ordering)
+          → AllByRecursion P (match_ordering o (k ∷ x ∷ xs) (x ∷ xs) (x ∷ insert_key order xs k))
       by more Less = (one, each)
       by more Equal = each
       by more Greater = (each.0, more)
 
   -- each key that is still to come is apart from those that are in their order
   abbrev AreNew : List X → List X → Type 0
-  AreNew sorted keys = Each (λ (k : X). Each (λ (x : X). Apart order x k) sorted) keys
+  AreNew sorted keys = AllByRecursion (λ (k : X). AllByRecursion (λ (x : X). Apart order x k) sorted) keys
 
-  new-inserted : (sorted keys : List X) (k : X) → Each (Apart order k) keys → AreNew sorted keys
+  new-inserted : (sorted keys : List X) (k : X) → AllByRecursion (Apart order k) keys → AreNew sorted keys
       → AreNew (insert_key order sorted k) keys
   new-inserted sorted [] k apart new = tt
   new-inserted sorted (key ∷ keys) k apart new =
@@ -290,7 +287,7 @@ alike first entry same =
 
 first-differ : (first : Entry) (n : ℕ) (entries : List Entry) (os : List Occurrence) (r : Row) → r.entry ≡ first
     → AllByRecursion (λ (other : Entry). is_entry first.kind first.text other ≡ false) entries
-    → Each (Apart row_cmp r) (rows_from n entries os)
+    → AllByRecursion (Apart row_cmp r) (rows_from n entries os)
 first-differ first n [] os r is all = tt
 first-differ first n (entry ∷ entries) os r is all =
     by (first-differ first (n + 1) entries os r is all.1) (has_sections (row n entry os).sections)
@@ -300,13 +297,13 @@ first-differ first n (entry ∷ entries) os r is all =
         true≢false (sym (alike first entry (entry_cmp-total.antisymm first entry
         ∙ ap ordering_reverse (ap (entry_cmp entry) (sym is) ∙ same))) ∙ all.0)
 
-    by : Each (Apart row_cmp r) (rows_from (n + 1) entries os)
-        → (t : Bool) → Each (Apart row_cmp r) (with_row t (row n entry os) (rows_from (n + 1) entries os))
+    by : AllByRecursion (Apart row_cmp r) (rows_from (n + 1) entries os)
+        → (t : Bool) → AllByRecursion (Apart row_cmp r) (with_row t (row n entry os) (rows_from (n + 1) entries os))
     by later true = (here, later)
     by later false = later
 
 with-row-apart : (n : ℕ) (entry : Entry) (entries : List Entry) (os : List Occurrence)
-    → Each (Apart row_cmp (row n entry os)) (rows_from (n + 1) entries os)
+    → AllByRecursion (Apart row_cmp (row n entry os)) (rows_from (n + 1) entries os)
     → AreApart row_cmp (rows_from (n + 1) entries os)
     → (t : Bool) → AreApart row_cmp (with_row t (row n entry os) (rows_from (n + 1) entries os))
 with-row-apart n entry entries os here later true = (here, later)
