@@ -2,7 +2,7 @@
 use Rattle.std.proofs.Common.{◌≡◌, ℕ, Bool, true, false, refl, ap, ◌∙◌, List, [], ◌∷◌, ◌++◌, Option, Some, None, codes}
 use Rattle.std.proofs.Common.{inl, inr, map, slice_get}
 use Rattle.std.proofs.lemmas.Cmp.{nat_list_eq_equiv}
-use Rattle.std.specs.List.{flat_map, list_any}
+use Rattle.std.specs.List.{AllByRecursion, flat_map, list_any}
 use Rattle.cw_base.specs.declared.event.Event.{Event}
 use Rattle.cw_base.specs.declared.event.Event.TheVariants.{Drafted, Kept}
 use Rattle.cw_input.specs.declared.words.CommandLine.{CommandLine}
@@ -24,7 +24,7 @@ use Rattle.cw_index.specs.Standing.{listed_names}
 use Rattle.cw_run.specs.Files.{OutFile, is_same, settled_if}
 use Rattle.cw_weave.specs.TexFile.{all_sections, left_by, tex_file}
 use Rattle.cw_weave.specs.Woven.{index_files, index_of, index_out, list_out, name_list, tex_out}
-use Rattle.cw_laws.specs.Files.{AreWritten, EndInLine, FilesAreWhole, IsWritten, files_of}
+use Rattle.cw_laws.specs.Files.{EndInLine, FilesAreWhole, IsWritten, files_of}
 use Rattle.cw_laws.proofs.Endings.{all-end, behind-any, both-end, none-pending}
 
 -- byte 10 is the last
@@ -106,7 +106,7 @@ names-end s (l ∷ ls) names =
 -- ## All files
 
 index-written : (t : Bool) (line : CommandLine) (text : List ℕ) (left : Book)
-    → AreWritten (index_files t line text left)
+    → AllByRecursion IsWritten (index_files t line text left)
 index-written false line text left = tt
 index-written true line text left = (
   is-written (index_out line.outputs (index_of left)) (index-ends left),
@@ -118,7 +118,7 @@ index-written true line text left = (
   ),
 )
 
-all-written : (line : CommandLine) (text : List ℕ) (b : Book) → AreWritten (files_of line text b)
+all-written : (line : CommandLine) (text : List ℕ) (b : Book) → AllByRecursion IsWritten (files_of line text b)
 all-written line text b =
     let tex : List ℕ = (tex_file text line.flags b).out in (
       is-written (tex_out line.outputs tex) (tex-ends line text b),

@@ -1,6 +1,6 @@
 -- Each code with which definitions or a C part begin is the one that stands at its place.
-use Rattle.std.proofs.Common.{◌≡◌, ℕ, zero, suc, ◌+◌, ◌-◌, Bool, true, false, ◌&&◌, ◌==◌, List, [], ◌∷◌, ◌++◌, drop}
-use Rattle.std.proofs.Common.{refl, Some, if◌then◌else◌, sym, ap, subst, ◌∙◌}
+use Rattle.std.proofs.Common.{◌≡◌, ℕ, zero, suc, ◌+◌, ◌-◌, Bool, true, false, ◌&&◌, ◌||◌, ◌==◌, List, [], ◌∷◌, ◌++◌}
+use Rattle.std.proofs.Common.{drop, refl, Some, if◌then◌else◌, sym, ap, subst, ◌∙◌}
 use Rattle.cw_rules.specs.declared.bodies.Noted.{Noted}
 use Rattle.cw_rules.specs.declared.codes.Code.{Code}
 use Rattle.cw_rules.specs.declared.codes.Code.TheVariants as at
@@ -27,13 +27,7 @@ pub record CodeStands (text : List ℕ) (t : Seen) : Type 0 where
 
 -- the codes with which a part begins
 abbrev pub opens_part : Code → Bool
-opens_part at.Define = true
-opens_part at.Format = true
-opens_part at.SilentFormat = true
-opens_part at.Program = true
-opens_part at.SectionName = true
-opens_part at.FileName = true
-opens_part code = false
+opens_part code = opens_definitions code || opens_c_part code
 
 abbrev pub AreOpeners : List ℕ → List Answer → Type 0
 AreOpeners text [] = Unit {0}

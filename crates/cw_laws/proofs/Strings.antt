@@ -2,6 +2,7 @@
 use Rattle.std.proofs.Common.{◌≡◌, ℕ, ◌+◌, ◌-◌, Bool, true, false, ◌&&◌, ◌||◌, not, ◌==◌, List, [], ◌∷◌, ◌++◌}
 use Rattle.std.proofs.Common.{if◌then◌else◌, length, drop, refl, sym, ap, subst, ◌∙◌, arith, ◌⊎◌, inl, inr}
 use Rattle.std.proofs.lemmas.Bool.{eqb-true}
+use Rattle.std.specs.List.{AllByRecursion, concat}
 use Rattle.cw_base.proofs.TestLaws.{both-right}
 use Rattle.std.proofs.Math.Seq.{drop-append_seam, drop-append-add}
 use Rattle.cw_rules.specs.declared.bodies.Body.TheVariants as bodies
@@ -10,7 +11,7 @@ use Rattle.cw_rules.specs.Bytes.{newline, backslash, at_sign, quote, apostrophe,
 use Rattle.cw_rules.specs.Bodies.{stops, takes_next, stepped, goes_on, ended, at_start, extent}
 use Rattle.cw_rules.proofs.Inside.{ended-le}
 use Rattle.cw_lex.specs.Lexing.{last_after}
-use Rattle.cw_laws.specs.Strings.{LinesGoOn, is_piece, ArePieces, bytes_in, StringEnds, IsString}
+use Rattle.cw_laws.specs.Strings.{LinesGoOn, is_piece, StringEnds, IsString}
 
 -- where the inside stops, before these bytes
 abbrev Stops : ℕ → ℕ → ℕ → ℕ → List ℕ → Type 0
@@ -22,11 +23,11 @@ Stops mark last inside size (byte ∷ bytes) =
 
 record Split (mark : ℕ) (i : Inside) (bytes : List ℕ) : Type 0 where
   pieces : List (List ℕ)
-  are : ArePieces mark pieces
+  are : AllByRecursion (λ (piece : List ℕ). is_piece mark piece ≡ true) pieces
   rest : List ℕ
-  lines : LinesGoOn i.before (bytes_in pieces)
-  whole : bytes ≡ bytes_in pieces ++ rest
-  stops-so : Stops mark (last_after i.before (bytes_in pieces)) (length (bytes_in pieces))
+  lines : LinesGoOn i.before (concat pieces)
+  whole : bytes ≡ concat pieces ++ rest
+  stops-so : Stops mark (last_after i.before (concat pieces)) (length (concat pieces))
       ((ended i bytes).place - i.place) rest
 
 more-stops : (mark last more inside size all : ℕ) (rest : List ℕ) → all ≡ more + size
@@ -64,9 +65,9 @@ one-on mark i byte bytes h p line s = record {
   lines = (line, s.lines);
   whole = ap (λ l. byte ∷ l) s.whole;
   stops-so =
-      subst (λ n. Stops mark (last_after byte (bytes_in s.pieces)) n ((ended i (byte ∷ bytes)).place - i.place) s.rest)
+      subst (λ n. Stops mark (last_after byte (concat s.pieces)) n ((ended i (byte ∷ bytes)).place - i.place) s.rest)
       (omega arith)
-      (more-stops mark (last_after byte (bytes_in s.pieces)) 1 (length (bytes_in s.pieces)) _
+      (more-stops mark (last_after byte (concat s.pieces)) 1 (length (concat s.pieces)) _
       ((ended i (byte ∷ bytes)).place - i.place) s.rest
       (step-size i byte bytes h) s.stops-so);
 }
@@ -83,10 +84,10 @@ two-on mark i byte next bytes h g p line s = record {
   lines = (line, ((λ e. eqb-true byte backslash p), s.lines));
   whole = ap (λ l. byte ∷ next ∷ l) s.whole;
   stops-so =
-      subst (λ n. Stops mark (last_after next (bytes_in s.pieces)) n ((ended i (byte ∷ next ∷ bytes)).place - i.place)
+      subst (λ n. Stops mark (last_after next (concat s.pieces)) n ((ended i (byte ∷ next ∷ bytes)).place - i.place)
       s.rest)
       (omega arith)
-      (more-stops mark (last_after next (bytes_in s.pieces)) 2 (length (bytes_in s.pieces)) _
+      (more-stops mark (last_after next (concat s.pieces)) 2 (length (concat s.pieces)) _
       ((ended i (byte ∷ next ∷ bytes)).place - i.place) s.rest
       (omega (
         arith,
@@ -244,10 +245,10 @@ string-is mark place bytes h =
       quotes = h;
       pieces = s.pieces;
       are = s.are;
-      lines = lines-behind (bytes_in s.pieces) s.lines;
+      lines = lines-behind (concat s.pieces) s.lines;
       rest = s.rest;
       whole = ap (λ l. mark ∷ l) s.whole;
-      ends = ends (bytes_in s.pieces) s.rest s.whole s.stops-so;
+      ends = ends (concat s.pieces) s.rest s.whole s.stops-so;
     }
   where
     inside : ℕ

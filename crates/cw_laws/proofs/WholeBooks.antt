@@ -1,8 +1,9 @@
 -- The pieces of a book lie end to end, and are all of its web.
 use Rattle.std.proofs.Common.{◌≡◌, ℕ, ◌+◌, ◌-◌, ◌<◌, ◌≤◌, Bool, true, false, List, [], ◌∷◌, ◌++◌, All, length, drop}
 use Rattle.std.proofs.Common.{take, refl, sym, ap, subst, ◌∙◌, arith, ◌⊎◌, inl, inr}
-use Rattle.std.specs.Prelude.{slice_range, if◌then◌else◌}
+use Rattle.std.specs.Prelude.{cond, slice_range}
 use Rattle.std.proofs.lemmas.Bool.{cases_lt}
+use Rattle.std.proofs.lemmas.List.Sums.{sum_by-cons}
 use Rattle.std.proofs.lemmas.List.{take_all, take-append-drop, drop-drop, drop-take, take-take}
 use Rattle.cw_base.specs.declared.span.Span.{Span}
 use Rattle.cw_base.specs.Web.{MergedLine, text_of}
@@ -154,13 +155,17 @@ has : (place : ℕ) (piece : Span) → piece.start ≤ place → place < piece.e
 has place piece h g = grind arith
 
 abbrev more_by : Bool → ℕ → ℕ
-more_by b n = (if b then 1 else 0) + n
+more_by b n = cond b 1 0 + n
+
+abbrev by_one : ℕ → Span → ℕ
+by_one place piece = cond (has_byte place piece) 1 0
 
 none-before : (place from end : ℕ) (pieces : List Span) → EndToEnd from end pieces → place < from
     → pieces_with place pieces ≡ 0
 none-before place from end [] e h = refl
 none-before place from end (piece ∷ pieces) e h =
-    (λ i. more_by (has-not-before place piece (omega (arith, e.0, h)) i)
+    sum_by-cons (by_one place) piece pieces
+    ∙ (λ i. more_by (has-not-before place piece (omega (arith, e.0, h)) i)
     (none-before place piece.end end pieces e.2 (omega (arith, e.0, e.1, h)) i))
 
 just-one : (place from end : ℕ) (pieces : List Span) → EndToEnd from end pieces → from ≤ place → place < end
@@ -171,9 +176,11 @@ just-one place from end (piece ∷ pieces) e h g =
   where
     by : (place < piece.end) ⊎ (piece.end ≤ place) → (piece.end ≤ place → pieces_with place pieces ≡ 1)
         → pieces_with place (piece ∷ pieces) ≡ 1
-    by (inl here) rec = λ i. more_by (has place piece (omega (arith, e.0, h)) here i)
-        (none-before place piece.end end pieces e.2 here i)
-    by (inr behind) rec = λ i. more_by (has-not-behind place piece behind i) (rec behind i)
+    by (inl here) rec = sum_by-cons (by_one place) piece pieces
+        ∙ (λ i. more_by (has place piece (omega (arith, e.0, h)) here i)
+        (none-before place piece.end end pieces e.2 here i))
+    by (inr behind) rec = sum_by-cons (by_one place) piece pieces
+        ∙ (λ i. more_by (has-not-behind place piece behind i) (rec behind i))
 
 -- ## The law
 

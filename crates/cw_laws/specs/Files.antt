@@ -1,5 +1,6 @@
 -- What holds of the files that a run over a web writes: its TeX file, its index and its list of section names.
 use Rattle.std.specs.Prelude.{◌≡◌, ◌⊎◌, ℕ, true, List, [], ◌∷◌, ◌++◌, Some}
+use Rattle.std.specs.List.{AllByRecursion}
 use Rattle.cw_base.specs.declared.event.Event.TheVariants.{Drafted, Kept}
 use Rattle.cw_desk.specs.Meaning.{NamedFiles}
 use Rattle.cw_input.specs.declared.words.CommandLine.{CommandLine}
@@ -19,10 +20,6 @@ pub record IsWritten (f : OutFile) : Type 0 where
   pub whole : (cut f.bytes).pending ≡ []
   pub ends : EndInLine (written (cut f.bytes).lines)
 
-abbrev pub AreWritten : List OutFile → Type 0
-AreWritten [] = Unit {0}
-AreWritten (f ∷ files) = IsWritten f × AreWritten files
-
 -- the files of a book
 abbrev pub files_of : CommandLine → List ℕ → Book → List OutFile
 files_of line text b =
@@ -30,7 +27,8 @@ files_of line text b =
     ∷ index_files line.flags.index line text (left_by text line.flags b (tex_file text line.flags b))
 
 pub record FilesAreWhole : Type 0 where
-  pub all : (line : CommandLine) (text : List ℕ) (b : Book) → AreWritten (files_of line text b)
+  pub all : (line : CommandLine) (text : List ℕ) (b : Book)
+      → AllByRecursion IsWritten (files_of line text b)
   -- With flag k a file that is there with just these bytes is drafted, and then kept.
   pub kept : (f : OutFile) (named : NamedFiles) → named f.name ≡ Some (written (cut f.bytes).lines)
       → file_events true f named ≡ Drafted f.out f.name ∷ (line_events f.out (cut f.bytes).lines ++ Kept f.out ∷ [])

@@ -3,8 +3,9 @@
 -- The code of a section is `@` before a blank or a line's end, or `@*` with its depth, and the blanks behind it on its
 -- line. It stands between the part before it and its TeX part. All other codes stand in the part that they begin: `@d`,
 -- `@f` and `@s` in the definitions, and `@c`, `@p` or a name with its sign in the C part.
-use Rattle.std.specs.Prelude.{◌≡◌, ℕ, ◌+◌, ◌<◌, ◌≤◌, Bool, true, false, ◌&&◌, ◌⊎◌, nat_lt, nat_le, List, [], ◌∷◌, ◌++◌}
-use Rattle.std.specs.Prelude.{length, drop, slice_range, if◌then◌else◌}
+use Rattle.std.specs.Prelude.{◌≡◌, ℕ, ◌+◌, ◌<◌, ◌≤◌, Bool, true, false, ◌&&◌, ◌⊎◌, nat_lt, nat_le, List, [], ◌∷◌}
+use Rattle.std.specs.Prelude.{length, drop, slice_range}
+use Rattle.std.specs.List.{count_by, flat_map}
 use Rattle.cw_base.specs.declared.span.Span.{Span}
 use Rattle.cw_base.specs.Web.{MergedLine, text_of}
 use Rattle.cw_rules.specs.declared.codes.Code.{Code}
@@ -67,16 +68,14 @@ AreBegun text place (s ∷ sections) = BeginsAt text place s × AreBegun text s.
 
 -- the bytes of pieces, one behind another
 abbrev pub piece_bytes : List ℕ → List Span → List ℕ
-piece_bytes text [] = []
-piece_bytes text (piece ∷ pieces) = slice_range text piece.start piece.end ++ piece_bytes text pieces
+piece_bytes text pieces = flat_map (λ (piece : Span). slice_range text piece.start piece.end) pieces
 
 -- how many of the pieces have the byte at a place
 abbrev pub has_byte : ℕ → Span → Bool
 has_byte place piece = nat_le piece.start place && nat_lt place piece.end
 
 abbrev pub pieces_with : ℕ → List Span → ℕ
-pieces_with place [] = 0
-pieces_with place (piece ∷ pieces) = (if has_byte place piece then 1 else 0) + pieces_with place pieces
+pieces_with place pieces = count_by (has_byte place) pieces
 
 -- Limbo and sections are all of a text: their pieces lie end to end, from its first byte to its last, and begin with
 -- their codes. So the bytes of the pieces are those of the text, and each byte stands in just one piece.

@@ -1,5 +1,6 @@
 -- Where strings end.
 use Rattle.std.specs.Prelude.{◌≡◌, ℕ, ◌+◌, Bool, true, false, not, ◌||◌, ◌==◌, List, [], ◌∷◌, ◌++◌, ◌⊎◌, length}
+use Rattle.std.specs.List.{AllByRecursion, concat}
 use Rattle.cw_rules.specs.Bytes.{newline, backslash, quote, apostrophe}
 use Rattle.cw_lex.specs.Lexing.{last_after}
 
@@ -10,14 +11,6 @@ is_piece mark [] = false
 is_piece mark (byte ∷ []) = not (byte == backslash || byte == mark)
 is_piece mark (byte ∷ next ∷ []) = byte == backslash
 is_piece mark (byte ∷ next ∷ more ∷ bytes) = false
-
-abbrev pub ArePieces : ℕ → List (List ℕ) → Type 0
-ArePieces mark [] = Unit {0}
-ArePieces mark (piece ∷ pieces) = (is_piece mark piece ≡ true) × ArePieces mark pieces
-
-abbrev pub bytes_in : List (List ℕ) → List ℕ
-bytes_in [] = []
-bytes_in (piece ∷ pieces) = piece ++ bytes_in pieces
 
 -- A line's end goes on where a backslash stands before it: `before` is the byte before these.
 abbrev pub LinesGoOn : ℕ → List ℕ → Type 0
@@ -38,8 +31,8 @@ pub record IsString (bytes : List ℕ) (size : ℕ) : Type 0 where
   pub mark : ℕ
   pub quotes : (mark == quote || mark == apostrophe) ≡ true
   pub pieces : List (List ℕ)
-  pub are : ArePieces mark pieces
-  pub lines : LinesGoOn mark (bytes_in pieces)
+  pub are : AllByRecursion (λ (piece : List ℕ). is_piece mark piece ≡ true) pieces
+  pub lines : LinesGoOn mark (concat pieces)
   pub rest : List ℕ
-  pub whole : bytes ≡ mark ∷ (bytes_in pieces ++ rest)
-  pub ends : StringEnds mark (last_after mark (bytes_in pieces)) (1 + length (bytes_in pieces)) size rest
+  pub whole : bytes ≡ mark ∷ (concat pieces ++ rest)
+  pub ends : StringEnds mark (last_after mark (concat pieces)) (1 + length (concat pieces)) size rest
