@@ -10,6 +10,8 @@ pub mod HashLines
 pub mod WhiteSpace
 pub mod Strings
 pub mod Longest
+pub mod Insides
+pub mod Ends
 pub mod PlainText
 mod Endings
 mod FileLaws

@@ -1,17 +1,18 @@
 -- A worked web with its pieces, worked C parts with their tokens, and worked limbo.
-use Rattle.std.proofs.Common.{◌≡◌, ℕ, false, List, [], ◌∷◌, codes, length, refl, arith}
+use Rattle.std.proofs.Common.{◌≡◌, ℕ, true, false, List, [], ◌∷◌, codes, length, refl, arith}
 use Rattle.cw_base.specs.declared.span.Span.{Span}
 use Rattle.cw_base.specs.Web.{MergedLine, text_of}
 use Rattle.cw_rules.specs.declared.tokens.Mode.TheVariants as modes
 use Rattle.cw_rules.specs.declared.signs.Sign.TheVariants as signs
 use Rattle.cw_rules.specs.declared.tokens.TokKind.{TokKind}
 use Rattle.cw_rules.specs.declared.tokens.TokKind.TheVariants as kinds
-use Rattle.cw_rules.specs.Answers.{Seen}
+use Rattle.cw_rules.specs.Answers.{Answer, Token, Begin, Finish, Note, Seen}
 use Rattle.cw_lex.specs.Lexing.{tokens_of}
 use Rattle.cw_lex.specs.Openings.{tokens_in}
 use Rattle.cw_phase1.specs.Book.{book}
 use Rattle.cw_phase1.specs.Sections.{span}
 use Rattle.cw_texpart.specs.Limbo.{limbo_text}
+use Rattle.cw_laws.specs.Ends.{before_end, control_size, ends_piece, is_pair, single_place}
 use Rattle.cw_laws.specs.NotePlaces.{NotesLie}
 use Rattle.cw_laws.specs.Pieces.{book_pieces, piece_bytes, pieces_with}
 use Rattle.cw_laws.specs.TexText.{kept_bytes, last_line_ended}
@@ -64,6 +65,53 @@ another_line = refl
 -- a string with a quote behind a backslash
 a_string : kinds_in (34 ∷ 92 ∷ 34 ∷ 34 ∷ 97 ∷ []) ≡ kinds.Quoted ∷ kinds.Identifier ∷ []
 a_string = refl
+
+-- `@@` is a byte of a control text, also before `>`.
+a_control_text : control_size (codes "a@@>b@>c") ≡ 5
+a_control_text = refl
+
+a_control_line : control_size (codes "a@\nb@>") ≡ 2
+a_control_line = refl
+
+a_single_at : single_place (codes "a@,b@>") ≡ 1
+a_single_at = refl
+
+abbrev spans_of : List Seen → List Span
+spans_of [] = []
+spans_of (t ∷ tokens) = t.span ∷ spans_of tokens
+
+abbrev spans_in : List ℕ → List Span
+spans_in text = spans_of (tokens_in (tokens_of text 0 (length text) modes.CPart))
+
+the_control_texts : spans_in (codes "@^a@@>b@>c@.d\ne") ≡ span 0 9 ∷ span 9 10 ∷ span 10 13 ∷ span 14 15 ∷ []
+the_control_texts = refl
+
+-- A backslash takes the star along, and a bar begins an inner text.
+a_piece : before_end (ends_piece true true) (is_pair true) (codes "a\\*/b|c|*/") ≡ 5
+a_piece = refl
+
+abbrev ends_of : List Answer → List Span
+ends_of [] = []
+ends_of (Token t ∷ answers) = ends_of answers
+ends_of (Begin t ∷ answers) = ends_of answers
+ends_of (Finish t ∷ answers) = t.span ∷ ends_of answers
+ends_of (Note kind place ∷ answers) = ends_of answers
+
+abbrev ends_in : List ℕ → List Span
+ends_in text = ends_of (tokens_of text 0 (length text) modes.CPart)
+
+a_long_comment : ends_in (codes "/*\\*/*/a") ≡ span 5 7 ∷ []
+a_long_comment = refl
+
+-- the same bytes in an inner text are signs
+an_inner_text : ends_in (codes "/*|*/|*/a") ≡ span 5 6 ∷ span 6 8 ∷ []
+an_inner_text = refl
+
+a_short_comment : ends_in (codes "//a*/\nb") ≡ span 5 5 ∷ []
+a_short_comment = refl
+
+a_comment_without_end : ends_in (codes "/*a") ≡ span 3 3 ∷ []
+a_comment_without_end = refl
 
 -- In limbo a bar and a backslash are bytes as others. An empty line stays, and the last line is ended.
 a_limbo : limbo_text (codes "a|b\n\n\\c") (span 0 7) ≡ codes "a|b\n\n\\c\n"

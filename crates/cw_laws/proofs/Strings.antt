@@ -44,7 +44,7 @@ step-ended : (i : Inside) (byte : ℕ) (bytes : List ℕ) → goes_on i (byte �
 step-ended i byte bytes h =
     ap (λ t. elim t as (λ _. Inside) [ true ↦ ended (stepped i byte bytes) bytes | false ↦ i ]) h
 
-step-size : (i : Inside) (byte : ℕ) (bytes : List ℕ) → goes_on i (byte ∷ bytes) ≡ true
+pub step-size : (i : Inside) (byte : ℕ) (bytes : List ℕ) → goes_on i (byte ∷ bytes) ≡ true
     → (ended i (byte ∷ bytes)).place - i.place
     ≡ 1 + ((ended (stepped i byte bytes) bytes).place - (stepped i byte bytes).place)
 step-size i byte bytes h =

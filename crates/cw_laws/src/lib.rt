@@ -9,5 +9,5 @@ mod tex;
 
 pub use book::book_law;
 pub use files::files_law;
-pub use scanner::{longest_law, notes_law, white_space_law};
+pub use scanner::{ends_law, longest_law, notes_law, white_space_law};
 pub use tex::tex_text_law;

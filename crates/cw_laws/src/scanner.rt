@@ -1,4 +1,5 @@
 //! Laws of the scanner's answers.
+ghost use Rattle.cw_laws.specs.Ends.{TextsGoToTheirEnds};
 ghost use Rattle.cw_laws.specs.Longest.{TokensAreLongest};
 ghost use Rattle.cw_laws.specs.NotePlaces.{NotesLieInTheirText};
 ghost use Rattle.cw_laws.specs.WhiteSpace.{BackslashesContinueHashLines};
@@ -19,4 +20,12 @@ pub fn white_space_law()
 /// goes up to its end. It does nothing: what it ensures is for proofs.
 pub fn longest_law()
     ensures { TokensAreLongest }
+{}
+
+/// The law of ends: a control text goes to the first `@>`, a long comment's text to the first `*/`, and that of a short
+/// one to the first line's end, with `@@` and what a backslash takes along passed over. Inner texts stand in comments
+/// between bars. Where a line's end comes first in a control text, or a section code or the end of the text in a
+/// comment, it ends there with a note. It does nothing: what it ensures is for proofs.
+pub fn ends_law()
+    ensures { TextsGoToTheirEnds }
 {}
