@@ -226,14 +226,9 @@ fn status_of(rt: HostRuntime, words: &[&[u8]]) -> Result<u8, Fail> {
     Ok(exit.code())
 }
 
-/// The longest name that a file may have, so that its draft can't be made; first as a word, then as a file's.
-const LONG: &[u8] = b"\
-    a-name-of-251-bytes-that-is-given-as-a-word-------------------------------------------------------\
-    --------------------------------------------------------------------------------------------------\
-    -------------------------------------------------------";
-
-const LONG_TEX: &[u8] = b"\
-    a-name-of-251-bytes-that-is-given-as-a-word-------------------------------------------------------\
+/// The longest name that a file may have, so that its draft can't be made.
+const LONGEST: &[u8] = b"\
+    a-name-of-255-bytes-that-is-given-as-a-word-------------------------------------------------------\
     --------------------------------------------------------------------------------------------------\
     -------------------------------------------------------.tex";
 
@@ -259,7 +254,7 @@ const FAILING: [Failing; 7] = [
         files: &[],
         call: 2,
     },
-    // An included file is a folder, so the web is read in part.
+    // An included file is a folder.
     Failing {
         words: &[b"bar"],
         files: &[(b"bar.w", b"@i folder.w\n@ One.\n"), (b"folder.w", b"")],
@@ -273,8 +268,8 @@ const FAILING: [Failing; 7] = [
     },
     // The draft's name is too long.
     Failing {
-        words: &[b"+k", b"foo", b"-", LONG],
-        files: &[(b"foo.w", HELLO), (LONG_TEX, b"")],
+        words: &[b"+k", b"foo", b"-", LONGEST],
+        files: &[(b"foo.w", HELLO), (LONGEST, b"")],
         call: 7,
     },
     // A device is full.
@@ -290,17 +285,17 @@ const FAILING: [Failing; 7] = [
     },
 ];
 
-/// What is there for the failing runs beside that.
-const WHOLE: [(&[u8], &[u8]); 3] = [
+/// The files of the failing runs with which nothing is wrong.
+const SOUND_FILES: [(&[u8], &[u8]); 3] = [
     (b"foo.w", HELLO),
     (b"bar.w", b"@i folder.w\n@ One.\n"),
-    (LONG_TEX, b""),
+    (LONGEST, b""),
 ];
 
-/// Makes what the failing runs stumble over.
+/// Makes the files of the failing runs, and what they stumble over.
 fn make_traps(rt: HostRuntime) -> Result<(), Fail> {
     enter_new_folder(rt)?;
-    write_files(rt, &WHOLE)?;
+    write_files(rt, &SOUND_FILES)?;
     fs::create_dir(&rt, "folder.w")?;
     symlink(&rt, "circle.w", "circle.w")?;
     symlink(&rt, "/dev/full", "full.tex")?;

@@ -5,13 +5,20 @@ use cw_base::Out;
 use cw_desk::{Desk, Fetched, FileId, MadeOut, Opened, Taken};
 use std::alloc::Global;
 
-/// An answer about files.
-#[derive(Debug, PartialEq, Drop)]
-pub(crate) enum Heard {
-    Opened(usize, Vec<u8>),
-    Missing(Vec<u8>),
-    Read(usize, Vec<u8>),
+/// What kind of answer about files it is.
+#[derive(Debug, PartialEq, Clone, Copy)]
+pub(crate) enum Kind {
+    Opened(usize),
+    Missing,
+    Read(usize),
     End(usize),
+}
+
+/// An answer about files, with the name or the bytes of which it tells.
+#[derive(Debug, PartialEq, Drop)]
+pub(crate) struct Heard {
+    kind: Kind,
+    bytes: Vec<u8>,
 }
 
 /// A desk, and what it has answered about files so far. What memory was wanting for is left out.
@@ -42,33 +49,11 @@ impl<D: Desk + Drop> Recording<D> {
         (desk, heard)
     }
 
-    fn note(&mut self, heard: Heard)
-        ensures { self.new.desk ≡ self.old.desk }
-    {
-        let _ = self.heard.push(heard);
-    }
-
-    fn note_opened(&mut self, id: FileId, name: &[u8])
-        ensures { self.new.desk ≡ self.old.desk }
-    {
-        if let Ok(name) = Vec::from_slice(self.alloc, name) {
-            self.note(Heard::Opened(id.index, name));
-        }
-    }
-
-    fn note_missing(&mut self, name: &[u8])
-        ensures { self.new.desk ≡ self.old.desk }
-    {
-        if let Ok(name) = Vec::from_slice(self.alloc, name) {
-            self.note(Heard::Missing(name));
-        }
-    }
-
-    fn note_read(&mut self, id: FileId, bytes: &[u8])
+    fn note(&mut self, kind: Kind, bytes: &[u8])
         ensures { self.new.desk ≡ self.old.desk }
     {
         if let Ok(bytes) = Vec::from_slice(self.alloc, bytes) {
-            self.note(Heard::Read(id.index, bytes));
+            let _ = self.heard.push(Heard { kind, bytes });
         }
     }
 }
@@ -79,8 +64,8 @@ impl<D: Desk + Drop> Desk for Recording<D> {
     fn open(&mut self, name: &[u8]) -> Opened {
         let answer = self.desk.open(name);
         match answer {
-            Opened::File(id) => self.note_opened(id, name),
-            Opened::Missing => self.note_missing(name),
+            Opened::File(id) => self.note(Kind::Opened(id.index), name),
+            Opened::Missing => self.note(Kind::Missing, name),
             Opened::Failed | Opened::Memory => {}
         }
         answer
@@ -89,8 +74,8 @@ impl<D: Desk + Drop> Desk for Recording<D> {
     fn read(&mut self, id: FileId, buffer: &mut [u8]) -> Fetched {
         let answer = self.desk.read(id, buffer);
         match answer {
-            Fetched::Got(count) => self.note_read(id, &buffer[..count]),
-            Fetched::End => self.note(Heard::End(id.index)),
+            Fetched::Got(count) => self.note(Kind::Read(id.index), &buffer[..count]),
+            Fetched::End => self.note(Kind::End(id.index), b""),
             Fetched::Failed | Fetched::Memory => {}
         }
         answer
