@@ -1,10 +1,10 @@
 -- The loop of the reducer, over a line in its store.
-use Rattle.std.proofs.Common.{◌≡◌, ℕ, zero, suc, ◌+◌, ◌-◌, ◌*◌, ◌^◌, ◌<◌, ◌≤◌, true, None, List, length, drop, sym, ◌∙◌}
-use Rattle.std.proofs.Common.{ap, arith}
+use Rattle.std.proofs.Common.{◌≡◌, ℕ, zero, suc, ◌+◌, ◌-◌, ◌*◌, ◌^◌, ◌<◌, ◌≤◌, true, Some, None, List, [], ◌∷◌, ◌++◌}
+use Rattle.std.proofs.Common.{length, drop, take, slice_get, refl, sym, ◌∙◌, ap, arith}
 use Rattle.cw_base.specs.declared.flags.Flags.{Flags}
 use Rattle.cw_names.specs.Names.{Entry}
 use Rattle.cw_table.specs.Fitting.{row_fits, first_of}
-use Rattle.cw_table.specs.Normal.{weight}
+use Rattle.cw_table.specs.Normal.{count, log, weight, steps as steps_done}
 use Rattle.cw_table.specs.NormalWalk.{walk_left}
 use Rattle.cw_table.specs.Productions.{productions}
 use Rattle.cw_table.specs.Reaching.{IsAfter}
@@ -61,6 +61,14 @@ pub record Stops (f : Flags) (line0 : List LineEntry) (store0 : StoredLists) (na
 pub record Turn (f : Flags) (line0 : List LineEntry) (store0 : StoredLists) (names0 : List Entry) (marks0 : MarkList)
     (steps0 : ℕ) (line : List LineEntry) (store : StoredLists) (names : List Entry) (marks : MarkList)
     (steps place done number : ℕ) : Type 0 where
+  pub heard : take (done + 1) (log productions f (state_of store0.lists line0 marks0 names0))
+      ≡ take done (log productions f (state_of store0.lists line0 marks0 names0))
+      ++ record { number = number; place = place } ∷ []
+  pub there : slice_get (log productions f (state_of store0.lists line0 marks0 names0)) done
+      ≡ Some (record { number = number; place = place })
+  pub inside : done < count productions f (state_of store0.lists line0 marks0 names0)
+  pub reached : state_of store.lists line marks names
+      ≡ steps_done productions f done (state_of store0.lists line0 marks0 names0)
   pub fits : row_fits (row_of productions number) (drop place (cats_of (scraps_of store.lists line))) ≡ true
   pub enough : done + 1 < 2 ^ 64
   pub less : (new : State) (back place' : ℕ) → new
@@ -113,6 +121,10 @@ module _ (f : Flags) (line0 : List LineEntry) (store0 : StoredLists) (names0 : L
         fits = ap (first_of productions) (sym same) ∙ is.fits;
       }) in
       record {
+        heard = w.heard;
+        there = w.there;
+        inside = omega (arith, w.enough);
+        reached = h.walks.reached;
         fits = w.fits;
         enough = omega (
           arith,
@@ -231,6 +243,16 @@ pub turn-next : {f : Flags} {line0 : List LineEntry} {store0 : StoredLists} {nam
     → Turn f line0 store0 names0 marks0 steps0 line store names marks next.before place' done number
 turn-next h next = turn _ _ _ _ _ _ _ _ _ _ _ _ _
     (passes-over _ _ _ _ _ _ _ _ _ _ _ _ _ _ _ h next.passed) _ next.inside next.first
+
+-- where the production at the next place isn't done
+pub not-done : {f : Flags} {line0 : List LineEntry} {store0 : StoredLists} {names0 : List Entry} {marks0 : MarkList}
+    {steps0 : ℕ} {line : List LineEntry} {store : StoredLists} {names : List Entry} {marks : MarkList}
+    {steps place done place' number steps' : ℕ}
+    → InLoop f line0 store0 names0 marks0 steps0 line store names marks steps place done
+    → IsNext line place steps place' number steps' → (line' : List LineEntry) → line' ≡ line
+    → Stops f line0 store0 names0 marks0 steps0 line' store names marks steps'
+not-done {store = store} {names} {marks} h next line' same = (turn-next h next).refused line' store names marks _
+    (ap (λ l. state_of store.lists l marks names) same) refl next.counted
 
 pub at-end : {f : Flags} {line0 : List LineEntry} {store0 : StoredLists} {names0 : List Entry} {marks0 : MarkList}
     {steps0 : ℕ} {line : List LineEntry} {store : StoredLists} {names : List Entry} {marks : MarkList}

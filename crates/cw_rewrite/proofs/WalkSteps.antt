@@ -1,6 +1,7 @@
 -- The walk of the reducer.
 use Rattle.std.proofs.Common.{◌≡◌, ℕ, zero, suc, ◌+◌, ◌-◌, ◌<◌, ◌≤◌, true, Option, Some, None, List, [], ◌∷◌, length}
-use Rattle.std.proofs.Common.{drop, get_or, unwrap_or, IfSome, MatchOption, refl, sym, ◌∙◌, ap, arith}
+use Rattle.std.proofs.Common.{◌++◌, drop, take, get_or, slice_get, unwrap_or, IfSome, MatchOption, refl, sym, ◌∙◌}
+use Rattle.std.proofs.Common.{ap, arith}
 use Rattle.std.specs.List.{list_all}
 use Rattle.std.specs.Option.{option_map}
 use Rattle.cw_base.specs.declared.category.Cat.{Cat}
@@ -12,7 +13,7 @@ use Rattle.cw_table.specs.declared.productions.TheConstants.{ROW_COUNT}
 use Rattle.cw_table.specs.declared.types.Row.{Row}
 use Rattle.cw_table.specs.declared.types.RowNo.{RowNo}
 use Rattle.cw_table.specs.Fitting.{row_fits, first_of, window_of}
-use Rattle.cw_table.specs.Normal.{Nowhere, next_place, normal, count, steps, is_fine}
+use Rattle.cw_table.specs.Normal.{Nowhere, At, next_place, normal, count, log, steps, weight, is_fine}
 use Rattle.cw_table.specs.NormalWalk.{walk_left}
 use Rattle.cw_table.specs.Productions.{productions}
 use Rattle.cw_table.specs.Reaching.{IsAfter}
@@ -23,7 +24,7 @@ use Rattle.cw_table.specs.WalkCounts.{right_of_new, ticks_from, ticks}
 use Rattle.cw_table.proofs.CountLaws.{ticks-end, ticks-past, ticks-taken, none-below-next}
 use Rattle.cw_table.proofs.Examples.{productions-sound, productions-numbered}
 use Rattle.cw_table.proofs.FirstLaws.{first-window}
-use Rattle.cw_table.proofs.Normals.{normal-none, normal-step, count-none, count-step}
+use Rattle.cw_table.proofs.Normals.{normal-none, normal-step, count-none, count-step, count-weight}
 use Rattle.cw_table.proofs.Joining.{productions-length}
 use Rattle.cw_table.proofs.Numbers.{first-numbered, numbered-row}
 use Rattle.cw_table.proofs.ScrapFacts.{cats-length}
@@ -36,6 +37,7 @@ use Rattle.cw_scraps.specs.Lines.{no_entry}
 use Rattle.cw_scraps.proofs.FirstRows.{window-line}
 use Rattle.cw_names.specs.Words.{words_of}
 use Rattle.cw_rewrite.specs.Reduction.{IsFirst}
+use Rattle.cw_rewrite.proofs.LogSteps.{heard-more, heard-next, numbered-number}
 
 -- the number that the window gives is that of the first row that fits
 abbrev number_of : Option Row → Option RowNo
@@ -134,6 +136,9 @@ walk-starts f start first fine = record {
 
 -- a turn that rewrites
 pub record Rewrites (f : Flags) (start now : State) (place done first spent number : ℕ) : Type 0 where
+  pub heard : take (done + 1) (log productions f start)
+      ≡ take done (log productions f start) ++ record { number = number; place = place } ∷ []
+  pub there : slice_get (log productions f start) done ≡ Some (record { number = number; place = place })
   pub fits : row_fits (row_of productions number) (drop place (cats_of now.scraps)) ≡ true
   pub enough : done + 1 ≤ count productions f start
   pub less : walk_left (place - least productions (row_of productions number))
@@ -156,7 +161,14 @@ rewrites f start now place done first spent number w inside is =
     + ticks_from productions f (place - least productions (row_of productions number))
     (rewrite f (row_of productions number) place now)) = ticks-taken productions f place now
     (row_of productions number) productions-sound w.fine inside t in
+    let at : next_place productions (steps productions f done start) ≡ At place (row_of productions number) =
+    ap (next_place productions) (sym w.reached) ∙ t.next in
+    let before : done < weight start.scraps = omega (arith, one, w.number, count-weight productions f start) in
+    let own : (row_of productions number).number.number ≡ number =
+    numbered-number productions number is.numbered in
     record {
+      heard = heard-more f start (row_of productions number) place done number before at own;
+      there = heard-next f start (row_of productions number) place done number before at own;
       fits = t.takes.fits;
       enough = omega (arith, one, w.number);
       less = t.less;

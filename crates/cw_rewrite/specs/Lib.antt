@@ -1,3 +1,4 @@
--- What is said of rewriting a line, and of the lists into which scraps are gathered.
+-- What is said of rewriting a line, of who is told of it, and of the lists into which scraps are gathered.
 pub mod Reduction
 pub mod Gathering
+pub mod Telling

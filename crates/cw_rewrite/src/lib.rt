@@ -3,6 +3,8 @@
 
 mod gathering;
 mod walk;
+mod watch;
 
 pub use gathering::{put_alone, put_together};
-pub use walk::{Reduced, reduce};
+pub use walk::{Reduced, reduce, reduce_watched};
+pub use watch::{LogItem, Unwatched, Watch};

@@ -1,8 +1,8 @@
 //! The reducer: a pointer goes along a line of scraps, and back after each production.
 ghost use Rattle.std.specs.Prelude.{◌≡◌, ◌+◌, ◌*◌, ◌<◌, ◌≤◌, true, drop, length, IfOk, OnOk, OnErr, MatchOption};
-ghost use Rattle.std.specs.Prelude.{MatchResult};
+ghost use Rattle.std.specs.Prelude.{MatchResult, IfSome, None};
 ghost use Rattle.cw_table.specs.Fitting.{first_of, row_fits};
-ghost use Rattle.cw_table.specs.Normal.{count, normal, weight};
+ghost use Rattle.cw_table.specs.Normal.{count, log, normal, weight};
 ghost use Rattle.cw_table.specs.Productions.{productions};
 ghost use Rattle.cw_table.specs.Reaching.{IsAfter};
 ghost use Rattle.cw_table.specs.Rewriting.{cats_of, rewrite};
@@ -16,8 +16,10 @@ ghost use Rattle.cw_scraps.specs.Changing.{Keeps};
 ghost use Rattle.cw_scraps.specs.Inserting.{entry_cats};
 ghost use Rattle.cw_scraps.specs.Lines.{IsSoundLine, roots_of, scraps_of};
 ghost use Rattle.cw_rewrite.specs.Reduction.{GrowsByProductions, HasNoMore, IsFirst, IsNext, IsPairAt};
+ghost use Rattle.cw_rewrite.specs.Telling.{EndsWithin, StopsAt, grown_by};
 ghost use Rattle.cw_names.specs.Words.{words_of};
 
+use crate::watch::{Unwatched, Watch};
 use cw_base::{Cat, Flags, Ledger, Memory, Steps};
 use cw_names::Names;
 use cw_scraps::{Marks, PRODUCTION_TOKENS, Production, ScrapLine};
@@ -70,10 +72,66 @@ pub fn reduce<L: Ledger>(
     ensures bound { steps.new ≤ steps.old + (132 * length line.old + length line.old * reservings productions flags.now
         (state_of store.old.lists line.old marks.old names.old)) }
 {
+    match reduce_watched(line, store, names, marks, flags, &mut Unwatched, steps)? {
+        Some(reduced) => Ok(reduced),
+        // It refuses no production.
+        None => unreachable!(),
+    }
+}
+
+/// The same, where a watch hears of each production before it is done. Where it refuses one, the line is left as it is
+/// before that production, and None is answered.
+#[inline(always)]
+pub fn reduce_watched<L: Ledger, W: Watch>(
+    line: &mut ScrapLine,
+    store: &mut TokenStore,
+    names: &mut Names,
+    marks: &mut Marks,
+    flags: &Flags,
+    watch: &mut W,
+    steps: &mut Steps<L>,
+) -> Result<Option<Reduced>, Memory>
+    requires sound { IsSoundLine store.old names.old line.old }
+    ensures normal { IfOk result (λ o. IfSome o (λ done. state_of store.new.lists line.new marks.new names.new ≡
+        normal productions flags.now (state_of store.old.lists line.old marks.old names.old))) }
+    ensures productions { IfOk result (λ o. IfSome o (λ done. done.productions ≡
+        count productions flags.now (state_of store.old.lists line.old marks.old names.old))) }
+    ensures light { IfOk result (λ o. IfSome o (λ done. done.productions ≤
+        weight (scraps_of store.old.lists line.old))) }
+    ensures few { IfOk result (λ o. IfSome o (λ done. done.productions ≤ 8 * length line.old)) }
+    ensures told { IfOk result (λ o. IfSome o (λ done. W.told watch.new ≡ grown_by (log productions flags.now
+        (state_of store.old.lists line.old marks.old names.old)) (W.told watch.old))) }
+    ensures stopped { IfOk result (λ o. o ≡ None → StopsAt flags.now
+        (state_of store.old.lists line.old marks.old names.old)
+        (state_of store.new.lists line.new marks.new names.new)
+        (W.told watch.old) (W.told watch.new) (W.refuses watch.new)) }
+    ensures memory { OnErr result (EndsWithin flags.now (state_of store.old.lists line.old marks.old names.old)
+        (state_of store.new.lists line.new marks.new names.new) (W.told watch.old) (W.told watch.new)) }
+    ensures basis { W.basis watch.new ≡ W.basis watch.old }
+    ensures after { IsAfter productions flags.now (state_of store.old.lists line.old marks.old names.old)
+        (state_of store.new.lists line.new marks.new names.new) }
+    ensures words { words_of names.new ≡ words_of names.old }
+    ensures numbers { numbers_of (scraps_of store.new.lists line.new) ≡
+        numbers_of (scraps_of store.old.lists line.old) }
+    ensures sound { IsSoundLine store.new names.new line.new }
+    ensures others { Keeps store.old.lists store.new.lists (roots_of line.old) (roots_of line.new) }
+    ensures tokens { GrowsByProductions flags.now
+        (state_of store.old.lists line.old marks.old names.old) store.old.lists
+        (state_of store.new.lists line.new marks.new names.new) store.new.lists }
+    ensures steps { IfOk result (λ o. IfSome o (λ done. steps.new ≡ steps.old + ticks productions flags.now
+        (state_of store.old.lists line.old marks.old names.old))) }
+    ensures no_more { steps.new ≤ steps.old + ticks productions flags.now (state_of store.old.lists line.old marks.old
+        names.old) }
+    ensures bound { steps.new ≤ steps.old + (132 * length line.old + length line.old * reservings productions flags.now
+        (state_of store.old.lists line.old marks.old names.old)) }
+{
     let _length = line.len();
     let mut place = 0;
     let mut productions = 0;
     while let Some(found) = next_row(line, place, steps) {
+        if !watch.hear(found.row, found.place)? {
+            return Ok(None);
+        }
         let production = Production {
             row: found.row,
             place: found.place,
@@ -83,7 +141,7 @@ pub fn reduce<L: Ledger>(
         productions += 1;
         place = found.place.saturating_sub(distance(found.row));
     }
-    Ok(Reduced { productions })
+    Ok(Some(Reduced { productions }))
 }
 
 // A row, and the place at which it fits.
