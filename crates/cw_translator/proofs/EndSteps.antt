@@ -17,7 +17,6 @@ use Rattle.cw_scraps.specs.declared.line.LineEntry.{LineEntry}
 use Rattle.cw_scraps.specs.Applying.{state_of}
 use Rattle.cw_scraps.specs.Changing.{Keeps}
 use Rattle.cw_scraps.specs.Lines.{seen, scraps_of, roots_of, IsOutside, IsSoundLine}
-use Rattle.cw_scraps.specs.Marking.{MarkList}
 use Rattle.cw_translator.specs.declared.nesting.Open.{Open}
 use Rattle.cw_translator.specs.declared.nesting.Open.TheVariants.{CText, Comment}
 use Rattle.cw_translator.specs.declared.translator.Translated.{Translated}
@@ -25,8 +24,8 @@ use Rattle.cw_translator.specs.declared.translator.Translator.{Translator}
 use Rattle.cw_translator.specs.declared.work.Work.{Work}
 use Rattle.cw_translator.specs.Counting.{text_limit, limit_in}
 use Rattle.cw_translator.specs.LinesDone.{LineDone}
-use Rattle.cw_translator.specs.Opening.{last_line, all_roots, IsTranslating, frames_of, progress_of, HasEnded}
-use Rattle.cw_translator.specs.Retyping.{NamesOnTheWay, Retypes, at_end}
+use Rattle.cw_translator.specs.Opening.{last_line, all_roots, IsTranslating, frames_of}
+use Rattle.cw_translator.specs.Retyping.{Retypes, at_end}
 use Rattle.cw_translator.specs.Reading.{last_scraps, all_ended}
 use Rattle.cw_translator.specs.Translating.{state_in, with_categories}
 use Rattle.cw_translator.specs.Working.{IsSameWork, EndsIn, progress_over, to_end}
@@ -69,53 +68,27 @@ last-scraps-are lists (CText line ∷ []) = refl
 last-scraps-are lists (CText line ∷ (inner ∷ outer)) = refl
 last-scraps-are lists (Comment number parts ∷ outer) = refl
 
-module _ (flags : Flags) (old new : StoredLists) (names names' : List Entry) (marks marks' : MarkList)
-    (t : Translator) (line : List LineEntry) (line_is : line ≡ last_line t.nesting) where
-  abbrev left_state : State
-  left_state = state_in (last_scraps (frames_of old.lists t.nesting)) (known_of names marks)
-
-  left-is : state_of old.lists line marks names ≡ left_state
-  left-is = ap (λ scraps. state_in scraps (known_of names marks))
-      (ap (scraps_of old.lists) line_is ∙ last-scraps-are old.lists t.nesting)
-
-  pub line-ended : (done : Translated) (scraps applied steps steps' : ℕ)
-      → LineDone flags old new names names' marks marks' line done steps steps' → scraps ≡ t.scraps + done.scraps
-      → applied ≡ t.productions + done.productions
-      → HasEnded flags t steps new.lists names' marks'
-      (record { list = done.list; scraps = scraps; productions = applied }) steps'
-      (all_ended flags (progress_of old.lists names marks t []))
-  line-ended done scraps applied steps steps' d scraps_are productions_are = record {
-    tree = d.tree ∙ ap (λ (s : State). whole (normal productions flags s).scraps) left-is;
-    names_are = d.names_are ∙ ap (λ (s : State). with_categories (normal productions flags s).cats names) left-is;
-    marks_are = d.marks_are ∙ ap (λ (s : State). (normal productions flags s).marks) left-is;
-    scraps = scraps_are ∙ ap (λ n. t.scraps + n) (d.scraps
-        ∙ (sym (length-map line (seen old.lists)) ∙ (ap (λ (s : State). length s.scraps) left-is
-        ∙ sum-one (λ state. length state.scraps) left_state)));
-    productions_are = productions_are ∙ ap (λ n. t.productions + n) (d.productions_are
-        ∙ (ap (λ (s : State). count productions flags s) left-is
-        ∙ sum-one (λ state. count productions flags state) left_state));
-    steps_are = d.steps_are ∙ (ap (λ (s : State). steps + ticks productions flags s) left-is
-        ∙ ap (λ n. steps + n) (sum-one (λ state. ticks productions flags state) left_state));
-  }
-
-  pub line-retypes : Retypes flags (state_of old.lists line marks names) names names'
-      → NamesOnTheWay flags [] (progress_of old.lists names marks t []) names'
-  line-retypes r = at_end (progress_of old.lists names marks t []) names'
-      (subst (λ s. Retypes flags s names names') left-is r)
-
-  pub line-bound : (steps steps' : ℕ) → steps' ≤ steps
-      + (132 * length line + length line * reservings productions flags (state_of old.lists line marks names))
-      → steps' ≤ steps + limit_in flags (all_ended flags (progress_of old.lists names marks t [])).known.ended
-  line-bound steps steps' h = subst (λ n. steps' ≤ steps + n) (sum-one (λ state. text_limit flags state) left_state)
-      (subst (λ s. steps' ≤ steps + text_limit flags s) left-is
-      (subst (λ n. steps' ≤ steps + (132 * n + n * reservings productions flags
-      (state_of old.lists line marks names))) (sym (length-map line (seen old.lists))) h))
-
 -- What a call does that ends a text, and how it is refused.
 module _ {L : Type 0} (flags : Flags) {old new : Work L} (t : Translator) (line : List LineEntry) (line_is : line
     ≡ last_line t.nesting)
     (few : new.steps.now ≤ old.steps.now + (132 * length line + length line * reservings productions flags
     (state_of old.store.now.lists line old.marks.now old.names.now))) (same : IsSameWork old new) where
+  abbrev begun : State
+  begun = state_of old.store.now.lists line old.marks.now old.names.now
+
+  abbrev left_state : State
+  left_state = state_in (last_scraps (frames_of old.store.now.lists t.nesting)) (known_of old.names.now old.marks.now)
+
+  left-is : begun ≡ left_state
+  left-is = ap (λ scraps. state_in scraps (known_of old.names.now old.marks.now))
+      (ap (scraps_of old.store.now.lists) line_is ∙ last-scraps-are old.store.now.lists t.nesting)
+
+  line-bound : new.steps.now ≤ old.steps.now + limit_in flags (all_ended flags (progress_over old t)).known.ended
+  line-bound = subst (λ n. new.steps.now ≤ old.steps.now + n) (sum-one (λ state. text_limit flags state) left_state)
+      (subst (λ s. new.steps.now ≤ old.steps.now + text_limit flags s) left-is
+      (subst (λ n. new.steps.now ≤ old.steps.now + (132 * n + n * reservings productions flags begun))
+      (sym (length-map line (seen old.store.now.lists))) few))
+
   pub line-ends : (done : Translated) (scraps applied : ℕ)
       → LineDone flags old.store.now new.store.now old.names.now new.names.now old.marks.now new.marks.now line done
       old.steps.now new.steps.now → IsTranslating old.store.now old.names.now t → scraps ≡ t.scraps + done.scraps
@@ -126,8 +99,20 @@ module _ {L : Type 0} (flags : Flags) {old new : Work L} (t : Translator) (line 
       let before : t.productions ≤ 8 * t.scraps = is.light in
       let light : done.productions ≤ 8 * done.scraps = d.few in
       record {
-        text = line-ended flags old.store.now new.store.now old.names.now new.names.now old.marks.now new.marks.now t
-            line line_is done scraps applied old.steps.now new.steps.now d scraps_are applied_are;
+        text = record {
+          tree = d.tree ∙ ap (λ (s : State). whole (normal productions flags s).scraps) left-is;
+          names_are = d.names_are
+              ∙ ap (λ (s : State). with_categories (normal productions flags s).cats old.names.now) left-is;
+          marks_are = d.marks_are ∙ ap (λ (s : State). (normal productions flags s).marks) left-is;
+          scraps = scraps_are ∙ ap (λ n. t.scraps + n) (d.scraps
+              ∙ (sym (length-map line (seen old.store.now.lists)) ∙ (ap (λ (s : State). length s.scraps) left-is
+              ∙ sum-one (λ state. length state.scraps) left_state)));
+          productions_are = applied_are ∙ ap (λ n. t.productions + n) (d.productions_are
+              ∙ (ap (λ (s : State). count productions flags s) left-is
+              ∙ sum-one (λ state. count productions flags state) left_state));
+          steps_are = d.steps_are ∙ (ap (λ (s : State). old.steps.now + ticks productions flags s) left-is
+              ∙ ap (λ n. old.steps.now + n) (sum-one (λ state. ticks productions flags state) left_state));
+        };
         few = omega (arith, before, light, scraps_are, applied_are);
         named = d.named;
         root = d.root;
@@ -135,18 +120,14 @@ module _ {L : Type 0} (flags : Flags) {old new : Work L} (t : Translator) (line 
             (subst (λ l. Keeps old.store.now.lists new.store.now.lists (roots_of l) (done.list.index ∷ [])) line_is
             d.keeps);
         refused = tt;
-        bound = line-bound flags old.store.now new.store.now old.names.now new.names.now old.marks.now new.marks.now t
-            line line_is old.steps.now new.steps.now few;
+        bound = line-bound;
         same = same;
         idle = d.idle;
       }
 
   pub line-refused : {error : Memory} {result : Result Translated Memory}
-      → IsErrAnd result (λ found. found ≡ error)
-      → Retypes flags (state_of old.store.now.lists line old.marks.now old.names.now) old.names.now new.names.now
+      → IsErrAnd result (λ found. found ≡ error) → Retypes flags begun old.names.now new.names.now
       → new.store.now.building ≡ None → EndsIn (to_end flags [] (progress_over old t)) t old new result
   line-refused is retyped idle = ends-refused is
-      (line-retypes flags old.store.now new.store.now old.names.now new.names.now old.marks.now new.marks.now t line
-      line_is retyped)
-      (line-bound flags old.store.now new.store.now old.names.now new.names.now old.marks.now new.marks.now t line
-      line_is old.steps.now new.steps.now few) same idle
+      (at_end (progress_over old t) new.names.now
+      (subst (λ s. Retypes flags s old.names.now new.names.now) left-is retyped)) line-bound same idle

@@ -14,22 +14,20 @@ use Rattle.cw_table.specs.Normal.{count}
 use Rattle.cw_table.specs.Productions.{productions}
 use Rattle.cw_table.specs.Rewriting.{State}
 use Rattle.cw_table.specs.WalkCounts.{ticks}
-use Rattle.cw_tokens.specs.declared.token.Token.{Token as StoredToken}
 use Rattle.cw_scraps.specs.Changing.{Keeps}
-use Rattle.cw_scraps.specs.Marking.{MarkList}
 use Rattle.cw_scraps.proofs.Applied.{keeps-trans}
 use Rattle.cw_translator.specs.declared.translator.Translated.{Translated}
 use Rattle.cw_translator.specs.declared.translator.Translator.{Translator}
 use Rattle.cw_translator.specs.declared.work.Work.{Work}
 use Rattle.cw_translator.specs.Counting.{scraps_in, productions_in, ticks_in, text_limit, limit_in}
-use Rattle.cw_translator.specs.Opening.{all_roots, progress_of, HasCome, HasEnded, IsTranslating}
+use Rattle.cw_translator.specs.Opening.{all_roots, progress_of, IsTranslating}
 use Rattle.cw_translator.specs.Retyping.{NamesOnTheWay, NamesAmong, RetypesIn, here, at_finish, at_end, later}
 use Rattle.cw_translator.specs.Reading.{Frame, Progress, with_item, after_token, after_finish, after_answer}
 use Rattle.cw_translator.specs.Reading.{after_answers, all_ended, last_scraps}
 use Rattle.cw_translator.specs.Reading.{CText as CTextFrame, Comment as CommentFrame}
 use Rattle.cw_translator.specs.Translating.{Ended, Known, InnerText, state_in, end_from}
-use Rattle.cw_translator.specs.Working.{Route, IsSameWork, Target, Advances, EndsIn, prolonged, over, progress_over}
-use Rattle.cw_translator.specs.Working.{to_end}
+use Rattle.cw_translator.specs.Working.{Route, IsSameWork, Target, Advances, EndsIn, HasComeOver, HasEndedOver}
+use Rattle.cw_translator.specs.Working.{over, progress_over, prolonged, to_end}
 use Rattle.cw_translator.proofs.AnswerSteps.{stay-come}
 use Rattle.cw_translator.proofs.LeafSteps.{keeps-itself}
 use Rattle.cw_translator.proofs.Sums.{sum-end, sum-more}
@@ -178,92 +176,90 @@ way-end flags (answer ∷ answers) p q new e h = later answer answers p new
 
 -- ## From where a translation has come
 
-module _ (flags : Flags) (t0 t1 : Translator) (steps steps1 : ℕ) (mid : List (List StoredToken)) (names1 : List Entry)
-    (marks1 : MarkList) (p : Progress) (come : HasCome flags t0 steps mid names1 marks1 t1 steps1 p) (xs : List Answer)
-  where
-    abbrev fresh : Progress
-    fresh = progress_of mid names1 marks1 t1 []
+module _ {L : Type 0} (flags : Flags) (t0 t1 : Translator) (old mid : Work L) (p : Progress)
+    (come : HasComeOver flags t0 old t1 mid p) (xs : List Answer) where
+  abbrev fresh : Progress
+  fresh = progress_over mid t1
 
-    abbrev then_now : Progress
-    then_now = after_answers flags xs fresh
+  abbrev then_now : Progress
+  then_now = after_answers flags xs fresh
 
-    now-behind : p ≡ behind p.known.ended fresh
-    now-behind = sym come.is ∙ ap (progress_of mid names1 marks1 t1) (sym (append-nil p.known.ended))
+  now-behind : p ≡ behind p.known.ended fresh
+  now-behind = sym come.is ∙ ap (progress_of mid.store.now.lists mid.names.now mid.marks.now t1)
+      (sym (append-nil p.known.ended))
 
-    all-behind : after_answers flags xs p ≡ behind p.known.ended then_now
-    all-behind = ap (after_answers flags xs) now-behind ∙ behind-answers flags p.known.ended xs fresh
+  all-behind : after_answers flags xs p ≡ behind p.known.ended then_now
+  all-behind = ap (after_answers flags xs) now-behind ∙ behind-answers flags p.known.ended xs fresh
 
-    then-come : (lists : List (List StoredToken)) (names2 : List Entry) (marks2 : MarkList) (t2 : Translator)
-        (steps2 : ℕ) → HasCome flags t1 steps1 lists names2 marks2 t2 steps2 then_now
-        → HasCome flags t0 steps lists names2 marks2 t2 steps2 (after_answers flags xs p)
-    then-come lists names2 marks2 t2 steps2 h =
-        let done : List State = p.known.ended in
-        let more : List State = then_now.known.ended in
-        let scraps : scraps_in (done ++ more) ≡ scraps_in done + scraps_in more =
-        sum-more (λ state. length state.scraps) done more in
-        let applied : productions_in flags (done ++ more) ≡ productions_in flags done + productions_in flags more =
-        sum-more (λ state. count productions flags state) done more in
-        let ticked : ticks_in flags (done ++ more) ≡ ticks_in flags done + ticks_in flags more =
-        sum-more (λ state. ticks productions flags state) done more in
-        subst (HasCome flags t0 steps lists names2 marks2 t2 steps2) (sym all-behind) (record {
-          is = ap (behind done) h.is;
-          scraps = omega (arith, come.scraps, h.scraps, scraps);
-          productions_are = omega (arith, come.productions_are, h.productions_are, applied);
-          steps_are = omega (arith, come.steps_are, h.steps_are, ticked);
-        })
+  then-come : (t2 : Translator) (new : Work L) → HasComeOver flags t1 mid t2 new then_now
+      → HasComeOver flags t0 old t2 new (after_answers flags xs p)
+  then-come t2 new h =
+      let done : List State = p.known.ended in
+      let more : List State = then_now.known.ended in
+      let scraps : scraps_in (done ++ more) ≡ scraps_in done + scraps_in more =
+      sum-more (λ state. length state.scraps) done more in
+      let applied : productions_in flags (done ++ more) ≡ productions_in flags done + productions_in flags more =
+      sum-more (λ state. count productions flags state) done more in
+      let ticked : ticks_in flags (done ++ more) ≡ ticks_in flags done + ticks_in flags more =
+      sum-more (λ state. ticks productions flags state) done more in
+      subst (HasComeOver flags t0 old t2 new) (sym all-behind) (record {
+        is = ap (behind done) h.is;
+        scraps = omega (arith, come.scraps, h.scraps, scraps);
+        productions_are = omega (arith, come.productions_are, h.productions_are, applied);
+        steps_are = omega (arith, come.steps_are, h.steps_are, ticked);
+      })
 
-    then-few : (steps2 : ℕ) → steps1 ≤ steps + limit_in flags p.known.ended
-        → steps2 ≤ steps1 + limit_in flags then_now.known.ended
-        → steps2 ≤ steps + limit_in flags (after_answers flags xs p).known.ended
-    then-few steps2 low high =
-        let limits : limit_in flags (p.known.ended ++ then_now.known.ended) ≡ limit_in flags p.known.ended
-        + limit_in flags then_now.known.ended = sum-more (λ state. text_limit flags state) p.known.ended
-        then_now.known.ended in
-        let k : steps2 ≤ steps + limit_in flags (p.known.ended ++ then_now.known.ended) =
-        omega (arith, low, high, limits) in
-        subst (λ (q : Progress). steps2 ≤ steps + limit_in flags q.known.ended) (sym all-behind) k
+  then-few : (steps2 : ℕ) → mid.steps.now ≤ old.steps.now + limit_in flags p.known.ended
+      → steps2 ≤ mid.steps.now + limit_in flags then_now.known.ended
+      → steps2 ≤ old.steps.now + limit_in flags (after_answers flags xs p).known.ended
+  then-few steps2 low high =
+      let limits : limit_in flags (p.known.ended ++ then_now.known.ended) ≡ limit_in flags p.known.ended
+      + limit_in flags then_now.known.ended = sum-more (λ state. text_limit flags state) p.known.ended
+      then_now.known.ended in
+      let k : steps2 ≤ old.steps.now + limit_in flags (p.known.ended ++ then_now.known.ended) =
+      omega (arith, low, high, limits) in
+      subst (λ (q : Progress). steps2 ≤ old.steps.now + limit_in flags q.known.ended) (sym all-behind) k
 
-    then-way : (coming : List Answer) (entries : List Entry) → NamesOnTheWay flags (xs ++ coming) fresh entries
-        → NamesOnTheWay flags (xs ++ coming) p entries
-    then-way coming entries h = way-behind flags p.known.ended (xs ++ coming) p fresh entries now-behind h
+  then-way : (coming : List Answer) (entries : List Entry) → NamesOnTheWay flags (xs ++ coming) fresh entries
+      → NamesOnTheWay flags (xs ++ coming) p entries
+  then-way coming entries h = way-behind flags p.known.ended (xs ++ coming) p fresh entries now-behind h
 
-    then-last : (entries : List Entry) → NamesOnTheWay flags xs fresh entries → NamesOnTheWay flags xs p entries
-    then-last entries h = way-behind flags p.known.ended xs p fresh entries now-behind h
+  then-last : (entries : List Entry) → NamesOnTheWay flags xs fresh entries → NamesOnTheWay flags xs p entries
+  then-last entries h = way-behind flags p.known.ended xs p fresh entries now-behind h
 
-    -- the text that ends there
-    ended-behind : all_ended flags (after_answers flags xs p) ≡ text_behind p.known.ended (all_ended flags then_now)
-    ended-behind = ap (all_ended flags) all-behind ∙ all-ended-behind flags p.known.ended then_now
+  -- the text that ends there
+  ended-behind : all_ended flags (after_answers flags xs p) ≡ text_behind p.known.ended (all_ended flags then_now)
+  ended-behind = ap (all_ended flags) all-behind ∙ all-ended-behind flags p.known.ended then_now
 
-    then-ended : (lists : List (List StoredToken)) (names2 : List Entry) (marks2 : MarkList) (done : Translated)
-        (steps2 : ℕ) → HasEnded flags t1 steps1 lists names2 marks2 done steps2 (all_ended flags then_now)
-        → HasEnded flags t0 steps lists names2 marks2 done steps2 (all_ended flags (after_answers flags xs p))
-    then-ended lists names2 marks2 done steps2 h =
-        let first : List State = p.known.ended in
-        let more : List State = (all_ended flags then_now).known.ended in
-        let scraps : scraps_in (first ++ more) ≡ scraps_in first + scraps_in more =
-        sum-more (λ state. length state.scraps) first more in
-        let applied : productions_in flags (first ++ more) ≡ productions_in flags first + productions_in flags more =
-        sum-more (λ state. count productions flags state) first more in
-        let ticked : ticks_in flags (first ++ more) ≡ ticks_in flags first + ticks_in flags more =
-        sum-more (λ state. ticks productions flags state) first more in
-        subst (HasEnded flags t0 steps lists names2 marks2 done steps2) (sym ended-behind) (record {
-          tree = h.tree;
-          names_are = h.names_are;
-          marks_are = h.marks_are;
-          scraps = omega (arith, come.scraps, h.scraps, scraps);
-          productions_are = omega (arith, come.productions_are, h.productions_are, applied);
-          steps_are = omega (arith, come.steps_are, h.steps_are, ticked);
-        })
+  then-ended : (new : Work L) (done : Translated) → HasEndedOver flags t1 mid new done (all_ended flags then_now)
+      → HasEndedOver flags t0 old new done (all_ended flags (after_answers flags xs p))
+  then-ended new done h =
+      let first : List State = p.known.ended in
+      let more : List State = (all_ended flags then_now).known.ended in
+      let scraps : scraps_in (first ++ more) ≡ scraps_in first + scraps_in more =
+      sum-more (λ state. length state.scraps) first more in
+      let applied : productions_in flags (first ++ more) ≡ productions_in flags first + productions_in flags more =
+      sum-more (λ state. count productions flags state) first more in
+      let ticked : ticks_in flags (first ++ more) ≡ ticks_in flags first + ticks_in flags more =
+      sum-more (λ state. ticks productions flags state) first more in
+      subst (HasEndedOver flags t0 old new done) (sym ended-behind) (record {
+        tree = h.tree;
+        names_are = h.names_are;
+        marks_are = h.marks_are;
+        scraps = omega (arith, come.scraps, h.scraps, scraps);
+        productions_are = omega (arith, come.productions_are, h.productions_are, applied);
+        steps_are = omega (arith, come.steps_are, h.steps_are, ticked);
+      })
 
-    then-spent : (steps2 : ℕ) → steps1 ≤ steps + limit_in flags p.known.ended
-        → steps2 ≤ steps1 + limit_in flags (all_ended flags then_now).known.ended
-        → steps2 ≤ steps + limit_in flags (all_ended flags (after_answers flags xs p)).known.ended
-    then-spent steps2 low high =
-        let more : List State = (all_ended flags then_now).known.ended in
-        let limits : limit_in flags (p.known.ended ++ more) ≡ limit_in flags p.known.ended + limit_in flags more =
-        sum-more (λ state. text_limit flags state) p.known.ended more in
-        let k : steps2 ≤ steps + limit_in flags (p.known.ended ++ more) = omega (arith, low, high, limits) in
-        subst (λ (text : Ended). steps2 ≤ steps + limit_in flags text.known.ended) (sym ended-behind) k
+  then-spent : (steps2 : ℕ) → mid.steps.now ≤ old.steps.now + limit_in flags p.known.ended
+      → steps2 ≤ mid.steps.now + limit_in flags (all_ended flags then_now).known.ended
+      → steps2 ≤ old.steps.now + limit_in flags (all_ended flags (after_answers flags xs p)).known.ended
+  then-spent steps2 low high =
+      let more : List State = (all_ended flags then_now).known.ended in
+      let limits : limit_in flags (p.known.ended ++ more) ≡ limit_in flags p.known.ended + limit_in flags more =
+      sum-more (λ state. text_limit flags state) p.known.ended more in
+      let k : steps2 ≤ old.steps.now + limit_in flags (p.known.ended ++ more) = omega (arith, low, high, limits) in
+      subst (λ (text : Ended). steps2 ≤ old.steps.now + limit_in flags text.known.ended) (sym ended-behind) k
 
 -- ## A call that reads
 
@@ -321,8 +317,7 @@ pub advances-as : {L T : Type 0} {c : Route} {ends : Progress} {leaves : List En
     → Advances (record { flags = c.flags; ends = ends; leaves = leaves }) t old t' new result
 advances-as {c = c} {t = t} {t' = t'} {old = old} {new = new} {result = result} is among r = record {
   translating = r.translating;
-  come = on_ok_weaker result (λ h. subst (HasCome c.flags t old.steps.now new.store.now.lists new.names.now
-      new.marks.now t' new.steps.now) is h) r.come;
+  come = on_ok_weaker result (λ h. subst (HasComeOver c.flags t old t' new) is h) r.come;
   keeps = r.keeps;
   names = on-err-weaker result _ _ (among new.names.now) r.names;
   bound = subst (λ (p : Progress). new.steps.now ≤ old.steps.now + limit_in c.flags p.known.ended) is r.bound;
@@ -336,8 +331,7 @@ pub advances-done : {L T : Type 0} {c : Route} {ends : Progress} {leaves : List 
     → Advances {T = T} (record { flags = c.flags; ends = ends; leaves = leaves }) t old t' new (Ok value)
 advances-done {c = c} {t = t} {t' = t'} {old = old} {new = new} is r = record {
   translating = r.translating;
-  come = subst (HasCome c.flags t old.steps.now new.store.now.lists new.names.now new.marks.now t' new.steps.now) is
-      r.come;
+  come = subst (HasComeOver c.flags t old t' new) is r.come;
   keeps = r.keeps;
   names = tt;
   bound = subst (λ (p : Progress). new.steps.now ≤ old.steps.now + limit_in c.flags p.known.ended) is r.bound;
@@ -353,15 +347,12 @@ pub advances-then : {L T U : Type 0} {c : Route} (ys : List Answer) {t t1 t2 : T
 advances-then {c = c} ys {t = t} {t1 = t1} {t2 = t2} {old = old} {mid = mid} {new = new} {result = result} a b =
     record {
       translating = b.translating;
-      come = on_ok_weaker result (λ h. then-come c.flags t t1 old.steps.now mid.steps.now mid.store.now.lists
-          mid.names.now
-          mid.marks.now c.ends a.come ys new.store.now.lists new.names.now new.marks.now t2 new.steps.now h) b.come;
+      come = on_ok_weaker result (λ h. then-come c.flags t t1 old mid c.ends a.come ys t2 new h) b.come;
       keeps = on_ok_weaker result (λ k. keeps-trans old.store.now.lists mid.store.now.lists new.store.now.lists
           (all_roots t.nesting) (all_roots t1.nesting) (all_roots t2.nesting) a.keeps k) b.keeps;
-      names = on-err-weaker result _ _ (λ h. inr (λ coming. then-way c.flags t t1 old.steps.now mid.steps.now
-          mid.store.now.lists mid.names.now mid.marks.now c.ends a.come ys coming new.names.now (h coming))) b.names;
-      bound = then-few c.flags t t1 old.steps.now mid.steps.now mid.store.now.lists mid.names.now mid.marks.now c.ends
-          a.come ys new.steps.now a.bound b.bound;
+      names = on-err-weaker result _ _ (λ h. inr (λ coming. then-way c.flags t t1 old mid c.ends a.come ys coming
+          new.names.now (h coming))) b.names;
+      bound = then-few c.flags t t1 old mid c.ends a.come ys new.steps.now a.bound b.bound;
       same = same-work a.same b.same;
       idle = b.idle;
     }
@@ -481,18 +472,14 @@ pub ends-then : {L T : Type 0} {c : Route} (ys : List Answer) {t0 t : Translator
     → Advances c t0 old t mid (Ok value) → EndsIn (to_end c.flags ys (progress_over mid t)) t mid new result
     → EndsIn (to_end c.flags ys c.ends) t0 old new result
 ends-then {c = c} ys {t0 = t0} {t = t} {old = old} {mid = mid} {new = new} {result = result} a b = record {
-  text = IfOk-weaker result _ _ (λ done h. then-ended c.flags t0 t old.steps.now mid.steps.now mid.store.now.lists
-      mid.names.now mid.marks.now c.ends a.come ys new.store.now.lists new.names.now new.marks.now done new.steps.now
-      h) b.text;
+  text = IfOk-weaker result _ _ (λ done h. then-ended c.flags t0 t old mid c.ends a.come ys new done h) b.text;
   few = b.few;
   named = b.named;
   root = b.root;
   keeps = IfOk-weaker result _ _ (λ done k. keeps-trans old.store.now.lists mid.store.now.lists new.store.now.lists
       (all_roots t0.nesting) (all_roots t.nesting) (done.list.index ∷ []) a.keeps k) b.keeps;
-  refused = on-err-weaker result _ _ (then-last c.flags t0 t old.steps.now mid.steps.now mid.store.now.lists
-      mid.names.now mid.marks.now c.ends a.come ys new.names.now) b.refused;
-  bound = then-spent c.flags t0 t old.steps.now mid.steps.now mid.store.now.lists mid.names.now mid.marks.now c.ends
-      a.come ys new.steps.now a.bound b.bound;
+  refused = on-err-weaker result _ _ (then-last c.flags t0 t old mid c.ends a.come ys new.names.now) b.refused;
+  bound = then-spent c.flags t0 t old mid c.ends a.come ys new.steps.now a.bound b.bound;
   same = same-work a.same b.same;
   idle = b.idle;
 }
@@ -536,8 +523,7 @@ pub ends-as : {L : Type 0} {o : Target} {text : Ended} {leaves : List Entry → 
     → ((names : List Entry) → o.leaves names → leaves names) → EndsIn o t old new result
     → EndsIn (record { flags = o.flags; text = text; leaves = leaves }) t old new result
 ends-as {o = o} {t = t} {old = old} {new = new} {result = result} is among r = record {
-  text = IfOk-weaker result _ _ (λ done h. subst (HasEnded o.flags t old.steps.now new.store.now.lists new.names.now
-      new.marks.now done new.steps.now) is h) r.text;
+  text = IfOk-weaker result _ _ (λ done h. subst (HasEndedOver o.flags t old new done) is h) r.text;
   few = r.few;
   named = r.named;
   root = r.root;

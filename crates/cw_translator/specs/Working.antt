@@ -80,6 +80,11 @@ pub record Target : Type 1 where
   pub text : Ended
   pub leaves : List Entry → Type 0
 
+-- a call has ended a text over this
+abbrev pub HasEndedOver : {L : Type 0} → Flags → Translator → Work L → Work L → Translated → Ended → Type 0
+HasEndedOver flags t old new done text = HasEnded flags t old.steps.now new.store.now.lists new.names.now
+    new.marks.now done new.steps.now text
+
 -- over these answers to the end
 abbrev pub to_end : Flags → List Answer → Progress → Target
 to_end flags answers p = record {
@@ -92,8 +97,7 @@ to_end flags answers p = record {
 -- is one to which no list refers, the names in it are names, and the lists that the store held stay.
 pub record EndsIn {L : Type 0} (o : Target) (t : Translator) (old new : Work L)
     (result : Result Translated Memory) : Type 0 where
-  pub text : IfOk result (λ done. HasEnded o.flags t old.steps.now new.store.now.lists new.names.now new.marks.now done
-      new.steps.now o.text)
+  pub text : IfOk result (λ done. HasEndedOver o.flags t old new done o.text)
   pub few : IfOk result (λ done. done.productions ≤ 8 * done.scraps)
   pub named : IfOk result (λ done. IsNamedBelow (length new.names.now) (unfolded new.store.now.lists done.list.index))
   pub root : IfOk result (λ done. AreRoots new.store.now.lists (done.list.index ∷ []))
