@@ -1,11 +1,10 @@
 -- A text that begins with a token which makes a scrap: it has no head, and goes on behind that scrap.
-use Rattle.std.proofs.Common.{◌≡◌, ℕ, ◌+◌, ◌≤◌, ◌^◌, false, None, List, [], ◌∷◌, ◌++◌, refl, sym, ap, ◌∙◌, subst}
-use Rattle.std.proofs.Common.{zero-add}
+use Rattle.std.proofs.Common.{◌≡◌, ℕ, ◌^◌, false, None, List, [], ◌∷◌, ◌++◌, refl, sym, ap, ◌∙◌, subst}
 use Rattle.std.specs.Prelude.{Result}
 use Rattle.cw_base.specs.declared.flags.Flags.{Flags}
 use Rattle.cw_base.specs.declared.memory.Memory.{Memory}
 use Rattle.cw_base.specs.declared.notes.NoteKind.{NoteKind}
-use Rattle.cw_rules.specs.Answers.{Answer, Token, Begin, Finish, Note, Gives, Seen, seen}
+use Rattle.cw_rules.specs.Answers.{Answer, Token, Begin, Finish, Note, Gives, seen}
 use Rattle.cw_rules.specs.declared.codes.Code.TheVariants as code
 use Rattle.cw_rules.specs.declared.tokens.Lexed.{Lexed}
 use Rattle.cw_rules.specs.declared.tokens.Lexed.TheVariants as lexed
@@ -20,35 +19,28 @@ use Rattle.cw_names.specs.Names.{Entry}
 use Rattle.cw_tokens.specs.declared.token.Token.{Token as StoredToken}
 use Rattle.cw_scraps.specs.Leaves.{MakesLeaf}
 use Rattle.cw_scraps.specs.declared.leaves.Leaf.{Leaf}
-use Rattle.cw_scraps.specs.Marking.{MarkList}
 use Rattle.cw_reduce.specs.declared.heads.Beginning.{Beginning}
 use Rattle.cw_reduce.specs.declared.heads.HeadRead.TheVariants as read
 use Rattle.cw_translator.specs.declared.translator.Translated.{Translated}
 use Rattle.cw_translator.specs.declared.translator.Translator.{Translator}
 use Rattle.cw_translator.specs.declared.work.Work.{Work}
-use Rattle.cw_translator.specs.Counting.{productions_in, scraps_in}
 use Rattle.cw_reduce.specs.HeadReading.{NamesWithin, answers_ahead, is_definition, name_ahead, read_made}
 use Rattle.cw_reduce.specs.HeadReading.{without_notes, words_in}
 use Rattle.cw_reduce.specs.Heading.{NamesOfText, behind, behind_head, head_begun, in_head, to_translation}
-use Rattle.cw_reduce.specs.Naming.{token_answers, with_texts}
-use Rattle.cw_translator.specs.Opening.{HasEnded, IsTranslated, StartsBelow, answers_in, of_leaf, of_nothing}
+use Rattle.cw_reduce.specs.Naming.{with_texts}
+use Rattle.cw_translator.specs.Opening.{StartsBelow, answers_in, of_leaf}
 use Rattle.cw_translator.specs.Reading.{Progress, after_answers, after_token, all_ended}
 use Rattle.cw_translator.specs.Retyping.{NamesOnTheWay, here, later}
-use Rattle.cw_translator.specs.Translating.{Ended, NameTexts, begin, end_of, head_made, headed_made}
+use Rattle.cw_translator.specs.Translating.{NameTexts, begin, end_of, head_made, headed_made}
 use Rattle.cw_translator.specs.Translating.{translated}
 use Rattle.cw_translator.specs.Working.{EndsIn, progress_over, to_end}
 use Rattle.cw_translator.proofs.Routes.{ends-as}
 use Rattle.cw_reduce.proofs.HeadFinds.{NoHead, no-head, none-token}
 use Rattle.cw_reduce.proofs.HeadSteps.{headed-translated, headed-whole}
 use Rattle.cw_reduce.proofs.NamedJoined.{AllNested}
+use Rattle.cw_reduce.proofs.NameSteps.{no-name-token}
 
 -- Such a token is no section name and no code of a definition.
-leaf-answers : (named : NameTexts) (k : TokKind) (token : Seen) → MakesLeaf k → token_answers named k token
-    ≡ Token token ∷ []
-leaf-answers named (kind.Code code.SectionName) token makes = cc
-leaf-answers named (kind.Code code.FileName) token makes = cc
-leaf-answers named k token makes = refl
-
 no-definition : (k : TokKind) → MakesLeaf k → is_definition k ≡ false
 no-definition (kind.Code code.Define) makes = cc
 no-definition (kind.Code code.Format) makes = cc
@@ -77,20 +69,20 @@ module _ (flags : Flags) (named : NameTexts) (nested : AllNested named) (lists :
       (none-token all rest token refl well (no-definition token.kind makes) (no-name token.kind makes))
 
   answers-are : with_texts named all ≡ Token (seen token) ∷ with_texts named rest
-  answers-are = ap (λ xs. xs ++ with_texts named rest) (leaf-answers named token.kind (seen token) makes)
+  answers-are = ap (λ xs. xs ++ with_texts named rest) (no-name-token named token.kind (seen token) (no-name token.kind makes))
 
   module _ (q : Progress) (is : q ≡ after_token token.kind (seen token) begins) where
     goes : after_answers flags (with_texts named rest) q ≡ after_answers flags (with_texts named all) begins
     goes = ap (after_answers flags (with_texts named rest)) is
         ∙ sym (ap (λ xs. after_answers flags xs begins) answers-are)
 
-    pub first-text : all_ended flags (after_answers flags (with_texts named rest) q)
+    first-text : all_ended flags (after_answers flags (with_texts named rest) q)
         ≡ translated flags named all names marks
     first-text = ap (all_ended flags) goes
         ∙ (headed-whole flags named nested lists read.None all (begin names marks) well
         ∙ headed-translated flags named nested lists read.None all all names names marks none.made none.rest_is)
 
-    pub first-way : (new : List Entry) → NamesOnTheWay flags (with_texts named rest) q new
+    first-way : (new : List Entry) → NamesOnTheWay flags (with_texts named rest) q new
         → NamesOfText flags named all names marks new
     first-way new h =
         let on : NamesOnTheWay flags (with_texts named all) begins new =
@@ -98,6 +90,11 @@ module _ (flags : Flags) (named : NameTexts) (nested : AllNested named) (lists :
         (later (Token (seen token)) (with_texts named rest) begins new
         (subst (λ x. NamesOnTheWay flags (with_texts named rest) x new) is h)) in
         behind_head lists read.None all names none.rest_is (none.made flags named (begin names marks)) (behind on)
+
+    pub first-ends : {L : Type 0} {t : Translator} {work new : Work L} {result : Result Translated Memory}
+        → EndsIn (to_end flags (with_texts named rest) q) t work new result
+        → EndsIn (to_translation flags named all names marks) t work new result
+    first-ends r = ends-as first-text first-way r
 
   pub first-start : NamesOfText flags named all names marks names
   first-start = behind_head lists read.None all names none.rest_is (none.made flags named (begin names marks))
@@ -160,17 +157,3 @@ pub text-as : {L : Type 0} (flags : Flags) (named : NameTexts) (old new : List A
     → EndsIn (to_translation flags named old names marks) t work work' result
 text-as flags named old new names marks same r = ends-as (same-text flags named old new names marks same)
     (λ entries. same-way flags named old new names marks entries same) r
-
--- Where nothing was counted before, that is what the translation counts.
-pub text-counted : (flags : Flags) (steps steps' : ℕ) (lists : List (List StoredToken)) (names : List Entry)
-    (marks : MarkList) (done : Translated) (text : Ended)
-    → HasEnded flags of_nothing steps lists names marks done steps' text
-    → IsTranslated flags lists names marks done steps steps' text
-text-counted flags steps steps' lists names marks done text h = record {
-  tree = h.tree;
-  names_are = h.names_are;
-  marks_are = h.marks_are;
-  scraps = h.scraps ∙ zero-add (scraps_in text.known.ended);
-  productions_are = h.productions_are ∙ zero-add (productions_in flags text.known.ended);
-  steps_are = h.steps_are;
-}

@@ -244,7 +244,7 @@ with-texts-next named old new answer g = ap (with_texts named) (gives-is old new
     ∙ with-texts-append named (answers_in answer) new
 
 -- An answer that is no section name stands for itself.
-no-name-token : (named : NameTexts) (k : TokKind) (token : Seen) → is_name_kind k ≡ false
+pub no-name-token : (named : NameTexts) (k : TokKind) (token : Seen) → is_name_kind k ≡ false
     → token_answers named k token ≡ Token token ∷ []
 no-name-token named (kind.Code code.SectionName) token h = absurd cc
 no-name-token named (kind.Code code.FileName) token h = absurd cc

@@ -5,3 +5,4 @@ pub mod Naming
 pub mod HeadReading
 pub mod HeadsRead
 pub mod Heading
+pub mod WholeTexts

@@ -9,11 +9,10 @@ ghost use Rattle.cw_rules.specs.declared.tokens.Lexed.TheVariants as Lexes;
 ghost use Rattle.cw_lex.specs.Nested.{IsNested};
 ghost use Rattle.cw_scraps.specs.Leaves.{MakesLeaf, entry_of};
 ghost use Rattle.cw_scraps.specs.Lines.{IsSoundLine};
-ghost use Rattle.cw_scraps.specs.Marking.{marked_names};
 ghost use Rattle.cw_answers.specs.Reading.{IsReadUp};
-ghost use Rattle.cw_reduce.specs.Heading.{to_translation};
 ghost use Rattle.cw_translator.specs.NameParts.{AreNamesOf};
 ghost use Rattle.cw_reduce.specs.Naming.{with_texts};
+ghost use Rattle.cw_reduce.specs.WholeTexts.{to_text};
 ghost use Rattle.cw_translator.specs.Opening.{IsTranslating, StartsBelow, answers_in, of_leaf, of_nothing};
 ghost use Rattle.cw_translator.specs.Working.{EndsIn, progress_over, texts_in, to_end};
 
@@ -82,7 +81,7 @@ fn end_alone<L: Ledger>(leaf: Leaf, work: &mut Work<L>) -> Result<Translated, Me
     })
 }
 
-/// EndsIn a text that begins with this scrap, and goes on with this answer and all others.
+/// Ends a text that begins with this scrap, and goes on with this answer and all others.
 #[inline(never)]
 fn translate_on<L: Ledger>(
     leaf: Leaf,
@@ -104,7 +103,7 @@ fn translate_on<L: Ledger>(
     translator.end(context, work)
 }
 
-/// EndsIn a text that begins with this scrap.
+/// Ends a text that begins with this scrap.
 #[inline(always)]
 fn translate_rest<L: Ledger>(
     leaf: Leaf,
@@ -128,7 +127,7 @@ fn translate_rest<L: Ledger>(
     translate_on(leaf, &next, reader, context, work)
 }
 
-/// EndsIn a text that begins with a token which makes a scrap.
+/// Ends a text that begins with a token which makes a scrap.
 pub(crate) fn translate_from<L: Ledger>(
     token: &Tok,
     reader: &mut Reader,
@@ -141,8 +140,8 @@ pub(crate) fn translate_from<L: Ledger>(
     requires kept { AreNamesOf context.now.sec_names.now context.now.uses.now }
     requires idle { work.old.store.now.building ≡ None }
     ensures read { OnOk result (IsReadUp reader.old reader.new) }
-    ensures text { EndsIn (to_translation context.now.flags.now (texts_in context.now) (TokenAnswer (seen token.now) ∷
-        reader.old.coming) work.old.names.now (marked_names work.old.marks.now)) of_nothing work.old work.new result }
+    ensures text { EndsIn (to_text context.now (TokenAnswer (seen token.now) ∷ reader.old.coming) work.old) of_nothing
+        work.old work.new result }
 {
     work.store.tied_law();
     let leaf = scrap_of(token, work.names, work.store)?;

@@ -8,9 +8,10 @@ ghost use Rattle.cw_scraps.specs.Marking.{marked_names};
 ghost use Rattle.cw_answers.specs.Reading.{IsReadUp};
 ghost use Rattle.cw_translator.specs.declared.holders.Holder.TheVariants as Holders;
 ghost use Rattle.cw_reduce.specs.HeadReading.{answers_ahead, head_line, name_ahead, without_notes};
-ghost use Rattle.cw_reduce.specs.Heading.{of_head, over_head, over_headed, over_held, to_headed, to_translation};
+ghost use Rattle.cw_reduce.specs.Heading.{of_head, over_head, over_headed, over_held, to_headed};
 ghost use Rattle.cw_translator.specs.NameParts.{AreNamesOf};
 ghost use Rattle.cw_reduce.specs.Naming.{with_texts};
+ghost use Rattle.cw_reduce.specs.WholeTexts.{to_text};
 ghost use Rattle.cw_translator.specs.Opening.{IsTranslating, StartsBelow, answers_in, of_leaf, of_nothing};
 ghost use Rattle.cw_translator.specs.Translating.{begin};
 ghost use Rattle.cw_translator.specs.Working.{Advances, EndsIn, over, progress_over, texts_in};
@@ -167,7 +168,7 @@ fn read_headed<L: Ledger>(
     read_behind(translator, begun, reader, context, work)
 }
 
-/// EndsIn a text that begins with this head.
+/// Ends a text that begins with this head.
 pub(crate) fn translate_headed<L: Ledger>(
     begun: &Beginning,
     reader: &mut Reader,
@@ -188,7 +189,7 @@ pub(crate) fn translate_headed<L: Ledger>(
     translator.end(context, work)
 }
 
-/// EndsIn a text that has this first answer, with its head.
+/// Ends a text that has this first answer, with its head.
 #[inline(never)]
 pub(crate) fn translate_with_head<'a, L: Ledger>(
     first: Lexed<'a>,
@@ -202,8 +203,8 @@ pub(crate) fn translate_with_head<'a, L: Ledger>(
     requires kept { AreNamesOf context.now.sec_names.now context.now.uses.now }
     requires idle { work.old.store.now.building ≡ None }
     ensures read { OnOk result (IsReadUp reader.old reader.new) }
-    ensures text { EndsIn (to_translation context.now.flags.now (texts_in context.now) (answers_in first.entry ++
-        reader.old.coming) work.old.names.now (marked_names work.old.marks.now)) of_nothing work.old work.new result }
+    ensures text { EndsIn (to_text context.now (answers_in first.entry ++ reader.old.coming) work.old) of_nothing
+        work.old work.new result }
 {
     let begun = read_head(first, reader, context.alloc, work.names, work.store)?;
     translate_headed(&begun, reader, context, work)

@@ -1,4 +1,4 @@
-//! Whole C texts are translated: their heads, their section names, and all that stands behind.
+//! `translate` makes the tree of a whole C text: of its head, of its section names, and of all that stands behind them.
 #![tactic(auto)]
 
 mod alone;

@@ -139,13 +139,3 @@ pub record HasEnded (flags : Flags) (t : Translator) (steps : ℕ) (lists : List
   pub scraps : done.scraps ≡ t.scraps + scraps_in text.known.ended
   pub productions_are : done.productions ≡ t.productions + productions_in flags text.known.ended
   pub steps_are : steps' ≡ steps + ticks_in flags text.known.ended
-
--- The same where nothing was counted before.
-pub record IsTranslated (flags : Flags) (lists : List (List StoredToken)) (names : List Entry) (marks : MarkList)
-    (done : Translated) (steps steps' : ℕ) (text : Ended) : Type 0 where
-  pub tree : unfolded lists done.list.index ≡ text.tree
-  pub names_are : names ≡ text.known.names
-  pub marks_are : marked_names marks ≡ text.known.marks
-  pub scraps : done.scraps ≡ scraps_in text.known.ended
-  pub productions_are : done.productions ≡ productions_in flags text.known.ended
-  pub steps_are : steps' ≡ steps + ticks_in flags text.known.ended

@@ -5,14 +5,13 @@ use Rattle.cw_rules.specs.Answers.{Token, seen}
 use Rattle.cw_scraps.specs.Marking.{marked_names}
 use Rattle.cw_scraps.proofs.Changings.{tied-idle}
 use Rattle.cw_reduce.specs.Heading.{NamesOfText}
-use Rattle.cw_translator.specs.NameParts.{name_texts}
 use Rattle.cw_reduce.specs.Naming.{with_texts}
 use Rattle.cw_translator.specs.Opening.{of_leaf, of_nothing}
 use Rattle.cw_translator.specs.Reading.{after_token}
-use Rattle.cw_translator.specs.Working.{progress_over}
+use Rattle.cw_translator.specs.Working.{progress_over, texts_in}
 use Rattle.cw_translator.proofs.AnswerRoutes.{token-advances}
-use Rattle.cw_translator.proofs.Routes.{ends-as, ends-refused, ends-then}
-use Rattle.cw_reduce.proofs.FirstSteps.{first-start, first-text, first-way}
+use Rattle.cw_translator.proofs.Routes.{ends-refused, ends-then}
+use Rattle.cw_reduce.proofs.FirstSteps.{first-ends, first-start}
 use Rattle.cw_reduce.proofs.HeadSteps.{head-translating}
 use Rattle.cw_translator.proofs.LeafSteps.{empty-line, leaf-step}
 use Rattle.cw_reduce.proofs.NamedJoined.{texts-nested}
@@ -43,19 +42,12 @@ returns-clause-text g c =
     (tied-idle c.args.work.now.store.now c.requires.idle c.tied_law.ensures) c.requires.makes c.in_ok-leaf.ensures.idle
     c.in_ok-leaf.ensures.form c.in_ok-leaf.ensures.names c.in_ok-leaf.ensures.sound refl
     (record { scraps = refl; productions = refl })) in
-    ends-as (first-text c.args.context.now.flags.now
-    (name_texts c.args.context.now.sec_names.now c.args.context.now.uses.now)
+    first-ends c.args.context.now.flags.now (texts_in c.args.context.now)
     (texts-nested c.args.context.now.sec_names.now c.args.context.now.uses.now) c.args.work.now.store.now.lists
     c.args.work.now.names.now (marked_names c.args.work.now.marks.now) c.args.token.now c.requires.makes
     c.args.reader.now.coming c.requires.nested c.requires.start
-    (after_token c.args.token.now.kind (seen c.args.token.now) (progress_over c.args.work.now of_nothing)) refl)
-    (first-way c.args.context.now.flags.now (name_texts c.args.context.now.sec_names.now c.args.context.now.uses.now)
-    (texts-nested c.args.context.now.sec_names.now c.args.context.now.uses.now) c.args.work.now.store.now.lists
-    c.args.work.now.names.now (marked_names c.args.work.now.marks.now) c.args.token.now c.requires.makes
-    c.args.reader.now.coming c.requires.nested c.requires.start
-    (after_token c.args.token.now.kind (seen c.args.token.now) (progress_over c.args.work.now of_nothing)) refl)
-    (ends-then (with_texts (name_texts c.args.context.now.sec_names.now c.args.context.now.uses.now)
-    c.args.reader.now.coming)
+    (after_token c.args.token.now.kind (seen c.args.token.now) (progress_over c.args.work.now of_nothing)) refl
+    (ends-then (with_texts (texts_in c.args.context.now) c.args.reader.now.coming)
     (token-advances {T = Unit {0}} c.args.context.now.flags.now (seen c.args.token.now) {result = Ok tt}
     step.steps.translating step.progress (record { scraps = refl; productions = refl }) step.steps.keeps
     (inr c.in_ok-leaf.ensures.names) refl refl (record { names = refl; store = refl; marks = refl; steps = refl })
@@ -64,10 +56,10 @@ returns-clause-text g c =
 pub returns-in_err-leaf-clause-text : goal.returns-in_err-leaf-clause-text
 returns-in_err-leaf-clause-text g c = ends-refused c.from_residual.ensures.1
     (subst (λ names. NamesOfText c.args.context.now.flags.now
-    (name_texts c.args.context.now.sec_names.now c.args.context.now.uses.now) (Token (seen c.args.token.now)
+    (texts_in c.args.context.now) (Token (seen c.args.token.now)
     ∷ c.args.reader.now.coming) c.args.work.now.names.now (marked_names c.args.work.now.marks.now) names)
     (sym c.in_err-leaf.ensures.no_names) (first-start c.args.context.now.flags.now
-    (name_texts c.args.context.now.sec_names.now c.args.context.now.uses.now)
+    (texts_in c.args.context.now)
     (texts-nested c.args.context.now.sec_names.now c.args.context.now.uses.now) c.args.work.now.store.now.lists
     c.args.work.now.names.now (marked_names c.args.work.now.marks.now) c.args.token.now c.requires.makes
     c.args.reader.now.coming c.requires.nested c.requires.start)) (omega arith)

@@ -1,11 +1,10 @@
 -- What the scrap, and then the answers behind it, come to is the text.
-use Rattle.std.proofs.Common.{◌++◌, refl, sym, subst, arith}
+use Rattle.std.proofs.Common.{◌++◌, sym, subst, arith}
 use Rattle.cw_reduce.specs.HeadReading.{answers_ahead}
-use Rattle.cw_translator.specs.NameParts.{name_texts}
 use Rattle.cw_reduce.specs.Naming.{with_texts}
 use Rattle.cw_translator.specs.Opening.{IsTranslating, StartsBelow, answers_in, of_leaf}
 use Rattle.cw_translator.specs.Retyping.{here}
-use Rattle.cw_translator.specs.Working.{progress_over}
+use Rattle.cw_translator.specs.Working.{progress_over, texts_in}
 use Rattle.cw_translator.proofs.AnswerRoutes.{unchanged}
 use Rattle.cw_translator.proofs.Routes.{ends-answers, ends-answers-stopped, ends-refused}
 use Rattle.cw_reduce.proofs.FirstSteps.{ahead-is, leaf-as}
@@ -22,28 +21,28 @@ read_behind-requires-clause-translating g c = subst (IsTranslating c.args.work.n
 
 pub returns-in_err-translator-clause-text : goal.returns-in_err-translator-clause-text
 returns-in_err-translator-clause-text g c = ends-refused c.from_residual.ensures.1
-    (here (with_texts (name_texts c.args.context.now.sec_names.now c.args.context.now.uses.now)
+    (here (with_texts (texts_in c.args.context.now)
     (answers_in c.args.next.now ++ c.args.reader.now.coming))
     (progress_over c.args.work.now (of_leaf c.args.leaf))) (omega arith) unchanged c.requires.translating.idle
 
 pub returns-in_err-read_behind-clause-text : goal.returns-in_err-read_behind-clause-text
 returns-in_err-read_behind-clause-text g c = leaf-as c.args.context.now.flags.now
-    (name_texts c.args.context.now.sec_names.now c.args.context.now.uses.now) c.args.leaf
+    (texts_in c.args.context.now) c.args.leaf
     c.in_ok-translator.ensures
     (ahead-is c.headless.result c.args.next.now c.args.reader.now.coming c.headless.ensures.name
     c.headless.ensures.next)
     (ends-answers-stopped c.args.context.now.flags.now
-    (with_texts (name_texts c.args.context.now.sec_names.now c.args.context.now.uses.now)
+    (with_texts (texts_in c.args.context.now)
     (answers_ahead c.headless.result ++ c.args.reader.now.coming))
     (progress_over c.args.work.now c.in_ok-translator.translator) c.in_err-read_behind.ensures.reads
     c.from_residual-in_err-read_behind.ensures.1)
 
 pub returns-clause-text : goal.returns-clause-text
 returns-clause-text g c = leaf-as c.args.context.now.flags.now
-    (name_texts c.args.context.now.sec_names.now c.args.context.now.uses.now) c.args.leaf c.in_ok-translator.ensures
+    (texts_in c.args.context.now) c.args.leaf c.in_ok-translator.ensures
     (ahead-is c.headless.result c.args.next.now c.args.reader.now.coming c.headless.ensures.name
     c.headless.ensures.next)
     (ends-answers c.args.context.now.flags.now
-    (with_texts (name_texts c.args.context.now.sec_names.now c.args.context.now.uses.now)
+    (with_texts (texts_in c.args.context.now)
     (answers_ahead c.headless.result ++ c.args.reader.now.coming))
     (progress_over c.args.work.now c.in_ok-translator.translator) c.in_ok-read_behind.ensures.reads c.end.ensures)

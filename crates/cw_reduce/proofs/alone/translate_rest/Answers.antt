@@ -1,15 +1,14 @@
 -- Where nothing comes behind the scrap, the text ends with it.
 use Rattle.std.proofs.Common.{sym, subst}
 use Rattle.cw_rules.specs.Answers.{Gives}
-use Rattle.cw_translator.specs.NameParts.{name_texts}
 use Rattle.cw_reduce.specs.Naming.{with_texts}
 use Rattle.cw_translator.specs.Opening.{of_leaf}
-use Rattle.cw_translator.specs.Working.{EndsIn, progress_over, to_end}
+use Rattle.cw_translator.specs.Working.{EndsIn, progress_over, texts_in, to_end}
 use Rattle.cw_reduce.proofs.alone.translate_rest.Goals as goal
 
 pub returns-then-stays_alone-clause-text : goal.returns-then-stays_alone-clause-text
 returns-then-stays_alone-clause-text g c = subst (λ list. EndsIn (to_end c.args.context.now.flags.now
-    (with_texts (name_texts c.args.context.now.sec_names.now c.args.context.now.uses.now) list)
+    (with_texts (texts_in c.args.context.now) list)
     (progress_over c.args.work.now (of_leaf c.args.leaf))) (of_leaf c.args.leaf) c.args.work.now c.end_alone.new.work
     c.end_alone.result)
     (sym (subst (λ answer. Gives c.args.reader.now.coming answer c.next-next.new.self.coming)

@@ -1,100 +1,60 @@
 -- The text from its first answer on is the whole text.
-use Rattle.std.proofs.Common.{◌∷◌, ◌++◌, subst}
-use Rattle.std.proofs.lemmas.Result.{IfOk-weaker, on_ok_weaker}
+use Rattle.std.proofs.Common.{◌≡◌, List, subst}
+use Rattle.std.proofs.lemmas.Result.{on_ok_weaker}
 use Rattle.cw_answers.proofs.Staying.{read-up-behind}
-use Rattle.cw_rules.specs.Answers.{Gives, Token, seen}
+use Rattle.cw_rules.specs.Answers.{Answer, Gives}
+use Rattle.cw_rules.specs.declared.tokens.Lexed.{Lexed}
 use Rattle.cw_rules.specs.declared.tokens.Lexed.TheVariants as lexed
-use Rattle.cw_scraps.specs.Marking.{marked_names}
 use Rattle.cw_reduce.specs.HeadReading.{without_notes}
-use Rattle.cw_translator.specs.NameParts.{name_texts}
-use Rattle.cw_translator.specs.Opening.{answers_in}
-use Rattle.cw_translator.specs.Translating.{translated}
-use Rattle.cw_reduce.proofs.FirstSteps.{gives-again, text-as, text-counted}
+use Rattle.cw_reduce.proofs.FirstSteps.{gives-again, text-as}
 use Rattle.cw_reduce.proofs.HeadFinds.{ahead-of}
 use Rattle.cw_reduce.proofs.translating.translate_read.Goals as goal
 
-pub translate_from-requires-clause-nested : goal.translate_from-requires-clause-nested
-translate_from-requires-clause-nested g c = (ahead-of c.args.reader.now.coming c.next_answer-first.new.reader.coming
-    (lexed.Token c.in-Some.token.now) (subst (λ first. Gives (without_notes c.args.reader.now.coming) first
-    c.next_answer-first.new.reader.coming) c.in-Some.ensures.is c.next_answer-first.ensures.gives) c.requires.nested
-    c.requires.start).nested
+-- the answers from the first on, where it is a token that makes a scrap, and any
+from-leaf : (rest new : List Answer) {first answer : Lexed} → first ≡ answer → Gives (without_notes rest) first new
+    → Gives (without_notes rest) answer new
+from-leaf rest new is g = subst (λ answer. Gives (without_notes rest) answer new) is g
 
-pub translate_from-requires-clause-start : goal.translate_from-requires-clause-start
-translate_from-requires-clause-start g c = (ahead-of c.args.reader.now.coming c.next_answer-first.new.reader.coming
-    (lexed.Token c.in-Some.token.now) (subst (λ first. Gives (without_notes c.args.reader.now.coming) first
-    c.next_answer-first.new.reader.coming) c.in-Some.ensures.is c.next_answer-first.ensures.gives) c.requires.nested
-    c.requires.start).starts
+pub translate_from-requires : goal.translate_from-requires
+translate_from-requires g c =
+    let a = ahead-of c.args.reader.now.coming c.next_answer-first.new.reader.coming (lexed.Token c.in-Some.token.now)
+    (from-leaf c.args.reader.now.coming c.next_answer-first.new.reader.coming c.in-Some.ensures.is
+    c.next_answer-first.ensures.gives) c.requires.nested c.requires.start in
+    record {
+      makes = c.in-Some.ensures.makes;
+      nested = a.nested;
+      start = a.starts;
+      kept = c.requires.kept;
+      idle = c.requires.idle;
+    }
 
 pub returns-in-Some : goal.returns-in-Some
 returns-in-Some g c =
-    let t = text-as c.args.context.now.flags.now (name_texts c.args.context.now.sec_names.now
-    c.args.context.now.uses.now) c.args.reader.now.coming
-    (Token (seen c.in-Some.token.now) ∷ c.next_answer-first.new.reader.coming) c.args.work.now.names.now
-    (marked_names c.args.work.now.marks.now) (ahead-of c.args.reader.now.coming c.next_answer-first.new.reader.coming
-    (lexed.Token c.in-Some.token.now)
-    (subst (λ first. Gives (without_notes c.args.reader.now.coming) first c.next_answer-first.new.reader.coming)
-    c.in-Some.ensures.is c.next_answer-first.ensures.gives) c.requires.nested c.requires.start).same
-    c.translate_from.ensures.text in
+    let a = ahead-of c.args.reader.now.coming c.next_answer-first.new.reader.coming (lexed.Token c.in-Some.token.now)
+    (from-leaf c.args.reader.now.coming c.next_answer-first.new.reader.coming c.in-Some.ensures.is
+    c.next_answer-first.ensures.gives) c.requires.nested c.requires.start in
     record {
-      text = IfOk-weaker c.translate_from.result _ _ (λ done. text-counted c.args.context.now.flags.now
-          c.args.work.now.steps.now
-          c.translate_from.new.work.steps.now c.translate_from.new.work.store.now.lists
-          c.translate_from.new.work.names.now
-          c.translate_from.new.work.marks.now done
-          (translated c.args.context.now.flags.now
-          (name_texts c.args.context.now.sec_names.now c.args.context.now.uses.now) c.args.reader.now.coming
-          c.args.work.now.names.now (marked_names c.args.work.now.marks.now))) t.text;
-      read = on_ok_weaker c.translate_from.result (read-up-behind _ _ _ c.next_answer-first.ensures.all)
-          c.translate_from.ensures.read;
-      few = t.few;
-      bound = t.bound;
-      root = t.root;
-      named = t.named;
-      others = t.keeps;
-      idle = t.idle;
-      refused = t.refused;
-      same = t.same;
+      read = on_ok_weaker _ (read-up-behind _ _ _ c.next_answer-first.ensures.all) c.translate_from.ensures.read;
+      text = text-as _ _ _ _ _ _ a.same c.translate_from.ensures.text;
     }
 
-pub translate_with_head-requires-clause-gives : goal.translate_with_head-requires-clause-gives
-translate_with_head-requires-clause-gives g c = gives-again c.args.reader.now.coming
-    c.next_answer-first.new.reader.coming
-    c.next_answer-first.result c.next_answer-first.ensures.gives
-
-pub translate_with_head-requires-clause-nested : goal.translate_with_head-requires-clause-nested
-translate_with_head-requires-clause-nested g c =
-    (ahead-of c.args.reader.now.coming c.next_answer-first.new.reader.coming
-    c.next_answer-first.result c.next_answer-first.ensures.gives c.requires.nested c.requires.start).nested
-
-pub translate_with_head-requires-clause-start : goal.translate_with_head-requires-clause-start
-translate_with_head-requires-clause-start g c = (ahead-of c.args.reader.now.coming c.next_answer-first.new.reader.coming
-    c.next_answer-first.result c.next_answer-first.ensures.gives c.requires.nested c.requires.start).starts
+pub translate_with_head-requires : goal.translate_with_head-requires
+translate_with_head-requires g c =
+    let a = ahead-of c.args.reader.now.coming c.next_answer-first.new.reader.coming c.next_answer-first.result
+    c.next_answer-first.ensures.gives c.requires.nested c.requires.start in
+    record {
+      gives = gives-again c.args.reader.now.coming c.next_answer-first.new.reader.coming c.next_answer-first.result
+          c.next_answer-first.ensures.gives;
+      nested = a.nested;
+      start = a.starts;
+      kept = c.requires.kept;
+      idle = c.requires.idle;
+    }
 
 pub returns-in-None : goal.returns-in-None
-returns-in-None g c =
-    let t = text-as c.args.context.now.flags.now (name_texts c.args.context.now.sec_names.now
-    c.args.context.now.uses.now) c.args.reader.now.coming
-    (answers_in c.next_answer-first.result ++ c.next_answer-first.new.reader.coming) c.args.work.now.names.now
-    (marked_names c.args.work.now.marks.now) (ahead-of c.args.reader.now.coming c.next_answer-first.new.reader.coming
-    c.next_answer-first.result
-    c.next_answer-first.ensures.gives c.requires.nested c.requires.start).same c.translate_with_head.ensures.text in
-    record {
-      text = IfOk-weaker c.translate_with_head.result _ _ (λ done. text-counted c.args.context.now.flags.now
-          c.args.work.now.steps.now
-          c.translate_with_head.new.work.steps.now c.translate_with_head.new.work.store.now.lists
-          c.translate_with_head.new.work.names.now
-          c.translate_with_head.new.work.marks.now done
-          (translated c.args.context.now.flags.now
-          (name_texts c.args.context.now.sec_names.now c.args.context.now.uses.now) c.args.reader.now.coming
-          c.args.work.now.names.now (marked_names c.args.work.now.marks.now))) t.text;
-      read = on_ok_weaker c.translate_with_head.result (read-up-behind _ _ _ c.next_answer-first.ensures.all)
-          c.translate_with_head.ensures.read;
-      few = t.few;
-      bound = t.bound;
-      root = t.root;
-      named = t.named;
-      others = t.keeps;
-      idle = t.idle;
-      refused = t.refused;
-      same = t.same;
-    }
+returns-in-None g c = record {
+  read = on_ok_weaker _ (read-up-behind _ _ _ c.next_answer-first.ensures.all) c.translate_with_head.ensures.read;
+  text = text-as _ _ _ _ _ _ (ahead-of c.args.reader.now.coming c.next_answer-first.new.reader.coming c.next_answer-first.result
+      c.next_answer-first.ensures.gives c.requires.nested c.requires.start).same
+      c.translate_with_head.ensures.text;
+}
