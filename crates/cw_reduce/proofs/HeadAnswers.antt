@@ -3,6 +3,8 @@ use Rattle.std.proofs.Common.{◌≡◌, ℕ, ◌+◌, ◌<◌, ◌≤◌, ◌^�
 use Rattle.std.proofs.Common.{◌++◌, option_map, refl, sym, ap, ◌∙◌, subst}
 use Rattle.std.specs.List.{list_all}
 use Rattle.std.proofs.lemmas.List.{append_assoc, append-nil}
+use Rattle.cw_base.proofs.TestLaws.{both-left, both-right}
+use Rattle.cw_base.specs.declared.notes.NoteKind.{NoteKind}
 use Rattle.cw_base.specs.declared.span.Span.{Span}
 use Rattle.cw_rules.specs.Answers.{Answer, Token, Begin, Finish, Note, Seen, seen, Gives}
 use Rattle.cw_lex.specs.declared.heads.Wanted.{Wanted}
@@ -12,7 +14,7 @@ use Rattle.cw_rules.specs.declared.tokens.Tok.{Tok}
 use Rattle.cw_rules.specs.declared.tokens.TokKind.{TokKind}
 use Rattle.cw_rules.specs.declared.tokens.TokKind.TheVariants as kind
 use Rattle.cw_lex.specs.Heads.{Words, no_word, word_before, head_behind, head_words, without_words}
-use Rattle.cw_lex.specs.Nest.{Nest, Leaf, group, nests, first_nest, nest}
+use Rattle.cw_lex.specs.Nest.{Nest, End, Leaf, Group, group, nests, first_nest, nest}
 use Rattle.cw_lex.specs.Nested.{IsNested}
 use Rattle.cw_lex.proofs.HeadNests.{nested-behind, nest-token}
 use Rattle.cw_names.specs.Names.{Entry}
@@ -22,56 +24,46 @@ use Rattle.cw_scraps.specs.Words.{is_word}
 use Rattle.cw_table.proofs.ScrapFacts.{and-both}
 use Rattle.cw_reduce.specs.HeadReading.{NamesWithin, without_notes, answer_words}
 use Rattle.cw_translator.specs.Opening.{StartsBelow, answers_in}
-use Rattle.cw_translator.specs.Translating.{spelled, spelled_behind, form_tokens, word_tokens}
+use Rattle.cw_translator.specs.Translating.{first_word, form_tokens, later_words, spelled, spelled_behind, word_tokens}
 use Rattle.cw_reduce.proofs.ReadSteps.{gives-is}
 
 -- ## Notes
 
+-- what holds of answers and themselves, and with a note more of the first, holds without the notes at the beginning
+by-notes : (P : List Answer → List Answer → Type 0) → ((answers : List Answer) → P answers answers)
+    → ((note : NoteKind) (place : ℕ) (answers bare : List Answer) → P answers bare → P (Note note place ∷ answers) bare)
+    → (answers : List Answer) → P answers (without_notes answers)
+by-notes P same more [] = same []
+by-notes P same more (Note note place ∷ answers) = more note place answers _ (by-notes P same more answers)
+by-notes P same more (Token t ∷ answers) = same (Token t ∷ answers)
+by-notes P same more (Begin t ∷ answers) = same (Begin t ∷ answers)
+by-notes P same more (Finish t ∷ answers) = same (Finish t ∷ answers)
+
 pub words-notes : (wanted : Wanted) (answers : List Answer) → answer_words wanted (without_notes answers)
     ≡ answer_words wanted answers
-words-notes wanted [] = refl
-words-notes wanted (Note note place ∷ answers) = words-notes wanted answers
-words-notes wanted (Token t ∷ answers) = refl
-words-notes wanted (Begin t ∷ answers) = refl
-words-notes wanted (Finish t ∷ answers) = refl
+words-notes wanted = by-notes (λ answers bare. answer_words wanted bare ≡ answer_words wanted answers)
+    (λ answers. refl) (λ note place answers bare h. h)
 
 pub left-notes : (wanted : Wanted) (answers : List Answer) → without_words wanted (without_notes answers)
     ≡ without_words wanted answers
-left-notes wanted [] = refl
-left-notes wanted (Note note place ∷ answers) = left-notes wanted answers
-left-notes wanted (Token t ∷ answers) = refl
-left-notes wanted (Begin t ∷ answers) = refl
-left-notes wanted (Finish t ∷ answers) = refl
+left-notes wanted = by-notes (λ answers bare. without_words wanted bare ≡ without_words wanted answers)
+    (λ answers. refl) (λ note place answers bare h. h)
 
 pub starts-notes : (limit : ℕ) (answers : List Answer) → StartsBelow limit answers
     → StartsBelow limit (without_notes answers)
-starts-notes limit [] h = h
-starts-notes limit (Note note place ∷ answers) h = starts-notes limit answers h
-starts-notes limit (Token t ∷ answers) h = h
-starts-notes limit (Begin t ∷ answers) h = h
-starts-notes limit (Finish t ∷ answers) h = h
+starts-notes limit = by-notes (λ answers bare. StartsBelow limit answers → StartsBelow limit bare)
+    (λ answers h. h) (λ note place answers bare h. h)
 
 pub nests-notes : (answers : List Answer) → nest (without_notes answers) ≡ nest answers
-nests-notes [] = refl
-nests-notes (Note note place ∷ answers) = nests-notes answers
-nests-notes (Token t ∷ answers) = refl
-nests-notes (Begin t ∷ answers) = refl
-nests-notes (Finish t ∷ answers) = refl
+nests-notes = by-notes (λ answers bare. nest bare ≡ nest answers) (λ answers. refl) (λ note place answers bare h. h)
 
 pub nested-notes : (answers : List Answer) → IsNested answers → IsNested (without_notes answers)
-nested-notes [] h = h
-nested-notes (Note note place ∷ answers) h = nested-notes answers h
-nested-notes (Token t ∷ answers) h = h
-nested-notes (Begin t ∷ answers) h = h
-nested-notes (Finish t ∷ answers) h = h
+nested-notes = by-notes (λ answers bare. IsNested answers → IsNested bare) (λ answers h. h)
+    (λ note place answers bare h. h)
 
 notes-short : (answers : List Answer) → length (without_notes answers) ≤ length answers
-notes-short [] = omega arith
-notes-short (Note note place ∷ answers) = let h : length (without_notes answers) ≤ length answers =
-    notes-short answers in omega arith
-notes-short (Token t ∷ answers) = omega arith
-notes-short (Begin t ∷ answers) = omega arith
-notes-short (Finish t ∷ answers) = omega arith
+notes-short = by-notes (λ answers bare. length bare ≤ length answers) (λ answers. omega arith)
+    (λ note place answers bare h. omega (arith, h))
 
 pub token-shorter : (answers new : List Answer) (t : Tok) → Gives (without_notes answers) (lexed.Token t) new
     → length new < length answers
@@ -80,9 +72,14 @@ token-shorter answers new t g =
     let short : length (without_notes answers) ≤ length answers = notes-short answers in
     omega arith
 
-pub gives-notes : (answers new : List Answer) (answer : Lexed) → Gives (without_notes answers) answer new
-    → without_notes answers ≡ answers_in answer ++ new
-gives-notes answers new answer g = gives-is (without_notes answers) new answer g
+-- answers that begin with a token give no other
+pub only-token : (t : Seen) (rest new : List Answer) (answer : Lexed) → Gives (Token t ∷ rest) answer new
+    → ((u : Tok) → answer ≡ lexed.Token u → ⊥) → ⊥
+only-token t rest new (lexed.Token u) g n = n u refl
+only-token t rest new (lexed.Begin u) g n = cc
+only-token t rest new (lexed.Finish u) g n = cc
+only-token t rest new (lexed.Note note place) g n = cc
+only-token t rest new lexed.End g n = let h = g.0 in cc
 
 -- ## Words
 
@@ -151,14 +148,7 @@ ends-other wanted (Begin t ∷ rest) new answer g n =
     record { none = refl; is = sym (gives-is (Begin t ∷ rest) new answer g) }
 ends-other wanted (Finish t ∷ rest) new answer g n =
     record { none = refl; is = sym (gives-is (Finish t ∷ rest) new answer g) }
-ends-other wanted (Token t ∷ rest) new answer g n = absurd (by answer g n)
-  where
-    by : (answer : Lexed) → Gives (Token t ∷ rest) answer new → ((u : Tok) → answer ≡ lexed.Token u → ⊥) → ⊥
-    by (lexed.Token u) g n = n u refl
-    by (lexed.Begin u) g n = cc
-    by (lexed.Finish u) g n = cc
-    by (lexed.Note note place) g n = cc
-    by lexed.End g n = let h = g.0 in cc
+ends-other wanted (Token t ∷ rest) new answer g n = absurd (only-token t rest new answer g n)
 
 pub ends-token : (wanted : Wanted) (rest new : List Answer) (t : Tok) → Gives (without_notes rest) (lexed.Token t) new
     → head_behind wanted t.kind t.span ≡ None → EndsBefore wanted rest (answers_in (lexed.Token t) ++ new)
@@ -278,6 +268,32 @@ words-same wanted (Token t ∷ answers) h = ap (λ n. (head_words wanted n).word
 -- all of them are words
 abbrev pub word_kind : Seen → Bool
 word_kind word = is_word word.kind
+
+pub head-words-fit : (wanted : Wanted) (n : Nest) → list_all word_kind (head_words wanted n).words ≡ true
+head-words-fit wanted End = refl
+head-words-fit wanted (Group t inner rest) = refl
+head-words-fit wanted (Leaf t rest) = by (head_behind wanted t.kind t.span) (takes-word wanted t.kind t.span)
+    (λ next. head-words-fit next rest)
+  where
+    by : (o : Option Wanted) → ((next : Wanted) → o ≡ Some next → word_kind t ≡ true)
+        → ((next : Wanted) → list_all word_kind (head_words next rest).words ≡ true)
+        → list_all word_kind (elim o as (λ o. Words) [
+          | Some next ↦ word_before t (head_words next rest)
+          | None ↦ no_word (Leaf t rest)
+        ]).words
+        ≡ true
+    by None is more = refl
+    by (Some next) is more = and-both (word_kind t) (list_all word_kind (head_words next rest).words) (is next refl)
+        (more next)
+
+-- the first of two words, and the second
+pub first-all : (p : Seen → Bool) (words : List Seen) → list_all p words ≡ true → list_all p (first_word words) ≡ true
+first-all p [] h = refl
+first-all p (word ∷ words) h = and-both (p word) true (both-left (p word) (list_all p words) h) refl
+
+pub later-all : (p : Seen → Bool) (words : List Seen) → list_all p words ≡ true → list_all p (later_words words) ≡ true
+later-all p [] h = refl
+later-all p (word ∷ words) h = both-right (p word) (list_all p words) h
 
 pub words-fit : (wanted : Wanted) (answers : List Answer) → list_all word_kind (answer_words wanted answers) ≡ true
 words-fit wanted [] = refl

@@ -1,5 +1,6 @@
 -- What stands behind heads, as they are read.
-use Rattle.std.specs.Prelude.{Err, IsErrAnd, Ok, Result}
+use Rattle.std.specs.Prelude.{IsErrAnd, Ok, Result}
+use Rattle.std.proofs.lemmas.List.{append-nil}
 use Rattle.cw_base.specs.declared.memory.Memory.{Memory}
 use Rattle.cw_tokens.specs.Stored.{StoredLists}
 use Rattle.cw_reduce.specs.HeadsRead.{HeadIsRead}
@@ -31,7 +32,7 @@ use Rattle.cw_reduce.specs.HeadReading.{name_ahead, read_made, without_notes, wo
 use Rattle.cw_translator.specs.Translating.{Known, NameTexts, head_made, spelled, with_names}
 use Rattle.cw_translator.specs.Opening.{StartsBelow, answers_in}
 use Rattle.cw_reduce.proofs.ReadSteps.{gives-is}
-use Rattle.cw_reduce.proofs.HeadAnswers.{nests-notes, nested-notes, starts-notes}
+use Rattle.cw_reduce.proofs.HeadAnswers.{nests-notes, nested-notes, only-token, starts-notes}
 use Rattle.cw_reduce.proofs.HeadMakes.{behind}
 
 -- ## Definitions
@@ -54,14 +55,10 @@ pub definition-within : (k : TokKind) (t : Seen) (answers : List Answer) (names 
 definition-within k t answers names new d h w = subst (λ words. NamesWithin words names new)
     (sym (behind k t answers d (nested-behind t answers h)).words) w
 
-append-none : (words : List Seen) → words ++ [] ≡ words
-append-none [] = refl
-append-none (word ∷ words) = ap (λ ws. word ∷ ws) (append-none words)
-
 -- all words were read
 pub all-within : (words : List Seen) (names new : List Entry) → new ≡ (spelled words names).names
     → NamesWithin words names new
-all-within words names new e = record { first = words; later = []; are = append-none words; is = e }
+all-within words names new e = record { first = words; later = []; are = append-nil words; is = e }
 
 -- ## Behind notes
 
@@ -90,14 +87,7 @@ unsigned-other name [] new answer g n = refl
 unsigned-other name (Note note place ∷ rest) new answer g n = unsigned-other name rest new answer g n
 unsigned-other name (Begin t ∷ rest) new answer g n = group-unsigned name t (nests rest)
 unsigned-other name (Finish t ∷ rest) new answer g n = refl
-unsigned-other name (Token t ∷ rest) new answer g n = absurd (by answer g n)
-  where
-    by : (answer : Lexed) → Gives (Token t ∷ rest) answer new → ((u : Tok) → answer ≡ lexed.Token u → ⊥) → ⊥
-    by (lexed.Token u) g n = n u refl
-    by (lexed.Begin u) g n = cc
-    by (lexed.Finish u) g n = cc
-    by (lexed.Note note place) g n = cc
-    by lexed.End g n = let h = g.0 in cc
+unsigned-other name (Token t ∷ rest) new answer g n = absurd (only-token t rest new answer g n)
 
 -- the nest of answers whose first is a token
 module _ (rest new : List Answer) (t : Tok) (g : Gives (without_notes rest) (lexed.Token t) new) (h : IsNested rest)
@@ -186,14 +176,7 @@ headless-other [] new answer g n = refl
 headless-other (Note note place ∷ rest) new answer g n = headless-other rest new answer g n
 headless-other (Begin t ∷ rest) new answer g n = group-headed t (nests rest)
 headless-other (Finish t ∷ rest) new answer g n = refl
-headless-other (Token t ∷ rest) new answer g n = absurd (by answer g n)
-  where
-    by : (answer : Lexed) → Gives (Token t ∷ rest) answer new → ((u : Tok) → answer ≡ lexed.Token u → ⊥) → ⊥
-    by (lexed.Token u) g n = n u refl
-    by (lexed.Begin u) g n = cc
-    by (lexed.Finish u) g n = cc
-    by (lexed.Note note place) g n = cc
-    by lexed.End g n = let h = g.0 in cc
+headless-other (Token t ∷ rest) new answer g n = absurd (only-token t rest new answer g n)
 
 pub token-headed : (rest new : List Answer) (t : Tok) → Gives (without_notes rest) (lexed.Token t) new → IsNested rest
     → headed (nest rest) ≡ headed_by t.kind (seen t) (nest new)

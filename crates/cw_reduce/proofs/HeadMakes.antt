@@ -124,7 +124,7 @@ module _ (number : ℕ) (words : List Seen) (old new : StoredLists) (names names
       let ts = dollared (spelled words names).tokens ++ token.Control control.OptionalBreak ∷ [] in
       let known : Known = record { names = names; marks = []; ended = [] } in
       let agrees : scrap_agrees (leaf_scrap (dead number ts)) = All-head scrap_agrees (leaf_scrap (dead number ts)) []
-      (reads-head start_flags (λ n. None) (Macro number words) known fits).scraps.modes in
+      (reads-head start_flags (λ n. None) (Macro number words) known fits refl).scraps.modes in
       let all = macro-named (length names') number (spelled words names).tokens spelled-there in
       record {
         made = λ flags named known. scrap-made (leaf_scrap (dead number ts) ∷ [])
@@ -144,7 +144,7 @@ module _ (number : ℕ) (words : List Seen) (old new : StoredLists) (names names
       let same : ts ≡ with_break (spelled words names).tokens = break-behind words names fit in
       let known : Known = record { names = names; marks = []; ended = [] } in
       let agrees : scrap_agrees (leaf_scrap (dead number ts)) = All-head scrap_agrees (leaf_scrap (dead number ts)) []
-      (reads-head start_flags (λ n. None) (Format number words) known fits).scraps.modes in
+      (reads-head start_flags (λ n. None) (Format number words) known fits refl).scraps.modes in
       let all : AreNamed (length names') (dead number ts).tokens =
       subst (λ us. AreNamed (length names') (dead number us).tokens) (sym same)
       (format-named (length names') number (spelled words names).tokens spelled-there) in

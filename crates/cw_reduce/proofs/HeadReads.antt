@@ -2,7 +2,7 @@
 use Rattle.std.proofs.Common.{◌≡◌, ℕ, Bool, true, false, Option, Some, None, List, [], ◌∷◌, ◌++◌, refl, sym, ap, ◌∙◌}
 use Rattle.std.proofs.Common.{subst}
 use Rattle.std.specs.List.{list_all}
-use Rattle.std.proofs.lemmas.List.{append_assoc}
+use Rattle.std.proofs.lemmas.List.{append-nil, append_assoc}
 use Rattle.cw_base.proofs.TestLaws.{both-left, both-right}
 use Rattle.cw_base.specs.declared.category.Cat.{Cat}
 use Rattle.cw_base.specs.declared.category.Cat.TheVariants.{Exp}
@@ -30,11 +30,13 @@ use Rattle.cw_tokens.specs.declared.token.Token.{Token}
 use Rattle.cw_tokens.specs.declared.token.Token.TheVariants as token
 use Rattle.cw_tokens.specs.Shapes.{tree_in}
 use Rattle.cw_scraps.specs.Leaves.{sign_mode, token_form, word_form, names_with}
+use Rattle.cw_scraps.specs.Words.{is_word}
 use Rattle.cw_reduce.specs.TranslationLaws.{InnersRead, ReadsInText}
 use Rattle.cw_translator.specs.Translating.{Known, spelled, form_tokens, word_tokens, first_word, later_words, dollared}
 use Rattle.cw_translator.specs.Translating.{dead, leaf_scrap, sign_behind, head_made, headed_made, leaf_of_name, made}
 use Rattle.cw_translator.specs.Translating.{begin, translated}
-use Rattle.cw_reduce.proofs.ReadLaws.{MadeReads, reads-nothing, reads-scrap, reads-beside, reads-end, reads-made}
+use Rattle.cw_reduce.proofs.HeadAnswers.{first-all, head-words-fit, later-all, word_kind}
+use Rattle.cw_reduce.proofs.ReadLaws.{IsFineKnown, IsSoundMade, reads-nothing, reads-scrap, reads-beside, reads-end, reads-made}
 use Rattle.cw_reduce.proofs.ReadLaws.{reads-leaf, reads-headed-name}
 
 -- Tokens that are read in a mode and stay in it, and hold no inner text.
@@ -67,29 +69,35 @@ sign-stays s n = record {
 }
 
 -- identifiers stay in each mode, and identifiers and signs in math
-abbrev fits_in : MathMode → TokKind → Bool
-fits_in mode kind.Identifier = true
-fits_in Math (kind.Sign s) = true
-fits_in mode k = false
+abbrev is_name : TokKind → Bool
+is_name kind.Identifier = true
+is_name k = false
 
-abbrev word_fits : MathMode → Seen → Bool
-word_fits mode word = fits_in mode word.kind
+abbrev name_kind : Seen → Bool
+name_kind word = is_name word.kind
 
-kind-stays : (mode : MathMode) (k : TokKind) (text : List ℕ) (hash_line : Bool) (n : ℕ) (names : List Entry)
-    → fits_in mode k ≡ true → StaysIn mode (form_tokens (token_form k text hash_line n names))
-kind-stays mode kind.Identifier text hash_line n names h = word-stays mode _ _ n
-kind-stays Math (kind.Sign s) text hash_line n names h = sign-stays s n
-kind-stays mode k text hash_line n names h = absurd cc
+abbrev StayIn : MathMode → (TokKind → Bool) → Type 0
+StayIn mode fits = (k : TokKind) (text : List ℕ) (hash_line : Bool) (n : ℕ) (names : List Entry) → fits k ≡ true
+    → StaysIn mode (form_tokens (token_form k text hash_line n names))
 
-spelled-stays : (mode : MathMode) (words : List Seen) (names : List Entry) → list_all (word_fits mode) words ≡ true
-    → StaysIn mode (spelled words names).tokens
-spelled-stays mode [] names h = stays-none mode
-spelled-stays mode (word ∷ words) names h =
+names-stay : StayIn Text is_name
+names-stay kind.Identifier text hash_line n names h = word-stays Text _ _ n
+names-stay k text hash_line n names h = absurd cc
+
+words-stay : StayIn Math is_word
+words-stay kind.Identifier text hash_line n names h = word-stays Math _ _ n
+words-stay (kind.Sign s) text hash_line n names h = sign-stays s n
+words-stay k text hash_line n names h = absurd cc
+
+spelled-stays : (mode : MathMode) (fits : TokKind → Bool) → StayIn mode fits → (words : List Seen) (names : List Entry)
+    → list_all (λ word. fits word.kind) words ≡ true → StaysIn mode (spelled words names).tokens
+spelled-stays mode fits stay [] names h = stays-none mode
+spelled-stays mode fits stay (word ∷ words) names h =
     stays-append mode (word_tokens word names) (spelled words (names_with word.kind word.text names)).tokens
-    (kind-stays mode word.kind word.text word.hash_line word.span.start names
-    (both-left (word_fits mode word) (list_all (word_fits mode) words) h))
-    (spelled-stays mode words (names_with word.kind word.text names)
-    (both-right (word_fits mode word) (list_all (word_fits mode) words) h))
+    (stay word.kind word.text word.hash_line word.span.start names
+    (both-left (fits word.kind) (list_all (λ word. fits word.kind) words) h))
+    (spelled-stays mode fits stay words (names_with word.kind word.text names)
+    (both-right (fits word.kind) (list_all (λ word. fits word.kind) words) h))
 
 dollared-stays : (tokens : List Token) → StaysIn Math tokens → StaysIn Text (dollared tokens)
 dollared-stays [] s = stays-none Text
@@ -104,17 +112,13 @@ dollared-stays (t ∷ ts) s = record {
 break-stays : StaysIn Text (token.Control control.OptionalBreak ∷ [])
 break-stays = record { stays = λ rest. refl; inners = λ rest h. h }
 
-append-none : (xs : List Token) → xs ++ [] ≡ xs
-append-none [] = refl
-append-none (x ∷ xs) = ap (λ ys. x ∷ ys) (append-none xs)
-
-reads-dead : (number : ℕ) (tokens : List Token) (known : Known) → StaysIn Text tokens
-    → MadeReads (record { scraps = leaf_scrap (dead number tokens) ∷ []; items = []; known = known })
-reads-dead number tokens known s =
+reads-dead : (number : ℕ) (tokens : List Token) (known : Known) → StaysIn Text tokens → IsFineKnown known
+    → IsSoundMade (record { scraps = leaf_scrap (dead number tokens) ∷ []; items = []; known = known })
+reads-dead number tokens known s f =
     let inner : InnersRead (tree_in [] (tokens ++ [])) = s.inners [] tt in
     reads-scrap (leaf_scrap (dead number tokens)) known
-    (ap (λ ts. reads (tree_in [] ts) Text) (sym (append-none tokens)) ∙ s.stays [])
-    (let k : InnersRead (tree_in [] tokens) = rw (sym (append-none tokens)) inner in k)
+    (ap (λ ts. reads (tree_in [] ts) Text) (sym (append-nil tokens)) ∙ s.stays [])
+    (let k : InnersRead (tree_in [] tokens) = rw (sym (append-nil tokens)) inner in k) refl f
 
 -- the words of heads
 abbrev is_names : Wanted → Bool
@@ -126,31 +130,11 @@ is_names wanted = false
 abbrev words_by : Seen → Nest → Option Wanted → Words
 words_by t rest o = elim o [ Some next ↦ word_before t (head_words next rest) | None ↦ no_word (Leaf t rest) ]
 
-takes-math : (wanted : Wanted) (k : TokKind) (span : Span) (next : Wanted) → head_behind wanted k span ≡ Some next
-    → fits_in Math k ≡ true
-takes-math wanted kind.Identifier span next h = refl
-takes-math wanted (kind.Sign s) span next h = refl
-takes-math wanted k span next h = absurd cc
-
-words-math : (wanted : Wanted) (n : Nest) → list_all (word_fits Math) (head_words wanted n).words ≡ true
-words-math wanted End = refl
-words-math wanted (Group t inner rest) = refl
-words-math wanted (Leaf t rest) = go (head_behind wanted t.kind t.span) refl (λ next. words-math next rest)
-  where
-    go : (o : Option Wanted) → head_behind wanted t.kind t.span ≡ o
-        → ((next : Wanted) → list_all (word_fits Math) (head_words next rest).words ≡ true)
-        → list_all (word_fits Math) (head_words wanted (Leaf t rest)).words ≡ true
-    go None e more = ap (λ o. list_all (word_fits Math) (words_by t rest o).words) e
-    go (Some next) e more =
-        ap (λ o. list_all (word_fits Math) (words_by t rest o).words) e
-        ∙ and-both (word_fits Math t) (list_all (word_fits Math) (head_words next rest).words)
-        (takes-math wanted t.kind t.span next e) (more next)
-
 some-wanted : (a b : Wanted) → ◌≡◌ {A = Option Wanted} (Some a) (Some b) → a ≡ b
 some-wanted a b e = cc
 
 takes-text : (wanted : Wanted) (k : TokKind) (span : Span) (next : Wanted) → is_names wanted ≡ true
-    → head_behind wanted k span ≡ Some next → (fits_in Text k ≡ true) × (is_names next ≡ true)
+    → head_behind wanted k span ≡ Some next → (is_name k ≡ true) × (is_names next ≡ true)
 takes-text (wants.First silent) kind.Identifier span next n h =
     (refl, ap is_names (sym (some-wanted (wants.Second silent) next h)))
 takes-text (wants.First silent) (kind.Sign sign.LeftParen) span next n h = absurd cc
@@ -174,23 +158,23 @@ takes-text wants.Nothing k span next n h = absurd cc
 takes-text _ k span next n h = absurd cc
 
 words-text : (wanted : Wanted) (n : Nest) → is_names wanted ≡ true
-    → list_all (word_fits Text) (head_words wanted n).words ≡ true
+    → list_all (name_kind) (head_words wanted n).words ≡ true
 words-text wanted End w = refl
 words-text wanted (Group t inner rest) w = refl
 words-text wanted (Leaf t rest) w = go (head_behind wanted t.kind t.span) refl (λ next v. words-text next rest v)
   where
     go : (o : Option Wanted) → head_behind wanted t.kind t.span ≡ o
-        → ((next : Wanted) → is_names next ≡ true → list_all (word_fits Text) (head_words next rest).words ≡ true)
-        → list_all (word_fits Text) (head_words wanted (Leaf t rest)).words ≡ true
-    go None e more = ap (λ o. list_all (word_fits Text) (words_by t rest o).words) e
+        → ((next : Wanted) → is_names next ≡ true → list_all (name_kind) (head_words next rest).words ≡ true)
+        → list_all (name_kind) (head_words wanted (Leaf t rest)).words ≡ true
+    go None e more = ap (λ o. list_all (name_kind) (words_by t rest o).words) e
     go (Some next) e more =
         let f = takes-text wanted t.kind t.span next w e in
-        ap (λ o. list_all (word_fits Text) (words_by t rest o).words) e
-        ∙ and-both (word_fits Text t) (list_all (word_fits Text) (head_words next rest).words) f.0 (more next f.1)
+        ap (λ o. list_all (name_kind) (words_by t rest o).words) e
+        ∙ and-both (name_kind t) (list_all (name_kind) (head_words next rest).words) f.0 (more next f.1)
 
 abbrev pub HeadFits : Head → Type 0
-HeadFits (Macro number words) = list_all (word_fits Math) words ≡ true
-HeadFits (Format number words) = list_all (word_fits Text) words ≡ true
+HeadFits (Macro number words) = list_all word_kind words ≡ true
+HeadFits (Format number words) = list_all (name_kind) words ≡ true
 HeadFits h = Unit {0}
 
 abbrev sign_headed : Seen → Seen → Nest → Bool → Headed
@@ -209,7 +193,7 @@ named-fits t (Group u inner more) = tt
 named-fits t (Leaf s rest) = named-fits-if (is_head_sign s.kind) t s rest
 
 pub fits-by : (k : TokKind) (t : Seen) (rest : Nest) → HeadFits (headed_by k t rest).head
-fits-by (kind.Code code.Define) t rest = words-math wants.Macro rest
+fits-by (kind.Code code.Define) t rest = head-words-fit wants.Macro rest
 fits-by (kind.Code code.Format) t rest = words-text (wants.First false) rest refl
 fits-by (kind.Code code.SilentFormat) t rest = tt
 fits-by (kind.Code code.SectionName) t rest = named-fits t rest
@@ -221,45 +205,41 @@ head-fits End = tt
 head-fits (Group t inner rest) = tt
 head-fits (Leaf t rest) = fits-by t.kind t rest
 
-first-fits : (mode : MathMode) (words : List Seen) → list_all (word_fits mode) words ≡ true
-    → list_all (word_fits mode) (first_word words) ≡ true
-first-fits mode [] h = refl
-first-fits mode (word ∷ words) h = and-both (word_fits mode word) true
-    (both-left (word_fits mode word) (list_all (word_fits mode) words) h) refl
-
-later-fits : (mode : MathMode) (words : List Seen) → list_all (word_fits mode) words ≡ true
-    → list_all (word_fits mode) (later_words words) ≡ true
-later-fits mode [] h = refl
-later-fits mode (word ∷ words) h = both-right (word_fits mode word) (list_all (word_fits mode) words) h
-
 pub reads-head : (flags : Flags) (named : ℕ → Option (List (List Answer))) (h : Head) (known : Known) → HeadFits h
-    → MadeReads (head_made flags named h known)
-reads-head flags named Headless known f = reads-nothing known
-reads-head flags named (Silent words) known f = reads-nothing _
-reads-head flags named (Macro number words) known f =
+    → IsFineKnown known → IsSoundMade (head_made flags named h known)
+reads-head flags named Headless known fits f = reads-nothing known f
+reads-head flags named (Silent words) known fits f = reads-nothing _ f
+reads-head flags named (Macro number words) known fits f =
     let s = spelled words known.names in
     reads-dead number (dollared s.tokens ++ token.Control control.OptionalBreak ∷ []) _
     (stays-append Text (dollared s.tokens) (token.Control control.OptionalBreak ∷ [])
-    (dollared-stays s.tokens (spelled-stays Math words known.names f)) break-stays)
-reads-head flags named (Format number words) known f =
+    (dollared-stays s.tokens (spelled-stays Math is_word words-stay words known.names fits)) break-stays) f
+reads-head flags named (Format number words) known fits f =
     let s = spelled (first_word words) known.names in
     let t = spelled (later_words words) s.names in
     reads-dead number (s.tokens ++ token.Control control.OptionalBreak ∷ t.tokens) _
     (stays-append Text s.tokens (token.Control control.OptionalBreak ∷ t.tokens)
-    (spelled-stays Text (first_word words) known.names (first-fits Text words f))
+    (spelled-stays Text is_name names-stay (first_word words) known.names (first-all name_kind words fits))
     (stays-append Text (token.Control control.OptionalBreak ∷ []) t.tokens break-stays
-    (spelled-stays Text (later_words words) s.names (later-fits Text words f))))
-reads-head flags named (Named number sign) known f = reads-headed-name flags (named number) (sign_behind sign) number
-    known refl tt
+    (spelled-stays Text is_name names-stay (later_words words) s.names (later-all name_kind words fits)))) f
+reads-head flags named (Named number sign) known fits f = reads-headed-name flags (named number) (sign_behind sign)
+    number known refl tt f
+
+-- The whole text.
+pub reads-headed : (flags : Flags) (named : ℕ → Option (List (List Answer))) (answers : List Answer)
+    (names : List Entry) (marks : List ℕ)
+    → IsSoundMade (headed_made flags named (headed (nest answers)) (begin names marks))
+reads-headed flags named answers names marks =
+    let h = headed (nest answers) in
+    let known = begin names marks in
+    let first = head_made flags named h.head known in
+    let g = reads-head flags named h.head known (head-fits (nest answers)) refl in
+    reads-beside first (made flags (leaf_of_name flags named) h.rest first.known) g
+    (reads-made flags (leaf_of_name flags named) (reads-leaf flags named) h.rest first.known g.known)
 
 pub stands-in-text : (flags : Flags) (named : ℕ → Option (List (List Answer))) (answers : List Answer)
     (names : List Entry) (marks : List ℕ) → ReadsInText (translated flags named answers names marks).tree
 unfolding translated
 stands-in-text flags named answers names marks =
-    let h = headed (nest answers) in
-    let known = begin names marks in
-    let first = head_made flags named h.head known in
-    reads-end flags (headed_made flags named h known)
-    (reads-beside first (made flags (leaf_of_name flags named) h.rest first.known)
-    (reads-head flags named h.head known (head-fits (nest answers)))
-    (reads-made flags (leaf_of_name flags named) (reads-leaf flags named) h.rest first.known))
+    reads-end flags (headed_made flags named (headed (nest answers)) (begin names marks))
+    (reads-headed flags named answers names marks)

@@ -37,16 +37,18 @@ use Rattle.cw_translator.specs.NameParts.{name_texts, parts_by_kind}
 use Rattle.cw_reduce.specs.Naming.{held_answers, with_texts}
 use Rattle.cw_translator.specs.declared.translator.Translator.{Translator}
 use Rattle.cw_translator.specs.declared.work.Work.{Work}
-use Rattle.cw_translator.specs.Opening.{IsSoundFrame, IsTranslating}
+use Rattle.cw_translator.specs.Opening.{IsSoundFrame, IsTranslating, StartsBelow}
 use Rattle.cw_translator.specs.Reading.{CText, Progress, after_answers, all_ended, with_held, with_made}
 use Rattle.cw_translator.specs.Retyping.{NamesAmong, NamesOnTheWay, here}
 use Rattle.cw_translator.specs.Translating.{Known, NameTexts, before, begin, end_of, head_made, leaf_of_name}
 use Rattle.cw_translator.specs.Translating.{made}
 use Rattle.cw_translator.specs.Translating.{sign_behind, texts_named, translated, with_names}
-use Rattle.cw_translator.specs.Working.{Advances, EndsIn, progress_over}
+use Rattle.cw_translator.specs.Working.{Advances, EndsIn, over, progress_over}
 use Rattle.cw_reduce.proofs.NamedJoined.{AllNested, name-law, named-translation}
 use Rattle.cw_reduce.proofs.NameSteps.{texts-paired, texts-unpaired, with-texts-append}
-use Rattle.cw_translator.proofs.Routes.{advances-done, advances-none, ends-as}
+use Rattle.cw_translator.proofs.Routes.{Advancing, advances-done, advances-none, advancing-begun, advancing-next}
+use Rattle.cw_translator.proofs.Routes.{ends-as}
+use Rattle.cw_reduce.proofs.ReadSteps.{starts-split}
 use Rattle.cw_translator.proofs.FinishSteps.{same-names}
 
 -- The name at the head of a C part, by the pair of its place.
@@ -107,6 +109,21 @@ module _ (flags : Flags) (named : NameTexts) (nested : AllNested named) (lists :
 pub cut-first : (named : NameTexts) (a b c : List Answer) → with_texts named ((a ++ b) ++ c)
     ≡ with_texts named a ++ with_texts named (b ++ c)
 cut-first named a b c = ap (with_texts named) (append_assoc a b c) ∙ with-texts-append named a (b ++ c)
+
+pub starts-ahead : (limit : ℕ) (a b c : List Answer) → StartsBelow limit ((a ++ b) ++ c)
+    → StartsBelow limit a × StartsBelow limit b × StartsBelow limit c
+starts-ahead limit a b c h =
+    let both = starts-split limit (a ++ b) c h in
+    let first = starts-split limit a b both.0 in
+    (first.0, first.1, both.1)
+
+-- the first of them have been read
+pub ahead-advancing : {L T : Type 0} (flags : Flags) (named : NameTexts) (a b c : List Answer) {t t' : Translator}
+    {old new : Work L} {value : T} → IsTranslating old.store.now old.names.now t
+    → Advances (over flags (with_texts named a) (progress_over old t)) t old t' new (Ok value)
+    → Advancing flags (with_texts named ((a ++ b) ++ c)) (with_texts named (b ++ c)) (progress_over old t) t old t' new
+ahead-advancing flags named a b c is r = advancing-next (with_texts named a) (with_texts named (b ++ c))
+    (advancing-begun flags (with_texts named ((a ++ b) ++ c)) is) (cut-first named a b c) r
 
 pub headed-among : (flags : Flags) (named : NameTexts) (head : HeadRead) (rest : List Answer) (p : Progress)
     (new : List Entry)

@@ -2,12 +2,12 @@
 use Rattle.std.proofs.Common.{◌≡◌, ℕ, Bool, true, false, is_some, Option, Some, None, List, [], ◌∷◌, ◌++◌, refl, ◌∙◌}
 use Rattle.std.proofs.Common.{ap}
 use Rattle.std.specs.List.{list_all}
+use Rattle.std.proofs.lemmas.List.{append-nil}
 use Rattle.cw_base.proofs.TestLaws.{both-left, both-right}
 use Rattle.cw_base.specs.declared.category.Cat.{Cat}
 use Rattle.cw_base.specs.declared.category.Cat.TheVariants.{Exp, Dead}
 use Rattle.cw_base.specs.declared.flags.Flags.{Flags}
 use Rattle.cw_base.specs.declared.mode.MathMode.TheVariants.{Text}
-use Rattle.cw_base.specs.declared.span.Span.{Span}
 use Rattle.cw_rules.specs.Answers.{Answer, Seen, is_head_sign}
 use Rattle.cw_rules.specs.declared.codes.Code.TheVariants as code
 use Rattle.cw_rules.specs.declared.tokens.TokKind.{TokKind}
@@ -23,6 +23,7 @@ use Rattle.cw_tokens.specs.declared.token.Token.TheVariants as token
 use Rattle.cw_tokens.specs.Shapes.{tree_in}
 use Rattle.cw_scraps.specs.Leaves.{token_form, word_form}
 use Rattle.cw_base.specs.Conditions.{list_if}
+use Rattle.cw_scraps.specs.Words.{is_word}
 use Rattle.cw_lex.specs.Nest.{Nest, End, Leaf, Group, nest, IsWell}
 use Rattle.cw_lex.proofs.Nests.{nest-well}
 use Rattle.cw_lex.specs.Heads.{Head, Headless, Macro, Format, Silent, Named, Headed, headed, headed_by, headless}
@@ -32,47 +33,23 @@ use Rattle.cw_lex.specs.declared.heads.Wanted.TheVariants as wants
 use Rattle.cw_reduce.specs.Visible.{starts, shown_in, shown_head, shown}
 use Rattle.cw_translator.specs.Translating.{Known, spelled, form_tokens, first_word, later_words, dollared, sign_behind}
 use Rattle.cw_translator.specs.Translating.{texts_named, head_made, headed_made, leaf_of_name, made, begin, translated}
-use Rattle.cw_reduce.proofs.ShownLaws.{append-none, Shows, shows-beside, shows-made, shows-name, struck-end}
+use Rattle.cw_reduce.proofs.ShownLaws.{Shows, shows-beside, shows-made, shows-name, struck-end}
 use Rattle.cw_reduce.proofs.ShownLaws.{struck-parts}
+use Rattle.cw_reduce.proofs.HeadAnswers.{first-all, head-words-fit, later-all, word_kind}
 
--- The words of a head are identifiers and signs, and what follows it is well.
-pub is_word_kind : TokKind → Bool
-is_word_kind kind.Identifier = true
-is_word_kind (kind.Sign s) = true
-is_word_kind _ = false
-
-pub is_word : Seen → Bool
-is_word t = is_word_kind t.kind
-
-pub record AreWords (w : Words) : Type 0 where
-  pub words : list_all is_word w.words ≡ true
-  pub rest : IsWell false w.rest
-
-words-none : (rest : Nest) → IsWell false rest → AreWords (no_word rest)
-words-none rest w = record { words = refl; rest = w }
-
-words-before : (t : Seen) (more : Words) → is_word t ≡ true → AreWords more → AreWords (word_before t more)
-words-before t more e m = record { words = and-both (is_word t) (list_all is_word more.words) e m.words; rest = m.rest }
-
-head-word : (wanted : Wanted) (k : TokKind) (span : Span) (next : Wanted) → head_behind wanted k span ≡ Some next
-    → is_word_kind k ≡ true
-unfolding is_word_kind
-head-word wanted kind.Identifier span next h = refl
-head-word wanted (kind.Sign s) span next h = refl
-head-word wanted k span next h = absurd cc
-
-words-next : (o : Option Wanted) (t : Seen) (rest : Nest) → ((next : Wanted) → o ≡ Some next → is_word t ≡ true)
-    → ((next : Wanted) → AreWords (head_words next rest)) → IsWell false (Leaf t rest)
-    → AreWords (elim o [ Some next ↦ word_before t (head_words next rest) | None ↦ no_word (Leaf t rest) ])
-words-next None t rest e more w = words-none (Leaf t rest) w
-words-next (Some next) t rest e more w = words-before t (head_words next rest) (e next refl) (more next)
-
-pub words-of : (wanted : Wanted) (n : Nest) → IsWell false n → AreWords (head_words wanted n)
-unfolding is_word
-words-of wanted End w = words-none End w
-words-of wanted (Group t inner rest) w = words-none (Group t inner rest) w
-words-of wanted (Leaf t rest) w = words-next (head_behind wanted t.kind t.span) t rest (head-word wanted t.kind t.span)
-    (λ next. words-of next rest w.1) w
+-- What follows the words of a head is well.
+words-rest : (wanted : Wanted) (n : Nest) → IsWell false n → IsWell false (head_words wanted n).rest
+words-rest wanted End w = w
+words-rest wanted (Group t inner rest) w = w
+words-rest wanted (Leaf t rest) w = by (head_behind wanted t.kind t.span) (λ next. words-rest next rest w.1)
+  where
+    by : (o : Option Wanted) → ((next : Wanted) → IsWell false (head_words next rest).rest)
+        → IsWell false (elim o as (λ o. Words) [
+          | Some next ↦ word_before t (head_words next rest)
+          | None ↦ no_word (Leaf t rest)
+        ]).rest
+    by None more = w
+    by (Some next) more = more next
 
 -- Their tokens.
 pub is_plain : Token → Bool
@@ -101,9 +78,9 @@ unfolding is_plain
 word-plain Exp name n = record { plain = refl; numbers_are = refl }
 word-plain _ name n = record { plain = refl; numbers_are = refl }
 
-kind-plain : (k : TokKind) (text : List ℕ) (hash_line : Bool) (n : ℕ) (names : List Entry) → is_word_kind k ≡ true
+kind-plain : (k : TokKind) (text : List ℕ) (hash_line : Bool) (n : ℕ) (names : List Entry) → is_word k ≡ true
     → PlainFor (form_tokens (token_form k text hash_line n names)) (n ∷ [])
-unfolding is_plain is_word_kind
+unfolding is_plain
 kind-plain kind.Identifier text hash_line n names h = word-plain _ _ n
 kind-plain (kind.Sign s) text hash_line n names h = record { plain = refl; numbers_are = refl }
 kind-plain k text hash_line n names h = absurd cc
@@ -122,13 +99,13 @@ plain-append xs ys ns ms p q = record {
         (both-left (is_plain x) (list_all is_plain xs) a)
         (list-append xs ys (both-right (is_plain x) (list_all is_plain xs) a) b)
 
-pub spelled-plain : (words : List Seen) (names : List Entry) → list_all is_word words ≡ true
+pub spelled-plain : (words : List Seen) (names : List Entry) → list_all word_kind words ≡ true
     → PlainFor (spelled words names).tokens (starts words)
-unfolding is_plain is_word
+unfolding is_plain
 spelled-plain [] names h = record { plain = refl; numbers_are = refl }
 spelled-plain (t ∷ words) names h = plain-append _ _ (t.span.start ∷ []) (starts words)
-    (kind-plain t.kind t.text t.hash_line t.span.start names (both-left (is_word t) (list_all is_word words) h))
-    (spelled-plain words _ (both-right (is_word t) (list_all is_word words) h))
+    (kind-plain t.kind t.text t.hash_line t.span.start names (both-left (word_kind t) (list_all word_kind words) h))
+    (spelled-plain words _ (both-right (word_kind t) (list_all word_kind words) h))
 
 pub dollared-plain : (ts : List Token) (ns : List ℕ) → PlainFor ts ns → PlainFor (dollared ts) ns
 unfolding is_plain
@@ -136,12 +113,12 @@ dollared-plain [] ns p = p
 dollared-plain (t ∷ ts) ns p =
     let q = plain-append (t ∷ ts) (token.Control control.Dollar ∷ []) ns [] p
     (record { plain = refl; numbers_are = refl }) in
-    record { plain = q.plain; numbers_are = q.numbers_are ∙ append-none ns }
+    record { plain = q.plain; numbers_are = q.numbers_are ∙ append-nil ns }
 
 -- The heads.
 pub AreHeadWords : Head → Type 0
-AreHeadWords (Macro number words) = list_all is_word words ≡ true
-AreHeadWords (Format number words) = list_all is_word words ≡ true
+AreHeadWords (Macro number words) = list_all word_kind words ≡ true
+AreHeadWords (Format number words) = list_all word_kind words ≡ true
 AreHeadWords h = Unit {0}
 
 pub record IsWellHeaded (h : Headed) : Type 0 where
@@ -168,12 +145,12 @@ well-named t (Leaf s rest) w = well-named-if (is_head_sign s.kind) t s rest w
 
 well-by : (k : TokKind) (t : Seen) (rest : Nest) → IsWell false (Leaf t rest) → IsWellHeaded (headed_by k t rest)
 unfolding AreHeadWords
-well-by (kind.Code code.Define) t rest w = let a = words-of wants.Macro rest w.1 in
-    record { words = a.words; rest = a.rest }
-well-by (kind.Code code.Format) t rest w = let a = words-of (wants.First false) rest w.1 in
-    record { words = a.words; rest = a.rest }
+well-by (kind.Code code.Define) t rest w =
+    record { words = head-words-fit wants.Macro rest; rest = words-rest wants.Macro rest w.1 }
+well-by (kind.Code code.Format) t rest w =
+    record { words = head-words-fit (wants.First false) rest; rest = words-rest (wants.First false) rest w.1 }
 well-by (kind.Code code.SilentFormat) t rest w =
-    record { words = tt; rest = (words-of (wants.First true) rest w.1).rest }
+    record { words = tt; rest = words-rest (wants.First true) rest w.1 }
 well-by (kind.Code code.SectionName) t rest w = well-named t rest w
 well-by (kind.Code code.FileName) t rest w = well-named t rest w
 well-by k t rest w = well-headless (Leaf t rest) w
@@ -195,14 +172,6 @@ starts-split : (words : List Seen) → starts (first_word words) ++ starts (late
 starts-split [] = refl
 starts-split (word ∷ words) = refl
 
-words-first : (words : List Seen) → list_all is_word words ≡ true → list_all is_word (first_word words) ≡ true
-words-first [] h = refl
-words-first (word ∷ words) h = and-both (is_word word) true (both-left (is_word word) (list_all is_word words) h) refl
-
-words-later : (words : List Seen) → list_all is_word words ≡ true → list_all is_word (later_words words) ≡ true
-words-later [] h = refl
-words-later (word ∷ words) h = both-right (is_word word) (list_all is_word words) h
-
 shows-head : (flags : Flags) (named : ℕ → Option (List (List Answer))) (h : Head) (known : Known) → AreHeadWords h
     → Shows false (head_made flags named h known) (shown_head (λ n. is_some (named n)) h)
 unfolding AreHeadWords is_plain
@@ -215,17 +184,17 @@ shows-head flags named (Macro number words) known w =
     (record { plain = refl; numbers_are = refl }) in
     record {
       fine = refl;
-      numbers_are = append-none _
-          ∙ ap (λ ns. number ∷ ns) (p.numbers_are ∙ append-none (starts words));
+      numbers_are = append-nil _
+          ∙ ap (λ ns. number ∷ ns) (p.numbers_are ∙ append-nil (starts words));
     }
 shows-head flags named (Format number words) known w =
     let s = spelled (first_word words) known.names in
     let t = spelled (later_words words) s.names in
-    let a = spelled-plain (first_word words) known.names (words-first words w) in
-    let b = spelled-plain (later_words words) s.names (words-later words w) in
+    let a = spelled-plain (first_word words) known.names (first-all word_kind words w) in
+    let b = spelled-plain (later_words words) s.names (later-all word_kind words w) in
     let p = plain-append s.tokens (token.Control control.OptionalBreak ∷ t.tokens) (starts (first_word words))
     (starts (later_words words)) a (record { plain = b.plain; numbers_are = b.numbers_are }) in
-    record { fine = refl; numbers_are = append-none _ ∙ ap (λ ns. number ∷ ns) (p.numbers_are ∙ starts-split words) }
+    record { fine = refl; numbers_are = append-nil _ ∙ ap (λ ns. number ∷ ns) (p.numbers_are ∙ starts-split words) }
 shows-head flags named (Named number sign) known w = shows-named-head flags (named number) number sign known
 
 pub translated-shown : (flags : Flags) (named : ℕ → Option (List (List Answer))) (answers : List Answer)

@@ -1,6 +1,6 @@
 -- A translation on its way comes to the translation that is defined over the nest.
-use Rattle.std.proofs.Common.{◌≡◌, ℕ, Option, Some, None, List, [], ◌∷◌, ◌++◌, refl, sym, ◌∙◌, ap}
-use Rattle.std.proofs.lemmas.List.{append_assoc}
+use Rattle.std.proofs.Common.{◌≡◌, ℕ, Option, Some, None, List, [], ◌∷◌, refl, sym, ◌∙◌, ap}
+use Rattle.std.proofs.lemmas.List.{append-nil, append_assoc}
 use Rattle.cw_base.specs.declared.flags.Flags.{Flags}
 use Rattle.cw_rules.specs.Answers.{Answer, Token, Begin, Finish, Note, Seen}
 use Rattle.cw_rules.specs.declared.codes.Code.TheVariants as code
@@ -21,10 +21,6 @@ use Rattle.cw_translator.specs.Translating.{token_made}
 use Rattle.cw_translator.specs.Translating.{group_made, made, no_name}
 use Rattle.cw_lex.proofs.Nests.{SameSize, some-levels, first-levels, nests-size}
 
-pub append-none : {A : Type 0} (xs : List A) → xs ++ [] ≡ xs
-append-none [] = refl
-append-none (x ∷ xs) = ap (λ ys. x ∷ ys) (append-none xs)
-
 abbrev pub level : Flags → (ℕ → Known → Made) → Nest → Progress → Progress
 level flags name n a = with_made a.frames (made flags name n a.known)
 
@@ -41,8 +37,8 @@ run flags name (n ∷ ns) a = outer flags name ns (level flags name n a)
 
 pub extended-nothing : (frames : List Frame) (known : Known) → extended (nothing known) frames ≡ frames
 extended-nothing [] known = refl
-extended-nothing (CText scraps ∷ frames) known = ap (λ ss. CText ss ∷ frames) (append-none scraps)
-extended-nothing (Comment held_by items ∷ frames) known = ap (λ is. Comment held_by is ∷ frames) (append-none items)
+extended-nothing (CText scraps ∷ frames) known = ap (λ ss. CText ss ∷ frames) (append-nil scraps)
+extended-nothing (Comment held_by items ∷ frames) known = ap (λ is. Comment held_by is ∷ frames) (append-nil items)
 
 extended-beside : (a b : Made) (frames : List Frame) → extended (beside a b) frames ≡ extended b (extended a frames)
 extended-beside a b [] = refl
@@ -53,7 +49,7 @@ extended-beside a b (Comment held_by items ∷ frames) =
 extended-item : (item : CommentItem) (known : Known) (frames : List Frame) → with_item item frames
     ≡ extended (one_item item known) frames
 extended-item item known [] = refl
-extended-item item known (CText scraps ∷ frames) = ap (λ ss. CText ss ∷ frames) (sym (append-none scraps))
+extended-item item known (CText scraps ∷ frames) = ap (λ ss. CText ss ∷ frames) (sym (append-nil scraps))
 extended-item item known (Comment held_by items ∷ frames) = refl
 
 pub extended-scrap : (scrap : Scrap) (known : Known) (frames : List Frame) → with_scrap scrap frames
@@ -61,7 +57,7 @@ pub extended-scrap : (scrap : Scrap) (known : Known) (frames : List Frame) → w
 extended-scrap scrap known [] = refl
 extended-scrap scrap known (CText scraps ∷ frames) = refl
 extended-scrap scrap known (Comment held_by items ∷ frames) =
-    ap (λ is. Comment held_by is ∷ frames) (sym (append-none items))
+    ap (λ is. Comment held_by is ∷ frames) (sym (append-nil items))
 
 extended-form : (form : Option LeafForm) (known : Known) (frames : List Frame) → with_form form frames
     ≡ extended (form_made form known) frames

@@ -2,7 +2,7 @@
 use Rattle.std.proofs.Common.{◌≡◌, ℕ, Option, Some, None, List, [], ◌∷◌, ◌++◌, map, refl, sym, ◌∙◌, ap, arith}
 use Rattle.std.specs.List.{All, slice_get}
 use Rattle.std.specs.Prelude.{IfSome}
-use Rattle.std.proofs.lemmas.List.{append_assoc}
+use Rattle.std.proofs.lemmas.List.{append-nil, append_assoc}
 use Rattle.std.proofs.lemmas.List.Elements.{All-head, All-tail, All-cons}
 use Rattle.cw_base.specs.declared.category.Cat.TheVariants.{SectionScrap}
 use Rattle.cw_base.specs.declared.flags.Flags.{Flags}
@@ -39,7 +39,7 @@ use Rattle.cw_translator.specs.Translating.{CommentItem, InnerText, Known, Made,
 use Rattle.cw_translator.specs.Translating.{made}
 use Rattle.cw_translator.specs.Translating.{no_name, plain_text, NameTexts, texts_made, texts_named, leaf_of_name}
 use Rattle.cw_translator.proofs.Routes.{after-append}
-use Rattle.cw_reduce.proofs.Joined.{append-none, closed, run, extended-nothing, extended-scrap, level-before}
+use Rattle.cw_reduce.proofs.Joined.{closed, run, extended-nothing, extended-scrap, level-before}
 use Rattle.cw_reduce.proofs.Joined.{step-token, step-begin, pushed, token-one, begin-two, finish-one, run-leaf, run-end}
 use Rattle.cw_reduce.proofs.Joined.{run-group, run-all, one-nest}
 
@@ -73,7 +73,7 @@ texts-law : (flags : Flags) (texts : List (List Answer)) (held_by : Holder) (ite
       known = (texts_made flags texts behind known).known;
     }
 texts-law flags [] held_by items frames behind known nested =
-    ap (λ xs. record { frames = Comment held_by xs ∷ frames; known = known }) (sym (append-none items))
+    ap (λ xs. record { frames = Comment held_by xs ∷ frames; known = known }) (sym (append-nil items))
 texts-law flags (text ∷ texts) held_by items frames behind known nested =
     let p : Progress = record { frames = Comment held_by items ∷ frames; known = known } in
     let t = plain_text flags text known in

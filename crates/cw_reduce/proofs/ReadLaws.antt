@@ -1,6 +1,7 @@
--- Read from text, the tree of a translation ends in text, and so does each inner text in it.
-use Rattle.std.proofs.Common.{◌≡◌, ℕ, ◌+◌, Bool, Option, Some, None, IfSome, List, [], ◌∷◌, refl, ap, ◌∙◌, arith}
-use Rattle.std.specs.List.{All}
+-- Read from text, the tree of a translation ends in text, and so does each inner text in it; and the texts that end
+-- began with fine scraps.
+use Rattle.std.proofs.Common.{◌≡◌, ℕ, ◌+◌, Bool, true, Option, Some, None, IfSome, List, [], ◌∷◌, refl, ap, ◌∙◌, arith}
+use Rattle.std.specs.List.{All, list_all}
 use Rattle.std.proofs.lemmas.List.Elements.{All-append, All-cons, All-head, All-tail}
 use Rattle.cw_base.specs.declared.category.Cat.{Cat}
 use Rattle.cw_base.specs.declared.category.Cat.TheVariants.{Dead, Exp, SectionScrap}
@@ -20,8 +21,10 @@ use Rattle.cw_trees.specs.Tree.{Tree, Empty, Then, Sub, Sign}
 use Rattle.cw_trees.specs.declared.Control.TheVariants as control
 use Rattle.cw_trees.specs.Joining.{Scrap, scrap_agrees, Agrees, dollar_before, in_text, blank_and_whole, whole, reads}
 use Rattle.cw_trees.specs.Joining.{leads_on}
-use Rattle.cw_table.specs.Normal.{normal}
+use Rattle.cw_table.proofs.ScrapFacts.{all-append, and-both}
+use Rattle.cw_table.specs.Normal.{is_fine, normal}
 use Rattle.cw_table.specs.Productions.{productions}
+use Rattle.cw_table.specs.Rewriting.{State}
 use Rattle.cw_tokens.specs.Shapes.{tree_in}
 use Rattle.cw_scraps.specs.Leaves.{LeafForm, code_form, word_form, token_form, names_with}
 use Rattle.cw_scraps.proofs.LeafForms.{IsGood, token-good}
@@ -31,6 +34,7 @@ use Rattle.cw_translator.specs.Translating.{Known}
 use Rattle.cw_translator.specs.Translating.{Made, beside, state_in, end_of, form_made, token_made, group_made, made}
 use Rattle.cw_translator.specs.Translating.{no_name, plain_text, texts_made, texts_named, leaf_of_name, with_names}
 use Rattle.cw_translator.proofs.CommentLaws.{comment-agrees}
+use Rattle.cw_reduce.proofs.ShownLaws.{fine_form, token-fine}
 use Rattle.cw_reduce.proofs.InnersKept.{inners_of, AreRead, normal-read}
 
 -- what no production joins
@@ -80,9 +84,18 @@ abbrev pub ItemReads : CommentItem → Type 0
 ItemReads (Piece number) = Unit {0}
 ItemReads (InnerText tree) = ReadsInText tree
 
-pub record MadeReads (m : Made) : Type 0 where
+abbrev pub fine_state : State → Bool
+fine_state state = list_all is_fine state.scraps
+
+-- the texts that have ended began with fine scraps
+abbrev pub IsFineKnown : Known → Type 0
+IsFineKnown known = list_all fine_state known.ended ≡ true
+
+pub record IsSoundMade (m : Made) : Type 0 where
   pub scraps : AreRead m.scraps
   pub items : All ItemReads m.items
+  pub fine : list_all is_fine m.scraps ≡ true
+  pub known : IsFineKnown m.known
 
 none-all : {A : Type 0} (P : A → Type 0) → All P []
 none-all P = λ i d h. absurd (omega arith)
@@ -97,29 +110,37 @@ one-read s a i = record {
       i (none-all inners_of);
 }
 
-pub reads-nothing : (known : Known) → MadeReads (record { scraps = []; items = []; known = known })
-reads-nothing known = record { scraps = none-read; items = none-all ItemReads }
+pub reads-nothing : (known : Known) → IsFineKnown known
+    → IsSoundMade (record { scraps = []; items = []; known = known })
+reads-nothing known f = record { scraps = none-read; items = none-all ItemReads; fine = refl; known = f }
 
-pub reads-scrap : (s : Scrap) (known : Known) → scrap_agrees s → InnersRead s.tree
-    → MadeReads (record { scraps = s ∷ []; items = []; known = known })
-reads-scrap s known a i = record { scraps = one-read s a i; items = none-all ItemReads }
+pub reads-scrap : (s : Scrap) (known : Known) → scrap_agrees s → InnersRead s.tree → is_fine s ≡ true
+    → IsFineKnown known → IsSoundMade (record { scraps = s ∷ []; items = []; known = known })
+reads-scrap s known a i fine f =
+    record { scraps = one-read s a i; items = none-all ItemReads; fine = and-both (is_fine s) true fine refl; known = f }
 
-pub reads-beside : (a b : Made) → MadeReads a → MadeReads b → MadeReads (beside a b)
+pub reads-beside : (a b : Made) → IsSoundMade a → IsSoundMade b → IsSoundMade (beside a b)
 reads-beside a b f g = record {
   scraps = record {
     modes = All-append scrap_agrees a.scraps b.scraps f.scraps.modes g.scraps.modes;
     inners = All-append inners_of a.scraps b.scraps f.scraps.inners g.scraps.inners;
   };
   items = All-append ItemReads a.items b.items f.items g.items;
+  fine = all-append is_fine a.scraps b.scraps f.fine g.fine;
+  known = g.known;
 }
 
-pub reads-end : (flags : Flags) (m : Made) → MadeReads m → ReadsInText (end_of flags m).tree
+pub reads-end : (flags : Flags) (m : Made) → IsSoundMade m → ReadsInText (end_of flags m).tree
 reads-end flags m f =
     let done = normal-read productions flags (state_in m.scraps m.known) f.scraps in
     record {
       whole = whole-reads (normal productions flags (state_in m.scraps m.known)).scraps done.modes;
       inner = whole-inners (normal productions flags (state_in m.scraps m.known)).scraps done.inners;
     }
+
+pub fine-end : (flags : Flags) (m : Made) → IsSoundMade m → IsFineKnown (end_of flags m).known
+fine-end flags m f = all-append fine_state m.known.ended (state_in m.scraps m.known ∷ []) f.known
+    (and-both (fine_state (state_in m.scraps m.known)) true f.fine refl)
 
 -- a token
 abbrev FormReads : Option LeafForm → Type 0
@@ -141,25 +162,31 @@ token-inners (kind.Code c) text hash_line n names = code-inners c n
 token-inners _ text hash_line n names = tt
 
 reads-form : (count : ℕ) (o : Option LeafForm) (known : Known) → IfSome o (IsGood count) → FormReads o
-    → MadeReads (form_made o known)
-reads-form count None known good inners = reads-nothing known
-reads-form count (Some form) known good inners = reads-scrap (leaf_scrap form) known (good.agrees []) inners
+    → fine_form o ≡ true → IsFineKnown known → IsSoundMade (form_made o known)
+reads-form count None known good inners fine f = reads-nothing known f
+reads-form count (Some form) known good inners fine f =
+    reads-scrap (leaf_scrap form) known (good.agrees []) inners fine f
 
 abbrev NamesRead : (ℕ → Known → Made) → Type 0
-NamesRead name = (number : ℕ) (known : Known) → MadeReads (name number known)
+NamesRead name = (number : ℕ) (known : Known) → IsFineKnown known → IsSoundMade (name number known)
 
 reads-token : (name : ℕ → Known → Made) → NamesRead name → (k : TokKind) (token : Seen) (known : Known)
-    → MadeReads (token_made name k token known)
-reads-token name names kind.Text token known =
-    record { scraps = none-read; items = All-cons ItemReads (Piece token.span.start) [] tt (none-all ItemReads) }
-reads-token name names (kind.Code code.SectionName) token known = names token.span.start known
-reads-token name names (kind.Code code.FileName) token known = names token.span.start known
-reads-token name names k token known =
+    → IsFineKnown known → IsSoundMade (token_made name k token known)
+reads-token name names kind.Text token known f = record {
+  scraps = none-read;
+  items = All-cons ItemReads (Piece token.span.start) [] tt (none-all ItemReads);
+  fine = refl;
+  known = f;
+}
+reads-token name names (kind.Code code.SectionName) token known f = names token.span.start known f
+reads-token name names (kind.Code code.FileName) token known f = names token.span.start known f
+reads-token name names k token known f =
     reads-form (place_of ident_kind token.text known.names + 1)
     (token_form k token.text token.hash_line token.span.start known.names)
     (with_names (names_with k token.text known.names) known)
     (token-good (place_of ident_kind token.text known.names + 1) k token.text token.hash_line token.span.start
     known.names (λ e. omega arith)) (token-inners k token.text token.hash_line token.span.start known.names)
+    (token-fine k token.text token.hash_line token.span.start known.names) f
 
 -- a comment and an inner text
 rest-inners : (items : List CommentItem) → All ItemReads items → InnersRead (comment_rest items)
@@ -169,38 +196,34 @@ rest-inners (InnerText tree ∷ items) all =
     let f : ReadsInText tree = All-head ItemReads (InnerText tree) items all in
     (f.whole, f.inner, rest-inners items (All-tail ItemReads (InnerText tree) items all))
 
-reads-comment : (number : ℕ) (m : Made) → MadeReads m
-    → MadeReads (record { scraps = comment_scrap number m.items ∷ []; items = []; known = m.known })
-reads-comment number m f = reads-scrap (comment_scrap number m.items) m.known (comment-agrees number m.items)
-    (rest-inners m.items f.items)
-
-reads-group : (flags : Flags) (k : TokKind) (token : Seen) (m : Made) → MadeReads m
-    → MadeReads (group_made flags k token m)
+reads-group : (flags : Flags) (k : TokKind) (token : Seen) (m : Made) → IsSoundMade m
+    → IsSoundMade (group_made flags k token m)
 reads-group flags kind.InnerText token m f = record {
   scraps = none-read;
-  items = All-cons ItemReads
-      (InnerText (end_of flags m).tree) [] (reads-end flags m f) (none-all ItemReads);
+  items = All-cons ItemReads (InnerText (end_of flags m).tree) [] (reads-end flags m f) (none-all ItemReads);
+  fine = refl;
+  known = fine-end flags m f;
 }
-reads-group flags k token m f = reads-comment token.span.start m f
+reads-group flags k token m f = reads-scrap (comment_scrap token.span.start m.items) m.known
+    (comment-agrees token.span.start m.items) (rest-inners m.items f.items) refl f.known
 
 pub reads-made : (flags : Flags) (name : ℕ → Known → Made) → NamesRead name → (n : Nest) (known : Known)
-    → MadeReads (made flags name n known)
-reads-made flags name names End known = reads-nothing known
-reads-made flags name names (Leaf token rest) known =
+    → IsFineKnown known → IsSoundMade (made flags name n known)
+reads-made flags name names End known f = reads-nothing known f
+reads-made flags name names (Leaf token rest) known f =
     let first = token_made name token.kind token known in
-    reads-beside first (made flags name rest first.known) (reads-token name names token.kind token known)
-    (reads-made flags name names rest first.known)
-reads-made flags name names (Group token inner rest) known =
+    let g = reads-token name names token.kind token known f in
+    reads-beside first (made flags name rest first.known) g (reads-made flags name names rest first.known g.known)
+reads-made flags name names (Group token inner rest) known f =
     let first = group_made flags token.kind token (made flags name inner known) in
-    reads-beside first (made flags name rest first.known)
-    (reads-group flags token.kind token (made flags name inner known) (reads-made flags name names inner known))
-    (reads-made flags name names rest first.known)
+    let g = reads-group flags token.kind token (made flags name inner known)
+    (reads-made flags name names inner known f) in
+    reads-beside first (made flags name rest first.known) g (reads-made flags name names rest first.known g.known)
 
 -- section names
-reads-plain : (flags : Flags) (answers : List Answer) (known : Known)
-    → ReadsInText (plain_text flags answers known).tree
-reads-plain flags answers known = reads-end flags (made flags no_name (nest answers) known)
-    (reads-made flags no_name (λ number k. reads-nothing k) (nest answers) known)
+reads-plain : (flags : Flags) (answers : List Answer) (known : Known) → IsFineKnown known
+    → IsSoundMade (made flags no_name (nest answers) known)
+reads-plain flags answers known f = reads-made flags no_name (λ number k g. reads-nothing k g) (nest answers) known f
 
 texts-read : (flags : Flags) (texts : List (List Answer)) (behind : Tree) (known : Known) (mode : MathMode)
     → reads (texts_made flags texts behind known).tree mode ≡ reads behind mode
@@ -208,30 +231,35 @@ texts-read flags [] behind known mode = refl
 texts-read flags (text ∷ texts) behind known mode = texts-read flags texts behind (plain_text flags text known).known
     mode
 
-texts-inners : (flags : Flags) (texts : List (List Answer)) (behind : Tree) (known : Known) → InnersRead behind
-    → InnersRead (texts_made flags texts behind known).tree
-texts-inners flags [] behind known h = h
-texts-inners flags (text ∷ texts) behind known h =
-    let f = reads-plain flags text known in
-    (f.whole, f.inner, texts-inners flags texts behind (plain_text flags text known).known h)
-
-pub reads-name : (flags : Flags) (o : Option (List (List Answer))) (number : ℕ) (known : Known)
-    → MadeReads (texts_named flags o SectionScrap Maybe Empty number known)
-reads-name flags None number known = reads-nothing known
-reads-name flags (Some texts) number known =
-    let behind : Tree = Then (Sign control.NameEnd) Empty in
-    let text = texts_made flags texts behind known in
-    reads-scrap _ text.known (λ mode. texts-read flags texts behind known mode)
-    (texts-inners flags texts behind known tt)
-
-pub reads-leaf : (flags : Flags) (named : ℕ → Option (List (List Answer))) → NamesRead (leaf_of_name flags named)
-reads-leaf flags named number known = reads-name flags (named number) number known
+texts-sound : (flags : Flags) (texts : List (List Answer)) (behind : Tree) (known : Known) → InnersRead behind
+    → IsFineKnown known → InnersRead (texts_made flags texts behind known).tree
+    × IsFineKnown (texts_made flags texts behind known).known
+texts-sound flags [] behind known h f = (h, f)
+texts-sound flags (text ∷ texts) behind known h f =
+    let m = reads-plain flags text known f in
+    let t = reads-end flags (made flags no_name (nest text) known) m in
+    let more = texts-sound flags texts behind (plain_text flags text known).known h
+    (fine-end flags (made flags no_name (nest text) known) m) in
+    ((t.whole, t.inner, more.0), more.1)
 
 -- the name of a C part, with what stands behind it
 pub reads-headed-name : (flags : Flags) (o : Option (List (List Answer))) (behind : Tree) (number : ℕ) (known : Known)
-    → reads behind Text ≡ Some Text → InnersRead behind → MadeReads (texts_named flags o Dead Text behind number known)
-reads-headed-name flags None behind number known r i = reads-nothing known
-reads-headed-name flags (Some texts) behind number known r i =
+    → reads behind Text ≡ Some Text → InnersRead behind → IsFineKnown known
+    → IsSoundMade (texts_named flags o Dead Text behind number known)
+reads-headed-name flags None behind number known r i f = reads-nothing known f
+reads-headed-name flags (Some texts) behind number known r i f =
     let whole : Tree = Then (Sign control.NameEnd) behind in
-    reads-scrap _ (texts_made flags texts whole known).known (texts-read flags texts whole known Text
-    ∙ r) (texts-inners flags texts whole known i)
+    let t = texts-sound flags texts whole known i f in
+    reads-scrap _ (texts_made flags texts whole known).known (texts-read flags texts whole known Text ∙ r) t.0 refl t.1
+
+reads-name : (flags : Flags) (o : Option (List (List Answer))) (number : ℕ) (known : Known) → IsFineKnown known
+    → IsSoundMade (texts_named flags o SectionScrap Maybe Empty number known)
+reads-name flags None number known f = reads-nothing known f
+reads-name flags (Some texts) number known f =
+    let behind : Tree = Then (Sign control.NameEnd) Empty in
+    let t = texts-sound flags texts behind known tt f in
+    reads-scrap _ (texts_made flags texts behind known).known (λ mode. texts-read flags texts behind known mode) t.0 refl
+    t.1
+
+pub reads-leaf : (flags : Flags) (named : ℕ → Option (List (List Answer))) → NamesRead (leaf_of_name flags named)
+reads-leaf flags named number known f = reads-name flags (named number) number known f

@@ -1,7 +1,7 @@
 -- Each token that is shown stands in the tree of a translation once and in order.
 use Rattle.std.proofs.Common.{◌≡◌, ℕ, Bool, true, false, not, is_some, Option, Some, None, List, [], ◌∷◌, ◌++◌, refl}
 use Rattle.std.proofs.Common.{sym, ◌∙◌, ap}
-use Rattle.std.proofs.lemmas.List.{append_assoc}
+use Rattle.std.proofs.lemmas.List.{append-nil, append_assoc}
 use Rattle.std.specs.List.{list_all}
 use Rattle.cw_base.specs.declared.category.Cat.{Cat}
 use Rattle.cw_base.specs.declared.category.Cat.TheVariants.{Exp, SectionScrap}
@@ -35,10 +35,6 @@ use Rattle.cw_lex.specs.Nest.{Nest, End, Leaf, Group, is_text_kind, IsGroupOf, I
 use Rattle.cw_reduce.specs.Visible.{shown_token, shown_in}
 use Rattle.cw_translator.specs.Translating.{Known, Made, beside, state_in, end_from, end_of, form_made, token_made}
 use Rattle.cw_translator.specs.Translating.{group_made, made, plain_text, texts_made, texts_named}
-
-pub append-none : (ns : List ℕ) → ns ++ [] ≡ ns
-append-none [] = refl
-append-none (n ∷ ns) = ap (λ ms. n ∷ ms) (append-none ns)
 
 -- what no production joins
 struck-dollar : (mode : MathMode) (tree : Tree) → struck (dollar_before mode tree) ≡ struck tree
@@ -160,7 +156,7 @@ shows-form : (o : Option LeafForm) (known : Known) → fine_form o ≡ true
 shows-form None known f = record { fine = refl; numbers_are = refl }
 shows-form (Some form) known f = record {
   fine = and-both (is_fine (leaf_scrap form)) true f refl;
-  numbers_are = append-none (struck (tree_in [] form.tokens));
+  numbers_are = append-nil (struck (tree_in [] form.tokens));
 }
 
 shows-as : (comment : Bool) (m : Made) (ns ms : List ℕ) → ns ≡ ms → Shows comment m ns → Shows comment m ms
@@ -188,7 +184,7 @@ shows-inner : (flags : Flags) (m : Made) (ns : List ℕ) → Shows false m ns
     }) m) ns
 shows-inner flags m ns s = record {
   fine = refl;
-  numbers_are = append-none (struck (end_of flags m).tree)
+  numbers_are = append-nil (struck (end_of flags m).tree)
       ∙ struck-end flags m.scraps m.known s.fine ∙ s.numbers_are;
 }
 
@@ -196,7 +192,7 @@ shows-comment : (flags : Flags) (token : Seen) (m : Made) (ns : List ℕ) → Sh
     → Shows false (group_made flags kind.LongComment token m) (token.span.start ∷ ns)
 shows-comment flags token m ns s = record {
   fine = refl;
-  numbers_are = append-none (struck (comment_tree token.span.start m.items))
+  numbers_are = append-nil (struck (comment_tree token.span.start m.items))
       ∙ ap (λ xs. token.span.start ∷ xs) (struck-rest m.items ∙ s.numbers_are);
 }
 

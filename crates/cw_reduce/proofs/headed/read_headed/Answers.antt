@@ -1,29 +1,28 @@
 -- What the head makes, and then the answers behind it, are the text with its head.
 use Rattle.std.proofs.Common.{◌++◌, refl}
 use Rattle.cw_reduce.specs.HeadReading.{answers_ahead}
-use Rattle.cw_translator.specs.NameParts.{name_texts}
 use Rattle.cw_reduce.specs.Naming.{with_texts}
-use Rattle.cw_translator.specs.Working.{progress_over}
+use Rattle.cw_translator.specs.Working.{progress_over, texts_in}
 use Rattle.cw_translator.proofs.Routes.{advances-as, advances-stopped, advances-then}
 use Rattle.cw_reduce.proofs.HeadSteps.{headed-among}
 use Rattle.cw_reduce.proofs.headed.read_headed.Goals as goal
 
 pub returns-in_err-head_name-clause-reads : goal.returns-in_err-head_name-clause-reads
 returns-in_err-head_name-clause-reads g c = advances-as refl
-    (headed-among c.args.context.now.flags.now (name_texts c.args.context.now.sec_names.now c.args.context.now.uses.now)
+    (headed-among c.args.context.now.flags.now (texts_in c.args.context.now)
     c.args.begun.now.head
     (answers_ahead c.args.begun.now ++ c.args.reader.now.coming)
     (progress_over c.args.work.now c.args.translator.now))
-    (advances-stopped (with_texts (name_texts c.args.context.now.sec_names.now c.args.context.now.uses.now)
+    (advances-stopped (with_texts (texts_in c.args.context.now)
     (answers_ahead c.args.begun.now ++ c.args.reader.now.coming))
     c.in_err-head_name.ensures c.from_residual.ensures.1)
 
 pub returns-clause-reads : goal.returns-clause-reads
 returns-clause-reads g c = advances-as refl
-    (headed-among c.args.context.now.flags.now (name_texts c.args.context.now.sec_names.now c.args.context.now.uses.now)
+    (headed-among c.args.context.now.flags.now (texts_in c.args.context.now)
     c.args.begun.now.head
     (answers_ahead c.args.begun.now ++ c.args.reader.now.coming)
     (progress_over c.args.work.now c.args.translator.now))
-    (advances-then (with_texts (name_texts c.args.context.now.sec_names.now c.args.context.now.uses.now)
+    (advances-then (with_texts (texts_in c.args.context.now)
     (answers_ahead c.args.begun.now ++ c.args.reader.now.coming))
     c.in_ok-head_name.ensures c.read_behind.ensures.reads)

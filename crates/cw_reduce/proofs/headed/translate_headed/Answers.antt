@@ -3,11 +3,10 @@ use Rattle.std.proofs.Common.{[], ◌++◌, refl, arith}
 use Rattle.cw_scraps.specs.Marking.{marked_names}
 use Rattle.cw_reduce.specs.HeadReading.{answers_ahead, head_line}
 use Rattle.cw_reduce.specs.Heading.{after_head, behind, head_begun}
-use Rattle.cw_translator.specs.NameParts.{name_texts}
 use Rattle.cw_reduce.specs.Naming.{with_texts}
 use Rattle.cw_translator.specs.Reading.{after_answers}
 use Rattle.cw_translator.specs.Translating.{begin}
-use Rattle.cw_translator.specs.Working.{progress_over}
+use Rattle.cw_translator.specs.Working.{progress_over, texts_in}
 use Rattle.cw_translator.proofs.AnswerRoutes.{unchanged}
 use Rattle.cw_translator.proofs.Routes.{ends-as, ends-refused, ends-stopped, ends-then, way-end}
 use Rattle.cw_reduce.proofs.HeadSteps.{head-translating, headed-as, whole-start}
@@ -20,7 +19,7 @@ read_headed-requires-clause-translating g c = head-translating c.args.work.now.s
 
 pub returns-in_err-translator-clause-text : goal.returns-in_err-translator-clause-text
 returns-in_err-translator-clause-text g c = ends-refused c.from_residual.ensures.1
-    (whole-start c.args.context.now.flags.now (name_texts c.args.context.now.sec_names.now c.args.context.now.uses.now)
+    (whole-start c.args.context.now.flags.now (texts_in c.args.context.now)
     c.args.begun.now.head
     (answers_ahead c.args.begun.now ++ c.args.reader.now.coming)
     (head_begun c.args.work.now.store.now.lists c.args.begun.now.head
@@ -29,7 +28,7 @@ returns-in_err-translator-clause-text g c = ends-refused c.from_residual.ensures
 
 pub returns-in_err-read_headed-clause-text : goal.returns-in_err-read_headed-clause-text
 returns-in_err-read_headed-clause-text g c = headed-as c.args.context.now.flags.now
-    (name_texts c.args.context.now.sec_names.now c.args.context.now.uses.now)
+    (texts_in c.args.context.now)
     (texts-nested c.args.context.now.sec_names.now c.args.context.now.uses.now) c.args.begun.now.head
     (answers_ahead c.args.begun.now ++ c.args.reader.now.coming) c.requires.nested c.in_ok-translator.ensures
     (ends-stopped [] c.in_err-read_headed.ensures.reads c.from_residual-in_err-read_headed.ensures.1
@@ -37,20 +36,20 @@ returns-in_err-read_headed-clause-text g c = headed-as c.args.context.now.flags.
 
 pub returns-clause-text : goal.returns-clause-text
 returns-clause-text g c = headed-as c.args.context.now.flags.now
-    (name_texts c.args.context.now.sec_names.now c.args.context.now.uses.now)
+    (texts_in c.args.context.now)
     (texts-nested c.args.context.now.sec_names.now c.args.context.now.uses.now) c.args.begun.now.head
     (answers_ahead c.args.begun.now ++ c.args.reader.now.coming) c.requires.nested c.in_ok-translator.ensures
     (ends-as refl
     (λ names h. behind (way-end c.args.context.now.flags.now
-    (with_texts (name_texts c.args.context.now.sec_names.now c.args.context.now.uses.now)
+    (with_texts (texts_in c.args.context.now)
     (answers_ahead c.args.begun.now ++ c.args.reader.now.coming))
-    (after_head c.args.context.now.flags.now (name_texts c.args.context.now.sec_names.now c.args.context.now.uses.now)
+    (after_head c.args.context.now.flags.now (texts_in c.args.context.now)
     c.args.begun.now.head
     (progress_over c.args.work.now c.in_ok-translator.translator))
     (after_answers c.args.context.now.flags.now
-    (with_texts (name_texts c.args.context.now.sec_names.now c.args.context.now.uses.now)
+    (with_texts (texts_in c.args.context.now)
     (answers_ahead c.args.begun.now ++ c.args.reader.now.coming))
-    (after_head c.args.context.now.flags.now (name_texts c.args.context.now.sec_names.now c.args.context.now.uses.now)
+    (after_head c.args.context.now.flags.now (texts_in c.args.context.now)
     c.args.begun.now.head
     (progress_over c.args.work.now c.in_ok-translator.translator))) names refl h))
     (ends-then [] c.in_ok-read_headed.ensures.reads c.end.ensures))

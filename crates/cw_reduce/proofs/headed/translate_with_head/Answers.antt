@@ -5,9 +5,9 @@ use Rattle.cw_answers.proofs.Staying.{read-up-behind}
 use Rattle.cw_scraps.specs.Marking.{marked_names}
 use Rattle.cw_reduce.specs.HeadReading.{answers_ahead}
 use Rattle.cw_reduce.specs.Heading.{behind_head, in_head}
-use Rattle.cw_translator.specs.NameParts.{name_texts}
 use Rattle.cw_translator.specs.Opening.{answers_in}
 use Rattle.cw_translator.specs.Translating.{begin}
+use Rattle.cw_translator.specs.Working.{texts_in}
 use Rattle.cw_translator.proofs.Routes.{ends-as, ends-behind, ends-refused}
 use Rattle.cw_reduce.proofs.HeadSteps.{headed-translated}
 use Rattle.cw_reduce.proofs.NamedJoined.{texts-nested}
@@ -30,7 +30,7 @@ pub returns-clause-text : goal.returns-clause-text
 returns-clause-text g c = ends-behind c.in_ok-begun.ensures.head.keeps refl refl refl
     (record { names = refl; store = refl; marks = refl; steps = refl })
     (ends-as (headed-translated c.args.context.now.flags.now
-    (name_texts c.args.context.now.sec_names.now c.args.context.now.uses.now)
+    (texts_in c.args.context.now)
     (texts-nested c.args.context.now.sec_names.now c.args.context.now.uses.now) c.read_head.new.store.lists
     c.in_ok-begun.begun.head (answers_ahead c.in_ok-begun.begun ++ c.read_head.new.reader.coming)
     (answers_in c.args.first ++ c.args.reader.now.coming) c.args.work.now.names.now c.read_head.new.names
@@ -38,7 +38,7 @@ returns-clause-text g c = ends-behind c.in_ok-begun.ensures.head.keeps refl refl
     (λ names h. behind_head c.read_head.new.store.lists c.in_ok-begun.begun.head
     (answers_ahead c.in_ok-begun.begun ++ c.read_head.new.reader.coming) c.read_head.new.names
     c.in_ok-begun.ensures.head.rest (c.in_ok-begun.ensures.head.made c.args.context.now.flags.now
-    (name_texts c.args.context.now.sec_names.now c.args.context.now.uses.now)
+    (texts_in c.args.context.now)
     (begin c.args.work.now.names.now (marked_names c.args.work.now.marks.now))) h) c.translate_headed.ensures.text)
 
 pub returns-clause-read : goal.returns-clause-read

@@ -1,8 +1,7 @@
 -- The words that are read are those of the definition's head, and the answers behind them are what it leaves.
 use Rattle.std.proofs.Common.{◌≡◌, ◌++◌, refl, sym, ap, ◌∙◌, subst}
 use Rattle.cw_rules.specs.Answers.{seen}
-use Rattle.cw_lex.specs.Heads.{headed_by, wanted_by, without_words}
-use Rattle.cw_lex.specs.Nest.{nest}
+use Rattle.cw_lex.specs.Heads.{wanted_by, without_words}
 use Rattle.cw_lex.proofs.HeadNests.{nested-behind}
 use Rattle.cw_scraps.proofs.Changings.{tied-idle}
 use Rattle.cw_reduce.specs.HeadReading.{NamesWithin, answer_words}

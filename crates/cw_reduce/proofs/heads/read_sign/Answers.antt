@@ -1,5 +1,5 @@
 -- A section name with its sign heads a C part; without one it heads nothing, and what was read is handed on.
-use Rattle.std.proofs.Common.{◌^◌, ◌<◌, arith, rules, ap, subst, sym, ◌∙◌}
+use Rattle.std.proofs.Common.{◌^◌, ◌<◌, arith, rules, ap, refl, subst, sym, ◌∙◌}
 use Rattle.cw_answers.proofs.Staying.{stays-trans}
 use Rattle.cw_rules.specs.Answers.{seen}
 use Rattle.cw_lex.proofs.HeadNests.{nested-behind}
@@ -26,48 +26,24 @@ returns-in_default c =
       all = c.next_answer-next.ensures.all;
     }
 
-pub returns-then-not-is_head_sign-clause-head : goal.returns-then-not-is_head_sign-clause-head
-returns-then-not-is_head_sign-clause-head c =
-    (unsigned-signs c.args.name c.args.reader.now.coming c.next_answer-next.new.reader.coming
+pub returns-then-not-is_head_sign : goal.returns-then-not-is_head_sign
+returns-then-not-is_head_sign c =
+    let s = unsigned-signs c.args.name c.args.reader.now.coming c.next_answer-next.new.reader.coming
     c.next_answer-next.result c.unsigned-then-not-is_head_sign.result c.unsigned-then-not-is_head_sign.ensures.head
     c.unsigned-then-not-is_head_sign.ensures.name c.unsigned-then-not-is_head_sign.ensures.next
     c.next_answer-next.ensures.gives c.requires.nested c.requires.start
     (unsigned-token c.args.reader.now.coming c.next_answer-next.new.reader.coming c.in-Token.sign
     c.in-Token.ensures.gives
     (nested-behind (seen c.args.name) c.args.reader.now.coming c.requires.nested) (seen c.args.name)
-    (sym c.is_head_sign.ensures ∙ c.if-not-is_head_sign.true))).head
-
-pub returns-then-not-is_head_sign-clause-rest : goal.returns-then-not-is_head_sign-clause-rest
-returns-then-not-is_head_sign-clause-rest c =
-    (unsigned-signs c.args.name c.args.reader.now.coming c.next_answer-next.new.reader.coming
-    c.next_answer-next.result c.unsigned-then-not-is_head_sign.result c.unsigned-then-not-is_head_sign.ensures.head
-    c.unsigned-then-not-is_head_sign.ensures.name c.unsigned-then-not-is_head_sign.ensures.next
-    c.next_answer-next.ensures.gives c.requires.nested c.requires.start
-    (unsigned-token c.args.reader.now.coming c.next_answer-next.new.reader.coming c.in-Token.sign
-    c.in-Token.ensures.gives
-    (nested-behind (seen c.args.name) c.args.reader.now.coming c.requires.nested) (seen c.args.name)
-    (sym c.is_head_sign.ensures ∙ c.if-not-is_head_sign.true))).rest_is
-
-pub returns-then-not-is_head_sign-clause-nested : goal.returns-then-not-is_head_sign-clause-nested
-returns-then-not-is_head_sign-clause-nested c = (unsigned-signs c.args.name c.args.reader.now.coming
-    c.next_answer-next.new.reader.coming c.next_answer-next.result c.unsigned-then-not-is_head_sign.result
-    c.unsigned-then-not-is_head_sign.ensures.head c.unsigned-then-not-is_head_sign.ensures.name
-    c.unsigned-then-not-is_head_sign.ensures.next c.next_answer-next.ensures.gives c.requires.nested c.requires.start
-    (unsigned-token c.args.reader.now.coming c.next_answer-next.new.reader.coming c.in-Token.sign
-    c.in-Token.ensures.gives
-    (nested-behind (seen c.args.name) c.args.reader.now.coming c.requires.nested) (seen c.args.name)
-    (sym c.is_head_sign.ensures ∙ c.if-not-is_head_sign.true))).nested
-
-pub returns-then-not-is_head_sign-clause-start : goal.returns-then-not-is_head_sign-clause-start
-returns-then-not-is_head_sign-clause-start c =
-    (unsigned-signs c.args.name c.args.reader.now.coming c.next_answer-next.new.reader.coming
-    c.next_answer-next.result c.unsigned-then-not-is_head_sign.result c.unsigned-then-not-is_head_sign.ensures.head
-    c.unsigned-then-not-is_head_sign.ensures.name c.unsigned-then-not-is_head_sign.ensures.next
-    c.next_answer-next.ensures.gives c.requires.nested c.requires.start
-    (unsigned-token c.args.reader.now.coming c.next_answer-next.new.reader.coming c.in-Token.sign
-    c.in-Token.ensures.gives
-    (nested-behind (seen c.args.name) c.args.reader.now.coming c.requires.nested) (seen c.args.name)
-    (sym c.is_head_sign.ensures ∙ c.if-not-is_head_sign.true))).starts
+    (sym c.is_head_sign.ensures ∙ c.if-not-is_head_sign.true)) in
+    record {
+      head = s.head;
+      line = s.line;
+      rest = s.rest_is;
+      nested = s.nested;
+      start = s.starts;
+      all = c.next_answer-next.ensures.all;
+    }
 
 pub overflow_cast-result-2 : goal.overflow_cast-result-2
 overflow_cast-result-2 c =
@@ -76,44 +52,21 @@ overflow_cast-result-2 c =
     (starts-notes (2 ^ 32) c.args.reader.now.coming c.requires.start.1)).0 in
     first_of (search rules, omega (arith, h))
 
-pub returns-clause-head : goal.returns-clause-head
-returns-clause-head c = ap (λ x. x.head) (signed c.args.reader.now.coming c.next_answer-next.new.reader.coming
-    c.in-Token.sign
-    c.in-Token.ensures.gives (nested-behind (seen c.args.name) c.args.reader.now.coming c.requires.nested)
-    (seen c.args.name)
-    (sym c.is_head_sign.ensures ∙ c.if-not-is_head_sign.false))
-
-pub returns-clause-rest : goal.returns-clause-rest
-returns-clause-rest c =
+pub returns : goal.returns
+returns c =
+    let behind = nested-behind (seen c.args.name) c.args.reader.now.coming c.requires.nested in
     let sign = signed c.args.reader.now.coming c.next_answer-next.new.reader.coming c.in-Token.sign
-    c.in-Token.ensures.gives
-    (nested-behind (seen c.args.name) c.args.reader.now.coming c.requires.nested) (seen c.args.name)
-    (sym c.is_head_sign.ensures ∙ c.if-not-is_head_sign.false) in
-    let inner = nested-behind (seen c.in-Token.sign) c.next_answer-next.new.reader.coming
-    (token-nested c.args.reader.now.coming c.next_answer-next.new.reader.coming c.in-Token.sign c.in-Token.ensures.gives
-    (nested-behind (seen c.args.name) c.args.reader.now.coming c.requires.nested)) in
-    (ahead-of c.next_answer-next.new.reader.coming c.next_answer.new.reader.coming c.next_answer.result
-    c.next_answer.ensures.gives inner
-    (subst (StartsBelow (2 ^ 32)) c.in-Token.ensures.gives
-    (starts-notes (2 ^ 32) c.args.reader.now.coming c.requires.start.1)).1).same ∙ ap (λ x. x.rest) (sym sign)
-
-pub returns-clause-nested : goal.returns-clause-nested
-returns-clause-nested c = (ahead-of c.next_answer-next.new.reader.coming c.next_answer.new.reader.coming
-    c.next_answer.result
+    c.in-Token.ensures.gives behind (seen c.args.name) (sym c.is_head_sign.ensures ∙ c.if-not-is_head_sign.false) in
+    let ahead = ahead-of c.next_answer-next.new.reader.coming c.next_answer.new.reader.coming c.next_answer.result
     c.next_answer.ensures.gives (nested-behind (seen c.in-Token.sign) c.next_answer-next.new.reader.coming
     (token-nested c.args.reader.now.coming c.next_answer-next.new.reader.coming c.in-Token.sign c.in-Token.ensures.gives
-    (nested-behind (seen c.args.name) c.args.reader.now.coming c.requires.nested)))
-    (subst (StartsBelow (2 ^ 32)) c.in-Token.ensures.gives
-    (starts-notes (2 ^ 32) c.args.reader.now.coming c.requires.start.1)).1).nested
-
-pub returns-clause-start : goal.returns-clause-start
-returns-clause-start c = (ahead-of c.next_answer-next.new.reader.coming c.next_answer.new.reader.coming
-    c.next_answer.result
-    c.next_answer.ensures.gives (nested-behind (seen c.in-Token.sign) c.next_answer-next.new.reader.coming
-    (token-nested c.args.reader.now.coming c.next_answer-next.new.reader.coming c.in-Token.sign c.in-Token.ensures.gives
-    (nested-behind (seen c.args.name) c.args.reader.now.coming c.requires.nested)))
-    (subst (StartsBelow (2 ^ 32)) c.in-Token.ensures.gives
-    (starts-notes (2 ^ 32) c.args.reader.now.coming c.requires.start.1)).1).starts
-
-pub returns-clause-all : goal.returns-clause-all
-returns-clause-all c = stays-trans _ _ _ c.next_answer-next.ensures.all c.next_answer.ensures.all
+    behind)) (subst (StartsBelow (2 ^ 32)) c.in-Token.ensures.gives
+    (starts-notes (2 ^ 32) c.args.reader.now.coming c.requires.start.1)).1 in
+    record {
+      head = ap (λ x. x.head) sign;
+      line = refl;
+      rest = ahead.same ∙ ap (λ x. x.rest) (sym sign);
+      nested = ahead.nested;
+      start = ahead.starts;
+      all = stays-trans _ _ _ c.next_answer-next.ensures.all c.next_answer.ensures.all;
+    }

@@ -1,11 +1,10 @@
 -- An answer that is no section name stands for itself.
-use Rattle.std.proofs.Common.{[], ◌∷◌, sym, ap, ◌∙◌}
+use Rattle.std.proofs.Common.{sym, ap, ◌∙◌}
 use Rattle.std.proofs.lemmas.List.{append-nil}
 use Rattle.cw_rules.specs.Answers.{seen}
-use Rattle.cw_translator.specs.NameParts.{name_texts}
 use Rattle.cw_translator.specs.Opening.{answers_in}
 use Rattle.cw_reduce.specs.Naming.{token_answers, with_texts}
-use Rattle.cw_translator.specs.Working.{progress_over}
+use Rattle.cw_translator.specs.Working.{progress_over, texts_in}
 use Rattle.cw_translator.proofs.Routes.{answers-as}
 use Rattle.cw_reduce.proofs.NameSteps.{no-name-answer}
 use Rattle.cw_reduce.proofs.naming.named_answer.Goals as goal
@@ -13,12 +12,12 @@ use Rattle.cw_reduce.proofs.naming.named_answer.Goals as goal
 pub returns-then-not-is_name : goal.returns-then-not-is_name
 returns-then-not-is_name g c = answers-as c.args.context.now.flags.now
     (progress_over c.args.work.now c.args.translator.now)
-    (no-name-answer (name_texts c.args.context.now.sec_names.now c.args.context.now.uses.now) c.args.answer.now
+    (no-name-answer (texts_in c.args.context.now) c.args.answer.now
     (sym c.is_name.ensures ∙ c.if-not-is_name.true)) c.answer.ensures
 
 pub returns-in-Token : goal.returns-in-Token
 returns-in-Token g c = answers-as c.args.context.now.flags.now (progress_over c.args.work.now c.args.translator.now)
-    (sym (append-nil (token_answers (name_texts c.args.context.now.sec_names.now c.args.context.now.uses.now)
+    (sym (append-nil (token_answers (texts_in c.args.context.now)
     c.in-Token.token.kind (seen c.in-Token.token)))
-    ∙ ap (λ a. with_texts (name_texts c.args.context.now.sec_names.now c.args.context.now.uses.now) (answers_in a))
+    ∙ ap (λ a. with_texts (texts_in c.args.context.now) (answers_in a))
     (sym c.in-Token.is)) c.section_name.ensures

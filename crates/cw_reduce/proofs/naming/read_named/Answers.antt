@@ -1,10 +1,10 @@
 -- One answer more, a section name with its text, is one step of the reading, also where memory is wanting.
-use Rattle.std.proofs.Common.{ap, inl, refl, sym}
+use Rattle.std.proofs.Common.{inl, refl}
 use Rattle.cw_answers.proofs.Staying.{stays-trans}
-use Rattle.cw_translator.specs.NameParts.{name_texts}
 use Rattle.cw_reduce.specs.Naming.{with_texts}
 use Rattle.cw_translator.specs.Opening.{answers_in}
-use Rattle.cw_translator.proofs.Routes.{advancing-begun, advancing-ended, advancing-next, advancing-stopped}
+use Rattle.cw_translator.specs.Working.{texts_in}
+use Rattle.cw_translator.proofs.Routes.{advancing-begun, advancing-next, advancing-stopped}
 use Rattle.cw_reduce.proofs.ReadSteps.{starts-next}
 use Rattle.cw_reduce.proofs.NameSteps.{with-texts-next}
 use Rattle.cw_reduce.proofs.naming.read_named.Goals as goal
@@ -12,7 +12,7 @@ use Rattle.cw_reduce.proofs.naming.read_named.Goals as goal
 pub loop-translator-init : goal.loop-translator-init
 loop-translator-init g c = (
   advancing-begun c.args.context.now.flags.now
-      (with_texts (name_texts c.args.context.now.sec_names.now c.args.context.now.uses.now) c.args.reader.now.coming)
+      (with_texts (texts_in c.args.context.now) c.args.reader.now.coming)
       c.requires.translating,
   c.requires.start,
   inl refl,
@@ -28,11 +28,11 @@ named_answer-requires g c = record {
 
 pub loop-translator-preserved : goal.loop-translator-preserved
 loop-translator-preserved g c = (
-  advancing-next (with_texts (name_texts c.args.context.now.sec_names.now c.args.context.now.uses.now)
+  advancing-next (with_texts (texts_in c.args.context.now)
       (answers_in c.next-answer.result)) (with_texts
-      (name_texts c.args.context.now.sec_names.now c.args.context.now.uses.now) c.next-answer.new.self.coming)
+      (texts_in c.args.context.now) c.next-answer.new.self.coming)
       c.loop-translator.invariant.0
-      (with-texts-next (name_texts c.args.context.now.sec_names.now c.args.context.now.uses.now)
+      (with-texts-next (texts_in c.args.context.now)
       c.loop-translator.reader.coming c.next-answer.new.self.coming c.next-answer.result c.next-answer.ensures.gives)
       c.in_ok-named_answer.ensures,
   (starts-next 4294967296 c.loop-translator.reader.coming c.next-answer.new.self.coming c.next-answer.result
@@ -42,10 +42,10 @@ loop-translator-preserved g c = (
 
 pub returns-in_err-named_answer-clause-reads : goal.returns-in_err-named_answer-clause-reads
 returns-in_err-named_answer-clause-reads g c = advancing-stopped
-    (with_texts (name_texts c.args.context.now.sec_names.now c.args.context.now.uses.now)
+    (with_texts (texts_in c.args.context.now)
     (answers_in c.next-answer.result)) (with_texts
-    (name_texts c.args.context.now.sec_names.now c.args.context.now.uses.now) c.next-answer.new.self.coming)
+    (texts_in c.args.context.now) c.next-answer.new.self.coming)
     c.loop-translator.invariant.0
-    (with-texts-next (name_texts c.args.context.now.sec_names.now c.args.context.now.uses.now)
+    (with-texts-next (texts_in c.args.context.now)
     c.loop-translator.reader.coming c.next-answer.new.self.coming c.next-answer.result c.next-answer.ensures.gives)
     c.in_err-named_answer.ensures c.from_residual.ensures.1

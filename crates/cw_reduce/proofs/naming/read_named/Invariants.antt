@@ -1,17 +1,16 @@
 -- What was read so far, with the answers that are left and the texts of their names, comes to what all give.
 use Rattle.std.specs.Prelude.{length, ◌^◌}
 use Rattle.cw_answers.specs.Reading.{Stays}
-use Rattle.cw_translator.specs.NameParts.{name_texts}
 use Rattle.cw_reduce.specs.Naming.{with_texts}
 use Rattle.cw_translator.specs.Opening.{StartsBelow}
-use Rattle.cw_translator.specs.Working.{progress_over}
+use Rattle.cw_translator.specs.Working.{progress_over, texts_in}
 use Rattle.cw_translator.proofs.Routes.{Advancing}
 use Rattle.cw_reduce.proofs.naming.read_named.Given as goal
 
 abbrev pub invariant-loop-translator : goal.invariant-loop-translator
 invariant-loop-translator g l = Advancing l.context.flags.now
-    (with_texts (name_texts l.context.sec_names.now l.context.uses.now) l.initial.reader.coming)
-    (with_texts (name_texts l.context.sec_names.now l.context.uses.now) l.reader.coming)
+    (with_texts (texts_in l.context) l.initial.reader.coming)
+    (with_texts (texts_in l.context) l.reader.coming)
     (progress_over l.initial.work l.initial.translator) l.initial.translator l.initial.work l.translator l.work
     × StartsBelow (2 ^ 32) l.reader.coming × Stays l.initial.reader.all l.reader.all
 
