@@ -1,0 +1,193 @@
+-- Other names leave the log as it is, where no two become one.
+use Rattle.std.proofs.Common.{◌≡◌, ℕ, zero, suc, ◌+◌, Bool, true, false, ◌&&◌, Option, Some, None, List, [], ◌∷◌}
+use Rattle.std.proofs.Common.{◌++◌, refl, sym, ◌∙◌, ap, map, take, drop, set, get_or}
+use Rattle.std.proofs.lemmas.List.{map-append, map-set}
+use Rattle.std.specs.List.{take-map, drop-map}
+use Rattle.std.proofs.Math.ListN.{get_or-map}
+use Rattle.cw_base.specs.declared.category.Cat.{Cat}
+use Rattle.cw_base.specs.declared.category.Cat.TheVariants.{Exp, RawInt}
+use Rattle.cw_base.specs.declared.flags.Flags.{Flags}
+use Rattle.cw_table.specs.declared.types.Piece.{Piece}
+use Rattle.cw_table.specs.declared.types.Piece.TheVariants as piece
+use Rattle.cw_table.specs.declared.types.Row.{Row}
+use Rattle.cw_table.specs.Rows.{result_at}
+use Rattle.cw_table.specs.Sound.{is_exp}
+use Rattle.cw_table.specs.Rewriting.{row_pieces, alone}
+use Rattle.cw_table.specs.Normal.{Place, Nowhere, At, least_place, Production}
+use Rattle.cw_leaves.specs.Sights.{Heard, behind, followed, Sight, no_sight, seen_cats, heard_in}
+use Rattle.cw_leaves.specs.Sights.{heard_all, seen_as, seen_from, seen_new, seen_reserved, seen_reserved_at, is_same}
+use Rattle.cw_leaves.specs.Sights.{turned_if, seen_named, seen_named_by, names_at, seen_rewritten_from, seen_rewritten}
+use Rattle.cw_leaves.specs.Sights.{seen_rank, seen_weight, seen_log_of, seen_log, renamed_heard, renamed_bare, renamed}
+use Rattle.cw_leaves.specs.Sights.{without_first}
+
+behind-renamed : {M N : Type 0} (f : M → N) (names : List M) (stops : Bool) (rest : Heard M)
+    → renamed_heard f (behind names stops rest) ≡ behind (map f names) stops (renamed_heard f rest)
+behind-renamed f names true rest = refl
+behind-renamed f names false rest = ap (λ xs. record { names = xs; stops = rest.stops }) (map-append f names rest.names)
+
+get-renamed : {M N : Type 0} (f : M → N) (ss : List (Sight M)) (k : ℕ)
+    → get_or (map (renamed f) ss) k no_sight ≡ renamed f (get_or ss k no_sight)
+get-renamed f ss k = get_or-map (renamed f) ss k no_sight
+
+in-renamed : {M N : Type 0} (f : M → N) (ss : List (Sight M)) (p : Piece)
+    → renamed_heard f (heard_in ss p) ≡ heard_in (map (renamed f) ss) p
+in-renamed f ss (piece.Scrap k) = ap (λ s. s.heard) (sym (get-renamed f ss k))
+in-renamed f ss (piece.MathScrap k) = ap (λ s. s.heard) (sym (get-renamed f ss k))
+in-renamed f ss _ = refl
+
+all-renamed : {M N : Type 0} (f : M → N) (ss : List (Sight M)) (ps : List Piece)
+    → renamed_heard f (heard_all ss ps) ≡ heard_all (map (renamed f) ss) ps
+all-renamed f ss [] = refl
+all-renamed f ss (p ∷ ps) =
+    behind-renamed f (heard_in ss p).names (heard_in ss p).stops (heard_all ss ps)
+    ∙ (ap (λ h. followed h (renamed_heard f (heard_all ss ps))) (in-renamed f ss p)
+    ∙ ap (followed (heard_in (map (renamed f) ss) p)) (all-renamed f ss ps))
+
+cats-renamed : {M N : Type 0} (f : M → N) (ss : List (Sight M)) → seen_cats (map (renamed f) ss) ≡ seen_cats ss
+cats-renamed f [] = refl
+cats-renamed f (s ∷ ss) = ap (λ cs. s.cat ∷ cs) (cats-renamed f ss)
+
+from-renamed : {M N : Type 0} (f : M → N) (c : Cat) (o : Option ℕ) (ps : List Piece) (ss : List (Sight M))
+    → renamed f (seen_from c o ps ss) ≡ seen_from c o ps (map (renamed f) ss)
+from-renamed f c (Some k) ps ss = ap (seen_as c) (sym (get-renamed f ss k))
+from-renamed f c None ps ss = ap (λ h. record { cat = c; bare = None; heard = h }) (all-renamed f ss ps)
+
+new-renamed : {M N : Type 0} (f : M → N) (flags : Flags) (r : Row) (ss : List (Sight M))
+    → renamed f (seen_new flags r ss) ≡ seen_new flags r (map (renamed f) ss)
+new-renamed f flags r ss =
+    from-renamed f (result_at r.result (seen_cats ss)) (alone r.replaced (row_pieces flags r (seen_cats ss)))
+    (row_pieces flags r (seen_cats ss)) ss
+    ∙ ap (λ cs. seen_from (result_at r.result cs) (alone r.replaced (row_pieces flags r cs)) (row_pieces flags r cs)
+    (map (renamed f) ss)) (sym (cats-renamed f ss))
+
+without-renamed : {M N : Type 0} (f : M → N) (names : List M)
+    → map f (without_first names) ≡ without_first (map f names)
+without-renamed f [] = refl
+without-renamed f (n ∷ names) = refl
+
+reserved-renamed : {M N : Type 0} (f : M → N) (s : Sight M) → renamed f (seen_reserved s) ≡ seen_reserved (renamed f s)
+reserved-renamed f s =
+    ap (λ names. record { cat = s.cat; bare = None; heard = record { names = names; stops = s.heard.stops } })
+    (without-renamed f s.heard.names)
+
+reserved-at-renamed : {M N : Type 0} (f : M → N) (o : Option ℕ) (ss : List (Sight M))
+    → map (renamed f) (seen_reserved_at o ss) ≡ seen_reserved_at o (map (renamed f) ss)
+reserved-at-renamed f None ss = refl
+reserved-at-renamed f (Some k) ss =
+    map-set (renamed f) ss k (seen_reserved (get_or ss k no_sight))
+    ∙ ap (λ s. set (map (renamed f) ss) k s)
+    (reserved-renamed f (get_or ss k no_sight) ∙ ap seen_reserved (sym (get-renamed f ss k)))
+
+is-renamed : {M N : Type 0} (same : M → M → Bool) (other : N → N → Bool) (f : M → N)
+    → ((a b : M) → other (f a) (f b) ≡ same a b) → (n : M) (o : Option M)
+    → is_same same n o ≡ is_same other (f n) (renamed_bare f o)
+is-renamed same other f free n None = refl
+is-renamed same other f free n (Some b) = sym (free b n)
+
+turned-renamed : {M N : Type 0} (f : M → N) (b : Bool) (s : Sight M)
+    → renamed f (turned_if b s) ≡ turned_if b (renamed f s)
+turned-renamed f true s = ap (seen_as RawInt) (reserved-renamed f s)
+turned-renamed f false s = refl
+
+named-renamed : {M N : Type 0} (same : M → M → Bool) (other : N → N → Bool) (f : M → N)
+    → ((a b : M) → other (f a) (f b) ≡ same a b) → (n : M) (s : Sight M)
+    → renamed f (seen_named same n s) ≡ seen_named other (f n) (renamed f s)
+named-renamed same other f free n s = turned-renamed f (is_exp s.cat && is_same same n s.bare) s
+    ∙ ap (λ b. turned_if (is_exp s.cat && b) (renamed f s)) (is-renamed same other f free n s.bare)
+
+all-named-renamed : {M N : Type 0} (same : M → M → Bool) (other : N → N → Bool) (f : M → N)
+    → ((a b : M) → other (f a) (f b) ≡ same a b) → (n : M) (ss : List (Sight M))
+    → map (renamed f) (map (seen_named same n) ss) ≡ map (seen_named other (f n)) (map (renamed f) ss)
+all-named-renamed same other f free n [] = refl
+all-named-renamed same other f free n (s ∷ ss) =
+    ap (λ x. x ∷ map (renamed f) (map (seen_named same n) ss)) (named-renamed same other f free n s)
+    ∙ ap (λ xs. seen_named other (f n) (renamed f s) ∷ xs) (all-named-renamed same other f free n ss)
+
+named-by-renamed : {M N : Type 0} (same : M → M → Bool) (other : N → N → Bool) (f : M → N)
+    → ((a b : M) → other (f a) (f b) ≡ same a b) → (names : List M) (ss : List (Sight M))
+    → map (renamed f) (seen_named_by same names ss) ≡ seen_named_by other (map f names) (map (renamed f) ss)
+named-by-renamed same other f free [] ss = refl
+named-by-renamed same other f free (n ∷ names) ss = all-named-renamed same other f free n ss
+
+names-at-renamed : {M N : Type 0} (f : M → N) (o : Option ℕ) (ss : List (Sight M))
+    → map f (names_at o ss) ≡ names_at o (map (renamed f) ss)
+names-at-renamed f None ss = refl
+names-at-renamed f (Some k) ss = ap (λ s. s.heard.names) (sym (get-renamed f ss k))
+
+rewritten-from-renamed : {M N : Type 0} (same : M → M → Bool) (other : N → N → Bool) (f : M → N)
+    → ((a b : M) → other (f a) (f b) ≡ same a b) → (flags : Flags) (r : Row) (ss : List (Sight M))
+    → map (renamed f) (seen_rewritten_from same flags r ss) ≡ seen_rewritten_from other flags r (map (renamed f) ss)
+rewritten-from-renamed {M} {N} same other f free flags r ss =
+    let named : List (Sight M) = seen_reserved_at r.action.reserve ss in
+    let seen : List (Sight N) = seen_reserved_at r.action.reserve (map (renamed f) ss) in
+    let is : map (renamed f) named ≡ seen = reserved-at-renamed f r.action.reserve ss in
+    let later : List (Sight M) = drop (r.offset + r.replaced) named in
+    let names : List M = names_at r.action.reserve ss in
+    map-append (renamed f) (take r.offset named) (seen_new flags r named ∷ seen_named_by same names later)
+    ∙ (ap (λ xs. xs ++ renamed f (seen_new flags r named) ∷ map (renamed f) (seen_named_by same names later))
+    (sym (take-map (renamed f) r.offset named) ∙ ap (take r.offset) is)
+    ∙ (ap (λ x. take r.offset seen ++ x ∷ map (renamed f) (seen_named_by same names later))
+    (new-renamed f flags r named ∙ ap (seen_new flags r) is)
+    ∙ ap (λ xs. take r.offset seen ++ seen_new flags r seen ∷ xs)
+    (named-by-renamed same other f free names later
+    ∙ (ap (λ ns. seen_named_by other ns (map (renamed f) later)) (names-at-renamed f r.action.reserve ss)
+    ∙ ap (seen_named_by other (names_at r.action.reserve (map (renamed f) ss)))
+    (sym (drop-map (renamed f) (r.offset + r.replaced) named) ∙ ap (drop (r.offset + r.replaced)) is)))))
+
+rewritten-renamed : {M N : Type 0} (same : M → M → Bool) (other : N → N → Bool) (f : M → N)
+    → ((a b : M) → other (f a) (f b) ≡ same a b) → (flags : Flags) (r : Row) (place : ℕ) (ss : List (Sight M))
+    → map (renamed f) (seen_rewritten same flags r place ss) ≡ seen_rewritten other flags r place (map (renamed f) ss)
+rewritten-renamed same other f free flags r place ss =
+    map-append (renamed f) (take place ss) (seen_rewritten_from same flags r (drop place ss))
+    ∙ (ap (λ xs. xs ++ map (renamed f) (seen_rewritten_from same flags r (drop place ss)))
+    (sym (take-map (renamed f) place ss))
+    ∙ ap (λ xs. take place (map (renamed f) ss) ++ xs)
+    (rewritten-from-renamed same other f free flags r (drop place ss)
+    ∙ ap (seen_rewritten_from other flags r) (sym (drop-map (renamed f) place ss))))
+
+rank-renamed : {M N : Type 0} (f : M → N) (c : Cat) (b : Option M) → seen_rank c (renamed_bare f b) ≡ seen_rank c b
+rank-renamed f Exp (Some n) = refl
+rank-renamed f Exp None = refl
+rank-renamed f _ _ = refl
+
+weight-renamed : {M N : Type 0} (f : M → N) (ss : List (Sight M)) → seen_weight (map (renamed f) ss) ≡ seen_weight ss
+weight-renamed f [] = refl
+weight-renamed f (s ∷ ss) = ap (λ n. 4 + n + seen_weight (map (renamed f) ss)) (rank-renamed f s.cat s.bare)
+    ∙ ap (λ n. 4 + seen_rank s.cat s.bare + n) (weight-renamed f ss)
+
+log-renamed-of : {M N : Type 0} (same : M → M → Bool) (other : N → N → Bool) (f : M → N)
+    → ((a b : M) → other (f a) (f b) ≡ same a b) → (rows : List Row) (flags : Flags) (n : ℕ) (ss : List (Sight M))
+    → seen_log_of other rows flags n (map (renamed f) ss) ≡ seen_log_of same rows flags n ss
+log-renamed-of same other f free rows flags zero ss = refl
+log-renamed-of {M} {N} same other f free rows flags (suc n) ss =
+    ap (λ cs. elim (least_place rows 0 cs) [
+      | Nowhere ↦ []
+      | At place row ↦ record { number = row.number.number; place = place }
+          ∷ seen_log_of other rows flags n (seen_rewritten other flags row place (map (renamed f) ss))
+    ]) (cats-renamed f ss)
+    ∙ go (λ p r. log-renamed-of same other f free rows flags n (seen_rewritten same flags r p ss))
+    (least_place rows 0 (seen_cats ss))
+  where
+    go : ((p : ℕ) (r : Row) → seen_log_of other rows flags n (map (renamed f) (seen_rewritten same flags r p ss))
+        ≡ seen_log_of same rows flags n (seen_rewritten same flags r p ss))
+        → (p : Place) → ◌≡◌ {A = List Production} (elim p [
+          | Nowhere ↦ []
+          | At place row ↦ record { number = row.number.number; place = place }
+              ∷ seen_log_of other rows flags n (seen_rewritten other flags row place (map (renamed f) ss))
+        ]) (elim p [
+          | Nowhere ↦ []
+          | At place row ↦ record { number = row.number.number; place = place }
+              ∷ seen_log_of same rows flags n (seen_rewritten same flags row place ss)
+        ])
+    go rec Nowhere = refl
+    go rec (At place row) = ap (λ l. record { number = row.number.number; place = place } ∷ l)
+        (ap (seen_log_of other rows flags n) (sym (rewritten-renamed same other f free flags row place ss))
+        ∙ rec place row)
+
+pub log-renamed : {M N : Type 0} (same : M → M → Bool) (other : N → N → Bool) (f : M → N)
+    → ((a b : M) → other (f a) (f b) ≡ same a b) → (rows : List Row) (flags : Flags) (ss : List (Sight M))
+    → seen_log other rows flags (map (renamed f) ss) ≡ seen_log same rows flags ss
+unfolding seen_log
+log-renamed same other f free rows flags ss =
+    log-renamed-of same other f free rows flags (seen_weight (map (renamed f) ss)) ss
+    ∙ ap (λ n. seen_log_of same rows flags n ss) (weight-renamed f ss)
