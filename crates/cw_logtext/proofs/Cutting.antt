@@ -1,0 +1,62 @@
+-- The lines of a log's text are its lines.
+use Rattle.std.proofs.Common.{◌≡◌, ℕ, zero, suc, Bool, true, false, not, eqb, List, [], ◌∷◌, ◌++◌, map, All, refl}
+use Rattle.std.proofs.Common.{◌∙◌, ap, arith, ◌==◌}
+use Rattle.std.specs.List.{flat_map}
+use Rattle.std.proofs.lemmas.List.{append_assoc}
+use Rattle.cw_base.specs.Text.{pieces_by, pieces_of}
+use Rattle.cw_base.proofs.TestLaws.{both-left, both-right}
+use Rattle.cw_logtext.specs.LogText.{Block, line_text, head_text, item_text, end_text, block_lines, log_lines, ended}
+use Rattle.cw_logtext.specs.LogText.{IsFineLine, IsFineItem, IsFineBlock}
+use Rattle.cw_logtext.specs.LinePieces.{lacks}
+use Rattle.cw_logtext.specs.LogLaws.{TextHasLines}
+use Rattle.cw_logtext.proofs.Plain.{line-end, head-end, item-end}
+
+-- a line and its end are a piece
+pub one-cut : (line rest : List ℕ) → lacks 10 line ≡ true → pieces_of (line ++ 10 ∷ rest) ≡ line ∷ pieces_of rest
+one-cut [] rest h = refl
+one-cut (c ∷ cs) rest h = rw (one-cut cs rest (both-right (not (eqb c 10)) _ h))
+    (byte-kept (c == 10) (both-left (not (eqb c 10)) _ h))
+  where
+    byte-kept : (b : Bool) → not b ≡ true → pieces_by b c (cs ∷ pieces_of rest) ≡ (c ∷ cs) ∷ pieces_of rest
+    byte-kept true k = absurd cc
+    byte-kept false k = refl
+
+all-cut : (lines : List (List ℕ)) → All (λ line. lacks 10 line ≡ true) lines → pieces_of (flat_map ended lines) ≡ lines
+all-cut [] all = refl
+all-cut (line ∷ lines) all =
+    ap pieces_of (append_assoc line (10 ∷ []) (flat_map ended lines))
+    ∙ (one-cut line (flat_map ended lines) (all 0 line (omega arith))
+    ∙ ap (λ ls. line ∷ ls) (all-cut lines (λ i d lt. all (suc i) d (omega arith))))
+
+pub all-cons : {A : Type 0} (P : A → Type 0) (x : A) (xs : List A) → P x → All P xs → All P (x ∷ xs)
+all-cons P x xs p all zero d lt = p
+all-cons P x xs p all (suc i) d lt = all i d (omega arith)
+
+pub all-append : {A : Type 0} (P : A → Type 0) (xs ys : List A) → All P xs → All P ys → All P (xs ++ ys)
+all-append P [] ys h k = k
+all-append P (x ∷ xs) ys h k =
+    all-cons P x (xs ++ ys) (h zero x (omega arith)) (all-append P xs ys (λ j e l. h (suc j) e (omega arith)) k)
+
+all-of : {A B : Type 0} (P : B → Type 0) (Q : A → Type 0) (f : A → B) → ((x : A) → Q x → P (f x)) → (xs : List A)
+    → All Q xs → All P (map f xs)
+all-of P Q f h [] all i d lt = absurd (omega arith)
+all-of P Q f h (x ∷ xs) all zero d lt = h x (all 0 x (omega arith))
+all-of P Q f h (x ∷ xs) all (suc i) d lt = all-of P Q f h xs (λ j e l. all (suc j) e (omega arith)) i d (omega arith)
+
+abbrev IsOne : List ℕ → Type 0
+IsOne line = lacks 10 line ≡ true
+
+block-ends : (b : Block) → IsFineBlock b → All IsOne (block_lines b)
+block-ends b fine = all-cons IsOne (head_text _) _ (head-end _ fine.few)
+    (all-append IsOne (map line_text b.leaves) _ (all-of IsOne IsFineLine line_text line-end b.leaves fine.leaves)
+    (all-append IsOne (map item_text b.items) (end_text ∷ [])
+    (all-of IsOne IsFineItem item_text item-end b.items fine.items)
+    (all-cons IsOne end_text [] refl (λ i d lt. absurd (omega arith)))))
+
+log-ends : (bs : List Block) → All IsFineBlock bs → All IsOne (log_lines bs)
+log-ends [] all = λ i d lt. absurd (omega arith)
+log-ends (b ∷ bs) all = all-append IsOne (block_lines b) (log_lines bs) (block-ends b (all 0 b (omega arith)))
+    (log-ends bs (λ i d lt. all (suc i) d (omega arith)))
+
+pub text-has-lines : TextHasLines
+text-has-lines blocks all = all-cut (log_lines blocks) (log-ends blocks all)

@@ -1,0 +1,12 @@
+-- Laws of logs.
+pub mod Decimals
+pub mod StepLaws
+pub mod Plain
+pub mod Cutting
+pub mod Telling
+pub mod WordLaws
+pub mod Names
+pub mod Judging
+pub mod LineKinds
+pub mod CatNames
+pub mod DigitLaws

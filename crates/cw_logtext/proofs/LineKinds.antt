@@ -1,0 +1,114 @@
+-- What the lines of a log are, from their pieces.
+use Rattle.std.proofs.Common.{◌≡◌, ◌≢◌, ℕ, true, false, List, ◌∷◌, ◌++◌, length}
+use Rattle.std.proofs.Common.{sym, ◌∙◌, ap, arith}
+use Rattle.std.specs.List.{flat_map}
+use Rattle.std.specs.Fmt.{decimal}
+use Rattle.std.proofs.lemmas.Fmt.{decimal_injective}
+use Rattle.cw_base.specs.declared.category.Cat.{Cat}
+use Rattle.cw_base.specs.declared.category.Cat.TheVariants.{End}
+use Rattle.cw_table.specs.Normal.{Production}
+use Rattle.cw_leaves.specs.declared.kinds.LeafKind.{LeafKind}
+use Rattle.cw_leaves.specs.LeafLines.{Line}
+use Rattle.cw_logtext.specs.LogText.{letter, cat_text, blank_and, line_text, item_text, fits_kind, IsFineLine}
+use Rattle.cw_logtext.specs.LogText.{IsFineItem}
+use Rattle.cw_logtext.specs.LinePieces.{IsCut, AreNames, something}
+use Rattle.cw_logtext.proofs.Plain.{cat-blank, decimal-lacks, no-blank}
+use Rattle.cw_logtext.proofs.Telling.{Same, blanked-same, names-blanked, names-same}
+
+head-of : (a b : ℕ) (xs ys : List ℕ) → ◌≡◌ {A = List ℕ} (a ∷ xs) (b ∷ ys) → a ≡ b
+head-of a b xs ys e = cc
+
+tail-of : (a b : ℕ) (xs ys : List ℕ) → ◌≡◌ {A = List ℕ} (a ∷ xs) (b ∷ ys) → xs ≡ ys
+tail-of a b xs ys e = cc
+
+-- ## Leaf lines
+
+-- the pieces of a line that is a leaf line
+pub record LeafParts (byte : ℕ) (word rest : List ℕ) (said : Line) : Type 0 where
+  pub letter : byte ≡ letter said.kind
+  pub cat : word ≡ cat_text said.cat
+  pub names : rest ≡ flat_map blank_and said.names
+
+pub leaf-parts : (byte : ℕ) (behind word rest : List ℕ) → IsCut behind word rest → (said : Line)
+    → byte ∷ 32 ∷ behind ≡ line_text said → LeafParts byte word rest said
+leaf-parts byte behind word rest cut said is =
+    let same : Same word (cat_text said.cat) rest (flat_map blank_and said.names) =
+    blanked-same word (cat_text said.cat) rest (flat_map blank_and said.names) cut.plain
+    (cat-blank said.cat) cut.blanked
+    (names-blanked said.names) (sym cut.is ∙ tail-of 32 32 _ _ (tail-of byte (letter said.kind) _ _ is)) in
+    record { letter = head-of byte (letter said.kind) _ _ is; cat = same.front; names = same.back }
+
+pub leaf-whole : (kind : LeafKind) (cat : Cat) (byte : ℕ) (behind word rest : List ℕ) (count : ℕ)
+    → byte ≡ letter kind → IsCut behind word rest → cat ≢ End → word ≡ cat_text cat → (names : AreNames rest count)
+    → fits_kind kind cat count ≡ true
+    → IsFineLine (record { kind = kind; cat = cat; names = names.names })
+    × (byte ∷ 32 ∷ behind ≡ line_text (record { kind = kind; cat = cat; names = names.names }))
+leaf-whole kind cat byte behind word rest count letters cut real named names fit = (
+  record {
+    kind = ap (fits_kind kind cat) names.many ∙ fit;
+    real = real;
+    names = names.fine;
+  },
+  ap (λ b. b ∷ 32 ∷ behind) letters
+      ∙ ap (λ bytes. letter kind ∷ 32 ∷ bytes) (cut.is ∙ (ap (λ w. w ++ rest) named
+      ∙ ap (λ r. cat_text cat ++ r) names.is)),
+)
+
+pub leaf-unfit : (kind : LeafKind) (cat : Cat) (rest : List ℕ) (count : ℕ) (said : Line) → AreNames rest count
+    → kind ≡ said.kind → cat ≡ said.cat → rest ≡ flat_map blank_and said.names → IsFineLine said
+    → fits_kind kind cat count ≡ false → ⊥
+leaf-unfit kind cat rest count said names k c is fine fit =
+    let same : names.names ≡ said.names =
+    names-same names.names said.names names.fine fine.names (sym names.is ∙ is) in
+    let many : count ≡ length said.names = sym names.many ∙ ap (λ (ns : List (List ℕ)). length ns) same in
+    let yes : fits_kind kind cat count ≡ true =
+    ap (λ x. fits_kind x cat count) k ∙ (ap (λ x. fits_kind said.kind x count) c
+    ∙ (ap (fits_kind said.kind said.cat) many ∙ fine.kind)) in
+    let no : true ≡ false = sym yes ∙ fit in
+    cc
+
+-- ## Productions
+
+pub record ItemParts (word rest : List ℕ) (production : Production) : Type 0 where
+  pub number : word ≡ decimal production.number
+  pub place : rest ≡ 32 ∷ decimal production.place
+
+pub item-parts : (behind word rest : List ℕ) → IsCut behind word rest → (p : Production) → IsFineItem p
+    → 80 ∷ behind ≡ item_text p → ItemParts word rest p
+item-parts behind word rest cut p fine is =
+    let same : Same word (decimal p.number) rest (32 ∷ decimal p.place) =
+    blanked-same word (decimal p.number) rest (32 ∷ decimal p.place) cut.plain
+    (decimal-lacks 32 p.number no-blank (omega (arith, fine.to_last))) cut.blanked (something (decimal p.place))
+    (sym cut.is ∙ tail-of 80 80 _ _ is) in
+    record { number = same.front; place = same.back }
+
+pub item-whole : (behind word digits : List ℕ) (number place : ℕ) → IsCut behind word (32 ∷ digits)
+    → word ≡ decimal number → digits ≡ decimal place
+    → 80 ∷ behind ≡ item_text (record { number = number; place = place })
+item-whole behind word digits number place cut n p =
+    ap (λ bytes. 80 ∷ bytes) (cut.is ∙ (ap (λ w. w ++ 32 ∷ digits) n ∙ ap (λ d. decimal number ++ 32 ∷ d) p))
+
+-- ## From what a line begins with
+
+-- the pieces of a line whose first byte is cut off, and the blank behind it
+pub leaf-of : (line behind words word rest : List ℕ) (byte blank : ℕ) → line ≡ byte ∷ behind → behind ≡ blank ∷ words
+    → blank ≡ 32 → IsCut words word rest → (said : Line) → line ≡ line_text said → LeafParts byte word rest said
+leaf-of line behind words word rest byte blank l b is cut said e =
+    leaf-parts byte words word rest cut said
+    (sym (l ∙ ap (λ bs. byte ∷ bs) (b ∙ ap (λ n. n ∷ words) is)) ∙ e)
+
+pub item-of : (line behind word rest digits : List ℕ) (letter blank : ℕ) → line ≡ letter ∷ behind → letter ≡ 80
+    → IsCut behind word rest → rest ≡ blank ∷ digits → (p : Production) → IsFineItem p → line ≡ item_text p
+    → (word ≡ decimal p.number) × (digits ≡ decimal p.place)
+item-of line behind word rest digits letter blank l is cut r p fine e =
+    let parts : ItemParts word rest p = item-parts behind word rest cut p fine
+    (sym (l ∙ ap (λ b. b ∷ behind) is) ∙ e) in
+    (parts.number, tail-of blank 32 digits (decimal p.place) (sym r ∙ parts.place))
+
+pub no-zero : (word : List ℕ) (number : ℕ) (p : Production) → IsFineItem p → number ≡ 0 → word ≡ decimal number
+    → word ≡ decimal p.number → ⊥
+no-zero word number p fine zeros is e =
+    let same : number ≡ p.number =
+    decimal_injective number p.number (omega (arith, zeros)) (omega (arith, fine.to_last))
+    (sym is ∙ e) in
+    absurd (omega (arith, zeros, same, fine.from_one))

@@ -1,0 +1,184 @@
+-- Where a word, a line and a name end.
+use Rattle.std.proofs.Common.{◌≡◌, ◌≢◌, ℕ, zero, suc, ◌+◌, ◌<◌, ◌≤◌, Bool, true, false, not, ◌==◌, eqb, List, []}
+use Rattle.std.proofs.Common.{◌∷◌, ◌++◌, length, take, drop, get_or, refl, sym, ◌∙◌, ap, arith, subst, drop-cons}
+use Rattle.std.proofs.Common.{length-drop}
+use Rattle.std.specs.List.{list_all}
+use Rattle.std.proofs.lemmas.List.{take-append-drop}
+use Rattle.std.proofs.Math.Seq.{drop-append_seam}
+use Rattle.cw_base.specs.Text.{pieces_by, pieces_of}
+use Rattle.cw_base.proofs.TestLaws.{both-left, both-right}
+use Rattle.cw_rules.specs.declared.classes.Class.TheVariants as classes
+use Rattle.cw_rules.specs.Bytes.{is_in, is_letter, run}
+use Rattle.cw_logtext.specs.LogText.{is_identifier}
+use Rattle.cw_logtext.specs.LinePieces.{lacks, IsBlanked, nothing, something, IsCut, HasName, NoName, IsFirstLine}
+use Rattle.cw_logtext.proofs.Plain.{and-both, letter-word}
+use Rattle.cw_logtext.proofs.Cutting.{one-cut}
+
+-- ## Up to a byte
+
+fails-by : (b : Bool) → (b ≡ true → ⊥) → not b ≡ true
+fails-by true h = absurd (h refl)
+fails-by false h = refl
+
+lacks-before : (byte : ℕ) (text : List ℕ) (n : ℕ) → n ≤ length text
+    → ((k : ℕ) → k < n → eqb (get_or text k 0) byte ≡ true → ⊥) → lacks byte (take n text) ≡ true
+lacks-before byte text zero within none = refl
+lacks-before byte [] (suc n) within none = absurd (omega (arith, within))
+lacks-before byte (c ∷ cs) (suc n) within none =
+    and-both (not (eqb c byte)) _ (fails-by (eqb c byte) (none 0 (omega arith)))
+    (lacks-before byte cs n (omega (arith, within)) (λ k below. none (suc k) (omega (arith, below))))
+
+lacks-all : (byte : ℕ) (text : List ℕ) → ((k : ℕ) → k < length text → eqb (get_or text k 0) byte ≡ true → ⊥)
+    → lacks byte text ≡ true
+lacks-all byte [] none = refl
+lacks-all byte (c ∷ cs) none = and-both (not (eqb c byte)) _ (fails-by (eqb c byte) (none 0 (omega arith)))
+    (lacks-all byte cs (λ k below. none (suc k) (omega (arith, below))))
+
+same-byte : (c n : ℕ) → eqb c n ≡ true → c ≡ n
+same-byte c n h = grind (arith, h)
+
+parted : (byte : ℕ) (text : List ℕ) (n : ℕ) → n < length text → eqb (get_or text n 0) byte ≡ true
+    → take n text ++ byte ∷ drop (n + 1) text ≡ text
+parted byte text n within found =
+    let next : suc n ≡ n + 1 = omega arith in
+    ap (λ b. take n text ++ b ∷ drop (n + 1) text) (sym (same-byte (get_or text n 0) byte found))
+    ∙ (ap (λ m. take n text ++ get_or text n 0 ∷ drop m text) (sym next)
+    ∙ (ap (λ rest. take n text ++ rest) (sym (drop-cons text n 0 within)) ∙ take-append-drop n text))
+
+blanked-at : (text : List ℕ) (n : ℕ) → n < length text → eqb (get_or text n 0) 32 ≡ true → IsBlanked (drop n text)
+blanked-at text n within found =
+    subst IsBlanked (sym (drop-cons text n 0 within
+    ∙ ap (λ b. b ∷ drop (suc n) text) (same-byte (get_or text n 0) 32 found)))
+    (something (drop (suc n) text))
+
+pub cut-at : (text : List ℕ) (n : ℕ) → n < length text
+    → ((k : ℕ) → k < n → eqb (get_or text k 0) 32 ≡ true → ⊥) → eqb (get_or text n 0) 32 ≡ true
+    → IsCut text (take n text) (drop n text)
+cut-at text n within none found = record {
+  is = sym (take-append-drop n text);
+  plain = lacks-before 32 text n (omega (arith, within)) none;
+  blanked = blanked-at text n within found;
+}
+
+pub cut-nowhere : (text : List ℕ) → ((k : ℕ) → k < length text → eqb (get_or text k 0) 32 ≡ true → ⊥)
+    → IsCut text text []
+cut-nowhere text none = record {
+  is = sym (append-none text);
+  plain = lacks-all 32 text none;
+  blanked = nothing;
+}
+  where
+    append-none : (xs : List ℕ) → xs ++ [] ≡ xs
+    append-none [] = refl
+    append-none (x ∷ xs) = ap (λ ys. x ∷ ys) (append-none xs)
+
+-- ## Up to the line's end
+
+pub line-at : (text : List ℕ) (n : ℕ) → n < length text
+    → ((k : ℕ) → k < n → eqb (get_or text k 0) 10 ≡ true → ⊥) → eqb (get_or text n 0) 10 ≡ true
+    → IsFirstLine text (take n text) (drop (n + 1) text)
+line-at text n within none found = record {
+  cut = ap pieces_of (sym (parted 10 text n within found))
+      ∙ one-cut (take n text) (drop (n + 1) text) (lacks-before 10 text n (omega (arith, within)) none);
+  shorter = omega (arith, within, length-drop (n + 1) text);
+}
+
+last-piece : (byte : ℕ) (bytes : List ℕ) → lacks 10 (byte ∷ bytes) ≡ true
+    → pieces_of (byte ∷ bytes) ≡ (byte ∷ bytes) ∷ []
+last-piece byte [] h = last-byte (byte == 10) (both-left (not (eqb byte 10)) _ h)
+  where
+    last-byte : (b : Bool) → not b ≡ true → pieces_by b byte [] ≡ (byte ∷ []) ∷ []
+    last-byte true k = absurd cc
+    last-byte false k = refl
+last-piece byte (c ∷ cs) h = rw (last-piece c cs (both-right (not (eqb byte 10)) _ h))
+    (byte-kept (byte == 10) (both-left (not (eqb byte 10)) _ h))
+  where
+    byte-kept : (b : Bool) → not b ≡ true → pieces_by b byte ((c ∷ cs) ∷ []) ≡ (byte ∷ c ∷ cs) ∷ []
+    byte-kept true k = absurd cc
+    byte-kept false k = refl
+
+pub line-nowhere : (text : List ℕ) → text ≢ [] → ((k : ℕ) → k < length text → eqb (get_or text k 0) 10 ≡ true → ⊥)
+    → IsFirstLine text text []
+line-nowhere [] some none = absurd (some refl)
+line-nowhere (byte ∷ bytes) some none = record {
+  cut = last-piece byte bytes (lacks-all 10 (byte ∷ bytes) none);
+  shorter = omega arith;
+}
+
+-- ## Names
+
+-- a name runs to the next blank
+run-name : (name rest : List ℕ) → list_all (is_in classes.Word) name ≡ true → IsBlanked rest
+    → run classes.Word (name ++ rest) ≡ length name
+run-name [] [] h b = refl
+run-name [] rest h (something bytes) = refl
+run-name (c ∷ cs) rest h b =
+    let k : is_in classes.Word c ≡ true = both-left (is_in classes.Word c) _ h in
+    let next : 1 + length cs ≡ suc (length cs) = omega arith in
+    ap (λ w. elim w [ true ↦ 1 + run classes.Word (cs ++ rest) | false ↦ 0 ]) k
+    ∙ (ap (λ n. 1 + n) (run-name cs rest (both-right (is_in classes.Word c) _ h) b) ∙ next)
+
+run-all : (bytes : List ℕ) → list_all (is_in classes.Word) (take (run classes.Word bytes) bytes) ≡ true
+run-all [] = refl
+run-all (c ∷ cs) = go (is_in classes.Word c) refl (run-all cs)
+  where
+    go : (b : Bool) → is_in classes.Word c ≡ b → list_all (is_in classes.Word) (take (run classes.Word cs) cs) ≡ true
+        → list_all (is_in classes.Word) (take (elim b [ true ↦ 1 + run classes.Word cs | false ↦ 0 ]) (c ∷ cs)) ≡ true
+    go true e more =
+        let next : 1 + run classes.Word cs ≡ suc (run classes.Word cs) = omega arith in
+        subst (λ n. list_all (is_in classes.Word) (take n (c ∷ cs)) ≡ true) (sym next)
+        (and-both (is_in classes.Word c) _ e more)
+    go false e more = refl
+
+word-name : (name : List ℕ) → is_identifier name ≡ true → list_all (is_in classes.Word) name ≡ true
+word-name [] h = absurd cc
+word-name (c ∷ cs) h = and-both (is_in classes.Word c) _ (letter-word c (both-left (is_letter c) _ h))
+    (both-right (is_letter c) _ h)
+
+first-fine : (first : ℕ) (more : List ℕ) → is_letter first ≡ true
+    → is_identifier (take (run classes.Word (first ∷ more)) (first ∷ more)) ≡ true
+first-fine first more h =
+    let next : 1 + run classes.Word more ≡ suc (run classes.Word more) = omega arith in
+    let many : run classes.Word (first ∷ more) ≡ suc (run classes.Word more) =
+    ap (λ b. elim b [ true ↦ 1 + run classes.Word more | false ↦ 0 ]) (letter-word first h) ∙ next in
+    subst (λ n. is_identifier (take n (first ∷ more)) ≡ true) (sym many) (and-both (is_letter first) _ h (run-all more))
+
+tail-of : (a b : ℕ) (xs ys : List ℕ) → ◌≡◌ {A = List ℕ} (a ∷ xs) (b ∷ ys) → xs ≡ ys
+tail-of a b xs ys e = cc
+
+pub name-here : (first : ℕ) (more : List ℕ) → is_letter first ≡ true
+    → HasName (32 ∷ first ∷ more) (take (run classes.Word (first ∷ more)) (first ∷ more))
+    (drop (run classes.Word (first ∷ more)) (first ∷ more))
+name-here first more h = record {
+  is = ap (λ x. 32 ∷ x) (sym (take-append-drop (run classes.Word (first ∷ more)) (first ∷ more)));
+  fine = first-fine first more h;
+  alone = λ other tail fine blanked is.
+      let e : first ∷ more ≡ other ++ tail = tail-of 32 32 _ _ is in
+      let n : run classes.Word (first ∷ more) ≡ length other =
+      ap (run classes.Word) e ∙ run-name other tail (word-name other fine) blanked in
+      sym (ap (λ m. drop m (first ∷ more)) n ∙ (ap (drop (length other)) e ∙ drop-append_seam other tail));
+}
+
+pub no-letter : (first : ℕ) (more : List ℕ) → is_letter first ≡ false → NoName (32 ∷ first ∷ more)
+no-letter first more h [] rest fine blanked is = absurd cc
+no-letter first more h (c ∷ cs) rest fine blanked is =
+    let e : first ≡ c = cc in
+    let k : is_letter c ≡ true = both-left (is_letter c) _ fine in
+    let j : true ≡ false = sym k ∙ (ap is_letter (sym e) ∙ h) in
+    cc
+
+pub no-more : NoName (32 ∷ [])
+no-more [] rest fine blanked is = absurd cc
+no-more (c ∷ cs) rest fine blanked is = absurd cc
+
+-- a name at the front of a text, as it is cut off
+pub name-cut : (text behind more rest : List ℕ) (blank first size : ℕ) → text ≡ blank ∷ behind → blank ≡ 32
+    → behind ≡ first ∷ more → is_letter first ≡ true → size ≡ run classes.Word behind → rest ≡ drop size behind
+    → HasName text (take size behind) rest
+name-cut text behind more rest blank first size is is_blank is_first letter many is_rest =
+    let h : HasName (32 ∷ behind) (take (run classes.Word behind) behind) (drop (run classes.Word behind) behind) =
+    subst (λ bs. HasName (32 ∷ bs) (take (run classes.Word bs) bs) (drop (run classes.Word bs) bs)) (sym is_first)
+    (name-here first more letter) in
+    subst (λ t. HasName t (take size behind) rest) (sym (is ∙ ap (λ b. b ∷ behind) is_blank))
+    (subst (λ r. HasName (32 ∷ behind) (take size behind) r) (sym is_rest)
+    (subst (λ n. HasName (32 ∷ behind) (take n behind) (drop n behind)) (sym many) h))

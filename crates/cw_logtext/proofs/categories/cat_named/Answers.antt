@@ -1,0 +1,16 @@
+-- No category has the name where none of those looked at has it.
+use Rattle.std.proofs.Common.{arith}
+use Rattle.std.proofs.lemmas.List.{get_or_default}
+use Rattle.cw_base.specs.declared.category.Cat.TheVariants.{End}
+use Rattle.cw_base.specs.Category.{all_cats}
+use Rattle.cw_logtext.proofs.CatNames.{no-cat, one-more-cat}
+use Rattle.cw_logtext.proofs.categories.cat_named.Goals as goal
+
+pub loop-cat-preserved : goal.loop-cat-preserved
+loop-cat-preserved c =
+    one-more-cat c.args.name.now c.loop-cat.cat-index _ c.is_named.result c.loop-cat.invariant c.is_named.ensures
+    c.if-is_named.false (get_or_default all_cats c.loop-cat.cat-index End _ c.loop-cat-test.true)
+
+pub returns : goal.returns
+returns c = λ cat real.
+    no-cat c.args.name.now c.loop-cat.cat-index c.loop-cat.invariant (omega (arith, c.loop-cat-test.false)) cat

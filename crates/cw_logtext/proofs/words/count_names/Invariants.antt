@@ -1,0 +1,17 @@
+-- The names before the rest are counted, and whatever names the text is, the rest is those behind them.
+use Rattle.std.proofs.Common.{◌≡◌, ◌+◌, ◌≤◌, List, ℕ, length}
+use Rattle.std.specs.List.{flat_map}
+use Rattle.cw_logtext.specs.LogText.{blank_and}
+use Rattle.cw_logtext.specs.LinePieces.{AreIdentifiers}
+use Rattle.cw_logtext.proofs.Names.{Counted, Later}
+use Rattle.cw_logtext.proofs.words.count_names.Given as goal
+
+abbrev pub invariant-loop-rest : goal.invariant-loop-rest
+invariant-loop-rest l = record {
+  few : l.count + length l.rest ≤ length l.text;
+  counted : Counted l.text l.rest l.count;
+  later : (names : List (List ℕ)) → AreIdentifiers names → l.text ≡ flat_map blank_and names → Later l.rest;
+}
+
+abbrev pub decreases-loop-rest : goal.decreases-loop-rest
+decreases-loop-rest l = length l.rest

@@ -1,0 +1,14 @@
+//! The text of a log: its blocks and their lines, and when a file is a log.
+#![tactic(auto)]
+
+mod categories;
+mod items;
+mod laws;
+mod leaves;
+mod numbers;
+mod reading;
+mod words;
+
+pub use items::GREATEST;
+pub use laws::log_laws;
+pub use reading::{NotALog, Spot, judge};
