@@ -10,3 +10,4 @@ pub mod Judging
 pub mod LineKinds
 pub mod CatNames
 pub mod DigitLaws
+pub mod AppendLaws

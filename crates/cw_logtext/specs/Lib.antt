@@ -4,3 +4,4 @@ pub mod LogReading
 pub mod LogLaws
 pub mod LinePieces
 pub mod Lines
+pub mod Appending

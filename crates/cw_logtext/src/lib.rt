@@ -8,7 +8,9 @@ mod leaves;
 mod numbers;
 mod reading;
 mod words;
+mod writing;
 
 pub use items::GREATEST;
 pub use laws::log_laws;
 pub use reading::{NotALog, Spot, judge};
+pub use writing::append_block;

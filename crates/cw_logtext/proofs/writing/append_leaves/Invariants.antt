@@ -1,0 +1,10 @@
+-- The leaf lines before this one are appended.
+use Rattle.std.proofs.Common.{◌≡◌, ◌++◌, map, take}
+use Rattle.std.specs.List.{flat_map}
+use Rattle.cw_leaves.specs.Spelling.{spelled}
+use Rattle.cw_logtext.specs.LogText.{ended, line_text}
+use Rattle.cw_logtext.proofs.writing.append_leaves.Given as goal
+
+abbrev pub invariant-loop-leaf : goal.invariant-loop-leaf
+invariant-loop-leaf l =
+    l.text ≡ l.fn.text ++ flat_map ended (map line_text (map (spelled l.names) (take l.leaf-index l.leaves)))
