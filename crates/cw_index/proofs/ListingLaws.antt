@@ -11,7 +11,7 @@ use Rattle.cw_texpart.specs.Texts.{Lasting, Setting}
 use Rattle.cw_texpart.specs.Weaving.{Press, Weaves}
 use Rattle.cw_index.specs.declared.names.ListText.{ListText}
 use Rattle.cw_index.specs.declared.standing.Listed.{Listed}
-use Rattle.cw_index.specs.ListForms.{setting_in}
+use Rattle.cw_index.specs.ListForms.{list_setting}
 use Rattle.cw_index.specs.NameList.{all_listed, listed_done}
 
 -- the next name, and those behind it
@@ -34,10 +34,11 @@ listed-end {s = s} {all = all} {old = old} {now = now} {counts = counts} ls i en
 -- What stays of the book is the same before each name.
 pub moved : (t : ListText) (l : Listed) (names : List Entry) {before now : Lasting} {old new : Press}
     {result : Result Counts PutError} → now ≡ before
-    → Weaves (setting_in t now) (listed_done (setting_in t now) l names) old new result
-    → Weaves (setting_in t before) (listed_done (setting_in t before) l names) old new result
+    → Weaves (list_setting t now) (listed_done (list_setting t now) l names) old new result
+    → Weaves (list_setting t before) (listed_done (list_setting t before) l names) old new result
 moved t l names {old = old} {new = new} {result = result} same woven =
-    subst (λ (b : Lasting). Weaves (setting_in t b) (listed_done (setting_in t b) l names) old new result) same woven
+    subst (λ (b : Lasting). Weaves (list_setting t b) (listed_done (list_setting t b) l names) old new result) same
+        woven
 
 abbrev pub sum : Counts → Counts → Counts
 sum first more = record { scraps = first.scraps + more.scraps; productions = first.productions + more.productions }

@@ -22,7 +22,8 @@ use Rattle.cw_rules.proofs.NameEnds.{name-take}
 use Rattle.cw_lex.proofs.Openings.{bare-uncut}
 use Rattle.cw_rules.proofs.Sizes.{extent-le}
 use Rattle.cw_rules.proofs.Taking.{bare-all-cut}
-use Rattle.cw_texpart.specs.TexParts.{IsWhole, span}
+use Rattle.cw_phase1.specs.Sections.{span}
+use Rattle.cw_texpart.specs.TexParts.{IsWhole}
 use Rattle.cw_index.specs.NameList.{first_span, name_span}
 use Rattle.cw_index.proofs.NameTokens.{BeginsName, name-plain}
 

@@ -9,24 +9,26 @@ use Rattle.cw_names.specs.declared.xrefs.SectionRef.{SectionRef}
 use Rattle.cw_index.specs.Mentions.{is_listed, listed}
 
 -- what the sections of a list print, of those that are listed
-abbrev pub printed : (SectionRef → List ℕ) → Bool → List SectionRef → List ℕ
-printed f only ms = flat_map f (listed only ms)
+abbrev pub listed_bytes : (SectionRef → List ℕ) → Bool → List SectionRef → List ℕ
+listed_bytes f only ms = flat_map f (listed only ms)
 
 printed-append : (f : SectionRef → List ℕ) (only : Bool) (xs ys : List SectionRef)
-    → printed f only (xs ++ ys) ≡ printed f only xs ++ printed f only ys
+    → listed_bytes f only (xs ++ ys) ≡ listed_bytes f only xs ++ listed_bytes f only ys
 printed-append f only xs ys = ap (flat_map f) (filter-append (is_listed only) xs ys)
     ∙ flat_map-append f (listed only xs) (listed only ys)
 
 pub printed-more : (f : SectionRef → List ℕ) (only : Bool) (ms : List SectionRef) (i : ℕ) (d : SectionRef)
     → i < length ms
-    → printed f only (drop i ms) ≡ printed f only (slice_index_or ms i d ∷ []) ++ printed f only (drop (i + 1) ms)
+    → listed_bytes f only (drop i ms) ≡ listed_bytes f only (slice_index_or ms i d ∷ [])
+        ++ listed_bytes f only (drop (i + 1) ms)
 printed-more f only ms i d within =
-    ap (printed f only) (drop_more ms i d within) ∙ printed-append f only (slice_index_or ms i d ∷ []) (drop (i + 1) ms)
+    ap (listed_bytes f only) (drop_more ms i d within)
+        ∙ printed-append f only (slice_index_or ms i d ∷ []) (drop (i + 1) ms)
 
 pub printed-none : (f : SectionRef → List ℕ) (only : Bool) (m : SectionRef) → is_listed only m ≡ false
-    → printed f only (m ∷ []) ≡ []
+    → listed_bytes f only (m ∷ []) ≡ []
 printed-none f only m is = rw is refl
 
 pub printed-one : (f : SectionRef → List ℕ) (only : Bool) (m : SectionRef) → is_listed only m ≡ true
-    → printed f only (m ∷ []) ≡ f m
+    → listed_bytes f only (m ∷ []) ≡ f m
 printed-one f only m is = rw is (append-nil (f m))

@@ -2,5 +2,5 @@
 use Rattle.cw_index.specs.declared.names.ListText.{ListText}
 use Rattle.cw_texpart.specs.Texts.{Lasting, Setting}
 
-abbrev pub setting_in : ListText → Lasting → Setting
-setting_in t book = record { text = t.text.now; flags = t.flags.now; book = book; section = 0 }
+abbrev pub list_setting : ListText → Lasting → Setting
+list_setting t book = record { text = t.text.now; flags = t.flags.now; book = book; section = 0 }

@@ -5,7 +5,7 @@ ghost use Rattle.cw_lines.specs.Writes.{CanWrite};
 ghost use Rattle.cw_translator.specs.NameParts.{AreNamesOf};
 ghost use Rattle.cw_texpart.specs.Texts.{lasting, setting};
 ghost use Rattle.cw_texpart.specs.Weaving.{Weaves};
-ghost use Rattle.cw_index.specs.ListForms.{setting_in};
+ghost use Rattle.cw_index.specs.ListForms.{list_setting};
 ghost use Rattle.cw_index.specs.NameList.{IsWholeName, all_listed, listed_done, name_span, names_done};
 ghost use Rattle.cw_index.specs.Standing.{listed_names};
 
@@ -54,8 +54,8 @@ fn put_listed<D: Desk, L: Ledger>(
     requires whole { IsWholeName t.text.now listed }
     requires within { listed.place ≤ length t.text.now }
     requires kept { AreNamesOf book.old.sec_names book.old.name_uses }
-    ensures { Weaves (setting_in t.entry (lasting book.old))
-        (listed_done (setting_in t.entry (lasting book.old)) listed book.old.names)
+    ensures { Weaves (list_setting t.entry (lasting book.old))
+        (listed_done (list_setting t.entry (lasting book.old)) listed book.old.names)
         (record { book = book.old; line = out.old; told = D.told desk.old; steps = steps.old })
         (record { book = book.new; line = out.new; told = D.told desk.new; steps = steps.new }) result }
 {
@@ -88,8 +88,8 @@ fn put_all_listed<D: Desk, L: Ledger>(
     requires whole { All (IsWholeName t.text.now) listed.now }
     requires within { All (λ l. l.place ≤ length t.text.now) listed.now }
     requires kept { AreNamesOf book.old.sec_names book.old.name_uses }
-    ensures { Weaves (setting_in t.entry (lasting book.old))
-        (all_listed (setting_in t.entry (lasting book.old)) listed.now book.old.names)
+    ensures { Weaves (list_setting t.entry (lasting book.old))
+        (all_listed (list_setting t.entry (lasting book.old)) listed.now book.old.names)
         (record { book = book.old; line = out.old; told = D.told desk.old; steps = steps.old })
         (record { book = book.new; line = out.new; told = D.told desk.new; steps = steps.new }) result }
 {

@@ -21,11 +21,12 @@ use Rattle.cw_lex.specs.Lexing.{answers, beginning, fresh_at, joined, last_after
 use Rattle.cw_names.specs.Names.{Entry}
 use Rattle.cw_phase1.specs.declared.sections.Section.{Section}
 use Rattle.cw_texpart.specs.Done.{Done, behind, plain, reprinted}
-use Rattle.cw_texpart.specs.Heads.{depth_bytes, head, head_by, section_number}
+use Rattle.cw_texpart.specs.Heads.{depth_bytes, head, head_by}
+use Rattle.cw_print.specs.Walk.{section_number}
 use Rattle.cw_texpart.specs.Inks.{Ink, bytes_of, copied, end_if, ends_empty_line, ink_by, inks, laid}
 use Rattle.cw_texpart.specs.Limbo.{limbo_text, scanned}
 use Rattle.cw_texpart.specs.TexParts.{Copied, pieces_done, pieces_of, tex_done, tex_pieces}
-use Rattle.cw_texpart.specs.TexParts.{span as span_of}
+use Rattle.cw_phase1.specs.Sections.{span as span_of}
 use Rattle.cw_texpart.specs.Texts.{Setting}
 use Rattle.cw_laws.specs.TexText.{HasNo, PlainTextIsKept, behind_line_end, is_copied, kept_bytes, last_line_ended}
 use Rattle.cw_laws.proofs.SectionCodes.{drop-on}

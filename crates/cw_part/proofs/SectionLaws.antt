@@ -6,7 +6,7 @@ use Rattle.cw_lines.specs.declared.put_error.PutError.{PutError}
 use Rattle.cw_names.specs.Names.{Entry}
 use Rattle.cw_part.specs.declared.paragraphs.Present.{Present}
 use Rattle.cw_part.specs.Parts.{paragraph}
-use Rattle.cw_part.specs.PresentForms.{setting_in}
+use Rattle.cw_part.specs.PresentForms.{part_setting}
 use Rattle.cw_part.specs.Sections.{rest_done}
 use Rattle.cw_part.specs.WholeTexts.{IsWholeRest}
 use Rattle.cw_phase1.specs.declared.book.Book.{Book}
@@ -20,10 +20,10 @@ use Rattle.cw_part.proofs.WovenLaws.{AreSums, Weaving, weaves-as}
 -- the same of what stays of a book
 pub moved : (p : Present) (d : Setting → Done ℕ) {l l' : Lasting} {old new : Press} {result : Result Counts PutError}
     → l ≡ l'
-    → Weaves (setting_in p l) (d (setting_in p l)) old new result
-    → Weaves (setting_in p l') (d (setting_in p l')) old new result
+    → Weaves (part_setting p l) (d (part_setting p l)) old new result
+    → Weaves (part_setting p l') (d (part_setting p l')) old new result
 moved p d {old = old} {new = new} {result = result} same woven =
-    subst (λ (l : Lasting). Weaves (setting_in p l) (d (setting_in p l)) old new result) same woven
+    subst (λ (l : Lasting). Weaves (part_setting p l) (d (part_setting p l)) old new result) same woven
 
 -- the same front
 pub fronted : {s : Setting} (d : Done ℕ) {front front' : List ℕ} {old new : Press} {result : Result Counts PutError}

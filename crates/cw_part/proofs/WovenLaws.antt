@@ -23,7 +23,6 @@ use Rattle.std.proofs.Common.{
 use Rattle.std.specs.Prelude.{Result, Ok, Err, IsErrAnd}
 use Rattle.std.proofs.lemmas.List.{append-nil, map-append}
 use Rattle.std.proofs.lemmas.List.Sums.{sum_by-append}
-use Rattle.std.proofs.lemmas.Result.{err_from_is_err_and}
 use Rattle.cw_base.specs.declared.flags.Flags.{Flags}
 use Rattle.cw_desk.specs.Told.{Told}
 use Rattle.cw_lines.specs.Line.{LineState, fill}
@@ -41,6 +40,7 @@ use Rattle.cw_table.specs.WalkCounts.{ticks}
 use Rattle.cw_texpart.specs.declared.counts.Counts.{Counts}
 use Rattle.cw_texpart.specs.Done.{Done, joined, plain, then}
 use Rattle.cw_texpart.specs.Texts.{Setting, lasting}
+use Rattle.cw_texpart.proofs.WeavingLaws.{is_err}
 use Rattle.cw_texpart.specs.Weaving.{Press, Weaves, mark_at, underlined}
 
 -- ## Sums
@@ -82,10 +82,6 @@ pub puts-nothing : {U : Type 0} (bytes : List ℕ) (line : LineState) (told : To
     → IsErrAnd result (λ found. found ≡ Memory) → Puts bytes line line told told result
 puts-nothing bytes line told is =
     puts-failed Memory (fill line.line bytes) refl refl is (adds-nothing _ told is (λ e. absurd (cc)))
-
-is_err : {T E : Type 0} (result : Result T E) (error : E) → IsErrAnd result (λ found. found ≡ error)
-    → result ≡ Err error
-is_err result error is = let p = err_from_is_err_and result is in p.1 ∙ ap Err p.2
 
 -- a call that is refused
 pub weaves-refused : {s : Setting} {d : Done ℕ} {old new : Press} (error : PutError) {result : Result Counts PutError}

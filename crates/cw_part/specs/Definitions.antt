@@ -43,8 +43,8 @@ abbrev pub definitions_in : List ℕ → Span → List Definition
 definitions_in text part = definitions_of part.«end» (scanned modes.Definition text part)
 
 -- those that are printed: all but the silent ones
-abbrev pub printed : List Definition → List Definition
-printed ds = filter (λ d. not d.silent) ds
+abbrev pub not_silent : List Definition → List Definition
+not_silent ds = filter (λ d. not d.silent) ds
 
 abbrev pub printed_definitions : List ℕ → Span → List Definition
-printed_definitions text part = printed (definitions_in text part)
+printed_definitions text part = not_silent (definitions_in text part)

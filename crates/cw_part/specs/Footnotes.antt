@@ -20,7 +20,7 @@ use Rattle.cw_phase1.specs.declared.sections.Section.{Section}
 use Rattle.cw_print.specs.Sources.{defines_first, is_changed}
 use Rattle.cw_secnames.specs.Kept.{SecName}
 use Rattle.cw_secnames.specs.declared.kinds.SecId.{SecId}
-use Rattle.cw_texpart.specs.Heads.{section_number}
+use Rattle.cw_print.specs.Walk.{section_number}
 use Rattle.cw_texpart.specs.Texts.{Setting}
 
 -- the number of one of these sections, as it is printed

@@ -6,9 +6,9 @@ use Rattle.cw_part.specs.declared.paragraphs.Present.{Present}
 use Rattle.cw_texpart.specs.Done.{Done}
 use Rattle.cw_texpart.specs.Texts.{Lasting, Setting, text_done}
 
-abbrev pub setting_in : Present → Lasting → Setting
-setting_in p book = record { text = p.text.now; flags = p.flags.now; book = book; section = p.section }
+abbrev pub part_setting : Present → Lasting → Setting
+part_setting p book = record { text = p.text.now; flags = p.flags.now; book = book; section = p.section }
 
 -- the C text of a paragraph
 abbrev pub text_of : Present → Paragraph → Lasting → List Entry → Done ℕ
-text_of p paragraph book names = text_done (setting_in p book) paragraph.mode false paragraph.span names
+text_of p paragraph book names = text_done (part_setting p book) paragraph.mode false paragraph.span names

@@ -4,7 +4,7 @@ ghost use Rattle.cw_lex.specs.Lexing.{tokens_of};
 ghost use Rattle.cw_lex.specs.Nested.{begins_section_in, is_c_mode};
 ghost use Rattle.cw_lines.specs.Writes.{CanWrite};
 ghost use Rattle.cw_part.specs.Parts.{paragraph_if};
-ghost use Rattle.cw_part.specs.PresentForms.{setting_in, text_of};
+ghost use Rattle.cw_part.specs.PresentForms.{part_setting, text_of};
 ghost use Rattle.cw_translator.specs.Counting.{scraps_in};
 ghost use Rattle.cw_translator.specs.NameParts.{AreNamesOf};
 ghost use Rattle.cw_texpart.specs.Texts.{lasting};
@@ -63,7 +63,7 @@ pub(crate) fn print_paragraph<D: Desk, L: Ledger>(
         (tokens_of p.text.now paragraph.span.start paragraph.span.end paragraph.mode) ≡ false }
     requires kept { AreNamesOf book.old.sec_names book.old.name_uses }
     ensures { let d = text_of p.entry paragraph (lasting book.old) book.old.names in
-        Weaves (setting_in p.entry (lasting book.old))
+        Weaves (part_setting p.entry (lasting book.old))
         (paragraph_if (paragraph.always || nat_lt 0 (scraps_in d.ended)) paragraph.front.now d)
         (record { book = book.old; line = out.old; told = D.told desk.old; steps = steps.old })
         (record { book = book.new; line = out.new; told = D.told desk.new; steps = steps.new }) result }

@@ -4,7 +4,7 @@ ghost use Rattle.cw_base.specs.Web.{text_of};
 ghost use Rattle.cw_lines.specs.Writes.{CanWrite, Puts};
 ghost use Rattle.cw_part.specs.Definitions.{definitions_in, printed_definitions};
 ghost use Rattle.cw_part.specs.Parts.{definitions_done, opening, part_done};
-ghost use Rattle.cw_part.specs.PresentForms.{setting_in};
+ghost use Rattle.cw_part.specs.PresentForms.{part_setting};
 ghost use Rattle.cw_part.specs.Sections.{ending, rest_done};
 ghost use Rattle.cw_part.specs.WholeTexts.{IsWholeDefinition, IsWholeIn, IsWholeRest};
 ghost use Rattle.cw_phase1.specs.declared.sections.Section.{Section};
@@ -45,8 +45,8 @@ fn print_definitions<D: Desk, L: Ledger>(
     requires whole { IsWholeIn Definition p.text.now part }
     requires each { All (IsWholeDefinition p.text.now) (definitions_in p.text.now part) }
     requires kept { AreNamesOf book.old.sec_names book.old.name_uses }
-    ensures { Weaves (setting_in p.entry (lasting book.old))
-        (definitions_done (setting_in p.entry (lasting book.old)) true
+    ensures { Weaves (part_setting p.entry (lasting book.old))
+        (definitions_done (part_setting p.entry (lasting book.old)) true
         (printed_definitions p.entry.text.now part) book.old.names)
         (record { book = book.old; line = out.old; told = D.told desk.old; steps = steps.old })
         (record { book = book.new; line = out.new; told = D.told desk.new; steps = steps.new }) result }
@@ -85,8 +85,8 @@ fn print_c_part<D: Desk, L: Ledger>(
     requires short { length p.text.now ≤ 2 ^ 24 }
     requires whole { IsWholeIn CPart p.text.now section.c_part }
     requires kept { AreNamesOf book.old.sec_names book.old.name_uses }
-    ensures { Weaves (setting_in p.entry (lasting book.old))
-        (part_done (setting_in p.entry (lasting book.old)) section book.old.names)
+    ensures { Weaves (part_setting p.entry (lasting book.old))
+        (part_done (part_setting p.entry (lasting book.old)) section book.old.names)
         (record { book = book.old; line = out.old; told = D.told desk.old; steps = steps.old })
         (record { book = book.new; line = out.new; told = D.told desk.new; steps = steps.new }) result }
 {
@@ -108,7 +108,7 @@ fn put_ending<D: Desk>(
     desk: &mut D,
 ) -> Result<(), PutError>
     requires can { CanWrite (D.told desk.old) out.old }
-    ensures { Puts (ending (setting_in p.entry (lasting book.now)) section) out.old out.new
+    ensures { Puts (ending (part_setting p.entry (lasting book.now)) section) out.old out.new
         (D.told desk.old) (D.told desk.new) result }
 {
     put_footnotes(book, section.name, p.section, out, desk)?;
@@ -128,8 +128,8 @@ fn print_rest<D: Desk, L: Ledger>(
     requires short { length p.text.now ≤ 2 ^ 24 }
     requires whole { IsWholeRest p.text.now section }
     requires kept { AreNamesOf book.old.sec_names book.old.name_uses }
-    ensures { Weaves (setting_in p.entry (lasting book.old))
-        (rest_done (setting_in p.entry (lasting book.old)) section book.old.names)
+    ensures { Weaves (part_setting p.entry (lasting book.old))
+        (rest_done (part_setting p.entry (lasting book.old)) section book.old.names)
         (record { book = book.old; line = out.old; told = D.told desk.old; steps = steps.old })
         (record { book = book.new; line = out.new; told = D.told desk.new; steps = steps.new }) result }
 {

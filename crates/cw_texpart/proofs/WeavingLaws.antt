@@ -26,7 +26,8 @@ use Rattle.cw_table.specs.WalkCounts.{ticks}
 use Rattle.cw_texpart.specs.declared.counts.Counts.{Counts}
 use Rattle.cw_texpart.specs.declared.pieces.Piece.{Piece}
 use Rattle.cw_texpart.specs.Done.{Done, behind, joined, plain, reprinted}
-use Rattle.cw_texpart.specs.Heads.{depth_bytes, head, head_by, section_number}
+use Rattle.cw_print.specs.Walk.{section_number}
+use Rattle.cw_texpart.specs.Heads.{depth_bytes, head, head_by}
 use Rattle.cw_texpart.specs.Inks.{Ink, end_if, laid, prints}
 use Rattle.cw_texpart.specs.Laying.{held, held_behind, holds_bytes, inked}
 use Rattle.cw_texpart.specs.PieceForms.{piece_is}

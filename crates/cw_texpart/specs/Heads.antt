@@ -1,8 +1,9 @@
 -- The heads of sections.
-use Rattle.std.specs.Prelude.{ℕ, ◌==◌, Bool, true, false, List, [], ◌∷◌, ◌++◌, codes, decimal}
+use Rattle.std.specs.Prelude.{ℕ, ◌==◌, Bool, true, false, List, [], ◌∷◌, ◌++◌, codes}
 use Rattle.cw_phase1.specs.declared.sections.Depth.{Depth}
 use Rattle.cw_phase1.specs.declared.sections.Depth.TheVariants.{Minus, Zero, Digits}
 use Rattle.cw_phase1.specs.declared.sections.Section.{Section}
+use Rattle.cw_print.specs.Walk.{section_number}
 use Rattle.cw_texpart.specs.Inks.{bytes_of}
 
 -- The depth in digits, without zeros before the last of them or before another digit.
@@ -16,14 +17,6 @@ abbrev pub depth_bytes : List ℕ → Depth → List ℕ
 depth_bytes text Minus = codes "-1"
 depth_bytes text Zero = codes "0"
 depth_bytes text (Digits span) = drop_zeros (bytes_of text span)
-
--- The number of a section, with `\*` where it holds a changed line.
-abbrev pub changed_mark : Bool → List ℕ
-changed_mark true = codes "\\*"
-changed_mark false = []
-
-abbrev pub section_number : ℕ → Bool → List ℕ
-section_number n changed = decimal n ++ changed_mark changed
 
 -- The head: `\M{n}`, or `\N{depth}{n}` where the section is starred.
 abbrev pub head_by : Bool → List ℕ → List ℕ → List ℕ

@@ -9,5 +9,5 @@ pub record TexSetting : Type 0 where
   pub section : ℕ
   pub flags : Flags
 
-abbrev pub setting_in : TexSetting → Lasting → Setting
-setting_in t book = record { text = t.text; flags = t.flags; book = book; section = t.section }
+abbrev pub tex_setting : TexSetting → Lasting → Setting
+tex_setting t book = record { text = t.text; flags = t.flags; book = book; section = t.section }

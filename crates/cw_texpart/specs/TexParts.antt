@@ -8,6 +8,7 @@ use Rattle.cw_rules.specs.declared.tokens.Mode.TheVariants as modes
 use Rattle.cw_rules.specs.Answers.{Answer, Seen, Token, Begin, Finish, Note}
 use Rattle.cw_lex.specs.Nested.{begins_section_in}
 use Rattle.cw_names.specs.Names.{Entry}
+use Rattle.cw_phase1.specs.Sections.{span}
 use Rattle.cw_phase1.specs.declared.sections.Section.{Section}
 use Rattle.cw_texpart.specs.Done.{Done, behind, plain, reprinted, then}
 use Rattle.cw_texpart.specs.Heads.{head}
@@ -27,9 +28,6 @@ abbrev pub token_piece : TokKind → Seen → TexPiece
 token_piece (kinds.Code at.SectionName) token = Cited token.span
 token_piece (kinds.Code at.FileName) token = Cited token.span
 token_piece kind token = Copied token
-
-abbrev pub span : ℕ → ℕ → Span
-span start end = record { start = start; «end» = end }
 
 -- where the outermost text begins, behind one that begins at a place
 abbrev pub outermost : ℕ → ℕ → ℕ → ℕ

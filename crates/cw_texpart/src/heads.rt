@@ -1,7 +1,8 @@
 //! The heads of sections.
 ghost use Rattle.std.specs.Prelude.{◌≡◌, ◌++◌, codes};
 ghost use Rattle.cw_lines.specs.Writes.{CanWrite, Puts};
-ghost use Rattle.cw_texpart.specs.Heads.{changed_mark, depth_bytes, drop_zeros, head, section_number};
+ghost use Rattle.cw_print.specs.Walk.{changed_mark, section_number};
+ghost use Rattle.cw_texpart.specs.Heads.{depth_bytes, drop_zeros, head};
 
 use crate::spans::part_of;
 use cw_desk::Desk;

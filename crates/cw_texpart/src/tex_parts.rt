@@ -9,7 +9,7 @@ ghost use Rattle.cw_translator.specs.NameParts.{AreNamesOf};
 ghost use Rattle.cw_texpart.specs.Done.{reprinted};
 ghost use Rattle.cw_texpart.specs.Inks.{laid, token_inks};
 ghost use Rattle.cw_texpart.specs.Laying.{holds_bytes, inked};
-ghost use Rattle.cw_texpart.specs.PartForms.{setting_in};
+ghost use Rattle.cw_texpart.specs.PartForms.{tex_setting};
 ghost use Rattle.cw_texpart.specs.PieceForms.{piece_is};
 ghost use Rattle.cw_texpart.specs.TexParts.{IsWhole, IsWholePiece, piece_done, pieces_done, pieces_of, tex_done};
 ghost use Rattle.cw_texpart.specs.Texts.{lasting, name_done, setting, text_done};
@@ -79,8 +79,8 @@ fn put_inner<D: Desk, L: Ledger>(
     requires short { length t.old.text ≤ 2 ^ 24 }
     requires whole { IsWhole t.old.text part }
     requires kept { AreNamesOf book.old.sec_names book.old.name_uses }
-    ensures woven { Weaves (setting_in t.old (lasting book.old))
-        (text_done (setting_in t.old (lasting book.old)) Inner true part book.old.names)
+    ensures woven { Weaves (tex_setting t.old (lasting book.old))
+        (text_done (tex_setting t.old (lasting book.old)) Inner true part book.old.names)
         (record { book = book.old; line = out.old; told = D.told desk.old; steps = steps.old })
         (record { book = book.new; line = out.new; told = D.told desk.new; steps = steps.new }) result }
     ensures same { t.new ≡ t.old }
@@ -117,8 +117,8 @@ fn put_cited<D: Desk, L: Ledger>(
     requires short { length t.old.text ≤ 2 ^ 24 }
     requires whole { IsWhole t.old.text part }
     requires kept { AreNamesOf book.old.sec_names book.old.name_uses }
-    ensures woven { Weaves (setting_in t.old (lasting book.old))
-        (name_done (setting_in t.old (lasting book.old)) true part book.old.names)
+    ensures woven { Weaves (tex_setting t.old (lasting book.old))
+        (name_done (tex_setting t.old (lasting book.old)) true part book.old.names)
         (record { book = book.old; line = out.old; told = D.told desk.old; steps = steps.old })
         (record { book = book.new; line = out.new; told = D.told desk.new; steps = steps.new }) result }
     ensures same { t.new ≡ t.old }
@@ -142,9 +142,9 @@ fn put_piece<D: Desk, L: Ledger>(
     requires short { length t.old.text ≤ 2 ^ 24 }
     requires whole { IsWholePiece t.old.text (piece_is piece) }
     requires kept { AreNamesOf book.old.sec_names book.old.name_uses }
-    ensures woven { Weaves (setting_in t.old (lasting book.old))
+    ensures woven { Weaves (tex_setting t.old (lasting book.old))
         (reprinted (inked (holds_bytes out.old))
-        (piece_done (setting_in t.old (lasting book.old)) (piece_is piece.entry) book.old.names))
+        (piece_done (tex_setting t.old (lasting book.old)) (piece_is piece.entry) book.old.names))
         (record { book = book.old; line = out.old; told = D.told desk.old; steps = steps.old })
         (record { book = book.new; line = out.new; told = D.told desk.new; steps = steps.new }) result }
     ensures same { t.new ≡ t.old }
@@ -169,9 +169,9 @@ fn put_pieces<D: Desk, L: Ledger>(
     requires short { length t.old.text ≤ 2 ^ 24 }
     requires whole { All (IsWholePiece t.old.text) (pieces_of t.old.text part) }
     requires kept { AreNamesOf book.old.sec_names book.old.name_uses }
-    ensures { Weaves (setting_in t.old (lasting book.old))
+    ensures { Weaves (tex_setting t.old (lasting book.old))
         (reprinted (laid (holds_bytes out.old))
-        (pieces_done (setting_in t.old (lasting book.old)) (pieces_of t.old.text part) book.old.names))
+        (pieces_done (tex_setting t.old (lasting book.old)) (pieces_of t.old.text part) book.old.names))
         (record { book = book.old; line = out.old; told = D.told desk.old; steps = steps.old })
         (record { book = book.new; line = out.new; told = D.told desk.new; steps = steps.new }) result }
 {
@@ -206,8 +206,8 @@ fn put_section<D: Desk, L: Ledger>(
     requires short { length t.old.text ≤ 2 ^ 24 }
     requires whole { All (IsWholePiece t.old.text) (pieces_of t.old.text section.tex) }
     requires kept { AreNamesOf book.old.sec_names book.old.name_uses }
-    ensures { Weaves (setting_in t.old (lasting book.old))
-        (tex_done (setting_in t.old (lasting book.old)) section book.old.names)
+    ensures { Weaves (tex_setting t.old (lasting book.old))
+        (tex_done (tex_setting t.old (lasting book.old)) section book.old.names)
         (record { book = book.old; line = out.old; told = D.told desk.old; steps = steps.old })
         (record { book = book.new; line = out.new; told = D.told desk.new; steps = steps.new }) result }
 {

@@ -3,7 +3,7 @@ use Rattle.std.proofs.Common.{ℕ, ◌+◌, Bool, drop, List}
 use Rattle.cw_names.specs.declared.xrefs.SectionRef.{SectionRef}
 use Rattle.cw_index.specs.Index.{section_bytes}
 use Rattle.cw_index.proofs.PuttingLaws.{putting-as, putting-begun, putting-next, putting-stop}
-use Rattle.cw_index.proofs.SectionLaws.{printed, printed-more}
+use Rattle.cw_index.proofs.SectionLaws.{listed_bytes, printed-more}
 use Rattle.cw_index.proofs.index.put_sections.Goals as goal
 
 pub loop-section-init : goal.loop-section-init
@@ -15,7 +15,7 @@ returns-in_err-put_section g c =
     let only : Bool = c.args.heading.now.underlined_only in
     let ms : List SectionRef = c.args.heading.now.sections.now in
     let i : ℕ = c.loop-section.section-index in
-    putting-stop _ (printed f only (drop (i + 1) ms))
+    putting-stop _ (listed_bytes f only (drop (i + 1) ms))
     (putting-as (printed-more f only ms i _ c.loop-section-test.true) c.loop-section.invariant)
     c.in_err-put_section.ensures c.from_residual.ensures.1
 
@@ -25,6 +25,6 @@ loop-section-preserved g c =
     let only : Bool = c.args.heading.now.underlined_only in
     let ms : List SectionRef = c.args.heading.now.sections.now in
     let i : ℕ = c.loop-section.section-index in
-    putting-next _ (printed f only (drop (i + 1) ms))
+    putting-next _ (listed_bytes f only (drop (i + 1) ms))
     (putting-as (printed-more f only ms i _ c.loop-section-test.true) c.loop-section.invariant)
     c.in_ok-put_section.ensures

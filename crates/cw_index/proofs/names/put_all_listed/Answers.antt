@@ -5,7 +5,7 @@ use Rattle.cw_part.proofs.WovenLaws.{weaving-begun, weaving-next, weaving-stoppe
 use Rattle.cw_translator.specs.NameParts.{AreNamesOf}
 use Rattle.cw_texpart.specs.Texts.{Lasting, Setting, lasting}
 use Rattle.cw_index.specs.declared.standing.Listed.{Listed}
-use Rattle.cw_index.specs.ListForms.{setting_in}
+use Rattle.cw_index.specs.ListForms.{list_setting}
 use Rattle.cw_index.specs.NameList.{all_listed, listed_done}
 use Rattle.cw_index.proofs.ListingLaws.{listed-end, listed-next, moved, sum, sums}
 use Rattle.cw_index.proofs.names.put_all_listed.Goals as goal
@@ -27,7 +27,7 @@ put_listed-requires g c = record {
 
 pub returns-in_err-more : goal.returns-in_err-more
 returns-in_err-more g c =
-    let s : Setting = setting_in c.args.t (lasting c.args.book.now) in
+    let s : Setting = list_setting c.args.t (lasting c.args.book.now) in
     let ls : List Listed = c.args.listed.now in
     let i : ℕ = c.loop-one.one-index in
     weaving-stopped (listed_done s _) (all_listed s (drop (i + 1) ls))
@@ -37,7 +37,7 @@ returns-in_err-more g c =
 
 pub returns-in_err-counts : goal.returns-in_err-counts
 returns-in_err-counts g c =
-    let s : Setting = setting_in c.args.t (lasting c.args.book.now) in
+    let s : Setting = list_setting c.args.t (lasting c.args.book.now) in
     let ls : List Listed = c.args.listed.now in
     let i : ℕ = c.loop-one.one-index in
     weaving-wanting
@@ -49,7 +49,7 @@ returns-in_err-counts g c =
 
 pub loop-one-preserved : goal.loop-one-preserved
 loop-one-preserved g c =
-    let s : Setting = setting_in c.args.t (lasting c.args.book.now) in
+    let s : Setting = list_setting c.args.t (lasting c.args.book.now) in
     let ls : List Listed = c.args.listed.now in
     let i : ℕ = c.loop-one.one-index in
     weaving-next (listed_done s _) (all_listed s (drop (i + 1) ls))

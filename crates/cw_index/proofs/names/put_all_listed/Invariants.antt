@@ -1,6 +1,6 @@
 -- The names so far are woven.
 use Rattle.std.proofs.Common.{drop}
-use Rattle.cw_index.specs.ListForms.{setting_in}
+use Rattle.cw_index.specs.ListForms.{list_setting}
 use Rattle.cw_index.specs.NameList.{all_listed}
 use Rattle.cw_part.proofs.WovenLaws.{Weaving}
 use Rattle.cw_texpart.specs.Texts.{lasting}
@@ -8,8 +8,8 @@ use Rattle.cw_index.proofs.names.put_all_listed.Given as goal
 
 abbrev pub invariant-loop-one : goal.invariant-loop-one
 invariant-loop-one g l = let told = g.D.Desk.told in
-    Weaving (setting_in l.t (lasting l.fn.book))
-    (all_listed (setting_in l.t (lasting l.fn.book)) (drop l.one-index l.listed))
-    (all_listed (setting_in l.t (lasting l.fn.book)) l.listed l.fn.book.names)
+    Weaving (list_setting l.t (lasting l.fn.book))
+    (all_listed (list_setting l.t (lasting l.fn.book)) (drop l.one-index l.listed))
+    (all_listed (list_setting l.t (lasting l.fn.book)) l.listed l.fn.book.names)
     (record { book = l.fn.book; line = l.fn.out; told = told l.fn.desk; steps = l.fn.steps })
     (record { book = l.book; line = l.out; told = told l.desk; steps = l.steps }) l.counts

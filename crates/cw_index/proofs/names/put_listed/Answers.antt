@@ -6,7 +6,7 @@ use Rattle.cw_lines.specs.WritesLaws.{can-after, puts-bytes, puts-longer, puts-t
 use Rattle.cw_part.proofs.WovenLaws.{weaves-as}
 use Rattle.cw_texpart.specs.Texts.{Lasting, Setting, lasting, text_done}
 use Rattle.cw_texpart.specs.TexParts.{IsWhole}
-use Rattle.cw_index.specs.ListForms.{setting_in}
+use Rattle.cw_index.specs.ListForms.{list_setting}
 use Rattle.cw_index.specs.NameList.{name_ending, name_span, use_notes}
 use Rattle.cw_index.proofs.ListedLaws.{back-refused, front-refused, listed-woven, text-refused}
 use Rattle.cw_index.proofs.names.put_listed.Goals as goal
@@ -30,7 +30,7 @@ print_text-requires g c =
 
 pub returns-in_err-counts : goal.returns-in_err-counts
 returns-in_err-counts g c =
-    let s : Setting = setting_in c.args.t (lasting c.args.book.now) in
+    let s : Setting = list_setting c.args.t (lasting c.args.book.now) in
     text-refused (name_ending s c.args.listed) c.in_ok-put_all.ensures.puts
     (weaves-as
     (ap (λ (span : Span). text_done s Inner false span c.args.book.now.names) c.name_span.ensures)
@@ -39,7 +39,7 @@ returns-in_err-counts g c =
 
 pub returns-in_err-put_all-2 : goal.returns-in_err-put_all-2
 returns-in_err-put_all-2 g c =
-    let s : Setting = setting_in c.args.t (lasting c.args.book.now) in
+    let s : Setting = list_setting c.args.t (lasting c.args.book.now) in
     back-refused (text_done s Inner false (name_span c.args.t.text.now c.args.listed.place))
     (name_ending s c.args.listed) c.in_ok-put_all.ensures.puts
     (weaves-as
@@ -50,7 +50,7 @@ returns-in_err-put_all-2 g c =
 
 pub returns-in_err-put_use_footnotes : goal.returns-in_err-put_use_footnotes
 returns-in_err-put_use_footnotes g c =
-    let s : Setting = setting_in c.args.t (lasting c.args.book.now) in
+    let s : Setting = list_setting c.args.t (lasting c.args.book.now) in
     back-refused (text_done s Inner false (name_span c.args.t.text.now c.args.listed.place))
     (name_ending s c.args.listed) c.in_ok-put_all.ensures.puts
     (weaves-as
@@ -63,7 +63,7 @@ returns-in_err-put_use_footnotes g c =
 
 pub returns : goal.returns
 returns g c =
-    let s : Setting = setting_in c.args.t (lasting c.args.book.now) in
+    let s : Setting = list_setting c.args.t (lasting c.args.book.now) in
     listed-woven (text_done s Inner false (name_span c.args.t.text.now c.args.listed.place))
     (name_ending s c.args.listed) c.in_ok-put_all.ensures.puts
     (weaves-as

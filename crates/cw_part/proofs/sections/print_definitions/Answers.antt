@@ -5,9 +5,9 @@ use Rattle.cw_rules.specs.declared.tokens.Mode.TheVariants.{Definition as Defini
 use Rattle.cw_lines.specs.WritesLaws.{can-after}
 use Rattle.cw_part.specs.declared.definitions.Definition.{Definition}
 use Rattle.cw_part.specs.DefinitionForms.{ahead, loud}
-use Rattle.cw_part.specs.Definitions.{definitions_in, printed}
+use Rattle.cw_part.specs.Definitions.{definitions_in, not_silent}
 use Rattle.cw_part.specs.Parts.{definition_done, definitions_done}
-use Rattle.cw_part.specs.PresentForms.{setting_in}
+use Rattle.cw_part.specs.PresentForms.{part_setting}
 use Rattle.cw_part.specs.WholeTexts.{IsWholeDefinition}
 use Rattle.cw_translator.specs.NameParts.{AreNamesOf}
 use Rattle.cw_texpart.specs.Texts.{Lasting, Setting, lasting, text_done}
@@ -17,12 +17,12 @@ use Rattle.cw_part.proofs.sections.print_definitions.Goals as goal
 
 pub printed-init : goal.printed-init
 printed-init g c =
-    let s : Setting = setting_in c.args.p (lasting c.args.book.now) in
+    let s : Setting = part_setting c.args.p (lasting c.args.book.now) in
     let are : ahead c.over-definitions.result ≡ definitions_in c.args.p.text.now c.args.part =
     c.over-definitions.ensures in
     record {
-      woven = weaving-as (ap (λ (ds : List Definition). definitions_done s true (printed ds)) (sym are))
-          (weaving-begun s (definitions_done s true (printed (definitions_in c.args.p.text.now c.args.part))) _
+      woven = weaving-as (ap (λ (ds : List Definition). definitions_done s true (not_silent ds)) (sym are))
+          (weaving-begun s (definitions_done s true (not_silent (definitions_in c.args.p.text.now c.args.part))) _
           (record { scraps = c.none-counts.ensures.scraps; productions = c.none-counts.ensures.productions }));
       whole = All-filter (λ d. not d.silent) (IsWholeDefinition c.args.p.text.now) (ahead c.over-definitions.result)
           (subst (All (IsWholeDefinition c.args.p.text.now)) (sym are) c.requires.each);
@@ -46,40 +46,40 @@ print_paragraph-requires g c =
 
 pub returns-in_err-more-in-Some : goal.returns-in_err-more-in-Some
 returns-in_err-more-in-Some g c =
-    let s : Setting = setting_in c.args.p (lasting c.args.book.now) in
+    let s : Setting = part_setting c.args.p (lasting c.args.book.now) in
     weaving-stopped (definition_done s c.printed.first (loud c.in-Some.span))
-    (definitions_done s false (printed (ahead c.next_printed.new.self)))
+    (definitions_done s false (not_silent (ahead c.next_printed.new.self)))
     (weaving-as (ap (definitions_done s c.printed.first) c.in-Some.ensures) c.printed.invariant.woven)
     (moved c.args.p (λ (t : Setting). definition_done t c.printed.first (loud c.in-Some.span) c.printed.book.names)
     c.printed.invariant.woven.woven.same
-    (fronted (text_done (setting_in c.args.p (lasting c.printed.book)) Definitions false c.in-Some.span
+    (fronted (text_done (part_setting c.args.p (lasting c.printed.book)) Definitions false c.in-Some.span
     c.printed.book.names) c.opening.ensures c.in_err-more-in-Some.ensures))
     c.from_residual.ensures.1
 
 pub returns-in_err-counts-in-Some : goal.returns-in_err-counts-in-Some
 returns-in_err-counts-in-Some g c =
-    let s : Setting = setting_in c.args.p (lasting c.args.book.now) in
+    let s : Setting = part_setting c.args.p (lasting c.args.book.now) in
     weaving-wanting
     (weaving-next (definition_done s c.printed.first (loud c.in-Some.span))
-    (definitions_done s false (printed (ahead c.next_printed.new.self)))
+    (definitions_done s false (not_silent (ahead c.next_printed.new.self)))
     (weaving-as (ap (definitions_done s c.printed.first) c.in-Some.ensures) c.printed.invariant.woven)
     (moved c.args.p (λ (t : Setting). definition_done t c.printed.first (loud c.in-Some.span) c.printed.book.names)
     c.printed.invariant.woven.woven.same
-    (fronted (text_done (setting_in c.args.p (lasting c.printed.book)) Definitions false c.in-Some.span
+    (fronted (text_done (part_setting c.args.p (lasting c.printed.book)) Definitions false c.in-Some.span
     c.printed.book.names) c.opening.ensures c.in_ok-more-in-Some.ensures))
     (sums-are c.printed.counts c.in_ok-more-in-Some.more))
     c.from_residual-in_err-counts-in-Some.ensures.1
 
 pub printed-preserved : goal.printed-preserved
 printed-preserved g c =
-    let s : Setting = setting_in c.args.p (lasting c.args.book.now) in
+    let s : Setting = part_setting c.args.p (lasting c.args.book.now) in
     record {
       woven = weaving-next (definition_done s c.printed.first (loud c.in-Some.span))
-          (definitions_done s false (printed (ahead c.next_printed.new.self)))
+          (definitions_done s false (not_silent (ahead c.next_printed.new.self)))
           (weaving-as (ap (definitions_done s c.printed.first) c.in-Some.ensures) c.printed.invariant.woven)
           (moved c.args.p (λ (t : Setting). definition_done t c.printed.first
           (loud c.in-Some.span) c.printed.book.names) c.printed.invariant.woven.woven.same
-          (fronted (text_done (setting_in c.args.p (lasting c.printed.book)) Definitions false c.in-Some.span
+          (fronted (text_done (part_setting c.args.p (lasting c.printed.book)) Definitions false c.in-Some.span
           c.printed.book.names) c.opening.ensures c.in_ok-more-in-Some.ensures))
           (record {
             scraps = c.in_ok-counts-in-Some.ensures.scraps;
@@ -95,6 +95,6 @@ printed-smaller g c = omega (arith, ap length c.in-Some.ensures)
 
 pub returns-in-None : goal.returns-in-None
 returns-in-None g c =
-    let s : Setting = setting_in c.args.p (lasting c.args.book.now) in
+    let s : Setting = part_setting c.args.p (lasting c.args.book.now) in
     weaving-ended c.printed.invariant.woven
     (λ names. ap (λ (ds : List Definition). definitions_done s c.printed.first ds names) c.in-None.ensures)

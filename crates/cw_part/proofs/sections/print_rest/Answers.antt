@@ -5,7 +5,7 @@ use Rattle.cw_names.specs.Names.{Entry}
 use Rattle.cw_part.specs.declared.definitions.Definition.{Definition}
 use Rattle.cw_part.specs.Definitions.{printed_definitions}
 use Rattle.cw_part.specs.Parts.{definitions_done, part_done}
-use Rattle.cw_part.specs.PresentForms.{setting_in}
+use Rattle.cw_part.specs.PresentForms.{part_setting}
 use Rattle.cw_part.specs.Sections.{ending, rest_done}
 use Rattle.cw_translator.specs.NameParts.{AreNamesOf}
 use Rattle.cw_texpart.specs.declared.counts.Counts.{Counts}
@@ -44,7 +44,7 @@ print_c_part-requires g c = record {
 
 pub returns-in_err-more : goal.returns-in_err-more
 returns-in_err-more g c =
-    let s : Setting = setting_in c.args.p (lasting c.args.book.now) in
+    let s : Setting = part_setting c.args.p (lasting c.args.book.now) in
     let ds : List Definition = printed_definitions c.args.p.text.now c.args.section.definitions in
     let part : List Entry → Done ℕ = part_done s c.args.section in
     let end : List Entry → Done ℕ = plain (ending s c.args.section) in
@@ -58,7 +58,7 @@ returns-in_err-more g c =
 
 pub returns-in_err-counts-2 : goal.returns-in_err-counts-2
 returns-in_err-counts-2 g c =
-    let s : Setting = setting_in c.args.p (lasting c.args.book.now) in
+    let s : Setting = part_setting c.args.p (lasting c.args.book.now) in
     let ds : List Definition = printed_definitions c.args.p.text.now c.args.section.definitions in
     let part : List Entry → Done ℕ = part_done s c.args.section in
     let end : List Entry → Done ℕ = plain (ending s c.args.section) in
@@ -78,7 +78,7 @@ put_ending-requires g c =
 
 pub returns-in_err-put_ending : goal.returns-in_err-put_ending
 returns-in_err-put_ending g c =
-    let s : Setting = setting_in c.args.p (lasting c.args.book.now) in
+    let s : Setting = part_setting c.args.p (lasting c.args.book.now) in
     let ds : List Definition = printed_definitions c.args.p.text.now c.args.section.definitions in
     let part : List Entry → Done ℕ = part_done s c.args.section in
     let end : List Entry → Done ℕ = plain (ending s c.args.section) in
@@ -91,13 +91,13 @@ returns-in_err-put_ending g c =
     c.in_ok-counts.ensures.same c.in_ok-more.ensures)
     (record { scraps = c.in_ok-counts-2.ensures.scraps; productions = c.in_ok-counts-2.ensures.productions }))
     (bytes-refused (puts-bytes
-    (ap (λ (l : Lasting). ending (setting_in c.args.p l) c.args.section)
+    (ap (λ (l : Lasting). ending (part_setting c.args.p l) c.args.section)
     (c.in_ok-more.ensures.same ∙ c.in_ok-counts.ensures.same)) c.in_err-put_ending.ensures) refl)
     c.from_residual-in_err-put_ending.ensures.1
 
 pub returns : goal.returns
 returns g c =
-    let s : Setting = setting_in c.args.p (lasting c.args.book.now) in
+    let s : Setting = part_setting c.args.p (lasting c.args.book.now) in
     let ds : List Definition = printed_definitions c.args.p.text.now c.args.section.definitions in
     let part : List Entry → Done ℕ = part_done s c.args.section in
     let end : List Entry → Done ℕ = plain (ending s c.args.section) in
@@ -110,6 +110,6 @@ returns g c =
     c.in_ok-counts.ensures.same c.in_ok-more.ensures)
     (record { scraps = c.in_ok-counts-2.ensures.scraps; productions = c.in_ok-counts-2.ensures.productions }))
     (weaves-bytes (puts-bytes
-    (ap (λ (l : Lasting). ending (setting_in c.args.p l) c.args.section)
+    (ap (λ (l : Lasting). ending (part_setting c.args.p l) c.args.section)
     (c.in_ok-more.ensures.same ∙ c.in_ok-counts.ensures.same)) c.in_ok-put_ending.ensures))
     (nothing-more _)

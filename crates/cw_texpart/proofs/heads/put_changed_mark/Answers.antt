@@ -1,7 +1,7 @@
 -- A section without a changed line has no mark.
 use Rattle.std.proofs.Common.{ap, sym}
 use Rattle.cw_lines.specs.WritesLaws.{puts-bytes, puts-none}
-use Rattle.cw_texpart.specs.Heads.{changed_mark}
+use Rattle.cw_print.specs.Walk.{changed_mark}
 use Rattle.cw_texpart.proofs.heads.put_changed_mark.Goals as goal
 
 pub returns : goal.returns

@@ -1,7 +1,8 @@
 -- A head with a depth, and one without.
 use Rattle.std.proofs.Common.{Bool, ap, sym}
 use Rattle.cw_lines.specs.WritesLaws.{puts-bytes}
-use Rattle.cw_texpart.specs.Heads.{depth_bytes, head_by, section_number}
+use Rattle.cw_print.specs.Walk.{section_number}
+use Rattle.cw_texpart.specs.Heads.{depth_bytes, head_by}
 use Rattle.cw_texpart.proofs.heads.put_head.Goals as goal
 
 pub returns-then-section : goal.returns-then-section

@@ -2,7 +2,7 @@
 use Rattle.std.proofs.Common.{rules, ◌≡◌, ap, ◌++◌, List, ℕ}
 use Rattle.std.specs.Prelude.{decimal}
 use Rattle.cw_lines.specs.WritesLaws.{puts-bytes, puts-stop, puts-then}
-use Rattle.cw_texpart.specs.Heads.{changed_mark}
+use Rattle.cw_print.specs.Walk.{changed_mark}
 use Rattle.cw_texpart.proofs.heads.put_number.Goals as goal
 
 pub returns-in_err-put_all : goal.returns-in_err-put_all

@@ -1,7 +1,7 @@
 -- The opening, the depth, the number and the braces around them are put in order, and a failure ends the head.
 use Rattle.std.specs.Prelude.{codes}
 use Rattle.cw_lines.specs.WritesLaws.{puts-longer, puts-stop, puts-then}
-use Rattle.cw_texpart.specs.Heads.{section_number}
+use Rattle.cw_print.specs.Walk.{section_number}
 use Rattle.cw_texpart.proofs.heads.put_starred.Goals as goal
 
 pub returns-in_err-put_all : goal.returns-in_err-put_all

@@ -2,14 +2,14 @@
 use Rattle.std.proofs.Common.{true, sym}
 use Rattle.cw_secnames.specs.Kept.{id}
 use Rattle.cw_secnames.specs.Uses.{name_at}
-use Rattle.cw_texpart.specs.PartForms.{setting_in}
+use Rattle.cw_texpart.specs.PartForms.{tex_setting}
 use Rattle.cw_texpart.specs.Texts.{lasting}
 use Rattle.cw_texpart.proofs.WeavingLaws.{cited, ignored, weaves-as, weaves-nothing}
 use Rattle.cw_texpart.proofs.tex_parts.put_cited.Goals as goal
 
 pub returns-in-None-clause-woven : goal.returns-in-None-clause-woven
 returns-in-None-clause-woven g c =
-    weaves-as (sym (ignored id (setting_in c.args.t.now (lasting c.args.book.now)) true c.args.part
+    weaves-as (sym (ignored id (tex_setting c.args.t.now (lasting c.args.book.now)) true c.args.part
     c.args.book.now.names
     (name_at c.args.part.start c.args.book.now.name_uses) c.in-None.ensures))
     (weaves-nothing c.none.ensures.scraps c.none.ensures.productions)
@@ -17,6 +17,6 @@ returns-in-None-clause-woven g c =
 pub returns-in-Some-clause-woven : goal.returns-in-Some-clause-woven
 returns-in-Some-clause-woven g c =
     weaves-as (cited id c.in-Some._id
-    (setting_in c.args.t.now (lasting c.args.book.now)) true c.args.part c.args.book.now.names
+    (tex_setting c.args.t.now (lasting c.args.book.now)) true c.args.part c.args.book.now.names
     (name_at c.args.part.start c.args.book.now.name_uses) c.in-Some.ensures)
     c.put_inner.ensures.woven

@@ -10,7 +10,7 @@ use Rattle.cw_texpart.specs.declared.counts.Counts.{Counts}
 use Rattle.cw_texpart.specs.Done.{reprinted}
 use Rattle.cw_texpart.specs.Inks.{end_if}
 use Rattle.cw_texpart.specs.Laying.{holds_bytes, inked}
-use Rattle.cw_texpart.specs.PartForms.{TexSetting, setting_in}
+use Rattle.cw_texpart.specs.PartForms.{TexSetting, tex_setting}
 use Rattle.cw_texpart.specs.PieceForms.{piece_is, pieces_in}
 use Rattle.cw_texpart.specs.TexParts.{IsWholePiece, TexPiece, piece_done, pieces_of}
 use Rattle.cw_texpart.specs.Texts.{Lasting}
@@ -23,13 +23,13 @@ use Rattle.cw_texpart.proofs.tex_parts.put_pieces.Goals as goal
 -- the same of what stays of a book and of what is fixed
 moved : {t t' : TexSetting} (holds : Bool) (piece : TexPiece) (names : List Entry) {l l' : Lasting} {old new : Press}
     {result : Result Counts PutError} → t ≡ t' → l ≡ l'
-    → Weaves (setting_in t l) (reprinted (inked holds) (piece_done (setting_in t l) piece names)) old new result
-    → Weaves (setting_in t' l') (reprinted (inked holds) (piece_done (setting_in t' l') piece names)) old new result
+    → Weaves (tex_setting t l) (reprinted (inked holds) (piece_done (tex_setting t l) piece names)) old new result
+    → Weaves (tex_setting t' l') (reprinted (inked holds) (piece_done (tex_setting t' l') piece names)) old new result
 moved {t = t} holds piece names {l' = l'} {old = old} {new = new} {result = result} fixed same woven =
-    subst (λ (t : TexSetting). Weaves (setting_in t l')
-    (reprinted (inked holds) (piece_done (setting_in t l') piece names)) old new result) fixed
-    (subst (λ (l : Lasting). Weaves (setting_in t l)
-    (reprinted (inked holds) (piece_done (setting_in t l) piece names)) old new result) same woven)
+    subst (λ (t : TexSetting). Weaves (tex_setting t l')
+    (reprinted (inked holds) (piece_done (tex_setting t l') piece names)) old new result) fixed
+    (subst (λ (l : Lasting). Weaves (tex_setting t l)
+    (reprinted (inked holds) (piece_done (tex_setting t l) piece names)) old new result) same woven)
 
 pub all-init : goal.all-init
 all-init g c =

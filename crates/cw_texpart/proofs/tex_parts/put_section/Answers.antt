@@ -5,7 +5,7 @@ use Rattle.cw_texpart.specs.Done.{reprinted}
 use Rattle.cw_texpart.specs.Heads.{head}
 use Rattle.cw_texpart.specs.Inks.{laid}
 use Rattle.cw_texpart.specs.Laying.{holds_bytes}
-use Rattle.cw_texpart.specs.PartForms.{TexSetting, setting_in}
+use Rattle.cw_texpart.specs.PartForms.{TexSetting, tex_setting}
 use Rattle.cw_texpart.specs.TexParts.{pieces_done, pieces_of}
 use Rattle.cw_texpart.specs.Texts.{lasting}
 use Rattle.cw_texpart.proofs.LayingLaws.{holds-put}
@@ -29,7 +29,7 @@ returns g c =
     weaves-behind put
     (weaves-as
     (ap (λ (holds : Bool). reprinted (laid holds)
-    (pieces_done (setting_in c.args.t.now (lasting c.args.book.now))
+    (pieces_done (tex_setting c.args.t.now (lasting c.args.book.now))
     (pieces_of c.args.t.now.text c.args.section.tex) c.args.book.now.names))
     (holds-put put ∙ head-holds
     (holds_bytes c.args.out.now) c.args.t.now.text c.args.t.now.section c.args.section))
