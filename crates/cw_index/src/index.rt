@@ -20,6 +20,7 @@ use cw_join::{FlatToken, Joiner};
 use cw_lines::{LineOut, PutError};
 use cw_names::{EntryKind, NameId, Names, SectionRef};
 use cw_phase1::Book;
+use cw_print::is_changed;
 use cw_texpart::{Counts, put_number};
 use cw_tokens::FlatItem;
 use std::alloc::Global;
@@ -119,16 +120,6 @@ fn put_entry<D: Desk>(
         EntryKind::Typewriter => put_braced(b"\\.", text, out, desk),
         EntryKind::User => put_braced(b"\\9", text, out, desk),
     }
-}
-
-// Whether a section holds a changed line.
-fn is_changed(book: &Book, number: u32) -> bool
-    ensures { result ≡ is_changed book.now.outline.sections number }
-{
-    if number == 0 || number > book.section_count() {
-        return false;
-    }
-    book.section(number).changed
 }
 
 // Puts the number of a section.

@@ -12,32 +12,14 @@ ghost use Rattle.cw_part.specs.Footnotes.{
   use_footnotes,
   where_first,
 };
-ghost use Rattle.cw_print.specs.Sources.{defines_first, first_of, is_changed, section_of};
+ghost use Rattle.cw_print.specs.Sources.{defines_first};
 
 use cw_desk::Desk;
 use cw_lines::{LineOut, PutError};
-use cw_phase1::{Book, Section};
+use cw_phase1::Book;
+use cw_print::{defines_first, is_changed};
 use cw_secnames::SecId;
 use cw_texpart::put_number;
-
-// The section of a number, if there is one.
-fn section_of(book: &Book, number: u32) -> Option<Section>
-    ensures { result ≡ section_of book.now.outline.sections number }
-{
-    if number == 0 || number > book.section_count() {
-        return None;
-    }
-    Some(book.section(number))
-}
-
-fn is_changed(book: &Book, number: u32) -> bool
-    ensures { result ≡ is_changed book.now.outline.sections number }
-{
-    match section_of(book, number) {
-        Some(section) => section.changed,
-        None => false,
-    }
-}
 
 // Puts the number of a section of the book.
 fn put_section<D: Desk>(
@@ -201,25 +183,6 @@ fn put_name_footnotes<D: Desk>(
     let others = behind_first(book.sec_names.defined_in(id));
     put_footnote(book, b"\\A", others, out, desk)?;
     put_use_footnotes(book, id, out, desk)
-}
-
-fn first_of(defined: &[u32]) -> u32
-    ensures { result ≡ first_of defined.now }
-{
-    match defined {
-        [] => 0,
-        [first, ..] => *first,
-    }
-}
-
-// Whether a section is the first that defines this name.
-fn defines_first(book: &Book, id: SecId, number: u32) -> bool
-    ensures { result ≡ defines_first book.now.sec_names (Some id) number }
-{
-    if id.index >= book.sec_names.len() {
-        return false;
-    }
-    first_of(book.sec_names.defined_in(id)) == number
 }
 
 /// Puts the footnotes of a section that defines this name, or none: they stand in the first of those sections.

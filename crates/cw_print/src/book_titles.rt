@@ -18,7 +18,8 @@ fn section_of(book: &Book, number: u32) -> Option<Section>
     Some(book.section(number))
 }
 
-fn is_changed(book: &Book, number: u32) -> bool
+/// Whether the section of a number holds a changed line. There may be no such section.
+pub fn is_changed(book: &Book, number: u32) -> bool
     ensures { result ≡ is_changed book.now.outline.sections number }
 {
     match section_of(book, number) {
@@ -70,7 +71,8 @@ pub(crate) fn title_at(book: &Book, place: u32) -> Option<SectionTitle>
     }
 }
 
-fn defines_first(book: &Book, id: SecId, number: u32) -> bool
+/// Whether a section is the first that defines this name, where the book keeps one.
+pub fn defines_first(book: &Book, id: SecId, number: u32) -> bool
     ensures { result ≡ defines_first book.now.sec_names (Some id) number }
 {
     if id.index >= book.sec_names.len() {

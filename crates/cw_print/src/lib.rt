@@ -16,4 +16,5 @@ mod title;
 mod tokens;
 mod walk;
 
+pub use book_titles::{defines_first, is_changed};
 pub use printing::{KeptText, print_answers, print_list};
