@@ -8,9 +8,9 @@ use Rattle.cw_lines.specs.WritesLaws.{puts-stop}
 use Rattle.cw_lines.specs.declared.put_error.PutError.{PutError}
 use Rattle.cw_names.specs.Names.{Entry}
 use Rattle.cw_part.proofs.WovenLaws.{AreSums, Weaving, bytes-refused, no_counts, nothing-more, weaves-bytes}
-use Rattle.cw_part.proofs.WovenLaws.{weaves-refused, weaves-stopped, weaving-begun, weaving-last, weaving-last-stopped}
+use Rattle.cw_part.proofs.WovenLaws.{weaves-stopped, weaving-begun, weaving-last, weaving-last-stopped}
 use Rattle.cw_part.proofs.WovenLaws.{weaving-next}
-use Rattle.cw_texpart.proofs.WeavingLaws.{weaves-behind}
+use Rattle.cw_texpart.proofs.WeavingLaws.{weaves-behind, weaves-refused}
 use Rattle.cw_texpart.specs.declared.counts.Counts.{Counts}
 use Rattle.cw_texpart.specs.Done.{Done, behind, plain, then}
 use Rattle.cw_texpart.specs.Texts.{Setting, lasting}

@@ -16,7 +16,7 @@ use Rattle.cw_texpart.specs.Done.{Done, reprinted}
 use Rattle.cw_texpart.specs.Texts.{Setting}
 use Rattle.cw_texpart.specs.Translation.{TranslatedState, Translates}
 use Rattle.cw_texpart.specs.Weaving.{Press, Weaves}
-use Rattle.cw_part.proofs.WovenLaws.{puts-nothing, weaves-refused}
+use Rattle.cw_texpart.proofs.WeavingLaws.{puts-nothing, weaves-refused}
 
 abbrev reprint : List ℕ → Done ℕ → Done ℕ
 reprint out d = reprinted (λ bytes. out) d

@@ -15,7 +15,8 @@ use Rattle.cw_texpart.specs.declared.counts.Counts.{Counts}
 use Rattle.cw_texpart.specs.Done.{Done}
 use Rattle.cw_texpart.specs.Texts.{Lasting, Setting, setting}
 use Rattle.cw_texpart.specs.Weaving.{Press, Weaves}
-use Rattle.cw_part.proofs.WovenLaws.{AreSums, Weaving, weaves-as}
+use Rattle.cw_texpart.proofs.WeavingLaws.{weaves-as}
+use Rattle.cw_part.proofs.WovenLaws.{AreSums, Weaving}
 
 -- the same of what stays of a book
 pub moved : (p : Present) (d : Setting → Done ℕ) {l l' : Lasting} {old new : Press} {result : Result Counts PutError}

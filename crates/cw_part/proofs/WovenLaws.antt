@@ -21,92 +21,25 @@ use Rattle.std.proofs.Common.{
   arith,
 }
 use Rattle.std.specs.Prelude.{Result, Ok, Err, IsErrAnd}
-use Rattle.std.proofs.lemmas.List.{append-nil, map-append}
-use Rattle.std.proofs.lemmas.List.Sums.{sum_by-append}
-use Rattle.cw_base.specs.declared.flags.Flags.{Flags}
+use Rattle.std.proofs.lemmas.List.{append-nil}
 use Rattle.cw_desk.specs.Told.{Told}
-use Rattle.cw_lines.specs.Line.{LineState, fill}
+use Rattle.cw_lines.specs.Line.{LineState}
 use Rattle.cw_lines.specs.Writes.{Puts}
-use Rattle.cw_lines.specs.WritesLaws.{adds-nothing, puts-bytes, puts-failed, puts-none, puts-stop, puts-then}
+use Rattle.cw_lines.specs.WritesLaws.{puts-bytes, puts-none, puts-stop, puts-then}
 use Rattle.cw_lines.specs.declared.put_error.PutError.{PutError}
 use Rattle.cw_lines.specs.declared.put_error.PutError.TheVariants.{Memory}
 use Rattle.cw_names.specs.Names.{Entry}
 use Rattle.cw_names.specs.declared.xrefs.Occurrence.{Occurrence}
-use Rattle.cw_translator.specs.Counting.{limit_in, productions_in, scraps_in, text_limit, ticks_in}
-use Rattle.cw_table.specs.Normal.{count}
+use Rattle.cw_translator.specs.Counting.{limit_in, productions_in, scraps_in, ticks_in}
 use Rattle.cw_table.specs.Productions.{productions}
-use Rattle.cw_table.specs.Rewriting.{State}
-use Rattle.cw_table.specs.WalkCounts.{ticks}
 use Rattle.cw_texpart.specs.declared.counts.Counts.{Counts}
 use Rattle.cw_texpart.specs.Done.{Done, joined, plain, then}
-use Rattle.cw_texpart.specs.Texts.{Setting, lasting}
-use Rattle.cw_texpart.proofs.WeavingLaws.{is_err}
-use Rattle.cw_texpart.specs.Weaving.{Press, Weaves, mark_at, underlined}
-
--- ## Sums
-
-scraps-append : (xs ys : List State) → scraps_in (xs ++ ys) ≡ scraps_in xs + scraps_in ys
-scraps-append xs ys = sum_by-append (λ state. length state.scraps) xs ys
-
-productions-append : (flags : Flags) (xs ys : List State)
-    → productions_in flags (xs ++ ys) ≡ productions_in flags xs + productions_in flags ys
-productions-append flags xs ys = sum_by-append (λ state. count productions flags state) xs ys
-
-ticks-append : (flags : Flags) (xs ys : List State) → ticks_in flags (xs ++ ys) ≡ ticks_in flags xs + ticks_in flags ys
-ticks-append flags xs ys = sum_by-append (λ state. ticks productions flags state) xs ys
-
-limit-append : (flags : Flags) (xs ys : List State) → limit_in flags (xs ++ ys) ≡ limit_in flags xs + limit_in flags ys
-limit-append flags xs ys = sum_by-append (λ state. text_limit flags state) xs ys
-
--- ## Marks
-
-underlined-by : (none : Bool) (section : ℕ) (xs ys : List ℕ) → (section == 0) ≡ none
-    → underlined section (xs ++ ys) ≡ underlined section xs ++ underlined section ys
-underlined-by true section xs ys is = rw (is, underlined) refl
-underlined-by false section xs ys is = rw (is, underlined) (map-append (mark_at section) xs ys)
-
-underlined-append : (section : ℕ) (xs ys : List ℕ)
-    → underlined section (xs ++ ys) ≡ underlined section xs ++ underlined section ys
-underlined-append section xs ys = underlined-by (section == 0) section xs ys refl
-
-none-by : (none : Bool) (section : ℕ) → (section == 0) ≡ none → underlined section [] ≡ []
-none-by true section is = rw (is, underlined) refl
-none-by false section is = rw (is, underlined) refl
-
-underlined-none : (section : ℕ) → underlined section [] ≡ []
-underlined-none section = none-by (section == 0) section refl
+use Rattle.cw_texpart.specs.Texts.{Setting}
+use Rattle.cw_texpart.specs.Weaving.{Press, Weaves, underlined}
+use Rattle.cw_texpart.proofs.WeavingLaws.{joined-joined, limit-append, productions-append, puts-nothing, scraps-append}
+use Rattle.cw_texpart.proofs.WeavingLaws.{ticks-append, underlined-append, underlined-none, weaves-as, weaves-refused}
 
 -- ## One piece
-
-pub puts-nothing : {U : Type 0} (bytes : List ℕ) (line : LineState) (told : Told) {result : Result U PutError}
-    → IsErrAnd result (λ found. found ≡ Memory) → Puts bytes line line told told result
-puts-nothing bytes line told is =
-    puts-failed Memory (fill line.line bytes) refl refl is (adds-nothing _ told is (λ e. absurd (cc)))
-
--- a call that is refused
-pub weaves-refused : {s : Setting} {d : Done ℕ} {old new : Press} (error : PutError) {result : Result Counts PutError}
-    → Puts d.out old.line new.line old.told new.told result → lasting new.book ≡ lasting old.book
-    → new.steps ≤ old.steps + limit_in s.flags d.ended → IsErrAnd result (λ found. found ≡ error)
-    → Weaves s d old new result
-weaves-refused {s = s} {d = d} {old = old} {new = new} error {result = result} puts same bound is =
-    let e : result ≡ Err error = is_err result error is in
-    let refused : Weaves s d old new (Err error) = record {
-      puts = subst (λ (r : Result Counts PutError). Puts d.out old.line new.line old.told new.told r) e puts;
-      names = tt;
-      occurrences = tt;
-      same = same;
-      scraps = tt;
-      productions = tt;
-      steps_are = tt;
-      bound = bound;
-    } in
-    subst (λ (r : Result Counts PutError). Weaves s d old new r) (sym e) refused
-
--- the same piece
-pub weaves-as : {s : Setting} {d e : Done ℕ} {old new : Press} {result : Result Counts PutError} → d ≡ e
-    → Weaves s d old new result → Weaves s e old new result
-weaves-as {s = s} {old = old} {new = new} {result = result} is woven =
-    subst (λ (d : Done ℕ). Weaves s d old new result) is woven
 
 -- counts of no text, and sums of counts
 abbrev pub no_counts : Counts
@@ -221,10 +154,6 @@ weaves-wanting {s = s} {a = a} b {old = old} {now = now} begun is =
     is
 
 -- ## Several pieces
-
-pub joined-joined : {X : Type 0} (a b c : Done X) → joined (joined a b) c ≡ joined a (joined b c)
-joined-joined a b c =
-    rw (append_assoc a.out b.out c.out, append_assoc a.marks b.marks c.marks, append_assoc a.ended b.ended c.ended) refl
 
 -- A piece was woven, from what `old` was to what `now` is; with what is to come behind it, it is the whole.
 pub record Weaving (s : Setting) (rest : List Entry → Done ℕ) (all : Done ℕ) (old now : Press)

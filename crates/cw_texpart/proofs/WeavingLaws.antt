@@ -124,7 +124,7 @@ pub weaves-piece : {s : Setting} {old new : Press} {result : Result Counts PutEr
 weaves-piece {s = s} holds names is =
     weaves-as (ap (λ (p : Piece). reprinted (inked holds) (piece_done s (piece_is p) names)) (sym is))
 
-joined-joined : {X : Type 0} (a b c : Done X) → joined (joined a b) c ≡ joined a (joined b c)
+pub joined-joined : {X : Type 0} (a b c : Done X) → joined (joined a b) c ≡ joined a (joined b c)
 joined-joined a b c =
     rw (append_assoc a.out b.out c.out, append_assoc a.marks b.marks c.marks, append_assoc a.ended b.ended c.ended) refl
 
@@ -166,17 +166,19 @@ pub weaving-as : {s : Setting} {rest rest' : List TexPiece} {all : Done Ink} {ol
 weaving-as {s = s} {all = all} {old = old} {new = new} {scraps = scraps} {prods = prods} is w =
     subst (λ (pieces : List TexPiece). Weaving s pieces all old new scraps prods) is w
 
-scraps-append : (xs ys : List State) → scraps_in (xs ++ ys) ≡ scraps_in xs + scraps_in ys
+pub scraps-append : (xs ys : List State) → scraps_in (xs ++ ys) ≡ scraps_in xs + scraps_in ys
 scraps-append xs ys = sum_by-append (λ state. length state.scraps) xs ys
 
-productions-append : (flags : Flags) (xs ys : List State) → productions_in flags (xs ++ ys)
+pub productions-append : (flags : Flags) (xs ys : List State) → productions_in flags (xs ++ ys)
     ≡ productions_in flags xs + productions_in flags ys
 productions-append flags xs ys = sum_by-append (λ state. count productions flags state) xs ys
 
-ticks-append : (flags : Flags) (xs ys : List State) → ticks_in flags (xs ++ ys) ≡ ticks_in flags xs + ticks_in flags ys
+pub ticks-append : (flags : Flags) (xs ys : List State) → ticks_in flags (xs ++ ys)
+    ≡ ticks_in flags xs + ticks_in flags ys
 ticks-append flags xs ys = sum_by-append (λ state. ticks productions flags state) xs ys
 
-limit-append : (flags : Flags) (xs ys : List State) → limit_in flags (xs ++ ys) ≡ limit_in flags xs + limit_in flags ys
+pub limit-append : (flags : Flags) (xs ys : List State) → limit_in flags (xs ++ ys)
+    ≡ limit_in flags xs + limit_in flags ys
 limit-append flags xs ys = sum_by-append (λ state. text_limit flags state) xs ys
 
 -- the next piece, from the names that the pieces before it leave

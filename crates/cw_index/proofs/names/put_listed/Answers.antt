@@ -3,7 +3,7 @@ use Rattle.std.proofs.Common.{false, ap, refl, subst, sym}
 use Rattle.cw_base.specs.declared.span.Span.{Span}
 use Rattle.cw_rules.specs.declared.tokens.Mode.TheVariants.{Inner}
 use Rattle.cw_lines.specs.WritesLaws.{can-after, puts-bytes, puts-longer, puts-then}
-use Rattle.cw_part.proofs.WovenLaws.{weaves-as}
+use Rattle.cw_texpart.proofs.WeavingLaws.{weaves-as}
 use Rattle.cw_texpart.specs.Texts.{Lasting, Setting, lasting, text_done}
 use Rattle.cw_texpart.specs.TexParts.{IsWhole}
 use Rattle.cw_index.specs.ListForms.{list_setting}
