@@ -22,7 +22,8 @@ use Rattle.cw_phase1.specs.Entering.{note_by, note_of, is_unended, with_note, no
 use Rattle.cw_phase1.specs.Roles.{Placed, Step, name_step, token_step, token_step_by, behind_begin, placed_by}
 use Rattle.cw_phase1.specs.Roles.{placed_from}
 use Rattle.cw_phase1.specs.Telling.{told_step, told_all}
-use Rattle.cw_phase1.specs.Holding.{Waiting, HeldState, is_name, settled_placed, settled_standing, settled}
+use Rattle.cw_lex.specs.Limbo.{is_name_kind}
+use Rattle.cw_phase1.specs.Holding.{Waiting, HeldState, settled_placed, settled_standing, settled}
 use Rattle.cw_phase1.specs.Holding.{remark_notes, remark_put, notes_by, token_held_by, held_step}
 
 -- The tokens that are settled from here on, where these answers are still to come.
@@ -40,7 +41,7 @@ abbrev pub told_at_end : List MergedLine → HeldState → List Answer → Told
 told_at_end lines h answers = told_all lines (coming h answers) h.told
 
 -- Only names look at what stands behind them.
-free-step : (kind : TokKind) (o : Option Wanted) (headed : Bool) (s : Standing) → is_name kind ≡ false
+free-step : (kind : TokKind) (o : Option Wanted) (headed : Bool) (s : Standing) → is_name_kind kind ≡ false
     → token_step_by o kind headed s ≡ token_step_by o kind false s
 free-step kind (Some next) headed s h = refl
 free-step (kinds.Code at.SectionName) None headed s h = absurd (let wrong : true ≡ false = h in cc)
@@ -48,7 +49,7 @@ free-step (kinds.Code at.FileName) None headed s h = absurd (let wrong : true �
 free-step (kinds.Code code) None headed s h = refl
 free-step kind None headed s h = refl
 
-pub name-free : (kind : TokKind) (headed : Bool) (s : Standing) (span : Span) → is_name kind ≡ true
+pub name-free : (kind : TokKind) (headed : Bool) (s : Standing) (span : Span) → is_name_kind kind ≡ true
     → token_step kind headed s span ≡ name_step headed (behind_begin s)
 name-free (kinds.Code at.SectionName) headed s span h = refl
 name-free (kinds.Code at.FileName) headed s span h = refl
@@ -56,13 +57,13 @@ name-free (kinds.Code code) headed s span h = absurd (let wrong : false ≡ true
 name-free kind headed s span h = absurd (let wrong : false ≡ true = h in cc)
 
 -- Only names are entered.
-void-by : (void : Bool) (kind : TokKind) (text : List ℕ) → is_name kind ≡ false → naming_by void kind text ≡ Void
+void-by : (void : Bool) (kind : TokKind) (text : List ℕ) → is_name_kind kind ≡ false → naming_by void kind text ≡ Void
 void-by void (kinds.Code at.SectionName) text h = absurd (let wrong : true ≡ false = h in cc)
 void-by void (kinds.Code at.FileName) text h = absurd (let wrong : true ≡ false = h in cc)
 void-by void (kinds.Code code) text h = refl
 void-by void kind text h = refl
 
-pub enters-nothing : (t : Seen) (kept : List SecName) → is_name t.kind ≡ false → enters t kept ≡ None
+pub enters-nothing : (t : Seen) (kept : List SecName) → is_name_kind t.kind ≡ false → enters t kept ≡ None
 enters-nothing t kept h = ap (λ n. entering n kept)
     (void-by (is_void (drop 2 t.text)) t.kind (name_text t.text) h)
 
@@ -96,7 +97,7 @@ quiet s kept told remark notes = record {
 
 token-told : (b : Bool) (lines : List MergedLine) (t : Seen) (s : Standing) (kept : List SecName) (told : Told)
     (remark : Option Answer) (notes : List NoteRecord) (answers : List Answer)
-    → is_name t.kind ≡ b
+    → is_name_kind t.kind ≡ b
     → told_at_end lines (quiet s kept told remark notes) (Token t ∷ answers)
     ≡ told_at_end lines (token_held_by b lines t (quiet s kept told remark notes)) answers
 token-told true lines t s kept told remark notes answers h =
@@ -122,7 +123,8 @@ pub told-passes : (lines : List MergedLine) (answer : Answer) (h : HeldState) (a
     → told_at_end lines h (answer ∷ answers) ≡ told_at_end lines (held_step lines answer h) answers
 told-passes lines (Token t) h answers =
     settle-told lines h (Token t ∷ answers) ∙
-    token-told (is_name t.kind) lines t (settled_standing (is_head_sign t.kind) h.pass.waiting h.pass.standing) h.kept
+    token-told (is_name_kind t.kind) lines t (settled_standing (is_head_sign t.kind) h.pass.waiting h.pass.standing)
+        h.kept
     (told_all lines (settled_placed (is_head_sign t.kind) h.pass.waiting h.pass.standing) h.told) None
     (h.notes ++ remark_notes lines h.remark) answers refl
 told-passes lines (Begin t) h answers = settle-told lines h (Begin t ∷ answers)
@@ -135,7 +137,8 @@ told-passes lines (Note kind place) h answers = ap (λ ps. told_all lines ps h.t
 abbrev pub kept_at_end : HeldState → List Answer → List SecName
 kept_at_end h answers = kept_after h.kept answers
 
-kept-token : (b : Bool) (lines : List MergedLine) (t : Seen) (h : HeldState) (answers : List Answer) → is_name t.kind
+kept-token : (b : Bool) (lines : List MergedLine) (t : Seen) (h : HeldState) (answers : List Answer)
+    → is_name_kind t.kind
     ≡ b
     → kept_after (kept_behind t h.kept) answers ≡ kept_at_end (token_held_by b lines t h) answers
 kept-token true lines t h answers e = refl
@@ -144,7 +147,7 @@ kept-token false lines t h answers e = ap (λ (o : Option Entering). kept_after 
 
 pub kept-passes : (lines : List MergedLine) (answer : Answer) (h : HeldState) (answers : List Answer)
     → kept_at_end h (answer ∷ answers) ≡ kept_at_end (held_step lines answer h) answers
-kept-passes lines (Token t) h answers = kept-token (is_name t.kind) lines t
+kept-passes lines (Token t) h answers = kept-token (is_name_kind t.kind) lines t
     (settled lines (is_head_sign t.kind) (remark_put lines h)) answers refl
 kept-passes lines (Begin t) h answers = refl
 kept-passes lines (Finish t) h answers = refl
@@ -170,7 +173,8 @@ put-finish : (lines : List MergedLine) (r : Option Answer) (t : Seen) (answers :
 put-finish lines None t answers = refl
 put-finish lines (Some note) t answers = refl
 
-notes-token : (b : Bool) (lines : List MergedLine) (t : Seen) (h : HeldState) (answers : List Answer) → is_name t.kind
+notes-token : (b : Bool) (lines : List MergedLine) (t : Seen) (h : HeldState) (answers : List Answer)
+    → is_name_kind t.kind
     ≡ b → h.remark ≡ None
     → h.notes ++ scanned_notes lines (with_note (note_of t h.kept) (noted_from (kept_behind t h.kept) answers))
     ≡ notes_at_end lines (token_held_by b lines t h) answers
@@ -208,7 +212,8 @@ notes-pass lines (Token t) h answers =
     (with_note (note_of t h.kept) (noted_from (kept_behind t h.kept) answers))) ∙
     (sym (append_assoc h.notes (remark_notes lines h.remark)
     (scanned_notes lines (with_note (note_of t h.kept) (noted_from (kept_behind t h.kept) answers)))) ∙
-    notes-token (is_name t.kind) lines t (settled lines (is_head_sign t.kind) (remark_put lines h)) answers refl refl)
+    notes-token (is_name_kind t.kind) lines t (settled lines (is_head_sign t.kind) (remark_put lines h)) answers refl
+        refl)
 notes-pass lines (Begin t) h answers =
     ap (λ ns. h.notes ++ ns) (put-begin lines h.remark t (noted_from h.kept answers)) ∙
     sym (append_assoc h.notes (remark_notes lines h.remark) (scanned_notes lines (noted_from h.kept answers)))

@@ -27,7 +27,7 @@ use Rattle.cw_phase1.specs.declared.roles.Role.TheVariants as roles
 use Rattle.cw_phase1.specs.declared.roles.Standing.{Standing}
 use Rattle.cw_phase1.specs.declared.sections.Section.{Section}
 use Rattle.cw_phase1.specs.Entering.{entered_name, kept_behind, name_of_entering}
-use Rattle.cw_phase1.specs.Holding.{is_name}
+use Rattle.cw_lex.specs.Limbo.{is_name_kind}
 use Rattle.cw_phase1.specs.Roles.{Placed, Step, name_step, code_step, free_step, token_step, token_step_by, word_role}
 use Rattle.cw_phase1.specs.Roles.{head_role, behind_begin, placed_by, placed_from}
 use Rattle.cw_phase1.specs.Sections.{is_section_code, section_at, sections_of}
@@ -61,7 +61,7 @@ name-fits false t name s = record {
   plain = λ h. absurd (let wrong : true ≡ false = h in cc);
 }
 
-fits-by : (b : Bool) (t : Seen) (kept : List SecName) (headed : Bool) (s : Standing) → is_name t.kind ≡ b
+fits-by : (b : Bool) (t : Seen) (kept : List SecName) (headed : Bool) (s : Standing) → is_name_kind t.kind ≡ b
     → IsFit (placed_by t (entered_name t kept) (token_step t.kind headed s t.span))
 fits-by true t kept headed s e =
     subst (λ (step : Step). IsFit (placed_by t (entered_name t kept) step)) (sym (name-free t.kind headed s t.span e))
@@ -74,7 +74,7 @@ fits-by false t kept headed s e = record {
 pub fits : (s : Standing) (kept : List SecName) (answers : List Answer) → AreFit (placed_from s kept answers)
 fits s kept [] = tt
 fits s kept (Token t ∷ answers) = (
-  fits-by (is_name t.kind) t kept (has_sign answers) s refl,
+  fits-by (is_name_kind t.kind) t kept (has_sign answers) s refl,
   fits (token_step t.kind (has_sign answers) s t.span).next (kept_behind t kept) answers,
 )
 fits s kept (Begin t ∷ answers) = fits (behind_begin s) kept answers

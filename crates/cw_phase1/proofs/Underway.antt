@@ -49,7 +49,8 @@ use Rattle.cw_rules.specs.declared.tokens.Mode.TheVariants as modes
 use Rattle.cw_phase1.proofs.Passing.{told_at_end, kept_at_end, notes_at_end, told-passes, kept-passes, notes-pass}
 use Rattle.cw_phase1.proofs.Passing.{settle-told}
 use Rattle.cw_phase1.specs.Holding.{Waiting, HeldState, waiting_of, settled_placed, settled_standing, settled}
-use Rattle.cw_phase1.specs.Holding.{remark_notes, remark_put, is_name, token_held_by, begun_held, ended_held}
+use Rattle.cw_lex.specs.Limbo.{is_name_kind}
+use Rattle.cw_phase1.specs.Holding.{remark_notes, remark_put, token_held_by, begun_held, ended_held}
 use Rattle.cw_phase1.specs.Holding.{noted_held, held_step}
 use Rattle.cw_phase1.specs.Ready.{IsToken, AreBefore, WaitsBehind, CanSettle, WaitingIsKept, held_start}
 use Rattle.cw_phase1.proofs.NameLaws.{category-length}
@@ -351,7 +352,7 @@ ready-token : (lines : List MergedLine) (t : Seen) (from : ℕ) (h : HeldState) 
     → length h.kept ≤ length (held_step lines (Token t) h).kept
     → length (held_step lines (Token t) h).kept ≤ length h.kept + 1 → IsReady t.span.end (held_step lines (Token t) h)
 ready-token lines t from h token le r id grows one =
-    token-ready (is_name t.kind) lines t from (settled lines (is_head_sign t.kind) (remark_put lines h)) token le
+    token-ready (is_name_kind t.kind) lines t from (settled lines (is_head_sign t.kind) (remark_put lines h)) token le
     (ready-settled lines (is_head_sign t.kind) from h r) id grows one r.few
 
 can-settle-by : (w : Option Waiting) (from : ℕ) (uses : List NameUse) → WaitsHere w from uses → WaitsBehind w uses

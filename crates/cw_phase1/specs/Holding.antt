@@ -3,6 +3,7 @@ use Rattle.std.specs.Prelude.{ℕ, ◌++◌, Bool, true, false, List, [], ◌∷
 use Rattle.cw_base.specs.declared.notes.Note.{Note as NoteRecord}
 use Rattle.cw_base.specs.declared.notes.NoteKind.{NoteKind}
 use Rattle.cw_base.specs.Web.{MergedLine}
+use Rattle.cw_lex.specs.Limbo.{is_name_kind}
 use Rattle.cw_rules.specs.Answers.{Seen, seen, Answer, Token, Begin, Finish, Note, is_head_sign}
 use Rattle.cw_rules.specs.declared.codes.Code.TheVariants as at
 use Rattle.cw_rules.specs.declared.tokens.TokKind.{TokKind}
@@ -93,11 +94,6 @@ noted_held lines kind place h = record h { remark = None; notes = h.notes ++ not
 
 -- ## Tokens
 
-abbrev pub is_name : TokKind → Bool
-is_name (kinds.Code at.SectionName) = true
-is_name (kinds.Code at.FileName) = true
-is_name kind = false
-
 -- Such a token tells nothing of words and names where no head is open, and heads nothing.
 abbrev pub is_silent : TokKind → Bool
 is_silent kinds.Identifier = false
@@ -130,7 +126,7 @@ token_held_by true lines t h = name_held t h
 token_held_by false lines t h = plain_held lines t h
 
 abbrev pub token_held : List MergedLine → Seen → HeldState → HeldState
-token_held lines t h = token_held_by (is_name t.kind) lines t h
+token_held lines t h = token_held_by (is_name_kind t.kind) lines t h
 
 abbrev pub begun_held : HeldState → HeldState
 begun_held h = record h { pass = record h.pass { standing = behind_begin h.pass.standing } }

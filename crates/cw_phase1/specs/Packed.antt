@@ -24,8 +24,8 @@ depth_of (rows.Digits s) = Digits (span_of s)
 abbrev pub name_of : Option ℕ → Option SecId
 name_of name = option_map id name
 
-abbrev pub section_of : Row → Section
-section_of r = record {
+abbrev pub unpacked : Row → Section
+unpacked r = record {
   starred = r.starred;
   depth = depth_of r.depth;
   tex = record { start = r.start; «end» = r.tex_end };

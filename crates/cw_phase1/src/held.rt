@@ -1,6 +1,7 @@
 //! What is held behind the answers of the scanner that came.
 ghost use Rattle.std.specs.Prelude.{◌≡◌, ◌+◌, ◌<◌, ◌≤◌, true, false, None, IfOk, List, OnOk, length};
 ghost use Rattle.cw_base.specs.Web.{MergedLine};
+ghost use Rattle.cw_lex.specs.Limbo.{is_name_kind};
 ghost use Rattle.cw_rules.specs.Answers.{seen, Token, Note as NoteAnswer};
 ghost use Rattle.cw_rules.specs.Answers.{is_head_sign};
 ghost use Rattle.cw_phase1.specs.Entering.{is_unended, note_on};
@@ -9,7 +10,6 @@ ghost use Rattle.cw_phase1.specs.Holding.{
   ended_held,
   held_of,
   held_step,
-  is_name,
   is_silent,
   name_held,
   plain_held,
@@ -57,7 +57,7 @@ pub(crate) struct Held<'a> {
 }
 
 fn is_name(kind: TokKind) -> bool
-    ensures { result ≡ is_name kind }
+    ensures { result ≡ is_name_kind kind }
 {
     matches!(kind, TokKind::Code(Code::SectionName | Code::FileName))
 }

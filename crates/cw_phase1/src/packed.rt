@@ -1,6 +1,6 @@
 //! Sections in a row, as they lie in memory: with places of 32 bits.
 ghost use Rattle.std.specs.Prelude.{◌≡◌, ◌<◌, [], ◌∷◌, ◌++◌, Some, IfOk, OnOk, length, slice_get};
-ghost use Rattle.cw_phase1.specs.Packed.{depth_of, name_of, section_of, span_of, whole_section};
+ghost use Rattle.cw_phase1.specs.Packed.{depth_of, name_of, span_of, unpacked, whole_section};
 
 use crate::{Depth, Section};
 use cw_base::{Memory, Span};
@@ -59,11 +59,11 @@ pub(crate) struct SectionList {
 impl Model for SectionList {
     ghost use Rattle.std.specs.Prelude.{List, map};
     ghost use Rattle.cw_phase1.specs.declared.sections.Section.{Section};
-    ghost use Rattle.cw_phase1.specs.Packed.{section_of};
+    ghost use Rattle.cw_phase1.specs.Packed.{unpacked};
 
     ghost Value = { List Section };
 
-    ghost view = { λ s. map section_of s.rows.items };
+    ghost view = { λ s. map unpacked s.rows.items };
 }
 
 /// A number in 32 bits; there is no room for a greater one.
@@ -152,7 +152,7 @@ fn name_of(name: Option<u32>) -> Option<SecId>
 
 impl Row {
     fn of(section: &Whole) -> Result<Row, Memory>
-        ensures { IfOk result (λ row. section_of row ≡ whole_section section.now) }
+        ensures { IfOk result (λ row. unpacked row ≡ whole_section section.now) }
     {
         Ok(Row {
             start: short(section.start)?,
@@ -167,7 +167,7 @@ impl Row {
     }
 
     fn section(&self) -> Section
-        ensures { result ≡ section_of self.now }
+        ensures { result ≡ unpacked self.now }
     {
         Section {
             starred: self.starred,

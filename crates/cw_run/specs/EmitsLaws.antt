@@ -5,14 +5,14 @@ use Rattle.std.specs.FinMap.{get}
 use Rattle.std.proofs.Common.{◌≡◌, ℕ, ◌≤◌, List, [], ◌∷◌, ◌++◌, Option, Some, None, Result, Ok, Err, refl, sym, ap, ◌∙◌}
 use Rattle.std.proofs.Common.{subst, arith}
 use Rattle.std.proofs.lemmas.List.{append-nil}
-use Rattle.std.proofs.lemmas.Result.{IfOk-weaker, on_ok_weaker, on_err_weaker, err_from_is_err_and}
+use Rattle.std.proofs.lemmas.Result.{IfOk-weaker, on_ok_weaker, on_err_weaker}
 use Rattle.cw_base.specs.declared.event.Event.{Event}
 use Rattle.cw_base.specs.declared.event.Out.{Out}
 use Rattle.cw_base.specs.declared.exit.Exit.{Exit}
 use Rattle.cw_desk.specs.Journal.{grown, GrownByPart}
 use Rattle.cw_desk.specs.JournalLaws.{grown-none, grown-after, part-first, part-same, part-second}
 use Rattle.cw_base.specs.declared.event.Out.TheVariants.{Term, Tex, Idx, Scn}
-use Rattle.cw_desk.specs.Meaning.{Files, NamedFiles, Rose, has_draft, is_open, with_draft, with_output}
+use Rattle.cw_desk.specs.Meaning.{Files, NamedFiles, has_draft, is_open, with_draft, with_output}
 use Rattle.cw_desk.specs.MeaningLaws.{drafted-is_open, made-is_open}
 use Rattle.cw_desk.specs.Told.{Told, OnlyReads, Turns}
 use Rattle.cw_desk.specs.declared.desk.MadeOut.{MadeOut}
@@ -22,19 +22,12 @@ use Rattle.cw_lines.specs.Compared.{behind, left, left_behind}
 use Rattle.cw_lines.specs.Cut.{cut, written}
 use Rattle.cw_lines.specs.Line.{LineState}
 use Rattle.cw_lines.specs.Writes.{Adds, Puts, Writes}
-use Rattle.cw_lines.specs.WritesLaws.{adds-nothing, puts-new, puts-new_compared}
+use Rattle.cw_lines.specs.WritesLaws.{adds-nothing, is_err, rose-later, puts-new, puts-new_compared}
 use Rattle.cw_lines.specs.declared.put_error.PutError.{PutError}
 use Rattle.cw_lines.specs.declared.put_error.PutError.TheVariants.{Memory}
 use Rattle.cw_run.specs.Emits.{Emits, EmitsBy, Faults, Run, Runs, RunsBy}
 use Rattle.cw_run.specs.Files.{IsBegun, OutFile, answered, begun, file_events, is_end, is_same}
 use Rattle.cw_run.specs.Files.{settled, settled_if}
-
-is_err : {T E : Type 0} (result : Result T E) (error : E) → IsErrAnd result (λ found. found ≡ error)
-    → result ≡ Err error
-is_err result error is = let p = err_from_is_err_and result is in p.1 ∙ ap Err p.2
-
-rose-later : (a b c : ℕ) → a ≤ b → Rose b c → Rose a c
-rose-later a b c kept rose = grind arith
 
 -- a call that only prints
 pub adds-emits : {T : Type 0} {events : List Event} {a b : Told} {result : Result T PutError} → Adds events a b result

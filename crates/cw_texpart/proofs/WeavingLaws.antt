@@ -5,14 +5,13 @@ use Rattle.std.specs.Prelude.{Result, Ok, Err, IfOk, IsErrAnd, Option, Some, Non
 use Rattle.std.specs.Option.{option_map}
 use Rattle.std.proofs.lemmas.List.{append-nil, map-append}
 use Rattle.std.proofs.lemmas.List.Sums.{sum_by-append}
-use Rattle.std.proofs.lemmas.Result.{err_from_is_err_and}
 use Rattle.cw_base.specs.declared.flags.Flags.{Flags}
 use Rattle.cw_base.specs.declared.span.Span.{Span}
 use Rattle.cw_desk.specs.Told.{Told}
 use Rattle.cw_rules.specs.declared.tokens.Mode.TheVariants.{Inner}
 use Rattle.cw_lines.specs.Line.{LineState, fill}
 use Rattle.cw_lines.specs.Writes.{HasPut, Puts}
-use Rattle.cw_lines.specs.WritesLaws.{adds-nothing, puts-bytes, puts-failed, puts-none, puts-stop, puts-then}
+use Rattle.cw_lines.specs.WritesLaws.{adds-nothing, is_err, puts-bytes, puts-failed, puts-none, puts-stop, puts-then}
 use Rattle.cw_lines.specs.declared.put_error.PutError.{PutError}
 use Rattle.cw_lines.specs.declared.put_error.PutError.TheVariants.{Memory}
 use Rattle.cw_names.specs.Names.{Entry}
@@ -43,10 +42,6 @@ pub puts-nothing : {U : Type 0} (bytes : List ℕ) (line : LineState) (told : To
     → IsErrAnd result (λ found. found ≡ Memory) → Puts bytes line line told told result
 puts-nothing bytes line told is = puts-failed Memory (fill line.line bytes) refl refl is
     (adds-nothing _ told is (λ e. absurd (cc)))
-
-pub is_err : {T E : Type 0} (result : Result T E) (error : E) → IsErrAnd result (λ found. found ≡ error) → result
-    ≡ Err error
-is_err result error is = let p = err_from_is_err_and result is in p.1 ∙ ap Err p.2
 
 -- a call that is refused
 pub weaves-refused : {s : Setting} {d : Done ℕ} {old new : Press} (error : PutError) {result : Result Counts PutError}
