@@ -1,5 +1,6 @@
 -- A scan whose answers may be kept: those that are still to come, and all of them where each is kept.
-use Rattle.std.specs.Prelude.{◌≡◌, ℕ, ◌^◌, ◌<◌, ◌⊎◌, Bool, true, false, List, [], ◌∷◌, ◌++◌, length, Option, Some, None}
+use Rattle.std.specs.Prelude.{◌≡◌, ℕ, ◌^◌, ◌<◌, ◌⊎◌, Bool, true, List, [], ◌∷◌, ◌++◌, length, Option, Some, None}
+use Rattle.std.specs.Prelude.{if◌then◌else◌}
 use Rattle.std.specs.List.{All}
 use Rattle.cw_base.specs.declared.notes.NoteKind.{NoteKind}
 use Rattle.cw_rules.specs.Answers.{Answer, Token, Begin, Finish, Note}
@@ -13,8 +14,7 @@ pub record Reading : Type 0 where
 
 -- where each answer is kept, all are known
 abbrev pub all_of : Bool → List Answer → Option (List Answer)
-all_of true answers = Some answers
-all_of false answers = None
+all_of complete answers = if complete then Some answers else None
 
 -- All answers are known as before, or no more.
 abbrev pub Stays : Option (List Answer) → Option (List Answer) → Type 0

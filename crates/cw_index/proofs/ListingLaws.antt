@@ -38,7 +38,7 @@ pub moved : (t : ListText) (l : Listed) (names : List Entry) {before now : Lasti
     → Weaves (list_setting t before) (listed_done (list_setting t before) l names) old new result
 moved t l names {old = old} {new = new} {result = result} same woven =
     subst (λ (b : Lasting). Weaves (list_setting t b) (listed_done (list_setting t b) l names) old new result) same
-        woven
+    woven
 
 abbrev pub sum : Counts → Counts → Counts
 sum first more = record { scraps = first.scraps + more.scraps; productions = first.productions + more.productions }

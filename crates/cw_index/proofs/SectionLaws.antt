@@ -20,10 +20,10 @@ printed-append f only xs ys = ap (flat_map f) (filter-append (is_listed only) xs
 pub printed-more : (f : SectionRef → List ℕ) (only : Bool) (ms : List SectionRef) (i : ℕ) (d : SectionRef)
     → i < length ms
     → listed_bytes f only (drop i ms) ≡ listed_bytes f only (slice_index_or ms i d ∷ [])
-        ++ listed_bytes f only (drop (i + 1) ms)
+    ++ listed_bytes f only (drop (i + 1) ms)
 printed-more f only ms i d within =
     ap (listed_bytes f only) (drop_more ms i d within)
-        ∙ printed-append f only (slice_index_or ms i d ∷ []) (drop (i + 1) ms)
+    ∙ printed-append f only (slice_index_or ms i d ∷ []) (drop (i + 1) ms)
 
 pub printed-none : (f : SectionRef → List ℕ) (only : Bool) (m : SectionRef) → is_listed only m ≡ false
     → listed_bytes f only (m ∷ []) ≡ []

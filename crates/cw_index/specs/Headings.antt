@@ -1,5 +1,5 @@
 -- The rows of the index as they lie in memory.
-use Rattle.std.specs.Prelude.{◌≡◌, Bool, true, false, List, Some, slice_get}
+use Rattle.std.specs.Prelude.{◌≡◌, Bool, List, Some, slice_get, if◌then◌else◌}
 use Rattle.std.specs.BTreeSet.{insert_key}
 use Rattle.std.specs.declared.cmp.Ordering.{Ordering}
 use Rattle.std.specs.Ordering.{nat_cmp, on, then_cmp}
@@ -20,8 +20,7 @@ row_of h = record { name = h.id.index; entry = entry_of h; sections = listed h.u
 
 -- a row at its place, if it has sections
 abbrev pub entered_by : Bool → Row → List Row → List Row
-entered_by true row rows = insert_key row_cmp rows row
-entered_by false row rows = rows
+entered_by any row rows = if any then insert_key row_cmp rows row else rows
 
 abbrev pub entered : Row → List Row → List Row
 entered row rows = entered_by (has_sections row.sections) row rows

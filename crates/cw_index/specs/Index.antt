@@ -1,5 +1,5 @@
 -- The index, as it is printed: a line for each row.
-use Rattle.std.specs.Prelude.{ℕ, Bool, true, false, List, [], ◌++◌, codes}
+use Rattle.std.specs.Prelude.{ℕ, Bool, List, [], ◌++◌, codes, if◌then◌else◌}
 use Rattle.std.specs.List.{flat_map}
 use Rattle.cw_base.specs.declared.category.Cat.{Cat}
 use Rattle.cw_names.specs.declared.entry.EntryKind.{EntryKind}
@@ -17,8 +17,7 @@ use Rattle.cw_index.specs.Mentions.{Row, index_rows}
 
 -- Identifiers print as they do in C text; the other texts are TeX's and stay as they are.
 abbrev pub word_bytes : Bool → List ℕ → List ℕ
-word_bytes true text = ident_bytes text
-word_bytes false text = reserved_bytes text
+word_bytes is_exp text = if is_exp then ident_bytes text else reserved_bytes text
 
 abbrev pub name_bytes : EntryKind → Cat → List ℕ → List ℕ
 name_bytes Ident category text = word_bytes (is_exp category) text
@@ -31,8 +30,7 @@ entry_bytes entry = name_bytes entry.kind entry.category entry.text
 
 -- a section, underlined or not
 abbrev pub number_bytes : Bool → List ℕ → List ℕ
-number_bytes true number = codes "\\[" ++ (number ++ codes "]")
-number_bytes false number = number
+number_bytes underlined number = if underlined then codes "\\[" ++ (number ++ codes "]") else number
 
 abbrev pub section_bytes : List Section → SectionRef → List ℕ
 section_bytes sections m =

@@ -1,5 +1,6 @@
 -- The rows of the index: its entries in their order, each with the sections that are listed for it.
 use Rattle.std.specs.Prelude.{ℕ, ◌+◌, ◌==◌, ◌&&◌, ◌||◌, Bool, true, false, nat_lt, List, [], ◌∷◌, length, filter}
+use Rattle.std.specs.Prelude.{if◌then◌else◌}
 use Rattle.std.specs.declared.cmp.Ordering.{Ordering}
 use Rattle.std.specs.Ordering.{on}
 use Rattle.cw_names.specs.declared.entry.EntryKind.{EntryKind}
@@ -28,8 +29,7 @@ abbrev pub needs_underline : ℕ → Entry → Bool
 needs_underline name entry = is_ident entry.kind && (nat_lt name (length built_in_words) || length entry.text == 1)
 
 abbrev pub is_listed : Bool → SectionRef → Bool
-is_listed true m = m.underlined
-is_listed false m = true
+is_listed underlined_only m = if underlined_only then m.underlined else true
 
 abbrev pub listed : Bool → List SectionRef → List SectionRef
 listed underlined_only ms = filter (is_listed underlined_only) ms
@@ -47,8 +47,7 @@ has_sections [] = false
 has_sections (m ∷ ms) = true
 
 abbrev pub with_row : Bool → Row → List Row → List Row
-with_row true row rows = row ∷ rows
-with_row false row rows = rows
+with_row any row rows = if any then row ∷ rows else rows
 
 -- the rows of the names from a position on
 abbrev pub rows_from : ℕ → List Entry → List Occurrence → List Row

@@ -4,6 +4,7 @@ use Rattle.std.specs.Prelude.{slice_get}
 use Rattle.std.specs.declared.cmp.Ordering.{Ordering}
 use Rattle.std.specs.Ordering.{nat_cmp, on, then_cmp}
 use Rattle.std.specs.Cmp.Lexicographic.{slice_cmp}
+use Rattle.cw_base.specs.Conditions.{list_if}
 use Rattle.cw_rules.specs.Bytes.{at_sign}
 use Rattle.cw_secnames.specs.Kept.{SecName, id}
 use Rattle.cw_secnames.specs.Uses.{NameUse, name_at}
@@ -36,8 +37,7 @@ abbrev pub has_reference : SecName → Bool
 has_reference n = has_any n.defined || (has_any n.used || has_any n.cited)
 
 abbrev pub stand_by : Bool → SecName → Listed → List Stand
-stand_by true n listed = record { kind = n.kind; text = n.text; listed = listed } ∷ []
-stand_by false n listed = []
+stand_by referred n listed = list_if referred (record { kind = n.kind; text = n.text; listed = listed } ∷ [])
 
 abbrev pub kept_stand : Option SecName → Listed → List Stand
 kept_stand None listed = []
@@ -50,8 +50,7 @@ named_stand kept (Some k) place = kept_stand (slice_get kept k) (record { id = i
 
 -- A section name begins with `@`.
 abbrev pub stand_if : Bool → List SecName → List NameUse → ℕ → List Stand
-stand_if true kept uses place = named_stand kept (name_at place uses) place
-stand_if false kept uses place = []
+stand_if here kept uses place = list_if here (named_stand kept (name_at place uses) place)
 
 -- the names that stand in a text whose first byte has this place
 abbrev pub stands_from : List SecName → List NameUse → ℕ → List ℕ → List Stand

@@ -1,5 +1,5 @@
 -- What is printed of a list to which more may come, and what is printed when nothing more comes.
-use Rattle.std.specs.Prelude.{ℕ, ◌++◌, Bool, true, false, List, [], ◌∷◌, Some, None, length, drop, fold}
+use Rattle.std.specs.Prelude.{ℕ, ◌++◌, Bool, true, false, List, [], ◌∷◌, Some, None, length, drop, fold, if◌then◌else◌}
 use Rattle.std.specs.List.{list_any}
 use Rattle.cw_trees.specs.declared.Control.{Control}
 use Rattle.cw_trees.specs.Printing.{Printable, backup_bytes, break_bytes, indents, inner_run, is_cancel, opened}
@@ -8,8 +8,7 @@ use Rattle.cw_join.specs.Stretches.{Stretch, Run, Other, stretches, is_inner}
 
 -- what a run prints at once: its indents, which are left out in inner C text
 abbrev pub run_front : Bool → List Control → List ℕ
-run_front true run = []
-run_front false run = indents run
+run_front early run = if early then [] else indents run
 
 -- what it prints when it has ended: its break or blank and its backup, which a Cancel takes away
 abbrev pub run_back : Bool → List Control → List ℕ

@@ -1,6 +1,7 @@
 -- What is kept of a run.
 use Rattle.std.specs.Prelude.{ℕ, ◌++◌, ◌||◌, Bool, true, false, List, [], ltb, max, codes}
 use Rattle.std.specs.List.{list_any}
+use Rattle.cw_base.specs.Conditions.{list_if}
 use Rattle.cw_trees.specs.declared.Control.{Control}
 use Rattle.cw_trees.specs.Printing.{break_bytes, is_backup, is_cancel, strength, strongest}
 use Rattle.cw_join.specs.declared.run.Pause.{Pause}
@@ -38,8 +39,7 @@ backs true run = false
 backs false run = elim run.cancelled [ true ↦ false | false ↦ run.backed ]
 
 abbrev pub step_bytes : Bool → List ℕ
-step_bytes true = codes "\\4"
-step_bytes false = []
+step_bytes backed = list_if backed (codes "\\4")
 
 abbrev pub state_back : Bool → RunState → List ℕ
 state_back inner run = pause_bytes inner run ++ step_bytes (backs inner run)

@@ -1,6 +1,6 @@
 -- What an item prints where it is in no run.
 use Rattle.std.specs.Prelude.{◌≡◌, ℕ, ◌<◌, ◌||◌, Bool, codes, eqb, true, false, List, [], ◌∷◌, option_map, slice_get}
-use Rattle.std.specs.Prelude.{None, unwrap_or}
+use Rattle.std.specs.Prelude.{None, unwrap_or, if◌then◌else◌}
 use Rattle.cw_names.specs.Names.{Entry}
 use Rattle.cw_tokens.specs.declared.flat.FlatItem.{FlatItem}
 use Rattle.cw_tokens.specs.declared.flat.FlatItem.TheVariants.{Source, Ident, Reserved, Control, Open, Close}
@@ -22,8 +22,7 @@ BeginsMarked (byte ∷ bytes) = is_marked byte ≡ true
 
 -- the macro of names with lower case letters, or of names without
 abbrev pub font_bytes : Bool → List ℕ
-font_bytes true = codes "\\\\{"
-font_bytes false = codes "\\.{"
+font_bytes lower = if lower then codes "\\\\{" else codes "\\.{"
 
 -- the text of a name
 abbrev pub text_at : List Entry → ℕ → List ℕ

@@ -32,18 +32,9 @@ use Rattle.std.proofs.Common.{
 use Rattle.std.proofs.lemmas.List.{take_all}
 use Rattle.std.specs.Prelude.{Option, Some, None, slice_get}
 use Rattle.std.specs.Option.{option_map}
-use Rattle.cw_part.specs.Footnotes.{
-  footnote,
-  footnote_numbers,
-  later_numbers,
-  name_footnotes,
-  number_in,
-  of_kept,
-  of_name,
-  separator,
-  use_footnotes,
-  where_first,
-}
+use Rattle.cw_part.specs.Footnotes.{footnote, footnote_numbers, later_numbers, name_footnotes, number_in, of_kept}
+use Rattle.cw_part.specs.Footnotes.{of_name, separator, use_footnotes}
+use Rattle.cw_base.specs.Conditions.{list_if}
 use Rattle.cw_phase1.specs.declared.sections.Section.{Section}
 use Rattle.cw_print.specs.Sources.{defines_first}
 use Rattle.cw_secnames.specs.Kept.{SecName}
@@ -153,19 +144,19 @@ no-name notes kept id is = not-kept notes (slice_get kept id.index) is
 
 -- ## In which section they stand
 
-where-by : (first is : Bool) (notes : List ℕ) → first ≡ is → where_first is notes ≡ where_first first notes
-where-by first is notes e = ap (λ (b : Bool). where_first b notes) (sym e)
+where-by : (first is : Bool) (notes : List ℕ) → first ≡ is → list_if is notes ≡ list_if first notes
+where-by first is notes e = ap (λ (b : Bool). list_if b notes) (sym e)
 
 pub unnamed : (notes : SecName → List ℕ) (kept : List SecName) (name : Option SecId) (number : ℕ) → name ≡ None
-    → [] ≡ where_first (defines_first kept name number) (of_name notes kept name)
+    → [] ≡ list_if (defines_first kept name number) (of_name notes kept name)
 unnamed notes kept None number is = refl
 unnamed notes kept (Some id) number is = absurd (cc)
 
 pub named : (notes : SecName → List ℕ) (kept : List SecName) (name : Option SecId) (id : SecId) (number : ℕ)
     (first : Bool) → name ≡ Some id
     → defines_first kept (Some id) number ≡ first
-    → where_first first (of_name notes kept (Some id)) ≡ where_first (defines_first kept name number)
+    → list_if first (of_name notes kept (Some id)) ≡ list_if (defines_first kept name number)
     (of_name notes kept name)
 named notes kept name id number first is e =
     where-by (defines_first kept (Some id) number) first (of_name notes kept (Some id)) e
-    ∙ ap (λ (n : Option SecId). where_first (defines_first kept n number) (of_name notes kept n)) (sym is)
+    ∙ ap (λ (n : Option SecId). list_if (defines_first kept n number) (of_name notes kept n)) (sym is)

@@ -1,21 +1,6 @@
 -- The footnotes of a section name: which other sections define it, and which cite and use it.
-use Rattle.std.specs.Prelude.{
-  ℕ,
-  Bool,
-  true,
-  false,
-  List,
-  [],
-  ◌∷◌,
-  ◌++◌,
-  Option,
-  Some,
-  None,
-  codes,
-  drop,
-  map,
-  slice_get,
-}
+use Rattle.std.specs.Prelude.{ℕ, List, [], ◌∷◌, ◌++◌, Option, Some, None, codes, drop, map, slice_get}
+use Rattle.cw_base.specs.Conditions.{list_if}
 use Rattle.cw_phase1.specs.declared.sections.Section.{Section}
 use Rattle.cw_print.specs.Sources.{defines_first, is_changed}
 use Rattle.cw_secnames.specs.Kept.{SecName}
@@ -66,11 +51,7 @@ of_name notes kept None = []
 of_name notes kept (Some id) = of_kept notes (slice_get kept id.index)
 
 -- All footnotes of a name stand in the first section that defines it, and in no other.
-abbrev pub where_first : Bool → List ℕ → List ℕ
-where_first true notes = notes
-where_first false notes = []
-
 abbrev pub footnotes : Setting → Section → List ℕ
 footnotes s section =
-    where_first (defines_first s.book.sec_names section.name s.section)
+    list_if (defines_first s.book.sec_names section.name s.section)
     (of_name (name_footnotes s.book.outline.sections) s.book.sec_names section.name)

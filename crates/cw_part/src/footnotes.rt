@@ -1,17 +1,9 @@
 //! The footnotes of section names.
 ghost use Rattle.std.specs.Prelude.{◌≡◌, ℕ, ◌<◌, ◌≤◌, ◌∷◌, ◌++◌, List, Some, codes, drop, length, map};
 ghost use Rattle.cw_lines.specs.Writes.{CanWrite, Puts};
-ghost use Rattle.cw_part.specs.Footnotes.{
-  footnote,
-  footnote_numbers,
-  later_numbers,
-  name_footnotes,
-  number_in,
-  of_name,
-  separator,
-  use_footnotes,
-  where_first,
-};
+ghost use Rattle.cw_part.specs.Footnotes.{footnote, footnote_numbers, later_numbers, name_footnotes, number_in};
+ghost use Rattle.cw_part.specs.Footnotes.{of_name, separator, use_footnotes};
+ghost use Rattle.cw_base.specs.Conditions.{list_if};
 ghost use Rattle.cw_print.specs.Sources.{defines_first};
 
 use cw_desk::Desk;
@@ -194,7 +186,7 @@ pub(crate) fn put_footnotes<D: Desk>(
     desk: &mut D,
 ) -> Result<(), PutError>
     requires can { CanWrite (D.told desk.old) out.old }
-    ensures { Puts (where_first (defines_first book.now.sec_names name number)
+    ensures { Puts (list_if (defines_first book.now.sec_names name number)
         (of_name (name_footnotes book.now.outline.sections) book.now.sec_names name)) out.old out.new
         (D.told desk.old) (D.told desk.new) result }
 {

@@ -124,7 +124,7 @@ pub told-passes : (lines : List MergedLine) (answer : Answer) (h : HeldState) (a
 told-passes lines (Token t) h answers =
     settle-told lines h (Token t ∷ answers) ∙
     token-told (is_name_kind t.kind) lines t (settled_standing (is_head_sign t.kind) h.pass.waiting h.pass.standing)
-        h.kept
+    h.kept
     (told_all lines (settled_placed (is_head_sign t.kind) h.pass.waiting h.pass.standing) h.told) None
     (h.notes ++ remark_notes lines h.remark) answers refl
 told-passes lines (Begin t) h answers = settle-told lines h (Begin t ∷ answers)
@@ -213,7 +213,7 @@ notes-pass lines (Token t) h answers =
     (sym (append_assoc h.notes (remark_notes lines h.remark)
     (scanned_notes lines (with_note (note_of t h.kept) (noted_from (kept_behind t h.kept) answers)))) ∙
     notes-token (is_name_kind t.kind) lines t (settled lines (is_head_sign t.kind) (remark_put lines h)) answers refl
-        refl)
+    refl)
 notes-pass lines (Begin t) h answers =
     ap (λ ns. h.notes ++ ns) (put-begin lines h.remark t (noted_from h.kept answers)) ∙
     sym (append_assoc h.notes (remark_notes lines h.remark) (scanned_notes lines (noted_from h.kept answers)))

@@ -1,5 +1,5 @@
 -- What is held behind the answers that came, and what one answer more does to it.
-use Rattle.std.specs.Prelude.{ℕ, ◌++◌, Bool, true, false, List, [], ◌∷◌, Option, Some, None}
+use Rattle.std.specs.Prelude.{ℕ, ◌++◌, Bool, true, false, List, [], ◌∷◌, Option, Some, None, if◌then◌else◌}
 use Rattle.cw_base.specs.declared.notes.Note.{Note as NoteRecord}
 use Rattle.cw_base.specs.declared.notes.NoteKind.{NoteKind}
 use Rattle.cw_base.specs.Web.{MergedLine}
@@ -122,8 +122,7 @@ abbrev pub plain_held : List MergedLine → Seen → HeldState → HeldState
 plain_held lines t h = plain_by (token_step t.kind false h.pass.standing t.span) lines t h
 
 abbrev pub token_held_by : Bool → List MergedLine → Seen → HeldState → HeldState
-token_held_by true lines t h = name_held t h
-token_held_by false lines t h = plain_held lines t h
+token_held_by named lines t h = if named then name_held t h else plain_held lines t h
 
 abbrev pub token_held : List MergedLine → Seen → HeldState → HeldState
 token_held lines t h = token_held_by (is_name_kind t.kind) lines t h

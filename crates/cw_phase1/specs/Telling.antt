@@ -1,5 +1,5 @@
 -- What is told of the tokens that came, and what one token more adds.
-use Rattle.std.specs.Prelude.{◌<◌, ◌++◌, Bool, true, false, List, [], ◌∷◌, None, map, length, IfSome}
+use Rattle.std.specs.Prelude.{◌<◌, ◌++◌, Bool, false, List, [], ◌∷◌, None, map, length, IfSome, if◌then◌else◌}
 use Rattle.cw_base.specs.Web.{MergedLine}
 use Rattle.cw_names.specs.Names.{Entry}
 use Rattle.cw_phase1.specs.declared.told.Told.{Told}
@@ -48,8 +48,7 @@ told_all lines (p ∷ ps) t = told_all lines ps (told_step lines p t)
 
 -- the occurrence of an identifier that isn't silent
 abbrev pub word_occurrence : Bool → Bool → Placed → List Entry → List Occurrence
-word_occurrence true waits p names = []
-word_occurrence false waits p names = occurrence names (word p waits) ∷ []
+word_occurrence silent waits p names = if silent then [] else occurrence names (word p waits) ∷ []
 
 -- nothing is told yet
 abbrev pub told_start : Told

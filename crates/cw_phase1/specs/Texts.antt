@@ -1,6 +1,6 @@
 -- The texts of index entries and of section names, as their tokens have them.
 use Rattle.std.specs.Prelude.{ℕ, ◌-◌, Bool, true, false, ◌==◌, ◌||◌, List, [], ◌∷◌, Option, Some, None, length, drop}
-use Rattle.std.specs.Prelude.{take, codes, nat_eq}
+use Rattle.std.specs.Prelude.{take, codes, nat_eq, if◌then◌else◌}
 use Rattle.std.specs.List.{ends_with}
 use Rattle.std.specs.Cmp.Lexicographic.{pointwise}
 use Rattle.cw_base.specs.Text.{is_blank}
@@ -63,8 +63,7 @@ abbrev pub named_text : List ℕ → Naming
 named_text text = elim (ends_in_dots text) [ true ↦ Prefix (take (length text - 3) text) | false ↦ Full Named text ]
 
 abbrev pub unless_void : Bool → Naming → Naming
-unless_void true name = Void
-unless_void false name = name
+unless_void void name = if void then Void else name
 
 -- The name of a token of this kind with this reduced text, unless it is ignored; any other token names nothing.
 abbrev pub naming_by : Bool → TokKind → List ℕ → Naming

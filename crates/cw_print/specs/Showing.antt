@@ -1,5 +1,5 @@
 -- What a token prints where comments are open. How many braces are open in each is listed, the innermost comment first.
-use Rattle.std.specs.Prelude.{ℕ, Bool, true, false, List, [], ◌∷◌, Option, Some, None, codes}
+use Rattle.std.specs.Prelude.{ℕ, Bool, List, [], ◌∷◌, Option, Some, None, codes, if◌then◌else◌}
 use Rattle.cw_rules.specs.Answers.{Seen}
 use Rattle.cw_rules.specs.declared.tokens.TokKind.{TokKind}
 use Rattle.cw_rules.specs.declared.tokens.TokKind.TheVariants as kind
@@ -24,8 +24,7 @@ piece_in p braces = record { bytes = p.bytes; braces = p.braces ∷ others brace
 
 -- the sign behind the name that begins a C part, in the first section that defines the name and in later ones
 abbrev pub head_sign : Bool → List ℕ
-head_sign true = codes "${}\\E{}$"
-head_sign false = codes "${}\\mathrel+\\E{}$"
+head_sign first = if first then codes "${}\\E{}$" else codes "${}\\mathrel+\\E{}$"
 
 abbrev pub token_shown : Bool → TokKind → List ℕ → List ℕ → TokenShown
 token_shown first kind.Text text braces = piece_in (piece text (innermost braces)) braces

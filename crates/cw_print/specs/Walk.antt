@@ -1,7 +1,8 @@
 -- The bytes that the items of a flat list print, each by itself, in their order; and those of the whole list.
 use Rattle.std.specs.Prelude.{◌≡◌, ℕ, ◌+◌, ◌-◌, ◌&&◌, Bool, true, false, List, [], ◌∷◌, ◌++◌, Option, Some, None, codes}
-use Rattle.std.specs.Prelude.{decimal, drop, slice_range}
+use Rattle.std.specs.Prelude.{decimal, drop, slice_range, if◌then◌else◌}
 use Rattle.cw_base.specs.declared.span.Span.{Span}
+use Rattle.cw_base.specs.Conditions.{list_if}
 use Rattle.cw_names.specs.Names.{Entry}
 use Rattle.cw_rules.specs.Answers.{Answer, Seen}
 use Rattle.cw_lex.specs.Lexing.{tokens_of}
@@ -35,8 +36,7 @@ pub record Title : Type 0 where
 
 -- a section number, with `\*` where its section is changed
 abbrev pub changed_mark : Bool → List ℕ
-changed_mark true = codes "\\*"
-changed_mark false = []
+changed_mark changed = list_if changed (codes "\\*")
 
 abbrev pub section_number : ℕ → Bool → List ℕ
 section_number number is_changed = decimal number ++ changed_mark is_changed
@@ -65,8 +65,8 @@ pieces_between text place (span ∷ spans) =
 
 -- The text of a file's name has no inner texts, and is escaped.
 abbrev pub text_pieces : Bool → List ℕ → List NamePiece
-text_pieces true text = last_piece (typewriter text)
-text_pieces false text = pieces_between text 0 (inner_parts text)
+text_pieces typewritten text =
+    if typewritten then last_piece (typewriter text) else pieces_between text 0 (inner_parts text)
 
 abbrev pub name_pieces : Title → List NamePiece
 name_pieces title = text_pieces title.is_file title.text
@@ -171,8 +171,7 @@ source_shown f title None number stand = outer_shown f title number stand
 source_shown f title (Some name) number stand = found_shown f.first (numbered number name.answers) stand
 
 abbrev pub bracket : Bool → List ℕ → List ℕ
-bracket true bytes = bytes
-bracket false bytes = []
+bracket wraps bytes = list_if wraps bytes
 
 abbrev pub control_shown : Control → Stand → Shown
 control_shown CommentEnd stand = comment_ends stand

@@ -26,7 +26,7 @@ use Rattle.cw_lines.specs.WritesLaws.{adds-nothing, is_err, rose-later, puts-new
 use Rattle.cw_lines.specs.declared.put_error.PutError.{PutError}
 use Rattle.cw_lines.specs.declared.put_error.PutError.TheVariants.{Memory}
 use Rattle.cw_run.specs.Emits.{Emits, EmitsBy, Faults, Run, Runs, RunsBy}
-use Rattle.cw_run.specs.Files.{IsBegun, OutFile, answered, begun, file_events, is_end, is_same}
+use Rattle.cw_run.specs.Files.{IsBegun, OutFile, answered, begun, file_events, none_left, is_same}
 use Rattle.cw_run.specs.Files.{settled, settled_if}
 
 -- a call that only prints
@@ -236,27 +236,27 @@ draft-drafts out {a = a} Done file turns = subst (λ (outputs : Outputs). IsTrue
 draft-drafts out Failed file turns = tt
 draft-drafts out no_memory file turns = tt
 
-stripped-same : (same : Bool) (xs ys : List ℕ) → is_end (behind xs ys) ≡ bytes_eq xs ys
-    → is_end (cond same (behind xs ys) None) ≡ (same && bytes_eq xs ys)
+stripped-same : (same : Bool) (xs ys : List ℕ) → none_left (behind xs ys) ≡ bytes_eq xs ys
+    → none_left (cond same (behind xs ys) None) ≡ (same && bytes_eq xs ys)
 stripped-same true xs ys is = is
 stripped-same false xs ys is = refl
 
-behind-same : (xs ys : List ℕ) → is_end (behind xs ys) ≡ bytes_eq xs ys
+behind-same : (xs ys : List ℕ) → none_left (behind xs ys) ≡ bytes_eq xs ys
 behind-same [] [] = refl
 behind-same [] (y ∷ ys) = refl
 behind-same (x ∷ xs) [] = refl
 behind-same (x ∷ xs) (y ∷ ys) = stripped-same (x == y) xs ys (behind-same xs ys)
 
 -- nothing is left behind the bytes of a file, exactly where it has just these
-pub end-same : (bytes : List ℕ) (old : Option (List ℕ)) → is_end (left_behind bytes old) ≡ is_same old bytes
+pub end-same : (bytes : List ℕ) (old : Option (List ℕ)) → none_left (left_behind bytes old) ≡ is_same old bytes
 end-same bytes None = refl
 end-same bytes (Some text) = behind-same bytes text
 
 settled-same : (keep : Bool) (out : Out) (bytes : List ℕ) {rest : Option (List ℕ)} (old : Option (List ℕ))
     → (IsTrue keep → rest ≡ left_behind bytes old)
-    → settled_if keep (is_end rest) out ≡ settled_if keep (is_same old bytes) out
+    → settled_if keep (none_left rest) out ≡ settled_if keep (is_same old bytes) out
 settled-same false out bytes old is = refl
-settled-same true out bytes old is = ap (λ (same : Bool). settled same out ∷ []) (ap is_end (is refl)
+settled-same true out bytes old is = ap (λ (same : Bool). settled same out ∷ []) (ap none_left (is refl)
     ∙ end-same bytes old)
 
 -- A file is begun, bytes are put to its lines, and it is ended.
@@ -264,7 +264,8 @@ pub emits_by-file : {S T U : Type 0} (keep : Bool) (f : OutFile) {old new : Line
     {value : T} {result : Result U PutError}
     → Emits {T = S} (begun keep f.out f.name ∷ []) a b (Ok lines) → IsBegun keep f.out f.name old a b
     → Puts {T = T} f.bytes old new b c (Ok value)
-    → ((files : Files) → d.agrees files → Emits (settled_if keep (is_end (left files c new.compared)) f.out) c d result)
+    → ((files : Files) → d.agrees files
+    → Emits (settled_if keep (none_left (left files c new.compared)) f.out) c d result)
     → Faults c d result
     → EmitsBy (file_events keep f) a d result
 emits_by-file keep f {old = old} {new = new} {b = b} {c = c} made is put ended faults =

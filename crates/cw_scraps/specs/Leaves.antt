@@ -1,6 +1,6 @@
 -- The scrap of a token without nested text: its category, the mode of its two ends, and the tokens of its list.
-use Rattle.std.specs.Prelude.{◌≡◌, ℕ, Bool, true, false, List, [], ◌∷◌, ◌++◌, length, Option, Some, None, unwrap_or}
-use Rattle.std.specs.Prelude.{slice_get, option_map, IsSome}
+use Rattle.std.specs.Prelude.{◌≡◌, ℕ, Bool, false, List, [], ◌∷◌, ◌++◌, length, Option, Some, None, unwrap_or}
+use Rattle.std.specs.Prelude.{slice_get, option_map, IsSome, if◌then◌else◌}
 use Rattle.cw_base.specs.declared.category.Cat.{Cat}
 use Rattle.cw_base.specs.declared.category.Cat.TheVariants as cat
 use Rattle.cw_base.specs.declared.mode.MathMode.{MathMode}
@@ -137,8 +137,7 @@ word_form c name number = record { cat = c; mode = Maybe; tokens = Reserved name
 
 -- the category of an identifier: in a `#` line the words of such lines have one of their own
 abbrev pub word_cat : Bool → List ℕ → Cat → Cat
-word_cat true text own = unwrap_or (hash_line_category text) own
-word_cat false text own = own
+word_cat headed text own = if headed then unwrap_or (hash_line_category text) own else own
 
 abbrev pub own_cat : List Entry → ℕ → Cat
 own_cat names index = unwrap_or (option_map (λ entry. entry.category) (slice_get names index)) cat.Exp

@@ -1,6 +1,7 @@
 -- Marks: numbers by which the names near a text are found.
 use Rattle.std.specs.Prelude.{◌≡◌, ℕ, zero, suc, ◌+◌, ◌*◌, ◌/◌, ◌^◌, ◌%◌, ◌≤◌, Bool, true, false, ◌&&◌, ◌||◌, ◌==◌}
 use Rattle.std.specs.Prelude.{nat_lt, List, [], ◌∷◌, ◌++◌, length, take, Option, Some, None, slice_get, slice_index_or}
+use Rattle.std.specs.Prelude.{if◌then◌else◌}
 use Rattle.std.specs.List.{flat_map, list_any}
 use Rattle.cw_secnames.specs.declared.kinds.SecKind.{SecKind}
 use Rattle.cw_secnames.specs.declared.kinds.SecKind.TheVariants.{Named, File}
@@ -50,8 +51,7 @@ last_place mark table = slice_index_or table.rows.items (row_of mark (length tab
 
 -- the positions of the links with a sign, from one place on back through its row, of so many links at most
 abbrev pub with_sign : Bool → ℕ → List ℕ → List ℕ
-with_sign true position before = position ∷ before
-with_sign false position before = before
+with_sign sign position before = if sign then position ∷ before else before
 
 abbrev pub at_link : ℕ → (ℕ → List ℕ) → Option Link → List ℕ
 at_link sign before None = []

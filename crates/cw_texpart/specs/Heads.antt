@@ -1,5 +1,5 @@
 -- The heads of sections.
-use Rattle.std.specs.Prelude.{ℕ, ◌==◌, Bool, true, false, List, [], ◌∷◌, ◌++◌, codes}
+use Rattle.std.specs.Prelude.{ℕ, ◌==◌, Bool, true, false, List, [], ◌∷◌, ◌++◌, codes, if◌then◌else◌}
 use Rattle.cw_phase1.specs.declared.sections.Depth.{Depth}
 use Rattle.cw_phase1.specs.declared.sections.Depth.TheVariants.{Minus, Zero, Digits}
 use Rattle.cw_phase1.specs.declared.sections.Section.{Section}
@@ -20,8 +20,8 @@ depth_bytes text (Digits span) = drop_zeros (bytes_of text span)
 
 -- The head: `\M{n}`, or `\N{depth}{n}` where the section is starred.
 abbrev pub head_by : Bool → List ℕ → List ℕ → List ℕ
-head_by true depth number = codes "\\N{" ++ depth ++ codes "}{" ++ number ++ codes "}"
-head_by false depth number = codes "\\M{" ++ number ++ codes "}"
+head_by starred depth number =
+    if starred then codes "\\N{" ++ depth ++ codes "}{" ++ number ++ codes "}" else codes "\\M{" ++ number ++ codes "}"
 
 abbrev pub head : List ℕ → ℕ → Section → List ℕ
 head text n section = head_by section.starred (depth_bytes text section.depth) (section_number n section.changed)

@@ -3,8 +3,8 @@
 -- Text is copied byte by byte, but not every line's end: it is printed where the line of the book holds bytes by then,
 -- or where its line of the web is empty. So a line that holds only codes that print nothing leaves no empty line in the
 -- book.
-use Rattle.std.specs.Prelude.{ℕ, ◌+◌, ◌-◌, ◌==◌, ◌||◌, Bool, true, false, not, List, [], ◌∷◌, ◌++◌, map, codes}
-use Rattle.std.specs.Prelude.{slice_index, slice_range}
+use Rattle.std.specs.Prelude.{ℕ, ◌+◌, ◌-◌, ◌==◌, ◌||◌, Bool, false, not, List, [], ◌∷◌, ◌++◌, map, codes}
+use Rattle.std.specs.Prelude.{slice_index, slice_range, if◌then◌else◌}
 use Rattle.std.specs.List.{flat_map}
 use Rattle.cw_rules.specs.declared.codes.Code.{Code}
 use Rattle.cw_rules.specs.declared.codes.Code.TheVariants as at
@@ -13,6 +13,7 @@ use Rattle.cw_rules.specs.declared.tokens.TokKind.TheVariants as kinds
 use Rattle.cw_rules.specs.Answers.{Seen, Answer, Token, Begin, Finish, Note}
 use Rattle.cw_lex.specs.Nest.{is_text_kind}
 use Rattle.cw_base.specs.declared.span.Span.{Span}
+use Rattle.cw_base.specs.Conditions.{list_if}
 
 -- the bytes of a span of the text
 abbrev pub bytes_of : List ℕ → Span → List ℕ
@@ -31,8 +32,7 @@ abbrev pub ends_empty_line : List ℕ → ℕ → Bool
 ends_empty_line text place = place == 0 || slice_index text (place - 1) == 10
 
 abbrev pub ink_by : Bool → List ℕ → ℕ → ℕ → Ink
-ink_by true text place byte = LineEnd (ends_empty_line text place)
-ink_by false text place byte = Print byte
+ink_by ends text place byte = if ends then LineEnd (ends_empty_line text place) else Print byte
 
 -- copied bytes of the web's text, from a place on
 abbrev pub copied : List ℕ → ℕ → List ℕ → List Ink
@@ -51,8 +51,8 @@ kind_inks (kinds.Code code) = code_inks code
 kind_inks _ = []
 
 abbrev pub token_inks_by : Bool → List ℕ → TokKind → Seen → List Ink
-token_inks_by true text kind token = copied text token.span.start (bytes_of text token.span)
-token_inks_by false text kind token = kind_inks kind
+token_inks_by ended text kind token =
+    if ended then copied text token.span.start (bytes_of text token.span) else kind_inks kind
 
 abbrev pub token_inks : List ℕ → TokKind → Seen → List Ink
 token_inks text kind token = token_inks_by (is_text_kind kind) text kind token
@@ -68,8 +68,7 @@ inks text answers = flat_map (answer_inks text) answers
 
 -- a line's end where it is printed
 abbrev pub end_if : Bool → List ℕ
-end_if true = 10 ∷ []
-end_if false = []
+end_if holds = list_if holds (10 ∷ [])
 
 -- The bytes, where the line of the book holds bytes or not; at their end a line that holds bytes is ended. Behind a
 -- byte that is printed a line holds bytes, unless that byte ends it, as one in a C text may.

@@ -1,6 +1,6 @@
 -- What contracts see of a store, and what its fields keep.
 use Rattle.std.specs.Prelude.{◌≡◌, ℕ, zero, suc, ◌+◌, ◌-◌, ◌<◌, ◌≤◌, Bool, true, false, List, [], ◌∷◌, ◌++◌, length}
-use Rattle.std.specs.Prelude.{Option, Some, None, take, drop, set, get_or}
+use Rattle.std.specs.Prelude.{Option, Some, None, take, drop, set, get_or, if◌then◌else◌}
 use Rattle.cw_base.specs.Conditions.{one_if}
 use Rattle.cw_tokens.specs.declared.token.Token.{Token}
 use Rattle.cw_tokens.specs.declared.store.Link.{Link}
@@ -42,8 +42,7 @@ start_of start (e ∷ es) zero = start
 start_of start (e ∷ es) (suc i) = start_of e es i
 
 abbrev pub built : Bool → List ℕ → List Token → Option (List Token)
-built true ends tokens = Some (drop (last_end 0 ends) tokens)
-built false ends tokens = None
+built building ends tokens = if building then Some (drop (last_end 0 ends) tokens) else None
 
 abbrev pub IsAscending : ℕ → List ℕ → Type 0
 IsAscending start [] = Unit {0}
