@@ -16,6 +16,7 @@ use Rattle.cw_names.specs.Mentions.{any_in, any_underlined_in, mention_of, menti
 use Rattle.cw_names.specs.Names.{AreDistinct, Entry, is_entry}
 use Rattle.std.specs.Ordering.{nat_cmp}
 use Rattle.std.specs.Cmp.Lexicographic.{lists_ties, pointwise, slice_cmp}
+use Rattle.cw_base.proofs.TestLaws.{or-false}
 use Rattle.cw_names.specs.declared.entry.EntryKind.{EntryKind}
 use Rattle.cw_names.specs.declared.entry.EntryKind.TheVariants.{Ident, Roman, Typewriter, User}
 use Rattle.cw_names.specs.Names.{same_kind}
@@ -26,10 +27,6 @@ use Rattle.cw_index.specs.Mentions.{Row, has_sections, is_listed, listed, needs_
 use Rattle.cw_index.specs.Mentions.{with_row}
 
 -- ## Truth values
-
-or-false : (b : Bool) → (b || false) ≡ b
-or-false true = refl
-or-false false = refl
 
 or-swap : (a b c : Bool) → (a || (b || c)) ≡ (b || (a || c))
 or-swap true true c = refl

@@ -4,7 +4,6 @@ use Rattle.std.proofs.Common.{drop, refl, sym, ap, subst, ◌∙◌, arith, leng
 use Rattle.std.specs.Prelude.{if◌then◌else◌}
 use Rattle.std.proofs.lemmas.List.{length-take, take_all}
 use Rattle.cw_rules.specs.declared.bodies.Body.TheVariants as bodies
-use Rattle.cw_rules.specs.declared.bodies.Noted.{Noted}
 use Rattle.cw_rules.specs.declared.codes.Code.{Code}
 use Rattle.cw_rules.specs.declared.codes.Code.TheVariants as at
 use Rattle.cw_rules.specs.declared.parts.Part.TheVariants as parts
@@ -14,18 +13,17 @@ use Rattle.cw_rules.specs.Answers.{Answer, Where, Found, note_answers}
 use Rattle.cw_rules.specs.Bodies.{at_start, extent}
 use Rattle.cw_rules.specs.Codes.{code_of}
 use Rattle.cw_lex.specs.Lexing.{still_fresh, joined, answers, fresh_at, last_at, answers_at, tokens_of}
-use Rattle.cw_lex.specs.Nested.{is_section_kind, begins_section_in}
-use Rattle.cw_rules.specs.Tokens.{one, effect_in, section_name, is_name, section, found, code_by, code_text, all_cut}
+use Rattle.cw_lex.specs.Nested.{begins_section_in}
+use Rattle.cw_rules.specs.Tokens.{one, effect_in, section_name, is_name, section, found, code_by, code_text}
 use Rattle.cw_rules.proofs.CodeTwins.{at-code}
 use Rattle.cw_lex.proofs.Covering.{drop-part}
 use Rattle.cw_rules.proofs.NameEnds.{name-take}
-use Rattle.cw_lex.proofs.Openings.{bare-uncut}
+use Rattle.cw_lex.proofs.TexTexts.{all-taken, or-notes, name-kind, name-plain}
 use Rattle.cw_rules.proofs.Sizes.{extent-le}
-use Rattle.cw_rules.proofs.Taking.{bare-all-cut}
 use Rattle.cw_phase1.specs.Sections.{span}
 use Rattle.cw_texpart.specs.TexParts.{IsWhole}
 use Rattle.cw_index.specs.NameList.{first_span, name_span}
-use Rattle.cw_index.proofs.NameTokens.{BeginsName, name-plain}
+use Rattle.cw_index.proofs.NameTokens.{BeginsName}
 
 abbrev inner : Where
 inner = record { part = parts.Inner; comments = [] }
@@ -35,11 +33,6 @@ abbrev name_size : ℕ → List ℕ → ℕ
 name_size place bytes = (extent (at_start bodies.SectionName (place + 2)) bytes).size
 
 -- ## A name in C text
-
-name-kind : (c : Code) → is_name c ≡ true → is_section_kind (kinds.Code c) ≡ false
-name-kind at.SectionName h = refl
-name-kind at.FileName h = refl
-name-kind _ h = absurd cc
 
 -- the name with this code, as a token
 abbrev named : Code → ℕ → List ℕ → Found
@@ -76,18 +69,6 @@ name-spans text place b =
     (name-found b.next b.behind fresh last place b.name)
 
 -- ## It has no section code
-
--- what is left when a token has all bytes
-all-taken : (bytes : List ℕ) (w : Where) (fresh : Bool) (last place : ℕ)
-    → begins_section_in (answers bytes w fresh last place (length bytes)) ≡ false
-all-taken [] w fresh last place =
-    bare-uncut place (all_cut w.part w.comments place (place - 1)) (bare-all-cut w.part w.comments place (place - 1))
-all-taken (b ∷ bytes) w fresh last place = all-taken bytes w (still_fresh fresh b) b (place + 1)
-
-or-notes : (ns : List Noted) (ys : List Answer) → begins_section_in ys ≡ false
-    → begins_section_in (note_answers ns ++ ys) ≡ false
-or-notes [] ys h = h
-or-notes (n ∷ ns) ys h = or-notes ns ys h
 
 -- a name, where the text ends behind it
 name-uncut : (d : ℕ) (bs : List ℕ) (fresh : Bool) (last place : ℕ) → is_name (code_of d) ≡ true

@@ -2,7 +2,7 @@
 use Rattle.std.proofs.Common.{◌≡◌, ℕ, zero, suc, ◌+◌, ◌-◌, Bool, true, false, ◌&&◌, ◌==◌, List, [], ◌∷◌, ◌++◌, length}
 use Rattle.std.proofs.Common.{drop, refl, sym, ap, subst, ◌∙◌, arith, append_assoc, append-nil}
 use Rattle.std.specs.Prelude.{if◌then◌else◌}
-use Rattle.std.proofs.lemmas.List.{drop-drop, take_all}
+use Rattle.std.proofs.lemmas.List.{take_all}
 use Rattle.cw_rules.specs.declared.codes.Code.{Code}
 use Rattle.cw_rules.specs.declared.codes.Code.TheVariants as at
 use Rattle.cw_rules.specs.declared.tokens.Mode.{Mode}
@@ -13,10 +13,13 @@ use Rattle.cw_rules.specs.Bytes.{at_sign, star, begins}
 use Rattle.cw_rules.specs.Codes.{code_of, code_at, is_section, begins_section}
 use Rattle.cw_lex.specs.Lexing.{still_fresh, answers, fresh_at, last_at, answers_at, beginning, tokens_of}
 use Rattle.cw_lex.specs.Limbo.{is_name_kind}
+use Rattle.cw_lex.proofs.TexTexts.{name-plain}
+use Rattle.cw_lex.proofs.FirstTokens.{bare-code}
+use Rattle.cw_lex.proofs.Covering.{drop-on}
 use Rattle.cw_rules.specs.Tokens.{all_cut, found, in_text, is_name, section, section_code}
 use Rattle.cw_rules.proofs.Choices.{if-both}
 use Rattle.cw_rules.proofs.CodeStarts.{kind_code, code_in, is_opener, in-text-tells}
-use Rattle.cw_lex.proofs.Openings.{not-both}
+use Rattle.cw_base.proofs.TestLaws.{not-both}
 use Rattle.cw_rules.proofs.Taking.{AreBare, AreNotes, TakesAll, bare-all-cut, found-takes}
 
 -- A section name begins at a place of a text.
@@ -37,11 +40,6 @@ HaveNames text (Note kind place ∷ answers) = HaveNames text answers
 
 -- ## What begins at a place
 
-pub name-plain : (c : Code) → is_name c ≡ true → is_section c ≡ false
-name-plain at.SectionName h = refl
-name-plain at.FileName h = refl
-name-plain _ h = absurd cc
-
 name-opens : (c : Code) → is_name c ≡ true → is_opener c ≡ true
 name-opens at.SectionName h = refl
 name-opens at.FileName h = refl
@@ -55,13 +53,6 @@ kind-name (kinds.Code c) h = by c h
     by at.FileName h = refl
     by _ h = absurd cc
 kind-name _ h = absurd cc
-
-bare-code : (place : ℕ) (xs ys : List Answer) → AreBare place xs → code_in (xs ++ ys) ≡ code_in ys
-bare-code place [] ys h = refl
-bare-code place (Token t ∷ xs) ys h = absurd h
-bare-code place (Begin t ∷ xs) ys h = absurd h
-bare-code place (Finish t ∷ xs) ys h = bare-code place xs ys h.3
-bare-code place (Note kind about ∷ xs) ys h = bare-code place xs ys h
 
 section-kind : (bytes : List ℕ) → is_section (kind_code (section_code bytes).kind) ≡ true
 section-kind bytes =
@@ -156,10 +147,6 @@ found-names text w fresh last place byte bytes ys here g =
     (bare-names text place t.first (t.rest ++ ys) t.bare
     (taken-names text place byte bytes f.more t.rest ys here t.whole
     (λ c is n. found-tells w fresh last place byte bytes c (code ∙ is) n) g))
-
-drop-on : (text : List ℕ) (place byte : ℕ) (bytes : List ℕ) → drop place text ≡ byte ∷ bytes
-    → drop (place + 1) text ≡ bytes
-drop-on text place byte bytes h = sym (drop-drop 1 place text) ∙ ap (drop 1) h
 
 answers-names : (text bytes : List ℕ) (w : Where) (fresh : Bool) (last place taken : ℕ) → drop place text ≡ bytes
     → HaveNames text (answers bytes w fresh last place taken)

@@ -19,8 +19,9 @@ use Rattle.cw_phase1.specs.declared.roles.Standing.{Standing}
 use Rattle.cw_phase1.specs.Book.{answers_of, book}
 use Rattle.cw_phase1.specs.Entering.{entered_name, entering, kept_behind, name_of_entering}
 use Rattle.cw_phase1.specs.Roles.{at_limbo, behind_begin, placed_from, token_step}
-use Rattle.cw_phase1.specs.Texts.{Void, name_text, naming_by}
+use Rattle.cw_phase1.specs.Texts.{name_text}
 use Rattle.cw_phase1.specs.Uses.{use_by, uses_of}
+use Rattle.cw_phase1.proofs.Passing.{void-by}
 use Rattle.cw_secnames.specs.declared.kinds.SecId.{SecId}
 use Rattle.cw_secnames.specs.Kept.{SecName, id}
 use Rattle.cw_secnames.specs.Uses.{NameUse, name_at}
@@ -38,14 +39,6 @@ use Rattle.cw_index.proofs.NameTokens.{BeginsName, HaveNames, text-names}
 abbrev NamesBegin : List ℕ → List NameUse → Type 0
 NamesBegin text [] = Unit {0}
 NamesBegin text (u ∷ uses) = BeginsName text u.place × NamesBegin text uses
-
--- Only section names are kept.
-void-by : (void : Bool) (kind : TokKind) (text : List ℕ) → is_name_kind kind ≡ false
-    → naming_by void kind text ≡ Void
-void-by void (kinds.Code at.SectionName) text h = absurd (let wrong : true ≡ false = h in cc)
-void-by void (kinds.Code at.FileName) text h = absurd (let wrong : true ≡ false = h in cc)
-void-by void (kinds.Code code) text h = refl
-void-by void kind text h = refl
 
 unnamed : (t : Seen) (kept : List SecName) → is_name_kind t.kind ≡ false → entered_name t kept ≡ None
 unnamed t kept h = ap (λ n. name_of_entering (entering n kept))

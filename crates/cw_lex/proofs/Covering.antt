@@ -113,7 +113,7 @@ found-covers text from place end bytes f ys t here low space rest =
 
 -- ## All answers
 
-drop-on : (text : List ℕ) (place byte : ℕ) (bytes : List ℕ) → drop place text ≡ byte ∷ bytes → drop (place + 1) text
+pub drop-on : (text : List ℕ) (place byte : ℕ) (bytes : List ℕ) → drop place text ≡ byte ∷ bytes → drop (place + 1) text
     ≡ bytes
 drop-on text place byte bytes h = sym (drop-drop 1 place text) ∙ ap (drop 1) h
 

@@ -25,7 +25,8 @@ use Rattle.cw_rules.specs.Signs.{all_signs, longest}
 use Rattle.cw_rules.proofs.InnerTwins.{tex_inner}
 use Rattle.cw_rules.proofs.Choices.{if-both, and-none}
 use Rattle.cw_rules.proofs.InnerTwins.{alone, in_tex, in_text-twin}
-use Rattle.cw_lex.proofs.Openings.{section-cuts, not-both, uncut-right}
+use Rattle.cw_lex.proofs.Openings.{section-cuts, uncut-right}
+use Rattle.cw_base.proofs.TestLaws.{not-both, both-left}
 
 -- ## What leaves inner C text
 
@@ -69,10 +70,6 @@ sign-bar : (byte : ℕ) (o : Option Sign) → Bar byte (sign_or_other o)
 sign-bar byte None = record { is = λ h. absurd cc }
 sign-bar byte (Some s) = record { is = λ h. absurd cc }
 
-and-first : (a b : Bool) → (a && b) ≡ true → a ≡ true
-and-first true b h = refl
-and-first false b h = absurd cc
-
 bar-start : (ends : Bool) (byte : ℕ) (bytes : List ℕ) → Bar byte (start_of ends byte bytes)
 bar-start ends byte bytes =
     if-both (Bar byte) (is_letter byte) _ _ (λ e. record { is = λ h. absurd cc })
@@ -82,7 +79,7 @@ bar-start ends byte bytes =
     (λ e. if-both (Bar byte) (byte == slash && begins slash bytes) _ _ (λ e. record { is = λ h. absurd cc })
     (λ e. if-both (Bar byte) (byte == at_sign) _ _ (λ e. record { is = λ h. absurd cc })
     (λ e. if-both (Bar byte) (byte == bar && (ends && not (begins bar bytes))) start.EndOfInner
-    (sign_or_other (longest all_signs (byte ∷ bytes))) (λ e. record { is = λ h. and-first (byte == bar) _ e })
+    (sign_or_other (longest all_signs (byte ∷ bytes))) (λ e. record { is = λ h. both-left (byte == bar) _ e })
     (λ e. sign-bar byte (longest all_signs (byte ∷ bytes)))))))))
 
 no-bar : (ends : Bool) (byte : ℕ) (bytes : List ℕ) → (byte == bar) ≡ false → start_of ends byte bytes ≡ start.EndOfInner

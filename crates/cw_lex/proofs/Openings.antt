@@ -5,7 +5,7 @@ use Rattle.std.proofs.Common.{append_assoc, length-drop, inl, inr}
 use Rattle.std.specs.Prelude.{if◌then◌else◌}
 use Rattle.std.proofs.lemmas.Bool.{eqb-true}
 use Rattle.std.proofs.lemmas.List.{drop-drop, take-take, take_all, drop_all}
-use Rattle.cw_base.proofs.TestLaws.{both-left, both-right}
+use Rattle.cw_base.proofs.TestLaws.{both-left, both-right, not-both}
 use Rattle.cw_rules.specs.declared.codes.Code.{Code}
 use Rattle.cw_rules.specs.declared.codes.Code.TheVariants as at
 use Rattle.cw_rules.specs.declared.parts.Part.TheVariants as parts
@@ -53,10 +53,6 @@ section-opens : (c : Code) → is_section c ≡ true → is_opener c ≡ true
 section-opens at.Section h = refl
 section-opens at.StarredSection h = refl
 section-opens _ h = absurd cc
-
-pub not-both : {A : Type 0} (b : Bool) → b ≡ true → b ≡ false → A
-not-both true h k = absurd cc
-not-both false h k = absurd cc
 
 -- what a section code is as a token
 record IsCode (cut : Cut) : Type 0 where

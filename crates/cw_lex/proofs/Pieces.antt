@@ -1,6 +1,7 @@
 -- A piece of a comment's text, as the scanner reads it.
 use Rattle.std.proofs.Common.{◌≡◌, ℕ, ◌+◌, ◌-◌, ◌<◌, Bool, true, false, not, ◌||◌, List, ◌∷◌, length, slice_index, drop}
-use Rattle.std.proofs.Common.{refl, sym, ap, ◌∙◌, arith}
+use Rattle.std.proofs.Common.{sym, ap, ◌∙◌, arith}
+use Rattle.cw_base.proofs.TestLaws.{or-true}
 use Rattle.cw_rules.specs.declared.bodies.Body.TheVariants as bodies
 use Rattle.cw_rules.specs.declared.bodies.Inside.{Inside}
 use Rattle.cw_rules.specs.declared.parts.Part.{Part}
@@ -12,10 +13,6 @@ use Rattle.cw_rules.specs.Tokens.{in_hash_line, is_deep, one, piece, piece_start
 use Rattle.cw_rules.specs.Cuttings.{bytes_at}
 use Rattle.cw_rules.proofs.Inside.{ended-some}
 use Rattle.cw_lex.proofs.Steps.{bytes-here}
-
-or-true : (b : Bool) → (b || true) ≡ true
-or-true true = refl
-or-true false = refl
 
 -- what a piece gives, by where it ends
 abbrev pub piece_found : Part → List Opened → Opened → ℕ → Inside → Inside → List ℕ → Found

@@ -29,6 +29,7 @@ use Rattle.cw_lex.proofs.Calm.{calm-code, calm-part}
 use Rattle.cw_lex.proofs.Steps.{bytes-here}
 use Rattle.cw_rules.proofs.Sizes.{run-le}
 use Rattle.std.proofs.lemmas.Bool.{lt-ltb, eqb-true}
+use Rattle.cw_base.proofs.TestLaws.{and-false}
 
 -- a byte that begins no line's end, white space, code or `#` line
 pub record IsStart (b : ℕ) : Type 0 where
@@ -37,10 +38,6 @@ pub record IsStart (b : ℕ) : Type 0 where
   pub backslash : (b == 92) ≡ false
   pub at_sign : (b == 64) ≡ false
   pub hash : (b == 35) ≡ false
-
-and-false : (b : Bool) → (b && false) ≡ false
-and-false true = refl
-and-false false = refl
 
 no-space : (part : Part) (b : ℕ) (bs : List ℕ) → IsStart b → is_space part b bs ≡ false
 no-space part b bs s = rw (s.blank, s.backslash) (and-false (in_hash_line part))

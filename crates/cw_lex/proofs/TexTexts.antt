@@ -5,7 +5,7 @@ use Rattle.std.proofs.Common.{arith, append-nil, length-drop, ◌⊎◌, inl, in
 use Rattle.std.specs.Prelude.{if◌then◌else◌}
 use Rattle.std.proofs.lemmas.Bool.{eqb-true}
 use Rattle.std.proofs.lemmas.List.{drop-drop, length-take}
-use Rattle.cw_base.proofs.TestLaws.{both-right, one-failed-left, one-failed-right}
+use Rattle.cw_base.proofs.TestLaws.{both-right, one-failed-left, one-failed-right, not-both}
 use Rattle.cw_base.specs.declared.notes.NoteKind.TheVariants as notes
 use Rattle.cw_rules.specs.declared.bodies.Body.TheVariants as bodies
 use Rattle.cw_rules.specs.declared.bodies.Noted.{Noted}
@@ -41,7 +41,7 @@ use Rattle.cw_lex.proofs.Covering.{drop-part, covers-le, tokens-cover}
 use Rattle.cw_lex.proofs.InnerEnds.{to-end}
 use Rattle.cw_lex.proofs.InnerScans.{inner-ends-at-bar}
 use Rattle.cw_rules.proofs.NameEnds.{name-take}
-use Rattle.cw_lex.proofs.Openings.{not-both, section-cuts, bare-uncut}
+use Rattle.cw_lex.proofs.Openings.{section-cuts, bare-uncut}
 use Rattle.cw_lex.proofs.FirstTokens.{notes-sign, begun}
 use Rattle.cw_rules.proofs.InnerTwins.{tex_inner}
 use Rattle.cw_rules.proofs.Sizes.{extent-le}
@@ -138,23 +138,23 @@ reaches text from end (Note kind about ∷ xs) finish rest c = reaches text from
 -- ## Section names by themselves
 
 -- what is left when a token has all bytes
-all-taken : (bytes : List ℕ) (w : Where) (fresh : Bool) (last place : ℕ)
+pub all-taken : (bytes : List ℕ) (w : Where) (fresh : Bool) (last place : ℕ)
     → begins_section_in (answers bytes w fresh last place (length bytes)) ≡ false
 all-taken [] w fresh last place = bare-uncut place (all_cut w.part w.comments place (place - 1))
     (bare-all-cut w.part w.comments place (place - 1))
 all-taken (b ∷ bytes) w fresh last place = all-taken bytes w (still_fresh fresh b) b (place + 1)
 
-or-notes : (ns : List Noted) (ys : List Answer) → begins_section_in ys ≡ false
+pub or-notes : (ns : List Noted) (ys : List Answer) → begins_section_in ys ≡ false
     → begins_section_in (note_answers ns ++ ys) ≡ false
 or-notes [] ys h = h
 or-notes (n ∷ ns) ys h = or-notes ns ys h
 
-name-plain : (c : Code) → is_name c ≡ true → is_section c ≡ false
+pub name-plain : (c : Code) → is_name c ≡ true → is_section c ≡ false
 name-plain at.SectionName h = refl
 name-plain at.FileName h = refl
 name-plain _ h = absurd cc
 
-name-kind : (c : Code) → is_name c ≡ true → is_section_kind (kinds.Code c) ≡ false
+pub name-kind : (c : Code) → is_name c ≡ true → is_section_kind (kinds.Code c) ≡ false
 name-kind at.SectionName h = refl
 name-kind at.FileName h = refl
 name-kind _ h = absurd cc

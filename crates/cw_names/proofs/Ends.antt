@@ -8,21 +8,11 @@ use Rattle.cw_names.specs.declared.entry.Key.{Key}
 use Rattle.std.specs.List.{list_all}
 use Rattle.cw_names.specs.Inside.{entry_of, has_no_end_entry}
 use Rattle.cw_base.specs.Category.{is_end}
+use Rattle.cw_base.proofs.TestLaws.{both-left, both-right, both}
 
 pub real : (cat : Cat) → cat ≢ End → is_end cat ≡ false
 real End differs = absurd (differs refl)
 real _ differs = refl
-
-first : (a b : Bool) → (a && b) ≡ true → a ≡ true
-first true b e = refl
-first false b e = e
-
-second : (a b : Bool) → (a && b) ≡ true → b ≡ true
-second true b e = e
-second false b e = absurd (let no : false ≡ true = e in cc)
-
-both : (a b : Bool) → a ≡ true → b ≡ true → (a && b) ≡ true
-both a b is also = ap (λ x. x && b) is ∙ also
 
 -- it is seen of the entries themselves
 pub of-view : (entries : List (Key × Cat)) → has_no_end_entry entries
@@ -34,34 +24,35 @@ inserted-by : (b : Bool) (eq : Key → Key → Bool) (e : Key × Cat) (entries :
     → has_no_end_entry (e ∷ entries) ≡ true
     → has_no_end_entry (insert_entry eq entries key Exp) ≡ true
     → has_no_end_entry (if b then (e.0, Exp) ∷ entries else e ∷ insert_entry eq entries key Exp) ≡ true
-inserted-by true eq e entries key none rest = second (not (is_end e.1)) (has_no_end_entry entries) none
+inserted-by true eq e entries key none rest = both-right (not (is_end e.1)) (has_no_end_entry entries) none
 inserted-by false eq e entries key none rest =
     both (not (is_end e.1)) (has_no_end_entry (insert_entry eq entries key Exp))
-    (first (not (is_end e.1)) (has_no_end_entry entries) none) rest
+    (both-left (not (is_end e.1)) (has_no_end_entry entries) none) rest
 
 pub inserted : (eq : Key → Key → Bool) (entries : List (Key × Cat)) (key : Key) → has_no_end_entry entries ≡ true
     → has_no_end_entry (insert_entry eq entries key Exp) ≡ true
 inserted eq [] key none = refl
 inserted eq (e ∷ entries) key none =
     inserted-by (eq key e.0) eq e entries key none
-    (inserted eq entries key (second (not (is_end e.1)) (has_no_end_entry entries) none))
+    (inserted eq entries key (both-right (not (is_end e.1)) (has_no_end_entry entries) none))
 
 pub changed : (entries : List (Key × Cat)) (i : ℕ) (cat : Cat) → cat ≢ End → has_no_end_entry entries ≡ true
     → has_no_end_entry (set_value_at entries i cat) ≡ true
 changed [] i cat differs none = refl
 changed (e ∷ entries) zero cat differs none = both (not (is_end cat)) (has_no_end_entry entries)
-    (ap not (real cat differs)) (second (not (is_end e.1)) (has_no_end_entry entries) none)
+    (ap not (real cat differs)) (both-right (not (is_end e.1)) (has_no_end_entry entries) none)
 changed (e ∷ entries) (suc i) cat differs none =
     both (not (is_end e.1)) (has_no_end_entry (set_value_at entries i cat))
-    (first (not (is_end e.1)) (has_no_end_entry entries) none)
-    (changed entries i cat differs (second (not (is_end e.1)) (has_no_end_entry entries) none))
+    (both-left (not (is_end e.1)) (has_no_end_entry entries) none)
+    (changed entries i cat differs (both-right (not (is_end e.1)) (has_no_end_entry entries) none))
 
 pub found : (entries : List (Key × Cat)) (i : ℕ) (e : Key × Cat) → slice_get entries i ≡ Some e
     → has_no_end_entry entries ≡ true → e.1 ≢ End
 found [] i e is none = λ end. cc
 found (x ∷ entries) zero e is none =
     λ end. let same : x ≡ e = cc in
-    let good : not (is_end x.1) ≡ true = first (not (is_end x.1)) (has_no_end_entry entries) none in
+    let good : not (is_end x.1) ≡ true = both-left (not (is_end x.1)) (has_no_end_entry entries) none in
     absurd (let wrong : false ≡ true = sym (ap (λ (p : Key × Cat). not (is_end p.1)) same
     ∙ ap (λ c. not (is_end c)) end) ∙ good in cc)
-found (x ∷ entries) (suc i) e is none = found entries i e is (second (not (is_end x.1)) (has_no_end_entry entries) none)
+found (x ∷ entries) (suc i) e is none =
+    found entries i e is (both-right (not (is_end x.1)) (has_no_end_entry entries) none)

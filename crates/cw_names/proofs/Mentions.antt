@@ -10,13 +10,15 @@ use Rattle.std.proofs.lemmas.List.Sums.{fold-append}
 use Rattle.std.proofs.lemmas.List.Sorted.{IsPartitionedBy-ltb}
 use Rattle.std.proofs.Math.Dec.{ltb}
 use Rattle.std.specs.List.Sorted.{IsPartitionPoint, IsPartitionedBy}
+use Rattle.cw_base.proofs.TestLaws.{or-false, or-true}
+use Rattle.cw_base.proofs.NumberLaws.{three}
 use Rattle.cw_names.specs.declared.xrefs.Occurrence.{Occurrence}
 use Rattle.cw_names.specs.declared.xrefs.SectionRef.{SectionRef}
 use Rattle.cw_names.specs.Noted.{sections_at, with_mention}
 use Rattle.cw_names.specs.Mentions.{AreAscending, above_all, any_in, any_underlined_in, is_in, is_underlined_in}
 use Rattle.cw_names.specs.Mentions.{mentions, sections_in}
 use Rattle.cw_names.specs.MentionLaws.{Above, none-above, picked, picked-above, picked-more, sections-ascending}
-use Rattle.cw_names.specs.MentionLaws.{sections-picked, three, with_first}
+use Rattle.cw_names.specs.MentionLaws.{sections-picked, with_first}
 
 module _ (section : ℕ) (underlined : Bool) (m : SectionRef) (ms : List SectionRef) where
   abbrev chosen : Bool → Bool → List SectionRef
@@ -114,10 +116,6 @@ module _ (section : ℕ) (underlined : Bool) where
             ∙ ap (with_first (test a) (under a) a) more
             ∙ by (test a) less
 
-or-false : (b : Bool) → (b || false) ≡ b
-or-false true = refl
-or-false false = refl
-
 -- where no occurrence is, none is underlined
 none-underlined : (section : ℕ) (os : List Occurrence) → any_in os section ≡ false
     → any_underlined_in os section ≡ false
@@ -153,10 +151,6 @@ module _ (os : List Occurrence) (o : Occurrence) where
 
   itself : (o.section == o.section) ≡ true
   itself = eq-eqb o.section o.section refl
-
-  or-true : (b : Bool) → (b || true) ≡ true
-  or-true true = refl
-  or-true false = refl
 
   most : ℕ
   most = max (above_all os) (o.section + 1)

@@ -1,32 +1,16 @@
 -- Laws of the sections of occurrences: which are there, and that they ascend.
-use Rattle.std.proofs.Common.{◌≡◌, ℕ, zero, suc, ◌+◌, max, ◌<◌, ◌≤◌, ◌≢◌, ◌==◌, ◌&&◌, ◌||◌, Bool, true, false, nat_lt}
-use Rattle.std.proofs.Common.{List, [], ◌∷◌, length, get_or, fold, map, cond, refl, sym, ap, subst, ◌∙◌, ◌⊎◌, inl, inr}
+use Rattle.std.proofs.Common.{◌≡◌, ℕ, zero, suc, ◌+◌, max, ◌<◌, ◌≤◌, ◌==◌, ◌&&◌, ◌||◌, Bool, true, false}
+use Rattle.std.proofs.Common.{List, [], ◌∷◌, length, get_or, fold, map, cond, refl, sym, ap, subst, ◌∙◌, inl, inr}
 use Rattle.std.proofs.Common.{arith}
 use Rattle.std.specs.List.{filter, list_any, range_with_len}
-use Rattle.std.proofs.lemmas.Bool.{ltb-false, ltb-true, eq-eqb, eqb-true}
+use Rattle.std.proofs.lemmas.Bool.{eq-eqb}
 use Rattle.std.proofs.lemmas.List.Kept.{AllPairs-cons}
+use Rattle.cw_base.proofs.NumberLaws.{three, apart}
+use Rattle.cw_base.proofs.TestLaws.{or-false}
 use Rattle.cw_names.specs.declared.xrefs.Occurrence.{Occurrence}
 use Rattle.cw_names.specs.declared.xrefs.SectionRef.{SectionRef}
 use Rattle.cw_names.specs.Mentions.{AreAscending, above_all, any_in, any_underlined_in, is_in}
 use Rattle.cw_names.specs.Mentions.{mention_of, sections_in}
-
-pub three : (a b : ℕ) → (a < b) ⊎ ((a ≡ b) ⊎ (b < a))
-three a b = first (nat_lt a b) refl
-  where
-    second : (t : Bool) → nat_lt b a ≡ t → b ≤ a → (a ≡ b) ⊎ (b < a)
-    second true e h = inr (ltb-true b a e)
-    second false e h = let k : a ≤ b = ltb-false b a e in inl (omega arith)
-
-    first : (t : Bool) → nat_lt a b ≡ t → (a < b) ⊎ ((a ≡ b) ⊎ (b < a))
-    first true e = inl (ltb-true a b e)
-    first false e = inr (second (nat_lt b a) refl (ltb-false a b e))
-
-apart : (a b : ℕ) → a ≢ b → (a == b) ≡ false
-apart a b differ = by (a == b) refl
-  where
-    by : (t : Bool) → (a == b) ≡ t → t ≡ false
-    by true e = absurd (differ (eqb-true a b e))
-    by false e = refl
 
 -- ## Sections that pass a test, from one number on, so many numbers
 
@@ -81,10 +65,6 @@ module _ (test underlined : ℕ → Bool) where
         by true more = ap (λ b. (b && shown (record { section = a; underlined = underlined a }))
             || list_any is_shown (picked test underlined (a + 1) n)) (apart a section (λ same. omega arith)) ∙ more
         by false more = more
-
-    or-false : (b : Bool) → (b || false) ≡ b
-    or-false true = refl
-    or-false false = refl
 
     abbrev wanted : Bool
     wanted = test section && shown (record { section = section; underlined = underlined section })

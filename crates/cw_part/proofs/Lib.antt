@@ -2,7 +2,7 @@
 pub mod WovenLaws
 mod ParagraphLaws
 pub mod SectionLaws
-mod PutLaws
+pub mod PutLaws
 mod FootnoteLaws
 mod Rows
 mod WholeDefinitions

@@ -6,7 +6,7 @@ use Rattle.cw_base.specs.declared.memory.Memory.{Memory}
 use Rattle.cw_desk.specs.Told.{Told}
 use Rattle.cw_lines.specs.Line.{LineState}
 use Rattle.cw_lines.specs.Writes.{Puts}
-use Rattle.cw_lines.specs.WritesLaws.{puts-bytes, puts-none, puts-stop, puts-then}
+use Rattle.cw_lines.specs.WritesLaws.{puts-bytes, puts-none, puts-stop, puts-then, puts-nothing}
 use Rattle.cw_lines.specs.declared.put_error.PutError.{PutError}
 use Rattle.cw_lines.specs.declared.put_error.PutError.TheVariants as puts
 use Rattle.cw_part.specs.Parts.{paragraph_if}
@@ -16,7 +16,7 @@ use Rattle.cw_texpart.specs.Done.{Done, reprinted}
 use Rattle.cw_texpart.specs.Texts.{Setting}
 use Rattle.cw_texpart.specs.Translation.{TranslatedState, Translates}
 use Rattle.cw_texpart.specs.Weaving.{Press, Weaves}
-use Rattle.cw_texpart.proofs.WeavingLaws.{puts-nothing, weaves-refused}
+use Rattle.cw_texpart.proofs.WeavingLaws.{weaves-refused}
 
 abbrev reprint : List ℕ → Done ℕ → Done ℕ
 reprint out d = reprinted (λ bytes. out) d

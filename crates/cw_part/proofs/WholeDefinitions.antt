@@ -1,59 +1,29 @@
 -- The definitions of a whole part are whole.
-use Rattle.std.proofs.Common.{◌≡◌, ℕ, ◌<◌, ◌≤◌, Bool, true, false, ◌||◌, List, [], ◌∷◌, ◌++◌, Option, Some, None, All}
+use Rattle.std.proofs.Common.{◌≡◌, ℕ, ◌≤◌, Bool, true, false, ◌||◌, List, [], ◌∷◌, ◌++◌, Option, Some, None, All}
 use Rattle.std.proofs.Common.{length, take, refl, sym, ap, subst, ◌∙◌, arith, append_assoc, ◌⊎◌, inl, inr}
-use Rattle.std.specs.List.{list_any}
 use Rattle.std.proofs.lemmas.List.{take_all, take-take, length-take}
 use Rattle.std.proofs.lemmas.List.Elements.{All-nil, All-cons, All-weaker}
-use Rattle.cw_base.specs.declared.span.Span.{Span}
+use Rattle.cw_phase1.proofs.PartEnds.{uncut-before}
 use Rattle.cw_rules.specs.declared.codes.Code.{Code}
 use Rattle.cw_rules.specs.declared.codes.Code.TheVariants as at
-use Rattle.cw_rules.specs.declared.tokens.Mode.{Mode}
 use Rattle.cw_rules.specs.declared.tokens.Mode.TheVariants as modes
 use Rattle.cw_rules.specs.declared.tokens.TokKind.{TokKind}
 use Rattle.cw_rules.specs.declared.tokens.TokKind.TheVariants as kinds
-use Rattle.cw_rules.specs.Answers.{Answer, Token, Begin, Finish, Note, Seen, has_sign}
+use Rattle.cw_rules.specs.Answers.{Answer, Token, Begin, Finish, Note, has_sign}
 use Rattle.cw_lex.specs.Lexing.{answers_at, tokens_of, beginning as begun}
-use Rattle.cw_lex.specs.Nested.{is_section_kind, is_section_answer, begins_section_in}
-use Rattle.cw_lex.specs.Openings.{tokens_in, opened_by, EndsBefore, TextsEndAtOpenings}
+use Rattle.cw_lex.specs.Nested.{is_section_answer, begins_section_in}
+use Rattle.cw_lex.specs.Openings.{opened_by, TextsEndAtOpenings}
 use Rattle.cw_rules.specs.Order.{AreWithin}
 use Rattle.cw_lex.proofs.TokensWithin.{tokens-within}
+use Rattle.cw_lex.proofs.Openings.{uncut-right}
 use Rattle.cw_part.specs.declared.definitions.Begun.{Begun}
 use Rattle.cw_part.specs.declared.definitions.Definition.{Definition}
-use Rattle.cw_part.specs.Definitions.{begun_by, beginning, ended_at, with_begun, definitions_of, definitions_in}
+use Rattle.cw_part.specs.Definitions.{begun_by, beginning, ended_at, with_begun, definitions_of}
 use Rattle.cw_part.specs.WholeDefinitions.{DefinitionsAreWhole, RestsAreWhole}
-use Rattle.cw_part.specs.WholeTexts.{IsWholeIn, IsWholeDefinition, IsWholeRest}
+use Rattle.cw_part.specs.WholeTexts.{IsWholeIn, IsWholeDefinition}
 use Rattle.cw_texpart.specs.Limbo.{scanned}
 
 -- ## Section codes among answers
-
-code-tokens : (answers : List Answer) → begins_section_in answers ≡ list_any (λ (t : Seen). is_section_kind t.kind)
-    (tokens_in answers)
-code-tokens [] = refl
-code-tokens (Token t ∷ answers) = ap (λ b. is_section_kind t.kind || b) (code-tokens answers)
-code-tokens (Begin t ∷ answers) = code-tokens answers
-code-tokens (Finish t ∷ answers) = code-tokens answers
-code-tokens (Note kind place ∷ answers) = code-tokens answers
-
-same-codes : (xs ys : List Answer) → tokens_in xs ≡ tokens_in ys → begins_section_in ys ≡ false → begins_section_in xs ≡
-    false
-same-codes xs ys e h = code-tokens xs ∙ ap (list_any (λ (t : Seen). is_section_kind t.kind)) e ∙ sym (code-tokens ys) ∙
-    h
-
-tokens-append : (xs ys : List Answer) → tokens_in (xs ++ ys) ≡ tokens_in xs ++ tokens_in ys
-tokens-append [] ys = refl
-tokens-append (Token t ∷ xs) ys = ap (λ l. t ∷ l) (tokens-append xs ys)
-tokens-append (Begin t ∷ xs) ys = tokens-append xs ys
-tokens-append (Finish t ∷ xs) ys = tokens-append xs ys
-tokens-append (Note kind place ∷ xs) ys = tokens-append xs ys
-
--- A text that ends before a token has no section code where none comes before the token.
-uncut-before : (text : List ℕ) (start : ℕ) (mode : Mode) (answers : List Answer) (t : Seen) →
-    EndsBefore text start mode answers t → begins_section_in answers ≡ false
-    → begins_section_in (tokens_of text start t.span.start mode) ≡ false
-uncut-before text start mode answers t e h =
-    same-codes (tokens_of text start t.span.start mode) answers
-    (ap tokens_in e.alone ∙ tokens-append e.body e.cut ∙ ap (λ l. tokens_in e.body ++
-    l) (e.cut_tokens ∙ sym e.rest_tokens) ∙ sym (tokens-append e.body e.rest) ∙ ap tokens_in (sym e.whole)) h
 
 uncut-left : (xs ys : List Answer) → begins_section_in (xs ++ ys) ≡ false → begins_section_in xs ≡ false
 uncut-left [] ys h = refl
@@ -61,15 +31,6 @@ uncut-left (x ∷ xs) ys h = by (is_section_answer x) h (uncut-left xs ys)
   where
     by : (b : Bool) → (b || begins_section_in (xs ++ ys)) ≡ false → (begins_section_in (xs ++ ys) ≡ false →
         begins_section_in xs ≡ false) → (b || begins_section_in xs) ≡ false
-    by true k rec = absurd cc
-    by false k rec = rec k
-
-uncut-right : (xs ys : List Answer) → begins_section_in (xs ++ ys) ≡ false → begins_section_in ys ≡ false
-uncut-right [] ys h = h
-uncut-right (x ∷ xs) ys h = by (is_section_answer x) h (uncut-right xs ys)
-  where
-    by : (b : Bool) → (b || begins_section_in (xs ++ ys)) ≡ false → (begins_section_in (xs ++ ys) ≡ false →
-        begins_section_in ys ≡ false) → begins_section_in ys ≡ false
     by true k rec = absurd cc
     by false k rec = rec k
 

@@ -1,31 +1,11 @@
 -- Pieces of a book are woven one after another.
-use Rattle.std.proofs.Common.{
-  ◌≡◌,
-  ℕ,
-  ◌+◌,
-  ◌≤◌,
-  ◌==◌,
-  Bool,
-  true,
-  false,
-  refl,
-  sym,
-  ap,
-  ◌∙◌,
-  subst,
-  List,
-  [],
-  ◌++◌,
-  append_assoc,
-  length,
-  arith,
-}
+use Rattle.std.proofs.Common.{◌≡◌, ℕ, ◌+◌, ◌≤◌, refl, sym, ap, ◌∙◌, List, [], ◌++◌, append_assoc, arith}
 use Rattle.std.specs.Prelude.{Result, Ok, Err, IsErrAnd}
 use Rattle.std.proofs.lemmas.List.{append-nil}
 use Rattle.cw_desk.specs.Told.{Told}
 use Rattle.cw_lines.specs.Line.{LineState}
 use Rattle.cw_lines.specs.Writes.{Puts}
-use Rattle.cw_lines.specs.WritesLaws.{puts-bytes, puts-none, puts-stop, puts-then}
+use Rattle.cw_lines.specs.WritesLaws.{puts-bytes, puts-none, puts-stop, puts-then, puts-nothing}
 use Rattle.cw_lines.specs.declared.put_error.PutError.{PutError}
 use Rattle.cw_lines.specs.declared.put_error.PutError.TheVariants.{Memory}
 use Rattle.cw_names.specs.Names.{Entry}
@@ -36,7 +16,7 @@ use Rattle.cw_texpart.specs.declared.counts.Counts.{Counts}
 use Rattle.cw_texpart.specs.Done.{Done, joined, plain, then}
 use Rattle.cw_texpart.specs.Texts.{Setting}
 use Rattle.cw_texpart.specs.Weaving.{Press, Weaves, underlined}
-use Rattle.cw_texpart.proofs.WeavingLaws.{joined-joined, limit-append, productions-append, puts-nothing, scraps-append}
+use Rattle.cw_texpart.proofs.WeavingLaws.{joined-joined, limit-append, productions-append, scraps-append}
 use Rattle.cw_texpart.proofs.WeavingLaws.{ticks-append, underlined-append, underlined-none, weaves-as, weaves-refused}
 
 -- ## One piece

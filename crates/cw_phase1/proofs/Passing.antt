@@ -57,7 +57,8 @@ name-free (kinds.Code code) headed s span h = absurd (let wrong : false ≡ true
 name-free kind headed s span h = absurd (let wrong : false ≡ true = h in cc)
 
 -- Only names are entered.
-void-by : (void : Bool) (kind : TokKind) (text : List ℕ) → is_name_kind kind ≡ false → naming_by void kind text ≡ Void
+pub void-by : (void : Bool) (kind : TokKind) (text : List ℕ) → is_name_kind kind ≡ false
+    → naming_by void kind text ≡ Void
 void-by void (kinds.Code at.SectionName) text h = absurd (let wrong : true ≡ false = h in cc)
 void-by void (kinds.Code at.FileName) text h = absurd (let wrong : true ≡ false = h in cc)
 void-by void (kinds.Code code) text h = refl

@@ -3,7 +3,7 @@ use Rattle.std.proofs.Common.{◌≡◌, ℕ, Bool, true, false, not, ◌||◌, 
 use Rattle.std.proofs.Common.{take, get_or, refl, sym, ap, subst, ◌∙◌, arith, append_assoc, ◌⊎◌, inl, inr}
 use Rattle.std.proofs.lemmas.List.{take_all, drop_all, length-take}
 use Rattle.std.proofs.lemmas.List.Elements.{All-nil, All-cons}
-use Rattle.cw_base.proofs.TestLaws.{one-right}
+use Rattle.cw_base.proofs.TestLaws.{one-right, not-both, or-false, one-left}
 use Rattle.cw_base.specs.Web.{MergedLine, text_of}
 use Rattle.cw_rules.specs.declared.tokens.Mode.{Mode}
 use Rattle.cw_rules.specs.declared.tokens.Mode.TheVariants as modes
@@ -59,13 +59,9 @@ not_program part = not (is_program part)
 abbrev any_part : Part → Bool
 any_part part = true
 
-or-true : (a b : Bool) → a ≡ true → (a || b) ≡ true
-or-true true b h = refl
-or-true false b h = absurd cc
-
 -- a section code passes each test
 code-passes : (good : Part → Bool) (p : Placed) → is_section_code p.role ≡ true → ends good p ≡ true
-code-passes good p h = or-true (is_section_code p.role) (not (good p.part)) h
+code-passes good p h = one-left (is_section_code p.role) (not (good p.part)) h
 
 not-not : (b : Bool) → not (not b) ≡ b
 not-not true = refl
@@ -73,10 +69,6 @@ not-not false = refl
 
 definitions-by : (p : Placed) → ends not_program p ≡ ends_definitions p
 definitions-by p = ap (λ b. is_section_code p.role || b) (not-not (is_program p.part))
-
-or-false : (a : Bool) → (a || false) ≡ a
-or-false true = refl
-or-false false = refl
 
 section-by : (p : Placed) → ends any_part p ≡ ends_section p
 section-by p = or-false (is_section_code p.role)
@@ -100,10 +92,6 @@ section-definitions p h = code-passes not_program p h
 
 definitions-not : (p : Placed) → ends_definitions p ≡ true → ends not_program p ≡ true
 definitions-not p h = definitions-by p ∙ h
-
-not-both : {A : Type 0} (b : Bool) → b ≡ true → b ≡ false → A
-not-both true h k = absurd cc
-not-both false h k = absurd cc
 
 module _ (sections : TextsEndAtSections) (openings : TextsEndAtOpenings) (text : List ℕ) where
   abbrev size : ℕ
@@ -182,7 +170,7 @@ module _ (sections : TextsEndAtSections) (openings : TextsEndAtOpenings) (text :
       ∙ first-behind ends_definitions size r.front (placed_from r.standing r.names (Token r.token ∷ r.behind))
       (none-stricter (ends not_program) ends_definitions r.front definitions-not r.none)
       ∙ first-token not_program ends_definitions size r.standing r.names r.token r.behind
-      (or-true (is_section_code p.role) (is_program p.part) code) in
+      (one-left (is_section_code p.role) (is_program p.part) code) in
       let end : first_start ends_section size ps ≡ r.token.span.start =
       ap (first_start ends_section size) r.placed ∙ first-behind ends_section size r.front
       (placed_from r.standing r.names (Token r.token ∷ r.behind)) (none-stricter (ends not_program) ends_section
@@ -297,7 +285,7 @@ module _ (sections : TextsEndAtSections) (openings : TextsEndAtOpenings) (text :
       ∙ first-behind ends_definitions size r.front (placed_from r.standing r.names (Token r.token ∷ r.behind))
       (none-stricter (ends is_tex) ends_definitions r.front definitions-tex r.none)
       ∙ first-token is_tex ends_definitions size r.standing r.names r.token r.behind
-      (or-true (is_section_code p.role) (is_program p.part) code))
+      (one-left (is_section_code p.role) (is_program p.part) code))
       (ap (first_start ends_section size) r.placed
       ∙ first-behind ends_section size r.front (placed_from r.standing r.names (Token r.token ∷ r.behind))
       (none-stricter (ends is_tex) ends_section r.front section-tex r.none)

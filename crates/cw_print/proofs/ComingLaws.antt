@@ -2,6 +2,7 @@
 use Rattle.std.proofs.Common.{◌≡◌, ℕ, zero, suc, ◌<◌, ◌≤◌, Bool, true, false, ◌&&◌, List, [], ◌∷◌, ◌++◌, refl, sym}
 use Rattle.std.proofs.Common.{subst, arith}
 use Rattle.std.proofs.lemmas.List.{append-nil, append_assoc}
+use Rattle.cw_base.proofs.TestLaws.{both-left, both-right}
 use Rattle.cw_trees.specs.declared.Control.{Control}
 use Rattle.cw_trees.specs.Tree.{Leaf, Source, Ident, Reserved, Sign, Tree, Empty, Then, Sub, Inner}
 use Rattle.cw_trees.specs.Flat.{Item, SourceItem, IdentItem, ReservedItem, SignItem, Open, Close, leaf_item, flat}
@@ -59,14 +60,6 @@ sign-depth test (ReservedItem name number) depth is = refl
 sign-depth test Open depth is = absurd (cc)
 sign-depth test Close depth is = absurd (cc)
 
-both-first : (a b : Bool) → (a && b) ≡ true → a ≡ true
-both-first true b is = refl
-both-first false b is = is
-
-both-second : (a b : Bool) → (a && b) ≡ true → b ≡ true
-both-second true b is = is
-both-second false b is = absurd (cc)
-
 without-step : (count : ℕ) (item : Item) (items : List Item) (depth : ℕ) (b : Bool) → is_inserted item ≡ b
     → ((d : ℕ) → AllMay (MayStand count) d items → AllMay (MayCome count) d (without_inserted items))
     → AllMay (MayStand count) depth (item ∷ items)
@@ -93,7 +86,7 @@ module _ (may : ℕ → Item → Type 0) where
   front-step begins item items depth true is rest all =
       rest begins depth
       (subst (λ (d : ℕ). AllMay may d items) (sign-depth is_break_sign item depth
-      (both-second begins (is_break item) is)) all.1)
+      (both-right begins (is_break item) is)) all.1)
   front-step begins item items depth false is rest all =
       (all.0, rest (begins_after begins item) (opened depth item) all.1)
 
@@ -112,7 +105,7 @@ module _ (may : ℕ → Item → Type 0) where
   back-step item items depth true is rest all =
       rest depth
       (subst (λ (d : ℕ). AllMay may d items) (sign-depth is_break_sign item depth
-      (both-first (is_break item) (ends_text items) is)) all.1)
+      (both-left (is_break item) (ends_text items) is)) all.1)
   back-step item items depth false is rest all = (all.0, rest (opened depth item) all.1)
 
   back-may : (items : List Item) (depth : ℕ) → AllMay may depth items → AllMay may depth (trim_back items)

@@ -14,9 +14,10 @@ use Rattle.cw_trees.specs.declared.Control.{Control}
 use Rattle.cw_trees.specs.Printing.{Printable, opened, printed, run_sign}
 use Rattle.cw_tokens.specs.declared.flat.FlatItem.{FlatItem}
 use Rattle.cw_tokens.specs.FlatItems.{item_is, items_are}
-use Rattle.cw_lines.specs.Line.{LineState, fill}
+use Rattle.cw_lines.specs.Line.{LineState}
 use Rattle.cw_lines.specs.Writes.{HasPut, Puts}
-use Rattle.cw_lines.specs.WritesLaws.{adds-nothing, puts-bytes, puts-failed, puts-none, puts-stop, puts-then}
+use Rattle.cw_lines.specs.WritesLaws.{puts-bytes, puts-none, puts-stop, puts-then}
+use Rattle.cw_lines.specs.WritesLaws.{puts-nothing}
 use Rattle.cw_lines.specs.declared.put_error.PutError.{PutError}
 use Rattle.cw_lines.specs.declared.put_error.PutError.TheVariants.{Memory}
 use Rattle.cw_join.specs.Early.{added, depth_behind, early, late}
@@ -32,12 +33,6 @@ use Rattle.cw_print.specs.Walk.{Source, Title, items_shown, outside, own_bytes, 
 use Rattle.cw_print.specs.Walked.{Walked, behind}
 use Rattle.cw_print.proofs.ComingLaws.{can-come, opened-most}
 use Rattle.cw_print.proofs.ShownLaws.{own-alone, placed-run, shown-append, stand-more}
-
--- Memory was refused before anything was written.
-pub puts-nothing : {U : Type 0} (bytes : List ℕ) (line : LineState) (told : Told) {result : Result U PutError}
-    → IsErrAnd result (λ found. found ≡ Memory) → Puts bytes line line told told result
-puts-nothing bytes line told is = puts-failed Memory (fill line.line bytes) refl refl is
-    (adds-nothing _ told is (λ e. absurd (cc)))
 
 -- the bytes were put, whatever the call answered
 pub has-put : {T : Type 0} {bytes : List ℕ} {old new : LineState} {before now : Told} {value : T}

@@ -1,5 +1,5 @@
 -- The lines of the sample have no byte 10, and its text is short.
-use Rattle.std.proofs.Common.{◌≡◌, ◌≢◌, ℕ, zero, suc, ◌+◌, ◌-◌, ◌*◌, ◌<◌, ◌≤◌, ◌==◌, ◌&&◌, Bool, true, false, not, List}
+use Rattle.std.proofs.Common.{◌≡◌, ◌≢◌, ℕ, zero, suc, ◌+◌, ◌-◌, ◌*◌, ◌<◌, ◌≤◌, ◌==◌, Bool, true, false, not, List}
 use Rattle.std.proofs.Common.{[], ◌∷◌, ◌++◌, codes, length, refl, sym, ap, ◌∙◌, subst, append_assoc, arith}
 use Rattle.std.proofs.Common.{length-append}
 use Rattle.std.specs.Prelude.{All, decimal}
@@ -9,6 +9,7 @@ use Rattle.std.proofs.lemmas.List.Elements.{All-append, All-cons, All-map, All-n
 use Rattle.cw_base.specs.Web.{MergedLine, WebState, text_of}
 use Rattle.cw_base.specs.WebLaws.{length-text_of-more, text_of-append}
 use Rattle.cw_base.specs.declared.notes.Place.{Place}
+use Rattle.cw_base.proofs.TestLaws.{both-left, both-right}
 use Rattle.cw_sample.specs.Sample.{first_text, head_text, line_of, section_lines, sample_lines, sample_web}
 use Rattle.cw_sample.specs.Sample.{statement_text}
 
@@ -26,20 +27,12 @@ never e = cc
 other-not_ten : (byte : ℕ) → other byte ≡ true → NotTen byte
 other-not_ten byte is = λ e. never (subst (λ (b : ℕ). other b ≡ true) e is)
 
-first_true : (a b : Bool) → (a && b) ≡ true → a ≡ true
-first_true true b e = refl
-first_true false b e = e
-
-second_true : (a b : Bool) → (a && b) ≡ true → b ≡ true
-second_true true b e = e
-second_true false b e = absurd (never e)
-
 -- a text that is known
 whole : (text : List ℕ) → list_all other text ≡ true → All NotTen text
 whole [] is = All-nil NotTen
 whole (byte ∷ bytes) is =
-    All-cons NotTen byte bytes (other-not_ten byte (first_true (other byte) (list_all other bytes) is))
-    (whole bytes (second_true (other byte) (list_all other bytes) is))
+    All-cons NotTen byte bytes (other-not_ten byte (both-left (other byte) (list_all other bytes) is))
+    (whole bytes (both-right (other byte) (list_all other bytes) is))
 
 digit : (d : ℕ) → NotTen (48 + d)
 digit d e = omega (arith, e)

@@ -1,18 +1,16 @@
 -- The pair at a place.
-use Rattle.std.proofs.Common.{◌≡◌, ◌≢◌, ℕ, zero, suc, ◌<◌, ◌≤◌, ◌==◌, Bool, true, false, List, [], ◌∷◌, ◌++◌, Some}
+use Rattle.std.proofs.Common.{◌≡◌, ◌≢◌, ℕ, zero, suc, ◌<◌, ◌≤◌, Bool, true, false, List, [], ◌∷◌, ◌++◌, Some}
 use Rattle.std.proofs.Common.{None, map, length, nat_lt, refl, ap, sym, subst, ◌∙◌, get_or, arith, All, length-append}
 use Rattle.std.proofs.Math.ListN.{get_or-append}
 use Rattle.std.proofs.Math.Seq.{get_or-append_seam}
 use Rattle.std.proofs.Math.Dec.{ltb}
 use Rattle.std.specs.List.Sorted.{IsPartitionPoint, IsPartitionedBy}
 use Rattle.std.proofs.lemmas.List.Sorted.{IsPartitionedBy-ltb}
+use Rattle.cw_base.proofs.NumberLaws.{apart}
 use borrow.Author.Tests.{eq-eqb, ltb-true, ltb-false}
 use Rattle.cw_secnames.specs.Uses.{NameUse, name_at}
 use Rattle.cw_secnames.specs.InsideUses.{use_of, AreAscending}
 use Rattle.cw_secnames.specs.declared.name_uses.Pair.{Pair}
-
-apart : (a b : ℕ) → (a ≢ b) → (a == b) ≡ false
-apart a b h = grind arith
 
 pub at-first : (place : ℕ) (pairs : List Pair) (i : ℕ) (d : Pair) → i < length pairs
     → ((k : ℕ) → k < i → (get_or pairs k d).place < place) → (get_or pairs i d).place ≡ place

@@ -1,37 +1,13 @@
 -- Laws of numbers in ascending order, each once: which are there, and that they are the only such list.
 use Rattle.std.proofs.Common.{◌≡◌, ◌≢◌, ℕ, zero, suc, ◌+◌, max, ◌<◌, ◌≤◌, ◌==◌, ◌||◌, Bool, true, false, nat_lt, List}
-use Rattle.std.proofs.Common.{[], ◌∷◌, ◌++◌, fold, cond, refl, sym, ap, subst, ◌∙◌, ◌⊎◌, inl, inr, arith, true≢false}
+use Rattle.std.proofs.Common.{[], ◌∷◌, ◌++◌, fold, cond, refl, sym, ap, subst, ◌∙◌, inl, inr, arith, true≢false}
 use Rattle.std.specs.List.{filter, range_with_len}
-use Rattle.std.proofs.lemmas.Bool.{ltb-false, ltb-true, eq-eqb, eqb-true}
+use Rattle.std.proofs.lemmas.Bool.{ltb-false, ltb-true, eq-eqb}
 use Rattle.std.proofs.lemmas.List.Folds.{list_any-append}
+use Rattle.cw_base.proofs.TestLaws.{or-false, or-true}
+use Rattle.cw_base.proofs.NumberLaws.{three, apart}
 use Rattle.cw_secnames.specs.Marks.{is_in}
 use Rattle.cw_secnames.specs.References.{Ascend, AscendFrom, above_all, once, with_number}
-
-three : (a b : ℕ) → (a < b) ⊎ ((a ≡ b) ⊎ (b < a))
-three a b = first (nat_lt a b) refl
-  where
-    second : (t : Bool) → nat_lt b a ≡ t → b ≤ a → (a ≡ b) ⊎ (b < a)
-    second true e h = inr (ltb-true b a e)
-    second false e h = let k : a ≤ b = ltb-false b a e in inl (omega arith)
-
-    first : (t : Bool) → nat_lt a b ≡ t → (a < b) ⊎ ((a ≡ b) ⊎ (b < a))
-    first true e = inl (ltb-true a b e)
-    first false e = inr (second (nat_lt b a) refl (ltb-false a b e))
-
-apart : (a b : ℕ) → a ≢ b → (a == b) ≡ false
-apart a b differ = by (a == b) refl
-  where
-    by : (t : Bool) → (a == b) ≡ t → t ≡ false
-    by true e = absurd (differ (eqb-true a b e))
-    by false e = refl
-
-or-true : (b : Bool) → (b || true) ≡ true
-or-true true = refl
-or-true false = refl
-
-or-false : (b : Bool) → (b || false) ≡ b
-or-false true = refl
-or-false false = refl
 
 pub head-in : (n : ℕ) (ns : List ℕ) → is_in n (n ∷ ns) ≡ true
 head-in n ns = ap (λ b. b || is_in n ns) (eq-eqb n n refl)

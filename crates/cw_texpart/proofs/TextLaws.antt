@@ -10,7 +10,7 @@ use Rattle.cw_base.specs.declared.memory.Memory.{Memory}
 use Rattle.cw_desk.specs.Told.{Told}
 use Rattle.cw_lines.specs.Line.{LineState}
 use Rattle.cw_lines.specs.Writes.{Puts}
-use Rattle.cw_lines.specs.WritesLaws.{puts-bytes, puts-failing, puts-none, puts-then}
+use Rattle.cw_lines.specs.WritesLaws.{puts-bytes, puts-failing, puts-none, puts-then, puts-nothing}
 use Rattle.cw_names.specs.declared.entry.NameId.{NameId}
 use Rattle.cw_names.specs.declared.xrefs.Occurrence.{Occurrence}
 use Rattle.cw_phase1.specs.declared.book.Book.{Book}
@@ -23,7 +23,7 @@ use Rattle.cw_texpart.specs.Done.{Done}
 use Rattle.cw_texpart.specs.Texts.{Setting}
 use Rattle.cw_texpart.specs.Translation.{TranslatedState, Translates}
 use Rattle.cw_texpart.specs.Weaving.{Weaves, mark, marked, underlined}
-use Rattle.cw_texpart.proofs.WeavingLaws.{puts-nothing, weaves-refused}
+use Rattle.cw_texpart.proofs.WeavingLaws.{weaves-refused}
 
 -- ## Marks
 

@@ -9,9 +9,10 @@ use Rattle.cw_base.specs.declared.flags.Flags.{Flags}
 use Rattle.cw_base.specs.declared.span.Span.{Span}
 use Rattle.cw_desk.specs.Told.{Told}
 use Rattle.cw_rules.specs.declared.tokens.Mode.TheVariants.{Inner}
-use Rattle.cw_lines.specs.Line.{LineState, fill}
+use Rattle.cw_lines.specs.Line.{LineState}
 use Rattle.cw_lines.specs.Writes.{HasPut, Puts}
-use Rattle.cw_lines.specs.WritesLaws.{adds-nothing, is_err, puts-bytes, puts-failed, puts-none, puts-stop, puts-then}
+use Rattle.cw_lines.specs.WritesLaws.{is_err, puts-bytes, puts-none, puts-stop, puts-then}
+use Rattle.cw_lines.specs.WritesLaws.{puts-nothing}
 use Rattle.cw_lines.specs.declared.put_error.PutError.{PutError}
 use Rattle.cw_lines.specs.declared.put_error.PutError.TheVariants.{Memory}
 use Rattle.cw_names.specs.Names.{Entry}
@@ -37,11 +38,6 @@ use Rattle.cw_texpart.proofs.LayingLaws.{Inking, as-put, held_behind-append, ink
 use Rattle.cw_texpart.proofs.LayingLaws.{lays-ended, lays-stopped}
 
 -- ## One call
-
-pub puts-nothing : {U : Type 0} (bytes : List ℕ) (line : LineState) (told : Told) {result : Result U PutError}
-    → IsErrAnd result (λ found. found ≡ Memory) → Puts bytes line line told told result
-puts-nothing bytes line told is = puts-failed Memory (fill line.line bytes) refl refl is
-    (adds-nothing _ told is (λ e. absurd (cc)))
 
 -- a call that is refused
 pub weaves-refused : {s : Setting} {d : Done ℕ} {old new : Press} (error : PutError) {result : Result Counts PutError}

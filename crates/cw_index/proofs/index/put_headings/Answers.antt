@@ -6,7 +6,9 @@ use Rattle.cw_index.specs.declared.heading.Heading.{Heading}
 use Rattle.cw_index.specs.Headings.{IsNamed, row_of}
 use Rattle.cw_index.specs.Index.{row_bytes}
 use Rattle.cw_index.specs.Mentions.{Row}
-use Rattle.cw_index.proofs.PuttingLaws.{putting-as, putting-begun, putting-next, putting-stop}
+use Rattle.cw_index.proofs.PuttingLaws.{putting-next, putting-stop}
+use Rattle.cw_part.proofs.PutLaws.{putting-as}
+use Rattle.cw_part.proofs.PutLaws.{putting-begun}
 use Rattle.cw_index.proofs.index.put_headings.Goals as goal
 
 pub loop-heading-init : goal.loop-heading-init

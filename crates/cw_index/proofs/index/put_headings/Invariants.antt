@@ -3,7 +3,7 @@ use Rattle.std.proofs.Common.{All, map}
 use Rattle.std.specs.List.{flat_map}
 use Rattle.cw_index.specs.Headings.{IsNamed, row_of}
 use Rattle.cw_index.specs.Index.{row_bytes}
-use Rattle.cw_index.proofs.PuttingLaws.{Putting}
+use Rattle.cw_part.proofs.PutLaws.{Putting}
 use Rattle.cw_index.proofs.index.put_headings.Given as goal
 
 abbrev pub invariant-loop-heading : goal.invariant-loop-heading

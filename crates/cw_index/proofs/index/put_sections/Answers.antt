@@ -2,7 +2,9 @@
 use Rattle.std.proofs.Common.{ℕ, ◌+◌, Bool, drop, List}
 use Rattle.cw_names.specs.declared.xrefs.SectionRef.{SectionRef}
 use Rattle.cw_index.specs.Index.{section_bytes}
-use Rattle.cw_index.proofs.PuttingLaws.{putting-as, putting-begun, putting-next, putting-stop}
+use Rattle.cw_index.proofs.PuttingLaws.{putting-next, putting-stop}
+use Rattle.cw_part.proofs.PutLaws.{putting-as}
+use Rattle.cw_part.proofs.PutLaws.{putting-begun}
 use Rattle.cw_index.proofs.SectionLaws.{listed_bytes, printed-more}
 use Rattle.cw_index.proofs.index.put_sections.Goals as goal
 

@@ -1,7 +1,7 @@
 -- The sections so far are put.
 use Rattle.std.proofs.Common.{drop}
 use Rattle.cw_index.specs.Index.{section_bytes}
-use Rattle.cw_index.proofs.PuttingLaws.{Putting}
+use Rattle.cw_part.proofs.PutLaws.{Putting}
 use Rattle.cw_index.proofs.SectionLaws.{listed_bytes}
 use Rattle.cw_index.proofs.index.put_sections.Given as goal
 

@@ -1,10 +1,9 @@
 -- The headings are sorted, and then put.
-use Rattle.std.proofs.Common.{ap, List}
+use Rattle.std.proofs.Common.{ap}
 use Rattle.std.specs.List.{flat_map}
-use Rattle.cw_lines.specs.WritesLaws.{puts-bytes, puts-failing}
+use Rattle.cw_lines.specs.WritesLaws.{puts-bytes, puts-failing, puts-nothing}
 use Rattle.cw_index.specs.Index.{row_bytes}
-use Rattle.cw_index.specs.Mentions.{Row}
-use Rattle.cw_index.proofs.PuttingLaws.{put-giving, puts-nothing}
+use Rattle.cw_index.proofs.PuttingLaws.{put-giving}
 use Rattle.cw_index.proofs.index.write_index.Goals as goal
 
 pub returns-in_err-headings-clause-puts : goal.returns-in_err-headings-clause-puts

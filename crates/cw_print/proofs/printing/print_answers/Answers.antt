@@ -6,14 +6,13 @@ use Rattle.cw_trees.specs.Printing.{ident_bytes, printed}
 use Rattle.cw_trees.specs.Tree.{Tree}
 use Rattle.cw_tokens.specs.FlatItems.{items_are}
 use Rattle.cw_tokens.specs.Shapes.{unfolded}
-use Rattle.cw_lines.specs.WritesLaws.{puts-bytes, puts-failing, puts-longer, puts-then}
+use Rattle.cw_lines.specs.WritesLaws.{puts-bytes, puts-failing, puts-longer, puts-then, puts-nothing}
 use Rattle.cw_print.specs.Coming.{AllMay, MayCome}
 use Rattle.cw_print.specs.Printing.{shown}
 use Rattle.cw_print.specs.Sources.{source_by}
 use Rattle.cw_print.specs.Walk.{Source, bracket, wrapped}
 use Rattle.cw_print.proofs.ComingLaws.{trimmed-may}
 use Rattle.cw_print.proofs.NameLaws.{only-named, only-printed, text-is}
-use Rattle.cw_print.proofs.PrintingLaws.{puts-nothing}
 use Rattle.cw_print.proofs.printing.print_answers.Goals as goal
 
 pub returns-in_err-items : goal.returns-in_err-items

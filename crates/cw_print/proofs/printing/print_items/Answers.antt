@@ -1,10 +1,10 @@
 -- One item goes behind another, and at the end comes what is left of a run.
 use Rattle.std.proofs.Common.{length, Bool, [], ◌+◌, ap, ◌++◌, ◌∙◌, take, arith}
 use Rattle.cw_tokens.specs.FlatItems.{items_are}
-use Rattle.cw_lines.specs.WritesLaws.{can-after, puts-bytes, puts-none}
+use Rattle.cw_lines.specs.WritesLaws.{can-after, puts-bytes, puts-none, puts-nothing}
 use Rattle.cw_join.specs.Early.{late}
 use Rattle.cw_print.specs.Printing.{shown, source_of}
-use Rattle.cw_print.proofs.PrintingLaws.{fails-waiting, midway-begun, midway-ended, puts-all, puts-nothing}
+use Rattle.cw_print.proofs.PrintingLaws.{fails-waiting, midway-begun, midway-ended, puts-all}
 use Rattle.cw_print.proofs.PrintingLaws.{stops-waiting, waits-none, waits-on}
 use Rattle.cw_print.proofs.printing.print_items.Goals as goal
 
