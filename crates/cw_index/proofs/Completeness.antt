@@ -20,7 +20,7 @@ use Rattle.cw_base.proofs.TestLaws.{or-false}
 use Rattle.cw_names.specs.declared.entry.EntryKind.{EntryKind}
 use Rattle.cw_names.specs.declared.entry.EntryKind.TheVariants.{Ident, Roman, Typewriter, User}
 use Rattle.cw_names.specs.Names.{same_kind}
-use Rattle.cw_index.specs.Collation.{classes_cmp, entry_cmp, kind_place, text_cmp}
+use Rattle.cw_index.specs.Collation.{classes_cmp, entry_cmp, entry_kind_place, text_cmp}
 use Rattle.cw_index.specs.CollationLaws.{entry_cmp-total}
 use Rattle.cw_index.specs.Completeness.{IndexIsComplete, as_mention, is_at, lists, occurs}
 use Rattle.cw_index.specs.Mentions.{Row, has_sections, is_listed, listed, needs_underline, row, row_cmp, rows_from}
@@ -252,7 +252,7 @@ both-equal Less b is = absurd (true≢false (sym is))
 both-equal Equal b is = (refl, is)
 both-equal Greater b is = absurd (true≢false (sym is))
 
-same-kinds : (a b : EntryKind) → is_eq (nat_cmp (kind_place a) (kind_place b)) ≡ true → same_kind a b ≡ true
+same-kinds : (a b : EntryKind) → is_eq (nat_cmp (entry_kind_place a) (entry_kind_place b)) ≡ true → same_kind a b ≡ true
 same-kinds Ident Ident is = refl
 same-kinds Ident Roman is = absurd (true≢false (sym is))
 same-kinds Ident Typewriter is = absurd (true≢false (sym is))
@@ -273,8 +273,8 @@ same-kinds User User is = refl
 alike : (first entry : Entry) → entry_cmp first entry ≡ Equal → is_entry first.kind first.text entry ≡ true
 alike first entry same =
     let parts : (is_eq (text_cmp first.text entry.text) ≡ true)
-    × (is_eq (nat_cmp (kind_place first.kind) (kind_place entry.kind)) ≡ true) =
-    both-equal (text_cmp first.text entry.text) (nat_cmp (kind_place first.kind) (kind_place entry.kind))
+    × (is_eq (nat_cmp (entry_kind_place first.kind) (entry_kind_place entry.kind)) ≡ true) =
+    both-equal (text_cmp first.text entry.text) (nat_cmp (entry_kind_place first.kind) (entry_kind_place entry.kind))
     (ap is_eq same) in
     let texts : (is_eq (classes_cmp first.text entry.text) ≡ true)
     × (is_eq (slice_cmp nat_cmp first.text entry.text) ≡ true) =

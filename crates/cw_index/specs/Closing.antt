@@ -8,8 +8,8 @@ abbrev pub last_line : Bool → List ℕ
 last_line starred = if starred then codes "\\con\n" else codes "\\end\n"
 
 -- the index and the section list are read in, where they are written
-abbrev pub closing_by : Bool → Bool → List ℕ
-closing_by index starred = if index then codes "\\inx\n\\fin\n" ++ last_line starred else codes "\\end\n"
+abbrev pub last_lines : Bool → Bool → List ℕ
+last_lines index starred = if index then codes "\\inx\n\\fin\n" ++ last_line starred else codes "\\end\n"
 
 abbrev pub closing_lines : Bool → List Section → List ℕ
-closing_lines index sections = closing_by index (list_any (λ section. section.starred) sections)
+closing_lines index sections = last_lines index (list_any (λ section. section.starred) sections)

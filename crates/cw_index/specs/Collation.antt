@@ -25,13 +25,13 @@ class_of byte =
     else Sign byte
 
 -- the classes in their order
-abbrev pub rank : Class → ℕ
-rank Blank = 0
-rank (Sign byte) = 1
-rank Underscore = 2
-rank (Letter byte) = 3
-rank (High byte) = 4
-rank (Digit byte) = 5
+abbrev pub class_rank : Class → ℕ
+class_rank Blank = 0
+class_rank (Sign byte) = 1
+class_rank Underscore = 2
+class_rank (Letter byte) = 3
+class_rank (High byte) = 4
+class_rank (Digit byte) = 5
 
 -- In a class bytes stand by value.
 abbrev pub value : Class → ℕ
@@ -43,7 +43,7 @@ value (High byte) = byte
 value (Digit byte) = byte
 
 abbrev pub class_cmp : Class → Class → Ordering
-class_cmp = then_cmp (on rank nat_cmp) (on value nat_cmp)
+class_cmp = then_cmp (on class_rank nat_cmp) (on value nat_cmp)
 
 -- ## Entries
 
@@ -55,12 +55,12 @@ classes_cmp = slice_cmp (on class_of class_cmp)
 abbrev pub text_cmp : List ℕ → List ℕ → Ordering
 text_cmp = then_cmp classes_cmp (slice_cmp nat_cmp)
 
-abbrev pub kind_place : EntryKind → ℕ
-kind_place Ident = 0
-kind_place Roman = 1
-kind_place Typewriter = 2
-kind_place User = 3
+abbrev pub entry_kind_place : EntryKind → ℕ
+entry_kind_place Ident = 0
+entry_kind_place Roman = 1
+entry_kind_place Typewriter = 2
+entry_kind_place User = 3
 
 -- equal texts by what the entries are
 abbrev pub entry_cmp : Entry → Entry → Ordering
-entry_cmp = then_cmp (on (λ e. e.text) text_cmp) (on (λ e. e.kind) (on kind_place nat_cmp))
+entry_cmp = then_cmp (on (λ e. e.text) text_cmp) (on (λ e. e.kind) (on entry_kind_place nat_cmp))

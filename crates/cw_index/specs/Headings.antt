@@ -4,13 +4,13 @@ use Rattle.std.specs.BTreeSet.{insert_key}
 use Rattle.std.specs.declared.cmp.Ordering.{Ordering}
 use Rattle.std.specs.Ordering.{nat_cmp, on, then_cmp}
 use Rattle.cw_names.specs.Names.{Entry}
-use Rattle.cw_index.specs.Collation.{kind_place, text_cmp}
+use Rattle.cw_index.specs.Collation.{entry_kind_place, text_cmp}
 use Rattle.cw_index.specs.declared.collation.Collated.{Collated}
 use Rattle.cw_index.specs.declared.heading.Heading.{Heading}
 use Rattle.cw_index.specs.Mentions.{Row, has_sections, listed, row_cmp}
 
 abbrev pub collated_cmp : Collated → Collated → Ordering
-collated_cmp = then_cmp (on (λ c. c.text.now) text_cmp) (on (λ c. c.kind) (on kind_place nat_cmp))
+collated_cmp = then_cmp (on (λ c. c.text.now) text_cmp) (on (λ c. c.kind) (on entry_kind_place nat_cmp))
 
 abbrev pub entry_of : Heading → Entry
 entry_of h = record { kind = h.collated.kind; text = h.collated.text.now; category = h.category }

@@ -19,14 +19,14 @@ use Rattle.cw_index.specs.Mentions.{Row, index_rows}
 abbrev pub word_bytes : Bool → List ℕ → List ℕ
 word_bytes is_exp text = if is_exp then ident_bytes text else reserved_bytes text
 
-abbrev pub name_bytes : EntryKind → Cat → List ℕ → List ℕ
-name_bytes Ident category text = word_bytes (is_exp category) text
-name_bytes Roman category text = braced [] text
-name_bytes Typewriter category text = braced (codes "\\.") text
-name_bytes User category text = braced (codes "\\9") text
+abbrev pub kind_bytes : EntryKind → Cat → List ℕ → List ℕ
+kind_bytes Ident category text = word_bytes (is_exp category) text
+kind_bytes Roman category text = braced [] text
+kind_bytes Typewriter category text = braced (codes "\\.") text
+kind_bytes User category text = braced (codes "\\9") text
 
 abbrev pub entry_bytes : Entry → List ℕ
-entry_bytes entry = name_bytes entry.kind entry.category entry.text
+entry_bytes entry = kind_bytes entry.kind entry.category entry.text
 
 -- a section, underlined or not
 abbrev pub number_bytes : Bool → List ℕ → List ℕ

@@ -2,7 +2,7 @@
 ghost use Rattle.std.specs.Prelude.{◌≡◌, IfOk};
 ghost use Rattle.std.specs.List.{list_any};
 ghost use Rattle.cw_lines.specs.Writes.{CanWrite, Puts};
-ghost use Rattle.cw_index.specs.Closing.{closing_by, closing_lines};
+ghost use Rattle.cw_index.specs.Closing.{last_lines, closing_lines};
 
 use cw_base::Flags;
 use cw_desk::Desk;
@@ -23,7 +23,7 @@ fn has_starred(book: &Book) -> bool
 }
 
 fn closing_bytes(index: bool, starred: bool) -> &'static [u8]
-    ensures { result.now ≡ closing_by index starred }
+    ensures { result.now ≡ last_lines index starred }
 {
     if !index {
         return b"\\end\n";

@@ -1,7 +1,7 @@
 //! The collation: the order of the entries of the index.
 ghost use Rattle.std.specs.Prelude.{◌≡◌, ◌<◌, Some, length, slice_get};
 ghost use Rattle.cw_names.specs.Names.{Entry};
-ghost use Rattle.cw_index.specs.Collation.{class_of, class_cmp, classes_cmp, entry_cmp, kind_place, text_cmp};
+ghost use Rattle.cw_index.specs.Collation.{class_of, class_cmp, classes_cmp, entry_cmp, entry_kind_place, text_cmp};
 ghost use Rattle.cw_index.specs.Headings.{collated_cmp};
 
 use cw_names::{EntryKind, NameId, Names};
@@ -72,7 +72,7 @@ fn compare_texts(first: &[u8], second: &[u8]) -> Ordering
 
 // The place of a kind among those of one text.
 fn kind_place(kind: EntryKind) -> u8
-    ensures { result ≡ kind_place kind }
+    ensures { result ≡ entry_kind_place kind }
 {
     match kind {
         EntryKind::Ident => 0,

@@ -16,7 +16,7 @@ use Rattle.cw_rules.specs.declared.tokens.Mode.TheVariants.{Inner}
 use Rattle.cw_part.specs.Footnotes.{footnote, footnote_numbers, number_in, of_kept, use_footnotes}
 use Rattle.cw_texpart.specs.Limbo.{limbo_bytes}
 use Rattle.cw_texpart.specs.Texts.{Setting, setting, text_done}
-use Rattle.cw_index.specs.Closing.{closing_by, closing_lines, last_line}
+use Rattle.cw_index.specs.Closing.{last_lines, closing_lines, last_line}
 use Rattle.cw_index.specs.Index.{entry_bytes, row_bytes, section_bytes}
 use Rattle.cw_index.specs.Mentions.{Row, index_rows}
 use Rattle.cw_index.specs.NameList.{all_listed, listed_done, name_ending, name_span, use_notes}
@@ -43,7 +43,7 @@ last-line : (starred : Bool) → Ends (last_line starred)
 last-line true = (codes "\\con", refl)
 last-line false = (codes "\\end", refl)
 
-closing-ends : (index starred : Bool) → Ends (closing_by index starred)
+closing-ends : (index starred : Bool) → Ends (last_lines index starred)
 closing-ends true starred = behind-any (codes "\\inx\n\\fin\n") (last_line starred) (last-line starred)
 closing-ends false starred = (codes "\\end", refl)
 

@@ -1,5 +1,5 @@
 -- Where a part of a section begins among the answers of a text.
-use Rattle.std.specs.Prelude.{◌≡◌, ℕ, ◌≤◌, Bool, true, false, ◌||◌, List, [], ◌∷◌, ◌++◌, Option, Some, None}
+use Rattle.std.specs.Prelude.{◌≡◌, ℕ, ◌≤◌, Bool, true, false, ◌||◌, List, [], ◌∷◌, ◌++◌, Option, Some, None, is_some}
 use Rattle.cw_rules.specs.declared.codes.Code.TheVariants as code
 use Rattle.cw_rules.specs.declared.tokens.Mode.{Mode}
 use Rattle.cw_rules.specs.declared.tokens.Mode.TheVariants as modes
@@ -30,10 +30,6 @@ opened_by (kind.Code code.Program) headed = Some modes.CPart
 opened_by (kind.Code code.SectionName) headed = named headed
 opened_by (kind.Code code.FileName) headed = named headed
 opened_by k headed = None
-
-abbrev pub is_some : Option Mode → Bool
-is_some None = false
-is_some (Some mode) = true
 
 -- Among these answers, behind which others come, a section begins or another of its parts.
 abbrev pub opens_part_before : List Answer → List Answer → Bool

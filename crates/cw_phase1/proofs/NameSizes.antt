@@ -8,9 +8,10 @@ use Rattle.cw_rules.specs.declared.codes.Code.TheVariants as at
 use Rattle.cw_rules.specs.declared.tokens.TokKind.{TokKind}
 use Rattle.cw_rules.specs.declared.tokens.TokKind.TheVariants as kinds
 use Rattle.cw_rules.specs.Answers.{Seen, Answer, Token, Begin, Finish, Note}
-use Rattle.cw_rules.specs.Bytes.{at_sign}
+use Rattle.cw_rules.specs.Bytes.{at_sign, is_in}
 use Rattle.cw_rules.specs.Names.{is_void, uncoded}
 use Rattle.cw_rules.specs.Order.{Covers}
+use Rattle.cw_rules.specs.declared.classes.Class.TheVariants.{White}
 use Rattle.cw_secnames.specs.declared.kinds.Earliest.{Earliest}
 use Rattle.cw_secnames.specs.declared.kinds.Earliest.TheVariants.{Nobody, One, Several}
 use Rattle.cw_secnames.specs.declared.kinds.SecKind.{SecKind}
@@ -18,7 +19,7 @@ use Rattle.cw_secnames.specs.declared.kinds.SecKind.TheVariants.{Named, File}
 use Rattle.cw_secnames.specs.Kept.{SecName, unreferred, with_text, has_text, grows_to, conflicts_with, enter_by}
 use Rattle.cw_secnames.specs.Kept.{positions_from, is_candidate, is_shorter, grown, earliest, enter_prefix_by}
 use Rattle.cw_secnames.specs.References.{Reference, referred}
-use Rattle.cw_phase1.specs.Texts.{is_white, blank_before, single_blanks, without_first_blank, Naming, Void, Full}
+use Rattle.cw_phase1.specs.Texts.{blank_before, single_blanks, without_first_blank, Naming, Void, Full}
 use Rattle.cw_phase1.specs.Texts.{Prefix, ends_in_dots, naming_by, naming, named_text, name_text, unless_void}
 use Rattle.cw_phase1.specs.Entering.{entering, kept_by, kept_behind, kept_after}
 use Rattle.cw_phase1.proofs.Underway.{covers-end, text-length}
@@ -42,7 +43,7 @@ blank-size (byte ∷ bytes) = size-by (byte == 32) (1 + length (byte ∷ bytes))
 single-size : (bytes : List ℕ) → length (single_blanks bytes) ≤ length bytes
 single-size [] = omega arith
 single-size (byte ∷ bytes) =
-    size-by (is_white byte) (length (byte ∷ bytes)) (blank_before (single_blanks bytes)) (byte ∷ single_blanks bytes)
+    size-by (is_in White byte) (length (byte ∷ bytes)) (blank_before (single_blanks bytes)) (byte ∷ single_blanks bytes)
     (omega (arith, blank-size (single_blanks bytes), single-size bytes)) (omega (arith, single-size bytes))
 
 first-size : (bytes : List ℕ) → length (without_first_blank bytes) ≤ length bytes

@@ -12,7 +12,8 @@ use Rattle.cw_phase1.specs.Places.{holds_changed}
 use Rattle.cw_phase1.specs.Roles.{Placed}
 use Rattle.cw_phase1.specs.Sections.{span, ends_tex, ends_definitions, ends_section, first_start, c_part_name}
 use Rattle.cw_phase1.specs.Sections.{is_program, section_at, sections_of, is_section_code, is_tex}
-use Rattle.cw_phase1.specs.Outlining.{or_else, or_here, name_here, opened, with_token, closed_at, closing, closing_by}
+use Rattle.cw_phase1.specs.Outlining.{or_here, name_here, opened, with_token, closed_at, closing, closing_by}
+use Rattle.std.specs.Prelude.{unwrap_or}
 use Rattle.cw_phase1.specs.Outlining.{open_with, section_told_by}
 use Rattle.cw_phase1.specs.Telling.{told_all, told_step, told_start}
 
@@ -26,10 +27,10 @@ abbrev open_section : List MergedLine → ℕ → Open → List Placed → Secti
 open_section lines size o ps = record {
   starred = o.starred;
   depth = o.depth;
-  tex = span o.behind (or_else o.tex_end (first_start ends_tex size ps));
-  definitions = span (or_else o.tex_end (first_start ends_tex size ps))
-      (or_else o.definitions_end (first_start ends_definitions size ps));
-  c_part = span (or_else o.definitions_end (first_start ends_definitions size ps)) (first_start ends_section size ps);
+  tex = span o.behind (unwrap_or o.tex_end (first_start ends_tex size ps));
+  definitions = span (unwrap_or o.tex_end (first_start ends_tex size ps))
+      (unwrap_or o.definitions_end (first_start ends_definitions size ps));
+  c_part = span (unwrap_or o.definitions_end (first_start ends_definitions size ps)) (first_start ends_section size ps);
   name = name_or o.definitions_end o.name (c_part_name ps);
   changed = holds_changed lines 0 o.start (first_start ends_section size ps);
 }
@@ -48,12 +49,12 @@ IsNamed o = o.definitions_end ≡ None → o.name ≡ None
 -- ## One token more
 
 first-by : (t : Bool) (here later : ℕ)
-    → elim t as (λ _. ℕ) [ true ↦ here | false ↦ later ] ≡ or_else (or_here None t here) later
+    → elim t as (λ _. ℕ) [ true ↦ here | false ↦ later ] ≡ unwrap_or (or_here None t here) later
 first-by true here later = refl
 first-by false here later = refl
 
 first-here : (o : Option ℕ) (test : Placed → Bool) (size : ℕ) (p : Placed) (ps : List Placed)
-    → or_else o (first_start test size (p ∷ ps)) ≡ or_else (or_here o (test p) p.token.span.start)
+    → unwrap_or o (first_start test size (p ∷ ps)) ≡ unwrap_or (or_here o (test p) p.token.span.start)
     (first_start test size ps)
 first-here (Some first) test size p ps = refl
 first-here None test size p ps = first-by (test p) p.token.span.start (first_start test size ps)
@@ -147,19 +148,19 @@ ends-now lines size o p ps n h =
     ap (λ (t : Bool). record {
       starred = o.starred;
       depth = o.depth;
-      tex = span o.behind (or_else o.tex_end (elim (t || not (is_tex p.part)) as (λ _. ℕ) [
+      tex = span o.behind (unwrap_or o.tex_end (elim (t || not (is_tex p.part)) as (λ _. ℕ) [
         | true ↦ p.token.span.start
         | false ↦ first_start ends_tex size ps
       ]));
-      definitions = span (or_else o.tex_end (elim (t || not (is_tex p.part)) as (λ _. ℕ) [
+      definitions = span (unwrap_or o.tex_end (elim (t || not (is_tex p.part)) as (λ _. ℕ) [
         | true ↦ p.token.span.start
         | false ↦ first_start ends_tex size ps
       ]))
-          (or_else o.definitions_end (elim (t || is_program p.part) as (λ _. ℕ) [
+          (unwrap_or o.definitions_end (elim (t || is_program p.part) as (λ _. ℕ) [
             | true ↦ p.token.span.start
             | false ↦ first_start ends_definitions size ps
           ]));
-      c_part = span (or_else o.definitions_end (elim (t || is_program p.part) as (λ _. ℕ) [
+      c_part = span (unwrap_or o.definitions_end (elim (t || is_program p.part) as (λ _. ℕ) [
         | true ↦ p.token.span.start
         | false ↦ first_start ends_definitions size ps
       ]))
@@ -220,20 +221,20 @@ all-sections lines size ps = sections-told lines size ps told_start tt
 
 limbo-by : (b : Bool) (lines : List MergedLine) (size : ℕ) (s : Sections) (p : Placed) (ps : List Placed)
     → is_section_code p.role ≡ b
-    → or_else (section_told_by b lines p s).limbo_end (first_start ends_section size ps)
-    ≡ or_else s.limbo_end (first_start ends_section size (p ∷ ps))
+    → unwrap_or (section_told_by b lines p s).limbo_end (first_start ends_section size ps)
+    ≡ unwrap_or s.limbo_end (first_start ends_section size (p ∷ ps))
 limbo-by true lines size s p ps h =
     sym (first-here s.limbo_end ends_section size p ps
-    ∙ ap (λ (t : Bool). or_else (or_here s.limbo_end t p.token.span.start) (first_start ends_section size ps)) h)
-limbo-by false lines size s p ps h = ap (or_else s.limbo_end) (sym (no-end size p ps h))
+    ∙ ap (λ (t : Bool). unwrap_or (or_here s.limbo_end t p.token.span.start) (first_start ends_section size ps)) h)
+limbo-by false lines size s p ps h = ap (unwrap_or s.limbo_end) (sym (no-end size p ps h))
 
 limbo-told : (lines : List MergedLine) (size : ℕ) (ps : List Placed) (t : Told)
-    → or_else (told_all lines ps t).sections.limbo_end size
-    ≡ or_else t.sections.limbo_end (first_start ends_section size ps)
+    → unwrap_or (told_all lines ps t).sections.limbo_end size
+    ≡ unwrap_or t.sections.limbo_end (first_start ends_section size ps)
 limbo-told lines size [] t = refl
 limbo-told lines size (p ∷ ps) t = limbo-told lines size ps (told_step lines p t)
     ∙ limbo-by (is_section_code p.role) lines size t.sections p ps refl
 
 pub all-limbo : (lines : List MergedLine) (size : ℕ) (ps : List Placed)
-    → or_else (told_all lines ps told_start).sections.limbo_end size ≡ first_start ends_section size ps
+    → unwrap_or (told_all lines ps told_start).sections.limbo_end size ≡ first_start ends_section size ps
 all-limbo lines size ps = limbo-told lines size ps told_start

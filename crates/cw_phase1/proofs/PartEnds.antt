@@ -16,7 +16,8 @@ use Rattle.cw_rules.specs.Answers.{Answer, Token, Begin, Finish, Note, Seen, has
 use Rattle.cw_lex.specs.Heads.{head_behind}
 use Rattle.cw_lex.specs.Nested.{is_section_kind, is_section_answer, begins_section_in}
 use Rattle.cw_lex.specs.Lexing.{tokens_of}
-use Rattle.cw_lex.specs.Openings.{named, opened_by, tokens_in, is_some, opens_part_before, opens_part_in, EndsBefore}
+use Rattle.cw_lex.specs.Openings.{named, opened_by, tokens_in, opens_part_before, opens_part_in, EndsBefore}
+use Rattle.std.specs.Prelude.{is_some}
 use Rattle.cw_secnames.specs.Kept.{SecName}
 use Rattle.cw_phase1.specs.declared.roles.Part.{Part}
 use Rattle.cw_phase1.specs.declared.roles.Part.TheVariants as parts

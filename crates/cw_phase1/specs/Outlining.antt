@@ -1,5 +1,5 @@
 -- The sections that came, and what one token more does to them.
-use Rattle.std.specs.Prelude.{ℕ, ◌++◌, Bool, true, false, List, [], ◌∷◌, Option, Some, None}
+use Rattle.std.specs.Prelude.{ℕ, ◌++◌, Bool, true, false, List, [], ◌∷◌, Option, Some, None, unwrap_or}
 use Rattle.cw_base.specs.Web.{MergedLine}
 use Rattle.cw_rules.specs.Answers.{Seen}
 use Rattle.cw_secnames.specs.declared.kinds.SecId.{SecId}
@@ -9,10 +9,6 @@ use Rattle.cw_phase1.specs.declared.sections.Open.{Open}
 use Rattle.cw_phase1.specs.Places.{holds_changed}
 use Rattle.cw_phase1.specs.Roles.{Placed}
 use Rattle.cw_phase1.specs.Sections.{span, is_starred, depth_of, is_section_code, ends_tex, ends_definitions}
-
-abbrev pub or_else : Option ℕ → ℕ → ℕ
-or_else None place = place
-or_else (Some first) place = first
 
 -- the first place that passes a test, where it didn't come before
 abbrev pub or_here : Option ℕ → Bool → ℕ → Option ℕ
@@ -49,9 +45,9 @@ abbrev pub closed_at : List MergedLine → ℕ → Open → Section
 closed_at lines end o = record {
   starred = o.starred;
   depth = o.depth;
-  tex = span o.behind (or_else o.tex_end end);
-  definitions = span (or_else o.tex_end end) (or_else o.definitions_end end);
-  c_part = span (or_else o.definitions_end end) end;
+  tex = span o.behind (unwrap_or o.tex_end end);
+  definitions = span (unwrap_or o.tex_end end) (unwrap_or o.definitions_end end);
+  c_part = span (unwrap_or o.definitions_end end) end;
   name = o.name;
   changed = holds_changed lines 0 o.start end;
 }

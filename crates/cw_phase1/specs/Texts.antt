@@ -3,11 +3,12 @@ use Rattle.std.specs.Prelude.{ℕ, ◌-◌, Bool, true, false, ◌==◌, ◌||�
 use Rattle.std.specs.Prelude.{take, codes, nat_eq, if◌then◌else◌}
 use Rattle.std.specs.List.{ends_with}
 use Rattle.std.specs.Cmp.Lexicographic.{pointwise}
-use Rattle.cw_base.specs.Text.{is_blank}
 use Rattle.cw_rules.specs.declared.codes.Code.TheVariants as at
 use Rattle.cw_rules.specs.declared.tokens.TokKind.{TokKind}
 use Rattle.cw_rules.specs.declared.tokens.TokKind.TheVariants as kinds
 use Rattle.cw_rules.specs.Names.{is_void, uncoded}
+use Rattle.cw_rules.specs.Bytes.{is_in}
+use Rattle.cw_rules.specs.declared.classes.Class.TheVariants.{White}
 use Rattle.cw_secnames.specs.declared.kinds.SecKind.{SecKind}
 use Rattle.cw_secnames.specs.declared.kinds.SecKind.TheVariants.{Named, File}
 
@@ -28,9 +29,6 @@ abbrev pub entry_text : List ℕ → List ℕ
 entry_text token = control_text (drop 2 token)
 
 -- White space is reduced to single blanks and dropped at both ends.
-abbrev pub is_white : ℕ → Bool
-is_white byte = byte == 10 || is_blank byte
-
 abbrev pub blank_before : List ℕ → List ℕ
 blank_before [] = []
 blank_before (byte ∷ bytes) = elim (byte == 32) [ true ↦ byte ∷ bytes | false ↦ 32 ∷ byte ∷ bytes ]
@@ -38,7 +36,7 @@ blank_before (byte ∷ bytes) = elim (byte == 32) [ true ↦ byte ∷ bytes | fa
 abbrev pub single_blanks : List ℕ → List ℕ
 single_blanks [] = []
 single_blanks (byte ∷ bytes) =
-    elim (is_white byte) [ true ↦ blank_before (single_blanks bytes) | false ↦ byte ∷ single_blanks bytes ]
+    elim (is_in White byte) [ true ↦ blank_before (single_blanks bytes) | false ↦ byte ∷ single_blanks bytes ]
 
 abbrev pub without_first_blank : List ℕ → List ℕ
 without_first_blank [] = []

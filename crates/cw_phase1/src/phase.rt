@@ -1,11 +1,11 @@
 //! The first phase.
-ghost use Rattle.std.specs.Prelude.{◌≡◌, ◌<◌, ◌≤◌, ◌++◌, All, length, IfOk, IfSome, OnOk};
+ghost use Rattle.std.specs.Prelude.{◌≡◌, ◌<◌, ◌≤◌, ◌++◌, All, length, IfOk, IfSome, OnOk, unwrap_or};
 ghost use Rattle.cw_base.specs.Web.{text_of};
 ghost use Rattle.cw_phase1.specs.Book.{book};
 ghost use Rattle.cw_phase1.specs.Ending.{AreOfKept, IsScanned, notes_at, section_total, with_references};
 ghost use Rattle.cw_phase1.specs.Holding.{held_of};
 ghost use Rattle.cw_phase1.specs.Notes.{name_note as noted_name, name_notes};
-ghost use Rattle.cw_phase1.specs.Outlining.{closing, or_else};
+ghost use Rattle.cw_phase1.specs.Outlining.{closing};
 ghost use Rattle.cw_phase1.specs.Ready.{held_start};
 ghost use Rattle.cw_phase1.specs.Sections.{span};
 ghost use Rattle.cw_phase1.specs.Sound.{IsNamedBy, LiesIn, RefersUpTo};
@@ -139,7 +139,8 @@ fn make_book(web: &Web, held: Held) -> Result<Book, Memory>
     ensures count { IfOk result (λ b. length b.sec_names ≡ length held.entry.kept) }
     ensures name_uses { IfOk result (λ b. b.name_uses ≡ held.entry.told.named.uses) }
     ensures limbo { IfOk result
-        (λ b. b.outline.limbo ≡ span 0 (or_else held.entry.told.sections.limbo_end (length (text_of web.now.lines)))) }
+        (λ b. b.outline.limbo
+        ≡ span 0 (unwrap_or held.entry.told.sections.limbo_end (length (text_of web.now.lines)))) }
     ensures sections { IfOk result (λ b. b.outline.sections ≡
         closing web.now.lines (length (text_of web.now.lines)) held.entry.told.sections) }
     ensures notes { IfOk result (λ b. b.outline.notes ≡

@@ -1,12 +1,12 @@
 //! The sections of a web: their heads, and the spans of their parts.
-ghost use Rattle.std.specs.Prelude.{◌≡◌, ◌+◌, ◌^◌, ◌<◌, ◌≤◌, [], true, false, None, Some, OnOk};
+ghost use Rattle.std.specs.Prelude.{◌≡◌, ◌+◌, ◌^◌, ◌<◌, ◌≤◌, [], true, false, None, Some, OnOk, unwrap_or};
 ghost use Rattle.std.specs.Prelude.{length, drop, take_while};
 ghost use Rattle.cw_rules.specs.Answers.{seen};
 ghost use Rattle.cw_rules.specs.Bytes.{is_digit};
 ghost use Rattle.cw_phase1.specs.Packed.{whole_section};
 ghost use Rattle.cw_phase1.specs.Placing.{placed_of};
 ghost use Rattle.cw_phase1.specs.Sections.{depth_at, ends_definitions, ends_tex, is_section_code, is_starred};
-ghost use Rattle.cw_phase1.specs.Outlining.{closed_at, closing, open_with, opened, or_else, or_here};
+ghost use Rattle.cw_phase1.specs.Outlining.{closed_at, closing, open_with, opened, or_here};
 ghost use Rattle.cw_phase1.specs.Outlining.{section_told, with_token};
 
 use crate::packed::{SectionList, Whole};
@@ -126,7 +126,7 @@ fn or_here(first: Option<usize>, passes: bool, place: usize) -> Option<usize>
 }
 
 pub(crate) fn or_else(first: Option<usize>, place: usize) -> usize
-    ensures { result ≡ or_else first place }
+    ensures { result ≡ unwrap_or first place }
 {
     match first {
         Some(first) => first,

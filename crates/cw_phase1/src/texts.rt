@@ -1,15 +1,9 @@
 //! The texts of index entries and of section names.
 ghost use Rattle.std.specs.Prelude.{◌≡◌, ◌<◌, ◌≤◌, ◌∷◌, ◌++◌, ℕ, List, [], true, drop, length, MatchOption, OnOk};
+ghost use Rattle.cw_rules.specs.Bytes.{is_in};
 ghost use Rattle.cw_rules.specs.Names.{uncoded};
-ghost use Rattle.cw_phase1.specs.Texts.{
-  byte_of,
-  control_text,
-  entry_text,
-  is_begun,
-  is_white,
-  name_text,
-  rest_of,
-};
+ghost use Rattle.cw_rules.specs.declared.classes.Class.TheVariants.{White};
+ghost use Rattle.cw_phase1.specs.Texts.{byte_of, control_text, entry_text, is_begun, name_text, rest_of};
 
 use cw_base::Memory;
 
@@ -98,7 +92,7 @@ fn name_piece(bytes: &[u8]) -> NamePiece
 }
 
 fn is_white(byte: u8) -> bool
-    ensures { result ≡ is_white byte }
+    ensures { result ≡ is_in White byte }
 {
     byte == 10 || byte == 32 || byte == 9 || byte == 11 || byte == 12 || byte == 13
 }

@@ -14,22 +14,25 @@ suffix (byte ∷ bytes) = 92 ∷ 36 ∷ upper byte ∷ suffix bytes
 abbrev pub is_exponent_byte : ℕ → Bool
 is_exponent_byte byte = is_digit byte || byte == 43 || byte == 45
 
-abbrev pub exponent : List ℕ → List ℕ
-exponent [] = []
-exponent (byte ∷ bytes) = elim (is_exponent_byte byte) [ true ↦ byte ∷ exponent bytes | false ↦ suffix (byte ∷ bytes) ]
+abbrev pub exponent_bytes : List ℕ → List ℕ
+exponent_bytes [] = []
+exponent_bytes (byte ∷ bytes) = elim (is_exponent_byte byte) [
+  | true ↦ byte ∷ exponent_bytes bytes
+  | false ↦ suffix (byte ∷ bytes)
+]
 
 -- `\_` for the letter of an exponent
 abbrev pub behind_mantissa : ℕ → List ℕ → List ℕ
 behind_mantissa byte bytes =
-    elim (byte == 69 || byte == 101) [ true ↦ 92 ∷ 95 ∷ exponent bytes | false ↦ suffix (byte ∷ bytes) ]
+    elim (byte == 69 || byte == 101) [ true ↦ 92 ∷ 95 ∷ exponent_bytes bytes | false ↦ suffix (byte ∷ bytes) ]
 
 abbrev pub is_mantissa_byte : ℕ → Bool
 is_mantissa_byte byte = is_digit byte || byte == 46
 
-abbrev pub mantissa : List ℕ → List ℕ
-mantissa [] = []
-mantissa (byte ∷ bytes) = elim (is_mantissa_byte byte) [
-  | true ↦ byte ∷ mantissa bytes
+abbrev pub mantissa_bytes : List ℕ → List ℕ
+mantissa_bytes [] = []
+mantissa_bytes (byte ∷ bytes) = elim (is_mantissa_byte byte) [
+  | true ↦ byte ∷ mantissa_bytes bytes
   | false ↦ behind_mantissa byte bytes
 ]
 
@@ -41,13 +44,16 @@ hex_digits (byte ∷ bytes) = elim (is_hex_digit byte) [ true ↦ byte ∷ hex_d
 abbrev pub behind_zero : ℕ → List ℕ → List ℕ
 behind_zero byte bytes = elim (byte == 88 || byte == 120) [
   | true ↦ 92 ∷ 94 ∷ hex_digits bytes
-  | false ↦ elim (is_digit byte) [ true ↦ 92 ∷ 126 ∷ mantissa (byte ∷ bytes) | false ↦ 48 ∷ mantissa (byte ∷ bytes) ]
+  | false ↦ elim (is_digit byte) [
+    | true ↦ 92 ∷ 126 ∷ mantissa_bytes (byte ∷ bytes)
+    | false ↦ 48 ∷ mantissa_bytes (byte ∷ bytes)
+  ]
 ]
 
-abbrev pub constant : List ℕ → List ℕ
-constant [] = []
-constant (byte ∷ []) = mantissa (byte ∷ [])
-constant (byte ∷ next ∷ bytes) = elim (byte == 48) [
+abbrev pub constant_bytes : List ℕ → List ℕ
+constant_bytes [] = []
+constant_bytes (byte ∷ []) = mantissa_bytes (byte ∷ [])
+constant_bytes (byte ∷ next ∷ bytes) = elim (byte == 48) [
   | true ↦ behind_zero next bytes
-  | false ↦ mantissa (byte ∷ next ∷ bytes)
+  | false ↦ mantissa_bytes (byte ∷ next ∷ bytes)
 ]

@@ -14,23 +14,26 @@ is_pair byte next bytes = byte == 92 && elim (next == 92 && begins 10 bytes) [ t
 abbrev pub is_at_pair : ℕ → ℕ → Bool
 is_at_pair byte next = byte == 64 && next == 64
 
-abbrev pub string : List ℕ → List ℕ
-string [] = []
-string (byte ∷ []) = byte ∷ []
-string (byte ∷ next ∷ bytes) = elim (is_continued byte next) [
-  | true ↦ string bytes
+abbrev pub string_bytes : List ℕ → List ℕ
+string_bytes [] = []
+string_bytes (byte ∷ []) = byte ∷ []
+string_bytes (byte ∷ next ∷ bytes) = elim (is_continued byte next) [
+  | true ↦ string_bytes bytes
   | false ↦ elim (is_pair byte next bytes) [
-    | true ↦ byte ∷ next ∷ string bytes
-    | false ↦ elim (is_at_pair byte next) [ true ↦ byte ∷ string bytes | false ↦ byte ∷ string (next ∷ bytes) ]
+    | true ↦ byte ∷ next ∷ string_bytes bytes
+    | false ↦ elim (is_at_pair byte next) [
+      | true ↦ byte ∷ string_bytes bytes
+      | false ↦ byte ∷ string_bytes (next ∷ bytes)
+    ]
   ]
 ]
 
 -- in the name of a file that a `#` line includes `@@` is one `@`
-abbrev pub include_name : List ℕ → List ℕ
-include_name [] = []
-include_name (byte ∷ []) = byte ∷ []
-include_name (byte ∷ next ∷ bytes) =
-    elim (is_at_pair byte next) [ true ↦ byte ∷ include_name bytes | false ↦ byte ∷ include_name (next ∷ bytes) ]
+abbrev pub include_bytes : List ℕ → List ℕ
+include_bytes [] = []
+include_bytes (byte ∷ []) = byte ∷ []
+include_bytes (byte ∷ next ∷ bytes) =
+    elim (is_at_pair byte next) [ true ↦ byte ∷ include_bytes bytes | false ↦ byte ∷ include_bytes (next ∷ bytes) ]
 
 -- A control text goes to the first `@>`. In it `@@` is one `@`, and another `@` is kept.
 abbrev pub is_text_end : ℕ → ℕ → Bool
@@ -45,5 +48,5 @@ text_to_end (byte ∷ next ∷ bytes) = elim (is_text_end byte next) [
 ]
 
 -- the text behind a code's two bytes
-abbrev pub control_text : List ℕ → List ℕ
-control_text token = text_to_end (drop 2 token)
+abbrev pub control_bytes : List ℕ → List ℕ
+control_bytes token = text_to_end (drop 2 token)

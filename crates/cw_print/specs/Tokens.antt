@@ -8,8 +8,8 @@ use Rattle.cw_rules.specs.declared.tokens.TokKind.{TokKind}
 use Rattle.cw_rules.specs.declared.tokens.TokKind.TheVariants as kind
 use Rattle.cw_rules.specs.Signs.{spelling}
 use Rattle.cw_print.specs.Escaping.{escaped, braced, typewriter}
-use Rattle.cw_print.specs.Constants.{constant}
-use Rattle.cw_print.specs.Texts.{string, include_name, control_text}
+use Rattle.cw_print.specs.Constants.{constant_bytes}
+use Rattle.cw_print.specs.Texts.{string_bytes, include_bytes, control_bytes}
 
 -- A sign has a macro, or prints itself.
 abbrev pub sign_macro : Sign → List ℕ
@@ -40,9 +40,9 @@ sign_macro other = spelling other
 
 -- A code by its text, or by a macro. `@'` is a string with these two bytes before it.
 abbrev pub code_bytes : Code → List ℕ → List ℕ
-code_bytes code.Verbatim text = braced (codes "\\vb") (escaped (control_text text))
-code_bytes code.TexBox text = braced (codes "\\hbox") (control_text text)
-code_bytes code.Quote text = typewriter (codes "@'" ++ string (drop 2 text))
+code_bytes code.Verbatim text = braced (codes "\\vb") (escaped (control_bytes text))
+code_bytes code.TexBox text = braced (codes "\\hbox") (control_bytes text)
+code_bytes code.Quote text = typewriter (codes "@'" ++ string_bytes (drop 2 text))
 code_bytes code.Join text = codes "\\J"
 code_bytes code.HeaderFile text = codes "\\ATH"
 code_bytes code.Define text = codes "\\D"
@@ -52,9 +52,9 @@ code_bytes other text = []
 -- The bytes of a token that are known from it alone. Pieces of comments, section names and the signs behind them print
 -- by where they stand.
 abbrev pub token_bytes : TokKind → List ℕ → List ℕ
-token_bytes kind.Constant text = braced (codes "\\T") (constant text)
-token_bytes kind.Quoted text = typewriter (string text)
-token_bytes kind.IncludeName text = typewriter (include_name text)
+token_bytes kind.Constant text = braced (codes "\\T") (constant_bytes text)
+token_bytes kind.Quoted text = typewriter (string_bytes text)
+token_bytes kind.IncludeName text = typewriter (include_bytes text)
 token_bytes kind.OtherByte text = typewriter text
 token_bytes (kind.Sign sign) text = sign_macro sign
 token_bytes kind.HashLine text = codes "\\8\\#"

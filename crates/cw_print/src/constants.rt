@@ -1,8 +1,8 @@
 //! The bytes of constants.
 ghost use Rattle.std.specs.Prelude.{◌≡◌, ◌++◌, ◌∷◌, OnOk};
 ghost use Rattle.cw_rules.specs.Bytes.{is_hex_digit};
-ghost use Rattle.cw_print.specs.Constants.{upper, suffix, is_exponent_byte, exponent, behind_mantissa};
-ghost use Rattle.cw_print.specs.Constants.{is_mantissa_byte, mantissa, hex_digits, behind_zero, constant};
+ghost use Rattle.cw_print.specs.Constants.{upper, suffix, is_exponent_byte, exponent_bytes, behind_mantissa};
+ghost use Rattle.cw_print.specs.Constants.{is_mantissa_byte, mantissa_bytes, hex_digits, behind_zero, constant_bytes};
 
 use cw_base::{Bytes, Memory};
 
@@ -41,7 +41,7 @@ fn put_suffix(out: &mut Bytes, bytes: &[u8]) -> Result<(), Memory>
 }
 
 fn put_exponent(out: &mut Bytes, bytes: &[u8]) -> Result<(), Memory>
-    ensures { OnOk result (out.new ≡ out.old ++ exponent bytes.now) }
+    ensures { OnOk result (out.new ≡ out.old ++ exponent_bytes bytes.now) }
 {
     let mut rest = bytes;
     while let [byte, behind @ ..] = rest {
@@ -68,7 +68,7 @@ fn put_behind_mantissa(out: &mut Bytes, byte: u8, bytes: &[u8]) -> Result<(), Me
 }
 
 fn put_mantissa(out: &mut Bytes, bytes: &[u8]) -> Result<(), Memory>
-    ensures { OnOk result (out.new ≡ out.old ++ mantissa bytes.now) }
+    ensures { OnOk result (out.new ≡ out.old ++ mantissa_bytes bytes.now) }
 {
     let mut rest = bytes;
     while let [byte, behind @ ..] = rest {
@@ -114,7 +114,7 @@ fn put_behind_zero(out: &mut Bytes, byte: u8, bytes: &[u8], behind: &[u8]) -> Re
 
 /// Appends what a constant prints in its braces.
 pub(crate) fn put_constant(out: &mut Bytes, bytes: &[u8]) -> Result<(), Memory>
-    ensures { OnOk result (out.new ≡ out.old ++ constant bytes.now) }
+    ensures { OnOk result (out.new ≡ out.old ++ constant_bytes bytes.now) }
 {
     let [first, rest @ ..] = bytes else {
         return Ok(());

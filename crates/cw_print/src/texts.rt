@@ -1,7 +1,7 @@
 //! The bytes of strings, include names and control texts.
 ghost use Rattle.std.specs.Prelude.{◌≡◌, ◌++◌, OnOk};
 ghost use Rattle.cw_print.specs.Escaping.{escaped};
-ghost use Rattle.cw_print.specs.Texts.{is_continued, is_pair, is_at_pair, string, include_name, is_text_end};
+ghost use Rattle.cw_print.specs.Texts.{is_continued, is_pair, is_at_pair, string_bytes, include_bytes, is_text_end};
 ghost use Rattle.cw_print.specs.Texts.{text_to_end};
 
 use crate::escaping::{put_escaped, put_escaped_byte};
@@ -39,7 +39,7 @@ fn is_text_end(byte: u8, next: u8) -> bool
 
 /// Appends the escaped bytes that a string says.
 pub(crate) fn put_string(out: &mut Bytes, text: &[u8]) -> Result<(), Memory>
-    ensures { OnOk result (out.new ≡ out.old ++ escaped (string text.now)) }
+    ensures { OnOk result (out.new ≡ out.old ++ escaped (string_bytes text.now)) }
 {
     let mut rest = text;
     while let [byte, others @ ..] = rest {
@@ -65,7 +65,7 @@ pub(crate) fn put_string(out: &mut Bytes, text: &[u8]) -> Result<(), Memory>
 
 /// Appends the escaped bytes that an include name says.
 pub(crate) fn put_include_name(out: &mut Bytes, text: &[u8]) -> Result<(), Memory>
-    ensures { OnOk result (out.new ≡ out.old ++ escaped (include_name text.now)) }
+    ensures { OnOk result (out.new ≡ out.old ++ escaped (include_bytes text.now)) }
 {
     let mut rest = text;
     while let [byte, others @ ..] = rest {

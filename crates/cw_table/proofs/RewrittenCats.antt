@@ -5,7 +5,8 @@ use Rattle.cw_base.specs.declared.flags.Flags.{Flags}
 use Rattle.cw_trees.specs.Joining.{Scrap, no_scrap, join}
 use Rattle.cw_table.specs.declared.types.Row.{Row}
 use Rattle.cw_table.specs.Rows.{result_at}
-use Rattle.cw_table.specs.Safe.{reserves, is_some, rewritten}
+use Rattle.cw_table.specs.Safe.{reserves, rewritten}
+use Rattle.std.specs.Prelude.{is_some}
 use Rattle.cw_table.specs.Rewriting.{cats_of, row_pieces, joined_of, alone, with_cat, new_scrap, search_in, reserved_at}
 use Rattle.cw_table.specs.Rewriting.{named_right, rewrite_from, State, rewrite}
 use Rattle.cw_table.proofs.ScrapFacts.{cats-append, cats-take, cats-drop, at-cats}

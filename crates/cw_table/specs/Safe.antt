@@ -1,7 +1,8 @@
 -- How far a reducer must step back after a production: which rows may fit before the new scrap that didn't
 -- fit there before.
 use Rattle.std.specs.Prelude.{ℕ, suc, ◌+◌, ◌-◌, ◌<◌, ◌≡◌, Bool, true, false, not, ◌&&◌, ◌||◌, eqb, leb, ltb, List, []}
-use Rattle.std.specs.Prelude.{◌∷◌, ◌++◌, drop, filter, map, take, Option, Some, None}
+use Rattle.std.specs.Prelude.{is_some}
+use Rattle.std.specs.Prelude.{◌∷◌, ◌++◌, drop, filter, map, take, Some, None}
 use Rattle.std.specs.List.{flat_map, list_all, list_any}
 use Rattle.cw_base.specs.declared.category.Cat.{Cat}
 use Rattle.cw_base.specs.declared.category.CatSet.{CatSet}
@@ -31,10 +32,6 @@ pairs_by (SameAs k) row = elim (eqb k row.offset) [
 
 abbrev pub pairs_of : Row → List Pair
 pairs_of row = pairs_by row.result row
-
-abbrev pub is_some : Option ℕ → Bool
-is_some None = false
-is_some (Some k) = true
 
 -- the row makes a name a reserved word, here and to the right
 abbrev pub reserves : Row → Bool

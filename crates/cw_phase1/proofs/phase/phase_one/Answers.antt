@@ -13,7 +13,8 @@ use Rattle.cw_phase1.specs.Entering.{kept_after}
 use Rattle.cw_phase1.specs.Roles.{Placed, at_limbo, placed}
 use Rattle.cw_phase1.specs.Sections.{span, sections_of}
 use Rattle.cw_phase1.specs.Sound.{IsNamedBy, LiesIn, RefersUpTo}
-use Rattle.cw_phase1.specs.Outlining.{closing, or_else}
+use Rattle.cw_phase1.specs.Outlining.{closing}
+use Rattle.std.specs.Prelude.{unwrap_or}
 use Rattle.cw_phase1.specs.Ending.{with_references}
 use Rattle.cw_phase1.specs.Uses.{references_of, section_names, uses_of}
 use Rattle.cw_phase1.specs.declared.told.Told.{Told}
@@ -55,7 +56,7 @@ returns-clause-name_uses c =
 pub returns-clause-limbo : goal.returns-clause-limbo
 returns-clause-limbo c =
     c.in_ok-book.ensures.limbo
-    ∙ (ap (λ (t : Told). span 0 (or_else t.sections.limbo_end (length (text_of c.args.web.now.lines))))
+    ∙ (ap (λ (t : Told). span 0 (unwrap_or t.sections.limbo_end (length (text_of c.args.web.now.lines))))
     c.in_ok-held.ensures.told ∙
     ap (span 0) (all-limbo c.args.web.now.lines (length (text_of c.args.web.now.lines))
     (placed (answers_of c.args.web.now.lines))))
