@@ -15,7 +15,7 @@ use Rattle.cw_base.proofs.NumberLaws.{three}
 use Rattle.cw_names.specs.declared.xrefs.Occurrence.{Occurrence}
 use Rattle.cw_names.specs.declared.xrefs.SectionRef.{SectionRef}
 use Rattle.cw_names.specs.Noted.{sections_at, with_mention}
-use Rattle.cw_names.specs.Mentions.{AreAscending, above_all, any_in, any_underlined_in, is_in, is_underlined_in}
+use Rattle.cw_names.specs.Mentions.{AreAscending, above_all, any_in, any_underlined_in, is_of_section, is_underlined_in}
 use Rattle.cw_names.specs.Mentions.{mentions, sections_in}
 use Rattle.cw_names.specs.MentionLaws.{Above, none-above, picked, picked-above, picked-more, sections-ascending}
 use Rattle.cw_names.specs.MentionLaws.{sections-picked, with_first}
@@ -120,7 +120,7 @@ module _ (section : ℕ) (underlined : Bool) where
 none-underlined : (section : ℕ) (os : List Occurrence) → any_in os section ≡ false
     → any_underlined_in os section ≡ false
 none-underlined section [] h = refl
-none-underlined section (o ∷ os) h = by (is_in section o) h (none-underlined section os)
+none-underlined section (o ∷ os) h = by (is_of_section section o) h (none-underlined section os)
   where
     by : (t : Bool) → (t || any_in os section) ≡ false
         → (any_in os section ≡ false → any_underlined_in os section ≡ false)
@@ -133,7 +133,7 @@ module _ (os : List Occurrence) (o : Occurrence) where
   more = os ++ o ∷ []
 
   any-more : (k : ℕ) → any_in (os ++ o ∷ []) k ≡ (any_in os k || (o.section == k))
-  any-more k = list_any-append (is_in k) os (o ∷ []) ∙ ap (λ b. any_in os k || b) (or-false (o.section == k))
+  any-more k = list_any-append (is_of_section k) os (o ∷ []) ∙ ap (λ b. any_in os k || b) (or-false (o.section == k))
 
   underlined-more : (k : ℕ) → any_underlined_in (os ++ o ∷ []) k
       ≡ (any_underlined_in os k || (o.section == k && o.underlined))

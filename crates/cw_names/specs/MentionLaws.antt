@@ -9,7 +9,7 @@ use Rattle.cw_base.proofs.NumberLaws.{three, apart}
 use Rattle.cw_base.proofs.TestLaws.{or-false}
 use Rattle.cw_names.specs.declared.xrefs.Occurrence.{Occurrence}
 use Rattle.cw_names.specs.declared.xrefs.SectionRef.{SectionRef}
-use Rattle.cw_names.specs.Mentions.{AreAscending, above_all, any_in, any_underlined_in, is_in}
+use Rattle.cw_names.specs.Mentions.{AreAscending, above_all, any_in, any_underlined_in, is_of_section}
 use Rattle.cw_names.specs.Mentions.{mention_of, sections_in}
 
 -- ## Sections that pass a test, from one number on, so many numbers
@@ -146,11 +146,11 @@ most-kept most (o ∷ occurrences) =
 
 none-from : (most section : ℕ) (occurrences : List Occurrence)
     → fold (λ (most : ℕ) (o : Occurrence). max most (o.section + 1)) most occurrences ≤ section
-    → list_any (is_in section) occurrences ≡ false
+    → list_any (is_of_section section) occurrences ≡ false
 none-from most section [] h = refl
 none-from most section (o ∷ occurrences) h =
     let more = most-kept (max most (o.section + 1)) occurrences in
-    ap (λ b. b || list_any (is_in section) occurrences) (apart o.section section (λ same. omega (arith, more)))
+    ap (λ b. b || list_any (is_of_section section) occurrences) (apart o.section section (λ same. omega (arith, more)))
     ∙ none-from (max most (o.section + 1)) section occurrences h
 
 -- no occurrence is in a section from there on

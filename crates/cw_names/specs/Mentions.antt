@@ -5,15 +5,15 @@ use Rattle.cw_names.specs.declared.xrefs.Occurrence.{Occurrence}
 use Rattle.cw_names.specs.declared.xrefs.SectionRef.{SectionRef}
 
 -- whether an occurrence is in a section, and whether it is underlined there
-abbrev pub is_in : ℕ → Occurrence → Bool
-is_in section o = o.section == section
+abbrev pub is_of_section : ℕ → Occurrence → Bool
+is_of_section section o = o.section == section
 
 abbrev pub is_underlined_in : ℕ → Occurrence → Bool
-is_underlined_in section o = is_in section o && o.underlined
+is_underlined_in section o = is_of_section section o && o.underlined
 
 -- whether any of the occurrences is, and the section as they mention it: underlined where any of them is
 abbrev pub any_in : List Occurrence → ℕ → Bool
-any_in occurrences section = list_any (is_in section) occurrences
+any_in occurrences section = list_any (is_of_section section) occurrences
 
 abbrev pub any_underlined_in : List Occurrence → ℕ → Bool
 any_underlined_in occurrences section = list_any (is_underlined_in section) occurrences

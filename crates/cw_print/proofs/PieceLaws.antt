@@ -3,7 +3,8 @@ use Rattle.std.proofs.Common.{◌≡◌, ℕ, suc, ◌+◌, ◌||◌, ◌&&◌, 
 use Rattle.std.proofs.Common.{drop, refl, ap, sym, ◌∙◌, ◌==◌, arith}
 use Rattle.std.specs.List.{position_or_len}
 use Rattle.std.proofs.lemmas.List.{append_assoc}
-use Rattle.cw_print.specs.Comments.{Piece, Prints, blank_for, byte_piece, closed, is_special, joined, piece, prints}
+use Rattle.cw_print.specs.Comments.{Piece, Prints, blank_for, byte_piece, closed, comment_piece, is_special, joined}
+use Rattle.cw_print.specs.Comments.{prints}
 use Rattle.cw_print.specs.Comments.{then}
 
 -- ## Bytes that print themselves
@@ -44,15 +45,15 @@ byte-plain byte braces is =
     ]
 
 one-plain : (byte : ℕ) (bytes : List ℕ) (braces : ℕ) → is_special byte ≡ false
-    → piece (byte ∷ bytes) braces ≡ joined (prints (byte ∷ []) braces) (piece bytes braces)
+    → comment_piece (byte ∷ bytes) braces ≡ joined (prints (byte ∷ []) braces) (comment_piece bytes braces)
 one-plain byte [] braces is = byte-plain byte braces is
 one-plain byte (next ∷ bytes) braces is =
     let o = all-other (byte == 10) (byte == 64) (byte == 92) (byte == 123) (byte == 125) is in
     λ i. elim (o.third i && not (next == 64)) [
-      | true ↦ then (prints (byte ∷ blank_for next ∷ []) braces) (piece bytes)
+      | true ↦ then (prints (byte ∷ blank_for next ∷ []) braces) (comment_piece bytes)
       | false ↦ elim (o.second i && next == 64) [
-        | true ↦ then (prints (byte ∷ []) braces) (piece bytes)
-        | false ↦ then (byte-plain byte braces is i) (piece (next ∷ bytes))
+        | true ↦ then (prints (byte ∷ []) braces) (comment_piece bytes)
+        | false ↦ then (byte-plain byte braces is i) (comment_piece (next ∷ bytes))
       ]
     ]
 
@@ -63,17 +64,17 @@ one-add : (n : ℕ) → 1 + n ≡ suc n
 one-add n = omega arith
 
 abbrev parted : List ℕ → ℕ → ℕ → Piece
-parted text braces n = joined (prints (take n text) braces) (piece (drop n text) braces)
+parted text braces n = joined (prints (take n text) braces) (comment_piece (drop n text) braces)
 
-plain-by : (x : ℕ) (xs : List ℕ) (braces : ℕ) (b : Bool) → is_special x ≡ b → piece xs braces
+plain-by : (x : ℕ) (xs : List ℕ) (braces : ℕ) (b : Bool) → is_special x ≡ b → comment_piece xs braces
     ≡ parted xs braces (plain xs)
-    → piece (x ∷ xs) braces ≡ parted (x ∷ xs) braces (cond (not b) (1 + plain xs) 0)
+    → comment_piece (x ∷ xs) braces ≡ parted (x ∷ xs) braces (cond (not b) (1 + plain xs) 0)
 plain-by x xs braces true is rest = refl
 plain-by x xs braces false is rest =
     one-plain x xs braces is ∙ ap (λ (p : Piece). joined (prints (x ∷ []) braces) p) rest
     ∙ ap (parted (x ∷ xs) braces) (sym (one-add (plain xs)))
 
-plain-front : (text : List ℕ) (braces : ℕ) → piece text braces ≡ parted text braces (plain text)
+plain-front : (text : List ℕ) (braces : ℕ) → comment_piece text braces ≡ parted text braces (plain text)
 plain-front [] braces = refl
 plain-front (x ∷ xs) braces = plain-by x xs braces (is_special x) refl (plain-front xs braces)
 
@@ -85,12 +86,12 @@ pub plain-printed : (begun text first rest : List ℕ) (size : ℕ) → size ≡
 plain-printed begun text first rest size is front back out appended braces =
     let front' : take (plain text) text ≡ first = sym (front ∙ ap (λ (n : ℕ). take n text) is) in
     let back' : drop (plain text) text ≡ rest = sym (back ∙ ap (λ (n : ℕ). drop n text) is) in
-    let whole : piece text braces ≡ joined (prints first braces) (piece rest braces) =
-    plain-front text braces ∙ (λ i. joined (prints (front' i) braces) (piece (back' i) braces)) in
+    let whole : comment_piece text braces ≡ joined (prints first braces) (comment_piece rest braces) =
+    plain-front text braces ∙ (λ i. joined (prints (front' i) braces) (comment_piece (back' i) braces)) in
     record {
       bytes =
-          ap (λ (l : List ℕ). l ++ (piece rest braces).bytes) appended
-          ∙ append_assoc begun first (piece rest braces).bytes
+          ap (λ (l : List ℕ). l ++ (comment_piece rest braces).bytes) appended
+          ∙ append_assoc begun first (comment_piece rest braces).bytes
           ∙ ap (λ (p : Piece). begun ++ p.bytes) (sym whole);
       braces = ap (λ (p : Piece). p.braces) (sym whole);
     }

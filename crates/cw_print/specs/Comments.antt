@@ -35,17 +35,17 @@ byte_piece byte braces = elim (byte == 64) [
 ]
 
 -- A backslash takes the next byte along, unless it is `@`; and `@@` is one `@`.
-abbrev pub takes_next : ℕ → ℕ → Bool
-takes_next byte next = byte == 92 && not (next == 64)
+abbrev pub takes_along : ℕ → ℕ → Bool
+takes_along byte next = byte == 92 && not (next == 64)
 
-abbrev pub piece : List ℕ → ℕ → Piece
-piece [] braces = prints [] braces
-piece (byte ∷ []) braces = byte_piece byte braces
-piece (byte ∷ next ∷ bytes) braces = elim (takes_next byte next) [
-  | true ↦ then (prints (byte ∷ blank_for next ∷ []) braces) (piece bytes)
+abbrev pub comment_piece : List ℕ → ℕ → Piece
+comment_piece [] braces = prints [] braces
+comment_piece (byte ∷ []) braces = byte_piece byte braces
+comment_piece (byte ∷ next ∷ bytes) braces = elim (takes_along byte next) [
+  | true ↦ then (prints (byte ∷ blank_for next ∷ []) braces) (comment_piece bytes)
   | false ↦ elim (is_at_pair byte next) [
-    | true ↦ then (prints (byte ∷ []) braces) (piece bytes)
-    | false ↦ then (byte_piece byte braces) (piece (next ∷ bytes))
+    | true ↦ then (prints (byte ∷ []) braces) (comment_piece bytes)
+    | false ↦ then (byte_piece byte braces) (comment_piece (next ∷ bytes))
   ]
 ]
 
@@ -60,5 +60,5 @@ is_special byte = byte == 10 || (byte == 64 || (byte == 92 || (byte == 123 || by
 
 -- The bytes so far and what is to come are those of the whole, and so are the open braces.
 pub record Prints (begun text : List ℕ) (open_first : ℕ) (out rest : List ℕ) (open_now : ℕ) : Type 0 where
-  pub bytes : out ++ (piece rest open_now).bytes ≡ begun ++ (piece text open_first).bytes
-  pub braces : (piece rest open_now).braces ≡ (piece text open_first).braces
+  pub bytes : out ++ (comment_piece rest open_now).bytes ≡ begun ++ (comment_piece text open_first).bytes
+  pub braces : (comment_piece rest open_now).braces ≡ (comment_piece text open_first).braces

@@ -3,7 +3,7 @@ use Rattle.std.specs.Prelude.{ℕ, Bool, List, [], ◌∷◌, Option, Some, None
 use Rattle.cw_rules.specs.Answers.{Seen}
 use Rattle.cw_rules.specs.declared.tokens.TokKind.{TokKind}
 use Rattle.cw_rules.specs.declared.tokens.TokKind.TheVariants as kind
-use Rattle.cw_print.specs.Comments.{Piece, piece}
+use Rattle.cw_print.specs.Comments.{Piece, comment_piece}
 use Rattle.cw_print.specs.Tokens.{token_bytes}
 
 abbrev pub innermost : List ℕ → ℕ
@@ -27,7 +27,7 @@ abbrev pub head_sign : Bool → List ℕ
 head_sign first = if first then codes "${}\\E{}$" else codes "${}\\mathrel+\\E{}$"
 
 abbrev pub token_shown : Bool → TokKind → List ℕ → List ℕ → TokenShown
-token_shown first kind.Text text braces = piece_in (piece text (innermost braces)) braces
+token_shown first kind.Text text braces = piece_in (comment_piece text (innermost braces)) braces
 token_shown first kind.LongComment text braces = record {
   bytes = token_bytes kind.LongComment text;
   braces = 0

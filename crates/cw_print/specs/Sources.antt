@@ -24,9 +24,9 @@ is_changed sections number = unwrap_or (option_map (λ s. s.changed) (section_of
 -- ## Section names
 
 -- the first section that defines a name, or 0
-abbrev pub first_of : List ℕ → ℕ
-first_of [] = 0
-first_of (number ∷ numbers) = number
+abbrev pub first_section : List ℕ → ℕ
+first_section [] = 0
+first_section (number ∷ numbers) = number
 
 abbrev pub is_file : SecKind → Bool
 is_file Named = false
@@ -37,8 +37,8 @@ abbrev pub title_of_name : List Section → SecName → Title
 title_of_name sections name = record {
   text = name.text;
   is_file = is_file name.kind;
-  number = first_of name.defined;
-  is_changed = is_changed sections (first_of name.defined);
+  number = first_section name.defined;
+  is_changed = is_changed sections (first_section name.defined);
 }
 
 abbrev pub title_of_kept : List Section → List SecName → Option ℕ → Option Title
@@ -55,7 +55,7 @@ titles book number = title_of_kept book.outline.sections book.sec_names (name_at
 abbrev pub defines_first : List SecName → Option SecId → ℕ → Bool
 defines_first kept None number = false
 defines_first kept (Some id) number =
-    unwrap_or (option_map (λ name. first_of name.defined == number) (slice_get kept id.index)) false
+    unwrap_or (option_map (λ name. first_section name.defined == number) (slice_get kept id.index)) false
 
 abbrev pub defines_its_name : List SecName → Option Section → ℕ → Bool
 defines_its_name kept None number = false

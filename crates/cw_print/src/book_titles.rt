@@ -1,6 +1,6 @@
 //! The titles of a book's section names.
 ghost use Rattle.std.specs.Prelude.{◌≡◌, Some, option_map};
-ghost use Rattle.cw_print.specs.Sources.{defines_first, first_of, is_changed, is_file, is_first, section_of};
+ghost use Rattle.cw_print.specs.Sources.{defines_first, first_section, is_changed, is_file, is_first, section_of};
 ghost use Rattle.cw_print.specs.Sources.{title_of_kept, titles};
 ghost use Rattle.cw_print.specs.Titles.{title_of};
 
@@ -29,7 +29,7 @@ pub fn is_changed(book: &Book, number: u32) -> bool
 }
 
 fn first_of(defined: &[u32]) -> u32
-    ensures { result ≡ first_of defined.now }
+    ensures { result ≡ first_section defined.now }
 {
     match defined {
         [] => 0,

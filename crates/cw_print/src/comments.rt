@@ -1,8 +1,8 @@
 //! The text of a comment.
 ghost use Rattle.std.specs.Prelude.{◌≡◌, ℕ, [], ◌∷◌, ◌++◌, ◌≤◌, ◌+◌, length, OnOk, IfOk, IfSome, IfNone};
 ghost use Rattle.std.specs.List.{position_or_len};
-ghost use Rattle.cw_print.specs.Comments.{Prints, blank_for, byte_piece, closing_braces, is_special, piece};
-ghost use Rattle.cw_print.specs.Comments.{takes_next};
+ghost use Rattle.cw_print.specs.Comments.{Prints, blank_for, byte_piece, closing_braces, is_special, comment_piece};
+ghost use Rattle.cw_print.specs.Comments.{takes_along};
 
 use crate::texts::is_at_pair;
 use cw_base::{Bytes, Memory};
@@ -14,7 +14,7 @@ fn blank_for(byte: u8) -> u8
 }
 
 fn takes_next(byte: u8, next: u8) -> bool
-    ensures { result ≡ takes_next byte next }
+    ensures { result ≡ takes_along byte next }
 {
     byte == b'\\' && !(next == b'@')
 }
@@ -92,8 +92,8 @@ fn two_at(text: &[u8]) -> Option<Two>
 // The last byte, if there is one.
 fn put_last(out: &mut Bytes, text: &[u8], braces: usize) -> Result<usize, Memory>
     requires { length text.now ≤ 1 }
-    ensures bytes { OnOk result (out.new ≡ out.old ++ (piece text.now braces).bytes) }
-    ensures braces { IfOk result (λ after. after ≡ (piece text.now braces).braces) }
+    ensures bytes { OnOk result (out.new ≡ out.old ++ (comment_piece text.now braces).bytes) }
+    ensures braces { IfOk result (λ after. after ≡ (comment_piece text.now braces).braces) }
 {
     match text {
         [] => Ok(braces),
@@ -141,8 +141,8 @@ fn put_plain<'a>(out: &mut Bytes, text: &'a [u8]) -> Result<&'a [u8], Memory>
 
 /// Appends a piece of a comment's text in which so many braces are open, and answers how many are open behind it.
 pub(crate) fn put_piece(out: &mut Bytes, text: &[u8], braces: usize) -> Result<usize, Memory>
-    ensures bytes { OnOk result (out.new ≡ out.old ++ (piece text.now braces).bytes) }
-    ensures braces { IfOk result (λ after. after ≡ (piece text.now braces).braces) }
+    ensures bytes { OnOk result (out.new ≡ out.old ++ (comment_piece text.now braces).bytes) }
+    ensures braces { IfOk result (λ after. after ≡ (comment_piece text.now braces).braces) }
 {
     let mut rest = put_plain(out, text)?;
     let mut open = braces;

@@ -10,7 +10,7 @@ use Rattle.cw_base.specs.Web.{MergedLine, WebState, text_of}
 use Rattle.cw_base.specs.WebLaws.{length-text_of-more, text_of-append}
 use Rattle.cw_base.specs.declared.notes.Place.{Place}
 use Rattle.cw_base.proofs.TestLaws.{both-left, both-right}
-use Rattle.cw_sample.specs.Sample.{first_text, head_text, line_of, section_lines, sample_lines, sample_web}
+use Rattle.cw_sample.specs.Sample.{first_text, head_line, line_of, section_lines, sample_lines, sample_web}
 use Rattle.cw_sample.specs.Sample.{statement_text}
 
 -- ## No byte 10
@@ -53,7 +53,7 @@ pub first-whole : (k : ℕ) → 0 < k → k < 10000 → All NotTen (first_text k
 first-whole k some few = between-whole (codes "@ Section ") (codes " adds.") k some few refl
     (whole (codes " adds.") refl)
 
-pub head-whole : (k : ℕ) → 0 < k → k < 10000 → All NotTen (head_text k)
+pub head-whole : (k : ℕ) → 0 < k → k < 10000 → All NotTen (head_line k)
 head-whole k some few = between-whole (codes "@<Step ") (codes ".@>=") k some few refl (whole (codes ".@>=") refl)
 
 -- a text, a number behind it, and a text that is known
@@ -82,7 +82,7 @@ between-short before behind k room more some few first rest =
 pub first-short : (k : ℕ) → 0 < k → k < 10000 → length (first_text k) ≤ 20
 first-short k some few = between-short (codes "@ Section ") (codes " adds.") k 10 6 some few (omega arith) (omega arith)
 
-pub head-short : (k : ℕ) → 0 < k → k < 10000 → length (head_text k) ≤ 15
+pub head-short : (k : ℕ) → 0 < k → k < 10000 → length (head_line k) ≤ 15
 head-short k some few = between-short (codes "@<Step ") (codes ".@>=") k 7 4 some few (omega arith) (omega arith)
 
 behind-short : (text known : List ℕ) (k room : ℕ) → 0 < k → k < 10000 → length text ≤ room
@@ -105,8 +105,8 @@ section-short k some few =
       first-short k some few,
       head-short k some few,
       statement-short k some few,
-      length-append (first_text k) (10 ∷ (head_text k ++ 10 ∷ (statement_text k ++ 10 ∷ []))),
-      length-append (head_text k) (10 ∷ (statement_text k ++ 10 ∷ [])),
+      length-append (first_text k) (10 ∷ (head_line k ++ 10 ∷ (statement_text k ++ 10 ∷ []))),
+      length-append (head_line k) (10 ∷ (statement_text k ++ 10 ∷ [])),
       length-append (statement_text k) (10 ∷ []),
     )
 
@@ -136,19 +136,19 @@ with_line : MergedLine → WebState → WebState
 with_line line w = record w { lines = w.lines ++ line ∷ [] }
 
 with_lines-sample : (n m : ℕ) → m ≡ suc n → with_line (line_of (3 * n + 3) (statement_text m))
-    (with_line (line_of (3 * n + 2) (head_text m))
+    (with_line (line_of (3 * n + 2) (head_line m))
     (with_line (line_of (3 * n + 1) (first_text m)) (sample_web n))) ≡ sample_web m
 unfolding with_line
 with_lines-sample n m is =
     let a = line_of (3 * n + 1) (first_text m) in
-    let b = line_of (3 * n + 2) (head_text m) in
+    let b = line_of (3 * n + 2) (head_line m) in
     let c = line_of (3 * n + 3) (statement_text m) in
     let first : 3 * n + 1 ≡ 3 * suc n - 2 = omega arith in
     let second : 3 * n + 2 ≡ 3 * suc n - 1 = omega arith in
     let third : 3 * n + 3 ≡ 3 * suc n = omega arith in
     ap (λ (lines : List MergedLine). record { lines = lines; files = codes "sample" ∷ []; notes = [] })
     (append_assoc (sample_lines n ++ a ∷ []) (b ∷ []) (c ∷ []) ∙ append_assoc (sample_lines n) (a ∷ []) (b ∷ c ∷ [])
-    ∙ (λ i. sample_lines n ++ line_of (first i) (first_text (is i)) ∷ line_of (second i) (head_text (is i))
+    ∙ (λ i. sample_lines n ++ line_of (first i) (first_text (is i)) ∷ line_of (second i) (head_line (is i))
     ∷ line_of (third i) (statement_text (is i)) ∷ []))
     ∙ ap sample_web (sym is)
 
@@ -157,7 +157,7 @@ pub section-added : (n : ℕ) {w0 w1 w2 w3 : WebState} {a b c : List ℕ} {p q r
     → w1 ≡ record w0 { lines = w0.lines ++ record { text = a; place = p; changed = false } ∷ [] }
     → w2 ≡ record w1 { lines = w1.lines ++ record { text = b; place = q; changed = false } ∷ [] }
     → w3 ≡ record w2 { lines = w2.lines ++ record { text = c; place = r; changed = false } ∷ [] }
-    → a ≡ first_text (n + 1) → b ≡ head_text (n + 1) → c ≡ statement_text (n + 1)
+    → a ≡ first_text (n + 1) → b ≡ head_line (n + 1) → c ≡ statement_text (n + 1)
     → p ≡ record { file = 0; line = 3 * n + 1 } → q ≡ record { file = 0; line = 3 * n + 2 }
     → r ≡ record { file = 0; line = 3 * n + 3 }
     → w3 ≡ sample_web (n + 1)
@@ -167,6 +167,6 @@ section-added n begun one two three first head statement p q r =
     ∙ (λ i. with_line (line_of (3 * n + 3) (statement_text (n + 1)))
     (with_line (record { text = head i; place = q i; changed = false }) (one i)))
     ∙ (λ i. with_line (line_of (3 * n + 3) (statement_text (n + 1)))
-    (with_line (line_of (3 * n + 2) (head_text (n + 1)))
+    (with_line (line_of (3 * n + 2) (head_line (n + 1)))
     (with_line (record { text = first i; place = p i; changed = false }) (begun i))))
     ∙ with_lines-sample n (n + 1) (omega arith)

@@ -6,8 +6,8 @@ use Rattle.cw_base.specs.Web.{MergedLine, WebState}
 abbrev pub first_text : ℕ → List ℕ
 first_text k = codes "@ Section " ++ decimal k ++ codes " adds."
 
-abbrev pub head_text : ℕ → List ℕ
-head_text k = codes "@<Step " ++ decimal k ++ codes ".@>="
+abbrev pub head_line : ℕ → List ℕ
+head_line k = codes "@<Step " ++ decimal k ++ codes ".@>="
 
 abbrev pub statement_text : ℕ → List ℕ
 statement_text k =
@@ -19,7 +19,7 @@ line_of number text = record { text = text; place = record { file = 0; line = nu
 
 abbrev pub section_lines : ℕ → List MergedLine
 section_lines k =
-    line_of (3 * k - 2) (first_text k) ∷ line_of (3 * k - 1) (head_text k) ∷ line_of (3 * k) (statement_text k) ∷ []
+    line_of (3 * k - 2) (first_text k) ∷ line_of (3 * k - 1) (head_line k) ∷ line_of (3 * k) (statement_text k) ∷ []
 
 -- the sections from 1 to n
 abbrev pub sample_lines : ℕ → List MergedLine

@@ -1,6 +1,6 @@
 //! The sections of the sample, line by line.
 ghost use Rattle.std.specs.Prelude.{◌≡◌, ◌+◌, ◌<◌, ◌≤◌, ◌++◌, decimal, IfOk, OnOk};
-ghost use Rattle.cw_sample.specs.Sample.{first_text, head_text, sample_web, statement_text};
+ghost use Rattle.cw_sample.specs.Sample.{first_text, head_line, sample_web, statement_text};
 
 use cw_base::{Bytes, Memory, Place, Web};
 use cw_run::append_number;
@@ -25,7 +25,7 @@ fn first_text(alloc: Global, section: u32) -> Result<Bytes, Memory>
 
 // The head of its C part.
 fn head_text(alloc: Global, section: u32) -> Result<Bytes, Memory>
-    ensures { IfOk result (λ text. text ≡ head_text section) }
+    ensures { IfOk result (λ text. text ≡ head_line section) }
 {
     numbered_text(alloc, b"@<Step ", section, b".@>=")
 }
