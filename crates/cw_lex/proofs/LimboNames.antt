@@ -1,6 +1,7 @@
 -- No section name stands in limbo.
 use Rattle.std.proofs.Common.{◌≡◌, ℕ, zero, suc, ◌+◌, ◌-◌, ◌==◌, ◌&&◌, Bool, true, false, List, [], ◌∷◌, ◌++◌, drop}
 use Rattle.std.proofs.Common.{take, refl, if◌then◌else◌}
+use Rattle.cw_base.proofs.TestLaws.{not-both}
 use Rattle.cw_rules.specs.declared.bodies.Noted.{Noted}
 use Rattle.cw_rules.specs.declared.classes.Class.TheVariants as classes
 use Rattle.cw_rules.specs.declared.codes.Code.{Code}
@@ -46,15 +47,11 @@ section-if false x y h k = k
 section-kind : (bytes : List ℕ) → is_section_kind (section_code bytes).kind ≡ true
 section-kind bytes = section-if (begins star (drop 1 bytes)) _ _ refl refl
 
-no-section : (b : Bool) → b ≡ true → b ≡ false → ⊥
-no-section true h k = let wrong : true ≡ false = k in cc
-no-section false h k = let wrong : false ≡ true = h in cc
-
 free-section : (part : Part) → is_limbo part ≡ true → (place : ℕ) (bytes : List ℕ)
     → IsFree (section (within part) place bytes)
-free-section parts.Limbo h place bytes = λ rest k e. absurd (no-section _ (section-kind (at_sign ∷ bytes)) e)
+free-section parts.Limbo h place bytes = λ rest k e. absurd (not-both _ (section-kind (at_sign ∷ bytes)) e)
 free-section (parts.FormatName code second limbo) h place bytes =
-    λ rest k e. absurd (no-section _ (section-kind (at_sign ∷ bytes)) e)
+    λ rest k e. absurd (not-both _ (section-kind (at_sign ∷ bytes)) e)
 free-section part h place bytes = absurd (let wrong : false ≡ true = h in cc)
 
 free-code : (code : Code) (place : ℕ) (bytes : List ℕ)

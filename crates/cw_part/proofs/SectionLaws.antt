@@ -1,6 +1,6 @@
 -- Pieces of a section, in the setting of the section.
 use Rattle.std.proofs.Common.{◌≡◌, ℕ, ◌+◌, refl, ap, subst, List}
-use Rattle.std.specs.Prelude.{Option, Some, Result}
+use Rattle.std.specs.Prelude.{Result}
 use Rattle.cw_base.specs.declared.flags.Flags.{Flags}
 use Rattle.cw_lines.specs.declared.put_error.PutError.{PutError}
 use Rattle.cw_names.specs.Names.{Entry}
@@ -40,9 +40,6 @@ weaving-as {s = s} {all = all} {old = old} {now = now} {counts = counts} same w 
     subst (λ (rest : List Entry → Done ℕ). Weaving s rest all old now counts) same w
 
 -- ## The section of a number, and the text of a web
-
-pub one-section : (found : Option Section) (s s' : Section) → found ≡ Some s → found ≡ Some s' → s ≡ s'
-one-section found s s' is is' = cc
 
 pub whole-as : {text text' : List ℕ} {s s' : Section} → text ≡ text' → s ≡ s' → IsWholeRest text s
     → IsWholeRest text' s'

@@ -3,6 +3,7 @@ use Rattle.std.proofs.Common.{◌≡◌, ℕ, ◌+◌, ◌≤◌, Bool, true, fa
 use Rattle.std.proofs.Common.{length, sym, subst, ◌∙◌, arith}
 use Rattle.cw_base.specs.Web.{MergedLine}
 use Rattle.cw_base.specs.declared.span.Span.{Span}
+use Rattle.cw_base.proofs.TestLaws.{not-both}
 use Rattle.cw_rules.specs.declared.codes.Code.TheVariants as at
 use Rattle.cw_lex.specs.declared.heads.Wanted.{Wanted}
 use Rattle.cw_lex.specs.declared.heads.Wanted.TheVariants as wants
@@ -59,10 +60,6 @@ first-rise high (p ∷ ps) n h u = first-rise-by (is_section_code p.role) high p
 
 -- ## The roles of tokens
 
-no-section : (b : Bool) → b ≡ true → b ≡ false → ⊥
-no-section true h k = let wrong : true ≡ false = k in cc
-no-section false h k = let wrong : false ≡ true = h in cc
-
 section-role : (kind : TokKind) (headed : Bool) (s : Standing) (span : Span) → is_section_kind kind ≡ true
     → is_section_code (token_step kind headed s span).role ≡ true
 section-role (kinds.Code at.Section) headed s span h = refl
@@ -72,7 +69,7 @@ section-role kind headed s span h = absurd (let wrong : false ≡ true = h in cc
 
 no-section-by : (b : Bool) (kind : TokKind) (headed : Bool) (s : Standing) (span : Span) → is_section_kind kind ≡ b
     → is_section_code (token_step kind headed s span).role ≡ false → is_section_kind kind ≡ false
-no-section-by true kind headed s span e h = absurd (no-section _ (section-role kind headed s span e) h)
+no-section-by true kind headed s span e h = absurd (not-both _ (section-role kind headed s span e) h)
 no-section-by false kind headed s span e h = e
 
 plain-word : (wanted : Wanted) → is_name_role (word_role wanted) ≡ false

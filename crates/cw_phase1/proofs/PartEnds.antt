@@ -13,6 +13,7 @@ use Rattle.cw_rules.specs.declared.tokens.Mode.TheVariants as modes
 use Rattle.cw_rules.specs.declared.tokens.TokKind.{TokKind}
 use Rattle.cw_rules.specs.declared.tokens.TokKind.TheVariants as kinds
 use Rattle.cw_rules.specs.Answers.{Answer, Token, Begin, Finish, Note, Seen, has_sign}
+use Rattle.cw_rules.proofs.Choices.{or-false}
 use Rattle.cw_lex.specs.Heads.{head_behind}
 use Rattle.cw_lex.specs.Nested.{is_section_kind, is_section_answer, begins_section_in}
 use Rattle.cw_lex.specs.Lexing.{tokens_of}
@@ -183,10 +184,6 @@ section-part s t answers h = (told t.kind (has_sign answers) s t.span).part-is
 
 -- ## Lists
 
-or-none : (a b : Bool) → a ≡ false → b ≡ false → (a || b) ≡ false
-or-none false b e h = h
-or-none true b e h = absurd cc
-
 pub first-none : (test : Placed → Bool) (size : ℕ) (ps : List Placed) → list_any test ps ≡ false
     → first_start test size ps ≡ size
 first-none test size [] h = refl
@@ -219,7 +216,7 @@ pub none-stricter : (test other : Placed → Bool) (ps : List Placed) → ((p : 
     → list_any test ps ≡ false → list_any other ps ≡ false
 none-stricter test other [] f h = refl
 none-stricter test other (p ∷ ps) f h =
-    or-none (other p) (list_any other ps) (no-stricter (other p) (test p) (f p)
+    or-false (other p) (list_any other ps) (no-stricter (other p) (test p) (f p)
     (one-failed-left (test p) (list_any test ps) h))
     (none-stricter test other ps f (one-failed-right (test p) (list_any test ps) h))
 
@@ -302,8 +299,8 @@ opens-alone : (xs cut rest more : List Answer) → tokens_in cut ≡ [] → open
 opens-alone [] cut rest more n h = bare-opens cut n
 opens-alone (Token t ∷ xs) cut rest more n h =
     let later = one-failed-right (is_section_kind t.kind) _ h in
-    or-none (is_section_kind t.kind) _ (one-failed-left (is_section_kind t.kind) _ h)
-    (or-none (is_some (opened_by t.kind (has_sign ((xs ++ cut) ++ [])))) (opens_part_before [] (xs ++ cut))
+    or-false (is_section_kind t.kind) _ (one-failed-left (is_section_kind t.kind) _ h)
+    (or-false (is_some (opened_by t.kind (has_sign ((xs ++ cut) ++ [])))) (opens_part_before [] (xs ++ cut))
     (opened-less t.kind (has_sign ((xs ++ cut) ++ [])) (has_sign ((xs ++ rest) ++ more))
     (sign-inside xs cut rest more n) (one-failed-left (is_some (opened_by t.kind (has_sign ((xs ++ rest) ++ more))))
     (opens_part_before more (xs ++ rest)) later))
@@ -384,7 +381,7 @@ module _ (good : Part → Bool) where
     split = ap (λ l. a ∷ l) r.split;
     placed = p ∙ r.placed;
     none = r.none;
-    uncut = or-none (is_section_answer a) (begins_section_in r.before) (one-failed-left (is_section_answer a) false n)
+    uncut = or-false (is_section_answer a) (begins_section_in r.before) (one-failed-left (is_section_answer a) false n)
         r.uncut;
     keeps = k (Token r.token ∷ r.behind) r.before r.keeps;
     part = r.part;
@@ -430,8 +427,8 @@ module _ (good : Part → Bool) where
           ⊎ Stopped (token_step t.kind (has_sign answers) s t.span).next (kept_behind t kept) answers
           → Ended s kept (Token t ∷ answers) ⊎ Stopped s kept (Token t ∷ answers)
       by code keeps (inl d) = inl (record {
-        none = or-none (ends (token_placed s kept t answers)) _ e d.none;
-        uncut = or-none (is_section_kind t.kind) (begins_section_in answers) code d.uncut;
+        none = or-false (ends (token_placed s kept t answers)) _ e d.none;
+        uncut = or-false (is_section_kind t.kind) (begins_section_in answers) code d.uncut;
         keeps = (
           subst (λ l. KeepsToken t.kind (opened_by t.kind (has_sign l))) (sym (append-nil answers)) keeps,
           d.keeps,
@@ -446,8 +443,8 @@ module _ (good : Part → Bool) where
         front = token_placed s kept t answers ∷ r.front;
         split = ap (λ l. Token t ∷ l) r.split;
         placed = ap (λ l. token_placed s kept t answers ∷ l) r.placed;
-        none = or-none (ends (token_placed s kept t answers)) (list_any ends r.front) e r.none;
-        uncut = or-none (is_section_kind t.kind) (begins_section_in r.before) code r.uncut;
+        none = or-false (ends (token_placed s kept t answers)) (list_any ends r.front) e r.none;
+        uncut = or-false (is_section_kind t.kind) (begins_section_in r.before) code r.uncut;
         keeps = (subst (λ l. KeepsToken t.kind (opened_by t.kind (has_sign l))) r.split keeps, r.keeps);
         part = r.part;
         passes = r.passes;
@@ -494,8 +491,8 @@ pub tex-opens : (more answers : List Answer) → Keeps is_tex more answers → o
 tex-opens more [] k = refl
 tex-opens more (Token t ∷ answers) k =
     let e = ends-so t.kind (has_sign (answers ++ more)) in
-    or-none (is_section_kind t.kind) _ k.0.plain
-    (or-none (is_some (opened_by t.kind (has_sign (answers ++ more)))) (opens_part_before more answers)
+    or-false (is_section_kind t.kind) _ k.0.plain
+    (or-false (is_some (opened_by t.kind (has_sign (answers ++ more)))) (opens_part_before more answers)
     (tex-token t (has_sign (answers ++ more)) e.how e.so k.0) (tex-opens more answers k.1))
 tex-opens more (Begin t ∷ answers) k = tex-opens more answers k
 tex-opens more (Finish t ∷ answers) k = tex-opens more answers k

@@ -1,5 +1,5 @@
 -- The C texts in a TeX part are whole.
-use Rattle.std.proofs.Common.{◌≡◌, ℕ, zero, suc, ◌+◌, ◌<◌, ◌≤◌, Bool, true, false, ◌||◌, List, [], ◌∷◌, ◌++◌, Option}
+use Rattle.std.proofs.Common.{◌≡◌, ℕ, zero, suc, ◌+◌, ◌<◌, ◌≤◌, true, false, List, [], ◌∷◌, ◌++◌, Option}
 use Rattle.std.proofs.Common.{Some, None, All, length, take, refl, sym, ap, subst, ◌∙◌, arith, ◌⊎◌, inl, inr}
 use Rattle.std.proofs.lemmas.Bool.{cases_lt}
 use Rattle.std.proofs.lemmas.List.{drop_all, length-take, take-take}
@@ -11,6 +11,7 @@ use Rattle.cw_rules.specs.declared.tokens.Mode.TheVariants as modes
 use Rattle.cw_rules.specs.declared.tokens.TokKind.{TokKind}
 use Rattle.cw_rules.specs.declared.tokens.TokKind.TheVariants as kinds
 use Rattle.cw_rules.specs.Answers.{Answer, Token, Begin, Finish, Note, Seen, has_sign}
+use Rattle.cw_rules.proofs.Choices.{or-false}
 use Rattle.cw_lex.specs.Lexing.{answers, answers_at, beginning, fresh_at, last_at, tokens_of}
 use Rattle.cw_lex.specs.Limbo.{is_name_kind}
 use Rattle.cw_lex.specs.Nested.{Level, InCode, InComment, after_token, after_begin, after_finish, levels_after}
@@ -24,10 +25,6 @@ use Rattle.cw_texpart.specs.TexParts.{IsWhole, IsWholePiece}
 use Rattle.cw_texpart.specs.WholePieces.{PiecesAreWhole, TexPartsAreWhole}
 
 -- ## Answers in which no part begins
-
-or-none : (a b : Bool) → a ≡ false → b ≡ false → (a || b) ≡ false
-or-none false b e h = h
-or-none true b e h = absurd cc
 
 token-rest : (more : List Answer) (t : Seen) (answers : List Answer) → opens_part_before more (Token t ∷ answers) ≡
     false → opens_part_before more answers ≡ false
@@ -44,7 +41,7 @@ opens-right more (Note kind place ∷ xs) ys h = opens-right more xs ys h
 
 uncut-left : (more xs ys : List Answer) → opens_part_before more (xs ++ ys) ≡ false → begins_section_in xs ≡ false
 uncut-left more [] ys h = refl
-uncut-left more (Token t ∷ xs) ys h = or-none (is_section_kind t.kind) (begins_section_in xs)
+uncut-left more (Token t ∷ xs) ys h = or-false (is_section_kind t.kind) (begins_section_in xs)
     (one-failed-left (is_section_kind t.kind) _ h) (uncut-left more xs ys (token-rest more t (xs ++ ys) h))
 uncut-left more (Begin t ∷ xs) ys h = uncut-left more xs ys h
 uncut-left more (Finish t ∷ xs) ys h = uncut-left more xs ys h

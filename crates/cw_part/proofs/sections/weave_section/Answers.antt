@@ -1,6 +1,7 @@
 -- The section is the one of this number, and the text is that of the web.
 use Rattle.std.proofs.Common.{refl, sym}
-use Rattle.cw_part.proofs.SectionLaws.{one-section, whole-as, woven-as}
+use Rattle.cw_part.proofs.SectionLaws.{whole-as, woven-as}
+use Rattle.cw_texpart.proofs.SectionLaws.{one-section}
 use Rattle.cw_part.proofs.sections.weave_section.Goals as goal
 
 pub print_rest-requires-clause-whole : goal.print_rest-requires-clause-whole
