@@ -38,7 +38,7 @@ use Rattle.cw_rules.proofs.Taking.{AreBare, bare-all-cut}
 use Rattle.cw_lex.specs.Lexing.{still_fresh, answers, fresh_at, last_at, beginning}
 use Rattle.cw_laws.specs.Longest.{NoneIsLonger, IsLongest, AreLongest, TokensAreLongest}
 use Rattle.cw_laws.specs.Strings.{IsString}
-use Rattle.cw_laws.proofs.SectionCodes.{drop-on}
+use Rattle.cw_lex.proofs.Covering.{drop-on}
 use Rattle.cw_laws.proofs.Strings.{string-is}
 use Rattle.cw_rules.specs.declared.bodies.Body.TheVariants as bodies
 use Rattle.cw_rules.specs.Bodies.{at_start, extent}

@@ -1,6 +1,7 @@
 -- Each code with which definitions or a C part begin is the one that stands at its place.
 use Rattle.std.proofs.Common.{◌≡◌, ℕ, zero, suc, ◌+◌, ◌-◌, Bool, true, false, ◌&&◌, ◌||◌, ◌==◌, List, [], ◌∷◌, ◌++◌}
 use Rattle.std.proofs.Common.{drop, refl, Some, if◌then◌else◌, sym, ap, subst, ◌∙◌}
+use Rattle.cw_base.proofs.TestLaws.{not-both}
 use Rattle.cw_rules.specs.declared.bodies.Noted.{Noted}
 use Rattle.cw_rules.specs.declared.codes.Code.{Code}
 use Rattle.cw_rules.specs.declared.codes.Code.TheVariants as at
@@ -18,7 +19,7 @@ use Rattle.cw_lex.specs.Lexing.{answers, still_fresh}
 use Rattle.cw_lex.specs.Openings.{opened_by}
 use Rattle.cw_lex.proofs.FirstTokens.{bare-code}
 use Rattle.cw_laws.specs.Pieces.{opens_definitions, opens_c_part}
-use Rattle.cw_laws.proofs.SectionCodes.{drop-on}
+use Rattle.cw_lex.proofs.Covering.{drop-on}
 
 -- The code of a token stands at its place.
 pub record CodeStands (text : List ℕ) (t : Seen) : Type 0 where
@@ -69,10 +70,6 @@ section-opens-none : (bytes : List ℕ) → opens_part (kind_code (section_code 
 section-opens-none bytes =
     if-both (λ (c : Cut). opens_part (kind_code c.kind) ≡ false) (begins star (drop 1 bytes)) _ _ (λ h. refl)
     (λ h. refl)
-
-not-both : {A : Type 0} (b : Bool) → b ≡ true → b ≡ false → A
-not-both true h k = absurd cc
-not-both false h k = absurd cc
 
 section-openers : (text : List ℕ) (w : Where) (place : ℕ) (bytes : List ℕ)
     → AreOpeners text (section w place bytes).answers

@@ -29,7 +29,7 @@ use Rattle.cw_texpart.specs.TexParts.{Copied, pieces_done, pieces_of, tex_done, 
 use Rattle.cw_phase1.specs.Sections.{span as span_of}
 use Rattle.cw_texpart.specs.Texts.{Setting}
 use Rattle.cw_laws.specs.TexText.{HasNo, PlainTextIsKept, behind_line_end, is_copied, kept_bytes, last_line_ended}
-use Rattle.cw_laws.proofs.SectionCodes.{drop-on}
+use Rattle.cw_lex.proofs.Covering.{drop-on}
 
 -- ## What the scanner answers
 

@@ -3,24 +3,23 @@ use Rattle.std.proofs.Common.{◌≡◌, ℕ, zero, suc, ◌+◌, ◌-◌, Bool,
 use Rattle.std.proofs.Common.{refl, sym, ap, subst, ◌∙◌}
 use Rattle.std.specs.Prelude.{if◌then◌else◌}
 use Rattle.std.proofs.lemmas.Bool.{eqb-true}
-use Rattle.std.proofs.lemmas.List.{drop-drop}
-use Rattle.cw_base.proofs.TestLaws.{both-left, both}
+use Rattle.cw_base.proofs.TestLaws.{both-left, both, not-both}
 use Rattle.cw_rules.specs.declared.bodies.Noted.{Noted}
-use Rattle.cw_rules.specs.declared.codes.Code.{Code}
 use Rattle.cw_rules.specs.declared.codes.Code.TheVariants as at
-use Rattle.cw_rules.specs.declared.tokens.TokKind.{TokKind}
 use Rattle.cw_rules.specs.declared.tokens.TokKind.TheVariants as kinds
 use Rattle.cw_rules.specs.Answers.{Answer, Token, Begin, Finish, Note, Seen, Where, Found, note_answers, token_of}
 use Rattle.cw_rules.specs.Bytes.{at_sign, begins}
 use Rattle.cw_rules.specs.Codes.{is_section, begins_section}
 use Rattle.cw_rules.specs.Tokens.{all_cut, section, section_code, in_text, found}
 use Rattle.cw_rules.proofs.Choices.{if-both}
-use Rattle.cw_rules.proofs.CodeStarts.{kind_code, code_in, is_opener, in-text-tells}
+use Rattle.cw_rules.proofs.CodeStarts.{code_in, in-text-tells}
 use Rattle.cw_rules.proofs.Taking.{AreBare, AreNotes, TakesAll, Takes, bare-all-cut, found-takes}
 use Rattle.cw_lex.specs.Lexing.{answers, still_fresh}
 use Rattle.cw_lex.specs.Nested.{is_section_kind}
 use Rattle.cw_lex.specs.Parts.{is_section_at}
 use Rattle.cw_lex.proofs.FirstTokens.{bare-code}
+use Rattle.cw_lex.proofs.Openings.{section-opens, section-kind-is}
+use Rattle.cw_lex.proofs.Covering.{drop-on}
 
 -- A token is the section code at its place.
 pub record IsCodeAt (text : List ℕ) (t : Seen) : Type 0 where
@@ -35,10 +34,6 @@ AreCoded text (Token t ∷ answers) = (is_section_kind t.kind ≡ true → IsCod
 AreCoded text (Begin t ∷ answers) = AreCoded text answers
 AreCoded text (Finish t ∷ answers) = AreCoded text answers
 AreCoded text (Note kind place ∷ answers) = AreCoded text answers
-
-not-both : {A : Type 0} (b : Bool) → b ≡ true → b ≡ false → A
-not-both true h k = absurd cc
-not-both false h k = absurd cc
 
 append-coded : (text : List ℕ) (xs ys : List Answer) → AreCoded text xs → AreCoded text ys → AreCoded text (xs ++ ys)
 append-coded text [] ys h g = g
@@ -65,10 +60,6 @@ noted-coded : (text : List ℕ) (notes : List Noted) → AreCoded text (note_ans
 noted-coded text [] = tt
 noted-coded text (n ∷ notes) = noted-coded text notes
 
-pub drop-on : (text : List ℕ) (place byte : ℕ) (bytes : List ℕ) → drop place text ≡ byte ∷ bytes → drop (place + 1) text
-    ≡ bytes
-drop-on text place byte bytes h = sym (drop-drop 1 place text) ∙ ap (drop 1) h
-
 -- ## A section code
 
 section-coded : (text : List ℕ) (w : Where) (place byte : ℕ) (bytes : List ℕ) → drop place text ≡ byte ∷ bytes
@@ -89,20 +80,6 @@ section-coded text w place byte bytes here h =
     )
 
 -- ## No other token
-
-section-kind-code : (c : Code) → is_section_kind (kinds.Code c) ≡ is_section c
-section-kind-code at.Section = refl
-section-kind-code at.StarredSection = refl
-section-kind-code _ = refl
-
-pub section-kind-is : (k : TokKind) → is_section_kind k ≡ is_section (kind_code k)
-section-kind-is (kinds.Code c) = section-kind-code c
-section-kind-is _ = refl
-
-section-opens : (c : Code) → is_section c ≡ true → is_opener c ≡ true
-section-opens at.Section h = refl
-section-opens at.StarredSection h = refl
-section-opens _ h = absurd cc
 
 -- answers that take bytes and are no section code
 taking-coded : (text : List ℕ) (place : ℕ) (bytes : List ℕ) (more : ℕ) (xs : List Answer)

@@ -4,7 +4,7 @@ use Rattle.std.proofs.Common.{◌++◌, Option, Some, None, if◌then◌else◌,
 use Rattle.std.proofs.Common.{arith, append_assoc, length-drop, append-nil, ◌⊎◌, inl, inr}
 use Rattle.std.proofs.lemmas.Bool.{cases_lt, eqb-true}
 use Rattle.std.proofs.lemmas.List.{length-take}
-use Rattle.cw_base.proofs.TestLaws.{both}
+use Rattle.cw_base.proofs.TestLaws.{both, not-both}
 use Rattle.cw_rules.specs.declared.classes.Class.TheVariants as classes
 use Rattle.cw_rules.specs.declared.tokens.Mode.{Mode}
 use Rattle.cw_rules.specs.declared.tokens.Mode.TheVariants as modes
@@ -21,12 +21,13 @@ use Rattle.cw_rules.proofs.Taking.{AreBare, AreNotes, TakesAll, Takes, bare-all-
 use Rattle.cw_rules.proofs.Within.{found-fits}
 use Rattle.cw_lex.specs.Lexing.{still_fresh, answers, fresh_at, last_at, beginning, tokens_of}
 use Rattle.cw_lex.specs.Nested.{is_section_kind}
-use Rattle.cw_lex.proofs.Covering.{drop-part}
+use Rattle.cw_lex.proofs.Covering.{drop-part, begins-take, drop-on}
 use Rattle.cw_lex.proofs.TokensWithin.{tokens-within}
 use Rattle.cw_laws.specs.WhiteSpace.{hash_line_by, hash_line_behind, begins_space_in, IsSpaceIn, LeavesSpace}
 use Rattle.cw_laws.specs.WhiteSpace.{BackslashesContinueHashLines}
 use Rattle.cw_laws.proofs.HashLines.{kind_in, line_with, in-text-lined, has_start, Starts, found-starts}
-use Rattle.cw_laws.proofs.SectionCodes.{no-section, section-kind-is, drop-on}
+use Rattle.cw_laws.proofs.SectionCodes.{no-section}
+use Rattle.cw_lex.proofs.Openings.{section-kind-is}
 
 -- ## What begins at a place
 
@@ -74,10 +75,6 @@ space-by : (white slash next line : Bool) → (white || (slash && next)) ≡ tru
 space-by true slash next line h k = refl
 space-by false true next line h k = both line next (k refl) h
 space-by false false next line h k = absurd cc
-
-not-both : {A : Type 0} (b : Bool) → b ≡ true → b ≡ false → A
-not-both true h k = absurd cc
-not-both false h k = absurd cc
 
 found-space : (w : Where) (fresh : Bool) (last place byte : ℕ) (bytes : List ℕ) (line : Bool)
     → (in_hash_line w.part ≡ true → line ≡ true) → has_start (found w fresh last place byte bytes).answers ≡ false
@@ -238,11 +235,6 @@ answers-leave text (byte ∷ bytes) w fresh last place (suc taken) from line her
     (more-space text line from (place + suc taken) ((place + 1) + taken) e space) h
 
 -- ## A part of a text
-
-begins-take : (wanted n : ℕ) (bytes : List ℕ) → begins wanted (take n bytes) ≡ true → begins wanted bytes ≡ true
-begins-take wanted zero bytes h = absurd cc
-begins-take wanted (suc n) [] h = h
-begins-take wanted (suc n) (b ∷ bytes) h = h
 
 space-take : (line : Bool) (n : ℕ) (bytes : List ℕ) → begins_space_in line (take n bytes) ≡ true
     → begins_space_in line bytes ≡ true

@@ -7,6 +7,7 @@ use Rattle.std.proofs.lemmas.List.Sums.{sum_by-cons}
 use Rattle.std.proofs.lemmas.List.{take_all, take-append-drop, drop-drop, drop-take, take-take}
 use Rattle.cw_base.specs.declared.span.Span.{Span}
 use Rattle.cw_base.specs.Web.{MergedLine, text_of}
+use Rattle.cw_base.proofs.TestLaws.{not-both}
 use Rattle.cw_rules.specs.declared.tokens.Mode.TheVariants as modes
 use Rattle.cw_rules.specs.Answers.{Answer, Token, Begin, Finish, Note, Seen, has_sign}
 use Rattle.cw_lex.specs.Lexing.{answers_at, beginning, fresh_at, last_at}
@@ -71,10 +72,6 @@ begun-by : (text : List ℕ) (b : Bool) (start later : ℕ) (s : Section) (rest 
     (elim b as (λ _. List Section) [ true ↦ s ∷ rest | false ↦ rest ])
 begun-by text true start later s rest h e k = (h refl, subst (λ n. AreBegun text n rest) (sym e) k)
 begun-by text false start later s rest h e k = k
-
-not-both : {A : Type 0} (b : Bool) → b ≡ true → b ≡ false → A
-not-both true h k = absurd cc
-not-both false h k = absurd cc
 
 -- only a section code has its role
 kind-of-role : (s : Standing) (t : Seen) (answers : List Answer)

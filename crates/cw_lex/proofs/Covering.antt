@@ -152,7 +152,7 @@ covers-le text from end (Begin t ∷ xs) c = omega (arith, c.0.order, c.0.span, 
 covers-le text from end (Finish t ∷ xs) c = omega (arith, c.0.order, c.0.span, covers-le text t.span.end end xs c.1)
 covers-le text from end (Note kind about ∷ xs) c = covers-le text from end xs c
 
-begins-take : (wanted n : ℕ) (bytes : List ℕ) → begins wanted (take n bytes) ≡ true → begins wanted bytes ≡ true
+pub begins-take : (wanted n : ℕ) (bytes : List ℕ) → begins wanted (take n bytes) ≡ true → begins wanted bytes ≡ true
 begins-take wanted zero bytes h = absurd cc
 begins-take wanted (suc n) [] h = h
 begins-take wanted (suc n) (b ∷ bytes) h = h

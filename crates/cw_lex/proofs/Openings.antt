@@ -49,7 +49,7 @@ record Opening (w : Where) (place byte : ℕ) (bytes : List ℕ) (f : Found) : T
   same : is_section (code_in f.answers) ≡ false → code_at bytes ≡ code_in f.answers
   behind : is_section (code_in f.answers) ≡ true → f ≡ section w place bytes
 
-section-opens : (c : Code) → is_section c ≡ true → is_opener c ≡ true
+pub section-opens : (c : Code) → is_section c ≡ true → is_opener c ≡ true
 section-opens at.Section h = refl
 section-opens at.StarredSection h = refl
 section-opens _ h = absurd cc
@@ -196,7 +196,7 @@ section-kind-code at.Section = refl
 section-kind-code at.StarredSection = refl
 section-kind-code _ = refl
 
-section-kind-is : (k : TokKind) → is_section_kind k ≡ is_section (kind_code k)
+pub section-kind-is : (k : TokKind) → is_section_kind k ≡ is_section (kind_code k)
 section-kind-is (kinds.Code c) = section-kind-code c
 section-kind-is _ = refl
 
