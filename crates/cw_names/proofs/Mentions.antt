@@ -10,6 +10,7 @@ use Rattle.std.proofs.lemmas.List.Sums.{fold-append}
 use Rattle.std.proofs.lemmas.List.Sorted.{IsPartitionedBy-ltb}
 use Rattle.std.proofs.Math.Dec.{ltb}
 use Rattle.std.specs.List.Sorted.{IsPartitionPoint, IsPartitionedBy}
+use Rattle.std.specs.Prelude.{if◌then◌else◌}
 use Rattle.cw_base.proofs.TestLaws.{or-false, or-true}
 use Rattle.cw_base.proofs.NumberLaws.{three}
 use Rattle.cw_names.specs.declared.xrefs.Occurrence.{Occurrence}
@@ -22,13 +23,10 @@ use Rattle.cw_names.specs.MentionLaws.{sections-picked, with_first}
 
 module _ (section : ℕ) (underlined : Bool) (m : SectionRef) (ms : List SectionRef) where
   abbrev chosen : Bool → Bool → List SectionRef
-  chosen lower same = elim lower [
-    | true ↦ m ∷ with_mention section underlined ms
-    | false ↦ elim same [
-      | true ↦ record m { underlined = m.underlined || underlined } ∷ ms
-      | false ↦ record { section = section; underlined = underlined } ∷ (m ∷ ms)
-    ]
-  ]
+  chosen lower same =
+      if lower then m ∷ with_mention section underlined ms
+      else (if same then record m { underlined = m.underlined || underlined } ∷ ms
+      else record { section = section; underlined = underlined } ∷ m ∷ ms)
 
   passes : m.section < section → with_mention section underlined (m ∷ ms) ≡ m ∷ with_mention section underlined ms
   passes lower = ap (λ b. chosen b (m.section == section)) (lt-ltb m.section section lower)

@@ -1,5 +1,6 @@
 -- What is asked of the names near a text.
 use Rattle.std.specs.Prelude.{ℕ, Bool, true, false, ◌&&◌, nat_lt, nat_le, List, [], ◌∷◌, length, Option, Some, None}
+use Rattle.std.specs.Prelude.{if◌then◌else◌}
 use Rattle.std.specs.Prelude.{get_or}
 use Rattle.cw_secnames.specs.declared.kinds.SecKind.{SecKind}
 use Rattle.cw_secnames.specs.declared.kinds.SecKind.TheVariants.{Named}
@@ -28,7 +29,7 @@ is_below k None = true
 is_below k (Some least) = nat_lt k least
 
 abbrev pub chosen : Bool → ℕ → Option ℕ → Option ℕ
-chosen lesser k least = elim lesser [ true ↦ Some k | false ↦ least ]
+chosen lesser k least = if lesser then Some k else least
 
 -- Whether a position is less than the least so far, and its name passes a test; it isn't before another position.
 abbrev pub is_lesser : (SecName → Bool) → List SecName → ℕ → Option ℕ → ℕ → Bool
