@@ -1,5 +1,5 @@
 -- A listed name: its text between what stands before and behind it.
-use Rattle.std.proofs.Common.{◌≡◌, ℕ, ◌≤◌, refl, List, ◌++◌, codes, arith}
+use Rattle.std.proofs.Common.{◌≡◌, ℕ, refl, List, arith}
 use Rattle.std.specs.Prelude.{Result, Ok, Err, IsErrAnd}
 use Rattle.cw_desk.specs.Told.{Told}
 use Rattle.cw_lines.specs.Line.{LineState}
@@ -13,7 +13,7 @@ use Rattle.cw_part.proofs.WovenLaws.{weaving-next}
 use Rattle.cw_texpart.proofs.WeavingLaws.{weaves-behind, weaves-refused}
 use Rattle.cw_texpart.specs.declared.counts.Counts.{Counts}
 use Rattle.cw_texpart.specs.Done.{Done, behind, plain, then}
-use Rattle.cw_texpart.specs.Texts.{Setting, lasting}
+use Rattle.cw_texpart.specs.Texts.{Setting}
 use Rattle.cw_texpart.specs.Weaving.{Press, Weaves}
 
 none-first : (counts : Counts) → AreSums counts no_counts counts

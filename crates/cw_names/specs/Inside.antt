@@ -1,8 +1,7 @@
 -- How the entries lie in the hash table.
-use Rattle.std.specs.Prelude.{◌≡◌, Bool, true, false, not, ◌&&◌, nat_eq, List, map}
+use Rattle.std.specs.Prelude.{◌≡◌, Bool, true, not, ◌&&◌, nat_eq, List, map}
 use Rattle.std.specs.List.{list_all}
 use Rattle.std.specs.Cmp.Lexicographic.{pointwise}
-use Rattle.cw_base.specs.declared.category.Cat.TheVariants.{End}
 use Rattle.cw_base.specs.declared.category.Cat.{Cat}
 use Rattle.cw_base.specs.Category.{is_end}
 use Rattle.cw_names.specs.declared.entry.Key.{Key}

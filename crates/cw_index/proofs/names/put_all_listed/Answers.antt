@@ -1,5 +1,5 @@
 -- Each name goes behind those before it.
-use Rattle.std.proofs.Common.{ℕ, ◌+◌, List, drop, refl, subst, sym, arith}
+use Rattle.std.proofs.Common.{ℕ, ◌+◌, List, drop, subst, sym, arith}
 use Rattle.cw_lines.specs.WritesLaws.{can-after}
 use Rattle.cw_part.proofs.WovenLaws.{weaving-begun, weaving-next, weaving-stopped, weaving-wanting}
 use Rattle.cw_translator.specs.NameParts.{AreNamesOf}
@@ -7,7 +7,7 @@ use Rattle.cw_texpart.specs.Texts.{Lasting, Setting, lasting}
 use Rattle.cw_index.specs.declared.standing.Listed.{Listed}
 use Rattle.cw_index.specs.ListForms.{list_setting}
 use Rattle.cw_index.specs.NameList.{all_listed, listed_done}
-use Rattle.cw_index.proofs.ListingLaws.{listed-end, listed-next, moved, sum, sums}
+use Rattle.cw_index.proofs.ListingLaws.{listed-end, listed-next, moved, sums}
 use Rattle.cw_index.proofs.names.put_all_listed.Goals as goal
 
 pub loop-one-init : goal.loop-one-init
