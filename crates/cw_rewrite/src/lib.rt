@@ -1,4 +1,4 @@
-//! A line of scraps is rewritten by the productions until none fits, and what is left is put together.
+//! `reduce` stands here: it rewrites a line of scraps by the productions until none fits. What is left is put together.
 #![tactic(auto)]
 
 mod gathering;
