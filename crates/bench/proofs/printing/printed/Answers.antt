@@ -3,4 +3,4 @@ use Rattle.std.proofs.Common.{arith}
 use Rattle.bench.proofs.printing.printed.Goals as goal
 
 pub measured-requires-clause-list : goal.measured-requires-clause-list
-measured-requires-clause-list g c = c.in_ok-done.ensures.root.there 0 (omega arith)
+measured-requires-clause-list g c = c.in_ok-done.ensures.list.root.there 0 (omega arith)
