@@ -31,5 +31,5 @@ returns-clause-kept g c =
     record {
       answers_are = same;
       uncut = subst (λ (answers : List Answer). begins_section_in answers ≡ false) (sym same) c.requires.uncut;
-      there = let e = c.in_ok-done.ensures.root.there 0 (omega arith) in search (e, rules);
+      there = let e = c.in_ok-done.ensures.text.root.there 0 (omega arith) in search (e, rules);
     }
