@@ -69,7 +69,8 @@ module _ (flags : Flags) (named : NameTexts) (nested : AllNested named) (lists :
       (none-token all rest token refl well (no-definition token.kind makes) (no-name token.kind makes))
 
   answers-are : with_texts named all ≡ Token (seen token) ∷ with_texts named rest
-  answers-are = ap (λ xs. xs ++ with_texts named rest) (no-name-token named token.kind (seen token) (no-name token.kind makes))
+  answers-are = ap (λ xs. xs ++ with_texts named rest)
+      (no-name-token named token.kind (seen token) (no-name token.kind makes))
 
   module _ (q : Progress) (is : q ≡ after_token token.kind (seen token) begins) where
     goes : after_answers flags (with_texts named rest) q ≡ after_answers flags (with_texts named all) begins

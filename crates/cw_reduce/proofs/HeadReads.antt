@@ -36,8 +36,8 @@ use Rattle.cw_translator.specs.Translating.{Known, spelled, form_tokens, word_to
 use Rattle.cw_translator.specs.Translating.{dead, leaf_scrap, sign_behind, head_made, headed_made, leaf_of_name, made}
 use Rattle.cw_translator.specs.Translating.{begin, translated}
 use Rattle.cw_reduce.proofs.HeadAnswers.{first-all, head-words-fit, later-all, word_kind}
-use Rattle.cw_reduce.proofs.ReadLaws.{IsFineKnown, IsSoundMade, reads-nothing, reads-scrap, reads-beside, reads-end, reads-made}
-use Rattle.cw_reduce.proofs.ReadLaws.{reads-leaf, reads-headed-name}
+use Rattle.cw_reduce.proofs.ReadLaws.{IsFineKnown, IsSoundMade, reads-nothing, reads-scrap, reads-beside, reads-end}
+use Rattle.cw_reduce.proofs.ReadLaws.{reads-made, reads-leaf, reads-headed-name}
 
 -- Tokens that are read in a mode and stay in it, and hold no inner text.
 record StaysIn (mode : MathMode) (tokens : List Token) : Type 0 where

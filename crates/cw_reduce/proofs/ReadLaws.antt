@@ -117,7 +117,12 @@ reads-nothing known f = record { scraps = none-read; items = none-all ItemReads;
 pub reads-scrap : (s : Scrap) (known : Known) → scrap_agrees s → InnersRead s.tree → is_fine s ≡ true
     → IsFineKnown known → IsSoundMade (record { scraps = s ∷ []; items = []; known = known })
 reads-scrap s known a i fine f =
-    record { scraps = one-read s a i; items = none-all ItemReads; fine = and-both (is_fine s) true fine refl; known = f }
+    record {
+      scraps = one-read s a i;
+      items = none-all ItemReads;
+      fine = and-both (is_fine s) true fine refl;
+      known = f;
+    }
 
 pub reads-beside : (a b : Made) → IsSoundMade a → IsSoundMade b → IsSoundMade (beside a b)
 reads-beside a b f g = record {
@@ -258,8 +263,8 @@ reads-name flags None number known f = reads-nothing known f
 reads-name flags (Some texts) number known f =
     let behind : Tree = Then (Sign control.NameEnd) Empty in
     let t = texts-sound flags texts behind known tt f in
-    reads-scrap _ (texts_made flags texts behind known).known (λ mode. texts-read flags texts behind known mode) t.0 refl
-    t.1
+    reads-scrap _ (texts_made flags texts behind known).known (λ mode. texts-read flags texts behind known mode) t.0
+    refl t.1
 
 pub reads-leaf : (flags : Flags) (named : ℕ → Option (List (List Answer))) → NamesRead (leaf_of_name flags named)
 reads-leaf flags named number known f = reads-name flags (named number) number known f

@@ -148,8 +148,9 @@ fn section_name<L: Ledger>(
     requires start { token.now.span.start < 2 ^ 32 }
     requires kept { AreNamesOf context.now.sec_names.now context.now.uses.now }
     requires translating { IsTranslating work.old.store.now work.old.names.now translator.old }
-    ensures { Advances (over context.now.flags.now (token_answers (texts_in context.now) token.now.kind (seen token.now))
-        (progress_over work.old translator.old)) translator.old work.old translator.new work.new result }
+    ensures { Advances (over context.now.flags.now (token_answers (texts_in context.now) token.now.kind
+        (seen token.now)) (progress_over work.old translator.old)) translator.old work.old translator.new work.new
+        result }
 {
     let number = token.span.start as u32;
     match context.uses.at(number) {

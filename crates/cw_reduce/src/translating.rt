@@ -75,8 +75,8 @@ pub fn translate<L: Ledger>(
     requires c_text { IsCText text.now span mode }
     requires kept { AreNamesOf sec_names.now uses.now }
     requires idle { store.old.building ≡ None }
-    ensures text { IfOk result (λ done. IsTranslated flags.now store.new.lists names.new marks.new done steps.old
-        steps.new (translation_of flags.now (name_texts sec_names.now uses.now) text.now span mode names.old marks.old)) }
+    ensures text { IfOk result (λ it. IsTranslated flags.now store.new.lists names.new marks.new it steps.old steps.new
+        (translation_of flags.now (name_texts sec_names.now uses.now) text.now span mode names.old marks.old)) }
     ensures shown { IfOk result (λ done. struck (unfolded store.new.lists done.list.index) ≡
         shown_in_text (name_texts sec_names.now uses.now) text.now span mode) }
     ensures mode { IfOk result (λ done. ReadsInText (unfolded store.new.lists done.list.index)) }

@@ -54,7 +54,7 @@ translate_with_head-requires g c =
 pub returns-in-None : goal.returns-in-None
 returns-in-None g c = record {
   read = on_ok_weaker _ (read-up-behind _ _ _ c.next_answer-first.ensures.all) c.translate_with_head.ensures.read;
-  text = text-as _ _ _ _ _ _ (ahead-of c.args.reader.now.coming c.next_answer-first.new.reader.coming c.next_answer-first.result
-      c.next_answer-first.ensures.gives c.requires.nested c.requires.start).same
+  text = text-as _ _ _ _ _ _ (ahead-of c.args.reader.now.coming c.next_answer-first.new.reader.coming
+      c.next_answer-first.result c.next_answer-first.ensures.gives c.requires.nested c.requires.start).same
       c.translate_with_head.ensures.text;
 }
