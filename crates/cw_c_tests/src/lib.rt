@@ -1,7 +1,9 @@
 //! Tests of C texts: the scanner's tokens, texts and notes, names, the table, the store of tokens, scraps, productions
-//! and translations.
+//! with their logs, and translations.
 #![tactic(auto)]
 
+#[cfg(test)]
+mod check_tests;
 #[cfg(test)]
 mod kept_tests;
 pub mod kinds;
