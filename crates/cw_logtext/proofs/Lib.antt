@@ -11,3 +11,5 @@ pub mod LineKinds
 pub mod CatNames
 pub mod DigitLaws
 pub mod AppendLaws
+pub mod Rows
+pub mod Written

@@ -27,7 +27,14 @@ InsideIsFault = (lines : List (List ℕ)) (to_come : ℕ) → Reads Outside line
 abbrev pub TextHasLines : Type 0
 TextHasLines = (blocks : List Block) → All IsFineBlock blocks → pieces_of (log_text blocks) ≡ log_lines blocks
 
--- Only these blocks have these lines.
+abbrev pub TextIsLog : Type 0
+TextIsLog = (blocks : List Block) → All IsFineBlock blocks → IsLog (pieces_of (log_text blocks))
+
+-- Only these blocks have these lines, and this text.
 abbrev pub BlocksAreTold : Type 0
 BlocksAreTold = (blocks others : List Block) → All IsFineBlock blocks → All IsFineBlock others
     → log_lines blocks ≡ log_lines others → blocks ≡ others
+
+abbrev pub TextTellsBlocks : Type 0
+TextTellsBlocks = (blocks others : List Block) → All IsFineBlock blocks → All IsFineBlock others
+    → log_text blocks ≡ log_text others → blocks ≡ others

@@ -2,6 +2,7 @@
 use Rattle.cw_logtext.proofs.StepLaws.{read-is-log, log-is-read, stuck-is-fault, inside-is-fault}
 use Rattle.cw_logtext.proofs.Cutting.{text-has-lines}
 use Rattle.cw_logtext.proofs.Telling.{blocks-are-told}
+use Rattle.cw_logtext.proofs.Written.{text-is-log, text-tells-blocks}
 use Rattle.cw_logtext.proofs.laws.log_laws.Goals as goal
 
 pub returns-clause-read : goal.returns-clause-read
@@ -21,3 +22,9 @@ returns-clause-lines c = text-has-lines
 
 pub returns-clause-told : goal.returns-clause-told
 returns-clause-told c = blocks-are-told
+
+pub returns-clause-text : goal.returns-clause-text
+returns-clause-text c = text-is-log
+
+pub returns-clause-alone : goal.returns-clause-alone
+returns-clause-alone c = text-tells-blocks

@@ -1,0 +1,14 @@
+-- What is written of blocks is a log of just these.
+use Rattle.std.proofs.Common.{◌≡◌, sym, ◌∙◌, ap}
+use Rattle.cw_base.specs.Text.{pieces_of}
+use Rattle.cw_logtext.specs.LogLaws.{TextIsLog, TextTellsBlocks}
+use Rattle.cw_logtext.proofs.Cutting.{text-has-lines}
+use Rattle.cw_logtext.proofs.Telling.{blocks-are-told}
+
+pub text-is-log : TextIsLog
+text-is-log blocks fine = record { blocks = blocks; fine = fine; is = text-has-lines blocks fine }
+
+pub text-tells-blocks : TextTellsBlocks
+text-tells-blocks blocks others fine good is =
+    blocks-are-told blocks others fine good
+    (sym (text-has-lines blocks fine) ∙ (ap pieces_of is ∙ text-has-lines others good))
