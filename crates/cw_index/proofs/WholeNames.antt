@@ -124,7 +124,7 @@ sorted-whole text (x ∷ xs) stands all more =
 pub names-whole : NamesAreWhole
 names-whole lines =
     let text = text_of lines in
-    let kept = (book lines).section_names in
+    let kept = (book lines).sec_names in
     let uses = (book lines).name_uses in
     let begin : NamesBegin text uses =
     uses-begin text at_limbo [] (answers_of lines) (text-names text 0 modes.Limbo) in

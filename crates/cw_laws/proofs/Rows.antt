@@ -26,7 +26,7 @@ web =
     ∷ line (codes "@  Two. @<Read@>= y;") 5 ∷ []
 
 abbrev pieces : List Span
-pieces = book_pieces (book web).limbo (book web).sections
+pieces = book_pieces (book web).outline.limbo (book web).outline.sections
 
 the_pieces : pieces
     ≡ span 0 7 ∷ span 7 12 ∷ span 12 17 ∷ span 17 24 ∷ span 24 30 ∷ span 30 33 ∷ span 33 38 ∷ span 38 38 ∷ span 38 51

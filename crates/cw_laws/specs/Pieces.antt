@@ -87,4 +87,5 @@ pub record IsAllOf (text : List ℕ) (limbo : Span) (sections : List Section) : 
 
 -- So it is with the book of every web.
 abbrev pub BooksAreWhole : Type 0
-BooksAreWhole = (lines : List MergedLine) → IsAllOf (text_of lines) (book lines).limbo (book lines).sections
+BooksAreWhole =
+    (lines : List MergedLine) → IsAllOf (text_of lines) (book lines).outline.limbo (book lines).outline.sections

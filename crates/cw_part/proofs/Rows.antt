@@ -5,7 +5,8 @@ use Rattle.cw_base.specs.Flags.{start_flags}
 use Rattle.cw_base.specs.Web.{MergedLine, text_of}
 use Rattle.cw_part.specs.Footnotes.{footnote, name_footnotes}
 use Rattle.cw_part.specs.Sections.{sections_done}
-use Rattle.cw_phase1.specs.Book.{BookState, book}
+use Rattle.cw_phase1.specs.Book.{book}
+use Rattle.cw_phase1.specs.declared.book.Book.{Book}
 use Rattle.cw_translator.specs.Translating.{translated}
 use Rattle.cw_secnames.specs.Kept.{SecName}
 use Rattle.cw_secnames.specs.declared.kinds.SecKind.TheVariants.{Named}
@@ -13,7 +14,7 @@ use Rattle.cw_table.specs.Normal.{count, log, normal}
 use Rattle.cw_table.specs.NormalWalk.{positions}
 use Rattle.cw_table.specs.Productions.{productions}
 use Rattle.cw_table.specs.WalkCounts.{looks}
-use Rattle.cw_texpart.specs.Texts.{Setting}
+use Rattle.cw_texpart.specs.Texts.{setting}
 
 abbrev line : Bool → List ℕ → MergedLine
 line changed text = record { text = text; place = record { file = 0; line = 1 }; changed = changed }
@@ -22,20 +23,8 @@ abbrev web : List (List ℕ) → List MergedLine
 web [] = []
 web (text ∷ texts) = line false text ∷ web texts
 
-abbrev setting : List MergedLine → BookState → Setting
-setting lines b = record {
-  text = text_of lines;
-  flags = start_flags;
-  book = record {
-    outline = record { limbo = b.limbo; sections = b.sections; notes = b.notes };
-    sec_names = b.section_names;
-    name_uses = b.name_uses;
-  };
-  section = 0;
-}
-
-abbrev woven_from : List MergedLine → BookState → List ℕ
-woven_from lines b = (sections_done (setting lines b) 1 b.sections b.names).out
+abbrev woven_from : List MergedLine → Book → List ℕ
+woven_from lines b = (sections_done (setting (text_of lines) start_flags 0 b) 1 b.outline.sections b.names).out
 
 -- the sections of a web
 abbrev woven : List MergedLine → List ℕ

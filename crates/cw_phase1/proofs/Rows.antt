@@ -23,7 +23,8 @@ use Rattle.cw_phase1.specs.declared.sections.Depth.{Depth}
 use Rattle.cw_phase1.specs.declared.sections.Depth.TheVariants.{Zero}
 use Rattle.cw_phase1.specs.declared.sections.Section.{Section}
 use Rattle.cw_phase1.specs.Sections.{span}
-use Rattle.cw_phase1.specs.Book.{BookState, book}
+use Rattle.cw_phase1.specs.Book.{book}
+use Rattle.cw_phase1.specs.declared.book.Book.{Book}
 
 abbrev lines_from : ℕ → List (List ℕ) → List MergedLine
 lines_from n [] = []
@@ -73,15 +74,15 @@ record Shown : Type 0 where
   name_uses : List NameUse
   notes : List Note
 
-abbrev shown_book : BookState → Shown
+abbrev shown_book : Book → Shown
 shown_book b = record {
-  limbo = b.limbo;
-  sections = b.sections;
+  limbo = b.outline.limbo;
+  sections = b.outline.sections;
   names = drop (length built_in_words) b.names;
-  occurrences = b.occurrences;
-  section_names = b.section_names;
+  occurrences = b.xrefs;
+  section_names = b.sec_names;
   name_uses = b.name_uses;
-  notes = b.notes;
+  notes = b.outline.notes;
 }
 
 abbrev shown : List MergedLine → Shown
@@ -206,7 +207,7 @@ an_ignored_name_at_the_head : shown (web ((codes "@ @<") ∷ (codes "...@>=x;") 
 }
 an_ignored_name_at_the_head = refl
 
-an_underline_waits : (book (web ((codes "@ @!@<Read@>") ∷ (codes "@ @c x;x;") ∷ []))).occurrences
+an_underline_waits : (book (web ((codes "@ @!@<Read@>") ∷ (codes "@ @c x;x;") ∷ []))).xrefs
     ≡ occ 49 2 true ∷ occ 49 2 false ∷ []
 an_underline_waits = refl
 
@@ -219,7 +220,7 @@ formats_in_order = refl
 -- ## Notes one by one, with their places
 
 abbrev notes_in : List (List ℕ) → List Note
-notes_in texts = (book (web texts)).notes
+notes_in texts = (book (web texts)).outline.notes
 
 a_code_in_a_name : notes_in ((codes "@ @<Read") ∷ (codes "all @^of it@>= x;") ∷ (codes "@ @c @<Read all of it@>;") ∷ [])
     ≡ note notes.CodeInName 0 0 2 ∷ []

@@ -26,4 +26,4 @@ pub record IsWholeSection (text : List ℕ) (s : Section) : Type 0 where
 
 -- So it is in the book of every web.
 abbrev pub SectionsAreWhole : Type 0
-SectionsAreWhole = (lines : List MergedLine) → All (IsWholeSection (text_of lines)) (book lines).sections
+SectionsAreWhole = (lines : List MergedLine) → All (IsWholeSection (text_of lines)) (book lines).outline.sections

@@ -24,13 +24,7 @@ use std::alloc::Global;
 
 /// Reads the scanner's answers for a web once, from the left, and makes its book.
 pub fn phase_one(alloc: Global, web: &Web) -> Result<Book, Memory>
-    ensures names { IfOk result (λ b. b.names ≡ (book web.now.lines).names) }
-    ensures xrefs { IfOk result (λ b. b.xrefs ≡ (book web.now.lines).occurrences) }
-    ensures sec_names { IfOk result (λ b. b.sec_names ≡ (book web.now.lines).section_names) }
-    ensures name_uses { IfOk result (λ b. b.name_uses ≡ (book web.now.lines).name_uses) }
-    ensures limbo { IfOk result (λ b. b.outline.limbo ≡ (book web.now.lines).limbo) }
-    ensures sections { IfOk result (λ b. b.outline.sections ≡ (book web.now.lines).sections) }
-    ensures notes { IfOk result (λ b. b.outline.notes ≡ (book web.now.lines).notes) }
+    ensures book { IfOk result (λ b. b ≡ book web.now.lines) }
     ensures references { IfOk result (λ b. All (RefersUpTo (length b.outline.sections)) b.sec_names) }
     ensures texts { IfOk result (λ b. All (λ n. length n.text ≤ length (text_of web.now.lines)) b.sec_names) }
     ensures use_ids { IfOk result (λ b. All (λ u. u.name < length b.sec_names) b.name_uses) }

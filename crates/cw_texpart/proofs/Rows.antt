@@ -4,7 +4,8 @@ use Rattle.std.specs.Fmt.{digits}
 use Rattle.cw_base.specs.Flags.{start_flags}
 use Rattle.cw_base.specs.Web.{MergedLine, text_of}
 use Rattle.cw_names.specs.Names.{Entry}
-use Rattle.cw_phase1.specs.Book.{BookState, book}
+use Rattle.cw_phase1.specs.Book.{book}
+use Rattle.cw_phase1.specs.declared.book.Book.{Book}
 use Rattle.cw_phase1.specs.declared.sections.Section.{Section}
 use Rattle.cw_translator.specs.Translating.{translated}
 use Rattle.cw_table.specs.Normal.{count, log, normal}
@@ -13,7 +14,7 @@ use Rattle.cw_table.specs.Productions.{productions}
 use Rattle.cw_table.specs.WalkCounts.{looks}
 use Rattle.cw_texpart.specs.Limbo.{limbo_bytes}
 use Rattle.cw_texpart.specs.TexParts.{tex_done}
-use Rattle.cw_texpart.specs.Texts.{Setting}
+use Rattle.cw_texpart.specs.Texts.{Setting, setting}
 
 abbrev line : Bool → List ℕ → MergedLine
 line changed text = record { text = text; place = record { file = 0; line = 1 }; changed = changed }
@@ -22,30 +23,18 @@ abbrev web : List (List ℕ) → List MergedLine
 web [] = []
 web (text ∷ texts) = line false text ∷ web texts
 
-abbrev setting : List MergedLine → BookState → Setting
-setting lines b = record {
-  text = text_of lines;
-  flags = start_flags;
-  book = record {
-    outline = record { limbo = b.limbo; sections = b.sections; notes = b.notes };
-    sec_names = b.section_names;
-    name_uses = b.name_uses;
-  };
-  section = 1;
-}
-
 abbrev first_tex : Setting → List Section → List Entry → List ℕ
 first_tex s [] names = []
 first_tex s (section ∷ sections) names = (tex_done s section names).out
 
-abbrev tex_from : List MergedLine → BookState → List ℕ
-tex_from lines b = first_tex (setting lines b) b.sections b.names
+abbrev tex_from : List MergedLine → Book → List ℕ
+tex_from lines b = first_tex (setting (text_of lines) start_flags 1 b) b.outline.sections b.names
 
 abbrev tex : List MergedLine → List ℕ
 tex lines = tex_from lines (book lines)
 
 abbrev limbo : List MergedLine → List ℕ
-limbo lines = limbo_bytes (text_of lines) (book lines).limbo
+limbo lines = limbo_bytes (text_of lines) (book lines).outline.limbo
 
 -- ## Limbo
 

@@ -12,7 +12,6 @@ ghost use Rattle.cw_weave.specs.Looks.{book_looks, command_looks, looks_of, web_
 ghost use Rattle.cw_run.specs.Notes.{note_events};
 ghost use Rattle.cw_weave.specs.Pressing.{IsPrintable, flags_in, text_in};
 ghost use Rattle.cw_weave.specs.Proper.{IsProper};
-ghost use Rattle.cw_weave.specs.TexFile.{handed};
 ghost use Rattle.cw_weave.specs.Woven.{change_text, weave_book, weave_command_of, weave_web, woven};
 ghost use Rattle.cw_weave.specs.Written.{AreWritten, events_of};
 
@@ -95,10 +94,10 @@ fn weave_web<D: Desk, L: Ledger>(
     steps: &mut Steps<L>,
 ) -> Result<Exit, PutError>
     ensures runs { RunsBy
-        (weave_book source.entry.line.now source.entry.web.now (handed (book source.entry.web.now.lines)))
+        (weave_book source.entry.line.now source.entry.web.now (book source.entry.web.now.lines))
         (D.told desk.old) (D.told desk.new) result }
     ensures bound { steps.new ≤ steps.old
-        + book_looks (text_in source.entry) (flags_in source.entry) (handed (book source.entry.web.now.lines)) }
+        + book_looks (text_in source.entry) (flags_in source.entry) (book source.entry.web.now.lines) }
     ensures real { IfOk result (λ exit. exit ≢ Exit.Fault) }
 {
     let mut book = read_book(source.alloc, source.web)?;

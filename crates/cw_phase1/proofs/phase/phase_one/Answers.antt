@@ -7,7 +7,7 @@ use Rattle.cw_secnames.specs.Kept.{SecName}
 use Rattle.cw_secnames.specs.References.{Reference}
 use Rattle.cw_secnames.specs.Uses.{NameUse}
 use Rattle.cw_phase1.specs.declared.sections.Section.{Section}
-use Rattle.cw_phase1.specs.Book.{answers_of}
+use Rattle.cw_phase1.specs.Book.{answers_of, book}
 use Rattle.cw_phase1.specs.Notes.{name_notes}
 use Rattle.cw_phase1.specs.Entering.{kept_after}
 use Rattle.cw_phase1.specs.Roles.{Placed, at_limbo, placed}
@@ -27,13 +27,13 @@ use Rattle.cw_phase1.proofs.SpanLaws.{Follow, follows, all-lie, all-named, limbo
 use Rattle.cw_phase1.proofs.NameSizes.{all-short}
 use Rattle.cw_phase1.proofs.phase.phase_one.Goals as goal
 
-pub returns-clause-names : goal.returns-clause-names
-returns-clause-names c =
+names-are : (c : goal.In_ok-book) → c.in_ok-book.book.names ≡ (book c.args.web.now.lines).names
+names-are c =
     c.in_ok-book.ensures.names ∙ (ap (λ (t : Told). t.words.names) c.in_ok-held.ensures.told
     ∙ all-names c.args.web.now.lines (placed (answers_of c.args.web.now.lines)))
 
-pub returns-clause-xrefs : goal.returns-clause-xrefs
-returns-clause-xrefs c =
+xrefs-are : (c : goal.In_ok-book) → c.in_ok-book.book.xrefs ≡ (book c.args.web.now.lines).xrefs
+xrefs-are c =
     c.in_ok-book.ensures.xrefs ∙ (ap (λ (t : Told). t.words.xrefs) c.in_ok-held.ensures.told
     ∙ all-occurrences c.args.web.now.lines (placed (answers_of c.args.web.now.lines)))
 
@@ -45,32 +45,42 @@ kept c =
     (c.in_ok-held.ensures.kept i)) ∙
     all-referred (references_of (placed (answers_of c.args.web.now.lines))) (answers_of c.args.web.now.lines)
 
-pub returns-clause-sec_names : goal.returns-clause-sec_names
-returns-clause-sec_names c = c.in_ok-book.ensures.sec_names ∙ kept c
+sec_names-are : (c : goal.In_ok-book) → c.in_ok-book.book.sec_names ≡ (book c.args.web.now.lines).sec_names
+sec_names-are c = c.in_ok-book.ensures.sec_names ∙ kept c
 
-pub returns-clause-name_uses : goal.returns-clause-name_uses
-returns-clause-name_uses c =
+name_uses-are : (c : goal.In_ok-book) → c.in_ok-book.book.name_uses ≡ (book c.args.web.now.lines).name_uses
+name_uses-are c =
     c.in_ok-book.ensures.name_uses ∙ (ap (λ (t : Told). t.named.uses) c.in_ok-held.ensures.told
     ∙ all-uses c.args.web.now.lines (placed (answers_of c.args.web.now.lines)))
 
-pub returns-clause-limbo : goal.returns-clause-limbo
-returns-clause-limbo c =
+limbo-is : (c : goal.In_ok-book) → c.in_ok-book.book.outline.limbo ≡ (book c.args.web.now.lines).outline.limbo
+limbo-is c =
     c.in_ok-book.ensures.limbo
     ∙ (ap (λ (t : Told). span 0 (unwrap_or t.sections.limbo_end (length (text_of c.args.web.now.lines))))
     c.in_ok-held.ensures.told ∙
     ap (span 0) (all-limbo c.args.web.now.lines (length (text_of c.args.web.now.lines))
     (placed (answers_of c.args.web.now.lines))))
 
-pub returns-clause-sections : goal.returns-clause-sections
-returns-clause-sections c =
+sections-are : (c : goal.In_ok-book)
+    → c.in_ok-book.book.outline.sections ≡ (book c.args.web.now.lines).outline.sections
+sections-are c =
     c.in_ok-book.ensures.sections
     ∙ (ap (λ (t : Told). closing c.args.web.now.lines (length (text_of c.args.web.now.lines)) t.sections)
     c.in_ok-held.ensures.told ∙
     all-sections c.args.web.now.lines (length (text_of c.args.web.now.lines))
     (placed (answers_of c.args.web.now.lines)))
 
-pub returns-clause-notes : goal.returns-clause-notes
-returns-clause-notes c = c.in_ok-book.ensures.notes ∙ (λ i. c.in_ok-held.ensures.notes i ++ name_notes (kept c i))
+notes-are : (c : goal.In_ok-book) → c.in_ok-book.book.outline.notes ≡ (book c.args.web.now.lines).outline.notes
+notes-are c = c.in_ok-book.ensures.notes ∙ (λ i. c.in_ok-held.ensures.notes i ++ name_notes (kept c i))
+
+pub returns-clause-book : goal.returns-clause-book
+returns-clause-book c = (λ i. record {
+  names = names-are c i;
+  xrefs = xrefs-are c i;
+  sec_names = sec_names-are c i;
+  name_uses = name_uses-are c i;
+  outline = record { limbo = limbo-is c i; sections = sections-are c i; notes = notes-are c i };
+})
 
 -- ## What holds of every book
 
@@ -84,9 +94,9 @@ follow c = follows (text_of c.args.web.now.lines) 0 (length (text_of c.args.web.
 pub returns-clause-references : goal.returns-clause-references
 returns-clause-references c =
     subst (λ (sections : List Section). All (RefersUpTo (length sections)) c.in_ok-book.book.sec_names)
-    (sym (returns-clause-sections c))
+    (sym (sections-are c))
     (subst (All (RefersUpTo (length (sections_of c.args.web.now.lines (length (text_of c.args.web.now.lines))
-    (tokens c))))) (sym (returns-clause-sec_names c))
+    (tokens c))))) (sym (sec_names-are c))
     (all-refer c.args.web.now.lines (length (text_of c.args.web.now.lines))
     (kept_after [] (answers_of c.args.web.now.lines)) (tokens c)
     (all-rise c.args.web.now.lines (length (text_of c.args.web.now.lines)) (tokens c)
@@ -105,15 +115,15 @@ pub returns-clause-use_ids : goal.returns-clause-use_ids
 returns-clause-use_ids c =
     subst (λ n. All (λ (u : NameUse). u.name < n) c.in_ok-book.book.name_uses) (sym c.in_ok-book.ensures.count)
     (subst (λ (us : List NameUse). All (λ (u : NameUse). u.name < length c.in_ok-held.held.kept) us)
-    (sym (returns-clause-name_uses c)) (uses c))
+    (sym (name_uses-are c)) (uses c))
 
 pub returns-clause-section_names : goal.returns-clause-section_names
 returns-clause-section_names c =
     subst (λ (sections : List Section). All (IsNamedBy c.in_ok-book.book.name_uses) sections)
-    (sym (returns-clause-sections c))
+    (sym (sections-are c))
     (subst (λ (us : List NameUse). All (IsNamedBy us)
     (sections_of c.args.web.now.lines (length (text_of c.args.web.now.lines)) (tokens c)))
-    (sym (returns-clause-name_uses c))
+    (sym (name_uses-are c))
     (all-named c.args.web.now.lines [] 0 (length (text_of c.args.web.now.lines)) (tokens c)
     (All-nil (λ (u : NameUse). u.place < 0)) (follow c)
     (fits at_limbo [] (answers_of c.args.web.now.lines))))
@@ -126,17 +136,17 @@ returns-clause-section_ids c =
 pub returns-clause-spans : goal.returns-clause-spans
 returns-clause-spans c =
     subst (λ (sections : List Section). All (LiesIn (length (text_of c.args.web.now.lines))) sections)
-    (sym (returns-clause-sections c))
+    (sym (sections-are c))
     (all-lie c.args.web.now.lines 0 (length (text_of c.args.web.now.lines)) (tokens c) (follow c))
 
 pub returns-clause-limbo_span : goal.returns-clause-limbo_span
 returns-clause-limbo_span c =
-    subst (λ (limbo : Span). limbo.«end» ≤ length (text_of c.args.web.now.lines)) (sym (returns-clause-limbo c))
+    subst (λ (limbo : Span). limbo.«end» ≤ length (text_of c.args.web.now.lines)) (sym (limbo-is c))
     (limbo-lies 0 (length (text_of c.args.web.now.lines)) (tokens c) (follow c))
 
 pub returns-clause-texts : goal.returns-clause-texts
 returns-clause-texts c =
     subst (λ (names : List SecName). All (λ (n : SecName). length n.text ≤ length (text_of c.args.web.now.lines)) names)
-    (sym (returns-clause-sec_names c))
+    (sym (sec_names-are c))
     (all-short (text_of c.args.web.now.lines) (answers_of c.args.web.now.lines) (references_of (tokens c))
     c.in_ok-held.ensures.covers)
