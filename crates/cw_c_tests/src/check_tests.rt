@@ -6,7 +6,7 @@ use crate::slow_tests::bench_of_words;
 use crate::worked_lines::add_all;
 use cw_base::{Flags, Memory};
 use cw_check::{Verdict, check_line};
-use cw_rewrite::LogItem;
+use cw_leaves::LogItem;
 use cw_table::RowNo;
 use std::alloc::Global;
 use std::test::Fail;

@@ -6,7 +6,7 @@ use Rattle.cw_table.specs.Normal.{Production, log as log_of, normal, steps}
 use Rattle.cw_table.specs.Productions.{productions}
 use Rattle.cw_table.specs.Reaching.{IsAfter}
 use Rattle.cw_table.specs.Rewriting.{State}
-use Rattle.cw_rewrite.specs.declared.watch.LogItem.{LogItem}
+use Rattle.cw_leaves.specs.declared.lines.LogItem.{LogItem}
 use Rattle.cw_check.specs.declared.checking.Verdict.{Verdict}
 use Rattle.cw_check.specs.declared.checking.Verdict.TheVariants.{Accepted, Rejected}
 

@@ -4,7 +4,8 @@ ghost use Rattle.cw_check.specs.Judging.{item_of, refused_by, verdict_of};
 
 use crate::checking::Verdict;
 use cw_base::Memory;
-use cw_rewrite::{LogItem, Watch};
+use cw_leaves::LogItem;
+use cw_rewrite::Watch;
 use cw_table::RowNo;
 use std::marker::Model;
 

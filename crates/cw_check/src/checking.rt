@@ -14,8 +14,9 @@ ghost use Rattle.cw_check.specs.Judging.{Judges, StandsAt, StopsWithin, item_of}
 
 use crate::against::Against;
 use cw_base::{Flags, Ledger, Memory, Steps};
+use cw_leaves::LogItem;
 use cw_names::Names;
-use cw_rewrite::{LogItem, reduce_watched};
+use cw_rewrite::reduce_watched;
 use cw_scraps::{Marks, ScrapLine};
 use cw_tokens::TokenStore;
 

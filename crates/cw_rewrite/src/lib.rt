@@ -7,4 +7,4 @@ mod watch;
 
 pub use gathering::{put_alone, put_together};
 pub use walk::{Reduced, reduce, reduce_watched};
-pub use watch::{LogItem, Unwatched, Watch};
+pub use watch::{Unwatched, Watch};

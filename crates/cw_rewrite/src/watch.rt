@@ -6,15 +6,6 @@ ghost use Rattle.cw_rewrite.specs.Telling.{grown_by};
 use cw_base::Memory;
 use cw_table::RowNo;
 
-/// A production of a log: its row, and the place at which it is done.
-#[derive(Clone, Copy, Debug, PartialEq, Eq)]
-pub struct LogItem {
-    /// The row.
-    pub row: RowNo,
-    /// The place.
-    pub place: u32,
-}
-
 /// Who is told of each production before it is done, and may stop the reducer there. Contracts see which productions it
 /// has heard of, where it tells them, and which it refuses.
 pub trait Watch: Drop {
