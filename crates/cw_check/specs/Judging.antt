@@ -6,12 +6,8 @@ use Rattle.cw_table.specs.Normal.{Production, log as log_of, normal, steps}
 use Rattle.cw_table.specs.Productions.{productions}
 use Rattle.cw_table.specs.Reaching.{IsAfter}
 use Rattle.cw_table.specs.Rewriting.{State}
-use Rattle.cw_leaves.specs.declared.lines.LogItem.{LogItem}
 use Rattle.cw_check.specs.declared.checking.Verdict.{Verdict}
 use Rattle.cw_check.specs.declared.checking.Verdict.TheVariants.{Accepted, Rejected}
-
-abbrev pub item_of : LogItem → Production
-item_of item = record { number = item.row.number; place = item.place }
 
 abbrev pub same_item : Production → Production → Bool
 same_item p q = eqb p.number q.number && eqb p.place q.place

@@ -1,6 +1,7 @@
 //! Productions that are compared with a log, one after another.
 ghost use Rattle.std.specs.Prelude.{◌≡◌, ◌≤◌, Some, length, map, not, take};
-ghost use Rattle.cw_check.specs.Judging.{item_of, refused_by, verdict_of};
+ghost use Rattle.cw_leaves.specs.Spelling.{production_of};
+ghost use Rattle.cw_check.specs.Judging.{refused_by, verdict_of};
 
 use crate::checking::Verdict;
 use cw_base::Memory;
@@ -18,11 +19,12 @@ pub(crate) struct Against<'a> {
 
 impl<'a> Model for Against<'a> {
     ghost use Rattle.std.specs.Prelude.{length, map, ◌≤◌};
-    ghost use Rattle.cw_check.specs.Judging.{Compared, item_of};
+    ghost use Rattle.cw_leaves.specs.Spelling.{production_of};
+    ghost use Rattle.cw_check.specs.Judging.{Compared};
 
     ghost Value = { Compared };
 
-    ghost view = { λ a. record { log = map item_of a.log.now; at = a.at } };
+    ghost view = { λ a. record { log = map production_of a.log.now; at = a.at } };
 
     ghost invariant = { λ a. a.at ≤ length a.log.now };
 }
@@ -30,7 +32,7 @@ impl<'a> Model for Against<'a> {
 impl<'a> Against<'a> {
     /// None was done.
     pub(crate) fn over(log: &'a [LogItem]) -> Against<'a>
-        ensures { result ≡ record { log = map item_of log.now; at = 0 } }
+        ensures { result ≡ record { log = map production_of log.now; at = 0 } }
     {
         Against { log, at: 0 }
     }

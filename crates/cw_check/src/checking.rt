@@ -10,7 +10,8 @@ ghost use Rattle.cw_scraps.specs.Changing.{Keeps};
 ghost use Rattle.cw_scraps.specs.Lines.{IsSoundLine, roots_of, scraps_of};
 ghost use Rattle.cw_rewrite.specs.Reduction.{GrowsByProductions};
 ghost use Rattle.cw_names.specs.Words.{words_of};
-ghost use Rattle.cw_check.specs.Judging.{Judges, StandsAt, StopsWithin, item_of};
+ghost use Rattle.cw_leaves.specs.Spelling.{production_of};
+ghost use Rattle.cw_check.specs.Judging.{Judges, StandsAt, StopsWithin};
 
 use crate::against::Against;
 use cw_base::{Flags, Ledger, Memory, Steps};
@@ -42,12 +43,12 @@ pub fn check_line<L: Ledger>(
     steps: &mut Steps<L>,
 ) -> Result<Verdict, Memory>
     requires sound { IsSoundLine store.old names.old line.old }
-    ensures judges { IfOk result (λ v. Judges (map item_of log.now)
+    ensures judges { IfOk result (λ v. Judges (map production_of log.now)
         (log_of productions flags.now (state_of store.old.lists line.old marks.old names.old)) v) }
     ensures stands { IfOk result (λ v. StandsAt flags.now (state_of store.old.lists line.old marks.old names.old)
         (state_of store.new.lists line.new marks.new names.new) v) }
     ensures memory { OnErr result (StopsWithin flags.now (state_of store.old.lists line.old marks.old names.old)
-        (state_of store.new.lists line.new marks.new names.new) (map item_of log.now)) }
+        (state_of store.new.lists line.new marks.new names.new) (map production_of log.now)) }
     ensures after { IsAfter productions flags.now (state_of store.old.lists line.old marks.old names.old)
         (state_of store.new.lists line.new marks.new names.new) }
     ensures words { words_of names.new ≡ words_of names.old }

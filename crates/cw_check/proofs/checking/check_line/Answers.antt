@@ -2,7 +2,8 @@
 use Rattle.std.proofs.Common.{ap, map, ◌∙◌}
 use Rattle.cw_scraps.specs.Applying.{state_of}
 use Rattle.cw_rewrite.proofs.LogSteps.{on-err}
-use Rattle.cw_check.specs.Judging.{Compared, item_of, verdict_of}
+use Rattle.cw_leaves.specs.Spelling.{production_of}
+use Rattle.cw_check.specs.Judging.{Compared, verdict_of}
 use Rattle.cw_check.proofs.Prefixes.{ended-within, found, settled}
 use Rattle.cw_check.proofs.checking.check_line.Goals as goal
 
@@ -10,7 +11,7 @@ pub returns-clause-judges : goal.returns-clause-judges
 returns-clause-judges g c =
     let f = settled c.args.flags.now (state_of c.args.store.now.lists c.args.line.now c.args.marks.now c.args.names.now)
     (state_of c.reduce_watched.new.store.lists c.reduce_watched.new.line c.reduce_watched.new.marks
-    c.reduce_watched.new.names) c.reduce_watched.new.watch.log (map item_of c.args.log.now) c.verdict.result _
+    c.reduce_watched.new.names) c.reduce_watched.new.watch.log (map production_of c.args.log.now) c.verdict.result _
     (found c.args.flags.now (state_of c.args.store.now.lists c.args.line.now c.args.marks.now c.args.names.now)
     (state_of c.reduce_watched.new.store.lists c.reduce_watched.new.line c.reduce_watched.new.marks
     c.reduce_watched.new.names) c.reduce_watched.new.watch.log c.reduce_watched.new.watch.at c.verdict.ensures.within
@@ -24,7 +25,7 @@ pub returns-clause-stands : goal.returns-clause-stands
 returns-clause-stands g c =
     let f = settled c.args.flags.now (state_of c.args.store.now.lists c.args.line.now c.args.marks.now c.args.names.now)
     (state_of c.reduce_watched.new.store.lists c.reduce_watched.new.line c.reduce_watched.new.marks
-    c.reduce_watched.new.names) c.reduce_watched.new.watch.log (map item_of c.args.log.now) c.verdict.result _
+    c.reduce_watched.new.names) c.reduce_watched.new.watch.log (map production_of c.args.log.now) c.verdict.result _
     (found c.args.flags.now (state_of c.args.store.now.lists c.args.line.now c.args.marks.now c.args.names.now)
     (state_of c.reduce_watched.new.store.lists c.reduce_watched.new.line c.reduce_watched.new.marks
     c.reduce_watched.new.names) c.reduce_watched.new.watch.log c.reduce_watched.new.watch.at c.verdict.ensures.within
@@ -40,7 +41,7 @@ returns-in_err-reduced-clause-memory g c =
     on-err c.from_residual.result _ (ended-within c.args.flags.now
     (state_of c.args.store.now.lists c.args.line.now c.args.marks.now c.args.names.now)
     (state_of c.reduce_watched.new.store.lists c.reduce_watched.new.line c.reduce_watched.new.marks
-    c.reduce_watched.new.names) c.reduce_watched.new.watch.log (map item_of c.args.log.now)
+    c.reduce_watched.new.names) c.reduce_watched.new.watch.log (map production_of c.args.log.now)
     c.reduce_watched.new.watch.at c.reduce_watched.ensures.after
     (rw c.over-against.ensures at c.in_err-reduced.ensures.memory)
     (c.reduce_watched.ensures.basis ∙ ap (λ (x : Compared). x.log) c.over-against.ensures))
