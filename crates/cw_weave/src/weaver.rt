@@ -1,8 +1,15 @@
-//! The weaver as a program.
+//! The weaver as a program, and its run over real files.
+ghost use Rattle.std.specs.Prelude.{◌≡◌, []};
+ghost use Rattle.std.specs.FinMap.{get};
+ghost use Rattle.cw_desk.specs.Answer.{Agree};
+ghost use Rattle.cw_desk.specs.Meaning.{Files, Rose};
+ghost use Rattle.cw_program.specs.Program.{Outcome, words_of};
+ghost use Rattle.cw_weave.specs.Woven.{woven};
+
 use crate::weave::weave_command;
 use cw_base::{Exit, Silent, Steps, Words};
-use cw_desk::Desk;
-use cw_program::Program;
+use cw_desk::{Desk, FileDesk};
+use cw_program::{Program, run_program};
 use std::alloc::Global;
 
 /// The program that weaves a web: what it does is the woven book of its words and the files.
@@ -18,4 +25,14 @@ impl Program for Weaver {
         let mut steps = Steps::<Silent>::new();
         weave_command(alloc, words, desk, &mut steps)
     }
+}
+
+/// Weaves over real files. Over all files that would have given the answers that the system gave, just what the words
+/// ask for was handed to the system, and the status is theirs; or a first part of it, with status Fault or Memory.
+pub fn weave_files(rt: HostRuntime, alloc: Global, line: &Words) -> (Exit, FileDesk)
+    ensures woven { (files : Files) → Agree result.1.heard files →
+        Outcome (woven (words_of line.now) (get files)) [] result.1.journal result.0 }
+    ensures fault { result.0 ≡ Exit.Fault → Rose 0 result.1.faults }
+{
+    run_program(alloc, &Weaver, line, FileDesk::new_in(rt, alloc))
 }
