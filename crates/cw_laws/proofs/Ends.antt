@@ -31,7 +31,8 @@ use Rattle.cw_rules.specs.declared.tokens.TokKind.TheVariants as kinds
 use Rattle.cw_rules.specs.Answers.{Answer, Where, Cut, Found, before, note_answers}
 use Rattle.cw_rules.specs.Answers.{plain}
 use Rattle.cw_rules.specs.Bodies.{note_unless, one_note, noted, ended, extent}
-use Rattle.cw_rules.specs.Bytes.{newline, quote, apostrophe, slash, star, at_sign, bar, hash, less, backslash, comma}
+use Rattle.cw_base.specs.Text.{bar}
+use Rattle.cw_rules.specs.Bytes.{newline, quote, apostrophe, slash, star, at_sign, hash, less, backslash, comma}
 use Rattle.cw_rules.specs.Bytes.{equals, right_paren, left_paren, run, begins, is_letter, is_in}
 use Rattle.cw_rules.specs.Codes.{code_at, begins_section, effect_in_limbo, effect_in_tex, effect_in_c}
 use Rattle.cw_rules.specs.Codes.{effect_in_definition, effect_at_begin, has_control_text}
@@ -52,7 +53,7 @@ use Rattle.cw_lex.specs.Lexing.{still_fresh, answers, fresh_at, last_at, beginni
 use Rattle.cw_laws.specs.Ends.{begins_section_code, IsNoted, is_comment, IsPieceIn, EndsAt}
 use Rattle.cw_laws.specs.Ends.{GoesToEnd, AllEnd, TextsGoToTheirEnds}
 use Rattle.cw_laws.proofs.Insides.{control-whole, piece-size}
-use Rattle.cw_laws.proofs.SectionCodes.{drop-on}
+use Rattle.cw_lex.proofs.Covering.{drop-on}
 
 -- ## What is open, as the scanner has it
 
