@@ -130,10 +130,11 @@ finish-advances flags token {result = result} step names bound same idle = recor
 }
 
 -- nothing is open
-pub none-step : (flags : Flags) (store : StoredLists) (names : List Entry) (marks : MarkList) (t t' : Translator)
-    (steps : ℕ) → IsTranslating store names t → t.nesting ≡ [] → t'.nesting ≡ [] → Same t t'
+pub none-step : {flags : Flags} {store : StoredLists} {names : List Entry} {marks : MarkList} {t t' : Translator}
+    {steps : ℕ} → IsTranslating store names t → t.nesting ≡ [] → t'.nesting ≡ [] → Same t t'
     → FinishStep flags store store names names marks marks t t' steps steps
-none-step flags store names marks t t' steps is none none' counts =
+none-step {flags = flags} {store = store} {names = names} {marks = marks} {t = t} {t' = t'} {steps = steps} is none
+    none' counts =
     let same : t'.nesting ≡ t.nesting = none' ∙ sym none in
     record {
       steps_are = record {
@@ -172,8 +173,7 @@ module _ {L T : Type 0} (flags : Flags) (token : Seen) {t t' : Translator} {old 
       same idle
 
   pub text-advances : OnOk result (FinishStep flags old.store.now new.store.now old.names.now new.names.now
-      old.marks.now
-      new.marks.now t t' old.steps.now new.steps.now)
+      old.marks.now new.marks.now t t' old.steps.now new.steps.now)
       → Advances (over flags (Finish token ∷ []) (progress_over old t)) t old t' new result
   text-advances step = finish-advances flags token step
       (text-names flags old.store.now old.names.now new.names.now old.marks.now t line outer open_is retyped token)

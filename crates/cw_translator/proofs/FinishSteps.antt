@@ -19,6 +19,7 @@ use Rattle.cw_tokens.specs.Shapes.{unfolded}
 use Rattle.cw_tokens.specs.Stored.{StoredLists}
 use Rattle.cw_tokens.specs.References.{IsTied}
 use Rattle.cw_trees.specs.Joining.{whole, scrap_agrees}
+use Rattle.cw_trees.specs.Tree.{Tree}
 use Rattle.cw_scraps.specs.declared.leaves.Leaf.{Leaf}
 use Rattle.cw_scraps.specs.declared.line.LineEntry.{LineEntry}
 use Rattle.cw_scraps.specs.Applying.{state_of}
@@ -38,7 +39,7 @@ use Rattle.cw_rewrite.specs.Gathering.{Gathers}
 use Rattle.cw_translator.specs.Commenting.{part_seen, inner_lists}
 use Rattle.cw_translator.specs.LinesDone.{LineDone}
 use Rattle.cw_translator.specs.Counting.{limit_in, text_limit}
-use Rattle.cw_translator.specs.Opening.{with_entry, with_part, frame_of, frames_of, open_roots, all_roots, IsNamedItem}
+use Rattle.cw_translator.specs.Opening.{with_entry, with_part, frame_of, frames_of, open_roots, all_roots}
 use Rattle.cw_translator.specs.Opening.{AreSoundScraps, IsSoundFrame, IsTranslating, progress_of, HasCome}
 use Rattle.cw_names.specs.Words.{words_of}
 use Rattle.cw_translator.specs.Retyping.{Retypes, NamesAmong, here, at_finish}
@@ -126,139 +127,6 @@ words-length new old e =
     let s : length (words_of new) ≡ length (words_of old) = ap length e in
     omega (arith, a, b, s)
 
--- a C text ends
-module _ (flags : Flags) (old new : StoredLists) (names names' : List Entry) (marks marks' : MarkList)
-    (t t' : Translator) (line : List LineEntry) (outer : List Open) (list : ListId) (steps steps' : ℕ)
-    (is : IsTranslating old names t) (tied : IsTied old.lists) (open_is : t.nesting ≡ CText line ∷ outer)
-    (ends : Ends old new (roots_of line) list.index)
-    (named : IsNamedBelow (length names') (unfolded new.lists list.index)) (words : words_of names' ≡ words_of names)
-    (made : t'.nesting ≡ with_part (part.InnerText list) outer) where
-  abbrev start : State
-  start = state_of old.lists line marks names
-
-  inner-frames : frames_of new.lists t'.nesting ≡ with_item (InnerText (unfolded new.lists list.index))
-      (frames_of old.lists outer)
-  inner-frames =
-      ap (frames_of new.lists) made
-      ∙ (frames-part new.lists (part.InnerText list) outer
-      ∙ ap (with_item (InnerText (unfolded new.lists list.index))) (ends-frames old new names t (CText line) outer
-      list.index is tied open_is ends))
-
-  now : KeptRoots old.lists new.lists (all_roots t.nesting) (all_roots t'.nesting)
-  now =
-      subst (λ ls. KeptRoots old.lists new.lists (all_roots t.nesting) (all_roots ls)) (sym made)
-      (part-roots old.lists new.lists (all_roots t.nesting) list.index (part.InnerText list) outer refl
-      (ends-kept old new names t (CText line) outer list.index is tied open_is ends))
-
-  pub text-steps : t'.productions ≤ 8 * t'.scraps → Steps old new names names' t t'
-  text-steps light = record {
-    translating = record {
-      idle = ends.idle;
-      roots = now.roots;
-      sound = subst (All (IsSoundFrame (length names'))) (sym inner-frames)
-          (item-sound (length names') (InnerText (unfolded new.lists list.index)) (frames_of old.lists outer) named
-          (more-frames (length names) (length names') (frames_of old.lists outer) (words-length names' names words)
-          (outer-sound old new names t (CText line) outer list.index is tied open_is ends)));
-      light = light;
-    };
-    keeps = now.keeps;
-  }
-
-  pub text-come : unfolded new.lists list.index ≡ whole (normal productions flags start).scraps
-      → names' ≡ with_categories (normal productions flags start).cats names → marked_names marks'
-      ≡ (normal productions flags start).marks
-      → t'.scraps ≡ t.scraps + length line → t'.productions ≡ t.productions + count productions flags start
-      → steps' ≡ steps + ticks productions flags start
-      → HasCome flags t steps new.lists names' marks' t' steps' (after_finish flags (frames_of old.lists t.nesting)
-      (known_of names marks))
-  text-come tree names_are marks_are scraps productions_are steps_are =
-      let m : State = normal productions flags (state_of old.lists line marks names) in
-      let size : length line ≡ length (scraps_of old.lists line) = sym (length-map line (seen old.lists)) in
-      let ended : List State = state_of old.lists line marks names ∷ [] in
-      let around : List Frame = with_item (InnerText (whole m.scraps)) (frames_of old.lists outer) in
-      subst (λ all. HasCome flags t steps new.lists names' marks' t' steps'
-      (after_finish flags (frames_of old.lists all) (known_of names marks))) (sym open_is) (record {
-        is =
-            ap (λ fs. record {
-              frames = fs;
-              known = record {
-                names = names';
-                marks = marked_names marks';
-                ended = ended;
-              };
-            }) (inner-frames ∙ ap (λ tr. with_item (InnerText tr) (frames_of old.lists outer)) tree)
-            ∙ (ap (λ ns. record {
-              frames = around;
-              known = record {
-                names = ns;
-                marks = marked_names marks';
-                ended = ended;
-              };
-            }) names_are
-            ∙ ap (λ ms. record {
-              frames = around;
-              known = record {
-                names = with_categories m.cats names;
-                marks = ms;
-                ended = ended;
-              };
-            }) marks_are);
-        scraps = scraps ∙ ap (λ n. t.scraps + n) (size ∙ sum-one (λ state. length state.scraps) start);
-        productions_are = productions_are ∙ ap (λ n. t.productions + n)
-            (sum-one (λ state. count productions flags state) start);
-        steps_are = steps_are ∙ ap (λ n. steps + n) (sum-one (λ state. ticks productions flags state) start);
-      })
-
--- a comment ends
-module _ (flags : Flags) (old new : StoredLists) (names : List Entry) (t t' : Translator) (held_by : Holder)
-    (parts : List CommentPart) (outer : List Open) (leaf : Leaf)
-    (is : IsTranslating old names t) (tied : IsTied old.lists) (open_is : t.nesting ≡ Comment held_by parts ∷ outer)
-    (ends : Ends old new (inner_lists parts) leaf.list.index)
-    (made : t'.nesting ≡ with_entry (entry_of leaf) outer) (counts : Same t t') where
-  abbrev items : List CommentItem
-  items = map (part_seen old.lists) parts
-
-  module _ (scrap : seen new.lists (entry_of leaf) ≡ held_scrap held_by items)
-      (sound : AreSoundScraps (length names) (held_scrap held_by items ∷ [])) where
-    comment-frames : frames_of new.lists t'.nesting ≡ with_scrap (held_scrap held_by items) (frames_of old.lists outer)
-    comment-frames =
-        ap (frames_of new.lists) made
-        ∙ (frames-entry new.lists (entry_of leaf) outer
-        ∙ (ap (λ s. with_scrap s (frames_of new.lists outer)) scrap
-        ∙ ap (with_scrap (held_scrap held_by items)) (ends-frames old new names t (Comment held_by parts) outer
-        leaf.list.index is tied open_is ends)))
-
-    kept-now : KeptRoots old.lists new.lists (all_roots t.nesting) (all_roots t'.nesting)
-    kept-now =
-        subst (λ ls. KeptRoots old.lists new.lists (all_roots t.nesting) (all_roots ls)) (sym made)
-        (entry-roots old.lists new.lists (all_roots t.nesting) (entry_of leaf) outer
-        (ends-kept old new names t (Comment held_by parts) outer leaf.list.index is tied open_is ends))
-
-    pub comment-steps : Steps old new names names t t'
-    comment-steps = record {
-      translating = record {
-        idle = ends.idle;
-        roots = kept-now.roots;
-        sound = subst (All (IsSoundFrame (length names))) (sym comment-frames)
-            (scrap-sound (length names) (held_scrap held_by items) (frames_of old.lists outer) sound
-            (outer-sound old new names t (Comment held_by parts) outer leaf.list.index is tied open_is ends));
-        light = rw (counts.scraps, counts.productions) is.light;
-      };
-      keeps = kept-now.keeps;
-    }
-
-    pub comment-come : (marks : MarkList) (steps : ℕ)
-        → HasCome flags t steps new.lists names marks t' steps (after_finish flags (frames_of old.lists t.nesting)
-        (known_of names marks))
-    comment-come marks steps =
-        subst (λ all. HasCome flags t steps new.lists names marks t' steps
-        (after_finish flags (frames_of old.lists all) (known_of names marks))) (sym open_is) (record {
-          is = ap (λ fs. record { frames = fs; known = known_of names marks }) comment-frames;
-          scraps = counts.scraps ∙ sym (add-zero t.scraps);
-          productions_are = counts.productions ∙ sym (add-zero t.productions);
-          steps_are = sym (add-zero steps);
-        })
-
 -- the step as a whole
 pub record FinishStep (flags : Flags) (old new : StoredLists) (names names' : List Entry) (marks marks' : MarkList)
     (t t' : Translator) (steps steps' : ℕ) : Type 0 where
@@ -266,64 +134,153 @@ pub record FinishStep (flags : Flags) (old new : StoredLists) (names names' : Li
   pub come : HasCome flags t steps new.lists names' marks' t' steps' (after_finish flags (frames_of old.lists t.nesting)
       (known_of names marks))
 
-pub text-step : (flags : Flags) (old new : StoredLists) (names names' : List Entry) (marks marks' : MarkList)
-    (t t' : Translator) (line : List LineEntry) (outer : List Open) (done : Translated) (steps steps' : ℕ)
-    → LineDone flags old new names names' marks marks' line done steps steps' → IsTranslating old names t
-    → IsTied old.lists → t.nesting ≡ CText line ∷ outer
-    → t'.nesting ≡ with_part (part.InnerText done.list) outer → t'.scraps ≡ t.scraps + done.scraps → t'.productions
-    ≡ t.productions + done.productions → FinishStep flags old new names names' marks marks' t t' steps steps'
-text-step flags old new names names' marks marks' t t' line outer done steps steps' d is tied open_is made scraps
-    productions_are =
-    let ends : Ends old new (roots_of line) done.list.index =
-    record { root = d.root; keeps = d.keeps; idle = d.idle } in
-    let before : t.productions ≤ 8 * t.scraps = is.light in
-    let few : done.productions ≤ 8 * done.scraps = d.few in
-    record {
-      steps_are = text-steps flags old new names names' marks marks' t t' line outer done.list steps steps' is tied
-          open_is ends d.named d.words made (omega (arith, before, few, scraps, productions_are));
-      come = text-come flags old new names names' marks marks' t t' line outer done.list steps steps' is tied open_is
-          ends d.named d.words made d.tree d.names_are d.marks_are
-          (scraps ∙ ap (λ n. t.scraps + n) d.scraps) (productions_are ∙ ap (λ n. t.productions + n) d.productions_are)
-          d.steps_are;
-    }
+-- a C text ends
+module _ {flags : Flags} {old new : StoredLists} {names names' : List Entry} {marks marks' : MarkList}
+    {t t' : Translator} {line : List LineEntry} {outer : List Open} {done : Translated} {steps steps' : ℕ}
+    (d : LineDone flags old new names names' marks marks' line done steps steps') (is : IsTranslating old names t)
+    (tied : IsTied old.lists) (open_is : t.nesting ≡ CText line ∷ outer)
+    (made : t'.nesting ≡ with_part (part.InnerText done.list) outer) where
+  abbrev start : State
+  start = state_of old.lists line marks names
 
-pub comment-step : (flags : Flags) (old new : StoredLists) (names : List Entry) (marks : MarkList) (t t' : Translator)
-    (held_by : Holder) (parts : List CommentPart) (outer : List Open) (list : ListId) (steps : ℕ)
-    → unfolded new.lists list.index ≡ held_tree held_by (map (part_seen old.lists) parts)
-    → Gathers old.lists new.lists (inner_lists parts) list.index → new.building ≡ None
-    → IsTranslating old names t → IsTied old.lists → t.nesting ≡ Comment held_by parts ∷ outer
-    → t'.nesting ≡ with_entry (entry_of (held_leaf held_by list)) outer → Same t t'
-    → FinishStep flags old new names names marks marks t t' steps steps
-comment-step flags old new names marks t t' held_by parts outer list steps tree gathers idle is tied open_is made
-    counts =
-    let lists : AreRoots old.lists (inner_lists parts) = open-lists old names t held_by parts outer is open_is in
-    let ends : Ends old new (inner_lists parts) list.index =
-    record {
-      root = gathers-root old.lists new.lists (inner_lists parts) list.index gathers tied lists;
-      keeps = gathers-keeps old.lists new.lists (inner_lists parts) list.index gathers tied lists;
-      idle = idle;
-    } in
-    let leaf : Leaf = held_leaf held_by list in
-    let scrap : seen new.lists (entry_of leaf) ≡ held_scrap held_by (map (part_seen old.lists) parts) =
-    ap (λ tr. record { cat = held_cat held_by; tree = tr; left = held_mode held_by; right = held_mode held_by })
-    tree in
-    let named : All (IsNamedItem (length names)) (map (part_seen old.lists) parts) =
-    inner-sound old new names t (Comment held_by parts) outer list.index is tied open_is ends in
-    let sound : AreSoundScraps (length names) (held_scrap held_by (map (part_seen old.lists) parts) ∷ []) = record {
-      named = All-cons (λ s. IsNamedBelow (length names) s.tree) (held_scrap held_by (map (part_seen old.lists) parts))
-          [] (held-named (length names) held_by (map (part_seen old.lists) parts) named)
-          (λ k d h. absurd (omega arith));
-      modes = All-cons scrap_agrees (held_scrap held_by (map (part_seen old.lists) parts)) []
-          (held-agrees held_by (map (part_seen old.lists) parts)) (λ k d h. absurd (omega arith));
-      fine = and-both (is_fine (held_scrap held_by (map (part_seen old.lists) parts))) true
-          (held-fine held_by (map (part_seen old.lists) parts)) refl;
-    } in
-    record {
-      steps_are = comment-steps flags old new names t t' held_by parts outer leaf is tied open_is ends made counts scrap
-          sound;
-      come = comment-come flags old new names t t' held_by parts outer leaf is tied open_is ends made counts scrap sound
-          marks steps;
-    }
+  abbrev tree_now : Tree
+  tree_now = unfolded new.lists done.list.index
+
+  ends : Ends old new (roots_of line) done.list.index
+  ends = record { root = d.root; keeps = d.keeps; idle = d.idle }
+
+  inner-frames : frames_of new.lists t'.nesting ≡ with_item (InnerText tree_now) (frames_of old.lists outer)
+  inner-frames = ap (frames_of new.lists) made
+      ∙ (frames-part new.lists (part.InnerText done.list) outer
+      ∙ ap (with_item (InnerText tree_now)) (ends-frames old new names t (CText line) outer done.list.index is tied
+      open_is ends))
+
+  now : KeptRoots old.lists new.lists (all_roots t.nesting) (all_roots t'.nesting)
+  now = subst (λ ls. KeptRoots old.lists new.lists (all_roots t.nesting) (all_roots ls)) (sym made)
+      (part-roots old.lists new.lists (all_roots t.nesting) done.list.index (part.InnerText done.list) outer refl
+      (ends-kept old new names t (CText line) outer done.list.index is tied open_is ends))
+
+  text-come : t'.scraps ≡ t.scraps + done.scraps → t'.productions ≡ t.productions + done.productions
+      → HasCome flags t steps new.lists names' marks' t' steps' (after_finish flags (frames_of old.lists t.nesting)
+      (known_of names marks))
+  text-come scraps productions_are =
+      let m : State = normal productions flags start in
+      let ended : List State = start ∷ [] in
+      let around : List Frame = with_item (InnerText (whole m.scraps)) (frames_of old.lists outer) in
+      subst (λ all. HasCome flags t steps new.lists names' marks' t' steps'
+      (after_finish flags (frames_of old.lists all) (known_of names marks))) (sym open_is) (record {
+        is =
+            ap (λ fs. record {
+              frames = fs;
+              known = record { names = names'; marks = marked_names marks'; ended = ended };
+            }) (inner-frames ∙ ap (λ tr. with_item (InnerText tr) (frames_of old.lists outer)) d.tree)
+            ∙ (ap (λ ns. record {
+              frames = around;
+              known = record { names = ns; marks = marked_names marks'; ended = ended };
+            }) d.names_are
+            ∙ ap (λ ms. record {
+              frames = around;
+              known = record { names = with_categories m.cats names; marks = ms; ended = ended };
+            }) d.marks_are);
+        scraps = scraps ∙ ap (λ n. t.scraps + n) (d.scraps ∙ (sym (length-map line (seen old.lists))
+            ∙ sum-one (λ state. length state.scraps) start));
+        productions_are = productions_are ∙ ap (λ n. t.productions + n) (d.productions_are
+            ∙ sum-one (λ state. count productions flags state) start);
+        steps_are = d.steps_are ∙ ap (λ n. steps + n) (sum-one (λ state. ticks productions flags state) start);
+      })
+
+  pub text-step : t'.scraps ≡ t.scraps + done.scraps → t'.productions ≡ t.productions + done.productions
+      → FinishStep flags old new names names' marks marks' t t' steps steps'
+  text-step scraps productions_are =
+      let before : t.productions ≤ 8 * t.scraps = is.light in
+      let few : done.productions ≤ 8 * done.scraps = d.few in
+      record {
+        steps_are = record {
+          translating = record {
+            idle = d.idle;
+            roots = now.roots;
+            sound = subst (All (IsSoundFrame (length names'))) (sym inner-frames)
+                (item-sound (length names') (InnerText tree_now) (frames_of old.lists outer) d.named
+                (more-frames (length names) (length names') (frames_of old.lists outer)
+                (words-length names' names d.words)
+                (outer-sound old new names t (CText line) outer done.list.index is tied open_is ends)));
+            light = omega (arith, before, few, scraps, productions_are);
+          };
+          keeps = now.keeps;
+        };
+        come = text-come scraps productions_are;
+      }
+
+-- a comment ends
+module _ {flags : Flags} {old new : StoredLists} {names : List Entry} {marks : MarkList} {t t' : Translator}
+    {held_by : Holder} {parts : List CommentPart} {outer : List Open} (list : ListId) {steps : ℕ}
+    (tree : unfolded new.lists list.index ≡ held_tree held_by (map (part_seen old.lists) parts))
+    (gathers : Gathers old.lists new.lists (inner_lists parts) list.index) (idle : new.building ≡ None)
+    (is : IsTranslating old names t) (tied : IsTied old.lists) (open_is : t.nesting ≡ Comment held_by parts ∷ outer)
+    (made : t'.nesting ≡ with_entry (entry_of (held_leaf held_by list)) outer) (counts : Same t t') where
+  abbrev items : List CommentItem
+  items = map (part_seen old.lists) parts
+
+  abbrev leaf : Leaf
+  leaf = held_leaf held_by list
+
+  held : Ends old new (inner_lists parts) list.index
+  held =
+      let lists : AreRoots old.lists (inner_lists parts) = open-lists old names t held_by parts outer is open_is in
+      record {
+        root = gathers-root old.lists new.lists (inner_lists parts) list.index gathers tied lists;
+        keeps = gathers-keeps old.lists new.lists (inner_lists parts) list.index gathers tied lists;
+        idle = idle;
+      }
+
+  sound-held : AreSoundScraps (length names) (held_scrap held_by items ∷ [])
+  sound-held = record {
+    named = All-cons (λ s. IsNamedBelow (length names) s.tree) (held_scrap held_by items) []
+        (held-named (length names) held_by items (inner-sound old new names t (Comment held_by parts) outer list.index
+        is tied open_is held)) (λ k d h. absurd (omega arith));
+    modes = All-cons scrap_agrees (held_scrap held_by items) [] (held-agrees held_by items)
+        (λ k d h. absurd (omega arith));
+    fine = and-both (is_fine (held_scrap held_by items)) true (held-fine held_by items) refl;
+  }
+
+  comment-frames : frames_of new.lists t'.nesting ≡ with_scrap (held_scrap held_by items) (frames_of old.lists outer)
+  comment-frames = ap (frames_of new.lists) made
+      ∙ (frames-entry new.lists (entry_of leaf) outer
+      ∙ (ap (λ tr. with_scrap (record {
+        cat = held_cat held_by;
+        tree = tr;
+        left = held_mode held_by;
+        right = held_mode held_by;
+      }) (frames_of new.lists outer)) tree
+      ∙ ap (with_scrap (held_scrap held_by items)) (ends-frames old new names t (Comment held_by parts) outer list.index
+      is tied open_is held)))
+
+  kept-now : KeptRoots old.lists new.lists (all_roots t.nesting) (all_roots t'.nesting)
+  kept-now = subst (λ ls. KeptRoots old.lists new.lists (all_roots t.nesting) (all_roots ls)) (sym made)
+      (entry-roots old.lists new.lists (all_roots t.nesting) (entry_of leaf) outer
+      (ends-kept old new names t (Comment held_by parts) outer list.index is tied open_is held))
+
+  pub comment-step : FinishStep flags old new names names marks marks t t' steps steps
+  comment-step = record {
+    steps_are = record {
+      translating = record {
+        idle = idle;
+        roots = kept-now.roots;
+        sound = subst (All (IsSoundFrame (length names))) (sym comment-frames)
+            (scrap-sound (length names) (held_scrap held_by items) (frames_of old.lists outer) sound-held
+            (outer-sound old new names t (Comment held_by parts) outer list.index is tied open_is held));
+        light = rw (counts.scraps, counts.productions) is.light;
+      };
+      keeps = kept-now.keeps;
+    };
+    come = subst (λ all. HasCome flags t steps new.lists names marks t' steps
+        (after_finish flags (frames_of old.lists all) (known_of names marks))) (sym open_is) (record {
+          is = ap (λ fs. record { frames = fs; known = known_of names marks }) comment-frames;
+          scraps = counts.scraps ∙ sym (add-zero t.scraps);
+          productions_are = counts.productions ∙ sym (add-zero t.productions);
+          steps_are = sym (add-zero steps);
+        });
+  }
 
 -- the names after a text that ends, whatever it answers
 pub text-names : (flags : Flags) (store : StoredLists) (names names' : List Entry) (marks : MarkList) (t : Translator)

@@ -102,105 +102,13 @@ piece-steps store names t t' number is made counts =
           (keeps-itself store.lists (all_roots t.nesting));
     }
 
-module _ (k : TokKind) (token : Seen) (old new : StoredLists) (names names' : List Entry) (t t' : Translator)
-    (leaf : Leaf) (form : LeafForm)
-    (is : IsTranslating old names t) (tied : IsTied old.lists) (makes : MakesLeaf k) (idle : new.building ≡ None)
-    (formed : token_form k token.text token.hash_line token.span.start names ≡ Some form)
-    (has : HasForm form leaf old.lists new.lists)
-    (named : names' ≡ names_with k token.text names)
-    (alone : IsSoundLine new names' (entry_of leaf ∷ []))
-    (made : t'.nesting ≡ with_entry (entry_of leaf) t.nesting) (counts : Same t t') where
-  plain : (p x : ℕ) → token_ref (slice_get form.tokens p) ≡ Some x → ⊥
-  plain = (subst (λ o. IfSome o (IsGood (place_of ident_kind token.text names + 1))) formed
-      (token-good (place_of ident_kind token.text names + 1) k token.text token.hash_line token.span.start names
-      (λ e. omega arith))).plain
-
-  behind : KeptRoots old.lists (old.lists ++ form.tokens ∷ []) (all_roots t.nesting) (all_roots t.nesting
-      ++ length old.lists ∷ [])
-  behind = record {
-    roots = plain-roots old.lists form.tokens (all_roots t.nesting) tied is.roots plain;
-    keeps = plain-keeps old.lists form.tokens (all_roots t.nesting) tied is.roots plain;
-  }
-
-  now : KeptRoots old.lists new.lists (all_roots t.nesting) (all_roots t'.nesting)
-  now =
-      subst (λ ls. KeptRoots old.lists new.lists (all_roots t.nesting) (all_roots ls)) (sym made)
-      (entry-roots old.lists new.lists (all_roots t.nesting) (entry_of leaf) t.nesting
-      (subst (λ x. KeptRoots old.lists new.lists (all_roots t.nesting) (all_roots t.nesting ++ x ∷ [])) (sym has.list)
-      (subst (λ ls. KeptRoots old.lists ls (all_roots t.nesting) (all_roots t.nesting ++ length old.lists ∷ []))
-      (sym has.lists) behind)))
-
-  -- the frames that were open are as they were
-  old-tree : (i d : ℕ) → i < length (all_roots t.nesting) → unfolded new.lists (get_or (all_roots t.nesting) i d)
-      ≡ unfolded old.lists (get_or (all_roots t.nesting) i d)
-  old-tree i d h =
-      ap (λ ls. unfolded ls (get_or (all_roots t.nesting) i d)) has.lists
-      ∙ unfolded-old old.lists form.tokens (get_or (all_roots t.nesting) i d)
-      (subst (λ x. x < length old.lists) (sym (get_or_default_zero (all_roots t.nesting) i d h))
-      (is.roots.there i h))
-
-  before : frames_of new.lists t.nesting ≡ frames_of old.lists t.nesting
-  before = frames-same old.lists new.lists t.nesting (λ i d h. old-tree i d h)
-
-  tree : unfolded new.lists leaf.list.index ≡ tree_in [] form.tokens
-  tree = ap (unfolded new.lists) has.list ∙ (ap (λ ls. unfolded ls (length old.lists)) has.lists
-      ∙ (unfolded-new old.lists form.tokens ∙ tree_in-same (trees_from [] old.lists) [] form.tokens
-      (λ q x e. absurd (plain q x e))))
-
-  scrap : seen new.lists (entry_of leaf) ≡ leaf_scrap form
-  scrap =
-      ap (λ c. record { cat = c; tree = unfolded new.lists leaf.list.index; left = leaf.left; right = leaf.right })
-      has.cat
-      ∙ (ap (λ tr. record { cat = form.cat; tree = tr; left = leaf.left; right = leaf.right }) tree
-      ∙ (ap (λ m. record { cat = form.cat; tree = tree_in [] form.tokens; left = m; right = leaf.right }) has.left
-      ∙ ap (λ m. record { cat = form.cat; tree = tree_in [] form.tokens; left = form.mode; right = m }) has.right))
-
-  frames : frames_of new.lists t'.nesting ≡ with_scrap (leaf_scrap form) (frames_of old.lists t.nesting)
-  frames =
-      ap (frames_of new.lists) made
-      ∙ (frames-entry new.lists (entry_of leaf) t.nesting
-      ∙ (ap (with_scrap (seen new.lists (entry_of leaf))) before
-      ∙ ap (λ s. with_scrap s (frames_of old.lists t.nesting)) scrap))
-
-  sound-alone : AreSoundScraps (length names') (leaf_scrap form ∷ [])
-  sound-alone = subst (λ s. AreSoundScraps (length names') (s ∷ [])) scrap
-      (record { named = alone.named; modes = alone.modes; fine = alone.fine })
-
-  more : length names ≤ length names'
-  more = subst (λ ns. length names ≤ length ns) (sym named) (names-grow k token.text names)
-
-  pub leaf-steps : Steps old new names names' t t'
-  leaf-steps = record {
-    translating = record {
-      idle = idle;
-      roots = now.roots;
-      sound = subst (All (IsSoundFrame (length names'))) (sym frames) (scrap-sound (length names') (leaf_scrap form)
-          (frames_of old.lists t.nesting) sound-alone
-          (more-frames (length names) (length names') (frames_of old.lists t.nesting) more is.sound));
-      light = rw (counts.scraps, counts.productions) is.light;
-    };
-    keeps = now.keeps;
-  }
-
-  pub leaf-progress : (marks : MarkList) (ended : List State) → progress_of new.lists names' marks t' ended
-      ≡ after_token k token (progress_of old.lists names marks t ended)
-  leaf-progress marks ended =
-      ap (λ fs. record { frames = fs; known = record { names = names'; marks = marked_names marks; ended = ended } })
-      frames
-      ∙ (ap (λ ns. record {
-        frames = with_scrap (leaf_scrap form) (frames_of old.lists t.nesting);
-        known = record { names = ns; marks = marked_names marks; ended = ended };
-      }) named
-      ∙ sym (after-leaf k token (progress_of old.lists names marks t ended) form makes formed))
-
 pub empty-line : (store : StoredLists) (ns : List Entry) → store.building ≡ None → IsSoundLine store ns []
 empty-line store ns e = record {
   idle = e;
   roots = record {
     there = λ i h. absurd (omega arith);
     free = λ i h l p q. omega arith;
-    apart = λ i j h k q. absurd
-        (omega arith);
+    apart = λ i j h k q. absurd (omega arith);
   };
   named = λ i d h. absurd (omega arith);
   modes = λ i d h. absurd (omega arith);
@@ -213,20 +121,97 @@ pub record LeafStep (k : TokKind) (token : Seen) (old new : StoredLists) (names 
   pub progress : (marks : MarkList) (ended : List State) → progress_of new.lists names' marks t' ended
       ≡ after_token k token (progress_of old.lists names marks t ended)
 
-pub leaf-step : (k : TokKind) (token : Seen) (old new : StoredLists) (names names' : List Entry) (t t' : Translator)
-    (leaf : Leaf) → IsTranslating old names t → IsTied old.lists → MakesLeaf k → new.building ≡ None
-    → IfSome (token_form k token.text token.hash_line token.span.start names)
-    (λ form. HasForm form leaf old.lists new.lists) → names' ≡ names_with k token.text names
-    → ((line : List LineEntry) → IsSoundLine old names line → IsSoundLine new names' (line ++ entry_of leaf ∷ []))
-    → t'.nesting ≡ with_entry (entry_of leaf) t.nesting → Same t t' → LeafStep k token old new names names' t t'
-leaf-step k token old new names names' t t' leaf is tied makes idle has named sound made counts =
-    let f : Formed (token_form k token.text token.hash_line token.span.start names) leaf old.lists new.lists =
-    formed-by (token_form k token.text token.hash_line token.span.start names) leaf old.lists new.lists
-    (token-some k token.text token.hash_line token.span.start names makes) has in
-    let alone : IsSoundLine new names' (entry_of leaf ∷ []) = sound [] (empty-line old names is.idle) in
-    record {
-      steps = leaf-steps k token old new names names' t t' leaf f.form is tied makes idle f.is f.has named alone made
-          counts;
-      progress = λ marks ended. leaf-progress k token old new names names' t t' leaf f.form is tied makes idle f.is
-          f.has named alone made counts marks ended;
-    }
+module _ (k : TokKind) (token : Seen) (old new : StoredLists) (names names' : List Entry) (t t' : Translator)
+    (leaf : Leaf) (is : IsTranslating old names t) (tied : IsTied old.lists) (makes : MakesLeaf k)
+    (idle : new.building ≡ None) (has : IfSome (token_form k token.text token.hash_line token.span.start names)
+    (λ form. HasForm form leaf old.lists new.lists)) (named : names' ≡ names_with k token.text names)
+    (sound : (line : List LineEntry) → IsSoundLine old names line → IsSoundLine new names' (line ++ entry_of leaf ∷ []))
+    (made : t'.nesting ≡ with_entry (entry_of leaf) t.nesting) (counts : Same t t') where
+  formed : Formed (token_form k token.text token.hash_line token.span.start names) leaf old.lists new.lists
+  formed = formed-by (token_form k token.text token.hash_line token.span.start names) leaf old.lists new.lists
+      (token-some k token.text token.hash_line token.span.start names makes) has
+
+  abbrev form : LeafForm
+  form = formed.form
+
+  plain : (p x : ℕ) → token_ref (slice_get form.tokens p) ≡ Some x → ⊥
+  plain = (subst (λ o. IfSome o (IsGood (place_of ident_kind token.text names + 1))) formed.is
+      (token-good (place_of ident_kind token.text names + 1) k token.text token.hash_line token.span.start names
+      (λ e. omega arith))).plain
+
+  behind : KeptRoots old.lists (old.lists ++ form.tokens ∷ []) (all_roots t.nesting) (all_roots t.nesting
+      ++ length old.lists ∷ [])
+  behind = record {
+    roots = plain-roots old.lists form.tokens (all_roots t.nesting) tied is.roots plain;
+    keeps = plain-keeps old.lists form.tokens (all_roots t.nesting) tied is.roots plain;
+  }
+
+  now : KeptRoots old.lists new.lists (all_roots t.nesting) (all_roots t'.nesting)
+  now = subst (λ ls. KeptRoots old.lists new.lists (all_roots t.nesting) (all_roots ls)) (sym made)
+      (entry-roots old.lists new.lists (all_roots t.nesting) (entry_of leaf) t.nesting
+      (subst (λ x. KeptRoots old.lists new.lists (all_roots t.nesting) (all_roots t.nesting ++ x ∷ []))
+      (sym formed.has.list)
+      (subst (λ ls. KeptRoots old.lists ls (all_roots t.nesting) (all_roots t.nesting ++ length old.lists ∷ []))
+      (sym formed.has.lists) behind)))
+
+  -- the frames that were open are as they were
+  old-tree : (i d : ℕ) → i < length (all_roots t.nesting) → unfolded new.lists (get_or (all_roots t.nesting) i d)
+      ≡ unfolded old.lists (get_or (all_roots t.nesting) i d)
+  old-tree i d h = ap (λ ls. unfolded ls (get_or (all_roots t.nesting) i d)) formed.has.lists
+      ∙ unfolded-old old.lists form.tokens (get_or (all_roots t.nesting) i d)
+      (subst (λ x. x < length old.lists) (sym (get_or_default_zero (all_roots t.nesting) i d h)) (is.roots.there i h))
+
+  before : frames_of new.lists t.nesting ≡ frames_of old.lists t.nesting
+  before = frames-same old.lists new.lists t.nesting (λ i d h. old-tree i d h)
+
+  tree : unfolded new.lists leaf.list.index ≡ tree_in [] form.tokens
+  tree = ap (unfolded new.lists) formed.has.list ∙ (ap (λ ls. unfolded ls (length old.lists)) formed.has.lists
+      ∙ (unfolded-new old.lists form.tokens ∙ tree_in-same (trees_from [] old.lists) [] form.tokens
+      (λ q x e. absurd (plain q x e))))
+
+  scrap : seen new.lists (entry_of leaf) ≡ leaf_scrap form
+  scrap = ap (λ c. record { cat = c; tree = unfolded new.lists leaf.list.index; left = leaf.left; right = leaf.right })
+      formed.has.cat
+      ∙ (ap (λ tr. record { cat = form.cat; tree = tr; left = leaf.left; right = leaf.right }) tree
+      ∙ (ap (λ m. record { cat = form.cat; tree = tree_in [] form.tokens; left = m; right = leaf.right })
+      formed.has.left
+      ∙ ap (λ m. record { cat = form.cat; tree = tree_in [] form.tokens; left = form.mode; right = m })
+      formed.has.right))
+
+  frames : frames_of new.lists t'.nesting ≡ with_scrap (leaf_scrap form) (frames_of old.lists t.nesting)
+  frames = ap (frames_of new.lists) made
+      ∙ (frames-entry new.lists (entry_of leaf) t.nesting
+      ∙ (ap (with_scrap (seen new.lists (entry_of leaf))) before
+      ∙ ap (λ s. with_scrap s (frames_of old.lists t.nesting)) scrap))
+
+  sound-alone : AreSoundScraps (length names') (leaf_scrap form ∷ [])
+  sound-alone =
+      let alone : IsSoundLine new names' (entry_of leaf ∷ []) = sound [] (empty-line old names is.idle) in
+      subst (λ s. AreSoundScraps (length names') (s ∷ [])) scrap
+      (record { named = alone.named; modes = alone.modes; fine = alone.fine })
+
+  more : length names ≤ length names'
+  more = subst (λ ns. length names ≤ length ns) (sym named) (names-grow k token.text names)
+
+  pub leaf-step : LeafStep k token old new names names' t t'
+  leaf-step = record {
+    steps = record {
+      translating = record {
+        idle = idle;
+        roots = now.roots;
+        sound = subst (All (IsSoundFrame (length names'))) (sym frames) (scrap-sound (length names') (leaf_scrap form)
+            (frames_of old.lists t.nesting) sound-alone
+            (more-frames (length names) (length names') (frames_of old.lists t.nesting) more is.sound));
+        light = rw (counts.scraps, counts.productions) is.light;
+      };
+      keeps = now.keeps;
+    };
+    progress = λ marks ended.
+        ap (λ fs. record { frames = fs; known = record { names = names'; marks = marked_names marks; ended = ended } })
+        frames
+        ∙ (ap (λ ns. record {
+          frames = with_scrap (leaf_scrap form) (frames_of old.lists t.nesting);
+          known = record { names = ns; marks = marked_names marks; ended = ended };
+        }) named
+        ∙ sym (after-leaf k token (progress_of old.lists names marks t ended) form makes formed.is));
+  }

@@ -41,17 +41,8 @@ pub returns-in_ok-count-in-Some-CText : goal.returns-in_ok-count-in-Some-CText
 returns-in_ok-count-in-Some-CText g c = λ token. text-advances c.args.context.now.flags.now token c.in-Some-CText.line
     c.end.new.self (c.in-Some-CText.ensures ∙ ap (λ x. x ∷ c.end.new.self) c.in-Some-CText.field-0-is)
     c.in_ok-done-in-Some-CText.ensures.retypes c.in_ok-done-in-Some-CText.ensures.bound
-    c.in_ok-done-in-Some-CText.ensures.same c.in_ok-done-in-Some-CText.ensures.idle
-    (on_ok_weaker c.add_part.result
-    (λ e. text-step c.args.context.now.flags.now c.args.work.now.store.now c.translate_line.new.work.store.now
-    c.args.work.now.names.now c.translate_line.new.work.names.now c.args.work.now.marks.now
-    c.translate_line.new.work.marks.now c.args.self.now
-    (record {
-      nesting = c.add_part.new.self;
-      scraps = c.count.new.self.scraps;
-      productions = c.count.new.self.productions;
-    }) c.in-Some-CText.line c.end.new.self c.in_ok-done-in-Some-CText.done c.args.work.now.steps.now
-    c.translate_line.new.work.steps.now c.in_ok-done-in-Some-CText.ensures.done c.requires.translating
+    c.in_ok-done-in-Some-CText.ensures.same c.in_ok-done-in-Some-CText.ensures.idle (on_ok_weaker c.add_part.result
+    (λ e. text-step c.in_ok-done-in-Some-CText.ensures.done c.requires.translating
     (tied-idle c.args.work.now.store.now c.requires.translating.idle c.tied_law.ensures)
     (c.in-Some-CText.ensures ∙ ap (λ x. x ∷ c.end.new.self) c.in-Some-CText.field-0-is)
     (e ∙ ap (λ t. with_part (part.InnerText c.in_ok-done-in-Some-CText.done.list) t.nesting)
@@ -69,10 +60,7 @@ returns-in_err-list-in-Some-Comment g c = λ token. finish-advances c.args.conte
 pub returns-in_ok-list-in-Some-Comment : goal.returns-in_ok-list-in-Some-Comment
 returns-in_ok-list-in-Some-Comment g c = λ token. finish-advances c.args.context.now.flags.now token
     (on_ok_weaker c.add_scrap.result
-    (λ e. comment-step c.args.context.now.flags.now c.args.work.now.store.now c.held_list.new.store
-    c.args.work.now.names.now c.args.work.now.marks.now c.args.self.now
-    (record c.args.self.now { nesting = c.add_scrap.new.self }) c.in-Some-Comment.holder
-    c.in-Some-Comment.text c.end.new.self c.in_ok-list-in-Some-Comment.list c.args.work.now.steps.now
+    (λ e. comment-step c.in_ok-list-in-Some-Comment.list
     (rw c.parts.ensures at c.in_ok-list-in-Some-Comment.ensures.tree)
     (rw c.parts.ensures at c.in_ok-list-in-Some-Comment.ensures.gathers) c.in_ok-list-in-Some-Comment.ensures.idle
     c.requires.translating (tied-idle c.args.work.now.store.now c.requires.translating.idle c.tied_law.ensures)
@@ -85,9 +73,7 @@ returns-in_ok-list-in-Some-Comment g c = λ token. finish-advances c.args.contex
 
 pub returns-in-None : goal.returns-in-None
 returns-in-None g c = λ token. finish-advances c.args.context.now.flags.now token
-    (none-step c.args.context.now.flags.now c.args.work.now.store.now c.args.work.now.names.now
-    c.args.work.now.marks.now c.args.self.now (record c.args.self.now { nesting = c.end.new.self })
-    c.args.work.now.steps.now c.requires.translating c.in-None.ensures.0 c.in-None.ensures.1
+    (none-step c.requires.translating c.in-None.ensures.0 c.in-None.ensures.1
     (record { scraps = refl; productions = refl }))
     (same-names c.args.context.now.flags.now (Finish token ∷ []) (progress_over c.args.work.now c.args.self.now))
     (omega arith) unchanged c.requires.translating.idle
