@@ -1,9 +1,9 @@
 -- Calls that read, and a call that ends a text: none, one then another, and a stop.
 use Rattle.std.proofs.Common.{◌≡◌, ℕ, ◌+◌, ◌≤◌, List, [], ◌∷◌, ◌++◌, length, ◌⊎◌, inl, inr, refl, sym, ap, ◌∙◌, subst}
-use Rattle.std.proofs.Common.{None, add-zero, arith}
-use Rattle.std.specs.Prelude.{Result, Ok, Err, IfOk, IsErrAnd, OnErr, OnOk}
+use Rattle.std.proofs.Common.{None, arith}
+use Rattle.std.specs.Prelude.{Result, Ok, Err, IfOk, IsErrAnd, OnOk}
 use Rattle.std.proofs.lemmas.List.{append-nil, append_assoc}
-use Rattle.std.proofs.lemmas.Result.{IfOk-weaker, on_ok_weaker}
+use Rattle.std.proofs.lemmas.Result.{IfOk-weaker, on_err_weaker, on_ok_weaker}
 use Rattle.cw_base.specs.declared.flags.Flags.{Flags}
 use Rattle.cw_base.specs.declared.memory.Memory.{Memory}
 use Rattle.cw_rules.specs.Answers.{Answer, Seen, Token, Begin, Finish, Note}
@@ -14,6 +14,7 @@ use Rattle.cw_table.specs.Normal.{count}
 use Rattle.cw_table.specs.Productions.{productions}
 use Rattle.cw_table.specs.Rewriting.{State}
 use Rattle.cw_table.specs.WalkCounts.{ticks}
+pub use Rattle.cw_rewrite.proofs.LogSteps.{on-err}
 use Rattle.cw_scraps.specs.Changing.{Keeps}
 use Rattle.cw_scraps.proofs.Applied.{keeps-trans}
 use Rattle.cw_translator.specs.declared.translator.Translated.{Translated}
@@ -33,14 +34,6 @@ use Rattle.cw_translator.proofs.LeafSteps.{keeps-itself}
 use Rattle.cw_translator.proofs.Sums.{sum-end, sum-more}
 
 -- ## Results
-
-pub on-err-weaker : {T E : Type 0} (r : Result T E) (P Q : Type 0) → (P → Q) → OnErr r P → OnErr r Q
-on-err-weaker (Ok x) P Q f h = tt
-on-err-weaker (Err e) P Q f h = f h
-
-pub on-err : {T E : Type 0} (r : Result T E) (P : Type 0) → P → OnErr r P
-on-err (Ok x) P h = tt
-on-err (Err e) P h = h
 
 pub err-ok : {T E : Type 0} (r : Result T E) (error : E) (P : Type 0) → IsErrAnd r (λ found. found ≡ error) → OnOk r P
 err-ok (Ok x) error P h = absurd h
@@ -85,8 +78,7 @@ behind-finish flags done (CTextFrame scraps ∷ frames) known =
     ap (λ ended. record {
       frames = with_item (InnerText text.tree) frames;
       known = record { names = text.known.names; marks = text.known.marks; ended = ended };
-    })
-    (append_assoc done known.ended (state_in scraps known ∷ []))
+    }) (append_assoc done known.ended (state_in scraps known ∷ []))
 
 behind-answer : (flags : Flags) (done : List State) (answer : Answer) (p : Progress)
     → after_answer flags answer (behind done p) ≡ behind done (after_answer flags answer p)
@@ -119,8 +111,7 @@ limit-more flags answers p =
     omega (
       arith,
       l,
-      sum-more (λ state. text_limit flags state) p.known.ended
-          (after_answers flags answers fresh).known.ended,
+      sum-more (λ state. text_limit flags state) p.known.ended (after_answers flags answers fresh).known.ended,
     )
 
 pub later-all : (flags : Flags) (xs ys : List Answer) (p : Progress) (new : List Entry)
@@ -156,8 +147,7 @@ all-ended-behind flags done p =
     ap (λ ended. record {
       tree = text.tree;
       known = record { names = text.known.names; marks = text.known.marks; ended = ended };
-    })
-    (append_assoc done p.known.ended (state_in (last_scraps p.frames) p.known ∷ []))
+    }) (append_assoc done p.known.ended (state_in (last_scraps p.frames) p.known ∷ []))
 
 -- the texts in comments alone
 pub spent-within : (flags : Flags) (p : Progress) (steps steps1 : ℕ) → steps1 ≤ steps + limit_in flags p.known.ended
@@ -319,7 +309,7 @@ advances-as {c = c} {t = t} {t' = t'} {old = old} {new = new} {result = result} 
   translating = r.translating;
   come = on_ok_weaker result (λ h. subst (HasComeOver c.flags t old t' new) is h) r.come;
   keeps = r.keeps;
-  names = on-err-weaker result _ _ (among new.names.now) r.names;
+  names = on_err_weaker result (among new.names.now) r.names;
   bound = subst (λ (p : Progress). new.steps.now ≤ old.steps.now + limit_in c.flags p.known.ended) is r.bound;
   same = r.same;
   idle = r.idle;
@@ -350,7 +340,7 @@ advances-then {c = c} ys {t = t} {t1 = t1} {t2 = t2} {old = old} {mid = mid} {ne
       come = on_ok_weaker result (λ h. then-come c.flags t t1 old mid c.ends a.come ys t2 new h) b.come;
       keeps = on_ok_weaker result (λ k. keeps-trans old.store.now.lists mid.store.now.lists new.store.now.lists
           (all_roots t.nesting) (all_roots t1.nesting) (all_roots t2.nesting) a.keeps k) b.keeps;
-      names = on-err-weaker result _ _ (λ h. inr (λ coming. then-way c.flags t t1 old mid c.ends a.come ys coming
+      names = on_err_weaker result (λ h. inr (λ coming. then-way c.flags t t1 old mid c.ends a.come ys coming
           new.names.now (h coming))) b.names;
       bound = then-few c.flags t t1 old mid c.ends a.come ys new.steps.now a.bound b.bound;
       same = same-work a.same b.same;
@@ -441,8 +431,7 @@ advancing-next {flags = flags} {p = p} xs next r cut b = record {
 }
 
 pub advancing-stopped : {L T U : Type 0} {flags : Flags} {all rest : List Answer} {p : Progress}
-    {t t1 t2 t3 : Translator}
-    {old mid new : Work L} (xs next : List Answer) {error : Memory} {result : Result U Memory}
+    {t t1 t2 t3 : Translator} {old mid new : Work L} (xs next : List Answer) {error : Memory} {result : Result U Memory}
     → Advancing flags all rest p t old t1 mid → rest ≡ xs ++ next
     → Advances {T = T} (over flags xs (progress_over mid t1)) t1 mid t2 new (Err error)
     → IsErrAnd result (λ found. found ≡ error) → Advances (over flags all p) t old t3 new result
@@ -478,7 +467,7 @@ ends-then {c = c} ys {t0 = t0} {t = t} {old = old} {mid = mid} {new = new} {resu
   root = b.root;
   keeps = IfOk-weaker result _ _ (λ done k. keeps-trans old.store.now.lists mid.store.now.lists new.store.now.lists
       (all_roots t0.nesting) (all_roots t.nesting) (done.list.index ∷ []) a.keeps k) b.keeps;
-  refused = on-err-weaker result _ _ (then-last c.flags t0 t old mid c.ends a.come ys new.names.now) b.refused;
+  refused = on_err_weaker result (then-last c.flags t0 t old mid c.ends a.come ys new.names.now) b.refused;
   bound = then-spent c.flags t0 t old mid c.ends a.come ys new.steps.now a.bound b.bound;
   same = same-work a.same b.same;
   idle = b.idle;
@@ -528,7 +517,7 @@ ends-as {o = o} {t = t} {old = old} {new = new} {result = result} is among r = r
   named = r.named;
   root = r.root;
   keeps = r.keeps;
-  refused = on-err-weaker result _ _ (among new.names.now) r.refused;
+  refused = on_err_weaker result (among new.names.now) r.refused;
   bound = subst (λ (x : Ended). new.steps.now ≤ old.steps.now + limit_in o.flags x.known.ended) is r.bound;
   same = r.same;
   idle = r.idle;
@@ -540,8 +529,7 @@ pub ends-answers : {L T : Type 0} (flags : Flags) (xs : List Answer) (p : Progre
     → Advances (over flags xs p) t0 old t mid (Ok value)
     → EndsIn (to_end flags [] (progress_over mid t)) t mid new result
     → EndsIn (to_end flags xs p) t0 old new result
-ends-answers flags xs p a b = ends-as refl
-    (λ names h. way-end flags xs p (after_answers flags xs p) names refl h)
+ends-answers flags xs p a b = ends-as refl (λ names h. way-end flags xs p (after_answers flags xs p) names refl h)
     (ends-then {c = over flags xs p} [] a b)
 
 pub ends-answers-stopped : {L T : Type 0} (flags : Flags) (xs : List Answer) (p : Progress) {t0 t : Translator}
