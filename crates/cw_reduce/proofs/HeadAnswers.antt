@@ -229,8 +229,7 @@ module _ (wanted₀ : Wanted) (all : List Answer) (names₀ : List Entry) (token
       first = r.first ++ seen t ∷ [];
       words = all-words;
       names_are = named ∙ ap (λ s. s.names) (sym behind);
-      tokens_are =
-          pushed
+      tokens_are = pushed
           ∙ (ap (λ ts. ts ++ token ∷ []) r.tokens_are
           ∙ (append_assoc tokens₀ (spelled r.first names₀).tokens (token ∷ [])
           ∙ (ap (λ ts. tokens₀ ++ ((spelled r.first names₀).tokens ++ ts))

@@ -208,8 +208,7 @@ unsigned-signs name rest new answer b head named next g h s u =
       line = ap head_line head;
       rest_is = n.rest_is;
       nested = n.nested;
-      starts =
-          n.starts;
+      starts = n.starts;
     })
 
 -- no head

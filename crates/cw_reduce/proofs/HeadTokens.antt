@@ -191,8 +191,7 @@ macro-named count number ts h = (
   tt,
   (
     tt,
-    named-append count (dollared ts) (token.Control control.OptionalBreak ∷ [])
-        (dollared-named count ts h) (tt, tt),
+    named-append count (dollared ts) (token.Control control.OptionalBreak ∷ []) (dollared-named count ts h) (tt, tt),
   ),
 )
 

@@ -208,8 +208,7 @@ translated-shown flags named answers names marks nested =
     let first = head_made flags named h.head known in
     let rest = made flags (leaf_of_name flags named) h.rest first.known in
     let s = shows-beside false first rest (shown_head (λ n. is_some (named n)) h.head)
-    (shown_in (λ n. is_some (named n)) h.rest)
-    (shows-head flags named h.head known w.words)
+    (shown_in (λ n. is_some (named n)) h.rest) (shows-head flags named h.head known w.words)
     (shows-made flags (λ n. is_some (named n)) (leaf_of_name flags named)
     (λ number k. shows-name flags (named number) number k) h.rest false first.known w.rest) in
     struck-end flags (headed_made flags named h known).scraps (headed_made flags named h known).known s.fine

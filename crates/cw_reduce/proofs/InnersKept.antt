@@ -60,8 +60,7 @@ joined-inners : (m : MathMode) (js : List Joined) → All piece_inners js → In
 joined-inners m [] all = tt
 joined-inners m (Whole tree l r ∷ js) all = toggled-inners m l (Sub tree (joined_tree (after m l r) js)) (
   All-head piece_inners (Whole tree l r) js all,
-  joined-inners (after m l r) js
-      (All-tail piece_inners (Whole tree l r) js all),
+  joined-inners (after m l r) js (All-tail piece_inners (Whole tree l r) js all),
 )
 joined-inners m (Mark c ∷ js) all = toggled-inners m (needs c)
     (Then (Sign c) (joined_tree (after m (needs c) (needs c)) js)) (joined-inners (after m (needs c) (needs c)) js
@@ -88,9 +87,7 @@ inners-piece scraps _ all = tt
 
 keeps-inners : (flags : Flags) (row : Row) (place : ℕ) (scraps : List Scrap) → All inners_of scraps
     → All inners_of (take place scraps ++ rewrite_from flags row (drop place scraps))
-keeps-inners flags row place scraps all = keeps-all inners_of tt
-    (λ s h. reserve-inners s.tree h)
-    (λ cat s h. h)
+keeps-inners flags row place scraps all = keeps-all inners_of tt (λ s h. reserve-inners s.tree h) (λ cat s h. h)
     (λ cat ss pieces h. joined-inners Maybe (map (joined_of ss) pieces)
     (All-map piece_inners (joined_of ss) pieces (λ k d lt. inners-piece ss (get_or pieces k d) h)))
     flags row place scraps all

@@ -76,8 +76,7 @@ level-before flags name m n frames = ap (λ fs. record { frames = fs; known = (m
 
 at-form : (form : Option LeafForm) (known : Known) (frames : List Frame)
     → record { frames = with_form form frames; known = known } ≡ with_made frames (form_made form known)
-at-form form known frames =
-    ap (λ fs. record { frames = fs; known = known }) (extended-form form known frames)
+at-form form known frames = ap (λ fs. record { frames = fs; known = known }) (extended-form form known frames)
     ∙ ap (λ k. record { frames = extended (form_made form known) frames; known = k }) (sym (form-known form known))
 
 -- A token.
@@ -205,8 +204,7 @@ run-one flags (Begin token) answers levels next a h s rest =
     ap (after_answers flags answers) (step-begin token.kind token.span.start levels next a h)
     ∙ rest (record { frames = pushed token.kind token.span.start a.frames; known = a.known })
     ∙ run-group flags no_name token (nests answers) levels next a h (begin-two token.kind levels next h) s
-run-one flags (Finish token) answers levels next a h s rest =
-    rest (closed flags a)
+run-one flags (Finish token) answers levels next a h s rest = rest (closed flags a)
     ∙ run-end flags no_name (nests answers) next a (finish-one levels next h) s
 run-one flags (Note note place) answers levels next a h s rest = rest a
 

@@ -141,8 +141,7 @@ module _ (kept : List SecName) (uses : List NameUse) (token : Seen) (named : is_
   pub unpaired-advances : {L T : Type 0} (flags : Flags) {t : Translator} {work : Work L} {value : T}
       → IsTranslating work.store.now work.names.now t
       → Advances (over flags (token_answers (name_texts kept uses) token.kind token) (progress_over work t)) t work t
-      work
-      (Ok value)
+      work (Ok value)
   unpaired-advances flags {t = t} {work = work} is =
       let p : Progress = progress_over work t in
       advances-done (sym (name-passes token.kind token p named) ∙ ap (λ xs. after_answers flags xs p) (sym unpaired))

@@ -88,8 +88,7 @@ pub name-law : (flags : Flags) (texts : List (List Answer)) (held_by : Holder) (
     (p : Progress) → ((items : List CommentItem) → held_tree held_by items ≡ name_tree number behind items)
     → All IsNested texts
     → after_answers flags (held_answers texts) (with_held held_by p)
-    ≡ with_made p.frames (texts_named flags (Some texts) (held_cat held_by) (held_mode held_by) behind number
-    p.known)
+    ≡ with_made p.frames (texts_named flags (Some texts) (held_cat held_by) (held_mode held_by) behind number p.known)
 name-law flags texts held_by number behind p is nested =
     let text = texts_made flags texts (Then (Sign control.NameEnd) behind) p.known in
     let items = text_items flags texts p.known in
@@ -104,8 +103,7 @@ name-law flags texts held_by number behind p is nested =
         right = held_mode held_by;
       }) p.frames;
       known = text.known;
-    })
-    (is items ∙ ap (Then (Source number Maybe)) (items-tree flags texts behind p.known))
+    }) (is items ∙ ap (Then (Source number Maybe)) (items-tree flags texts behind p.known))
     ∙ ap (λ fs. record { frames = fs; known = text.known })
     (extended-scrap (record {
       cat = held_cat held_by;
@@ -163,8 +161,7 @@ module _ (flags : Flags) (named : NameTexts) (nested : AllNested named) where
       ap (after_answers flags (with_texts named answers)) (step-begin token.kind token.span.start levels next a h)
       ∙ rest (record { frames = pushed token.kind token.span.start a.frames; known = a.known })
       ∙ run-group flags name token (nests answers) levels next a h (begin-two token.kind levels next h) s
-  run-one (Finish token) answers levels next a h s rest =
-      rest (closed flags a)
+  run-one (Finish token) answers levels next a h s rest = rest (closed flags a)
       ∙ run-end flags name (nests answers) next a (finish-one levels next h) s
   run-one (Note note place) answers levels next a h s rest = rest a
 
@@ -181,8 +178,7 @@ module _ (flags : Flags) (named : NameTexts) (nested : AllNested named) where
       ≡ end_of flags (before head (made flags name (nest answers)))
   named-translation head answers h =
       let a : Progress = with_made (CText [] ∷ []) head in
-      ap (all_ended flags)
-      (run-named answers (InCode ∷ []) a h
+      ap (all_ended flags) (run-named answers (InCode ∷ []) a h
       ∙ (one-nest flags name (nests answers) a (nests-size answers (InCode ∷ []) h)
       ∙ sym (level-before flags name head (nest answers) (CText [] ∷ []))))
 

@@ -106,8 +106,7 @@ none-read = record { modes = none-all scrap_agrees; inners = none-all inners_of 
 pub one-read : (s : Scrap) → scrap_agrees s → InnersRead s.tree → AreRead (s ∷ [])
 one-read s a i = record {
   modes = All-cons scrap_agrees s [] a (none-all scrap_agrees);
-  inners = All-cons inners_of s []
-      i (none-all inners_of);
+  inners = All-cons inners_of s [] i (none-all inners_of);
 }
 
 pub reads-nothing : (known : Known) → IsFineKnown known
@@ -185,8 +184,7 @@ reads-token name names kind.Text token known f = record {
 }
 reads-token name names (kind.Code code.SectionName) token known f = names token.span.start known f
 reads-token name names (kind.Code code.FileName) token known f = names token.span.start known f
-reads-token name names k token known f =
-    reads-form (place_of ident_kind token.text known.names + 1)
+reads-token name names k token known f = reads-form (place_of ident_kind token.text known.names + 1)
     (token_form k token.text token.hash_line token.span.start known.names)
     (with_names (names_with k token.text known.names) known)
     (token-good (place_of ident_kind token.text known.names + 1) k token.text token.hash_line token.span.start

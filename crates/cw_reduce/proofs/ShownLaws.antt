@@ -233,6 +233,5 @@ pub shows-name : (flags : Flags) (o : Option (List (List Answer))) (number : ℕ
 shows-name flags None number known = record { fine = refl; numbers_are = refl }
 shows-name flags (Some parts) number known = record {
   fine = refl;
-  numbers_are = ap (λ ns. number ∷ (ns ++ []))
-      (struck-parts flags parts (Then (Sign control.NameEnd) Empty) known);
+  numbers_are = ap (λ ns. number ∷ (ns ++ [])) (struck-parts flags parts (Then (Sign control.NameEnd) Empty) known);
 }

@@ -149,8 +149,7 @@ module _ (old new : List (List Token)) (others rs ss : List ℕ) (tied : IsTied 
   not-below : (k : ℕ) → IsOutside old (others ++ rs) k → (i x : ℕ) → Side i x → Reach new x k → ⊥
   not-below k o i x (outer h) r =
       o.below i (let s : length (others ++ rs) ≡ length others + length rs = length-append others rs in
-      omega (arith, s))
-      (subst (λ y. Reach old y k) (sym (get_or_append_left others rs 0 i h))
+      omega (arith, s)) (subst (λ y. Reach old y k) (sym (get_or_append_left others rs 0 i h))
       (reach-back x k (outside-group old others rs roots i h) r).0)
   not-below k o i x (inner j h e) r = (keeps.outside k (outside-right old others rs roots k o)).below j h r
 

@@ -128,6 +128,5 @@ module _ {L : Type 0} (flags : Flags) {old new : Work L} (t : Translator) (line 
   pub line-refused : {error : Memory} {result : Result Translated Memory}
       → IsErrAnd result (λ found. found ≡ error) → Retypes flags begun old.names.now new.names.now
       → new.store.now.building ≡ None → EndsIn (to_end flags [] (progress_over old t)) t old new result
-  line-refused is retyped idle = ends-refused is
-      (at_end (progress_over old t) new.names.now
+  line-refused is retyped idle = ends-refused is (at_end (progress_over old t) new.names.now
       (subst (λ s. Retypes flags s old.names.now new.names.now) left-is retyped)) line-bound same idle

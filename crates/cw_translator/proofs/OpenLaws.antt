@@ -139,8 +139,7 @@ pub entry-roots : (old new : List (List Token)) (before : List ℕ) (entry : Lin
     → KeptRoots old new before (all_roots all ++ entry.list.index ∷ [])
     → KeptRoots old new before (all_roots (with_entry entry all))
 entry-roots old new before entry [] kept = fewer old new before [] entry.list.index kept
-entry-roots old new before entry (CText line ∷ outer) kept =
-    subst (KeptRoots old new before)
+entry-roots old new before entry (CText line ∷ outer) kept = subst (KeptRoots old new before)
     (append_assoc (all_roots outer) (roots_of line) (entry.list.index ∷ [])
     ∙ ap (λ xs. all_roots outer ++ xs) (sym (map-append (λ e. e.list.index) line (entry ∷ [])))) kept
 entry-roots old new before entry (Comment number parts ∷ outer) kept =
@@ -157,8 +156,7 @@ pub part-roots : (old new : List (List Token)) (before : List ℕ) (list : ℕ) 
 part-roots old new before list part [] is kept = fewer old new before [] list kept
 part-roots old new before list part (CText line ∷ outer) is kept = fewer old new before (all_roots (CText line ∷ outer))
     list kept
-part-roots old new before list part (Comment number parts ∷ outer) is kept =
-    subst (KeptRoots old new before)
+part-roots old new before list part (Comment number parts ∷ outer) is kept = subst (KeptRoots old new before)
     (append_assoc (all_roots outer) (inner_lists parts) (list ∷ [])
     ∙ ap (λ xs. all_roots outer ++ xs) (sym (inner-append parts (part ∷ [])
     ∙ ap (λ xs. inner_lists parts ++ xs) is))) kept
@@ -181,8 +179,7 @@ more-item m n (InnerText tree) le h = more-named m n tree le h
 
 more-frame : (m n : ℕ) (frame : Frame) → m ≤ n → IsSoundFrame m frame → IsSoundFrame n frame
 more-frame m n (CTextFrame scraps) le h = record {
-  named = λ k d b. more-named m n (get_or scraps k d).tree le
-      (h.named k d b);
+  named = λ k d b. more-named m n (get_or scraps k d).tree le (h.named k d b);
   modes = h.modes;
   fine = h.fine;
 }
@@ -202,8 +199,7 @@ scrap-sound count scrap (CTextFrame scraps ∷ frames) new all =
       named = All-append (λ s. IsNamedBelow count s.tree) scraps (scrap ∷ []) h.named new.named;
       modes = All-append scrap_agrees scraps (scrap ∷ []) h.modes new.modes;
       fine = all-append is_fine scraps (scrap ∷ []) h.fine new.fine;
-    })
-    (All-tail (IsSoundFrame count) (CTextFrame scraps) frames all)
+    }) (All-tail (IsSoundFrame count) (CTextFrame scraps) frames all)
 
 pub item-sound : (count : ℕ) (item : CommentItem) (frames : List Frame) → IsNamedItem count item
     → All (IsSoundFrame count) frames → All (IsSoundFrame count) (with_item item frames)

@@ -58,8 +58,7 @@ returns-in_err-leaf-clause-text g c = ends-refused c.from_residual.ensures.1
     (subst (λ names. NamesOfText c.args.context.now.flags.now
     (texts_in c.args.context.now) (Token (seen c.args.token.now)
     ∷ c.args.reader.now.coming) c.args.work.now.names.now (marked_names c.args.work.now.marks.now) names)
-    (sym c.in_err-leaf.ensures.no_names) (first-start c.args.context.now.flags.now
-    (texts_in c.args.context.now)
+    (sym c.in_err-leaf.ensures.no_names) (first-start c.args.context.now.flags.now (texts_in c.args.context.now)
     (texts-nested c.args.context.now.sec_names.now c.args.context.now.uses.now) c.args.work.now.store.now.lists
     c.args.work.now.names.now (marked_names c.args.work.now.marks.now) c.args.token.now c.requires.makes
     c.args.reader.now.coming c.requires.nested c.requires.start)) (omega arith)

@@ -21,19 +21,15 @@ read_behind-requires-clause-translating g c = subst (IsTranslating c.args.work.n
 
 pub returns-in_err-translator-clause-text : goal.returns-in_err-translator-clause-text
 returns-in_err-translator-clause-text g c = ends-refused c.from_residual.ensures.1
-    (here (with_texts (texts_in c.args.context.now)
-    (answers_in c.args.next.now ++ c.args.reader.now.coming))
+    (here (with_texts (texts_in c.args.context.now) (answers_in c.args.next.now ++ c.args.reader.now.coming))
     (progress_over c.args.work.now (of_leaf c.args.leaf))) (omega arith) unchanged c.requires.translating.idle
 
 pub returns-in_err-read_behind-clause-text : goal.returns-in_err-read_behind-clause-text
 returns-in_err-read_behind-clause-text g c = leaf-as c.args.context.now.flags.now
-    (texts_in c.args.context.now) c.args.leaf
-    c.in_ok-translator.ensures
+    (texts_in c.args.context.now) c.args.leaf c.in_ok-translator.ensures
     (ahead-is c.headless.result c.args.next.now c.args.reader.now.coming c.headless.ensures.name
-    c.headless.ensures.next)
-    (ends-answers-stopped c.args.context.now.flags.now
-    (with_texts (texts_in c.args.context.now)
-    (answers_ahead c.headless.result ++ c.args.reader.now.coming))
+    c.headless.ensures.next) (ends-answers-stopped c.args.context.now.flags.now
+    (with_texts (texts_in c.args.context.now) (answers_ahead c.headless.result ++ c.args.reader.now.coming))
     (progress_over c.args.work.now c.in_ok-translator.translator) c.in_err-read_behind.ensures.reads
     c.from_residual-in_err-read_behind.ensures.1)
 
@@ -41,8 +37,6 @@ pub returns-clause-text : goal.returns-clause-text
 returns-clause-text g c = leaf-as c.args.context.now.flags.now
     (texts_in c.args.context.now) c.args.leaf c.in_ok-translator.ensures
     (ahead-is c.headless.result c.args.next.now c.args.reader.now.coming c.headless.ensures.name
-    c.headless.ensures.next)
-    (ends-answers c.args.context.now.flags.now
-    (with_texts (texts_in c.args.context.now)
+    c.headless.ensures.next) (ends-answers c.args.context.now.flags.now (with_texts (texts_in c.args.context.now)
     (answers_ahead c.headless.result ++ c.args.reader.now.coming))
     (progress_over c.args.work.now c.in_ok-translator.translator) c.in_ok-read_behind.ensures.reads c.end.ensures)

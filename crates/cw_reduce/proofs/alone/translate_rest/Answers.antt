@@ -10,6 +10,5 @@ pub returns-then-stays_alone-clause-text : goal.returns-then-stays_alone-clause-
 returns-then-stays_alone-clause-text g c = subst (λ list. EndsIn (to_end c.args.context.now.flags.now
     (with_texts (texts_in c.args.context.now) list)
     (progress_over c.args.work.now (of_leaf c.args.leaf))) (of_leaf c.args.leaf) c.args.work.now c.end_alone.new.work
-    c.end_alone.result)
-    (sym (subst (λ answer. Gives c.args.reader.now.coming answer c.next-next.new.self.coming)
+    c.end_alone.result) (sym (subst (λ answer. Gives c.args.reader.now.coming answer c.next-next.new.self.coming)
     (c.is_end.ensures c.if-is_end.true) c.next-next.ensures.gives).0) (c.end_alone.ensures c.args.context.now.flags.now)

@@ -14,5 +14,4 @@ returns-in-Named g c = subst (λ head. Advances (over_head c.args.context.now.fl
 
 pub returns-in-Dead : goal.returns-in-Dead
 returns-in-Dead g c = headless-advances c.args.context.now.flags.now
-    (texts_in c.args.context.now) c.args.head c.in-Dead.is
-    c.requires.translating
+    (texts_in c.args.context.now) c.args.head c.in-Dead.is c.requires.translating

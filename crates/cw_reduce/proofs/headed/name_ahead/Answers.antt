@@ -13,5 +13,4 @@ returns-in-None g c = answers-as c.args.context.now.flags.now (progress_over c.a
 
 pub returns-in-Some : goal.returns-in-Some
 returns-in-Some g c = answers-as c.args.context.now.flags.now (progress_over c.args.work.now c.args.translator.now)
-    (ap (λ o. with_texts (texts_in c.args.context.now) (name_ahead o))
-    (sym c.in-Some.is)) c.named_answer.ensures
+    (ap (λ o. with_texts (texts_in c.args.context.now) (name_ahead o)) (sym c.in-Some.is)) c.named_answer.ensures

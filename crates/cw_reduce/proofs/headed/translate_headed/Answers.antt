@@ -19,37 +19,27 @@ read_headed-requires-clause-translating g c = head-translating c.args.work.now.s
 
 pub returns-in_err-translator-clause-text : goal.returns-in_err-translator-clause-text
 returns-in_err-translator-clause-text g c = ends-refused c.from_residual.ensures.1
-    (whole-start c.args.context.now.flags.now (texts_in c.args.context.now)
-    c.args.begun.now.head
+    (whole-start c.args.context.now.flags.now (texts_in c.args.context.now) c.args.begun.now.head
     (answers_ahead c.args.begun.now ++ c.args.reader.now.coming)
     (head_begun c.args.work.now.store.now.lists c.args.begun.now.head
     (begin c.args.work.now.names.now (marked_names c.args.work.now.marks.now)))) (omega arith) unchanged
     c.requires.sound.idle
 
 pub returns-in_err-read_headed-clause-text : goal.returns-in_err-read_headed-clause-text
-returns-in_err-read_headed-clause-text g c = headed-as c.args.context.now.flags.now
-    (texts_in c.args.context.now)
+returns-in_err-read_headed-clause-text g c = headed-as c.args.context.now.flags.now (texts_in c.args.context.now)
     (texts-nested c.args.context.now.sec_names.now c.args.context.now.uses.now) c.args.begun.now.head
     (answers_ahead c.args.begun.now ++ c.args.reader.now.coming) c.requires.nested c.in_ok-translator.ensures
-    (ends-stopped [] c.in_err-read_headed.ensures.reads c.from_residual-in_err-read_headed.ensures.1
-    (λ names h. h))
+    (ends-stopped [] c.in_err-read_headed.ensures.reads c.from_residual-in_err-read_headed.ensures.1 (λ names h. h))
 
 pub returns-clause-text : goal.returns-clause-text
-returns-clause-text g c = headed-as c.args.context.now.flags.now
-    (texts_in c.args.context.now)
+returns-clause-text g c = headed-as c.args.context.now.flags.now (texts_in c.args.context.now)
     (texts-nested c.args.context.now.sec_names.now c.args.context.now.uses.now) c.args.begun.now.head
     (answers_ahead c.args.begun.now ++ c.args.reader.now.coming) c.requires.nested c.in_ok-translator.ensures
-    (ends-as refl
-    (λ names h. behind (way-end c.args.context.now.flags.now
-    (with_texts (texts_in c.args.context.now)
+    (ends-as refl (λ names h. behind (way-end c.args.context.now.flags.now (with_texts (texts_in c.args.context.now)
     (answers_ahead c.args.begun.now ++ c.args.reader.now.coming))
-    (after_head c.args.context.now.flags.now (texts_in c.args.context.now)
-    c.args.begun.now.head
-    (progress_over c.args.work.now c.in_ok-translator.translator))
-    (after_answers c.args.context.now.flags.now
-    (with_texts (texts_in c.args.context.now)
-    (answers_ahead c.args.begun.now ++ c.args.reader.now.coming))
-    (after_head c.args.context.now.flags.now (texts_in c.args.context.now)
-    c.args.begun.now.head
+    (after_head c.args.context.now.flags.now (texts_in c.args.context.now) c.args.begun.now.head
+    (progress_over c.args.work.now c.in_ok-translator.translator)) (after_answers c.args.context.now.flags.now
+    (with_texts (texts_in c.args.context.now) (answers_ahead c.args.begun.now ++ c.args.reader.now.coming))
+    (after_head c.args.context.now.flags.now (texts_in c.args.context.now) c.args.begun.now.head
     (progress_over c.args.work.now c.in_ok-translator.translator))) names refl h))
     (ends-then [] c.in_ok-read_headed.ensures.reads c.end.ensures))

@@ -29,8 +29,7 @@ returns-in_err-begun-clause-text g c = ends-refused c.from_residual.ensures.1
 pub returns-clause-text : goal.returns-clause-text
 returns-clause-text g c = ends-behind c.in_ok-begun.ensures.head.keeps refl refl refl
     (record { names = refl; store = refl; marks = refl; steps = refl })
-    (ends-as (headed-translated c.args.context.now.flags.now
-    (texts_in c.args.context.now)
+    (ends-as (headed-translated c.args.context.now.flags.now (texts_in c.args.context.now)
     (texts-nested c.args.context.now.sec_names.now c.args.context.now.uses.now) c.read_head.new.store.lists
     c.in_ok-begun.begun.head (answers_ahead c.in_ok-begun.begun ++ c.read_head.new.reader.coming)
     (answers_in c.args.first ++ c.args.reader.now.coming) c.args.work.now.names.now c.read_head.new.names

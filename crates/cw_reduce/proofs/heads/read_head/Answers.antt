@@ -31,15 +31,13 @@ returns-in_default c = record {
 
 pub definition_head-requires-clause-nested : goal.definition_head-requires-clause-nested
 definition_head-requires-clause-nested c = (token-nested (answers_in c.args.first ++ c.args.reader.now.coming)
-    c.args.reader.now.coming
-    c.in-Token.token
+    c.args.reader.now.coming c.in-Token.token
     (token-gives c.args.first c.in-Token.token c.args.reader.now.coming c.in-Token.is) c.requires.nested)
 
 pub definition_head-requires-clause-start : goal.definition_head-requires-clause-start
 definition_head-requires-clause-start c =
     (subst (StartsBelow (2 ^ 32)) (token-gives c.args.first c.in-Token.token c.args.reader.now.coming c.in-Token.is)
-    (starts-notes (2 ^ 32) (answers_in c.args.first ++ c.args.reader.now.coming)
-    c.requires.start))
+    (starts-notes (2 ^ 32) (answers_in c.args.first ++ c.args.reader.now.coming) c.requires.start))
 
 pub returns-then-is_definition-clause-head : goal.returns-then-is_definition-clause-head
 returns-then-is_definition-clause-head c = subst (λ (h : Headed). HeadIsRead h c.args.store.now c.args.names.now
@@ -51,15 +49,13 @@ returns-then-is_definition-clause-head c = subst (λ (h : Headed). HeadIsRead h 
 
 pub read_sign-requires-clause-nested : goal.read_sign-requires-clause-nested
 read_sign-requires-clause-nested c = (token-nested (answers_in c.args.first ++ c.args.reader.now.coming)
-    c.args.reader.now.coming
-    c.in-Token.token
+    c.args.reader.now.coming c.in-Token.token
     (token-gives c.args.first c.in-Token.token c.args.reader.now.coming c.in-Token.is) c.requires.nested)
 
 pub read_sign-requires-clause-start : goal.read_sign-requires-clause-start
 read_sign-requires-clause-start c =
     (subst (StartsBelow (2 ^ 32)) (token-gives c.args.first c.in-Token.token c.args.reader.now.coming c.in-Token.is)
-    (starts-notes (2 ^ 32) (answers_in c.args.first ++ c.args.reader.now.coming)
-    c.requires.start))
+    (starts-notes (2 ^ 32) (answers_in c.args.first ++ c.args.reader.now.coming) c.requires.start))
 
 pub returns-then-is_name-clause-head : goal.returns-then-is_name-clause-head
 returns-then-is_name-clause-head c =
@@ -70,8 +66,7 @@ returns-then-is_name-clause-head c =
     record {
       made = λ flags names known. sign-made flags names c.args.store.now.lists (with_names c.args.names.now known) _
           c.read_sign.result.head (ap (λ x. x.head) named ∙ c.read_sign.ensures.head) c.read_sign.ensures.line;
-      spelt = sign-names _ c.read_sign.result.head c.args.names.now
-          (ap (λ x. x.head) named ∙ c.read_sign.ensures.head);
+      spelt = sign-names _ c.read_sign.result.head c.args.names.now (ap (λ x. x.head) named ∙ c.read_sign.ensures.head);
       rest = c.read_sign.ensures.rest ∙ ap (λ x. x.rest) (sym named);
       nested = c.read_sign.ensures.nested;
       start = c.read_sign.ensures.start;

@@ -11,12 +11,10 @@ use Rattle.cw_reduce.proofs.heads.read_sign.Goals as goal
 pub returns-in_default : goal.returns-in_default
 returns-in_default c =
     let s = unsigned-signs c.args.name c.args.reader.now.coming c.next_answer-next.new.reader.coming
-    c.next_answer-next.result
-    c.unsigned.result c.unsigned.ensures.head c.unsigned.ensures.name c.unsigned.ensures.next
+    c.next_answer-next.result c.unsigned.result c.unsigned.ensures.head c.unsigned.ensures.name c.unsigned.ensures.next
     c.next_answer-next.ensures.gives c.requires.nested c.requires.start
     (unsigned-other (seen c.args.name) c.args.reader.now.coming c.next_answer-next.new.reader.coming
-    c.next_answer-next.result
-    c.next_answer-next.ensures.gives c.in_default.not-Token) in
+    c.next_answer-next.result c.next_answer-next.ensures.gives c.in_default.not-Token) in
     record {
       head = s.head;
       line = s.line;
@@ -47,8 +45,7 @@ returns-then-not-is_head_sign c =
 
 pub overflow_cast-result-2 : goal.overflow_cast-result-2
 overflow_cast-result-2 c =
-    let h : c.in-Token.sign.span.start < 4294967296 =
-    (subst (StartsBelow (2 ^ 32)) c.in-Token.ensures.gives
+    let h : c.in-Token.sign.span.start < 4294967296 = (subst (StartsBelow (2 ^ 32)) c.in-Token.ensures.gives
     (starts-notes (2 ^ 32) c.args.reader.now.coming c.requires.start.1)).0 in
     first_of (search rules, omega (arith, h))
 

@@ -13,8 +13,7 @@ pub returns-in_default : goal.returns-in_default
 returns-in_default c =
     let ahead = answers_in c.next_answer-answer.result ++ c.next_answer-answer.new.reader.coming in
     let e = ends-other c.loop-word.wanted c.loop-word.reader.coming c.next_answer-answer.new.reader.coming
-    c.next_answer-answer.result
-    c.next_answer-answer.ensures.gives c.in_default.not-Token in
+    c.next_answer-answer.result c.next_answer-answer.ensures.gives c.in_default.not-Token in
     let read = c.loop-word.invariant.0 in
     record {
       words = reads-tokens _ _ _ _ _ _ _ _ read ahead e;

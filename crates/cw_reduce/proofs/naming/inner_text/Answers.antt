@@ -16,8 +16,7 @@ read_until_section-requires-clause-translating g c = (text-begun c.args.context.
 
 pub read_until_section-requires-clause-start : goal.read_until_section-requires-clause-start
 read_until_section-requires-clause-start g c = within-starts 4294967296 c.args.span.start c.args.span.end
-    c.over-lexer.result
-    (omega (arith, c.requires.within, c.requires.short)) c.over-lexer.ensures.within
+    c.over-lexer.result (omega (arith, c.requires.within, c.requires.short)) c.over-lexer.ensures.within
 
 pub returns-in_err-open_text : goal.returns-in_err-open_text
 returns-in_err-open_text g c = advances-unread c.args.context.now.flags.now
@@ -34,8 +33,7 @@ returns-in_err-read_until_section g c = advancing-stopped (part_answers c.args.t
     c.from_residual-in_err-read_until_section.ensures.1
 
 pub returns : goal.returns
-returns g c = advancing-last
-    (advancing-next (part_answers c.args.text.now c.args.span) (Finish text_token ∷ [])
+returns g c = advancing-last (advancing-next (part_answers c.args.text.now c.args.span) (Finish text_token ∷ [])
     (text-begun c.args.context.now.flags.now (part_answers c.args.text.now c.args.span) c.requires.translating
     c.in_ok-open_text.ensures.begins) refl
     (answers-as c.args.context.now.flags.now (progress_over c.args.work.now c.open_text.new.self)

@@ -17,7 +17,5 @@ returns-then-not-is_name g c = answers-as c.args.context.now.flags.now
 
 pub returns-in-Token : goal.returns-in-Token
 returns-in-Token g c = answers-as c.args.context.now.flags.now (progress_over c.args.work.now c.args.translator.now)
-    (sym (append-nil (token_answers (texts_in c.args.context.now)
-    c.in-Token.token.kind (seen c.in-Token.token)))
-    ∙ ap (λ a. with_texts (texts_in c.args.context.now) (answers_in a))
-    (sym c.in-Token.is)) c.section_name.ensures
+    (sym (append-nil (token_answers (texts_in c.args.context.now) c.in-Token.token.kind (seen c.in-Token.token)))
+    ∙ ap (λ a. with_texts (texts_in c.args.context.now) (answers_in a)) (sym c.in-Token.is)) c.section_name.ensures

@@ -11,8 +11,7 @@ use Rattle.cw_reduce.proofs.naming.read_named.Goals as goal
 
 pub loop-translator-init : goal.loop-translator-init
 loop-translator-init g c = (
-  advancing-begun c.args.context.now.flags.now
-      (with_texts (texts_in c.args.context.now) c.args.reader.now.coming)
+  advancing-begun c.args.context.now.flags.now (with_texts (texts_in c.args.context.now) c.args.reader.now.coming)
       c.requires.translating,
   c.requires.start,
   inl refl,
@@ -28,10 +27,8 @@ named_answer-requires g c = record {
 
 pub loop-translator-preserved : goal.loop-translator-preserved
 loop-translator-preserved g c = (
-  advancing-next (with_texts (texts_in c.args.context.now)
-      (answers_in c.next-answer.result)) (with_texts
-      (texts_in c.args.context.now) c.next-answer.new.self.coming)
-      c.loop-translator.invariant.0
+  advancing-next (with_texts (texts_in c.args.context.now) (answers_in c.next-answer.result)) (with_texts
+      (texts_in c.args.context.now) c.next-answer.new.self.coming) c.loop-translator.invariant.0
       (with-texts-next (texts_in c.args.context.now)
       c.loop-translator.reader.coming c.next-answer.new.self.coming c.next-answer.result c.next-answer.ensures.gives)
       c.in_ok-named_answer.ensures,
@@ -41,11 +38,8 @@ loop-translator-preserved g c = (
 )
 
 pub returns-in_err-named_answer-clause-reads : goal.returns-in_err-named_answer-clause-reads
-returns-in_err-named_answer-clause-reads g c = advancing-stopped
-    (with_texts (texts_in c.args.context.now)
-    (answers_in c.next-answer.result)) (with_texts
-    (texts_in c.args.context.now) c.next-answer.new.self.coming)
-    c.loop-translator.invariant.0
-    (with-texts-next (texts_in c.args.context.now)
+returns-in_err-named_answer-clause-reads g c = advancing-stopped (with_texts (texts_in c.args.context.now)
+    (answers_in c.next-answer.result)) (with_texts (texts_in c.args.context.now) c.next-answer.new.self.coming)
+    c.loop-translator.invariant.0 (with-texts-next (texts_in c.args.context.now)
     c.loop-translator.reader.coming c.next-answer.new.self.coming c.next-answer.result c.next-answer.ensures.gives)
     c.in_err-named_answer.ensures c.from_residual.ensures.1

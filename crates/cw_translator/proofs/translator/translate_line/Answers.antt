@@ -47,8 +47,7 @@ returns-clause-done g c = record {
       (tied-idle c.reduce.new.store c.in_ok-reduced.ensures.sound.idle c.tied_law.ensures)
       c.in_ok-reduced.ensures.sound.roots;
   keeps = keeps-trans c.args.work.now.store.now.lists c.reduce.new.store.lists c.put_together.new.store.lists
-      (roots_of c.args.line) (roots_of c.reduce.new.line) (c.in_ok-list.list.index ∷ [])
-      c.in_ok-reduced.ensures.others
+      (roots_of c.args.line) (roots_of c.reduce.new.line) (c.in_ok-list.list.index ∷ []) c.in_ok-reduced.ensures.others
       (gathers-keeps c.reduce.new.store.lists c.put_together.new.store.lists (roots_of c.reduce.new.line)
       c.in_ok-list.list.index c.in_ok-list.ensures.gathers
       (tied-idle c.reduce.new.store c.in_ok-reduced.ensures.sound.idle c.tied_law.ensures)
