@@ -11,9 +11,8 @@ use Rattle.cw_table.specs.Normal.{Place, Nowhere, At, next_place, Production, st
 use Rattle.cw_table.specs.Productions.{productions}
 use Rattle.cw_table.specs.Reaching.{IsAfter}
 use Rattle.cw_table.specs.Rewriting.{State, rewrite}
-use Rattle.cw_table.proofs.Normals.{steps-none, steps-turn}
+use Rattle.cw_table.proofs.Normals.{log-none-of, log-turn-of, steps-none, steps-turn}
 use Rattle.cw_rewrite.specs.Telling.{EndsWithin, StopsAt, grown_by}
-use Rattle.cw_rewrite.proofs.LogSteps.{log-turn-of}
 use Rattle.cw_check.specs.declared.checking.Verdict.{Verdict}
 use Rattle.cw_check.specs.Judging.{same_item, differs_from, refused_by, same_then, common, Compared, Judges, StandsAt}
 use Rattle.cw_check.specs.Judging.{StopsWithin, verdict_by, verdict_of}
@@ -120,13 +119,6 @@ judged ps is at le false all stop =
           (ap (slice_get is) same ∙ s.there) s.refused),
     )
 
-log-none-of : (rows : List Row) (f : Flags) (n : ℕ) (st : State) → next_place rows st ≡ Nowhere
-    → log_of rows f (suc n) st ≡ []
-log-none-of rows f n st e = ap (λ (p : Place). elim p [
-  | Nowhere ↦ []
-  | At i r ↦ record { number = r.number.number; place = i } ∷ log_of rows f n (rewrite f r i st)
-]) e
-
 -- the normal form is what as many steps lead to as there are productions
 stepped : (rows : List Row) (f : Flags) (n : ℕ) (st : State) → steps rows f (length (log_of rows f n st)) st
     ≡ steps rows f n st
@@ -136,7 +128,7 @@ stepped rows f (suc n) st = go (λ i r. stepped rows f n (rewrite f r i st)) (ne
     go : ((i : ℕ) (r : Row) → steps rows f (length (log_of rows f n (rewrite f r i st))) (rewrite f r i st)
         ≡ steps rows f n (rewrite f r i st)) → (p : Place) → next_place rows st ≡ p
         → steps rows f (length (log_of rows f (suc n) st)) st ≡ steps rows f (suc n) st
-    go rec Nowhere e = ap (λ l. steps rows f (length l) st) (log-none-of rows f n st e)
+    go rec Nowhere e = ap (λ l. steps rows f (length l) st) (log-none-of rows f (suc n) st e)
         ∙ sym (steps-none rows f (suc n) st e)
     go rec (At i r) e =
         ap (λ l. steps rows f (length l) st) (log-turn-of rows f n i r st e)

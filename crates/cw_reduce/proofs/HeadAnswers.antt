@@ -3,7 +3,7 @@ use Rattle.std.proofs.Common.{◌≡◌, ℕ, ◌+◌, ◌<◌, ◌≤◌, ◌^�
 use Rattle.std.proofs.Common.{◌++◌, option_map, refl, sym, ap, ◌∙◌, subst}
 use Rattle.std.specs.List.{list_all}
 use Rattle.std.proofs.lemmas.List.{append_assoc, append-nil}
-use Rattle.cw_base.proofs.TestLaws.{both-left, both-right}
+use Rattle.cw_base.proofs.TestLaws.{both, both-left, both-right}
 use Rattle.cw_base.specs.declared.notes.NoteKind.{NoteKind}
 use Rattle.cw_base.specs.declared.span.Span.{Span}
 use Rattle.cw_rules.specs.Answers.{Answer, Token, Begin, Finish, Note, Seen, seen, Gives}
@@ -21,7 +21,6 @@ use Rattle.cw_names.specs.Names.{Entry}
 use Rattle.cw_tokens.specs.declared.token.Token.{Token as StoredToken}
 use Rattle.cw_scraps.specs.Leaves.{LeafForm, token_form, names_with}
 use Rattle.cw_scraps.specs.Words.{is_word}
-use Rattle.cw_table.proofs.ScrapFacts.{and-both}
 use Rattle.cw_reduce.specs.HeadReading.{NamesWithin, without_notes, answer_words}
 use Rattle.cw_translator.specs.Opening.{StartsBelow, answers_in}
 use Rattle.cw_translator.specs.Translating.{first_word, form_tokens, later_words, spelled, spelled_behind, word_tokens}
@@ -282,13 +281,13 @@ head-words-fit wanted (Leaf t rest) = by (head_behind wanted t.kind t.span) (tak
         ]).words
         ≡ true
     by None is more = refl
-    by (Some next) is more = and-both (word_kind t) (list_all word_kind (head_words next rest).words) (is next refl)
+    by (Some next) is more = both (word_kind t) (list_all word_kind (head_words next rest).words) (is next refl)
         (more next)
 
 -- the first of two words, and the second
 pub first-all : (p : Seen → Bool) (words : List Seen) → list_all p words ≡ true → list_all p (first_word words) ≡ true
 first-all p [] h = refl
-first-all p (word ∷ words) h = and-both (p word) true (both-left (p word) (list_all p words) h) refl
+first-all p (word ∷ words) h = both (p word) true (both-left (p word) (list_all p words) h) refl
 
 pub later-all : (p : Seen → Bool) (words : List Seen) → list_all p words ≡ true → list_all p (later_words words) ≡ true
 later-all p [] h = refl
@@ -306,5 +305,5 @@ words-fit wanted (Token t ∷ answers) = by (head_behind wanted t.kind t.span) r
         → list_all word_kind (elim o as (λ o. List Seen) [ Some next ↦ t ∷ answer_words next answers | None ↦ [] ])
         ≡ true
     by None e more = refl
-    by (Some next) e more = and-both (word_kind t) (list_all word_kind (answer_words next answers))
+    by (Some next) e more = both (word_kind t) (list_all word_kind (answer_words next answers))
         (takes-word wanted t.kind t.span next e) (more next)

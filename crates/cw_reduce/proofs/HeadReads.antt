@@ -3,7 +3,7 @@ use Rattle.std.proofs.Common.{◌≡◌, ℕ, Bool, true, false, Option, Some, N
 use Rattle.std.proofs.Common.{subst}
 use Rattle.std.specs.List.{list_all}
 use Rattle.std.proofs.lemmas.List.{append-nil, append_assoc}
-use Rattle.cw_base.proofs.TestLaws.{both-left, both-right}
+use Rattle.cw_base.proofs.TestLaws.{both, both-left, both-right}
 use Rattle.cw_base.specs.declared.category.Cat.{Cat}
 use Rattle.cw_base.specs.declared.category.Cat.TheVariants.{Exp}
 use Rattle.cw_base.specs.declared.flags.Flags.{Flags}
@@ -25,7 +25,6 @@ use Rattle.cw_names.specs.declared.NameId.{NameId}
 use Rattle.cw_names.specs.Names.{Entry}
 use Rattle.cw_trees.specs.declared.Control.TheVariants as control
 use Rattle.cw_trees.specs.Joining.{reads, leads_on, stays}
-use Rattle.cw_table.proofs.ScrapFacts.{and-both}
 use Rattle.cw_tokens.specs.declared.token.Token.{Token}
 use Rattle.cw_tokens.specs.declared.token.Token.TheVariants as token
 use Rattle.cw_tokens.specs.Shapes.{tree_in}
@@ -170,7 +169,7 @@ words-text wanted (Leaf t rest) w = go (head_behind wanted t.kind t.span) refl (
     go (Some next) e more =
         let f = takes-text wanted t.kind t.span next w e in
         ap (λ o. list_all (name_kind) (words_by t rest o).words) e
-        ∙ and-both (name_kind t) (list_all (name_kind) (head_words next rest).words) f.0 (more next f.1)
+        ∙ both (name_kind t) (list_all (name_kind) (head_words next rest).words) f.0 (more next f.1)
 
 abbrev pub HeadFits : Head → Type 0
 HeadFits (Macro number words) = list_all word_kind words ≡ true

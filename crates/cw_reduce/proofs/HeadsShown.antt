@@ -3,7 +3,7 @@ use Rattle.std.proofs.Common.{◌≡◌, ℕ, Bool, true, false, is_some, Option
 use Rattle.std.proofs.Common.{ap}
 use Rattle.std.specs.List.{list_all}
 use Rattle.std.proofs.lemmas.List.{append-nil}
-use Rattle.cw_base.proofs.TestLaws.{both-left, both-right}
+use Rattle.cw_base.proofs.TestLaws.{both, both-left, both-right}
 use Rattle.cw_base.specs.declared.category.Cat.{Cat}
 use Rattle.cw_base.specs.declared.category.Cat.TheVariants.{Exp, Dead}
 use Rattle.cw_base.specs.declared.flags.Flags.{Flags}
@@ -17,7 +17,6 @@ use Rattle.cw_names.specs.declared.NameId.{NameId}
 use Rattle.cw_names.specs.Names.{Entry}
 use Rattle.cw_trees.specs.Flat.{struck}
 use Rattle.cw_trees.specs.declared.Control.TheVariants as control
-use Rattle.cw_table.proofs.ScrapFacts.{and-both}
 use Rattle.cw_tokens.specs.declared.token.Token.{Token}
 use Rattle.cw_tokens.specs.declared.token.Token.TheVariants as token
 use Rattle.cw_tokens.specs.Shapes.{tree_in}
@@ -95,7 +94,7 @@ plain-append xs ys ns ms p q = record {
     list-append : (xs ys : List Token) → list_all is_plain xs ≡ true → list_all is_plain ys ≡ true
         → list_all is_plain (xs ++ ys) ≡ true
     list-append [] ys a b = b
-    list-append (x ∷ xs) ys a b = and-both (is_plain x) (list_all is_plain (xs ++ ys))
+    list-append (x ∷ xs) ys a b = both (is_plain x) (list_all is_plain (xs ++ ys))
         (both-left (is_plain x) (list_all is_plain xs) a)
         (list-append xs ys (both-right (is_plain x) (list_all is_plain xs) a) b)
 

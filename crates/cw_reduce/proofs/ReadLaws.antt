@@ -3,6 +3,7 @@
 use Rattle.std.proofs.Common.{◌≡◌, ℕ, ◌+◌, Bool, true, Option, Some, None, IfSome, List, [], ◌∷◌, refl, ap, ◌∙◌, arith}
 use Rattle.std.specs.List.{All, list_all}
 use Rattle.std.proofs.lemmas.List.Elements.{All-append, All-cons, All-head, All-tail}
+use Rattle.cw_base.proofs.TestLaws.{both}
 use Rattle.cw_base.specs.declared.category.Cat.{Cat}
 use Rattle.cw_base.specs.declared.category.Cat.TheVariants.{Dead, Exp, SectionScrap}
 use Rattle.cw_base.specs.declared.flags.Flags.{Flags}
@@ -21,7 +22,7 @@ use Rattle.cw_trees.specs.Tree.{Tree, Empty, Then, Sub, Sign}
 use Rattle.cw_trees.specs.declared.Control.TheVariants as control
 use Rattle.cw_trees.specs.Joining.{Scrap, scrap_agrees, Agrees, dollar_before, in_text, blank_and_whole, whole, reads}
 use Rattle.cw_trees.specs.Joining.{leads_on}
-use Rattle.cw_table.proofs.ScrapFacts.{all-append, and-both}
+use Rattle.cw_table.proofs.ScrapFacts.{all-append}
 use Rattle.cw_table.specs.Normal.{is_fine, normal}
 use Rattle.cw_table.specs.Productions.{productions}
 use Rattle.cw_table.specs.Rewriting.{State}
@@ -119,7 +120,7 @@ reads-scrap s known a i fine f =
     record {
       scraps = one-read s a i;
       items = none-all ItemReads;
-      fine = and-both (is_fine s) true fine refl;
+      fine = both (is_fine s) true fine refl;
       known = f;
     }
 
@@ -144,7 +145,7 @@ reads-end flags m f =
 
 pub fine-end : (flags : Flags) (m : Made) → IsSoundMade m → IsFineKnown (end_of flags m).known
 fine-end flags m f = all-append fine_state m.known.ended (state_in m.scraps m.known ∷ []) f.known
-    (and-both (fine_state (state_in m.scraps m.known)) true f.fine refl)
+    (both (fine_state (state_in m.scraps m.known)) true f.fine refl)
 
 -- a token
 abbrev FormReads : Option LeafForm → Type 0

@@ -3,6 +3,7 @@ use Rattle.std.proofs.Common.{◌≡◌, ℕ, Bool, true, false, not, is_some, O
 use Rattle.std.proofs.Common.{sym, ◌∙◌, ap}
 use Rattle.std.proofs.lemmas.List.{append-nil, append_assoc}
 use Rattle.std.specs.List.{list_all}
+use Rattle.cw_base.proofs.TestLaws.{both}
 use Rattle.cw_base.specs.declared.category.Cat.{Cat}
 use Rattle.cw_base.specs.declared.category.Cat.TheVariants.{Exp, SectionScrap}
 use Rattle.cw_base.specs.declared.flags.Flags.{Flags}
@@ -23,7 +24,7 @@ use Rattle.cw_table.specs.Productions.{productions}
 use Rattle.cw_table.specs.SourceNumbers.{numbers_of}
 use Rattle.cw_table.proofs.Examples.{productions-sound}
 use Rattle.cw_table.proofs.NumberLaws.{numbers-append, normal-numbers}
-use Rattle.cw_table.proofs.ScrapFacts.{all-append, and-both}
+use Rattle.cw_table.proofs.ScrapFacts.{all-append}
 use Rattle.cw_tokens.specs.Shapes.{tree_in}
 use Rattle.cw_scraps.specs.Leaves.{LeafForm, code_form, word_form, token_form}
 use Rattle.cw_trees.specs.Tree.{Then, Sign, Empty}
@@ -155,7 +156,7 @@ shows-form : (o : Option LeafForm) (known : Known) → fine_form o ≡ true
     → Shows false (form_made o known) (form_numbers o)
 shows-form None known f = record { fine = refl; numbers_are = refl }
 shows-form (Some form) known f = record {
-  fine = and-both (is_fine (leaf_scrap form)) true f refl;
+  fine = both (is_fine (leaf_scrap form)) true f refl;
   numbers_are = append-nil (struck (tree_in [] form.tokens));
 }
 

@@ -10,7 +10,7 @@ use Rattle.cw_table.specs.Normal.{Place, Nowhere, At, next_place, steps, Product
 use Rattle.cw_table.specs.Productions.{productions}
 use Rattle.cw_table.specs.Rewriting.{State, rewrite}
 use Rattle.cw_table.specs.Rows.{row_numbered, row_of}
-use Rattle.cw_table.proofs.Normals.{steps-none, steps-turn}
+use Rattle.cw_table.proofs.Normals.{log-turn-of, steps-none, steps-turn}
 use Rattle.std.proofs.lemmas.List.{append_assoc}
 use Rattle.cw_rewrite.specs.Telling.{EndsWithin, StopsAt, grown_by}
 
@@ -29,14 +29,6 @@ numbered-own (r ∷ rows) n row e = go (λ k. numbered-own rows n row k) (eqb r.
 pub numbered-number : (rows : List Row) (n : ℕ) → row_numbered rows n ≡ Some (row_of rows n)
     → (row_of rows n).number.number ≡ n
 numbered-number rows n e = numbered-own rows n (row_of rows n) e
-
-pub log-turn-of : (rows : List Row) (f : Flags) (n i : ℕ) (r : Row) (st : State) → next_place rows st ≡ At i r
-    → log_of rows f (suc n) st ≡ record { number = r.number.number; place = i } ∷ log_of rows f n (rewrite f r i st)
-log-turn-of rows f n i r st e = ap (λ (p : Place). elim p [
-  | Nowhere ↦ []
-  | At j q ↦
-      record { number = q.number.number; place = j } ∷ log_of rows f n (rewrite f q j st)
-]) e
 
 more-of : (rows : List Row) (f : Flags) (n fuel place : ℕ) (row : Row) (state : State) → n < fuel
     → next_place rows (steps rows f n state) ≡ At place row

@@ -4,6 +4,7 @@ use Rattle.std.proofs.Common.{None, List, [], ◌∷◌, map, length, get_or, ta
 use Rattle.std.proofs.Common.{true≢false, leb-true, leb-false, length-append, length-drop, drop-drop}
 use Rattle.std.proofs.lemmas.List.{length-take-le, get_or_past}
 use Rattle.std.specs.List.{list_all}
+use Rattle.cw_base.proofs.TestLaws.{both}
 use Rattle.cw_base.specs.declared.category.Cat.{Cat}
 use Rattle.cw_base.specs.declared.category.Cat.TheVariants.{Exp, FnDecl, Stmt, End}
 use Rattle.cw_base.specs.declared.category.CatSet.{CatSet}
@@ -23,7 +24,7 @@ use Rattle.cw_table.specs.Sound.{scraps_in, numbers_from, result_from, IsLowerin
 use Rattle.cw_table.specs.Rewriting.{cats_of, takes_other, row_pieces, joined_of, alone, with_cat, new_scrap, search_in}
 use Rattle.cw_table.specs.Rewriting.{reserved_at, named_right, rewrite_from, State, rewrite}
 use Rattle.cw_table.specs.Normal.{rank_with, weight_of, weight, fine_with, is_fine}
-use Rattle.cw_table.proofs.ScrapFacts.{and-both, all-append, all-take, all-drop, all-get, rank_with-none}
+use Rattle.cw_table.proofs.ScrapFacts.{all-append, all-take, all-drop, all-get, rank_with-none}
 use Rattle.cw_table.proofs.ScrapFacts.{rank_with-least, rank-most, joined-bare, weight-append, weight-split}
 use Rattle.cw_table.proofs.ScrapFacts.{weight-least, weight-one, cats-get, cats-length, cats-drop, at-cats, at-weight}
 use Rattle.cw_table.proofs.ScrapFacts.{at-fine, at-length, right-weight, right-fine, right-length}
@@ -265,7 +266,7 @@ pub from-fine : (f : Flags) (r : Row) (ps : List Scrap) → IsSound r → row_fi
 from-fine f r ps s fits fine =
     let all = at-fine r.action.reserve ps fine in
     all-append is_fine (take r.offset (reserved_at r.action.reserve ps)) _ (all-take is_fine r.offset _ all)
-    (and-both _ _ (new-fine f r (reserved_at r.action.reserve ps) s (at-fits r ps fits) all)
+    (both _ _ (new-fine f r (reserved_at r.action.reserve ps) s (at-fits r ps fits) all)
     (right-fine (search_in r.action.reserve ps) (drop (r.offset + r.replaced) (reserved_at r.action.reserve ps))
     (all-drop is_fine (r.offset + r.replaced) _ all)))
 

@@ -122,8 +122,8 @@ pub steps-turn : (rows : List Row) (f : Flags) (n i : ℕ) (r : Row) (st : State
 steps-turn rows f n i r st e = ap (λ (p : Place). elim p [ Nowhere ↦ st | At j q ↦ steps rows f n (rewrite f q j st) ])
     e
 
-log-none-of : (rows : List Row) (f : Flags) (n : ℕ) (st : State) → next_place rows st ≡ Nowhere → log_of rows f n st
-    ≡ []
+pub log-none-of : (rows : List Row) (f : Flags) (n : ℕ) (st : State) → next_place rows st ≡ Nowhere
+    → log_of rows f n st ≡ []
 log-none-of rows f zero st e = refl
 log-none-of rows f (suc n) st e = ap (λ (p : Place). elim p [
   | Nowhere ↦ []
@@ -131,7 +131,7 @@ log-none-of rows f (suc n) st e = ap (λ (p : Place). elim p [
       record { number = r.number.number; place = i } ∷ log_of rows f n (rewrite f r i st)
 ]) e
 
-log-turn-of : (rows : List Row) (f : Flags) (n i : ℕ) (r : Row) (st : State) → next_place rows st ≡ At i r
+pub log-turn-of : (rows : List Row) (f : Flags) (n i : ℕ) (r : Row) (st : State) → next_place rows st ≡ At i r
     → log_of rows f (suc n) st ≡ record { number = r.number.number; place = i } ∷ log_of rows f n (rewrite f r i st)
 log-turn-of rows f n i r st e = ap (λ (p : Place). elim p [
   | Nowhere ↦ []

@@ -3,7 +3,7 @@ use Rattle.std.proofs.Common.{◌≡◌, ℕ, zero, suc, ◌+◌, ◌*◌, ◌<�
 use Rattle.std.proofs.Common.{[], ◌∷◌, ◌++◌, map, length, get_or, take, drop, set, refl, sym, ◌∙◌, ap, arith, add_assoc}
 use Rattle.std.proofs.Common.{zero-add, take-append-drop}
 use Rattle.std.specs.List.{list_all}
-use Rattle.cw_base.proofs.TestLaws.{both-left, both-right}
+use Rattle.cw_base.proofs.TestLaws.{both, both-left, both-right}
 use Rattle.cw_base.specs.declared.category.Cat.{Cat}
 use Rattle.cw_base.specs.declared.category.Cat.TheVariants.{Exp, RawInt, End}
 use Rattle.cw_base.specs.Category.{rank}
@@ -18,19 +18,15 @@ use Rattle.cw_table.specs.Normal.{rank_with, weight_of, weight, fine_with, is_fi
 
 -- tests of lists
 
-pub and-both : (a b : Bool) → a ≡ true → b ≡ true → (a && b) ≡ true
-and-both true b h k = k
-and-both false b h k = cc
-
 pub all-append : {A : Type 0} (p : A → Bool) (xs ys : List A) → list_all p xs ≡ true → list_all p ys ≡ true
     → list_all p (xs ++ ys) ≡ true
 all-append p [] ys h k = k
-all-append p (x ∷ xs) ys h k = and-both (p x) _ (both-left (p x) _ h) (all-append p xs ys (both-right (p x) _ h) k)
+all-append p (x ∷ xs) ys h k = both (p x) _ (both-left (p x) _ h) (all-append p xs ys (both-right (p x) _ h) k)
 
 pub all-take : {A : Type 0} (p : A → Bool) (n : ℕ) (xs : List A) → list_all p xs ≡ true → list_all p (take n xs) ≡ true
 all-take p zero xs h = refl
 all-take p (suc n) [] h = refl
-all-take p (suc n) (x ∷ xs) h = and-both (p x) _ (both-left (p x) _ h) (all-take p n xs (both-right (p x) _ h))
+all-take p (suc n) (x ∷ xs) h = both (p x) _ (both-left (p x) _ h) (all-take p n xs (both-right (p x) _ h))
 
 pub all-drop : {A : Type 0} (p : A → Bool) (n : ℕ) (xs : List A) → list_all p xs ≡ true → list_all p (drop n xs) ≡ true
 all-drop p zero xs h = h
@@ -40,8 +36,8 @@ all-drop p (suc n) (x ∷ xs) h = all-drop p n xs (both-right (p x) _ h)
 pub all-set : {A : Type 0} (p : A → Bool) (xs : List A) (n : ℕ) (y : A) → p y ≡ true → list_all p xs ≡ true
     → list_all p (set xs n y) ≡ true
 all-set p [] n y k h = refl
-all-set p (x ∷ xs) zero y k h = and-both (p y) _ k (both-right (p x) _ h)
-all-set p (x ∷ xs) (suc n) y k h = and-both (p x) _ (both-left (p x) _ h) (all-set p xs n y k (both-right (p x) _ h))
+all-set p (x ∷ xs) zero y k h = both (p y) _ k (both-right (p x) _ h)
+all-set p (x ∷ xs) (suc n) y k h = both (p x) _ (both-left (p x) _ h) (all-set p xs n y k (both-right (p x) _ h))
 
 pub all-get : {A : Type 0} (p : A → Bool) (xs : List A) (n : ℕ) (d : A) → n < length xs → list_all p xs ≡ true
     → p (get_or xs n d) ≡ true
@@ -52,7 +48,7 @@ all-get p (x ∷ xs) (suc n) d k h = all-get p xs n d (omega arith) (both-right 
 pub all-map : {A : Type 0} (p : A → Bool) (f : A → A) → ((x : A) → p x ≡ true → p (f x) ≡ true) → (xs : List A)
     → list_all p xs ≡ true → list_all p (map f xs) ≡ true
 all-map p f keeps [] h = refl
-all-map p f keeps (x ∷ xs) h = and-both (p (f x)) _ (keeps x (both-left (p x) _ h))
+all-map p f keeps (x ∷ xs) h = both (p (f x)) _ (keeps x (both-left (p x) _ h))
     (all-map p f keeps xs (both-right (p x) _ h))
 
 -- ranks

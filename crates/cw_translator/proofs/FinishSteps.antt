@@ -5,11 +5,11 @@ use Rattle.std.specs.List.{All}
 use Rattle.std.proofs.lemmas.Grind.{get_or_default_zero}
 use Rattle.std.proofs.lemmas.List.{append-nil, length-map}
 use Rattle.std.proofs.lemmas.List.Elements.{All-head, All-tail, All-cons}
+use Rattle.cw_base.proofs.TestLaws.{both}
 use Rattle.cw_base.specs.declared.flags.Flags.{Flags}
 use Rattle.cw_rules.specs.Answers.{Answer, Finish, Seen}
 use Rattle.cw_names.specs.Names.{Entry}
 use Rattle.cw_table.specs.Normal.{normal, count, is_fine}
-use Rattle.cw_table.proofs.ScrapFacts.{and-both}
 use Rattle.cw_table.specs.Productions.{productions}
 use Rattle.cw_table.specs.Rewriting.{State}
 use Rattle.cw_table.specs.WalkCounts.{reservings, ticks}
@@ -240,7 +240,7 @@ module _ {flags : Flags} {old new : StoredLists} {names : List Entry} {marks : M
         is tied open_is held)) (λ k d h. absurd (omega arith));
     modes = All-cons scrap_agrees (held_scrap held_by items) [] (held-agrees held_by items)
         (λ k d h. absurd (omega arith));
-    fine = and-both (is_fine (held_scrap held_by items)) true (held-fine held_by items) refl;
+    fine = both (is_fine (held_scrap held_by items)) true (held-fine held_by items) refl;
   }
 
   comment-frames : frames_of new.lists t'.nesting ≡ with_scrap (held_scrap held_by items) (frames_of old.lists outer)
