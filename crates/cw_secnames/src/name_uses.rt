@@ -1,5 +1,5 @@
 //! Which name each section name in a web stands for.
-ghost use Rattle.std.specs.Prelude.{◌≡◌, ◌<◌, [], ◌∷◌, ◌++◌, All, OnOk, OnErr};
+ghost use Rattle.std.specs.Prelude.{◌≡◌, ◌<◌, [], ◌∷◌, ◌++◌, All, OnOk, OnErr, Some, length, slice_get};
 ghost use Rattle.std.specs.Option.{option_map};
 ghost use Rattle.cw_secnames.specs.Kept.{id};
 ghost use Rattle.cw_secnames.specs.Uses.{NameUse, name_at};
@@ -57,6 +57,25 @@ impl NameUses {
         let name = id.index as u32;
         self.pairs.push(Pair { place, name })?;
         Ok(())
+    }
+
+    /// How many pairs there are.
+    pub fn len(&self) -> usize
+        ensures { result ≡ length self.now }
+    {
+        self.pairs.len()
+    }
+
+    /// The place and the name of the pair at this position, counted from 0.
+    pub fn pair(&self, i: usize) -> (u32, SecId)
+        requires { i < length self.now }
+        ensures { slice_get self.now i ≡ Some (record { place = result.0; name = result.1.index }) }
+    {
+        let pair = self.pairs[i];
+        let id = SecId {
+            index: pair.name as usize,
+        };
+        (pair.place, id)
     }
 
     /// The name that stands at a place. None comes where no pair has it.
