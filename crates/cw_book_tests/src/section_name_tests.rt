@@ -195,6 +195,24 @@ fn a_name_is_found_at_its_place(rt: HostRuntime) -> Result<(), Fail> {
     Ok(())
 }
 
+/// The pairs of two places and names, if there are two.
+fn two_pairs(alloc: Global) -> Result<Option<[(u32, SecId); 2]>, Memory> {
+    let mut uses = NameUses::new_in(alloc);
+    uses.add(2, SECOND)?;
+    uses.add(19, FIRST)?;
+    if uses.len() != 2 {
+        return Ok(None);
+    }
+    Ok(Some([uses.pair(0), uses.pair(1)]))
+}
+
+#[test]
+fn pairs_are_read_in_their_order(rt: HostRuntime) -> Result<(), Fail> {
+    let pairs = two_pairs(rt.alloc())?;
+    assert_eq!(rt; pairs, Some([(2, SECOND), (19, FIRST)]));
+    Ok(())
+}
+
 #[test]
 fn parts_stand_between_bars(rt: HostRuntime) -> Result<(), Fail> {
     let text = b"Do |x+|y||z| it";
