@@ -3,7 +3,6 @@ use Rattle.std.proofs.Common.{◌≡◌, ℕ, ◌+◌, ◌==◌, Bool, true, fal
 use Rattle.std.proofs.Common.{sym, ap, subst, ◌∙◌, drop}
 use Rattle.std.specs.Prelude.{slice_get}
 use Rattle.std.specs.BTreeSet.{insert_key}
-use Rattle.std.proofs.lemmas.Bool.{eqb-true}
 use Rattle.std.proofs.lemmas.List.Elements.{All-append, All-cons, All-head, All-map, All-nil, All-tail}
 use Rattle.std.proofs.lemmas.Map.Views.{All-insert_key}
 use Rattle.cw_base.specs.Web.{text_of}
@@ -12,7 +11,6 @@ use Rattle.cw_rules.specs.declared.tokens.Mode.TheVariants as modes
 use Rattle.cw_rules.specs.declared.tokens.TokKind.{TokKind}
 use Rattle.cw_rules.specs.declared.tokens.TokKind.TheVariants as kinds
 use Rattle.cw_rules.specs.Answers.{Answer, Token, Begin, Finish, Note, Seen, has_sign}
-use Rattle.cw_rules.specs.Bytes.{at_sign}
 use Rattle.cw_rules.specs.Names.{is_void}
 use Rattle.cw_lex.specs.Limbo.{is_name_kind}
 use Rattle.cw_phase1.specs.declared.roles.Standing.{Standing}
@@ -24,12 +22,11 @@ use Rattle.cw_phase1.specs.Uses.{use_by, uses_of}
 use Rattle.cw_phase1.proofs.Passing.{void-by}
 use Rattle.cw_secnames.specs.declared.kinds.SecId.{SecId}
 use Rattle.cw_secnames.specs.Kept.{SecName, id}
-use Rattle.cw_secnames.specs.Uses.{NameUse, name_at}
+use Rattle.cw_secnames.specs.Uses.{NameUse}
 use Rattle.cw_index.specs.declared.standing.Listed.{Listed}
 use Rattle.cw_index.specs.NameList.{IsWholeName}
 use Rattle.cw_index.specs.Sorted.{sorted_on}
-use Rattle.cw_index.specs.Standing.{Stand, has_reference, kept_stand, named_stand, stand_by, stand_cmp, stand_if}
-use Rattle.cw_index.specs.Standing.{stands_from}
+use Rattle.cw_index.specs.Standing.{Stand, has_reference, kept_stand, named_stands, stand_at, stand_by, stand_cmp}
 use Rattle.cw_index.specs.WholeNames.{NamesAreWhole}
 use Rattle.cw_index.proofs.NameSpans.{begun-whole}
 use Rattle.cw_index.proofs.NameTokens.{BeginsName, HaveNames, text-names}
@@ -66,19 +63,6 @@ uses-begin text s kept (Begin t ∷ answers) h = uses-begin text (behind_begin s
 uses-begin text s kept (Finish t ∷ answers) h = uses-begin text s kept answers h
 uses-begin text s kept (Note kind place ∷ answers) h = uses-begin text s kept answers h
 
-name-begins : (text : List ℕ) (uses : List NameUse) (place k : ℕ) → NamesBegin text uses
-    → name_at place uses ≡ Some k → BeginsName text place
-name-begins text [] place k h e = absurd (let wrong : ◌≡◌ {A = Option ℕ} None (Some k) = e in cc)
-name-begins text (u ∷ uses) place k h e = by (u.place == place) refl (name-begins text uses place k h.1)
-  where
-    chosen : Bool → Option ℕ
-    chosen t = elim t [ true ↦ Some u.name | false ↦ name_at place uses ]
-
-    by : (t : Bool) → (u.place == place) ≡ t → (name_at place uses ≡ Some k → BeginsName text place)
-        → BeginsName text place
-    by true same rec = subst (BeginsName text) (eqb-true u.place place same) h.0
-    by false other rec = rec (ap chosen (sym other) ∙ e)
-
 -- ## Those that are listed
 
 abbrev Whole : List ℕ → Stand → Type 0
@@ -94,24 +78,13 @@ by-kept : (text : List ℕ) (n : Option SecName) (l : Listed) → IsWholeName te
 by-kept text None l whole = All-nil (Whole text)
 by-kept text (Some n) l whole = by-reference text (has_reference n) n l whole
 
-by-name : (text : List ℕ) (kept : List SecName) (found : Option ℕ) (place : ℕ)
-    → ((k : ℕ) → found ≡ Some k → BeginsName text place) → All (Whole text) (named_stand kept found place)
-by-name text kept None place begins = All-nil (Whole text)
-by-name text kept (Some k) place begins =
-    by-kept text (slice_get kept k) (record { id = id k; place = place }) (begun-whole text place (begins k refl))
-
-by-byte : (text : List ℕ) (t : Bool) (kept : List SecName) (uses : List NameUse) (place : ℕ) → NamesBegin text uses
-    → All (Whole text) (stand_if t kept uses place)
-by-byte text true kept uses place h =
-    by-name text kept (name_at place uses) place (λ k e. name-begins text uses place k h e)
-by-byte text false kept uses place h = All-nil (Whole text)
-
-stands-whole : (text : List ℕ) (kept : List SecName) (uses : List NameUse) (place : ℕ) (bytes : List ℕ)
-    → NamesBegin text uses → All (Whole text) (stands_from kept uses place bytes)
-stands-whole text kept uses place [] h = All-nil (Whole text)
-stands-whole text kept uses place (byte ∷ bytes) h =
-    All-append (Whole text) (stand_if (byte == at_sign) kept uses place) (stands_from kept uses (place + 1) bytes)
-    (by-byte text (byte == at_sign) kept uses place h) (stands-whole text kept uses (place + 1) bytes h)
+stands-whole : (text : List ℕ) (kept : List SecName) (uses : List NameUse) → NamesBegin text uses
+    → All (Whole text) (named_stands kept uses)
+stands-whole text kept [] h = All-nil (Whole text)
+stands-whole text kept (u ∷ uses) h =
+    let listed : Listed = record { id = id u.name; place = u.place } in
+    All-append (Whole text) (stand_at kept u) (named_stands kept uses)
+    (by-kept text (slice_get kept u.name) listed (begun-whole text u.place h.0)) (stands-whole text kept uses h.1)
 
 sorted-whole : (text : List ℕ) (xs stands : List Stand) → All (Whole text) stands → All (Whole text) xs
     → All (Whole text) (sorted_on stand_cmp stands xs)
@@ -128,6 +101,6 @@ names-whole lines =
     let uses = (book lines).name_uses in
     let begin : NamesBegin text uses =
     uses-begin text at_limbo [] (answers_of lines) (text-names text 0 modes.Limbo) in
-    let stands = stands_from kept uses 0 text in
+    let stands = named_stands kept uses in
     All-map (IsWholeName text) (λ (s : Stand). s.listed) (sorted_on stand_cmp [] stands)
-    (sorted-whole text stands [] (All-nil (Whole text)) (stands-whole text kept uses 0 text begin))
+    (sorted-whole text stands [] (All-nil (Whole text)) (stands-whole text kept uses begin))

@@ -38,7 +38,7 @@ all_listed s [] names = plain [] names
 all_listed s (l ∷ ls) names = then (listed_done s l names) (all_listed s ls)
 
 abbrev pub names_done : Setting → List Entry → Done ℕ
-names_done s names = all_listed s (listed_names s.text s.book.sec_names s.book.name_uses) names
+names_done s names = all_listed s (listed_names s.book.sec_names s.book.name_uses) names
 
 -- The C texts of a listed name stand in the web's text, and no section code cuts them.
 abbrev pub IsWholeName : List ℕ → Listed → Type 0

@@ -1,13 +1,12 @@
 -- The section names that are listed, in their order.
-use Rattle.std.specs.Prelude.{ℕ, ◌+◌, ◌==◌, ◌||◌, Bool, true, false, List, [], ◌∷◌, ◌++◌, Option, Some, None, map}
-use Rattle.std.specs.Prelude.{slice_get}
+use Rattle.std.specs.Prelude.{ℕ, ◌||◌, Bool, true, false, List, [], ◌∷◌, Option, Some, None, map, slice_get}
+use Rattle.std.specs.List.{flat_map}
 use Rattle.std.specs.declared.cmp.Ordering.{Ordering}
 use Rattle.std.specs.Ordering.{nat_cmp, on, then_cmp}
 use Rattle.std.specs.Cmp.Lexicographic.{slice_cmp}
 use Rattle.cw_base.specs.Conditions.{list_if}
-use Rattle.cw_rules.specs.Bytes.{at_sign}
 use Rattle.cw_secnames.specs.Kept.{SecName, id}
-use Rattle.cw_secnames.specs.Uses.{NameUse, name_at}
+use Rattle.cw_secnames.specs.Uses.{NameUse}
 use Rattle.cw_secnames.specs.declared.kinds.SecKind.{SecKind}
 use Rattle.cw_secnames.specs.declared.kinds.SecKind.TheVariants.{Named, File}
 use Rattle.cw_index.specs.Sorted.{sorted}
@@ -43,21 +42,13 @@ abbrev pub kept_stand : Option SecName → Listed → List Stand
 kept_stand None listed = []
 kept_stand (Some n) listed = stand_by (has_reference n) n listed
 
--- the name that stands at a place, if one does
-abbrev pub named_stand : List SecName → Option ℕ → ℕ → List Stand
-named_stand kept None place = []
-named_stand kept (Some k) place = kept_stand (slice_get kept k) (record { id = id k; place = place })
+-- the name for which a section name stands, at the place of this one
+abbrev pub stand_at : List SecName → NameUse → List Stand
+stand_at kept u = kept_stand (slice_get kept u.name) (record { id = id u.name; place = u.place })
 
--- A section name begins with `@`.
-abbrev pub stand_if : Bool → List SecName → List NameUse → ℕ → List Stand
-stand_if here kept uses place = list_if here (named_stand kept (name_at place uses) place)
+-- Of the section names in a web each is listed once, at the first place where it stands.
+abbrev pub named_stands : List SecName → List NameUse → List Stand
+named_stands kept uses = flat_map (stand_at kept) uses
 
--- the names that stand in a text whose first byte has this place
-abbrev pub stands_from : List SecName → List NameUse → ℕ → List ℕ → List Stand
-stands_from kept uses place [] = []
-stands_from kept uses place (byte ∷ bytes) =
-    stand_if (byte == at_sign) kept uses place ++ stands_from kept uses (place + 1) bytes
-
--- Each is listed once, at the first place where it stands.
-abbrev pub listed_names : List ℕ → List SecName → List NameUse → List Listed
-listed_names text kept uses = map (λ s. s.listed) (sorted stand_cmp (stands_from kept uses 0 text))
+abbrev pub listed_names : List SecName → List NameUse → List Listed
+listed_names kept uses = map (λ s. s.listed) (sorted stand_cmp (named_stands kept uses))

@@ -8,4 +8,4 @@ use Rattle.cw_index.specs.Standing.{listed_names}
 -- Each name of the section list of every web is whole.
 abbrev pub NamesAreWhole : Type 0
 NamesAreWhole = (lines : List MergedLine) → All (IsWholeName (text_of lines))
-    (listed_names (text_of lines) (book lines).sec_names (book lines).name_uses)
+    (listed_names (book lines).sec_names (book lines).name_uses)

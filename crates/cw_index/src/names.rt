@@ -52,7 +52,6 @@ fn put_listed<D: Desk, L: Ledger>(
     requires can { CanWrite (D.told desk.old) out.old }
     requires short { length t.text.now ≤ 2 ^ 24 }
     requires whole { IsWholeName t.text.now listed }
-    requires within { listed.place ≤ length t.text.now }
     requires kept { AreNamesOf book.old.sec_names book.old.name_uses }
     ensures { Weaves (list_setting t.entry (lasting book.old))
         (listed_done (list_setting t.entry (lasting book.old)) listed book.old.names)
@@ -86,7 +85,6 @@ fn put_all_listed<D: Desk, L: Ledger>(
     requires can { CanWrite (D.told desk.old) out.old }
     requires short { length t.text.now ≤ 2 ^ 24 }
     requires whole { All (IsWholeName t.text.now) listed.now }
-    requires within { All (λ l. l.place ≤ length t.text.now) listed.now }
     requires kept { AreNamesOf book.old.sec_names book.old.name_uses }
     ensures { Weaves (list_setting t.entry (lasting book.old))
         (all_listed (list_setting t.entry (lasting book.old)) listed.now book.old.names)
@@ -115,14 +113,14 @@ pub fn write_names<D: Desk, L: Ledger>(
     requires can { CanWrite (D.told desk.old) out.old }
     requires kept { AreNamesOf book.old.sec_names book.old.name_uses }
     requires whole { All (IsWholeName (text_of web.now.lines))
-        (listed_names (text_of web.now.lines) book.old.sec_names book.old.name_uses) }
+        (listed_names book.old.sec_names book.old.name_uses) }
     ensures { Weaves (setting (text_of web.now.lines) flags.now 0 book.old)
         (names_done (setting (text_of web.now.lines) flags.now 0 book.old) book.old.names)
         (record { book = book.old; line = out.old; told = D.told desk.old; steps = steps.old })
         (record { book = book.new; line = out.new; told = D.told desk.new; steps = steps.new }) result }
 {
     let text = web.text();
-    let listed = listed_names(alloc, text, &book.sec_names, &book.name_uses)?;
+    let listed = listed_names(alloc, &book.sec_names, &book.name_uses)?;
     let t = ListText { text, flags, alloc };
     put_all_listed(t, &listed, book, out, desk, steps)
 }

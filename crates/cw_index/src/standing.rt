@@ -1,10 +1,7 @@
 //! The section names that are listed, sorted.
 ghost use Rattle.std.specs.Prelude.{
   ◌≡◌,
-  ◌==◌,
-  ◌^◌,
   ◌<◌,
-  ◌≤◌,
   ◌⊎◌,
   [],
   ℕ,
@@ -17,23 +14,20 @@ ghost use Rattle.std.specs.Prelude.{
   map,
   refl,
   slice_get,
-  slice_index,
   true,
 };
 ghost use Rattle.std.specs.BTreeSet.{insert_key};
 ghost use Rattle.std.specs.Cmp;
 ghost use Rattle.std.specs.Ordering.{as_partial_cmp, eq_by_cmp, on};
-ghost use Rattle.cw_rules.specs.Bytes.{at_sign};
 ghost use Rattle.cw_secnames.specs.Kept.{SecName};
 ghost use Rattle.cw_index.specs.Sorted.{sorted, sorted_on};
 ghost use Rattle.cw_index.specs.Standing.{has_any, has_reference, kept_stand, kind_place, listed_names};
-ghost use Rattle.cw_index.specs.Standing.{stand_cmp, stand_if, stands_from};
+ghost use Rattle.cw_index.specs.Standing.{named_stands, stand_cmp};
 ghost use Rattle.cw_index.specs.StandingForms.{IsSorting, stand_of, stands_of};
 ghost use Rattle.cw_index.specs.StandingLaws.{stand_cmp-total};
 
 use cw_base::Memory;
 use cw_secnames::{NameUses, SecId, SecKind, SecNames};
-use memchr::memchr;
 use std::alloc::Global;
 use std::cmp::Ordering;
 use std::collections::BTreeSet;
@@ -218,63 +212,21 @@ impl<'a> Sorting<'a> {
             None => Ok(()),
         }
     }
-
-    // The same of the name that begins with the byte at a place of the text.
-    fn enter_at(
-        &mut self,
-        text: &[u8],
-        names: &'a SecNames,
-        uses: &NameUses,
-        place: usize,
-    ) -> Result<(), Memory>
-        requires within { place < length text.now }
-        requires short { length text.now ≤ 2 ^ 24 }
-        requires sorting { IsSorting names.now self.old }
-        ensures stands { OnOk result (map stand_of self.new.stands.keys
-            ≡ sorted_on stand_cmp (map stand_of self.old.stands.keys)
-            (stand_if (slice_index text.now place == at_sign) names.now uses.now place)) }
-        ensures entered { OnOk result (IsSorting names.now self.new) }
-    {
-        if text[place] != b'@' {
-            return Ok(());
-        }
-        let place = place as u32;
-        match uses.at(place) {
-            Some(id) => self.enter(names, Listed { id, place }),
-            None => Ok(()),
-        }
-    }
 }
 
-// The first place from this one on where a text has an `@`, or else its end.
-fn next_sign(text: &[u8], from: usize) -> usize
-    requires { from ≤ length text.now }
-    ensures after { from ≤ result }
-    ensures within { result ≤ length text.now }
-    ensures none { (k : ℕ) → from ≤ k → k < result → (slice_index text.now k == at_sign) ≡ false }
-{
-    match memchr(b'@', &text[from..]) {
-        Some(before) => from + before,
-        None => text.len(),
-    }
-}
-
-// The names that stand in a text, sorted.
+// The names for which section names stand, sorted.
 fn sorted_stands<'a>(
     alloc: Global,
-    text: &[u8],
     names: &'a SecNames,
     uses: &NameUses,
 ) -> Result<BTreeSet<Standing<'a>>, Memory>
-    requires { length text.now ≤ 2 ^ 24 }
     ensures { IfOk result (λ stands. map stand_of stands.keys
-        ≡ sorted stand_cmp (stands_from names.now uses.now 0 text.now)) }
+        ≡ sorted stand_cmp (named_stands names.now uses.now)) }
 {
     let mut sorting = Sorting::of_kept(alloc, names.len())?;
-    let mut place = next_sign(text, 0);
-    while place < text.len() {
-        sorting.enter_at(text, names, uses, place)?;
-        place = next_sign(text, place + 1);
+    for i in 0..uses.len() {
+        let (place, id) = uses.pair(i);
+        sorting.enter(names, Listed { id, place })?;
     }
     let Sorting { stands, entered: _ } = sorting;
     Ok(stands)
@@ -283,14 +235,12 @@ fn sorted_stands<'a>(
 /// The section names that are listed, in their order.
 pub(crate) fn listed_names(
     alloc: Global,
-    text: &[u8],
     names: &SecNames,
     uses: &NameUses,
 ) -> Result<Vec<Listed>, Memory>
-    requires { length text.now ≤ 2 ^ 24 }
-    ensures { IfOk result (λ listed. listed.items ≡ listed_names text.now names.now uses.now) }
+    ensures { IfOk result (λ listed. listed.items ≡ listed_names names.now uses.now) }
 {
-    let stands = sorted_stands(alloc, text, names, uses)?;
+    let stands = sorted_stands(alloc, names, uses)?;
     let mut listed = Vec::new(alloc);
     for stand in stands {
         listed.push(stand.listed())?;

@@ -13,10 +13,12 @@ use cw_reduce::is_uncut;
 use std::alloc::Global;
 
 fn is_whole_name(text: &[u8], listed: Listed) -> bool
-    requires { listed.place ≤ length text.now }
     ensures whole { result ≡ true → IsWholeName text.now listed }
     ensures only { IsWholeName text.now listed → result ≡ true }
 {
+    if listed.place as usize > text.len() {
+        return false;
+    }
     let span = name_span(text, listed.place);
     if span.start > span.end || span.end > text.len() {
         return false;
@@ -25,7 +27,6 @@ fn is_whole_name(text: &[u8], listed: Listed) -> bool
 }
 
 fn are_whole(text: &[u8], listed: &[Listed]) -> bool
-    requires { All (λ l. l.place ≤ length text.now) listed.now }
     ensures whole { result ≡ true → All (IsWholeName text.now) listed.now }
     ensures only { All (IsWholeName text.now) listed.now → result ≡ true }
 {
@@ -41,11 +42,11 @@ fn are_whole(text: &[u8], listed: &[Listed]) -> bool
 /// look.
 pub fn are_names_whole(alloc: Global, web: &Web, book: &Book) -> Result<bool, Memory>
     ensures whole { IfOk result (λ whole. whole ≡ true → All (IsWholeName (text_of web.now.lines))
-        (listed_names (text_of web.now.lines) book.now.sec_names book.now.name_uses)) }
+        (listed_names book.now.sec_names book.now.name_uses)) }
     ensures only { IfOk result (λ whole. All (IsWholeName (text_of web.now.lines))
-        (listed_names (text_of web.now.lines) book.now.sec_names book.now.name_uses) → whole ≡ true) }
+        (listed_names book.now.sec_names book.now.name_uses) → whole ≡ true) }
 {
     let text = web.text();
-    let listed = listed_names(alloc, text, &book.sec_names, &book.name_uses)?;
+    let listed = listed_names(alloc, &book.sec_names, &book.name_uses)?;
     Ok(are_whole(text, &listed))
 }

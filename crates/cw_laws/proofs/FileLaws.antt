@@ -113,7 +113,7 @@ index-written true line text left = (
   (
     is-written (list_out line.outputs (name_list text line.flags left).out)
         (names-end (setting text line.flags 0 left)
-        (listed_names text left.sec_names left.name_uses) left.names),
+        (listed_names left.sec_names left.name_uses) left.names),
     tt,
   ),
 )

@@ -20,7 +20,6 @@ put_listed-requires g c = record {
   can = can-after c.requires.can c.loop-one.invariant.woven.puts;
   short = c.requires.short;
   whole = c.requires.whole c.loop-one.one-index _ c.loop-one-test.true;
-  within = c.requires.within c.loop-one.one-index _ c.loop-one-test.true;
   kept = subst (λ (l : Lasting). AreNamesOf l.sec_names l.name_uses)
       (sym c.loop-one.invariant.woven.same) c.requires.kept;
 }

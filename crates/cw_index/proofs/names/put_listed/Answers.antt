@@ -9,10 +9,14 @@ use Rattle.cw_texpart.specs.TexParts.{IsWhole}
 use Rattle.cw_index.specs.ListForms.{list_setting}
 use Rattle.cw_index.specs.NameList.{name_ending, name_span, use_notes}
 use Rattle.cw_index.proofs.ListedLaws.{back-refused, front-refused, listed-woven, text-refused}
+use Rattle.cw_index.proofs.PlaceLaws.{whole-within}
 use Rattle.cw_index.proofs.names.put_listed.Goals as goal
 
 pub returns-in_err-put_all : goal.returns-in_err-put_all
 returns-in_err-put_all g c = front-refused _ c.in_err-put_all.ensures.puts c.from_residual.ensures.1
+
+pub name_span-requires : goal.name_span-requires
+name_span-requires g c = whole-within c.args.t.text.now c.args.listed c.requires.whole
 
 pub print_text-requires : goal.print_text-requires
 print_text-requires g c =

@@ -6,4 +6,4 @@ use Rattle.cw_index.proofs.standing.listed_names.Given as goal
 
 abbrev pub invariant-loop-stand : goal.invariant-loop-stand
 invariant-loop-stand l =
-    l.listed.items ++ map (λ s. s.listed) (map stand_of l.stand-iterator) ≡ listed_names l.text l.names l.uses
+    l.listed.items ++ map (λ s. s.listed) (map stand_of l.stand-iterator) ≡ listed_names l.names l.uses
