@@ -136,9 +136,9 @@ pub record FinishStep (flags : Flags) (old new : StoredLists) (names names' : Li
 
 -- a C text ends
 module _ {flags : Flags} {old new : StoredLists} {names names' : List Entry} {marks marks' : MarkList}
-    {t t' : Translator} {line : List LineEntry} {outer : List Open} {done : Translated} {steps steps' : ℕ}
+    {t : Translator} {line : List LineEntry} {outer : List Open} {done : Translated} {steps steps' : ℕ}
     (d : LineDone flags old new names names' marks marks' line done steps steps') (is : IsTranslating old names t)
-    (tied : IsTied old.lists) (open_is : t.nesting ≡ CText line ∷ outer)
+    (tied : IsTied old.lists) (open_is : t.nesting ≡ CText line ∷ outer) (t' : Translator)
     (made : t'.nesting ≡ with_part (part.InnerText done.list) outer) where
   abbrev start : State
   start = state_of old.lists line marks names
@@ -212,8 +212,8 @@ module _ {flags : Flags} {old new : StoredLists} {names names' : List Entry} {ma
       }
 
 -- a comment ends
-module _ {flags : Flags} {old new : StoredLists} {names : List Entry} {marks : MarkList} {t t' : Translator}
-    {held_by : Holder} {parts : List CommentPart} {outer : List Open} (list : ListId) {steps : ℕ}
+module _ (flags : Flags) {old : StoredLists} (new : StoredLists) {names : List Entry} (marks : MarkList)
+    {t t' : Translator} {held_by : Holder} {parts : List CommentPart} {outer : List Open} (list : ListId) (steps : ℕ)
     (tree : unfolded new.lists list.index ≡ held_tree held_by (map (part_seen old.lists) parts))
     (gathers : Gathers old.lists new.lists (inner_lists parts) list.index) (idle : new.building ≡ None)
     (is : IsTranslating old names t) (tied : IsTied old.lists) (open_is : t.nesting ≡ Comment held_by parts ∷ outer)

@@ -44,7 +44,7 @@ returns-in_ok-count-in-Some-CText g c = λ token. text-advances c.args.context.n
     c.in_ok-done-in-Some-CText.ensures.same c.in_ok-done-in-Some-CText.ensures.idle (on_ok_weaker c.add_part.result
     (λ e. text-step c.in_ok-done-in-Some-CText.ensures.done c.requires.translating
     (tied-idle c.args.work.now.store.now c.requires.translating.idle c.tied_law.ensures)
-    (c.in-Some-CText.ensures ∙ ap (λ x. x ∷ c.end.new.self) c.in-Some-CText.field-0-is)
+    (c.in-Some-CText.ensures ∙ ap (λ x. x ∷ c.end.new.self) c.in-Some-CText.field-0-is) _
     (e ∙ ap (λ t. with_part (part.InnerText c.in_ok-done-in-Some-CText.done.list) t.nesting)
     c.in_ok-count-in-Some-CText.ensures.counted) (ap (λ t. t.scraps) c.in_ok-count-in-Some-CText.ensures.counted)
     (ap (λ t. t.productions) c.in_ok-count-in-Some-CText.ensures.counted)) c.add_part.ensures)
@@ -60,7 +60,7 @@ returns-in_err-list-in-Some-Comment g c = λ token. finish-advances c.args.conte
 pub returns-in_ok-list-in-Some-Comment : goal.returns-in_ok-list-in-Some-Comment
 returns-in_ok-list-in-Some-Comment g c = λ token. finish-advances c.args.context.now.flags.now token
     (on_ok_weaker c.add_scrap.result
-    (λ e. comment-step c.in_ok-list-in-Some-Comment.list
+    (λ e. comment-step _ _ _ c.in_ok-list-in-Some-Comment.list _
     (rw c.parts.ensures at c.in_ok-list-in-Some-Comment.ensures.tree)
     (rw c.parts.ensures at c.in_ok-list-in-Some-Comment.ensures.gathers) c.in_ok-list-in-Some-Comment.ensures.idle
     c.requires.translating (tied-idle c.args.work.now.store.now c.requires.translating.idle c.tied_law.ensures)
