@@ -11,7 +11,6 @@ use Rattle.cw_rules.specs.declared.tokens.TokKind.{TokKind}
 use Rattle.cw_rules.specs.declared.tokens.TokKind.TheVariants as kind
 use Rattle.cw_names.specs.Names.{Entry}
 use Rattle.cw_table.specs.Normal.{count}
-use Rattle.cw_table.specs.Productions.{productions}
 use Rattle.cw_tokens.specs.declared.token.Token.{Token as StoredToken}
 use Rattle.cw_tokens.specs.Stored.{StoredLists}
 use Rattle.cw_scraps.specs.Changing.{Keeps}
@@ -28,7 +27,6 @@ use Rattle.cw_translator.specs.Retyping.{NamesOnTheWay, NamesAmong, here, later}
 use Rattle.cw_translator.specs.Reading.{Progress, frames_begun, after_token}
 use Rattle.cw_translator.specs.Reading.{after_answers}
 use Rattle.cw_translator.specs.Reading.{CText as CTextFrame, Comment as CommentFrame}
-use Rattle.cw_translator.specs.Translating.{InnerText}
 use Rattle.cw_translator.proofs.LeafSteps.{Steps, Same, keeps-itself}
 
 -- what begins
