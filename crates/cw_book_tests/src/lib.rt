@@ -18,3 +18,5 @@ mod section_name_tests;
 mod small_webs;
 #[cfg(test)]
 mod tex_part_tests;
+#[cfg(test)]
+mod text_list_tests;

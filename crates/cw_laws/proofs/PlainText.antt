@@ -24,8 +24,10 @@ use Rattle.cw_texpart.specs.Done.{Done, behind, plain, reprinted}
 use Rattle.cw_texpart.specs.Heads.{depth_bytes, head, head_by}
 use Rattle.cw_print.specs.Walk.{section_number}
 use Rattle.cw_texpart.specs.Inks.{Ink, bytes_of, copied, end_if, ends_empty_line, ink_by, inks, laid}
-use Rattle.cw_texpart.specs.Limbo.{limbo_text, scanned}
-use Rattle.cw_texpart.specs.TexParts.{Copied, pieces_done, pieces_of, tex_done, tex_pieces}
+use Rattle.cw_texpart.specs.Limbo.{limbo_text}
+use Rattle.cw_texts.specs.Scans.{scanned}
+use Rattle.cw_texpart.specs.TexParts.{pieces_done, tex_done}
+use Rattle.cw_texts.specs.TexPieces.{Copied, pieces_of, tex_pieces}
 use Rattle.cw_phase1.specs.Sections.{span as span_of}
 use Rattle.cw_texpart.specs.Texts.{Setting}
 use Rattle.cw_laws.specs.TexText.{HasNo, PlainTextIsKept, behind_line_end, is_copied, kept_bytes, last_line_ended}

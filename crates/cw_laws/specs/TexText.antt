@@ -14,7 +14,8 @@ use Rattle.cw_texpart.specs.Heads.{head}
 use Rattle.cw_texpart.specs.Inks.{bytes_of, end_if, ends_empty_line}
 use Rattle.cw_texpart.specs.Limbo.{limbo_text}
 use Rattle.cw_texpart.specs.Texts.{Setting}
-use Rattle.cw_texpart.specs.TexParts.{TexPiece, Copied, InnerText, Cited, pieces_of, tex_done}
+use Rattle.cw_texpart.specs.TexParts.{tex_done}
+use Rattle.cw_texts.specs.TexPieces.{TexPiece, Copied, InnerText, Cited, pieces_of}
 
 -- this byte isn't among the bytes
 abbrev pub HasNo : ℕ → List ℕ → Type 0

@@ -16,12 +16,12 @@ use Rattle.cw_lex.specs.Openings.{opened_by, TextsEndAtOpenings}
 use Rattle.cw_rules.specs.Order.{AreWithin}
 use Rattle.cw_lex.proofs.TokensWithin.{tokens-within}
 use Rattle.cw_lex.proofs.Openings.{uncut-right}
-use Rattle.cw_part.specs.declared.definitions.Begun.{Begun}
-use Rattle.cw_part.specs.declared.definitions.Definition.{Definition}
-use Rattle.cw_part.specs.Definitions.{begun_by, beginning, ended_at, with_begun, definitions_of}
+use Rattle.cw_texts.specs.declared.definitions.Begun.{Begun}
+use Rattle.cw_texts.specs.declared.definitions.Definition.{Definition}
+use Rattle.cw_texts.specs.Definitions.{begun_by, beginning, ended_at, with_begun, definitions_of}
 use Rattle.cw_part.specs.WholeDefinitions.{DefinitionsAreWhole, RestsAreWhole}
 use Rattle.cw_part.specs.WholeTexts.{IsWholeIn, IsWholeDefinition}
-use Rattle.cw_texpart.specs.Limbo.{scanned}
+use Rattle.cw_texts.specs.Scans.{scanned}
 
 -- ## Section codes among answers
 

@@ -1,9 +1,7 @@
 -- The definitions of sections behind their TeX parts: definitions, C parts, footnotes, and whole sections.
-pub mod Definitions
 pub mod Parts
 pub mod Footnotes
 pub mod Sections
 pub mod WholeTexts
-pub mod DefinitionForms
 pub mod PresentForms
 pub mod WholeDefinitions

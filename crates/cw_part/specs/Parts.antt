@@ -2,7 +2,7 @@
 use Rattle.std.specs.Prelude.{ℕ, ◌||◌, Bool, true, false, is_some, nat_lt, List, [], ◌∷◌, ◌++◌, codes}
 use Rattle.cw_rules.specs.declared.tokens.Mode.TheVariants as modes
 use Rattle.cw_names.specs.Names.{Entry}
-use Rattle.cw_part.specs.declared.definitions.Definition.{Definition}
+use Rattle.cw_texts.specs.declared.definitions.Definition.{Definition}
 use Rattle.cw_phase1.specs.declared.sections.Section.{Section}
 use Rattle.cw_translator.specs.Counting.{scraps_in}
 use Rattle.cw_texpart.specs.Done.{Done, plain, reprinted, then}

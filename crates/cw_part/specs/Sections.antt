@@ -1,7 +1,7 @@
 -- Whole sections.
 use Rattle.std.specs.Prelude.{ℕ, suc, true, List, [], ◌∷◌, ◌++◌, codes}
 use Rattle.cw_names.specs.Names.{Entry}
-use Rattle.cw_part.specs.Definitions.{printed_definitions}
+use Rattle.cw_texts.specs.Definitions.{printed_definitions}
 use Rattle.cw_part.specs.Footnotes.{footnotes}
 use Rattle.cw_part.specs.Parts.{definitions_done, part_done}
 use Rattle.cw_phase1.specs.declared.sections.Section.{Section}

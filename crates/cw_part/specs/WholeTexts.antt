@@ -4,10 +4,10 @@ use Rattle.cw_base.specs.declared.span.Span.{Span}
 use Rattle.cw_lex.specs.Nested.{begins_section_in}
 use Rattle.cw_rules.specs.declared.tokens.Mode.{Mode}
 use Rattle.cw_rules.specs.declared.tokens.Mode.TheVariants as modes
-use Rattle.cw_part.specs.declared.definitions.Definition.{Definition}
-use Rattle.cw_part.specs.Definitions.{definitions_in}
+use Rattle.cw_texts.specs.declared.definitions.Definition.{Definition}
+use Rattle.cw_texts.specs.Definitions.{definitions_in}
 use Rattle.cw_phase1.specs.declared.sections.Section.{Section}
-use Rattle.cw_texpart.specs.Limbo.{scanned}
+use Rattle.cw_texts.specs.Scans.{scanned}
 
 -- It stands in the web's text, and no section code stands in its scan.
 pub record IsWholeIn (mode : Mode) (text : List ℕ) (part : Span) : Type 0 where

@@ -1,7 +1,6 @@
 //! Sections behind their TeX parts: definitions, C parts and footnotes, as they are printed.
 #![tactic(auto)]
 
-mod definitions;
 mod footnotes;
 mod laws;
 mod paragraphs;

@@ -2,7 +2,7 @@
 ghost use Rattle.std.specs.Prelude.{◌≡◌, ◌^◌, ◌-◌, ◌<◌, ◌≤◌, All, Some, length, slice_get, true};
 ghost use Rattle.cw_base.specs.Web.{text_of};
 ghost use Rattle.cw_lines.specs.Writes.{CanWrite, Puts};
-ghost use Rattle.cw_part.specs.Definitions.{definitions_in, printed_definitions};
+ghost use Rattle.cw_texts.specs.Definitions.{definitions_in, printed_definitions};
 ghost use Rattle.cw_part.specs.Parts.{definitions_done, opening, part_done};
 ghost use Rattle.cw_part.specs.PresentForms.{part_setting};
 ghost use Rattle.cw_part.specs.Sections.{ending, rest_done};
@@ -13,7 +13,6 @@ ghost use Rattle.cw_translator.specs.NameParts.{AreNamesOf};
 ghost use Rattle.cw_texpart.specs.Texts.{lasting, setting};
 ghost use Rattle.cw_texpart.specs.Weaving.{Weaves};
 
-use crate::definitions::Definitions;
 use crate::footnotes::put_footnotes;
 use crate::paragraphs::{Paragraph, Present, print_paragraph};
 use cw_base::{Flags, Ledger, Span, Steps, Web};
@@ -22,6 +21,7 @@ use cw_lex::Mode;
 use cw_lines::{LineOut, PutError};
 use cw_phase1::{Book, Section};
 use cw_texpart::Counts;
+use cw_texts::Definitions;
 use std::alloc::Global;
 
 // The bytes before a definition.

@@ -1,13 +1,13 @@
 //! Whether the C texts of a section are whole: no section code cuts them.
 ghost use Rattle.std.specs.Prelude.{◌≡◌, ◌≤◌, All, length, true};
-ghost use Rattle.cw_part.specs.Definitions.{definitions_in};
+ghost use Rattle.cw_texts.specs.Definitions.{definitions_in};
 ghost use Rattle.cw_part.specs.WholeTexts.{IsWholeDefinition, IsWholeIn, IsWholeRest};
 
-use crate::definitions::Definitions;
 use cw_base::Span;
 use cw_lex::Mode;
 use cw_phase1::Section;
 use cw_reduce::is_uncut;
+use cw_texts::Definitions;
 
 /// Whether the definitions of a section and its C part are whole. It scans them; who knows it from elsewhere needs no
 /// look.

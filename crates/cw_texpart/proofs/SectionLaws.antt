@@ -6,7 +6,8 @@ use Rattle.cw_lines.specs.declared.put_error.PutError.{PutError}
 use Rattle.cw_phase1.specs.declared.book.Book.{Book}
 use Rattle.cw_phase1.specs.declared.sections.Section.{Section}
 use Rattle.cw_texpart.specs.declared.counts.Counts.{Counts}
-use Rattle.cw_texpart.specs.TexParts.{IsWholePiece, pieces_of, tex_done}
+use Rattle.cw_texpart.specs.TexParts.{IsWholePiece, tex_done}
+use Rattle.cw_texts.specs.TexPieces.{pieces_of}
 use Rattle.cw_texpart.specs.Texts.{setting}
 use Rattle.cw_texpart.specs.Weaving.{Press, Weaves}
 

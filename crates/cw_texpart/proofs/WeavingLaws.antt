@@ -24,14 +24,15 @@ use Rattle.cw_table.specs.Productions.{productions}
 use Rattle.cw_table.specs.Rewriting.{State}
 use Rattle.cw_table.specs.WalkCounts.{ticks}
 use Rattle.cw_texpart.specs.declared.counts.Counts.{Counts}
-use Rattle.cw_texpart.specs.declared.pieces.Piece.{Piece}
+use Rattle.cw_texts.specs.declared.pieces.Piece.{Piece}
 use Rattle.cw_texpart.specs.Done.{Done, behind, joined, plain, reprinted}
 use Rattle.cw_print.specs.Walk.{section_number}
 use Rattle.cw_texpart.specs.Heads.{depth_bytes, head, head_by}
 use Rattle.cw_texpart.specs.Inks.{Ink, end_if, laid, prints}
 use Rattle.cw_texpart.specs.Laying.{held, held_behind, holds_bytes, inked}
-use Rattle.cw_texpart.specs.PieceForms.{piece_is}
-use Rattle.cw_texpart.specs.TexParts.{TexPiece, piece_done, pieces_done}
+use Rattle.cw_texts.specs.PieceForms.{piece_is}
+use Rattle.cw_texpart.specs.TexParts.{piece_done, pieces_done}
+use Rattle.cw_texts.specs.TexPieces.{TexPiece}
 use Rattle.cw_texpart.specs.Texts.{Setting, lasting, name_done_by, text_done}
 use Rattle.cw_texpart.specs.Weaving.{Press, Weaves, mark_at, underlined}
 use Rattle.cw_texpart.proofs.LayingLaws.{Inking, as-put, held_behind-append, inks-then, inked-prints, laid-append}

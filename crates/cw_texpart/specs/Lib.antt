@@ -9,6 +9,5 @@ pub mod TexParts
 pub mod Weaving
 pub mod Translation
 pub mod Printing
-pub mod PieceForms
 pub mod PartForms
 pub mod WholePieces

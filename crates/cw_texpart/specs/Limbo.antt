@@ -1,15 +1,9 @@
 -- Limbo as it is printed, behind the line that reads the macros.
 use Rattle.std.specs.Prelude.{ℕ, false, List, ◌++◌, codes}
 use Rattle.cw_base.specs.declared.span.Span.{Span}
-use Rattle.cw_rules.specs.Answers.{Answer}
-use Rattle.cw_lex.specs.Lexing.{tokens_of}
-use Rattle.cw_rules.specs.declared.tokens.Mode.{Mode}
 use Rattle.cw_rules.specs.declared.tokens.Mode.TheVariants as modes
+use Rattle.cw_texts.specs.Scans.{scanned}
 use Rattle.cw_texpart.specs.Inks.{inks, laid}
-
--- the answers of the scanner for a span of the text
-abbrev pub scanned : Mode → List ℕ → Span → List Answer
-scanned mode text span = tokens_of text span.start span.«end» mode
 
 abbrev pub limbo_text : List ℕ → Span → List ℕ
 limbo_text text span = laid false (inks text (scanned modes.Limbo text span))

@@ -5,8 +5,9 @@ use Rattle.cw_rules.specs.declared.tokens.Mode.TheVariants as modes
 use Rattle.cw_lex.specs.Openings.{opens_part_in}
 use Rattle.cw_phase1.specs.declared.sections.Section.{Section}
 use Rattle.cw_phase1.specs.Whole.{IsWholeSection}
-use Rattle.cw_texpart.specs.Limbo.{scanned}
-use Rattle.cw_texpart.specs.TexParts.{IsWholePiece, pieces_of}
+use Rattle.cw_texts.specs.Scans.{scanned}
+use Rattle.cw_texpart.specs.TexParts.{IsWholePiece}
+use Rattle.cw_texts.specs.TexPieces.{pieces_of}
 
 -- They are whole in TeX text in which no other part of a section begins.
 abbrev pub PiecesAreWhole : Type 0

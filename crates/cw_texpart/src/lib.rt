@@ -7,7 +7,6 @@ mod heads;
 mod inks;
 mod laws;
 mod limbo;
-mod pieces;
 mod spans;
 mod tex_parts;
 mod texts;

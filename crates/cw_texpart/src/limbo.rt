@@ -8,12 +8,12 @@ ghost use Rattle.cw_texpart.specs.Limbo.{limbo_bytes, limbo_text};
 use crate::Counts;
 use crate::copying::{end_line_if, holds_bytes};
 use crate::inks::put_token;
-use crate::spans::scan;
 use cw_base::{Span, Web};
 use cw_desk::Desk;
 use cw_lex::{Lexed, Mode};
 use cw_lines::{LineOut, PutError};
 use cw_phase1::Book;
+use cw_texts::scan;
 use std::alloc::Global;
 
 // Puts limbo, at the beginning of a line.

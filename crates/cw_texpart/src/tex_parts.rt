@@ -10,15 +10,15 @@ ghost use Rattle.cw_texpart.specs.Done.{reprinted};
 ghost use Rattle.cw_texpart.specs.Inks.{laid, token_inks};
 ghost use Rattle.cw_texpart.specs.Laying.{holds_bytes, inked};
 ghost use Rattle.cw_texpart.specs.PartForms.{tex_setting};
-ghost use Rattle.cw_texpart.specs.PieceForms.{piece_is};
-ghost use Rattle.cw_texpart.specs.TexParts.{IsWhole, IsWholePiece, piece_done, pieces_done, pieces_of, tex_done};
+ghost use Rattle.cw_texts.specs.PieceForms.{piece_is};
+ghost use Rattle.cw_texpart.specs.TexParts.{IsWhole, IsWholePiece, piece_done, pieces_done, tex_done};
+ghost use Rattle.cw_texts.specs.TexPieces.{pieces_of};
 ghost use Rattle.cw_texpart.specs.Texts.{lasting, name_done, setting, text_done};
 ghost use Rattle.cw_texpart.specs.Weaving.{Weaves};
 
 use crate::copying::{end_line_if, holds_bytes};
 use crate::heads::put_head;
 use crate::inks::put_token;
-use crate::pieces::{Piece, Pieces};
 use crate::texts::{Rooms, StoredTree, translate_into};
 use crate::{CText, Counts};
 use cw_base::{Flags, Ledger, Span, Steps, Web};
@@ -26,6 +26,7 @@ use cw_desk::Desk;
 use cw_lex::{Mode, Tok};
 use cw_lines::{LineOut, PutError};
 use cw_phase1::{Book, Section};
+use cw_texts::{Piece, Pieces};
 use std::alloc::Global;
 use std::marker::Model;
 

@@ -1,12 +1,13 @@
 //! Whether the C texts of a TeX part are whole: no section code cuts them.
 ghost use Rattle.std.specs.Prelude.{◌≡◌, true, All, IfOk};
-ghost use Rattle.cw_texpart.specs.PieceForms.{piece_is};
-ghost use Rattle.cw_texpart.specs.TexParts.{IsWhole, IsWholePiece, pieces_of};
+ghost use Rattle.cw_texts.specs.PieceForms.{piece_is};
+ghost use Rattle.cw_texpart.specs.TexParts.{IsWhole, IsWholePiece};
+ghost use Rattle.cw_texts.specs.TexPieces.{pieces_of};
 
-use crate::pieces::{Piece, Pieces};
 use cw_base::{Memory, Span};
 use cw_lex::Mode;
 use cw_reduce::is_uncut;
+use cw_texts::{Piece, Pieces};
 
 /// Whether each C text of the TeX part at a span is whole. It scans them; who knows it from elsewhere needs no look.
 pub fn is_whole(text: &[u8], part: Span) -> Result<bool, Memory>

@@ -3,9 +3,9 @@ use Rattle.std.proofs.Common.{◌≡◌, true, false, not, refl, sym, ap, subst,
 use Rattle.std.proofs.lemmas.List.Elements.{All-filter, All-head, All-tail}
 use Rattle.cw_rules.specs.declared.tokens.Mode.TheVariants.{Definition as Definitions}
 use Rattle.cw_lines.specs.WritesLaws.{can-after}
-use Rattle.cw_part.specs.declared.definitions.Definition.{Definition}
-use Rattle.cw_part.specs.DefinitionForms.{ahead, loud}
-use Rattle.cw_part.specs.Definitions.{definitions_in, not_silent}
+use Rattle.cw_texts.specs.declared.definitions.Definition.{Definition}
+use Rattle.cw_texts.specs.DefinitionForms.{loud}
+use Rattle.cw_texts.specs.Definitions.{definitions_in, not_silent}
 use Rattle.cw_part.specs.Parts.{definition_done, definitions_done}
 use Rattle.cw_part.specs.PresentForms.{part_setting}
 use Rattle.cw_part.specs.WholeTexts.{IsWholeDefinition}
@@ -18,13 +18,13 @@ use Rattle.cw_part.proofs.sections.print_definitions.Goals as goal
 pub printed-init : goal.printed-init
 printed-init g c =
     let s : Setting = part_setting c.args.p (lasting c.args.book.now) in
-    let are : ahead c.over-definitions.result ≡ definitions_in c.args.p.text.now c.args.part =
+    let are : c.over-definitions.result ≡ definitions_in c.args.p.text.now c.args.part =
     c.over-definitions.ensures in
     record {
       woven = weaving-as (ap (λ (ds : List Definition). definitions_done s true (not_silent ds)) (sym are))
           (weaving-begun s (definitions_done s true (not_silent (definitions_in c.args.p.text.now c.args.part))) _
           (record { scraps = c.none-counts.ensures.scraps; productions = c.none-counts.ensures.productions }));
-      whole = All-filter (λ d. not d.silent) (IsWholeDefinition c.args.p.text.now) (ahead c.over-definitions.result)
+      whole = All-filter (λ d. not d.silent) (IsWholeDefinition c.args.p.text.now) c.over-definitions.result
           (subst (All (IsWholeDefinition c.args.p.text.now)) (sym are) c.requires.each);
     }
 
@@ -48,7 +48,7 @@ pub returns-in_err-more-in-Some : goal.returns-in_err-more-in-Some
 returns-in_err-more-in-Some g c =
     let s : Setting = part_setting c.args.p (lasting c.args.book.now) in
     weaving-stopped (definition_done s c.printed.first (loud c.in-Some.span))
-    (definitions_done s false (not_silent (ahead c.next_printed.new.self)))
+    (definitions_done s false (not_silent c.next_printed.new.self))
     (weaving-as (ap (definitions_done s c.printed.first) c.in-Some.ensures) c.printed.invariant.woven)
     (moved c.args.p (λ (t : Setting). definition_done t c.printed.first (loud c.in-Some.span) c.printed.book.names)
     c.printed.invariant.woven.woven.same
@@ -61,7 +61,7 @@ returns-in_err-counts-in-Some g c =
     let s : Setting = part_setting c.args.p (lasting c.args.book.now) in
     weaving-wanting
     (weaving-next (definition_done s c.printed.first (loud c.in-Some.span))
-    (definitions_done s false (not_silent (ahead c.next_printed.new.self)))
+    (definitions_done s false (not_silent c.next_printed.new.self))
     (weaving-as (ap (definitions_done s c.printed.first) c.in-Some.ensures) c.printed.invariant.woven)
     (moved c.args.p (λ (t : Setting). definition_done t c.printed.first (loud c.in-Some.span) c.printed.book.names)
     c.printed.invariant.woven.woven.same
@@ -75,7 +75,7 @@ printed-preserved g c =
     let s : Setting = part_setting c.args.p (lasting c.args.book.now) in
     record {
       woven = weaving-next (definition_done s c.printed.first (loud c.in-Some.span))
-          (definitions_done s false (not_silent (ahead c.next_printed.new.self)))
+          (definitions_done s false (not_silent c.next_printed.new.self))
           (weaving-as (ap (definitions_done s c.printed.first) c.in-Some.ensures) c.printed.invariant.woven)
           (moved c.args.p (λ (t : Setting). definition_done t c.printed.first
           (loud c.in-Some.span) c.printed.book.names) c.printed.invariant.woven.woven.same

@@ -1,7 +1,6 @@
 -- The definitions so far are woven.
 use Rattle.std.proofs.Common.{true, All, length}
-use Rattle.cw_part.specs.DefinitionForms.{ahead}
-use Rattle.cw_part.specs.Definitions.{not_silent, printed_definitions}
+use Rattle.cw_texts.specs.Definitions.{not_silent, printed_definitions}
 use Rattle.cw_part.specs.Parts.{definitions_done}
 use Rattle.cw_part.specs.PresentForms.{part_setting}
 use Rattle.cw_part.specs.WholeTexts.{IsWholeDefinition}
@@ -12,14 +11,14 @@ use Rattle.cw_part.proofs.sections.print_definitions.Given as goal
 abbrev pub invariant-printed : goal.invariant-printed
 invariant-printed g l = let told = g.D.Desk.told in record {
   woven : Weaving (part_setting l.p (lasting l.fn.book))
-      (definitions_done (part_setting l.p (lasting l.fn.book)) l.first (not_silent (ahead l.definitions)))
+      (definitions_done (part_setting l.p (lasting l.fn.book)) l.first (not_silent l.definitions))
       (definitions_done (part_setting l.p (lasting l.fn.book)) true
       (printed_definitions l.p.text.now l.fn.part) l.fn.book.names)
       (record { book = l.fn.book; line = l.fn.out; told = told l.fn.desk; steps = l.fn.steps })
       (record { book = l.book; line = l.out; told = told l.desk; steps = l.steps })
       l.counts;
-  whole : All (IsWholeDefinition l.p.text.now) (not_silent (ahead l.definitions));
+  whole : All (IsWholeDefinition l.p.text.now) (not_silent l.definitions);
 }
 
 abbrev pub decreases-printed : goal.decreases-printed
-decreases-printed g l = length (not_silent (ahead l.definitions))
+decreases-printed g l = length (not_silent l.definitions)

@@ -2,8 +2,8 @@
 use Rattle.std.proofs.Common.{ℕ, true, refl, sym, ap, ◌∙◌, subst, List, arith}
 use Rattle.cw_lines.specs.WritesLaws.{can-after, puts-bytes}
 use Rattle.cw_names.specs.Names.{Entry}
-use Rattle.cw_part.specs.declared.definitions.Definition.{Definition}
-use Rattle.cw_part.specs.Definitions.{printed_definitions}
+use Rattle.cw_texts.specs.declared.definitions.Definition.{Definition}
+use Rattle.cw_texts.specs.Definitions.{printed_definitions}
 use Rattle.cw_part.specs.Parts.{definitions_done, part_done}
 use Rattle.cw_part.specs.PresentForms.{part_setting}
 use Rattle.cw_part.specs.Sections.{ending, rest_done}

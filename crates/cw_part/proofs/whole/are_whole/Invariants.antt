@@ -1,13 +1,12 @@
 -- The definitions so far are whole.
 use Rattle.std.proofs.Common.{All, length}
-use Rattle.cw_part.specs.DefinitionForms.{ahead}
-use Rattle.cw_part.specs.Definitions.{definitions_in}
+use Rattle.cw_texts.specs.Definitions.{definitions_in}
 use Rattle.cw_part.specs.WholeTexts.{IsWholeDefinition}
 use Rattle.cw_part.proofs.whole.are_whole.Given as goal
 
 abbrev pub invariant-loop-definition : goal.invariant-loop-definition
-invariant-loop-definition l = All (IsWholeDefinition l.text) (ahead l.definitions)
+invariant-loop-definition l = All (IsWholeDefinition l.text) l.definitions
     → All (IsWholeDefinition l.text) (definitions_in l.text l.fn.part)
 
 abbrev pub decreases-loop-definition : goal.decreases-loop-definition
-decreases-loop-definition l = length (ahead l.definitions)
+decreases-loop-definition l = length l.definitions

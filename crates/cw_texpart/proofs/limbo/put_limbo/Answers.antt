@@ -4,7 +4,7 @@ use Rattle.cw_rules.specs.Answers.{Token, seen}
 use Rattle.cw_rules.specs.declared.tokens.Mode.TheVariants as modes
 use Rattle.cw_lines.specs.WritesLaws.{can-after, puts-bytes}
 use Rattle.cw_texpart.specs.Inks.{answer_inks, end_if, inks, laid}
-use Rattle.cw_texpart.specs.Limbo.{scanned}
+use Rattle.cw_texts.specs.Scans.{scanned}
 use Rattle.cw_texpart.proofs.LayingLaws.{inking-as, inking-begun, inking-next, lays-ended, lays-stopped}
 use Rattle.cw_texpart.proofs.limbo.put_limbo.Goals as goal
 

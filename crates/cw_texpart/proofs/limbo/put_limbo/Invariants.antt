@@ -2,7 +2,7 @@
 use Rattle.std.proofs.Common.{length}
 use Rattle.cw_rules.specs.declared.tokens.Mode.TheVariants as modes
 use Rattle.cw_texpart.specs.Inks.{inks}
-use Rattle.cw_texpart.specs.Limbo.{scanned}
+use Rattle.cw_texts.specs.Scans.{scanned}
 use Rattle.cw_texpart.proofs.LayingLaws.{Inking}
 use Rattle.cw_texpart.proofs.limbo.put_limbo.Given as goal
 

@@ -11,11 +11,12 @@ use Rattle.cw_texpart.specs.Done.{reprinted}
 use Rattle.cw_texpart.specs.Inks.{end_if}
 use Rattle.cw_texpart.specs.Laying.{holds_bytes, inked}
 use Rattle.cw_texpart.specs.PartForms.{TexSetting, tex_setting}
-use Rattle.cw_texpart.specs.PieceForms.{piece_is, pieces_in}
-use Rattle.cw_texpart.specs.TexParts.{IsWholePiece, TexPiece, piece_done, pieces_of}
+use Rattle.cw_texts.specs.PieceForms.{piece_is}
+use Rattle.cw_texpart.specs.TexParts.{IsWholePiece, piece_done}
+use Rattle.cw_texts.specs.TexPieces.{TexPiece, pieces_of}
 use Rattle.cw_texpart.specs.Texts.{Lasting}
 use Rattle.cw_texpart.specs.Weaving.{Press, Weaves}
-use Rattle.cw_texpart.proofs.PieceLaws.{ended, gave}
+use Rattle.cw_texts.proofs.PieceLaws.{ended, gave}
 use Rattle.cw_texpart.proofs.WeavingLaws.{weaving-as, weaving-begun, weaving-counts, weaving-end-refused, weaving-ended}
 use Rattle.cw_texpart.proofs.WeavingLaws.{weaving-next, weaving-refused, weaving-stopped}
 use Rattle.cw_texpart.proofs.tex_parts.put_pieces.Goals as goal
@@ -33,7 +34,7 @@ moved {t = t} holds piece names {l' = l'} {old = old} {new = new} {result = resu
 
 pub all-init : goal.all-init
 all-init g c =
-    let begun : pieces_in c.over-pieces.result ≡ pieces_of c.args.t.now.text c.args.part =
+    let begun : c.over-pieces.result ≡ pieces_of c.args.t.now.text c.args.part =
     c.over-pieces.ensures ∙ ap (λ (s : TexSetting). pieces_of s.text c.args.part) c.t.view_is in
     record {
       woven = weaving-counts c.none-counts.ensures.scraps c.none-counts.ensures.productions

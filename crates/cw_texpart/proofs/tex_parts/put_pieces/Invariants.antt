@@ -1,22 +1,22 @@
 -- The pieces so far are woven.
 use Rattle.std.proofs.Common.{◌≡◌, All, length}
 use Rattle.cw_texpart.specs.PartForms.{tex_setting}
-use Rattle.cw_texpart.specs.PieceForms.{pieces_in}
-use Rattle.cw_texpart.specs.TexParts.{IsWholePiece, pieces_done, pieces_of}
+use Rattle.cw_texpart.specs.TexParts.{IsWholePiece, pieces_done}
+use Rattle.cw_texts.specs.TexPieces.{pieces_of}
 use Rattle.cw_texpart.specs.Texts.{lasting}
 use Rattle.cw_texpart.proofs.WeavingLaws.{Weaving}
 use Rattle.cw_texpart.proofs.tex_parts.put_pieces.Given as goal
 
 abbrev pub invariant-all : goal.invariant-all
 invariant-all g l = let told = g.D.Desk.told in record {
-  woven : Weaving (tex_setting l.fn.t (lasting l.fn.book)) (pieces_in l.pieces)
+  woven : Weaving (tex_setting l.fn.t (lasting l.fn.book)) l.pieces
       (pieces_done (tex_setting l.fn.t (lasting l.fn.book)) (pieces_of l.fn.t.text l.fn.part) l.fn.book.names)
       (record { book = l.fn.book; line = l.fn.out; told = told l.fn.desk; steps = l.fn.steps })
       (record { book = l.book; line = l.out; told = told l.desk; steps = l.steps })
       l.counts.scraps l.counts.productions;
   same : l.t ≡ l.fn.t;
-  whole : All (IsWholePiece l.fn.t.text) (pieces_in l.pieces);
+  whole : All (IsWholePiece l.fn.t.text) l.pieces;
 }
 
 abbrev pub decreases-all : goal.decreases-all
-decreases-all g l = length (pieces_in l.pieces)
+decreases-all g l = length l.pieces

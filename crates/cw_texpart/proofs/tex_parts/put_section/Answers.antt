@@ -6,7 +6,8 @@ use Rattle.cw_texpart.specs.Heads.{head}
 use Rattle.cw_texpart.specs.Inks.{laid}
 use Rattle.cw_texpart.specs.Laying.{holds_bytes}
 use Rattle.cw_texpart.specs.PartForms.{TexSetting, tex_setting}
-use Rattle.cw_texpart.specs.TexParts.{pieces_done, pieces_of}
+use Rattle.cw_texpart.specs.TexParts.{pieces_done}
+use Rattle.cw_texts.specs.TexPieces.{pieces_of}
 use Rattle.cw_texpart.specs.Texts.{lasting}
 use Rattle.cw_texpart.proofs.LayingLaws.{holds-put}
 use Rattle.cw_texpart.proofs.WeavingLaws.{head-holds, weaves-as, weaves-behind, weaves-refused}

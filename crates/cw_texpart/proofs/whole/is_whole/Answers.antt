@@ -2,7 +2,7 @@
 use Rattle.std.proofs.Common.{ap, sym, subst, All, length, arith}
 use Rattle.std.proofs.lemmas.List.Elements.{All-cons, All-nil}
 use Rattle.cw_texpart.specs.TexParts.{IsWholePiece}
-use Rattle.cw_texpart.proofs.PieceLaws.{ended, gave}
+use Rattle.cw_texts.proofs.PieceLaws.{ended, gave}
 use Rattle.cw_texpart.proofs.whole.is_whole.Goals as goal
 
 pub all-init : goal.all-init

@@ -1,7 +1,0 @@
--- `begin`: clause `ended`; said here, so that a wrong one fails at once.
-use Rattle.std.proofs.Common.{arith}
-use Rattle.std.proofs.lemmas.Grind.{common_steps}
-use Rattle.cw_part.proofs.definitions.begin.Goals as goal
-
-pub returns-clause-ended : goal.returns-clause-ended
-returns-clause-ended c = grind (arith, common_steps)

@@ -1,7 +1,0 @@
--- `next`: that its loop keeps what it says; said here, so that a wrong one fails at once.
-use Rattle.std.proofs.Common.{arith}
-use Rattle.std.proofs.lemmas.Grind.{common_steps}
-use Rattle.cw_texpart.proofs.pieces.Pieces.next.Goals as goal
-
-pub answers-preserved-in-Continue-1 : goal.answers-preserved-in-Continue-1
-answers-preserved-in-Continue-1 c = grind (arith, common_steps)

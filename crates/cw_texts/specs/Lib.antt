@@ -1,0 +1,8 @@
+-- The definitions of C texts: the pieces of TeX parts, definitions one by one, and the texts of a book in order.
+pub mod Scans
+pub mod TexPieces
+pub mod PieceForms
+pub mod Definitions
+pub mod DefinitionForms
+pub mod Printed
+pub mod Texts

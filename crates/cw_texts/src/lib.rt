@@ -1,0 +1,14 @@
+//! Where the C texts of a web stand: those in TeX parts, definitions and C parts, found by a second scan, and all of a
+//! book's sections in the order in which they are woven.
+#![tactic(auto)]
+
+mod definitions;
+mod pieces;
+mod printed;
+mod scans;
+mod text_list;
+
+pub use definitions::{Begun, Definition, Definitions};
+pub use pieces::{Piece, Pieces};
+pub use scans::scan;
+pub use text_list::{TextList, TextRef, texts};
