@@ -1,4 +1,4 @@
--- The laws of the book, of the scanner's answers and of TeX text.
+-- The laws of the book, of its C texts, of the scanner's answers and of TeX text.
 mod Rows
 pub mod SectionCodes
 pub mod Openers
@@ -15,3 +15,5 @@ pub mod Ends
 pub mod PlainText
 mod Endings
 mod FileLaws
+mod QuietParts
+pub mod BookTexts
