@@ -62,18 +62,24 @@ bytes_of texts t = printed false (map (shown texts t.known.names) (trimmed (flat
 abbrev done : Ended → List ℕ
 done t = scraps_in t.known.ended ∷ productions_in start_flags t.known.ended ∷ []
 
--- the numbers of the rows that were applied
-abbrev rows_of : Ended → List (List ℕ)
-rows_of t = map (λ log. map (λ p. p.number) log) (logs_in start_flags t.known.ended)
-
 -- `int a=b+c, *d;`
-declaration : let text = codes "@c int a=b+c, *d;" in let t = in_c_part text in
-    (done t ≡ 10 ∷ 10 ∷ []) × ((bytes_of ((8, codes "\\K") ∷ (10, codes "+") ∷ (12, codes ",") ∷ (14, codes "*")
-    ∷ (16, codes ";") ∷ []) t ≡ codes "\\&{int} \\|a${}\\K\\|b+\\|c,{}$ ${}{*}\\|d;$")
-    × ((struck t.tree ≡ 3 ∷ 7 ∷ 8 ∷ 9 ∷ 10 ∷ 11 ∷ 12 ∷ 14 ∷ 15 ∷ 16 ∷ [])
-    × (shown_numbers none_named (c_answers text) ≡ struck t.tree)))
+declaration_counts : done (in_c_part (codes "@c int a=b+c, *d;")) ≡ 10 ∷ 10 ∷ []
 unfolding translated normal log count positions looks productions
-declaration = (refl, (refl, (refl, refl)))
+declaration_counts = refl
+
+declaration_bytes : bytes_of ((8, codes "\\K") ∷ (10, codes "+") ∷ (12, codes ",") ∷ (14, codes "*") ∷ (16, codes ";")
+    ∷ []) (in_c_part (codes "@c int a=b+c, *d;")) ≡ codes "\\&{int} \\|a${}\\K\\|b+\\|c,{}$ ${}{*}\\|d;$"
+unfolding translated normal log count positions looks productions
+declaration_bytes = refl
+
+declaration_struck : struck (in_c_part (codes "@c int a=b+c, *d;")).tree ≡ 3 ∷ 7 ∷ 8 ∷ 9 ∷ 10 ∷ 11 ∷ 12 ∷ 14 ∷ 15 ∷ 16
+    ∷ []
+unfolding translated normal log count positions looks productions
+declaration_struck = refl
+
+declaration_shown : shown_numbers none_named (c_answers (codes "@c int a=b+c, *d;")) ≡ 3 ∷ 7 ∷ 8 ∷ 9 ∷ 10 ∷ 11 ∷ 12 ∷ 14
+    ∷ 15 ∷ 16 ∷ []
+declaration_shown = refl
 
 -- `if(a)b; /* c */ else d;`
 commented_bytes : bytes_of ((5, codes "(") ∷ (7, codes ")") ∷ (9, codes ";") ∷ (11, codes "\\C{") ∷ (13, codes " c ")
@@ -83,14 +89,24 @@ unfolding translated normal log count positions looks productions
 commented_bytes = refl
 
 -- `a; /* b |x /* c |y| */| */`: two comments, and two inner texts
-nested : let text = codes "@c a; /* b |x /* c |y| */| */" in let t = in_c_part text in
-    (done t ≡ 6 ∷ 3 ∷ []) × ((bytes_of ((4, codes ";") ∷ (6, codes "\\C{") ∷ (8, codes " b ") ∷ (14, codes "\\C{")
-    ∷ (16, codes " c ") ∷ (22, codes " ") ∷ (26, codes " ") ∷ []) t
-    ≡ codes "\\|a;\\C{ b \\PB{\\|x\\C{ c \\PB{\\|y} }} }")
-    × ((struck t.tree ≡ 3 ∷ 4 ∷ 6 ∷ 8 ∷ 12 ∷ 14 ∷ 16 ∷ 20 ∷ 22 ∷ 26 ∷ [])
-    × (shown_numbers none_named (c_answers text) ≡ struck t.tree)))
+nested_counts : done (in_c_part (codes "@c a; /* b |x /* c |y| */| */")) ≡ 6 ∷ 3 ∷ []
 unfolding translated normal log count positions looks productions
-nested = (refl, (refl, (refl, refl)))
+nested_counts = refl
+
+nested_bytes : bytes_of ((4, codes ";") ∷ (6, codes "\\C{") ∷ (8, codes " b ") ∷ (14, codes "\\C{") ∷ (16, codes " c ")
+    ∷ (22, codes " ") ∷ (26, codes " ") ∷ []) (in_c_part (codes "@c a; /* b |x /* c |y| */| */"))
+    ≡ codes "\\|a;\\C{ b \\PB{\\|x\\C{ c \\PB{\\|y} }} }"
+unfolding translated normal log count positions looks productions
+nested_bytes = refl
+
+nested_struck : struck (in_c_part (codes "@c a; /* b |x /* c |y| */| */")).tree ≡ 3 ∷ 4 ∷ 6 ∷ 8 ∷ 12 ∷ 14 ∷ 16 ∷ 20 ∷ 22
+    ∷ 26 ∷ []
+unfolding translated normal log count positions looks productions
+nested_struck = refl
+
+nested_visible : shown_numbers none_named (c_answers (codes "@c a; /* b |x /* c |y| */| */"))
+    ≡ 3 ∷ 4 ∷ 6 ∷ 8 ∷ 12 ∷ 14 ∷ 16 ∷ 20 ∷ 22 ∷ 26 ∷ []
+nested_visible = refl
 
 -- `) } ; @;`: three scraps are left
 left_bytes : bytes_of ((3, codes ")") ∷ (5, codes "\\}") ∷ (7, codes ";") ∷ []) (in_c_part (codes "@c ) } ; @;"))
@@ -111,42 +127,53 @@ unfolding translated normal log count positions looks productions
 conditional_bytes = refl
 
 -- `struct s p={.x=1,.y=2};`
-field_names : let t = in_c_part (codes "@c struct s p={.x=1,.y=2};") in
-    (bytes_of ((13, codes "\\K") ∷ (14, codes "\\{") ∷ (15, codes ".") ∷ (17, codes "\\K")
+field_names_bytes : bytes_of ((13, codes "\\K") ∷ (14, codes "\\{") ∷ (15, codes ".") ∷ (17, codes "\\K")
     ∷ (18, codes "\\T{1}") ∷ (19, codes ",") ∷ (20, codes ".") ∷ (22, codes "\\K") ∷ (23, codes "\\T{2}")
-    ∷ (24, codes "\\}") ∷ (25, codes ";") ∷ []) t
-    ≡ codes "\\&{struct} \\|s \\|p${}\\K\\{{.}\\|x\\K\\T{1},\\39{.}\\|y\\K\\T{2}\\};$")
-    × (rows_of t ≡ (43 ∷ 29 ∷ 33 ∷ 95 ∷ 6 ∷ 95 ∷ 7 ∷ 6 ∷ 51 ∷ 34 ∷ 37 ∷ []) ∷ [])
+    ∷ (24, codes "\\}") ∷ (25, codes ";") ∷ []) (in_c_part (codes "@c struct s p={.x=1,.y=2};"))
+    ≡ codes "\\&{struct} \\|s \\|p${}\\K\\{{.}\\|x\\K\\T{1},\\39{.}\\|y\\K\\T{2}\\};$"
 unfolding translated normal log count positions looks productions
-field_names = (refl, refl)
+field_names_bytes = refl
 
 -- `x=(int){1};`
-literal : let t = in_c_part (codes "@c x=(int){1};") in
-    (bytes_of ((4, codes "\\K") ∷ (5, codes "(") ∷ (9, codes ")") ∷ (10, codes "\\{") ∷ (11, codes "\\T{1}")
-    ∷ (12, codes "\\}") ∷ (13, codes ";") ∷ []) t ≡ codes "$\\|x\\K(\\&{int})\\{\\T{1}\\};$")
-    × (rows_of t ≡ (89 ∷ 14 ∷ 94 ∷ 6 ∷ 8 ∷ []) ∷ [])
+literal_bytes : bytes_of ((4, codes "\\K") ∷ (5, codes "(") ∷ (9, codes ")") ∷ (10, codes "\\{") ∷ (11, codes "\\T{1}")
+    ∷ (12, codes "\\}") ∷ (13, codes ";") ∷ []) (in_c_part (codes "@c x=(int){1};"))
+    ≡ codes "$\\|x\\K(\\&{int})\\{\\T{1}\\};$"
 unfolding translated normal log count positions looks productions
-literal = (refl, refl)
+literal_bytes = refl
 
 -- `_Generic(x,default:2);`
-selection : let t = in_c_part (codes "@c _Generic(x,default:2);") in
-    (bytes_of ((11, codes "(") ∷ (13, codes ",") ∷ (21, codes ":") ∷ (22, codes "\\T{2}") ∷ (23, codes ")")
-    ∷ (24, codes ";") ∷ []) t ≡ codes "\\&{\\_Generic} ${}(\\|x,\\39{}$\\&{default}: \\T{2});")
-    × (rows_of t ≡ (15 ∷ 67 ∷ 96 ∷ 12 ∷ 26 ∷ 8 ∷ []) ∷ [])
+selection_bytes : bytes_of ((11, codes "(") ∷ (13, codes ",") ∷ (21, codes ":") ∷ (22, codes "\\T{2}") ∷ (23, codes ")")
+    ∷ (24, codes ";") ∷ []) (in_c_part (codes "@c _Generic(x,default:2);"))
+    ≡ codes "\\&{\\_Generic} ${}(\\|x,\\39{}$\\&{default}: \\T{2});"
 unfolding translated normal log count positions looks productions
-selection = (refl, refl)
+selection_bytes = refl
 
 -- `a.b;`
-field : let t = in_c_part (codes "@c a.b;") in
-    (bytes_of ((4, codes ".") ∷ (6, codes ";") ∷ []) t ≡ codes "$\\|a.\\|b;$")
-    × (rows_of t ≡ (97 ∷ 6 ∷ 8 ∷ []) ∷ [])
+field_bytes : bytes_of ((4, codes ".") ∷ (6, codes ";") ∷ []) (in_c_part (codes "@c a.b;")) ≡ codes "$\\|a.\\|b;$"
 unfolding translated normal log count positions looks productions
-field = (refl, refl)
+field_bytes = refl
 
--- `i=i+1;`
-sum_log : rows_of (in_c_part (codes "@c i=i+1;")) ≡ (6 ∷ 6 ∷ 8 ∷ []) ∷ []
+field_names_log : map (λ log. map (λ p. p.number) log)
+    (logs_in start_flags (in_c_part (codes "@c struct s p={.x=1,.y=2};")).known.ended)
+    ≡ (43 ∷ 29 ∷ 33 ∷ 95 ∷ 6 ∷ 95 ∷ 7 ∷ 6 ∷ 51 ∷ 34 ∷ 37 ∷ []) ∷ []
 unfolding translated normal log count positions looks productions
-sum_log = refl
+field_names_log = refl
+
+literal_log : map (λ log. map (λ p. p.number) log)
+    (logs_in start_flags (in_c_part (codes "@c x=(int){1};")).known.ended) ≡ (89 ∷ 14 ∷ 94 ∷ 6 ∷ 8 ∷ []) ∷ []
+unfolding translated normal log count positions looks productions
+literal_log = refl
+
+selection_log : map (λ log. map (λ p. p.number) log)
+    (logs_in start_flags (in_c_part (codes "@c _Generic(x,default:2);")).known.ended)
+    ≡ (15 ∷ 67 ∷ 96 ∷ 12 ∷ 26 ∷ 8 ∷ []) ∷ []
+unfolding translated normal log count positions looks productions
+selection_log = refl
+
+field_log : map (λ log. map (λ p. p.number) log) (logs_in start_flags (in_c_part (codes "@c a.b;")).known.ended)
+    ≡ (97 ∷ 6 ∷ 8 ∷ []) ∷ []
+unfolding translated normal log count positions looks productions
+field_log = refl
 
 -- `a; /* |b| */`, and inner C text of one identifier
 counted : done (in_c_part (codes "@c a; /* |b| */")) ≡ 4 ∷ 2 ∷ []
@@ -166,30 +193,25 @@ macro_bytes : bytes_of ((0, codes "\\D") ∷ (5, codes "\\T{3}") ∷ []) (in_def
 unfolding translated normal log count positions looks productions
 macro_bytes = refl
 
-parameters : let text = codes "@d n(a, b)a+b" in let t = in_definition text in
-    (bytes_of ((0, codes "\\D") ∷ (4, codes "(") ∷ (6, codes ",") ∷ (9, codes ")") ∷ (11, codes "+") ∷ []) t
-    ≡ codes "\\4\\D$\\|n(\\|a,\\|b)$\\5$\\|a+\\|b$")
-    × ((struck t.tree ≡ 0 ∷ 3 ∷ 4 ∷ 5 ∷ 6 ∷ 8 ∷ 9 ∷ 10 ∷ 11 ∷ 12 ∷ [])
-    × (shown_numbers none_named (tokens_of text 0 13 Definition) ≡ struck t.tree))
+parameter_bytes : bytes_of ((0, codes "\\D") ∷ (4, codes "(") ∷ (6, codes ",") ∷ (9, codes ")") ∷ (11, codes "+") ∷ [])
+    (in_definition (codes "@d n(a, b)a+b")) ≡ codes "\\4\\D$\\|n(\\|a,\\|b)$\\5$\\|a+\\|b$"
 unfolding translated normal log count positions looks productions
-parameters = (refl, (refl, refl))
+parameter_bytes = refl
 
-improper : let t = in_definition (codes "@d n(a+b") in
-    (bytes_of ((0, codes "\\D") ∷ (4, codes "(") ∷ (6, codes "+") ∷ []) t
-    ≡ codes "\\4\\D$\\|n(\\|a$\\5${+}\\|b$") × (reads t.tree Text ≡ Some Text)
+improper_bytes : bytes_of ((0, codes "\\D") ∷ (4, codes "(") ∷ (6, codes "+") ∷ []) (in_definition (codes "@d n(a+b"))
+    ≡ codes "\\4\\D$\\|n(\\|a$\\5${+}\\|b$"
 unfolding translated normal log count positions looks productions
-improper = (refl, refl)
+improper_bytes = refl
 
 empty_macro_bytes : bytes_of ((0, codes "\\D") ∷ (3, codes "\\T{3}") ∷ []) (in_definition (codes "@d 3"))
     ≡ codes "\\4\\D\\5\\T{3}"
 unfolding translated normal log count positions looks productions
 empty_macro_bytes = refl
 
-format : let t = in_definition (codes "@f foo int") in
-    (bytes_of ((0, codes "\\F") ∷ []) t ≡ codes "\\4\\F\\\\{foo}\\5\\&{int}")
-    × ((struck t.tree ≡ 0 ∷ 3 ∷ 7 ∷ []) × (reads t.tree Text ≡ Some Text))
+format_bytes : bytes_of ((0, codes "\\F") ∷ []) (in_definition (codes "@f foo int"))
+    ≡ codes "\\4\\F\\\\{foo}\\5\\&{int}"
 unfolding translated normal log count positions looks productions
-format = (refl, (refl, refl))
+format_bytes = refl
 
 -- A parenthesis behind a blank begins no parameters, and a number is no second name.
 spaced_bytes : bytes_of ((0, codes "\\D") ∷ (5, codes "(") ∷ (7, codes ")") ∷ []) (in_definition (codes "@d f (a)"))
@@ -202,10 +224,13 @@ improper_format_bytes : bytes_of ((0, codes "\\F") ∷ (5, codes "\\T{5}") ∷ [
 unfolding translated normal log count positions looks productions
 improper_format_bytes = refl
 
-silent : let text = codes "@s foo int" in
-    (bytes_of [] (in_definition text) ≡ []) × (shown_numbers none_named (tokens_of text 0 10 Definition) ≡ [])
+silent_bytes : bytes_of [] (in_definition (codes "@s foo int")) ≡ []
 unfolding translated normal log count positions looks productions
-silent = (refl, refl)
+silent_bytes = refl
+
+format_struck : struck (in_definition (codes "@f foo int")).tree ≡ 0 ∷ 3 ∷ 7 ∷ []
+unfolding translated normal log count positions looks productions
+format_struck = refl
 
 -- Section names. The text of the name at 3 is `A |x+1| b`.
 abbrev in_name : List ℕ → List Answer
@@ -217,12 +242,18 @@ named_at_three number = elim (eqb number 3) [ true ↦ Some (in_name (codes "A |
 abbrev with_name : List ℕ → Ended
 with_name text = translated start_flags named_at_three (c_answers text) built_in_words []
 
-name : let t = with_name (codes "@c @<A |x+1| b@>;") in
-    (done t ≡ 5 ∷ 2 ∷ []) × ((bytes_of ((3, codes "\\X1:A ") ∷ (4, codes "+") ∷ (5, codes "\\T{1}")
-    ∷ (16, codes ";") ∷ []) t ≡ codes "\\X1:A \\PB{$\\|x+\\T{1}$};")
-    × ((struck t.tree ≡ 3 ∷ 16 ∷ []) × (reads t.tree Text ≡ Some Text)))
+name_bytes : bytes_of ((3, codes "\\X1:A ") ∷ (4, codes "+") ∷ (5, codes "\\T{1}") ∷ (16, codes ";") ∷ [])
+    (with_name (codes "@c @<A |x+1| b@>;")) ≡ codes "\\X1:A \\PB{$\\|x+\\T{1}$};"
 unfolding translated normal log count positions looks productions
-name = (refl, (refl, (refl, refl)))
+name_bytes = refl
+
+name_struck : struck (with_name (codes "@c @<A |x+1| b@>;")).tree ≡ 3 ∷ 16 ∷ []
+unfolding translated normal log count positions looks productions
+name_struck = refl
+
+name_counts : done (with_name (codes "@c @<A |x+1| b@>;")) ≡ 5 ∷ 2 ∷ []
+unfolding translated normal log count positions looks productions
+name_counts = refl
 
 -- A name without a pair makes no leaf.
 ignored_struck : struck (with_name (codes "@c a; @<B@>;")).tree ≡ 3 ∷ 4 ∷ 11 ∷ []
@@ -238,11 +269,14 @@ named_at_zero number = elim (eqb number 0) [
 abbrev with_head : List ℕ → Ended
 with_head text = translated start_flags named_at_zero (c_answers text) built_in_words []
 
-head : let t = with_head (codes "@<A |x| b@> = y;") in
-    (bytes_of ((0, codes "\\X1:A ") ∷ (12, codes "${}\\E{}$") ∷ (15, codes ";") ∷ []) t
-    ≡ codes "\\X1:A \\PB{\\|x}${}\\E{}$\\6\n\\|y;") × (struck t.tree ≡ 0 ∷ 12 ∷ 14 ∷ 15 ∷ [])
+head_bytes : bytes_of ((0, codes "\\X1:A ") ∷ (12, codes "${}\\E{}$") ∷ (15, codes ";") ∷ [])
+    (with_head (codes "@<A |x| b@> = y;")) ≡ codes "\\X1:A \\PB{\\|x}${}\\E{}$\\6\n\\|y;"
 unfolding translated normal log count positions looks productions
-head = (refl, refl)
+head_bytes = refl
+
+head_struck : struck (with_head (codes "@<A |x| b@> = y;")).tree ≡ 0 ∷ 12 ∷ 14 ∷ 15 ∷ []
+unfolding translated normal log count positions looks productions
+head_struck = refl
 
 -- The parts of names.
 abbrev by_text : ℕ → Option (List (List Answer))
@@ -264,6 +298,36 @@ macro_reads : reads (in_definition (codes "@d n(a, b, ...)a+b")).tree Text ≡ S
 unfolding translated normal log count positions looks productions
 macro_reads = refl
 
+improper_reads : reads (in_definition (codes "@d n(a+b")).tree Text ≡ Some Text
+unfolding translated normal log count positions looks productions
+improper_reads = refl
+
+format_reads : reads (in_definition (codes "@f foo int")).tree Text ≡ Some Text
+unfolding translated normal log count positions looks productions
+format_reads = refl
+
 head_reads : reads (with_head (codes "@<A |x| b@> = y+1;")).tree Text ≡ Some Text
 unfolding translated normal log count positions looks productions
 head_reads = refl
+
+name_reads : reads (with_name (codes "@c @<A |x+1| b@>;")).tree Text ≡ Some Text
+unfolding translated normal log count positions looks productions
+name_reads = refl
+
+-- What is shown.
+macro_struck : struck (in_definition (codes "@d n(a, b)a+b")).tree ≡ 0 ∷ 3 ∷ 4 ∷ 5 ∷ 6 ∷ 8 ∷ 9 ∷ 10 ∷ 11 ∷ 12 ∷ []
+unfolding translated normal log count positions looks productions
+macro_struck = refl
+
+macro_shown : shown_numbers none_named (tokens_of (codes "@d n(a, b)a+b") 0 13 Definition)
+    ≡ 0 ∷ 3 ∷ 4 ∷ 5 ∷ 6 ∷ 8 ∷ 9 ∷ 10 ∷ 11 ∷ 12 ∷ []
+macro_shown = refl
+
+silent_shown : shown_numbers none_named (tokens_of (codes "@s foo int") 0 10 Definition) ≡ []
+silent_shown = refl
+
+-- The log of `i=i+1;`.
+sum_log : map (λ log. map (λ p. p.number) log) (logs_in start_flags (in_c_part (codes "@c i=i+1;")).known.ended)
+    ≡ (6 ∷ 6 ∷ 8 ∷ []) ∷ []
+unfolding translated normal log count positions looks productions
+sum_log = refl
