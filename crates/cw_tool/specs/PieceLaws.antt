@@ -19,8 +19,8 @@ pub open-after : {T : Type 0} {events : List Event} {a b : Told} {result : Resul
 open-after out there piece = subst (λ (outputs : Outputs). IsTrue (is_open outputs out)) (sym piece.same.same_outputs)
     there
 
-pub piece-then : {T U : Type 0} {a b c : Told} {value : T} {result : Result U PutError} (out : Out) (first rest : List ℕ)
-    → Adds {T = T} (byte_events out first) a b (Ok value) → Adds (byte_events out rest) b c result
+pub piece-then : {T U : Type 0} {a b c : Told} {value : T} {result : Result U PutError} (out : Out)
+    (first rest : List ℕ) → Adds {T = T} (byte_events out first) a b (Ok value) → Adds (byte_events out rest) b c result
     → Adds (byte_events out (first ++ rest)) a c result
 piece-then out first rest begun ended = adds-events (sym (byte_events-append out first rest)) (adds-then begun ended)
 

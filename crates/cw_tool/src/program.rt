@@ -29,7 +29,7 @@ impl<'a, T: Tool> Program for ToolProgram<'a, T> {
 }
 
 /// Runs a program over real files. Over all files that would have given the answers that the system gave, just what the
-/// words ask for was handed to the system, and the status is theirs; or a first part of it, with status Fault or Memory.
+/// words ask for was handed to the system, and the status is theirs; or a first part of it, with Fault or Memory.
 pub fn run_files<P: Program>(
     rt: HostRuntime,
     alloc: Global,

@@ -71,7 +71,9 @@ fn write_file<T: Tool, D: Desk, L: Ledger>(
 {
     // The bytes go to the file itself, since its lines aren't cut.
     begin_file(source.alloc, desk, Out::Tex, source.out, false)?;
-    source.tool.write(source.alloc, source.web, book, desk, steps)?;
+    source
+        .tool
+        .write(source.alloc, source.web, book, desk, steps)?;
     Ok(Exit::Clean)
 }
 
