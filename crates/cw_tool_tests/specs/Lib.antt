@@ -1,0 +1,2 @@
+-- The definition of the tool that counts sections.
+pub mod Counting

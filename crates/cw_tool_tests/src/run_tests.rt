@@ -1,0 +1,174 @@
+//! Whole runs: what is printed and written for the words of a command line, and by how many calls of the desk.
+use crate::counting::Counting;
+use crate::runs::{Files, count, desk_with, journal_text, list_of};
+use cw_base::{Bytes, Exit, Memory};
+use cw_desk::QuietDesk;
+use cw_tool::tool_files;
+use std::alloc::Global;
+use std::env::Env;
+use std::fs;
+use std::test::Fail;
+use std::time::{SystemTime, UNIX_EPOCH};
+
+/// A run, and what it has to tell.
+struct Run {
+    words: &'static [&'static [u8]],
+    files: Files,
+    told: &'static [u8],
+    exit: Exit,
+    /// How many calls of the desk there have to be.
+    calls: u64,
+}
+
+const USAGE: &[u8] = b"! Usage: cwcount web change|- out\n";
+
+const WEBS: [(&[u8], &[u8]); 4] = [
+    (b"foo.w", b"@ One.\n@c a;\n@ Two.\n"),
+    (b"foo.ch", b"@x\n@c a;\n@y\n@c b;\n@z\n"),
+    (b"empty.w", b""),
+    (b"bad.w", b"@ One.\n@c @<Never@>\n"),
+];
+
+/// Words that ask for nothing.
+const IDLE: [&[&[u8]]; 7] = [
+    &[],
+    &[b"foo", b"-"],
+    &[b"foo", b"-", b"out", b"-"],
+    &[b"", b"-", b"out"],
+    &[b"-", b"-", b"out"],
+    &[b"foo", b"-", b""],
+    &[b"foo", b"-", b"-"],
+];
+
+const RUNS: [Run; 7] = [
+    Run {
+        words: &[b"none", b"-", b"out"],
+        files: &WEBS,
+        told: b"! Cannot open web file none\n",
+        exit: Exit::Errors,
+        calls: 3,
+    },
+    Run {
+        words: &[b"foo", b"none", b"out"],
+        files: &WEBS,
+        told: b"! Cannot open change file none\n",
+        exit: Exit::Errors,
+        calls: 5,
+    },
+    Run {
+        words: &[b"foo", b"-", b"out"],
+        files: &WEBS,
+        told: b"[tex]out\n@ One.\n@c a;\n@ Two.\n2\n",
+        exit: Exit::Clean,
+        calls: 6,
+    },
+    Run {
+        words: &[b"foo", b"foo", b"out"],
+        files: &WEBS,
+        told: b"[tex]out\n@ One.\n@c b;\n@ Two.\n2\n",
+        exit: Exit::Clean,
+        calls: 9,
+    },
+    // No word is an option.
+    Run {
+        words: &[b"-x", b"-", b"+b"],
+        files: &[(b"-x.w", b"@ One.\n")],
+        told: b"[tex]+b\n@ One.\n1\n",
+        exit: Exit::Clean,
+        calls: 6,
+    },
+    Run {
+        words: &[b"empty", b"-", b"out"],
+        files: &WEBS,
+        told: b"[tex]out\n0\n",
+        exit: Exit::Clean,
+        calls: 4,
+    },
+    // Notes are not printed, and don't change the status.
+    Run {
+        words: &[b"bad", b"-", b"out"],
+        files: &WEBS,
+        told: b"[tex]out\n@ One.\n@c @<Never@>\n1\n",
+        exit: Exit::Clean,
+        calls: 6,
+    },
+];
+
+/// What a run tells, how it ends, and how many calls of the desk there are.
+fn seen(
+    alloc: Global,
+    words: &[&[u8]],
+    files: &[(&[u8], &[u8])],
+) -> Result<(Bytes, Exit, u64), Memory> {
+    let mut desk = desk_with(alloc, files)?;
+    let exit = count(alloc, words, &mut desk)?;
+    let text = journal_text(alloc, desk.journal())?;
+    Ok((text, exit, desk.calls()))
+}
+
+#[test]
+fn words_and_webs(rt: HostRuntime) -> Result<(), Fail> {
+    for run in &RUNS {
+        let (text, exit, calls) = seen(rt.alloc(), run.words, run.files)?;
+        assert_eq!(rt;
+            (text.as_slice(), exit, calls),
+            (run.told, run.exit, run.calls)
+        );
+    }
+    Ok(())
+}
+
+#[test]
+fn words_that_ask_for_nothing(rt: HostRuntime) -> Result<(), Fail> {
+    for words in &IDLE {
+        let (text, exit, calls) = seen(rt.alloc(), words, &WEBS)?;
+        assert_eq!(rt; (text.as_slice(), exit, calls), (USAGE, Exit::Errors, 1));
+    }
+    Ok(())
+}
+
+/// A web of this many lines of seven bytes each.
+fn long_web(alloc: Global, lines: usize) -> Result<Bytes, Memory> {
+    let mut web = Bytes::new_in(alloc);
+    for _ in 0..lines {
+        web.append(b"% text\n")?;
+    }
+    Ok(web)
+}
+
+#[test]
+fn a_web_that_is_too_long(rt: HostRuntime) -> Result<(), Fail> {
+    let web = long_web(rt.alloc(), 8_388_608 / 7 + 1)?;
+    let mut desk = QuietDesk::new_in(rt.alloc());
+    desk.add_file(b"foo.w", web.as_slice())?;
+    let exit = count(rt.alloc(), &[b"foo", b"-", b"out"], &mut desk)?;
+    let text = journal_text(rt.alloc(), desk.journal())?;
+    let told = b"! Input is longer than 8388608 bytes\n".as_slice();
+    assert_eq!(rt; (text.as_slice(), exit), (told, Exit::Errors));
+    Ok(())
+}
+
+/// Goes into a new folder.
+fn enter_new_folder(rt: HostRuntime) -> Result<(), Fail> {
+    let now = SystemTime::now(&rt)?.duration_since(UNIX_EPOCH)?.as_nanos();
+    let above = std::env::temp_dir(&rt)?;
+    let folder = format!(in rt.alloc(); "{}/cwcount-{now}", above.as_str())?;
+    fs::create_dir(&rt, folder.as_str())?;
+    rt.set_current_dir(folder.as_str())?;
+    Ok(())
+}
+
+#[test]
+fn a_web_that_is_a_real_file(rt: HostRuntime) -> Result<(), Fail> {
+    let alloc = rt.alloc();
+    enter_new_folder(rt)?;
+    fs::write(&rt, "foo.w", b"@ One.\n".as_slice())?;
+    let line = list_of(alloc, &[b"cwcount", b"foo", b"-", b"out"])?;
+    let (exit, _desk) = tool_files(rt, alloc, &Counting, &line);
+    let written = fs::read(&rt, "out")?;
+    assert_eq!(rt;
+        (exit, written.as_slice()),
+        (Exit::Clean, b"@ One.\n1\n".as_slice())
+    );
+    Ok(())
+}
