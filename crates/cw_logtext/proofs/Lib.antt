@@ -13,3 +13,6 @@ pub mod DigitLaws
 pub mod AppendLaws
 pub mod Rows
 pub mod Written
+pub mod Adding
+pub mod NameSteps
+pub mod BlockSteps

@@ -1,5 +1,5 @@
 -- What is written of blocks is a log of just these.
-use Rattle.std.proofs.Common.{◌≡◌, sym, ◌∙◌, ap}
+use Rattle.std.proofs.Common.{sym, ◌∙◌, ap}
 use Rattle.cw_base.specs.Text.{pieces_of}
 use Rattle.cw_logtext.specs.LogLaws.{TextIsLog, TextTellsBlocks}
 use Rattle.cw_logtext.proofs.Cutting.{text-has-lines}

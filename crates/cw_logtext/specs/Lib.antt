@@ -5,3 +5,4 @@ pub mod LogLaws
 pub mod LinePieces
 pub mod Lines
 pub mod Appending
+pub mod Blocks

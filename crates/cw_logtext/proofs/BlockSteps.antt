@@ -1,0 +1,297 @@
+-- The lines of a block are read one after another.
+use Rattle.std.proofs.Common.{◌≡◌, ◌≢◌, ℕ, suc, ◌≤◌, List, [], ◌∷◌, ◌++◌, length, map, All, refl, sym, ◌∙◌}
+use Rattle.std.proofs.Common.{ap, subst, arith}
+use Rattle.std.proofs.lemmas.List.{append_assoc, length-map, map-append}
+use Rattle.std.proofs.lemmas.Grind.{flat_map-append}
+use Rattle.cw_base.specs.Text.{pieces_of}
+use Rattle.cw_names.specs.Names.{Entry}
+use Rattle.cw_table.specs.Normal.{Production}
+use Rattle.cw_leaves.specs.declared.lines.LeafLine.{LeafLine}
+use Rattle.cw_leaves.specs.LeafLines.{Line}
+use Rattle.cw_leaves.specs.Spelling.{production_of, spelled}
+use Rattle.cw_logtext.specs.declared.blocks.ReadItems.{ReadItems}
+use Rattle.cw_logtext.specs.declared.blocks.ReadLeaves.{ReadLeaves}
+use Rattle.cw_logtext.specs.declared.reading.Spot.{Spot}
+use Rattle.cw_logtext.specs.declared.reading.Spot.TheVariants.{Outside, Inside}
+use Rattle.cw_logtext.specs.Blocks.{with_idents, names_in, AreIdents, HasBlock, HasItems, HasLeafLine, HasLeaves, IsExtended}
+use Rattle.cw_logtext.specs.Blocks.{IsLeafLine}
+use Rattle.cw_logtext.specs.LinePieces.{IsFirstLine}
+use Rattle.cw_logtext.specs.Lines.{NoItem}
+use Rattle.cw_logtext.specs.LogReading.{IsLog, Reads, none, more, Step, opens, leaf, item, closes}
+use Rattle.cw_logtext.specs.LogText.{block_lines, end_text, greatest, head_text, item_text, line_text, IsFineItem}
+use Rattle.cw_logtext.specs.LogText.{IsFineLine}
+use Rattle.cw_logtext.proofs.Adding.{all-kept, all-known, idents-append, lines-kept}
+use Rattle.cw_logtext.proofs.Cutting.{all-append, all-cons}
+use Rattle.cw_logtext.proofs.Decimals.{head-injective, item-not-end}
+use Rattle.cw_logtext.proofs.StepLaws.{log-is-read, read-is-log}
+
+-- ## The first line
+
+pub record First (first last : Spot) (line : List ℕ) (lines : List (List ℕ)) : Type 0 where
+  pub next : Spot
+  pub step : Step first line next
+  pub later : Reads next lines last
+
+first-of : (first last : Spot) (line : List ℕ) (lines : List (List ℕ)) → Reads first (line ∷ lines) last
+    → First first last line lines
+first-of first last line lines (more a next b l ls step r) = record { next = next; step = step; later = r }
+
+pub read-cut : (first last : Spot) (text line tail : List ℕ) → IsFirstLine text line tail
+    → Reads first (pieces_of text) last → Reads first (line ∷ pieces_of tail) last
+read-cut first last text line tail cut r = subst (λ ls. Reads first ls last) cut.cut r
+
+apart : (k : ℕ) → Inside k ≡ Outside → ⊥
+apart k e = cc
+
+read-some : (first last : Spot) (lines : List (List ℕ)) → Reads first lines last → (first ≡ last → ⊥) → lines ≢ []
+read-some first last lines (none spot) differ e = differ refl
+read-some first last lines (more a next b l ls step r) differ e = cc
+
+pub block-goes-on : (k : ℕ) (text : List ℕ) → Reads (Inside k) (pieces_of text) Outside → text ≢ []
+block-goes-on k text r e = read-some (Inside k) Outside (pieces_of text) r (apart k) (ap pieces_of e)
+
+-- ## Its head
+
+record Opened (line : List ℕ) (next : Spot) : Type 0 where
+  count : ℕ
+  few : count ≤ greatest
+  is : line ≡ head_text count
+  at : next ≡ Inside count
+
+opened : (first next : Spot) (line : List ℕ) → Step first line next → first ≡ Outside → Opened line next
+opened first next line (opens l count few is) e = record { count = count; few = few; is = is; at = refl }
+opened first next line (leaf l k said fine is) e = absurd cc
+opened first next line (item l p fine is) e = absurd cc
+opened first next line (closes l is) e = absurd cc
+
+pub head-there : (line : List ℕ) (lines : List (List ℕ)) → Reads Outside (line ∷ lines) Outside
+    → (count : ℕ) × (count ≤ greatest) × (line ≡ head_text count)
+head-there line lines r =
+    let f : First Outside Outside line lines = first-of Outside Outside line lines r in
+    let o : Opened line f.next = opened Outside f.next line f.step refl in
+    (o.count, o.few, o.is)
+
+pub behind-head : (line : List ℕ) (lines : List (List ℕ)) (count : ℕ) → count ≤ greatest → line ≡ head_text count
+    → Reads Outside (line ∷ lines) Outside → Reads (Inside count) lines Outside
+behind-head line lines count few is r =
+    let f : First Outside Outside line lines = first-of Outside Outside line lines r in
+    let o : Opened line f.next = opened Outside f.next line f.step refl in
+    subst (λ s. Reads s lines Outside)
+    (o.at ∙ ap Inside (head-injective o.count count o.few few (sym o.is ∙ is))) f.later
+
+-- ## Its leaf lines
+
+record Leaf (k : ℕ) (line : List ℕ) (next : Spot) : Type 0 where
+  is : IsLeafLine line
+  at : next ≡ Inside k
+
+fewer : (m k : ℕ) → Inside (suc m) ≡ Inside (suc k) → Inside m ≡ Inside k
+fewer m k e = cc
+
+leaf-step : (first next : Spot) (line : List ℕ) (k : ℕ) → Step first line next → first ≡ Inside (suc k)
+    → Leaf k line next
+leaf-step first next line k (opens l count few is) e = absurd cc
+leaf-step first next line k (leaf l m said fine is) e = record {
+  is = record { said = said; fine = fine; is = is };
+  at = fewer m k e;
+}
+leaf-step first next line k (item l p fine is) e = absurd cc
+leaf-step first next line k (closes l is) e = absurd cc
+
+pub leaf-there : (line : List ℕ) (lines : List (List ℕ)) (k : ℕ) → Reads (Inside (suc k)) (line ∷ lines) Outside
+    → IsLeafLine line
+leaf-there line lines k r =
+    let f : First (Inside (suc k)) Outside line lines = first-of (Inside (suc k)) Outside line lines r in
+    (leaf-step (Inside (suc k)) f.next line k f.step refl).is
+
+behind-leaf : (line : List ℕ) (lines : List (List ℕ)) (k : ℕ) → Reads (Inside (suc k)) (line ∷ lines) Outside
+    → Reads (Inside k) lines Outside
+behind-leaf line lines k r =
+    let f : First (Inside (suc k)) Outside line lines = first-of (Inside (suc k)) Outside line lines r in
+    subst (λ s. Reads s lines Outside) (leaf-step (Inside (suc k)) f.next line k f.step refl).at f.later
+
+-- these leaf lines are read, and so many are left
+pub record LeavesSoFar (old new : List Entry) (text : List ℕ) (leaves : List LeafLine) (rest : List ℕ)
+    (left : ℕ) : Type 0 where
+  pub idents : All (λ leaf. AreIdents new leaf.names) leaves
+  pub added : new ≡ with_idents (names_in (map (spelled new) leaves)) old
+  pub fine : All IsFineLine (map (spelled new) leaves)
+  pub is : pieces_of text ≡ map line_text (map (spelled new) leaves) ++ pieces_of rest
+  pub later : Reads (Inside left) (pieces_of rest) Outside
+  pub shorter : length rest ≤ length text
+
+pub no-leaves : (old : List Entry) (text : List ℕ) (count : ℕ) → Reads (Inside count) (pieces_of text) Outside
+    → LeavesSoFar old old text [] text count
+no-leaves old text count r = record {
+  idents = λ k d lt. absurd (omega (arith, lt));
+  added = refl;
+  fine = λ k d lt. absurd (omega (arith, lt));
+  is = refl;
+  later = r;
+  shorter = omega arith;
+}
+
+more-lines : (mid new : List Entry) (leaves : List LeafLine) (one : LeafLine) → IsExtended mid new
+    → All (λ leaf. AreIdents mid leaf.names) leaves
+    → map (spelled new) (leaves ++ one ∷ []) ≡ map (spelled mid) leaves ++ spelled new one ∷ []
+more-lines mid new leaves one x idents =
+    map-append (spelled new) leaves (one ∷ [])
+    ∙ ap (λ ls. ls ++ spelled new one ∷ []) (lines-kept mid new leaves x idents)
+
+append-none-of : (xs : List (List ℕ)) → xs ++ [] ≡ xs
+append-none-of [] = refl
+append-none-of (x ∷ xs) = ap (λ ys. x ∷ ys) (append-none-of xs)
+
+pub one-leaf : (old mid new : List Entry) (text rest line tail : List ℕ) (leaves : List LeafLine) (one : LeafLine)
+    (left : ℕ) → LeavesSoFar old mid text leaves rest (suc left) → IsFirstLine rest line tail → IsExtended mid new
+    → HasLeafLine mid new line one → LeavesSoFar old new text (leaves ++ one ∷ []) tail left
+one-leaf old mid new text rest line tail leaves one left s cut x h =
+    let lines : map (spelled new) (leaves ++ one ∷ []) ≡ map (spelled mid) leaves ++ spelled new one ∷ [] =
+    more-lines mid new leaves one x s.idents in
+    record {
+      idents = all-append (λ l. AreIdents new l.names) leaves (one ∷ []) (all-kept mid new leaves x s.idents)
+          (all-cons (λ l. AreIdents new l.names) one [] h.idents (λ k d lt. absurd (omega (arith, lt))));
+      added = h.added ∙ (ap (with_idents (spelled new one).names) s.added
+          ∙ (sym (idents-append (names_in (map (spelled mid) leaves)) (spelled new one).names old)
+          ∙ ap (λ ts. with_idents ts old)
+          (ap (λ ts. names_in (map (spelled mid) leaves) ++ ts) (sym (append-none-of (spelled new one).names))
+          ∙ (sym (flat_map-append (λ (l : Line). l.names) (map (spelled mid) leaves) (spelled new one ∷ []))
+          ∙ ap names_in (sym lines)))));
+      fine = subst (All IsFineLine) (sym lines) (all-append IsFineLine (map (spelled mid) leaves)
+          (spelled new one ∷ []) s.fine
+          (all-cons IsFineLine (spelled new one) [] h.fine (λ k d lt. absurd (omega (arith, lt)))));
+      is = s.is ∙ (ap (λ ls. map line_text (map (spelled mid) leaves) ++ ls)
+          (cut.cut ∙ ap (λ l. l ∷ pieces_of tail) h.is)
+          ∙ (sym (append_assoc (map line_text (map (spelled mid) leaves)) (line_text (spelled new one) ∷ [])
+          (pieces_of tail))
+          ∙ ap (λ ls. ls ++ pieces_of tail) (sym (ap (map line_text) lines
+          ∙ map-append line_text (map (spelled mid) leaves) (spelled new one ∷ [])))));
+      later = behind-leaf line (pieces_of tail) left (read-cut (Inside (suc left)) Outside rest line tail cut s.later);
+      shorter = omega (arith, s.shorter, cut.shorter);
+    }
+
+-- ## Its productions, and its end
+
+data Inner (line : List ℕ) (next : Spot) : Type 0 where
+  on : (p : Production) → IsFineItem p → line ≡ item_text p → next ≡ Inside 0 → Inner line next
+  out : line ≡ end_text → next ≡ Outside → Inner line next
+
+inner : (first next : Spot) (line : List ℕ) → Step first line next → first ≡ Inside 0 → Inner line next
+inner first next line (opens l count few is) e = absurd cc
+inner first next line (leaf l k said fine is) e = absurd cc
+inner first next line (item l p fine is) e = on p fine is refl
+inner first next line (closes l is) e = out is refl
+
+behind-item : (line : List ℕ) (lines : List (List ℕ)) (p : Production) → line ≡ item_text p
+    → Reads (Inside 0) (line ∷ lines) Outside → Reads (Inside 0) lines Outside
+behind-item line lines p is r =
+    let f : First (Inside 0) Outside line lines = first-of (Inside 0) Outside line lines r in
+    go f.next f.later (inner (Inside 0) f.next line f.step refl)
+  where
+    go : (next : Spot) → Reads next lines Outside → Inner line next → Reads (Inside 0) lines Outside
+    go next r (on q fine d at) = subst (λ s. Reads s lines Outside) at r
+    go next r (out d at) = absurd (item-not-end p (sym is ∙ d))
+
+record Ended (line : List ℕ) (lines : List (List ℕ)) : Type 0 where
+  is : line ≡ end_text
+  later : Reads Outside lines Outside
+
+behind-end : (line : List ℕ) (lines : List (List ℕ)) → NoItem line → Reads (Inside 0) (line ∷ lines) Outside
+    → Ended line lines
+behind-end line lines lack r =
+    let f : First (Inside 0) Outside line lines = first-of (Inside 0) Outside line lines r in
+    go f.next f.later (inner (Inside 0) f.next line f.step refl)
+  where
+    go : (next : Spot) → Reads next lines Outside → Inner line next → Ended line lines
+    go next r (on p fine is at) = absurd (lack p fine is)
+    go next r (out is at) = record { is = is; later = subst (λ s. Reads s lines Outside) at r }
+
+-- these productions are read, and this line is the next
+pub record ItemsSoFar (text : List ℕ) (items : List Production) (line rest : List ℕ) : Type 0 where
+  pub fine : All IsFineItem items
+  pub is : pieces_of text ≡ map item_text items ++ line ∷ pieces_of rest
+  pub later : Reads (Inside 0) (line ∷ pieces_of rest) Outside
+  pub shorter : length rest ≤ length text
+
+pub no-items : (text line rest : List ℕ) → IsFirstLine text line rest → Reads (Inside 0) (pieces_of text) Outside
+    → ItemsSoFar text [] line rest
+no-items text line rest cut r = record {
+  fine = λ k d lt. absurd (omega (arith, lt));
+  is = cut.cut;
+  later = read-cut (Inside 0) Outside text line rest cut r;
+  shorter = omega (arith, cut.shorter);
+}
+
+pub items-go-on : (text line rest : List ℕ) (items : List Production) (p : Production) → line ≡ item_text p
+    → ItemsSoFar text items line rest → rest ≢ []
+items-go-on text line rest items p is s = block-goes-on 0 rest (behind-item line (pieces_of rest) p is s.later)
+
+pub one-item : (text line rest next tail : List ℕ) (items : List Production) (p : Production) → IsFineItem p
+    → line ≡ item_text p → ItemsSoFar text items line rest → IsFirstLine rest next tail
+    → ItemsSoFar text (items ++ p ∷ []) next tail
+one-item text line rest next tail items p fine is s cut = record {
+  fine = all-append IsFineItem items (p ∷ []) s.fine
+      (all-cons IsFineItem p [] fine (λ k d lt. absurd (omega (arith, lt))));
+  is = s.is ∙ (ap (λ l. map item_text items ++ l ∷ pieces_of rest) is
+      ∙ (sym (append_assoc (map item_text items) (item_text p ∷ []) (pieces_of rest))
+      ∙ (ap (λ ls. ls ++ pieces_of rest) (sym (map-append item_text items (p ∷ [])))
+      ∙ ap (λ ls. map item_text (items ++ p ∷ []) ++ ls) cut.cut)));
+  later = read-cut (Inside 0) Outside rest next tail cut (behind-item line (pieces_of rest) p is s.later);
+  shorter = omega (arith, s.shorter, cut.shorter);
+}
+
+-- all of them are read
+pub record AllItems (text : List ℕ) (items : List Production) (rest : List ℕ) : Type 0 where
+  pub fine : All IsFineItem items
+  pub is : pieces_of text ≡ map item_text items ++ end_text ∷ pieces_of rest
+  pub later : Reads Outside (pieces_of rest) Outside
+  pub shorter : length rest ≤ length text
+
+pub all-items : (text line rest : List ℕ) (items : List Production) → NoItem line → ItemsSoFar text items line rest
+    → AllItems text items rest
+all-items text line rest items lack s =
+    let e : Ended line (pieces_of rest) = behind-end line (pieces_of rest) lack s.later in
+    record {
+      fine = s.fine;
+      is = s.is ∙ ap (λ l. map item_text items ++ l ∷ pieces_of rest) e.is;
+      later = e.later;
+      shorter = s.shorter;
+    }
+
+-- ## The whole block
+
+pub head-read : (log line rest : List ℕ) → IsLog (pieces_of log) → IsFirstLine log line rest
+    → Reads Outside (line ∷ pieces_of rest) Outside
+head-read log line rest is cut = read-cut Outside Outside log line rest cut (log-is-read (pieces_of log) is)
+
+pub whole-block : (old new : List Entry) (log line rest : List ℕ) (count : ℕ) (leaves : ReadLeaves) (items : ReadItems)
+    → IsFirstLine log line rest → count ≤ greatest → line ≡ head_text count → HasLeaves old new count rest leaves
+    → HasItems leaves.rest.now items
+    → HasBlock old new log (record {
+      log = record { leaves = leaves.leaves; items = items.items };
+      rest = items.rest;
+    })
+whole-block old new log line rest count leaves items cut few is h k =
+    let ls : List Line = map (spelled new) leaves.leaves in
+    let ps : List Production = map production_of items.items in
+    let many : length ls ≡ count = length-map leaves.leaves (spelled new) ∙ h.many in
+    record {
+      known = all-known new leaves.leaves h.idents;
+      idents = h.idents;
+      added = h.added;
+      fine = record { few = omega (arith, many, few); leaves = h.fine; items = k.fine };
+      is = cut.cut
+          ∙ (ap (λ l. l ∷ pieces_of rest) (is ∙ ap head_text (sym many))
+          ∙ (ap (λ xs. head_text (length ls) ∷ xs) (h.is ∙ ap (λ xs. map line_text ls ++ xs) k.is)
+          ∙ sym (block-before ls ps (pieces_of items.rest.now))));
+      later = read-is-log (pieces_of items.rest.now) k.later;
+      shorter = omega (arith, cut.shorter, h.shorter, k.shorter);
+    }
+  where
+    block-before : (ls : List Line) (ps : List Production) (rest : List (List ℕ))
+        → block_lines (record { leaves = ls; items = ps }) ++ rest
+        ≡ head_text (length ls) ∷ map line_text ls ++ (map item_text ps ++ end_text ∷ rest)
+    block-before ls ps rest =
+        ap (λ x. head_text (length ls) ∷ x)
+        (append_assoc (map line_text ls) (map item_text ps ++ end_text ∷ []) rest
+        ∙ ap (λ x. map line_text ls ++ x) (append_assoc (map item_text ps) (end_text ∷ []) rest))

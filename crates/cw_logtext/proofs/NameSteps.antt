@@ -1,0 +1,113 @@
+-- The names of a leaf line are added one after another.
+use Rattle.std.proofs.Common.{◌≡◌, ℕ, suc, List, [], ◌∷◌, ◌++◌, map, slice_get, refl, sym, ◌∙◌, ap, subst, arith}
+use Rattle.std.specs.List.{flat_map}
+use Rattle.std.proofs.lemmas.List.{append_assoc, map-append}
+use Rattle.cw_names.specs.declared.entry.EntryKind.TheVariants.{Ident}
+use Rattle.cw_names.specs.declared.entry.NameId.{NameId}
+use Rattle.cw_names.specs.Names.{Entry, place_of, with_entry}
+use Rattle.cw_leaves.specs.LeafLines.{IsIdentEntry, text_at}
+use Rattle.cw_logtext.specs.Blocks.{with_idents, AreIdents, HasNames}
+use Rattle.cw_logtext.specs.LinePieces.{AreIdentifiers, HasName, IsBlanked, NoName}
+use Rattle.cw_logtext.specs.LogText.{blank_and}
+use Rattle.cw_logtext.proofs.Adding.{idents-append, idents-kept, new-ident, none-added, one-added, texts-kept}
+use Rattle.cw_logtext.proofs.Cutting.{all-cons, all-append}
+use Rattle.cw_logtext.proofs.Plain.{name-lacks}
+use Rattle.cw_logtext.proofs.Telling.{Same, blanked-same, names-blanked}
+
+append-none-of : (xs : List (List ℕ)) → xs ++ [] ≡ xs
+append-none-of [] = refl
+append-none-of (x ∷ xs) = ap (λ ys. x ∷ ys) (append-none-of xs)
+
+-- these texts are those of the names, and then some for the rest
+pub record Left (new : List Entry) (ids : List NameId) (rest : List ℕ) (texts : List (List ℕ)) : Type 0 where
+  pub left : List (List ℕ)
+  pub fine : AreIdentifiers left
+  pub behind : rest ≡ flat_map blank_and left
+  pub is : texts ≡ map (λ id. text_at new id.index) ids ++ left
+
+pub record NamesSoFar (old new : List Entry) (text : List ℕ) (ids : List NameId) (rest : List ℕ) : Type 0 where
+  pub idents : AreIdents new ids
+  pub added : new ≡ with_idents (map (λ id. text_at new id.index) ids) old
+  pub texts : (texts : List (List ℕ)) → AreIdentifiers texts → text ≡ flat_map blank_and texts → Left new ids rest texts
+
+pub no-names : (old : List Entry) (text : List ℕ) → NamesSoFar old old text [] text
+no-names old text = record {
+  idents = λ k d lt. absurd (omega (arith, lt));
+  added = refl;
+  texts = λ texts fine is. record { left = texts; fine = fine; behind = is; is = refl };
+}
+
+-- the texts of the names, and that of the new one
+more-texts : (mid new : List Entry) (ids : List NameId) (id : NameId) (word : List ℕ) → AreIdents mid ids
+    → new ≡ with_entry Ident word mid → id.index ≡ place_of Ident word mid
+    → map (λ i. text_at new i.index) (ids ++ id ∷ []) ≡ map (λ i. text_at mid i.index) ids ++ word ∷ []
+more-texts mid new ids id word idents is place =
+    map-append (λ i. text_at new i.index) ids (id ∷ [])
+    ∙ (ap (λ ts. ts ++ text_at new id.index ∷ []) (texts-kept mid new ids (one-added word mid mid new (none-added mid) is)
+    idents)
+    ∙ ap (λ t. map (λ i. text_at mid i.index) ids ++ t ∷ []) (new-ident word mid new id is place).1)
+
+tail-of : (a b : ℕ) (xs ys : List ℕ) → ◌≡◌ {A = List ℕ} (a ∷ xs) (b ∷ ys) → xs ≡ ys
+tail-of a b xs ys e = cc
+
+-- the name with which a text begins is the first of its texts
+first-same : (rest word tail n : List ℕ) (ns : List (List ℕ)) → HasName rest word tail → AreIdentifiers (n ∷ ns)
+    → rest ≡ flat_map blank_and (n ∷ ns) → Same word n tail (flat_map blank_and ns)
+first-same rest word tail n ns h fine behind =
+    let later : flat_map blank_and ns ≡ tail =
+    h.alone n (flat_map blank_and ns) (fine 0 n (omega arith)) (names-blanked ns) behind in
+    blanked-same word n tail (flat_map blank_and ns) (name-lacks 32 refl word h.fine)
+    (name-lacks 32 refl n (fine 0 n (omega arith))) (subst IsBlanked later (names-blanked ns)) (names-blanked ns)
+    (tail-of 32 32 _ _ (sym h.is ∙ behind))
+
+left-behind : (mid new : List Entry) (ids : List NameId) (id : NameId) (rest word tail : List ℕ)
+    (texts : List (List ℕ)) → AreIdents mid ids → new ≡ with_entry Ident word mid
+    → id.index ≡ place_of Ident word mid
+    → HasName rest word tail → Left mid ids rest texts → Left new (ids ++ id ∷ []) tail texts
+left-behind mid new ids id rest word tail texts idents is place h l = go l.left l.fine l.behind l.is
+  where
+    go : (left : List (List ℕ)) → AreIdentifiers left → rest ≡ flat_map blank_and left
+        → texts ≡ map (λ i. text_at mid i.index) ids ++ left → Left new (ids ++ id ∷ []) tail texts
+    go [] fine behind e = let k : 32 ∷ word ++ tail ≡ [] = sym h.is ∙ behind in absurd cc
+    go (n ∷ ns) fine behind e =
+        let s : Same word n tail (flat_map blank_and ns) = first-same rest word tail n ns h fine behind in
+        record {
+          left = ns;
+          fine = λ i d lt. fine (suc i) d (omega arith);
+          behind = s.back;
+          is = e ∙ (ap (λ t. map (λ i. text_at mid i.index) ids ++ t ∷ ns) (sym s.front)
+              ∙ (sym (append_assoc (map (λ i. text_at mid i.index) ids) (word ∷ []) ns)
+              ∙ ap (λ ts. ts ++ ns) (sym (more-texts mid new ids id word idents is place))));
+        }
+
+pub one-name : (old mid new : List Entry) (text rest word tail : List ℕ) (ids : List NameId) (id : NameId)
+    → NamesSoFar old mid text ids rest → HasName rest word tail → new ≡ with_entry Ident word mid
+    → id.index ≡ place_of Ident word mid → NamesSoFar old new text (ids ++ id ∷ []) tail
+one-name old mid new text rest word tail ids id s h is place = record {
+  idents = all-append (λ i. IsIdentEntry (slice_get new i.index)) ids (id ∷ [])
+      (idents-kept mid new ids (one-added word mid mid new (none-added mid) is) s.idents)
+      (all-cons (λ i. IsIdentEntry (slice_get new i.index)) id [] (new-ident word mid new id is place).0
+      (λ k d lt. absurd (omega (arith, lt))));
+  added = is ∙ (ap (with_entry Ident word) s.added
+      ∙ (sym (idents-append (map (λ i. text_at mid i.index) ids) (word ∷ []) old)
+      ∙ ap (λ ts. with_idents ts old) (sym (more-texts mid new ids id word s.idents is place))));
+  texts = λ texts fine behind. left-behind mid new ids id rest word tail texts s.idents is place h
+      (s.texts texts fine behind);
+}
+
+pub all-names : (old new : List Entry) (text rest : List ℕ) (ids : List NameId) → NamesSoFar old new text ids rest
+    → NoName rest → HasNames old new text ids
+all-names old new text rest ids s none = record {
+  idents = s.idents;
+  added = s.added;
+  texts = λ texts fine is. whole texts (s.texts texts fine is);
+}
+  where
+    whole : (texts : List (List ℕ)) → Left new ids rest texts → map (λ id. text_at new id.index) ids ≡ texts
+    whole texts l = go l.left l.fine l.behind l.is
+      where
+        go : (left : List (List ℕ)) → AreIdentifiers left → rest ≡ flat_map blank_and left
+            → texts ≡ map (λ i. text_at new i.index) ids ++ left → map (λ id. text_at new id.index) ids ≡ texts
+        go [] fine behind e = sym (e ∙ append-none-of (map (λ i. text_at new i.index) ids))
+        go (n ∷ ns) fine behind e =
+            absurd (none n (flat_map blank_and ns) (fine 0 n (omega arith)) (names-blanked ns) behind)

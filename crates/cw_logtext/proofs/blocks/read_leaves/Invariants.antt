@@ -1,0 +1,12 @@
+-- So many leaf lines are read, and the others are to come.
+use Rattle.std.proofs.Common.{◌≡◌, ◌-◌, length}
+use Rattle.cw_logtext.specs.Blocks.{IsExtended}
+use Rattle.cw_logtext.proofs.BlockSteps.{LeavesSoFar}
+use Rattle.cw_logtext.proofs.blocks.read_leaves.Given as goal
+
+abbrev pub invariant-loop : goal.invariant-loop
+invariant-loop l = record {
+  kept : IsExtended l.fn.names l.names;
+  many : length l.leaves.items ≡ l.counter;
+  read : LeavesSoFar l.fn.names l.names l.text l.leaves.items l.rest (l.count - l.counter);
+}

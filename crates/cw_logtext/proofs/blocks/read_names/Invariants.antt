@@ -1,0 +1,14 @@
+-- The names before the rest are added.
+use Rattle.std.proofs.Common.{length}
+use Rattle.cw_logtext.specs.Blocks.{IsExtended}
+use Rattle.cw_logtext.proofs.NameSteps.{NamesSoFar}
+use Rattle.cw_logtext.proofs.blocks.read_names.Given as goal
+
+abbrev pub invariant-loop-cut : goal.invariant-loop-cut
+invariant-loop-cut l = record {
+  kept : IsExtended l.fn.names l.names;
+  read : NamesSoFar l.fn.names l.names l.text l.ids.items l.rest;
+}
+
+abbrev pub decreases-loop-cut : goal.decreases-loop-cut
+decreases-loop-cut l = length l.rest
