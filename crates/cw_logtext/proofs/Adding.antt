@@ -1,7 +1,7 @@
 -- Identifiers that are added to a list of names: those that are there keep their places, and each has one.
 use Rattle.std.proofs.Common.{◌≡◌, ℕ, zero, suc, ◌+◌, ◌<◌, ◌≤◌, Bool, true, false, not, cond, if◌then◌else◌}
-use Rattle.std.proofs.Common.{nat_lt, List, [], ◌∷◌, ◌++◌, length, map, slice_get, slice_index_or, All, Option, Some, None}
-use Rattle.std.proofs.Common.{refl, sym, ◌∙◌, ap, subst, arith}
+use Rattle.std.proofs.Common.{nat_lt, List, [], ◌∷◌, ◌++◌, length, map, slice_get, slice_index_or, All, Option, Some}
+use Rattle.std.proofs.Common.{None, refl, sym, ◌∙◌, ap, subst, arith}
 use Rattle.std.specs.Cmp.Lexicographic.{bytes_decides}
 use Rattle.std.proofs.lemmas.Bool.{ltb-true, ltb-false}
 use Rattle.std.proofs.lemmas.List.Sums.{prefix_len-le-length}
@@ -151,12 +151,14 @@ entry-there text es = by (nat_lt (place_of kinds.Ident text es) (length es)) ref
     most = prefix_len-le-length (λ entry. not (is_entry kinds.Ident text entry)) es
 
     by : (b : Bool) → nat_lt (place_of kinds.Ident text es) (length es) ≡ b
-        → IsNamed text (slice_get (if b then es else es ++ record { kind = kinds.Ident; text = text; category = Exp } ∷ [])
+        → IsNamed text (slice_get (if b then es else es
+        ++ record { kind = kinds.Ident; text = text; category = Exp } ∷ [])
         (place_of kinds.Ident text es))
     by true h = place-there text es (ltb-true _ _ h)
     by false h =
         let last : place_of kinds.Ident text es ≡ length es = omega (arith, most, ltb-false _ _ h) in
-        subst (IsNamed text) (sym (ap (slice_get (es ++ record { kind = kinds.Ident; text = text; category = Exp } ∷ []))
+        subst (IsNamed text) (sym (ap (slice_get (es
+        ++ record { kind = kinds.Ident; text = text; category = Exp } ∷ []))
         last ∙ slot-last es (record { kind = kinds.Ident; text = text; category = Exp }))) (refl, refl)
 
 named-ident : (text : List ℕ) (o : Option Entry) → IsNamed text o → IsIdentEntry o

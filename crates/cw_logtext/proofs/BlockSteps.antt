@@ -13,8 +13,8 @@ use Rattle.cw_logtext.specs.declared.blocks.ReadItems.{ReadItems}
 use Rattle.cw_logtext.specs.declared.blocks.ReadLeaves.{ReadLeaves}
 use Rattle.cw_logtext.specs.declared.reading.Spot.{Spot}
 use Rattle.cw_logtext.specs.declared.reading.Spot.TheVariants.{Outside, Inside}
-use Rattle.cw_logtext.specs.Blocks.{with_idents, names_in, AreIdents, HasBlock, HasItems, HasLeafLine, HasLeaves, IsExtended}
-use Rattle.cw_logtext.specs.Blocks.{IsLeafLine}
+use Rattle.cw_logtext.specs.Blocks.{with_idents, names_in, AreIdents, HasBlock, HasItems, HasLeafLine, HasLeaves}
+use Rattle.cw_logtext.specs.Blocks.{IsExtended, IsLeafLine}
 use Rattle.cw_logtext.specs.LinePieces.{IsFirstLine}
 use Rattle.cw_logtext.specs.Lines.{NoItem}
 use Rattle.cw_logtext.specs.LogReading.{IsLog, Reads, none, more, Step, opens, leaf, item, closes}

@@ -43,7 +43,8 @@ more-texts : (mid new : List Entry) (ids : List NameId) (id : NameId) (word : Li
     → map (λ i. text_at new i.index) (ids ++ id ∷ []) ≡ map (λ i. text_at mid i.index) ids ++ word ∷ []
 more-texts mid new ids id word idents is place =
     map-append (λ i. text_at new i.index) ids (id ∷ [])
-    ∙ (ap (λ ts. ts ++ text_at new id.index ∷ []) (texts-kept mid new ids (one-added word mid mid new (none-added mid) is)
+    ∙ (ap (λ ts. ts ++ text_at new id.index ∷ []) (texts-kept mid new ids
+    (one-added word mid mid new (none-added mid) is)
     idents)
     ∙ ap (λ t. map (λ i. text_at mid i.index) ids ++ t ∷ []) (new-ident word mid new id is place).1)
 

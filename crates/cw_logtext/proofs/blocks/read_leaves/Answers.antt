@@ -1,5 +1,6 @@
 -- While leaf lines are to come, the next line is one.
-use Rattle.std.proofs.Common.{◌≡◌, [], ◌∷◌, ◌++◌, ◌+◌, ◌-◌, ◌∙◌, suc, List, ap, length, length-append, rules, arith, subst, sym}
+use Rattle.std.proofs.Common.{◌≡◌, [], ◌∷◌, ◌++◌, ◌+◌, ◌-◌, ◌∙◌, suc, List, ap, length, length-append}
+use Rattle.std.proofs.Common.{rules, arith, subst, sym}
 use Rattle.cw_leaves.specs.declared.lines.LeafLine.{LeafLine}
 use Rattle.cw_logtext.specs.declared.reading.Spot.TheVariants.{Outside, Inside}
 use Rattle.cw_logtext.specs.Blocks.{HasLeafLine, HasLeaves}
