@@ -2,8 +2,12 @@
 //! handed on at its end.
 #![tactic(auto)]
 
+mod ending;
+mod files;
 mod program;
 mod words;
 
+pub use ending::status_of;
+pub use files::run_files;
 pub use program::{Program, run_program};
 pub use words::command_line;

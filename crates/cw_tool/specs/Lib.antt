@@ -3,6 +3,4 @@
 pub mod Asked
 pub mod Given
 pub mod Tool
-pub mod Ending
-pub mod EndingLaws
 pub mod PieceLaws

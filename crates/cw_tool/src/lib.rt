@@ -9,6 +9,6 @@ mod refusal;
 mod tool;
 
 pub use asked::{Asked, read_asked};
-pub use program::{ToolProgram, run_files, tool_files};
-pub use refusal::{refuse, refuse_word, status_of};
+pub use program::{ToolProgram, tool_files};
+pub use refusal::{refuse, refuse_word};
 pub use tool::{Tool, run_tool, tool_command};

@@ -9,7 +9,7 @@ ghost use Rattle.cw_tool.specs.Tool.{tool_run};
 use crate::tool::{Tool, tool_command};
 use cw_base::{Exit, Silent, Steps, Words};
 use cw_desk::{Desk, FileDesk};
-use cw_program::{Program, run_program};
+use cw_program::{Program, run_files};
 use std::alloc::Global;
 
 /// A tool as a program.
@@ -28,22 +28,8 @@ impl<'a, T: Tool> Program for ToolProgram<'a, T> {
     }
 }
 
-/// Runs a program over real files. Over all files that would have given the answers that the system gave, just what the
+/// Runs a tool over real files. Over all files that would have given the answers that the system gave, just what the
 /// words ask for was handed to the system, and the status is theirs; or a first part of it, with Fault or Memory.
-pub fn run_files<P: Program>(
-    rt: HostRuntime,
-    alloc: Global,
-    program: &P,
-    line: &Words,
-) -> (Exit, FileDesk)
-    ensures done { (files : Files) → Agree result.1.heard files →
-        Outcome (P.run program.now (words_of line.now) (get files)) [] result.1.journal result.0 }
-    ensures fault { result.0 ≡ Exit.Fault → Rose 0 result.1.faults }
-{
-    run_program(alloc, program, line, FileDesk::new_in(rt, alloc))
-}
-
-/// The same of a tool.
 pub fn tool_files<T: Tool>(
     rt: HostRuntime,
     alloc: Global,

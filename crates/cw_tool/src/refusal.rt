@@ -1,11 +1,10 @@
-//! What a tool prints when it writes nothing, and how a run ends.
-ghost use Rattle.std.specs.Prelude.{◌≡◌, ◌++◌, [], ◌∷◌};
+//! What a tool prints when it writes nothing.
+ghost use Rattle.std.specs.Prelude.{◌++◌, [], ◌∷◌};
 ghost use Rattle.cw_base.specs.declared.event.Out.TheVariants.{Term};
 ghost use Rattle.cw_base.specs.declared.exit.Exit.TheVariants.{Errors};
 ghost use Rattle.cw_desk.specs.Journal.{byte_events};
 ghost use Rattle.cw_desk.specs.Told.{OnlyPuts};
 ghost use Rattle.cw_run.specs.Emits.{Runs};
-ghost use Rattle.cw_tool.specs.Ending.{status_of};
 ghost use Rattle.cw_tool.specs.Tool.{refused};
 
 use cw_base::{Bytes, Exit, Out};
@@ -38,15 +37,4 @@ pub fn refuse_word<D: Desk>(
     text.append(word)?;
     say_text(desk, text)?;
     Ok(Exit::Errors)
-}
-
-/// The status of a run that may have been refused.
-pub fn status_of(ended: Result<Exit, PutError>) -> Exit
-    ensures { result ≡ status_of ended }
-{
-    match ended {
-        Ok(exit) => exit,
-        Err(PutError::Fault) => Exit::Fault,
-        Err(PutError::Memory) => Exit::Memory,
-    }
 }

@@ -16,12 +16,13 @@ ghost use Rattle.cw_tool.specs.Tool.{made, tool_run, tool_web};
 
 use crate::asked::{Asked, read_asked};
 use crate::reading::read_book;
-use crate::refusal::{refuse, refuse_word, status_of};
+use crate::refusal::{refuse, refuse_word};
 use cw_base::{Exit, Ledger, Out, Steps, Web, Words};
 use cw_desk::Desk;
 use cw_input::{LoadError, load};
 use cw_lines::PutError;
 use cw_phase1::Book;
+use cw_program::status_of;
 use cw_run::begin_file;
 use std::alloc::Global;
 

@@ -27,6 +27,7 @@ use cw_desk::Desk;
 use cw_input::{Command, CommandLine, LoadError, load, read_command};
 use cw_lines::PutError;
 use cw_phase1::Book;
+use cw_program::status_of;
 use cw_run::{
     Judgement, Message, Noted, print_notes, say_if, stop, stop_without_change, stop_without_web,
 };
@@ -211,9 +212,5 @@ pub fn weave_command<D: Desk, L: Ledger>(
     let Ok(command) = read_command(alloc, words) else {
         return Exit::Memory;
     };
-    match run(alloc, desk, &command, steps) {
-        Ok(exit) => exit,
-        Err(PutError::Fault) => Exit::Fault,
-        Err(PutError::Memory) => Exit::Memory,
-    }
+    status_of(run(alloc, desk, &command, steps))
 }

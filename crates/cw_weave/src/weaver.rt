@@ -9,7 +9,7 @@ ghost use Rattle.cw_weave.specs.Woven.{woven};
 use crate::weave::weave_command;
 use cw_base::{Exit, Silent, Steps, Words};
 use cw_desk::{Desk, FileDesk};
-use cw_program::{Program, run_program};
+use cw_program::{Program, run_files};
 use std::alloc::Global;
 
 /// The program that weaves a web: what it does is the woven book of its words and the files.
@@ -34,5 +34,5 @@ pub fn weave_files(rt: HostRuntime, alloc: Global, line: &Words) -> (Exit, FileD
         Outcome (woven (words_of line.now) (get files)) [] result.1.journal result.0 }
     ensures fault { result.0 ≡ Exit.Fault → Rose 0 result.1.faults }
 {
-    run_program(alloc, &Weaver, line, FileDesk::new_in(rt, alloc))
+    run_files(rt, alloc, &Weaver, line)
 }

@@ -8,9 +8,9 @@ use Rattle.cw_desk.specs.Meaning.{Rose}
 use Rattle.cw_desk.specs.Told.{Told}
 use Rattle.cw_lines.specs.declared.put_error.PutError.{PutError}
 use Rattle.cw_lines.specs.declared.put_error.PutError.TheVariants.{Fault, Memory}
-use Rattle.cw_program.specs.Program.{Outcome}
 use Rattle.cw_run.specs.Emits.{Faults, Run, Runs}
-use Rattle.cw_tool.specs.Ending.{status_of}
+use Rattle.cw_program.specs.Ending.{status_of}
+use Rattle.cw_program.specs.Program.{Outcome}
 
 pub outcome-of : (run : Run) (a b : Told) (result : Result Exit PutError) → Runs run a b result
     → Outcome run a.journal b.journal (status_of result)
