@@ -31,7 +31,7 @@ any-more test (first ∷ run) control = ap (λ (b : Bool). test first || b) (any
     regroup true b c = refl
     regroup false b c = refl
 
-state-more : (run : List Control) (control : Control) → run_state (run ++ control ∷ [])
+pub state-more : (run : List Control) (control : Control) → run_state (run ++ control ∷ [])
     ≡ run_more (run_state run) control
 state-more run control = λ i. record {
   strength = strongest-more run control i;

@@ -18,3 +18,5 @@ mod walk;
 
 pub use book_titles::{defines_first, is_changed};
 pub use printing::{KeptText, print_answers, print_list};
+pub use scan::Finder;
+pub use tokens::put_code_text;

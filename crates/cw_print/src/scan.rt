@@ -99,6 +99,45 @@ impl Seek {
     }
 }
 
+/// The tokens among kept answers, which are found by their numbers. It is seen as the answers.
+#[derive(Drop)]
+pub struct Finder<'s, 'a> {
+    answers: &'s Answers<'a>,
+    seek: Seek,
+}
+
+impl<'s, 'a> Model for Finder<'s, 'a> {
+    ghost use Rattle.std.specs.Prelude.{List};
+    ghost use Rattle.cw_rules.specs.Answers.{Answer};
+    ghost use Rattle.cw_print.specs.Scanning.{among, IsSeeking};
+
+    ghost Value = { List Answer };
+
+    ghost view = { λ f. among f.answers.now f.seek };
+
+    ghost invariant = { λ f. IsSeeking f.answers.now f.seek };
+}
+
+impl<'s, 'a> Finder<'s, 'a> {
+    /// The tokens among these answers.
+    pub fn over(answers: &'s Answers<'a>) -> Finder<'s, 'a>
+        ensures { result ≡ answers.now }
+    {
+        Finder {
+            answers,
+            seek: Seek::over(answers),
+        }
+    }
+
+    /// The token that has this number, if there is one. From the tokens whose numbers rise each is found a little ahead.
+    pub fn find(&mut self, number: u32) -> Option<Tok<'a>>
+        ensures found { option_map seen result ≡ numbered number self.old }
+        ensures same { self.new ≡ self.old }
+    {
+        self.seek.find(self.answers, number)
+    }
+}
+
 /// The answers of an inner text of a section name, up to a section code, and where tokens are sought among them.
 #[derive(Drop)]
 pub(crate) struct Scan<'a> {

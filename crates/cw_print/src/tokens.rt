@@ -1,5 +1,6 @@
 //! The bytes of tokens.
 ghost use Rattle.std.specs.Prelude.{◌≡◌, ◌++◌, OnOk, drop};
+ghost use Rattle.cw_print.specs.Texts.{control_bytes};
 ghost use Rattle.cw_print.specs.Tokens.{code_bytes, token_bytes};
 
 use crate::constants::put_constant;
@@ -16,6 +17,13 @@ fn behind_code(text: &[u8]) -> &[u8]
     if text.len() < 2 { &[] } else { &text[2..] }
 }
 
+/// Appends what the control text of a code says.
+pub fn put_code_text(out: &mut Bytes, text: &[u8]) -> Result<(), Memory>
+    ensures { OnOk result (out.new ≡ out.old ++ control_bytes text.now) }
+{
+    put_control_text(out, behind_code(text))
+}
+
 fn put_code(out: &mut Bytes, code: Code, text: &[u8]) -> Result<(), Memory>
     ensures { OnOk result (out.new ≡ out.old ++ code_bytes code text.now) }
 {
@@ -27,7 +35,7 @@ fn put_code(out: &mut Bytes, code: Code, text: &[u8]) -> Result<(), Memory>
         }
         Code::TexBox => {
             out.append(b"\\hbox{")?;
-            put_control_text(out, behind_code(text))?;
+            put_code_text(out, text)?;
             out.push(b'}')
         }
         Code::Quote => {
