@@ -3,6 +3,7 @@ mod ClassLaws
 mod OrderLaws
 mod OrderRows
 mod RowLaws
+mod OrderNames
 mod Completeness
 mod StandLaws
 mod EnteredLaws

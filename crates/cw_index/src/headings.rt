@@ -96,3 +96,17 @@ pub(crate) fn headings<'a>(
     }
     Ok(headings)
 }
+
+/// The names of the entries of the index, in its order.
+pub fn index_order(alloc: Global, names: &Names, xrefs: &Xrefs) -> Result<Vec<NameId>, Memory>
+    ensures rows { IfOk result (λ order. map (λ id. id.index) order.items
+        ≡ map (λ row. row.name) (index_rows names.now xrefs.now)) }
+    ensures within { IfOk result (λ order. All (λ id. id.index < length names.now) order.items) }
+{
+    let mut order = Vec::new(alloc);
+    let headings = headings(alloc, names, xrefs)?;
+    for heading in headings {
+        order.push(heading.id)?;
+    }
+    Ok(order)
+}
