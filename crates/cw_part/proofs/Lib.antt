@@ -6,3 +6,4 @@ pub mod PutLaws
 mod FootnoteLaws
 mod Rows
 mod WholeDefinitions
+mod RefsWhole

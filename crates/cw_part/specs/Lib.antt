@@ -5,3 +5,4 @@ pub mod Sections
 pub mod WholeTexts
 pub mod PresentForms
 pub mod WholeDefinitions
+pub mod WholeRefs

@@ -8,6 +8,6 @@ mod sections;
 mod whole;
 
 pub use footnotes::put_use_footnotes;
-pub use laws::whole_rest_law;
+pub use laws::{whole_rest_law, whole_texts_law};
 pub use sections::weave_section;
 pub use whole::is_whole_rest;
