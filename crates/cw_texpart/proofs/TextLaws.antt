@@ -2,6 +2,7 @@
 use Rattle.std.proofs.Common.{◌≡◌, ℕ, ◌+◌, ◌≤◌, ◌≢◌, refl, sym, ap, ◌∙◌, ne_eqb, List, [], ◌∷◌, ◌++◌}
 use Rattle.std.proofs.Common.{append_assoc, length, map, take, inl, inr, None, Option}
 use Rattle.std.specs.Prelude.{Err, IsErrAnd, Ok, Result, Some, slice_get}
+use Rattle.std.specs.List.{take-map}
 use Rattle.std.proofs.lemmas.List.{append-nil, map-append, take_all, take_more}
 use Rattle.std.proofs.lemmas.Option.{get_or_from_slice_get, slice_get_within}
 use Rattle.cw_answers.specs.Reading.{Stays}
@@ -22,7 +23,7 @@ use Rattle.cw_texpart.specs.declared.counts.Counts.{Counts}
 use Rattle.cw_texpart.specs.Done.{Done}
 use Rattle.cw_texpart.specs.Texts.{Setting}
 use Rattle.cw_texpart.specs.Translation.{TranslatedState, Translates}
-use Rattle.cw_texpart.specs.Weaving.{Weaves, mark, marked, underlined}
+use Rattle.cw_texpart.specs.Weaving.{NotesFirst, Weaves, mark, marked, underlined}
 use Rattle.cw_texpart.proofs.WeavingLaws.{weaves-refused}
 
 -- ## Marks
@@ -56,7 +57,21 @@ pub marked-none : (section : ℕ) (marks : List ℕ) (first : List Occurrence) �
 marked-none section marks first none =
     sym (append-nil first) ∙ ap (λ (n : ℕ). first ++ underlined n marks) (sym none)
 
--- ## The text
+-- where a mark finds no room, those before it are noted
+pub marked-first : (section : ℕ) (ids : List NameId) (i : ℕ) (first new : List Occurrence) → section ≢ 0
+    → new ≡ first ++ map (mark section) (take i ids)
+    → NotesFirst (underlined section (map (λ id. id.index) ids)) first new
+marked-first section ids i first new some is =
+    let under : underlined section (map (λ id. id.index) ids) ≡ marked section (map (λ id. id.index) ids) =
+    rw (ne_eqb section 0 some, underlined) refl in
+    record {
+      count = i;
+      are = is ∙ ap (λ (os : List Occurrence). first ++ os)
+          (sym (take-map (mark section) i ids) ∙ ap (take i) (ids-marked section ids ∙ sym under));
+    }
+
+pub none-noted : (noted first : List Occurrence) → NotesFirst noted first first
+none-noted noted first = record { count = 0; are = sym (append-nil first) }
 
 -- ## A text that is translated and then printed
 

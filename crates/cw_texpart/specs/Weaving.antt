@@ -1,5 +1,5 @@
 -- What a call that prints pieces of a book has done.
-use Rattle.std.specs.Prelude.{◌≡◌, ℕ, ◌+◌, ◌≤◌, ◌==◌, true, false, List, [], ◌++◌, Result, IfOk, OnOk, map}
+use Rattle.std.specs.Prelude.{◌≡◌, ℕ, ◌+◌, ◌≤◌, ◌==◌, true, false, List, [], ◌++◌, Result, IfOk, OnOk, map, take}
 use Rattle.cw_desk.specs.Told.{Told}
 use Rattle.cw_lines.specs.Line.{LineState}
 use Rattle.cw_lines.specs.Writes.{Puts}
@@ -31,6 +31,11 @@ marked section marks = map (mark_at section) marks
 
 abbrev pub underlined : ℕ → List ℕ → List Occurrence
 underlined section marks = elim (section == 0) [ true ↦ [] | false ↦ marked section marks ]
+
+-- Behind the occurrences stand the first of these, or none.
+pub record NotesFirst (noted old new : List Occurrence) : Type 0 where
+  pub count : ℕ
+  pub are : new ≡ old ++ take count noted
 
 -- The call printed this piece: it put its bytes, left its names, added its marks to the occurrences and counted its C
 -- texts. Where it was refused, it put a first part of the bytes, and the names may have other categories.

@@ -1,5 +1,5 @@
 //! The C texts of a book, which are translated and printed one by one.
-ghost use Rattle.std.specs.Prelude.{◌≡◌, ◌^◌, ◌<◌, ◌≤◌, ◌++◌, false, length, true, IfOk, OnOk};
+ghost use Rattle.std.specs.Prelude.{◌≡◌, ◌^◌, ◌<◌, ◌≤◌, ◌++◌, false, length, true, IfOk, OnErr, OnOk};
 ghost use Rattle.cw_lex.specs.Lexing.{tokens_of};
 ghost use Rattle.cw_lex.specs.Nested.{begins_section_in, is_c_mode};
 ghost use Rattle.cw_lines.specs.Writes.{CanWrite, Puts};
@@ -9,7 +9,7 @@ ghost use Rattle.cw_scraps.specs.Lines.{IsNamedBelow};
 ghost use Rattle.cw_texpart.specs.Printing.{setting_of, text_bytes, text_printed};
 ghost use Rattle.cw_texpart.specs.Texts.{lasting};
 ghost use Rattle.cw_texpart.specs.Translation.{IsKept, Translates, in_store, stored, tree_of};
-ghost use Rattle.cw_texpart.specs.Weaving.{Weaves, underlined};
+ghost use Rattle.cw_texpart.specs.Weaving.{NotesFirst, Weaves, underlined};
 ghost use Rattle.cw_tokens.specs.Shapes.{unfolded};
 
 use crate::Counts;
@@ -176,7 +176,7 @@ fn make_room(store: &mut TokenStore, span: Span, inner: bool) -> Result<(), Memo
 }
 
 /// Translates a C text without printing it. Its marks go to the book's occurrences, and the book's names get the
-/// categories behind it.
+/// categories behind it. After `Memory` the first of its marks, or none, are among the occurrences.
 pub fn translate_text<'a, L: Ledger>(
     alloc: Global,
     c: CText<'a>,
@@ -195,6 +195,8 @@ pub fn translate_text<'a, L: Ledger>(
     ensures printed { IfOk result (λ text. text_bytes text.text book.new (tree_of text)
         ≡ (text_printed c.entry (lasting book.old) book.old.names).out) }
     ensures named { IfOk result (λ text. IsNamedBelow (length book.new.names) (tree_of text)) }
+    ensures noted { OnErr result (NotesFirst (underlined c.entry.section
+        (text_printed c.entry (lasting book.old) book.old.names).marks) book.old.xrefs book.new.xrefs) }
 {
     let mut rooms = Rooms::new_in(alloc);
     let done = translate_into(&mut rooms, alloc, c, book, steps)?;
@@ -231,6 +233,8 @@ pub(crate) fn translate_into<'a, L: Ledger>(
         (λ done. IsNamedBelow (length book.new.names) (tree_of (in_store c.entry rooms.new.store.lists done))) }
     ensures kept { IfOk result
         (λ done. IsKept c.entry rooms.new.answers done.list.index (length rooms.new.store.lists)) }
+    ensures noted { OnErr result (NotesFirst (underlined c.entry.section
+        (text_printed c.entry (lasting book.old) book.old.names).marks) book.old.xrefs book.new.xrefs) }
 {
     rooms.store.reset();
     make_room(&mut rooms.store, c.span, c.inner)?;
@@ -288,7 +292,9 @@ pub fn print_text<D: Desk, L: Ledger>(
 
 // Adds each mark to the occurrences, underlined in this section. The section list has number 0, and none.
 fn note_marks(marks: &Marks, section: u32, xrefs: &mut Xrefs) -> Result<(), Memory>
-    ensures { OnOk result (xrefs.new ≡ xrefs.old ++ underlined section (marked_names marks.now)) }
+    ensures ok { OnOk result (xrefs.new ≡ xrefs.old ++ underlined section (marked_names marks.now)) }
+    ensures err { OnErr result
+        (NotesFirst (underlined section (marked_names marks.now)) xrefs.old xrefs.new) }
 {
     if section == 0 {
         return Ok(());
