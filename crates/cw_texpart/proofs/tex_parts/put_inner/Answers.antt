@@ -12,8 +12,20 @@ use Rattle.cw_texpart.proofs.tex_parts.put_inner.Goals as goal
 pub returns-in_err-translated-clause-woven : goal.returns-in_err-translated-clause-woven
 returns-in_err-translated-clause-woven g c =
     subst (λ (t : TexSetting). Weaves (tex_setting t (lasting c.args.book.now))
-    (text_done (tex_setting t (lasting c.args.book.now)) Inner true c.args.part c.args.book.now.names) _ _ _)
-    c.t.view_is (untranslated-woven c.in_err-translated.ensures.translates c.from_residual.ensures.1)
+    (text_done (tex_setting t (lasting c.args.book.now)) Inner true c.args.part c.args.book.now.names)
+    (record {
+      book = c.args.book.now;
+      line = c.args.out.now;
+      told = g.D.Desk.told c.args.desk.now;
+      steps = c.args.steps.now;
+    })
+    (record {
+      book = c.translate_into.new.book;
+      line = c.args.out.now;
+      told = g.D.Desk.told c.args.desk.now;
+      steps = c.translate_into.new.steps;
+    }) c.from_residual.result) c.t.view_is
+    (untranslated-woven c.in_err-translated.ensures.translates c.from_residual.ensures.1)
 
 pub returns-in_err-print-clause-woven : goal.returns-in_err-print-clause-woven
 returns-in_err-print-clause-woven g c = grind (arith, common_steps)
