@@ -12,10 +12,10 @@ use Rattle.cw_table.specs.Productions.{productions}
 use Rattle.cw_table.specs.Reaching.{IsAfter}
 use Rattle.cw_table.specs.Rewriting.{State, rewrite}
 use Rattle.cw_table.proofs.Normals.{log-none-of, log-turn-of, steps-none, steps-turn}
-use Rattle.cw_rewrite.specs.Telling.{EndsWithin, StopsAt, grown_by}
+use Rattle.cw_rewrite.specs.Telling.{EndsWithin, StopsAt, Told, grown_by}
 use Rattle.cw_check.specs.declared.checking.Verdict.{Verdict}
 use Rattle.cw_check.specs.Judging.{same_item, differs_from, refused_by, same_then, common, Compared, Judges, StandsAt}
-use Rattle.cw_check.specs.Judging.{StopsWithin, verdict_by, verdict_of}
+use Rattle.cw_check.specs.Judging.{StopsWithin, told_alone, verdict_by, verdict_of}
 
 item-self : (p : Production) → same_item p p ≡ true
 item-self p = ap (λ b. b && eqb p.place p.place) (eq-eqb p.number p.number refl) ∙ eq-eqb p.place p.place refl
@@ -163,13 +163,21 @@ counts : (f : Flags) (start : State) (n : ℕ) → n < count productions f start
 unfolding count
 counts f start n lt = lt
 
+-- what is told of the one text
+abbrev items_in : Option Told → List Production
+items_in None = []
+items_in (Some told) = told.items
+
+told-items : {xs ys : List Production} → told_alone xs ≡ grown_by ys (told_alone []) → xs ≡ ys
+told-items e = ap items_in e
+
 pub found : {A : Type 0} (f : Flags) (start now : State) (ps : List Production) (at : ℕ) → at ≤ length ps
-    → (o : Option A) → IfSome o (λ x. Some (take at ps) ≡ grown_by (log productions f start) (Some []))
+    → (o : Option A) → IfSome o (λ x. told_alone (take at ps) ≡ grown_by (log productions f start) (told_alone []))
     → IfSome o (λ x. now ≡ normal productions f start)
-    → (o ≡ None → StopsAt f start now (Some []) (Some (take at ps)) (refused_by ps at))
+    → (o ≡ None → StopsAt f start now (told_alone []) (told_alone (take at ps)) (refused_by ps at))
     → Found f start now ps (verdict_of (is_some o) (record { log = ps; at = at }))
 found f start now ps at le (Some x) told normal stop =
-    let e : take at ps ≡ log productions f start = cc in
+    let e : take at ps ≡ log productions f start = told-items told in
     record {
       judges = judged ps (log productions f start) at le true (λ k. e) (λ k. absurd cc);
       stands = stands f start now ps at le true (λ k. (e, normal)) (λ k. absurd cc);
@@ -179,7 +187,7 @@ found f start now ps at le None told normal stop =
     let t : Stop ps (log productions f start) at = record {
       done = s.done;
       inside = counts f start s.done s.inside;
-      heard = let k : Some (take at ps) ≡ Some (take s.done (log productions f start)) = s.heard in cc;
+      heard = told-items s.heard;
       next = s.next;
       there = s.there;
       refused = s.refused;
@@ -227,14 +235,13 @@ take-within (suc n) (p ∷ ps) = omega (arith, take-within n ps)
 
 -- what a walk against a log has found that ended for want of memory
 pub ended-within : (f : Flags) (start now : State) (ps qs : List Production) (at : ℕ)
-    → IsAfter productions f start now → EndsWithin f start now (Some []) (Some (take at ps)) → ps ≡ qs
+    → IsAfter productions f start now → EndsWithin f start now (told_alone []) (told_alone (take at ps)) → ps ≡ qs
     → StopsWithin f start now qs
 ended-within f start now ps qs at after e same =
     let is : List Production = log productions f start in
     let number : e.done ≡ after.number = after.only e.done (omega (arith, e.all, e.inside))
     (ap (λ (x : State). weight x.scraps) (sym e.is)) in
-    let heard : take at ps ≡ take e.number is =
-    (let k : Some (take at ps) ≡ Some (take e.number (log productions f start)) = e.heard in cc) in
+    let heard : take at ps ≡ take e.number is = told-items e.heard in
     let inside : e.number ≤ length is = counts-within f start e.number e.inside in
     let long : length (take at ps) ≡ e.number = ap length heard ∙ length-take-le e.number is inside in
     let most : e.number ≤ common ps is = common-most ps is e.number (omega (arith, take-within at ps, long)) inside
@@ -245,5 +252,5 @@ ended-within f start now ps qs at after e same =
     }
 
 pub seen-taken : (x y : Compared) (q : Production) → x ≡ y → not (refused_by y.log y.at q) ≡ true
-    → Some (take (x.at + 1) x.log) ≡ Some (take y.at y.log ++ q ∷ [])
-seen-taken x y q e h = ap (λ z. Some (take (z.at + 1) z.log)) e ∙ ap Some (next-taken y.log y.at q h)
+    → told_alone (take (x.at + 1) x.log) ≡ told_alone (take y.at y.log ++ q ∷ [])
+seen-taken x y q e h = ap (λ z. told_alone (take (z.at + 1) z.log)) e ∙ ap told_alone (next-taken y.log y.at q h)

@@ -6,6 +6,7 @@ use Rattle.cw_table.specs.Normal.{Production, log as log_of, normal, steps}
 use Rattle.cw_table.specs.Productions.{productions}
 use Rattle.cw_table.specs.Reaching.{IsAfter}
 use Rattle.cw_table.specs.Rewriting.{State}
+use Rattle.cw_rewrite.specs.Telling.{Told}
 use Rattle.cw_check.specs.declared.checking.Verdict.{Verdict}
 use Rattle.cw_check.specs.declared.checking.Verdict.TheVariants.{Accepted, Rejected}
 
@@ -41,6 +42,10 @@ pub record StopsWithin (flags : Flags) (start now : State) (log : List Productio
 pub record Compared : Type 0 where
   pub log : List Production
   pub at : ℕ
+
+-- these productions were told, of a text that isn't looked at
+abbrev pub told_alone : List Production → Option Told
+told_alone items = Some (record { items = items; begun = []; ended = [] })
 
 -- the next production of the log isn't this one
 abbrev pub differs_from : Option Production → Production → Bool

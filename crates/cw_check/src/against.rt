@@ -1,7 +1,7 @@
 //! Productions that are compared with a log, one after another.
-ghost use Rattle.std.specs.Prelude.{◌≡◌, ◌≤◌, Some, length, map, not, take};
+ghost use Rattle.std.specs.Prelude.{◌≡◌, ◌≤◌, length, map, not, take};
 ghost use Rattle.cw_leaves.specs.Spelling.{production_of};
-ghost use Rattle.cw_check.specs.Judging.{refused_by, verdict_of};
+ghost use Rattle.cw_check.specs.Judging.{refused_by, told_alone, verdict_of};
 
 use crate::checking::Verdict;
 use cw_base::Memory;
@@ -61,7 +61,7 @@ impl<'a> Against<'a> {
 }
 
 impl<'a> Watch for Against<'a> {
-    ghost told = { λ a. Some (take a.at a.log) };
+    ghost told = { λ a. told_alone (take a.at a.log) };
 
     ghost refuses = { λ a p. refused_by a.log a.at p };
 

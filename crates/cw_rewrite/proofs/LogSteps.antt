@@ -12,7 +12,7 @@ use Rattle.cw_table.specs.Rewriting.{State, rewrite}
 use Rattle.cw_table.specs.Rows.{row_numbered, row_of}
 use Rattle.cw_table.proofs.Normals.{log-turn-of, steps-none, steps-turn}
 use Rattle.std.proofs.lemmas.List.{append_assoc}
-use Rattle.cw_rewrite.specs.Telling.{EndsWithin, StopsAt, grown_by}
+use Rattle.cw_rewrite.specs.Telling.{EndsWithin, StopsAt, Told, grown_by}
 
 -- the row of a number has it
 numbered-own : (rows : List Row) (n : ℕ) (row : Row) → row_numbered rows n ≡ Some row → row.number.number ≡ n
@@ -88,20 +88,20 @@ whole-log : (f : Flags) (start : State) → take (count productions f start) (lo
 unfolding count
 whole-log f start = take-length (log productions f start)
 
-pub told-whole : (f : Flags) (start : State) (done : ℕ) (old : Option (List Production))
-    {now : Option (List Production)} → now ≡ grown_by (take done (log productions f start)) old
+pub told-whole : (f : Flags) (start : State) (done : ℕ) (old : Option Told)
+    {now : Option Told} → now ≡ grown_by (take done (log productions f start)) old
     → done ≡ count productions f start → now ≡ grown_by (log productions f start) old
 told-whole f start done old told all =
     told ∙ ap (λ l. grown_by l old) (ap (λ n. take n (log productions f start)) all ∙ whole-log f start)
 
 -- what is told of some, and then of one more
-told-more : (xs ys : List Production) (o : Option (List Production))
+told-more : (xs ys : List Production) (o : Option Told)
     → grown_by ys (grown_by xs o) ≡ grown_by (xs ++ ys) o
 told-more xs ys None = refl
-told-more xs ys (Some l) = ap Some (append_assoc l xs ys)
+told-more xs ys (Some t) = ap (λ l. Some (record t { items = l })) (append_assoc t.items xs ys)
 
-pub told-next : (xs : List Production) (done : ℕ) (p : Production) (old : Option (List Production))
-    {now new : Option (List Production)} → take (done + 1) xs ≡ take done xs ++ p ∷ []
+pub told-next : (xs : List Production) (done : ℕ) (p : Production) (old : Option Told)
+    {now new : Option Told} → take (done + 1) xs ≡ take done xs ++ p ∷ []
     → now ≡ grown_by (take done xs) old → new ≡ grown_by (p ∷ []) now → new ≡ grown_by (take (done + 1) xs) old
 told-next xs done p old more before one =
     one
@@ -115,11 +115,11 @@ on-err (Ok x) P holds = tt
 on-err (Err e) P holds = holds
 
 -- The state before a production that isn't done: it is refused, or memory is wanting before it was told or behind that.
-module _ (f : Flags) (start was now : State) (before told : Option (List Production)) (done : ℕ)
+module _ (f : Flags) (start was now : State) (before told : Option Told) (done : ℕ)
     (inside : done < count productions f start) (reached : was ≡ steps productions f done start)
     (same : now ≡ was) where
   pub stops-before : (refuses : Production → Bool) (next : Production)
-      → slice_get (log productions f start) done ≡ Some next → refuses next ≡ true → {old : Option (List Production)}
+      → slice_get (log productions f start) done ≡ Some next → refuses next ≡ true → {old : Option Told}
       → told ≡ old → old ≡ grown_by (take done (log productions f start)) before
       → StopsAt f start now before told refuses
   stops-before refuses next there refused kept heard = record {
@@ -132,7 +132,7 @@ module _ (f : Flags) (start was now : State) (before told : Option (List Product
     refused = refused;
   }
 
-  pub ends-before : {T E : Type 0} (r : Result T E) {old : Option (List Production)} → told ≡ old
+  pub ends-before : {T E : Type 0} (r : Result T E) {old : Option Told} → told ≡ old
       → old ≡ grown_by (take done (log productions f start)) before → OnErr r (EndsWithin f start now before told)
   ends-before r kept heard = on-err r (EndsWithin f start now before told) (record {
     done = done;

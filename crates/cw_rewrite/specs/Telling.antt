@@ -1,17 +1,26 @@
 -- What is told of productions.
 use Rattle.std.specs.Prelude.{◌≡◌, ℕ, ◌+◌, ◌<◌, ◌≤◌, Bool, true, Option, Some, None, List, ◌++◌, take, slice_get}
 use Rattle.cw_base.specs.declared.flags.Flags.{Flags}
+use Rattle.cw_leaves.specs.declared.lines.LeafLine.{LeafLine}
+use Rattle.cw_leaves.specs.declared.lines.TextLog.{TextLog}
 use Rattle.cw_table.specs.Normal.{count, log, steps, Production}
 use Rattle.cw_table.specs.Productions.{productions}
 use Rattle.cw_table.specs.Rewriting.{State}
 
+-- What a watch has been told: the productions of the text that is reduced, the leaf lines of its scraps before that,
+-- and the texts that have ended.
+pub record Told : Type 0 where
+  pub items : List Production
+  pub begun : List LeafLine
+  pub ended : List TextLog
+
 -- more productions, where any are told
-abbrev pub grown_by : List Production → Option (List Production) → Option (List Production)
+abbrev pub grown_by : List Production → Option Told → Option Told
 grown_by more None = None
-grown_by more (Some told) = Some (told ++ more)
+grown_by more (Some told) = Some (record told { items = told.items ++ more })
 
 -- The walk stopped before a production that was refused, and what was told is the log up to there.
-pub record StopsAt (flags : Flags) (start now : State) (before told : Option (List Production))
+pub record StopsAt (flags : Flags) (start now : State) (before told : Option Told)
     (refuses : Production → Bool) : Type 0 where
   pub done : ℕ
   pub inside : done < count productions flags start
@@ -23,7 +32,7 @@ pub record StopsAt (flags : Flags) (start now : State) (before told : Option (Li
 
 -- The walk ended for want of memory: a first part of the log was told, and all of it was done, or all but its last
 -- production.
-pub record EndsWithin (flags : Flags) (start now : State) (before told : Option (List Production)) : Type 0 where
+pub record EndsWithin (flags : Flags) (start now : State) (before told : Option Told) : Type 0 where
   pub done : ℕ
   pub is : now ≡ steps productions flags done start
   pub number : ℕ
