@@ -1,16 +1,18 @@
 -- A text of one scrap at which no row fits is reduced already.
 use Rattle.std.proofs.Common.{◌≡◌, ℕ, Bool, true, false, not, ◌+◌, ◌*◌, ◌≤◌, None, List, [], ◌∷◌, refl, sym, ap}
 use Rattle.std.proofs.Common.{◌∙◌, length}
-use Rattle.std.proofs.Common.{arith}
+use Rattle.std.proofs.Common.{Option, arith}
+use Rattle.std.specs.Prelude.{Result}
 use Rattle.cw_base.specs.declared.category.Cat.{Cat}
 use Rattle.cw_base.specs.declared.category.Cat.TheVariants.{End}
 use Rattle.cw_base.specs.declared.flags.Flags.{Flags}
+use Rattle.cw_base.specs.declared.memory.Memory.{Memory}
 use Rattle.cw_names.specs.Names.{Entry}
 use Rattle.cw_table.specs.Fitting.{first_of}
 use Rattle.cw_table.specs.Productions.{productions}
 use Rattle.cw_table.specs.Reaching.{IsAfter}
 use Rattle.cw_table.specs.Rewriting.{State}
-use Rattle.cw_table.specs.Normal.{count}
+use Rattle.cw_table.specs.Normal.{Production, count, log}
 use Rattle.cw_table.specs.WalkCounts.{reservings, ticks}
 use Rattle.cw_table.proofs.Examples.{productions-sound}
 use Rattle.cw_table.proofs.FirstLaws.{first-window}
@@ -18,6 +20,7 @@ use Rattle.cw_tokens.specs.declared.token.Token.{Token}
 use Rattle.cw_tokens.specs.Shapes.{unfolded}
 use Rattle.cw_tokens.specs.Stored.{StoredLists}
 use Rattle.cw_trees.specs.Joining.{whole}
+use Rattle.cw_rewrite.specs.Telling.{Told, grown_by}
 use Rattle.cw_scraps.specs.Applying.{state_of}
 use Rattle.cw_scraps.specs.declared.leaves.Leaf.{Leaf}
 use Rattle.cw_scraps.specs.Leaves.{entry_of}
@@ -27,7 +30,9 @@ use Rattle.cw_translator.specs.declared.translator.Translated.{Translated}
 use Rattle.cw_translator.specs.Counting.{limit_in, productions_in, scraps_in, text_limit, ticks_in}
 use Rattle.cw_translator.specs.Opening.{HasEnded, of_leaf, progress_of}
 use Rattle.cw_translator.specs.Reading.{Progress, all_ended}
+use Rattle.cw_translator.specs.Recording.{HasRecorded, begun_over, ended_now}
 use Rattle.cw_translator.specs.Retyping.{NamesOnTheWay, at_end}
+use Rattle.cw_translator.proofs.Recorded.{grown-none, recorded-one}
 use Rattle.cw_translator.proofs.Sums.{sum-one}
 use Rattle.cw_translator.proofs.Retypings.{retypes, retyped-names}
 use Rattle.cw_rewrite.proofs.WalkSteps.{GoesOn, WalkEnds, Walks, goes-on, walk-ends, walk-reaches, walk-starts}
@@ -42,6 +47,10 @@ pub alone-none : (cat : Cat) (may : Bool)
     → not may ≡ true → first_of productions (cat ∷ []) ≡ None
 alone-none cat may none e = sym (first-window productions (cat ∷ []) productions-sound)
     ∙ none (not-true may e) End End
+
+nil-log : (items : List Production) → length items ≡ 0 → items ≡ []
+nil-log [] e = refl
+nil-log (item ∷ items) e = absurd (omega (arith, e))
 
 module _ (flags : Flags) (store : StoredLists) (names : List Entry) (marks : MarkList) (leaf : Leaf) (steps : ℕ)
     (sound : IsSoundLine store names (entry_of leaf ∷ [])) (none : first_of productions (leaf.cat ∷ []) ≡ None) where
@@ -82,6 +91,17 @@ module _ (flags : Flags) (store : StoredLists) (names : List Entry) (marks : Mar
         steps_are = (let k : steps2 ≡ steps + ticks productions flags state = spent ∙ ends.ticked in
             omega (arith, k, ticked));
       }
+
+  -- its log is empty
+  alone-log : log productions flags state ≡ []
+  unfolding count
+  alone-log = nil-log (log productions flags state) (sym ends.number)
+
+  pub alone-recorded : {T : Type 0} (result : Result T Memory) {before begun ended : Option Told}
+      → begun ≡ begun_over (scraps_of store.lists (entry_of leaf ∷ [])) before → ended ≡ ended_now begun
+      → HasRecorded flags (all_ended flags here_now).known.ended before ended result
+  alone-recorded result {begun = begun} b e = recorded-one flags state result b
+      (sym (ap (λ l. grown_by l begun) alone-log ∙ grown-none begun)) e
 
   pub alone-fails : NamesOnTheWay flags [] here_now names
   alone-fails = at_end here_now names (retypes flags state state names names after refl refl)

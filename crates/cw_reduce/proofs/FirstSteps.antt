@@ -1,6 +1,6 @@
 -- A text that begins with a token which makes a scrap: it has no head, and goes on behind that scrap.
 use Rattle.std.proofs.Common.{◌≡◌, ℕ, ◌^◌, false, None, List, [], ◌∷◌, ◌++◌, refl, sym, ap, ◌∙◌, subst}
-use Rattle.std.specs.Prelude.{Result}
+use Rattle.std.specs.Prelude.{Option, Result}
 use Rattle.cw_base.specs.declared.flags.Flags.{Flags}
 use Rattle.cw_base.specs.declared.memory.Memory.{Memory}
 use Rattle.cw_base.specs.declared.notes.NoteKind.{NoteKind}
@@ -33,6 +33,7 @@ use Rattle.cw_translator.specs.Reading.{Progress, after_answers, after_token, al
 use Rattle.cw_translator.specs.Retyping.{NamesOnTheWay, here, later}
 use Rattle.cw_translator.specs.Translating.{NameTexts, begin, end_of, head_made, headed_made}
 use Rattle.cw_translator.specs.Translating.{translated}
+use Rattle.cw_rewrite.specs.Telling.{Told}
 use Rattle.cw_translator.specs.Working.{EndsIn, progress_over, to_end}
 use Rattle.cw_translator.proofs.Routes.{ends-as}
 use Rattle.cw_reduce.proofs.HeadFinds.{NoHead, no-head, none-token}
@@ -92,9 +93,9 @@ module _ (flags : Flags) (named : NameTexts) (nested : AllNested named) (lists :
         (subst (λ x. NamesOnTheWay flags (with_texts named rest) x new) is h)) in
         behind_head lists read.None all names none.rest_is (none.made flags named (begin names marks)) (behind on)
 
-    pub first-ends : {L : Type 0} {t : Translator} {work new : Work L} {result : Result Translated Memory}
-        → EndsIn (to_end flags (with_texts named rest) q) t work new result
-        → EndsIn (to_translation flags named all names marks) t work new result
+    pub first-ends : {L R : Type 0} {told : R → Option Told} {t : Translator} {work new : Work L R}
+        {result : Result Translated Memory} → EndsIn told (to_end flags (with_texts named rest) q) t work new result
+        → EndsIn told (to_translation flags named all names marks) t work new result
     first-ends r = ends-as first-text first-way r
 
   pub first-start : NamesOfText flags named all names marks names
@@ -142,19 +143,20 @@ pub ahead-is : (b : Beginning) (next : Lexed) (rest : List Answer) → b.name �
 ahead-is b next rest named is = ap (λ o. (name_ahead o ++ answers_in b.next) ++ rest) named
     ∙ ap (λ l. answers_in l ++ rest) is
 
-pub leaf-as : {L : Type 0} (flags : Flags) (named : NameTexts) (leaf : Leaf) {xs ys : List Answer} {t : Translator}
-    {work new : Work L} {result : Result Translated Memory} → t ≡ of_leaf leaf → xs ≡ ys
-    → EndsIn (to_end flags (with_texts named xs) (progress_over work t)) t work new result
-    → EndsIn (to_end flags (with_texts named ys) (progress_over work (of_leaf leaf))) (of_leaf leaf) work new result
-leaf-as flags named leaf {xs = xs} {work = work} {new = new} {result = result} e same r =
-    subst (λ list. EndsIn (to_end flags (with_texts named list) (progress_over work (of_leaf leaf))) (of_leaf leaf)
+pub leaf-as : {L R : Type 0} {told : R → Option Told} (flags : Flags) (named : NameTexts) (leaf : Leaf)
+    {xs ys : List Answer} {t : Translator} {work new : Work L R} {result : Result Translated Memory} → t ≡ of_leaf leaf
+    → xs ≡ ys → EndsIn told (to_end flags (with_texts named xs) (progress_over work t)) t work new result
+    → EndsIn told (to_end flags (with_texts named ys) (progress_over work (of_leaf leaf)))
+    (of_leaf leaf) work new result
+leaf-as {told = told} flags named leaf {xs = xs} {work = work} {new = new} {result = result} e same r =
+    subst (λ list. EndsIn told (to_end flags (with_texts named list) (progress_over work (of_leaf leaf))) (of_leaf leaf)
     work new result) same
-    (subst (λ x. EndsIn (to_end flags (with_texts named xs) (progress_over work x)) x work new result) e r)
+    (subst (λ x. EndsIn told (to_end flags (with_texts named xs) (progress_over work x)) x work new result) e r)
 
 -- A text from its first answer on.
-pub text-as : {L : Type 0} (flags : Flags) (named : NameTexts) (old new : List Answer) (names : List Entry)
-    (marks : List ℕ) {t : Translator} {work work' : Work L} {result : Result Translated Memory} → nest new ≡ nest old
-    → EndsIn (to_translation flags named new names marks) t work work' result
-    → EndsIn (to_translation flags named old names marks) t work work' result
+pub text-as : {L R : Type 0} {told : R → Option Told} (flags : Flags) (named : NameTexts) (old new : List Answer)
+    (names : List Entry) (marks : List ℕ) {t : Translator} {work work' : Work L R} {result : Result Translated Memory}
+    → nest new ≡ nest old → EndsIn told (to_translation flags named new names marks) t work work' result
+    → EndsIn told (to_translation flags named old names marks) t work work' result
 text-as flags named old new names marks same r = ends-as (same-text flags named old new names marks same)
     (λ entries. same-way flags named old new names marks entries same) r

@@ -43,6 +43,7 @@ use Rattle.cw_translator.specs.Retyping.{NamesAmong, NamesOnTheWay, here}
 use Rattle.cw_translator.specs.Translating.{Known, NameTexts, before, begin, end_of, head_made, leaf_of_name}
 use Rattle.cw_translator.specs.Translating.{made}
 use Rattle.cw_translator.specs.Translating.{sign_behind, texts_named, translated, with_names}
+use Rattle.cw_rewrite.specs.Telling.{Told}
 use Rattle.cw_translator.specs.Working.{Advances, EndsIn, over, progress_over}
 use Rattle.cw_reduce.proofs.NamedJoined.{AllNested, name-law, named-translation}
 use Rattle.cw_reduce.proofs.NameSteps.{texts-paired, texts-unpaired, with-texts-append}
@@ -118,10 +119,12 @@ starts-ahead limit a b c h =
     (first.0, first.1, both.1)
 
 -- the first of them have been read
-pub ahead-advancing : {L T : Type 0} (flags : Flags) (named : NameTexts) (a b c : List Answer) {t t' : Translator}
-    {old new : Work L} {value : T} → IsTranslating old.store.now old.names.now t
-    → Advances (over flags (with_texts named a) (progress_over old t)) t old t' new (Ok value)
-    → Advancing flags (with_texts named ((a ++ b) ++ c)) (with_texts named (b ++ c)) (progress_over old t) t old t' new
+pub ahead-advancing : {L R T : Type 0} {told : R → Option Told} (flags : Flags) (named : NameTexts)
+    (a b c : List Answer) {t t' : Translator} {old new : Work L R} {value : T}
+    → IsTranslating old.store.now old.names.now t
+    → Advances told (over flags (with_texts named a) (progress_over old t)) t old t' new (Ok value)
+    → Advancing told flags (with_texts named ((a ++ b) ++ c)) (with_texts named (b ++ c))
+    (progress_over old t) t old t' new
 ahead-advancing flags named a b c is r = advancing-next (with_texts named a) (with_texts named (b ++ c))
     (advancing-begun flags (with_texts named ((a ++ b) ++ c)) is) (cut-first named a b c) r
 
@@ -135,10 +138,10 @@ headed-among flags named head rest p new (inr h) =
     (append-nil (with_texts named rest)) (h []))
 
 -- A head that has a scrap of its own, or none, makes nothing more.
-pub headless-advances : {L T : Type 0} (flags : Flags) (named : NameTexts) (head : HeadRead) {t : Translator}
-    {work : Work L} {value : T} → ((list : ListId) × (head ≡ read.Dead list)) ⊎ (head ≡ read.None)
+pub headless-advances : {L R T : Type 0} {told : R → Option Told} (flags : Flags) (named : NameTexts) (head : HeadRead)
+    {t : Translator} {work : Work L R} {value : T} → ((list : ListId) × (head ≡ read.Dead list)) ⊎ (head ≡ read.None)
     → IsTranslating work.store.now work.names.now t
-    → Advances (over_head flags named head (progress_over work t)) t work t work (Ok value)
+    → Advances told (over_head flags named head (progress_over work t)) t work t work (Ok value)
 headless-advances flags named head {t = t} {work = work} (inl h) is =
     advances-done (ap (λ x. after_head flags named x (progress_over work t)) (sym h.1)) (advances-none flags is)
 headless-advances flags named head {t = t} {work = work} (inr e) is =
@@ -157,20 +160,21 @@ head-translating store names t line e s = subst (IsTranslating store names) (sym
 })
 
 -- What it comes to is the text with its head.
-pub headed-as : {L : Type 0} (flags : Flags) (named : NameTexts) → AllNested named → (head : HeadRead)
-    (rest : List Answer) → IsNested rest → {t : Translator} {work new : Work L} {result : Result Translated Memory}
+pub headed-as : {L R : Type 0} {told : R → Option Told} (flags : Flags) (named : NameTexts) → AllNested named
+    → (head : HeadRead)
+    (rest : List Answer) → IsNested rest → {t : Translator} {work new : Work L R} {result : Result Translated Memory}
     → t ≡ of_head head
-    → EndsIn (record {
+    → EndsIn told (record {
       flags = flags;
       text = all_ended flags (over_headed flags named head rest (progress_over work t)).ends;
       leaves = (over_headed flags named head rest (progress_over work t)).leaves;
     }) t work new result
-    → EndsIn (to_headed flags named work.store.now.lists head rest
+    → EndsIn told (to_headed flags named work.store.now.lists head rest
     (begin work.names.now (marked_names work.marks.now))) (of_head head) work new result
-headed-as flags named nested head rest well {work = work} {new = new} {result = result} e r =
+headed-as {told = told} flags named nested head rest well {work = work} {new = new} {result = result} e r =
     ends-as (headed-whole flags named nested work.store.now.lists head rest
     (begin work.names.now (marked_names work.marks.now)) well) (λ names h. h)
-    (subst (λ x. EndsIn (record {
+    (subst (λ x. EndsIn told (record {
       flags = flags;
       text = all_ended flags (over_headed flags named head rest (progress_over work x)).ends;
       leaves = (over_headed flags named head rest (progress_over work x)).leaves;

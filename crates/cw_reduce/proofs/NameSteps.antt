@@ -42,17 +42,19 @@ use Rattle.cw_translator.specs.Reading.{Progress, after_token, after_begin, afte
 use Rattle.cw_translator.specs.Reading.{Comment as CommentFrame}
 use Rattle.cw_translator.specs.Retyping.{NamesAmong, NamesOnTheWay, later}
 use Rattle.cw_translator.specs.Translating.{NameTexts}
+use Rattle.cw_rewrite.specs.Telling.{Told}
 use Rattle.cw_translator.specs.Working.{Advances, over, progress_over}
 use Rattle.cw_reduce.proofs.ReadSteps.{gives-is}
 use Rattle.cw_translator.proofs.AnswerRoutes.{begin-advances, unchanged}
+use Rattle.cw_translator.proofs.Recorded.{recorded-none}
 use Rattle.cw_translator.proofs.Routes.{Advancing, advancing-begun, advancing-next, advances-as, advances-done}
 use Rattle.cw_translator.proofs.Routes.{advances-none}
 use Rattle.cw_translator.proofs.LeafSteps.{Steps, keeps-itself}
 
 -- An inner text has begun.
-pub text-begun : {L : Type 0} (flags : Flags) (text : List Answer) {t t1 : Translator} {work : Work L}
-    → IsTranslating work.store.now work.names.now t → t1 ≡ record t { nesting = CText [] ∷ t.nesting }
-    → Advancing flags (text_answers text) (text ++ Finish text_token ∷ []) (progress_over work t) t work t1 work
+pub text-begun : {L R : Type 0} {told : R → Option Told} (flags : Flags) (text : List Answer) {t t1 : Translator}
+    {work : Work L R} → IsTranslating work.store.now work.names.now t → t1 ≡ record t { nesting = CText [] ∷ t.nesting }
+    → Advancing told flags (text_answers text) (text ++ Finish text_token ∷ []) (progress_over work t) t work t1 work
 text-begun flags text is e = advancing-next (Begin text_token ∷ []) (text ++ Finish text_token ∷ [])
     (advancing-begun flags (text_answers text) is) refl
     (begin-advances {T = Unit {0}} flags text_token {result = Ok tt} is e)
@@ -70,9 +72,10 @@ pub part-next : (text : List ℕ) (from : ℕ) (span : Span) → IsNextPart text
 part-next text from span h = ap (all_part_answers text) h.parts
 
 -- What holds inner texts has begun.
-pub held-begun : {L : Type 0} (flags : Flags) (held_by : Holder) {t t1 : Translator} {work : Work L}
-    → IsTranslating work.store.now work.names.now t → t1 ≡ record t { nesting = Comment held_by [] ∷ t.nesting }
-    → (all : List Answer) → Advancing flags all all (with_held held_by (progress_over work t)) t work t1 work
+pub held-begun : {L R : Type 0} {told : R → Option Told} (flags : Flags) (held_by : Holder) {t t1 : Translator}
+    {work : Work L R} → IsTranslating work.store.now work.names.now t
+    → t1 ≡ record t { nesting = Comment held_by [] ∷ t.nesting } → (all : List Answer)
+    → Advancing told flags all all (with_held held_by (progress_over work t)) t work t1 work
 held-begun flags held_by {t = t} {t1 = t1} {work = work} is e all =
     let store : StoredLists = work.store.now in
     let names : List Entry = work.names.now in
@@ -99,6 +102,7 @@ held-begun flags held_by {t = t} {t1 = t1} {work = work} is e all =
         };
         keeps = steps.keeps;
         names = tt;
+        recorded = recorded-none flags [] refl (omega arith);
         bound = omega arith;
         same = unchanged;
         idle = is.idle;
@@ -138,10 +142,10 @@ module _ (kept : List SecName) (uses : List NameUse) (token : Seen) (named : is_
   unpaired = name-token (name_texts kept uses) token.kind token named
       ∙ ap (λ o. name_answers o token) (ap (texts_kept kept) (none-at (name_at token.span.start uses) found))
 
-  pub unpaired-advances : {L T : Type 0} (flags : Flags) {t : Translator} {work : Work L} {value : T}
-      → IsTranslating work.store.now work.names.now t
-      → Advances (over flags (token_answers (name_texts kept uses) token.kind token) (progress_over work t)) t work t
-      work (Ok value)
+  pub unpaired-advances : {L R T : Type 0} {told : R → Option Told} (flags : Flags) {t : Translator} {work : Work L R}
+      {value : T} → IsTranslating work.store.now work.names.now t
+      → Advances told (over flags (token_answers (name_texts kept uses) token.kind token) (progress_over work t)) t work
+      t work (Ok value)
   unpaired-advances flags {t = t} {work = work} is =
       let p : Progress = progress_over work t in
       advances-done (sym (name-passes token.kind token p named) ∙ ap (λ xs. after_answers flags xs p) (sym unpaired))
@@ -221,10 +225,10 @@ module _ (kept : List SecName) (uses : List NameUse) (token : Seen) (named : is_
         (subst (λ q. NamesOnTheWay flags (held_texts ++ coming) q entries)
         (sym (name-begins token.kind token.span.start p named)) (h coming)))
 
-    pub paired-advances : {L T : Type 0} (flags : Flags) (p : Progress) {t t' : Translator} {old new : Work L}
-        {result : Result T Memory}
-        → Advances (over flags held_texts (with_held (holder.Name token.span.start) p)) t old t' new result
-        → Advances (over flags (token_answers (name_texts kept uses) token.kind token) p) t old t' new result
+    pub paired-advances : {L R T : Type 0} {told : R → Option Told} (flags : Flags) (p : Progress) {t t' : Translator}
+        {old new : Work L R} {result : Result T Memory} → Advances told
+        (over flags held_texts (with_held (holder.Name token.span.start) p)) t old t' new result
+        → Advances told (over flags (token_answers (name_texts kept uses) token.kind token) p) t old t' new result
     paired-advances flags p r = advances-as (then-held flags p) (λ entries. paired-fails flags p entries) r
 
 pub with-texts-append : (named : NameTexts) (xs ys : List Answer) → with_texts named (xs ++ ys)

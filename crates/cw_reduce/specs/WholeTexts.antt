@@ -40,7 +40,7 @@ shown_in_text named text span mode =
     shown (λ number. is_some (named number)) (tokens_of text span.start span.«end» mode)
 
 -- the translation of the text of which these are the scanner's answers, over this
-abbrev pub to_text : {L : Type 0} → Context → List Answer → Work L → Target
+abbrev pub to_text : {L R : Type 0} → Context → List Answer → Work L R → Target
 to_text context answers work = to_translation context.flags.now (texts_in context) answers work.names.now
     (marked_names work.marks.now)
 

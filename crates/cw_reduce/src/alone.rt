@@ -24,7 +24,7 @@ use cw_lex::{Lexed, Tok};
 use cw_rewrite::put_alone;
 use cw_scraps::{Leaf, makes_leaf, scrap_of};
 use cw_table::may_fit;
-use cw_translator::{Context, Translated, Work};
+use cw_translator::{Context, Recorder, Translated, Work, record_alone};
 
 /// The token with which a text begins that has this first answer, where it makes a scrap of its own.
 #[inline(always)]
@@ -62,12 +62,16 @@ fn is_end(answer: &Lexed) -> bool
 /// The text ends whose only scrap this is, at which no row fits: it is put together as it is. That counts four steps,
 /// like each look for a row.
 #[inline(always)]
-fn end_alone<L: Ledger>(leaf: Leaf, work: &mut Work<L>) -> Result<Translated, Memory>
+fn end_alone<L: Ledger, R: Recorder>(
+    leaf: Leaf,
+    work: &mut Work<L, R>,
+) -> Result<Translated, Memory>
     requires sound { IsSoundLine work.old.store.now work.old.names.now (entry_of leaf ∷ []) }
     requires alone { first_of productions (leaf.cat ∷ []) ≡ None }
-    ensures { (flags : FlagsSeen) → EndsIn (to_end flags [] (progress_over work.old (of_leaf leaf)))
+    ensures { (flags : FlagsSeen) → EndsIn R.told (to_end flags [] (progress_over work.old (of_leaf leaf)))
         (of_leaf leaf) work.old work.new result }
 {
+    record_alone(&mut work.recorder, &leaf, work.store)?;
     work.store.tied_law();
     work.steps.tick();
     work.steps.tick();
@@ -83,20 +87,20 @@ fn end_alone<L: Ledger>(leaf: Leaf, work: &mut Work<L>) -> Result<Translated, Me
 
 /// Ends a text that begins with this scrap, and goes on with this answer and all others.
 #[inline(never)]
-fn translate_on<L: Ledger>(
+fn translate_on<L: Ledger, R: Recorder>(
     leaf: Leaf,
     next: &Lexed,
     reader: &mut Reader,
     context: &Context,
-    work: &mut Work<L>,
+    work: &mut Work<L, R>,
 ) -> Result<Translated, Memory>
     requires real { leaf.cat ≢ Cats.End }
     requires translating { IsTranslating work.old.store.now work.old.names.now (of_leaf leaf) }
     requires start { StartsBelow (2 ^ 32) (answers_in next.now ++ reader.old.coming) }
     requires kept { AreNamesOf context.now.sec_names.now context.now.uses.now }
     ensures read { OnOk result (IsReadUp reader.old reader.new) }
-    ensures text { EndsIn (to_end context.now.flags.now (with_texts (texts_in context.now) (answers_in next.now ++
-        reader.old.coming)) (progress_over work.old (of_leaf leaf))) (of_leaf leaf) work.old work.new result }
+    ensures text { EndsIn R.told (to_end context.now.flags.now (with_texts (texts_in context.now) (answers_in next.now
+        ++ reader.old.coming)) (progress_over work.old (of_leaf leaf))) (of_leaf leaf) work.old work.new result }
 {
     let mut translator = with_leaf(leaf, context.alloc)?;
     read_behind(&mut translator, &headless(*next), reader, context, work)?;
@@ -105,11 +109,11 @@ fn translate_on<L: Ledger>(
 
 /// Ends a text that begins with this scrap.
 #[inline(always)]
-fn translate_rest<L: Ledger>(
+fn translate_rest<L: Ledger, R: Recorder>(
     leaf: Leaf,
     reader: &mut Reader,
     context: &Context,
-    work: &mut Work<L>,
+    work: &mut Work<L, R>,
 ) -> Result<Translated, Memory>
     requires real { leaf.cat ≢ Cats.End }
     requires translating { IsTranslating work.old.store.now work.old.names.now (of_leaf leaf) }
@@ -117,7 +121,7 @@ fn translate_rest<L: Ledger>(
     requires start { StartsBelow (2 ^ 32) reader.old.coming }
     requires kept { AreNamesOf context.now.sec_names.now context.now.uses.now }
     ensures read { OnOk result (IsReadUp reader.old reader.new) }
-    ensures text { EndsIn (to_end context.now.flags.now (with_texts (texts_in context.now) reader.old.coming)
+    ensures text { EndsIn R.told (to_end context.now.flags.now (with_texts (texts_in context.now) reader.old.coming)
         (progress_over work.old (of_leaf leaf))) (of_leaf leaf) work.old work.new result }
 {
     let next = reader.next();
@@ -128,11 +132,11 @@ fn translate_rest<L: Ledger>(
 }
 
 /// Ends a text that begins with a token which makes a scrap.
-pub(crate) fn translate_from<L: Ledger>(
+pub(crate) fn translate_from<L: Ledger, R: Recorder>(
     token: &Tok,
     reader: &mut Reader,
     context: &Context,
-    work: &mut Work<L>,
+    work: &mut Work<L, R>,
 ) -> Result<Translated, Memory>
     requires makes { MakesLeaf token.now.kind }
     requires nested { IsNested (TokenAnswer (seen token.now) ∷ reader.old.coming) }
@@ -140,8 +144,8 @@ pub(crate) fn translate_from<L: Ledger>(
     requires kept { AreNamesOf context.now.sec_names.now context.now.uses.now }
     requires idle { work.old.store.now.building ≡ None }
     ensures read { OnOk result (IsReadUp reader.old reader.new) }
-    ensures text { EndsIn (to_text context.now (TokenAnswer (seen token.now) ∷ reader.old.coming) work.old) of_nothing
-        work.old work.new result }
+    ensures text { EndsIn R.told (to_text context.now (TokenAnswer (seen token.now) ∷ reader.old.coming) work.old)
+        of_nothing work.old work.new result }
 {
     work.store.tied_law();
     let leaf = scrap_of(token, work.names, work.store)?;

@@ -22,7 +22,7 @@ use cw_answers::Reader;
 use cw_base::{Cat, Ledger, MathMode, Memory};
 use cw_lex::Lexed;
 use cw_scraps::{Leaf, ScrapLine};
-use cw_translator::{Context, Holder, Translated, Translator, Work};
+use cw_translator::{Context, Holder, Recorder, Translated, Translator, Work};
 use std::alloc::Global;
 
 // For how many scraps a text's line has room at first, so that those of most texts are never moved.
@@ -61,16 +61,16 @@ pub(crate) fn with_leaf(leaf: Leaf, alloc: Global) -> Result<Translator, Memory>
 }
 
 /// The name at the head of a C part, with its inner texts and its sign. Without a pair it stands for nothing.
-fn name_with_sign<L: Ledger>(
+fn name_with_sign<L: Ledger, R: Recorder>(
     translator: &mut Translator,
     number: u32,
     sign: u32,
     context: &Context,
-    work: &mut Work<L>,
+    work: &mut Work<L, R>,
 ) -> Result<(), Memory>
     requires kept { AreNamesOf context.now.sec_names.now context.now.uses.now }
     requires translating { IsTranslating work.old.store.now work.old.names.now translator.old }
-    ensures { Advances (over_held context.now.flags.now (texts_in context.now number) (Holders.Head number sign)
+    ensures { Advances R.told (over_held context.now.flags.now (texts_in context.now number) (Holders.Head number sign)
         (progress_over work.old translator.old)) translator.old work.old translator.new work.new result }
 {
     match context.uses.at(number) {
@@ -91,15 +91,15 @@ fn name_with_sign<L: Ledger>(
 }
 
 /// What the head of a text makes beside a scrap that was made while it was read.
-fn head_name<L: Ledger>(
+fn head_name<L: Ledger, R: Recorder>(
     translator: &mut Translator,
     head: HeadRead,
     context: &Context,
-    work: &mut Work<L>,
+    work: &mut Work<L, R>,
 ) -> Result<(), Memory>
     requires kept { AreNamesOf context.now.sec_names.now context.now.uses.now }
     requires translating { IsTranslating work.old.store.now work.old.names.now translator.old }
-    ensures { Advances (over_head context.now.flags.now (texts_in context.now) head (progress_over work.old
+    ensures { Advances R.told (over_head context.now.flags.now (texts_in context.now) head (progress_over work.old
         translator.old)) translator.old work.old translator.new work.new result }
 {
     match head {
@@ -109,17 +109,18 @@ fn head_name<L: Ledger>(
 }
 
 /// A section name that was read because its sign might have stood behind it.
-fn name_ahead<L: Ledger>(
+fn name_ahead<L: Ledger, R: Recorder>(
     translator: &mut Translator,
     begun: &Beginning,
     context: &Context,
-    work: &mut Work<L>,
+    work: &mut Work<L, R>,
 ) -> Result<(), Memory>
     requires start { StartsBelow (2 ^ 32) (name_ahead begun.now.name) }
     requires kept { AreNamesOf context.now.sec_names.now context.now.uses.now }
     requires translating { IsTranslating work.old.store.now work.old.names.now translator.old }
-    ensures { Advances (over context.now.flags.now (with_texts (texts_in context.now) (name_ahead begun.now.name))
-        (progress_over work.old translator.old)) translator.old work.old translator.new work.new result }
+    ensures { Advances R.told (over context.now.flags.now (with_texts (texts_in context.now)
+        (name_ahead begun.now.name)) (progress_over work.old translator.old)) translator.old work.old translator.new
+        work.new result }
 {
     match begun.name {
         None => Ok(()),
@@ -128,20 +129,20 @@ fn name_ahead<L: Ledger>(
 }
 
 /// The answers behind a head: those that were read beyond it, and then all others.
-pub(crate) fn read_behind<L: Ledger>(
+pub(crate) fn read_behind<L: Ledger, R: Recorder>(
     translator: &mut Translator,
     begun: &Beginning,
     reader: &mut Reader,
     context: &Context,
-    work: &mut Work<L>,
+    work: &mut Work<L, R>,
 ) -> Result<(), Memory>
     requires start { StartsBelow (2 ^ 32) (answers_ahead begun.now ++ reader.old.coming) }
     requires kept { AreNamesOf context.now.sec_names.now context.now.uses.now }
     requires translating { IsTranslating work.old.store.now work.old.names.now translator.old }
     ensures read { OnOk result (IsReadUp reader.old reader.new) }
-    ensures reads { Advances (over context.now.flags.now (with_texts (texts_in context.now) (answers_ahead begun.now ++
-        reader.old.coming)) (progress_over work.old translator.old)) translator.old work.old translator.new work.new
-        result }
+    ensures reads { Advances R.told (over context.now.flags.now (with_texts (texts_in context.now) (answers_ahead
+        begun.now ++ reader.old.coming)) (progress_over work.old translator.old)) translator.old work.old translator.new
+        work.new result }
 {
     name_ahead(translator, begun, context, work)?;
     named_answer(translator, &begun.next, context, work)?;
@@ -149,38 +150,38 @@ pub(crate) fn read_behind<L: Ledger>(
 }
 
 /// A text with its head.
-fn read_headed<L: Ledger>(
+fn read_headed<L: Ledger, R: Recorder>(
     translator: &mut Translator,
     begun: &Beginning,
     reader: &mut Reader,
     context: &Context,
-    work: &mut Work<L>,
+    work: &mut Work<L, R>,
 ) -> Result<(), Memory>
     requires start { StartsBelow (2 ^ 32) (answers_ahead begun.now ++ reader.old.coming) }
     requires kept { AreNamesOf context.now.sec_names.now context.now.uses.now }
     requires translating { IsTranslating work.old.store.now work.old.names.now translator.old }
     ensures read { OnOk result (IsReadUp reader.old reader.new) }
-    ensures reads { Advances (over_headed context.now.flags.now (texts_in context.now) begun.now.head (answers_ahead
-        begun.now ++ reader.old.coming) (progress_over work.old translator.old)) translator.old work.old translator.new
-        work.new result }
+    ensures reads { Advances R.told (over_headed context.now.flags.now (texts_in context.now) begun.now.head
+        (answers_ahead begun.now ++ reader.old.coming) (progress_over work.old translator.old)) translator.old work.old
+        translator.new work.new result }
 {
     head_name(translator, begun.head, context, work)?;
     read_behind(translator, begun, reader, context, work)
 }
 
 /// Ends a text that begins with this head.
-pub(crate) fn translate_headed<L: Ledger>(
+pub(crate) fn translate_headed<L: Ledger, R: Recorder>(
     begun: &Beginning,
     reader: &mut Reader,
     context: &Context,
-    work: &mut Work<L>,
+    work: &mut Work<L, R>,
 ) -> Result<Translated, Memory>
     requires sound { IsSoundLine work.old.store.now work.old.names.now (head_line begun.now.head) }
     requires start { StartsBelow (2 ^ 32) (answers_ahead begun.now ++ reader.old.coming) }
     requires nested { IsNested (answers_ahead begun.now ++ reader.old.coming) }
     requires kept { AreNamesOf context.now.sec_names.now context.now.uses.now }
     ensures read { OnOk result (IsReadUp reader.old reader.new) }
-    ensures text { EndsIn (to_headed context.now.flags.now (texts_in context.now) work.old.store.now.lists
+    ensures text { EndsIn R.told (to_headed context.now.flags.now (texts_in context.now) work.old.store.now.lists
         begun.now.head (answers_ahead begun.now ++ reader.old.coming) (begin work.old.names.now
         (marked_names work.old.marks.now))) (of_head begun.now.head) work.old work.new result }
 {
@@ -191,11 +192,11 @@ pub(crate) fn translate_headed<L: Ledger>(
 
 /// Ends a text that has this first answer, with its head.
 #[inline(never)]
-pub(crate) fn translate_with_head<'a, L: Ledger>(
+pub(crate) fn translate_with_head<'a, L: Ledger, R: Recorder>(
     first: Lexed<'a>,
     reader: &mut Reader<'a>,
     context: &Context,
-    work: &mut Work<L>,
+    work: &mut Work<L, R>,
 ) -> Result<Translated, Memory>
     requires gives { Gives (without_notes (answers_in first ++ reader.old.coming)) first reader.old.coming }
     requires nested { IsNested (answers_in first ++ reader.old.coming) }
@@ -203,7 +204,7 @@ pub(crate) fn translate_with_head<'a, L: Ledger>(
     requires kept { AreNamesOf context.now.sec_names.now context.now.uses.now }
     requires idle { work.old.store.now.building ≡ None }
     ensures read { OnOk result (IsReadUp reader.old reader.new) }
-    ensures text { EndsIn (to_text context.now (answers_in first.entry ++ reader.old.coming) work.old) of_nothing
+    ensures text { EndsIn R.told (to_text context.now (answers_in first.entry ++ reader.old.coming) work.old) of_nothing
         work.old work.new result }
 {
     let begun = read_head(first, reader, context.alloc, work.names, work.store)?;

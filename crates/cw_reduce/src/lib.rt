@@ -10,7 +10,7 @@ mod translating;
 mod uncut;
 
 pub use cw_rewrite::{Reduced, reduce};
-pub use cw_translator::{Context, Translated, Work};
+pub use cw_translator::{Context, Recorder, Translated, Unrecorded, Work};
 pub use laws::translation_laws;
-pub use translating::{translate, translate_read};
+pub use translating::{translate, translate_read, translate_recorded};
 pub use uncut::{is_plain_c, is_uncut};

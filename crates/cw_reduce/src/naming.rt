@@ -18,7 +18,7 @@ use cw_answers::Reader;
 use cw_base::{Ledger, Memory, Span};
 use cw_lex::{Code, Lexed, Lexer, Mode, Tok, TokKind};
 use cw_secnames::{SecKind, next_part};
-use cw_translator::{Context, Holder, Translator, Work};
+use cw_translator::{Context, Holder, Recorder, Translator, Work};
 
 /// Whether an answer is a section name.
 fn is_name(answer: &Lexed) -> bool
@@ -34,16 +34,16 @@ fn is_name(answer: &Lexed) -> bool
 }
 
 /// All answers of a scanner up to a section code.
-fn read_until_section<L: Ledger>(
+fn read_until_section<L: Ledger, R: Recorder>(
     translator: &mut Translator,
     lexer: &mut Lexer,
     context: &Context,
-    work: &mut Work<L>,
+    work: &mut Work<L, R>,
 ) -> Result<(), Memory>
     requires translating { IsTranslating work.old.store.now work.old.names.now translator.old }
     requires start { StartsBelow (2 ^ 32) lexer.old }
-    ensures { Advances (over context.now.flags.now (until_section lexer.old) (progress_over work.old translator.old))
-        translator.old work.old translator.new work.new result }
+    ensures { Advances R.told (over context.now.flags.now (until_section lexer.old) (progress_over work.old
+        translator.old)) translator.old work.old translator.new work.new result }
 {
     loop {
         let answer = lexer.next();
@@ -55,19 +55,20 @@ fn read_until_section<L: Ledger>(
 }
 
 /// An inner text of a section name, up to a section code. It lies in the name's own text.
-fn inner_text<L: Ledger>(
+fn inner_text<L: Ledger, R: Recorder>(
     translator: &mut Translator,
     text: &[u8],
     span: Span,
     context: &Context,
-    work: &mut Work<L>,
+    work: &mut Work<L, R>,
 ) -> Result<(), Memory>
     requires order { span.start ≤ span.end }
     requires within { span.end ≤ length text.now }
     requires short { length text.now ≤ 2 ^ 24 }
     requires translating { IsTranslating work.old.store.now work.old.names.now translator.old }
-    ensures { Advances (over context.now.flags.now (text_answers (until_section (tokens_of text.now span.start span.end
-        Inner))) (progress_over work.old translator.old)) translator.old work.old translator.new work.new result }
+    ensures { Advances R.told (over context.now.flags.now (text_answers (until_section (tokens_of text.now span.start
+        span.end Inner))) (progress_over work.old translator.old)) translator.old work.old translator.new work.new
+        result }
 {
     translator.open_text(context.alloc)?;
     let mut lexer = Lexer::over(text, span.start, span.end, Mode::Inner);
@@ -76,16 +77,16 @@ fn inner_text<L: Ledger>(
 }
 
 /// The inner texts of a section name, one after another.
-fn inner_texts<L: Ledger>(
+fn inner_texts<L: Ledger, R: Recorder>(
     translator: &mut Translator,
     text: &[u8],
     context: &Context,
-    work: &mut Work<L>,
+    work: &mut Work<L, R>,
 ) -> Result<(), Memory>
     requires short { length text.now ≤ 2 ^ 24 }
     requires translating { IsTranslating work.old.store.now work.old.names.now translator.old }
-    ensures { Advances (over context.now.flags.now (texts_answers (parts_of_name text.now)) (progress_over work.old
-        translator.old)) translator.old work.old translator.new work.new result }
+    ensures { Advances R.told (over context.now.flags.now (texts_answers (parts_of_name text.now)) (progress_over
+        work.old translator.old)) translator.old work.old translator.new work.new result }
 {
     let mut from = 0;
     loop {
@@ -100,17 +101,17 @@ fn inner_texts<L: Ledger>(
 }
 
 /// The inner texts of a name of `@<`. A name of `@(` has none.
-fn texts_by_kind<L: Ledger>(
+fn texts_by_kind<L: Ledger, R: Recorder>(
     translator: &mut Translator,
     kind: SecKind,
     text: &[u8],
     context: &Context,
-    work: &mut Work<L>,
+    work: &mut Work<L, R>,
 ) -> Result<(), Memory>
     requires short { length text.now ≤ 2 ^ 24 }
     requires translating { IsTranslating work.old.store.now work.old.names.now translator.old }
-    ensures { Advances (over context.now.flags.now (texts_answers (parts_by_kind kind text.now)) (progress_over work.old
-        translator.old)) translator.old work.old translator.new work.new result }
+    ensures { Advances R.told (over context.now.flags.now (texts_answers (parts_by_kind kind text.now)) (progress_over
+        work.old translator.old)) translator.old work.old translator.new work.new result }
 {
     match kind {
         SecKind::Named => inner_texts(translator, text, context, work),
@@ -119,17 +120,17 @@ fn texts_by_kind<L: Ledger>(
 }
 
 /// A section name with the text that is kept of it: it begins, its inner texts are translated, and it ends.
-pub(crate) fn kept_name<L: Ledger>(
+pub(crate) fn kept_name<L: Ledger, R: Recorder>(
     translator: &mut Translator,
     holder: Holder,
     kind: SecKind,
     text: &[u8],
     context: &Context,
-    work: &mut Work<L>,
+    work: &mut Work<L, R>,
 ) -> Result<(), Memory>
     requires short { length text.now ≤ 2 ^ 24 }
     requires translating { IsTranslating work.old.store.now work.old.names.now translator.old }
-    ensures { Advances (over context.now.flags.now (held_answers (parts_by_kind kind text.now)) (with_held holder
+    ensures { Advances R.told (over context.now.flags.now (held_answers (parts_by_kind kind text.now)) (with_held holder
         (progress_over work.old translator.old))) translator.old work.old translator.new work.new result }
 {
     translator.hold(holder, context.alloc)?;
@@ -138,17 +139,17 @@ pub(crate) fn kept_name<L: Ledger>(
 }
 
 /// A section name in C text. Without a pair it stands for nothing.
-fn section_name<L: Ledger>(
+fn section_name<L: Ledger, R: Recorder>(
     translator: &mut Translator,
     token: &Tok,
     context: &Context,
-    work: &mut Work<L>,
+    work: &mut Work<L, R>,
 ) -> Result<(), Memory>
     requires kind { is_name_kind token.now.kind ≡ true }
     requires start { token.now.span.start < 2 ^ 32 }
     requires kept { AreNamesOf context.now.sec_names.now context.now.uses.now }
     requires translating { IsTranslating work.old.store.now work.old.names.now translator.old }
-    ensures { Advances (over context.now.flags.now (token_answers (texts_in context.now) token.now.kind
+    ensures { Advances R.told (over context.now.flags.now (token_answers (texts_in context.now) token.now.kind
         (seen token.now)) (progress_over work.old translator.old)) translator.old work.old translator.new work.new
         result }
 {
@@ -165,16 +166,16 @@ fn section_name<L: Ledger>(
 
 /// One answer of the scanner, in which section names stand for their texts.
 #[inline(always)]
-pub(crate) fn named_answer<L: Ledger>(
+pub(crate) fn named_answer<L: Ledger, R: Recorder>(
     translator: &mut Translator,
     answer: &Lexed,
     context: &Context,
-    work: &mut Work<L>,
+    work: &mut Work<L, R>,
 ) -> Result<(), Memory>
     requires start { StartsBelow (2 ^ 32) (answers_in answer.now) }
     requires kept { AreNamesOf context.now.sec_names.now context.now.uses.now }
     requires translating { IsTranslating work.old.store.now work.old.names.now translator.old }
-    ensures { Advances (over context.now.flags.now (with_texts (texts_in context.now) (answers_in answer.now))
+    ensures { Advances R.told (over context.now.flags.now (with_texts (texts_in context.now) (answers_in answer.now))
         (progress_over work.old translator.old)) translator.old work.old translator.new work.new result }
 {
     if !is_name(answer) {
@@ -187,17 +188,17 @@ pub(crate) fn named_answer<L: Ledger>(
 }
 
 /// All answers, in which section names stand for their texts.
-pub(crate) fn read_named<L: Ledger>(
+pub(crate) fn read_named<L: Ledger, R: Recorder>(
     translator: &mut Translator,
     reader: &mut Reader,
     context: &Context,
-    work: &mut Work<L>,
+    work: &mut Work<L, R>,
 ) -> Result<(), Memory>
     requires start { StartsBelow (2 ^ 32) reader.old.coming }
     requires kept { AreNamesOf context.now.sec_names.now context.now.uses.now }
     requires translating { IsTranslating work.old.store.now work.old.names.now translator.old }
     ensures read { OnOk result (IsReadUp reader.old reader.new) }
-    ensures reads { Advances (over context.now.flags.now (with_texts (texts_in context.now) reader.old.coming)
+    ensures reads { Advances R.told (over context.now.flags.now (with_texts (texts_in context.now) reader.old.coming)
         (progress_over work.old translator.old)) translator.old work.old translator.new work.new result }
 {
     loop {

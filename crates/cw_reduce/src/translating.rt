@@ -9,7 +9,7 @@ ghost use Rattle.cw_trees.specs.Flat.{struck};
 ghost use Rattle.cw_translator.specs.Counting.{limit_in};
 ghost use Rattle.cw_translator.specs.NameParts.{AreNamesOf, name_texts};
 ghost use Rattle.cw_translator.specs.Opening.{StartsBelow, of_nothing};
-ghost use Rattle.cw_translator.specs.Working.{EndsIn};
+ghost use Rattle.cw_translator.specs.Working.{EndsIn, texts_in};
 ghost use Rattle.cw_reduce.specs.Heading.{NamesOfText};
 ghost use Rattle.cw_reduce.specs.TranslationLaws.{ReadsInText};
 ghost use Rattle.cw_reduce.specs.WholeTexts.{IsCText, IsNewList, IsTranslated, shown_in_text, to_text, translation_of};
@@ -24,15 +24,15 @@ use cw_names::Names;
 use cw_scraps::Marks;
 use cw_secnames::{NameUses, SecNames};
 use cw_tokens::TokenStore;
-use cw_translator::{Context, Translated, Work};
+use cw_translator::{Context, Recorder, Translated, Unrecorded, Work};
 use std::alloc::Global;
 
 /// Translates a C text by the answers of its scan, which are read to the end, and kept where the reader keeps them: the
 /// same as `translate` of a text that has these answers. No section code may cut the text.
-pub fn translate_read<L: Ledger>(
+pub fn translate_read<L: Ledger, R: Recorder>(
     reader: &mut Reader,
     context: &Context,
-    work: &mut Work<L>,
+    work: &mut Work<L, R>,
 ) -> Result<Translated, Memory>
     requires nested { IsNested reader.old.coming }
     requires start { StartsBelow (2 ^ 32) reader.old.coming }
@@ -42,7 +42,7 @@ pub fn translate_read<L: Ledger>(
     ensures read { OnOk result (IsReadUp reader.old reader.new) }
     // The list, the names, the marks and the counts are those of the definition; after `Memory` the names are as those
     // of `translate`.
-    ensures text { EndsIn (to_text context.now reader.old.coming work.old) of_nothing work.old work.new result }
+    ensures text { EndsIn R.told (to_text context.now reader.old.coming work.old) of_nothing work.old work.new result }
 {
     let first = next_answer(reader);
     match first_leaf(&first) {
@@ -87,7 +87,6 @@ pub fn translate<L: Ledger>(
     ensures refused { OnErr result (NamesOfText flags.now (name_texts sec_names.now uses.now)
         (tokens_of text.now span.start span.end mode) names.old (marked_names marks.old) names.new) }
 {
-    let mut reader = Reader::over(alloc, text, span, mode);
     let context = Context {
         sec_names,
         uses,
@@ -99,6 +98,30 @@ pub fn translate<L: Ledger>(
         store,
         marks,
         steps,
+        recorder: Unrecorded,
     };
-    translate_read(&mut reader, &context, &mut work)
+    translate_recorded(text, span, mode, &context, &mut work)
+}
+
+/// The same, where a recorder is told of each text that ends, inner texts included: in the order in which their
+/// reductions end, each with the leaf lines of the scraps with which it began and with all its productions. After
+/// `Memory` it has been told of the first of them, each whole.
+pub fn translate_recorded<L: Ledger, R: Recorder>(
+    text: &[u8],
+    span: Span,
+    mode: Mode,
+    context: &Context,
+    work: &mut Work<L, R>,
+) -> Result<Translated, Memory>
+    requires c_text { IsCText text.now span mode }
+    requires kept { AreNamesOf context.now.sec_names.now context.now.uses.now }
+    requires idle { work.old.store.now.building ≡ None }
+    ensures text { EndsIn R.told (to_text context.now (tokens_of text.now span.start span.end mode) work.old)
+        of_nothing work.old work.new result }
+    ensures shown { IfOk result (λ done. struck (unfolded work.new.store.now.lists done.list.index) ≡
+        shown_in_text (texts_in context.now) text.now span mode) }
+    ensures mode { IfOk result (λ done. ReadsInText (unfolded work.new.store.now.lists done.list.index)) }
+{
+    let mut reader = Reader::over(context.alloc, text, span, mode);
+    translate_read(&mut reader, context, work)
 }

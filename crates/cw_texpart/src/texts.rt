@@ -21,7 +21,7 @@ use cw_lines::{LineOut, PutError};
 use cw_names::Xrefs;
 use cw_phase1::Book;
 use cw_print::{KeptText, print_answers};
-use cw_reduce::{Context, Work, translate_read};
+use cw_reduce::{Context, Unrecorded, Work, translate_read};
 use cw_scraps::Marks;
 use cw_tokens::{ListId, TokenStore};
 use std::alloc::Global;
@@ -252,6 +252,7 @@ pub(crate) fn translate_into<'a, L: Ledger>(
         store: &mut rooms.store,
         marks: &mut marks,
         steps,
+        recorder: Unrecorded,
     };
     let done = translate_read(&mut rooms.reader, &context, &mut work)?;
     rooms.answers = rooms.reader.take_answers(alloc)?;

@@ -1,6 +1,6 @@
 -- The whole text ends.
 use Rattle.std.proofs.Common.{◌≡◌, ℕ, ◌+◌, ◌*◌, ◌≤◌, List, [], ◌∷◌, length, refl, sym, ap, ◌∙◌, subst, arith}
-use Rattle.std.proofs.Common.{None}
+use Rattle.std.proofs.Common.{None, Option}
 use Rattle.std.specs.Prelude.{Result, Ok, IsErrAnd}
 use Rattle.std.proofs.lemmas.List.{length-map}
 use Rattle.cw_base.specs.declared.flags.Flags.{Flags}
@@ -13,6 +13,7 @@ use Rattle.cw_table.specs.WalkCounts.{reservings, ticks}
 use Rattle.cw_tokens.specs.declared.token.Token.{Token as StoredToken}
 use Rattle.cw_tokens.specs.Stored.{StoredLists}
 use Rattle.cw_trees.specs.Joining.{whole}
+use Rattle.cw_rewrite.specs.Telling.{Told}
 use Rattle.cw_scraps.specs.declared.line.LineEntry.{LineEntry}
 use Rattle.cw_scraps.specs.Applying.{state_of}
 use Rattle.cw_scraps.specs.Changing.{Keeps}
@@ -25,10 +26,12 @@ use Rattle.cw_translator.specs.declared.work.Work.{Work}
 use Rattle.cw_translator.specs.Counting.{text_limit, limit_in}
 use Rattle.cw_translator.specs.LinesDone.{LineDone}
 use Rattle.cw_translator.specs.Opening.{last_line, all_roots, IsTranslating, frames_of}
+use Rattle.cw_translator.specs.Recording.{HasRecorded}
 use Rattle.cw_translator.specs.Retyping.{Retypes, at_end}
 use Rattle.cw_translator.specs.Reading.{last_scraps, all_ended}
 use Rattle.cw_translator.specs.Translating.{state_in, with_categories}
 use Rattle.cw_translator.specs.Working.{IsSameWork, EndsIn, progress_over, to_end}
+use Rattle.cw_translator.proofs.Recorded.{recorded-error, recorded-whole}
 use Rattle.cw_translator.proofs.Routes.{ends-refused}
 use Rattle.cw_translator.proofs.FinishSteps.{known_of, open-line}
 use Rattle.cw_translator.proofs.LeafSteps.{empty-line}
@@ -69,7 +72,7 @@ last-scraps-are lists (CText line ∷ (inner ∷ outer)) = refl
 last-scraps-are lists (Comment number parts ∷ outer) = refl
 
 -- What a call does that ends a text, and how it is refused.
-module _ {L : Type 0} (flags : Flags) {old new : Work L} (t : Translator) (line : List LineEntry) (line_is : line
+module _ {L R : Type 0} (flags : Flags) {old new : Work L R} (t : Translator) (line : List LineEntry) (line_is : line
     ≡ last_line t.nesting)
     (few : new.steps.now ≤ old.steps.now + (132 * length line + length line * reservings productions flags
     (state_of old.store.now.lists line old.marks.now old.names.now))) (same : IsSameWork old new) where
@@ -89,13 +92,21 @@ module _ {L : Type 0} (flags : Flags) {old new : Work L} (t : Translator) (line 
       (subst (λ n. new.steps.now ≤ old.steps.now + (132 * n + n * reservings productions flags begun))
       (sym (length-map line (seen old.store.now.lists))) few))
 
-  pub line-ends : (done : Translated) (scraps applied : ℕ)
+  line-recorded : {T : Type 0} (told : R → Option Told) (result : Result T Memory)
+      → HasRecorded flags (begun ∷ []) (told old.recorder) (told new.recorder) result
+      → HasRecorded flags (all_ended flags (progress_over old t)).known.ended (told old.recorder) (told new.recorder)
+      result
+  line-recorded told result r = subst (λ s. HasRecorded flags (s ∷ []) (told old.recorder) (told new.recorder) result)
+      left-is r
+
+  pub line-ends : {told : R → Option Told} (done : Translated) (scraps applied : ℕ)
+      → HasRecorded flags (begun ∷ []) (told old.recorder) (told new.recorder) (Ok done)
       → LineDone flags old.store.now new.store.now old.names.now new.names.now old.marks.now new.marks.now line done
       old.steps.now new.steps.now → IsTranslating old.store.now old.names.now t → scraps ≡ t.scraps + done.scraps
       → applied ≡ t.productions + done.productions
-      → EndsIn (to_end flags [] (progress_over old t)) t old new
+      → EndsIn told (to_end flags [] (progress_over old t)) t old new
       (Ok (record { list = done.list; scraps = scraps; productions = applied }))
-  line-ends done scraps applied d is scraps_are applied_are =
+  line-ends {told = told} done scraps applied recorded d is scraps_are applied_are =
       let before : t.productions ≤ 8 * t.scraps = is.light in
       let light : done.productions ≤ 8 * done.scraps = d.few in
       record {
@@ -120,13 +131,17 @@ module _ {L : Type 0} (flags : Flags) {old new : Work L} (t : Translator) (line 
             (subst (λ l. Keeps old.store.now.lists new.store.now.lists (roots_of l) (done.list.index ∷ [])) line_is
             d.keeps);
         refused = tt;
+        recorded = line-recorded told _ (recorded-whole _ recorded);
         bound = line-bound;
         same = same;
         idle = d.idle;
       }
 
-  pub line-refused : {error : Memory} {result : Result Translated Memory}
+  pub line-refused : {T : Type 0} {told : R → Option Told} {first : Result T Memory} {error : Memory}
+      {result : Result Translated Memory}
+      → HasRecorded flags (begun ∷ []) (told old.recorder) (told new.recorder) first
       → IsErrAnd result (λ found. found ≡ error) → Retypes flags begun old.names.now new.names.now
-      → new.store.now.building ≡ None → EndsIn (to_end flags [] (progress_over old t)) t old new result
-  line-refused is retyped idle = ends-refused is (at_end (progress_over old t) new.names.now
-      (subst (λ s. Retypes flags s old.names.now new.names.now) left-is retyped)) line-bound same idle
+      → new.store.now.building ≡ None → EndsIn told (to_end flags [] (progress_over old t)) t old new result
+  line-refused {told = told} recorded is retyped idle = ends-refused is (at_end (progress_over old t) new.names.now
+      (subst (λ s. Retypes flags s old.names.now new.names.now) left-is retyped))
+      (line-recorded told _ (recorded-error flags (begun ∷ []) is recorded)) line-bound same idle

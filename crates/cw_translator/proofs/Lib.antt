@@ -12,5 +12,6 @@ pub mod AnswerSteps
 pub mod EndSteps
 pub mod HoldLaws
 pub mod NameLists
+pub mod Recorded
 pub mod Routes
 pub mod AnswerRoutes

@@ -8,4 +8,5 @@ pub mod Retyping
 pub mod NameParts
 pub mod Holders
 pub mod LinesDone
+pub mod Recording
 pub mod Working

@@ -4,11 +4,13 @@
 mod comments;
 mod holders;
 mod nesting;
+mod recorder;
 mod translator;
 mod work;
 
 pub use comments::CommentPart;
 pub use holders::Holder;
 pub use nesting::{CommentText, Nesting, Open};
+pub use recorder::{Recorder, Unrecorded, record_alone};
 pub use translator::{Translated, Translator};
 pub use work::{Context, Work};

@@ -14,17 +14,19 @@ ghost use Rattle.cw_translator.specs.declared.nesting.Open.TheVariants as CTexts
 ghost use Rattle.cw_translator.specs.LinesDone.{LineDone};
 ghost use Rattle.cw_translator.specs.Opening.{IsTranslating, StartsBelow, all_roots, answers_in, begun_by, progress_of};
 ghost use Rattle.cw_translator.specs.Reading.{after_token};
+ghost use Rattle.cw_translator.specs.Recording.{HasRecorded};
 ghost use Rattle.cw_translator.specs.Retyping.{Retypes};
 ghost use Rattle.cw_translator.specs.Working.{IsSameWork, Advances, EndsIn, over, progress_over, to_end};
 
 use crate::comments::CommentPart;
 use crate::holders::{Holder, held_list};
 use crate::nesting::{CommentText, Nesting, Open};
+use crate::recorder::Recorder;
 use crate::work::{Context, Work};
 use cw_base::{Ledger, Memory};
 use cw_lex::{Lexed, Tok, TokKind};
 use cw_names::Names;
-use cw_rewrite::{put_together, reduce};
+use cw_rewrite::{put_together, reduce_watched};
 use cw_scraps::{ScrapLine, makes_leaf, scrap_of};
 use cw_tokens::{ListId, TokenStore};
 use std::alloc::Global;
@@ -41,10 +43,10 @@ pub struct Translated {
 }
 
 /// Reduces the scraps of a C text and puts together what is left.
-fn translate_line<L: Ledger>(
+fn translate_line<L: Ledger, R: Recorder>(
     mut line: ScrapLine,
     context: &Context,
-    work: &mut Work<L>,
+    work: &mut Work<L, R>,
 ) -> Result<Translated, Memory>
     requires sound { IsSoundLine work.old.store.now work.old.names.now line }
     ensures done { IfOk result (λ done. LineDone context.now.flags.now work.old.store.now work.new.store.now
@@ -56,16 +58,25 @@ fn translate_line<L: Ledger>(
         context.now.flags.now (state_of work.old.store.now.lists line work.old.marks.now work.old.names.now)) }
     ensures same { IsSameWork work.old work.new }
     ensures idle { work.new.store.now.building ≡ None }
+    ensures recorded { HasRecorded context.now.flags.now (state_of work.old.store.now.lists line work.old.marks.now
+        work.old.names.now ∷ []) (R.told work.old.recorder) (R.told work.new.recorder) result }
 {
     let scraps = line.len() as u64;
-    let reduced = reduce(
+    work.recorder.begin(&line, work.store)?;
+    let reduced = reduce_watched(
         &mut line,
         work.store,
         work.names,
         work.marks,
         context.flags,
+        &mut work.recorder,
         work.steps,
     )?;
+    let Some(reduced) = reduced else {
+        // A recorder refuses no production.
+        unreachable!()
+    };
+    work.recorder.end()?;
     work.store.tied_law();
     let list = put_together(&line, work.store)?;
     Ok(Translated {
@@ -202,10 +213,14 @@ impl Translator {
     }
 
     /// The innermost text, comment or section name ends.
-    pub fn finish<L: Ledger>(&mut self, context: &Context, work: &mut Work<L>) -> Result<(), Memory>
+    pub fn finish<L: Ledger, R: Recorder>(
+        &mut self,
+        context: &Context,
+        work: &mut Work<L, R>,
+    ) -> Result<(), Memory>
         requires translating { IsTranslating work.old.store.now work.old.names.now self.old }
-        ensures { (token : Seen) → Advances (over context.now.flags.now (Finish token ∷ []) (progress_over work.old
-            self.old)) self.old work.old self.new work.new result }
+        ensures { (token : Seen) → Advances R.told (over context.now.flags.now (Finish token ∷ []) (progress_over
+            work.old self.old)) self.old work.old self.new work.new result }
     {
         work.store.tied_law();
         match self.nesting.end() {
@@ -224,15 +239,15 @@ impl Translator {
 
     /// One answer of the scanner, in which section names stand for nothing.
     #[inline(always)]
-    pub fn answer<L: Ledger>(
+    pub fn answer<L: Ledger, R: Recorder>(
         &mut self,
         answer: &Lexed,
         context: &Context,
-        work: &mut Work<L>,
+        work: &mut Work<L, R>,
     ) -> Result<(), Memory>
         requires translating { IsTranslating work.old.store.now work.old.names.now self.old }
         requires start { StartsBelow (2 ^ 32) (answers_in answer.now) }
-        ensures { Advances (over context.now.flags.now (answers_in answer.now) (progress_over work.old
+        ensures { Advances R.told (over context.now.flags.now (answers_in answer.now) (progress_over work.old
             self.old)) self.old work.old self.new work.new result }
     {
         match answer {
@@ -244,13 +259,13 @@ impl Translator {
     }
 
     /// The text ends: its scraps are reduced, and what is left is put together.
-    pub fn end<L: Ledger>(
+    pub fn end<L: Ledger, R: Recorder>(
         mut self,
         context: &Context,
-        work: &mut Work<L>,
+        work: &mut Work<L, R>,
     ) -> Result<Translated, Memory>
         requires translating { IsTranslating work.old.store.now work.old.names.now self }
-        ensures { EndsIn (to_end context.now.flags.now [] (progress_over work.old self)) self work.old work.new
+        ensures { EndsIn R.told (to_end context.now.flags.now [] (progress_over work.old self)) self work.old work.new
             result }
     {
         let line = self.nesting.take_line(context.alloc);

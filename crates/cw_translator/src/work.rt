@@ -1,4 +1,5 @@
 //! What a translation reads, and what it works on.
+use crate::recorder::Recorder;
 use cw_base::{Flags, Ledger, Steps};
 use cw_names::Names;
 use cw_scraps::Marks;
@@ -21,7 +22,7 @@ pub struct Context<'a> {
 
 /// What a translation works on.
 #[derive(Drop)]
-pub struct Work<'a, L: Ledger> {
+pub struct Work<'a, L: Ledger, R: Recorder> {
     /// The names, with their categories.
     pub names: &'a mut Names,
     /// The lists of tokens that are built.
@@ -30,4 +31,6 @@ pub struct Work<'a, L: Ledger> {
     pub marks: &'a mut Marks,
     /// The steps that are counted.
     pub steps: &'a mut Steps<L>,
+    /// Who is told of texts and their productions.
+    pub recorder: R,
 }

@@ -3,16 +3,27 @@ use Rattle.std.proofs.Common.{◌∷◌, [], length, refl, sym, subst, arith}
 use Rattle.cw_scraps.proofs.Changings.{tied-idle}
 use Rattle.cw_scraps.specs.Leaves.{entry_of}
 use Rattle.cw_scraps.specs.Lines.{IsNamedBelow, roots_of, scraps_of}
-use Rattle.cw_reduce.proofs.AloneSteps.{alone-done, alone-fails, alone-spent}
+use Rattle.cw_reduce.proofs.AloneSteps.{alone-done, alone-fails, alone-recorded, alone-spent}
+use Rattle.cw_translator.proofs.Recorded.{recorded-unended}
 use Rattle.cw_translator.proofs.Routes.{ends-refused}
 use Rattle.cw_translator.proofs.FinishSteps.{gathers-root}
 use Rattle.cw_rewrite.proofs.GatherLaws.{gathers-keeps, whole-named}
 use Rattle.cw_reduce.proofs.alone.end_alone.Goals as goal
 
-pub returns-in_err-list : goal.returns-in_err-list
-returns-in_err-list g c = λ flags. ends-refused c.from_residual.ensures.1
+pub returns-in_err-record_alone : goal.returns-in_err-record_alone
+returns-in_err-record_alone g c = λ flags. ends-refused c.from_residual.ensures.1
     (alone-fails flags c.args.work.now.store.now c.args.work.now.names.now c.args.work.now.marks.now c.args.leaf
     c.args.work.now.steps.now c.requires.sound c.requires.alone)
+    (recorded-unended _ _ c.in_err-record_alone.ensures.refused c.from_residual.ensures.1) (omega arith)
+    (record { names = refl; store = refl; marks = refl; steps = refl }) c.requires.sound.idle
+
+pub returns-in_err-list : goal.returns-in_err-list
+returns-in_err-list g c = λ flags. ends-refused c.from_residual-in_err-list.ensures.1
+    (alone-fails flags c.args.work.now.store.now c.args.work.now.names.now c.args.work.now.marks.now c.args.leaf
+    c.args.work.now.steps.now c.requires.sound c.requires.alone)
+    (alone-recorded flags c.args.work.now.store.now c.args.work.now.names.now c.args.work.now.marks.now c.args.leaf
+    c.args.work.now.steps.now c.requires.sound c.requires.alone c.from_residual-in_err-list.result
+    refl c.in_ok-record_alone.ensures.told)
     (alone-spent flags c.args.work.now.store.now c.args.work.now.names.now c.args.work.now.marks.now c.args.leaf
     c.args.work.now.steps.now c.requires.sound c.requires.alone c.tick-4.new.self
     (omega (arith, c.tick.ensures, c.tick-2.ensures, c.tick-3.ensures, c.tick-4.ensures)))
@@ -35,6 +46,9 @@ returns g c = λ flags. record {
       (roots_of (entry_of c.args.leaf ∷ [])) c.in_ok-list.list.index c.in_ok-list.ensures.gathers
       (tied-idle c.args.work.now.store.now c.requires.sound.idle c.tied_law.ensures) c.requires.sound.roots;
   refused = tt;
+  recorded = alone-recorded flags c.args.work.now.store.now c.args.work.now.names.now c.args.work.now.marks.now
+      c.args.leaf c.args.work.now.steps.now c.requires.sound c.requires.alone _ refl
+      c.in_ok-record_alone.ensures.told;
   bound = alone-spent flags c.args.work.now.store.now c.args.work.now.names.now c.args.work.now.marks.now c.args.leaf
       c.args.work.now.steps.now c.requires.sound c.requires.alone c.tick-4.new.self
       (omega (arith, c.tick.ensures, c.tick-2.ensures, c.tick-3.ensures, c.tick-4.ensures));

@@ -10,6 +10,7 @@ use Rattle.cw_translator.specs.Opening.{of_leaf, of_nothing}
 use Rattle.cw_translator.specs.Reading.{after_token}
 use Rattle.cw_translator.specs.Working.{progress_over, texts_in}
 use Rattle.cw_translator.proofs.AnswerRoutes.{token-advances}
+use Rattle.cw_translator.proofs.Recorded.{recorded-refused}
 use Rattle.cw_translator.proofs.Routes.{ends-refused, ends-then}
 use Rattle.cw_reduce.proofs.FirstSteps.{first-ends, first-start}
 use Rattle.cw_reduce.proofs.HeadSteps.{head-translating}
@@ -50,7 +51,7 @@ returns-clause-text g c =
     (ends-then (with_texts (texts_in c.args.context.now) c.args.reader.now.coming)
     (token-advances {T = Unit {0}} c.args.context.now.flags.now (seen c.args.token.now) {result = Ok tt}
     step.steps.translating step.progress (record { scraps = refl; productions = refl }) step.steps.keeps
-    (inr c.in_ok-leaf.ensures.names) refl refl (record { names = refl; store = refl; marks = refl; steps = refl })
+    (inr c.in_ok-leaf.ensures.names) refl refl refl (record { names = refl; store = refl; marks = refl; steps = refl })
     c.in_ok-leaf.ensures.idle) c.translate_rest.ensures.text)
 
 pub returns-in_err-leaf-clause-text : goal.returns-in_err-leaf-clause-text
@@ -61,5 +62,6 @@ returns-in_err-leaf-clause-text g c = ends-refused c.from_residual.ensures.1
     (sym c.in_err-leaf.ensures.no_names) (first-start c.args.context.now.flags.now (texts_in c.args.context.now)
     (texts-nested c.args.context.now.sec_names.now c.args.context.now.uses.now) c.args.work.now.store.now.lists
     c.args.work.now.names.now (marked_names c.args.work.now.marks.now) c.args.token.now c.requires.makes
-    c.args.reader.now.coming c.requires.nested c.requires.start)) (omega arith)
+    c.args.reader.now.coming c.requires.nested c.requires.start))
+    (recorded-refused _ _ c.from_residual.ensures.1) (omega arith)
     (record { names = refl; store = refl; marks = refl; steps = refl }) c.in_err-leaf.ensures.idle

@@ -6,6 +6,7 @@ use Rattle.cw_translator.specs.Opening.{IsTranslating, StartsBelow, answers_in, 
 use Rattle.cw_translator.specs.Retyping.{here}
 use Rattle.cw_translator.specs.Working.{progress_over, texts_in}
 use Rattle.cw_translator.proofs.AnswerRoutes.{unchanged}
+use Rattle.cw_translator.proofs.Recorded.{recorded-refused}
 use Rattle.cw_translator.proofs.Routes.{ends-answers, ends-answers-stopped, ends-refused}
 use Rattle.cw_reduce.proofs.FirstSteps.{ahead-is, leaf-as}
 use Rattle.cw_reduce.proofs.alone.translate_on.Goals as goal
@@ -22,7 +23,8 @@ read_behind-requires-clause-translating g c = subst (IsTranslating c.args.work.n
 pub returns-in_err-translator-clause-text : goal.returns-in_err-translator-clause-text
 returns-in_err-translator-clause-text g c = ends-refused c.from_residual.ensures.1
     (here (with_texts (texts_in c.args.context.now) (answers_in c.args.next.now ++ c.args.reader.now.coming))
-    (progress_over c.args.work.now (of_leaf c.args.leaf))) (omega arith) unchanged c.requires.translating.idle
+    (progress_over c.args.work.now (of_leaf c.args.leaf))) (recorded-refused _ _ c.from_residual.ensures.1)
+    (omega arith) unchanged c.requires.translating.idle
 
 pub returns-in_err-read_behind-clause-text : goal.returns-in_err-read_behind-clause-text
 returns-in_err-read_behind-clause-text g c = leaf-as c.args.context.now.flags.now

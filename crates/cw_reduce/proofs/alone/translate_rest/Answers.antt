@@ -7,7 +7,7 @@ use Rattle.cw_translator.specs.Working.{EndsIn, progress_over, texts_in, to_end}
 use Rattle.cw_reduce.proofs.alone.translate_rest.Goals as goal
 
 pub returns-then-stays_alone-clause-text : goal.returns-then-stays_alone-clause-text
-returns-then-stays_alone-clause-text g c = subst (λ list. EndsIn (to_end c.args.context.now.flags.now
+returns-then-stays_alone-clause-text g c = subst (λ list. EndsIn g.R.Watch.told (to_end c.args.context.now.flags.now
     (with_texts (texts_in c.args.context.now) list)
     (progress_over c.args.work.now (of_leaf c.args.leaf))) (of_leaf c.args.leaf) c.args.work.now c.end_alone.new.work
     c.end_alone.result) (sym (subst (λ answer. Gives c.args.reader.now.coming answer c.next-next.new.self.coming)

@@ -8,6 +8,7 @@ use Rattle.cw_translator.specs.Reading.{after_answers}
 use Rattle.cw_translator.specs.Translating.{begin}
 use Rattle.cw_translator.specs.Working.{progress_over, texts_in}
 use Rattle.cw_translator.proofs.AnswerRoutes.{unchanged}
+use Rattle.cw_translator.proofs.Recorded.{recorded-refused}
 use Rattle.cw_translator.proofs.Routes.{ends-as, ends-refused, ends-stopped, ends-then, way-end}
 use Rattle.cw_reduce.proofs.HeadSteps.{head-translating, headed-as, whole-start}
 use Rattle.cw_reduce.proofs.NamedJoined.{texts-nested}
@@ -22,7 +23,8 @@ returns-in_err-translator-clause-text g c = ends-refused c.from_residual.ensures
     (whole-start c.args.context.now.flags.now (texts_in c.args.context.now) c.args.begun.now.head
     (answers_ahead c.args.begun.now ++ c.args.reader.now.coming)
     (head_begun c.args.work.now.store.now.lists c.args.begun.now.head
-    (begin c.args.work.now.names.now (marked_names c.args.work.now.marks.now)))) (omega arith) unchanged
+    (begin c.args.work.now.names.now (marked_names c.args.work.now.marks.now))))
+    (recorded-refused _ _ c.from_residual.ensures.1) (omega arith) unchanged
     c.requires.sound.idle
 
 pub returns-in_err-read_headed-clause-text : goal.returns-in_err-read_headed-clause-text

@@ -8,6 +8,7 @@ use Rattle.cw_reduce.specs.Heading.{behind_head, in_head}
 use Rattle.cw_translator.specs.Opening.{answers_in}
 use Rattle.cw_translator.specs.Translating.{begin}
 use Rattle.cw_translator.specs.Working.{texts_in}
+use Rattle.cw_translator.proofs.Recorded.{recorded-refused}
 use Rattle.cw_translator.proofs.Routes.{ends-as, ends-behind, ends-refused}
 use Rattle.cw_reduce.proofs.HeadSteps.{headed-translated}
 use Rattle.cw_reduce.proofs.NamedJoined.{texts-nested}
@@ -23,11 +24,11 @@ translate_headed-requires g c = record {
 
 pub returns-in_err-begun-clause-text : goal.returns-in_err-begun-clause-text
 returns-in_err-begun-clause-text g c = ends-refused c.from_residual.ensures.1
-    (in_head c.in_err-begun.ensures.head.no_names) (omega arith)
+    (in_head c.in_err-begun.ensures.head.no_names) (recorded-refused _ _ c.from_residual.ensures.1) (omega arith)
     (record { names = refl; store = refl; marks = refl; steps = refl }) c.in_err-begun.ensures.head.idle
 
 pub returns-clause-text : goal.returns-clause-text
-returns-clause-text g c = ends-behind c.in_ok-begun.ensures.head.keeps refl refl refl
+returns-clause-text g c = ends-behind c.in_ok-begun.ensures.head.keeps refl refl refl refl
     (record { names = refl; store = refl; marks = refl; steps = refl })
     (ends-as (headed-translated c.args.context.now.flags.now (texts_in c.args.context.now)
     (texts-nested c.args.context.now.sec_names.now c.args.context.now.uses.now) c.read_head.new.store.lists

@@ -10,9 +10,9 @@ use Rattle.cw_reduce.proofs.ReadSteps.{within-starts}
 use Rattle.cw_reduce.proofs.naming.inner_text.Goals as goal
 
 pub read_until_section-requires-clause-translating : goal.read_until_section-requires-clause-translating
-read_until_section-requires-clause-translating g c = (text-begun c.args.context.now.flags.now
-    (part_answers c.args.text.now c.args.span) {work = c.args.work.now} c.requires.translating
-    c.in_ok-open_text.ensures.begins).reads.translating
+read_until_section-requires-clause-translating g c = (text-begun {told = g.R.Watch.told}
+    c.args.context.now.flags.now (part_answers c.args.text.now c.args.span) {work = c.args.work.now}
+    c.requires.translating c.in_ok-open_text.ensures.begins).reads.translating
 
 pub read_until_section-requires-clause-start : goal.read_until_section-requires-clause-start
 read_until_section-requires-clause-start g c = within-starts 4294967296 c.args.span.start c.args.span.end

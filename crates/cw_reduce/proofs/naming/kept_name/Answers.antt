@@ -10,8 +10,8 @@ use Rattle.cw_reduce.proofs.NameSteps.{held-begun}
 use Rattle.cw_reduce.proofs.naming.kept_name.Goals as goal
 
 pub texts_by_kind-requires-clause-translating : goal.texts_by_kind-requires-clause-translating
-texts_by_kind-requires-clause-translating g c = (held-begun c.args.context.now.flags.now c.args.holder
-    {work = c.args.work.now} c.requires.translating c.in_ok-hold.ensures.begins []).reads.translating
+texts_by_kind-requires-clause-translating g c = (held-begun {told = g.R.Watch.told} c.args.context.now.flags.now
+    c.args.holder {work = c.args.work.now} c.requires.translating c.in_ok-hold.ensures.begins []).reads.translating
 
 pub returns-in_err-hold : goal.returns-in_err-hold
 returns-in_err-hold g c = advances-unread c.args.context.now.flags.now

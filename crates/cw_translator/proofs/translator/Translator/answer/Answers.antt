@@ -12,7 +12,7 @@ returns-in-Token g c = answers-as c.args.context.now.flags.now (progress_over c.
     (ap answers_in (sym c.in-Token.is))
     (token-advances c.args.context.now.flags.now (seen c.in-Token.token) c.token.ensures.translating
     c.token.ensures.progress (record { scraps = c.token.ensures.scraps; productions = c.token.ensures.productions })
-    c.token.ensures.keeps c.token.ensures.names refl refl
+    c.token.ensures.keeps c.token.ensures.names refl refl refl
     (record { names = refl; store = refl; marks = refl; steps = refl }) c.token.ensures.idle)
 
 pub returns-in-Begin : goal.returns-in-Begin

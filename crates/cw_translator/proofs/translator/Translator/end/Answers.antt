@@ -13,16 +13,17 @@ translate_line-requires g c = record {
 
 pub returns-in_err-done : goal.returns-in_err-done
 returns-in_err-done g c = line-refused c.args.context.now.flags.now c.args.self c.take_line-line.result
-    c.take_line-line.ensures c.in_err-done.ensures.bound c.in_err-done.ensures.same c.from_residual.ensures.1
-    c.in_err-done.ensures.retypes c.in_err-done.ensures.idle
+    c.take_line-line.ensures c.in_err-done.ensures.bound c.in_err-done.ensures.same c.in_err-done.ensures.recorded
+    c.from_residual.ensures.1 c.in_err-done.ensures.retypes c.in_err-done.ensures.idle
 
 pub returns-in_err-count : goal.returns-in_err-count
 returns-in_err-count g c = line-refused c.args.context.now.flags.now c.args.self c.take_line-line.result
     c.take_line-line.ensures c.in_ok-done.ensures.bound c.in_ok-done.ensures.same
-    c.from_residual-in_err-count.ensures.1 c.in_ok-done.ensures.retypes c.in_ok-done.ensures.idle
+    c.in_ok-done.ensures.recorded c.from_residual-in_err-count.ensures.1 c.in_ok-done.ensures.retypes
+    c.in_ok-done.ensures.idle
 
 pub returns : goal.returns
 returns g c = line-ends c.args.context.now.flags.now c.args.self c.take_line-line.result c.take_line-line.ensures
     c.in_ok-done.ensures.bound c.in_ok-done.ensures.same c.in_ok-done.done c.count.new.self.scraps
-    c.count.new.self.productions c.in_ok-done.ensures.done c.requires.translating
+    c.count.new.self.productions c.in_ok-done.ensures.recorded c.in_ok-done.ensures.done c.requires.translating
     (ap (λ t. t.scraps) c.in_ok-count.ensures.counted) (ap (λ t. t.productions) c.in_ok-count.ensures.counted)

@@ -7,7 +7,10 @@ use Rattle.cw_scraps.specs.Leaves.{entry_of}
 use Rattle.cw_translator.specs.declared.comments.CommentPart.TheVariants as part
 use Rattle.cw_translator.specs.Opening.{with_entry, with_part}
 use Rattle.cw_translator.specs.Working.{progress_over}
-use Rattle.cw_translator.proofs.AnswerRoutes.{finish-advances, none-step, text-advances, text-refused, unchanged}
+use Rattle.cw_translator.proofs.AnswerRoutes.{comment-recorded, finish-advances, none-recorded, none-step}
+use Rattle.cw_translator.proofs.AnswerRoutes.{text-advances}
+use Rattle.cw_translator.proofs.AnswerRoutes.{text-refused, unchanged}
+use Rattle.cw_translator.proofs.Recorded.{recorded-error, recorded-refused, recorded-whole}
 use Rattle.cw_translator.proofs.Routes.{err-ok}
 use Rattle.cw_translator.proofs.FinishSteps.{comment-step, open-line, open-lists, same-names, text-step}
 use Rattle.cw_translator.proofs.translator.Translator.finish.Goals as goal
@@ -28,20 +31,24 @@ pub returns-in_err-done-in-Some-CText : goal.returns-in_err-done-in-Some-CText
 returns-in_err-done-in-Some-CText g c = λ token. text-refused c.args.context.now.flags.now token c.in-Some-CText.line
     c.end.new.self (c.in-Some-CText.ensures ∙ ap (λ x. x ∷ c.end.new.self) c.in-Some-CText.field-0-is)
     c.in_err-done-in-Some-CText.ensures.retypes c.in_err-done-in-Some-CText.ensures.bound
-    c.in_err-done-in-Some-CText.ensures.same c.in_err-done-in-Some-CText.ensures.idle c.from_residual.ensures.1
+    c.in_err-done-in-Some-CText.ensures.same c.in_err-done-in-Some-CText.ensures.idle
+    (recorded-error c.args.context.now.flags.now _ c.from_residual.ensures.1
+    c.in_err-done-in-Some-CText.ensures.recorded) c.from_residual.ensures.1
 
 pub returns-in_err-count-in-Some-CText : goal.returns-in_err-count-in-Some-CText
 returns-in_err-count-in-Some-CText g c = λ token. text-refused c.args.context.now.flags.now token c.in-Some-CText.line
     c.end.new.self (c.in-Some-CText.ensures ∙ ap (λ x. x ∷ c.end.new.self) c.in-Some-CText.field-0-is)
     c.in_ok-done-in-Some-CText.ensures.retypes c.in_ok-done-in-Some-CText.ensures.bound
     c.in_ok-done-in-Some-CText.ensures.same c.in_ok-done-in-Some-CText.ensures.idle
-    c.from_residual-in_err-count-in-Some-CText.ensures.1
+    (recorded-error c.args.context.now.flags.now _ c.from_residual-in_err-count-in-Some-CText.ensures.1
+    c.in_ok-done-in-Some-CText.ensures.recorded) c.from_residual-in_err-count-in-Some-CText.ensures.1
 
 pub returns-in_ok-count-in-Some-CText : goal.returns-in_ok-count-in-Some-CText
 returns-in_ok-count-in-Some-CText g c = λ token. text-advances c.args.context.now.flags.now token c.in-Some-CText.line
     c.end.new.self (c.in-Some-CText.ensures ∙ ap (λ x. x ∷ c.end.new.self) c.in-Some-CText.field-0-is)
     c.in_ok-done-in-Some-CText.ensures.retypes c.in_ok-done-in-Some-CText.ensures.bound
-    c.in_ok-done-in-Some-CText.ensures.same c.in_ok-done-in-Some-CText.ensures.idle (on_ok_weaker c.add_part.result
+    c.in_ok-done-in-Some-CText.ensures.same c.in_ok-done-in-Some-CText.ensures.idle
+    (recorded-whole c.add_part.result c.in_ok-done-in-Some-CText.ensures.recorded) (on_ok_weaker c.add_part.result
     (λ e. text-step c.in_ok-done-in-Some-CText.ensures.done c.requires.translating
     (tied-idle c.args.work.now.store.now c.requires.translating.idle c.tied_law.ensures)
     (c.in-Some-CText.ensures ∙ ap (λ x. x ∷ c.end.new.self) c.in-Some-CText.field-0-is) _
@@ -54,6 +61,7 @@ returns-in_err-list-in-Some-Comment g c = λ token. finish-advances c.args.conte
     (err-ok c.from_residual-in_err-list-in-Some-Comment.result _ _
     c.from_residual-in_err-list-in-Some-Comment.ensures.1)
     (same-names c.args.context.now.flags.now (Finish token ∷ []) (progress_over c.args.work.now c.args.self.now))
+    (recorded-refused c.args.context.now.flags.now _ c.from_residual-in_err-list-in-Some-Comment.ensures.1)
     (omega arith) (record { names = refl; store = refl; marks = refl; steps = refl })
     c.in_err-list-in-Some-Comment.ensures.idle
 
@@ -68,7 +76,11 @@ returns-in_ok-list-in-Some-Comment g c = λ token. finish-advances c.args.contex
     ∙ ap (λ l. with_entry (entry_of l) c.end.new.self) c.leaf.ensures.value)
     (record { scraps = refl; productions = refl })) c.add_scrap.ensures)
     (same-names c.args.context.now.flags.now (Finish token ∷ []) (progress_over c.args.work.now c.args.self.now))
-    (omega arith) (record { names = refl; store = refl; marks = refl; steps = refl })
+    (comment-recorded g.R.Watch.told c.args.context.now.flags.now c.args.self.now c.args.work.now
+    c.in-Some-Comment.holder
+    c.in-Some-Comment.text c.end.new.self (c.in-Some-Comment.ensures
+    ∙ ap (λ x. x ∷ c.end.new.self) c.in-Some-Comment.field-0-is) c.add_scrap.result) (omega arith)
+    (record { names = refl; store = refl; marks = refl; steps = refl })
     c.in_ok-list-in-Some-Comment.ensures.idle
 
 pub returns-in-None : goal.returns-in-None
@@ -76,4 +88,5 @@ returns-in-None g c = λ token. finish-advances c.args.context.now.flags.now tok
     (none-step c.requires.translating c.in-None.ensures.0 c.in-None.ensures.1
     (record { scraps = refl; productions = refl }))
     (same-names c.args.context.now.flags.now (Finish token ∷ []) (progress_over c.args.work.now c.args.self.now))
+    (none-recorded g.R.Watch.told c.args.context.now.flags.now c.args.self.now c.args.work.now c.in-None.ensures.0)
     (omega arith) unchanged c.requires.translating.idle
