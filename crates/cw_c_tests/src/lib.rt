@@ -18,6 +18,8 @@ mod name_tests;
 #[cfg(test)]
 mod note_tests;
 #[cfg(test)]
+mod recorder_tests;
+#[cfg(test)]
 mod row_tests;
 #[cfg(test)]
 mod slow_tests;
