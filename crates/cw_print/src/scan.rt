@@ -129,7 +129,7 @@ impl<'s, 'a> Finder<'s, 'a> {
         }
     }
 
-    /// The token that has this number, if there is one. From the tokens whose numbers rise each is found a little ahead.
+    /// The token that has this number, if there is one. Of tokens whose numbers rise each is found a little ahead.
     pub fn find(&mut self, number: u32) -> Option<Tok<'a>>
         ensures found { option_map seen result ≡ numbered number self.old }
         ensures same { self.new ≡ self.old }
