@@ -52,13 +52,13 @@ block-goes-on k text r e = read-some (Inside k) Outside (pieces_of text) r (apar
 
 -- ## Its head
 
-record Opened (line : List ℕ) (next : Spot) : Type 0 where
-  count : ℕ
-  few : count ≤ greatest
-  is : line ≡ head_text count
-  at : next ≡ Inside count
+pub record Opened (line : List ℕ) (next : Spot) : Type 0 where
+  pub count : ℕ
+  pub few : count ≤ greatest
+  pub is : line ≡ head_text count
+  pub at : next ≡ Inside count
 
-opened : (first next : Spot) (line : List ℕ) → Step first line next → first ≡ Outside → Opened line next
+pub opened : (first next : Spot) (line : List ℕ) → Step first line next → first ≡ Outside → Opened line next
 opened first next line (opens l count few is) e = record { count = count; few = few; is = is; at = refl }
 opened first next line (leaf l k said fine is) e = absurd cc
 opened first next line (item l p fine is) e = absurd cc
@@ -81,14 +81,14 @@ behind-head line lines count few is r =
 
 -- ## Its leaf lines
 
-record Leaf (k : ℕ) (line : List ℕ) (next : Spot) : Type 0 where
-  is : IsLeafLine line
-  at : next ≡ Inside k
+pub record Leaf (k : ℕ) (line : List ℕ) (next : Spot) : Type 0 where
+  pub is : IsLeafLine line
+  pub at : next ≡ Inside k
 
 fewer : (m k : ℕ) → Inside (suc m) ≡ Inside (suc k) → Inside m ≡ Inside k
 fewer m k e = cc
 
-leaf-step : (first next : Spot) (line : List ℕ) (k : ℕ) → Step first line next → first ≡ Inside (suc k)
+pub leaf-step : (first next : Spot) (line : List ℕ) (k : ℕ) → Step first line next → first ≡ Inside (suc k)
     → Leaf k line next
 leaf-step first next line k (opens l count few is) e = absurd cc
 leaf-step first next line k (leaf l m said fine is) e = record {
@@ -172,11 +172,11 @@ one-leaf old mid new text rest line tail leaves one left s cut x h =
 
 -- ## Its productions, and its end
 
-data Inner (line : List ℕ) (next : Spot) : Type 0 where
+pub data Inner (line : List ℕ) (next : Spot) : Type 0 where
   on : (p : Production) → IsFineItem p → line ≡ item_text p → next ≡ Inside 0 → Inner line next
   out : line ≡ end_text → next ≡ Outside → Inner line next
 
-inner : (first next : Spot) (line : List ℕ) → Step first line next → first ≡ Inside 0 → Inner line next
+pub inner : (first next : Spot) (line : List ℕ) → Step first line next → first ≡ Inside 0 → Inner line next
 inner first next line (opens l count few is) e = absurd cc
 inner first next line (leaf l k said fine is) e = absurd cc
 inner first next line (item l p fine is) e = on p fine is refl

@@ -7,11 +7,11 @@ use Rattle.cw_base.specs.declared.category.Cat.TheVariants.{End}
 use Rattle.cw_base.specs.Category.{all_cats, number_of}
 use Rattle.cw_logtext.specs.LogText.{cat_text}
 
-at-number : (c : Cat) → get_or all_cats (number_of c) End ≡ c
+pub at-number : (c : Cat) → get_or all_cats (number_of c) End ≡ c
 at-number End = refl
 at-number _ = refl
 
-within : (c : Cat) → number_of c < 45
+pub within : (c : Cat) → number_of c < 45
 within End = omega arith
 within _ = omega arith
 

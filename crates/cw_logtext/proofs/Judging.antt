@@ -21,12 +21,12 @@ pub nothing-read : (file : List ℕ) → ReadSoFar file file Outside 1
 nothing-read file = record { good = 0; next = refl; within = omega arith; read = none Outside; left = refl }
 
 -- the first of those that are left
-record AtHand (lines : List (List ℕ)) (good : ℕ) (line : List ℕ) (others : List (List ℕ)) : Type 0 where
-  within : good < length lines
-  is : get_or lines good [] ≡ line
-  later : drop (suc good) lines ≡ others
+pub record AtHand (lines : List (List ℕ)) (good : ℕ) (line : List ℕ) (others : List (List ℕ)) : Type 0 where
+  pub within : good < length lines
+  pub is : get_or lines good [] ≡ line
+  pub later : drop (suc good) lines ≡ others
 
-at-hand : (lines : List (List ℕ)) (good : ℕ) (line : List ℕ) (later : List (List ℕ)) → drop good lines ≡ line ∷ later
+pub at-hand : (lines : List (List ℕ)) (good : ℕ) (line : List ℕ) (later : List (List ℕ)) → drop good lines ≡ line ∷ later
     → AtHand lines good line later
 at-hand [] zero line later e = absurd cc
 at-hand [] (suc n) line later e = absurd cc
@@ -63,7 +63,7 @@ stuck-here file rest line tail spot count r cut stuck =
       fault = stuck-is-fault (pieces_of file) r.good spot h.within r.read (subst (Stuck spot) (sym h.is) stuck);
     }
 
-all-taken : (lines : List (List ℕ)) (n : ℕ) → n ≤ length lines → drop n lines ≡ []
+pub all-taken : (lines : List (List ℕ)) (n : ℕ) → n ≤ length lines → drop n lines ≡ []
     → (take n lines ≡ lines) × (n ≡ length lines)
 all-taken [] zero within e = (refl, refl)
 all-taken [] (suc n) within e = absurd (omega (arith, within))

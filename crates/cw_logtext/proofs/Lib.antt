@@ -16,3 +16,5 @@ pub mod Written
 pub mod Adding
 pub mod NameSteps
 pub mod BlockSteps
+pub mod Deciding
+pub mod Faults

@@ -6,3 +6,4 @@ pub mod LinePieces
 pub mod Lines
 pub mod Appending
 pub mod Blocks
+pub mod Judgement

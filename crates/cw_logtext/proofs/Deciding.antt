@@ -1,0 +1,352 @@
+-- Each file is a log, or one of its lines is the first that no log has: what a line may be is tried in turn.
+use Rattle.std.proofs.Common.{◌≡◌, ◌≢◌, ◌⊎◌, inl, inr, ℕ, zero, suc, ◌+◌, ◌≤◌, Bool, true, false, List, [], ◌∷◌}
+use Rattle.std.proofs.Common.{◌++◌, length, take, drop, get_or, refl, sym, ◌∙◌, ap, subst, arith, length-drop}
+use Rattle.std.proofs.Math.Seq.{drop-append_seam, take-append_seam}
+use Rattle.std.proofs.lemmas.Bool.Decides.{eqb_tells}
+use Rattle.std.proofs.lemmas.List.{length-append, take-append-drop}
+use Rattle.std.specs.List.{flat_map}
+use Rattle.cw_base.specs.declared.category.Cat.{Cat}
+use Rattle.cw_base.specs.declared.category.Cat.TheVariants as cats
+use Rattle.cw_base.specs.Category.{all_cats, number_of}
+use Rattle.cw_leaves.specs.declared.kinds.LeafKind.{LeafKind}
+use Rattle.cw_leaves.specs.declared.kinds.LeafKind.TheVariants as kinds
+use Rattle.cw_leaves.specs.LeafLines.{Line}
+use Rattle.cw_table.specs.declared.productions.TheConstants.{ROW_COUNT}
+use Rattle.cw_table.specs.Normal.{Production}
+use Rattle.cw_logtext.specs.declared.reading.Spot.{Spot}
+use Rattle.cw_logtext.specs.declared.reading.Spot.TheVariants.{Outside, Inside}
+use Rattle.cw_logtext.specs.Blocks.{IsLeafLine}
+use Rattle.cw_logtext.specs.Judgement.{Judgement, log, no_log}
+use Rattle.cw_logtext.specs.LinePieces.{AreIdentifiers}
+use Rattle.cw_logtext.specs.LogReading.{IsFault, Reads, none, more, Step, Stuck, opens, leaf, item, closes}
+use Rattle.cw_logtext.specs.LogText.{blank_and, cat_text, end_text, fits_kind, greatest, head_text, is_identifier}
+use Rattle.cw_logtext.specs.LogText.{item_text, letter, line_text, IsFineLine}
+use Rattle.cw_logtext.proofs.BlockSteps.{Opened, opened, leaf-step, Inner, inner, on, out}
+use Rattle.cw_logtext.proofs.CatNames.{at-number, within}
+use Rattle.cw_logtext.proofs.Cutting.{all-cons}
+use Rattle.cw_logtext.proofs.Judging.{AtHand, at-hand, all-taken}
+use Rattle.cw_logtext.proofs.Names.{Later}
+use Rattle.cw_logtext.proofs.StepLaws.{inside-is-fault, joined-reads, read-is-log, stuck-is-fault, take-next}
+use Rattle.cw_logtext.proofs.Telling.{names-same}
+
+abbrev Known : Type 0 → Type 0
+Known P = P ⊎ (P → ⊥)
+
+-- ## Numbers and texts
+
+same_number : (m n : ℕ) → Known (m ≡ n)
+same_number m n = elim (eqb_tells m n) [ | inl e ↦ inl e.1 | inr e ↦ inr e.1 ]
+
+same_cons : (x y : ℕ) (xs ys : List ℕ) → Known (x ≡ y) → Known (xs ≡ ys)
+    → Known (◌≡◌ {A = List ℕ} (x ∷ xs) (y ∷ ys))
+same_cons x y xs ys (inl e) (inl d) = inl (ap (λ z. z ∷ xs) e ∙ ap (λ zs. y ∷ zs) d)
+same_cons x y xs ys (inl e) (inr d) = inr (λ k. d cc)
+same_cons x y xs ys (inr e) same = inr (λ k. e cc)
+
+same_text : (xs ys : List ℕ) → Known (xs ≡ ys)
+same_text [] [] = inl refl
+same_text [] (y ∷ ys) = inr (λ e. cc)
+same_text (x ∷ xs) [] = inr (λ e. cc)
+same_text (x ∷ xs) (y ∷ ys) = same_cons x y xs ys (same_number x y) (same_text xs ys)
+
+is_true : (b : Bool) → Known (b ≡ true)
+is_true true = inl refl
+is_true false = inr (λ e. cc)
+
+both : (P Q : Type 0) → Known P → Known Q → Known (P × Q)
+both P Q (inl p) (inl q) = inl (p, q)
+both P Q (inl p) (inr n) = inr (λ h. n h.1)
+both P Q (inr n) k = inr (λ h. n h.0)
+
+-- a number up to a greatest one that passes
+record Upto (most : ℕ) (P : ℕ → Type 0) : Type 0 where
+  at : ℕ
+  below : at ≤ most
+  is : P at
+
+later_upto : (P : ℕ → Type 0) (most : ℕ) → Known (Upto most P) → Known (P (suc most)) → Known (Upto (suc most) P)
+later_upto P most (inl u) k = inl (record { at = u.at; below = omega (arith, u.below); is = u.is })
+later_upto P most (inr lack) (inl p) = inl (record { at = suc most; below = omega arith; is = p })
+later_upto P most (inr lack) (inr not) = inr (λ u. by u (same_number u.at (suc most)))
+  where
+    by : (u : Upto (suc most) P) → Known (u.at ≡ suc most) → ⊥
+    by u (inl e) = not (subst P e u.is)
+    by u (inr e) = lack (record { at = u.at; below = omega (arith, u.below, e); is = u.is })
+
+upto : (P : ℕ → Type 0) → ((n : ℕ) → Known (P n)) → (most : ℕ) → Known (Upto most P)
+upto P each zero = by (each 0)
+  where
+    by : Known (P 0) → Known (Upto 0 P)
+    by (inl p) = inl (record { at = 0; below = omega arith; is = p })
+    by (inr not) = inr (λ u. let e : u.at ≡ 0 = omega (arith, u.below) in not (subst P e u.is))
+upto P each (suc most) = later_upto P most (upto P each most) (each (suc most))
+
+-- ## Names
+
+some_name : (n : ℕ) (bytes : List ℕ) → is_identifier (take n bytes) ≡ true → Later (drop n bytes) → Later (32 ∷ bytes)
+some_name n bytes fine l = record {
+  names = take n bytes ∷ l.names;
+  fine = all-cons (λ name. is_identifier name ≡ true) (take n bytes) l.names fine l.fine;
+  is = ap (λ xs. 32 ∷ xs) (sym (take-append-drop n bytes) ∙ ap (λ xs. take n bytes ++ xs) l.is);
+}
+
+tail-of : (x y : ℕ) (xs ys : List ℕ) → ◌≡◌ {A = List ℕ} (x ∷ xs) (y ∷ ys) → xs ≡ ys
+tail-of x y xs ys e = cc
+
+no_name : (bytes : List ℕ)
+    → (Upto (length bytes) (λ n. (is_identifier (take n bytes) ≡ true) × Later (drop n bytes)) → ⊥)
+    → Later (32 ∷ bytes) → ⊥
+no_name bytes lack l = go l.names l.fine l.is
+  where
+    go : (names : List (List ℕ)) → AreIdentifiers names → 32 ∷ bytes ≡ flat_map blank_and names → ⊥
+    go [] fine is = cc
+    go (m ∷ ms) fine is =
+        let e : bytes ≡ m ++ flat_map blank_and ms = tail-of 32 32 bytes (m ++ flat_map blank_and ms) is in
+        lack (record {
+          at = length m;
+          below = omega (arith, ap length e, length-append m (flat_map blank_and ms));
+          is = (
+            ap is_identifier (ap (take (length m)) e ∙ take-append_seam m (flat_map blank_and ms))
+                ∙ fine 0 m (omega arith),
+            record {
+              names = ms;
+              fine = λ i d lt. fine (suc i) d (omega (arith, lt));
+              is = ap (drop (length m)) e ∙ drop-append_seam m (flat_map blank_and ms);
+            },
+          );
+        })
+
+other_byte : (byte : ℕ) (bytes : List ℕ) → (byte ≡ 32 → ⊥) → Later (byte ∷ bytes) → ⊥
+other_byte byte bytes not l = go l.names l.is
+  where
+    go : (names : List (List ℕ)) → byte ∷ bytes ≡ flat_map blank_and names → ⊥
+    go [] is = cc
+    go (m ∷ ms) is = not cc
+
+abbrev NameEnds : List ℕ → ℕ → Type 0
+NameEnds bytes n = (is_identifier (take n bytes) ≡ true) × Later (drop n bytes)
+
+by_names : (bytes : List ℕ) → Known (Upto (length bytes) (NameEnds bytes)) → Known (Later (32 ∷ bytes))
+by_names bytes (inl u) = inl (some_name u.at bytes u.is.0 u.is.1)
+by_names bytes (inr lack) = inr (no_name bytes lack)
+
+by_byte : (byte : ℕ) (bytes : List ℕ) → Known (byte ≡ 32) → Known (Later (32 ∷ bytes)) → Known (Later (byte ∷ bytes))
+by_byte byte bytes (inl e) k = subst (λ b. Known (Later (b ∷ bytes))) (sym e) k
+by_byte byte bytes (inr e) k = inr (other_byte byte bytes e)
+
+names_in : (fuel : ℕ) (text : List ℕ) → length text ≤ fuel → Known (Later text)
+names_in fuel [] enough = inl (record { names = []; fine = λ i d lt. absurd (omega (arith, lt)); is = refl })
+names_in zero (byte ∷ bytes) enough = absurd (omega (arith, enough))
+names_in (suc fuel) (byte ∷ bytes) enough =
+    by_byte byte bytes (same_number byte 32) (by_names bytes (upto (NameEnds bytes)
+    (λ n. both (is_identifier (take n bytes) ≡ true) (Later (drop n bytes)) (is_true (is_identifier (take n bytes)))
+    (names_in fuel (drop n bytes) (omega (arith, length-drop n bytes, enough)))) (length bytes)))
+
+-- ## Leaf lines
+
+-- what stands behind these bytes
+record Behind (front text : List ℕ) : Type 0 where
+  rest : List ℕ
+  is : text ≡ front ++ rest
+
+behind_in : (front text : List ℕ) → Known (Behind front text)
+behind_in [] text = inl (record { rest = text; is = refl })
+behind_in (x ∷ xs) [] = inr (λ b. let e : [] ≡ x ∷ xs ++ b.rest = b.is in absurd cc)
+behind_in (x ∷ xs) (y ∷ ys) = by (same_number y x) (behind_in xs ys)
+  where
+    by : Known (y ≡ x) → Known (Behind xs ys) → Known (Behind (x ∷ xs) (y ∷ ys))
+    by (inl e) (inl b) = inl (record { rest = b.rest; is = ap (λ z. z ∷ ys) e ∙ ap (λ zs. x ∷ zs) b.is })
+    by (inl e) (inr not) = inr (λ b. not (record { rest = b.rest; is = tail-of y x ys (xs ++ b.rest) b.is }))
+    by (inr e) k = inr (λ b. let d : y ∷ ys ≡ x ∷ xs ++ b.rest = b.is in e cc)
+
+-- the letter, the category and the names of a leaf line
+abbrev front_of : LeafKind → Cat → List ℕ
+front_of k c = letter k ∷ blank_and (cat_text c)
+
+abbrev line_by : LeafKind → Cat → List (List ℕ) → Line
+line_by k c names = record { kind = k; cat = c; names = names }
+
+record LeafBy (k : LeafKind) (c : Cat) (line : List ℕ) : Type 0 where
+  names : List (List ℕ)
+  fine : IsFineLine (line_by k c names)
+  is : line ≡ line_text (line_by k c names)
+
+is_real : (c : Cat) → Known (c ≢ cats.End)
+is_real cats.End = inr (λ not. not refl)
+is_real _ = inl (λ e. cc)
+
+same-rest : (front xs ys : List ℕ) → front ++ xs ≡ front ++ ys → xs ≡ ys
+same-rest [] xs ys e = e
+same-rest (f ∷ front) xs ys e = same-rest front xs ys (tail-of f f (front ++ xs) (front ++ ys) e)
+
+module _ (k : LeafKind) (c : Cat) (line : List ℕ) where
+  rest-names : (b : Behind (front_of k c) line) (l : LeafBy k c line) → b.rest ≡ flat_map blank_and l.names
+  rest-names b l = same-rest (front_of k c) b.rest (flat_map blank_and l.names) (sym b.is ∙ l.is)
+
+  with_names : (b : Behind (front_of k c) line) (l : Later b.rest)
+      → Known ((fits_kind k c (length l.names) ≡ true) × (c ≢ cats.End)) → Known (LeafBy k c line)
+  with_names b l (inl h) = inl (record {
+    names = l.names;
+    fine = record { kind = h.0; real = h.1; names = l.fine };
+    is = b.is ∙ ap (λ xs. front_of k c ++ xs) l.is;
+  })
+  with_names b l (inr not) = inr (λ o.
+      let same : o.names ≡ l.names = names-same o.names l.names o.fine.names l.fine (sym (rest-names b o) ∙ l.is) in
+      not (subst (λ ns. fits_kind k c (length ns) ≡ true) same o.fine.kind, o.fine.real))
+
+  leaf_behind : (b : Behind (front_of k c) line) → Known (Later b.rest) → Known (LeafBy k c line)
+  leaf_behind b (inl l) = with_names b l
+      (both (fits_kind k c (length l.names) ≡ true) (c ≢ cats.End) (is_true (fits_kind k c (length l.names)))
+      (is_real c))
+  leaf_behind b (inr not) = inr (λ o. not (record { names = o.names; fine = o.fine.names; is = rest-names b o }))
+
+  leaf_by : Known (Behind (front_of k c) line) → Known (LeafBy k c line)
+  leaf_by (inl b) = leaf_behind b (names_in (length b.rest) b.rest (omega arith))
+  leaf_by (inr not) = inr (λ o. not (record { rest = flat_map blank_and o.names; is = o.is }))
+
+-- of some category
+abbrev OfSomeCat : LeafKind → List ℕ → Type 0
+OfSomeCat k line = Upto 44 (λ n. LeafBy k (get_or all_cats n cats.End) line)
+
+of_some_cat : (k : LeafKind) (line : List ℕ) → Known (OfSomeCat k line)
+of_some_cat k line = upto (λ n. LeafBy k (get_or all_cats n cats.End) line)
+    (λ n. leaf_by k (get_or all_cats n cats.End) line (behind_in (front_of k (get_or all_cats n cats.End)) line)) 44
+
+line-said : (k : LeafKind) (line : List ℕ) → OfSomeCat k line → IsLeafLine line
+line-said k line u = record {
+  said = line_by k (get_or all_cats u.at cats.End) u.is.names;
+  fine = u.is.fine;
+  is = u.is.is;
+}
+
+said-line : (k : LeafKind) (c : Cat) (line : List ℕ) → LeafBy k c line → OfSomeCat k line
+said-line k c line l = record {
+  at = number_of c;
+  below = omega (arith, within c);
+  is = subst (λ x. LeafBy k x line) (sym (at-number c)) l;
+}
+
+leaf_of : (line : List ℕ) → Known (OfSomeCat kinds.B line) → Known (OfSomeCat kinds.C line)
+    → Known (OfSomeCat kinds.I line) → Known (OfSomeCat kinds.S line) → Known (IsLeafLine line)
+leaf_of line (inl u) c i s = inl (line-said kinds.B line u)
+leaf_of line (inr b) (inl u) i s = inl (line-said kinds.C line u)
+leaf_of line (inr b) (inr c) (inl u) s = inl (line-said kinds.I line u)
+leaf_of line (inr b) (inr c) (inr i) (inl u) = inl (line-said kinds.S line u)
+leaf_of line (inr b) (inr c) (inr i) (inr s) = inr (λ l. go l.said.kind l.said.cat l.said.names l.fine l.is)
+  where
+    go : (k : LeafKind) (cat : Cat) (names : List (List ℕ)) → IsFineLine (line_by k cat names)
+        → line ≡ line_text (line_by k cat names) → ⊥
+    go kinds.B cat names fine is = b (said-line kinds.B cat line (record { names = names; fine = fine; is = is }))
+    go kinds.C cat names fine is = c (said-line kinds.C cat line (record { names = names; fine = fine; is = is }))
+    go kinds.I cat names fine is = i (said-line kinds.I cat line (record { names = names; fine = fine; is = is }))
+    go kinds.S cat names fine is = s (said-line kinds.S cat line (record { names = names; fine = fine; is = is }))
+
+leaf_line : (line : List ℕ) → Known (IsLeafLine line)
+leaf_line line = leaf_of line (of_some_cat kinds.B line) (of_some_cat kinds.C line) (of_some_cat kinds.I line)
+    (of_some_cat kinds.S line)
+
+-- ## Heads and productions
+
+abbrev HeadOf : List ℕ → Type 0
+HeadOf line = Upto greatest (λ n. line ≡ head_text n)
+
+head_line : (line : List ℕ) → Known (HeadOf line)
+head_line line = upto (λ n. line ≡ head_text n) (λ n. same_text line (head_text n)) greatest
+
+abbrev production : ℕ → ℕ → Production
+production number place = record { number = number; place = place }
+
+-- the row is a number and 1
+abbrev ItemOf : List ℕ → Type 0
+ItemOf line = Upto ROW_COUNT (λ n. (n ≢ 0) × Upto greatest (λ place. line ≡ item_text (production n place)))
+
+not_zero : (n : ℕ) → Known (n ≢ 0)
+not_zero zero = inr (λ not. not refl)
+not_zero (suc n) = inl (λ e. omega (arith, e))
+
+item_line : (line : List ℕ) → Known (ItemOf line)
+item_line line = upto (λ n. (n ≢ 0) × Upto greatest (λ place. line ≡ item_text (production n place)))
+    (λ n. both (n ≢ 0) (Upto greatest (λ place. line ≡ item_text (production n place))) (not_zero n)
+    (upto (λ place. line ≡ item_text (production n place)) (λ place. same_text line (item_text (production n place)))
+    greatest)) ROW_COUNT
+
+-- ## Steps
+
+record Next (spot : Spot) (line : List ℕ) : Type 0 where
+  next : Spot
+  step : Step spot line next
+
+abbrev Goes : Spot → List ℕ → Type 0
+Goes spot line = Next spot line ⊎ Stuck spot line
+
+step_outside : (line : List ℕ) → Known (HeadOf line) → Goes Outside line
+step_outside line (inl u) = inl (record { next = Inside u.at; step = opens line u.at u.below u.is })
+step_outside line (inr not) = inr (λ next step.
+    let o : Opened line next = opened Outside next line step refl in
+    not (record { at = o.count; below = o.few; is = o.is }))
+
+step_leaf : (k : ℕ) (line : List ℕ) → Known (IsLeafLine line) → Goes (Inside (suc k)) line
+step_leaf k line (inl l) = inl (record { next = Inside k; step = leaf line k l.said l.fine l.is })
+step_leaf k line (inr not) = inr (λ next step. not (leaf-step (Inside (suc k)) next line k step refl).is)
+
+step_item : (line : List ℕ) → Known (ItemOf line) → Known (line ≡ end_text) → Goes (Inside 0) line
+step_item line (inl u) ended = inl (record {
+  next = Inside 0;
+  step = item line (production u.at u.is.1.at)
+      (record { from_one = omega (arith, u.is.0); to_last = u.below; near = u.is.1.below }) u.is.1.is;
+})
+step_item line (inr not) (inl e) = inl (record { next = Outside; step = closes line e })
+step_item line (inr not) (inr unended) = inr (λ next step. by next (inner (Inside 0) next line step refl))
+  where
+    by : (next : Spot) → Inner line next → ⊥
+    by next (on p fine is at) = not (record {
+      at = p.number;
+      below = fine.to_last;
+      is = (λ e. omega (arith, e, fine.from_one), record { at = p.place; below = fine.near; is = is });
+    })
+    by next (out is at) = unended is
+
+step_on : (spot : Spot) (line : List ℕ) → Goes spot line
+step_on Outside line = step_outside line (head_line line)
+step_on (Inside zero) line = step_item line (item_line line) (same_text line end_text)
+step_on (Inside (suc k)) line = step_leaf k line (leaf_line line)
+
+-- ## The whole file
+
+ended : (lines : List (List ℕ)) (good : ℕ) (spot : Spot) → take good lines ≡ lines → good ≡ length lines
+    → Reads Outside (take good lines) spot → Judgement lines
+ended lines good Outside all last r = log (read-is-log lines (subst (λ ls. Reads Outside ls Outside) all r))
+ended lines good (Inside k) all last r = no_log (good + 1) (record {
+  good = good;
+  next = refl;
+  fault = subst (λ n. IsFault lines n) (sym last)
+      (inside-is-fault lines k (subst (λ ls. Reads Outside ls (Inside k)) all r));
+})
+
+-- this line, and then the rest from the next spot on
+on_from : (lines : List (List ℕ)) (good : ℕ) (spot : Spot) (line : List ℕ) (rest : List (List ℕ))
+    → Reads Outside (take good lines) spot → AtHand lines good line rest
+    → ((next : Spot) → Reads Outside (take (suc good) lines) next → Judgement lines) → Goes spot line → Judgement lines
+on_from lines good spot line rest r h later (inl n) =
+    later n.next (subst (λ ls. Reads Outside ls n.next)
+    (sym (take-next lines good h.within ∙ ap (λ l. take good lines ++ l ∷ []) h.is))
+    (joined-reads Outside spot n.next (take good lines) (line ∷ []) r
+    (more spot n.next n.next line [] n.step (none n.next))))
+on_from lines good spot line rest r h later (inr stuck) = no_log (good + 1) (record {
+  good = good;
+  next = refl;
+  fault = stuck-is-fault lines good spot h.within r (subst (Stuck spot) (sym h.is) stuck);
+})
+
+judged_from : (lines : List (List ℕ)) (good : ℕ) (spot : Spot) (rest : List (List ℕ)) → good ≤ length lines
+    → drop good lines ≡ rest → Reads Outside (take good lines) spot → Judgement lines
+judged_from lines good spot [] within left r =
+    let h = all-taken lines good within left in
+    ended lines good spot h.0 h.1 r
+judged_from lines good spot (line ∷ rest) within left r =
+    let h : AtHand lines good line rest = at-hand lines good line rest left in
+    on_from lines good spot line rest r h
+    (λ next read. judged_from lines (suc good) next rest (omega (arith, h.within)) h.later read) (step_on spot line)
+
+pub judgement : (lines : List (List ℕ)) → Judgement lines
+judgement lines = judged_from lines 0 Outside lines (omega arith) refl (none Outside)

@@ -1,0 +1,59 @@
+-- A file has one first line that no log has, at most, and none where it is a log.
+use Rattle.std.proofs.Common.{◌≡◌, ℕ, zero, suc, ◌≤◌, ◌<◌, List, [], ◌∷◌, ◌++◌, length, take, refl, sym, ◌∙◌}
+use Rattle.std.proofs.Common.{ap, subst, arith, append_assoc}
+use Rattle.std.proofs.lemmas.List.{append-nil, take_all}
+use Rattle.cw_logtext.specs.LogReading.{Begins, IsFault, IsFaultAt, IsLog, wrong, cut_off}
+
+record Longer (lines : List (List ℕ)) (m n : ℕ) : Type 0 where
+  more : List (List ℕ)
+  is : take n lines ≡ take m lines ++ more
+
+longer : (lines : List (List ℕ)) (m n : ℕ) → m ≤ n → Longer lines m n
+longer lines zero n le = record { more = take n lines; is = refl }
+longer lines (suc m) zero le = absurd (omega (arith, le))
+longer [] (suc m) (suc n) le = record { more = []; is = refl }
+longer (l ∷ ls) (suc m) (suc n) le =
+    let h : Longer ls m n = longer ls m n (omega (arith, le)) in
+    record { more = h.more; is = ap (λ x. l ∷ x) h.is }
+
+begins-fewer : (lines : List (List ℕ)) (m n : ℕ) → m ≤ n → Begins (take n lines) → Begins (take m lines)
+begins-fewer lines m n le b =
+    let h : Longer lines m n = longer lines m n le in
+    record {
+      later = h.more ++ b.later;
+      whole = subst IsLog (ap (λ ls. ls ++ b.later) h.is ∙ append_assoc (take m lines) h.more b.later) b.whole;
+    }
+
+fault-begins : (lines : List (List ℕ)) (n : ℕ) → IsFault lines n → Begins (take n lines)
+fault-begins lines n (wrong lt b none) = b
+fault-begins lines n (cut_off last b none) =
+    subst Begins (sym (ap (λ k. take k lines) last ∙ take_all (length lines) lines (omega arith))) b
+
+fault-within : (lines : List (List ℕ)) (n : ℕ) → IsFault lines n → n ≤ length lines
+fault-within lines n (wrong lt b none) = omega (arith, lt)
+fault-within lines n (cut_off last b none) = omega (arith, last)
+
+earlier-fault : (lines : List (List ℕ)) (m n : ℕ) → m < n → IsFault lines m → IsFault lines n → ⊥
+earlier-fault lines m n lt (wrong l b none) f = none (begins-fewer lines (suc m) n (omega (arith, lt))
+    (fault-begins lines n f))
+earlier-fault lines m n lt (cut_off last b none) f = omega (arith, lt, last, fault-within lines n f)
+
+fault-log : (lines : List (List ℕ)) (n : ℕ) → IsFault lines n → IsLog lines → ⊥
+fault-log lines n (wrong lt b none) is =
+    none (begins-fewer lines (suc n) (length lines) (omega (arith, lt)) (record {
+      later = [];
+      whole = subst IsLog (sym (append-nil (take (length lines) lines)
+          ∙ take_all (length lines) lines (omega arith))) is;
+    }))
+fault-log lines n (cut_off last b none) is = none is
+
+-- the first line that no log has is one
+pub fault-same : (lines : List (List ℕ)) (first second : ℕ) → IsFaultAt lines first → IsFaultAt lines second
+    → first ≡ second
+fault-same lines first second f g =
+    let not_less : f.good < g.good → ⊥ = λ lt. earlier-fault lines f.good g.good lt f.fault g.fault in
+    let not_more : g.good < f.good → ⊥ = λ lt. earlier-fault lines g.good f.good lt g.fault f.fault in
+    omega (arith, f.next, g.next, not_less, not_more)
+
+pub fault-no-log : (lines : List (List ℕ)) (line : ℕ) → IsFaultAt lines line → IsLog lines → ⊥
+fault-no-log lines line f is = fault-log lines f.good f.fault is
