@@ -1,4 +1,4 @@
-//! Tests of logs: which files are logs, and the text of a block.
+//! Tests of logs: which files are logs, the text of a block, and blocks read back.
 #![tactic(auto)]
 
 #[cfg(test)]

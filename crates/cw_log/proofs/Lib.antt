@@ -1,0 +1,7 @@
+-- Laws of what is told.
+pub mod LineLaws
+pub mod SayLaws
+pub mod MakingLaws
+pub mod MadeLines
+pub mod CheckLaws
+pub mod RunLaws

@@ -1,0 +1,66 @@
+-- What was found of a file is what its run is.
+use Rattle.std.proofs.Common.{◌≡◌, ◌≢◌, ℕ, ◌≤◌, ◌<◌, List, length, Bool, true, false, cond, Result, refl, sym, ap, subst}
+use Rattle.std.proofs.Common.{◌∙◌, arith, nat_le}
+use Rattle.std.specs.Result.{IfOk}
+use Rattle.std.proofs.lemmas.Bool.Decides.{nat_tests}
+use Rattle.std.proofs.lemmas.Result.{IfOk-weaker}
+use Rattle.cw_base.specs.declared.exit.Exit.{Exit}
+use Rattle.cw_base.specs.declared.exit.Exit.TheVariants.{Fault}
+use Rattle.cw_base.specs.Text.{pieces_of}
+use Rattle.cw_desk.specs.Told.{Told}
+use Rattle.cw_lines.specs.declared.put_error.PutError.{PutError}
+use Rattle.cw_logtext.specs.Judgement.{Judgement, log, no_log}
+use Rattle.cw_logtext.specs.LogReading.{IsFaultAt, IsLog}
+use Rattle.cw_logtext.proofs.Deciding.{judgement}
+use Rattle.cw_logtext.proofs.Faults.{fault-no-log, fault-same}
+use Rattle.cw_run.specs.Emits.{Run, Runs}
+use Rattle.cw_tool.specs.Tool.{refused}
+use Rattle.cw_log.specs.Check.{check_bytes, judged, no_log_text, run_of, too_long_text}
+use Rattle.cw_log.specs.Checking.{checked, IsCheckedAs}
+use Rattle.cw_log.specs.declared.checking.Checked.{Checked}
+use Rattle.cw_log.specs.declared.checking.Checked.TheVariants.{Accepted, Rejected}
+use Rattle.cw_log.specs.declared.file.TheConstants.{LOG_LIMIT}
+
+pub judged-log : (lines : List (List ℕ)) (j : Judgement lines) (c : Checked) → IsLog lines → IsCheckedAs lines c
+    → run_of c ≡ judged j
+judged-log lines (log own) c is told = ap run_of (told own)
+judged-log lines (no_log line fault) c is told = absurd (fault-no-log lines line fault is)
+
+pub judged-fault : (lines : List (List ℕ)) (j : Judgement lines) (line : ℕ) → IsFaultAt lines line
+    → refused (no_log_text line) ≡ judged j
+judged-fault lines (log own) line fault = absurd (fault-no-log lines line fault own)
+judged-fault lines (no_log other found) line fault =
+    ap (λ n. refused (no_log_text n)) (fault-same lines line other fault found)
+
+-- ## The length of the file
+
+at-most : (m n : ℕ) → m ≤ n → nat_le m n ≡ true
+at-most m n h = grind (arith, nat_tests)
+
+more-than : (m n : ℕ) → n < m → nat_le m n ≡ false
+more-than m n h = grind (arith, nat_tests)
+
+pub check-short : (file : List ℕ) → length file ≤ LOG_LIMIT → judged (judgement (pieces_of file)) ≡ check_bytes file
+check-short file short =
+    ap (λ t. cond t (judged (judgement (pieces_of file))) (refused too_long_text))
+    (sym (at-most (length file) LOG_LIMIT short))
+
+pub check-long : (file : List ℕ) → LOG_LIMIT < length file → refused too_long_text ≡ check_bytes file
+check-long file long =
+    ap (λ t. cond t (judged (judgement (pieces_of file))) (refused too_long_text))
+    (sym (more-than (length file) LOG_LIMIT long))
+
+-- ## Its status
+
+exit-real : (c : Checked) → (run_of c).exit ≢ Fault
+exit-real (Accepted texts count) e = cc
+exit-real (Rejected text count) e = cc
+
+pub judged-real : {lines : List (List ℕ)} (j : Judgement lines) → (judged j).exit ≢ Fault
+judged-real (log is) e = exit-real (checked is.blocks) e
+judged-real (no_log line fault) e = cc
+
+pub runs-real : (run : Run) (a b : Told) (result : Result Exit PutError) → run.exit ≢ Fault → Runs run a b result
+    → IfOk result (λ exit. exit ≢ Fault)
+runs-real run a b result real runs =
+    IfOk-weaker result (λ e. e ≡ run.exit) (λ e. e ≢ Fault) (λ e same is. real (sym same ∙ is)) runs.exit

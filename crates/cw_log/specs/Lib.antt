@@ -1,0 +1,7 @@
+-- What is told of the scraps of a text and of its productions.
+pub mod Telling
+pub mod Logged
+pub mod Making
+pub mod LogFile
+pub mod Checking
+pub mod Check

@@ -1,0 +1,18 @@
+//! Logs of productions: what is told of the scraps of a text, and of its productions.
+#![tactic(auto)]
+
+mod checking;
+mod command;
+mod file;
+mod laws;
+mod logs;
+mod making;
+mod telling;
+
+pub use checking::Checked;
+pub use command::check;
+pub use file::LOG_LIMIT;
+pub use laws::line_law;
+pub use logs::ProductionLog;
+pub use making::scrap_line;
+pub use telling::{leaf_line, leaf_lines};
