@@ -1,0 +1,3 @@
+-- The C texts of a book, translated one after another.
+pub mod EachText
+pub mod Forms
