@@ -1,13 +1,13 @@
 //! Tests of what a recorder hears of a translation: each text that ends, with its scraps and productions.
-ghost use Rattle.std.specs.Prelude.{None, false, [], refl};
+ghost use Rattle.std.specs.Prelude.{◌≡◌, None, false, [], refl};
+ghost use Rattle.cw_translator.specs.NameParts.{AreNamesOf};
 
-use cw_base::{Flags, Memory, Silent, Span, Steps};
+use crate::translate_tests::{Desk, desk_of};
+use cw_base::{Flags, Memory, Span};
 use cw_lex::Mode;
-use cw_names::Names;
 use cw_reduce::{Context, Recorder, Work, is_plain_c, is_uncut, translate_recorded};
 use cw_rewrite::Watch;
-use cw_scraps::{Leaf, Marks, ScrapLine};
-use cw_secnames::{NameUses, SecNames};
+use cw_scraps::{Leaf, ScrapLine};
 use cw_table::RowNo;
 use cw_tokens::TokenStore;
 use std::alloc::Global;
@@ -55,29 +55,38 @@ impl Recorder for Sizes {
     }
 }
 
-// What is heard of a text, with the names and flags of the start.
-fn heard(alloc: Global, text: &[u8], mode: Mode) -> Result<Vec<(usize, usize)>, Memory> {
+// What is heard of a text, with the flags of the start.
+fn heard_over(
+    alloc: Global,
+    desk: &mut Desk,
+    text: &[u8],
+    mode: Mode,
+) -> Result<Vec<(usize, usize)>, Memory>
+    requires kept { AreNamesOf desk.old.sec_names desk.old.uses }
+    requires idle { desk.old.store.building ≡ None }
+{
+    if text.len() > 16777216 {
+        return Err(Memory);
+    }
     let span = Span {
         start: 0,
         end: text.len(),
     };
-    if text.len() > 16777216 || !is_plain_c(mode) || !is_uncut(text, span, mode) {
+    if !is_plain_c(mode) || !is_uncut(text, span, mode) {
         return Err(Memory);
     }
-    let sec_names = SecNames::new_in(alloc);
-    let uses = NameUses::new_in(alloc);
+    let flags = Flags::start();
     let context = Context {
-        sec_names: &sec_names,
-        uses: &uses,
-        flags: &Flags::start(),
+        sec_names: &desk.sec_names,
+        uses: &desk.uses,
+        flags: &flags,
         alloc,
     };
-    let mut steps: Steps<Silent> = Steps::new();
     let mut work = Work {
-        names: &mut Names::with_words(alloc)?,
-        store: &mut TokenStore::new_in(alloc),
-        marks: &mut Marks::new_in(alloc),
-        steps: &mut steps,
+        names: &mut desk.names,
+        store: &mut desk.store,
+        marks: &mut desk.marks,
+        steps: &mut desk.steps,
         recorder: Sizes {
             ended: Vec::new(alloc),
             scraps: 0,
@@ -85,7 +94,14 @@ fn heard(alloc: Global, text: &[u8], mode: Mode) -> Result<Vec<(usize, usize)>, 
         },
     };
     translate_recorded(text, span, mode, &context, &mut work)?;
-    Ok(work.recorder.ended)
+    let Work { recorder, .. } = work;
+    Ok(recorder.ended)
+}
+
+// The same with the names of the start.
+fn heard(alloc: Global, text: &[u8], mode: Mode) -> Result<Vec<(usize, usize)>, Memory> {
+    let mut desk = desk_of(alloc)?;
+    heard_over(alloc, &mut desk, text, mode)
 }
 
 #[test]

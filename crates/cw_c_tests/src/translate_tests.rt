@@ -17,17 +17,17 @@ use std::test::Fail;
 
 // All that a text is translated with.
 #[derive(Drop)]
-struct Desk {
-    names: Names,
-    sec_names: SecNames,
-    uses: NameUses,
-    store: TokenStore,
-    marks: Marks,
-    steps: Steps<Kept>,
+pub(crate) struct Desk {
+    pub(crate) names: Names,
+    pub(crate) sec_names: SecNames,
+    pub(crate) uses: NameUses,
+    pub(crate) store: TokenStore,
+    pub(crate) marks: Marks,
+    pub(crate) steps: Steps<Kept>,
 }
 
 // The names of the start, and nothing else.
-fn desk_of(alloc: Global) -> Result<Desk, Memory>
+pub(crate) fn desk_of(alloc: Global) -> Result<Desk, Memory>
     ensures kept { IfOk result (λ desk. AreNamesOf desk.sec_names desk.uses) }
     ensures idle { IfOk result (λ desk. desk.store.building ≡ None) }
 {
