@@ -69,7 +69,7 @@ item-same p q h =
     ap (λ n. record { number = n; place = p.place }) a ∙ ap (λ n. record { number = q.number; place = n }) b
   where
     number : (m n : ℕ) → eqb m n ≡ true → m ≡ n
-    number m n e = elim (eqb_tells m n) [ | inl k ↦ k.1 | inr k ↦ absurd (let d : true ≡ false = sym e ∙ k.0 in cc) ]
+    number m n e = elim (eqb_tells m n) [ inl k ↦ k.1 | inr k ↦ absurd (let d : true ≡ false = sym e ∙ k.0 in cc) ]
 
 same-items : (ps : List Production) → pointwise same_item ps ps ≡ true
 same-items [] = refl
@@ -215,13 +215,22 @@ pieces-few (byte ∷ bytes) = by (eqb byte 10) (pieces_of bytes) (pieces-few byt
     by false (piece ∷ pieces) h = omega (arith, h)
 
 block-many : (b : Block) → length b.items + 1 ≤ length (block_lines b)
-block-many b = omega (arith, length-append (map line_text b.leaves) (map item_text b.items ++ end_text ∷ []),
-    length-append (map item_text b.items) (end_text ∷ []), length-map b.items item_text)
+block-many b = omega (
+  arith,
+  length-append (map line_text b.leaves) (map item_text b.items ++ end_text ∷ []),
+  length-append (map item_text b.items) (end_text ∷ []),
+  length-map b.items item_text,
+)
 
 blocks-many : (blocks : List Block) → length blocks + sum_by (λ b. length b.items) blocks ≤ length (log_lines blocks)
 blocks-many [] = omega arith
-blocks-many (b ∷ blocks) = omega (arith, block-many b, blocks-many blocks, sum_by-cons size b blocks,
-    length-append (block_lines b) (log_lines blocks))
+blocks-many (b ∷ blocks) = omega (
+  arith,
+  block-many b,
+  blocks-many blocks,
+  sum_by-cons size b blocks,
+  length-append (block_lines b) (log_lines blocks),
+)
 
 -- with one block more there are no more than the log has bytes
 pub block-few : (log rest : List ℕ) (texts count : ℕ) (old new : List Entry) (read : ReadBlock)
@@ -233,5 +242,14 @@ block-few log rest texts count old new read s h =
     ap length s.is ∙ length-append (log_lines s.done) (pieces_of rest) in
     let next : length (pieces_of rest) ≡ length (block_lines b) + length (pieces_of read.rest.now) =
     ap length h.is ∙ length-append (block_lines b) (pieces_of read.rest.now) in
-    omega (arith, s.texts, s.count, all, next, blocks-many s.done, block-many b, pieces-few log,
-    length-map read.log.items production_of)
+    omega (
+      arith,
+      s.texts,
+      s.count,
+      all,
+      next,
+      blocks-many s.done,
+      block-many b,
+      pieces-few log,
+      length-map read.log.items production_of,
+    )

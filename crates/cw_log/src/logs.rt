@@ -61,8 +61,11 @@ impl ProductionLog {
     /// The reduction of a text begins, which has the scraps of this line. After `Memory` nothing is changed.
     pub fn begin(&mut self, line: &ScrapLine, store: &TokenStore) -> Result<(), Memory>
         requires { All (λ entry. entry.list.index < length store.now.lists) line.now }
-        ensures ok { OnOk result (self.new ≡ record { ended = self.old.ended;
-            leaves = map line_of (scraps_of store.now.lists line.now); items = [] }) }
+        ensures ok { OnOk result (self.new ≡ record {
+          ended = self.old.ended;
+          leaves = map line_of (scraps_of store.now.lists line.now);
+          items = [];
+        }) }
         ensures refused { OnErr result (self.new ≡ self.old) }
     {
         self.leaves = leaf_lines(self.alloc, line, store)?;
@@ -72,8 +75,11 @@ impl ProductionLog {
 
     /// The next production of the text. After `Memory` nothing is changed.
     pub fn hear(&mut self, row: RowNo, place: usize) -> Result<(), Memory>
-        ensures ok { OnOk result (self.new ≡ record { ended = self.old.ended; leaves = self.old.leaves;
-            items = self.old.items ++ record { row = row; place = place } ∷ [] }) }
+        ensures ok { OnOk result (self.new ≡ record {
+          ended = self.old.ended;
+          leaves = self.old.leaves;
+          items = self.old.items ++ record { row = row; place = place } ∷ [];
+        }) }
         ensures refused { OnErr result (self.new ≡ self.old) }
     {
         let Ok(place) = u32::try_from(place) else {
@@ -86,8 +92,10 @@ impl ProductionLog {
     /// The text has ended. After `Memory` the texts that had ended are as before.
     pub fn end(&mut self) -> Result<(), Memory>
         ensures ok { OnOk result (self.new ≡ record {
-            ended = self.old.ended ++ record { leaves = self.old.leaves; items = self.old.items } ∷ [];
-            leaves = []; items = [] }) }
+          ended = self.old.ended ++ record { leaves = self.old.leaves; items = self.old.items } ∷ [];
+          leaves = [];
+          items = [];
+        }) }
         ensures refused { OnErr result (self.new.ended ≡ self.old.ended) }
     {
         let leaves = mem::replace(&mut self.leaves, LeafLines::from_vec(Vec::new(self.alloc)));

@@ -35,7 +35,7 @@ Known P = P ⊎ (P → ⊥)
 -- ## Numbers and texts
 
 same_number : (m n : ℕ) → Known (m ≡ n)
-same_number m n = elim (eqb_tells m n) [ | inl e ↦ inl e.1 | inr e ↦ inr e.1 ]
+same_number m n = elim (eqb_tells m n) [ inl e ↦ inl e.1 | inr e ↦ inr e.1 ]
 
 same_cons : (x y : ℕ) (xs ys : List ℕ) → Known (x ≡ y) → Known (xs ≡ ys)
     → Known (◌≡◌ {A = List ℕ} (x ∷ xs) (y ∷ ys))

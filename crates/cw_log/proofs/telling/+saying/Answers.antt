@@ -17,13 +17,15 @@ say-say_token-requires t c =
     let falls : token_rank token < 2 * c.args.list.index + 1 =
     rank-falls c.args.store.now.lists c.tokens-token-items.result.now c.args.list.index
     c.loop-token.token-index token (Source 0 Text) tied c.tokens-token-items.ensures.tokens c.loop-token-test.true refl
-    in
-    (omega (arith, c.decreases, falls), λ x e.
-    let less : x < c.args.list.index =
-    below-earlier c.args.store.now.lists c.tokens-token-items.result.now c.args.list.index
-    c.loop-token.token-index x token (Source 0 Text) tied c.tokens-token-items.ensures.tokens c.loop-token-test.true
-    refl e in
-    omega (arith, less, c.requires))
+    in (
+      omega (arith, c.decreases, falls),
+      λ x e.
+          let less : x < c.args.list.index =
+          below-earlier c.args.store.now.lists c.tokens-token-items.result.now c.args.list.index
+          c.loop-token.token-index x token (Source 0 Text) tied c.tokens-token-items.ensures.tokens c.loop-token-test.true
+          refl e in
+          omega (arith, less, c.requires),
+    )
 
 pub say-returns-then-branch : goal.say-returns-then-branch
 say-returns-then-branch t c =
