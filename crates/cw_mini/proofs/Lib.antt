@@ -1,0 +1,11 @@
+-- The laws of small indexes, and their worked rows.
+mod RowsOf
+mod WorkedRows
+mod LeftLaws
+mod ListingLaws
+mod NamedRows
+mod NamesAt
+mod RowPlaces
+mod RowLines
+mod Writing
+mod WordLaws

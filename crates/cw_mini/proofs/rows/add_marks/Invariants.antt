@@ -1,0 +1,7 @@
+-- The marks so far stand behind the occurrences; with those to come they are all.
+use Rattle.std.proofs.Common.{◌≡◌, drop}
+use Rattle.cw_mini.specs.Marks.{with_marks}
+use Rattle.cw_mini.proofs.rows.add_marks.Given as goal
+
+abbrev pub invariant-loop-mark : goal.invariant-loop-mark
+invariant-loop-mark l = with_marks l.occurrences (drop l.mark-index l.mark-items) ≡ with_marks l.fn.occurrences l.marks

@@ -1,0 +1,6 @@
+-- What is copied, with the occurrences to come, are all.
+use Rattle.std.proofs.Common.{◌≡◌, ◌++◌, drop}
+use Rattle.cw_mini.proofs.rows.copy_of.Given as goal
+
+abbrev pub invariant-loop-place : goal.invariant-loop-place
+invariant-loop-place l = l.copy ++ drop l.place-index l.place-items ≡ l.occurrences
