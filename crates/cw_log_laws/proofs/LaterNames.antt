@@ -1,0 +1,149 @@
+-- Names that are added, or whose categories change: they keep their places and texts, stay apart, and have categories.
+use Rattle.std.proofs.Common.{◌≡◌, ◌≢◌, ℕ, zero, suc, ◌+◌, ◌<◌, ◌≤◌, Bool, true, false, not, cond, ◌&&◌, if◌then◌else◌}
+use Rattle.std.proofs.Common.{nat_lt, nat_eq, List, [], ◌∷◌, ◌++◌, length, map, slice_get, Option, Some, None, refl, sym}
+use Rattle.std.proofs.Common.{◌∙◌, ap, arith}
+use Rattle.std.specs.List.{IsDistinct, AllByRecursion}
+use Rattle.std.specs.Cmp.Lexicographic.{pointwise}
+use Rattle.std.proofs.lemmas.Bool.{ltb-false}
+use Rattle.std.proofs.lemmas.Cmp.{nat_list_eq_equiv}
+use Rattle.cw_base.specs.declared.category.Cat.{Cat}
+use Rattle.cw_base.specs.declared.category.Cat.TheVariants.{End, Exp}
+use Rattle.cw_names.specs.declared.entry.EntryKind.{EntryKind}
+use Rattle.cw_names.specs.declared.entry.EntryKind.TheVariants as kinds
+use Rattle.cw_names.specs.Names.{Entry, same_kind, is_entry, place_of, with_entry, AreDistinct}
+use Rattle.cw_translator.specs.Translating.{with_categories}
+use Rattle.cw_log_laws.specs.LoggedTexts.{IsKept, IsLater}
+
+-- ## Places
+
+kept-same : (o : Option Entry) → IsKept o o
+kept-same None = tt
+kept-same (Some e) = (refl, refl)
+
+kept-on : (o p q : Option Entry) → IsKept o p → IsKept p q → IsKept o q
+kept-on None p q h g = tt
+kept-on (Some e) None q h g = absurd h
+kept-on (Some e) (Some d) None h g = absurd g
+kept-on (Some e) (Some d) (Some c) h g = (g.0 ∙ h.0, g.1 ∙ h.1)
+
+pub later-same : (names : List Entry) → IsLater names names
+later-same names k = kept-same (slice_get names k)
+
+pub later-on : (names next last : List Entry) → IsLater names next → IsLater next last → IsLater names last
+later-on names next last h g k = kept-on (slice_get names k) (slice_get next k) (slice_get last k) (h k) (g k)
+
+later-more : (es more : List Entry) → IsLater es (es ++ more)
+later-more [] more k = tt
+later-more (e ∷ es) more zero = (refl, refl)
+later-more (e ∷ es) more (suc k) = later-more es more k
+
+pub later-entry : (kind : EntryKind) (text : List ℕ) (es : List Entry) → IsLater es (with_entry kind text es)
+later-entry kind text es = by (nat_lt (place_of kind text es) (length es))
+  where
+    by : (b : Bool) → IsLater es (if b then es else es ++ record { kind = kind; text = text; category = Exp } ∷ [])
+    by true = later-same es
+    by false = later-more es (record { kind = kind; text = text; category = Exp } ∷ [])
+
+pub later-categories : (cats : List Cat) (es : List Entry) → IsLater es (with_categories cats es)
+later-categories [] es k = kept-same (slice_get es k)
+later-categories (c ∷ cats) [] k = tt
+later-categories (c ∷ cats) (e ∷ es) zero = (refl, refl)
+later-categories (c ∷ cats) (e ∷ es) (suc k) = later-categories cats es k
+
+-- ## No two are alike
+
+kind-flips : (k l : EntryKind) → same_kind k l ≡ same_kind l k
+kind-flips kinds.Ident kinds.Ident = refl
+kind-flips kinds.Roman kinds.Roman = refl
+kind-flips kinds.Typewriter kinds.Typewriter = refl
+kind-flips kinds.User kinds.User = refl
+kind-flips _ _ = refl
+
+text-flips : (t u : List ℕ) → pointwise nat_eq t u ≡ pointwise nat_eq u t
+text-flips t u = nat_list_eq_equiv.symm t u
+
+flips : (e d : Entry) → is_entry e.kind e.text d ≡ is_entry d.kind d.text e
+flips e d = ap (λ b. b && pointwise nat_eq e.text d.text) (kind-flips e.kind d.kind)
+    ∙ ap (λ b. same_kind d.kind e.kind && b) (text-flips e.text d.text)
+
+abbrev AreOthers : Entry → List Entry → Type 0
+AreOthers e es = AllByRecursion (λ d. is_entry e.kind e.text d ≡ false) es
+
+others-more : (e n : Entry) (es : List Entry) → AreOthers e es → is_entry e.kind e.text n ≡ false
+    → AreOthers e (es ++ n ∷ [])
+others-more e n [] all h = (h, tt)
+others-more e n (d ∷ es) all h = (all.0, others-more e n es all.1 h)
+
+distinct-more : (n : Entry) (es : List Entry) → AreDistinct es → AreOthers n es → AreDistinct (es ++ n ∷ [])
+unfolding IsDistinct
+distinct-more n [] d all = (tt, tt)
+distinct-more n (e ∷ es) d all =
+    (others-more e n es d.0 (flips e n ∙ all.0), distinct-more n es d.1 all.1)
+
+none-there : (kind : EntryKind) (text : List ℕ) (category : Cat) (es : List Entry) → length es ≤ place_of kind text es
+    → AreOthers (record { kind = kind; text = text; category = category }) es
+none-there kind text category [] h = tt
+none-there kind text category (e ∷ es) h =
+    by (is_entry kind text e) refl h (λ g. none-there kind text category es g)
+  where
+    by : (b : Bool) → is_entry kind text e ≡ b → suc (length es) ≤ cond (not b) (1 + place_of kind text es) 0
+        → (length es ≤ place_of kind text es
+        → AreOthers (record { kind = kind; text = text; category = category }) es)
+        → AreOthers (record { kind = kind; text = text; category = category }) (e ∷ es)
+    by true i h rest = absurd (omega (arith, h))
+    by false i h rest = (i, rest (omega (arith, h)))
+
+pub distinct-entry : (kind : EntryKind) (text : List ℕ) (es : List Entry) → AreDistinct es
+    → AreDistinct (with_entry kind text es)
+distinct-entry kind text es d = by (nat_lt (place_of kind text es) (length es)) refl
+  where
+    by : (b : Bool) → nat_lt (place_of kind text es) (length es) ≡ b
+        → AreDistinct (if b then es else es ++ record { kind = kind; text = text; category = Exp } ∷ [])
+    by true h = d
+    by false h = distinct-more (record { kind = kind; text = text; category = Exp }) es d
+        (none-there kind text Exp es (ltb-false _ _ h))
+
+others-categories : (e : Entry) (cats : List Cat) (es : List Entry) → AreOthers e es
+    → AreOthers e (with_categories cats es)
+others-categories e [] es all = all
+others-categories e (c ∷ cats) [] all = tt
+others-categories e (c ∷ cats) (d ∷ es) all = (all.0, others-categories e cats es all.1)
+
+pub distinct-categories : (cats : List Cat) (es : List Entry) → AreDistinct es → AreDistinct (with_categories cats es)
+unfolding IsDistinct
+distinct-categories [] es d = d
+distinct-categories (c ∷ cats) [] d = tt
+distinct-categories (c ∷ cats) (e ∷ es) d =
+    (others-categories e cats es d.0, distinct-categories cats es d.1)
+
+-- ## Categories
+
+abbrev pub AreReal : List Cat → Type 0
+AreReal [] = Unit {0}
+AreReal (c ∷ cats) = (c ≢ End) × AreReal cats
+
+abbrev pub HaveCats : List Entry → Type 0
+HaveCats [] = Unit {0}
+HaveCats (e ∷ es) = (e.category ≢ End) × HaveCats es
+
+have-more : (n : Entry) (es : List Entry) → HaveCats es → n.category ≢ End → HaveCats (es ++ n ∷ [])
+have-more n [] all h = (h, tt)
+have-more n (e ∷ es) all h = (all.0, have-more n es all.1 h)
+
+pub have-entry : (kind : EntryKind) (text : List ℕ) (es : List Entry) → HaveCats es
+    → HaveCats (with_entry kind text es)
+have-entry kind text es all = by (nat_lt (place_of kind text es) (length es))
+  where
+    by : (b : Bool) → HaveCats (if b then es else es ++ record { kind = kind; text = text; category = Exp } ∷ [])
+    by true = all
+    by false = have-more (record { kind = kind; text = text; category = Exp }) es all (λ e. absurd cc)
+
+pub have-categories : (cats : List Cat) (es : List Entry) → AreReal cats → HaveCats es
+    → HaveCats (with_categories cats es)
+have-categories [] es real all = all
+have-categories (c ∷ cats) [] real all = tt
+have-categories (c ∷ cats) (e ∷ es) real all = (real.0, have-categories cats es real.1 all.1)
+
+pub cats-real : (es : List Entry) → HaveCats es → AreReal (map (λ e. e.category) es)
+cats-real [] all = tt
+cats-real (e ∷ es) all = (all.0, cats-real es all.1)

@@ -1,0 +1,157 @@
+-- The scraps of single tokens, and the tokens of heads, are written with words of the names behind them.
+use Rattle.std.proofs.Common.{◌≡◌, ◌≢◌, ℕ, zero, suc, Bool, true, false, if◌then◌else◌, Option, Some, None, List, [], ◌∷◌}
+use Rattle.std.proofs.Common.{◌++◌, slice_get, unwrap_or, refl, sym, ap, ◌∙◌, subst}
+use Rattle.std.specs.Prelude.{nat_eq, option_map}
+use Rattle.std.specs.Cmp.Lexicographic.{pointwise}
+use Rattle.cw_base.specs.declared.category.Cat.{Cat}
+use Rattle.cw_base.specs.declared.category.Cat.TheVariants.{End, Exp}
+use Rattle.cw_rules.specs.declared.codes.Code.{Code}
+use Rattle.cw_rules.specs.declared.codes.Code.TheVariants as code
+use Rattle.cw_rules.specs.declared.signs.Sign.{Sign}
+use Rattle.cw_rules.specs.declared.signs.Sign.TheVariants as sign
+use Rattle.cw_rules.specs.declared.tokens.TokKind.{TokKind}
+use Rattle.cw_rules.specs.declared.tokens.TokKind.TheVariants as kind
+use Rattle.cw_names.specs.declared.entry.EntryKind.TheVariants.{Ident as ident_kind}
+use Rattle.cw_names.specs.declared.entry.NameId.{NameId}
+use Rattle.cw_names.specs.Names.{Entry, AreDistinct, place_of, with_entry}
+use Rattle.cw_names.specs.Words.{category_among, hash_line_category, hash_line_words}
+use Rattle.cw_trees.specs.Tree.{bare_name}
+use Rattle.cw_tokens.specs.declared.token.Token.{Token}
+use Rattle.cw_tokens.specs.declared.token.Token.TheVariants as token
+use Rattle.cw_tokens.specs.Shapes.{tree_in}
+use Rattle.cw_scraps.specs.Leaves.{LeafForm, code_form, form_of, names_with, own_cat, sign_cat, token_form, word_cat}
+use Rattle.cw_scraps.specs.Leaves.{word_form}
+use Rattle.cw_logtext.specs.LogText.{is_identifier}
+use Rattle.cw_logtext.proofs.Adding.{IsNamed, entry-there}
+use Rattle.cw_translator.specs.Translating.{leaf_scrap, form_tokens}
+use Rattle.cw_log_laws.specs.LoggedTexts.{IsLater}
+use Rattle.cw_log_laws.proofs.LaterNames.{HaveCats, distinct-entry, have-entry, later-entry, later-same}
+use Rattle.cw_log_laws.proofs.SpeltTokens.{IsSpelt}
+use Rattle.cw_log_laws.proofs.WrittenScraps.{IsLogged, IsWord, IsWordEntry, IsWritten}
+
+-- ## Names behind a token
+
+abbrev pub AreNamesBehind : List Entry → List Entry → Type 0
+AreNamesBehind names new = IsLater names new × (AreDistinct names → AreDistinct new) × (HaveCats names → HaveCats new)
+
+pub same-behind : (names : List Entry) → AreNamesBehind names names
+same-behind names = (later-same names, λ d. d, λ h. h)
+
+pub names-behind : (k : TokKind) (text : List ℕ) (names : List Entry) → AreNamesBehind names (names_with k text names)
+names-behind kind.Identifier text names =
+    (later-entry ident_kind text names, λ d. distinct-entry ident_kind text names d,
+    λ h. have-entry ident_kind text names h)
+names-behind _ text names = same-behind names
+
+-- ## Categories
+
+among-real : (words : List Entry) (word : List ℕ) (other : Cat) → HaveCats words → other ≢ End
+    → unwrap_or (category_among words word) other ≢ End
+among-real [] word other all h = h
+among-real (e ∷ words) word other all h = by (pointwise nat_eq word e.text) (among-real words word other all.1 h)
+  where
+    by : (b : Bool) → unwrap_or (category_among words word) other ≢ End
+        → unwrap_or (if b then Some e.category else category_among words word) other ≢ End
+    by true later = all.0
+    by false later = later
+
+hash-words : HaveCats hash_line_words
+hash-words =
+    (λ e. absurd cc, (λ e. absurd cc, (λ e. absurd cc, (λ e. absurd cc, (λ e. absurd cc,
+    (λ e. absurd cc, (λ e. absurd cc, (λ e. absurd cc, (λ e. absurd cc, (λ e. absurd cc, (λ e. absurd cc, tt)))))))))))
+
+own-real : (names : List Entry) (k : ℕ) → HaveCats names → own_cat names k ≢ End
+own-real [] k all = λ e. absurd cc
+own-real (e ∷ names) zero all = all.0
+own-real (e ∷ names) (suc k) all = own-real names k all.1
+
+word-real : (headed : Bool) (text : List ℕ) (own : Cat) → own ≢ End → word_cat headed text own ≢ End
+word-real true text own h = among-real hash_line_words text own hash-words h
+word-real false text own h = h
+
+-- ## Forms
+
+-- What is known of a form: its tree is written with words of the names, and its category isn't End.
+abbrev pub IsForm : List Entry → LeafForm → Type 0
+IsForm names form = IsLogged names (leaf_scrap form)
+
+abbrev pub MayBeForm : List Entry → Option LeafForm → Type 0
+MayBeForm names None = Unit {0}
+MayBeForm names (Some form) = IsForm names form
+
+named-word : (text : List ℕ) (o : Option Entry) → is_identifier text ≡ true → IsNamed text o → IsWordEntry o
+named-word text None h n = n
+named-word text (Some e) h n = (n.0, ap is_identifier n.1 ∙ h)
+
+word-there : (text : List ℕ) (names : List Entry) → is_identifier text ≡ true
+    → IsWord (with_entry ident_kind text names) (place_of ident_kind text names)
+word-there text names h =
+    named-word text (slice_get (with_entry ident_kind text names) (place_of ident_kind text names)) h
+    (entry-there text names)
+
+word-logged : (names : List Entry) (c : Cat) (id : NameId) (number : ℕ) → IsWord names id.index → c ≢ End
+    → IsForm names (word_form c id number)
+word-logged names Exp id number w h = record { written = (w, tt); real = λ e. absurd cc; bare = refl }
+word-logged names End id number w h = absurd (h refl)
+word-logged names _ id number w h = record { written = (tt, tt); real = λ e. absurd cc; bare = tt }
+
+sign-real : (s : Sign) → sign_cat s ≢ End
+sign-real sign.Slash = λ e. absurd cc
+sign-real _ = λ e. absurd cc
+
+code-logged : (names : List Entry) (c : Code) (number : ℕ) → MayBeForm names (code_form c number)
+code-logged names code.TexBox number = record { written = (tt, tt); real = λ e. absurd cc; bare = tt }
+code-logged names code.Verbatim number = record { written = (tt, tt); real = λ e. absurd cc; bare = tt }
+code-logged names code.Quote number = record { written = (tt, tt); real = λ e. absurd cc; bare = tt }
+code-logged names code.Join number = record { written = (tt, tt); real = λ e. absurd cc; bare = tt }
+code-logged names code.ThinSpace number = record { written = (tt, tt); real = λ e. absurd cc; bare = tt }
+code-logged names code.LineBreak number = record { written = (tt, tt); real = λ e. absurd cc; bare = tt }
+code-logged names code.BigBreak number = record { written = (tt, tt); real = λ e. absurd cc; bare = tt }
+code-logged names code.OptionalBreak number = record { written = (tt, tt); real = λ e. absurd cc; bare = tt }
+code-logged names code.NoBreak number =
+    record { written = (tt, (tt, (tt, (tt, (tt, tt))))); real = λ e. absurd cc; bare = tt }
+code-logged names code.HeaderFile number = record { written = (tt, (tt, (tt, tt))); real = λ e. absurd cc; bare = tt }
+code-logged names code.InvisibleSemicolon number = record { written = tt; real = λ e. absurd cc; bare = tt }
+code-logged names code.BeginArgument number = record { written = tt; real = λ e. absurd cc; bare = tt }
+code-logged names code.EndArgument number = record { written = tt; real = λ e. absurd cc; bare = tt }
+code-logged names _ number = tt
+
+form-logged : (names : List Entry) (k : TokKind) (number : ℕ) → MayBeForm names (form_of k number)
+form-logged names kind.Constant number = record { written = (tt, tt); real = λ e. absurd cc; bare = tt }
+form-logged names kind.Quoted number = record { written = (tt, tt); real = λ e. absurd cc; bare = tt }
+form-logged names kind.IncludeName number = record { written = (tt, tt); real = λ e. absurd cc; bare = tt }
+form-logged names kind.OtherByte number = record { written = (tt, tt); real = λ e. absurd cc; bare = tt }
+form-logged names (kind.Sign s) number = record { written = (tt, tt); real = sign-real s; bare = tt }
+form-logged names kind.HashLine number = record { written = (tt, (tt, tt)); real = λ e. absurd cc; bare = tt }
+form-logged names kind.HashLineEnd number = record { written = (tt, tt); real = λ e. absurd cc; bare = tt }
+form-logged names (kind.Code c) number = code-logged names c number
+form-logged names _ number = tt
+
+-- a token, over the names behind it
+pub token-logged : (k : TokKind) (text : List ℕ) (hash_line : Bool) (number : ℕ) (names : List Entry) → IsSpelt k text
+    → HaveCats names → MayBeForm (names_with k text names) (token_form k text hash_line number names)
+token-logged kind.Identifier text hash_line number names h cats =
+    word-logged (with_entry ident_kind text names) (word_cat hash_line text
+    (own_cat (with_entry ident_kind text names) (place_of ident_kind text names)))
+    (record { index = place_of ident_kind text names }) number (word-there text names h)
+    (word-real hash_line text _ (own-real (with_entry ident_kind text names) (place_of ident_kind text names)
+    (have-entry ident_kind text names cats)))
+token-logged (kind.Code c) text hash_line number names h cats = code-logged names c number
+token-logged k text hash_line number names h cats = form-logged names k number
+
+-- ## Lists of tokens
+
+pub tokens-append : (names : List Entry) (xs ys : List Token) → IsWritten names (tree_in [] xs)
+    → IsWritten names (tree_in [] ys) → IsWritten names (tree_in [] (xs ++ ys))
+tokens-append names [] ys h g = g
+tokens-append names (token.Source number mode ∷ xs) ys h g = (h.0, tokens-append names xs ys h.1 g)
+tokens-append names (token.Ident name number ∷ xs) ys h g = (h.0, tokens-append names xs ys h.1 g)
+tokens-append names (token.Reserved name number cat ∷ xs) ys h g = (h.0, tokens-append names xs ys h.1 g)
+tokens-append names (token.Control control ∷ xs) ys h g = (h.0, tokens-append names xs ys h.1 g)
+tokens-append names (token.Inner list ∷ xs) ys h g = tokens-append names xs ys h g
+tokens-append names (token.«List» list ∷ xs) ys h g = (h.0, tokens-append names xs ys h.1 g)
+
+pub form-tokens : (names : List Entry) (o : Option LeafForm) → MayBeForm names o
+    → IsWritten names (tree_in [] (form_tokens o))
+form-tokens names None h = tt
+form-tokens names (Some form) h = h.written

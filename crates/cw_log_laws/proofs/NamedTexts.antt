@@ -1,0 +1,306 @@
+-- What section names and heads make, and whole texts.
+use Rattle.std.proofs.Common.{◌≡◌, ◌≢◌, ℕ, zero, suc, ◌+◌, ◌≤◌, Bool, true, false, Option, Some, None, List, [], ◌∷◌, ◌++◌}
+use Rattle.std.proofs.Common.{refl, sym, ap, ◌∙◌, subst, arith}
+use Rattle.std.specs.List.{All}
+use Rattle.std.proofs.lemmas.List.Elements.{All-nil}
+use Rattle.cw_base.specs.declared.category.Cat.{Cat}
+use Rattle.cw_base.specs.declared.category.Cat.TheVariants as cat
+use Rattle.cw_base.specs.declared.flags.Flags.{Flags}
+use Rattle.cw_base.specs.declared.mode.MathMode.{MathMode}
+use Rattle.cw_base.specs.declared.mode.MathMode.TheVariants.{Text, Maybe}
+use Rattle.cw_base.specs.declared.span.Span.{Span}
+use Rattle.cw_rules.specs.Answers.{Answer, Seen, is_head_sign}
+use Rattle.cw_rules.specs.declared.codes.Code.TheVariants as code
+use Rattle.cw_rules.specs.declared.tokens.TokKind.{TokKind}
+use Rattle.cw_rules.specs.declared.tokens.TokKind.TheVariants as kind
+use Rattle.cw_lex.specs.declared.heads.Wanted.{Wanted}
+use Rattle.cw_lex.specs.declared.heads.Wanted.TheVariants as wants
+use Rattle.cw_lex.specs.Heads.{Head, Headless, Macro, Format, Silent, Named, Headed, headed, headed_by, head_behind}
+use Rattle.cw_lex.specs.Heads.{Words, format_headed, head_words, headless, macro_headed, named_headed, no_word, silent_headed}
+use Rattle.cw_lex.specs.Heads.{word_before}
+use Rattle.cw_lex.specs.Nest.{Nest, End, Leaf, Group, nest}
+use Rattle.cw_names.specs.Names.{Entry, AreDistinct}
+use Rattle.cw_trees.specs.declared.Control.TheVariants as control
+use Rattle.cw_trees.specs.Joining.{Scrap}
+use Rattle.cw_trees.specs.Tree.{Tree, Empty, Then, Inner, Source, Sign, bare_name}
+use Rattle.cw_table.specs.Rewriting.{State}
+use Rattle.cw_tokens.specs.declared.token.Token.{Token}
+use Rattle.cw_tokens.specs.declared.token.Token.TheVariants as token
+use Rattle.cw_tokens.specs.Shapes.{tree_in}
+use Rattle.cw_scraps.specs.Leaves.{LeafForm, names_with, token_form}
+use Rattle.cw_logtext.specs.LogText.{greatest}
+use Rattle.cw_translator.specs.Translating.{Ended, Known, Made, NameTexts, Spelled, before, begin, dead, dollared, end_of}
+use Rattle.cw_translator.specs.Translating.{first_word, form_tokens, format_made, head_made, headed_made, later_words}
+use Rattle.cw_translator.specs.Translating.{leaf_of_name, leaf_scrap, macro_made, made, nothing, plain_text, scrap_of_name, sign_behind, spelled}
+use Rattle.cw_translator.specs.Translating.{texts_made, texts_named, translated, with_names, word_tokens}
+use Rattle.cw_log_laws.specs.LoggedTexts.{IsLater}
+use Rattle.cw_log_laws.proofs.CountedTokens.{nest-size, nest_size, tokens_in}
+use Rattle.cw_log_laws.proofs.LaterNames.{HaveCats, later-on, later-same}
+use Rattle.cw_log_laws.proofs.LeafScraps.{AreNamesBehind, form-tokens, names-behind, same-behind, token-logged, tokens-append}
+use Rattle.cw_log_laws.proofs.MadeTexts.{AreFine, AreWellNamed, Grows, IsSpeltNest, IsWellMade, ended-grows, grows-names}
+use Rattle.cw_log_laws.proofs.MadeTexts.{grows-none, grows-then, grows-wider, nest-spelt, plain-grows, well-before}
+use Rattle.cw_log_laws.proofs.MadeTexts.{well-made, well-nothing, well-scrap, well-wider}
+use Rattle.cw_log_laws.proofs.SpeltTokens.{AreSpelt, IsSpelt}
+use Rattle.cw_log_laws.proofs.WrittenScraps.{IsLogged, IsWritten, written-later}
+
+-- ## Section names
+
+-- Their inner texts have identifiers that are spelt so, and few tokens.
+abbrev pub ArePlainTexts : List (List Answer) → Type 0
+ArePlainTexts [] = Unit {0}
+ArePlainTexts (answers ∷ texts) = (AreSpelt answers × (tokens_in answers ≤ greatest)) × ArePlainTexts texts
+
+abbrev pub MayBePlain : Option (List (List Answer)) → Type 0
+MayBePlain None = Unit {0}
+MayBePlain (Some texts) = ArePlainTexts texts
+
+-- A tree without identifiers is written over all names.
+abbrev IsPlainTree : Tree → Type 0
+IsPlainTree tree = (names : List Entry) → IsWritten names tree
+
+texts-plain : (flags : Flags) (texts : List (List Answer)) (rest : Tree) (known : Known) → IsPlainTree rest
+    → IsPlainTree (texts_made flags texts rest known).tree
+texts-plain flags [] rest known h = h
+texts-plain flags (answers ∷ texts) rest known h =
+    λ names. (tt, texts-plain flags texts rest (plain_text flags answers known).known h names)
+
+texts-grow : (flags : Flags) (texts : List (List Answer)) (rest : Tree) (known : Known) → HaveCats known.names
+    → ArePlainTexts texts → Grows 0 known (texts_made flags texts rest known).known
+texts-grow flags [] rest known cats h = grows-none known cats
+texts-grow flags (answers ∷ texts) rest known cats h =
+    let first = (plain_text flags answers known).known in
+    let one = plain-grows flags answers known cats h.0.0 h.0.1 in
+    grows-then 0 0 known first (texts_made flags texts rest first).known one
+    (texts-grow flags texts rest first one.cats h.1)
+
+name-well : (flags : Flags) (o : Option (List (List Answer))) (c : Cat) (mode : MathMode) (rest : Tree) (number : ℕ)
+    (known : Known) → c ≢ cat.End → IsPlainTree rest → HaveCats known.names → MayBePlain o
+    → IsWellMade 1 known (texts_named flags o c mode rest number known)
+name-well flags None c mode rest number known real plain cats h =
+    well-nothing 1 known known (grows-wider 0 1 known known (omega arith) (grows-none known cats))
+name-well flags (Some texts) c mode rest number known real plain cats h =
+    let behind = Then (Sign control.NameEnd) rest in
+    let all = texts_made flags texts behind known in
+    well-scrap 1 known all.known (record {
+      cat = c;
+      tree = Then (Source number Maybe) all.tree;
+      left = mode;
+      right = mode;
+    }) (omega arith)
+    (record {
+      written = (tt, texts-plain flags texts behind known (λ names. (tt, plain names)) all.known.names);
+      real = real;
+      bare = tt;
+    })
+    (grows-wider 0 1 known all.known (omega arith) (texts-grow flags texts behind known cats h))
+
+abbrev pub ArePlainNames : NameTexts → Type 0
+ArePlainNames named = (number : ℕ) → MayBePlain (named number)
+
+names-well : (flags : Flags) (named : NameTexts) → ArePlainNames named → AreWellNamed (leaf_of_name flags named)
+names-well flags named h number known cats =
+    name-well flags (named number) cat.SectionScrap Maybe Empty number known (λ e. absurd cc) (λ names. tt) cats
+    (h number)
+
+-- ## Words of heads
+
+abbrev AreSpeltWords : List Seen → Type 0
+AreSpeltWords [] = Unit {0}
+AreSpeltWords (word ∷ words) = IsSpelt word.kind word.text × AreSpeltWords words
+
+record IsWellSpelled (names : List Entry) (s : Spelled) : Type 0 where
+  behind : AreNamesBehind names s.names
+  cats : HaveCats s.names
+  written : IsWritten s.names (tree_in [] s.tokens)
+
+behind-on : (a b c : List Entry) → AreNamesBehind a b → AreNamesBehind b c → AreNamesBehind a c
+behind-on a b c g h = (later-on a b c g.0 h.0, λ d. h.1 (g.1 d), λ k. h.2 (g.2 k))
+
+word-written : (word : Seen) (names : List Entry) → IsSpelt word.kind word.text → HaveCats names
+    → IsWritten (names_with word.kind word.text names) (tree_in [] (word_tokens word names))
+word-written word names h cats =
+    form-tokens (names_with word.kind word.text names)
+    (token_form word.kind word.text word.hash_line word.span.start names)
+    (token-logged word.kind word.text word.hash_line word.span.start names h cats)
+
+well-spelled : (words : List Seen) (names : List Entry) → HaveCats names → AreSpeltWords words
+    → IsWellSpelled names (spelled words names)
+well-spelled [] names cats h = record { behind = same-behind names; cats = cats; written = tt }
+well-spelled (word ∷ words) names cats h =
+    let next = names_with word.kind word.text names in
+    let one = names-behind word.kind word.text names in
+    let rest = well-spelled words next (one.2 cats) h.1 in
+    record {
+      behind = behind-on names next (spelled words next).names one rest.behind;
+      cats = rest.cats;
+      written = tokens-append (spelled words next).names (word_tokens word names) (spelled words next).tokens
+          (written-later next (spelled words next).names rest.behind.0 (tree_in [] (word_tokens word names))
+          (word-written word names h.0 cats)) rest.written;
+    }
+
+-- ## Heads
+
+dead-logged : (names : List Entry) (number : ℕ) (tokens : List Token) → IsWritten names (tree_in [] tokens)
+    → IsLogged names (leaf_scrap (dead number tokens))
+dead-logged names number tokens h = record { written = (tt, (tt, h)); real = λ e. absurd cc; bare = tt }
+
+dollared-written : (names : List Entry) (tokens : List Token) → IsWritten names (tree_in [] tokens)
+    → IsWritten names (tree_in [] (dollared tokens))
+dollared-written names [] h = tt
+dollared-written names (first ∷ tokens) h =
+    (tt, tokens-append names (first ∷ tokens) (token.Control control.Dollar ∷ []) h (tt, tt))
+
+module _ (number : ℕ) (known : Known) where
+  words-grow : (words : Spelled) → HaveCats known.names → IsWellSpelled known.names words
+      → Grows 1 known (with_names words.names known)
+  words-grow words cats s =
+      grows-wider 0 1 known (with_names words.names known) (omega arith) (grows-names known words.names cats s.behind)
+
+  macro-well : (words : Spelled) → HaveCats known.names → IsWellSpelled known.names words
+      → IsWellMade 1 known (macro_made number words known)
+  macro-well words cats s =
+      let behind = token.Control control.OptionalBreak ∷ [] in
+      well-scrap 1 known (with_names words.names known) (leaf_scrap (dead number (dollared words.tokens ++ behind)))
+      (omega arith) (dead-logged words.names number (dollared words.tokens ++ behind)
+      (tokens-append words.names (dollared words.tokens) behind
+      (dollared-written words.names words.tokens s.written) (tt, tt)))
+      (words-grow words cats s)
+
+  format-well : (first second : Spelled) → HaveCats known.names → IsWellSpelled known.names first
+      → IsWellSpelled first.names second → IsWellMade 1 known (format_made number first second known)
+  format-well first second cats s t =
+      let behind = token.Control control.OptionalBreak ∷ second.tokens in
+      well-scrap 1 known (with_names second.names known) (leaf_scrap (dead number (first.tokens ++ behind)))
+      (omega arith) (dead-logged second.names number (first.tokens ++ behind)
+      (tokens-append second.names first.tokens behind
+      (written-later first.names second.names t.behind.0 (tree_in [] first.tokens) s.written) (tt, t.written)))
+      (grows-wider 0 1 known (with_names second.names known) (omega arith)
+      (grows-names known second.names cats (behind-on known.names first.names second.names s.behind t.behind)))
+
+first-words : (words : List Seen) → AreSpeltWords words → AreSpeltWords (first_word words)
+first-words [] h = tt
+first-words (word ∷ words) h = (h.0, tt)
+
+other-words : (words : List Seen) → AreSpeltWords words → AreSpeltWords (later_words words)
+other-words [] h = tt
+other-words (word ∷ words) h = h.1
+
+-- the words of a head
+abbrev IsSpeltHead : Head → Type 0
+IsSpeltHead (Macro number words) = AreSpeltWords words
+IsSpeltHead (Format number words) = AreSpeltWords words
+IsSpeltHead (Silent words) = AreSpeltWords words
+IsSpeltHead head = Unit {0}
+
+-- a head makes at most one scrap
+abbrev head_size : Head → ℕ
+head_size Headless = 0
+head_size head = 1
+
+head-well : (flags : Flags) (named : NameTexts) → ArePlainNames named → (head : Head) (known : Known)
+    → HaveCats known.names → IsSpeltHead head → IsWellMade (head_size head) known (head_made flags named head known)
+head-well flags named plain Headless known cats h = well-nothing 0 known known (grows-none known cats)
+head-well flags named plain (Macro number words) known cats h =
+    macro-well number known (spelled words known.names) cats (well-spelled words known.names cats h)
+head-well flags named plain (Format number words) known cats h =
+    let first = spelled (first_word words) known.names in
+    let s = well-spelled (first_word words) known.names cats (first-words words h) in
+    format-well number known first (spelled (later_words words) first.names) cats s
+    (well-spelled (later_words words) first.names s.cats (other-words words h))
+head-well flags named plain (Silent words) known cats h =
+    let all = spelled words known.names in
+    well-nothing 1 known (with_names all.names known)
+    (words-grow 0 known all cats (well-spelled words known.names cats h))
+head-well flags named plain (Named number sign) known cats h =
+    name-well flags (named number) cat.Dead Text (sign_behind sign) number known (λ e. absurd cc)
+    (λ names. (tt, (tt, tt))) cats (plain number)
+
+-- ## What a head has of a nest
+
+record FitsIn (n : Nest) (h : Headed) : Type 0 where
+  words : IsSpeltHead h.head
+  rest : IsSpeltNest h.rest
+  few : head_size h.head + nest_size h.rest ≤ nest_size n
+
+record AreWordsOf (n : Nest) (w : Words) : Type 0 where
+  words : AreSpeltWords w.words
+  rest : IsSpeltNest w.rest
+  few : nest_size w.rest ≤ nest_size n
+
+words-fit : (wanted : Wanted) (n : Nest) → IsSpeltNest n → AreWordsOf n (head_words wanted n)
+words-fit wanted End h = record { words = tt; rest = tt; few = omega arith }
+words-fit wanted (Group t inner rest) h = record { words = tt; rest = h; few = omega arith }
+words-fit wanted (Leaf t rest) h =
+    by (head_behind wanted t.kind t.span) (λ next. words-fit next rest h.1)
+  where
+    by : (o : Option Wanted) → ((next : Wanted) → AreWordsOf rest (head_words next rest))
+        → AreWordsOf (Leaf t rest) (elim o as (λ o. Words) [
+      | Some next ↦ word_before t (head_words next rest)
+      | None ↦ no_word (Leaf t rest)
+    ])
+    by None later = record { words = tt; rest = h; few = omega arith }
+    by (Some next) later =
+        let l = later next in
+        record { words = (h.0, l.words); rest = l.rest; few = omega (arith, l.few) }
+
+headless-fits : (n : Nest) → IsSpeltNest n → FitsIn n (headless n)
+headless-fits n h = record { words = tt; rest = h; few = omega arith }
+
+named-fits : (name : Seen) (n : Nest) → IsSpelt name.kind name.text → IsSpeltNest n
+    → FitsIn (Leaf name n) (named_headed name n)
+named-fits name End g h = headless-fits (Leaf name End) (g, h)
+named-fits name (Group t inner rest) g h = headless-fits (Leaf name (Group t inner rest)) (g, h)
+named-fits name (Leaf t rest) g h = by (is_head_sign t.kind)
+  where
+    by : (b : Bool) → FitsIn (Leaf name (Leaf t rest)) (elim b as (λ b. Headed) [
+      | true ↦ record { head = Named name.span.start t.span.start; rest = rest }
+      | false ↦ headless (Leaf name (Leaf t rest))
+    ])
+    by true = record { words = tt; rest = h.1; few = omega arith }
+    by false = headless-fits (Leaf name (Leaf t rest)) (g, h)
+
+headed-by : (k : TokKind) (t : Seen) (n : Nest) → IsSpelt t.kind t.text → IsSpeltNest n
+    → FitsIn (Leaf t n) (headed_by k t n)
+headed-by (kind.Code code.Define) t n g h =
+    let w = words-fit wants.Macro n h in
+    record { words = w.words; rest = w.rest; few = omega (arith, w.few) }
+headed-by (kind.Code code.Format) t n g h =
+    let w = words-fit (wants.First false) n h in
+    record { words = w.words; rest = w.rest; few = omega (arith, w.few) }
+headed-by (kind.Code code.SilentFormat) t n g h =
+    let w = words-fit (wants.First true) n h in
+    record { words = w.words; rest = w.rest; few = omega (arith, w.few) }
+headed-by (kind.Code code.SectionName) t n g h = named-fits t n g h
+headed-by (kind.Code code.FileName) t n g h = named-fits t n g h
+headed-by k t n g h = headless-fits (Leaf t n) (g, h)
+
+headed-fits : (n : Nest) → IsSpeltNest n → FitsIn n (headed n)
+headed-fits End h = headless-fits End h
+headed-fits (Group t inner rest) h = headless-fits (Group t inner rest) h
+headed-fits (Leaf t rest) h = headed-by t.kind t rest h.0 h.1
+
+-- ## Whole texts
+
+headed-well : (flags : Flags) (named : NameTexts) → ArePlainNames named → (n : Nest) (known : Known)
+    → HaveCats known.names → IsSpeltNest n
+    → IsWellMade (nest_size n) known (headed_made flags named (headed n) known)
+headed-well flags named plain n known cats h =
+    let fits = headed-fits n h in
+    let first = head_made flags named (headed n).head known in
+    let rest = made flags (leaf_of_name flags named) (headed n).rest in
+    well-wider (head_size (headed n).head + nest_size (headed n).rest) (nest_size n) known (before first rest) fits.few
+    (well-before (head_size (headed n).head) (nest_size (headed n).rest) known first rest
+    (head-well flags named plain (headed n).head known cats fits.words)
+    (λ cats. well-made flags (leaf_of_name flags named) (names-well flags named plain) (headed n).rest first.known cats
+    fits.rest))
+
+pub text-grows : (flags : Flags) (named : NameTexts) (answers : List Answer) (names : List Entry) (marks : List ℕ)
+    → ArePlainNames named → HaveCats names → AreSpelt answers
+    → Grows (tokens_in answers) (begin names marks) (translated flags named answers names marks).known
+unfolding translated
+text-grows flags named answers names marks plain cats h =
+    let n = nest answers in
+    let all = headed_made flags named (headed n) (begin names marks) in
+    grows-wider (nest_size n) (tokens_in answers) (begin names marks) (end_of flags all).known (nest-size answers)
+    (ended-grows flags (nest_size n) (begin names marks) all
+    (headed-well flags named plain n (begin names marks) cats (nest-spelt answers h)))

@@ -1,0 +1,36 @@
+-- Productions give names no category but that of types.
+use Rattle.std.proofs.Common.{◌≡◌, ◌≢◌, ℕ, zero, suc, List, [], ◌∷◌, set, sym, subst, refl}
+use Rattle.cw_base.specs.declared.category.Cat.{Cat}
+use Rattle.cw_base.specs.declared.category.Cat.TheVariants.{End, RawInt}
+use Rattle.cw_base.specs.declared.flags.Flags.{Flags}
+use Rattle.cw_trees.specs.Tree.{Search, Found, Stopped, Nothing}
+use Rattle.cw_table.specs.declared.types.Row.{Row}
+use Rattle.cw_table.specs.Normal.{Place, Nowhere, At, next_place, steps, normal, weight}
+use Rattle.cw_table.specs.Rewriting.{State, rewrite, with_type}
+use Rattle.cw_table.proofs.Normals.{steps-none, steps-turn}
+use Rattle.cw_log_laws.proofs.LaterNames.{AreReal}
+
+set-real : (cats : List Cat) (n : ℕ) (c : Cat) → c ≢ End → AreReal cats → AreReal (set cats n c)
+set-real [] n c h all = tt
+set-real (d ∷ cats) zero c h all = (h, all.1)
+set-real (d ∷ cats) (suc n) c h all = (all.0, set-real cats n c h all.1)
+
+type-real : (s : Search) (cats : List Cat) → AreReal cats → AreReal (with_type s cats)
+type-real (Found name) cats all = set-real cats name RawInt (λ e. absurd cc) all
+type-real Stopped cats all = all
+type-real Nothing cats all = all
+
+steps-real : (rows : List Row) (flags : Flags) (n : ℕ) (st : State) → AreReal st.cats
+    → AreReal (steps rows flags n st).cats
+steps-real rows flags zero st all = all
+steps-real rows flags (suc n) st all = go (next_place rows st) refl (λ s. steps-real rows flags n s)
+  where
+    go : (p : Place) → next_place rows st ≡ p → ((s : State) → AreReal s.cats → AreReal (steps rows flags n s).cats)
+        → AreReal (steps rows flags (suc n) st).cats
+    go Nowhere e rec = subst (λ (s : State). AreReal s.cats) (sym (steps-none rows flags (suc n) st e)) all
+    go (At i r) e rec = subst (λ (s : State). AreReal s.cats) (sym (steps-turn rows flags n i r st e))
+        (rec (rewrite flags r i st) (type-real _ st.cats all))
+
+pub normal-real : (rows : List Row) (flags : Flags) (st : State) → AreReal st.cats → AreReal (normal rows flags st).cats
+unfolding normal
+normal-real rows flags st all = steps-real rows flags (weight st.scraps) st all

@@ -1,0 +1,169 @@
+-- The texts of a book: their names stay, and the blocks of all that are reduced are right.
+use Rattle.std.proofs.Common.{◌≡◌, ◌≢◌, ℕ, zero, suc, ◌+◌, ◌-◌, ◌<◌, ◌≤◌, ◌^◌, Bool, true, false, Option, Some, None, List, []}
+use Rattle.std.proofs.Common.{◌∷◌, ◌++◌, length, map, drop, slice_get, refl, sym, ap, ◌∙◌, subst, arith, length-drop}
+use Rattle.std.specs.List.{All, AllByRecursion}
+use Rattle.std.specs.Prelude.{if◌then◌else◌, ◌==◌, option_map}
+use Rattle.std.proofs.lemmas.List.Elements.{All-from_recursion, All-head, All-map, All-nil, All-tail, All-weaker}
+use Rattle.std.proofs.lemmas.List.Elements.{recursion_from_All}
+use Rattle.cw_base.specs.declared.category.Cat.TheVariants.{End}
+use Rattle.cw_base.specs.declared.flags.Flags.{Flags}
+use Rattle.cw_base.specs.declared.span.Span.{Span}
+use Rattle.cw_base.specs.Text.{bar}
+use Rattle.cw_rules.specs.Answers.{Answer}
+use Rattle.cw_rules.specs.declared.tokens.Mode.{Mode}
+use Rattle.cw_rules.specs.declared.tokens.Mode.TheVariants.{Inner}
+use Rattle.cw_lex.specs.Lexing.{tokens_of}
+use Rattle.cw_lex.specs.Nested.{until_section}
+use Rattle.cw_names.specs.Names.{Entry, AreDistinct}
+use Rattle.cw_secnames.specs.Kept.{SecName}
+use Rattle.cw_secnames.specs.Parts.{begins_with_bar, inner_parts, one_more, part_here, parts_from, size_to_bar}
+use Rattle.cw_secnames.specs.Uses.{NameUse, name_at}
+use Rattle.cw_secnames.specs.declared.kinds.SecKind.{SecKind}
+use Rattle.cw_secnames.specs.declared.kinds.SecKind.TheVariants.{Named, File}
+use Rattle.cw_table.specs.Rewriting.{State}
+use Rattle.cw_logtext.specs.Appending.{block_of}
+use Rattle.cw_logtext.specs.LogText.{greatest}
+use Rattle.cw_translator.specs.NameParts.{name_texts, parts_by_kind, parts_of_name, texts_kept, texts_of_name}
+use Rattle.cw_translator.specs.Recording.{logged}
+use Rattle.cw_translator.specs.Translating.{begin, translated}
+use Rattle.cw_log_laws.specs.LoggedTexts.{AreNames, IsInside, IsLater, IsRightBlock, TextsAreLogged, TextsKeepNames}
+use Rattle.cw_log_laws.specs.LoggedTexts.{text_ended}
+use Rattle.cw_log_laws.proofs.CountedTokens.{tokens-count, tokens_in, until-count}
+use Rattle.cw_log_laws.proofs.LaterNames.{HaveCats}
+use Rattle.cw_log_laws.proofs.MadeTexts.{AreFine, Grows, fine-later}
+use Rattle.cw_log_laws.proofs.NamedTexts.{ArePlainNames, ArePlainTexts, MayBePlain, text-grows}
+use Rattle.cw_log_laws.proofs.SpeltTokens.{AreSpelt, tokens-spelt, until-spelt}
+use Rattle.cw_log_laws.proofs.WrittenScraps.{IsFineState, block-right}
+
+-- ## The inner texts of a name
+
+-- A part ends before the bytes end, and doesn't begin with the first of them.
+abbrev ArePartsIn : ℕ → List Span → Type 0
+ArePartsIn end [] = Unit {0}
+ArePartsIn end (span ∷ spans) = ((0 < span.start) × (span.«end» ≤ end)) × ArePartsIn end spans
+
+abbrev IsSizeIn : ℕ → Option ℕ → Type 0
+IsSizeIn most None = Unit {0}
+IsSizeIn most (Some size) = size ≤ most
+
+more-size : (most : ℕ) (o : Option ℕ) → IsSizeIn most o → IsSizeIn (suc most) (one_more o)
+more-size most None h = tt
+more-size most (Some size) h = omega (arith, h)
+
+size-in : (second : Bool) (bytes : List ℕ) → IsSizeIn (length bytes) (size_to_bar second bytes)
+size-in second [] = tt
+size-in true (byte ∷ bytes) = more-size (length bytes) (size_to_bar false bytes) (size-in false bytes)
+size-in false (byte ∷ bytes) =
+    by (byte == bar) (begins_with_bar bytes) (size-in true bytes) (size-in false bytes)
+  where
+    by : (b c : Bool) → IsSizeIn (length bytes) (size_to_bar true bytes)
+        → IsSizeIn (length bytes) (size_to_bar false bytes)
+        → IsSizeIn (suc (length bytes)) (if b then (if c then one_more (size_to_bar true bytes) else Some 0)
+        else one_more (size_to_bar false bytes))
+    by true true h g = more-size (length bytes) (size_to_bar true bytes) h
+    by true false h g = omega arith
+    by false c h g = more-size (length bytes) (size_to_bar false bytes) g
+
+part-in : (o : Option ℕ) (place end most : ℕ) (rest : ℕ → List Span) → IsSizeIn most o → 0 < place
+    → place + most ≤ end → ((n : ℕ) → ArePartsIn end (rest n)) → ArePartsIn end (part_here o place rest)
+part-in None place end most rest h some fits later = tt
+part-in (Some size) place end most rest h some fits later = ((some, omega (arith, h, fits)), later (size + 1))
+
+parts-in : (bytes : List ℕ) (place taken end : ℕ) → place + length bytes ≤ end
+    → ArePartsIn end (parts_from bytes place taken)
+parts-in [] place taken end fits = tt
+parts-in (byte ∷ bytes) place (suc taken) end fits = parts-in bytes (place + 1) taken end (omega (arith, fits))
+parts-in (byte ∷ bytes) place zero end fits =
+    by (byte == bar) (λ n. parts-in bytes (place + 1) n end (omega (arith, fits)))
+  where
+    by : (b : Bool) → ((n : ℕ) → ArePartsIn end (parts_from bytes (place + 1) n))
+        → ArePartsIn end (if b then part_here (size_to_bar false bytes) (place + 1) (parts_from bytes (place + 1))
+        else parts_from bytes (place + 1) 0)
+    by true later = part-in (size_to_bar false bytes) (place + 1) end (length bytes) (parts_from bytes (place + 1))
+        (size-in false bytes) (omega arith) (omega (arith, fits)) later
+    by false later = later 0
+
+inside-few : (text : List ℕ) (start end : ℕ) (mode : Mode) → 0 < start → end ≤ 2 ^ 24
+    → tokens_in (tokens_of text start end mode) ≤ greatest
+inside-few text start end mode behind within = omega (arith, tokens-count text start end mode, behind, within)
+
+spans-plain : (text : List ℕ) (spans : List Span) → ArePartsIn (2 ^ 24) spans
+    → ArePlainTexts (map (λ span. until_section (tokens_of text span.start span.«end» Inner)) spans)
+spans-plain text [] h = tt
+spans-plain text (span ∷ spans) h =
+    let all = tokens_of text span.start span.«end» Inner in
+    (
+      (
+        until-spelt all (tokens-spelt text span.start span.«end» Inner),
+        omega (arith, until-count all, inside-few text span.start span.«end» Inner h.0.0 h.0.1),
+      ),
+      spans-plain text spans h.1,
+    )
+
+kind-plain : (k : SecKind) (text : List ℕ) → length text ≤ 2 ^ 24 → ArePlainTexts (parts_by_kind k text)
+kind-plain Named text short =
+    spans-plain text (inner_parts text) (parts-in text 0 0 (2 ^ 24) (omega (arith, short)))
+kind-plain File text short = tt
+
+abbrev IsShortName : Option SecName → Type 0
+IsShortName None = Unit {0}
+IsShortName (Some name) = length name.text ≤ 2 ^ 24
+
+short-at : (kept : List SecName) (k : ℕ) → All (λ name. length name.text ≤ 2 ^ 24) kept
+    → IsShortName (slice_get kept k)
+short-at [] k all = tt
+short-at (name ∷ kept) zero all = All-head (λ (n : SecName). length n.text ≤ 2 ^ 24) name kept all
+short-at (name ∷ kept) (suc k) all = short-at kept k (All-tail (λ (n : SecName). length n.text ≤ 2 ^ 24) name kept all)
+
+name-plain : (o : Option SecName) → IsShortName o → MayBePlain (texts_of_name o)
+name-plain None h = tt
+name-plain (Some name) h = kind-plain name.kind name.text h
+
+kept-plain : (kept : List SecName) (o : Option ℕ) → All (λ name. length name.text ≤ 2 ^ 24) kept
+    → MayBePlain (texts_kept kept o)
+kept-plain kept None all = tt
+kept-plain kept (Some k) all = name-plain (slice_get kept k) (short-at kept k all)
+
+names-plain : (kept : List SecName) (uses : List NameUse) → All (λ name. length name.text ≤ 2 ^ 24) kept
+    → ArePlainNames (name_texts kept uses)
+names-plain kept uses all number = kept-plain kept (name_at number uses) all
+
+-- ## Categories
+
+have-cats : (names : List Entry) → AllByRecursion (λ entry. entry.category ≢ End) names → HaveCats names
+have-cats [] h = tt
+have-cats (e ∷ names) h = (h.0, have-cats names h.1)
+
+cats-had : (names : List Entry) → HaveCats names → AllByRecursion (λ entry. entry.category ≢ End) names
+cats-had [] h = tt
+cats-had (e ∷ names) h = (h.0, cats-had names h.1)
+
+names-cats : (names : List Entry) → AreNames names → HaveCats names
+names-cats names h = have-cats names (recursion_from_All (λ (e : Entry). e.category ≢ End) names h.real)
+
+-- ## Whole texts
+
+pub texts-logged : TextsAreLogged
+texts-logged flags kept uses text span mode names marks later inside short are distinct l =
+    let answers = tokens_of text span.start span.«end» mode in
+    let g = text-grows flags (name_texts kept uses) answers names marks (names-plain kept uses short)
+    (names-cats names are) (tokens-spelt text span.start span.«end» mode) in
+    let ended = text_ended flags kept uses text span mode names marks in
+    let fine = fine-later ended.known.names later l ended.known.ended
+    (g.ended (inside-few text span.start span.«end» mode inside.behind inside.within) (All-nil (IsFineState names))) in
+    All-weaker (IsFineState later) (λ state. IsRightBlock flags (block_of later (logged flags state)))
+    (λ state h. block-right flags later state distinct h) ended.known.ended fine
+
+pub texts-keep-names : TextsKeepNames
+texts-keep-names flags kept uses text span mode names marks short are =
+    let answers = tokens_of text span.start span.«end» mode in
+    let g = text-grows flags (name_texts kept uses) answers names marks (names-plain kept uses short)
+    (names-cats names are) (tokens-spelt text span.start span.«end» mode) in
+    let new = (text_ended flags kept uses text span mode names marks).known.names in
+    (
+      record {
+        apart = g.distinct are.apart;
+        real = All-from_recursion (λ (e : Entry). e.category ≢ End) new (cats-had new g.cats);
+      },
+      g.later,
+    )

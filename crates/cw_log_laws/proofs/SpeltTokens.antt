@@ -1,0 +1,336 @@
+-- The text of an identifier is a letter, and letters and digits behind it, in all answers of the scanner.
+use Rattle.std.proofs.Common.{◌≡◌, ℕ, zero, suc, ◌+◌, ◌-◌, Bool, true, false, ◌&&◌, ◌||◌, not, ◌==◌, nat_lt, List, [], ◌∷◌}
+use Rattle.std.proofs.Common.{◌++◌, Option, Some, None, drop, take, refl, sym, ap, ◌∙◌, subst, arith, cond}
+use Rattle.std.specs.List.{list_all}
+use Rattle.cw_base.proofs.TestLaws.{both}
+use Rattle.cw_rules.specs.declared.bodies.Noted.{Noted}
+use Rattle.cw_rules.specs.declared.classes.Class.TheVariants as classes
+use Rattle.cw_rules.specs.declared.codes.Code.{Code}
+use Rattle.cw_rules.specs.declared.codes.Effect.{Effect}
+use Rattle.cw_rules.specs.declared.codes.Effect.TheVariants as effects
+use Rattle.cw_rules.specs.declared.parts.Part.{Part}
+use Rattle.cw_rules.specs.declared.parts.Part.TheVariants as parts
+use Rattle.cw_rules.specs.declared.parts.Opened.{Opened}
+use Rattle.cw_rules.specs.declared.parts.Start.{Start}
+use Rattle.cw_rules.specs.declared.parts.Start.TheVariants as start
+use Rattle.cw_rules.specs.declared.signs.Sign.{Sign}
+use Rattle.cw_rules.specs.declared.signs.Sign.TheVariants as signs
+use Rattle.cw_rules.specs.declared.tokens.Mode.{Mode}
+use Rattle.cw_rules.specs.declared.tokens.TokKind.{TokKind}
+use Rattle.cw_rules.specs.declared.tokens.TokKind.TheVariants as kinds
+use Rattle.cw_rules.specs.Answers.{Answer, Token, Begin, Finish, Note, Seen, Where, Cut, Found, note_answers, plain}
+use Rattle.cw_rules.specs.Bytes.{newline, quote, apostrophe, slash, star, at_sign, hash, less, backslash, comma}
+use Rattle.cw_base.specs.Text.{bar}
+use Rattle.cw_rules.specs.Bytes.{right_paren, begins, begins_by, is_letter, is_digit, is_in, run}
+use Rattle.cw_rules.specs.Codes.{code_at, begins_section, effect_in_limbo, effect_in_tex, has_control_text}
+use Rattle.cw_rules.specs.Constants.{constant}
+use Rattle.cw_rules.specs.Signs.{all_signs, longest, spelling}
+use Rattle.cw_rules.specs.Tokens.{in_hash_line, behind_include, takes_hash_line, is_space, is_deep, ends_at_bar}
+use Rattle.cw_rules.specs.Tokens.{closes_on_line, moved, passed, one, comment_end, inner_cut, all_cut, section}
+use Rattle.cw_rules.specs.Tokens.{is_quote, section_code, section_name, string, control_text, alone_size}
+use Rattle.cw_rules.specs.Tokens.{control_or_plain, line_end, sign_or_other, start_of, effect_in, code_by, in_code}
+use Rattle.cw_rules.specs.Tokens.{code_text, code_token, comment_text, limbo_by, limbo_text, tex_by, tex_text}
+use Rattle.cw_rules.specs.Tokens.{name_follows, macro_name, parameter_follows, parameter, format_name, behind_head}
+use Rattle.cw_rules.specs.Tokens.{part_text, in_text, found, is_name, include_name, piece_start, behind_white}
+use Rattle.cw_rules.specs.Tokens.{identifier}
+use Rattle.cw_rules.specs.Bodies.{one_note, note_unless, noted}
+use Rattle.cw_base.specs.declared.notes.NoteKind.{NoteKind}
+use Rattle.cw_rules.proofs.Choices.{if-both}
+use Rattle.cw_rules.proofs.Taking.{AreBare, bare-all-cut}
+use Rattle.cw_lex.specs.Lexing.{still_fresh, answers, fresh_at, last_at, beginning, tokens_of}
+use Rattle.cw_lex.specs.Nested.{is_section_answer, until_section}
+use Rattle.cw_logtext.specs.LogText.{is_identifier}
+
+-- the text of a token, where it is an identifier
+abbrev pub IsSpelt : TokKind → List ℕ → Type 0
+IsSpelt kinds.Identifier text = is_identifier text ≡ true
+IsSpelt kind text = Unit {0}
+
+abbrev pub AreSpelt : List Answer → Type 0
+AreSpelt [] = Unit {0}
+AreSpelt (Token t ∷ answers) = IsSpelt t.kind t.text × AreSpelt answers
+AreSpelt (Begin t ∷ answers) = AreSpelt answers
+AreSpelt (Finish t ∷ answers) = AreSpelt answers
+AreSpelt (Note kind place ∷ answers) = AreSpelt answers
+
+-- ## Words
+
+run-on : (b : ℕ) (bs : List ℕ) → is_in classes.Word b ≡ true → run classes.Word (b ∷ bs) ≡ suc (run classes.Word bs)
+run-on b bs h =
+    let one : 1 + run classes.Word bs ≡ suc (run classes.Word bs) = omega arith in
+    ap (λ t. elim t as (λ t. ℕ) [ true ↦ 1 + run classes.Word bs | false ↦ 0 ]) h ∙ one
+
+run-none : (b : ℕ) (bs : List ℕ) → is_in classes.Word b ≡ false → run classes.Word (b ∷ bs) ≡ 0
+run-none b bs h = ap (λ t. elim t as (λ t. ℕ) [ true ↦ 1 + run classes.Word bs | false ↦ 0 ]) h
+
+run-words : (bs : List ℕ) → list_all (is_in classes.Word) (take (run classes.Word bs) bs) ≡ true
+run-words [] = refl
+run-words (b ∷ bs) = by (is_in classes.Word b) refl (run-words bs)
+  where
+    by : (t : Bool) → is_in classes.Word b ≡ t
+        → list_all (is_in classes.Word) (take (run classes.Word bs) bs) ≡ true
+        → list_all (is_in classes.Word) (take (run classes.Word (b ∷ bs)) (b ∷ bs)) ≡ true
+    by true h rest = ap (λ n. list_all (is_in classes.Word) (take n (b ∷ bs))) (run-on b bs h)
+        ∙ both (is_in classes.Word b) _ h rest
+    by false h rest = ap (λ n. list_all (is_in classes.Word) (take n (b ∷ bs))) (run-none b bs h)
+
+letter-word : (b : ℕ) → is_letter b ≡ true → is_in classes.Word b ≡ true
+letter-word b h = ap (λ t. t || is_digit b) h
+
+word-spelt : (b : ℕ) (bs : List ℕ) → is_letter b ≡ true
+    → is_identifier (take (run classes.Word (b ∷ bs)) (b ∷ bs)) ≡ true
+word-spelt b bs h =
+    ap (λ n. is_identifier (take n (b ∷ bs))) (run-on b bs (letter-word b h))
+    ∙ both (is_letter b) _ h (run-words bs)
+
+-- ## Lists of answers
+
+append-spelt : (xs ys : List Answer) → AreSpelt xs → AreSpelt ys → AreSpelt (xs ++ ys)
+append-spelt [] ys h g = g
+append-spelt (Token t ∷ xs) ys h g = (h.0, append-spelt xs ys h.1 g)
+append-spelt (Begin t ∷ xs) ys h g = append-spelt xs ys h g
+append-spelt (Finish t ∷ xs) ys h g = append-spelt xs ys h g
+append-spelt (Note kind place ∷ xs) ys h g = append-spelt xs ys h g
+
+bare-spelt : (place : ℕ) (xs : List Answer) → AreBare place xs → AreSpelt xs
+bare-spelt place [] h = tt
+bare-spelt place (Token t ∷ xs) h = absurd h
+bare-spelt place (Begin t ∷ xs) h = absurd h
+bare-spelt place (Finish t ∷ xs) h = bare-spelt place xs h.3
+bare-spelt place (Note kind about ∷ xs) h = bare-spelt place xs h
+
+noted-spelt : (ns : List Noted) → AreSpelt (note_answers ns)
+noted-spelt [] = tt
+noted-spelt (n ∷ ns) = noted-spelt ns
+
+-- a kind of which nothing is said
+abbrev IsOther : TokKind → Type 0
+IsOther kind = (text : List ℕ) → IsSpelt kind text
+
+code-token-other : (code : Code) (place : ℕ) (bytes : List ℕ) → IsOther (code_token code place bytes).kind
+code-token-other code place bytes =
+    let P : Cut → Type 0 = λ c. IsOther c.kind in
+    if-both P (is_name code) (section_name code place bytes) _ (λ h text. tt)
+    (λ h. if-both P (is_quote code) (string (kinds.Code code) 2 apostrophe place bytes)
+    (control_or_plain code place bytes) (λ h text. tt)
+    (λ h. if-both P (has_control_text code) (control_text code place bytes)
+    (plain (kinds.Code code) (alone_size bytes)) (λ h text. tt) (λ h text. tt)))
+
+section-other : (bytes : List ℕ) → IsOther (section_code bytes).kind
+section-other bytes =
+    if-both (λ (c : Cut). IsOther c.kind) (begins star (drop 1 bytes)) _ _ (λ h text. tt) (λ h text. tt)
+
+-- ## What begins at a place
+
+abbrev Spelt : Found → Type 0
+Spelt f = AreSpelt f.answers
+
+abbrev missing : Opened → ℕ → List Noted
+missing c place = one_note (note_unless (c.braces == 0) NoteKind.MissingBrace place)
+
+line-end-spelt : (part : Part) (comments : List Opened) (last place : ℕ) → Spelt (line_end part comments last place)
+line-end-spelt part [] last place =
+    if-both Spelt (in_hash_line part && not (last == backslash)) _ _ (λ h. (tt, tt)) (λ h. tt)
+line-end-spelt part (c ∷ comments) last place =
+    let hash_line = in_hash_line part in
+    if-both Spelt c.long _ _ (λ h. tt)
+    (λ h. append-spelt (inner_cut hash_line place place ++ comment_end hash_line c place 0 [])
+    (line_end (passed part) comments last place).answers (noted-spelt (missing c place))
+    (line-end-spelt (passed part) comments last place))
+
+-- ## C text
+
+code-by-spelt : (effect : Effect) (code : Code) (w : Where) (place : ℕ) (bytes : List ℕ)
+    → Spelt (code_by effect code w place bytes)
+code-by-spelt effects.Stands code w place bytes =
+    (code-token-other code place bytes _, noted-spelt (code_token code place bytes).notes)
+code-by-spelt (effects.Drops note) code w place bytes =
+    (tt, noted-spelt (control_or_plain code place bytes).notes)
+code-by-spelt effects.Defines code w place bytes = (tt, tt)
+code-by-spelt effects.Formats code w place bytes = (tt, tt)
+code-by-spelt effects.BeginsC code w place bytes = (tt, tt)
+
+sign-spelt : (o : Option Sign) (w : Where) (place : ℕ) (bytes : List ℕ)
+    → Spelt (in_code (sign_or_other o) w place bytes)
+sign-spelt None w place bytes = (tt, tt)
+sign-spelt (Some sign) w place bytes = (tt, tt)
+
+in-code-spelt : (bar_ends : Bool) (w : Where) (place byte : ℕ) (bytes : List ℕ)
+    → Spelt (in_code (start_of bar_ends byte bytes) w place (byte ∷ bytes))
+in-code-spelt bar_ends w place byte bytes =
+    let all = byte ∷ bytes in
+    let P : Start → Type 0 = λ s. Spelt (in_code s w place all) in
+    if-both P (is_letter byte) start.Identifier _ (λ h. (word-spelt byte bytes h, tt))
+    (λ h. if-both P (nat_lt 0 (constant all)) start.Constant _ (λ h. (tt, tt))
+    (λ h. if-both P (byte == quote || byte == apostrophe) (start.Quoted byte) _
+    (λ h. (tt, noted-spelt (string kinds.Quoted 1 byte place all).notes))
+    (λ h. if-both P (byte == slash && begins star bytes) start.LongComment _ (λ h. tt)
+    (λ h. if-both P (byte == slash && begins slash bytes) start.ShortComment _ (λ h. tt)
+    (λ h. if-both P (byte == at_sign) (start.Code (code_at bytes)) _
+    (λ h. code-by-spelt (effect_in w.part w.comments (code_at bytes)) (code_at bytes) w place all)
+    (λ h. if-both P (byte == bar && (bar_ends && not (begins bar bytes))) start.EndOfInner
+    (sign_or_other (longest all_signs all)) (λ h. tt)
+    (λ h. sign-spelt (longest all_signs all) w place all)))))))
+
+code-text-spelt : (w : Where) (fresh : Bool) (last place byte : ℕ) (bytes : List ℕ)
+    → Spelt (code_text w fresh last place byte bytes)
+code-text-spelt w fresh last place byte bytes =
+    if-both Spelt (byte == newline) _ _ (λ h. line-end-spelt w.part w.comments last place)
+    (λ h. if-both Spelt (is_space w.part byte bytes) _ _ (λ h. tt)
+    (λ h. if-both Spelt (byte == hash && (takes_hash_line w.part w.comments && fresh)) _ _ (λ h. (tt, tt))
+    (λ h. if-both Spelt (byte == less && (behind_include w.part && closes_on_line bytes)) _ _
+    (λ h. (tt, noted-spelt (include_name place (byte ∷ bytes)).notes))
+    (λ h. in-code-spelt (ends_at_bar w.part w.comments) w place byte bytes))))
+
+comment-text-spelt : (part : Part) (c : Opened) (comments : List Opened) (last place byte : ℕ) (bytes : List ℕ)
+    → Spelt (comment_text part c comments last place byte bytes)
+comment-text-spelt part c comments last place byte bytes =
+    if-both Spelt (c.long && (byte == star && begins slash bytes)) _ _ (λ h. noted-spelt (missing c place))
+    (λ h. if-both Spelt (not c.long && byte == newline) _ _
+    (λ h. append-spelt (comment_end (in_hash_line part) c place 0 [])
+    (line_end part comments last place).answers (noted-spelt (missing c place))
+    (line-end-spelt part comments last place))
+    (λ h. if-both Spelt (byte == bar && not (is_deep part (c ∷ comments))) _ _ (λ h. tt)
+    (λ h. (tt, noted-spelt (noted (piece_start part comments c place) (byte ∷ bytes))))))
+
+-- ## Limbo, TeX text and heads
+
+limbo-by-spelt : (effect : Effect) (code : Code) (w : Where) (place : ℕ) (bytes : List ℕ)
+    → Spelt (limbo_by effect code w place bytes)
+limbo-by-spelt effects.Stands code w place bytes =
+    (code-token-other code place bytes _, noted-spelt (code_token code place bytes).notes)
+limbo-by-spelt effects.Formats code w place bytes = (tt, tt)
+limbo-by-spelt (effects.Drops note) code w place bytes = (tt, tt)
+limbo-by-spelt effects.Defines code w place bytes = tt
+limbo-by-spelt effects.BeginsC code w place bytes = tt
+
+limbo-text-spelt : (w : Where) (place byte : ℕ) (bytes : List ℕ) → Spelt (limbo_text w place byte bytes)
+limbo-text-spelt w place byte bytes =
+    if-both Spelt (byte == at_sign) _ _
+    (λ h. limbo-by-spelt (effect_in_limbo (code_at bytes)) (code_at bytes) w place (byte ∷ bytes)) (λ h. (tt, tt))
+
+tex-by-spelt : (effect : Effect) (code : Code) (w : Where) (place : ℕ) (bytes : List ℕ)
+    → Spelt (tex_by effect code w place bytes)
+tex-by-spelt effects.Stands code w place bytes =
+    (code-token-other code place bytes _, noted-spelt (code_token code place bytes).notes)
+tex-by-spelt (effects.Drops note) code w place bytes =
+    (tt, noted-spelt (control_or_plain code place bytes).notes)
+tex-by-spelt effects.Defines code w place bytes = (tt, tt)
+tex-by-spelt effects.Formats code w place bytes = (tt, tt)
+tex-by-spelt effects.BeginsC code w place bytes = (tt, tt)
+
+tex-text-spelt : (w : Where) (place byte : ℕ) (bytes : List ℕ) → Spelt (tex_text w place byte bytes)
+tex-text-spelt w place byte bytes =
+    if-both Spelt (byte == at_sign) _ _
+    (λ h. tex-by-spelt (effect_in_tex (code_at bytes)) (code_at bytes) w place (byte ∷ bytes))
+    (λ h. if-both Spelt (byte == bar) _ _ (λ h. tt) (λ h. (tt, tt)))
+
+-- a name that follows at a byte which isn't white begins there
+not-white : (byte : ℕ) (bytes : List ℕ) → is_in classes.White byte ≡ false → behind_white (byte ∷ bytes) ≡ byte ∷ bytes
+not-white byte bytes h = ap (λ t. drop (elim t as (λ t. ℕ) [ true ↦ 1 + run classes.White bytes | false ↦ 0 ])
+    (byte ∷ bytes)) h
+
+name-here : (byte : ℕ) (bytes : List ℕ) → name_follows (byte ∷ bytes) ≡ true → is_in classes.White byte ≡ false
+    → is_letter byte ≡ true
+name-here byte bytes follows white = ap (begins_by is_letter) (sym (not-white byte bytes white)) ∙ follows
+
+macro-name-spelt : (code : ℕ) (w : Where) (place byte : ℕ) (bytes : List ℕ) → name_follows (byte ∷ bytes) ≡ true
+    → Spelt (macro_name code w place byte bytes)
+macro-name-spelt code w place byte bytes follows =
+    if-both Spelt (is_in classes.White byte) _ _ (λ h. tt)
+    (λ h. (word-spelt byte bytes (name-here byte bytes follows h), tt))
+
+format-name-spelt : (code : ℕ) (second limbo : Bool) (w : Where) (place byte : ℕ) (bytes : List ℕ)
+    → name_follows (byte ∷ bytes) ≡ true → Spelt (format_name code second limbo w place byte bytes)
+format-name-spelt code second limbo w place byte bytes follows =
+    if-both Spelt (is_in classes.White byte) _ _ (λ h. tt)
+    (λ h. (word-spelt byte bytes (name-here byte bytes follows h), tt))
+
+parameter-spelt : (w : Where) (place byte : ℕ) (bytes : List ℕ) → Spelt (parameter w place byte bytes)
+parameter-spelt w place byte bytes =
+    if-both Spelt (is_in classes.White byte) _ _ (λ h. tt)
+    (λ h. if-both Spelt (is_letter byte) _ _ (λ h. (word-spelt byte bytes h, tt))
+    (λ h. if-both Spelt (byte == comma) _ _ (λ h. (tt, tt))
+    (λ h. if-both Spelt (byte == right_paren) _ _ (λ h. (tt, tt)) (λ h. (tt, tt)))))
+
+behind-head-spelt : (limbo : Bool) (w : Where) (fresh : Bool) (last place byte : ℕ) (bytes : List ℕ)
+    → Spelt (behind_head limbo w fresh last place byte bytes)
+behind-head-spelt true w fresh last place byte bytes = limbo-text-spelt (moved w parts.Limbo) place byte bytes
+behind-head-spelt false w fresh last place byte bytes =
+    code-text-spelt (moved w parts.Definition) fresh last place byte bytes
+
+-- ## Any text
+
+part-text-spelt : (part : Part) (w : Where) (fresh : Bool) (last place byte : ℕ) (bytes : List ℕ)
+    → Spelt (part_text part w fresh last place byte bytes)
+part-text-spelt parts.Limbo w fresh last place byte bytes = limbo-text-spelt w place byte bytes
+part-text-spelt parts.Tex w fresh last place byte bytes = tex-text-spelt w place byte bytes
+part-text-spelt parts.Head w fresh last place byte bytes =
+    if-both Spelt (is_in classes.Blank byte) _ _ (λ h. tt) (λ h. (tt, tt))
+part-text-spelt (parts.MacroName code) w fresh last place byte bytes =
+    if-both Spelt (name_follows (byte ∷ bytes)) _ _ (λ h. macro-name-spelt code w place byte bytes h)
+    (λ h. behind-head-spelt false w fresh last place byte bytes)
+part-text-spelt (parts.MacroParen code) w fresh last place byte bytes = (tt, tt)
+part-text-spelt (parts.Parameters code) w fresh last place byte bytes =
+    if-both Spelt (parameter_follows (byte ∷ bytes)) _ _ (λ h. parameter-spelt w place byte bytes)
+    (λ h. behind-head-spelt false w fresh last place byte bytes)
+part-text-spelt (parts.FormatName code second limbo) w fresh last place byte bytes =
+    if-both Spelt (name_follows (byte ∷ bytes)) _ _
+    (λ h. format-name-spelt code second limbo w place byte bytes h)
+    (λ h. behind-head-spelt limbo w fresh last place byte bytes)
+part-text-spelt parts.TexInner w fresh last place byte bytes = code-text-spelt w fresh last place byte bytes
+part-text-spelt parts.Begin w fresh last place byte bytes = code-text-spelt w fresh last place byte bytes
+part-text-spelt (parts.Plain hash_line include) w fresh last place byte bytes =
+    code-text-spelt w fresh last place byte bytes
+part-text-spelt parts.Definition w fresh last place byte bytes = code-text-spelt w fresh last place byte bytes
+part-text-spelt parts.Inner w fresh last place byte bytes = code-text-spelt w fresh last place byte bytes
+
+in-text-spelt : (part : Part) (comments : List Opened) (fresh : Bool) (last place byte : ℕ) (bytes : List ℕ)
+    → Spelt (in_text part comments fresh last place byte bytes)
+in-text-spelt part [] fresh last place byte bytes =
+    part-text-spelt part (record { part = part; comments = [] }) fresh last place byte bytes
+in-text-spelt part (c ∷ comments) fresh last place byte bytes =
+    if-both Spelt c.inner _ _
+    (λ h. code-text-spelt (record { part = part; comments = c ∷ comments }) fresh last place byte bytes)
+    (λ h. comment-text-spelt part c comments last place byte bytes)
+
+section-spelt : (w : Where) (place : ℕ) (bytes : List ℕ) → Spelt (section w place bytes)
+section-spelt w place bytes =
+    append-spelt (all_cut w.part w.comments place place) _
+    (bare-spelt place (all_cut w.part w.comments place place) (bare-all-cut w.part w.comments place place))
+    (section-other (at_sign ∷ bytes) _, noted-spelt (section_code (at_sign ∷ bytes)).notes)
+
+found-spelt : (w : Where) (fresh : Bool) (last place byte : ℕ) (bytes : List ℕ)
+    → Spelt (found w fresh last place byte bytes)
+found-spelt w fresh last place byte bytes =
+    if-both Spelt (byte == at_sign && begins_section bytes) _ _ (λ h. section-spelt w place bytes)
+    (λ h. in-text-spelt w.part w.comments fresh last place byte bytes)
+
+all-spelt : (bytes : List ℕ) (w : Where) (fresh : Bool) (last place taken : ℕ)
+    → AreSpelt (answers bytes w fresh last place taken)
+all-spelt [] w fresh last place taken = bare-spelt place (all_cut w.part w.comments place (place - 1))
+    (bare-all-cut w.part w.comments place (place - 1))
+all-spelt (byte ∷ bytes) w fresh last place zero =
+    let f = found w fresh last place byte bytes in
+    append-spelt f.answers (answers bytes f.next (still_fresh fresh byte) byte (place + 1) f.more)
+    (found-spelt w fresh last place byte bytes) (all-spelt bytes f.next (still_fresh fresh byte) byte (place + 1) f.more)
+all-spelt (byte ∷ bytes) w fresh last place (suc taken) =
+    all-spelt bytes w (still_fresh fresh byte) byte (place + 1) taken
+
+-- the answers over a part of a text
+pub tokens-spelt : (text : List ℕ) (start end : ℕ) (mode : Mode) → AreSpelt (tokens_of text start end mode)
+tokens-spelt text start end mode =
+    let cut = take end text in
+    all-spelt (drop start cut) (beginning mode) (fresh_at cut start) (last_at cut start) start 0
+
+pub until-spelt : (xs : List Answer) → AreSpelt xs → AreSpelt (until_section xs)
+until-spelt [] h = tt
+until-spelt (x ∷ xs) h = by (is_section_answer x) x h (λ g. until-spelt xs g)
+  where
+    by : (b : Bool) (x : Answer) → AreSpelt (x ∷ xs) → (AreSpelt xs → AreSpelt (until_section xs))
+        → AreSpelt (elim b as (λ b. List Answer) [ true ↦ [] | false ↦ x ∷ until_section xs ])
+    by true x h rest = tt
+    by false (Token t) h rest = (h.0, rest h.1)
+    by false (Begin t) h rest = rest h
+    by false (Finish t) h rest = rest h
+    by false (Note kind place) h rest = rest h

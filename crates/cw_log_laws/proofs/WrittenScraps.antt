@@ -1,0 +1,274 @@
+-- Scraps of which leaf lines tell all: their trees, their leaf lines, and the blocks of states that have such scraps.
+use Rattle.std.proofs.Common.{◌≡◌, ◌≢◌, ℕ, suc, ◌+◌, ◌<◌, ◌≤◌, Bool, true, false, ◌&&◌, ◌==◌, Option, Some, None, List, []}
+use Rattle.std.proofs.Common.{◌∷◌, ◌++◌, length, map, slice_get, refl, sym, ap, ◌∙◌, subst, arith, eq-eqb}
+use Rattle.std.specs.List.{All, list_all}
+use Rattle.std.proofs.lemmas.Bool.{lt-ltb}
+use Rattle.std.proofs.lemmas.List.{length-map}
+use Rattle.std.proofs.lemmas.List.Elements.{All-append, All-cons, All-head, All-map, All-nil, All-tail, All-weaker}
+use Rattle.cw_base.proofs.TestLaws.{both}
+use Rattle.cw_base.specs.declared.category.Cat.{Cat}
+use Rattle.cw_base.specs.declared.category.Cat.TheVariants.{CaseLike, End, Exp}
+use Rattle.cw_base.specs.declared.flags.Flags.{Flags}
+use Rattle.cw_base.specs.Category.{may_be_bare}
+use Rattle.cw_names.specs.declared.entry.EntryKind.TheVariants.{Ident as ident_kind}
+use Rattle.cw_names.specs.Names.{Entry, AreDistinct}
+use Rattle.cw_trees.specs.declared.Control.{Control}
+use Rattle.cw_trees.specs.declared.Control.TheVariants.{Inserted}
+use Rattle.cw_trees.specs.Joining.{Scrap}
+use Rattle.cw_trees.specs.Tree.{Leaf, Source, Ident, Reserved, Sign, Tree, Empty, Then, Sub, Inner, bare_name, search_word}
+use Rattle.cw_trees.specs.Tree.{Search, Found, Stopped, Nothing}
+use Rattle.cw_table.specs.Normal.{Production, is_fine, fine_with, log}
+use Rattle.cw_table.specs.Productions.{productions}
+use Rattle.cw_table.specs.Rewriting.{State}
+use Rattle.cw_table.specs.Sound.{is_exp}
+use Rattle.cw_leaves.specs.LeafLines.{HasNoMark, IsClear, IsIdentEntry, IsTold, kind_by, leaf_line, log_of_lines, said}
+use Rattle.cw_leaves.specs.LeafLines.{said_by, text_at, text_by}
+use Rattle.cw_leaves.specs.Sights.{Heard, behind, followed, told_by}
+use Rattle.cw_leaves.specs.Spelling.{id_of, item_of, line_of, production_of, spelled}
+use Rattle.cw_leaves.proofs.LineFacts.{lines-have-log}
+use Rattle.cw_logtext.specs.Appending.{block_of}
+use Rattle.cw_logtext.specs.LogText.{Block, IsFineBlock, IsFineLine, fits_kind, greatest, is_identifier}
+use Rattle.cw_translator.specs.Recording.{logged}
+use Rattle.cw_log_laws.specs.LoggedTexts.{IsKept, IsLater, IsRightBlock}
+use Rattle.cw_log_laws.proofs.FineItems.{log-fine}
+
+-- ## Words among the names
+
+abbrev pub IsWordEntry : Option Entry → Type 0
+IsWordEntry None = ⊥
+IsWordEntry (Some entry) = (entry.kind ≡ ident_kind) × (is_identifier entry.text ≡ true)
+
+abbrev pub IsWord : List Entry → ℕ → Type 0
+IsWord names name = IsWordEntry (slice_get names name)
+
+word-kept : (o p : Option Entry) → IsKept o p → IsWordEntry o → IsWordEntry p
+word-kept None p k h = absurd h
+word-kept (Some e) None k h = absurd k
+word-kept (Some e) (Some d) k h = (k.0 ∙ h.0, ap is_identifier k.1 ∙ h.1)
+
+word-ident : (o : Option Entry) → IsWordEntry o → IsIdentEntry o
+word-ident None h = h
+word-ident (Some e) h = h.0
+
+word-text : (o : Option Entry) → IsWordEntry o → is_identifier (text_by o) ≡ true
+word-text None h = absurd h
+word-text (Some e) h = h.1
+
+-- ## Trees
+
+-- Outside inner texts stand no mark Inserted and no identifiers but words.
+abbrev pub IsWrittenLeaf : List Entry → Leaf → Type 0
+IsWrittenLeaf names (Source number mode) = Unit {0}
+IsWrittenLeaf names (Ident name number) = IsWord names name
+IsWrittenLeaf names (Reserved name number cat) = Unit {0}
+IsWrittenLeaf names (Sign Inserted) = ⊥
+IsWrittenLeaf names (Sign control) = Unit {0}
+
+abbrev pub IsWritten : List Entry → Tree → Type 0
+IsWritten names Empty = Unit {0}
+IsWritten names (Then leaf rest) = IsWrittenLeaf names leaf × IsWritten names rest
+IsWritten names (Sub tree rest) = IsWritten names tree × IsWritten names rest
+IsWritten names (Inner tree rest) = IsWritten names rest
+
+sign-later : (names later : List Entry) (c : Control) → IsWrittenLeaf names (Sign c) → IsWrittenLeaf later (Sign c)
+sign-later names later Inserted h = h
+sign-later names later _ h = tt
+
+leaf-later : (names later : List Entry) → IsLater names later → (leaf : Leaf) → IsWrittenLeaf names leaf
+    → IsWrittenLeaf later leaf
+leaf-later names later l (Source number mode) h = tt
+leaf-later names later l (Ident name number) h = word-kept (slice_get names name) (slice_get later name) (l name) h
+leaf-later names later l (Reserved name number cat) h = tt
+leaf-later names later l (Sign control) h = sign-later names later control h
+
+pub written-later : (names later : List Entry) → IsLater names later → (tree : Tree) → IsWritten names tree
+    → IsWritten later tree
+written-later names later l Empty h = tt
+written-later names later l (Then leaf rest) h =
+    (leaf-later names later l leaf h.0, written-later names later l rest h.1)
+written-later names later l (Sub tree rest) h =
+    (written-later names later l tree h.0, written-later names later l rest h.1)
+written-later names later l (Inner tree rest) h = written-later names later l rest h
+
+sign-clear : (names : List Entry) (c : Control) → IsWrittenLeaf names (Sign c) → IsClear (Sign c)
+sign-clear names Inserted h = h
+sign-clear names _ h = tt
+
+leaf-clear : (names : List Entry) (leaf : Leaf) → IsWrittenLeaf names leaf → IsClear leaf
+leaf-clear names (Source number mode) h = tt
+leaf-clear names (Ident name number) h = tt
+leaf-clear names (Reserved name number cat) h = tt
+leaf-clear names (Sign control) h = sign-clear names control h
+
+unmarked : (names : List Entry) (tree : Tree) → IsWritten names tree → HasNoMark tree
+unmarked names Empty h = tt
+unmarked names (Then leaf rest) h = (leaf-clear names leaf h.0, unmarked names rest h.1)
+unmarked names (Sub tree rest) h = (unmarked names tree h.0, unmarked names rest h.1)
+unmarked names (Inner tree rest) h = unmarked names rest h
+
+-- what is said of words
+module _ (names : List Entry) where
+  abbrev Words : List ℕ → Type 0
+  Words ns = All (IsWord names) ns
+
+  behind-words : (ns : List ℕ) (stops : Bool) (rest : Heard ℕ) → Words ns → Words rest.names
+      → Words (behind ns stops rest).names
+  behind-words ns true rest h g = h
+  behind-words ns false rest h g = All-append (IsWord names) ns rest.names h g
+
+  search-words : (c : Cat) → Words (told_by (search_word c)).names
+  search-words CaseLike = All-nil (IsWord names)
+  search-words _ = All-nil (IsWord names)
+
+  leaf-words : (leaf : Leaf) → IsWrittenLeaf names leaf → Words (told_by (said_by leaf)).names
+  leaf-words (Source number mode) h = All-nil (IsWord names)
+  leaf-words (Ident name number) h = All-cons (IsWord names) name [] h (All-nil (IsWord names))
+  leaf-words (Reserved name number cat) h = search-words cat
+  leaf-words (Sign control) h = All-nil (IsWord names)
+
+  said-words : (tree : Tree) → IsWritten names tree → Words (said tree).names
+  said-words Empty h = All-nil (IsWord names)
+  said-words (Then leaf rest) h =
+      behind-words (told_by (said_by leaf)).names (told_by (said_by leaf)).stops (said rest) (leaf-words leaf h.0)
+      (said-words rest h.1)
+  said-words (Sub tree rest) h =
+      behind-words (said tree).names (said tree).stops (said rest) (said-words tree h.0) (said-words rest h.1)
+  said-words (Inner tree rest) h = said-words rest h
+
+-- ## Scraps
+
+abbrev pub BareIsExp : Option ℕ → Cat → Type 0
+BareIsExp None c = Unit {0}
+BareIsExp (Some name) c = is_exp c ≡ true
+
+pub record IsLogged (names : List Entry) (scrap : Scrap) : Type 0 where
+  pub written : IsWritten names scrap.tree
+  pub real : scrap.cat ≢ End
+  pub bare : BareIsExp (bare_name scrap.tree) scrap.cat
+
+pub logged-later : (names later : List Entry) → IsLater names later → (scrap : Scrap) → IsLogged names scrap
+    → IsLogged later scrap
+logged-later names later l scrap h =
+    record { written = written-later names later l scrap.tree h.written; real = h.real; bare = h.bare }
+
+told : (names : List Entry) (scrap : Scrap) → IsLogged names scrap → IsTold names scrap
+told names scrap h = record {
+  unmarked = unmarked names scrap.tree h.written;
+  idents = All-weaker (IsWord names) (λ n. IsIdentEntry (slice_get names n)) (λ n w. word-ident (slice_get names n) w)
+      (said scrap.tree).names (said-words names scrap.tree h.written);
+}
+
+exp-bare : (c : Cat) → is_exp c ≡ true → may_be_bare c ≡ true
+exp-bare Exp h = refl
+exp-bare _ h = absurd cc
+
+fine-by : (b : Option ℕ) (c : Cat) → BareIsExp b c → fine_with c b ≡ true
+fine-by None c h = refl
+fine-by (Some name) c h = exp-bare c h
+
+scraps-fine : (names : List Entry) (scraps : List Scrap) → All (IsLogged names) scraps → list_all is_fine scraps ≡ true
+scraps-fine names [] all = refl
+scraps-fine names (s ∷ scraps) all =
+    both (is_fine s) _ (fine-by (bare_name s.tree) s.cat (All-head (IsLogged names) s scraps all).bare)
+    (scraps-fine names scraps (All-tail (IsLogged names) s scraps all))
+
+-- ## Leaf lines
+
+-- one identifier says one name
+bare-one : (t : Tree) (n : ℕ) → bare_name t ≡ Some n → length (said t).names ≡ 1
+bare-one Empty n e = absurd cc
+bare-one (Then (Source number mode) rest) n e = absurd cc
+bare-one (Then (Ident m number) Empty) n e = refl
+bare-one (Then (Ident m number) (Then l r)) n e = absurd cc
+bare-one (Then (Ident m number) (Sub t r)) n e = absurd cc
+bare-one (Then (Ident m number) (Inner t r)) n e = absurd cc
+bare-one (Then (Reserved m number c) rest) n e = absurd cc
+bare-one (Then (Sign c) rest) n e = absurd cc
+bare-one (Sub t r) n e = absurd cc
+bare-one (Inner t r) n e = absurd cc
+
+kind-fits : (b : Option ℕ) (c : Cat) (ns : List ℕ) (stops : Bool) (count : ℕ) → count ≡ length ns → BareIsExp b c
+    → ((n : ℕ) → b ≡ Some n → length ns ≡ 1) → fits_kind (kind_by b stops ns) c count ≡ true
+kind-fits (Some n) c ns stops count e bare one = both (is_exp c) _ bare (eq-eqb count 1 (e ∙ one n refl))
+kind-fits None c ns true count e bare one = refl
+kind-fits None c [] false count e bare one = eq-eqb count 0 e
+kind-fits None c (n ∷ ns) false count e bare one = lt-ltb 0 count (omega (arith, e))
+
+line-fine : (names : List Entry) (scrap : Scrap) → IsLogged names scrap → IsFineLine (leaf_line names scrap)
+line-fine names scrap h = record {
+  kind = kind-fits (bare_name scrap.tree) scrap.cat (said scrap.tree).names (said scrap.tree).stops
+      (length (map (text_at names) (said scrap.tree).names)) (length-map (said scrap.tree).names (text_at names)) h.bare
+      (λ n e. bare-one scrap.tree n e);
+  real = h.real;
+  names = All-map (λ (text : List ℕ). is_identifier text ≡ true) (text_at names) (said scrap.tree).names
+      (All-weaker (IsWord names) (λ n. is_identifier (text_at names n) ≡ true) (λ n w. word-text (slice_get names n) w)
+      (said scrap.tree).names (said-words names scrap.tree h.written));
+}
+
+lines-fine : (names : List Entry) (scraps : List Scrap) → All (IsLogged names) scraps
+    → All IsFineLine (map (leaf_line names) scraps)
+lines-fine names scraps all = All-map IsFineLine (leaf_line names) scraps
+    (All-weaker (IsLogged names) (λ s. IsFineLine (leaf_line names s)) (λ s h. line-fine names s h) scraps all)
+
+-- ## What is told is the leaf lines and the log
+
+texts-said : (names : List Entry) (ns : List ℕ)
+    → map (λ id. text_at names id.index) (map id_of ns) ≡ map (text_at names) ns
+texts-said names [] = refl
+texts-said names (n ∷ ns) = ap (λ ts. text_at names n ∷ ts) (texts-said names ns)
+
+line-said : (names : List Entry) (scrap : Scrap) → spelled names (line_of scrap) ≡ leaf_line names scrap
+line-said names scrap = ap (λ ts. record {
+  kind = kind_by (bare_name scrap.tree) (said scrap.tree).stops (said scrap.tree).names;
+  cat = scrap.cat;
+  names = ts;
+}) (texts-said names (said scrap.tree).names)
+
+lines-said : (names : List Entry) (scraps : List Scrap)
+    → map (spelled names) (map line_of scraps) ≡ map (leaf_line names) scraps
+lines-said names [] = refl
+lines-said names (s ∷ scraps) =
+    ap (λ l. l ∷ map (spelled names) (map line_of scraps)) (line-said names s)
+    ∙ ap (λ ls. leaf_line names s ∷ ls) (lines-said names scraps)
+
+items-said : (ps : List Production) → map production_of (map item_of ps) ≡ ps
+items-said [] = refl
+items-said (p ∷ ps) = ap (λ qs. p ∷ qs) (items-said ps)
+
+-- ## States
+
+pub record IsFineState (names : List Entry) (state : State) : Type 0 where
+  pub scraps : All (IsLogged names) state.scraps
+  pub few : length state.scraps ≤ greatest
+
+pub state-later : (names later : List Entry) → IsLater names later → (state : State) → IsFineState names state
+    → IsFineState later state
+state-later names later l state h = record {
+  scraps = All-weaker (IsLogged names) (IsLogged later) (λ s g. logged-later names later l s g) state.scraps h.scraps;
+  few = h.few;
+}
+
+abbrev block_told : Flags → List Entry → State → Block
+block_told flags names state =
+    record { leaves = map (leaf_line names) state.scraps; items = log productions flags state }
+
+block-said : (flags : Flags) (names : List Entry) (state : State)
+    → block_of names (logged flags state) ≡ block_told flags names state
+block-said flags names state =
+    ap (λ ls. record { leaves = ls; items = map production_of (map item_of (log productions flags state)) })
+    (lines-said names state.scraps)
+    ∙ ap (λ is. record { leaves = map (leaf_line names) state.scraps; items = is })
+    (items-said (log productions flags state))
+
+pub block-right : (flags : Flags) (names : List Entry) (state : State) → AreDistinct names → IsFineState names state
+    → IsRightBlock flags (block_of names (logged flags state))
+block-right flags names state distinct h =
+    subst (IsRightBlock flags) (sym (block-said flags names state)) (record {
+      fine = record {
+        few = omega (arith, length-map state.scraps (leaf_line names), h.few);
+        leaves = lines-fine names state.scraps h.scraps;
+        items = log-fine flags greatest (omega arith) state (scraps-fine names state.scraps h.scraps) h.few;
+      };
+      right = lines-have-log productions flags names state distinct
+          (All-weaker (IsLogged names) (IsTold names) (λ s g. told names s g) state.scraps h.scraps);
+    })

@@ -1,0 +1,2 @@
+-- What holds of the logs of C texts.
+pub mod LoggedTexts

@@ -1,0 +1,11 @@
+//! Laws of the logs of C texts.
+ghost use Rattle.cw_log_laws.specs.LoggedTexts.{TextsAreLogged, TextsKeepNames};
+
+/// The laws of the logs of C texts. A text of a book leaves names that are names, each at its place and with its text
+/// (`names`). Of all texts whose reductions end in it, inner ones and those of section names too, what is told may
+/// stand in a log, spelled with whatever later names, and the productions are just those that follow from the leaf
+/// lines (`texts`). It does nothing: what it ensures is for proofs.
+pub fn logged_law()
+    ensures names { TextsKeepNames }
+    ensures texts { TextsAreLogged }
+{}
