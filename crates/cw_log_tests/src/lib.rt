@@ -1,8 +1,10 @@
-//! Tests of logs: which files are logs, the text of a block, and blocks read back.
+//! Tests of logs: which files are logs, the text of a block, blocks read back, and logs that are checked.
 #![tactic(auto)]
 
 #[cfg(test)]
 mod block_tests;
+#[cfg(test)]
+mod check_tests;
 #[cfg(test)]
 mod judge_tests;
 #[cfg(test)]
