@@ -38,9 +38,11 @@ pub same-behind : (names : List Entry) → AreNamesBehind names names
 same-behind names = (later-same names, λ d. d, λ h. h)
 
 pub names-behind : (k : TokKind) (text : List ℕ) (names : List Entry) → AreNamesBehind names (names_with k text names)
-names-behind kind.Identifier text names =
-    (later-entry ident_kind text names, λ d. distinct-entry ident_kind text names d,
-    λ h. have-entry ident_kind text names h)
+names-behind kind.Identifier text names = (
+  later-entry ident_kind text names,
+  λ d. distinct-entry ident_kind text names d,
+  λ h. have-entry ident_kind text names h,
+)
 names-behind _ text names = same-behind names
 
 -- ## Categories
@@ -56,9 +58,22 @@ among-real (e ∷ words) word other all h = by (pointwise nat_eq word e.text) (a
     by false later = later
 
 hash-words : HaveCats hash_line_words
-hash-words =
-    (λ e. absurd cc, (λ e. absurd cc, (λ e. absurd cc, (λ e. absurd cc, (λ e. absurd cc,
-    (λ e. absurd cc, (λ e. absurd cc, (λ e. absurd cc, (λ e. absurd cc, (λ e. absurd cc, (λ e. absurd cc, tt)))))))))))
+hash-words = (
+  λ e. absurd cc,
+  (
+    λ e. absurd cc,
+    (
+      λ e. absurd cc,
+      (
+        λ e. absurd cc,
+        (
+          λ e. absurd cc,
+          (λ e. absurd cc, (λ e. absurd cc, (λ e. absurd cc, (λ e. absurd cc, (λ e. absurd cc, (λ e. absurd cc, tt)))))),
+        ),
+      ),
+    ),
+  ),
+)
 
 own-real : (names : List Entry) (k : ℕ) → HaveCats names → own_cat names k ≢ End
 own-real [] k all = λ e. absurd cc

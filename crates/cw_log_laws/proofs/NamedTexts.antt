@@ -235,9 +235,9 @@ words-fit wanted (Leaf t rest) h =
   where
     by : (o : Option Wanted) → ((next : Wanted) → AreWordsOf rest (head_words next rest))
         → AreWordsOf (Leaf t rest) (elim o as (λ o. Words) [
-      | Some next ↦ word_before t (head_words next rest)
-      | None ↦ no_word (Leaf t rest)
-    ])
+          | Some next ↦ word_before t (head_words next rest)
+          | None ↦ no_word (Leaf t rest)
+        ])
     by None later = record { words = tt; rest = h; few = omega arith }
     by (Some next) later =
         let l = later next in

@@ -91,8 +91,7 @@ spans-plain : (text : List ℕ) (spans : List Span) → ArePartsIn (2 ^ 24) span
     → ArePlainTexts (map (λ span. until_section (tokens_of text span.start span.«end» Inner)) spans)
 spans-plain text [] h = tt
 spans-plain text (span ∷ spans) h =
-    let all = tokens_of text span.start span.«end» Inner in
-    (
+    let all = tokens_of text span.start span.«end» Inner in (
       (
         until-spelt all (tokens-spelt text span.start span.«end» Inner),
         omega (arith, until-count all, inside-few text span.start span.«end» Inner h.0.0 h.0.1),
@@ -159,8 +158,7 @@ texts-keep-names flags kept uses text span mode names marks short are =
     let answers = tokens_of text span.start span.«end» mode in
     let g = text-grows flags (name_texts kept uses) answers names marks (names-plain kept uses short)
     (names-cats names are) (tokens-spelt text span.start span.«end» mode) in
-    let new = (text_ended flags kept uses text span mode names marks).known.names in
-    (
+    let new = (text_ended flags kept uses text span mode names marks).known.names in (
       record {
         apart = g.distinct are.apart;
         real = All-from_recursion (λ (e : Entry). e.category ≢ End) new (cats-had new g.cats);
