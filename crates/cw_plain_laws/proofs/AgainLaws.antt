@@ -1,0 +1,568 @@
+-- The tokens of a text that is made of tokens and white space.
+use Rattle.std.proofs.Common.{◌≡◌, ℕ, suc, ◌+◌, ◌-◌, Bool, true, false, ◌&&◌, ◌||◌, ◌==◌, nat_lt, List, []}
+use Rattle.std.proofs.Common.{◌∷◌, ◌++◌, length, refl, sym, ap, ◌∙◌, arith, subst}
+use Rattle.std.proofs.lemmas.Bool.Decides.{nat_tests}
+use Rattle.std.proofs.lemmas.List.{append-nil, take_at}
+use Rattle.cw_rules.specs.declared.classes.Class.{Class}
+use Rattle.cw_rules.specs.declared.classes.Class.TheVariants as classes
+use Rattle.cw_rules.specs.declared.codes.Code.TheVariants as codes
+use Rattle.cw_rules.specs.declared.parts.Start.TheVariants as start
+use Rattle.cw_rules.specs.declared.tokens.TokKind.{TokKind}
+use Rattle.cw_rules.specs.declared.tokens.TokKind.TheVariants as kinds
+use Rattle.cw_rules.specs.declared.signs.Sign.{Sign}
+use Rattle.cw_rules.specs.declared.signs.Sign.TheVariants as signs
+use Rattle.cw_rules.specs.Signs.{spelling}
+use Rattle.cw_rules.specs.Answers.{Answer, Cut, Token, Where, Found, token_of, plain}
+use Rattle.cw_rules.specs.Bytes.{is_in, is_letter, run, hash, newline, at_sign}
+use Rattle.cw_rules.specs.Tokens.{found, skipped_byte, one, in_code, start_of}
+use Rattle.cw_rules.proofs.Choices.{and-none, at-byte, or-false, or-first, or-second}
+use Rattle.cw_rules.specs.Constants.{constant}
+use Rattle.cw_plain_laws.proofs.ConstantLaws.{constant-apart, no-constant}
+use Rattle.cw_plain_laws.proofs.StringLaws.{quote-cut, string-cut}
+use Rattle.cw_plain_laws.proofs.Tests.{unless, differs}
+use Rattle.cw_lex.specs.Lexing.{answers, joined, still_fresh}
+use Rattle.cw_plain.specs.Lines.{clash, is_wordy, is_joining}
+use Rattle.cw_plain_laws.proofs.Again.{IsAlone, IsApart, last_of, Spaced, spaced_text, AreSpaced, AreWhite, words}
+use Rattle.cw_plain_laws.proofs.Again.{alone_token}
+use Rattle.cw_plain_laws.proofs.Again.{IsClosed, in_part}
+use Rattle.cw_plain_laws.specs.PlainLaws.{all_unplaced, is_hash}
+
+-- ## Runs
+
+-- a run that is all of a text ends where a byte of another class follows
+run-step : (class : Class) (b n m : ℕ) → is_in class b ≡ true
+    → (elim (is_in class b) [ true ↦ 1 + n | false ↦ 0 ]) ≡ suc n
+run-step class b n m i = ap (λ t. elim t [ true ↦ 1 + n | false ↦ 0 ]) i ∙ omega arith
+
+pub in-class : (class : Class) (b : ℕ) (bs : List ℕ) → run class (b ∷ bs) ≡ suc (length bs) → is_in class b ≡ true
+in-class class b bs e = by (is_in class b) refl
+  where
+    by : (t : Bool) → is_in class b ≡ t → is_in class b ≡ true
+    by true i = i
+    by false i = absurd (none (sym e ∙ ap (λ t. elim t [ true ↦ 1 + run class bs | false ↦ 0 ]) i))
+      where
+        none : suc (length bs) ≡ 0 → ⊥
+        none h = omega arith
+
+run-rest : (class : Class) (b : ℕ) (bs : List ℕ) → run class (b ∷ bs) ≡ suc (length bs) → run class bs ≡ length bs
+run-rest class b bs e =
+    let all = run-step class b (run class bs) 0 (in-class class b bs e) in
+    let both : suc (run class bs) ≡ suc (length bs) = sym all ∙ e in
+    omega arith
+
+pub run-all : (class : Class) (bs : List ℕ) (z : ℕ) (more : List ℕ) → run class bs ≡ length bs → is_in class z ≡ false
+    → run class (bs ++ z ∷ more) ≡ length bs
+run-all class [] z more e h = ap (λ t. elim t [ true ↦ 1 + run class more | false ↦ 0 ]) h
+run-all class (b ∷ bs) z more e h =
+    run-step class b (run class (bs ++ z ∷ more)) 0 (in-class class b bs e)
+    ∙ ap suc (run-all class bs z more (run-rest class b bs e) h)
+
+pub run-last : (class : Class) (b : ℕ) (bs : List ℕ) → run class (b ∷ bs) ≡ suc (length bs)
+    → is_in class (last_of b bs) ≡ true
+run-last class b [] e = in-class class b [] e
+run-last class b (c ∷ bs) e = run-last class c bs (run-rest class b (c ∷ bs) e)
+
+-- ## Bytes
+
+-- a byte behind a word is in no word
+not-wordy : (last z : ℕ) → clash last z ≡ false → is_in classes.Word last ≡ true → is_in classes.Word z ≡ false
+not-wordy last z apart wordy =
+    or-first (is_in classes.Word z) (z == 46)
+    (sym (λ i. (wordy i || last == 46) && is_wordy z)
+    ∙ or-first (is_wordy last && is_wordy z) (is_joining last && is_joining z) apart)
+
+-- ## A token
+
+-- what begins none of the things that are looked for before C text
+record IsCode (byte : ℕ) : Type 0 where
+  at : (byte == at_sign) ≡ false
+  newline : (byte == newline) ≡ false
+  blank : is_in classes.Blank byte ≡ false
+  hash : (byte == hash) ≡ false
+
+code-found : (first fresh : Bool) (last place byte : ℕ) (bytes : List ℕ) → IsCode byte
+    → found (in_part first) fresh last place byte bytes
+    ≡ in_code (start_of false byte bytes) (in_part first) place (byte ∷ bytes)
+code-found true fresh last place byte bytes is = rw (is.at, is.newline, is.blank, is.hash, and-none) refl
+code-found false fresh last place byte bytes is = rw (is.at, is.newline, is.blank, is.hash, and-none) refl
+
+-- so it is no code, white space or `#`, where these don't pass it
+record Passes (test : ℕ → Bool) : Type 0 where
+  at : test 64 ≡ false
+  newline : test 10 ≡ false
+  space : test 32 ≡ false
+  tab : test 9 ≡ false
+  vertical : test 11 ≡ false
+  form : test 12 ≡ false
+  return : test 13 ≡ false
+  hash : test 35 ≡ false
+
+code-by : (test : ℕ → Bool) (byte : ℕ) → Passes test → test byte ≡ true → IsCode byte
+code-by test byte p holds = record {
+  at = unless test byte 64 holds p.at;
+  newline = unless test byte 10 holds p.newline;
+  blank = rw (
+    unless test byte 32 holds p.space,
+    unless test byte 9 holds p.tab,
+    unless test byte 11 holds p.vertical,
+    unless test byte 12 holds p.form,
+    unless test byte 13 holds p.return,
+  ) refl;
+  hash = unless test byte 35 holds p.hash;
+}
+
+letter-passes : Passes is_letter
+letter-passes = record {
+  at = refl;
+  newline = refl;
+  space = refl;
+  tab = refl;
+  vertical = refl;
+  form = refl;
+  return = refl;
+  hash = refl;
+}
+
+-- A token is taken, whatever stands behind it apart.
+abbrev taken : TokKind → ℕ → ℕ → List ℕ → List ℕ → Found
+taken k place b bs rest = record {
+  answers = Token (token_of false k place (suc (length bs)) (b ∷ (bs ++ rest))) ∷ [];
+  more = length bs;
+  next = in_part false;
+}
+
+abbrev IsTaken : TokKind → ℕ → List ℕ → Type 0
+IsTaken k b bs = (first fresh : Bool) (last place : ℕ) (rest : List ℕ) → IsApart (last_of b bs) rest
+    → found (in_part first) fresh last place b (bs ++ rest) ≡ taken k place b bs rest
+
+one-size : (next : Where) (k : TokKind) (place n : ℕ) (bytes : List ℕ) (size : ℕ) → size ≡ suc n
+    → one false next place bytes (plain k size)
+    ≡ record { answers = Token (token_of false k place (suc n) bytes) ∷ []; more = n; next = next }
+one-size next k place n bytes size e = ap (λ s. one false next place bytes (plain k s)) e
+    ∙ ap (λ m. record { answers = Token (token_of false k place (suc n) bytes) ∷ []; more = m; next = next })
+    (omega arith)
+
+-- ## Identifiers
+
+run-apart : (b : ℕ) (bs rest : List ℕ) → run classes.Word (b ∷ bs) ≡ suc (length bs) → IsApart (last_of b bs) rest
+    → run classes.Word (b ∷ (bs ++ rest)) ≡ suc (length bs)
+run-apart b bs [] e apart = ap (λ l. run classes.Word (b ∷ l)) (append-nil bs) ∙ e
+run-apart b bs (z ∷ more) e apart = run-all classes.Word (b ∷ bs) z more e
+    (not-wordy (last_of b bs) z apart (run-last classes.Word b bs e))
+
+identifier-start : (b : ℕ) (bytes : List ℕ) → is_letter b ≡ true → start_of false b bytes ≡ start.Identifier
+identifier-start b bytes letter = rw letter refl
+
+identifier-taken : (b : ℕ) (bs : List ℕ) → IsAlone kinds.Identifier b bs → IsTaken kinds.Identifier b bs
+identifier-taken b bs alone true fresh last place rest apart =
+    code-found true fresh last place b (bs ++ rest) (code-by is_letter b letter-passes alone.0)
+    ∙ ap (λ s. in_code s (in_part true) place (b ∷ (bs ++ rest))) (identifier-start b (bs ++ rest) alone.0)
+    ∙ one-size (in_part false) kinds.Identifier place (length bs) (b ∷ (bs ++ rest)) _
+    (run-apart b bs rest alone.1 apart)
+identifier-taken b bs alone false fresh last place rest apart =
+    code-found false fresh last place b (bs ++ rest) (code-by is_letter b letter-passes alone.0)
+    ∙ ap (λ s. in_code s (in_part false) place (b ∷ (bs ++ rest))) (identifier-start b (bs ++ rest) alone.0)
+    ∙ one-size (in_part false) kinds.Identifier place (length bs) (b ∷ (bs ++ rest)) _
+    (run-apart b bs rest alone.1 apart)
+
+-- ## Signs
+
+sign-found : (s : Sign) (b : ℕ) (bs rest : List ℕ) → IsCode b → start_of false b (bs ++ rest) ≡ start.Sign s
+    → length (spelling s) ≡ suc (length bs) → (first fresh : Bool) (last place : ℕ)
+    → found (in_part first) fresh last place b (bs ++ rest) ≡ taken (kinds.Sign s) place b bs rest
+sign-found s b bs rest is begins size true fresh last place =
+    code-found true fresh last place b (bs ++ rest) is
+    ∙ ap (λ s. in_code s (in_part true) place (b ∷ (bs ++ rest))) begins
+    ∙ one-size (in_part false) (kinds.Sign s) place (length bs) (b ∷ (bs ++ rest)) _ size
+sign-found s b bs rest is begins size false fresh last place =
+    code-found false fresh last place b (bs ++ rest) is
+    ∙ ap (λ s. in_code s (in_part false) place (b ∷ (bs ++ rest))) begins
+    ∙ one-size (in_part false) (kinds.Sign s) place (length bs) (b ∷ (bs ++ rest)) _ size
+
+abbrev IsTakenList : TokKind → List ℕ → Type 0
+IsTakenList k [] = ⊥
+IsTakenList k (b ∷ bs) = IsTaken k b bs
+
+-- What begins at the first byte of a sign, where what follows stands apart.
+abbrev Begins : Sign → List ℕ → Type 0
+Begins s [] = ⊥
+Begins s (b ∷ bs) = IsCode b × ((rest : List ℕ) → IsApart (last_of b bs) rest → start_of false b (bs ++ rest)
+    ≡ start.Sign s)
+
+plain-code : (b : ℕ) → (b == at_sign) ≡ false → (b == newline) ≡ false → is_in classes.Blank b ≡ false
+    → (b == hash) ≡ false → IsCode b
+plain-code b a n k h = record { at = a; newline = n; blank = k; hash = h }
+
+by-rest : (b : ℕ) (bs : List ℕ) (s : Sign) → start_of false b bs ≡ start.Sign s → (bs ++ [] ≡ bs)
+    → ((z : ℕ) (more : List ℕ) → clash (last_of b bs) z ≡ false → start_of false b (bs ++ z ∷ more) ≡ start.Sign s)
+    → (rest : List ℕ) → IsApart (last_of b bs) rest → start_of false b (bs ++ rest) ≡ start.Sign s
+by-rest b bs s alone none more [] apart = ap (start_of false b) none ∙ alone
+by-rest b bs s alone none more (z ∷ rest) apart = more z rest apart
+
+joins : (z o : ℕ) → is_joining z ≡ false → is_joining o ≡ true → (z == o) ≡ false
+joins z o fails holds = differs is_joining z o fails holds
+
+begins : (s : Sign) → is_hash s ≡ false → Begins s (spelling s)
+begins signs.Hash h = absurd cc
+begins signs.Slash h = (
+  plain-code 47 refl refl refl refl,
+  by-rest 47 [] signs.Slash refl refl
+      (λ z more e. rw (joins z 42 e refl, joins z 47 e refl) refl),
+)
+begins signs.Dot h = (
+  plain-code 46 refl refl refl refl,
+  by-rest 46 [] signs.Dot refl refl
+      (λ z more e. let wordy = or-first (is_wordy z) (is_joining z) e in
+      let joining = or-second (is_wordy z) (is_joining z) e in
+      let digit = or-second (is_letter z) (is_in classes.Digit z) (or-first (is_in classes.Word z) (z == 46) wordy) in
+      let none : run classes.Digit (z ∷ more) ≡ 0 = ap (λ t. elim t [
+        | true ↦ 1 + run classes.Digit more
+        | false ↦ 0
+      ]) digit in
+      rw (none, joins z 46 joining refl) refl),
+)
+begins signs.Less h = (
+  plain-code 60 refl refl refl refl,
+  by-rest 60 [] signs.Less refl refl
+      (λ z more e. rw (joins z 60 e refl, joins z 61 e refl) refl),
+)
+begins signs.Greater h = (
+  plain-code 62 refl refl refl refl,
+  by-rest 62 [] signs.Greater refl refl
+      (λ z more e. rw (joins z 62 e refl, joins z 61 e refl) refl),
+)
+begins signs.Bar h = (
+  plain-code 124 refl refl refl refl,
+  by-rest 124 [] signs.Bar refl refl
+      (λ z more e. rw (joins z 124 e refl) refl),
+)
+begins signs.Assign h = (
+  plain-code 61 refl refl refl refl,
+  by-rest 61 [] signs.Assign refl refl
+      (λ z more e. rw (joins z 61 e refl) refl),
+)
+begins signs.Not h = (
+  plain-code 33 refl refl refl refl,
+  by-rest 33 [] signs.Not refl refl
+      (λ z more e. rw (joins z 61 e refl) refl),
+)
+begins signs.Plus h = (
+  plain-code 43 refl refl refl refl,
+  by-rest 43 [] signs.Plus refl refl
+      (λ z more e. rw (joins z 43 e refl) refl),
+)
+begins signs.Minus h = (
+  plain-code 45 refl refl refl refl,
+  by-rest 45 [] signs.Minus refl refl
+      (λ z more e. rw (joins z 62 e refl, joins z 45 e refl) refl),
+)
+begins signs.Ampersand h = (
+  plain-code 38 refl refl refl refl,
+  by-rest 38 [] signs.Ampersand refl refl
+      (λ z more e. rw (joins z 38 e refl) refl),
+)
+begins signs.Caret h = (plain-code 94 refl refl refl refl, by-rest 94 [] signs.Caret refl refl (λ z more e. refl))
+begins signs.Percent h = (plain-code 37 refl refl refl refl, by-rest 37 [] signs.Percent refl refl (λ z more e. refl))
+begins signs.Tilde h = (plain-code 126 refl refl refl refl, by-rest 126 [] signs.Tilde refl refl (λ z more e. refl))
+begins signs.Star h = (plain-code 42 refl refl refl refl, by-rest 42 [] signs.Star refl refl (λ z more e. refl))
+begins signs.Question h = (plain-code 63 refl refl refl refl, by-rest 63 [] signs.Question refl refl (λ z more e. refl))
+begins signs.LeftParen h = (
+  plain-code 40 refl refl refl refl,
+  by-rest 40 [] signs.LeftParen refl refl
+      (λ z more e. refl),
+)
+begins signs.LeftBracket h = (
+  plain-code 91 refl refl refl refl,
+  by-rest 91 [] signs.LeftBracket refl refl
+      (λ z more e. refl),
+)
+begins signs.RightParen h = (
+  plain-code 41 refl refl refl refl,
+  by-rest 41 [] signs.RightParen refl refl
+      (λ z more e. refl),
+)
+begins signs.RightBracket h = (
+  plain-code 93 refl refl refl refl,
+  by-rest 93 [] signs.RightBracket refl refl
+      (λ z more e. refl),
+)
+begins signs.LeftBrace h = (
+  plain-code 123 refl refl refl refl,
+  by-rest 123 [] signs.LeftBrace refl refl
+      (λ z more e. refl),
+)
+begins signs.RightBrace h = (
+  plain-code 125 refl refl refl refl,
+  by-rest 125 [] signs.RightBrace refl refl
+      (λ z more e. refl),
+)
+begins signs.Comma h = (plain-code 44 refl refl refl refl, by-rest 44 [] signs.Comma refl refl (λ z more e. refl))
+begins signs.Semicolon h = (
+  plain-code 59 refl refl refl refl,
+  by-rest 59 [] signs.Semicolon refl refl
+      (λ z more e. refl),
+)
+begins signs.Colon h = (plain-code 58 refl refl refl refl, by-rest 58 [] signs.Colon refl refl (λ z more e. refl))
+begins signs.Arrow h = (
+  plain-code 45 refl refl refl refl,
+  by-rest 45 (62 ∷ []) signs.Arrow refl refl
+      (λ z more e. refl),
+)
+begins signs.ShiftLeft h = (
+  plain-code 60 refl refl refl refl,
+  by-rest 60 (60 ∷ []) signs.ShiftLeft refl refl
+      (λ z more e. refl),
+)
+begins signs.ShiftRight h = (
+  plain-code 62 refl refl refl refl,
+  by-rest 62 (62 ∷ []) signs.ShiftRight refl refl
+      (λ z more e. refl),
+)
+begins signs.Equal h = (
+  plain-code 61 refl refl refl refl,
+  by-rest 61 (61 ∷ []) signs.Equal refl refl
+      (λ z more e. refl),
+)
+begins signs.NotEqual h = (
+  plain-code 33 refl refl refl refl,
+  by-rest 33 (61 ∷ []) signs.NotEqual refl refl
+      (λ z more e. refl),
+)
+begins signs.AtMost h = (
+  plain-code 60 refl refl refl refl,
+  by-rest 60 (61 ∷ []) signs.AtMost refl refl
+      (λ z more e. refl),
+)
+begins signs.AtLeast h = (
+  plain-code 62 refl refl refl refl,
+  by-rest 62 (61 ∷ []) signs.AtLeast refl refl
+      (λ z more e. refl),
+)
+begins signs.AndAnd h = (
+  plain-code 38 refl refl refl refl,
+  by-rest 38 (38 ∷ []) signs.AndAnd refl refl
+      (λ z more e. refl),
+)
+begins signs.OrOr h = (
+  plain-code 124 refl refl refl refl,
+  by-rest 124 (124 ∷ []) signs.OrOr refl refl
+      (λ z more e. refl),
+)
+begins signs.PlusPlus h = (
+  plain-code 43 refl refl refl refl,
+  by-rest 43 (43 ∷ []) signs.PlusPlus refl refl
+      (λ z more e. refl),
+)
+begins signs.MinusMinus h = (
+  plain-code 45 refl refl refl refl,
+  by-rest 45 (45 ∷ []) signs.MinusMinus refl refl
+      (λ z more e. refl),
+)
+begins signs.Ellipsis h = (
+  plain-code 46 refl refl refl refl,
+  by-rest 46 (46 ∷ 46 ∷ []) signs.Ellipsis refl refl
+      (λ z more e. refl),
+)
+
+begins-taken : (s : Sign) (t : List ℕ) → length (spelling s) ≡ length t → Begins s t → IsTakenList (kinds.Sign s) t
+begins-taken s [] size is = absurd is
+begins-taken s (b ∷ bs) size is = λ first fresh last place rest apart.
+    sign-found s b bs rest is.0 (is.1 rest apart) size first fresh last place
+
+sign-taken : (s : Sign) (b : ℕ) (bs : List ℕ) → IsAlone (kinds.Sign s) b bs → IsTaken (kinds.Sign s) b bs
+sign-taken s b bs alone = subst (IsTakenList (kinds.Sign s)) (sym alone.0)
+    (begins-taken s (spelling s) refl (begins s alone.1))
+
+-- ## Constants
+
+abbrev begins_number : ℕ → Bool
+begins_number byte = is_in classes.Digit byte || byte == 46
+
+number-passes : Passes begins_number
+number-passes = record {
+  at = refl;
+  newline = refl;
+  space = refl;
+  tab = refl;
+  vertical = refl;
+  form = refl;
+  return = refl;
+  hash = refl;
+}
+
+-- a constant begins with a digit or a dot
+number-begins : (b : ℕ) (bs : List ℕ) → is_letter b ≡ false → constant (b ∷ bs) ≡ suc (length bs) → begins_number b
+    ≡ true
+number-begins b bs letter size = by (begins_number b) refl
+  where
+    by : (t : Bool) → begins_number b ≡ t → begins_number b ≡ true
+    by true e = e
+    by false e =
+        let digit = or-first (is_in classes.Digit b) (b == 46) e in
+        let none = no-constant b bs (or-false (is_letter b) (is_in classes.Digit b) letter digit)
+        (or-second (is_in classes.Digit b) (b == 46) e) in
+        let never : suc (length bs) ≡ 0 = sym size ∙ none in
+        absurd (omega arith)
+
+constant-start : (b : ℕ) (bytes : List ℕ) (n : ℕ) → is_letter b ≡ false → constant (b ∷ bytes) ≡ suc n
+    → start_of false b bytes ≡ start.Constant
+constant-start b bytes n letter size =
+    let some : nat_lt 0 (constant (b ∷ bytes)) ≡ true = ap (nat_lt 0) size ∙ less n in
+    rw (letter, some) refl
+  where
+    less : (n : ℕ) → nat_lt 0 (suc n) ≡ true
+    less n = grind (arith, nat_tests)
+
+constant-found : (b : ℕ) (bs rest : List ℕ) → IsAlone kinds.Constant b bs → constant (b ∷ (bs ++ rest))
+    ≡ suc (length bs)
+    → (first fresh : Bool) (last place : ℕ)
+    → found (in_part first) fresh last place b (bs ++ rest) ≡ taken kinds.Constant place b bs rest
+constant-found b bs rest alone size true fresh last place =
+    code-found true fresh last place b (bs ++ rest) (code-by begins_number b number-passes
+    (number-begins b bs alone.0 alone.1))
+    ∙ ap (λ s. in_code s (in_part true) place (b ∷ (bs ++ rest)))
+    (constant-start b (bs ++ rest) (length bs) alone.0 size)
+    ∙ one-size (in_part false) kinds.Constant place (length bs) (b ∷ (bs ++ rest)) _ size
+constant-found b bs rest alone size false fresh last place =
+    code-found false fresh last place b (bs ++ rest) (code-by begins_number b number-passes
+    (number-begins b bs alone.0 alone.1))
+    ∙ ap (λ s. in_code s (in_part false) place (b ∷ (bs ++ rest)))
+    (constant-start b (bs ++ rest) (length bs) alone.0 size)
+    ∙ one-size (in_part false) kinds.Constant place (length bs) (b ∷ (bs ++ rest)) _ size
+
+constant-size : (b : ℕ) (bs rest : List ℕ) → IsAlone kinds.Constant b bs → IsApart (last_of b bs) rest
+    → constant (b ∷ (bs ++ rest)) ≡ suc (length bs)
+constant-size b bs [] alone apart = ap (λ l. constant (b ∷ l)) (append-nil bs) ∙ alone.1
+constant-size b bs (z ∷ more) alone apart =
+    let both = or-first (is_wordy (last_of b bs) && is_wordy z) (is_joining (last_of b bs) && is_joining z) apart in
+    let free : is_wordy z ≡ false = sym (λ i. alone.2 i && is_wordy z) ∙ both in
+    constant-apart (b ∷ bs) z more alone.1 (or-first (is_in classes.Word z) (z == 46) free)
+    (or-second (is_in classes.Word z) (z == 46) free)
+
+constant-taken : (b : ℕ) (bs : List ℕ) → IsAlone kinds.Constant b bs → IsTaken kinds.Constant b bs
+constant-taken b bs alone first fresh last place rest apart =
+    constant-found b bs rest alone (constant-size b bs rest alone apart) first fresh last place
+
+-- ## Strings
+
+abbrev is_mark : ℕ → Bool
+is_mark byte = byte == 34 || byte == 39
+
+mark-passes : Passes is_mark
+mark-passes = record {
+  at = refl;
+  newline = refl;
+  space = refl;
+  tab = refl;
+  vertical = refl;
+  form = refl;
+  return = refl;
+  hash = refl;
+}
+
+mark-start : (b : ℕ) (bytes : List ℕ) → is_mark b ≡ true → start_of false b bytes ≡ start.Quoted b
+mark-start b bytes mark = by (b == 34) refl
+  where
+    by : (t : Bool) → (b == 34) ≡ t → start_of false b bytes ≡ start.Quoted b
+    by true e = at-byte (λ y. start_of false y bytes ≡ start.Quoted y) b 34 e refl
+    by false e = at-byte (λ y. start_of false y bytes ≡ start.Quoted y) b 39 (sym (λ i. e i || b == 39) ∙ mark) refl
+
+filled : (q last : ℕ) (along : Bool) (bs : List ℕ) → IsClosed q last along bs → length bs ≡ suc (length bs - 1)
+filled q last along [] closed = absurd closed
+filled q last along (b ∷ bs) closed = omega arith
+
+one-plain : (k : TokKind) (next : Where) (place n : ℕ) (bytes : List ℕ) (cut : Cut) → cut ≡ plain k (suc n)
+    → one false next place bytes cut
+    ≡ record { answers = Token (token_of false k place (suc n) bytes) ∷ []; more = n; next = next }
+one-plain k next place n bytes cut e = ap (λ c. one false next place bytes c) e
+    ∙ ap (λ m. record { answers = Token (token_of false k place (suc n) bytes) ∷ []; more = m; next = next })
+    (omega arith)
+
+string-taken : (b : ℕ) (bs : List ℕ) → IsAlone kinds.Quoted b bs → IsTaken kinds.Quoted b bs
+string-taken b bs alone true fresh last place rest apart =
+    code-found true fresh last place b (bs ++ rest) (code-by is_mark b mark-passes alone.0)
+    ∙ ap (λ s. in_code s (in_part true) place (b ∷ (bs ++ rest))) (mark-start b (bs ++ rest) alone.0)
+    ∙ one-plain kinds.Quoted (in_part false) place (length bs) (b ∷ (bs ++ rest)) _
+    (string-cut b place bs (length bs - 1) rest (filled b 0 false bs alone.1) alone.1)
+string-taken b bs alone false fresh last place rest apart =
+    code-found false fresh last place b (bs ++ rest) (code-by is_mark b mark-passes alone.0)
+    ∙ ap (λ s. in_code s (in_part false) place (b ∷ (bs ++ rest))) (mark-start b (bs ++ rest) alone.0)
+    ∙ one-plain kinds.Quoted (in_part false) place (length bs) (b ∷ (bs ++ rest)) _
+    (string-cut b place bs (length bs - 1) rest (filled b 0 false bs alone.1) alone.1)
+
+-- the string of `@'`
+quote-here : (bs : List ℕ) → IsClosed 39 0 false bs → IsTaken (kinds.Code codes.Quote) 64 (39 ∷ bs)
+quote-here bs closed true fresh last place rest apart =
+    one-plain (kinds.Code codes.Quote) (in_part false) place (suc (length bs)) (64 ∷ 39 ∷ (bs ++ rest)) _
+    (quote-cut place bs (length bs - 1) rest (filled 39 0 false bs closed) closed)
+quote-here bs closed false fresh last place rest apart =
+    one-plain (kinds.Code codes.Quote) (in_part false) place (suc (length bs)) (64 ∷ 39 ∷ (bs ++ rest)) _
+    (quote-cut place bs (length bs - 1) rest (filled 39 0 false bs closed) closed)
+
+quote-taken : (b : ℕ) (bs : List ℕ) → IsAlone (kinds.Code codes.Quote) b bs → IsTaken (kinds.Code codes.Quote) b bs
+quote-taken b [] alone = absurd alone.1
+quote-taken b (mark ∷ bs) alone =
+    subst (λ b. IsTaken (kinds.Code codes.Quote) b (mark ∷ bs)) (sym alone.0)
+    (subst (λ mark. IsTaken (kinds.Code codes.Quote) 64 (mark ∷ bs)) (sym alone.1.0) (quote-here bs alone.1.1))
+
+-- ## The whole text
+
+abbrev pub Gives : Bool → List ℕ → List Answer → Type 0
+Gives first bytes want = (fresh : Bool) (last place : ℕ)
+    → all_unplaced (answers bytes (in_part first) fresh last place 0) ≡ want
+
+-- the bytes of a token are passed
+passed : (bs rest : List ℕ) (want : List Answer) → Gives false rest want → (fresh : Bool) (last place : ℕ)
+    → all_unplaced (answers (bs ++ rest) (in_part false) fresh last place (length bs)) ≡ want
+passed [] rest want gives fresh last place = gives fresh last place
+passed (b ∷ bs) rest want gives fresh last place = passed bs rest want gives (still_fresh fresh b) b (place + 1)
+
+token-gives : (k : TokKind) (first : Bool) (b : ℕ) (bs rest : List ℕ) (want : List Answer) → IsTaken k b bs
+    → IsApart (last_of b bs) rest → Gives false rest want
+    → Gives first (b ∷ (bs ++ rest)) (alone_token k (b ∷ bs) ∷ want)
+token-gives k first b bs rest want is apart gives fresh last place =
+    ap (λ f. all_unplaced (joined f (λ next more. answers (bs ++ rest) next (still_fresh fresh b) b (place + 1) more)))
+    (is first fresh last place rest apart)
+    ∙ ap (λ l. alone_token k (b ∷ l) ∷ all_unplaced (answers (bs ++ rest) (in_part false) (still_fresh fresh b) b
+    (place + 1) (length bs)))
+    (take_at bs rest (length bs) refl)
+    ∙ ap (λ l. alone_token k (b ∷ bs) ∷ l) (passed bs rest want gives (still_fresh fresh b) b (place + 1))
+
+-- white space is passed
+white-found : (first fresh : Bool) (last place b : ℕ) (bs : List ℕ) → is_in classes.White b ≡ true
+    → found (in_part first) fresh last place b bs ≡ skipped_byte (in_part first)
+white-found first fresh last place b bs white = by (b == newline) refl first
+  where
+    no-at : (b == at_sign) ≡ false
+    no-at = unless (is_in classes.White) b 64 white refl
+
+    by : (t : Bool) → (b == newline) ≡ t → (first : Bool)
+        → found (in_part first) fresh last place b bs ≡ skipped_byte (in_part first)
+    by true e true = rw (no-at, e) refl
+    by true e false = rw (no-at, e) refl
+    by false e true = let blank = sym (λ i. e i || is_in classes.Blank b) ∙ white in rw (no-at, e, blank) refl
+    by false e false = let blank = sym (λ i. e i || is_in classes.Blank b) ∙ white in rw (no-at, e, blank) refl
+
+pub white-gives : (first : Bool) (ws rest : List ℕ) (want : List Answer) → AreWhite ws → Gives first rest want
+    → Gives first (ws ++ rest) want
+white-gives first [] rest want white gives fresh last place = gives fresh last place
+white-gives first (b ∷ ws) rest want white gives fresh last place =
+    ap (λ f. all_unplaced (joined f (λ next more. answers (ws ++ rest) next (still_fresh fresh b) b (place + 1) more)))
+    (white-found first fresh last place b (ws ++ rest) white.0)
+    ∙ white-gives first ws rest want white.1 gives (still_fresh fresh b) b (place + 1)
+
+alone-taken : (k : TokKind) (b : ℕ) (bs : List ℕ) → IsAlone k b bs → IsTaken k b bs
+alone-taken kinds.Identifier b bs alone = identifier-taken b bs alone
+alone-taken kinds.Constant b bs alone = constant-taken b bs alone
+alone-taken kinds.Quoted b bs alone = string-taken b bs alone
+alone-taken (kinds.Sign s) b bs alone = sign-taken s b bs alone
+alone-taken (kinds.Code codes.Quote) b bs alone = quote-taken b bs alone
+alone-taken _ b bs alone = absurd alone
+
+pub again : (first : Bool) (ts : List Spaced) → AreSpaced ts → Gives first (spaced_text ts) (words ts)
+again true [] are fresh last place = refl
+again false [] are fresh last place = refl
+again first (t ∷ ts) are fresh last place =
+    token-gives t.kind first t.first t.rest (t.space ++ spaced_text ts) (words ts)
+    (alone-taken t.kind t.first t.rest are.0) are.2
+    (white-gives false t.space (spaced_text ts) (words ts) are.1 (again false ts are.3)) fresh last place

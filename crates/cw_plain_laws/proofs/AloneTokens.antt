@@ -1,0 +1,383 @@
+-- What begins at a place of a C part: white space, one token, or what is none of the tokens that are scanned again.
+-- These are tokens by themselves.
+use Rattle.std.proofs.Common.{◌≡◌, ℕ, zero, suc, ◌+◌, ◌-◌, ◌<◌, ◌≤◌, Bool, true, false, ◌&&◌, ◌||◌, ◌==◌, nat_lt, List}
+use Rattle.std.proofs.Common.{[], ◌∷◌, ◌++◌, length, take, drop, refl, sym, ap, subst, ◌∙◌, arith, Option, Some, None}
+use Rattle.std.proofs.lemmas.Bool.{eqb-true}
+use Rattle.std.proofs.lemmas.Bool.Decides.{nat_tests}
+use Rattle.std.proofs.lemmas.List.{length-take, take-append-drop}
+use Rattle.cw_base.specs.Text.{is_blank}
+use Rattle.cw_lex.specs.Lexing.{answers, fresh_at, joined, last_at, still_fresh, tokens_of}
+use Rattle.cw_plain_laws.proofs.Again.{IsAloneText, IsClosed, in_part}
+use Rattle.cw_plain_laws.proofs.CutConstants.{constant-cut, constant-last, run-cut}
+use Rattle.cw_plain_laws.proofs.CutStrings.{sign-alone, string-closed}
+use Rattle.cw_plain_laws.specs.PlainLaws.{AreSimpleTokens, BeginsBefore, is_hash, is_program, is_simple}
+use Rattle.cw_rules.proofs.Choices.{if-both}
+use Rattle.cw_rules.proofs.Sizes.{constant-le, run-le}
+use Rattle.cw_rules.proofs.Taking.{AreNotes}
+use Rattle.cw_rules.specs.Answers.{Answer, Token, Begin, Finish, Note, Cut, Found, Seen, Where, note_answers, plain}
+use Rattle.cw_rules.specs.Answers.{token_of}
+use Rattle.cw_rules.specs.Bodies.{at_start, extent}
+use Rattle.cw_rules.specs.Bytes.{apostrophe, at_sign, begins, hash, is_between, is_in, is_letter, is_letter_of, less}
+use Rattle.cw_rules.specs.Bytes.{newline, quote, run, slash, star}
+use Rattle.cw_rules.specs.Codes.{begins_section, code_at, code_of}
+use Rattle.cw_rules.specs.Constants.{constant}
+use Rattle.cw_rules.specs.Signs.{all_signs, longest, spelling}
+use Rattle.cw_rules.specs.Tokens.{code_by, code_text, code_token, effect_in, found, in_code, in_hash_line}
+use Rattle.cw_rules.specs.Tokens.{is_space, moved, one, passed, section, section_code, sign_or_other, skipped_byte}
+use Rattle.cw_rules.specs.Tokens.{identifier, string}
+use Rattle.cw_rules.specs.Tokens.{start_of}
+use Rattle.cw_rules.specs.declared.bodies.Body.TheVariants as bodies
+use Rattle.cw_rules.specs.declared.bodies.Noted.{Noted}
+use Rattle.cw_rules.specs.declared.classes.Class.TheVariants as classes
+use Rattle.cw_rules.specs.declared.codes.Code.{Code}
+use Rattle.cw_rules.specs.declared.codes.Code.TheVariants as codes
+use Rattle.cw_rules.specs.declared.parts.Start.{Start}
+use Rattle.cw_rules.specs.declared.parts.Start.TheVariants as start
+use Rattle.cw_rules.specs.declared.signs.Sign.{Sign}
+use Rattle.cw_rules.specs.declared.tokens.Mode.TheVariants.{CPart}
+use Rattle.cw_rules.specs.declared.tokens.TokKind.{TokKind}
+use Rattle.cw_rules.specs.declared.tokens.TokKind.TheVariants as kinds
+
+-- ## What is cut is a token by itself
+
+-- where the same bytes are cut without what stands behind them
+whole-cut : (f : List ℕ → ℕ) → ((t r : List ℕ) → f (t ++ r) ≤ length t → f t ≡ f (t ++ r)) → (bytes : List ℕ)
+    → f bytes ≤ length bytes → f (take (f bytes) bytes) ≡ length (take (f bytes) bytes)
+whole-cut f cut bytes most =
+    let t = take (f bytes) bytes in
+    let r = drop (f bytes) bytes in
+    let all : f (t ++ r) ≡ f bytes = ap f (take-append-drop (f bytes) bytes) in
+    let size : length t ≡ f bytes = omega (arith, length-take (f bytes) bytes) in
+    cut t r (omega arith) ∙ all ∙ sym size
+
+abbrev IsCutAlone : TokKind → (List ℕ → ℕ) → ℕ → List ℕ → Type 0
+IsCutAlone k f b bs = IsAloneText k (take (f (b ∷ bs)) (b ∷ bs))
+
+identifier-alone : (b : ℕ) (bs : List ℕ) → is_letter b ≡ true → IsCutAlone kinds.Identifier (run classes.Word) b bs
+identifier-alone b bs letter =
+    let word : is_in classes.Word b ≡ true = ap (λ t. t || is_in classes.Digit b) letter in
+    let m = run classes.Word bs in
+    let e : run classes.Word (b ∷ bs) ≡ suc m = ap (λ t. elim t [ true ↦ 1 + m | false ↦ 0 ]) word ∙ omega arith in
+    let whole : run classes.Word (take (suc m) (b ∷ bs)) ≡ length (take (suc m) (b ∷ bs)) =
+    subst (λ n. run classes.Word (take n (b ∷ bs)) ≡ length (take n (b ∷ bs))) e
+    (whole-cut (run classes.Word) (run-cut classes.Word) (b ∷ bs) (run-le classes.Word (b ∷ bs))) in
+    subst (λ n. IsAloneText kinds.Identifier (take n (b ∷ bs))) (sym e) (letter, whole)
+
+some-more : (n : ℕ) → nat_lt 0 n ≡ true → n ≡ suc (n - 1)
+some-more n e = let some : 0 < n = there n e in omega arith
+  where
+    there : (n : ℕ) → nat_lt 0 n ≡ true → 0 < n
+    there n e = grind (arith, nat_tests)
+
+constant-alone : (b : ℕ) (bs : List ℕ) → is_letter b ≡ false → nat_lt 0 (constant (b ∷ bs)) ≡ true
+    → IsCutAlone kinds.Constant constant b bs
+constant-alone b bs letter some =
+    let m = constant (b ∷ bs) - 1 in
+    let e : constant (b ∷ bs) ≡ suc m = some-more (constant (b ∷ bs)) some in
+    let whole : constant (take (suc m) (b ∷ bs)) ≡ length (take (suc m) (b ∷ bs)) =
+    subst (λ n. constant (take n (b ∷ bs)) ≡ length (take n (b ∷ bs))) e
+    (whole-cut constant constant-cut (b ∷ bs) (constant-le (b ∷ bs))) in
+    subst (λ n. IsAloneText kinds.Constant (take n (b ∷ bs))) (sym e)
+    (letter, whole, constant-last b (take m bs) whole)
+
+-- ## What begins at a place
+
+-- no white space, and none of the tokens that are scanned again
+abbrev IsOther : List Answer → Type 0
+IsOther [] = ⊥
+IsOther (Token t ∷ answers) = (is_simple t.kind ≡ false) × (is_program t.kind ≡ false)
+IsOther (answer ∷ answers) = Unit {0}
+
+data Tells (first : Bool) (f : Found) : Type 0 where
+  blank : f ≡ skipped_byte (in_part first) → Tells first f
+  token : (t : Seen) (notes : List Answer) → f.answers ≡ Token t ∷ notes → AreNotes notes → f.next ≡ in_part false
+      → t.hash_line ≡ false → (is_simple t.kind ≡ true → notes ≡ [] → IsAloneText t.kind t.text) → Tells first f
+  other : IsOther f.answers → Tells first f
+
+notes-are : (notes : List Noted) → AreNotes (note_answers notes)
+notes-are [] = tt
+notes-are (n ∷ notes) = notes-are notes
+
+none-noted : (notes : List Noted) → note_answers notes ≡ [] → notes ≡ []
+none-noted [] e = refl
+none-noted (n ∷ notes) e = absurd cc
+
+tells-one : (first hash_line : Bool) (next : Where) (place : ℕ) (bytes : List ℕ) (cut : Cut) → next ≡ in_part false
+    → hash_line ≡ false → (is_simple cut.kind ≡ true → cut.notes ≡ [] → IsAloneText cut.kind (take cut.size bytes))
+    → Tells first (one hash_line next place bytes cut)
+tells-one first hash_line next place bytes cut on line alone =
+    token (token_of hash_line cut.kind place cut.size bytes) (note_answers cut.notes) refl (notes-are cut.notes) on
+    line (λ simple quiet. alone simple (none-noted cut.notes quiet))
+
+passed-on : (first : Bool) → moved (in_part first) (passed (in_part first).part) ≡ in_part false
+passed-on true = refl
+passed-on false = refl
+
+no-line : (first : Bool) → in_hash_line (in_part first).part ≡ false
+no-line true = refl
+no-line false = refl
+
+-- ## Codes
+
+abbrev is_quote : Code → Bool
+is_quote codes.Quote = true
+is_quote code = false
+
+abbrev IsQuote : ℕ → Code → Type 0
+IsQuote byte code = is_quote code ≡ true → (byte == 39) ≡ true
+
+quote-byte : (byte : ℕ) → IsQuote byte (code_of byte)
+quote-byte byte =
+    if-both (IsQuote byte) (byte == 64) _ _ (λ h e. absurd cc) (λ n.
+    if-both (IsQuote byte) (byte == newline || is_blank byte) _ _ (λ h e. absurd cc) (λ n.
+    if-both (IsQuote byte) (byte == 42) _ _ (λ h e. absurd cc) (λ n.
+    if-both (IsQuote byte) (is_letter_of 100 byte) _ _ (λ h e. absurd cc) (λ n.
+    if-both (IsQuote byte) (is_letter_of 102 byte) _ _ (λ h e. absurd cc) (λ n.
+    if-both (IsQuote byte) (is_letter_of 115 byte) _ _ (λ h e. absurd cc) (λ n.
+    if-both (IsQuote byte) (is_letter_of 99 byte || is_letter_of 112 byte) _ _ (λ h e. absurd cc) (λ n.
+    if-both (IsQuote byte) (byte == 60) _ _ (λ h e. absurd cc) (λ n.
+    if-both (IsQuote byte) (byte == 40) _ _ (λ h e. absurd cc) (λ n.
+    if-both (IsQuote byte) (byte == 94) _ _ (λ h e. absurd cc) (λ n.
+    if-both (IsQuote byte) (byte == 46) _ _ (λ h e. absurd cc) (λ n.
+    if-both (IsQuote byte) (byte == 58) _ _ (λ h e. absurd cc) (λ n.
+    if-both (IsQuote byte) (byte == 33) _ _ (λ h e. absurd cc) (λ n.
+    if-both (IsQuote byte) (is_letter_of 113 byte) _ _ (λ h e. absurd cc) (λ n.
+    if-both (IsQuote byte) (is_letter_of 116 byte) _ _ (λ h e. absurd cc) (λ n.
+    if-both (IsQuote byte) (byte == 61) _ _ (λ h e. absurd cc) (λ n.
+    if-both (IsQuote byte) (byte == 44) _ _ (λ h e. absurd cc) (λ n.
+    if-both (IsQuote byte) (byte == 47) _ _ (λ h e. absurd cc) (λ n.
+    if-both (IsQuote byte) (byte == 124) _ _ (λ h e. absurd cc) (λ n.
+    if-both (IsQuote byte) (byte == 35) _ _ (λ h e. absurd cc) (λ n.
+    if-both (IsQuote byte) (byte == 43) _ _ (λ h e. absurd cc) (λ n.
+    if-both (IsQuote byte) (byte == 59) _ _ (λ h e. absurd cc) (λ n.
+    if-both (IsQuote byte) (byte == 91) _ _ (λ h e. absurd cc) (λ n.
+    if-both (IsQuote byte) (byte == 93) _ _ (λ h e. absurd cc) (λ n.
+    if-both (IsQuote byte) (is_letter_of 104 byte) _ _ (λ h e. absurd cc) (λ n.
+    if-both (IsQuote byte) (byte == 38) _ _ (λ h e. absurd cc) (λ n.
+    if-both (IsQuote byte) (byte == 39) _ _ (λ h e. h) (λ n.
+    if-both (IsQuote byte) (is_between 48 50 byte) _ _ (λ h e. absurd cc) (λ n.
+    if-both (IsQuote byte) (is_letter_of 108 byte) _ _ (λ h e. absurd cc) (λ n.
+    (λ e. absurd cc))))))))))))))))))))))))))))))
+
+quote-bytes : (b : ℕ) (bytes : List ℕ) (place : ℕ) → (b == at_sign) ≡ true → codes.Quote ≡ code_at bytes
+    → (code_token codes.Quote place (b ∷ bytes)).notes ≡ []
+    → IsAloneText (kinds.Code codes.Quote) (take (code_token codes.Quote place (b ∷ bytes)).size (b ∷ bytes))
+quote-bytes b [] place at e quiet = absurd cc
+quote-bytes b (c ∷ bytes) place at e quiet =
+    let mark : c ≡ 39 = eqb-true c 39 (quote-byte c (ap is_quote (sym e))) in
+    let closed : IsClosed 39 0 false (take (extent (at_start (bodies.Quoted 39) (place + 2)) bytes).size bytes) =
+    string-closed 39 (place + 2) bytes quiet in
+    let n = (extent (at_start (bodies.Quoted 39) (place + 2)) bytes).size in
+    let size : 2 + n ≡ suc (suc n) = omega arith in
+    subst (λ k. IsAloneText (kinds.Code codes.Quote) (take k (b ∷ c ∷ bytes))) (sym size)
+    (eqb-true b 64 at, (mark, closed))
+
+tells-code : (first : Bool) (code : Code) (place b : ℕ) (bytes : List ℕ) → (b == at_sign) ≡ true
+    → code ≡ code_at bytes
+    → Tells first (code_by (effect_in (in_part first).part (in_part first).comments code) code (in_part first) place
+    (b ∷ bytes))
+tells-code true codes.Program place b bytes at e =
+    tells-one true false (in_part false) place (b ∷ bytes) (plain (kinds.Code codes.Program) 2) refl refl
+    (λ simple quiet. absurd (let e : false ≡ true = simple in cc))
+tells-code true codes.Quote place b bytes at e =
+    tells-one true false (in_part false) place (b ∷ bytes) (code_token codes.Quote place (b ∷ bytes)) refl refl
+    (λ simple quiet. quote-bytes b bytes place at e quiet)
+tells-code true _ place b bytes at e = other (refl, refl)
+tells-code false codes.Quote place b bytes at e =
+    tells-one false false (in_part false) place (b ∷ bytes) (code_token codes.Quote place (b ∷ bytes)) refl refl
+    (λ simple quiet. quote-bytes b bytes place at e quiet)
+tells-code false _ place b bytes at e = other (refl, refl)
+
+-- ## Tokens
+
+string-alone : (mark b : ℕ) (bytes : List ℕ) (place : ℕ) → mark ≡ b → (b == quote || b == apostrophe) ≡ true
+    → (string kinds.Quoted 1 mark place (b ∷ bytes)).notes ≡ []
+    → IsAloneText kinds.Quoted (take (string kinds.Quoted 1 mark place (b ∷ bytes)).size (b ∷ bytes))
+string-alone mark b bytes place same is quiet =
+    let n = (extent (at_start (bodies.Quoted mark) (place + 1)) bytes).size in
+    let closed : IsClosed mark 0 false (take n bytes) = string-closed mark (place + 1) bytes quiet in
+    let size : 1 + n ≡ suc n = omega arith in
+    subst (λ k. IsAloneText kinds.Quoted (take k (b ∷ bytes))) (sym size)
+    (is, subst (λ q. IsClosed q 0 false (take n bytes)) same closed)
+
+-- what is known where C text begins so
+abbrev Says : ℕ → List ℕ → Start → Type 0
+Says b bytes start.Identifier = is_letter b ≡ true
+Says b bytes start.Constant = (is_letter b ≡ false) × (nat_lt 0 (constant (b ∷ bytes)) ≡ true)
+Says b bytes (start.Quoted mark) = (mark ≡ b) × ((b == quote || b == apostrophe) ≡ true)
+Says b bytes (start.Code code) = ((b == at_sign) ≡ true) × (code ≡ code_at bytes)
+Says b bytes (start.Sign sign) = longest all_signs (b ∷ bytes) ≡ Some sign
+Says b bytes s = Unit {0}
+
+sign-says : (b : ℕ) (bytes : List ℕ) (o : Option Sign) → longest all_signs (b ∷ bytes) ≡ o
+    → Says b bytes (sign_or_other o)
+sign-says b bytes None e = tt
+sign-says b bytes (Some sign) e = e
+
+start-says : (b : ℕ) (bytes : List ℕ) → Says b bytes (start_of false b bytes)
+start-says b bytes =
+    if-both (Says b bytes) (is_letter b) _ _ (λ h. h) (λ letter.
+    if-both (Says b bytes) (nat_lt 0 (constant (b ∷ bytes))) _ _ (λ h. (letter, h)) (λ n.
+    if-both (Says b bytes) (b == quote || b == apostrophe) _ _ (λ h. (refl, h)) (λ n.
+    if-both (Says b bytes) (b == slash && begins star bytes) _ _ (λ h. tt) (λ n.
+    if-both (Says b bytes) (b == slash && begins slash bytes) _ _ (λ h. tt) (λ n.
+    if-both (Says b bytes) (b == at_sign) _ _ (λ h. (h, refl)) (λ n.
+    if-both (Says b bytes) (b == 124 && (false && not-bar)) _ _ (λ h. tt) (λ n.
+    sign-says b bytes (longest all_signs (b ∷ bytes)) refl)))))))
+  where
+    not-bar : Bool
+    not-bar = elim (begins 124 bytes) [ true ↦ false | false ↦ true ]
+
+hash-none : (h : Bool) → (elim h [ true ↦ false | false ↦ true ]) ≡ true → h ≡ false
+hash-none true e = absurd cc
+hash-none false e = refl
+
+tells-start : (first : Bool) (s : Start) (place b : ℕ) (bytes : List ℕ) → Says b bytes s
+    → Tells first (in_code s (in_part first) place (b ∷ bytes))
+tells-start true start.Identifier place b bytes says =
+    tells-one true false (in_part false) place (b ∷ bytes) (identifier (b ∷ bytes)) refl refl
+    (λ simple quiet. identifier-alone b bytes says)
+tells-start false start.Identifier place b bytes says =
+    tells-one false false (in_part false) place (b ∷ bytes) (identifier (b ∷ bytes)) refl refl
+    (λ simple quiet. identifier-alone b bytes says)
+tells-start first start.Constant place b bytes says =
+    tells-one first (in_hash_line (in_part first).part) (moved (in_part first) (passed (in_part first).part)) place
+    (b ∷ bytes)
+    (plain kinds.Constant (constant (b ∷ bytes))) (passed-on first)
+    (no-line first) (λ simple quiet. constant-alone b bytes says.0 says.1)
+tells-start first (start.Quoted mark) place b bytes says =
+    tells-one first (in_hash_line (in_part first).part) (moved (in_part first) (passed (in_part first).part)) place
+    (b ∷ bytes)
+    (string kinds.Quoted 1 mark place (b ∷ bytes)) (passed-on first)
+    (no-line first) (λ simple quiet. string-alone mark b bytes place says.0 says.1 quiet)
+tells-start first start.LongComment place b bytes says = other tt
+tells-start first start.ShortComment place b bytes says = other tt
+tells-start first (start.Code code) place b bytes says = tells-code first code place b bytes says.0 says.1
+tells-start first start.EndOfInner place b bytes says = other tt
+tells-start first (start.Sign sign) place b bytes says =
+    tells-one first (in_hash_line (in_part first).part) (moved (in_part first) (passed (in_part first).part)) place
+    (b ∷ bytes)
+    (plain (kinds.Sign sign) (length (spelling sign))) (passed-on first)
+    (no-line first) (λ simple quiet. sign-alone all_signs (b ∷ bytes) sign says (hash-none (is_hash sign) simple))
+tells-start first start.OtherByte place b bytes says = other (refl, refl)
+
+-- ## Any place
+
+section-other : (bytes : List ℕ)
+    → (is_simple (section_code bytes).kind ≡ false) × (is_program (section_code bytes).kind ≡ false)
+section-other bytes = if-both (λ (c : Cut). (is_simple c.kind ≡ false) × (is_program c.kind ≡ false))
+    (begins star (drop 1 bytes)) _ _ (λ h. (refl, refl)) (λ h. (refl, refl))
+
+tells-section : (first : Bool) (place : ℕ) (bytes : List ℕ) → Tells first (section (in_part first) place bytes)
+tells-section true place bytes = other (section-other (at_sign ∷ bytes))
+tells-section false place bytes = other (section-other (at_sign ∷ bytes))
+
+tells-text : (first fresh : Bool) (last place b : ℕ) (bytes : List ℕ)
+    → Tells first (code_text (in_part first) fresh last place b bytes)
+tells-text true fresh last place b bytes =
+    if-both (Tells true) (b == newline) _ _ (λ h. blank refl) (λ n.
+    if-both (Tells true) (is_space (in_part true).part b bytes) _ _ (λ h. blank refl) (λ n.
+    if-both (Tells true) (b == hash && fresh) _ _ (λ h. other (refl, refl)) (λ n.
+    if-both (Tells true) (b == less && false) _ _ (λ h. other (refl, refl)) (λ n.
+    tells-start true (start_of false b bytes) place b bytes (start-says b bytes)))))
+tells-text false fresh last place b bytes =
+    if-both (Tells false) (b == newline) _ _ (λ h. blank refl) (λ n.
+    if-both (Tells false) (is_space (in_part false).part b bytes) _ _ (λ h. blank refl) (λ n.
+    if-both (Tells false) (b == hash && fresh) _ _ (λ h. other (refl, refl)) (λ n.
+    if-both (Tells false) (b == less && false) _ _ (λ h. other (refl, refl)) (λ n.
+    tells-start false (start_of false b bytes) place b bytes (start-says b bytes)))))
+
+tells-found : (first fresh : Bool) (last place b : ℕ) (bytes : List ℕ)
+    → Tells first (found (in_part first) fresh last place b bytes)
+tells-found true fresh last place b bytes =
+    if-both (Tells true) (b == at_sign && begins_section bytes) _ _ (λ h. tells-section true place bytes)
+    (λ h. tells-text true fresh last place b bytes)
+tells-found false fresh last place b bytes =
+    if-both (Tells false) (b == at_sign && begins_section bytes) _ _ (λ h. tells-section false place bytes)
+    (λ h. tells-text false fresh last place b bytes)
+
+-- ## All tokens of a part
+
+abbrev pub AreAlone : List Answer → Type 0
+AreAlone [] = Unit {0}
+AreAlone (Token t ∷ answers) = IsAloneText t.kind t.text × (t.hash_line ≡ false) × AreAlone answers
+AreAlone (answer ∷ answers) = ⊥
+
+no-notes : (xs ys : List Answer) → AreNotes xs → AreSimpleTokens (xs ++ ys) → xs ≡ []
+no-notes [] ys notes are = refl
+no-notes (Token t ∷ xs) ys notes are = absurd notes
+no-notes (Begin t ∷ xs) ys notes are = absurd notes
+no-notes (Finish t ∷ xs) ys notes are = absurd notes
+no-notes (Note kind place ∷ xs) ys notes are = absurd are
+
+other-none : (xs ys : List Answer) → IsOther xs → AreSimpleTokens (xs ++ ys) → ⊥
+other-none [] ys is are = is
+other-none (Token t ∷ xs) ys is are = let e : true ≡ false = sym are.0 ∙ is.0 in cc
+other-none (Begin t ∷ xs) ys is are = are
+other-none (Finish t ∷ xs) ys is are = are
+other-none (Note kind place ∷ xs) ys is are = are
+
+other-first : (xs ys rest : List Answer) → IsOther xs → BeginsBefore rest (xs ++ ys) → ⊥
+other-first [] ys rest is begun = is
+other-first (Token t ∷ xs) ys rest is begun = let e : true ≡ false = sym begun.0 ∙ is.1 in cc
+other-first (Begin t ∷ xs) ys rest is begun = begun
+other-first (Finish t ∷ xs) ys rest is begun = begun
+other-first (Note kind place ∷ xs) ys rest is begun = begun
+
+alone-on : (bytes : List ℕ) (fresh : Bool) (last place taken : ℕ)
+    → AreSimpleTokens (answers bytes (in_part false) fresh last place taken)
+    → AreAlone (answers bytes (in_part false) fresh last place taken)
+alone-on [] fresh last place taken are = tt
+alone-on (b ∷ bytes) fresh last place (suc taken) are =
+    alone-on bytes (still_fresh fresh b) b (place + 1) taken are
+alone-on (b ∷ bytes) fresh last place zero are =
+    by (found (in_part false) fresh last place b bytes) (tells-found false fresh last place b bytes) are
+    (λ more are. alone-on bytes (still_fresh fresh b) b (place + 1) more are)
+  where
+    on : Where → ℕ → List Answer
+    on next more = answers bytes next (still_fresh fresh b) b (place + 1) more
+
+    by : (f : Found) → Tells false f → AreSimpleTokens (joined f on)
+        → ((more : ℕ) → AreSimpleTokens (on (in_part false) more) → AreAlone (on (in_part false) more))
+        → AreAlone (joined f on)
+    by f (blank e) are later = subst (λ g. AreAlone (joined g on)) (sym e)
+        (later 0 (subst (λ g. AreSimpleTokens (joined g on)) e are))
+    by f (token t notes e n next line alone) are later =
+        let ys = on (in_part false) f.more in
+        let q : joined f on ≡ Token t ∷ (notes ++ ys) = λ i. e i ++ on (next i) f.more in
+        let simple : AreSimpleTokens (Token t ∷ (notes ++ ys)) = subst AreSimpleTokens q are in
+        let none = no-notes notes ys n simple.1 in
+        let rest : AreSimpleTokens ys = subst (λ l. AreSimpleTokens (l ++ ys)) none simple.1 in
+        subst AreAlone (sym (q ∙ ap (λ l. Token t ∷ (l ++ ys)) none)) (alone simple.0 none, line, later f.more rest)
+    by f (other is) are later = absurd (other-none f.answers (on f.next f.more) is are)
+
+alone-behind : (bytes : List ℕ) (fresh : Bool) (last place : ℕ) (rest : List Answer)
+    → BeginsBefore rest (answers bytes (in_part true) fresh last place 0) → AreSimpleTokens rest → AreAlone rest
+alone-behind [] fresh last place rest begun are = absurd begun
+alone-behind (b ∷ bytes) fresh last place rest begun are =
+    by (found (in_part true) fresh last place b bytes) (tells-found true fresh last place b bytes) begun
+    (λ begun. alone-behind bytes (still_fresh fresh b) b (place + 1) rest begun are)
+  where
+    on : Where → ℕ → List Answer
+    on next more = answers bytes next (still_fresh fresh b) b (place + 1) more
+
+    by : (f : Found) → Tells true f → BeginsBefore rest (joined f on)
+        → (BeginsBefore rest (on (in_part true) 0) → AreAlone rest) → AreAlone rest
+    by f (blank e) begun later = later (subst (λ g. BeginsBefore rest (joined g on)) e begun)
+    by f (token t notes e n next line alone) begun later =
+        let ys = on (in_part false) f.more in
+        let q : joined f on ≡ Token t ∷ (notes ++ ys) = λ i. e i ++ on (next i) f.more in
+        let before : BeginsBefore rest (Token t ∷ (notes ++ ys)) = subst (BeginsBefore rest) q begun in
+        let simple : AreSimpleTokens (notes ++ ys) = subst AreSimpleTokens (sym before.1) are in
+        let none = no-notes notes ys n simple in
+        let left : AreSimpleTokens ys = subst (λ l. AreSimpleTokens (l ++ ys)) none simple in
+        subst AreAlone (ap (λ l. l ++ ys) (sym none) ∙ before.1)
+        (alone-on bytes (still_fresh fresh b) b (place + 1) f.more left)
+    by f (other is) begun later = absurd (other-first f.answers (on f.next f.more) rest is begun)
+
+-- The tokens of a part behind its code, where they are simple, are tokens by themselves.
+pub part-alone : (text : List ℕ) (from end : ℕ) (rest : List Answer)
+    → BeginsBefore rest (tokens_of text from end CPart) → AreSimpleTokens rest → AreAlone rest
+part-alone text from end rest begun are =
+    alone-behind (drop from (take end text)) (fresh_at (take end text) from) (last_at (take end text) from) from rest
+    begun are

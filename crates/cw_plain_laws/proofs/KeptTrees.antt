@@ -1,0 +1,131 @@
+-- What holds of the trees of scraps holds of the tree that these are reduced to, where joining and reserving keep it.
+use Rattle.std.proofs.Common.{◌≡◌, ℕ, zero, suc, List, [], ◌∷◌, ◌++◌, get_or, length, map, take, drop, inl, inr, refl}
+use Rattle.std.proofs.Common.{sym}
+use Rattle.std.proofs.Common.{subst}
+use Rattle.std.specs.List.{All}
+use Rattle.std.proofs.lemmas.Bool.{cases_lt}
+use Rattle.std.proofs.lemmas.List.{get_or_past}
+use Rattle.std.proofs.lemmas.List.Elements.{All-head, All-map, All-tail}
+use Rattle.cw_base.specs.declared.flags.Flags.{Flags}
+use Rattle.cw_base.specs.declared.mode.MathMode.{MathMode}
+use Rattle.cw_base.specs.declared.mode.MathMode.TheVariants.{Text, Math, Maybe}
+use Rattle.cw_scraps.proofs.Keeping.{keeps-all}
+use Rattle.cw_table.proofs.Normals.{steps-none, steps-turn}
+use Rattle.cw_table.specs.Normal.{Place, Nowhere, At, next_place, normal, steps, weight}
+use Rattle.cw_table.specs.Productions.{productions}
+use Rattle.cw_table.specs.Rewriting.{State, joined_of, math_piece, rewrite, rewrite_from}
+use Rattle.cw_table.specs.declared.types.Piece.{Piece}
+use Rattle.cw_table.specs.declared.types.Piece.TheVariants as piece
+use Rattle.cw_table.specs.declared.types.Row.{Row}
+use Rattle.cw_trees.specs.Joining.{Scrap, no_scrap, Joined, Whole, Mark, after, blank_and_whole, dollar_before, in_text}
+use Rattle.cw_trees.specs.Joining.{joined_tree, needs, toggled, whole}
+use Rattle.cw_trees.specs.Tree.{Tree, Empty, Then, Sub, Sign, reserve_first}
+use Rattle.cw_trees.specs.declared.Control.{Control}
+use Rattle.cw_trees.specs.declared.Control.TheVariants as control
+use Rattle.cw_plain_laws.proofs.Walks.{IsFree}
+
+abbrev pub OfScrap : (Tree → Type 0) → Scrap → Type 0
+OfScrap T scrap = T scrap.tree
+
+abbrev pub OfPiece : (Tree → Type 0) → Joined → Type 0
+OfPiece T (Whole tree left right) = T tree
+OfPiece T (Mark c) = IsFree c
+
+module _ (T : Tree → Type 0) (empty : T Empty) (subs : (a b : Tree) → T a → T b → T (Sub a b))
+    (signs : (c : Control) (t : Tree) → IsFree c → T t → T (Then (Sign c) t))
+    (reserves : (t : Tree) → T t → T (reserve_first t)) where
+  -- ## Joining
+
+  toggled-kept : (m l : MathMode) (t : Tree) → T t → T (toggled m l t)
+  toggled-kept Math Text t h = signs control.ToText t tt h
+  toggled-kept Text Math t h = signs control.ToMath t tt h
+  toggled-kept Math Math t h = h
+  toggled-kept Math Maybe t h = h
+  toggled-kept Text Text t h = h
+  toggled-kept Text Maybe t h = h
+  toggled-kept Maybe l t h = h
+
+  joined-kept : (m : MathMode) (js : List Joined) → All (OfPiece T) js → T (joined_tree m js)
+  joined-kept m [] all = empty
+  joined-kept m (Whole tree l r ∷ js) all =
+      let rest : T (joined_tree (after m l r) js) = joined-kept (after m l r) js
+      (All-tail (OfPiece T) (Whole tree l r) js all) in
+      toggled-kept m l (Sub tree (joined_tree (after m l r) js))
+      (subs tree (joined_tree (after m l r) js) (All-head (OfPiece T) (Whole tree l r) js all) rest)
+  joined-kept m (Mark c ∷ js) all =
+      let rest : T (joined_tree (after m (needs c) (needs c)) js) = joined-kept (after m (needs c) (needs c)) js
+      (All-tail (OfPiece T) (Mark c) js all) in
+      toggled-kept m (needs c) (Then (Sign c) (joined_tree (after m (needs c) (needs c)) js))
+      (signs c (joined_tree (after m (needs c) (needs c)) js) (All-head (OfPiece T) (Mark c) js all) rest)
+
+  math-kept : (tree : Tree) (l r : MathMode) → T tree → OfPiece T (math_piece tree l r)
+  math-kept tree Maybe Maybe h = h
+  math-kept tree Maybe Text h = h
+  math-kept tree Maybe Math h = h
+  math-kept tree Text r h = h
+  math-kept tree Math r h = h
+
+  at-kept : (scraps : List Scrap) (k : ℕ) → All (OfScrap T) scraps → OfScrap T (get_or scraps k no_scrap)
+  at-kept scraps k all = elim (cases_lt k (length scraps)) [
+    | inl h ↦ all k no_scrap h
+    | inr h ↦ subst (OfScrap T) (sym (get_or_past scraps k no_scrap h)) empty
+  ]
+
+  piece-kept : (scraps : List Scrap) (p : Piece) → All (OfScrap T) scraps → OfPiece T (joined_of scraps p)
+  piece-kept scraps (piece.Scrap k) all = at-kept scraps k all
+  piece-kept scraps (piece.MathScrap k) all = math-kept (get_or scraps k no_scrap).tree
+      (get_or scraps k no_scrap).left (get_or scraps k no_scrap).right (at-kept scraps k all)
+  piece-kept scraps _ all = tt
+
+  -- ## Productions
+
+  rewritten-kept : (flags : Flags) (row : Row) (place : ℕ) (scraps : List Scrap) → All (OfScrap T) scraps
+      → All (OfScrap T) (take place scraps ++ rewrite_from flags row (drop place scraps))
+  rewritten-kept flags row place scraps all = keeps-all (OfScrap T) empty (λ s h. reserves s.tree h) (λ cat s h. h)
+      (λ cat ss pieces h. joined-kept Maybe (map (joined_of ss) pieces)
+      (All-map (OfPiece T) (joined_of ss) pieces (λ k d lt. piece-kept ss (get_or pieces k d) h)))
+      flags row place scraps all
+
+  steps-kept : (rows : List Row) (flags : Flags) (n : ℕ) (st : State) → All (OfScrap T) st.scraps
+      → All (OfScrap T) (steps rows flags n st).scraps
+  steps-kept rows flags zero st all = all
+  steps-kept rows flags (suc n) st all = go (next_place rows st) refl (λ s. steps-kept rows flags n s)
+    where
+      go : (p : Place) → next_place rows st ≡ p
+          → ((s : State) → All (OfScrap T) s.scraps → All (OfScrap T) (steps rows flags n s).scraps)
+          → All (OfScrap T) (steps rows flags (suc n) st).scraps
+      go Nowhere e rec = subst (λ (s : State). All (OfScrap T) s.scraps) (sym (steps-none rows flags (suc n) st e)) all
+      go (At i r) e rec = subst (λ (s : State). All (OfScrap T) s.scraps) (sym (steps-turn rows flags n i r st e))
+          (rec (rewrite flags r i st) (rewritten-kept flags r i st.scraps all))
+
+  normal-kept : (rows : List Row) (flags : Flags) (st : State) → All (OfScrap T) st.scraps
+      → All (OfScrap T) (normal rows flags st).scraps
+  unfolding normal
+  normal-kept rows flags st all = steps-kept rows flags (weight st.scraps) st all
+
+  -- ## What no production joins
+
+  dollar-kept : (m : MathMode) (t : Tree) → T t → T (dollar_before m t)
+  dollar-kept Math t h = signs control.Dollar t tt h
+  dollar-kept Text t h = h
+  dollar-kept Maybe t h = h
+
+  in_text-kept : (s : Scrap) (rest : Tree) → T s.tree → T rest → T (in_text s rest)
+  in_text-kept s rest h r = dollar-kept s.left (Sub s.tree (dollar_before s.right rest))
+      (subs s.tree (dollar_before s.right rest) h (dollar-kept s.right rest r))
+
+  blank-kept : (scraps : List Scrap) → All (OfScrap T) scraps → T (blank_and_whole scraps)
+  blank-kept [] all = empty
+  blank-kept (s ∷ scraps) all = signs control.Blank (in_text s (blank_and_whole scraps)) tt
+      (in_text-kept s (blank_and_whole scraps) (All-head (OfScrap T) s scraps all)
+      (blank-kept scraps (All-tail (OfScrap T) s scraps all)))
+
+  whole-kept : (scraps : List Scrap) → All (OfScrap T) scraps → T (whole scraps)
+  whole-kept [] all = empty
+  whole-kept (s ∷ scraps) all = in_text-kept s (blank_and_whole scraps) (All-head (OfScrap T) s scraps all)
+      (blank-kept scraps (All-tail (OfScrap T) s scraps all))
+
+  pub end-kept : (flags : Flags) (state : State) → All (OfScrap T) state.scraps
+      → T (whole (normal productions flags state).scraps)
+  end-kept flags state all = whole-kept (normal productions flags state).scraps
+      (normal-kept productions flags state all)

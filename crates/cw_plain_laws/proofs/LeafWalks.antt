@@ -1,0 +1,283 @@
+-- The leaves of tokens, of comments and of section names have the bytes of their tokens.
+use Rattle.std.proofs.Common.{◌≡◌, ℕ, Bool, true, false, List, [], ◌∷◌, ◌++◌, Option, Some, None, refl, sym, ap, subst}
+use Rattle.std.proofs.Common.{◌∙◌}
+use Rattle.std.specs.List.{All}
+use Rattle.std.specs.Prelude.{codes}
+use Rattle.std.proofs.lemmas.List.{append_assoc}
+use Rattle.std.proofs.lemmas.List.Elements.{All-head, All-tail}
+use Rattle.cw_base.specs.declared.category.Cat.{Cat}
+use Rattle.cw_base.specs.declared.category.Cat.TheVariants.{Exp}
+use Rattle.cw_base.specs.declared.flags.Flags.{Flags}
+use Rattle.cw_base.specs.declared.mode.MathMode.{MathMode}
+use Rattle.cw_base.specs.declared.mode.MathMode.TheVariants.{Text, Maybe}
+use Rattle.cw_lex.specs.Nest.{IsGroupOf}
+use Rattle.cw_names.specs.declared.NameId.{NameId}
+use Rattle.cw_names.specs.Names.{Entry}
+use Rattle.cw_plain.specs.Pieces.{Piece, Word, Part, Ending, Opening, Closing, Move, Nothing, Placed, Source, Stand}
+use Rattle.cw_plain.specs.Pieces.{before, found_placed, in_name, number_placed, outside, pieces_from, placed}
+use Rattle.cw_plain.specs.Pieces.{token_placed}
+use Rattle.cw_plain_laws.proofs.FoundTokens.{IsFound}
+use Rattle.cw_plain_laws.proofs.WalkLaws.{inner-passed, sign-walks}
+use Rattle.cw_plain_laws.proofs.Walks.{Walks, among, owners}
+use Rattle.cw_reduce.proofs.ShownLaws.{struck-parts}
+use Rattle.cw_rules.specs.Answers.{Answer, Seen}
+use Rattle.cw_rules.specs.declared.codes.Code.{Code}
+use Rattle.cw_rules.specs.declared.codes.Code.TheVariants as code
+use Rattle.cw_rules.specs.declared.tokens.TokKind.{TokKind}
+use Rattle.cw_rules.specs.declared.tokens.TokKind.TheVariants as kind
+use Rattle.cw_scraps.specs.Leaves.{LeafForm, code_form, sign_mode, token_form, word_form}
+use Rattle.cw_tokens.specs.Shapes.{tree_in}
+use Rattle.cw_tokens.specs.declared.token.Token.{Token}
+use Rattle.cw_translator.specs.Translating.{CommentItem, Piece as TextPiece, InnerText, Known, comment_rest}
+use Rattle.cw_translator.specs.Translating.{comment_tree}
+use Rattle.cw_translator.specs.Translating.{plain_text, texts_made}
+use Rattle.cw_trees.specs.Flat.{Item, SignItem, Close, continues_name, flat, struck}
+use Rattle.cw_trees.specs.Tree.{Source as SourceLeaf, Ident, Reserved, Sign, Tree, Then}
+use Rattle.cw_trees.specs.declared.Control.TheVariants as control
+
+-- ## What a token prints
+
+-- The token of a number prints its bytes, wherever it stands, and leads to where it stands.
+abbrev pub OwnsBy : (Stand → Placed) → ℕ → Type 0
+OwnsBy f number = (owners ((f outside).piece ∷ []) ≡ number ∷ [])
+    × ((stand : Stand) → f stand ≡ placed (f outside).piece stand)
+
+abbrev pub Owns : Source → ℕ → Type 0
+Owns s number = OwnsBy (number_placed s number) number
+
+-- a token that begins no comment and is no section name
+abbrev pub stays : TokKind → Bool
+stays kind.LongComment = false
+stays kind.ShortComment = false
+stays (kind.Code code.SectionName) = false
+stays (kind.Code code.FileName) = false
+stays k = true
+
+token-owns : (number : ℕ) (title : Option (List ℕ)) (k : TokKind) (text : List ℕ) → stays k ≡ true
+    → OwnsBy (token_placed number title k text) number
+token-owns number title kind.LongComment text e = absurd cc
+token-owns number title kind.ShortComment text e = absurd cc
+token-owns number title kind.Text text e = (refl, λ stand. refl)
+token-owns number title kind.HeadSign text e = (refl, λ stand. refl)
+token-owns number title (kind.Code code.SectionName) text e = absurd cc
+token-owns number title (kind.Code code.FileName) text e = absurd cc
+token-owns number title (kind.Code c) text e = (refl, λ stand. refl)
+token-owns number title _ text e = (refl, λ stand. refl)
+
+pub found-owns : (s : Source) (t : Seen) → IsFound s.answers t → stays t.kind ≡ true → Owns s t.span.start
+found-owns s t found e =
+    let n = t.span.start in
+    subst (λ (o : Option Seen). OwnsBy (found_placed n (s.titles n) o) n) (sym found)
+    (token-owns n (s.titles n) t.kind t.text e)
+
+owners-first : (p : Piece) (ps : List Piece) → owners (p ∷ ps) ≡ owners (p ∷ []) ++ owners ps
+owners-first (Word number bytes) ps = refl
+owners-first (Part number bytes) ps = refl
+owners-first (Ending bytes) ps = refl
+owners-first Opening ps = refl
+owners-first Closing ps = refl
+owners-first (Move c) ps = refl
+owners-first Nothing ps = refl
+
+owns-first : (s : Source) (number : ℕ) → Owns s number → (stand : Stand) (rest : Stand → List Piece)
+    → owners (before (number_placed s number stand) rest) ≡ number ∷ owners (rest stand)
+owns-first s number owns stand rest =
+    ap (λ p. owners (before p rest)) (owns.1 stand)
+    ∙ owners-first (number_placed s number outside).piece (rest stand)
+    ∙ ap (λ l. l ++ owners (rest stand)) owns.0
+
+pub source-walks : (s : Source) (number : ℕ) (mode : MathMode) (t : Tree) → Owns s number → Walks s t
+    → Walks s (Then (SourceLeaf number mode) t)
+source-walks s number mode t owns walks comments rest =
+    owns-first s number owns (among comments) (pieces_from s (flat t ++ rest))
+    ∙ ap (λ l. number ∷ l) (walks comments rest)
+
+ident-walks : (s : Source) (name number : ℕ) (t : Tree) → Owns s number → Walks s t
+    → Walks s (Then (Ident name number) t)
+ident-walks s name number t owns walks comments rest =
+    owns-first s number owns (among comments) (pieces_from s (flat t ++ rest))
+    ∙ ap (λ l. number ∷ l) (walks comments rest)
+
+reserved-walks : (s : Source) (name number : ℕ) (c : Cat) (t : Tree) → Owns s number → Walks s t
+    → Walks s (Then (Reserved name number c) t)
+reserved-walks s name number c t owns walks comments rest =
+    owns-first s number owns (among comments) (pieces_from s (flat t ++ rest))
+    ∙ ap (λ l. number ∷ l) (walks comments rest)
+
+-- ## Tokens
+
+-- Tokens of a list that have their bytes, whatever stands behind them.
+abbrev pub TokensWalk : Source → List Token → Type 0
+TokensWalk s tokens = (rest : List Token) → Walks s (tree_in [] rest) → Walks s (tree_in [] (tokens ++ rest))
+
+abbrev pub FormWalks : Source → Option LeafForm → Type 0
+FormWalks s None = Unit {0}
+FormWalks s (Some form) = TokensWalk s form.tokens
+
+word-walks : (s : Source) (c : Cat) (name : NameId) (n : ℕ) → Owns s n → TokensWalk s (word_form c name n).tokens
+word-walks s Exp name n owns rest walks = ident-walks s name.index n (tree_in [] rest) owns walks
+word-walks s c name n owns rest walks = reserved-walks s name.index n c (tree_in [] rest) owns walks
+
+code-walks : (s : Source) (c : Code) (n : ℕ) → (stays (kind.Code c) ≡ true → Owns s n) → FormWalks s (code_form c n)
+code-walks s code.TexBox n owns = λ rest walks. source-walks s n Maybe (tree_in [] rest) (owns refl) walks
+code-walks s code.Verbatim n owns = λ rest walks. source-walks s n Maybe (tree_in [] rest) (owns refl) walks
+code-walks s code.Quote n owns = λ rest walks. source-walks s n Maybe (tree_in [] rest) (owns refl) walks
+code-walks s code.Join n owns = λ rest walks. source-walks s n Maybe (tree_in [] rest) (owns refl) walks
+code-walks s code.ThinSpace n owns = λ rest walks. sign-walks s control.ThinSpace (tree_in [] rest) tt walks
+code-walks s code.LineBreak n owns = λ rest walks. sign-walks s control.Break (tree_in [] rest) tt walks
+code-walks s code.BigBreak n owns = λ rest walks. sign-walks s control.BigBreak (tree_in [] rest) tt walks
+code-walks s code.OptionalBreak n owns = λ rest walks.
+    sign-walks s control.OptionalLineBreak0 (tree_in [] rest) tt walks
+code-walks s code.NoBreak n owns = λ rest walks.
+    let last = sign-walks s control.Cancel (tree_in [] rest) tt walks in
+    let wall = sign-walks s control.Wall (Then (Sign control.Cancel) (tree_in [] rest)) tt last in
+    let blank = sign-walks s control.Blank (Then (Sign control.Wall) (Then (Sign control.Cancel) (tree_in [] rest))) tt
+    wall in
+    sign-walks s control.Cancel
+    (Then (Sign control.Wall) (Then (Sign control.Blank) (Then (Sign control.Wall) (Then (Sign control.Cancel)
+    (tree_in [] rest))))) tt
+    (sign-walks s control.Wall
+    (Then (Sign control.Blank) (Then (Sign control.Wall) (Then (Sign control.Cancel) (tree_in [] rest)))) tt blank)
+code-walks s code.HeaderFile n owns = λ rest walks.
+    let behind : Tree = Then (Sign control.Break) (tree_in [] rest) in
+    sign-walks s control.Break (Then (SourceLeaf n Text) behind) tt
+    (source-walks s n Text behind (owns refl) (sign-walks s control.Break (tree_in [] rest) tt walks))
+code-walks s code.InvisibleSemicolon n owns = λ rest walks. walks
+code-walks s code.BeginArgument n owns = λ rest walks. walks
+code-walks s code.EndArgument n owns = λ rest walks. walks
+code-walks s _ n owns = tt
+
+pub form-walks : (s : Source) (k : TokKind) (text : List ℕ) (hash_line : Bool) (n : ℕ) (names : List Entry)
+    → (stays k ≡ true → Owns s n) → FormWalks s (token_form k text hash_line n names)
+form-walks s kind.Identifier text hash_line n names owns = word-walks s _ _ n (owns refl)
+form-walks s kind.Constant text hash_line n names owns = λ rest walks.
+    source-walks s n Maybe (tree_in [] rest) (owns refl) walks
+form-walks s kind.Quoted text hash_line n names owns = λ rest walks.
+    source-walks s n Maybe (tree_in [] rest) (owns refl) walks
+form-walks s kind.IncludeName text hash_line n names owns = λ rest walks.
+    source-walks s n Maybe (tree_in [] rest) (owns refl) walks
+form-walks s kind.OtherByte text hash_line n names owns = λ rest walks.
+    source-walks s n Maybe (tree_in [] rest) (owns refl) walks
+form-walks s (kind.Sign sign) text hash_line n names owns = λ rest walks.
+    source-walks s n (sign_mode sign) (tree_in [] rest) (owns refl) walks
+form-walks s kind.HashLine text hash_line n names owns = λ rest walks.
+    sign-walks s control.Break (Then (SourceLeaf n Text) (tree_in [] rest)) tt
+    (source-walks s n Text (tree_in [] rest) (owns refl) walks)
+form-walks s kind.HashLineEnd text hash_line n names owns = λ rest walks.
+    sign-walks s control.Break (tree_in [] rest) tt walks
+form-walks s (kind.Code c) text hash_line n names owns = code-walks s c n owns
+form-walks s _ text hash_line n names owns = tt
+
+-- ## Comments
+
+abbrev pub ItemWalks : Source → CommentItem → Type 0
+ItemWalks s (TextPiece number) = Owns s number
+ItemWalks s (InnerText tree) = Walks s tree
+
+goes-on : (items : List CommentItem) → continues_name (comment_rest items) ≡ false
+goes-on [] = refl
+goes-on (TextPiece number ∷ items) = refl
+goes-on (InnerText tree ∷ items) = refl
+
+-- the rest of a comment leads out of it
+rest-walks : (s : Source) (items : List CommentItem) → All (ItemWalks s) items → (long : Bool) (comments : List Bool)
+    (rest : List Item) → owners (pieces_from s (flat (comment_rest items) ++ rest) (among (long ∷ comments)))
+    ≡ struck (comment_rest items) ++ owners (pieces_from s rest (among comments))
+rest-walks s [] all long comments rest = refl
+rest-walks s (TextPiece number ∷ items) all long comments rest =
+    owns-first s number (All-head (ItemWalks s) (TextPiece number) items all) (among (long ∷ comments))
+    (pieces_from s (flat (comment_rest items) ++ rest))
+    ∙ ap (λ l. number ∷ l) (rest-walks s items (All-tail (ItemWalks s) (TextPiece number) items all) long comments rest)
+rest-walks s (InnerText tree ∷ items) all long comments rest =
+    let walks : Walks s tree = All-head (ItemWalks s) (InnerText tree) items all in
+    ap (λ l. owners (pieces_from s l (among (long ∷ comments))))
+    (append_assoc (flat tree) (Close ∷ flat (comment_rest items)) rest)
+    ∙ walks (long ∷ comments) (Close ∷ (flat (comment_rest items) ++ rest))
+    ∙ ap (λ l. struck tree ++ l)
+    (rest-walks s items (All-tail (ItemWalks s) (InnerText tree) items all) long comments rest)
+    ∙ sym (append_assoc (struck tree) (struck (comment_rest items)) (owners (pieces_from s rest (among comments))))
+    ∙ ap (λ l. l ++ owners (pieces_from s rest (among comments))) (sym (ap (λ (b : Bool). elim b [
+      | true ↦ struck (comment_rest items)
+      | false ↦ struck tree ++ struck (comment_rest items)
+    ]) (goes-on items)))
+
+abbrev is_long : TokKind → Bool
+is_long kind.LongComment = true
+is_long k = false
+
+abbrev opening_bytes : TokKind → List ℕ
+opening_bytes kind.LongComment = codes "/*"
+opening_bytes k = codes "//"
+
+abbrev BeginsComment : TokKind → (Stand → Placed) → ℕ → Type 0
+BeginsComment k f number = (comments : List Bool) → f (among comments)
+    ≡ placed (Word number (opening_bytes k)) (among (is_long k ∷ comments))
+
+token-begins : (number : ℕ) (title : Option (List ℕ)) (k : TokKind) (text : List ℕ) → IsGroupOf false k
+    → BeginsComment k (token_placed number title k text) number
+token-begins number title kind.LongComment text is comments = refl
+token-begins number title kind.ShortComment text is comments = refl
+token-begins number title _ text is comments = absurd is
+
+pub comment-walks : (s : Source) (t : Seen) (items : List CommentItem) → IsFound s.answers t → IsGroupOf false t.kind
+    → All (ItemWalks s) items → Walks s (comment_tree t.span.start items)
+comment-walks s t items found is all comments rest =
+    let n = t.span.start in
+    let begins : BeginsComment t.kind (number_placed s n) n =
+    subst (λ (o : Option Seen). BeginsComment t.kind (found_placed n (s.titles n) o) n) (sym found)
+    (token-begins n (s.titles n) t.kind t.text is) in
+    ap (λ p. owners (before p (pieces_from s (flat (comment_rest items) ++ rest)))) (begins comments)
+    ∙ ap (λ l. n ∷ l) (rest-walks s items all (is_long t.kind) comments rest)
+
+-- ## Section names
+
+abbrev pub is_name : TokKind → Bool
+is_name (kind.Code code.SectionName) = true
+is_name (kind.Code code.FileName) = true
+is_name k = false
+
+abbrev TitledBy : (Stand → Placed) → ℕ → List ℕ → Type 0
+TitledBy f number title = (comments : List Bool) → f (among comments)
+    ≡ placed (Word number (codes "<" ++ title ++ codes ">")) (in_name (among comments))
+
+token-titled : (number : ℕ) (title : List ℕ) (k : TokKind) (text : List ℕ) → is_name k ≡ true
+    → TitledBy (token_placed number (Some title) k text) number title
+token-titled number title (kind.Code code.SectionName) text is comments = refl
+token-titled number title (kind.Code code.FileName) text is comments = refl
+token-titled number title _ text is comments = absurd cc
+
+name-titled : (s : Source) (t : Seen) (title : List ℕ) → IsFound s.answers t → is_name t.kind ≡ true
+    → s.titles t.span.start ≡ Some title → TitledBy (number_placed s t.span.start) t.span.start title
+name-titled s t title found is e =
+    let n = t.span.start in
+    subst (λ (o : Option Seen). TitledBy (found_placed n (s.titles n) o) n title) (sym found)
+    (subst (λ (o : Option (List ℕ)). TitledBy (token_placed n o t.kind t.text) n title) (sym e)
+    (token-titled n title t.kind t.text is))
+
+name-passed : (s : Source) (flags : Flags) (parts : List (List Answer)) (behind : Tree) (known : Known)
+    (comments : List Bool) (rest : List Item)
+    → pieces_from s (flat (texts_made flags parts (Then (Sign control.NameEnd) behind) known).tree ++ rest)
+    (in_name (among comments))
+    ≡ pieces_from s (flat behind ++ rest) (among comments)
+name-passed s flags [] behind known comments rest = refl
+name-passed s flags (part ∷ parts) behind known comments rest =
+    let text = plain_text flags part known in
+    let more = texts_made flags parts (Then (Sign control.NameEnd) behind) text.known in
+    ap (λ l. pieces_from s l (record { name = 2; comments = comments }))
+    (append_assoc (flat text.tree) (Close ∷ SignItem control.NameText ∷ flat more.tree) rest)
+    ∙ inner-passed s text.tree 0 comments (Close ∷ SignItem control.NameText ∷ (flat more.tree ++ rest))
+    ∙ name-passed s flags parts behind text.known comments rest
+
+pub name-walks : (s : Source) (flags : Flags) (t : Seen) (title : List ℕ) (parts : List (List Answer)) (behind : Tree)
+    (known : Known) → IsFound s.answers t → is_name t.kind ≡ true → s.titles t.span.start ≡ Some title → Walks s behind
+    → Walks s (Then (SourceLeaf t.span.start Maybe)
+    (texts_made flags parts (Then (Sign control.NameEnd) behind) known).tree)
+name-walks s flags t title parts behind known found is titled walks comments rest =
+    let n = t.span.start in
+    let whole = texts_made flags parts (Then (Sign control.NameEnd) behind) known in
+    ap (λ p. owners (before p (pieces_from s (flat whole.tree ++ rest))))
+    (name-titled s t title found is titled comments)
+    ∙ ap (λ l. n ∷ owners l) (name-passed s flags parts behind known comments rest)
+    ∙ ap (λ l. n ∷ l) (walks comments rest)
+    ∙ ap (λ l. n ∷ (l ++ owners (pieces_from s rest (among comments))))
+    (sym (struck-parts flags parts (Then (Sign control.NameEnd) behind) known))

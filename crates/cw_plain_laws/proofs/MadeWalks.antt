@@ -1,0 +1,349 @@
+-- What is made of the tokens of a text has the bytes of its tokens, and so has its whole translation.
+use Rattle.std.proofs.Common.{◌≡◌, ℕ, Bool, true, false, not, is_some, Option, Some, None, List, [], ◌∷◌, ◌++◌, refl}
+use Rattle.std.proofs.Common.{sym}
+use Rattle.std.proofs.Common.{ap, subst, ◌∙◌}
+use Rattle.std.specs.List.{All, list_all}
+use Rattle.std.proofs.lemmas.List.{append-nil, append_assoc}
+use Rattle.std.proofs.lemmas.List.Elements.{All-append, All-cons, All-nil}
+use Rattle.cw_base.proofs.TestLaws.{both-left, both-right}
+use Rattle.cw_base.specs.declared.category.Cat.{Cat}
+use Rattle.cw_base.specs.declared.flags.Flags.{Flags}
+use Rattle.cw_base.specs.declared.mode.MathMode.{MathMode}
+use Rattle.cw_base.specs.declared.mode.MathMode.TheVariants.{Text}
+use Rattle.cw_lex.specs.Heads.{Head, Headless, Macro, Format, Silent, Named, Headed, Words, headed, headed_by, headless}
+use Rattle.cw_lex.specs.Heads.{head_behind, head_words, named_headed, no_word, word_before}
+use Rattle.cw_lex.specs.Nest.{Nest, End, Leaf, Group, IsGroupOf, IsWell}
+use Rattle.cw_lex.specs.declared.heads.Wanted.{Wanted}
+use Rattle.cw_lex.specs.declared.heads.Wanted.TheVariants as wants
+use Rattle.cw_names.specs.Names.{Entry}
+use Rattle.cw_plain.specs.Pieces.{Source}
+use Rattle.cw_plain_laws.proofs.FoundTokens.{AllOf, IsFound}
+use Rattle.cw_plain_laws.proofs.KeptTrees.{OfScrap, end-kept}
+use Rattle.cw_plain_laws.proofs.LeafWalks.{FormWalks, ItemWalks, Owns, TokensWalk, comment-walks, form-walks}
+use Rattle.cw_plain_laws.proofs.LeafWalks.{found-owns}
+use Rattle.cw_plain_laws.proofs.LeafWalks.{is_name, name-walks, source-walks, stays}
+use Rattle.cw_plain_laws.proofs.WalkLaws.{empty-walks, reserve-walks, sign-walks, sub-walks}
+use Rattle.cw_plain_laws.proofs.Walks.{Walks}
+use Rattle.cw_reduce.proofs.HeadAnswers.{first-all, head-words-fit, later-all, word_kind}
+use Rattle.cw_rules.specs.Answers.{Answer, Seen, is_head_sign}
+use Rattle.cw_rules.specs.declared.codes.Code.TheVariants as code
+use Rattle.cw_rules.specs.declared.tokens.TokKind.{TokKind}
+use Rattle.cw_rules.specs.declared.tokens.TokKind.TheVariants as kind
+use Rattle.cw_scraps.specs.Leaves.{LeafForm, names_with, token_form}
+use Rattle.cw_scraps.specs.Words.{is_word}
+use Rattle.cw_tokens.specs.Shapes.{tree_in}
+use Rattle.cw_tokens.specs.declared.token.Token.{Token}
+use Rattle.cw_tokens.specs.declared.token.Token.TheVariants as token
+use Rattle.cw_translator.specs.Translating.{CommentItem, Piece, InnerText, Known, Made, NameTexts, beside}
+use Rattle.cw_translator.specs.Translating.{dead, dollared, end_of, first_word, form_made, form_tokens}
+use Rattle.cw_translator.specs.Translating.{group_made, head_made, headed_made, later_words, leaf_of_name, leaf_scrap}
+use Rattle.cw_translator.specs.Translating.{made}
+use Rattle.cw_translator.specs.Translating.{one_item, one_scrap, sign_behind, spelled, state_in, texts_named}
+use Rattle.cw_translator.specs.Translating.{token_made, with_names, word_tokens}
+use Rattle.cw_trees.specs.Joining.{Scrap}
+use Rattle.cw_trees.specs.Tree.{Tree, Empty, Then, Sign, Source as SourceLeaf}
+use Rattle.cw_trees.specs.declared.Control.TheVariants as control
+
+-- ## Scraps and items
+
+pub record MadeWalks (s : Source) (m : Made) : Type 0 where
+  pub scraps : All (OfScrap (Walks s)) m.scraps
+  pub items : All (ItemWalks s) m.items
+
+made-none : (s : Source) (known : Known) → MadeWalks s (record { scraps = []; items = []; known = known })
+made-none s known = record { scraps = All-nil (OfScrap (Walks s)); items = All-nil (ItemWalks s) }
+
+made-scrap : (s : Source) (scrap : Scrap) (known : Known) → Walks s scrap.tree → MadeWalks s (one_scrap scrap known)
+made-scrap s scrap known walks = record {
+  scraps = All-cons (OfScrap (Walks s)) scrap [] walks (All-nil (OfScrap (Walks s)));
+  items = All-nil (ItemWalks s);
+}
+
+made-item : (s : Source) (item : CommentItem) (known : Known) → ItemWalks s item → MadeWalks s (one_item item known)
+made-item s item known walks = record {
+  scraps = All-nil (OfScrap (Walks s));
+  items = All-cons (ItemWalks s) item [] walks (All-nil (ItemWalks s));
+}
+
+made-beside : (s : Source) (a b : Made) → MadeWalks s a → MadeWalks s b → MadeWalks s (beside a b)
+made-beside s a b f g = record {
+  scraps = All-append (OfScrap (Walks s)) a.scraps b.scraps f.scraps g.scraps;
+  items = All-append (ItemWalks s) a.items b.items f.items g.items;
+}
+
+made-end : (s : Source) (flags : Flags) (m : Made) → MadeWalks s m → Walks s (end_of flags m).tree
+made-end s flags m f = end-kept (Walks s) (empty-walks s) (sub-walks s) (sign-walks s) (reserve-walks s) flags
+    (state_in m.scraps m.known) f.scraps
+
+-- ## Tokens, comments and inner texts
+
+-- what the section names of a text make
+abbrev NamesWalk : Source → (ℕ → Known → Made) → Type 0
+NamesWalk s name = (t : Seen) (known : Known) → IsFound s.answers t → is_name t.kind ≡ true
+    → MadeWalks s (name t.span.start known)
+
+whole-tokens : (s : Source) (tokens : List Token) → TokensWalk s tokens → Walks s (tree_in [] tokens)
+whole-tokens s tokens walks = subst (λ ts. Walks s (tree_in [] ts)) (append-nil tokens) (walks [] (empty-walks s))
+
+form-made : (s : Source) (o : Option LeafForm) (known : Known) → FormWalks s o → MadeWalks s (form_made o known)
+form-made s None known walks = made-none s known
+form-made s (Some form) known walks = made-scrap s (leaf_scrap form) known (whole-tokens s form.tokens walks)
+
+token-made : (s : Source) (name : ℕ → Known → Made) → NamesWalk s name → (k : TokKind) (t : Seen) (known : Known)
+    → t.kind ≡ k → IsFound s.answers t → MadeWalks s (token_made name k t known)
+token-made s name names kind.Text t known e found =
+    made-item s (Piece t.span.start) known (found-owns s t found (ap stays e))
+token-made s name names (kind.Code code.SectionName) t known e found = names t known found (ap is_name e)
+token-made s name names (kind.Code code.FileName) t known e found = names t known found (ap is_name e)
+token-made s name names k t known e found =
+    form-made s (token_form k t.text t.hash_line t.span.start known.names)
+    (with_names (names_with k t.text known.names) known)
+    (form-walks s k t.text t.hash_line t.span.start known.names (λ stay. found-owns s t found (ap stays e ∙ stay)))
+
+group-made : (s : Source) (flags : Flags) (comment : Bool) (k : TokKind) (t : Seen) (m : Made) → t.kind ≡ k
+    → IsFound s.answers t → IsGroupOf comment k → MadeWalks s m → MadeWalks s (group_made flags k t m)
+group-made s flags true kind.InnerText t m e found is walks =
+    made-item s (InnerText (end_of flags m).tree) (end_of flags m).known (made-end s flags m walks)
+group-made s flags false kind.LongComment t m e found is walks =
+    made-scrap s _ m.known (comment-walks s t m.items found (subst (IsGroupOf false) (sym e) tt) walks.items)
+group-made s flags false kind.ShortComment t m e found is walks =
+    made-scrap s _ m.known (comment-walks s t m.items found (subst (IsGroupOf false) (sym e) tt) walks.items)
+group-made s flags comment k t m e found is walks = absurd is
+
+nest-made : (s : Source) (flags : Flags) (name : ℕ → Known → Made) → NamesWalk s name → (n : Nest) (comment : Bool)
+    (known : Known) → IsWell comment n → AllOf (IsFound s.answers) n → MadeWalks s (made flags name n known)
+nest-made s flags name names End comment known well all = made-none s known
+nest-made s flags name names (Leaf t rest) comment known well all =
+    let first = token_made name t.kind t known in
+    made-beside s first (made flags name rest first.known) (token-made s name names t.kind t known refl all.0)
+    (nest-made s flags name names rest comment first.known well.1 all.1)
+nest-made s flags name names (Group t inner rest) comment known well all =
+    let within = made flags name inner known in
+    let first = group_made flags t.kind t within in
+    made-beside s first (made flags name rest first.known)
+    (group-made s flags comment t.kind t within refl all.0 well.0
+    (nest-made s flags name names inner (not comment) known well.1 all.1))
+    (nest-made s flags name names rest comment first.known well.2 all.2)
+
+-- ## Section names
+
+named-made : (s : Source) (flags : Flags) (o : Option (List (List Answer))) (title : Option (List ℕ)) (c : Cat)
+    (mode : MathMode) (behind : Tree) (t : Seen) (known : Known) → IsFound s.answers t → is_name t.kind ≡ true
+    → s.titles t.span.start ≡ title → is_some title ≡ is_some o → Walks s behind
+    → MadeWalks s (texts_named flags o c mode behind t.span.start known)
+named-made s flags None title c mode behind t known found is at titled walks = made-none s known
+named-made s flags (Some parts) None c mode behind t known found is at titled walks =
+    absurd (let e : false ≡ true = titled in cc)
+named-made s flags (Some parts) (Some text) c mode behind t known found is at titled walks =
+    made-scrap s _ _ (name-walks s flags t text parts behind known found is at walks)
+
+-- each section name that stands for something has a title, and another has none
+abbrev pub AreTitled : Source → NameTexts → Type 0
+AreTitled s named = (number : ℕ) → is_some (s.titles number) ≡ is_some (named number)
+
+names-made : (s : Source) (flags : Flags) (named : NameTexts) → AreTitled s named
+    → NamesWalk s (leaf_of_name flags named)
+names-made s flags named titled t known found is =
+    named-made s flags (named t.span.start) (s.titles t.span.start) _ _ Empty t known found is refl
+    (titled t.span.start) (empty-walks s)
+
+-- ## Heads
+
+-- of each of these
+abbrev pub Each : (Seen → Type 0) → List Seen → Type 0
+Each P [] = Unit {0}
+Each P (t ∷ ts) = P t × Each P ts
+
+pub record WordsAre (P : Seen → Type 0) (w : Words) : Type 0 where
+  pub words : Each P w.words
+  pub rest : AllOf P w.rest
+
+head-words-are : (P : Seen → Type 0) (wanted : Wanted) (n : Nest) → AllOf P n → WordsAre P (head_words wanted n)
+head-words-are P wanted End all = record { words = tt; rest = tt }
+head-words-are P wanted (Group t inner rest) all = record { words = tt; rest = all }
+head-words-are P wanted (Leaf t rest) all =
+    by (head_behind wanted t.kind t.span) (λ next. head-words-are P next rest all.1)
+  where
+    by : (o : Option Wanted) → ((next : Wanted) → WordsAre P (head_words next rest))
+        → WordsAre P (elim o as (λ o. Words) [
+          | Some next ↦ word_before t (head_words next rest)
+          | None ↦ no_word (Leaf t rest)
+        ])
+    by None more = record { words = tt; rest = all }
+    by (Some next) more = record { words = (all.0, (more next).words); rest = (more next).rest }
+
+-- the tokens of a head
+abbrev NumberOf : Source → (TokKind → Bool) → ℕ → Type 0
+NumberOf s test number = (t : Seen) × ((t.span.start ≡ number) × (IsFound s.answers t × (test t.kind ≡ true)))
+
+record WordsFound (s : Source) (words : List Seen) : Type 0 where
+  fit : list_all word_kind words ≡ true
+  each : Each (IsFound s.answers) words
+
+abbrev HeadFound : Source → Head → Type 0
+HeadFound s Headless = Unit {0}
+HeadFound s (Macro number words) = NumberOf s stays number × WordsFound s words
+HeadFound s (Format number words) = NumberOf s stays number × WordsFound s words
+HeadFound s (Silent words) = Unit {0}
+HeadFound s (Named number sign) = NumberOf s is_name number × NumberOf s stays sign
+
+record HeadedFound (s : Source) (h : Headed) : Type 0 where
+  head : HeadFound s h.head
+  rest : AllOf (IsFound s.answers) h.rest
+
+headless-found : (s : Source) (n : Nest) → AllOf (IsFound s.answers) n → HeadedFound s (headless n)
+headless-found s n all = record { head = tt; rest = all }
+
+sign-stays : (k : TokKind) → is_head_sign k ≡ true → stays k ≡ true
+sign-stays kind.HeadSign e = refl
+sign-stays _ e = absurd cc
+
+named-found-if : (s : Source) (b : Bool) (t u : Seen) (rest : Nest) → is_name t.kind ≡ true
+    → is_head_sign u.kind ≡ b → AllOf (IsFound s.answers) (Leaf t (Leaf u rest))
+    → HeadedFound s (elim b [
+      | true ↦ record { head = Named t.span.start u.span.start; rest = rest }
+      | false ↦ headless (Leaf t (Leaf u rest))
+    ])
+named-found-if s true t u rest is sign all = record {
+  head = ((t, (refl, (all.0, is))), (u, (refl, (all.1.0, sign-stays u.kind sign))));
+  rest = all.1.1;
+}
+named-found-if s false t u rest is sign all = headless-found s (Leaf t (Leaf u rest)) all
+
+named-found : (s : Source) (t : Seen) (rest : Nest) → is_name t.kind ≡ true → AllOf (IsFound s.answers) (Leaf t rest)
+    → HeadedFound s (named_headed t rest)
+named-found s t End is all = headless-found s (Leaf t End) all
+named-found s t (Group u inner more) is all = headless-found s (Leaf t (Group u inner more)) all
+named-found s t (Leaf u rest) is all = named-found-if s (is_head_sign u.kind) t u rest is refl all
+
+head-found-by : (s : Source) (k : TokKind) (t : Seen) (rest : Nest) → t.kind ≡ k
+    → AllOf (IsFound s.answers) (Leaf t rest) → HeadedFound s (headed_by k t rest)
+head-found-by s (kind.Code code.Define) t rest e all =
+    let w = head-words-are (IsFound s.answers) wants.Macro rest all.1 in
+    record {
+      head = ((t, (refl, (all.0, ap stays e))), record { fit = head-words-fit wants.Macro rest; each = w.words });
+      rest = w.rest;
+    }
+head-found-by s (kind.Code code.Format) t rest e all =
+    let w = head-words-are (IsFound s.answers) (wants.First false) rest all.1 in
+    record {
+      head = (
+        (t, (refl, (all.0, ap stays e))),
+        record { fit = head-words-fit (wants.First false) rest; each = w.words },
+      );
+      rest = w.rest;
+    }
+head-found-by s (kind.Code code.SilentFormat) t rest e all =
+    let w = head-words-are (IsFound s.answers) (wants.First true) rest all.1 in
+    record { head = tt; rest = w.rest }
+head-found-by s (kind.Code code.SectionName) t rest e all = named-found s t rest (ap is_name e) all
+head-found-by s (kind.Code code.FileName) t rest e all = named-found s t rest (ap is_name e) all
+head-found-by s k t rest e all = headless-found s (Leaf t rest) all
+
+head-found : (s : Source) (n : Nest) → AllOf (IsFound s.answers) n → HeadedFound s (headed n)
+head-found s End all = headless-found s End all
+head-found s (Group t inner rest) all = headless-found s (Group t inner rest) all
+head-found s (Leaf t rest) all = head-found-by s t.kind t rest refl all
+
+number-owns : (s : Source) (number : ℕ) → NumberOf s stays number → Owns s number
+number-owns s number is = subst (Owns s) is.1.0 (found-owns s is.0 is.1.1.0 is.1.1.1)
+
+-- the words of a head
+tokens-none : (s : Source) → TokensWalk s []
+tokens-none s rest walks = walks
+
+tokens-append : (s : Source) (xs ys : List Token) → TokensWalk s xs → TokensWalk s ys → TokensWalk s (xs ++ ys)
+tokens-append s xs ys f g rest walks =
+    subst (λ ts. Walks s (tree_in [] ts)) (sym (append_assoc xs ys rest)) (f (ys ++ rest) (g rest walks))
+
+word-stays : (k : TokKind) → is_word k ≡ true → stays k ≡ true
+word-stays kind.Identifier e = refl
+word-stays (kind.Sign sign) e = refl
+word-stays _ e = absurd cc
+
+form-tokens : (s : Source) (o : Option LeafForm) → FormWalks s o → TokensWalk s (form_tokens o)
+form-tokens s None walks = tokens-none s
+form-tokens s (Some form) walks = walks
+
+spelled-walks : (s : Source) (words : List Seen) (names : List Entry) → list_all word_kind words ≡ true
+    → Each (IsFound s.answers) words → TokensWalk s (spelled words names).tokens
+spelled-walks s [] names are all = tokens-none s
+spelled-walks s (t ∷ words) names are all =
+    let is : is_word t.kind ≡ true = both-left (word_kind t) (list_all word_kind words) are in
+    let owns : Owns s t.span.start = found-owns s t all.0 (word-stays t.kind is) in
+    tokens-append s (word_tokens t names) (spelled words (names_with t.kind t.text names)).tokens
+    (form-tokens s (token_form t.kind t.text t.hash_line t.span.start names)
+    (form-walks s t.kind t.text t.hash_line t.span.start names (λ stay. owns)))
+    (spelled-walks s words (names_with t.kind t.text names)
+    (both-right (word_kind t) (list_all word_kind words) are) all.1)
+
+control-walks : (s : Source) (rest : List Token) → Walks s (tree_in [] rest)
+    → Walks s (tree_in [] (token.Control control.Dollar ∷ rest))
+control-walks s rest walks = sign-walks s control.Dollar (tree_in [] rest) tt walks
+
+dollared-walks : (s : Source) (tokens : List Token) → TokensWalk s tokens → TokensWalk s (dollared tokens)
+dollared-walks s [] walks = tokens-none s
+dollared-walks s (t ∷ ts) walks = λ rest more.
+    control-walks s (((t ∷ ts) ++ token.Control control.Dollar ∷ []) ++ rest)
+    (tokens-append s (t ∷ ts) (token.Control control.Dollar ∷ []) walks (λ rest more. control-walks s rest more) rest
+    more)
+
+break-walks : (s : Source) → TokensWalk s (token.Control control.OptionalBreak ∷ [])
+break-walks s rest walks = sign-walks s control.OptionalBreak (tree_in [] rest) tt walks
+
+dead-made : (s : Source) (number : ℕ) (tokens : List Token) (known : Known) → Owns s number → TokensWalk s tokens
+    → MadeWalks s (one_scrap (leaf_scrap (dead number tokens)) known)
+dead-made s number tokens known owns walks = made-scrap s (leaf_scrap (dead number tokens)) known
+    (sign-walks s control.Backup (Then (SourceLeaf number Text) (tree_in [] tokens)) tt
+    (source-walks s number Text (tree_in [] tokens) owns (whole-tokens s tokens walks)))
+
+each-first : (P : Seen → Type 0) (words : List Seen) → Each P words → Each P (first_word words)
+each-first P [] all = tt
+each-first P (w ∷ words) all = (all.0, tt)
+
+each-later : (P : Seen → Type 0) (words : List Seen) → Each P words → Each P (later_words words)
+each-later P [] all = tt
+each-later P (w ∷ words) all = all.1
+
+head-made : (s : Source) (flags : Flags) (named : NameTexts) → AreTitled s named → (h : Head) (known : Known)
+    → HeadFound s h → MadeWalks s (head_made flags named h known)
+head-made s flags named titled Headless known found = made-none s known
+head-made s flags named titled (Silent words) known found = made-none s _
+head-made s flags named titled (Macro number words) known found =
+    let p = spelled words known.names in
+    dead-made s number (dollared p.tokens ++ token.Control control.OptionalBreak ∷ []) _
+    (number-owns s number found.0)
+    (tokens-append s (dollared p.tokens) (token.Control control.OptionalBreak ∷ [])
+    (dollared-walks s p.tokens (spelled-walks s words known.names found.1.fit found.1.each)) (break-walks s))
+head-made s flags named titled (Format number words) known found =
+    let p = spelled (first_word words) known.names in
+    let q = spelled (later_words words) p.names in
+    dead-made s number (p.tokens ++ token.Control control.OptionalBreak ∷ q.tokens) _ (number-owns s number found.0)
+    (tokens-append s p.tokens (token.Control control.OptionalBreak ∷ q.tokens)
+    (spelled-walks s (first_word words) known.names (first-all word_kind words found.1.fit)
+    (each-first (IsFound s.answers) words found.1.each))
+    (tokens-append s (token.Control control.OptionalBreak ∷ []) q.tokens (break-walks s)
+    (spelled-walks s (later_words words) p.names (later-all word_kind words found.1.fit)
+    (each-later (IsFound s.answers) words found.1.each))))
+head-made s flags named titled (Named number sign) known found =
+    let t = found.0.0 in
+    let behind = source-walks s sign Text (Then (Sign control.Break) Empty) (number-owns s sign found.1)
+    (sign-walks s control.Break Empty tt (empty-walks s)) in
+    subst (λ n. MadeWalks s (head_made flags named (Named n sign) known)) found.0.1.0
+    (named-made s flags (named t.span.start) (s.titles t.span.start) _ _ (sign_behind sign) t known found.0.1.1.0
+    found.0.1.1.1 refl (titled t.span.start) behind)
+
+-- ## The whole text
+
+pub headed-walks : (s : Source) (flags : Flags) (named : NameTexts) (n : Nest) (known : Known)
+    → AreTitled s named → IsWell false (headed n).rest → AllOf (IsFound s.answers) n
+    → Walks s (end_of flags (headed_made flags named (headed n) known)).tree
+headed-walks s flags named n known titled well all =
+    let h = headed n in
+    let f = head-found s n all in
+    let first = head_made flags named h.head known in
+    made-end s flags (headed_made flags named h known)
+    (made-beside s first (made flags (leaf_of_name flags named) h.rest first.known)
+    (head-made s flags named titled h.head known f.head)
+    (nest-made s flags (leaf_of_name flags named) (names-made s flags named titled) h.rest false first.known well
+    f.rest))

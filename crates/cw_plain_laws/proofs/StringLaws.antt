@@ -1,0 +1,119 @@
+-- A string that its last byte closes is the same whatever stands behind it.
+use Rattle.std.proofs.Common.{◌≡◌, ℕ, suc, ◌+◌, ◌-◌, Bool, true, false, ◌&&◌, ◌||◌, not, ◌==◌, List, []}
+use Rattle.std.proofs.Common.{◌∷◌, ◌++◌, length, drop, refl, sym, ap, ◌∙◌, arith, subst}
+use Rattle.std.specs.Prelude.{if◌then◌else◌}
+use Rattle.std.proofs.lemmas.Bool.Decides.{nat_tests}
+use Rattle.cw_base.specs.declared.notes.NoteKind.TheVariants as notes
+use Rattle.cw_rules.specs.declared.bodies.Body.TheVariants as bodies
+use Rattle.cw_rules.specs.declared.bodies.Inside.{Inside}
+use Rattle.cw_rules.specs.declared.tokens.TokKind.TheVariants as kinds
+use Rattle.cw_rules.specs.Answers.{plain}
+use Rattle.cw_rules.specs.Bodies.{at_start, ended, extent, extent_of, goes_on, note_here, noted, stepped}
+use Rattle.cw_rules.specs.Bodies.{takes_next, with_note, and_last, note_unless, stop_at}
+use Rattle.cw_rules.specs.Bytes.{apostrophe, at_sign, backslash, begins_with, newline}
+use Rattle.cw_rules.specs.Tokens.{string, string_of}
+use Rattle.cw_rules.specs.declared.codes.Code.TheVariants as codes
+use Rattle.cw_rules.specs.declared.tokens.TokKind.{TokKind}
+use Rattle.cw_plain_laws.proofs.Again.{IsClosed, has_no_note}
+
+abbrev pub inside : ℕ → ℕ → ℕ → ℕ → Bool → Inside
+inside q braces place last along = record {
+  body = bodies.Quoted q;
+  braces = braces;
+  place = place;
+  before = last;
+  along = along;
+}
+
+pub record Ends (q place k : ℕ) (i : Inside) (bytes : List ℕ) : Type 0 where
+  pub stop : (ended i bytes).place ≡ place + k
+  pub quiet : noted i bytes ≡ []
+  pub closing : begins_with (q ∷ []) (drop k bytes) ≡ true
+
+same-byte : (q : ℕ) → (q == q) ≡ true
+same-byte q = grind (arith, nat_tests)
+
+stops-there : (q last : ℕ) (rest : List ℕ) → goes_on (inside q 0 0 last false) (q ∷ rest) ≡ false
+stops-there q last rest = ap (λ t. false || not (t || (q == newline && not (last == backslash)))) (same-byte q)
+
+quiet-here : (along : Bool) (q braces place last b c : ℕ) (bs : List ℕ) → has_no_note along b (c ∷ bs) → (rest : List ℕ)
+    → with_note (note_here (inside q braces place last along) b (c ∷ (bs ++ rest))) place [] ≡ []
+quiet-here true q braces place last b c bs none rest = refl
+quiet-here false q braces place last b c bs none rest = rw none refl
+
+pub ends : (q braces place last : ℕ) (along : Bool) (bs : List ℕ) (k : ℕ) (rest : List ℕ) → length bs ≡ suc k
+    → IsClosed q last along bs → Ends q place k (inside q braces place last along) (bs ++ rest)
+ends q braces place last along [] k rest size closed = absurd closed
+ends q braces place last along (b ∷ []) k rest size closed =
+    let none : k ≡ 0 = omega arith in
+    subst (λ b. Ends q place k (inside q braces place last along) (b ∷ rest)) (sym closed.1)
+    (subst (λ k. Ends q place k (inside q braces place last along) (q ∷ rest)) (sym none)
+    (subst (λ a. Ends q place 0 (inside q braces place last a) (q ∷ rest)) (sym closed.0)
+    (record {
+      stop = ap (λ t. (let i : Inside = elim t [
+        | true ↦ ended (stepped (inside q braces place last false) q rest) rest
+        | false ↦ inside q braces place last false
+      ] in i).place) (stops-there q last rest) ∙ omega arith;
+      quiet = ap (λ t. elim t [
+        | true ↦ with_note (note_here (inside q braces place last false) q rest) place
+            (noted (stepped (inside q braces place last false) q rest) rest)
+        | false ↦ []
+      ]) (stops-there q last rest);
+      closing = ap (λ t. t && true) (same-byte q);
+    })))
+ends q braces place last along (b ∷ c ∷ bs) k rest size closed =
+    let i : Inside = inside q braces place last along in
+    let next : Inside = stepped i b (c ∷ (bs ++ rest)) in
+    let less : length (c ∷ bs) ≡ suc (k - 1) = omega arith in
+    let one : k ≡ suc (k - 1) = omega arith in
+    let later : Ends q (place + 1) (k - 1) next (c ∷ (bs ++ rest)) =
+    ends q next.braces (place + 1) b (not along && takes_next (bodies.Quoted q) b (c ∷ bs)) (c ∷ bs) (k - 1) rest less
+    closed.2 in
+    record {
+      stop = ap (λ t. (let j : Inside = elim t [ true ↦ ended next (c ∷ (bs ++ rest)) | false ↦ i ] in j).place)
+          closed.0 ∙ later.stop ∙ omega arith;
+      quiet = ap (λ t. elim t [
+        | true ↦ with_note (note_here i b (c ∷ (bs ++ rest))) place (noted next (c ∷ (bs ++ rest)))
+        | false ↦ []
+      ]) closed.0
+          ∙ ap (λ l. with_note (note_here i b (c ∷ (bs ++ rest))) place l) later.quiet
+          ∙ quiet-here along q braces place last b c bs closed.1 rest;
+      closing = subst (λ n. begins_with (q ∷ []) (drop n (b ∷ c ∷ (bs ++ rest))) ≡ true) (sym one) later.closing;
+    }
+
+-- the whole string as it is cut
+pub string-of-cut : (kind : TokKind) (opening q place : ℕ) (bs : List ℕ) (k : ℕ) (rest : List ℕ) → length bs ≡ suc k
+    → IsClosed q 0 false bs
+    → string_of kind opening (at_start (bodies.Quoted q) place) (bs ++ rest) ≡ plain kind (opening + length bs)
+string-of-cut kind opening q place bs k rest size closed =
+    let i : Inside = at_start (bodies.Quoted q) place in
+    let e = ends q 0 place 0 false bs k rest size closed in
+    let n : (ended i (bs ++ rest)).place - place ≡ k = ap (λ p. p - place) e.stop ∙ omega arith in
+    let is : extent i (bs ++ rest) ≡ record {
+      inner_size = k;
+      size = k + 1;
+      closed = true;
+      stop = stop_at (place + k) (drop k (bs ++ rest));
+    } = ap (extent_of i (bs ++ rest)) n ∙ (λ j. record {
+      inner_size = k;
+      size = if e.closing j then k + 1 else k;
+      closed = e.closing j;
+      stop = stop_at (place + k) (drop k (bs ++ rest));
+    }) in
+    (λ j. record {
+      kind = kind;
+      size = opening + (is j).size;
+      notes = and_last (e.quiet j) (note_unless (is j).closed notes.StringUnended (is j).stop);
+    }) ∙ ap (λ m. plain kind m) (omega (arith, size))
+
+pub string-cut : (q place : ℕ) (bs : List ℕ) (k : ℕ) (rest : List ℕ) → length bs ≡ suc k → IsClosed q 0 false bs
+    → string kinds.Quoted 1 q place (q ∷ (bs ++ rest)) ≡ plain kinds.Quoted (suc (length bs))
+string-cut q place bs k rest size closed = string-of-cut kinds.Quoted 1 q (place + 1) bs k rest size closed
+    ∙ ap (λ m. plain kinds.Quoted m) (omega arith)
+
+pub quote-cut : (place : ℕ) (bs : List ℕ) (k : ℕ) (rest : List ℕ) → length bs ≡ suc k → IsClosed apostrophe 0 false bs
+    → string (kinds.Code codes.Quote) 2 apostrophe place (at_sign ∷ apostrophe ∷ (bs ++ rest))
+    ≡ plain (kinds.Code codes.Quote) (suc (suc (length bs)))
+quote-cut place bs k rest size closed =
+    string-of-cut (kinds.Code codes.Quote) 2 apostrophe (place + 2) bs k rest size closed
+    ∙ ap (λ m. plain (kinds.Code codes.Quote) m) (omega arith)

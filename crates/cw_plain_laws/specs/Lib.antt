@@ -1,0 +1,3 @@
+-- What the laws of plain text say.
+pub mod PlainLaws
+pub mod OwnLaws
