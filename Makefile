@@ -1,28 +1,33 @@
 # make try      weaves examples/hello.w without any proof, in about half a minute
 # make hello    proves and builds cweave, and weaves examples/hello.w
+# make programs proves and builds all programs: $(PROGRAMS)
 # make book     weaves, compiles and typesets the examples, as far as ctangle, cc and TeX are there
-# make install  puts cweave into PREFIX/bin and its man page into PREFIX/share/man/man1; make uninstall takes both away
+# make install  puts the programs into PREFIX/bin and their man pages into PREFIX/share/man/man1; make uninstall takes them away
 # make gate     every proof, must-fail edit, test and program
 # make bench    instructions per input byte and peak memory for webs of stated sizes
 # make hostile  refused memory, failing devices, and large webs that no one would write
 # make outside  failing calls of the system with what is told of each, names, folders of CWEBINPUTS, and links
 # make picture  makes docs/hello.png anew
 PREFIX ?= /usr/local
+PROGRAMS = cweave cwmini
 PROGRAM = build/cweave
+BUILT = $(PROGRAMS:%=build/%)
 BINDIR = $(DESTDIR)$(PREFIX)/bin
 MANDIR = $(DESTDIR)$(PREFIX)/share/man/man1
 
-.PHONY: all try hello book install uninstall gate bench hostile outside picture clean
+.PHONY: all try hello programs book install uninstall gate bench hostile outside picture clean
 
 all: $(PROGRAM)
 
-# A change of any crate is proved again before the program is built.
-$(PROGRAM): $(shell find crates -name '*.rt' -o -name '*.antt' 2>/dev/null) crates.txt
-	rm -f crates/cweave/out/cweave
-	cd crates/cweave && (rt run >run.log 2>&1 </dev/null || true)
-	test -x crates/cweave/out/cweave || { cat crates/cweave/run.log; exit 1; }
-	rm -f crates/cweave/run.log
-	mkdir -p build && cp crates/cweave/out/cweave $(PROGRAM)
+programs: $(BUILT)
+
+# A change of any crate is proved again before a program is built.
+build/%: $(shell find crates -name '*.rt' -o -name '*.antt' 2>/dev/null) crates.txt
+	rm -f crates/$*/out/$*
+	cd crates/$* && (rt run >run.log 2>&1 </dev/null || true)
+	test -x crates/$*/out/$* || { cat crates/$*/run.log; exit 1; }
+	rm -f crates/$*/run.log
+	mkdir -p build && cp crates/$*/out/$* $@
 
 try:
 	mkdir -p build
@@ -37,13 +42,13 @@ hello: $(PROGRAM)
 book: $(PROGRAM)
 	tools/book
 
-install: $(PROGRAM)
+install: $(BUILT)
 	install -d $(BINDIR) $(MANDIR)
-	install -m 755 $(PROGRAM) $(BINDIR)/cweave
-	install -m 644 docs/cweave.1 $(MANDIR)/cweave.1
+	install -m 755 $(BUILT) $(BINDIR)
+	install -m 644 $(PROGRAMS:%=docs/%.1) $(MANDIR)
 
 uninstall:
-	rm -f $(BINDIR)/cweave $(MANDIR)/cweave.1
+	rm -f $(PROGRAMS:%=$(BINDIR)/%) $(PROGRAMS:%=$(MANDIR)/%.1)
 
 gate:
 	.ci/run
@@ -51,7 +56,7 @@ gate:
 bench: $(PROGRAM)
 	bench/run
 
-hostile: $(PROGRAM)
+hostile: $(BUILT)
 	tools/hostile
 
 outside: $(PROGRAM)
