@@ -113,7 +113,8 @@ module _ (old e new : Each) (next : NextText) (names names' names'' : List Entry
       → Adds (byte_events Tex (texts_lines old.source old.coming names)) before later result
   written-refused piece is =
       adds-events (ap (byte_events Tex) all-left)
-      (piece-then Tex w.done (first_lines e.source next.text names' ++ texts_lines new.source new.coming names'') w.added
+      (piece-then Tex w.done (first_lines e.source next.text names' ++ texts_lines new.source new.coming names'')
+      w.added
       (piece-stop Tex (first_lines e.source next.text names') (texts_lines new.source new.coming names'')
       (adds-events (ap (byte_events Tex) lines-translated) piece) is))
 

@@ -162,8 +162,9 @@ impl<'s, 'a> Plainer<'s, 'a> {
     fn found(&mut self, number: u32, token: Tok, out: &mut Bytes) -> Result<(), Memory>
         requires { self.old.walk.stand.name ≡ 0 }
         ensures reads { self.new.reads ≡ self.old.reads }
-        ensures makes { OnOk result (MakesPlaced self.old (found_placed number ((source_of self.old.reads).titles number)
-            (Some (seen token.entry)) self.old.walk.stand) out.old self.new out.new) }
+        ensures makes { OnOk result (MakesPlaced self.old (found_placed number
+            ((source_of self.old.reads).titles number) (Some (seen token.entry)) self.old.walk.stand)
+            out.old self.new out.new) }
     {
         match token.kind {
             TokKind::LongComment => {

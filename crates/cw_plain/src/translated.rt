@@ -55,6 +55,9 @@ pub fn plain_text(
 {
     let mut answers = Answers::new_in(alloc);
     answers.scan(source.text(), first, Mode::CPart)?;
-    let kept = sec_names;
-    plain_answers(alloc, &answers, BookNames { kept, uses }, store, id)
+    let names = BookNames {
+        kept: sec_names,
+        uses,
+    };
+    plain_answers(alloc, &answers, names, store, id)
 }

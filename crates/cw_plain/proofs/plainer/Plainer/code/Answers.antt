@@ -26,8 +26,9 @@ returns-in_ok-put_code_text-in-Verbatim-clause-makes c =
     (Word c.args.number c.as_slice.result.now) stand _ _ _ _ _ c.self.view_is
     (c.word-in-Verbatim.ensures c.args.number)
     (ap (λ (bytes : List ℕ). placed (Word c.args.number bytes) stand) word
-    ∙ ap (λ k. token_placed c.args.number (titles c.self.inside.names.kept.now c.self.inside.names.uses.now c.args.number)
-    (kinds.Code k) c.args.text.now stand) (sym c.in-Verbatim.is)) refl
+    ∙ ap (λ k. token_placed c.args.number
+    (titles c.self.inside.names.kept.now c.self.inside.names.uses.now c.args.number) (kinds.Code k) c.args.text.now
+    stand) (sym c.in-Verbatim.is)) refl
 
 pub returns-in-Quote-clause-makes : goal.returns-in-Quote-clause-makes
 returns-in-Quote-clause-makes c =

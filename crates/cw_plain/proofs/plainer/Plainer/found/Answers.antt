@@ -31,8 +31,8 @@ returns-in_ok-begin-in-LongComment-clause-makes c =
     (c.word.ensures c.args.number)
     (ap (λ k. token_placed c.args.number (titles inside.names.kept.now inside.names.uses.now c.args.number) k
     c.args.token.text.now stand) (sym c.in-LongComment.is))
-    (ap (λ (comments : List Bool). walk_at inside.finder inside.names.kept.now inside.names.uses.now inside.name comments
-    c.word.new.self)
+    (ap (λ (comments : List Bool). walk_at inside.finder inside.names.kept.now inside.names.uses.now inside.name
+    comments c.word.new.self)
     (sym c.in_ok-begin-in-LongComment.ensures))
 
 pub returns-in_ok-begin-in-ShortComment-clause-makes : goal.returns-in_ok-begin-in-ShortComment-clause-makes
@@ -44,8 +44,8 @@ returns-in_ok-begin-in-ShortComment-clause-makes c =
     (c.word-in-ShortComment.ensures c.args.number)
     (ap (λ k. token_placed c.args.number (titles inside.names.kept.now inside.names.uses.now c.args.number) k
     c.args.token.text.now stand) (sym c.in-ShortComment.is))
-    (ap (λ (comments : List Bool). walk_at inside.finder inside.names.kept.now inside.names.uses.now inside.name comments
-    c.word-in-ShortComment.new.self)
+    (ap (λ (comments : List Bool). walk_at inside.finder inside.names.kept.now inside.names.uses.now inside.name
+    comments c.word-in-ShortComment.new.self)
     (sym c.in_ok-begin-in-ShortComment.ensures))
 
 pub returns-in_default : goal.returns-in_default
