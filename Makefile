@@ -4,7 +4,7 @@
 # make book     weaves, compiles and typesets the examples, as far as ctangle, cc and TeX are there
 # make install  puts the programs into PREFIX/bin and their man pages into PREFIX/share/man/man1; make uninstall takes them away
 # make gate     every proof, must-fail edit, test and program
-# make bench    instructions per input byte and peak memory for webs of stated sizes
+# make bench    instructions per input byte and peak memory for webs of stated sizes, and of the other programs beside cweave
 # make hostile  refused memory, failing devices, and large webs that no one would write
 # make outside  failing calls of the system with what is told of each, names, folders of CWEBINPUTS, and links
 # make picture  makes docs/hello.png anew
@@ -53,8 +53,9 @@ uninstall:
 gate:
 	.ci/run
 
-bench: $(PROGRAM)
+bench: $(BUILT)
 	bench/run
+	bench/tools
 
 hostile: $(BUILT)
 	tools/hostile
