@@ -1,6 +1,6 @@
 -- The productions of a log are those of the table, at places below the number of scraps.
-use Rattle.std.proofs.Common.{◌≡◌, ℕ, zero, suc, ◌+◌, ◌<◌, ◌≤◌, Bool, true, false, ◌&&◌, nat_le, Option, Some, None, List, []}
-use Rattle.std.proofs.Common.{◌∷◌, length, drop, refl, sym, ap, ◌∙◌, subst, arith}
+use Rattle.std.proofs.Common.{◌≡◌, ℕ, zero, suc, ◌<◌, ◌≤◌, Bool, true, false, ◌&&◌, nat_le, Option, Some, List, [], ◌∷◌}
+use Rattle.std.proofs.Common.{length, drop, refl, sym, ap, ◌∙◌, subst, arith}
 use Rattle.std.specs.List.{All, list_all}
 use Rattle.std.proofs.lemmas.Bool.{leb-true}
 use Rattle.std.proofs.lemmas.List.Elements.{All-cons, All-nil}
@@ -10,7 +10,7 @@ use Rattle.cw_base.specs.declared.flags.Flags.{Flags}
 use Rattle.cw_table.specs.declared.productions.TheConstants.{ROW_COUNT}
 use Rattle.cw_table.specs.declared.types.Row.{Row}
 use Rattle.cw_table.specs.Fitting.{row_fits, first_of}
-use Rattle.cw_table.specs.Normal.{Place, Nowhere, At, next_place, is_fine, log, log_of, weight, Production}
+use Rattle.cw_table.specs.Normal.{Place, Nowhere, At, next_place, is_fine, log, log_of, weight}
 use Rattle.cw_table.specs.Productions.{productions}
 use Rattle.cw_table.specs.Rewriting.{State, cats_of, rewrite}
 use Rattle.cw_table.proofs.Examples.{productions-sound}

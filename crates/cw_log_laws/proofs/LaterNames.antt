@@ -1,8 +1,10 @@
 -- Names that are added, or whose categories change: they keep their places and texts, stay apart, and have categories.
-use Rattle.std.proofs.Common.{◌≡◌, ◌≢◌, ℕ, zero, suc, ◌+◌, ◌<◌, ◌≤◌, Bool, true, false, not, cond, ◌&&◌, if◌then◌else◌}
-use Rattle.std.proofs.Common.{nat_lt, nat_eq, List, [], ◌∷◌, ◌++◌, length, map, slice_get, Option, Some, None, refl, sym}
+use Rattle.std.proofs.Common.{◌≡◌, ◌≢◌, ℕ, zero, suc, ◌+◌, ◌≤◌, Bool, true, false, not, cond, ◌&&◌, if◌then◌else◌}
+use Rattle.std.proofs.Common.{nat_lt, nat_eq, List, [], ◌∷◌, ◌++◌, length, map, slice_get, Option, Some, None, refl}
 use Rattle.std.proofs.Common.{◌∙◌, ap, arith}
-use Rattle.std.specs.List.{IsDistinct, AllByRecursion}
+use Rattle.std.specs.List.{IsDistinct, AllByRecursion, list_all}
+use Rattle.cw_base.proofs.TestLaws.{both-left, both-right, not-true}
+use Rattle.cw_base.specs.Category.{is_end}
 use Rattle.std.specs.Cmp.Lexicographic.{pointwise}
 use Rattle.std.proofs.lemmas.Bool.{ltb-false}
 use Rattle.std.proofs.lemmas.Cmp.{nat_list_eq_equiv}
@@ -147,3 +149,17 @@ have-categories (c ∷ cats) (e ∷ es) real all = (real.0, have-categories cats
 pub cats-real : (es : List Entry) → HaveCats es → AreReal (map (λ e. e.category) es)
 cats-real [] all = tt
 cats-real (e ∷ es) all = (all.0, cats-real es all.1)
+
+-- the same as a test
+abbrev pub are_real : List Entry → Bool
+are_real es = list_all (λ e. not (is_end e.category)) es
+
+not-end : (c : Cat) → is_end c ≡ false → c ≢ End
+not-end End h = absurd cc
+not-end Exp h = λ e. absurd cc
+not-end _ h = λ e. absurd cc
+
+pub real-law : (es : List Entry) → are_real es ≡ true → HaveCats es
+real-law [] h = tt
+real-law (e ∷ es) h =
+    (not-end e.category (not-true (is_end e.category) (both-left _ _ h)), real-law es (both-right _ _ h))

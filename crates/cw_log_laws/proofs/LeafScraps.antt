@@ -1,7 +1,7 @@
 -- The scraps of single tokens, and the tokens of heads, are written with words of the names behind them.
-use Rattle.std.proofs.Common.{◌≡◌, ◌≢◌, ℕ, zero, suc, Bool, true, false, if◌then◌else◌, Option, Some, None, List, [], ◌∷◌}
-use Rattle.std.proofs.Common.{◌++◌, slice_get, unwrap_or, refl, sym, ap, ◌∙◌, subst}
-use Rattle.std.specs.Prelude.{nat_eq, option_map}
+use Rattle.std.proofs.Common.{◌≡◌, ◌≢◌, ℕ, zero, suc, Bool, true, false, if◌then◌else◌, Option, Some, None, List, []}
+use Rattle.std.proofs.Common.{◌∷◌, ◌++◌, slice_get, unwrap_or, refl, ap, ◌∙◌}
+use Rattle.std.specs.Prelude.{nat_eq}
 use Rattle.std.specs.Cmp.Lexicographic.{pointwise}
 use Rattle.cw_base.specs.declared.category.Cat.{Cat}
 use Rattle.cw_base.specs.declared.category.Cat.TheVariants.{End, Exp}
@@ -14,8 +14,7 @@ use Rattle.cw_rules.specs.declared.tokens.TokKind.TheVariants as kind
 use Rattle.cw_names.specs.declared.entry.EntryKind.TheVariants.{Ident as ident_kind}
 use Rattle.cw_names.specs.declared.entry.NameId.{NameId}
 use Rattle.cw_names.specs.Names.{Entry, AreDistinct, place_of, with_entry}
-use Rattle.cw_names.specs.Words.{category_among, hash_line_category, hash_line_words}
-use Rattle.cw_trees.specs.Tree.{bare_name}
+use Rattle.cw_names.specs.Words.{category_among, hash_line_words}
 use Rattle.cw_tokens.specs.declared.token.Token.{Token}
 use Rattle.cw_tokens.specs.declared.token.Token.TheVariants as token
 use Rattle.cw_tokens.specs.Shapes.{tree_in}
@@ -25,7 +24,7 @@ use Rattle.cw_logtext.specs.LogText.{is_identifier}
 use Rattle.cw_logtext.proofs.Adding.{IsNamed, entry-there}
 use Rattle.cw_translator.specs.Translating.{leaf_scrap, form_tokens}
 use Rattle.cw_log_laws.specs.LoggedTexts.{IsLater}
-use Rattle.cw_log_laws.proofs.LaterNames.{HaveCats, distinct-entry, have-entry, later-entry, later-same}
+use Rattle.cw_log_laws.proofs.LaterNames.{HaveCats, distinct-entry, have-entry, later-entry, later-same, real-law}
 use Rattle.cw_log_laws.proofs.SpeltTokens.{IsSpelt}
 use Rattle.cw_log_laws.proofs.WrittenScraps.{IsLogged, IsWord, IsWordEntry, IsWritten}
 
@@ -58,22 +57,7 @@ among-real (e ∷ words) word other all h = by (pointwise nat_eq word e.text) (a
     by false later = later
 
 hash-words : HaveCats hash_line_words
-hash-words = (
-  λ e. absurd cc,
-  (
-    λ e. absurd cc,
-    (
-      λ e. absurd cc,
-      (
-        λ e. absurd cc,
-        (
-          λ e. absurd cc,
-          (λ e. absurd cc, (λ e. absurd cc, (λ e. absurd cc, (λ e. absurd cc, (λ e. absurd cc, (λ e. absurd cc, tt)))))),
-        ),
-      ),
-    ),
-  ),
-)
+hash-words = real-law hash_line_words refl
 
 own-real : (names : List Entry) (k : ℕ) → HaveCats names → own_cat names k ≢ End
 own-real [] k all = λ e. absurd cc

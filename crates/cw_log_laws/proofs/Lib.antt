@@ -1,11 +1,13 @@
 -- Lemmas of the laws of logs.
-pub mod SpeltTokens
-pub mod CountedTokens
-pub mod LaterNames
-pub mod ReducedCats
-pub mod FineItems
-pub mod WrittenScraps
-pub mod LeafScraps
-pub mod MadeTexts
-pub mod NamedTexts
-pub mod RightTexts
+mod SpeltTokens
+mod CountedTokens
+mod LaterNames
+mod ReducedCats
+mod FineItems
+mod WrittenScraps
+mod LeafScraps
+mod MadeTexts
+mod NamedTexts
+mod RightTexts
+mod JudgedLogs
+mod AcceptedLogs

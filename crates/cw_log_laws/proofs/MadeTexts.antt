@@ -1,10 +1,7 @@
 -- What is made of tokens: scraps of which leaf lines tell all, and the states of texts that have ended.
-use Rattle.std.proofs.Common.{◌≡◌, ◌≢◌, ℕ, zero, suc, ◌+◌, ◌≤◌, Bool, Option, Some, None, List, [], ◌∷◌, ◌++◌, length, map}
-use Rattle.std.proofs.Common.{refl, sym, ap, ◌∙◌, subst, arith, length-append}
+use Rattle.std.proofs.Common.{ℕ, suc, ◌+◌, ◌≤◌, Option, Some, None, List, [], ◌∷◌, length, arith, length-append}
 use Rattle.std.specs.List.{All}
 use Rattle.std.proofs.lemmas.List.Elements.{All-append, All-cons, All-nil, All-push, All-weaker}
-use Rattle.cw_base.specs.declared.category.Cat.{Cat}
-use Rattle.cw_base.specs.declared.category.Cat.TheVariants.{End as end_cat}
 use Rattle.cw_base.specs.declared.flags.Flags.{Flags}
 use Rattle.cw_rules.specs.Answers.{Answer, Token, Begin, Finish, Note, Seen}
 use Rattle.cw_rules.specs.declared.codes.Code.TheVariants as code
@@ -18,10 +15,10 @@ use Rattle.cw_table.specs.Productions.{productions}
 use Rattle.cw_table.specs.Rewriting.{State}
 use Rattle.cw_scraps.specs.Leaves.{LeafForm, names_with, token_form}
 use Rattle.cw_logtext.specs.LogText.{greatest}
-use Rattle.cw_translator.specs.Translating.{CommentItem, Piece, InnerText, Known, Made, Ended, as_item, before, beside}
-use Rattle.cw_translator.specs.Translating.{comment_rest, comment_scrap, end_from, end_of, form_made, group_made, leaf_scrap}
-use Rattle.cw_translator.specs.Translating.{made, no_name, nothing, one_item, one_scrap, plain_text, state_in, token_made}
-use Rattle.cw_translator.specs.Translating.{with_names}
+use Rattle.cw_translator.specs.Translating.{CommentItem, Piece, InnerText, Known, Made, as_item, before, beside}
+use Rattle.cw_translator.specs.Translating.{comment_rest, comment_scrap, end_of, form_made, group_made, leaf_scrap}
+use Rattle.cw_translator.specs.Translating.{made, no_name, nothing, one_item, one_scrap, plain_text, state_in}
+use Rattle.cw_translator.specs.Translating.{token_made, with_names}
 use Rattle.cw_log_laws.specs.LoggedTexts.{IsLater}
 use Rattle.cw_log_laws.proofs.CountedTokens.{nest-size, nest_size, tokens_in}
 use Rattle.cw_log_laws.proofs.LaterNames.{HaveCats, cats-real, distinct-categories, have-categories, later-categories}
@@ -69,8 +66,12 @@ grows-then m n a b c g h = record {
 }
 
 pub grows-wider : (m n : ℕ) (a b : Known) → m ≤ n → Grows m a b → Grows n a b
-grows-wider m n a b less g =
-    record { later = g.later; distinct = g.distinct; cats = g.cats; ended = λ few f. g.ended (omega (arith, few, less)) f }
+grows-wider m n a b less g = record {
+  later = g.later;
+  distinct = g.distinct;
+  cats = g.cats;
+  ended = λ few f. g.ended (omega (arith, few, less)) f;
+}
 
 -- few enough by themselves
 pub grows-few : (m n : ℕ) (a b : Known) → m ≤ greatest → Grows m a b → Grows n a b

@@ -1,14 +1,10 @@
 -- What section names and heads make, and whole texts.
-use Rattle.std.proofs.Common.{◌≡◌, ◌≢◌, ℕ, zero, suc, ◌+◌, ◌≤◌, Bool, true, false, Option, Some, None, List, [], ◌∷◌, ◌++◌}
-use Rattle.std.proofs.Common.{refl, sym, ap, ◌∙◌, subst, arith}
-use Rattle.std.specs.List.{All}
-use Rattle.std.proofs.lemmas.List.Elements.{All-nil}
+use Rattle.std.proofs.Common.{◌≢◌, ℕ, ◌+◌, ◌≤◌, Bool, true, false, Option, Some, None, List, [], ◌∷◌, ◌++◌, arith}
 use Rattle.cw_base.specs.declared.category.Cat.{Cat}
 use Rattle.cw_base.specs.declared.category.Cat.TheVariants as cat
 use Rattle.cw_base.specs.declared.flags.Flags.{Flags}
 use Rattle.cw_base.specs.declared.mode.MathMode.{MathMode}
 use Rattle.cw_base.specs.declared.mode.MathMode.TheVariants.{Text, Maybe}
-use Rattle.cw_base.specs.declared.span.Span.{Span}
 use Rattle.cw_rules.specs.Answers.{Answer, Seen, is_head_sign}
 use Rattle.cw_rules.specs.declared.codes.Code.TheVariants as code
 use Rattle.cw_rules.specs.declared.tokens.TokKind.{TokKind}
@@ -16,28 +12,25 @@ use Rattle.cw_rules.specs.declared.tokens.TokKind.TheVariants as kind
 use Rattle.cw_lex.specs.declared.heads.Wanted.{Wanted}
 use Rattle.cw_lex.specs.declared.heads.Wanted.TheVariants as wants
 use Rattle.cw_lex.specs.Heads.{Head, Headless, Macro, Format, Silent, Named, Headed, headed, headed_by, head_behind}
-use Rattle.cw_lex.specs.Heads.{Words, format_headed, head_words, headless, macro_headed, named_headed, no_word, silent_headed}
-use Rattle.cw_lex.specs.Heads.{word_before}
+use Rattle.cw_lex.specs.Heads.{Words, head_words, headless, named_headed, no_word, word_before}
 use Rattle.cw_lex.specs.Nest.{Nest, End, Leaf, Group, nest}
-use Rattle.cw_names.specs.Names.{Entry, AreDistinct}
+use Rattle.cw_names.specs.Names.{Entry}
 use Rattle.cw_trees.specs.declared.Control.TheVariants as control
-use Rattle.cw_trees.specs.Joining.{Scrap}
-use Rattle.cw_trees.specs.Tree.{Tree, Empty, Then, Inner, Source, Sign, bare_name}
-use Rattle.cw_table.specs.Rewriting.{State}
+use Rattle.cw_trees.specs.Tree.{Tree, Empty, Then, Source, Sign}
 use Rattle.cw_tokens.specs.declared.token.Token.{Token}
 use Rattle.cw_tokens.specs.declared.token.Token.TheVariants as token
 use Rattle.cw_tokens.specs.Shapes.{tree_in}
-use Rattle.cw_scraps.specs.Leaves.{LeafForm, names_with, token_form}
+use Rattle.cw_scraps.specs.Leaves.{names_with, token_form}
 use Rattle.cw_logtext.specs.LogText.{greatest}
-use Rattle.cw_translator.specs.Translating.{Ended, Known, Made, NameTexts, Spelled, before, begin, dead, dollared, end_of}
-use Rattle.cw_translator.specs.Translating.{first_word, form_tokens, format_made, head_made, headed_made, later_words}
-use Rattle.cw_translator.specs.Translating.{leaf_of_name, leaf_scrap, macro_made, made, nothing, plain_text, scrap_of_name, sign_behind, spelled}
-use Rattle.cw_translator.specs.Translating.{texts_made, texts_named, translated, with_names, word_tokens}
-use Rattle.cw_log_laws.specs.LoggedTexts.{IsLater}
+use Rattle.cw_translator.specs.Translating.{Known, NameTexts, Spelled, before, begin, dead, dollared, end_of}
+use Rattle.cw_translator.specs.Translating.{first_word, format_made, head_made, headed_made, later_words, leaf_of_name}
+use Rattle.cw_translator.specs.Translating.{leaf_scrap, macro_made, made, plain_text, sign_behind, spelled, texts_made}
+use Rattle.cw_translator.specs.Translating.{texts_named, translated, with_names, word_tokens}
 use Rattle.cw_log_laws.proofs.CountedTokens.{nest-size, nest_size, tokens_in}
-use Rattle.cw_log_laws.proofs.LaterNames.{HaveCats, later-on, later-same}
-use Rattle.cw_log_laws.proofs.LeafScraps.{AreNamesBehind, form-tokens, names-behind, same-behind, token-logged, tokens-append}
-use Rattle.cw_log_laws.proofs.MadeTexts.{AreFine, AreWellNamed, Grows, IsSpeltNest, IsWellMade, ended-grows, grows-names}
+use Rattle.cw_log_laws.proofs.LaterNames.{HaveCats, later-on}
+use Rattle.cw_log_laws.proofs.LeafScraps.{AreNamesBehind, form-tokens, names-behind, same-behind, token-logged}
+use Rattle.cw_log_laws.proofs.LeafScraps.{tokens-append}
+use Rattle.cw_log_laws.proofs.MadeTexts.{AreWellNamed, Grows, IsSpeltNest, IsWellMade, ended-grows, grows-names}
 use Rattle.cw_log_laws.proofs.MadeTexts.{grows-none, grows-then, grows-wider, nest-spelt, plain-grows, well-before}
 use Rattle.cw_log_laws.proofs.MadeTexts.{well-made, well-nothing, well-scrap, well-wider}
 use Rattle.cw_log_laws.proofs.SpeltTokens.{AreSpelt, IsSpelt}

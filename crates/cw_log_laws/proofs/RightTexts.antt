@@ -1,12 +1,11 @@
 -- The texts of a book: their names stay, and the blocks of all that are reduced are right.
-use Rattle.std.proofs.Common.{◌≡◌, ◌≢◌, ℕ, zero, suc, ◌+◌, ◌-◌, ◌<◌, ◌≤◌, ◌^◌, Bool, true, false, Option, Some, None, List, []}
-use Rattle.std.proofs.Common.{◌∷◌, ◌++◌, length, map, drop, slice_get, refl, sym, ap, ◌∙◌, subst, arith, length-drop}
+use Rattle.std.proofs.Common.{◌≢◌, ℕ, zero, suc, ◌+◌, ◌<◌, ◌≤◌, ◌^◌, Bool, true, false, Option, Some, None, List, []}
+use Rattle.std.proofs.Common.{◌∷◌, length, map, slice_get, arith}
 use Rattle.std.specs.List.{All, AllByRecursion}
-use Rattle.std.specs.Prelude.{if◌then◌else◌, ◌==◌, option_map}
-use Rattle.std.proofs.lemmas.List.Elements.{All-from_recursion, All-head, All-map, All-nil, All-tail, All-weaker}
+use Rattle.std.specs.Prelude.{if◌then◌else◌, ◌==◌}
+use Rattle.std.proofs.lemmas.List.Elements.{All-from_recursion, All-head, All-nil, All-tail, All-weaker}
 use Rattle.std.proofs.lemmas.List.Elements.{recursion_from_All}
 use Rattle.cw_base.specs.declared.category.Cat.TheVariants.{End}
-use Rattle.cw_base.specs.declared.flags.Flags.{Flags}
 use Rattle.cw_base.specs.declared.span.Span.{Span}
 use Rattle.cw_base.specs.Text.{bar}
 use Rattle.cw_rules.specs.Answers.{Answer}
@@ -14,25 +13,26 @@ use Rattle.cw_rules.specs.declared.tokens.Mode.{Mode}
 use Rattle.cw_rules.specs.declared.tokens.Mode.TheVariants.{Inner}
 use Rattle.cw_lex.specs.Lexing.{tokens_of}
 use Rattle.cw_lex.specs.Nested.{until_section}
-use Rattle.cw_names.specs.Names.{Entry, AreDistinct}
+use Rattle.cw_names.specs.Names.{Entry}
 use Rattle.cw_secnames.specs.Kept.{SecName}
 use Rattle.cw_secnames.specs.Parts.{begins_with_bar, inner_parts, one_more, part_here, parts_from, size_to_bar}
 use Rattle.cw_secnames.specs.Uses.{NameUse, name_at}
 use Rattle.cw_secnames.specs.declared.kinds.SecKind.{SecKind}
 use Rattle.cw_secnames.specs.declared.kinds.SecKind.TheVariants.{Named, File}
-use Rattle.cw_table.specs.Rewriting.{State}
 use Rattle.cw_logtext.specs.Appending.{block_of}
 use Rattle.cw_logtext.specs.LogText.{greatest}
-use Rattle.cw_translator.specs.NameParts.{name_texts, parts_by_kind, parts_of_name, texts_kept, texts_of_name}
+use Rattle.cw_texts.specs.declared.text_list.TextRef.{TextRef}
+use Rattle.cw_each.specs.EachText.{Source, text_ended}
+use Rattle.cw_translator.specs.NameParts.{name_texts, parts_by_kind, texts_kept, texts_of_name}
 use Rattle.cw_translator.specs.Recording.{logged}
-use Rattle.cw_translator.specs.Translating.{begin, translated}
-use Rattle.cw_log_laws.specs.LoggedTexts.{AreNames, IsInside, IsLater, IsRightBlock, TextsAreLogged, TextsKeepNames}
-use Rattle.cw_log_laws.specs.LoggedTexts.{text_ended}
+use Rattle.cw_translator.specs.Translating.{begin}
+use Rattle.cw_log_laws.specs.LoggedTexts.{AreNames, HasShortNames, IsInside, IsLater, IsRightBlock, TextsAreLogged}
+use Rattle.cw_log_laws.specs.LoggedTexts.{TextsKeepNames}
 use Rattle.cw_log_laws.proofs.CountedTokens.{tokens-count, tokens_in, until-count}
 use Rattle.cw_log_laws.proofs.LaterNames.{HaveCats}
 use Rattle.cw_log_laws.proofs.MadeTexts.{AreFine, Grows, fine-later}
 use Rattle.cw_log_laws.proofs.NamedTexts.{ArePlainNames, ArePlainTexts, MayBePlain, text-grows}
-use Rattle.cw_log_laws.proofs.SpeltTokens.{AreSpelt, tokens-spelt, until-spelt}
+use Rattle.cw_log_laws.proofs.SpeltTokens.{tokens-spelt, until-spelt}
 use Rattle.cw_log_laws.proofs.WrittenScraps.{IsFineState, block-right}
 
 -- ## The inner texts of a name
@@ -142,26 +142,39 @@ names-cats names h = have-cats names (recursion_from_All (λ (e : Entry). e.cate
 
 -- ## Whole texts
 
-pub texts-logged : TextsAreLogged
-texts-logged flags kept uses text span mode names marks later inside short are distinct l =
-    let answers = tokens_of text span.start span.«end» mode in
-    let g = text-grows flags (name_texts kept uses) answers names marks (names-plain kept uses short)
-    (names-cats names are) (tokens-spelt text span.start span.«end» mode) in
-    let ended = text_ended flags kept uses text span mode names marks in
-    let fine = fine-later ended.known.names later l ended.known.ended
-    (g.ended (inside-few text span.start span.«end» mode inside.behind inside.within) (All-nil (IsFineState names))) in
-    All-weaker (IsFineState later) (λ state. IsRightBlock flags (block_of later (logged flags state)))
-    (λ state h. block-right flags later state distinct h) ended.known.ended fine
+module _ (s : Source) (ref : TextRef) (names : List Entry) (short : HasShortNames s) (are : AreNames names) where
+  abbrev answers : List Answer
+  answers = tokens_of s.text ref.span.start ref.span.«end» ref.mode
+
+  grown : Grows (tokens_in answers) (begin names []) (text_ended s ref names).known
+  grown =
+      text-grows s.flags (name_texts s.sec_names s.name_uses) answers names []
+      (names-plain s.sec_names s.name_uses short) (names-cats names are)
+      (tokens-spelt s.text ref.span.start ref.span.«end» ref.mode)
+
+  pub text-names : AreNames (text_ended s ref names).known.names
+  text-names = record {
+    apart = grown.distinct are.apart;
+    real = All-from_recursion (λ (e : Entry). e.category ≢ End) (text_ended s ref names).known.names
+        (cats-had (text_ended s ref names).known.names grown.cats);
+  }
+
+  pub names-later : IsLater names (text_ended s ref names).known.names
+  names-later = grown.later
+
+  -- the states of a text, over any later names
+  pub text-fine : (later : List Entry) → IsInside ref.span → IsLater (text_ended s ref names).known.names later
+      → AreFine later (text_ended s ref names).known.ended
+  text-fine later inside l =
+      fine-later (text_ended s ref names).known.names later l (text_ended s ref names).known.ended
+      (grown.ended (inside-few s.text ref.span.start ref.span.«end» ref.mode inside.behind inside.within)
+      (All-nil (IsFineState names)))
 
 pub texts-keep-names : TextsKeepNames
-texts-keep-names flags kept uses text span mode names marks short are =
-    let answers = tokens_of text span.start span.«end» mode in
-    let g = text-grows flags (name_texts kept uses) answers names marks (names-plain kept uses short)
-    (names-cats names are) (tokens-spelt text span.start span.«end» mode) in
-    let new = (text_ended flags kept uses text span mode names marks).known.names in (
-      record {
-        apart = g.distinct are.apart;
-        real = All-from_recursion (λ (e : Entry). e.category ≢ End) new (cats-had new g.cats);
-      },
-      g.later,
-    )
+texts-keep-names s ref names short are = (text-names s ref names short are, names-later s ref names short are)
+
+pub texts-logged : TextsAreLogged
+texts-logged s ref names later inside short are distinct l =
+    All-weaker (IsFineState later) (λ state. IsRightBlock s.flags (block_of later (logged s.flags state)))
+    (λ state h. block-right s.flags later state distinct h) (text_ended s ref names).known.ended
+    (text-fine s ref names short are later inside l)

@@ -1,6 +1,6 @@
 -- The text of an identifier is a letter, and letters and digits behind it, in all answers of the scanner.
-use Rattle.std.proofs.Common.{◌≡◌, ℕ, zero, suc, ◌+◌, ◌-◌, Bool, true, false, ◌&&◌, ◌||◌, not, ◌==◌, nat_lt, List, [], ◌∷◌}
-use Rattle.std.proofs.Common.{◌++◌, Option, Some, None, drop, take, refl, sym, ap, ◌∙◌, subst, arith, cond}
+use Rattle.std.proofs.Common.{◌≡◌, ℕ, zero, suc, ◌+◌, ◌-◌, Bool, true, false, ◌&&◌, ◌||◌, not, ◌==◌, nat_lt, List, []}
+use Rattle.std.proofs.Common.{◌∷◌, ◌++◌, Option, Some, None, drop, take, refl, sym, ap, ◌∙◌, arith}
 use Rattle.std.specs.List.{list_all}
 use Rattle.cw_base.proofs.TestLaws.{both}
 use Rattle.cw_rules.specs.declared.bodies.Noted.{Noted}
@@ -14,25 +14,23 @@ use Rattle.cw_rules.specs.declared.parts.Opened.{Opened}
 use Rattle.cw_rules.specs.declared.parts.Start.{Start}
 use Rattle.cw_rules.specs.declared.parts.Start.TheVariants as start
 use Rattle.cw_rules.specs.declared.signs.Sign.{Sign}
-use Rattle.cw_rules.specs.declared.signs.Sign.TheVariants as signs
 use Rattle.cw_rules.specs.declared.tokens.Mode.{Mode}
 use Rattle.cw_rules.specs.declared.tokens.TokKind.{TokKind}
 use Rattle.cw_rules.specs.declared.tokens.TokKind.TheVariants as kinds
-use Rattle.cw_rules.specs.Answers.{Answer, Token, Begin, Finish, Note, Seen, Where, Cut, Found, note_answers, plain}
+use Rattle.cw_rules.specs.Answers.{Answer, Token, Begin, Finish, Note, Where, Cut, Found, note_answers, plain}
 use Rattle.cw_rules.specs.Bytes.{newline, quote, apostrophe, slash, star, at_sign, hash, less, backslash, comma}
 use Rattle.cw_base.specs.Text.{bar}
 use Rattle.cw_rules.specs.Bytes.{right_paren, begins, begins_by, is_letter, is_digit, is_in, run}
 use Rattle.cw_rules.specs.Codes.{code_at, begins_section, effect_in_limbo, effect_in_tex, has_control_text}
 use Rattle.cw_rules.specs.Constants.{constant}
-use Rattle.cw_rules.specs.Signs.{all_signs, longest, spelling}
+use Rattle.cw_rules.specs.Signs.{all_signs, longest}
 use Rattle.cw_rules.specs.Tokens.{in_hash_line, behind_include, takes_hash_line, is_space, is_deep, ends_at_bar}
-use Rattle.cw_rules.specs.Tokens.{closes_on_line, moved, passed, one, comment_end, inner_cut, all_cut, section}
-use Rattle.cw_rules.specs.Tokens.{is_quote, section_code, section_name, string, control_text, alone_size}
-use Rattle.cw_rules.specs.Tokens.{control_or_plain, line_end, sign_or_other, start_of, effect_in, code_by, in_code}
-use Rattle.cw_rules.specs.Tokens.{code_text, code_token, comment_text, limbo_by, limbo_text, tex_by, tex_text}
-use Rattle.cw_rules.specs.Tokens.{name_follows, macro_name, parameter_follows, parameter, format_name, behind_head}
-use Rattle.cw_rules.specs.Tokens.{part_text, in_text, found, is_name, include_name, piece_start, behind_white}
-use Rattle.cw_rules.specs.Tokens.{identifier}
+use Rattle.cw_rules.specs.Tokens.{closes_on_line, moved, passed, comment_end, inner_cut, all_cut, section, is_quote}
+use Rattle.cw_rules.specs.Tokens.{section_code, section_name, string, control_text, alone_size, control_or_plain}
+use Rattle.cw_rules.specs.Tokens.{line_end, sign_or_other, start_of, effect_in, code_by, in_code, code_text, code_token}
+use Rattle.cw_rules.specs.Tokens.{comment_text, limbo_by, limbo_text, tex_by, tex_text, name_follows, macro_name}
+use Rattle.cw_rules.specs.Tokens.{parameter_follows, parameter, format_name, behind_head, part_text, in_text, found}
+use Rattle.cw_rules.specs.Tokens.{is_name, include_name, piece_start, behind_white}
 use Rattle.cw_rules.specs.Bodies.{one_note, note_unless, noted}
 use Rattle.cw_base.specs.declared.notes.NoteKind.{NoteKind}
 use Rattle.cw_rules.proofs.Choices.{if-both}
@@ -313,7 +311,8 @@ all-spelt [] w fresh last place taken = bare-spelt place (all_cut w.part w.comme
 all-spelt (byte ∷ bytes) w fresh last place zero =
     let f = found w fresh last place byte bytes in
     append-spelt f.answers (answers bytes f.next (still_fresh fresh byte) byte (place + 1) f.more)
-    (found-spelt w fresh last place byte bytes) (all-spelt bytes f.next (still_fresh fresh byte) byte (place + 1) f.more)
+    (found-spelt w fresh last place byte bytes)
+    (all-spelt bytes f.next (still_fresh fresh byte) byte (place + 1) f.more)
 all-spelt (byte ∷ bytes) w fresh last place (suc taken) =
     all-spelt bytes w (still_fresh fresh byte) byte (place + 1) taken
 

@@ -1,6 +1,6 @@
 -- Scraps of which leaf lines tell all: their trees, their leaf lines, and the blocks of states that have such scraps.
-use Rattle.std.proofs.Common.{◌≡◌, ◌≢◌, ℕ, suc, ◌+◌, ◌<◌, ◌≤◌, Bool, true, false, ◌&&◌, ◌==◌, Option, Some, None, List, []}
-use Rattle.std.proofs.Common.{◌∷◌, ◌++◌, length, map, slice_get, refl, sym, ap, ◌∙◌, subst, arith, eq-eqb}
+use Rattle.std.proofs.Common.{◌≡◌, ◌≢◌, ℕ, ◌≤◌, Bool, true, false, Option, Some, None, List, [], ◌∷◌, length, map}
+use Rattle.std.proofs.Common.{slice_get, refl, sym, ap, ◌∙◌, subst, arith, eq-eqb}
 use Rattle.std.specs.List.{All, list_all}
 use Rattle.std.proofs.lemmas.Bool.{lt-ltb}
 use Rattle.std.proofs.lemmas.List.{length-map}
@@ -15,19 +15,19 @@ use Rattle.cw_names.specs.Names.{Entry, AreDistinct}
 use Rattle.cw_trees.specs.declared.Control.{Control}
 use Rattle.cw_trees.specs.declared.Control.TheVariants.{Inserted}
 use Rattle.cw_trees.specs.Joining.{Scrap}
-use Rattle.cw_trees.specs.Tree.{Leaf, Source, Ident, Reserved, Sign, Tree, Empty, Then, Sub, Inner, bare_name, search_word}
-use Rattle.cw_trees.specs.Tree.{Search, Found, Stopped, Nothing}
+use Rattle.cw_trees.specs.Tree.{Leaf, Source, Ident, Reserved, Sign, Tree, Empty, Then, Sub, Inner, bare_name}
+use Rattle.cw_trees.specs.Tree.{search_word}
 use Rattle.cw_table.specs.Normal.{Production, is_fine, fine_with, log}
 use Rattle.cw_table.specs.Productions.{productions}
 use Rattle.cw_table.specs.Rewriting.{State}
 use Rattle.cw_table.specs.Sound.{is_exp}
-use Rattle.cw_leaves.specs.LeafLines.{HasNoMark, IsClear, IsIdentEntry, IsTold, kind_by, leaf_line, log_of_lines, said}
-use Rattle.cw_leaves.specs.LeafLines.{said_by, text_at, text_by}
-use Rattle.cw_leaves.specs.Sights.{Heard, behind, followed, told_by}
+use Rattle.cw_leaves.specs.LeafLines.{HasNoMark, IsClear, IsIdentEntry, IsTold, kind_by, leaf_line, said, said_by}
+use Rattle.cw_leaves.specs.LeafLines.{text_at, text_by}
+use Rattle.cw_leaves.specs.Sights.{Heard, behind, told_by}
 use Rattle.cw_leaves.specs.Spelling.{id_of, item_of, line_of, production_of, spelled}
 use Rattle.cw_leaves.proofs.LineFacts.{lines-have-log}
 use Rattle.cw_logtext.specs.Appending.{block_of}
-use Rattle.cw_logtext.specs.LogText.{Block, IsFineBlock, IsFineLine, fits_kind, greatest, is_identifier}
+use Rattle.cw_logtext.specs.LogText.{Block, IsFineLine, fits_kind, greatest, is_identifier}
 use Rattle.cw_translator.specs.Recording.{logged}
 use Rattle.cw_log_laws.specs.LoggedTexts.{IsKept, IsLater, IsRightBlock}
 use Rattle.cw_log_laws.proofs.FineItems.{log-fine}
@@ -248,9 +248,22 @@ state-later names later l state h = record {
   few = h.few;
 }
 
-abbrev block_told : Flags → List Entry → State → Block
+-- its leaf lines and its productions
+abbrev pub block_told : Flags → List Entry → State → Block
 block_told flags names state =
     record { leaves = map (leaf_line names) state.scraps; items = log productions flags state }
+
+pub told-right : (flags : Flags) (names : List Entry) (state : State) → AreDistinct names → IsFineState names state
+    → IsRightBlock flags (block_told flags names state)
+told-right flags names state distinct h = record {
+  fine = record {
+    few = omega (arith, length-map state.scraps (leaf_line names), h.few);
+    leaves = lines-fine names state.scraps h.scraps;
+    items = log-fine flags greatest (omega arith) state (scraps-fine names state.scraps h.scraps) h.few;
+  };
+  right = lines-have-log productions flags names state distinct
+      (All-weaker (IsLogged names) (IsTold names) (λ s g. told names s g) state.scraps h.scraps);
+}
 
 block-said : (flags : Flags) (names : List Entry) (state : State)
     → block_of names (logged flags state) ≡ block_told flags names state
@@ -260,15 +273,8 @@ block-said flags names state =
     ∙ ap (λ is. record { leaves = map (leaf_line names) state.scraps; items = is })
     (items-said (log productions flags state))
 
+-- the same as it is recorded
 pub block-right : (flags : Flags) (names : List Entry) (state : State) → AreDistinct names → IsFineState names state
     → IsRightBlock flags (block_of names (logged flags state))
 block-right flags names state distinct h =
-    subst (IsRightBlock flags) (sym (block-said flags names state)) (record {
-      fine = record {
-        few = omega (arith, length-map state.scraps (leaf_line names), h.few);
-        leaves = lines-fine names state.scraps h.scraps;
-        items = log-fine flags greatest (omega arith) state (scraps-fine names state.scraps h.scraps) h.few;
-      };
-      right = lines-have-log productions flags names state distinct
-          (All-weaker (IsLogged names) (IsTold names) (λ s g. told names s g) state.scraps h.scraps);
-    })
+    subst (IsRightBlock flags) (sym (block-said flags names state)) (told-right flags names state distinct h)

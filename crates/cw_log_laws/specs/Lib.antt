@@ -1,2 +1,3 @@
 -- What holds of the logs of C texts.
 pub mod LoggedTexts
+pub mod AcceptedLogs

@@ -3,18 +3,14 @@ use Rattle.std.specs.Prelude.{◌≡◌, ◌≢◌, ℕ, ◌<◌, ◌≤◌, ◌
 use Rattle.cw_base.specs.declared.category.Cat.TheVariants.{End}
 use Rattle.cw_base.specs.declared.flags.Flags.{Flags}
 use Rattle.cw_base.specs.declared.span.Span.{Span}
-use Rattle.cw_rules.specs.declared.tokens.Mode.{Mode}
-use Rattle.cw_lex.specs.Lexing.{tokens_of}
 use Rattle.cw_names.specs.Names.{Entry, AreDistinct}
-use Rattle.cw_secnames.specs.Kept.{SecName}
-use Rattle.cw_secnames.specs.Uses.{NameUse}
 use Rattle.cw_table.specs.Productions.{productions}
 use Rattle.cw_leaves.specs.LeafLines.{log_of_lines}
 use Rattle.cw_logtext.specs.Appending.{block_of}
 use Rattle.cw_logtext.specs.LogText.{Block, IsFineBlock}
-use Rattle.cw_translator.specs.NameParts.{name_texts}
+use Rattle.cw_texts.specs.declared.text_list.TextRef.{TextRef}
 use Rattle.cw_translator.specs.Recording.{logged}
-use Rattle.cw_translator.specs.Translating.{Ended, translated}
+use Rattle.cw_each.specs.EachText.{Source, text_ended}
 
 -- ## Names
 
@@ -42,28 +38,21 @@ pub record IsRightBlock (flags : Flags) (b : Block) : Type 0 where
 
 -- ## Texts
 
--- the translation of the bytes of a text from `start` up to `end`, where these names stand for their own texts
-abbrev pub text_ended : Flags → List SecName → List NameUse → List ℕ → Span → Mode → List Entry → List ℕ → Ended
-text_ended flags kept uses text span mode names marks =
-    translated flags (name_texts kept uses) (tokens_of text span.start span.«end» mode) names marks
-
 -- A text ends before 2^24, and doesn't begin with the first byte, since a section code or a bar stands before it.
 pub record IsInside (span : Span) : Type 0 where
   pub behind : 0 < span.start
   pub within : span.«end» ≤ 2 ^ 24
 
--- The names are then names, and later ones.
+abbrev pub HasShortNames : Source → Type 0
+HasShortNames s = All (λ name. length name.text ≤ 2 ^ 24) s.sec_names
+
+-- The names behind a text are names again, and later ones.
 abbrev pub TextsKeepNames : Type 0
-TextsKeepNames = (flags : Flags) (kept : List SecName) (uses : List NameUse) (text : List ℕ) (span : Span) (mode : Mode)
-    (names : List Entry) (marks : List ℕ) → All (λ name. length name.text ≤ 2 ^ 24) kept → AreNames names
-    → AreNames (text_ended flags kept uses text span mode names marks).known.names
-    × IsLater names (text_ended flags kept uses text span mode names marks).known.names
+TextsKeepNames = (s : Source) (ref : TextRef) (names : List Entry) → HasShortNames s → AreNames names
+    → AreNames (text_ended s ref names).known.names × IsLater names (text_ended s ref names).known.names
 
 -- Each text whose reduction ends in it has a right block, spelled with any later names.
 abbrev pub TextsAreLogged : Type 0
-TextsAreLogged = (flags : Flags) (kept : List SecName) (uses : List NameUse) (text : List ℕ) (span : Span) (mode : Mode)
-    (names : List Entry) (marks : List ℕ) (later : List Entry) → IsInside span
-    → All (λ name. length name.text ≤ 2 ^ 24) kept → AreNames names → AreDistinct later
-    → IsLater (text_ended flags kept uses text span mode names marks).known.names later
-    → All (λ state. IsRightBlock flags (block_of later (logged flags state)))
-    (text_ended flags kept uses text span mode names marks).known.ended
+TextsAreLogged = (s : Source) (ref : TextRef) (names later : List Entry) → IsInside ref.span → HasShortNames s
+    → AreNames names → AreDistinct later → IsLater (text_ended s ref names).known.names later
+    → All (λ state. IsRightBlock s.flags (block_of later (logged s.flags state))) (text_ended s ref names).known.ended

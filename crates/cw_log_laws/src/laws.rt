@@ -1,4 +1,5 @@
 //! Laws of the logs of C texts.
+ghost use Rattle.cw_log_laws.specs.AcceptedLogs.{RightBlocksAreAccepted};
 ghost use Rattle.cw_log_laws.specs.LoggedTexts.{TextsAreLogged, TextsKeepNames};
 
 /// The laws of the logs of C texts. A text of a book leaves names that are names, each at its place and with its text
@@ -8,4 +9,10 @@ ghost use Rattle.cw_log_laws.specs.LoggedTexts.{TextsAreLogged, TextsKeepNames};
 pub fn logged_law()
     ensures names { TextsKeepNames }
     ensures texts { TextsAreLogged }
+{}
+
+/// The law of logs that are accepted: a file of blocks that may stand in a log, and whose productions follow from their
+/// leaf lines, is accepted, if it isn't too long. It does nothing: what it ensures is for proofs.
+pub fn accepted_law()
+    ensures { RightBlocksAreAccepted }
 {}

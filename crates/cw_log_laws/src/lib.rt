@@ -3,4 +3,4 @@
 
 mod laws;
 
-pub use laws::logged_law;
+pub use laws::{accepted_law, logged_law};

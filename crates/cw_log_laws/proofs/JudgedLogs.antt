@@ -1,0 +1,28 @@
+-- The file of blocks that may stand in a log is found to be a log with just these blocks.
+use Rattle.std.proofs.Common.{◌≡◌, ℕ, suc, List, drop, sym, ◌∙◌, subst}
+use Rattle.std.specs.List.{All}
+use Rattle.std.proofs.lemmas.List.{take-append-drop}
+use Rattle.cw_logtext.specs.Judgement.{Judgement, log, no_log}
+use Rattle.cw_logtext.specs.LogLaws.{BlocksAreTold}
+use Rattle.cw_logtext.specs.LogReading.{IsFault, IsLog, cut_off, wrong}
+use Rattle.cw_logtext.specs.LogText.{Block, IsFineBlock, log_lines}
+
+-- the lines of a log have no fault
+no-fault : (lines : List (List ℕ)) (good : ℕ) → IsLog lines → IsFault lines good → ⊥
+no-fault lines good is (wrong inside begins stuck) =
+    stuck (record {
+      later = drop (suc good) lines;
+      whole = subst IsLog (sym (take-append-drop (suc good) lines)) is;
+    })
+no-fault lines good is (cut_off all begins none) = none is
+
+-- It is a log, and of these blocks.
+abbrev pub IsOf : List Block → {lines : List (List ℕ)} → Judgement lines → Type 0
+IsOf blocks (log is) = is.blocks ≡ blocks
+IsOf blocks (no_log line fault) = ⊥
+
+pub judged-of : BlocksAreTold → (blocks : List Block) (lines : List (List ℕ)) → All IsFineBlock blocks
+    → lines ≡ log_lines blocks → (j : Judgement lines) → IsOf blocks j
+judged-of told blocks lines fine is (log found) = told found.blocks blocks found.fine fine (sym found.is ∙ is)
+judged-of told blocks lines fine is (no_log line fault) =
+    no-fault lines fault.good (record { blocks = blocks; fine = fine; is = is }) fault.fault
