@@ -8,4 +8,5 @@ mod NamesAt
 mod RowPlaces
 mod RowLines
 mod Writing
+mod MarkLaws
 mod WordLaws

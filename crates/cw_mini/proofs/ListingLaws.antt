@@ -152,6 +152,15 @@ above-later (m ∷ ms) (suc i) d ascending within =
 
 -- ## One place more
 
+-- what a test of a use tells of the place
+pub is-used : (t u : Bool) → t ≡ not u → t ≡ true → u ≡ false
+is-used t true e is = absurd cc
+is-used t false e is = refl
+
+pub is-unused : (t u : Bool) → t ≡ not u → t ≡ false → u ≡ true
+is-unused t true e is = refl
+is-unused t false e is = absurd cc
+
 more : (i : ℕ) → suc i ≡ i + 1
 more i = grind arith
 

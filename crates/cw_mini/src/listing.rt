@@ -4,7 +4,7 @@ ghost use Rattle.cw_base.specs.Conditions.{list_if};
 ghost use Rattle.cw_names.specs.Names.{Entry};
 ghost use Rattle.cw_mini.specs.RowForms.{IsListingOf, is_listed_by, names_at, positions};
 
-use crate::places::Places;
+use crate::places::{Places, is_use};
 use cw_base::Memory;
 use cw_index::index_order;
 use cw_names::NameId;
@@ -60,7 +60,7 @@ impl Listing {
             return Ok(());
         }
         for place in places.occurrences.sections_of(id) {
-            if !place.underlined {
+            if is_use(*place) {
                 self.push(place.section, id)?;
             }
         }

@@ -13,9 +13,7 @@ use crate::texts::leave_texts;
 use cw_base::{Exit, Ledger, Steps, Web, Words};
 use cw_desk::{Desk, FileDesk};
 use cw_lines::PutError;
-use cw_part::whole_texts_law;
 use cw_phase1::Book;
-use cw_texts::texts;
 use cw_tool::{Tool, tool_command, tool_files};
 use std::alloc::Global;
 
@@ -42,9 +40,7 @@ impl Tool for Mini {
         desk: &mut D,
         steps: &mut Steps<L>,
     ) -> Result<(), PutError> {
-        whole_texts_law();
-        let list = texts(alloc, web, book)?;
-        leave_texts(alloc, web.text(), &list, book, steps)?;
+        leave_texts(alloc, web, book, steps)?;
         write_sections(alloc, book, desk)
     }
 }

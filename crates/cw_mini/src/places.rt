@@ -58,12 +58,19 @@ fn is_defined(sections: &[SectionRef]) -> bool
     false
 }
 
+/// Whether a name is used at a place: where it is underlined, it is defined there.
+pub(crate) fn is_use(place: SectionRef) -> bool
+    ensures { result ≡ not place.underlined }
+{
+    !place.underlined
+}
+
 // Whether a section uses a name without defining it.
 fn is_used(section: u32, sections: &[SectionRef]) -> bool
     ensures { result ≡ list_any (λ m. m.section == section && not m.underlined) sections.now }
 {
     for place in sections {
-        if place.section == section && !place.underlined {
+        if place.section == section && is_use(*place) {
             return true;
         }
     }

@@ -2,14 +2,16 @@
 ghost use Rattle.std.specs.Prelude.{◌≡◌, All, OnOk};
 ghost use Rattle.cw_reduce.specs.WholeTexts.{IsCText};
 ghost use Rattle.cw_texpart.specs.Texts.{lasting};
+ghost use Rattle.cw_tool.specs.Given.{IsBookOf};
 ghost use Rattle.cw_translator.specs.NameParts.{AreNamesOf};
-ghost use Rattle.cw_mini.specs.Left.{is_inner, left_by_text, left_by_texts};
+ghost use Rattle.cw_mini.specs.Left.{is_inner, left_book, left_by_text, left_by_texts};
 
-use cw_base::{Flags, Ledger, Memory, Steps};
+use cw_base::{Flags, Ledger, Memory, Steps, Web};
 use cw_lex::Mode;
+use cw_part::whole_texts_law;
 use cw_phase1::Book;
 use cw_texpart::{CText, translate_text};
-use cw_texts::{TextList, TextRef};
+use cw_texts::{TextList, TextRef, texts};
 use std::alloc::Global;
 
 fn is_inner(mode: Mode) -> bool
@@ -44,8 +46,8 @@ fn leave_text<L: Ledger>(
     Ok(())
 }
 
-/// Translates texts one after another, with the flags of the start, and prints nothing of them.
-pub(crate) fn leave_texts<L: Ledger>(
+// Translates texts one after another.
+fn leave_each<L: Ledger>(
     alloc: Global,
     text: &[u8],
     texts: &TextList,
@@ -60,4 +62,19 @@ pub(crate) fn leave_texts<L: Ledger>(
         leave_text(alloc, text, texts.text_ref(i), book, steps)?;
     }
     Ok(())
+}
+
+/// Translates the texts of a web, with the flags of the start, and prints nothing of them.
+pub(crate) fn leave_texts<L: Ledger>(
+    alloc: Global,
+    web: &Web,
+    book: &mut Book,
+    steps: &mut Steps<L>,
+) -> Result<(), Memory>
+    requires { IsBookOf web.now.lines book.old }
+    ensures { OnOk result (book.new ≡ left_book web.now.lines) }
+{
+    whole_texts_law();
+    let list = texts(alloc, web, book)?;
+    leave_each(alloc, web.text(), &list, book, steps)
 }

@@ -1,19 +1,18 @@
--- The next text leaves its own.
-use Rattle.std.proofs.Common.{◌∙◌, subst, sym}
-use Rattle.cw_texpart.specs.Texts.{Lasting}
-use Rattle.cw_translator.specs.NameParts.{AreNamesOf}
-use Rattle.cw_mini.proofs.LeftLaws.{left-next, whole-at}
+-- The texts are those of the web, and each can be translated.
+use Rattle.std.proofs.lemmas.Result.{on_ok_weaker}
+use Rattle.cw_mini.proofs.LeftLaws.{left-whole, names-kept, texts-whole}
 use Rattle.cw_mini.proofs.texts.leave_texts.Goals as goal
 
-pub leave_text-requires : goal.leave_text-requires
-leave_text-requires g c = record {
-  whole = whole-at c.args.text.now c.args.texts.now c.loop-i.i c.text_ref.result c.text_ref.ensures c.requires.whole;
-  kept = subst (λ (l : Lasting). AreNamesOf l.sec_names l.name_uses) (sym c.loop-i.invariant.same) c.requires.kept;
+pub leave_each-requires : goal.leave_each-requires
+leave_each-requires g c = record {
+  whole = texts-whole c.whole_texts_law.ensures c.args.web.now.lines c.text.result.now c.in_ok-list.list
+      c.args.book.now c.text.ensures.lines c.text.ensures.limit c.in_ok-list.ensures c.requires.same;
+  kept = names-kept c.args.web.now.lines c.text.result.now c.args.book.now c.text.ensures.lines c.text.ensures.limit
+      c.requires;
 }
 
-pub loop-i-preserved : goal.loop-i-preserved
-loop-i-preserved g c = record {
-  left = left-next c.args.text.now c.args.texts.now c.loop-i.i c.text_ref.result c.loop-i.book c.leave_text.new.book _
-      c.text_ref.ensures c.in_ok-leave_text.ensures.left c.loop-i.invariant.left;
-  same = c.leave_text.ensures.same ∙ c.loop-i.invariant.same;
-}
+pub returns : goal.returns
+returns g c =
+    on_ok_weaker c.leave_each.result
+    (left-whole c.args.web.now.lines c.text.result.now c.in_ok-list.list c.args.book.now c.leave_each.new.book
+    c.text.ensures.lines c.in_ok-list.ensures c.requires.same) c.leave_each.ensures

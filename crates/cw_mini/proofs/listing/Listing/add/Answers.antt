@@ -5,8 +5,8 @@ use Rattle.cw_names.specs.declared.xrefs.SectionRef.{SectionRef}
 use Rattle.cw_mini.specs.declared.listing.Listing.{Listing}
 use Rattle.cw_mini.specs.Mini.{defining, is_used_in}
 use Rattle.cw_mini.specs.RowForms.{may_be_listed, names_at}
-use Rattle.cw_mini.proofs.ListingLaws.{listed-whole, step-listed, step-passed, with_later}
-use Rattle.cw_mini.proofs.listing.Listing.add.Goals.{else-not-place, then-not-place+in_ok-push}
+use Rattle.cw_mini.proofs.ListingLaws.{is-unused, is-used, listed-whole, step-listed, step-passed, with_later}
+use Rattle.cw_mini.proofs.listing.Listing.add.Goals.{else-is_use, then-is_use+in_ok-push}
 use Rattle.cw_mini.proofs.listing.Listing.add.Goals as goal
 
 pub loop-place-preserved : goal.loop-place-preserved
@@ -17,15 +17,15 @@ loop-place-preserved c =
     let place : ℕ = (get_or ms i none).section in
     let name : ℕ = c.args.id.index in
     let old : Listing = c.loop-place.self in
-    elim c.if-not-place.branch [
-      | then-not-place+in_ok-push w ↦ record {
+    elim c.if-is_use.branch [
+      | then-is_use+in_ok-push w ↦ record {
         listed = λ section low.
-            let new : names_at section c.if-not-place.self.by_section.items
+            let new : names_at section c.if-is_use.self.by_section.items
             ≡ names_at section w.push.new.self.by_section.items =
             ap (λ (l : Listing). names_at section l.by_section.items) w.self-is in
             step-listed section name i (names_at section old.by_section.items)
-            (names_at section c.if-not-place.self.by_section.items) _ ms none
-            c.sections_of-place-items.ensures.ascending c.loop-place-test.true w.if-not-place.true
+            (names_at section c.if-is_use.self.by_section.items) _ ms none
+            c.sections_of-place-items.ensures.ascending c.loop-place-test.true (is-used c.is_use.result (get_or ms i none).underlined c.is_use.ensures w.if-is_use.true)
             (λ e. new
             ∙ subst (λ (n : ℕ). names_at n w.push.new.self.by_section.items
             ≡ names_at n old.by_section.items ++ name ∷ []) (sym e)
@@ -34,9 +34,9 @@ loop-place-preserved c =
         len = ap (λ (l : Listing). length l.by_section.items) w.self-is ∙ w.push.ensures.len
             ∙ c.loop-place.invariant.len;
       }
-      | else-not-place w ↦ record {
-        listed = λ section low. step-passed section name i (names_at section c.if-not-place.self.by_section.items) _ ms
-            none c.loop-place-test.true w.if-not-place.false
+      | else-is_use w ↦ record {
+        listed = λ section low. step-passed section name i (names_at section c.if-is_use.self.by_section.items) _ ms
+            none c.loop-place-test.true (is-unused c.is_use.result (get_or ms i none).underlined c.is_use.ensures w.if-is_use.false)
             (ap (λ (l : Listing). with_later section name (names_at section l.by_section.items) (drop i ms)) w.self-is
             ∙ c.loop-place.invariant.listed section low);
         len = ap (λ (l : Listing). length l.by_section.items) w.self-is ∙ c.loop-place.invariant.len;

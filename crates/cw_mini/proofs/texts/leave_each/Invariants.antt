@@ -2,7 +2,7 @@
 use Rattle.std.proofs.Common.{◌≡◌, drop}
 use Rattle.cw_texpart.specs.Texts.{lasting}
 use Rattle.cw_mini.specs.Left.{left_by_texts}
-use Rattle.cw_mini.proofs.texts.leave_texts.Given as goal
+use Rattle.cw_mini.proofs.texts.leave_each.Given as goal
 
 abbrev pub invariant-loop-i : goal.invariant-loop-i
 invariant-loop-i g l = record {
