@@ -1,6 +1,4 @@
 //! Whole runs of `check`: what is printed of a file, and the status.
-ghost use Rattle.std.specs.Prelude.{◌≡◌, [], IfOk};
-
 use cw_base::{Bytes, Event, Exit, Memory, Out, Silent, Steps};
 use cw_desk::MemDesk;
 use cw_log::check;
@@ -91,26 +89,28 @@ fn printed(alloc: Global, journal: &[Event]) -> Result<Bytes, Memory> {
     Ok(text)
 }
 
-/// What is printed of the file `foo.log`, and the status.
-fn seen(alloc: Global, mut desk: MemDesk) -> Result<(Bytes, Exit), Memory> {
+/// What is printed of the file `foo.log`, which has these bytes, if any, and the status.
+fn seen(alloc: Global, log: Option<&[u8]>) -> Result<(Bytes, Exit), Memory> {
+    let mut desk = MemDesk::new_in(alloc);
+    if let Some(bytes) = log {
+        desk.add_file(b"foo.log", bytes)?;
+    }
     let exit = status_of(check(alloc, b"foo.log", &mut desk, &mut Steps::<Silent>::new()));
     Ok((printed(alloc, desk.journal())?, exit))
 }
 
 #[test]
 fn logs_are_checked(rt: HostRuntime) -> Result<(), Fail> {
-    for (log, told, status) in RUNS {
-        let mut desk = MemDesk::new_in(rt.alloc());
-        desk.add_file(b"foo.log", log.as_bytes())?;
-        let (text, exit) = seen(rt.alloc(), desk)?;
-        assert_eq!(rt; (text.as_slice(), exit), (told.as_bytes(), status));
+    for (log, told, status) in &RUNS {
+        let (text, exit) = seen(rt.alloc(), Some(log.as_bytes()))?;
+        assert_eq!(rt; (text.as_slice(), exit), (told.as_bytes(), *status));
     }
     Ok(())
 }
 
 #[test]
 fn a_log_that_is_missing(rt: HostRuntime) -> Result<(), Fail> {
-    let (text, exit) = seen(rt.alloc(), MemDesk::new_in(rt.alloc()))?;
+    let (text, exit) = seen(rt.alloc(), None)?;
     let told = b"! Cannot open log foo.log\n".as_slice();
     assert_eq!(rt; (text.as_slice(), exit), (told, Exit::Errors));
     Ok(())
