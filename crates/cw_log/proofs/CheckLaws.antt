@@ -1,6 +1,7 @@
 -- Blocks are checked one after another.
 use Rattle.std.proofs.Common.{◌≡◌, ◌≢◌, ℕ, zero, suc, ◌+◌, ◌-◌, ◌≤◌, Bool, true, false, ◌&&◌, List, [], ◌∷◌, ◌++◌}
-use Rattle.std.proofs.Common.{inl, inr, length, map, sum_by, All, eqb, cond, refl, sym, ◌∙◌, ap, subst, arith, append_assoc}
+use Rattle.std.proofs.Common.{inl, inr, length, map, sum_by, All, eqb, cond, refl, sym, ◌∙◌, ap, subst, arith}
+use Rattle.std.proofs.Common.{append_assoc}
 use Rattle.std.proofs.lemmas.Bool.Decides.{eqb_tells}
 use Rattle.std.proofs.lemmas.Grind.{flat_map-append}
 use Rattle.std.proofs.lemmas.List.{append-nil, length-append, length-map}
@@ -38,7 +39,7 @@ use Rattle.cw_log.proofs.LineLaws.{lines-say-scraps}
 
 -- ## One block
 
-spelled-lines : (names : List Entry) (scraps : List Scrap) → map (spelled names) (map line_of scraps)
+pub spelled-lines : (names : List Entry) (scraps : List Scrap) → map (spelled names) (map line_of scraps)
     ≡ map (leaf_line names) scraps
 spelled-lines names [] = refl
 spelled-lines names (s ∷ scraps) = ap (λ l. l ∷ map (spelled names) (map line_of scraps)) (lines-say-scraps names s)

@@ -5,3 +5,5 @@ pub mod MakingLaws
 pub mod MadeLines
 pub mod CheckLaws
 pub mod RunLaws
+pub mod RecordLaws
+pub mod WritingLaws

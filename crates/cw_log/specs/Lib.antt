@@ -5,3 +5,6 @@ pub mod Making
 pub mod LogFile
 pub mod Checking
 pub mod Check
+pub mod LogOfWeb
+pub mod Writing
+pub mod Command

@@ -25,7 +25,8 @@ use std::alloc::Global;
 pub enum Checked {
     /// Each has the productions that its leaf lines tell: so many blocks, and so many productions.
     Accepted(u64, u64),
-    /// The block of this number, from 1 on, is the first that hasn't; so many productions at its beginning are the same.
+    /// The block of this number, from 1 on, is the first that hasn't; so many productions at its beginning are the
+    /// same.
     Rejected(u64, u64),
 }
 

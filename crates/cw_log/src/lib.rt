@@ -1,4 +1,5 @@
-//! Logs of productions: what is told of the scraps of a text, and of its productions.
+//! Logs of productions: what is told of the scraps of a text, and of its productions; how the log of a web is written,
+//! and how one is checked.
 #![tactic(auto)]
 
 mod checking;
@@ -7,7 +8,9 @@ mod file;
 mod laws;
 mod logs;
 mod making;
+mod program;
 mod telling;
+mod writing;
 
 pub use checking::Checked;
 pub use command::check;
@@ -15,4 +18,5 @@ pub use file::LOG_LIMIT;
 pub use laws::line_law;
 pub use logs::ProductionLog;
 pub use making::scrap_line;
+pub use program::{LogProgram, log_command, log_files};
 pub use telling::{leaf_line, leaf_lines};

@@ -1,14 +1,14 @@
 //! The logs of texts, written as these are reduced.
-ghost use Rattle.std.specs.Prelude.{◌≡◌, ◌<◌, ◌∷◌, [], ◌++◌, OnOk, OnErr, length, map, slice_get, Some, All};
-ghost use Rattle.cw_scraps.specs.Lines.{scraps_of};
-ghost use Rattle.cw_leaves.specs.Spelling.{line_of};
+ghost use Rattle.std.specs.Prelude.{◌≡◌, ◌<◌, Bool, false, [], length, slice_get, Some, refl};
 
-use crate::telling::leaf_lines;
+use crate::telling::{leaf_line, leaf_lines};
 use cw_base::Memory;
 use cw_leaves::{LeafLines, LogItem, LogItems, TextLog};
-use cw_scraps::ScrapLine;
+use cw_rewrite::Watch;
+use cw_scraps::{Leaf, ScrapLine};
 use cw_table::RowNo;
 use cw_tokens::TokenStore;
+use cw_translator::Recorder;
 use std::alloc::Global;
 use std::marker::Model;
 use std::mem;
@@ -57,47 +57,46 @@ impl ProductionLog {
     {
         &self.texts[i]
     }
+}
 
-    /// The reduction of a text begins, which has the scraps of this line. After `Memory` nothing is changed.
-    pub fn begin(&mut self, line: &ScrapLine, store: &TokenStore) -> Result<(), Memory>
-        requires { All (λ entry. entry.list.index < length store.now.lists) line.now }
-        ensures ok { OnOk result (self.new ≡ record {
-          ended = self.old.ended;
-          leaves = map line_of (scraps_of store.now.lists line.now);
-          items = [];
-        }) }
-        ensures refused { OnErr result (self.new ≡ self.old) }
-    {
+impl Watch for ProductionLog {
+    ghost use Rattle.std.specs.Prelude.{Some, map};
+    ghost use Rattle.cw_leaves.specs.Spelling.{production_of};
+
+    ghost told = { λ l. Some (record { items = map production_of l.items; begun = l.leaves; ended = l.ended }) };
+
+    ghost refuses = { λ l p. false };
+
+    ghost basis = { λ l. [] };
+
+    fn hear(&mut self, row: RowNo, place: usize) -> Result<bool, Memory> {
+        let Ok(place) = u32::try_from(place) else {
+            return Err(Memory);
+        };
+        self.items.push(LogItem { row, place })?;
+        Ok(true)
+    }
+}
+
+impl Recorder for ProductionLog {
+    ghost goes_on = { λ l p. refl };
+
+    fn begin(&mut self, line: &ScrapLine, store: &TokenStore) -> Result<(), Memory> {
         self.leaves = leaf_lines(self.alloc, line, store)?;
         self.items.clear();
         Ok(())
     }
 
-    /// The next production of the text. After `Memory` nothing is changed.
-    pub fn hear(&mut self, row: RowNo, place: usize) -> Result<(), Memory>
-        ensures ok { OnOk result (self.new ≡ record {
-          ended = self.old.ended;
-          leaves = self.old.leaves;
-          items = self.old.items ++ record { row = row; place = place } ∷ [];
-        }) }
-        ensures refused { OnErr result (self.new ≡ self.old) }
-    {
-        let Ok(place) = u32::try_from(place) else {
-            return Err(Memory);
-        };
-        self.items.push(LogItem { row, place })?;
+    fn begin_alone(&mut self, leaf: &Leaf, store: &TokenStore) -> Result<(), Memory> {
+        let line = leaf_line(self.alloc, leaf.cat, leaf.list, store)?;
+        let mut lines = Vec::new(self.alloc);
+        lines.push(line)?;
+        self.leaves = LeafLines::from_vec(lines);
+        self.items.clear();
         Ok(())
     }
 
-    /// The text has ended. After `Memory` the texts that had ended are as before.
-    pub fn end(&mut self) -> Result<(), Memory>
-        ensures ok { OnOk result (self.new ≡ record {
-          ended = self.old.ended ++ record { leaves = self.old.leaves; items = self.old.items } ∷ [];
-          leaves = [];
-          items = [];
-        }) }
-        ensures refused { OnErr result (self.new.ended ≡ self.old.ended) }
-    {
+    fn end(&mut self) -> Result<(), Memory> {
         let leaves = mem::replace(&mut self.leaves, LeafLines::from_vec(Vec::new(self.alloc)));
         let items = mem::replace(&mut self.items, Vec::new(self.alloc));
         let items = LogItems::from_vec(items);

@@ -64,8 +64,8 @@ fn put_leaf(leaf: &LeafLine, word: NameId, store: &mut TokenStore) -> Result<Lea
     })
 }
 
-/// A line of scraps with these leaf lines, each of which may stand in a log: so it has the log that they tell. Its lists
-/// are new in the store, behind those that are there.
+/// A line of scraps with these leaf lines, each of which may stand in a log: so it has the log that they tell. Its
+/// lists are new in the store, behind those that are there.
 pub fn scrap_line(
     alloc: Global,
     leaves: &[LeafLine],

@@ -77,16 +77,25 @@ const RUNS: [(&str, &str, Exit); 14] = [
     ("text 01\n", "! Not a log (line 1)\n", Exit::Errors),
 ];
 
-/// What was printed.
-fn printed(alloc: Global, journal: &[Event]) -> Result<Bytes, Memory> {
+/// What was printed, and the bytes of the file that was made, behind its name in brackets.
+pub(crate) fn printed(alloc: Global, journal: &[Event]) -> Result<Bytes, Memory> {
     let mut text = Bytes::new_in(alloc);
     for event in journal {
-        match event {
-            Event::Byte(Out::Term, byte) => text.push(*byte)?,
-            _ => text.append(b"[other]")?,
-        }
+        append_event(&mut text, event)?;
     }
     Ok(text)
+}
+
+fn append_event(text: &mut Bytes, event: &Event) -> Result<(), Memory> {
+    match event {
+        Event::Byte(Out::Term | Out::Tex, byte) => text.push(*byte),
+        Event::Made(Out::Tex, name) => {
+            text.push(b'[')?;
+            text.append(name.as_slice())?;
+            text.push(b']')
+        }
+        _ => text.append(b"[other]"),
+    }
 }
 
 /// What is printed of the file `foo.log`, which has these bytes, if any, and the status.

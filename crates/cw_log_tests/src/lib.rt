@@ -1,4 +1,4 @@
-//! Tests of logs: which files are logs, the text of a block, blocks read back, and logs that are checked.
+//! Tests of logs: which files are logs, the text of a block, blocks read back, logs that are checked, and logs of webs.
 #![tactic(auto)]
 
 #[cfg(test)]
@@ -9,3 +9,5 @@ mod check_tests;
 mod judge_tests;
 #[cfg(test)]
 mod text_tests;
+#[cfg(test)]
+mod write_tests;

@@ -1,8 +1,8 @@
 //! The text of a log, appended to a buffer block by block.
-ghost use Rattle.std.specs.Prelude.{◌≡◌, ◌∷◌, [], ◌++◌, ◌<◌, All, OnOk, OnErr, decimal, length, map};
+ghost use Rattle.std.specs.Prelude.{◌≡◌, ◌∷◌, [], ◌++◌, OnOk, OnErr, decimal, length, map};
 ghost use Rattle.std.specs.List.{flat_map};
 ghost use Rattle.cw_leaves.specs.LeafLines.{text_at};
-ghost use Rattle.cw_leaves.specs.Spelling.{AreKnown, IsKnown, production_of, spelled};
+ghost use Rattle.cw_leaves.specs.Spelling.{production_of, spelled};
 ghost use Rattle.cw_logtext.specs.Appending.{Appends, block_of};
 ghost use Rattle.cw_logtext.specs.LogText.{blank_and, block_lines, ended, head_text, item_text, letter, line_text};
 
@@ -32,21 +32,29 @@ fn append_number(text: &mut Bytes, number: u64) -> Result<(), Memory>
     text.append(Buffer::new().format(number).as_bytes())
 }
 
+// The text of a name; empty where there is no such name.
+fn name_text(names: &Names, id: NameId) -> &[u8]
+    ensures { result.now ≡ text_at names.now id.index }
+{
+    if id.index >= names.len() {
+        return b"";
+    }
+    names.text(id)
+}
+
 // Appends names, each behind a blank.
 fn append_names(text: &mut Bytes, names: &Names, ids: &[NameId]) -> Result<(), Memory>
-    requires { All (λ id. id.index < length names.now) ids.now }
     ensures { Appends (flat_map blank_and (map (λ id. text_at names.now id.index) ids.now)) text.old text.new result }
 {
     for id in ids {
         text.push(b' ')?;
-        text.append(names.text(*id))?;
+        text.append(name_text(names, *id))?;
     }
     Ok(())
 }
 
 // Appends the leaf line of a scrap.
 fn append_leaf(text: &mut Bytes, names: &Names, leaf: &LeafLine) -> Result<(), Memory>
-    requires { IsKnown names.now leaf.now }
     ensures { Appends (ended (line_text (spelled names.now leaf.now))) text.old text.new result }
 {
     text.append(kind_text(leaf.kind))?;
@@ -57,7 +65,6 @@ fn append_leaf(text: &mut Bytes, names: &Names, leaf: &LeafLine) -> Result<(), M
 
 // Appends leaf lines.
 fn append_leaves(text: &mut Bytes, names: &Names, leaves: &[LeafLine]) -> Result<(), Memory>
-    requires { All (IsKnown names.now) leaves.now }
     ensures { Appends (flat_map ended (map line_text (map (spelled names.now) leaves.now))) text.old text.new result }
 {
     for leaf in leaves {
@@ -96,9 +103,9 @@ fn append_head(text: &mut Bytes, count: usize) -> Result<(), Memory>
     text.push(b'\n')
 }
 
-/// Appends the block of one text. After `Memory` a beginning of it is appended.
+/// Appends the block of one text. A name that isn't among these is written as an empty one. After `Memory` a beginning
+/// of the block is appended.
 pub fn append_block(text: &mut Bytes, names: &Names, log: &TextLog) -> Result<(), Memory>
-    requires { AreKnown names.now log.now }
     ensures { Appends (flat_map ended (block_lines (block_of names.now log.now))) text.old text.new result }
 {
     let leaves = log.leaves.as_slice();

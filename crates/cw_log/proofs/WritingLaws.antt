@@ -1,0 +1,203 @@
+-- The log of a web is written text by text.
+use Rattle.std.proofs.Common.{◌≡◌, ℕ, zero, suc, ◌+◌, ◌<◌, ◌≤◌, All, Option, Some, Result, Ok, Err, List, [], ◌∷◌, ◌++◌}
+use Rattle.std.proofs.Common.{IsErrAnd, IsTrue, length, map, take, drop, get_or, slice_get, refl, sym, ◌∙◌, ap, subst}
+use Rattle.std.proofs.Common.{arith, append_assoc}
+use Rattle.std.specs.List.{flat_map}
+use Rattle.std.proofs.lemmas.Grind.{flat_map-append}
+use Rattle.std.proofs.lemmas.List.{append-nil, take_all, drop_all}
+use Rattle.cw_base.specs.declared.event.Out.TheVariants.{Tex}
+use Rattle.cw_base.specs.declared.flags.Flags.{Flags}
+use Rattle.cw_base.specs.declared.memory.Memory.{Memory}
+use Rattle.cw_desk.specs.Journal.{byte_events}
+use Rattle.cw_desk.specs.Told.{Told}
+use Rattle.cw_each.specs.EachText.{EndedText, Source, each_text, text_ended}
+use Rattle.cw_leaves.specs.declared.lines.TextLog.{TextLog}
+use Rattle.cw_leaves.specs.Spelling.{item_of, line_of, production_of, spelled}
+use Rattle.cw_lines.specs.declared.put_error.PutError.{PutError}
+use Rattle.cw_lines.specs.declared.put_error.PutError.TheVariants.{Memory as no_memory}
+use Rattle.cw_lines.specs.Writes.{Adds, HasAdded}
+use Rattle.cw_lines.specs.WritesLaws.{adds-events, adds-none}
+use Rattle.cw_logtext.specs.Appending.{block_of}
+use Rattle.cw_logtext.specs.LogText.{Block, block_lines, ended, log_lines, log_text}
+use Rattle.cw_names.specs.Names.{Entry}
+use Rattle.cw_rewrite.specs.Telling.{Told as Recorded}
+use Rattle.cw_table.specs.Normal.{Production, log}
+use Rattle.cw_table.specs.Productions.{productions}
+use Rattle.cw_table.specs.Rewriting.{State}
+use Rattle.cw_texts.specs.declared.text_list.TextRef.{TextRef}
+use Rattle.cw_tool.specs.PieceLaws.{piece-stop, piece-then, piece-wanting}
+use Rattle.cw_texts.specs.Scans.{scanned}
+use Rattle.cw_translator.specs.NameParts.{name_texts}
+use Rattle.cw_translator.specs.Recording.{HasRecorded, logged}
+use Rattle.cw_translator.specs.Translating.{translated}
+use Rattle.cw_log.specs.LogOfWeb.{blocks_from, state_block, text_blocks}
+use Rattle.cw_log.specs.Writing.{block_bytes, ended_by, recorded_of}
+use Rattle.cw_log.proofs.CheckLaws.{spelled-lines}
+
+-- ## What is recorded of a text
+
+-- all of its texts are, where it was translated
+pub recorded-all : {T : Type 0} (flags : Flags) (states : List State) (before after : Recorded) (value : T)
+    → before.ended ≡ [] → HasRecorded {T = T} flags states (Some before) (Some after) (Ok value)
+    → after.ended ≡ map (logged flags) states
+recorded-all flags states before after value none h =
+    let e : Some after.ended ≡ Some (before.ended ++ map (logged flags) (take h.number states)) = h.is in
+    let d : after.ended ≡ before.ended ++ map (logged flags) (take h.number states) = cc in
+    d ∙ (ap (λ (texts : List TextLog). texts ++ map (logged flags) (take h.number states)) none
+    ∙ ap (map (logged flags)) (take_all h.number states h.all))
+
+-- the names that a translation leaves that begins without marks
+pub text-names : (s : Source) (part : TextRef) (names after : List Entry) (marks : List ℕ) → marks ≡ []
+    → after ≡ (translated s.flags (name_texts s.sec_names s.name_uses) (scanned part.mode s.text part.span) names
+    marks).known.names
+    → after ≡ (text_ended s part names).known.names
+text-names s part names after marks none is =
+    is ∙ ap (λ (m : List ℕ). (translated s.flags (name_texts s.sec_names s.name_uses)
+    (scanned part.mode s.text part.span) names m).known.names) none
+
+-- the texts that it tells
+pub text-recorded : (s : Source) (part : TextRef) (names : List Entry) (after : List TextLog) (marks : List ℕ)
+    → marks ≡ []
+    → after ≡ map (logged s.flags) (translated s.flags (name_texts s.sec_names s.name_uses)
+    (scanned part.mode s.text part.span) names marks).known.ended
+    → after ≡ recorded_of s (ended_by s part names)
+text-recorded s part names after marks none is =
+    is ∙ ap (λ (m : List ℕ). map (logged s.flags) (translated s.flags (name_texts s.sec_names s.name_uses)
+    (scanned part.mode s.text part.span) names m).known.ended) none
+
+-- ## Its bytes
+
+items-again : (items : List Production) → map production_of (map item_of items) ≡ items
+items-again [] = refl
+items-again (p ∷ items) = ap (λ ps. p ∷ ps) (items-again items)
+
+-- the block of what is recorded of a text
+block-logged : (flags : Flags) (names : List Entry) (state : State)
+    → block_of names (logged flags state) ≡ state_block flags names state
+block-logged flags names state =
+    ap (λ ls. record { leaves = ls; items = map production_of (map item_of (log productions flags state)) })
+    (spelled-lines names state.scraps)
+    ∙ ap (λ ps. record { leaves = (state_block flags names state).leaves; items = ps })
+    (items-again (log productions flags state))
+
+text-of-both : (xs ys : List Block) → log_text (xs ++ ys) ≡ log_text xs ++ log_text ys
+text-of-both xs ys = ap (flat_map ended) (flat_map-append block_lines xs ys)
+    ∙ flat_map-append ended (log_lines xs) (log_lines ys)
+
+states-bytes : (flags : Flags) (names : List Entry) (states : List State)
+    → flat_map (block_bytes names) (map (logged flags) states) ≡ log_text (map (state_block flags names) states)
+states-bytes flags names [] = refl
+states-bytes flags names (state ∷ states) =
+    ap (λ (bytes : List ℕ). block_bytes names (logged flags state) ++ bytes) (states-bytes flags names states)
+    ∙ (ap (λ (b : Block). flat_map ended (block_lines b) ++ log_text (map (state_block flags names) states))
+    (block-logged flags names state)
+    ∙ sym (flat_map-append ended (block_lines (state_block flags names state))
+    (log_lines (map (state_block flags names) states))))
+
+-- the bytes of the blocks that are recorded
+pub recorded-bytes : (s : Source) (t : EndedText)
+    → flat_map (block_bytes t.ended.known.names) (recorded_of s t) ≡ log_text (text_blocks s.flags t)
+recorded-bytes s t = states-bytes s.flags t.ended.known.names t.ended.known.ended
+
+flat-more : {A : Type 0} (f : A → List ℕ) (xs : List A) (i : ℕ) (x : A) → slice_get xs i ≡ Some x
+    → flat_map f (take (suc i) xs) ≡ flat_map f (take i xs) ++ f x
+flat-more f [] zero x e = absurd cc
+flat-more f [] (suc i) x e = absurd cc
+flat-more f (y ∷ ys) zero x e = append-nil (f y) ∙ ap f (let d : y ≡ x = cc in d)
+flat-more f (y ∷ ys) (suc i) x e =
+    ap (λ bytes. f y ++ bytes) (flat-more f ys i x e)
+    ∙ sym (append_assoc (f y) (flat_map f (take i ys)) (f x))
+
+-- one block more is appended
+pub bytes-more : (names : List Entry) (texts : List TextLog) (i : ℕ) (text : TextLog) (old new : List ℕ)
+    → slice_get texts i ≡ Some text → old ≡ flat_map (block_bytes names) (take i texts)
+    → new ≡ old ++ block_bytes names text → new ≡ flat_map (block_bytes names) (take (i + 1) texts)
+bytes-more names texts i text old new there so_far is =
+    is ∙ (ap (λ (bytes : List ℕ). bytes ++ block_bytes names text) so_far
+    ∙ (sym (flat-more (block_bytes names) texts i text there)
+    ∙ ap (λ n. flat_map (block_bytes names) (take n texts)) (let e : suc i ≡ i + 1 = omega arith in e)))
+
+-- ## Text after text
+
+abbrev pub texts_log : Source → List TextRef → List Entry → List ℕ
+texts_log s texts names = log_text (blocks_from s texts names)
+
+log-first : (s : Source) (text : TextRef) (texts : List TextRef) (names : List Entry)
+    → texts_log s (text ∷ texts) names
+    ≡ log_text (text_blocks s.flags (ended_by s text names)) ++ texts_log s texts (text_ended s text names).known.names
+log-first s text texts names = text-of-both (text_blocks s.flags (ended_by s text names))
+    (blocks_from s texts (text_ended s text names).known.names)
+
+drop-at : {A : Type 0} (xs : List A) (i : ℕ) (x : A) → slice_get xs i ≡ Some x → drop i xs ≡ x ∷ drop (suc i) xs
+drop-at [] zero x e = absurd cc
+drop-at [] (suc i) x e = absurd cc
+drop-at (y ∷ ys) zero x e = ap (λ z. z ∷ ys) (let d : y ≡ x = cc in d)
+drop-at (y ∷ ys) (suc i) x e = drop-at ys i x e
+
+-- The blocks of the texts before this one are written, and behind them come those of the others.
+pub record Written (s : Source) (texts : List TextRef) (place : ℕ) (names names' : List Entry) (before now : Told)
+    : Type 0 where
+  pub done : List ℕ
+  pub added : HasAdded (byte_events Tex done) before now
+  pub left : done ++ texts_log s (drop place texts) names' ≡ texts_log s texts names
+
+pub none-written : (s : Source) (texts : List TextRef) (names : List Entry) (told : Told)
+    → Written s texts 0 names names told told
+none-written s texts names told = record { done = []; added = adds-none told tt; left = refl }
+
+pub all-at : {A : Type 0} (P : A → Type 0) (xs : List A) (i : ℕ) (x : A) → All P xs → slice_get xs i ≡ Some x → P x
+all-at P [] zero x all e = absurd cc
+all-at P [] (suc i) x all e = absurd cc
+all-at P (y ∷ ys) zero x all e = subst P (let d : y ≡ x = cc in d) (all 0 y (omega arith))
+all-at P (y ∷ ys) (suc i) x all e = all-at P ys i x (λ k d lt. all (suc k) d (omega (arith, lt))) e
+
+module _ (s : Source) (texts : List TextRef) (place : ℕ) (names names' : List Entry) (before now : Told)
+    (w : Written s texts place names names' before now) where
+  -- memory was wanting before a text was translated
+  pub written-wanting : {U : Type 0} {result : Result U PutError} → IsErrAnd result (λ found. found ≡ no_memory)
+      → Adds (byte_events Tex (texts_log s texts names)) before now result
+  written-wanting is =
+      adds-events (ap (byte_events Tex) w.left)
+      (piece-then Tex w.done (texts_log s (drop place texts) names') w.added
+      (piece-wanting Tex (texts_log s (drop place texts) names') is))
+
+  -- no text is left
+  pub written-all : {U : Type 0} (value : U) → length texts ≤ place
+      → Adds {T = U} (byte_events Tex (texts_log s texts names)) before now (Ok value)
+  written-all value last =
+      adds-events (ap (byte_events Tex) (sym (append-nil w.done)
+      ∙ (ap (λ (rest : List TextRef). w.done ++ texts_log s rest names') (sym (drop_all place texts last)) ∙ w.left)))
+      (record { ok = w.added.ok; err = tt; same = w.added.same; fault = λ fault. cc })
+
+module _ (s : Source) (texts : List TextRef) (place : ℕ) (text : TextRef) (names names' names'' : List Entry)
+    (before now : Told) (w : Written s texts place names names' before now) (there : slice_get texts place ≡ Some text)
+    (bytes : List ℕ) (is : bytes ≡ log_text (text_blocks s.flags (ended_by s text names')))
+    (same : names'' ≡ (text_ended s text names').known.names) where
+  text-left : w.done ++ (bytes ++ texts_log s (drop (suc place) texts) names'') ≡ texts_log s texts names
+  text-left =
+      ap (λ (xs : List ℕ). w.done ++ (xs ++ texts_log s (drop (suc place) texts) names'')) is
+      ∙ (ap (λ (ns : List Entry). w.done ++ (log_text (text_blocks s.flags (ended_by s text names'))
+      ++ texts_log s (drop (suc place) texts) ns)) same
+      ∙ (ap (λ (xs : List ℕ). w.done ++ xs) (sym (log-first s text (drop (suc place) texts) names'))
+      ∙ (ap (λ (ts : List TextRef). w.done ++ texts_log s ts names') (sym (drop-at texts place text there)) ∙ w.left)))
+
+  -- its blocks are written
+  pub written-more : {U : Type 0} {later : Told} {value : U} → Adds {T = U} (byte_events Tex bytes) now later (Ok value)
+      → Written s texts (place + 1) names names'' before later
+  written-more {later = later} piece = record {
+    done = w.done ++ bytes;
+    added = piece-then Tex w.done bytes w.added
+        (record { ok = piece.ok; err = tt; same = piece.same; fault = λ fault. cc });
+    left = append_assoc w.done bytes (texts_log s (drop (place + 1) texts) names'')
+        ∙ (ap (λ n. w.done ++ (bytes ++ texts_log s (drop n texts) names''))
+        (let e : place + 1 ≡ suc place = omega arith in e) ∙ text-left);
+  }
+
+  -- they are refused
+  pub written-refused : {T U : Type 0} {later : Told} {error : PutError} {result : Result U PutError}
+      → Adds {T = T} (byte_events Tex bytes) now later (Err error) → IsErrAnd result (λ found. found ≡ error)
+      → Adds (byte_events Tex (texts_log s texts names)) before later result
+  written-refused piece refused =
+      adds-events (ap (byte_events Tex) text-left)
+      (piece-then Tex w.done (bytes ++ texts_log s (drop (suc place) texts) names'') w.added
+      (piece-stop Tex bytes (texts_log s (drop (suc place) texts) names'') piece refused))

@@ -1,0 +1,143 @@
+//! The log of a web, written text by text.
+ghost use Rattle.std.specs.Prelude.{◌≡◌, All, IfOk, IsTrue, OnOk};
+ghost use Rattle.std.specs.List.{flat_map};
+ghost use Rattle.cw_base.specs.declared.event.Out.TheVariants.{Tex};
+ghost use Rattle.cw_desk.specs.Journal.{byte_events};
+ghost use Rattle.cw_desk.specs.Meaning.{is_open};
+ghost use Rattle.cw_each.specs.EachText.{text_ended};
+ghost use Rattle.cw_each.specs.Forms.{IsWholeRef};
+ghost use Rattle.cw_lines.specs.Writes.{Adds};
+ghost use Rattle.cw_logtext.specs.LogText.{log_text};
+ghost use Rattle.cw_translator.specs.NameParts.{AreNamesOf};
+ghost use Rattle.cw_log.specs.LogOfWeb.{blocks_from, text_blocks};
+ghost use Rattle.cw_log.specs.Writing.{block_bytes, ended_by, source_of};
+
+use crate::logs::ProductionLog;
+use cw_base::{Bytes, Flags, Ledger, Memory, Out, Steps, Web};
+use cw_desk::Desk;
+use cw_lines::{PutError, write_all};
+use cw_logtext::append_block;
+use cw_names::Names;
+use cw_part::whole_texts_law;
+use cw_phase1::Book;
+use cw_reduce::{Context, Work, translate_recorded};
+use cw_scraps::Marks;
+use cw_texts::{TextList, TextRef, texts};
+use cw_tokens::TokenStore;
+use cw_tool::Tool;
+use std::alloc::Global;
+
+/// The tool that writes the log of a web.
+#[derive(Clone, Copy)]
+pub struct LogTool;
+
+impl Tool for LogTool {
+    ghost use Rattle.cw_log.specs.Command.{usage_text};
+    ghost use Rattle.cw_log.specs.LogOfWeb.{log_file};
+
+    ghost usage = { usage_text };
+
+    ghost text = { λ web. log_file web.lines };
+
+    fn usage_line(&self) -> &'static [u8] {
+        USAGE
+    }
+
+    fn write<D: Desk, L: Ledger>(
+        &self,
+        alloc: Global,
+        web: &Web,
+        book: &mut Book,
+        desk: &mut D,
+        steps: &mut Steps<L>,
+    ) -> Result<(), PutError> {
+        whole_texts_law();
+        let list = texts(alloc, web, book)?;
+        let flags = Flags::start();
+        let context = Context {
+            sec_names: &book.sec_names,
+            uses: &book.name_uses,
+            flags: &flags,
+            alloc,
+        };
+        let all = BookTexts {
+            text: web.text(),
+            context,
+            list: &list,
+        };
+        let mut store = TokenStore::new_in(alloc);
+        let mut marks = Marks::new_in(alloc);
+        let mut work = Work {
+            names: &mut book.names,
+            store: &mut store,
+            marks: &mut marks,
+            steps,
+            recorder: ProductionLog::new_in(alloc),
+        };
+        write_texts(&all, &mut work, desk)
+    }
+}
+
+/// The usage text of the program, with its line's end.
+pub(crate) const USAGE: &[u8] = b"! Usage: cwlog write web change|- out, or cwlog check log\n";
+
+// The C texts of a book.
+#[derive(Clone, Copy)]
+pub(crate) struct BookTexts<'a> {
+    pub text: &'a [u8],
+    pub context: Context<'a>,
+    pub list: &'a TextList,
+}
+
+// Writes the blocks of all texts: those of each as soon as it is translated.
+fn write_texts<D: Desk, L: Ledger>(
+    all: &BookTexts,
+    work: &mut Work<L, ProductionLog>,
+    desk: &mut D,
+) -> Result<(), PutError>
+    requires made { IsTrue (is_open (D.told desk.old).outputs Tex) }
+    requires kept { AreNamesOf (source_of all.now).sec_names (source_of all.now).name_uses }
+    requires whole { All (IsWholeRef all.now.text.now) all.now.list.now }
+    ensures { Adds (byte_events Tex (log_text (blocks_from (source_of all.now) all.now.list.now work.old.names.now)))
+        (D.told desk.old) (D.told desk.new) result }
+{
+    for i in 0..all.list.len() {
+        let blocks = text_blocks(all, all.list.text_ref(i), work)?;
+        write_all(desk, Out::Tex, blocks.as_slice())?;
+    }
+    Ok(())
+}
+
+// The blocks of a text and of its inner texts, as they are written. The store is emptied first.
+fn text_blocks<L: Ledger>(
+    all: &BookTexts,
+    part: TextRef,
+    work: &mut Work<L, ProductionLog>,
+) -> Result<Bytes, Memory>
+    requires kept { AreNamesOf (source_of all.now).sec_names (source_of all.now).name_uses }
+    requires whole { IsWholeRef all.now.text.now part }
+    ensures names { OnOk result (work.new.names.now ≡
+        (text_ended (source_of all.now) part work.old.names.now).known.names) }
+    ensures text { IfOk result (λ bytes. bytes ≡ log_text (text_blocks (source_of all.now).flags
+        (ended_by (source_of all.now) part work.old.names.now))) }
+{
+    let alloc = all.context.alloc;
+    let marks = Marks::new_in(alloc);
+    let recorder = ProductionLog::new_in(alloc);
+    work.store.reset();
+    *work.marks = marks;
+    work.recorder = recorder;
+    translate_recorded(all.text, part.span, part.mode, &all.context, work)?;
+    blocks_of(alloc, work.names, &work.recorder)
+}
+
+// The blocks of logs, as they are written.
+fn blocks_of(alloc: Global, names: &Names, log: &ProductionLog) -> Result<Bytes, Memory>
+    ensures { IfOk result (λ bytes. bytes ≡ flat_map (block_bytes names.now) log.now.ended) }
+{
+    let mut blocks = Bytes::new_in(alloc);
+    for i in 0..log.len() {
+        append_block(&mut blocks, names, log.text_log(i))?;
+    }
+    Ok(blocks)
+}

@@ -1,0 +1,126 @@
+//! Whole runs of `write`: the log of a web, which `check` then accepts.
+use crate::check_tests::printed;
+use cw_base::{Bytes, Exit, Memory, Silent, Steps, Words};
+use cw_desk::MemDesk;
+use cw_log::log_command;
+use std::alloc::Global;
+use std::test::Fail;
+
+// Webs, and the log of each.
+const WEBS: [(&str, &str); 12] = [
+    (
+        "@ @c i=i+1;\n",
+        "text 6\nb exp i\ns binop\nb exp i\ns ubinop\ns exp\ns semi\nP6 0\nP6 0\nP8 0\nend\n",
+    ),
+    // Inner texts of comments end before the text around them.
+    (
+        "@ @c a; /* b |x /* c |y| */| */\n",
+        "text 1\nb exp y\nend\ntext 2\nb exp x\ns insert\nP1 0\nend\n\
+         text 3\nb exp a\ns semi\ns insert\nP8 0\nP1 0\nend\n",
+    ),
+    // Those of a section name are told wherever the name stands.
+    (
+        "@ See @<Use |x| and |y+1|@>.\n@ @<Use |x| and |y+1|@>= z;\n",
+        "text 1\nb exp x\nend\ntext 3\nb exp y\ns ubinop\ns exp\nP6 0\nend\ntext 1\ns section_scrap\nP80 0\nend\n\
+         text 1\nb exp x\nend\ntext 3\nb exp y\ns ubinop\ns exp\nP6 0\nend\n\
+         text 3\ns dead\nb exp z\ns semi\nP8 1\nend\n",
+    ),
+    (
+        "@ Text |f(x)| and @<Read a@>.\n@<Read a@>= x;\n",
+        "text 4\nb exp f\ns lpar\nb exp x\ns rpar\nP12 1\nP11 0\nend\ntext 1\ns section_scrap\nP80 0\nend\n\
+         text 3\ns dead\nb exp x\ns semi\nP8 1\nend\n",
+    ),
+    // A name is made a type by a format.
+    (
+        "@ @d n 3\n@f foo int\n@c foo x;\n",
+        "text 2\ni dead n\ns exp\nend\ntext 1\ns dead\nend\n\
+         text 3\ns raw_int\nb exp x\ns semi\nP89 0\nP29 0\nP33 0\nP37 0\nend\n",
+    ),
+    // A leaf line tells what its scrap was when its text began.
+    (
+        "@ @c typedef struct foo{int x;} bar; bar y;\n",
+        "text 13\ns typedef_like\ns struct_like\nb exp foo\ns lbrace\ns raw_int\nb exp x\ns semi\ns rbrace\nb exp bar\n\
+         s semi\nb exp bar\nb exp y\ns semi\nP42 1\nP89 2\nP29 2\nP33 2\nP37 2\nP44 1\nP83 0\nP84 0\nP86 0\nP89 1\n\
+         P29 1\nP33 1\nP37 1\nP38 0\nend\n",
+    ),
+    // An empty text is told; a C part without scraps is none.
+    (
+        "@ || and |a|\n@d empty\n@ @c\n@ no C\n",
+        "text 0\nend\ntext 1\nb exp a\nend\ntext 1\ni dead empty\nend\n",
+    ),
+    // What a name that is ignored stands for isn't told.
+    (
+        "@ @<A@>= /* |case| |@<A@>| */ x;\n@ @<...@> @<A@>\n",
+        "text 1\nc case_like\nend\ntext 1\ns section_scrap\nP80 0\nend\n\
+         text 4\ns dead\ns insert\nb exp x\ns semi\nP1 0\nP8 1\nend\ntext 1\ns section_scrap\nP80 0\nend\n",
+    ),
+    ("@ no C\n", ""),
+    ("limbo |x|\n", ""),
+    ("@ |a|\n", "text 1\nb exp a\nend\n"),
+    ("@ |case|\n", "text 1\nc case_like\nend\n"),
+];
+
+/// The words of a command line.
+fn list_of(alloc: Global, words: &[&[u8]]) -> Result<Words, Memory> {
+    let mut list = Words::new_in(alloc);
+    for word in words {
+        list.push(word)?;
+    }
+    Ok(list)
+}
+
+/// What is told of a run over one file, and its status.
+fn seen(
+    alloc: Global,
+    words: &[&[u8]],
+    name: &[u8],
+    bytes: &[u8],
+) -> Result<(Bytes, Exit), Memory> {
+    let list = list_of(alloc, words)?;
+    let mut desk = MemDesk::new_in(alloc);
+    desk.add_file(name, bytes)?;
+    let exit = log_command(alloc, &list, &mut desk, &mut Steps::<Silent>::new());
+    Ok((printed(alloc, desk.journal())?, exit))
+}
+
+/// Whether the log of a web is this, and is accepted.
+fn is_logged(alloc: Global, web: &str, log: &str) -> Result<bool, Memory> {
+    let words: [&[u8]; 4] = [b"write", b"foo", b"-", b"foo.log"];
+    let (written, exit) = seen(alloc, &words, b"foo.w", web.as_bytes())?;
+    let mut told = Bytes::from_slice(alloc, b"[foo.log]")?;
+    told.append(log.as_bytes())?;
+    let check: [&[u8]; 2] = [b"check", b"foo.log"];
+    let (_, checked) = seen(alloc, &check, b"foo.log", log.as_bytes())?;
+    Ok(written.as_slice() == told.as_slice() && exit == Exit::Clean && checked == Exit::Clean)
+}
+
+#[test]
+fn webs_are_logged(rt: HostRuntime) -> Result<(), Fail> {
+    for (web, log) in &WEBS {
+        assert!(rt; is_logged(rt.alloc(), web, log)?);
+    }
+    Ok(())
+}
+
+// Words that ask for nothing.
+const IDLE: [&[&[u8]]; 9] = [
+    &[],
+    &[b"write"],
+    &[b"write", b"foo", b"-"],
+    &[b"write", b"foo", b"-", b"out", b"-"],
+    &[b"write", b"-", b"-", b"out"],
+    &[b"write", b"foo", b"-", b""],
+    &[b"check"],
+    &[b"check", b""],
+    &[b"weave", b"foo"],
+];
+
+#[test]
+fn words_that_ask_for_nothing(rt: HostRuntime) -> Result<(), Fail> {
+    for words in &IDLE {
+        let (text, exit) = seen(rt.alloc(), words, b"foo.w", b"@ |a|\n")?;
+        let told = b"! Usage: cwlog write web change|- out, or cwlog check log\n".as_slice();
+        assert_eq!(rt; (text.as_slice(), exit), (told, Exit::Errors));
+    }
+    Ok(())
+}
