@@ -11,3 +11,6 @@ mod NamedTexts
 mod RightTexts
 mod JudgedLogs
 mod AcceptedLogs
+mod BookNames
+mod InsideTexts
+mod WrittenLogs

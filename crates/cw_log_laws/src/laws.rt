@@ -1,6 +1,7 @@
 //! Laws of the logs of C texts.
 ghost use Rattle.cw_log_laws.specs.AcceptedLogs.{RightBlocksAreAccepted};
 ghost use Rattle.cw_log_laws.specs.LoggedTexts.{TextsAreLogged, TextsKeepNames};
+ghost use Rattle.cw_log_laws.specs.WrittenLogs.{WrittenLogsAreAccepted};
 
 /// The laws of the logs of C texts. A text of a book leaves names that are names, each at its place and with its text
 /// (`names`). Of all texts whose reductions end in it, inner ones and those of section names too, what is told may
@@ -11,8 +12,10 @@ pub fn logged_law()
     ensures texts { TextsAreLogged }
 {}
 
-/// The law of logs that are accepted: a file of blocks that may stand in a log, and whose productions follow from their
-/// leaf lines, is accepted, if it isn't too long. It does nothing: what it ensures is for proofs.
+/// The laws of logs that are accepted. A file of blocks that may stand in a log, and whose productions follow from
+/// their leaf lines, is accepted, if it isn't too long (`right`); and so is the log of every web (`written`). It does
+/// nothing: what it ensures is for proofs.
 pub fn accepted_law()
-    ensures { RightBlocksAreAccepted }
+    ensures right { RightBlocksAreAccepted }
+    ensures written { WrittenLogsAreAccepted }
 {}
