@@ -1,5 +1,5 @@
 -- The blocks of every web are right, and so its log is accepted.
-use Rattle.std.proofs.Common.{◌≤◌, ◌^◌, List, [], ◌∷◌, length, sym, subst}
+use Rattle.std.proofs.Common.{◌≤◌, ◌^◌, List, [], ◌∷◌, length, sym, subst, ap, ◌∙◌, arith}
 use Rattle.std.specs.List.{All}
 use Rattle.std.proofs.lemmas.List.Concat.{flat_map-cons}
 use Rattle.std.proofs.lemmas.List.Elements.{All-append, All-head, All-map, All-nil, All-tail, All-weaker}
@@ -10,8 +10,9 @@ use Rattle.cw_phase1.specs.Book.{book}
 use Rattle.cw_texts.specs.Texts.{texts_of}
 use Rattle.cw_texts.specs.declared.text_list.TextRef.{TextRef}
 use Rattle.cw_each.specs.EachText.{EndedText, Source, each_text, text_ended}
+use Rattle.cw_log.specs.Check.{check_file}
 use Rattle.cw_log.specs.LogOfWeb.{blocks_from, log_blocks, state_block, text_blocks}
-use Rattle.cw_log_laws.specs.WrittenLogs.{WrittenLogsAreAccepted}
+use Rattle.cw_log_laws.specs.WrittenLogs.{CommandsAccept, WrittenLogsAreAccepted}
 use Rattle.cw_log_laws.specs.LoggedTexts.{AreNames, HasShortNames, IsInside, IsRightBlock}
 use Rattle.cw_log_laws.proofs.AcceptedLogs.{right-accepted}
 use Rattle.cw_log_laws.proofs.BookNames.{book-names, book-short}
@@ -57,3 +58,8 @@ book-right lines short =
 
 pub written-accepted : WrittenLogsAreAccepted
 written-accepted lines word limit short = right-accepted (log_blocks lines) (book-right lines limit) short
+
+pub commands-accept : CommandsAccept
+commands-accept lines [] named limit short some e = absurd (omega (arith, some))
+commands-accept lines (b ∷ bs) named limit short some e =
+    ap (check_file (b ∷ bs)) e ∙ written-accepted lines (b ∷ bs) limit short
