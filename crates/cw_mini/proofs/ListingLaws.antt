@@ -1,5 +1,6 @@
 -- Which sections list a name, by the places where it occurs.
-use Rattle.std.proofs.Common.{◌≡◌, ℕ, zero, suc, ◌+◌, ◌<◌, ◌≤◌, Bool, true, false, ◌&&◌, ◌||◌, ◌==◌, not, List, [], ◌∷◌, ◌++◌, All, refl}
+use Rattle.std.proofs.Common.{◌≡◌, ℕ, zero, suc, ◌+◌, ◌<◌, ◌≤◌, Bool, true, false, ◌&&◌, ◌||◌, ◌==◌, not, List, [], ◌∷◌}
+use Rattle.std.proofs.Common.{◌++◌, All, refl}
 use Rattle.std.proofs.Common.{ap, arith, cond, drop, get_or, length, subst, sym, ◌∙◌}
 use Rattle.std.specs.List.{list_any}
 use Rattle.std.specs.Prelude.{◌≢◌}
@@ -94,7 +95,8 @@ used-is section (m ∷ ms) ascending =
         → use_with true u (stands_in section ms) (stands_in section (defining ms))
         ≡ (not u || list_any (is_use section) ms)
     alone true all = sym (unused section ms all)
-    alone false all = ap not (above section (defining ms) (All-filter (λ n. n.underlined) (λ n. section < n.section) ms all))
+    alone false all =
+        ap not (above section (defining ms) (All-filter (λ n. n.underlined) (λ n. section < n.section) ms all))
 
     elsewhere : (u : Bool) → is_used_in section ms (defining ms) ≡ list_any (is_use section) ms
         → use_with false u (stands_in section ms) (stands_in section (defining ms))

@@ -1,5 +1,6 @@
 -- Names, and the rows that they stand for.
-use Rattle.std.proofs.Common.{◌≡◌, ℕ, zero, suc, ◌+◌, ◌<◌, ◌&&◌, Bool, true, false, List, [], ◌∷◌, ◌++◌, All, refl, sym, ap}
+use Rattle.std.proofs.Common.{◌≡◌, ℕ, zero, suc, ◌+◌, ◌<◌, ◌&&◌, Bool, true, false, List, [], ◌∷◌, ◌++◌, All, refl, sym}
+use Rattle.std.proofs.Common.{ap}
 use Rattle.std.proofs.Common.{◌∙◌, append_assoc, arith, cond, drop, filter, get_or, length, map}
 use Rattle.std.proofs.lemmas.List.{append-nil}
 use Rattle.std.proofs.lemmas.List.Elements.{All-head, All-tail}
@@ -140,7 +141,8 @@ module _ (occurrences : List Occurrence) (section : ℕ) (ids : List NameId) (ro
   row-kept old new sections is given e =
       ap (λ (l : List MiniRow). l ++ map mini_row rest)
       (e ∙ ap (λ (ds : List ℕ). old ++ record { name = (get_or ids i d).index; sections = ds } ∷ []) given
-      ∙ ap (λ (m : MiniRow). old ++ m ∷ []) (sym (mini-row-is occurrences (get_or ids i d) here.row here.name here.is.is)))
+      ∙ ap (λ (m : MiniRow). old ++ m ∷ [])
+      (sym (mini-row-is occurrences (get_or ids i d) here.row here.name here.is.is)))
       ∙ kept (is_listed_in section occurrences here.row) old here.row rest
       (row-listed occurrences section (get_or ids i d) here.row here.name here.is.is ∙ is)
       ∙ ap (rows_with section occurrences old) (sym here.next)

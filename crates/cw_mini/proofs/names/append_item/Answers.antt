@@ -15,7 +15,8 @@ append-requires c = record {
 
 pub append_end-requires : goal.append_end-requires
 append_end-requires c = record {
-  closed = (c.in_ok-append.ensures.stands [] (alone c.args.names.now c.args.item) c.new-joiner.ensures.stands refl).depth
+  closed = (c.in_ok-append.ensures.stands [] (alone c.args.names.now c.args.item)
+      c.new-joiner.ensures.stands refl).depth
       ∙ word-closed c.args.names.now (length c.args.names.now) c.args.item c.requires;
 }
 

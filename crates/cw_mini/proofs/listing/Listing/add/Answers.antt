@@ -1,5 +1,6 @@
 -- A use lists the name in its section, and a name that sections don't list stays out.
-use Rattle.std.proofs.Common.{◌≡◌, ◌∙◌, ℕ, ◌&&◌, false, List, [], ◌∷◌, ◌++◌, ap, arith, drop, get_or, length, subst, sym}
+use Rattle.std.proofs.Common.{◌≡◌, ◌∙◌, ℕ, ◌&&◌, false, List, [], ◌∷◌, ◌++◌, ap, arith, drop, get_or, length, subst}
+use Rattle.std.proofs.Common.{sym}
 use Rattle.cw_base.specs.Conditions.{list_if}
 use Rattle.cw_names.specs.declared.xrefs.SectionRef.{SectionRef}
 use Rattle.cw_mini.specs.declared.listing.Listing.{Listing}
@@ -25,7 +26,8 @@ loop-place-preserved c =
             ap (λ (l : Listing). names_at section l.by_section.items) w.self-is in
             step-listed section name i (names_at section old.by_section.items)
             (names_at section c.if-is_use.self.by_section.items) _ ms none
-            c.sections_of-place-items.ensures.ascending c.loop-place-test.true (is-used c.is_use.result (get_or ms i none).underlined c.is_use.ensures w.if-is_use.true)
+            c.sections_of-place-items.ensures.ascending c.loop-place-test.true
+            (is-used c.is_use.result (get_or ms i none).underlined c.is_use.ensures w.if-is_use.true)
             (λ e. new
             ∙ subst (λ (n : ℕ). names_at n w.push.new.self.by_section.items
             ≡ names_at n old.by_section.items ++ name ∷ []) (sym e)
@@ -36,7 +38,8 @@ loop-place-preserved c =
       }
       | else-is_use w ↦ record {
         listed = λ section low. step-passed section name i (names_at section c.if-is_use.self.by_section.items) _ ms
-            none c.loop-place-test.true (is-unused c.is_use.result (get_or ms i none).underlined c.is_use.ensures w.if-is_use.false)
+            none c.loop-place-test.true
+            (is-unused c.is_use.result (get_or ms i none).underlined c.is_use.ensures w.if-is_use.false)
             (ap (λ (l : Listing). with_later section name (names_at section l.by_section.items) (drop i ms)) w.self-is
             ∙ c.loop-place.invariant.listed section low);
         len = ap (λ (l : Listing). length l.by_section.items) w.self-is ∙ c.loop-place.invariant.len;
