@@ -98,28 +98,32 @@ fn append_event(text: &mut Bytes, event: &Event) -> Result<(), Memory> {
     }
 }
 
-/// What is printed of the file `foo.log`, which has these bytes, if any, and the status.
-fn seen(alloc: Global, log: Option<&[u8]>) -> Result<(Bytes, Exit), Memory> {
-    let mut desk = MemDesk::new_in(alloc);
-    if let Some(bytes) = log {
-        desk.add_file(b"foo.log", bytes)?;
-    }
+// What `check` prints of the file `foo.log` over a desk, and the status.
+fn checked(alloc: Global, mut desk: MemDesk) -> Result<(Bytes, Exit), Memory> {
     let exit = status_of(check(alloc, b"foo.log", &mut desk, &mut Steps::<Silent>::new()));
     Ok((printed(alloc, desk.journal())?, exit))
+}
+
+// The same where the file has these bytes.
+fn seen(alloc: Global, log: &[u8]) -> Result<(Bytes, Exit), Memory> {
+    let mut desk = MemDesk::new_in(alloc);
+    desk.add_file(b"foo.log", log)?;
+    checked(alloc, desk)
 }
 
 #[test]
 fn logs_are_checked(rt: HostRuntime) -> Result<(), Fail> {
     for (log, told, status) in &RUNS {
-        let (text, exit) = seen(rt.alloc(), Some(log.as_bytes()))?;
-        assert_eq!(rt; (text.as_slice(), exit), (told.as_bytes(), *status));
+        let (text, exit) = seen(rt.alloc(), log.as_bytes())?;
+        assert_eq!(rt; text.as_slice(), told.as_bytes());
+        assert_eq!(rt; exit, *status);
     }
     Ok(())
 }
 
 #[test]
 fn a_log_that_is_missing(rt: HostRuntime) -> Result<(), Fail> {
-    let (text, exit) = seen(rt.alloc(), None)?;
+    let (text, exit) = checked(rt.alloc(), MemDesk::new_in(rt.alloc()))?;
     let told = b"! Cannot open log foo.log\n".as_slice();
     assert_eq!(rt; (text.as_slice(), exit), (told, Exit::Errors));
     Ok(())
