@@ -9,7 +9,7 @@
 # make outside  failing calls of the system with what is told of each, names, folders of CWEBINPUTS, and links
 # make picture  makes docs/hello.png anew
 PREFIX ?= /usr/local
-PROGRAMS = cweave cwplain cwmini
+PROGRAMS = cweave cwlog cwplain cwmini
 PROGRAM = build/cweave
 BUILT = $(PROGRAMS:%=build/%)
 BINDIR = $(DESTDIR)$(PREFIX)/bin
