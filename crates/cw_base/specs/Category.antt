@@ -9,7 +9,8 @@ use Rattle.cw_base.specs.declared.category.Cat.TheVariants.{Ubinop, Question, Lp
 use Rattle.cw_base.specs.declared.category.Cat.TheVariants.{StructLike, CaseLike, ForLike, DoLike, IfLike, DefineLike}
 use Rattle.cw_base.specs.declared.category.Cat.TheVariants.{SizeofLike, TypedefLike, Decl, FnDecl, Function, Stmt, Tag}
 use Rattle.cw_base.specs.declared.category.Cat.TheVariants.{StructHead, ElseHead, Lproc, Rproc, Insert, BeginArg}
-use Rattle.cw_base.specs.declared.category.Cat.TheVariants.{EndArg, Dead, Dot, End}
+use Rattle.cw_base.specs.declared.category.Cat.TheVariants.{EndArg, Dead, Dot, Dots, Box, TypeofLike}
+use Rattle.cw_base.specs.declared.category.Cat.TheVariants.{TexLike, Colcol, AttrHead, Attr, AlignasLike, End}
 
 -- every category in the order of its number, and End, which stands past the last scrap
 abbrev pub all_cats : List Cat
@@ -18,7 +19,8 @@ all_cats =
     IfHead ∷ Semi ∷ RawUbin ∷ Unop ∷ Binop ∷ Ubinop ∷ Question ∷ Lpar ∷ Rpar ∷ Lbrace ∷ Rbrace ∷
     Comma ∷ Colon ∷ StructLike ∷ CaseLike ∷ ForLike ∷ DoLike ∷ IfLike ∷ DefineLike ∷ SizeofLike ∷
     TypedefLike ∷ Decl ∷ FnDecl ∷ Function ∷ Stmt ∷ Tag ∷ StructHead ∷ ElseHead ∷ Lproc ∷ Rproc ∷
-    Insert ∷ BeginArg ∷ EndArg ∷ Dead ∷ Dot ∷ End ∷ []
+    Insert ∷ BeginArg ∷ EndArg ∷ Dead ∷ Dot ∷ Dots ∷ Box ∷ TypeofLike ∷ TexLike ∷ Colcol ∷ AttrHead ∷ Attr ∷
+    AlignasLike ∷ End ∷ []
 
 -- the place of a category in that list, and its bit in a set
 abbrev pub number_of : Cat → ℕ
@@ -66,12 +68,22 @@ number_of BeginArg = 40
 number_of EndArg = 41
 number_of Dead = 42
 number_of Dot = 43
-number_of End = 44
+number_of Dots = 44
+number_of Box = 45
+number_of TypeofLike = 46
+number_of TexLike = 47
+number_of Colcol = 48
+number_of AttrHead = 49
+number_of Attr = 50
+number_of AlignasLike = 51
+number_of End = 52
 
 -- the rank of a category: a scrap weighs 4 and its rank, and rewriting lowers the weight
 abbrev pub rank : Cat → ℕ
 rank RawInt = 3
 rank ConstLike = 3
+rank Dots = 3
+rank Box = 2
 rank Cast = 2
 rank IntLike = 2
 rank IfClause = 2
@@ -83,6 +95,8 @@ rank IfHead = 1
 rank Semi = 1
 rank RawUbin = 1
 rank Dot = 1
+rank ForLike = 1
+rank Insert = 1
 rank _ = 0
 
 -- the category that stands past the last scrap, which is that of no name and of no scrap

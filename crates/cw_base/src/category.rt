@@ -62,7 +62,7 @@ pub enum Cat {
     IfLike,
     /// `define` of a `#` line.
     DefineLike,
-    /// `sizeof` and `_Generic`.
+    /// `sizeof`, `_Generic` and their kind.
     SizeofLike,
     /// `typedef`.
     TypedefLike,
@@ -94,6 +94,22 @@ pub enum Cat {
     Dead,
     /// `.`, before a field's name or between a structure and its field.
     Dot,
+    /// `...`, before it is known whether an expression follows.
+    Dots,
+    /// Text that is set as it stands: `@t..@>` and `@=..@>`.
+    Box,
+    /// `typeof` and its kind, whose operand makes a type of it.
+    TypeofLike,
+    /// A name that is a macro of TeX. It is the category of names alone: the scrap of such a name is an expression.
+    TexLike,
+    /// `::`.
+    Colcol,
+    /// `[[`.
+    AttrHead,
+    /// An attribute, such as `[[nodiscard]]` or `alignas(8)`.
+    Attr,
+    /// `alignas` and its kind, whose operand makes an attribute of it.
+    AlignasLike,
     /// Stands past the last scrap; the category of no scrap.
     End,
 }
@@ -144,6 +160,14 @@ pub const ALL_CATS: [Cat; Cat::End as usize + 1] = [
     Cat::EndArg,
     Cat::Dead,
     Cat::Dot,
+    Cat::Dots,
+    Cat::Box,
+    Cat::TypeofLike,
+    Cat::TexLike,
+    Cat::Colcol,
+    Cat::AttrHead,
+    Cat::Attr,
+    Cat::AlignasLike,
     Cat::End,
 ];
 
