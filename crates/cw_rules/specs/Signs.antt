@@ -6,7 +6,8 @@ use Rattle.cw_rules.specs.declared.signs.Sign.TheVariants.{Arrow, ShiftLeft, Shi
 use Rattle.cw_rules.specs.declared.signs.Sign.TheVariants.{AtLeast, AndAnd, OrOr, Not, Tilde, PlusPlus, MinusMinus}
 use Rattle.cw_rules.specs.declared.signs.Sign.TheVariants.{Plus, Minus, Hash, Star, Ampersand, Question, LeftParen}
 use Rattle.cw_rules.specs.declared.signs.Sign.TheVariants.{LeftBracket, RightParen, RightBracket, LeftBrace, RightBrace}
-use Rattle.cw_rules.specs.declared.signs.Sign.TheVariants.{Comma, Semicolon, Colon, Ellipsis}
+use Rattle.cw_rules.specs.declared.signs.Sign.TheVariants.{Comma, Semicolon, Colon, Ellipsis, DoubleColon}
+use Rattle.cw_rules.specs.declared.signs.Sign.TheVariants.{QuestionColon, DoubleBracket}
 use Rattle.cw_rules.specs.Bytes.{begins_with}
 
 abbrev pub spelling : Sign → List ℕ
@@ -47,13 +48,16 @@ spelling Comma = codes ","
 spelling Semicolon = codes ";"
 spelling Colon = codes ":"
 spelling Ellipsis = codes "..."
+spelling DoubleColon = codes "::"
+spelling QuestionColon = codes "?:"
+spelling DoubleBracket = codes "[["
 
 abbrev pub all_signs : List Sign
 all_signs =
     Slash ∷ Dot ∷ Less ∷ Greater ∷ Bar ∷ Assign ∷ Caret ∷ Percent ∷ Arrow ∷ ShiftLeft ∷ ShiftRight ∷ Equal ∷ NotEqual ∷
     AtMost ∷ AtLeast ∷ AndAnd ∷ OrOr ∷ Not ∷ Tilde ∷ PlusPlus ∷ MinusMinus ∷ Plus ∷ Minus ∷ Hash ∷ Star ∷ Ampersand ∷
     Question ∷ LeftParen ∷ LeftBracket ∷ RightParen ∷ RightBracket ∷ LeftBrace ∷ RightBrace ∷ Comma ∷ Semicolon ∷
-    Colon ∷ Ellipsis ∷ []
+    Colon ∷ Ellipsis ∷ DoubleColon ∷ QuestionColon ∷ DoubleBracket ∷ []
 
 -- this sign, where it fits and is longer than the other
 abbrev pub longer : Bool → Sign → Option Sign → Option Sign

@@ -81,6 +81,12 @@ pub enum Sign {
     Colon,
     /// `...`
     Ellipsis,
+    /// `::`
+    DoubleColon,
+    /// `?:`
+    QuestionColon,
+    /// `[[`
+    DoubleBracket,
 }
 
 /// The longest sign that a byte and the bytes behind it begin with.
@@ -149,16 +155,28 @@ pub fn sign_at(byte: u8, rest: &[u8]) -> Option<Sign>
         }),
         b'#' => Some(Sign::Hash),
         b'*' => Some(Sign::Star),
-        b'?' => Some(Sign::Question),
+        b'?' => Some(if begins(b':', rest) {
+            Sign::QuestionColon
+        } else {
+            Sign::Question
+        }),
         b'(' => Some(Sign::LeftParen),
-        b'[' => Some(Sign::LeftBracket),
+        b'[' => Some(if begins(b'[', rest) {
+            Sign::DoubleBracket
+        } else {
+            Sign::LeftBracket
+        }),
         b')' => Some(Sign::RightParen),
         b']' => Some(Sign::RightBracket),
         b'{' => Some(Sign::LeftBrace),
         b'}' => Some(Sign::RightBrace),
         b',' => Some(Sign::Comma),
         b';' => Some(Sign::Semicolon),
-        b':' => Some(Sign::Colon),
+        b':' => Some(if begins(b':', rest) {
+            Sign::DoubleColon
+        } else {
+            Sign::Colon
+        }),
         _ => None,
     }
 }
@@ -181,7 +199,10 @@ impl Sign {
             | Sign::AndAnd
             | Sign::OrOr
             | Sign::PlusPlus
-            | Sign::MinusMinus => 2,
+            | Sign::MinusMinus
+            | Sign::DoubleColon
+            | Sign::QuestionColon
+            | Sign::DoubleBracket => 2,
             _ => 1,
         }
     }
