@@ -3,7 +3,8 @@ use Rattle.std.specs.Prelude.{◌≡◌, ℕ, nat_eq, List, [], ◌∷◌, ◌++
 use Rattle.cw_base.specs.declared.category.Cat.{Cat}
 use Rattle.cw_base.specs.declared.category.Cat.TheVariants.{RawInt, IntLike, ConstLike, StructLike, CaseLike, ForLike}
 use Rattle.cw_base.specs.declared.category.Cat.TheVariants.{DoLike, IfLike, ElseLike, DefineLike, SizeofLike}
-use Rattle.cw_base.specs.declared.category.Cat.TheVariants.{TypedefLike, Exp}
+use Rattle.cw_base.specs.declared.category.Cat.TheVariants.{TypedefLike, TypeofLike, AlignasLike}
+use Rattle.cw_base.specs.declared.category.Cat.TheVariants.{TexLike, Exp}
 use Rattle.cw_names.specs.declared.entry.EntryKind.{EntryKind}
 use Rattle.cw_names.specs.declared.entry.EntryKind.TheVariants.{Ident}
 use Rattle.cw_names.specs.Names.{Entry}
@@ -17,8 +18,15 @@ words_with category words = map (λ word. record { kind = Ident; text = word; ca
 abbrev pub c_words : List Entry
 c_words =
     words_with RawInt (codes "char" ∷ codes "double" ∷ codes "float" ∷ codes "int" ∷ codes "long" ∷ codes "short"
-    ∷ codes "signed" ∷ codes "unsigned" ∷ codes "void" ∷ codes "FILE" ∷ codes "size_t" ∷ codes "_Bool" ∷ []) ++
-    words_with IntLike (codes "auto" ∷ codes "extern" ∷ codes "register" ∷ codes "static" ∷ codes "inline" ∷ []) ++
+    ∷ codes "signed" ∷ codes "unsigned" ∷ codes "void" ∷ codes "FILE" ∷ codes "size_t" ∷ codes "_Bool"
+    ∷ codes "bool" ∷ codes "char8_t" ∷ codes "char16_t" ∷ codes "char32_t" ∷ codes "clock_t" ∷ codes "div_t"
+    ∷ codes "fpos_t" ∷ codes "int8_t" ∷ codes "int16_t" ∷ codes "int32_t" ∷ codes "int64_t" ∷ codes "intmax_t"
+    ∷ codes "intptr_t" ∷ codes "jmp_buf" ∷ codes "ldiv_t" ∷ codes "off_t" ∷ codes "ptrdiff_t" ∷ codes "sig_atomic_t"
+    ∷ codes "ssize_t" ∷ codes "time_t" ∷ codes "uint8_t" ∷ codes "uint16_t" ∷ codes "uint32_t" ∷ codes "uint64_t"
+    ∷ codes "uintmax_t" ∷ codes "uintptr_t" ∷ codes "va_list" ∷ codes "wchar_t" ∷ codes "wint_t"
+    ∷ codes "_Complex" ∷ []) ++
+    words_with IntLike (codes "auto" ∷ codes "extern" ∷ codes "register" ∷ codes "static" ∷ codes "inline"
+    ∷ codes "constexpr" ∷ codes "thread_local" ∷ codes "_Thread_local" ∷ codes "_Noreturn" ∷ []) ++
     words_with ConstLike (codes "const" ∷ codes "volatile" ∷ codes "restrict" ∷ []) ++
     words_with StructLike (codes "struct" ∷ codes "union" ∷ codes "enum" ∷ []) ++
     words_with CaseLike (codes "break" ∷ codes "case" ∷ codes "continue" ∷ codes "default" ∷ codes "goto"
@@ -27,14 +35,19 @@ c_words =
     words_with DoLike (codes "do" ∷ []) ++
     words_with IfLike (codes "if" ∷ []) ++
     words_with ElseLike (codes "else" ∷ []) ++
-    words_with SizeofLike (codes "sizeof" ∷ codes "_Generic" ∷ []) ++
-    words_with TypedefLike (codes "typedef" ∷ [])
+    words_with SizeofLike (codes "sizeof" ∷ codes "_Generic" ∷ codes "alignof" ∷ codes "_Alignof" ∷ codes "asm"
+    ∷ codes "static_assert" ∷ codes "_Static_assert" ∷ []) ++
+    words_with TypedefLike (codes "typedef" ∷ []) ++
+    words_with TypeofLike (codes "typeof" ∷ codes "typeof_unqual" ∷ codes "_BitInt" ∷ codes "_Atomic" ∷ []) ++
+    words_with AlignasLike (codes "alignas" ∷ codes "_Alignas" ∷ codes "__attribute__" ∷ codes "_Pragma" ∷ []) ++
+    words_with TexLike (codes "TeX" ∷ codes "NULL" ∷ [])
 
 -- The words that are reserved in a `#` line only, with their categories there.
 abbrev pub hash_line_words : List Entry
 hash_line_words =
-    words_with IfLike (codes "elif" ∷ codes "error" ∷ codes "ifdef" ∷ codes "ifndef" ∷ codes "include" ∷ codes "line"
-    ∷ codes "pragma" ∷ codes "undef" ∷ []) ++
+    words_with IfLike (codes "elif" ∷ codes "elifdef" ∷ codes "elifndef" ∷ codes "embed" ∷ codes "error"
+    ∷ codes "ifdef" ∷ codes "ifndef" ∷ codes "include" ∷ codes "line" ∷ codes "pragma" ∷ codes "undef"
+    ∷ codes "warning" ∷ []) ++
     words_with ElseLike (codes "endif" ∷ []) ++
     words_with DefineLike (codes "define" ∷ []) ++
     words_with SizeofLike (codes "defined" ∷ [])
