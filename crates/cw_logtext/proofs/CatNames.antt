@@ -11,11 +11,11 @@ pub at-number : (c : Cat) → get_or all_cats (number_of c) End ≡ c
 at-number End = refl
 at-number _ = refl
 
-pub within : (c : Cat) → number_of c < 45
+pub within : (c : Cat) → number_of c < 53
 within End = omega arith
 within _ = omega arith
 
-pub no-cat : (name : List ℕ) (count : ℕ) → ((i : ℕ) → i < count → name ≢ cat_text (get_or all_cats i End)) → 45 ≤ count
+pub no-cat : (name : List ℕ) (count : ℕ) → ((i : ℕ) → i < count → name ≢ cat_text (get_or all_cats i End)) → 53 ≤ count
     → (cat : Cat) → name ≢ cat_text cat
 no-cat name count none all cat is =
     none (number_of cat) (omega (arith, within cat, all)) (is ∙ ap cat_text (sym (at-number cat)))

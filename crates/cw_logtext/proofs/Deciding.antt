@@ -206,11 +206,11 @@ module _ (k : LeafKind) (c : Cat) (line : List ℕ) where
 
 -- of some category
 abbrev OfSomeCat : LeafKind → List ℕ → Type 0
-OfSomeCat k line = Upto 44 (λ n. LeafBy k (get_or all_cats n cats.End) line)
+OfSomeCat k line = Upto 52 (λ n. LeafBy k (get_or all_cats n cats.End) line)
 
 of_some_cat : (k : LeafKind) (line : List ℕ) → Known (OfSomeCat k line)
 of_some_cat k line = upto (λ n. LeafBy k (get_or all_cats n cats.End) line)
-    (λ n. leaf_by k (get_or all_cats n cats.End) line (behind_in (front_of k (get_or all_cats n cats.End)) line)) 44
+    (λ n. leaf_by k (get_or all_cats n cats.End) line (behind_in (front_of k (get_or all_cats n cats.End)) line)) 52
 
 line-said : (k : LeafKind) (line : List ℕ) → OfSomeCat k line → IsLeafLine line
 line-said k line u = record {

@@ -53,6 +53,14 @@ pub(crate) fn cat_text(cat: Cat) -> &'static [u8]
         Cat::EndArg => b"end_arg",
         Cat::Dead => b"dead",
         Cat::Dot => b"dot",
+        Cat::Dots => b"dots",
+        Cat::Box => b"box",
+        Cat::TypeofLike => b"typeof_like",
+        Cat::TexLike => b"tex_like",
+        Cat::Colcol => b"colcol",
+        Cat::AttrHead => b"attr_head",
+        Cat::Attr => b"attr",
+        Cat::AlignasLike => b"alignas_like",
         Cat::End => b"end",
     }
 }

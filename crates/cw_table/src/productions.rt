@@ -10,20 +10,21 @@ use cw_trees::Control;
 
 // A row is written as its number, its tests, the first scrap that it replaces and how many these are,
 // its result, and its pieces, in which a digit is a tested scrap. A test is a choice of categories;
-// `any` is every category but End, and `not` every one and End but Insert and those listed. Behind
-// `or` stand the pieces that take the place of the first ones where the flag of that name is off.
+// `any but` is every category but End and those listed, and `not` every one and End but Insert and those listed.
+// Behind `or` stand the pieces that take the place of the first ones where the flag of that name is off.
 macro_rules! productions {
     ($show:ident) => {
         $show! {
-            1: [any], [Insert]; 0 + 2 => same 0; [0 1];
+            1: [any but RawUbin Ubinop ConstLike Dot], [Insert]; 0 + 2 => same 0; [0 1];
             2: [BeginArg], [EndArg]; 0 + 2 => is Exp; [0 1];
             3: [any but BeginArg], [EndArg]; 0 + 2 => is EndArg; [0 1];
-            4: [Exp], [Lbrace IntLike Decl]; 0 + 1 => is FnDecl; [0 Indent Indent] or Indent [0] underline 0;
+            4: [Exp], [Lbrace IntLike Decl]; 0 + 1 => is FnDecl;
+                [Wall Cancel Indent Indent 0] or Indent [0] underline 0;
             5: [Exp], [Unop]; 0 + 2 => is Exp; [0 1];
-            6: [Exp], [Binop Ubinop], [Exp]; 0 + 3 => is Exp; [0 1 2];
+            6: [Exp], [Binop Ubinop Colcol Dots], [Exp]; 0 + 3 => is Exp; [0 1 2];
             7: [Exp], [Comma], [Exp]; 0 + 3 => is Exp; [0 1 OptionalLineBreak9 2];
-            8: [Exp], [Semi]; 0 + 2 => is Stmt; [0 1];
-            9: [Exp], [Colon]; 0 + 2 => is Tag; [0 1] underline 0;
+            8: [Exp Attr], [Semi]; 0 + 2 => is Stmt; [0 1];
+            9: [Exp], [Colon], [not Binop Colon]; 0 + 2 => is Tag; [0 Wall Cancel 1] underline 0;
             10: [Exp], [Rbrace]; 0 + 1 => is Stmt; [0];
             11: [Exp], [Exp Cast]; 0 + 2 => is Exp; [0 1];
             12: [Lpar], [Exp Ubinop], [Rpar]; 0 + 3 => is Exp; [0 1 2];
@@ -31,7 +32,7 @@ macro_rules! productions {
             14: [Lpar], [DeclHead IntLike Cast], [Rpar]; 0 + 3 => is Cast; [0 1 2];
             15: [Lpar], [DeclHead IntLike Exp], [Comma]; 0 + 3 => is Lpar; [0 1 2 OptionalLineBreak9];
             16: [Lpar], [Stmt Decl]; 0 + 2 => is Lpar; [0 1 Blank];
-            17: [Unop], [Exp IntLike]; 0 + 2 => same 1; [0 1];
+            17: [Unop Colcol], [Exp IntLike]; 0 + 2 => same 1; [0 1];
             18: [Ubinop], [Cast], [Rpar]; 0 + 2 => is Cast; [OpenBrace 0 CloseBrace 1];
             19: [Ubinop], [Exp IntLike]; 0 + 2 => same 1; [OpenBrace 0 CloseBrace 1];
             20: [Ubinop], [Binop]; 0 + 2 => is Binop; [OpenRelation 0 OpenBrace 1 CloseBrace CloseBrace];
@@ -39,7 +40,7 @@ macro_rules! productions {
                 [OpenRelation OpenBrace 0 CloseBrace OpenBrace 1 CloseBrace CloseBrace];
             22: [Cast], [Lpar]; 0 + 2 => is Lpar; [0 1];
             23: [Cast], [Exp]; 0 + 2 => is Exp; [0 Blank 1];
-            24: [Cast], [Semi]; 0 + 1 => is Exp; [0];
+            24: [Cast], [Semi Comma Binop Question Colon]; 0 + 1 => is Exp; [0];
             25: [SizeofLike], [Cast]; 0 + 2 => is Exp; [0 1];
             26: [SizeofLike], [Exp]; 0 + 2 => is Exp; [0 Blank 1];
             27: [IntLike], [IntLike StructLike]; 0 + 2 => same 1; [0 Blank 1];
@@ -49,9 +50,9 @@ macro_rules! productions {
             31: [DeclHead], [Comma]; 0 + 2 => is DeclHead; [0 1 Blank];
             32: [DeclHead], [Ubinop]; 0 + 2 => is DeclHead; [0 OpenBrace 1 CloseBrace];
             33: [DeclHead], [Exp], [not Lpar Exp Cast]; 0 + 2 => is DeclHead; [0 1] underline 1;
-            34: [DeclHead], [Binop Colon], [Exp], [Comma Semi Rpar]; 0 + 3 => is DeclHead; [0 1 2];
+            34: [DeclHead], [Binop Colon], [Exp], [Comma Semi Rpar End]; 0 + 3 => is DeclHead; [0 1 2];
             35: [DeclHead], [Cast]; 0 + 2 => is DeclHead; [0 1];
-            36: [DeclHead], [Lbrace IntLike Decl]; 0 + 1 => is FnDecl; [0 Indent Indent] or Indent [0];
+            36: [DeclHead], [Lbrace IntLike Decl]; 0 + 1 => is FnDecl; [Wall Indent Indent 0] or Indent [0];
             37: [DeclHead], [Semi]; 0 + 2 => is Decl; [0 1];
             38: [Decl], [Decl]; 0 + 2 => is Decl; [0 Break 1];
             39: [Decl], [Stmt Function]; 0 + 2 => same 1; [0 BigBreak 1] or Separate [0 Break 1];
@@ -64,31 +65,32 @@ macro_rules! productions {
                 [0 Indent Break 1 Outdent Break 2];
             45: [StructHead], [Rbrace]; 0 + 2 => is IntLike; [0 ThinSpace 1];
             46: [FnDecl], [Decl]; 0 + 2 => is FnDecl; [0 Break 1];
-            47: [FnDecl], [Stmt]; 0 + 2 => is Function; [0 Outdent Outdent Break 1] or Indent [0 Break 1];
+            47: [FnDecl], [Stmt Function]; 0 + 2 => is Function; [0 Outdent Outdent Break 1] or Indent [0 Break 1];
             48: [Function], [Function Decl Stmt]; 0 + 2 => same 1; [0 BigBreak 1];
             49: [Lbrace], [Rbrace]; 0 + 2 => is Stmt; [0 ThinSpace 1];
             50: [Lbrace], [Stmt Decl Function], [Rbrace]; 0 + 3 => is Stmt;
                 [Break 0 Indent Break 1 Break Backup 2 Outdent Break];
             51: [Lbrace], [Exp], [Rbrace]; 0 + 3 => is Exp; [0 1 2];
             52: [Lbrace], [Exp], [Comma], [Rbrace]; 0 + 4 => is Exp; [0 1 2 3];
-            53: [IfLike], [Exp]; 0 + 2 => is IfClause; [0 Blank 1];
-            54: [ElseLike], [Lbrace]; 0 + 1 => is ElseHead; [0];
-            55: [ElseLike], [Stmt]; 0 + 2 => is Stmt; [Break 0 Indent OptionalBreak Wall Cancel 1 Outdent Break];
+            53: [IfLike], [Exp Cast]; 0 + 2 => is IfClause; [0 Blank 1];
+            54: [ElseLike ForLike], [Lbrace]; 0 + 1 => is ElseHead; [0];
+            55: [ElseLike ForLike], [Stmt Function]; 0 + 2 => is Stmt;
+                [Break 0 OptionalBreak Indent 1 Outdent Break];
             56: [ElseHead], [Stmt Exp]; 0 + 2 => is Stmt; [Break 0 OptionalBreak Wall Cancel 1 Break];
             57: [IfClause], [Lbrace]; 0 + 1 => is IfHead; [0];
-            58: [IfClause], [Stmt], [ElseLike], [IfLike]; 0 + 4 => is IfLike;
-                [Break 0 Indent OptionalBreak Wall Cancel 1 Outdent Break 2 Blank 3];
-            59: [IfClause], [Stmt], [ElseLike], [not IfLike]; 0 + 3 => is ElseLike;
-                [Break 0 Indent OptionalBreak Wall Cancel 1 Outdent Break 2];
-            60: [IfClause], [Stmt], [not ElseLike]; 0 + 1 => is ElseLike; [0];
+            58: [IfClause], [Stmt Function], [ElseLike], [IfLike]; 0 + 4 => is IfLike;
+                [Break 0 OptionalBreak Indent 1 Outdent Break 2 Blank 3];
+            59: [IfClause], [Stmt Function], [ElseLike], [not IfLike]; 0 + 3 => is ElseLike;
+                [Break 0 OptionalBreak Indent 1 Outdent Break 2];
+            60: [IfClause], [Stmt Function], [not ElseLike]; 0 + 1 => is ElseLike; [0];
             61: [IfHead], [Stmt Exp], [ElseLike], [IfLike]; 0 + 4 => is IfLike;
                 [Break 0 OptionalBreak Wall Cancel 1 Break 2 Blank 3];
             62: [IfHead], [Stmt Exp], [ElseLike], [not IfLike]; 0 + 3 => is ElseLike;
                 [Break 0 OptionalBreak Wall Cancel 1 Break 2];
             63: [IfHead], [Stmt Exp], [not ElseLike]; 0 + 1 => is ElseHead; [0];
-            64: [DoLike], [Stmt], [ElseLike], [Semi]; 0 + 4 => is Stmt;
+            64: [DoLike], [Stmt Exp], [ElseLike], [Semi]; 0 + 4 => is Stmt;
                 [0 OptionalBreak Wall Cancel 1 Cancel Wall OptionalBreak 2 3];
-            65: [ForLike], [Exp]; 0 + 2 => is ElseLike; [0 Blank 1];
+            65: [ForLike], [Exp Cast]; 0 + 2 => is ElseLike; [0 Blank 1];
             66: [CaseLike], [Semi]; 0 + 2 => is Stmt; [0 1];
             67: [CaseLike], [Colon]; 0 + 2 => is Tag; [0 1];
             68: [CaseLike], [Exp]; 0 + 2 => is Exp; [0 Blank 1];
@@ -100,11 +102,16 @@ macro_rules! productions {
             74: [Lproc], [DefineLike], [Exp]; 0 + 2 => is Lproc; [0 1] underline 2;
             75: [Lproc], [DefineLike IfLike ElseLike]; 0 + 2 => is Lproc; [0 1];
             76: [Lproc], [Rproc]; 0 + 2 => is Insert; [Inserted 0 1];
-            77: [Lproc], [Exp Function], [Rproc]; 0 + 3 => is Insert; [Inserted 0 Blank 1 2];
-            78: [Lproc], [Exp], [Exp], [Rproc]; 0 + 4 => is Insert; [Inserted 0 Blank 1 OptionalBreak 2 3];
+            77: [Lproc], [Exp Function Stmt Decl DeclHead IntLike], [Rproc]; 0 + 3 => is Insert;
+                [Inserted 0 Blank 1 2];
+            78: [Lproc], [Exp], [Exp], [Rproc Insert]; 0 + 2 => is Lproc; [0 Blank 1 OptionalBreak];
             79: [SectionScrap], [Semi]; 0 + 2 => is Stmt; [0 1 Break];
-            80: [SectionScrap]; 0 + 1 => is Exp; [0];
-            81: [Insert], [any]; 0 + 2 => same 1; [0 1];
+            80: [SectionScrap], [not RawInt IntLike ConstLike StructLike TypedefLike DeclHead StructHead FnDecl
+                IfLike ForLike DoLike CaseLike ElseLike]; 0 + 1 => is Exp;
+                [0];
+            81: [Insert], [any but RawInt IntLike ConstLike StructLike TypedefLike DeclHead StructHead RawUbin
+                Ubinop Dot]; 0 + 2 => same 1;
+                [0 1];
             82: [TypedefLike], [IntLike Cast], [Comma Semi]; 1 + 1 => is Exp; [1];
             83: [TypedefLike], [IntLike]; 0 + 2 => is TypedefLike; [0 Blank 1];
             84: [TypedefLike], [Exp], [not Lpar Exp Cast]; 0 + 2 => is TypedefLike;
@@ -114,7 +121,7 @@ macro_rules! productions {
             87: [TypedefLike], [Ubinop], [Ubinop Cast]; 1 + 2 => same 2; [OpenBrace 1 CloseBrace 2];
             88: [Question], [Exp], [Colon]; 0 + 3 => is Binop; [0 1 math];
             89: [RawInt]; 0 + 1 => is IntLike; [0];
-            90: [RawUbin], [ConstLike]; 0 + 2 => is RawUbin; [0 1 Blank];
+            90: [RawUbin], [ConstLike]; 0 + 2 => is RawUbin; [0 1 ThinSpace ThinSpace];
             91: [RawUbin]; 0 + 1 => is Ubinop; [0];
             92: [ConstLike]; 0 + 1 => is IntLike; [0];
             93: [Cast], [Lbrace], [Rbrace]; 0 + 3 => is Exp; [0 1 ThinSpace 2];
@@ -122,6 +129,50 @@ macro_rules! productions {
             95: [Lbrace Comma], [Dot], [Exp]; 1 + 2 => is Exp; [OpenBrace 1 CloseBrace 2];
             96: [Lpar], [Tag], [Exp], [Comma Rpar]; 1 + 2 => is Exp; [1 Blank 2];
             97: [Dot]; 0 + 1 => is Binop; [0];
+            98: [Stmt Decl Function ElseLike IfClause], [Exp], [End Rproc ElseLike]; 1 + 1 => is Stmt; [1];
+            99: [Tag], [Exp], [End Rproc]; 0 + 2 => is Exp; [0 Blank 1];
+            100: [DoLike], [Stmt Exp], [ElseLike], [not Semi Stmt Decl Function]; 0 + 3 => is Stmt;
+                [0 OptionalBreak Wall Cancel 1 Cancel Wall OptionalBreak 2];
+            101: [Stmt Decl Function], [Tag Rbrace], [End Rproc Rbrace]; 0 + 2 => is Stmt; [0 Break Backup 1];
+            102: [Colon], [Binop]; 0 + 2 => is Binop; [0 OpenRelation 1 CloseBrace];
+            103: [Lpar], [Exp], [Ubinop], [Rpar Comma]; 1 + 2 => is DeclHead; [1 Blank OpenBrace 2 CloseBrace];
+            104: [Ubinop], [Ubinop], [Rpar Comma]; 0 + 2 => is Ubinop;
+                [OpenBrace 0 CloseBrace OpenBrace 1 CloseBrace];
+            105: [Exp], [Stmt Function]; 0 + 2 => same 1; [0 Break 1] or Force [0 OptionalBreak 1];
+            106: [StructHead], [Exp], [Comma], [Rbrace]; 1 + 2 => is Stmt; [1 2];
+            107: [Binop], [IntLike]; 1 + 1 => is Exp; [1];
+            108: [FnDecl], [Lbrace], [Exp], [Rbrace]; 1 + 3 => is Stmt;
+                [Break 1 Indent Break 2 Break Backup 3 Outdent Break];
+            109: [DeclHead Exp], [Binop], [Stmt]; 0 + 3 => same 0; [0 1 2];
+            110: [SectionScrap], [RawInt IntLike ConstLike StructLike TypedefLike DeclHead StructHead FnDecl IfLike
+                ForLike DoLike CaseLike ElseLike]; 0 + 1 => is Stmt;
+                [0 Break];
+            111: [Dots], [Rpar Comma Rbrace End]; 0 + 1 => is IntLike; [0];
+            112: [Box], [RawInt IntLike StructLike TypedefLike DeclHead StructHead FnDecl CaseLike ElseLike
+                SectionScrap Lbrace Rbrace Box]; 0 + 2 => same 1;
+                [0 1];
+            113: [Box], [not RawInt IntLike ConstLike StructLike TypedefLike DeclHead StructHead FnDecl CaseLike
+                ElseLike SectionScrap Lbrace Rbrace Box]; 0 + 1 => is Exp;
+                [0];
+            114: [AttrHead], [Exp], [Rpar], [Rpar]; 0 + 4 => is Attr; [0 1 2 3];
+            115: [AlignasLike], [Exp Cast]; 0 + 2 => is Attr; [0 1];
+            116: [Exp DeclHead StructLike FnDecl], [Attr]; 0 + 2 => same 0; [0 Blank 1];
+            117: [Attr], [any but RawUbin Ubinop ConstLike Dot]; 0 + 2 => same 1; [0 Blank 1];
+            118: [TypeofLike], [Exp Cast IntLike]; 0 + 2 => is IntLike; [0 Blank 1];
+            119: [SizeofLike], [ConstLike]; 0 + 2 => is SizeofLike; [0 Blank 1];
+            120: [Colon Colcol Binop], [Colon]; 0 + 2 => same 0; [0 1];
+            121: [DeclHead], [Colon], [IntLike RawInt ConstLike], [Lbrace]; 0 + 4 => is StructHead;
+                [0 1 Blank 2 Blank 3] underline 0;
+            122: [Stmt Function], [Binop], [not Colon]; 0 + 2 => is Stmt; [0 Blank 1];
+            123: [Binop], [Exp], [End Rpar Rproc]; 0 + 2 => is Exp; [0 1];
+            124: [Exp], [Binop Comma], [End Rpar Rproc]; 0 + 2 => is Exp; [0 1];
+            125: [CaseLike], [CaseLike ForLike DoLike]; 0 + 2 => is Exp; [0 Blank 1];
+            126: [Lbrace Lpar Lproc], [Exp Stmt Decl Function], [End]; 0 + 2 => is Exp; [0 Blank 1];
+            127: [Insert], [RawInt IntLike ConstLike StructLike TypedefLike DeclHead StructHead]; 0 + 1 => is Decl;
+                [0];
+            128: [Lproc], [Exp], [RawInt IntLike ConstLike StructLike TypedefLike Lbrace ForLike DoLike CaseLike];
+                0 + 2 => is Lproc;
+                [0 Blank 1 OptionalBreak];
         }
     };
 }
@@ -142,7 +193,6 @@ pub(crate) struct Head {
 }
 
 macro_rules! set {
-    (any) => { CatSet { bits: (1 << Cat::End as u64) - 1 } };
     (any but $($cat:ident)+) => { CatSet { bits: (1 << Cat::End as u64) - 1 $(- (1 << Cat::$cat as u64))+ } };
     (not $($cat:ident)+) => {
         CatSet { bits: (1 << (Cat::End as u64 + 1)) - 1 - (1 << Cat::Insert as u64) $(- (1 << Cat::$cat as u64))+ }
@@ -294,7 +344,7 @@ macro_rules! heads_of {
 }
 
 /// How many productions there are.
-pub const ROW_COUNT: usize = 97;
+pub const ROW_COUNT: usize = 128;
 
 static TESTS: [[CatSet; 4]; ROW_COUNT] = productions!(tests_of);
 

@@ -17,15 +17,17 @@ pub(crate) fn rank_of(cat: Cat) -> u8
     ensures { result ≡ spec.rank cat }
 {
     match cat {
-        Cat::RawInt | Cat::ConstLike => 3,
-        Cat::Cast | Cat::IntLike | Cat::IfClause | Cat::SectionScrap => 2,
+        Cat::RawInt | Cat::ConstLike | Cat::Dots => 3,
+        Cat::Box | Cat::Cast | Cat::IntLike | Cat::IfClause | Cat::SectionScrap => 2,
         Cat::Exp
         | Cat::DeclHead
         | Cat::ElseLike
         | Cat::IfHead
         | Cat::Semi
         | Cat::RawUbin
-        | Cat::Dot => 1,
+        | Cat::Dot
+        | Cat::ForLike
+        | Cat::Insert => 1,
         _ => 0,
     }
 }
