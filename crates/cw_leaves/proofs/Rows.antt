@@ -43,6 +43,10 @@ a-case-like-leaf : leaf_line names (scrap cats.Dead (Then (Ident 0 1) (Then (Res
     (Then (Ident 2 3) Empty)))) ≡ record { kind = leaf.C; cat = cats.Dead; names = codes "a" ∷ [] }
 a-case-like-leaf = refl
 
+-- a name that is a macro of TeX is an expression of which no name is told
+a-macro-of-tex : leaf_line names (scrap cats.Exp (Then (Reserved 0 1 cats.TexLike) Empty)) ≡ sign cats.Exp
+a-macro-of-tex = refl
+
 -- identifiers of inner texts are not told
 an-inner-text : leaf_line names (scrap cats.Insert (Inner (Then (Ident 0 1) Empty) Empty)) ≡ sign cats.Insert
 an-inner-text = refl
@@ -64,3 +68,10 @@ a-reserved-name : log_of_lines productions start_flags (sign cats.TypedefLike �
     ∷ item 89 1 ∷ item 29 1 ∷ item 33 1 ∷ item 37 1 ∷ item 38 0 ∷ []
 unfolding productions seen_log
 a-reserved-name = refl
+
+-- `[[a]] int b;`
+an-attribute : log_of_lines productions start_flags (sign cats.AttrHead ∷ bare (codes "a") ∷ sign cats.Rpar
+    ∷ sign cats.Rpar ∷ sign cats.RawInt ∷ bare (codes "b") ∷ sign cats.Semi ∷ [])
+    ≡ item 114 0 ∷ item 117 0 ∷ item 89 0 ∷ item 29 0 ∷ item 33 0 ∷ item 37 0 ∷ []
+unfolding productions seen_log
+an-attribute = refl

@@ -42,3 +42,11 @@ head-text : log_text (record { leaves = []; items = [] } ∷ head ∷ [])
     ≡ codes "text 0\nend\ntext 2\nc dead f\ni dead g x\nend\n"
 unfolding digits
 head-text = refl
+
+-- the last row of the table, and a category that is of names alone
+abbrev last : Block
+last = record { leaves = sign cats.TexLike ∷ sign cats.Attr ∷ []; items = item 128 16777215 ∷ [] }
+
+last-text : log_text (last ∷ []) ≡ codes "text 2\ns tex_like\ns attr\nP128 16777215\nend\n"
+unfolding digits
+last-text = refl

@@ -10,7 +10,9 @@ pub mod SafeLaws
 pub mod Soundness
 pub mod Numbers
 pub mod HandLaws
-pub mod RewritingRows
+mod Worked
+mod RewritingRows
+mod ModernRows
 pub mod ScrapFacts
 pub mod Falling
 pub mod Normals

@@ -112,16 +112,14 @@ productions =
     ∷ replaces 0 1 57 (only IfClause ∷ only Lbrace ∷ []) (Is IfHead) (joins (Scrap 0 ∷ []))
     ∷ replaces_all 58 (only IfClause ∷ one_of (Stmt ∷ Function ∷ []) ∷ only ElseLike ∷ only IfLike ∷ []) (Is IfLike)
     (joins (Break ∷ Scrap 0 ∷ OptionalBreak ∷ Indent ∷ Scrap 1 ∷ Outdent ∷ Break ∷ Scrap 2 ∷ Blank ∷ Scrap 3 ∷ []))
-    ∷ replaces 0 3 59 (only IfClause ∷ one_of (Stmt ∷ Function ∷ []) ∷ only ElseLike ∷ none_of (IfLike ∷ []) ∷ []) (Is
-    ElseLike)
-    (joins (Break ∷ Scrap 0 ∷ OptionalBreak ∷ Indent ∷ Scrap 1 ∷ Outdent ∷ Break ∷ Scrap 2 ∷ []))
+    ∷ replaces 0 3 59 (only IfClause ∷ one_of (Stmt ∷ Function ∷ []) ∷ only ElseLike ∷ none_of (IfLike ∷ []) ∷ [])
+    (Is ElseLike) (joins (Break ∷ Scrap 0 ∷ OptionalBreak ∷ Indent ∷ Scrap 1 ∷ Outdent ∷ Break ∷ Scrap 2 ∷ []))
     ∷ replaces 0 1 60 (only IfClause ∷ one_of (Stmt ∷ Function ∷ []) ∷ none_of (ElseLike ∷ []) ∷ []) (Is ElseLike)
     (joins (Scrap 0 ∷ []))
     ∷ replaces_all 61 (only IfHead ∷ one_of (Stmt ∷ Exp ∷ []) ∷ only ElseLike ∷ only IfLike ∷ []) (Is IfLike)
     (joins (Break ∷ Scrap 0 ∷ OptionalBreak ∷ Wall ∷ Cancel ∷ Scrap 1 ∷ Break ∷ Scrap 2 ∷ Blank ∷ Scrap 3 ∷ []))
-    ∷ replaces 0 3 62 (only IfHead ∷ one_of (Stmt ∷ Exp ∷ []) ∷ only ElseLike ∷ none_of (IfLike ∷ []) ∷ []) (Is
-    ElseLike)
-    (joins (Break ∷ Scrap 0 ∷ OptionalBreak ∷ Wall ∷ Cancel ∷ Scrap 1 ∷ Break ∷ Scrap 2 ∷ []))
+    ∷ replaces 0 3 62 (only IfHead ∷ one_of (Stmt ∷ Exp ∷ []) ∷ only ElseLike ∷ none_of (IfLike ∷ []) ∷ [])
+    (Is ElseLike) (joins (Break ∷ Scrap 0 ∷ OptionalBreak ∷ Wall ∷ Cancel ∷ Scrap 1 ∷ Break ∷ Scrap 2 ∷ []))
     ∷ replaces 0 1 63 (only IfHead ∷ one_of (Stmt ∷ Exp ∷ []) ∷ none_of (ElseLike ∷ []) ∷ []) (Is ElseHead)
     (joins (Scrap 0 ∷ []))
     ∷ replaces_all 64 (only DoLike ∷ one_of (Stmt ∷ Exp ∷ []) ∷ only ElseLike ∷ only Semi ∷ []) (Is Stmt)
@@ -150,11 +148,11 @@ productions =
     ∷ replaces 0 2 78 (only Lproc ∷ only Exp ∷ only Exp ∷ one_of (Rproc ∷ Insert ∷ []) ∷ []) (Is Lproc)
     (joins (Scrap 0 ∷ Blank ∷ Scrap 1 ∷ OptionalBreak ∷ []))
     ∷ replaces_all 79 (only SectionScrap ∷ only Semi ∷ []) (Is Stmt) (joins (Scrap 0 ∷ Scrap 1 ∷ Break ∷ []))
-    ∷ replaces 0 1 80 (only SectionScrap ∷ none_of (RawInt ∷ IntLike ∷ ConstLike ∷ StructLike ∷ TypedefLike ∷ DeclHead ∷
-    StructHead ∷ FnDecl ∷ IfLike ∷ ForLike ∷ DoLike ∷ CaseLike ∷ ElseLike ∷ []) ∷ []) (Is Exp)
+    ∷ replaces 0 1 80 (only SectionScrap ∷ none_of (RawInt ∷ IntLike ∷ ConstLike ∷ StructLike ∷ TypedefLike ∷ DeclHead
+    ∷ StructHead ∷ FnDecl ∷ IfLike ∷ ForLike ∷ DoLike ∷ CaseLike ∷ ElseLike ∷ []) ∷ []) (Is Exp)
     (joins (Scrap 0 ∷ []))
-    ∷ replaces_all 81 (only Insert ∷ any_but (RawInt ∷ IntLike ∷ ConstLike ∷ StructLike ∷ TypedefLike ∷ DeclHead ∷
-    StructHead ∷ RawUbin ∷ Ubinop ∷ Dot ∷ []) ∷ []) (SameAs 1)
+    ∷ replaces_all 81 (only Insert ∷ any_but (RawInt ∷ IntLike ∷ ConstLike ∷ StructLike ∷ TypedefLike ∷ DeclHead
+    ∷ StructHead ∷ RawUbin ∷ Ubinop ∷ Dot ∷ []) ∷ []) (SameAs 1)
     (joins (Scrap 0 ∷ Scrap 1 ∷ []))
     ∷ replaces 1 1 82 (only TypedefLike ∷ one_of (IntLike ∷ Cast ∷ []) ∷ one_of (Comma ∷ Semi ∷ []) ∷ []) (Is Exp)
     (joins (Scrap 1 ∷ []))
@@ -181,8 +179,8 @@ productions =
     ∷ replaces 1 2 96 (only Lpar ∷ only Tag ∷ only Exp ∷ one_of (Comma ∷ Rpar ∷ []) ∷ []) (Is Exp)
     (joins (Scrap 1 ∷ Blank ∷ Scrap 2 ∷ []))
     ∷ replaces 0 1 97 (only Dot ∷ []) (Is Binop) (joins (Scrap 0 ∷ []))
-    ∷ replaces 1 1 98 (one_of (Stmt ∷ Decl ∷ Function ∷ ElseLike ∷ IfClause ∷ []) ∷ only Exp ∷ one_of (End ∷ Rproc ∷
-    ElseLike ∷ []) ∷ []) (Is Stmt)
+    ∷ replaces 1 1 98 (one_of (Stmt ∷ Decl ∷ Function ∷ ElseLike ∷ IfClause ∷ []) ∷ only Exp ∷ one_of (End ∷ Rproc
+    ∷ ElseLike ∷ []) ∷ []) (Is Stmt)
     (joins (Scrap 1 ∷ []))
     ∷ replaces 0 2 99 (only Tag ∷ only Exp ∷ one_of (End ∷ Rproc ∷ []) ∷ []) (Is Exp)
     (joins (Scrap 0 ∷ Blank ∷ Scrap 1 ∷ []))
@@ -207,15 +205,15 @@ productions =
     (joins (Break ∷ Scrap 1 ∷ Indent ∷ Break ∷ Scrap 2 ∷ Break ∷ Backup ∷ Scrap 3 ∷ Outdent ∷ Break ∷ []))
     ∷ replaces_all 109 (one_of (DeclHead ∷ Exp ∷ []) ∷ only Binop ∷ only Stmt ∷ []) (SameAs 0)
     (joins (Scrap 0 ∷ Scrap 1 ∷ Scrap 2 ∷ []))
-    ∷ replaces 0 1 110 (only SectionScrap ∷ one_of (RawInt ∷ IntLike ∷ ConstLike ∷ StructLike ∷ TypedefLike ∷ DeclHead ∷
-    StructHead ∷ FnDecl ∷ IfLike ∷ ForLike ∷ DoLike ∷ CaseLike ∷ ElseLike ∷ []) ∷ []) (Is Stmt)
+    ∷ replaces 0 1 110 (only SectionScrap ∷ one_of (RawInt ∷ IntLike ∷ ConstLike ∷ StructLike ∷ TypedefLike ∷ DeclHead
+    ∷ StructHead ∷ FnDecl ∷ IfLike ∷ ForLike ∷ DoLike ∷ CaseLike ∷ ElseLike ∷ []) ∷ []) (Is Stmt)
     (joins (Scrap 0 ∷ Break ∷ []))
     ∷ replaces 0 1 111 (only Dots ∷ one_of (Rpar ∷ Comma ∷ Rbrace ∷ End ∷ []) ∷ []) (Is IntLike) (joins (Scrap 0 ∷ []))
     ∷ replaces_all 112 (only Box ∷ one_of (RawInt ∷ IntLike ∷ StructLike ∷ TypedefLike ∷ DeclHead ∷ StructHead ∷ FnDecl
     ∷ CaseLike ∷ ElseLike ∷ SectionScrap ∷ Lbrace ∷ Rbrace ∷ Box ∷ []) ∷ []) (SameAs 1)
     (joins (Scrap 0 ∷ Scrap 1 ∷ []))
-    ∷ replaces 0 1 113 (only Box ∷ none_of (RawInt ∷ IntLike ∷ ConstLike ∷ StructLike ∷ TypedefLike ∷ DeclHead ∷
-    StructHead ∷ FnDecl ∷ CaseLike ∷ ElseLike ∷ SectionScrap ∷ Lbrace ∷ Rbrace ∷ Box ∷ []) ∷ []) (Is Exp)
+    ∷ replaces 0 1 113 (only Box ∷ none_of (RawInt ∷ IntLike ∷ ConstLike ∷ StructLike ∷ TypedefLike ∷ DeclHead
+    ∷ StructHead ∷ FnDecl ∷ CaseLike ∷ ElseLike ∷ SectionScrap ∷ Lbrace ∷ Rbrace ∷ Box ∷ []) ∷ []) (Is Exp)
     (joins (Scrap 0 ∷ []))
     ∷ replaces_all 114 (only AttrHead ∷ only Exp ∷ only Rpar ∷ only Rpar ∷ []) (Is Attr)
     (joins (Scrap 0 ∷ Scrap 1 ∷ Scrap 2 ∷ Scrap 3 ∷ []))
@@ -229,9 +227,8 @@ productions =
     ∷ replaces_all 119 (only SizeofLike ∷ only ConstLike ∷ []) (Is SizeofLike) (joins (Scrap 0 ∷ Blank ∷ Scrap 1 ∷ []))
     ∷ replaces_all 120 (one_of (Colon ∷ Colcol ∷ Binop ∷ []) ∷ only Colon ∷ []) (SameAs 0)
     (joins (Scrap 0 ∷ Scrap 1 ∷ []))
-    ∷ replaces_all 121 (only DeclHead ∷ only Colon ∷ one_of (IntLike ∷ RawInt ∷ ConstLike ∷ []) ∷ only Lbrace ∷ []) (Is
-    StructHead)
-    (underlining 0 (joins (Scrap 0 ∷ Scrap 1 ∷ Blank ∷ Scrap 2 ∷ Blank ∷ Scrap 3 ∷ [])))
+    ∷ replaces_all 121 (only DeclHead ∷ only Colon ∷ one_of (IntLike ∷ RawInt ∷ ConstLike ∷ []) ∷ only Lbrace ∷ [])
+    (Is StructHead) (underlining 0 (joins (Scrap 0 ∷ Scrap 1 ∷ Blank ∷ Scrap 2 ∷ Blank ∷ Scrap 3 ∷ [])))
     ∷ replaces 0 2 122 (one_of (Stmt ∷ Function ∷ []) ∷ only Binop ∷ none_of (Colon ∷ []) ∷ []) (Is Stmt)
     (joins (Scrap 0 ∷ Blank ∷ Scrap 1 ∷ []))
     ∷ replaces 0 2 123 (only Binop ∷ only Exp ∷ one_of (End ∷ Rpar ∷ Rproc ∷ []) ∷ []) (Is Exp)
@@ -240,11 +237,11 @@ productions =
     (joins (Scrap 0 ∷ Scrap 1 ∷ []))
     ∷ replaces_all 125 (only CaseLike ∷ one_of (CaseLike ∷ ForLike ∷ DoLike ∷ []) ∷ []) (Is Exp)
     (joins (Scrap 0 ∷ Blank ∷ Scrap 1 ∷ []))
-    ∷ replaces 0 2 126 (one_of (Lbrace ∷ Lpar ∷ Lproc ∷ []) ∷ one_of (Exp ∷ Stmt ∷ Decl ∷ Function ∷ []) ∷ only End ∷
-    []) (Is Exp)
+    ∷ replaces 0 2 126 (one_of (Lbrace ∷ Lpar ∷ Lproc ∷ []) ∷ one_of (Exp ∷ Stmt ∷ Decl ∷ Function ∷ []) ∷ only End
+    ∷ []) (Is Exp)
     (joins (Scrap 0 ∷ Blank ∷ Scrap 1 ∷ []))
-    ∷ replaces 0 1 127 (only Insert ∷ one_of (RawInt ∷ IntLike ∷ ConstLike ∷ StructLike ∷ TypedefLike ∷ DeclHead ∷
-    StructHead ∷ []) ∷ []) (Is Decl)
+    ∷ replaces 0 1 127 (only Insert ∷ one_of (RawInt ∷ IntLike ∷ ConstLike ∷ StructLike ∷ TypedefLike ∷ DeclHead
+    ∷ StructHead ∷ []) ∷ []) (Is Decl)
     (joins (Scrap 0 ∷ []))
     ∷ replaces 0 2 128 (only Lproc ∷ only Exp ∷ one_of (RawInt ∷ IntLike ∷ ConstLike ∷ StructLike ∷ TypedefLike ∷ Lbrace
     ∷ ForLike ∷ DoLike ∷ CaseLike ∷ []) ∷ []) (Is Lproc)

@@ -18,7 +18,7 @@ pub(crate) fn rank_of(cat: Cat) -> u8
 {
     match cat {
         Cat::RawInt | Cat::ConstLike | Cat::Dots => 3,
-        Cat::Box | Cat::Cast | Cat::IntLike | Cat::IfClause | Cat::SectionScrap => 2,
+        Cat::Cast | Cat::IntLike | Cat::IfClause | Cat::SectionScrap | Cat::Box => 2,
         Cat::Exp
         | Cat::DeclHead
         | Cat::ElseLike
