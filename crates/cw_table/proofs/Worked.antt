@@ -1,5 +1,5 @@
 -- Of what worked texts are made, and what of them is shown.
-use Rattle.std.proofs.Common.{ℕ, true, false, List, [], ◌∷◌, map, get_or, replicate}
+use Rattle.std.proofs.Common.{ℕ, true, false, List, [], map, get_or, replicate}
 use Rattle.cw_base.specs.declared.category.Cat.{Cat}
 use Rattle.cw_base.specs.declared.category.Cat.TheVariants.{Exp}
 use Rattle.cw_base.specs.declared.mode.MathMode.{MathMode}
