@@ -14,3 +14,4 @@ pub mod WalkCounts
 pub mod Reaching
 pub mod SourceNumbers
 pub mod NormalLaws
+pub mod Braces

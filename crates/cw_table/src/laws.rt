@@ -1,4 +1,5 @@
 //! The laws of rewriting, of safe distances, and of the walk with a pointer.
+ghost use Rattle.cw_table.specs.Braces.{OperatorsStandInThree, RowsAreBraced};
 ghost use Rattle.cw_table.specs.SourceNumbers.{NormalKeepsNumbers, StepsKeepNumbers};
 ghost use Rattle.cw_table.specs.NormalLaws.{CountAtMostEight, CountAtMostWeight, LeastIsSafe, NormalIsDone};
 ghost use Rattle.cw_table.specs.NormalLaws.{NormalStays, SafeReachesFar, StaysFine, TicksAtMost, TurnsAtMost};
@@ -33,4 +34,12 @@ pub fn walk_laws()
     ensures leftmost { WalkIsLeftmost }
     ensures turns { TurnsAtMost }
     ensures ticks { TicksAtMost }
+{}
+
+/// The law of braces: in each production the braces that it puts in pair, and what stands between them needs no text
+/// mode, in which TeX would refuse it there; but for the operators that three productions put between braces, of which
+/// no production can say that they hold no text. It does nothing: what it ensures is for proofs.
+pub fn braces_law()
+    ensures rows { RowsAreBraced }
+    ensures operators { OperatorsStandInThree }
 {}
