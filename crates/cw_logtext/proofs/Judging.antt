@@ -26,8 +26,8 @@ pub record AtHand (lines : List (List ℕ)) (good : ℕ) (line : List ℕ) (othe
   pub is : get_or lines good [] ≡ line
   pub later : drop (suc good) lines ≡ others
 
-pub at-hand : (lines : List (List ℕ)) (good : ℕ) (line : List ℕ) (later : List (List ℕ)) → drop good lines ≡ line ∷ later
-    → AtHand lines good line later
+pub at-hand : (lines : List (List ℕ)) (good : ℕ) (line : List ℕ) (later : List (List ℕ))
+    → drop good lines ≡ line ∷ later → AtHand lines good line later
 at-hand [] zero line later e = absurd cc
 at-hand [] (suc n) line later e = absurd cc
 at-hand (l ∷ ls) zero line later e = record { within = omega arith; is = cc; later = cc }
