@@ -11,11 +11,12 @@ use Rattle.cw_rules.specs.declared.parts.Start.{Start}
 use Rattle.cw_rules.specs.declared.parts.Start.TheVariants as start
 use Rattle.cw_rules.specs.declared.signs.Sign.{Sign}
 use Rattle.cw_rules.specs.Answers.{Answer, Where, Found}
-use Rattle.cw_rules.specs.Bytes.{newline, quote, hash, apostrophe, star, slash, less, at_sign, begins, is_letter}
+use Rattle.cw_rules.specs.Bytes.{newline, hash, star, slash, less, at_sign, begins, is_letter, is_mark}
 use Rattle.cw_base.specs.Text.{bar}
 use Rattle.cw_rules.specs.Bytes.{is_in}
 use Rattle.cw_rules.specs.Codes.{begins_section, effect_in_c}
 use Rattle.cw_rules.specs.Constants.{constant}
+use Rattle.cw_rules.specs.Prefixes.{prefix_size}
 use Rattle.cw_lex.specs.Lexing.{still_fresh, joined, answers}
 use Rattle.cw_lex.specs.Nested.{begins_section_in}
 use Rattle.cw_rules.specs.Tokens.{is_tex_inner, sign_or_other, inner_cut, comment_cut, inner_or_none, all_cut, line_end}
@@ -72,15 +73,16 @@ sign-bar byte (Some s) = record { is = λ h. absurd cc }
 
 bar-start : (ends : Bool) (byte : ℕ) (bytes : List ℕ) → Bar byte (start_of ends byte bytes)
 bar-start ends byte bytes =
-    if-both (Bar byte) (is_letter byte) _ _ (λ e. record { is = λ h. absurd cc })
+    if-both (Bar byte) (nat_lt 0 (prefix_size (byte ∷ bytes))) _ _ (λ e. record { is = λ h. absurd cc })
+    (λ e. if-both (Bar byte) (is_letter byte) _ _ (λ e. record { is = λ h. absurd cc })
     (λ e. if-both (Bar byte) (nat_lt 0 (constant (byte ∷ bytes))) _ _ (λ e. record { is = λ h. absurd cc })
-    (λ e. if-both (Bar byte) (byte == quote || byte == apostrophe) _ _ (λ e. record { is = λ h. absurd cc })
+    (λ e. if-both (Bar byte) (is_mark byte) _ _ (λ e. record { is = λ h. absurd cc })
     (λ e. if-both (Bar byte) (byte == slash && begins star bytes) _ _ (λ e. record { is = λ h. absurd cc })
     (λ e. if-both (Bar byte) (byte == slash && begins slash bytes) _ _ (λ e. record { is = λ h. absurd cc })
     (λ e. if-both (Bar byte) (byte == at_sign) _ _ (λ e. record { is = λ h. absurd cc })
     (λ e. if-both (Bar byte) (byte == bar && (ends && not (begins bar bytes))) start.EndOfInner
     (sign_or_other (longest all_signs (byte ∷ bytes))) (λ e. record { is = λ h. both-left (byte == bar) _ e })
-    (λ e. sign-bar byte (longest all_signs (byte ∷ bytes)))))))))
+    (λ e. sign-bar byte (longest all_signs (byte ∷ bytes))))))))))
 
 no-bar : (ends : Bool) (byte : ℕ) (bytes : List ℕ) → (byte == bar) ≡ false → start_of ends byte bytes ≡ start.EndOfInner
     → ⊥

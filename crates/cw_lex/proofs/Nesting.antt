@@ -1,5 +1,5 @@
 -- The scanner's answers over C text are nested.
-use Rattle.std.proofs.Common.{◌≡◌, ℕ, zero, suc, ◌+◌, ◌-◌, Bool, true, false, not, ◌&&◌, ◌||◌, Option, Some, None, List}
+use Rattle.std.proofs.Common.{◌≡◌, ℕ, zero, suc, ◌+◌, ◌-◌, Bool, true, false, not, ◌&&◌, Option, Some, None, List}
 use Rattle.std.proofs.Common.{[], ◌∷◌, ◌++◌, take, drop, length, refl, sym, ◌∙◌, ap, subst, append-nil, append_assoc}
 use Rattle.std.specs.Prelude.{if◌then◌else◌, ◌==◌, nat_lt}
 use Rattle.cw_base.proofs.TestLaws.{both-left, both-right}
@@ -22,9 +22,10 @@ use Rattle.cw_rules.specs.Answers.{plain}
 use Rattle.cw_rules.specs.declared.classes.Class.TheVariants as classes
 use Rattle.cw_rules.specs.Bytes.{newline, backslash, at_sign, equals, comma, left_paren, right_paren, run, begins}
 use Rattle.cw_base.specs.Text.{bar}
-use Rattle.cw_rules.specs.Bytes.{is_letter, is_in, quote, apostrophe, slash, star, hash, less}
+use Rattle.cw_rules.specs.Bytes.{is_letter, is_mark, is_in, slash, star, hash, less}
 use Rattle.cw_rules.specs.Bodies.{one_note, note_unless, noted}
 use Rattle.cw_rules.specs.Constants.{constant}
+use Rattle.cw_rules.specs.Prefixes.{prefix_size}
 use Rattle.cw_rules.specs.Signs.{all_signs, longest, spelling}
 use Rattle.cw_rules.specs.declared.signs.Sign.{Sign}
 use Rattle.cw_base.specs.declared.notes.NoteKind.TheVariants as notes
@@ -355,9 +356,10 @@ sign-begins ends (Some s) = tt
 pub begins-so : (ends : Bool) (byte : ℕ) (bytes : List ℕ) → (byte == at_sign && begins_section bytes) ≡ false
     → Begins ends (start_of ends byte bytes)
 begins-so ends byte bytes section =
-    if-both (Begins ends) (is_letter byte) _ _ (λ e. record { is = tt })
+    if-both (Begins ends) (nat_lt 0 (prefix_size (byte ∷ bytes))) _ _ (λ e. record { is = tt })
+    (λ e. if-both (Begins ends) (is_letter byte) _ _ (λ e. record { is = tt })
     (λ e. if-both (Begins ends) (nat_lt 0 (constant (byte ∷ bytes))) _ _ (λ e. record { is = tt })
-    (λ e. if-both (Begins ends) (byte == quote || byte == apostrophe) _ _ (λ e. record { is = tt })
+    (λ e. if-both (Begins ends) (is_mark byte) _ _ (λ e. record { is = tt })
     (λ e. if-both (Begins ends) (byte == slash && begins star bytes) _ _ (λ e. record { is = tt })
     (λ e. if-both (Begins ends) (byte == slash && begins slash bytes) _ _ (λ e. record { is = tt })
     (λ e. if-both (Begins ends) (byte == at_sign) _ _ (λ e. record {
@@ -370,7 +372,7 @@ begins-so ends byte bytes section =
       is = both-left ends (not (begins bar bytes))
           (both-right (byte == bar) (ends && not (begins bar bytes)) e);
     })
-    (λ e. record { is = sign-begins ends (longest all_signs (byte ∷ bytes)) })))))))
+    (λ e. record { is = sign-begins ends (longest all_signs (byte ∷ bytes)) }))))))))
 
 word-c : (p : Part) (bytes : List ℕ) → is_c p ≡ true → is_c (behind_word p bytes) ≡ true
 word-c p bytes h = if-both (λ (q : Part). is_c q ≡ true) (in_hash_line p && is_include bytes) (parts.Plain true true)
@@ -399,8 +401,9 @@ in-code-goes start.Constant part cs place bytes p inner bar_ends b = one-goes (i
     (record { part = passed part; comments = cs }) place bytes (plain kind.Constant (constant bytes)) (passed-tex part)
     refl (passed-c part p) inner
 in-code-goes (start.Quoted q) part cs place bytes p inner bar_ends b = one-goes (in_tex part) (in_hash_line part)
-    (record { part = passed part; comments = cs }) place bytes (string kind.Quoted 1 q place bytes) (passed-tex part)
-    refl (passed-c part p) inner
+    (record { part = passed part; comments = cs }) place bytes (string kind.Quoted (prefix_size bytes + 1) q place
+    bytes)
+    (passed-tex part) refl (passed-c part p) inner
 in-code-goes (start.Sign s) part cs place bytes p inner bar_ends b = one-goes (in_tex part) (in_hash_line part)
     (record { part = passed part; comments = cs }) place bytes (plain (kind.Sign s) (length (spelling s)))
     (passed-tex part) refl (passed-c part p) inner

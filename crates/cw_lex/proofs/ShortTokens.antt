@@ -1,5 +1,5 @@
 -- Short tokens of C text, by its rules.
-use Rattle.std.proofs.Common.{not, [], subst, ◌⊎◌, inl, inr, ◌≡◌, ℕ, ◌+◌, ◌<◌, ◌≤◌, arith, length-drop, Bool, true}
+use Rattle.std.proofs.Common.{not, subst, ◌⊎◌, inl, inr, ◌≡◌, ℕ, ◌+◌, ◌<◌, ◌≤◌, arith, length-drop, Bool, true}
 use Rattle.std.proofs.Common.{false, ◌&&◌, ◌||◌, ◌==◌, nat_lt, List, ◌∷◌, Some, None, length, slice_index, drop, refl}
 use Rattle.std.proofs.Common.{sym, ap, ◌∙◌, if◌then◌else◌}
 use Rattle.cw_rules.specs.declared.classes.Class.TheVariants as classes
@@ -11,9 +11,11 @@ use Rattle.cw_rules.specs.declared.parts.Start.TheVariants as start
 use Rattle.cw_rules.specs.declared.signs.Sign.{Sign}
 use Rattle.cw_rules.specs.declared.tokens.TokKind.TheVariants as kinds
 use Rattle.cw_rules.specs.Answers.{Where, plain}
-use Rattle.cw_rules.specs.Bytes.{is_in, is_letter, is_letter_of, is_digit, begins, begins_by, run}
+use Rattle.cw_rules.specs.Bytes.{is_in, is_letter, is_letter_of, is_mark, is_digit, begins, begins_by, run}
 use Rattle.cw_rules.specs.Codes.{begins_section}
-use Rattle.cw_rules.specs.Constants.{hexadecimal, fraction, exponent, mantissa, decimal, number, constant}
+use Rattle.cw_rules.specs.Constants.{more_digits, digits, fraction, exponent, mantissa, scaled, hexadecimal, binary}
+use Rattle.cw_rules.specs.Constants.{decimal, number, constant}
+use Rattle.cw_rules.specs.Prefixes.{prefix_size}
 use Rattle.cw_rules.specs.Signs.{all_signs, longest, spelling}
 use Rattle.cw_lex.specs.Lexing.{fresh_at, last_at}
 use Rattle.cw_rules.specs.Tokens.{section, in_text, code_text, in_code, start_of, sign_or_other, is_space, is_include}
@@ -22,12 +24,13 @@ use Rattle.cw_rules.specs.Tokens.{moved}
 use Rattle.cw_lex.specs.Coming.{found_at}
 use Rattle.cw_rules.specs.Cuttings.{bytes_at}
 use Rattle.cw_lex.specs.Calm.{is_calm}
-use Rattle.cw_lex.specs.Short.{is_alone, is_lone, is_quote, IsShort, BeginsString, EndsInner}
+use Rattle.cw_lex.specs.Short.{is_alone, is_lone, IsShort, BeginsString, EndsInner}
 use Rattle.cw_lex.proofs.Lines.{in_text-code}
 use Rattle.cw_lex.proofs.White.{other-byte}
 use Rattle.cw_lex.proofs.Calm.{calm-code, calm-part}
 use Rattle.cw_lex.proofs.Steps.{bytes-here}
 use Rattle.cw_rules.proofs.Sizes.{run-le}
+use Rattle.cw_rules.proofs.StringPrefixes.{no-prefix}
 use Rattle.std.proofs.lemmas.Bool.{lt-ltb, eqb-true}
 use Rattle.cw_base.proofs.TestLaws.{and-false}
 
@@ -112,17 +115,25 @@ sign-starts b bs sign lone e =
 no-constant : (b : ℕ) (bs : List ℕ) → is_in classes.Digit b ≡ false → (b == 48) ≡ false → (b == 46) ≡ false
     → constant (b ∷ bs) ≡ 0
 no-constant b bs d z p =
-    let digits : run classes.Digit (b ∷ bs) ≡ 0 = ap (λ t. elim t [ true ↦ 1 + run classes.Digit bs | false ↦ 0 ]) d in
-    let part : fraction false (b ∷ bs) ≡ 0 = ap (λ t. if t && (false || nat_lt 0 (run classes.Digit bs)) then 1
-    + run classes.Digit bs else 0) p in
-    let whole : mantissa (b ∷ bs) ≡ 0 = ap (λ n. n + fraction (nat_lt 0 n) (drop n (b ∷ bs))) digits
-    ∙ ap (λ n. 0 + n) part in
-    let decimally : decimal (b ∷ bs) ≡ 0 = ap (λ m. if nat_lt 0 m then m + exponent (drop m (b ∷ bs)) else 0) whole in
-    let more = run classes.HexDigit (drop 1 bs) in
-    let hex : hexadecimal (b ∷ bs) ≡ 0 = ap (λ t. if t && begins_by (is_letter_of 120) bs && nat_lt 0 more then 2
-    + more else 0) z in
-    let both : number (b ∷ bs) ≡ 0 = (λ i. if nat_lt 0 (hex i) then hex i else decimally i) in
-    ap (λ n. if nat_lt 0 n then n + run classes.Suffix (drop n (b ∷ bs)) else 0) both
+    let none : digits classes.Digit (b ∷ bs) ≡ 0 =
+    ap (λ t. if t then more_digits classes.Digit (b ∷ bs) else 0) d in
+    let size = digits classes.Digit bs in
+    let part : fraction classes.Digit false (b ∷ bs) ≡ 0 =
+    ap (λ t. if t && (not (begins 46 bs) && (false || nat_lt 0 size)) then 1 + size else 0) p in
+    let whole : mantissa classes.Digit (b ∷ bs) ≡ 0 =
+    ap (λ n. n + fraction classes.Digit (nat_lt 0 n) (drop n (b ∷ bs))) none ∙ ap (λ n. 0 + n) part in
+    let decimally : decimal (b ∷ bs) ≡ 0 =
+    ap (λ m. if nat_lt 0 m then m + exponent 101 (drop m (b ∷ bs)) else 0) whole in
+    let rest = drop 1 bs in
+    let hex : hexadecimal (b ∷ bs) ≡ 0 =
+    ap (λ t. if t && (begins_by (is_letter_of 120) bs && begins_by (is_in classes.HexDigit) rest)
+    then 2 + scaled classes.HexDigit 112 rest else 0) z in
+    let bits : binary (b ∷ bs) ≡ 0 =
+    ap (λ t. if t && (begins_by (is_letter_of 98) bs && begins_by (is_in classes.BinaryDigit) rest)
+    then 2 + digits classes.BinaryDigit rest else 0) z in
+    let all : number (b ∷ bs) ≡ 0 =
+    λ i. if nat_lt 0 (hex i) then hex i else (if nat_lt 0 (bits i) then bits i else decimally i) in
+    ap (λ n. if nat_lt 0 n then n + run classes.Suffix (drop n (b ∷ bs)) else 0) all
 
 sign-is : (bars : Bool) (b : ℕ) (bs : List ℕ) (sign : Sign) → is_letter b ≡ false → is_in classes.Digit b ≡ false
     → is_lone b ≡ true
@@ -132,6 +143,7 @@ sign-is bars b bs sign letter digit lone e =
     let none = no-constant b bs digit (other-byte (begins_sign bs) b 48 h refl) (other-byte is_lone b 46 lone refl) in
     let only : start_of bars b bs ≡ sign_or_other (longest all_signs (b ∷ bs)) =
     rw (
+      no-prefix b bs letter,
       letter,
       none,
       other-byte (begins_sign bs) b 34 h refl,
@@ -142,29 +154,30 @@ sign-is bars b bs sign letter digit lone e =
     ) refl in
     only ∙ ap sign_or_other e
 
-letter-is : (bars : Bool) (b : ℕ) (bs : List ℕ) → is_letter b ≡ true → start_of bars b bs ≡ start.Identifier
-letter-is bars b bs h = rw h refl
+letter-is : (bars : Bool) (b : ℕ) (bs : List ℕ) → is_letter b ≡ true → prefix_size (b ∷ bs) ≡ 0
+    → start_of bars b bs ≡ start.Identifier
+letter-is bars b bs h none = rw (none, h) refl
 
 number-is : (bars : Bool) (b : ℕ) (bs : List ℕ) → is_letter b ≡ false → nat_lt 0 (constant (b ∷ bs)) ≡ true
     → start_of bars b bs ≡ start.Constant
-number-is bars b bs h n = rw (h, n) refl
+number-is bars b bs h n = rw (no-prefix b bs h, h, n) refl
 
-quote-starts : (b : ℕ) → is_quote b ≡ true → IsStart b
+quote-starts : (b : ℕ) → is_mark b ≡ true → IsStart b
 quote-starts b h = record {
-  newline = other-byte is_quote b 10 h refl;
-  blank = no-blank b (other-byte is_quote b 32 h refl) (other-byte is_quote b 9 h refl)
-      (other-byte is_quote b 11 h refl) (other-byte is_quote b 12 h refl) (other-byte is_quote b 13 h refl);
-  backslash = other-byte is_quote b 92 h refl;
-  at_sign = other-byte is_quote b 64 h refl;
-  hash = other-byte is_quote b 35 h refl;
+  newline = other-byte is_mark b 10 h refl;
+  blank = no-blank b (other-byte is_mark b 32 h refl) (other-byte is_mark b 9 h refl)
+      (other-byte is_mark b 11 h refl) (other-byte is_mark b 12 h refl) (other-byte is_mark b 13 h refl);
+  backslash = other-byte is_mark b 92 h refl;
+  at_sign = other-byte is_mark b 64 h refl;
+  hash = other-byte is_mark b 35 h refl;
 }
 
-string-is : (bars : Bool) (b : ℕ) (bs : List ℕ) → is_letter b ≡ false → is_in classes.Digit b ≡ false → is_quote b
+string-is : (bars : Bool) (b : ℕ) (bs : List ℕ) → is_letter b ≡ false → is_in classes.Digit b ≡ false → is_mark b
     ≡ true
     → start_of bars b bs ≡ start.Quoted b
 string-is bars b bs letter digit quoted =
-    let none = no-constant b bs digit (other-byte is_quote b 48 quoted refl) (other-byte is_quote b 46 quoted refl) in
-    rw (letter, none, quoted) refl
+    let none = no-constant b bs digit (other-byte is_mark b 48 quoted refl) (other-byte is_mark b 46 quoted refl) in
+    rw (no-prefix b bs letter, letter, none, quoted) refl
 
 -- behind no `include` of a `#` line the part is the next
 word-passed : (part : Part) (bytes : List ℕ) → (in_hash_line part && is_include bytes) ≡ false → behind_word part bytes
@@ -175,9 +188,10 @@ word-passed part bytes h = ap (λ t. if t then parts.Plain true true else passed
 
 pub word-short : (text : List ℕ) (part : Part) (comments : List Opened) (place size : ℕ) → is_calm part comments ≡ true
     → place < length text
-    → is_letter (slice_index text place) ≡ true → size ≡ run classes.Word (drop place text)
+    → is_letter (slice_index text place) ≡ true → prefix_size (drop place text) ≡ 0
+    → size ≡ run classes.Word (drop place text)
     → IsShort text (record { part = part; comments = comments }) place (record { kind = kinds.Identifier; size = size })
-word-short text part comments place size calm within letter e =
+word-short text part comments place size calm within letter none e =
     let w : Where = record { part = part; comments = comments } in
     let b = slice_index text place in
     let bs = drop (place + 1) text in
@@ -190,7 +204,7 @@ word-short text part comments place size calm within letter e =
       within = omega (arith, e, run-le classes.Word (drop place text), length-drop place text);
       found =
           start-found text part comments place start.Identifier calm (letter-starts b letter)
-          (letter-is (ends_at_bar part comments) b bs letter)
+          (letter-is (ends_at_bar part comments) b bs letter (ap prefix_size (sym here) ∙ none))
           ∙ (λ i. one (in_hash_line part) (moved w
           (word-passed part (b ∷ bs) (ap (λ t. t && is_include (b ∷ bs)) (calm-part part comments calm).hash_line)
           i)) place (b ∷ bs) (plain kinds.Identifier (sym same i)));
@@ -237,15 +251,15 @@ lone-short text part comments place size sign calm within letter digit lone e so
     }
 
 -- a dot before no digit
-run-none : (bs : List ℕ) → begins_by (is_in classes.Digit) bs ≡ false → run classes.Digit bs ≡ 0
-run-none [] h = refl
-run-none (c ∷ cs) h = ap (λ t. elim t [ true ↦ 1 + run classes.Digit cs | false ↦ 0 ]) h
-
 no-decimal : (bs : List ℕ) → begins_by (is_in classes.Digit) bs ≡ false → constant (46 ∷ bs) ≡ 0
 no-decimal bs h =
-    let part : fraction false (46 ∷ bs) ≡ 0 = ap (λ n. if nat_lt 0 n then 1 + n else 0) (run-none bs h) in
-    let whole : mantissa (46 ∷ bs) ≡ 0 = ap (λ n. 0 + n) part in
-    let decimally : decimal (46 ∷ bs) ≡ 0 = ap (λ m. if nat_lt 0 m then m + exponent (drop m (46 ∷ bs)) else 0) whole in
+    let none : digits classes.Digit bs ≡ 0 = ap (λ t. if t then more_digits classes.Digit bs else 0) h in
+    let part : fraction classes.Digit false (46 ∷ bs) ≡ 0 =
+    ap (λ n. if not (begins 46 bs) && nat_lt 0 n then 1 + n else 0) none
+    ∙ ap (λ t. if t then 1 + 0 else 0) (and-false (not (begins 46 bs))) in
+    let whole : mantissa classes.Digit (46 ∷ bs) ≡ 0 = ap (λ n. 0 + n) part in
+    let decimally : decimal (46 ∷ bs) ≡ 0 =
+    ap (λ m. if nat_lt 0 m then m + exponent 101 (drop m (46 ∷ bs)) else 0) whole in
     ap (λ n. if nat_lt 0 n then n + run classes.Suffix (drop n (46 ∷ bs)) else 0) decimally
 
 dot-starts : IsStart 46
@@ -305,7 +319,7 @@ sign-short text part comments place size sign calm within letter digit alone e s
 pub string-begins : (text : List ℕ) (part : Part) (comments : List Opened) (place : ℕ) → is_calm part comments ≡ true
     → place < length text
     → is_letter (slice_index text place) ≡ false → is_in classes.Digit (slice_index text place) ≡ false
-    → is_quote (slice_index text place) ≡ true
+    → is_mark (slice_index text place) ≡ true
     → BeginsString text (record { part = part; comments = comments }) place (slice_index text place)
 string-begins text part comments place calm within letter digit quoted =
     let b = slice_index text place in

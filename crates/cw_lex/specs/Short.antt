@@ -5,7 +5,7 @@ use Rattle.cw_rules.specs.declared.parts.Start.TheVariants as start
 use Rattle.cw_lex.specs.declared.short.Short.{Short}
 use Rattle.cw_lex.specs.declared.short.Quick.{Quick}
 use Rattle.cw_lex.specs.declared.short.Quick.TheVariants as quick
-use Rattle.cw_rules.specs.Bytes.{begins_by, is_in, quote, hash, apostrophe, dot, slash}
+use Rattle.cw_rules.specs.Bytes.{begins_by, is_in, hash, dot, slash}
 use Rattle.cw_base.specs.Text.{bar}
 use Rattle.cw_rules.specs.Answers.{Where, plain}
 use Rattle.cw_rules.specs.Tokens.{one, moved, passed, in_hash_line, in_code, inner_end}
@@ -43,7 +43,3 @@ IsQuick text w place (quick.Short short) = IsShort text w place short
 IsQuick text w place (quick.Quoted quote) = BeginsString text w place quote
 IsQuick text w place quick.EndOfInner = EndsInner text w place
 IsQuick text w place quick.End = answers_at text w place ≡ []
-
--- a byte that begins a string
-abbrev pub is_quote : ℕ → Bool
-is_quote byte = byte == quote || byte == apostrophe

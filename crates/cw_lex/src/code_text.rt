@@ -21,16 +21,18 @@ ghost use Rattle.cw_rules.specs.Constants.{constant};
 use crate::comment_text::{begin_comment, end_inner};
 use crate::giving::{give, give_string, token};
 use crate::plain::begins_c;
-use crate::short::is_quote;
 use crate::state::{Clear, State};
 use crate::{Code, Lexed, TokKind};
 use cw_base::NoteKind;
-use cw_rules::classes::{Class, begins, begins_with, from, is_blank, is_digit, is_letter, run};
+use cw_rules::classes::{
+    Class, begins, begins_with, from, is_blank, is_digit, is_letter, is_mark, run,
+};
 use cw_rules::codes::Effect;
 use cw_rules::constants::constant;
 use cw_rules::cuttings::{Cutting, code_token, dropped_code, include_name, note_unless, plain};
 use cw_rules::parts::{Opened, Part, Start};
 use cw_rules::pending::Pending;
+use cw_rules::prefixes::prefix_size;
 use cw_rules::signs::sign_at;
 
 /// The byte before a place.
@@ -313,14 +315,19 @@ fn start_at(bar_ends: bool, text: &[u8], at: usize) -> Start
     ensures code { CodeIs result (code_at (drop (at + 1) text.now)) }
 {
     let byte = text[at];
+    let bytes = from(text, at);
     let rest = from(text, at + 1);
+    let prefix = prefix_size(bytes);
+    if 0 < prefix {
+        return Start::Quoted(bytes[prefix]);
+    }
     if is_letter(byte) {
         return Start::Identifier;
     }
-    if is_constant(byte, from(text, at)) {
+    if is_constant(byte, bytes) {
         return Start::Constant;
     }
-    if is_quote(byte) {
+    if is_mark(byte) {
         return Start::Quoted(byte);
     }
     if byte == b'/' && begins(b'*', rest) {

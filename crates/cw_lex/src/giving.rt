@@ -10,8 +10,10 @@ ghost use Rattle.cw_rules.specs.Cuttings.{bytes_at, cut_of, IsCut};
 use crate::state::State;
 use crate::{Lexed, Tok, TokKind};
 use cw_base::{NoteKind, Span};
+use cw_rules::classes::from;
 use cw_rules::cuttings::{Cutting, string};
 use cw_rules::parts::Part;
+use cw_rules::prefixes::prefix_size;
 
 /// The token of this size at a place.
 pub(crate) fn token<'a>(
@@ -68,7 +70,8 @@ pub(crate) fn give_string<'a>(text: &'a [u8], state: &mut State, quote: u8) -> L
     ensures gives { Gives (coming text.now state.old) result (coming text.now state.new) }
     ensures ready { IsReady text.now state.new }
 {
-    let cut = string(text, state.at, TokKind::Quoted, 1, quote);
+    let opening = prefix_size(from(text, state.at)) + 1;
+    let cut = string(text, state.at, TokKind::Quoted, opening, quote);
     let token = token(
         text,
         state.at,

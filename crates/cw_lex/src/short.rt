@@ -5,13 +5,14 @@ ghost use Rattle.cw_rules.specs.Bytes.{begins, begins_by, is_in, is_letter};
 ghost use Rattle.cw_rules.specs.Tokens.{ends_at_bar};
 ghost use Rattle.cw_lex.specs.Coming.{where_of, coming, IsReady};
 ghost use Rattle.cw_lex.specs.Calm.{is_calm, IsCalm};
-ghost use Rattle.cw_lex.specs.Short.{IsShort, IsQuick, is_alone, is_lone, is_quote};
+ghost use Rattle.cw_lex.specs.Short.{IsShort, IsQuick, is_alone, is_lone};
 
 use crate::giving::token;
 use crate::state::State;
 use crate::{Lexed, TokKind};
-use cw_rules::classes::{Class, begins, from, is_digit, is_word, run};
+use cw_rules::classes::{Class, begins, from, is_digit, is_mark, is_word, run};
 use cw_rules::constants::constant;
+use cw_rules::prefixes::prefix_size;
 use cw_rules::signs::sign_at;
 
 /// An identifier, a constant or a sign that lets the C text go on as it does.
@@ -77,21 +78,24 @@ fn word(text: &[u8], state: &State) -> Option<Quick>
     if is_digit(text[state.at]) {
         return number(text, state).map(Quick::Short);
     }
-    Some(Quick::Short(identifier(text, state)))
+    identifier(text, state).map(Quick::Short)
 }
 
 #[inline(always)]
-fn identifier(text: &[u8], state: &State) -> Short
+fn identifier(text: &[u8], state: &State) -> Option<Short>
     requires calm { is_calm state.now.part state.now.comments ≡ true }
     requires place { state.now.at < length text.now }
     requires letter { is_letter (slice_index text.now state.now.at) ≡ true }
-    ensures { IsShort text.now (where_of state.now) state.now.at result }
+    ensures { IfSome result (IsShort text.now (where_of state.now) state.now.at) }
 {
-    let size = run(Class::Word, from(text, state.at));
-    Short {
-        kind: TokKind::Identifier,
-        size,
+    let bytes = from(text, state.at);
+    if 0 < prefix_size(bytes) {
+        return None;
     }
+    Some(Short {
+        kind: TokKind::Identifier,
+        size: run(Class::Word, bytes),
+    })
 }
 
 #[inline(always)]
@@ -144,7 +148,7 @@ fn seldom(text: &[u8], state: &State) -> Option<Quick>
     ensures { IfSome result (IsQuick text.now (where_of state.now) state.now.at) }
 {
     let byte = text[state.at];
-    if is_quote(byte) {
+    if is_mark(byte) {
         return Some(Quick::Quoted(byte));
     }
     if byte == b'|' {
@@ -180,14 +184,6 @@ fn ends_inner(state: &State, rest: &[u8]) -> bool
     ensures { result ≡ (ends_at_bar state.now.part state.now.comments && not (begins 124 rest.now)) }
 {
     state.ends_at_bar() && !begins(b'|', rest)
-}
-
-/// Whether the byte begins a string.
-#[inline(always)]
-pub(crate) fn is_quote(byte: u8) -> bool
-    ensures { result ≡ is_quote byte }
-{
-    byte == b'"' || byte == 39
 }
 
 // Whether the byte begins no token but signs, where it begins a sign and no include name is wanted.

@@ -1,6 +1,6 @@
 -- What the rules for tokens see of the bytes ahead, where an `@` or a bar stands that no token takes.
 use Rattle.std.proofs.Common.{◌≡◌, ℕ, zero, suc, ◌+◌, ◌≤◌, Bool, true, false, ◌&&◌, ◌||◌, not, ◌==◌, nat_lt, List, []}
-use Rattle.std.proofs.Common.{◌∷◌, ◌++◌, codes, length, take, drop, refl, sym, ap, ◌∙◌, arith}
+use Rattle.std.proofs.Common.{◌∷◌, ◌++◌, codes, length, slice_index, take, drop, refl, sym, ap, ◌∙◌, arith}
 use Rattle.std.specs.Prelude.{if◌then◌else◌}
 use Rattle.std.specs.List.{list_any}
 use Rattle.cw_rules.specs.declared.classes.Class.{Class}
@@ -8,18 +8,21 @@ use Rattle.cw_rules.specs.declared.classes.Class.TheVariants as classes
 use Rattle.cw_rules.specs.declared.signs.Sign.{Sign}
 use Rattle.cw_rules.specs.declared.signs.Sign.TheVariants as signs
 use Rattle.cw_rules.specs.declared.parts.Start.TheVariants as start
-use Rattle.cw_rules.specs.Bytes.{quote, apostrophe, star, plus, minus, slash, dot, digit_0, equals, at_sign}
+use Rattle.cw_rules.specs.Bytes.{apostrophe, is_mark, star, plus, minus, slash, dot, digit_0, equals, at_sign}
 use Rattle.cw_base.specs.Text.{bar}
 use Rattle.cw_rules.specs.Bytes.{left_paren, right_paren, comma, run, is_in, is_letter, is_letter_of, begins, begins_by}
 use Rattle.cw_rules.specs.Bytes.{begins_with}
 use Rattle.cw_rules.specs.Signs.{all_signs, spelling, longer, longest}
-use Rattle.cw_rules.specs.Constants.{hexadecimal, fraction, exponent_sign, exponent, mantissa, decimal, number}
-use Rattle.cw_rules.specs.Constants.{constant}
+use Rattle.cw_rules.specs.Constants.{more_digits, digits, fraction, exponent_sign, exponent, mantissa, scaled}
+use Rattle.cw_rules.specs.Constants.{is_prefixed, hexadecimal, binary, decimal, number, constant}
+use Rattle.cw_rules.specs.Prefixes.{is_prefix_letter, prefix_size}
 use Rattle.cw_rules.specs.Codes.{code_at, begins_section}
 use Rattle.cw_rules.specs.Tokens.{start_of, sign_or_other, head_sign_size, is_signed, behind_white, name_follows}
 use Rattle.cw_rules.specs.Tokens.{is_parameter, parameter_follows, depth_size, is_include}
-use Rattle.cw_rules.proofs.Sizes.{run-le, mantissa-le, number-le}
+use Rattle.cw_rules.proofs.Sizes.{run-le, digits-le, mantissa-le, number-le}
 use Rattle.cw_rules.proofs.Choices.{if-same, and-none, or-first, or-second}
+use Rattle.cw_rules.proofs.StringPrefixes.{prefix-below}
+use Rattle.std.proofs.lemmas.List.{get_or_append_left}
 
 pub drop-same : (n : ℕ) (bs more : List ℕ) → n ≤ length bs → drop n (bs ++ more) ≡ drop n bs ++ more
 drop-same zero bs more h = refl
@@ -86,28 +89,6 @@ pub section-before : (s : Stop) (more : List ℕ) → begins_section (byte_of s 
 section-before At more = refl
 section-before Bar more = refl
 
-no-hexadecimal : (s : Stop) (more : List ℕ) → hexadecimal (byte_of s ∷ more) ≡ 0
-no-hexadecimal At more = refl
-no-hexadecimal Bar more = refl
-
-no-x : (s : Stop) (b : ℕ) (more : List ℕ) → hexadecimal (b ∷ byte_of s ∷ more) ≡ hexadecimal (b ∷ [])
-no-x s b more =
-    let none = ap (λ t. b == digit_0 && t) (of-both (is_letter_of 120) false s refl refl) ∙ and-none (b == digit_0) in
-    ap (λ t. if t && nat_lt 0 (run classes.HexDigit more) then 2 + run classes.HexDigit more else 0) none
-    ∙ sym (ap (λ t. if t && nat_lt 0 0 then 2 + 0 else 0) (and-none (b == digit_0)))
-
-no-fraction : (s : Stop) (behind : Bool) (more : List ℕ) → fraction behind (byte_of s ∷ more) ≡ 0
-no-fraction At behind more = refl
-no-fraction Bar behind more = refl
-
-no-sign : (s : Stop) (more : List ℕ) → exponent_sign (byte_of s ∷ more) ≡ 0
-no-sign At more = refl
-no-sign Bar more = refl
-
-no-exponent : (s : Stop) (more : List ℕ) → exponent (byte_of s ∷ more) ≡ 0
-no-exponent At more = refl
-no-exponent Bar more = refl
-
 -- ## Signs
 
 no-at : (sign : Sign) → list_any (λ w. 64 == w) (spelling sign) ≡ false
@@ -162,20 +143,39 @@ module _ (s : Stop) (more : List ℕ) where
 
   -- ## Constants
 
-  hexadecimal-same : (bs : List ℕ) → hexadecimal (bs ++ byte_of s ∷ more) ≡ hexadecimal bs
-  hexadecimal-same [] = no-hexadecimal s more
-  hexadecimal-same (b ∷ []) = no-x s b more
-  hexadecimal-same (b ∷ c ∷ bs) = ap (λ n. if (b == digit_0 && is_letter_of 120 c) && nat_lt 0 n then 2 + n else 0)
-      (run-same classes.HexDigit bs refl refl)
+  -- A run of digits goes no further where its class has neither byte.
+  more_digits-same : (class : Class) (bs : List ℕ) → is_in class 64 ≡ false → is_in class 124 ≡ false
+      → more_digits class (bs ++ byte_of s ∷ more) ≡ more_digits class bs
+  more_digits-same class [] g h =
+      let digit = of-both (is_in class) false s g h in
+      let mark = of-both (λ b. b == apostrophe) false s refl refl in
+      λ i. elim (digit i || (mark i && begins_by (is_in class) more)) [
+        | true ↦ 1 + more_digits class more
+        | false ↦ 0
+      ]
+  more_digits-same class (b ∷ bs) g h =
+      λ i. elim (is_in class b || (b == apostrophe && begins_by-same (is_in class) bs g h i)) [
+        | true ↦ 1 + more_digits-same class bs g h i
+        | false ↦ 0
+      ]
 
-  fraction-same : (behind : Bool) (bs : List ℕ) → fraction behind (bs ++ byte_of s ∷ more) ≡ fraction behind bs
-  fraction-same behind [] = no-fraction s behind more
-  fraction-same behind (b ∷ bs) = ap (λ n. if b == dot && (behind || nat_lt 0 n) then 1 + n else 0)
-      (run-same classes.Digit bs refl refl)
+  digits-same : (class : Class) (bs : List ℕ) → is_in class 64 ≡ false → is_in class 124 ≡ false
+      → digits class (bs ++ byte_of s ∷ more) ≡ digits class bs
+  digits-same class bs g h =
+      λ i. if begins_by-same (is_in class) bs g h i then more_digits-same class bs g h i else 0
+
+  fraction-same : (class : Class) (behind : Bool) (bs : List ℕ) → is_in class 64 ≡ false → is_in class 124 ≡ false
+      → fraction class behind (bs ++ byte_of s ∷ more) ≡ fraction class behind bs
+  fraction-same class behind [] g h =
+      let size = digits class more in
+      ap (λ t. if t && (not (begins dot more) && (behind || nat_lt 0 size)) then 1 + size else 0)
+      (of-both (λ b. b == dot) false s refl refl)
+  fraction-same class behind (b ∷ bs) g h =
+      let size = digits-same class bs g h in
+      λ i. if b == dot && (not (begins-same dot bs refl refl i) && (behind || nat_lt 0 (size i))) then 1 + size i else 0
 
   sign-same : (bs : List ℕ) → exponent_sign (bs ++ byte_of s ∷ more) ≡ exponent_sign bs
-  sign-same [] = no-sign s more
-  sign-same (b ∷ bs) = refl
+  sign-same bs = λ i. if begins-same plus bs refl refl i || begins-same minus bs refl refl i then 1 else 0
 
   sign-le : (bs : List ℕ) → exponent_sign bs ≤ length bs
   sign-le [] = omega arith
@@ -185,36 +185,75 @@ module _ (s : Stop) (more : List ℕ) where
       by true = omega arith
       by false = omega arith
 
-  exponent-same : (bs : List ℕ) → exponent (bs ++ byte_of s ∷ more) ≡ exponent bs
-  exponent-same [] = no-exponent s more
-  exponent-same (b ∷ bs) =
+  exponent-same : (letter : ℕ) (bs : List ℕ) → is_letter_of letter 64 ≡ false → is_letter_of letter 124 ≡ false
+      → exponent letter (bs ++ byte_of s ∷ more) ≡ exponent letter bs
+  exponent-same letter [] g h =
+      let opening = 1 + exponent_sign more in
+      let size = digits classes.Digit (drop opening (byte_of s ∷ more)) in
+      ap (λ t. if t && nat_lt 0 size then opening + size else 0) (of-both (is_letter_of letter) false s g h)
+  exponent-same letter (b ∷ bs) g h =
       let size : 1 + exponent_sign bs ≤ suc (length bs) = omega (arith, sign-le bs) in
       let e = sign-same bs in
-      let digits = ap (run classes.Digit) (drop-same (1 + exponent_sign bs) (b ∷ bs) (byte_of s ∷ more) size)
-      ∙ run-same classes.Digit (drop (1 + exponent_sign bs) (b ∷ bs)) refl refl in
-      (λ i. if is_letter_of 101 b && nat_lt 0 (run classes.Digit (drop (1 + e i) (b ∷ (bs ++ byte_of s ∷ more)))) then
-      (1 + e i) + run classes.Digit (drop (1 + e i) (b ∷ (bs ++ byte_of s ∷ more))) else 0)
-      ∙ ap (λ n. if is_letter_of 101 b && nat_lt 0 n then (1 + exponent_sign bs) + n else 0) digits
+      let rest = ap (digits classes.Digit) (drop-same (1 + exponent_sign bs) (b ∷ bs) (byte_of s ∷ more) size)
+      ∙ digits-same classes.Digit (drop (1 + exponent_sign bs) (b ∷ bs)) refl refl in
+      (λ i. if is_letter_of letter b && nat_lt 0 (digits classes.Digit (drop (1 + e i) (b ∷ (bs ++ byte_of s ∷ more))))
+      then (1 + e i) + digits classes.Digit (drop (1 + e i) (b ∷ (bs ++ byte_of s ∷ more))) else 0)
+      ∙ ap (λ n. if is_letter_of letter b && nat_lt 0 n then (1 + exponent_sign bs) + n else 0) rest
 
-  mantissa-same : (bs : List ℕ) → mantissa (bs ++ byte_of s ∷ more) ≡ mantissa bs
-  mantissa-same bs =
-      let d = run-same classes.Digit bs refl refl in
-      let rest = ap (fraction (nat_lt 0 (run classes.Digit bs))) (drop-same (run classes.Digit bs) bs (byte_of s ∷ more)
-      (run-le classes.Digit bs)) ∙ fraction-same (nat_lt 0 (run classes.Digit bs))
-      (drop (run classes.Digit bs) bs) in
-      (λ i. d i + fraction (nat_lt 0 (d i)) (drop (d i) (bs ++ byte_of s ∷ more)))
-      ∙ ap (λ n. run classes.Digit bs + n) rest
+  mantissa-same : (class : Class) (bs : List ℕ) → is_in class 64 ≡ false → is_in class 124 ≡ false
+      → mantissa class (bs ++ byte_of s ∷ more) ≡ mantissa class bs
+  mantissa-same class bs g h =
+      let d = digits-same class bs g h in
+      let rest = ap (fraction class (nat_lt 0 (digits class bs))) (drop-same (digits class bs) bs (byte_of s ∷ more)
+      (digits-le class bs)) ∙ fraction-same class (nat_lt 0 (digits class bs)) (drop (digits class bs) bs) g h in
+      (λ i. d i + fraction class (nat_lt 0 (d i)) (drop (d i) (bs ++ byte_of s ∷ more)))
+      ∙ ap (λ n. digits class bs + n) rest
+
+  scaled-same : (class : Class) (letter : ℕ) (bs : List ℕ) → is_in class 64 ≡ false → is_in class 124 ≡ false
+      → is_letter_of letter 64 ≡ false → is_letter_of letter 124 ≡ false
+      → scaled class letter (bs ++ byte_of s ∷ more) ≡ scaled class letter bs
+  scaled-same class letter bs g h k l =
+      let m = mantissa-same class bs g h in
+      let rest = ap (exponent letter) (drop-same (mantissa class bs) bs (byte_of s ∷ more) (mantissa-le class bs))
+      ∙ exponent-same letter (drop (mantissa class bs) bs) k l in
+      (λ i. if nat_lt 0 (m i) then m i + exponent letter (drop (m i) (bs ++ byte_of s ∷ more)) else 0)
+      ∙ ap (λ n. if nat_lt 0 (mantissa class bs) then mantissa class bs + n else 0) rest
+
+  -- a number behind `0` and a letter
+  prefixed-same : (letter : ℕ) (class : Class) (size : List ℕ → ℕ) (bs : List ℕ)
+      → is_letter_of letter 64 ≡ false → is_letter_of letter 124 ≡ false
+      → is_in class 64 ≡ false → is_in class 124 ≡ false
+      → ((cs : List ℕ) → size (cs ++ byte_of s ∷ more) ≡ size cs)
+      → (if is_prefixed letter class (bs ++ byte_of s ∷ more) then 2 + size (drop 2 (bs ++ byte_of s ∷ more)) else 0)
+      ≡ (if is_prefixed letter class bs then 2 + size (drop 2 bs) else 0)
+  prefixed-same letter class size [] k l g h same =
+      let all = byte_of s ∷ more in
+      let rest = begins_by (is_letter_of letter) more && begins_by (is_in class) (drop 1 more) in
+      ap (λ t. if t && rest then 2 + size (drop 2 all) else 0) (of-both (λ b. b == digit_0) false s refl refl)
+  prefixed-same letter class size (b ∷ []) k l g h same =
+      let none = and-none (b == digit_0) in
+      ap (λ t. if b == digit_0 && (t && begins_by (is_in class) more) then 2 + size more else 0)
+      (of-both (is_letter_of letter) false s k l)
+      ∙ ap (λ t. if t then 2 + size more else 0) none
+      ∙ sym (ap (λ t. if t then 2 + size [] else 0) none)
+  prefixed-same letter class size (b ∷ c ∷ bs) k l g h same =
+      λ i. if b == digit_0 && (is_letter_of letter c && begins_by-same (is_in class) bs g h i) then 2 + same bs i else 0
+
+  hexadecimal-same : (bs : List ℕ) → hexadecimal (bs ++ byte_of s ∷ more) ≡ hexadecimal bs
+  hexadecimal-same bs = prefixed-same 120 classes.HexDigit (scaled classes.HexDigit 112) bs refl refl refl refl
+      (λ cs. scaled-same classes.HexDigit 112 cs refl refl refl refl)
+
+  binary-same : (bs : List ℕ) → binary (bs ++ byte_of s ∷ more) ≡ binary bs
+  binary-same bs = prefixed-same 98 classes.BinaryDigit (digits classes.BinaryDigit) bs refl refl refl refl
+      (λ cs. digits-same classes.BinaryDigit cs refl refl)
 
   decimal-same : (bs : List ℕ) → decimal (bs ++ byte_of s ∷ more) ≡ decimal bs
-  decimal-same bs =
-      let m = mantissa-same bs in
-      let rest = ap exponent (drop-same (mantissa bs) bs (byte_of s ∷ more) (mantissa-le bs))
-      ∙ exponent-same (drop (mantissa bs) bs) in
-      (λ i. if nat_lt 0 (m i) then m i + exponent (drop (m i) (bs ++ byte_of s ∷ more)) else 0)
-      ∙ ap (λ n. if nat_lt 0 (mantissa bs) then mantissa bs + n else 0) rest
+  decimal-same bs = scaled-same classes.Digit 101 bs refl refl refl refl
 
   number-same : (bs : List ℕ) → number (bs ++ byte_of s ∷ more) ≡ number bs
-  number-same bs = λ i. if nat_lt 0 (hexadecimal-same bs i) then hexadecimal-same bs i else decimal-same bs i
+  number-same bs =
+      λ i. if nat_lt 0 (hexadecimal-same bs i) then hexadecimal-same bs i
+      else (if nat_lt 0 (binary-same bs i) then binary-same bs i else decimal-same bs i)
 
   pub constant-same : (bs : List ℕ) → constant (bs ++ byte_of s ∷ more) ≡ constant bs
   constant-same bs =
@@ -224,16 +263,43 @@ module _ (s : Stop) (more : List ℕ) where
       (λ i. if nat_lt 0 (n i) then n i + run classes.Suffix (drop (n i) (bs ++ byte_of s ∷ more)) else 0)
       ∙ ap (λ k. if nat_lt 0 (number bs) then number bs + k else 0) rest
 
+  -- ## Prefixes of strings
+
+  pub prefix-same : (byte : ℕ) (bs : List ℕ) → prefix_size (byte ∷ (bs ++ byte_of s ∷ more)) ≡ prefix_size (byte ∷ bs)
+  prefix-same byte [] =
+      let mark = of-both is_mark false s refl refl in
+      let eight = of-both (λ b. b == 56) false s refl refl in
+      let none = and-none (byte == 117) in
+      (λ i. if is_prefix_letter byte && mark i then 1
+      else (if (byte == 117 && (eight i && true)) && begins_by is_mark more then 2 else 0))
+      ∙ (λ i. if is_prefix_letter byte && false then 1
+      else (if none i && begins_by is_mark more then 2 else 0))
+      ∙ sym (λ i. if is_prefix_letter byte && false then 1 else (if none i && false then 2 else 0))
+  prefix-same byte (b ∷ bs) =
+      ap (λ t. if is_prefix_letter byte && is_mark b then 1
+      else (if (byte == 117 && (b == 56 && true)) && t then 2 else 0)) (begins_by-same is_mark bs refl refl)
+
+  -- the byte behind the prefix
+  mark-same : (byte : ℕ) (bs : List ℕ)
+      → slice_index (byte ∷ (bs ++ byte_of s ∷ more)) (prefix_size (byte ∷ (bs ++ byte_of s ∷ more)))
+      ≡ slice_index (byte ∷ bs) (prefix_size (byte ∷ bs))
+  mark-same byte bs =
+      ap (slice_index (byte ∷ (bs ++ byte_of s ∷ more))) (prefix-same byte bs)
+      ∙ get_or_append_left (byte ∷ bs) (byte_of s ∷ more) 0 (prefix_size (byte ∷ bs))
+      (omega (arith, prefix-below byte bs))
+
   -- ## What begins at a byte
 
   pub start_of-same : (ends : Bool) (byte : ℕ) (bs : List ℕ) → IsApart s byte bs
       → ((byte == at_sign) ≡ true → code_at (bs ++ byte_of s ∷ more) ≡ code_at bs)
       → start_of ends byte (bs ++ byte_of s ∷ more) ≡ start_of ends byte bs
   start_of-same ends byte bs apart code =
-      if-same (is_letter byte) (is_letter byte) _ _ _ _ refl (λ e. refl)
+      if-same (nat_lt 0 (prefix_size (byte ∷ (bs ++ byte_of s ∷ more)))) (nat_lt 0 (prefix_size (byte ∷ bs))) _ _ _ _
+      (ap (nat_lt 0) (prefix-same byte bs)) (λ e. ap start.Quoted (mark-same byte bs))
+      (λ e. if-same (is_letter byte) (is_letter byte) _ _ _ _ refl (λ e. refl)
       (λ e. if-same (nat_lt 0 (constant (byte ∷ (bs ++ byte_of s ∷ more)))) (nat_lt 0 (constant (byte ∷ bs))) _ _ _ _
       (ap (nat_lt 0) (constant-same (byte ∷ bs))) (λ e. refl)
-      (λ e. if-same (byte == quote || byte == apostrophe) (byte == quote || byte == apostrophe) _ _ _ _ refl (λ e. refl)
+      (λ e. if-same (is_mark byte) (is_mark byte) _ _ _ _ refl (λ e. refl)
       (λ e. if-same (byte == slash && begins star (bs ++ byte_of s ∷ more)) (byte == slash && begins star bs) _ _ _ _
       (ap (λ t. byte == slash && t) (begins-same star bs refl refl)) (λ e. refl)
       (λ e. if-same (byte == slash && begins slash (bs ++ byte_of s ∷ more)) (byte == slash && begins slash bs) _ _ _ _
@@ -241,7 +307,7 @@ module _ (s : Stop) (more : List ℕ) where
       (λ e. if-same (byte == at_sign) (byte == at_sign) _ _ _ _ refl (λ e. ap start.Code (code e))
       (λ e. if-same (byte == bar && (ends && not (begins bar (bs ++ byte_of s ∷ more))))
       (byte == bar && (ends && not (begins bar bs))) _ _ _ _ (bar-same s more ends byte bs apart) (λ e. refl)
-      (λ e. ap sign_or_other (longest-same s more all_signs byte bs apart))))))))
+      (λ e. ap sign_or_other (longest-same s more all_signs byte bs apart)))))))))
 
   -- ## Heads and sections
 

@@ -2,7 +2,7 @@
 -- take.
 use Rattle.std.proofs.Common.{◌≡◌, ℕ, suc, ◌+◌, ◌-◌, ◌<◌, ◌≤◌, Bool, true, false, ◌&&◌, ◌||◌, not, ◌==◌, nat_lt, List}
 use Rattle.std.proofs.Common.{[], ◌∷◌, ◌++◌, Option, Some, None, length, take, drop, refl, sym, ap, subst, ◌∙◌, arith}
-use Rattle.std.proofs.Common.{◌⊎◌, inl, inr}
+use Rattle.std.proofs.Common.{◌⊎◌, inl, inr, slice_index, length-drop}
 use Rattle.std.specs.Prelude.{if◌then◌else◌}
 use Rattle.std.proofs.lemmas.Bool.{eqb-true}
 use Rattle.std.proofs.lemmas.List.{drop_all}
@@ -26,8 +26,10 @@ use Rattle.cw_rules.specs.declared.tokens.TokKind.{TokKind}
 use Rattle.cw_rules.specs.declared.tokens.TokKind.TheVariants as kinds
 use Rattle.cw_rules.specs.Bytes.{newline, quote, apostrophe, hash, star, slash, less, greater, at_sign, backslash}
 use Rattle.cw_base.specs.Text.{bar}
-use Rattle.cw_rules.specs.Bytes.{run, is_in, is_letter, begins}
+use Rattle.cw_rules.specs.Bytes.{run, is_in, is_letter, is_mark, begins}
 use Rattle.cw_rules.specs.Constants.{constant}
+use Rattle.cw_rules.specs.Prefixes.{prefix_size}
+use Rattle.cw_rules.proofs.StringPrefixes.{prefix-below, prefix-mark}
 use Rattle.cw_rules.specs.declared.signs.Sign.{Sign}
 use Rattle.cw_rules.specs.Signs.{all_signs, longest, spelling}
 use Rattle.cw_rules.specs.Codes.{code_at, has_control_text}
@@ -44,7 +46,7 @@ use Rattle.cw_rules.specs.Tokens.{ends_at_bar, code_text, in_text}
 use Rattle.cw_rules.proofs.Choices.{if-both}
 use Rattle.cw_rules.proofs.Sizes.{run-le}
 use Rattle.cw_rules.proofs.Ahead.{Stop, At, Bar, byte_of, of-both, IsApart, apart-on, drop-same, take-same, begins-same}
-use Rattle.cw_rules.proofs.Ahead.{run-same, constant-same, start_of-same, signed-same, include-same}
+use Rattle.cw_rules.proofs.Ahead.{run-same, constant-same, prefix-same, start_of-same, signed-same, include-same}
 use Rattle.cw_rules.proofs.BodiesAhead.{NoStop, IsFree, body-same, extent-same, all_notes-same}
 use Rattle.cw_rules.proofs.IncludeEnds.{greater-stops}
 
@@ -328,6 +330,17 @@ module _ (s : Stop) (more : List ℕ) (free : IsFree s more) where
     }) (take-same 2 (byte ∷ bs) (byte_of s ∷ more) (omega (arith, h)));
   }
 
+  -- a string, behind so many bytes that begin it
+  quoted-local : (opening q place : ℕ) (bs : List ℕ) → (byte_of s == q) ≡ false → opening ≤ length bs
+      → CutLocal (length bs) (string kinds.Quoted opening q place (bs ++ byte_of s ∷ more))
+      (string kinds.Quoted opening q place bs)
+  quoted-local opening q place bs n fits =
+      let i = at_start (bodies.Quoted q) (place + opening) in
+      subst (λ l. CutLocal (length bs) (string_of kinds.Quoted opening i l)
+      (string_of kinds.Quoted opening i (drop opening bs))) (sym (drop-same opening bs (byte_of s ∷ more) fits))
+      (string-local kinds.Quoted opening q i (drop opening bs) (length bs) refl n
+      (omega (arith, length-drop opening bs, fits)))
+
   -- what begins at a byte, where more than one byte is left or it is no code
   begun-local : (b : Start) (part : Part) (cs : List Opened) (place byte : ℕ) (bs : List ℕ) → QuoteIs s b
       → (is_code_start b ≡ true → 0 < length bs)
@@ -348,13 +361,16 @@ module _ (s : Stop) (more : List ℕ) (free : IsFree s more) where
       simple-local (in_hash_line part) _ place byte bs _ _
       (ap (plain kinds.Constant) (constant-same s more (byte ∷ bs)))
   begun-local (start.Quoted quoted) part cs place byte bs q k =
+      let whole = byte ∷ (bs ++ byte_of s ∷ more) in
+      let short = string kinds.Quoted (prefix_size (byte ∷ bs) + 1) quoted place (byte ∷ bs) in
       one-local (in_hash_line part) _ _ place byte bs
-      (string kinds.Quoted 1 quoted place (byte ∷ (bs ++ byte_of s ∷ more)))
-      (string kinds.Quoted 1 quoted place (byte ∷ bs))
+      (string kinds.Quoted (prefix_size whole + 1) quoted place whole) short
       (λ h. (
         refl,
-        (string-local kinds.Quoted 1 quoted (at_start (bodies.Quoted quoted) (place + 1)) bs
-            (suc (length bs)) refl q (omega arith)).same h,
+        (subst (λ n. CutLocal (suc (length bs)) (string kinds.Quoted (n + 1) quoted place whole) short)
+            (sym (prefix-same s more byte bs))
+            (quoted-local (prefix_size (byte ∷ bs) + 1) quoted place (byte ∷ bs) q
+            (omega (arith, prefix-below byte bs)))).same h,
       ))
   begun-local start.LongComment part cs place byte bs q k = begin-local true (record { part = part; comments = cs })
       place byte bs
@@ -498,23 +514,25 @@ module _ (s : Stop) (more : List ℕ) (free : IsFree s more) where
 
   begun-quote : (ends : Bool) (byte : ℕ) (bs : List ℕ) → Quotes s (start_of ends byte bs)
   begun-quote ends byte bs =
-      if-both (Quotes s) (is_letter byte) _ _ (λ h. record { is = tt })
+      if-both (Quotes s) (nat_lt 0 (prefix_size (byte ∷ bs))) _ _
+      (λ h. record { is = marked (slice_index (byte ∷ bs) (prefix_size (byte ∷ bs))) (prefix-mark byte bs h) })
+      (λ h. if-both (Quotes s) (is_letter byte) _ _ (λ h. record { is = tt })
       (λ h. if-both (Quotes s) (nat_lt 0 (constant (byte ∷ bs))) _ _ (λ h. record { is = tt })
-      (λ h. if-both (Quotes s) (byte == quote || byte == apostrophe) _ _
-      (λ h. record { is = quoted (byte == quote) refl h })
+      (λ h. if-both (Quotes s) (is_mark byte) _ _ (λ h. record { is = marked byte h })
       (λ h. if-both (Quotes s) (byte == slash && begins star bs) _ _ (λ h. record { is = tt })
       (λ h. if-both (Quotes s) (byte == slash && begins slash bs) _ _ (λ h. record { is = tt })
       (λ h. if-both (Quotes s) (byte == at_sign) _ _ (λ h. record { is = tt })
       (λ h. if-both (Quotes s) (byte == bar && (ends && not (begins bar bs))) _ _ (λ h. record { is = tt })
-      (λ h. record { is = sign-quote (longest all_signs (byte ∷ bs)) })))))))
+      (λ h. record { is = sign-quote (longest all_signs (byte ∷ bs)) }))))))))
     where
-      quoted : (t : Bool) → (byte == quote) ≡ t → (byte == quote || byte == apostrophe) ≡ true → (byte_of s == byte)
-          ≡ false
-      quoted true e h = ap (λ b. byte_of s == b) (eqb-true byte quote e)
-          ∙ of-both (λ b. b == quote) false s refl refl
-      quoted false e h = ap (λ b. byte_of s == b)
-          (eqb-true byte apostrophe (ap (λ t. t || byte == apostrophe) (sym e) ∙ h))
+      quoted : (b : ℕ) (t : Bool) → (b == quote) ≡ t → is_mark b ≡ true → (byte_of s == b) ≡ false
+      quoted b true e h = ap (λ b. byte_of s == b) (eqb-true b quote e) ∙ of-both (λ b. b == quote) false s refl refl
+      quoted b false e h = ap (λ b. byte_of s == b)
+          (eqb-true b apostrophe (ap (λ t. t || b == apostrophe) (sym e) ∙ h))
           ∙ of-both (λ b. b == apostrophe) false s refl refl
+
+      marked : (b : ℕ) → is_mark b ≡ true → (byte_of s == b) ≡ false
+      marked b h = quoted b (b == quote) refl h
 
       sign-quote : (o : Option Sign) → QuoteIs s (sign_or_other o)
       sign-quote None = tt
@@ -536,14 +554,15 @@ module _ (s : Stop) (more : List ℕ) (free : IsFree s more) where
     where
       no-code : (byte == at_sign) ≡ false → NoCode (start_of ends byte [])
       no-code e =
-          if-both NoCode (is_letter byte) _ _ (λ h. record { is = refl })
+          if-both NoCode (nat_lt 0 (prefix_size (byte ∷ []))) _ _ (λ h. record { is = refl })
+          (λ h. if-both NoCode (is_letter byte) _ _ (λ h. record { is = refl })
           (λ h. if-both NoCode (nat_lt 0 (constant (byte ∷ []))) _ _ (λ h. record { is = refl })
-          (λ h. if-both NoCode (byte == quote || byte == apostrophe) _ _ (λ h. record { is = refl })
+          (λ h. if-both NoCode (is_mark byte) _ _ (λ h. record { is = refl })
           (λ h. if-both NoCode (byte == slash && begins star []) _ _ (λ h. record { is = refl })
           (λ h. if-both NoCode (byte == slash && begins slash []) _ _ (λ h. record { is = refl })
           (λ h. if-both NoCode (byte == at_sign) _ _ (λ h. absurd (let k : true ≡ false = sym h ∙ e in cc))
           (λ h. if-both NoCode (byte == bar && (ends && not (begins bar []))) _ _ (λ h. record { is = refl })
-          (λ h. record { is = sign-no-code (longest all_signs (byte ∷ [])) })))))))
+          (λ h. record { is = sign-no-code (longest all_signs (byte ∷ [])) }))))))))
 
       by : (t : Bool) → (byte == at_sign) ≡ t → IsApart s byte []
           ⊎ Local 0 (in_code (start_of ends byte (byte_of s ∷ more)) (standing part cs) place (byte ∷ byte_of s ∷ more))

@@ -1,5 +1,5 @@
 -- What begins at a place of a text tells the code with which a part of a section begins there.
-use Rattle.std.proofs.Common.{◌≡◌, ℕ, Bool, true, false, ◌&&◌, ◌||◌, not, ◌==◌, nat_lt, List, [], ◌∷◌, ◌++◌, length}
+use Rattle.std.proofs.Common.{◌≡◌, ℕ, ◌+◌, Bool, true, false, ◌&&◌, not, ◌==◌, nat_lt, List, [], ◌∷◌, ◌++◌, length}
 use Rattle.std.proofs.Common.{drop, Option, Some, None, refl, sym, ap, ◌∙◌, append_assoc}
 use Rattle.std.specs.Prelude.{if◌then◌else◌}
 use Rattle.std.proofs.lemmas.Bool.{eqb-true}
@@ -22,9 +22,9 @@ use Rattle.cw_rules.specs.declared.tokens.TokKind.TheVariants as kinds
 use Rattle.cw_rules.specs.Answers.{Answer, Token, Begin, Finish, Note, Where, Cut, Found, before, note_answers, plain}
 use Rattle.cw_rules.specs.Answers.{dropped, has_sign, is_head_sign}
 use Rattle.cw_rules.specs.Bodies.{one_note, note_unless}
-use Rattle.cw_rules.specs.Bytes.{newline, quote, hash, apostrophe, star, slash, less, at_sign, backslash, comma}
+use Rattle.cw_rules.specs.Bytes.{newline, hash, star, slash, less, at_sign, backslash, comma}
 use Rattle.cw_base.specs.Text.{bar}
-use Rattle.cw_rules.specs.Bytes.{right_paren, left_paren, run, begins, is_letter, is_in}
+use Rattle.cw_rules.specs.Bytes.{right_paren, left_paren, run, begins, is_letter, is_mark, is_in}
 use Rattle.cw_rules.specs.Codes.{code_at, has_control_text, effect_in_limbo, effect_in_tex}
 use Rattle.cw_rules.specs.Tokens.{is_head_part, one, skipped_byte, dropped_code, identifier, string, include_name}
 use Rattle.cw_rules.specs.Tokens.{sign_or_other, passed, moved, in_hash_line, ends_at_bar, line_end, comment_end}
@@ -35,6 +35,7 @@ use Rattle.cw_rules.specs.Tokens.{is_head, is_space, takes_hash_line, behind_inc
 use Rattle.cw_rules.specs.Tokens.{name_follows, macro_name, parameter_follows, parameter, format_name, behind_format}
 use Rattle.cw_rules.specs.Tokens.{behind_head}
 use Rattle.cw_rules.specs.Constants.{constant}
+use Rattle.cw_rules.specs.Prefixes.{prefix_size}
 use Rattle.cw_rules.specs.Signs.{all_signs, longest, spelling}
 use Rattle.cw_rules.proofs.Choices.{if-both}
 
@@ -236,15 +237,16 @@ sign-starts byte bytes (Some s) = tt
 
 starts : (ends : Bool) (byte : ℕ) (bytes : List ℕ) → Starts byte bytes (start_of ends byte bytes)
 starts ends byte bytes =
-    if-both (Starts byte bytes) (is_letter byte) _ _ (λ e. record { is = tt })
+    if-both (Starts byte bytes) (nat_lt 0 (prefix_size (byte ∷ bytes))) _ _ (λ e. record { is = tt })
+    (λ e. if-both (Starts byte bytes) (is_letter byte) _ _ (λ e. record { is = tt })
     (λ e. if-both (Starts byte bytes) (nat_lt 0 (constant (byte ∷ bytes))) _ _ (λ e. record { is = tt })
-    (λ e. if-both (Starts byte bytes) (byte == quote || byte == apostrophe) _ _ (λ e. record { is = tt })
+    (λ e. if-both (Starts byte bytes) (is_mark byte) _ _ (λ e. record { is = tt })
     (λ e. if-both (Starts byte bytes) (byte == slash && begins star bytes) _ _ (λ e. record { is = tt })
     (λ e. if-both (Starts byte bytes) (byte == slash && begins slash bytes) _ _ (λ e. record { is = tt })
     (λ e. if-both (Starts byte bytes) (byte == at_sign) _ _ (λ e. record { is = (eqb-true byte at_sign e, refl) })
     (λ e. if-both (Starts byte bytes) (byte == bar && (ends && not (begins bar bytes))) start.EndOfInner
     (sign_or_other (longest all_signs (byte ∷ bytes))) (λ e. record { is = tt })
-    (λ e. record { is = sign-starts byte bytes (longest all_signs (byte ∷ bytes)) })))))))
+    (λ e. record { is = sign-starts byte bytes (longest all_signs (byte ∷ bytes)) }))))))))
 
 in-code-tells : (s : Start) (w : Where) (place byte : ℕ) (bytes shown : List ℕ) → StartsCode byte bytes s
     → Tells w byte bytes (in_code s w place shown)
@@ -253,7 +255,8 @@ in-code-tells start.Identifier w place byte bytes shown h = other-tells w byte b
 in-code-tells start.Constant w place byte bytes shown h = other-tells w byte bytes (in_hash_line w.part)
     (moved w (passed w.part)) place shown (plain kinds.Constant (constant shown)) refl refl (passed-limbo w.part)
 in-code-tells (start.Quoted q) w place byte bytes shown h = other-tells w byte bytes (in_hash_line w.part)
-    (moved w (passed w.part)) place shown (string kinds.Quoted 1 q place shown) refl refl (passed-limbo w.part)
+    (moved w (passed w.part)) place shown (string kinds.Quoted (prefix_size shown + 1) q place shown) refl refl
+    (passed-limbo w.part)
 in-code-tells start.LongComment w place byte bytes shown h =
     record { code = λ o. absurd cc; limbo = passed-limbo w.part; sign = λ k rest r. refl }
 in-code-tells start.ShortComment w place byte bytes shown h =

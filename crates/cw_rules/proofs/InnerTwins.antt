@@ -10,10 +10,11 @@ use Rattle.cw_rules.specs.declared.parts.Part.TheVariants as parts
 use Rattle.cw_rules.specs.declared.parts.Opened.{Opened}
 use Rattle.cw_rules.specs.declared.parts.Start.{Start}
 use Rattle.cw_rules.specs.declared.parts.Start.TheVariants as start
-use Rattle.cw_rules.specs.Bytes.{newline, quote, apostrophe, hash, star, slash, less, at_sign, is_in, is_letter}
+use Rattle.cw_rules.specs.Bytes.{newline, hash, star, slash, less, at_sign, is_in, is_letter}
 use Rattle.cw_base.specs.Text.{bar}
-use Rattle.cw_rules.specs.Bytes.{begins}
+use Rattle.cw_rules.specs.Bytes.{begins, is_mark}
 use Rattle.cw_rules.specs.Constants.{constant}
+use Rattle.cw_rules.specs.Prefixes.{prefix_size}
 use Rattle.cw_rules.specs.Signs.{all_signs, longest}
 use Rattle.cw_rules.specs.Codes.{begins_section, effect_in_c}
 use Rattle.cw_rules.specs.Answers.{Answer, Where, Found, before}
@@ -95,13 +96,14 @@ if-starts false a b c s = s
 
 starts : (byte : ℕ) (bs : List ℕ) → Starts (start_of true byte bs) (start_of false byte bs)
 starts byte bs =
-    if-starts (is_letter byte) _ _ _
+    if-starts (nat_lt 0 (prefix_size (byte ∷ bs))) _ _ _
+    (if-starts (is_letter byte) _ _ _
     (if-starts (nat_lt 0 (constant (byte ∷ bs))) _ _ _
-    (if-starts (byte == quote || byte == apostrophe) _ _ _
+    (if-starts (is_mark byte) _ _ _
     (if-starts (byte == slash && begins star bs) _ _ _
     (if-starts (byte == slash && begins slash bs) _ _ _
     (if-starts (byte == at_sign) _ _ _
-    (ends (byte == bar) (begins bar bs)))))))
+    (ends (byte == bar) (begins bar bs))))))))
   where
     ends : (a b : Bool) → Starts (if a && (true && not b) then start.EndOfInner else sign_or_other
         (longest all_signs (byte ∷ bs))) (if a && (false && not b) then start.EndOfInner else sign_or_other

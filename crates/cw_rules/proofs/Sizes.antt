@@ -1,5 +1,6 @@
 -- The rules take no more bytes than there are.
-use Rattle.std.proofs.Common.{◌≡◌, ℕ, suc, ◌+◌, ◌-◌, ◌<◌, ◌≤◌, Bool, true, false, true≢false, ◌&&◌, ◌||◌, ◌==◌, nat_lt}
+use Rattle.std.proofs.Common.{◌≡◌, ℕ, suc, ◌+◌, ◌-◌, ◌<◌, ◌≤◌, Bool, true, false, true≢false, ◌&&◌, ◌||◌, not, ◌==◌}
+use Rattle.std.proofs.Common.{nat_lt}
 use Rattle.std.proofs.Common.{List, [], ◌∷◌, Option, Some, None, length, drop, refl, sym, arith, if◌then◌else◌}
 use Rattle.std.proofs.Common.{length-drop}
 use Rattle.std.proofs.lemmas.Bool.{ltb-true}
@@ -15,8 +16,9 @@ use Rattle.cw_rules.specs.declared.tokens.TokKind.TheVariants as kinds
 use Rattle.cw_rules.specs.Bytes.{star, apostrophe, greater, dot, digit_0, run, is_in, is_letter_of, begins, begins_by}
 use Rattle.cw_rules.specs.Bytes.{begins_with}
 use Rattle.cw_rules.specs.Signs.{spelling, longer, longest}
-use Rattle.cw_rules.specs.Constants.{hexadecimal, fraction, exponent_sign, exponent, mantissa, decimal, number}
-use Rattle.cw_rules.specs.Constants.{constant}
+use Rattle.cw_rules.specs.Constants as constants
+use Rattle.cw_rules.specs.Constants.{more_digits, digits, fraction, exponent_sign, exponent, mantissa, scaled}
+use Rattle.cw_rules.specs.Constants.{is_prefixed, hexadecimal, binary, decimal, number, constant}
 use Rattle.cw_rules.specs.Codes.{has_control_text}
 use Rattle.cw_rules.specs.Bodies.{at_start, goes_on, stepped, ended, closing_bytes, extent}
 use Rattle.cw_rules.specs.Answers.{Cut}
@@ -54,58 +56,97 @@ run-drop-le class n bytes = omega (arith, run-le class (drop n bytes), length-dr
 
 -- ## Constants
 
-hexadecimal-le : (bytes : List ℕ) → hexadecimal bytes ≤ length bytes
-hexadecimal-le bytes =
-    let digits = run classes.HexDigit (drop 2 bytes) in
-    let begun = begins digit_0 bytes && begins_by (is_letter_of 120) (drop 1 bytes) in
-    either-size (begun && nat_lt 0 digits) (2 + digits) 0 (length bytes)
-    (λ h. omega (arith, run-drop-le classes.HexDigit 2 bytes, ltb-true 0 digits (both-right begun (nat_lt 0 digits) h)))
-    (λ h. omega arith)
+more_digits-le : (class : Class) (bytes : List ℕ) → more_digits class bytes ≤ length bytes
+more_digits-le class [] = omega arith
+more_digits-le class (b ∷ bs) = by (constants.goes_on class b bs) (more_digits-le class bs)
+  where
+    by : (t : Bool) → more_digits class bs ≤ length bs
+        → (elim t [ true ↦ 1 + more_digits class bs | false ↦ 0 ]) ≤ suc (length bs)
+    by true h = omega arith
+    by false h = omega arith
 
-fraction-le : (behind_digit : Bool) (bytes : List ℕ) → fraction behind_digit bytes ≤ length bytes
-fraction-le behind_digit bytes =
-    let digits = run classes.Digit (drop 1 bytes) in
-    either-size (begins dot bytes && (behind_digit || nat_lt 0 digits)) (1 + digits) 0 (length bytes)
+pub digits-le : (class : Class) (bytes : List ℕ) → digits class bytes ≤ length bytes
+digits-le class bytes = either-size (begins_by (is_in class) bytes) (more_digits class bytes) 0 (length bytes)
+    (λ h. more_digits-le class bytes) (λ h. omega arith)
+
+digits-drop-le : (class : Class) (n : ℕ) (bytes : List ℕ) → digits class (drop n bytes) ≤ length bytes - n
+digits-drop-le class n bytes = omega (arith, digits-le class (drop n bytes), length-drop n bytes)
+
+fraction-le : (class : Class) (behind_digit : Bool) (bytes : List ℕ) → fraction class behind_digit bytes ≤ length bytes
+fraction-le class behind_digit bytes =
+    let size = digits class (drop 1 bytes) in
+    let alone = not (begins dot (drop 1 bytes)) && (behind_digit || nat_lt 0 size) in
+    either-size (begins dot bytes && alone) (1 + size) 0 (length bytes)
     (λ h. omega (
       arith,
-      run-drop-le classes.Digit 1 bytes,
-      begins-some dot bytes (both-left (begins dot bytes) (behind_digit || nat_lt 0 digits) h),
+      digits-drop-le class 1 bytes,
+      begins-some dot bytes (both-left (begins dot bytes) alone h),
     ))
     (λ h. omega arith)
 
-exponent-le : (bytes : List ℕ) → exponent bytes ≤ length bytes
-exponent-le bytes =
+exponent-le : (letter : ℕ) (bytes : List ℕ) → exponent letter bytes ≤ length bytes
+exponent-le letter bytes =
     let opening = 1 + exponent_sign (drop 1 bytes) in
-    let digits = run classes.Digit (drop opening bytes) in
-    either-size (begins_by (is_letter_of 101) bytes && nat_lt 0 digits) (opening + digits) 0 (length bytes)
+    let size = digits classes.Digit (drop opening bytes) in
+    either-size (begins_by (is_letter_of letter) bytes && nat_lt 0 size) (opening + size) 0 (length bytes)
     (λ h. omega (
       arith,
-      run-drop-le classes.Digit opening bytes,
-      ltb-true 0 digits (both-right (begins_by (is_letter_of 101) bytes) (nat_lt 0 digits) h),
+      digits-drop-le classes.Digit opening bytes,
+      ltb-true 0 size (both-right (begins_by (is_letter_of letter) bytes) (nat_lt 0 size) h),
     ))
     (λ h. omega arith)
 
-pub mantissa-le : (bytes : List ℕ) → mantissa bytes ≤ length bytes
-mantissa-le bytes =
-    let digits = run classes.Digit bytes in
+pub mantissa-le : (class : Class) (bytes : List ℕ) → mantissa class bytes ≤ length bytes
+mantissa-le class bytes =
+    let size = digits class bytes in
     omega (
       arith,
-      run-le classes.Digit bytes,
-      fraction-le (nat_lt 0 digits) (drop digits bytes),
-      length-drop digits bytes,
+      digits-le class bytes,
+      fraction-le class (nat_lt 0 size) (drop size bytes),
+      length-drop size bytes,
     )
 
-decimal-le : (bytes : List ℕ) → decimal bytes ≤ length bytes
-decimal-le bytes =
-    let size = mantissa bytes in
-    either-size (nat_lt 0 size) (size + exponent (drop size bytes)) 0 (length bytes)
-    (λ h. omega (arith, mantissa-le bytes, exponent-le (drop size bytes), length-drop size bytes))
+pub scaled-le : (class : Class) (letter : ℕ) (bytes : List ℕ) → scaled class letter bytes ≤ length bytes
+scaled-le class letter bytes =
+    let size = mantissa class bytes in
+    either-size (nat_lt 0 size) (size + exponent letter (drop size bytes)) 0 (length bytes)
+    (λ h. omega (arith, mantissa-le class bytes, exponent-le letter (drop size bytes), length-drop size bytes))
     (λ h. omega arith)
+
+by-some : (test : ℕ → Bool) (bytes : List ℕ) → begins_by test bytes ≡ true → 0 < length bytes
+by-some test [] h = absurd (true≢false (sym h))
+by-some test (b ∷ bs) h = omega arith
+
+-- what a prefixed number has behind its `0` and letter
+prefixed-le : (letter : ℕ) (class : Class) (size : ℕ) (bytes : List ℕ) → size ≤ length (drop 2 bytes)
+    → (if is_prefixed letter class bytes then 2 + size else 0) ≤ length bytes
+prefixed-le letter class size bytes fits =
+    let third = begins_by (is_in class) (drop 2 bytes) in
+    let second = begins_by (is_letter_of letter) (drop 1 bytes) in
+    either-size (is_prefixed letter class bytes) (2 + size) 0 (length bytes)
+    (λ h. omega (
+      arith,
+      fits,
+      length-drop 2 bytes,
+      by-some (is_in class) (drop 2 bytes)
+          (both-right second third (both-right (begins digit_0 bytes) (second && third) h)),
+    ))
+    (λ h. omega arith)
+
+hexadecimal-le : (bytes : List ℕ) → hexadecimal bytes ≤ length bytes
+hexadecimal-le bytes = prefixed-le 120 classes.HexDigit (scaled classes.HexDigit 112 (drop 2 bytes)) bytes
+    (scaled-le classes.HexDigit 112 (drop 2 bytes))
+
+binary-le : (bytes : List ℕ) → binary bytes ≤ length bytes
+binary-le bytes = prefixed-le 98 classes.BinaryDigit (digits classes.BinaryDigit (drop 2 bytes)) bytes
+    (digits-le classes.BinaryDigit (drop 2 bytes))
 
 pub number-le : (bytes : List ℕ) → number bytes ≤ length bytes
 number-le bytes =
-    either-size (nat_lt 0 (hexadecimal bytes)) (hexadecimal bytes) (decimal bytes) (length bytes)
-    (λ h. hexadecimal-le bytes) (λ h. decimal-le bytes)
+    either-size (nat_lt 0 (hexadecimal bytes)) (hexadecimal bytes) _ (length bytes)
+    (λ h. hexadecimal-le bytes)
+    (λ h. either-size (nat_lt 0 (binary bytes)) (binary bytes) (decimal bytes) (length bytes)
+    (λ h. binary-le bytes) (λ h. scaled-le classes.Digit 101 bytes))
 
 pub constant-le : (bytes : List ℕ) → constant bytes ≤ length bytes
 constant-le bytes =

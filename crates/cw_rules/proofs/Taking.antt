@@ -22,11 +22,12 @@ use Rattle.cw_rules.specs.declared.parts.Start.TheVariants as start
 use Rattle.cw_rules.specs.declared.signs.Sign.{Sign}
 use Rattle.cw_rules.specs.declared.signs.Sign.TheVariants as signs
 use Rattle.cw_rules.specs.declared.tokens.TokKind.TheVariants as kinds
-use Rattle.cw_rules.specs.Bytes.{newline, quote, hash, apostrophe, star, comma, slash, less, equals, right_paren}
-use Rattle.cw_rules.specs.Bytes.{at_sign, backslash, run, is_in, is_letter, is_digit, begins, begins_by}
+use Rattle.cw_rules.specs.Bytes.{newline, hash, star, comma, slash, less, equals, right_paren}
+use Rattle.cw_rules.specs.Bytes.{at_sign, backslash, run, is_in, is_letter, is_mark, is_digit, begins, begins_by}
 use Rattle.cw_base.specs.Text.{bar}
 use Rattle.cw_rules.specs.Signs.{all_signs, longest, spelling}
 use Rattle.cw_rules.specs.Constants.{constant}
+use Rattle.cw_rules.specs.Prefixes.{prefix_size}
 use Rattle.cw_rules.specs.Codes.{code_at, begins_section, has_control_text, effect_in_limbo, effect_in_tex}
 use Rattle.cw_rules.specs.Bodies.{stops, goes_on, extent, ended, noted, one_note, note_unless}
 use Rattle.cw_rules.specs.Answers.{Answer, Token, Begin, Finish, Note, Seen, Where, Cut, Found, before, note_answers}
@@ -239,15 +240,16 @@ record Has (byte : ℕ) (bytes : List ℕ) (s : Start) : Type 0 where
 
 start_of-has : (bar_ends : Bool) (byte : ℕ) (bytes : List ℕ) → Has byte bytes (start_of bar_ends byte bytes)
 start_of-has bar_ends byte bytes =
-    if-both (Has byte bytes) (is_letter byte) _ _ (λ h. record { is = h })
+    if-both (Has byte bytes) (nat_lt 0 (prefix_size (byte ∷ bytes))) _ _ (λ h. record { is = tt })
+    (λ h. if-both (Has byte bytes) (is_letter byte) _ _ (λ h. record { is = h })
     (λ h. if-both (Has byte bytes) (nat_lt 0 (constant (byte ∷ bytes))) _ _
     (λ h. record { is = ltb-true 0 (constant (byte ∷ bytes)) h })
-    (λ h. if-both (Has byte bytes) (byte == quote || byte == apostrophe) _ _ (λ h. record { is = tt })
+    (λ h. if-both (Has byte bytes) (is_mark byte) _ _ (λ h. record { is = tt })
     (λ h. if-both (Has byte bytes) (byte == slash && begins star bytes) _ _ (λ h. record { is = tt })
     (λ h. if-both (Has byte bytes) (byte == slash && begins slash bytes) _ _ (λ h. record { is = tt })
     (λ h. if-both (Has byte bytes) (byte == at_sign) _ _ (λ h. record { is = tt })
     (λ h. if-both (Has byte bytes) (byte == bar && (bar_ends && not (begins bar bytes))) _ _ (λ h. record { is = tt })
-    (λ h. record { is = sign-has (longest all_signs (byte ∷ bytes)) byte bytes })))))))
+    (λ h. record { is = sign-has (longest all_signs (byte ∷ bytes)) byte bytes }))))))))
 
 alone-some : (bytes : List ℕ) → 0 < alone_size bytes
 alone-some [] = omega arith
@@ -315,7 +317,8 @@ in_code-takes start.Identifier w place byte bytes h = one-takes _ _ place (byte 
 in_code-takes start.Constant w place byte bytes h =
     one-takes _ _ place (byte ∷ bytes) (plain kinds.Constant (constant (byte ∷ bytes))) h
 in_code-takes (start.Quoted q) w place byte bytes h =
-    one-takes _ _ place (byte ∷ bytes) (string kinds.Quoted 1 q place (byte ∷ bytes)) (omega arith)
+    one-takes _ _ place (byte ∷ bytes) (string kinds.Quoted (prefix_size (byte ∷ bytes) + 1) q place (byte ∷ bytes))
+    (omega arith)
 in_code-takes start.LongComment w place byte bytes h = comment-takes true w place (byte ∷ bytes)
 in_code-takes start.ShortComment w place byte bytes h = comment-takes false w place (byte ∷ bytes)
 in_code-takes (start.Code code) w place byte bytes h = code_by-takes (effect_in w.part w.comments code) code w place

@@ -18,11 +18,13 @@ use Rattle.cw_rules.specs.declared.parts.Start.{Start}
 use Rattle.cw_rules.specs.declared.parts.Start.TheVariants as start
 use Rattle.cw_rules.specs.declared.signs.Sign.{Sign}
 use Rattle.cw_rules.specs.declared.tokens.TokKind.TheVariants as kinds
-use Rattle.cw_rules.specs.Bytes.{newline, quote, hash, apostrophe, star, comma, slash, less, equals, right_paren}
-use Rattle.cw_rules.specs.Bytes.{at_sign, backslash, run, is_in, is_letter, begins, begins_with}
+use Rattle.cw_rules.specs.Bytes.{newline, hash, star, comma, slash, less, equals, right_paren}
+use Rattle.cw_rules.specs.Bytes.{at_sign, backslash, run, is_in, is_letter, is_mark, begins, begins_with}
 use Rattle.cw_base.specs.Text.{bar}
 use Rattle.cw_rules.specs.Signs.{all_signs, longest, spelling}
 use Rattle.cw_rules.specs.Constants.{constant}
+use Rattle.cw_rules.specs.Prefixes.{prefix_size}
+use Rattle.cw_rules.proofs.StringPrefixes.{prefix-below}
 use Rattle.cw_rules.specs.Codes.{code_at, begins_section, effect_in_limbo, effect_in_tex}
 use Rattle.cw_rules.specs.Bodies.{extent, noted, one_note, note_unless}
 use Rattle.cw_rules.specs.Answers.{Answer, Token, Begin, Finish, Note, Where, Cut, Found, before, note_answers, plain}
@@ -197,16 +199,17 @@ sign-fits byte bytes = by (longest all_signs (byte ∷ bytes)) (longest-fits all
 
 start_of-fits : (bar_ends : Bool) (byte : ℕ) (bytes : List ℕ) → StartFits (start_of bar_ends byte bytes) bytes
 start_of-fits bar_ends byte bytes =
-    either-start (is_letter byte) _ _ bytes (λ h. tt)
+    either-start (nat_lt 0 (prefix_size (byte ∷ bytes))) _ _ bytes (λ h. tt)
+    (λ h. either-start (is_letter byte) _ _ bytes (λ h. tt)
     (λ h. either-start (nat_lt 0 (constant (byte ∷ bytes))) _ _ bytes (λ h. tt)
-    (λ h. either-start (byte == quote || byte == apostrophe) _ _ bytes (λ h. tt)
+    (λ h. either-start (is_mark byte) _ _ bytes (λ h. tt)
     (λ h. either-start (byte == slash && begins star bytes) _ _ bytes
     (λ h. begins-some star bytes (both-right (byte == slash) (begins star bytes) h))
     (λ h. either-start (byte == slash && begins slash bytes) _ _ bytes
     (λ h. begins-some slash bytes (both-right (byte == slash) (begins slash bytes) h))
     (λ h. either-start (byte == at_sign) _ _ bytes (λ h. refl)
     (λ h. either-start (byte == bar && (bar_ends && not (begins bar bytes))) _ _ bytes (λ h. tt)
-    (λ h. sign-fits byte bytes)))))))
+    (λ h. sign-fits byte bytes))))))))
 
 effect-unknown : (part : Part) (comments : List Opened) → effect_in part comments at.Unknown ≡ effects.Drops UnknownCode
 effect-unknown parts.Definition [] = refl
@@ -243,8 +246,9 @@ in_code-fits : (begins : Start) (w : Where) (place byte : ℕ) (bytes : List ℕ
 in_code-fits start.Identifier w place byte bytes h = search (one-fits, arith, identifier-le (byte ∷ bytes))
 in_code-fits start.Constant w place byte bytes h = search (one-fits, arith, constant-le (byte ∷ bytes))
 in_code-fits (start.Quoted quote) w place byte bytes h =
-    one-fits _ _ place (byte ∷ bytes) (string kinds.Quoted 1 quote place (byte ∷ bytes)) (suc (length bytes))
-    (string-le kinds.Quoted 1 quote place (byte ∷ bytes) (omega arith)) (omega arith)
+    let opening = prefix_size (byte ∷ bytes) + 1 in
+    one-fits _ _ place (byte ∷ bytes) (string kinds.Quoted opening quote place (byte ∷ bytes)) (suc (length bytes))
+    (string-le kinds.Quoted opening quote place (byte ∷ bytes) (omega (arith, prefix-below byte bytes))) (omega arith)
 in_code-fits start.LongComment w place byte bytes h =
     record { within = ((omega arith, omega arith, omega (arith, h)), tt); more = omega (arith, h) }
 in_code-fits start.ShortComment w place byte bytes h =

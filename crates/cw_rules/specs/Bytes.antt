@@ -2,8 +2,8 @@
 use Rattle.std.specs.Prelude.{ℕ, ◌+◌, Bool, true, false, ◌&&◌, ◌||◌, not, ◌==◌, nat_le, List, [], ◌∷◌}
 use Rattle.cw_base.specs.Text.{is_blank, bar}
 use Rattle.cw_rules.specs.declared.classes.Class.{Class}
-use Rattle.cw_rules.specs.declared.classes.Class.TheVariants.{Blank, White, Word, Digit, HexDigit, Suffix, LimboText}
-use Rattle.cw_rules.specs.declared.classes.Class.TheVariants.{TexText, IncludeName}
+use Rattle.cw_rules.specs.declared.classes.Class.TheVariants.{Blank, White, Word, Digit, HexDigit, BinaryDigit, Suffix}
+use Rattle.cw_rules.specs.declared.classes.Class.TheVariants.{LimboText, TexText, IncludeName}
 
 abbrev pub newline : ℕ
 newline = 10
@@ -84,6 +84,10 @@ is_letter byte = is_between 97 122 byte || is_between 65 90 byte || byte == 95 |
 abbrev pub is_suffix : ℕ → Bool
 is_suffix byte = is_letter_of 117 byte || is_letter_of 108 byte || is_letter_of 102 byte
 
+-- A string goes from a mark to the same one.
+abbrev pub is_mark : ℕ → Bool
+is_mark byte = byte == quote || byte == apostrophe
+
 abbrev pub is_hex_digit : ℕ → Bool
 is_hex_digit byte = is_digit byte || is_between 97 102 byte || is_between 65 70 byte
 
@@ -93,6 +97,7 @@ is_in White byte = byte == newline || is_blank byte
 is_in Word byte = is_letter byte || is_digit byte
 is_in Digit byte = is_digit byte
 is_in HexDigit byte = is_hex_digit byte
+is_in BinaryDigit byte = is_between 48 49 byte
 is_in Suffix byte = is_suffix byte
 is_in LimboText byte = not (byte == at_sign)
 is_in TexText byte = not (byte == at_sign || byte == bar)

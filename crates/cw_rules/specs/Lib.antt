@@ -2,6 +2,7 @@
 pub mod Bytes
 pub mod Signs
 pub mod Constants
+pub mod Prefixes
 pub mod Codes
 pub mod Bodies
 pub mod Names

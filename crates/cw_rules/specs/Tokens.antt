@@ -4,7 +4,7 @@
 -- on.
 -- `place` is the number of the byte, `byte` the byte itself, and `bytes` are the bytes behind it.
 use Rattle.std.specs.Prelude.{ℕ, ◌+◌, ◌-◌, Bool, true, false, ◌&&◌, ◌||◌, not, ◌==◌, nat_lt, List, [], ◌∷◌, ◌++◌}
-use Rattle.std.specs.Prelude.{Option, Some, None, codes, drop, take, length, if◌then◌else◌}
+use Rattle.std.specs.Prelude.{Option, Some, None, codes, drop, take, length, slice_index, if◌then◌else◌}
 use Rattle.cw_base.specs.declared.notes.NoteKind.{NoteKind}
 use Rattle.cw_base.specs.declared.notes.NoteKind.TheVariants as notes
 use Rattle.cw_rules.specs.declared.bodies.Body.TheVariants as bodies
@@ -24,13 +24,14 @@ use Rattle.cw_rules.specs.declared.signs.Sign.{Sign}
 use Rattle.cw_rules.specs.declared.signs.Sign.TheVariants as signs
 use Rattle.cw_rules.specs.declared.tokens.TokKind.{TokKind}
 use Rattle.cw_rules.specs.declared.tokens.TokKind.TheVariants as kinds
-use Rattle.cw_rules.specs.Bytes.{newline, quote, hash, apostrophe, left_paren, right_paren, star, comma, slash, less}
+use Rattle.cw_rules.specs.Bytes.{newline, hash, apostrophe, left_paren, right_paren, star, comma, slash, less}
 use Rattle.cw_rules.specs.Bytes.{greater, equals, at_sign, backslash, run, begins, begins_by, begins_with}
 use Rattle.cw_base.specs.Conditions.{list_if}
 use Rattle.cw_base.specs.Text.{bar}
-use Rattle.cw_rules.specs.Bytes.{is_letter, is_in}
+use Rattle.cw_rules.specs.Bytes.{is_letter, is_mark, is_in}
 use Rattle.cw_rules.specs.Signs.{all_signs, longest, spelling}
 use Rattle.cw_rules.specs.Constants.{constant}
+use Rattle.cw_rules.specs.Prefixes.{prefix_size}
 use Rattle.cw_rules.specs.Codes.{code_at, begins_section, has_control_text, effect_in_limbo, effect_in_tex, effect_in_c}
 use Rattle.cw_rules.specs.Codes.{effect_in_definition, effect_at_begin}
 use Rattle.cw_rules.specs.Bodies.{at_start, extent, noted, ended, one_note, note_unless, all_notes}
@@ -287,21 +288,23 @@ line_end part (c ∷ comments) last place =
 
 -- ## C text
 
--- What begins at a byte of C text, by the order of the manual's list.
+-- What begins at a byte of C text, by the order of the manual's list. A string with a prefix begins with a letter.
 abbrev pub sign_or_other : Option Sign → Start
 sign_or_other None = start.OtherByte
 sign_or_other (Some sign) = start.Sign sign
 
 abbrev pub start_of : Bool → ℕ → List ℕ → Start
 start_of bar_ends byte bytes =
-    if is_letter byte then start.Identifier
+    if nat_lt 0 (prefix_size (byte ∷ bytes))
+    then start.Quoted (slice_index (byte ∷ bytes) (prefix_size (byte ∷ bytes)))
+    else (if is_letter byte then start.Identifier
     else (if nat_lt 0 (constant (byte ∷ bytes)) then start.Constant
-    else (if byte == quote || byte == apostrophe then start.Quoted byte
+    else (if is_mark byte then start.Quoted byte
     else (if byte == slash && begins star bytes then start.LongComment
     else (if byte == slash && begins slash bytes then start.ShortComment
     else (if byte == at_sign then start.Code (code_at bytes)
     else (if byte == bar && (bar_ends && not (begins bar bytes)) then start.EndOfInner
-    else sign_or_other (longest all_signs (byte ∷ bytes))))))))
+    else sign_or_other (longest all_signs (byte ∷ bytes)))))))))
 
 -- In a `#` line the word `include` lets an include name follow.
 abbrev pub is_include : List ℕ → Bool
@@ -374,7 +377,7 @@ in_code start.Identifier w place bytes = one (in_hash_line w.part) (moved w (beh
 in_code start.Constant w place bytes = one (in_hash_line w.part) (moved w (passed w.part)) place bytes
     (plain kinds.Constant (constant bytes))
 in_code (start.Quoted quote) w place bytes = one (in_hash_line w.part) (moved w (passed w.part)) place bytes
-    (string kinds.Quoted 1 quote place bytes)
+    (string kinds.Quoted (prefix_size bytes + 1) quote place bytes)
 in_code start.LongComment w place bytes = comment_begin true w place bytes
 in_code start.ShortComment w place bytes = comment_begin false w place bytes
 in_code (start.Code code) w place bytes = code_by (effect_in w.part w.comments code) code w place bytes

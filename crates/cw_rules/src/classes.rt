@@ -1,6 +1,6 @@
 //! Classes of bytes, and runs of bytes of one class.
 ghost use Rattle.std.specs.Prelude.{◌≡◌, ◌≤◌, ◌+◌, length, drop};
-ghost use Rattle.cw_rules.specs.Bytes.{is_in, is_letter, is_letter_of, run, begins, begins_with};
+ghost use Rattle.cw_rules.specs.Bytes.{is_in, is_letter, is_letter_of, is_mark, run, begins, begins_with};
 
 /// A set of bytes, of which a token may take as many as stand in a row.
 #[derive(Clone, Copy)]
@@ -15,6 +15,8 @@ pub enum Class {
     Digit,
     /// The hexadecimal digits, with letters in either case.
     HexDigit,
+    /// The binary digits.
+    BinaryDigit,
     /// The letters that may stand behind a constant.
     Suffix,
     /// What limbo copies: all but `@`.
@@ -38,6 +40,7 @@ impl Class {
             Class::HexDigit => {
                 is_digit(byte) || (97 <= byte && byte <= 102) || (65 <= byte && byte <= 70)
             }
+            Class::BinaryDigit => 48 <= byte && byte <= 49,
             Class::Suffix => {
                 is_letter_of(117, byte) || is_letter_of(108, byte) || is_letter_of(102, byte)
             }
@@ -132,6 +135,14 @@ pub fn is_letter(byte: u8) -> bool
         || byte == 95
         || byte == 36
         || 128 <= byte
+}
+
+/// Whether a string may begin with the byte, behind the prefix that it may have.
+#[inline(always)]
+pub fn is_mark(byte: u8) -> bool
+    ensures { result ≡ is_mark byte }
+{
+    byte == b'"' || byte == b'\''
 }
 
 /// Whether the byte is a letter in either case, given in lower case.

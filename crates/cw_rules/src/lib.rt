@@ -9,6 +9,7 @@ pub mod cuttings;
 mod names;
 pub mod parts;
 pub mod pending;
+pub mod prefixes;
 pub mod signs;
 pub mod tokens;
 

@@ -67,7 +67,7 @@ pub enum Start {
     Identifier,
     /// A constant.
     Constant,
-    /// A string with this quote.
+    /// A string with this quote, behind the prefix that it may have.
     Quoted(u8),
     /// A comment with `/*`.
     LongComment,

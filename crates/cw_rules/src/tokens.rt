@@ -9,7 +9,7 @@ pub enum TokKind {
     Identifier,
     /// A number in any of C's forms, with its suffix letters.
     Constant,
-    /// From `"` or `'` to the same byte.
+    /// From `"` or `'` to the same byte, with the prefix `L`, `u`, `U` or `u8` that stands directly before.
     Quoted,
     /// In a `#` line, `<` up to `>` directly behind the word `include`.
     IncludeName,

@@ -1,12 +1,14 @@
 -- A string takes its bytes; its notes follow, and then the C text goes on as it did.
-use Rattle.std.proofs.Common.{ℕ, ◌+◌, ◌<◌, List, ◌∷◌, length, drop, sym, ap, ◌∙◌, arith}
+use Rattle.std.proofs.Common.{◌≡◌, ℕ, ◌+◌, ◌<◌, List, ◌∷◌, length, drop, sym, ap, ◌∙◌, arith}
 use Rattle.cw_rules.specs.Answers.{Token, note_answers, token_of}
 use Rattle.cw_rules.specs.Pending.{pending_notes}
-use Rattle.cw_rules.specs.Tokens.{one, moved, passed, in_hash_line}
+use Rattle.cw_rules.specs.declared.tokens.TokKind.TheVariants.{Quoted}
+use Rattle.cw_rules.specs.Prefixes.{prefix_size}
+use Rattle.cw_rules.specs.Tokens.{one, moved, passed, string, in_hash_line}
 use Rattle.cw_lex.specs.Coming.{where_of}
 use Rattle.cw_rules.specs.Cuttings.{bytes_at, cut_of}
 use Rattle.cw_lex.specs.declared.state.State.{State}
-use Rattle.cw_lex.proofs.Steps.{step-gives, token-here, AllWithin-more}
+use Rattle.cw_lex.proofs.Steps.{bytes-here, step-gives, token-here, AllWithin-more}
 use Rattle.cw_lex.proofs.States.{depth-part, nested-part}
 use Rattle.cw_lex.proofs.giving.give_string.Goals as goal
 
@@ -25,7 +27,11 @@ returns-clause-gives c =
     let next = moved (where_of s) (passed s.part) in
     let bytes = bytes_at text s.at in
     let place : s.at < length text = c.requires.string.0 in
-    let found = c.requires.string.1 ∙ ap (one (in_hash_line s.part) next s.at bytes) (sym c.string-cut.ensures.same) in
+    let prefix : c.prefix_size-opening.result ≡ prefix_size bytes =
+    c.prefix_size-opening.ensures.value ∙ ap prefix_size (c.from.ensures.value ∙ bytes-here text s.at place) in
+    let found = c.requires.string.1
+    ∙ ap (λ n. one (in_hash_line s.part) next s.at bytes (string Quoted (n + 1) c.args.quote s.at bytes)) (sym prefix)
+    ∙ ap (one (in_hash_line s.part) next s.at bytes) (sym c.string-cut.ensures.same) in
     let token = c.token-token.ensures ∙ (λ i. token_of (c.in_hash_line.ensures i) cut.kind s.at cut.size
     (drop s.at text)) in
     step-gives text s new _ (one (in_hash_line s.part) next s.at bytes (cut_of text cut)) c.requires.quiet place found
