@@ -1,7 +1,7 @@
 -- Each control text and each comment goes up to its end.
 use Rattle.std.proofs.Common.{◌≡◌, ℕ, zero, suc, ◌+◌, ◌-◌, Bool, true, false, ◌&&◌, ◌||◌, not, ◌==◌, nat_lt, List, []}
 use Rattle.std.proofs.Common.{◌∷◌, ◌++◌, Option, Some, None, if◌then◌else◌, drop, take, refl, sym, ap, subst, ◌∙◌}
-use Rattle.std.proofs.Common.{arith, append_assoc, ◌⊎◌, inl, inr, length, ◌<◌, ◌≤◌}
+use Rattle.std.proofs.Common.{arith, append_assoc, slice_index, ◌⊎◌, inl, inr, length, ◌<◌, ◌≤◌}
 use Rattle.std.proofs.lemmas.Bool.{eqb-true}
 use Rattle.std.proofs.lemmas.List.{append-nil}
 use Rattle.std.proofs.lemmas.List.Sums.{sum_by-cons}
@@ -32,11 +32,12 @@ use Rattle.cw_rules.specs.Answers.{Answer, Where, Cut, Found, before, note_answe
 use Rattle.cw_rules.specs.Answers.{plain}
 use Rattle.cw_rules.specs.Bodies.{note_unless, one_note, noted, ended, extent}
 use Rattle.cw_base.specs.Text.{bar}
-use Rattle.cw_rules.specs.Bytes.{newline, quote, apostrophe, slash, star, at_sign, hash, less, backslash, comma}
-use Rattle.cw_rules.specs.Bytes.{equals, right_paren, left_paren, run, begins, is_letter, is_in}
+use Rattle.cw_rules.specs.Bytes.{newline, apostrophe, slash, star, at_sign, hash, less, backslash, comma}
+use Rattle.cw_rules.specs.Bytes.{equals, right_paren, left_paren, run, begins, is_letter, is_mark, is_in}
 use Rattle.cw_rules.specs.Codes.{code_at, begins_section, effect_in_limbo, effect_in_tex, effect_in_c}
 use Rattle.cw_rules.specs.Codes.{effect_in_definition, effect_at_begin, has_control_text}
 use Rattle.cw_rules.specs.Constants.{constant}
+use Rattle.cw_rules.specs.Prefixes.{prefix_size}
 use Rattle.cw_rules.specs.Signs.{all_signs, longest, spelling}
 use Rattle.cw_rules.specs.Tokens.{in_hash_line, takes_hash_line, behind_include, is_space, is_deep, ends_at_bar}
 use Rattle.cw_rules.specs.Tokens.{closes_on_line, moved, passed, one, section_name, string, control_text, alone_size}
@@ -435,14 +436,17 @@ module _ (text : List ℕ) where
       let all = byte ∷ bytes in
       let hash_line = in_hash_line w.part in
       let P : Start → Type 0 = λ s. Goes opened (in_code s w place all) in
-      if-both P (is_letter byte) start.Identifier _
+      let string-at : ℕ → Cut = λ mark. string kinds.Quoted (prefix_size all + 1) mark place all in
+      if-both P (nat_lt 0 (prefix_size all)) (start.Quoted (slice_index all (prefix_size all))) _
+      (λ h. moved-other opened w hash_line (passed w.part) place all (string-at (slice_index all (prefix_size all))) f
+      (λ o b n a. tt))
+      (λ h. if-both P (is_letter byte) start.Identifier _
       (λ h. moved-other opened w hash_line (behind_word w.part all) place all (identifier all) f (λ o b n a. tt))
       (λ h. if-both P (nat_lt 0 (constant all)) start.Constant _
       (λ h. moved-other opened w hash_line (passed w.part) place all (plain kinds.Constant (constant all)) f
       (λ o b n a. tt))
-      (λ h. if-both P (byte == quote || byte == apostrophe) (start.Quoted byte) _
-      (λ h. moved-other opened w hash_line (passed w.part) place all (string kinds.Quoted 1 byte place all) f
-      (λ o b n a. tt))
+      (λ h. if-both P (is_mark byte) (start.Quoted byte) _
+      (λ h. moved-other opened w hash_line (passed w.part) place all (string-at byte) f (λ o b n a. tt))
       (λ h. if-both P (byte == slash && begins star bytes) start.LongComment _
       (λ h. begin-goes true w place all opened f)
       (λ h. if-both P (byte == slash && begins slash bytes) start.ShortComment _
@@ -452,7 +456,7 @@ module _ (text : List ℕ) where
       (suits w.part w.comments (code_at bytes)))
       (λ h. if-both P (byte == bar && (bar_ends && not (begins bar bytes))) start.EndOfInner
       (sign_or_other (longest all_signs all)) (λ h. inner-end-goes w.part w.comments place all opened f)
-      (λ h. by (longest all_signs all))))))))
+      (λ h. by (longest all_signs all)))))))))
     where
       by : (o : Option Sign) → Goes opened (in_code (sign_or_other o) w place (byte ∷ bytes))
       by None = moved-other opened w (in_hash_line w.part) (passed w.part) place (byte ∷ bytes)

@@ -1,6 +1,7 @@
 -- Identifiers, constants and signs are the longest that begin at their places.
 use Rattle.std.proofs.Common.{◌≡◌, ℕ, zero, suc, ◌+◌, ◌-◌, ◌≤◌, Bool, true, false, ◌&&◌, ◌||◌, not, ◌==◌, nat_lt}
-use Rattle.std.proofs.Common.{nat_le, List, [], ◌∷◌, ◌++◌, Option, Some, None, if◌then◌else◌, length, drop, take, refl}
+use Rattle.std.proofs.Common.{nat_le, List, [], ◌∷◌, ◌++◌, Option, Some, None, if◌then◌else◌, length, slice_index, drop}
+use Rattle.std.proofs.Common.{take, refl}
 use Rattle.std.proofs.Common.{sym, ap, subst, ◌∙◌, arith}
 use Rattle.std.proofs.lemmas.Bool.{eqb-true}
 use Rattle.cw_rules.specs.declared.bodies.Noted.{Noted}
@@ -18,11 +19,12 @@ use Rattle.cw_rules.specs.declared.signs.Sign.TheVariants as signs
 use Rattle.cw_rules.specs.declared.tokens.TokKind.{TokKind}
 use Rattle.cw_rules.specs.declared.tokens.TokKind.TheVariants as kinds
 use Rattle.cw_rules.specs.Answers.{Answer, Token, Begin, Finish, Note, Where, Cut, Found, note_answers, plain}
-use Rattle.cw_rules.specs.Bytes.{newline, quote, apostrophe, slash, star, at_sign, hash, less, backslash, comma}
+use Rattle.cw_rules.specs.Bytes.{newline, apostrophe, slash, star, at_sign, hash, less, backslash, comma}
 use Rattle.cw_base.specs.Text.{bar}
-use Rattle.cw_rules.specs.Bytes.{right_paren, begins, begins_with, is_letter, is_in, run}
+use Rattle.cw_rules.specs.Bytes.{right_paren, begins, begins_with, is_letter, is_mark, is_in, run}
 use Rattle.cw_rules.specs.Codes.{code_at, begins_section, effect_in_limbo, effect_in_tex, has_control_text}
 use Rattle.cw_rules.specs.Constants.{constant}
+use Rattle.cw_rules.specs.Prefixes.{prefix_size}
 use Rattle.cw_rules.specs.Signs.{all_signs, longer, longest, spelling}
 use Rattle.cw_rules.specs.Tokens.{in_hash_line, behind_include, takes_hash_line, is_space, is_deep, ends_at_bar}
 use Rattle.cw_rules.specs.Tokens.{closes_on_line, moved, passed, one, comment_end, inner_cut, all_cut, section}
@@ -39,9 +41,8 @@ use Rattle.cw_lex.specs.Lexing.{still_fresh, answers, fresh_at, last_at, beginni
 use Rattle.cw_laws.specs.Longest.{NoneIsLonger, IsLongest, AreLongest, TokensAreLongest}
 use Rattle.cw_laws.specs.Strings.{IsString}
 use Rattle.cw_lex.proofs.Covering.{drop-on}
-use Rattle.cw_laws.proofs.Strings.{string-is}
-use Rattle.cw_rules.specs.declared.bodies.Body.TheVariants as bodies
-use Rattle.cw_rules.specs.Bodies.{at_start, extent}
+use Rattle.cw_rules.proofs.StringPrefixes.{no-prefix}
+use Rattle.cw_laws.proofs.Strings.{prefixed-is, unprefixed-is}
 
 -- ## Signs
 
@@ -209,21 +210,28 @@ module _ (text : List ℕ) where
   in-code-longest bar_ends w place byte bytes here =
       let all = byte ∷ bytes in
       let P : Start → Type 0 = λ s. Longest (in_code s w place all) in
-      if-both P (is_letter byte) start.Identifier _ (λ h. word-longest place all here)
-      (λ h. if-both P (nat_lt 0 (constant all)) start.Constant _
+      let opening = prefix_size all + 1 in
+      let string-at : ℕ → Cut = λ mark. string kinds.Quoted opening mark place all in
+      if-both P (nat_lt 0 (prefix_size all)) (start.Quoted (slice_index all (prefix_size all))) _
+      (λ h. one-longest (in_hash_line w.part) (moved w (passed w.part)) place all
+      (string-at (slice_index all (prefix_size all)))
+      (subst (λ l. IsString l (string-at (slice_index all (prefix_size all))).size) (sym here)
+      (prefixed-is place byte bytes h)))
+      (λ h. if-both P (is_letter byte) start.Identifier _ (λ h. word-longest place all here)
+      (λ letter. if-both P (nat_lt 0 (constant all)) start.Constant _
       (λ h. one-longest (in_hash_line w.part) (moved w (passed w.part)) place all (plain kinds.Constant (constant all))
       (ap constant (sym here)))
-      (λ h. if-both P (byte == quote || byte == apostrophe) (start.Quoted byte) _
-      (λ h. one-longest (in_hash_line w.part) (moved w (passed w.part)) place all (string kinds.Quoted 1 byte place all)
-      (subst (λ l. IsString l (1 + (extent (at_start (bodies.Quoted byte) (place + 1)) bytes).size)) (sym here)
-      (string-is byte (place + 1) bytes h)))
+      (λ h. if-both P (is_mark byte) (start.Quoted byte) _
+      (λ h. one-longest (in_hash_line w.part) (moved w (passed w.part)) place all (string-at byte)
+      (subst (λ l. IsString l (string-at byte).size) (sym here)
+      (unprefixed-is place byte bytes (no-prefix byte bytes letter) h)))
       (λ h. if-both P (byte == slash && begins star bytes) start.LongComment _ (λ h. tt)
       (λ h. if-both P (byte == slash && begins slash bytes) start.ShortComment _ (λ h. tt)
       (λ h. if-both P (byte == at_sign) (start.Code (code_at bytes)) _
       (λ h. code-by-longest (effect_in w.part w.comments (code_at bytes)) (code_at bytes) w place all)
       (λ h. if-both P (byte == bar && (bar_ends && not (begins bar bytes))) start.EndOfInner
       (sign_or_other (longest all_signs all)) (λ h. tt)
-      (λ h. by (longest all_signs all) refl)))))))
+      (λ h. by (longest all_signs all) refl))))))))
     where
       by : (o : Option Sign) → longest all_signs (byte ∷ bytes) ≡ o
           → Longest (in_code (sign_or_other o) w place (byte ∷ bytes))

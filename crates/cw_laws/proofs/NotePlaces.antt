@@ -21,11 +21,13 @@ use Rattle.cw_rules.specs.declared.tokens.Mode.TheVariants as modes
 use Rattle.cw_rules.specs.declared.tokens.TokKind.TheVariants as kinds
 use Rattle.cw_rules.specs.Answers.{Answer, Token, Begin, Finish, Note, Where, Cut, Found, before, plain}
 use Rattle.cw_rules.specs.Bodies.{note_unless, one_note, noted, extent}
-use Rattle.cw_rules.specs.Bytes.{newline, quote, apostrophe, slash, star, at_sign, hash, less, backslash, comma}
+use Rattle.cw_rules.specs.Bytes.{newline, slash, star, at_sign, hash, less, backslash, comma}
 use Rattle.cw_base.specs.Text.{bar}
-use Rattle.cw_rules.specs.Bytes.{right_paren, left_paren, run, begins, is_letter, is_in}
+use Rattle.cw_rules.specs.Bytes.{right_paren, left_paren, run, begins, is_letter, is_mark, is_in}
 use Rattle.cw_rules.specs.Codes.{code_at, begins_section, effect_in_limbo, effect_in_tex}
 use Rattle.cw_rules.specs.Constants.{constant}
+use Rattle.cw_rules.specs.Prefixes.{prefix_size}
+use Rattle.cw_rules.proofs.StringPrefixes.{prefix-below}
 use Rattle.cw_rules.specs.Signs.{all_signs, longest, spelling}
 use Rattle.cw_rules.specs.Tokens.{in_hash_line, behind_include, takes_hash_line, is_space, is_deep, ends_at_bar}
 use Rattle.cw_rules.specs.Tokens.{closes_on_line, moved, passed, one, skipped_byte, missing_brace, comment_end}
@@ -189,14 +191,15 @@ line-end-lies low place left part (c ∷ comments) last l some p o =
 start-code : (bar_ends : Bool) (byte : ℕ) (bytes : List ℕ) → CodeIs (start_of bar_ends byte bytes) (code_at bytes)
 start-code bar_ends byte bytes =
     let P : Start → Type 0 = λ s. CodeIs s (code_at bytes) in
-    if-both P (is_letter byte) _ _ (λ h. tt)
+    if-both P (nat_lt 0 (prefix_size (byte ∷ bytes))) _ _ (λ h. tt)
+    (λ h. if-both P (is_letter byte) _ _ (λ h. tt)
     (λ h. if-both P (nat_lt 0 (constant (byte ∷ bytes))) _ _ (λ h. tt)
-    (λ h. if-both P (byte == quote || byte == apostrophe) _ _ (λ h. tt)
+    (λ h. if-both P (is_mark byte) _ _ (λ h. tt)
     (λ h. if-both P (byte == slash && begins star bytes) _ _ (λ h. tt)
     (λ h. if-both P (byte == slash && begins slash bytes) _ _ (λ h. tt)
     (λ h. if-both P (byte == at_sign) _ _ (λ h. refl)
     (λ h. if-both P (byte == bar && (bar_ends && not (begins bar bytes))) _ _ (λ h. tt)
-    (λ h. by (longest all_signs (byte ∷ bytes)))))))))
+    (λ h. by (longest all_signs (byte ∷ bytes))))))))))
   where
     by : (s : Option Sign) → CodeIs (sign_or_other s) (code_at bytes)
     by None = tt
@@ -265,9 +268,11 @@ in-code-lies low place start.Constant w byte bytes l o e =
     one-lies low place (length (byte ∷ bytes)) (in_hash_line w.part) (moved w (passed w.part)) (byte ∷ bytes)
     (plain kinds.Constant (constant (byte ∷ bytes))) tt (passed-on low (place + 1) w o)
 in-code-lies low place (start.Quoted quote) w byte bytes l o e =
+    let opening = prefix_size (byte ∷ bytes) + 1 in
     one-lies low place (length (byte ∷ bytes)) (in_hash_line w.part) (moved w (passed w.part)) (byte ∷ bytes)
-    (string kinds.Quoted 1 quote place (byte ∷ bytes))
-    (string-in low kinds.Quoted 1 quote place (byte ∷ bytes) l (omega arith) (omega arith))
+    (string kinds.Quoted opening quote place (byte ∷ bytes))
+    (string-in low kinds.Quoted opening quote place (byte ∷ bytes) l (omega arith)
+    (omega (arith, prefix-below byte bytes)))
     (passed-on low (place + 1) w o)
 in-code-lies low place start.LongComment w byte bytes l o e =
     record { notes = tt; next = (passed-open low (place + 1) w.part o.0, (l, omega arith, o.1)) }

@@ -1,17 +1,20 @@
 -- A string ends with its quote, before a line's end or with the text.
 use Rattle.std.proofs.Common.{◌≡◌, ℕ, ◌+◌, ◌-◌, Bool, true, false, ◌&&◌, ◌||◌, not, ◌==◌, List, [], ◌∷◌, ◌++◌}
-use Rattle.std.proofs.Common.{if◌then◌else◌, length, drop, refl, sym, ap, subst, ◌∙◌, arith, ◌⊎◌, inl, inr}
+use Rattle.std.proofs.Common.{nat_lt, codes, true≢false, slice_index, if◌then◌else◌, length, drop, refl, sym, ap, subst}
+use Rattle.std.proofs.Common.{◌∙◌, arith, ◌⊎◌, inl, inr}
 use Rattle.std.proofs.lemmas.Bool.{eqb-true}
 use Rattle.std.specs.List.{AllByRecursion, concat}
-use Rattle.cw_base.proofs.TestLaws.{both-right}
+use Rattle.cw_base.proofs.TestLaws.{both-left, both-right}
 use Rattle.std.proofs.Math.Seq.{drop-append_seam, drop-append-add}
 use Rattle.cw_rules.specs.declared.bodies.Body.TheVariants as bodies
 use Rattle.cw_rules.specs.declared.bodies.Inside.{Inside}
-use Rattle.cw_rules.specs.Bytes.{newline, backslash, at_sign, quote, apostrophe, begins, begins_with}
+use Rattle.cw_rules.specs.Bytes.{newline, backslash, at_sign, quote, apostrophe, begins, begins_by, begins_with}
+use Rattle.cw_rules.specs.Bytes.{is_mark}
+use Rattle.cw_rules.specs.Prefixes.{is_prefix_letter, prefix_size}
 use Rattle.cw_rules.specs.Bodies.{stops, takes_next, stepped, goes_on, ended, at_start, extent}
 use Rattle.cw_rules.proofs.Inside.{ended-le}
 use Rattle.cw_lex.specs.Lexing.{last_after}
-use Rattle.cw_laws.specs.Strings.{LinesGoOn, is_piece, StringEnds, IsString}
+use Rattle.cw_laws.specs.Strings.{LinesGoOn, is_piece, is_prefix, StringEnds, IsString}
 
 -- where the inside stops, before these bytes
 abbrev Stops : ℕ → ℕ → ℕ → ℕ → List ℕ → Type 0
@@ -227,27 +230,29 @@ split mark k i (x ∷ y ∷ ys) b a =
 
 -- ## Whole strings
 
-mark-is : (P : ℕ → Type 0) (mark : ℕ) → (mark == quote || mark == apostrophe) ≡ true → P quote → P apostrophe
-    → P mark
+mark-is : (P : ℕ → Type 0) (mark : ℕ) → is_mark mark ≡ true → P quote → P apostrophe → P mark
 mark-is P mark h p q = by (mark == quote) refl
   where
     by : (t : Bool) → (mark == quote) ≡ t → P mark
     by true e = subst P (sym (eqb-true mark quote e)) p
     by false e = subst P (sym (eqb-true mark apostrophe ((λ j. sym e j || (mark == apostrophe)) ∙ h))) q
 
-pub string-is : (mark place : ℕ) (bytes : List ℕ) → (mark == quote || mark == apostrophe) ≡ true
-    → IsString (mark ∷ bytes) (1 + (extent (at_start (bodies.Quoted mark) place) bytes).size)
-string-is mark place bytes h =
+pub string-is : (prefix : List ℕ) → is_prefix prefix ≡ true → (mark place : ℕ) (bytes : List ℕ) → is_mark mark ≡ true
+    → IsString (prefix ++ mark ∷ bytes) ((length prefix + 1)
+    + (extent (at_start (bodies.Quoted mark) place) bytes).size)
+string-is prefix prefixed mark place bytes h =
     let i = at_start (bodies.Quoted mark) place in
     let s = split mark (mark-is (λ m. (at_sign == m) ≡ false) mark h refl refl) i bytes refl refl in
     record {
+      prefix = prefix;
+      prefixed = prefixed;
       mark = mark;
       quotes = h;
       pieces = s.pieces;
       are = s.are;
       lines = lines-behind (concat s.pieces) s.lines;
       rest = s.rest;
-      whole = ap (λ l. mark ∷ l) s.whole;
+      whole = ap (λ l. prefix ++ mark ∷ l) s.whole;
       ends = ends (concat s.pieces) s.rest s.whole s.stops-so;
     }
   where
@@ -282,7 +287,7 @@ string-is mark place bytes h =
     last-behind (x ∷ xs) l = l
 
     ends : (front rest : List ℕ) → bytes ≡ front ++ rest → Stops mark (last_after 0 front) (length front) inside rest
-        → StringEnds mark (last_after mark front) (1 + length front) (1 + size) rest
+        → StringEnds mark (last_after mark front) ((length prefix + 1) + length front) ((length prefix + 1) + size) rest
     ends front [] w e = omega (arith, e, closed-or-not [] false (rest-is front [] w e) refl)
     ends front (y ∷ ys) w (inl e) = inl (
       e.0,
@@ -307,3 +312,46 @@ string-is mark place bytes h =
         let none : drop inside bytes ≡ [] =
         ap (λ n. drop n bytes) e.2 ∙ ap (drop (length front + 1)) w ∙ drop-append-add front (y ∷ ys) 1 ∙ e.1 in
         inr (inr (e.0, e.1, omega (arith, e.2, closed-or-not [] false none refl)))
+
+-- ## Strings with a prefix
+
+-- a string with a prefix of so many bytes
+abbrev Prefixed : ℕ → List ℕ → ℕ → Type 0
+Prefixed place bytes n = IsString bytes ((n + 1)
+    + (extent (at_start (bodies.Quoted (slice_index bytes n)) (place + (n + 1))) (drop (n + 1) bytes)).size)
+
+one-is : (place byte : ℕ) (bytes : List ℕ) → is_prefix_letter byte ≡ true → begins_by is_mark bytes ≡ true
+    → Prefixed place (byte ∷ bytes) 1
+one-is place byte [] p m = absurd (true≢false (sym m))
+one-is place byte (mark ∷ rest) p m = string-is (byte ∷ []) p mark (place + 2) rest m
+
+two-is : (place byte : ℕ) (bytes : List ℕ) → begins_with (codes "u8") (byte ∷ bytes) ≡ true
+    → begins_by is_mark (drop 1 bytes) ≡ true → Prefixed place (byte ∷ bytes) 2
+two-is place byte [] p m = absurd (true≢false (sym m))
+two-is place byte (next ∷ []) p m = absurd (true≢false (sym m))
+two-is place byte (next ∷ mark ∷ rest) p m = string-is (byte ∷ next ∷ []) p mark (place + 3) rest m
+
+pub prefixed-is : (place byte : ℕ) (bytes : List ℕ) → nat_lt 0 (prefix_size (byte ∷ bytes)) ≡ true
+    → Prefixed place (byte ∷ bytes) (prefix_size (byte ∷ bytes))
+prefixed-is place byte bytes =
+    let eight = begins_with (codes "u8") (byte ∷ bytes) in
+    let one = begins_by is_mark bytes in
+    let two = begins_by is_mark (drop 1 bytes) in
+    by (is_prefix_letter byte && one) (eight && two)
+    (λ h. one-is place byte bytes (both-left (is_prefix_letter byte) one h) (both-right (is_prefix_letter byte) one h))
+    (λ h. two-is place byte bytes (both-left eight two h) (both-right eight two h))
+  where
+    by : (one two : Bool) → (one ≡ true → Prefixed place (byte ∷ bytes) 1)
+        → (two ≡ true → Prefixed place (byte ∷ bytes) 2) → nat_lt 0 (if one then 1 else (if two then 2 else 0)) ≡ true
+        → Prefixed place (byte ∷ bytes) (if one then 1 else (if two then 2 else 0))
+    by true two f g h = f refl
+    by false true f g h = g refl
+    by false false f g h = absurd cc
+
+pub unprefixed-is : (place mark : ℕ) (bytes : List ℕ) → prefix_size (mark ∷ bytes) ≡ 0 → is_mark mark ≡ true
+    → IsString (mark ∷ bytes) ((prefix_size (mark ∷ bytes) + 1)
+    + (extent (at_start (bodies.Quoted mark) (place + (prefix_size (mark ∷ bytes) + 1)))
+    (drop (prefix_size (mark ∷ bytes) + 1) (mark ∷ bytes))).size)
+unprefixed-is place mark bytes none h =
+    subst (λ n. IsString (mark ∷ bytes) ((n + 1) + (extent (at_start (bodies.Quoted mark) (place + (n + 1)))
+    (drop (n + 1) (mark ∷ bytes))).size)) (sym none) (string-is [] refl mark (place + 1) bytes h)

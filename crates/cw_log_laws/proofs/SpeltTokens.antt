@@ -1,6 +1,6 @@
 -- The text of an identifier is a letter, and letters and digits behind it, in all answers of the scanner.
 use Rattle.std.proofs.Common.{◌≡◌, ℕ, zero, suc, ◌+◌, ◌-◌, Bool, true, false, ◌&&◌, ◌||◌, not, ◌==◌, nat_lt, List, []}
-use Rattle.std.proofs.Common.{◌∷◌, ◌++◌, Option, Some, None, drop, take, refl, sym, ap, ◌∙◌, arith}
+use Rattle.std.proofs.Common.{◌∷◌, ◌++◌, Option, Some, None, slice_index, drop, take, refl, sym, ap, ◌∙◌, arith}
 use Rattle.std.specs.List.{list_all}
 use Rattle.cw_base.proofs.TestLaws.{both}
 use Rattle.cw_rules.specs.declared.bodies.Noted.{Noted}
@@ -18,11 +18,12 @@ use Rattle.cw_rules.specs.declared.tokens.Mode.{Mode}
 use Rattle.cw_rules.specs.declared.tokens.TokKind.{TokKind}
 use Rattle.cw_rules.specs.declared.tokens.TokKind.TheVariants as kinds
 use Rattle.cw_rules.specs.Answers.{Answer, Token, Begin, Finish, Note, Where, Cut, Found, note_answers, plain}
-use Rattle.cw_rules.specs.Bytes.{newline, quote, apostrophe, slash, star, at_sign, hash, less, backslash, comma}
+use Rattle.cw_rules.specs.Bytes.{newline, apostrophe, slash, star, at_sign, hash, less, backslash, comma}
 use Rattle.cw_base.specs.Text.{bar}
-use Rattle.cw_rules.specs.Bytes.{right_paren, begins, begins_by, is_letter, is_digit, is_in, run}
+use Rattle.cw_rules.specs.Bytes.{right_paren, begins, begins_by, is_letter, is_mark, is_digit, is_in, run}
 use Rattle.cw_rules.specs.Codes.{code_at, begins_section, effect_in_limbo, effect_in_tex, has_control_text}
 use Rattle.cw_rules.specs.Constants.{constant}
+use Rattle.cw_rules.specs.Prefixes.{prefix_size}
 use Rattle.cw_rules.specs.Signs.{all_signs, longest}
 use Rattle.cw_rules.specs.Tokens.{in_hash_line, behind_include, takes_hash_line, is_space, is_deep, ends_at_bar}
 use Rattle.cw_rules.specs.Tokens.{closes_on_line, moved, passed, comment_end, inner_cut, all_cut, section, is_quote}
@@ -158,17 +159,19 @@ in-code-spelt : (bar_ends : Bool) (w : Where) (place byte : ℕ) (bytes : List �
 in-code-spelt bar_ends w place byte bytes =
     let all = byte ∷ bytes in
     let P : Start → Type 0 = λ s. Spelt (in_code s w place all) in
-    if-both P (is_letter byte) start.Identifier _ (λ h. (word-spelt byte bytes h, tt))
+    let string-at : ℕ → Cut = λ mark. string kinds.Quoted (prefix_size all + 1) mark place all in
+    if-both P (nat_lt 0 (prefix_size all)) (start.Quoted (slice_index all (prefix_size all))) _
+    (λ h. (tt, noted-spelt (string-at (slice_index all (prefix_size all))).notes))
+    (λ h. if-both P (is_letter byte) start.Identifier _ (λ h. (word-spelt byte bytes h, tt))
     (λ h. if-both P (nat_lt 0 (constant all)) start.Constant _ (λ h. (tt, tt))
-    (λ h. if-both P (byte == quote || byte == apostrophe) (start.Quoted byte) _
-    (λ h. (tt, noted-spelt (string kinds.Quoted 1 byte place all).notes))
+    (λ h. if-both P (is_mark byte) (start.Quoted byte) _ (λ h. (tt, noted-spelt (string-at byte).notes))
     (λ h. if-both P (byte == slash && begins star bytes) start.LongComment _ (λ h. tt)
     (λ h. if-both P (byte == slash && begins slash bytes) start.ShortComment _ (λ h. tt)
     (λ h. if-both P (byte == at_sign) (start.Code (code_at bytes)) _
     (λ h. code-by-spelt (effect_in w.part w.comments (code_at bytes)) (code_at bytes) w place all)
     (λ h. if-both P (byte == bar && (bar_ends && not (begins bar bytes))) start.EndOfInner
     (sign_or_other (longest all_signs all)) (λ h. tt)
-    (λ h. sign-spelt (longest all_signs all) w place all)))))))
+    (λ h. sign-spelt (longest all_signs all) w place all))))))))
 
 code-text-spelt : (w : Where) (fresh : Bool) (last place byte : ℕ) (bytes : List ℕ)
     → Spelt (code_text w fresh last place byte bytes)
