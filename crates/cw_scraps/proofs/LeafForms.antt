@@ -40,6 +40,12 @@ use Rattle.cw_scraps.proofs.Productions.{seen-line}
 use Rattle.cw_scraps.proofs.Reservings.{entry-there}
 use Rattle.cw_scraps.proofs.Splices.{spliced}
 
+plain-form : (c : Cat) (name : NameId) (number : ℕ) → (c ≡ cat.TexLike → ⊥)
+    → ((word_form c name number).cat ≡ c) × ((word_form c name number).mode ≡ Maybe)
+plain-form cat.Exp name number other = (refl, refl)
+plain-form cat.TexLike name number other = absurd (other refl)
+plain-form _ name number other = (refl, refl)
+
 -- the form of an identifier
 pub word-has : (k : TokKind) (text : List ℕ) (hash : Bool) (number : ℕ) (names names' : List Entry) (name : NameId)
     (own c : Cat) (leaf : Leaf) (old new : List (List Token)) → k ≡ kind.Identifier → name.index
@@ -61,6 +67,33 @@ word-has k text hash number names names' name own c leaf old new is at grown val
     (place_of ident_kind text names))) x number) same_name in
     subst (λ q. IfSome (token_form q text hash number names) (λ form. HasForm form leaf old new)) (sym is)
     (subst (λ x. HasForm x leaf old new) form has)
+
+-- the scrap of a macro of TeX, and of every other identifier
+module _ (c : Cat) (name : NameId) (number : ℕ) (word : Token) (leaf : Leaf) (old new : List (List Token))
+    (tokens : (word_form c name number).tokens ≡ word ∷ []) (list : leaf.list.index ≡ length old)
+    (lists : new ≡ old ++ (word ∷ []) ∷ []) where
+  form-lists : new ≡ old ++ (word_form c name number).tokens ∷ []
+  form-lists = lists ∙ ap (λ ts. old ++ ts ∷ []) (sym tokens)
+
+  pub macro-has : c ≡ cat.TexLike → leaf.cat ≡ cat.Exp → leaf.left ≡ Math → leaf.right ≡ Math
+      → HasForm (word_form c name number) leaf old new
+  macro-has is cat_is left right = record {
+    cat = cat_is ∙ ap (λ x. (word_form x name number).cat) (sym is);
+    left = left ∙ ap (λ x. (word_form x name number).mode) (sym is);
+    right = right ∙ ap (λ x. (word_form x name number).mode) (sym is);
+    list = list;
+    lists = form-lists;
+  }
+
+  pub plain-has : (c ≡ cat.TexLike → ⊥) → leaf.cat ≡ c → leaf.left ≡ Maybe → leaf.right ≡ Maybe
+      → HasForm (word_form c name number) leaf old new
+  plain-has other cat_is left right = record {
+    cat = cat_is ∙ sym (plain-form c name number other).0;
+    left = left ∙ sym (plain-form c name number other).1;
+    right = right ∙ sym (plain-form c name number other).1;
+    list = list;
+    lists = form-lists;
+  }
 
 -- tokens that refer to no list
 abbrev IsPlain : List Token → Type 0
@@ -103,6 +136,12 @@ word-good count cat.Exp name number h = record {
   agrees = λ trees m. refl;
   fine = λ trees. refl;
 }
+word-good count cat.TexLike name number h = record {
+  plain = plain-ref (word_form cat.TexLike name number).tokens (refl, tt);
+  named = λ trees. (h, tt);
+  agrees = λ trees. refl;
+  fine = λ trees. refl;
+}
 word-good count c name number h = record {
   plain = plain-ref (word_form c name number).tokens (refl, tt);
   named = λ trees. (h, tt);
@@ -138,8 +177,8 @@ empty-good count c = record {
 }
 
 code-good : (count : ℕ) (c : Code) (number : ℕ) → IfSome (code_form c number) (IsGood count)
-code-good count code.TexBox number = source-good count cat.Exp Maybe number
-code-good count code.Verbatim number = source-good count cat.Exp Maybe number
+code-good count code.TexBox number = source-good count cat.Box Maybe number
+code-good count code.Verbatim number = source-good count cat.Box Maybe number
 code-good count code.Quote number = source-good count cat.Exp Maybe number
 code-good count code.Join number = source-good count cat.Insert Maybe number
 code-good count code.ThinSpace number = control-maybe count cat.Insert control.ThinSpace (λ m. refl) refl
@@ -147,7 +186,7 @@ code-good count code.OptionalBreak number = control-maybe count cat.Insert contr
 code-good count code.LineBreak number = control-text count cat.Insert control.Break (λ m. refl) refl
 code-good count code.BigBreak number = control-text count cat.Insert control.BigBreak (λ m. refl) refl
 code-good count code.NoBreak number = record {
-  plain = plain-ref (ControlOf control.Cancel ∷ ControlOf control.Wall ∷ ControlOf control.Blank
+  plain = plain-ref (ControlOf control.Cancel ∷ ControlOf control.Wall ∷ ControlOf control.OptionalBreak
       ∷ ControlOf control.Wall ∷ ControlOf control.Cancel ∷ []) (refl, (refl, (refl, (refl, (refl, tt)))));
   named = λ trees. (tt, (tt, (tt, (tt, (tt, tt)))));
   agrees = λ trees. refl;

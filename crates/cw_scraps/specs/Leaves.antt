@@ -68,7 +68,10 @@ sign_cat sign.RightBrace = cat.Rbrace
 sign_cat sign.Comma = cat.Comma
 sign_cat sign.Semicolon = cat.Semi
 sign_cat sign.Colon = cat.Colon
-sign_cat sign.Ellipsis = cat.RawInt
+sign_cat sign.Ellipsis = cat.Dots
+sign_cat sign.DoubleColon = cat.Colcol
+sign_cat sign.QuestionColon = cat.Binop
+sign_cat sign.DoubleBracket = cat.AttrHead
 
 -- brackets, the semicolon and the colon need no mode; every other sign is in math
 abbrev pub sign_mode : Sign → MathMode
@@ -76,14 +79,15 @@ sign_mode sign.LeftParen = Maybe
 sign_mode sign.LeftBracket = Maybe
 sign_mode sign.RightParen = Maybe
 sign_mode sign.RightBracket = Maybe
+sign_mode sign.DoubleBracket = Maybe
 sign_mode sign.Semicolon = Maybe
 sign_mode sign.Colon = Maybe
 sign_mode _ = Math
 
 -- codes; those that make no scrap of their own have none here
 abbrev pub code_form : Code → ℕ → Option LeafForm
-code_form code.TexBox number = Some (source cat.Exp Maybe number)
-code_form code.Verbatim number = Some (source cat.Exp Maybe number)
+code_form code.TexBox number = Some (source cat.Box Maybe number)
+code_form code.Verbatim number = Some (source cat.Box Maybe number)
 code_form code.Quote number = Some (source cat.Exp Maybe number)
 code_form code.Join number = Some (source cat.Insert Maybe number)
 code_form code.ThinSpace number = Some (record {
@@ -100,7 +104,7 @@ code_form code.NoBreak number = Some (record {
   cat = cat.Insert;
   mode = Text;
   tokens = Control control.Cancel
-      ∷ Control control.Wall ∷ Control control.Blank ∷ Control control.Wall ∷ Control control.Cancel ∷ [];
+      ∷ Control control.Wall ∷ Control control.OptionalBreak ∷ Control control.Wall ∷ Control control.Cancel ∷ [];
 })
 code_form code.HeaderFile number = Some (record {
   cat = cat.Insert;
@@ -130,9 +134,11 @@ form_of kind.HashLineEnd number = Some (record { cat = cat.Rproc; mode = Text; t
 form_of (kind.Code c) number = code_form c number
 form_of _ number = None
 
--- An identifier. One of another category than exp is a reserved word.
+-- An identifier. One of another category than exp is a reserved word; a macro of TeX is an expression in math.
 abbrev pub word_form : Cat → NameId → ℕ → LeafForm
 word_form cat.Exp name number = record { cat = cat.Exp; mode = Maybe; tokens = Ident name number ∷ [] }
+word_form cat.TexLike name number =
+    record { cat = cat.Exp; mode = Math; tokens = Reserved name number cat.TexLike ∷ [] }
 word_form c name number = record { cat = c; mode = Maybe; tokens = Reserved name number c ∷ [] }
 
 -- the category of an identifier: in a `#` line the words of such lines have one of their own

@@ -8,6 +8,7 @@ ghost use Rattle.cw_base.specs.declared.category.Cat.TheVariants as Cats;
 ghost use Rattle.cw_base.specs.declared.mode.MathMode.TheVariants as MathMode;
 ghost use Rattle.cw_rules.specs.declared.codes.Code.TheVariants as Code;
 ghost use Rattle.cw_tokens.specs.declared.token.Token.TheVariants as Token;
+ghost use Rattle.cw_tokens.specs.Shapes.{ref_of, shape};
 ghost use Rattle.cw_scraps.specs.declared.line.LineEntry.{LineEntry};
 ghost use Rattle.cw_scraps.specs.Lines.{IsSoundLine};
 ghost use Rattle.cw_scraps.specs.Leaves.{MakesLeaf, HasForm, entry_of, token_form, names_with, form_of, code_form};
@@ -90,6 +91,9 @@ fn hash_line_category(text: &[u8]) -> Option<Cat>
     ensures real { IfSome result (λ cat. cat ≢ Cats.End) }
 {
     if is_word(text, b"elif")
+        || is_word(text, b"elifdef")
+        || is_word(text, b"elifndef")
+        || is_word(text, b"embed")
         || is_word(text, b"error")
         || is_word(text, b"ifdef")
         || is_word(text, b"ifndef")
@@ -97,6 +101,7 @@ fn hash_line_category(text: &[u8]) -> Option<Cat>
         || is_word(text, b"line")
         || is_word(text, b"pragma")
         || is_word(text, b"undef")
+        || is_word(text, b"warning")
     {
         Some(Cat::IfLike)
     } else if is_word(text, b"endif") {
@@ -110,26 +115,33 @@ fn hash_line_category(text: &[u8]) -> Option<Cat>
     }
 }
 
+/// The token of an identifier of this category.
+#[inline(always)]
+pub(crate) fn token_of_word(cat: Cat, name: NameId, number: u32) -> Token
+    ensures tokens { (word_form cat name number).tokens ≡ result ∷ [] }
+    ensures plain { ref_of (shape result) ≡ None }
+{
+    if cat == Cat::Exp {
+        Token::Ident(name, number)
+    } else {
+        Token::Reserved(name, number, cat)
+    }
+}
+
 /// The scrap of an identifier.
 #[inline(always)]
 fn word_leaf(cat: Cat, name: NameId, number: u32, store: &mut TokenStore) -> Leaf
     requires idle { store.old.building ≡ None }
     requires room { 6 ≤ store.old.spare }
     ensures form { HasForm (word_form cat name number) result store.old.lists store.new.lists }
-    ensures cat { result.cat ≡ cat }
+    ensures real { cat ≢ Cats.End → result.cat ≢ Cats.End }
     ensures idle { store.new.building ≡ None }
 {
     store.begin();
-    if cat == Cat::Exp {
-        store.push(Token::Ident(name, number));
-    } else {
-        store.push(Token::Reserved(name, number, cat));
-    }
-    Leaf {
-        cat,
-        list: store.finish(),
-        left: MathMode::Maybe,
-        right: MathMode::Maybe,
+    store.push(token_of_word(cat, name, number));
+    match cat {
+        Cat::TexLike => ended(Cat::Exp, MathMode::Math, store),
+        _ => ended(cat, MathMode::Maybe, store),
     }
 }
 
@@ -226,12 +238,8 @@ fn code_leaf(code: Code, number: u32, store: &mut TokenStore) -> Leaf
     ensures idle { store.new.building ≡ None }
 {
     match code {
-        Code::TexBox | Code::Verbatim | Code::Quote => source_leaf(
-            Cat::Exp,
-            MathMode::Maybe,
-            number,
-            store,
-        ),
+        Code::TexBox | Code::Verbatim => source_leaf(Cat::Box, MathMode::Maybe, number, store),
+        Code::Quote => source_leaf(Cat::Exp, MathMode::Maybe, number, store),
         Code::Join => source_leaf(Cat::Insert, MathMode::Maybe, number, store),
         Code::ThinSpace => control_leaf(Cat::Insert, MathMode::Maybe, Control::ThinSpace, store),
         Code::LineBreak => control_leaf(Cat::Insert, MathMode::Text, Control::Break, store),
@@ -262,7 +270,7 @@ fn no_break_leaf(store: &mut TokenStore) -> Leaf
     store.begin();
     store.push(Token::Control(Control::Cancel));
     store.push(Token::Control(Control::Wall));
-    store.push(Token::Control(Control::Blank));
+    store.push(Token::Control(Control::OptionalBreak));
     store.push(Token::Control(Control::Wall));
     store.push(Token::Control(Control::Cancel));
     ended(Cat::Insert, MathMode::Text, store)
@@ -304,7 +312,8 @@ fn sign_cat(sign: Sign) -> Cat
         | Sign::AtMost
         | Sign::AtLeast
         | Sign::AndAnd
-        | Sign::OrOr => Cat::Binop,
+        | Sign::OrOr
+        | Sign::QuestionColon => Cat::Binop,
         Sign::Dot => Cat::Dot,
         Sign::Not | Sign::Tilde | Sign::PlusPlus | Sign::MinusMinus => Cat::Unop,
         Sign::Plus | Sign::Minus | Sign::Hash => Cat::Ubinop,
@@ -317,7 +326,9 @@ fn sign_cat(sign: Sign) -> Cat
         Sign::Comma => Cat::Comma,
         Sign::Semicolon => Cat::Semi,
         Sign::Colon => Cat::Colon,
-        Sign::Ellipsis => Cat::RawInt,
+        Sign::Ellipsis => Cat::Dots,
+        Sign::DoubleColon => Cat::Colcol,
+        Sign::DoubleBracket => Cat::AttrHead,
     }
 }
 
@@ -330,6 +341,7 @@ pub(crate) fn sign_mode(sign: Sign) -> MathMode
         | Sign::LeftBracket
         | Sign::RightParen
         | Sign::RightBracket
+        | Sign::DoubleBracket
         | Sign::Semicolon
         | Sign::Colon => MathMode::Maybe,
         _ => MathMode::Math,

@@ -5,7 +5,7 @@ ghost use Rattle.cw_trees.specs.Joining.{first_mode};
 ghost use Rattle.cw_table.specs.declared.types.Insertion.TheVariants.{Scrap};
 ghost use Rattle.cw_table.specs.declared.types.RowResult.TheVariants.{SameAs};
 ghost use Rattle.cw_table.specs.Rows.{pieces_by, result_at};
-ghost use Rattle.cw_table.specs.Rewriting.{alone, takes_other};
+ghost use Rattle.cw_table.specs.Rewriting.{alone, is_stmt, takes_other};
 ghost use Rattle.cw_scraps.specs.Inserting.{entry_cats, insert_in, inserted_by};
 
 use crate::line::ScrapLine;
@@ -102,9 +102,16 @@ pub fn takes_other(flags: &Flags, choice: Choice, line: &ScrapLine, place: usize
     match choice {
         Choice::Always => false,
         Choice::Indent => !flags.indent,
-        Choice::Separate => !flags.separate && line.entry(place + 1).cat == Cat::Stmt,
+        Choice::Separate => !flags.separate && is_stmt(line.entry(place + 1).cat),
         Choice::Force => !flags.force,
     }
+}
+
+/// Whether a category is that of statements.
+fn is_stmt(cat: Cat) -> bool
+    ensures { result ≡ is_stmt cat }
+{
+    matches!(cat, Cat::Stmt)
 }
 
 /// The category that a row gives at a place.

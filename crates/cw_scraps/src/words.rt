@@ -3,8 +3,8 @@ ghost use Rattle.std.specs.Prelude.{◌≡◌, ◌^◌, ◌<◌, ◌∷◌, [], 
 ghost use Rattle.cw_scraps.specs.Leaves.{token_form, names_with};
 ghost use Rattle.cw_scraps.specs.Words.{is_word};
 
-use crate::leaves::{sign_mode, word_cat};
-use cw_base::{Cat, Memory};
+use crate::leaves::{sign_mode, token_of_word, word_cat};
+use cw_base::Memory;
 use cw_lex::{Tok, TokKind};
 use cw_names::{EntryKind, Names};
 use cw_tokens::Token;
@@ -25,11 +25,7 @@ pub fn word_token(word: &Tok, names: &mut Names) -> Result<Token, Memory>
         _ => {
             let name = names.find_or_add(EntryKind::Ident, word.text)?;
             let cat = word_cat(word.hash_line, word.text, names.category(name));
-            Ok(if cat == Cat::Exp {
-                Token::Ident(name, number)
-            } else {
-                Token::Reserved(name, number, cat)
-            })
+            Ok(token_of_word(cat, name, number))
         }
     }
 }
