@@ -46,7 +46,9 @@ byte-plain byte braces is =
 
 one-plain : (byte : ℕ) (bytes : List ℕ) (braces : ℕ) → is_special byte ≡ false
     → comment_piece (byte ∷ bytes) braces ≡ joined (prints (byte ∷ []) braces) (comment_piece bytes braces)
-one-plain byte [] braces is = byte-plain byte braces is
+one-plain byte [] braces is =
+    let o = all-other (byte == 10) (byte == 64) (byte == 92) (byte == 123) (byte == 125) is in
+    λ i. elim (o.third i) [ true ↦ prints (byte ∷ 32 ∷ []) braces | false ↦ byte-plain byte braces is i ]
 one-plain byte (next ∷ bytes) braces is =
     let o = all-other (byte == 10) (byte == 64) (byte == 92) (byte == 123) (byte == 125) is in
     λ i. elim (o.third i && not (next == 64)) [

@@ -25,6 +25,33 @@ fraction = refl
 exponent : token_bytes kind.Constant (codes "1.e-5l") ≡ codes "\\T{1.\\_-5\\$L}"
 exponent = refl
 
+binary : token_bytes kind.Constant (codes "0b1010'1010") ≡ codes "\\T{\\\\1010\\ 1010}"
+binary = refl
+
+binary_with_suffix : token_bytes kind.Constant (codes "0B1uL") ≡ codes "\\T{\\\\1\\$U\\$L}"
+binary_with_suffix = refl
+
+thousands : token_bytes kind.Constant (codes "1'000'000u") ≡ codes "\\T{1\\ 000\\ 000\\$U}"
+thousands = refl
+
+spaced_everywhere : token_bytes kind.Constant (codes "1'0.5'5e1'2f") ≡ codes "\\T{1\\ 0.5\\ 5\\_1\\ 2\\$F}"
+spaced_everywhere = refl
+
+spaced_octal : token_bytes kind.Constant (codes "017'7") ≡ codes "\\T{\\~17\\ 7}"
+spaced_octal = refl
+
+space_behind_zero : token_bytes kind.Constant (codes "0'17") ≡ codes "\\T{0\\ 17}"
+space_behind_zero = refl
+
+hexadecimal_fraction : token_bytes kind.Constant (codes "0x1.8p-3") ≡ codes "\\T{\\^1.8p-3}"
+hexadecimal_fraction = refl
+
+hexadecimal_exponent : token_bytes kind.Constant (codes "0X1.P+1'0f") ≡ codes "\\T{\\^1.P+1\\ 0\\$F}"
+hexadecimal_exponent = refl
+
+spaced_hexadecimal : token_bytes kind.Constant (codes "0xFF'FFul") ≡ codes "\\T{\\^FF\\ FF\\$U\\$L}"
+spaced_hexadecimal = refl
+
 -- strings, include names and other bytes
 string : token_bytes kind.Quoted (codes "\"a b@@%\\n\"") ≡ codes "\\.{\"a\\ b@\\%\\\\n\"}"
 string = refl
@@ -37,6 +64,45 @@ string_behind_two_backslashes = refl
 
 string_with_an_at_taken_along : token_bytes kind.Quoted (codes "\"\\@@\"") ≡ codes "\\.{\"\\\\@@\"}"
 string_with_an_at_taken_along = refl
+
+wide_string : token_bytes kind.Quoted (codes "L\"x\"") ≡ codes "\\.{L\"x\"}"
+wide_string = refl
+
+prefixed_character : token_bytes kind.Quoted (codes "u8'x'") ≡ codes "\\.{u8'x'}"
+prefixed_character = refl
+
+-- a string of 20 bytes stands whole, and of one more the last is divided from the others
+string_of_twenty : token_bytes kind.Quoted (codes "\"012345678901234567\"") ≡ codes "\\.{\"012345678901234567\"}"
+string_of_twenty = refl
+
+string_of_twenty_one : token_bytes kind.Quoted (codes "\"0123456789012345678\"")
+    ≡ codes "\\.{\"0123456789012345678}\\)\\.{\"}"
+string_of_twenty_one = refl
+
+pair_at_the_twentieth_byte : token_bytes kind.Quoted (codes "\"012345678901234567\\n1\"")
+    ≡ codes "\\.{\"012345678901234567\\\\n}\\)\\.{1\"}"
+pair_at_the_twentieth_byte = refl
+
+pair_behind_the_twentieth_byte : token_bytes kind.Quoted (codes "\"0123456789012345678\\n1\"")
+    ≡ codes "\\.{\"0123456789012345678}\\)\\.{\\\\n1\"}"
+pair_behind_the_twentieth_byte = refl
+
+prefixed_string_divided : token_bytes kind.Quoted (codes "u8\"012345678901234567890123456789012345678\"")
+    ≡ codes "\\.{u8\"01234567890123456}\\)\\.{78901234567890123456}\\)\\.{78\"}"
+prefixed_string_divided = refl
+
+-- what prints nothing doesn't count, and two bytes that print one count as one
+string_on_two_lines_divided : token_bytes kind.Quoted (codes "\"0123456789@@1234567\\\n8\"")
+    ≡ codes "\\.{\"0123456789@12345678}\\)\\.{\"}"
+string_on_two_lines_divided = refl
+
+long_quote : token_bytes (kind.Code code.Quote) (codes "@'0123456789012345678'")
+    ≡ codes "\\.{@'012345678901234567}\\)\\.{8'}"
+long_quote = refl
+
+long_include_name : token_bytes kind.IncludeName (codes "<a@@3456789012345678\\>")
+    ≡ codes "\\.{<a@3456789012345678\\\\>}"
+long_include_name = refl
 
 include_name : token_bytes kind.IncludeName (codes "<a_b@@.h>") ≡ codes "\\.{<a\\_b@.h>}"
 include_name = refl
@@ -131,6 +197,15 @@ semicolon = refl
 ellipsis : sign_macro sign.Ellipsis ≡ codes "\\,\\ldots\\,"
 ellipsis = refl
 
+double_colon : token_bytes (kind.Sign sign.DoubleColon) (codes "::") ≡ codes "\\DC"
+double_colon = refl
+
+question_colon : sign_macro sign.QuestionColon ≡ codes "\\?:"
+question_colon = refl
+
+double_bracket : sign_macro sign.DoubleBracket ≡ codes "[["
+double_bracket = refl
+
 -- lines of the preprocessor
 hash_line : token_bytes kind.HashLine (codes "#") ≡ codes "\\8\\#"
 hash_line = refl
@@ -150,6 +225,12 @@ open_brace = refl
 
 backslash_at_a_line_end : comment_piece (codes "a\\\nb\\@@") 0 ≡ prints (codes "a\\ b\\@") 0
 backslash_at_a_line_end = refl
+
+backslash_at_the_end : comment_piece (codes " x \\") 0 ≡ prints (codes " x \\ ") 0
+backslash_at_the_end = refl
+
+two_backslashes_at_the_end : comment_piece (codes " x \\\\") 0 ≡ prints (codes " x \\\\") 0
+two_backslashes_at_the_end = refl
 
 missing_braces : closing_braces 2 ≡ codes "}}}"
 missing_braces = refl

@@ -34,13 +34,20 @@ byte_piece byte braces = elim (byte == 64) [
   ]
 ]
 
+-- A backslash that is the last byte takes nothing along: a blank keeps it from the brace that closes the comment.
+abbrev pub last_piece : ℕ → ℕ → Piece
+last_piece byte braces = elim (byte == 92) [
+  | true ↦ prints (byte ∷ 32 ∷ []) braces
+  | false ↦ byte_piece byte braces
+]
+
 -- A backslash takes the next byte along, unless it is `@`; and `@@` is one `@`.
 abbrev pub takes_along : ℕ → ℕ → Bool
 takes_along byte next = byte == 92 && not (next == 64)
 
 abbrev pub comment_piece : List ℕ → ℕ → Piece
 comment_piece [] braces = prints [] braces
-comment_piece (byte ∷ []) braces = byte_piece byte braces
+comment_piece (byte ∷ []) braces = last_piece byte braces
 comment_piece (byte ∷ next ∷ bytes) braces = elim (takes_along byte next) [
   | true ↦ then (prints (byte ∷ blank_for next ∷ []) braces) (comment_piece bytes)
   | false ↦ elim (is_at_pair byte next) [

@@ -1,5 +1,5 @@
 -- What a constant prints.
-use Rattle.std.specs.Prelude.{ℕ, ◌-◌, ◌||◌, ◌==◌, nat_le, Bool, true, false, List, [], ◌∷◌}
+use Rattle.std.specs.Prelude.{ℕ, ◌-◌, ◌||◌, ◌==◌, nat_le, Bool, true, false, List, [], ◌∷◌, ◌++◌}
 use Rattle.cw_rules.specs.Bytes.{is_digit, is_hex_digit}
 
 -- `\$` and its upper case letter for each letter behind the number
@@ -10,14 +10,18 @@ abbrev pub suffix : List ℕ → List ℕ
 suffix [] = []
 suffix (byte ∷ bytes) = 92 ∷ 36 ∷ upper byte ∷ suffix bytes
 
+-- `\ ` for a `'` between two digits
+abbrev pub number_byte : ℕ → List ℕ
+number_byte byte = elim (byte == 39) [ true ↦ 92 ∷ 32 ∷ [] | false ↦ byte ∷ [] ]
+
 -- digits and a sign up to the suffix
 abbrev pub is_exponent_byte : ℕ → Bool
-is_exponent_byte byte = is_digit byte || byte == 43 || byte == 45
+is_exponent_byte byte = is_digit byte || byte == 43 || byte == 45 || byte == 39
 
 abbrev pub exponent_bytes : List ℕ → List ℕ
 exponent_bytes [] = []
 exponent_bytes (byte ∷ bytes) = elim (is_exponent_byte byte) [
-  | true ↦ byte ∷ exponent_bytes bytes
+  | true ↦ number_byte byte ++ exponent_bytes bytes
   | false ↦ suffix (byte ∷ bytes)
 ]
 
@@ -27,26 +31,40 @@ behind_mantissa byte bytes =
     elim (byte == 69 || byte == 101) [ true ↦ 92 ∷ 95 ∷ exponent_bytes bytes | false ↦ suffix (byte ∷ bytes) ]
 
 abbrev pub is_mantissa_byte : ℕ → Bool
-is_mantissa_byte byte = is_digit byte || byte == 46
+is_mantissa_byte byte = is_digit byte || byte == 46 || byte == 39
 
 abbrev pub mantissa_bytes : List ℕ → List ℕ
 mantissa_bytes [] = []
 mantissa_bytes (byte ∷ bytes) = elim (is_mantissa_byte byte) [
-  | true ↦ byte ∷ mantissa_bytes bytes
+  | true ↦ number_byte byte ++ mantissa_bytes bytes
   | false ↦ behind_mantissa byte bytes
 ]
 
+-- The letter of a hexadecimal exponent prints itself.
+abbrev pub behind_hex_digits : ℕ → List ℕ → List ℕ
+behind_hex_digits byte bytes =
+    elim (byte == 80 || byte == 112) [ true ↦ byte ∷ exponent_bytes bytes | false ↦ suffix (byte ∷ bytes) ]
+
+abbrev pub is_hex_byte : ℕ → Bool
+is_hex_byte byte = is_hex_digit byte || byte == 46 || byte == 39
+
 abbrev pub hex_digits : List ℕ → List ℕ
 hex_digits [] = []
-hex_digits (byte ∷ bytes) = elim (is_hex_digit byte) [ true ↦ byte ∷ hex_digits bytes | false ↦ suffix (byte ∷ bytes) ]
+hex_digits (byte ∷ bytes) = elim (is_hex_byte byte) [
+  | true ↦ number_byte byte ++ hex_digits bytes
+  | false ↦ behind_hex_digits byte bytes
+]
 
--- `\^` for `0x`, and `\~` for a `0` before a digit
+-- `\^` for `0x`, `\\` for `0b`, and `\~` for a `0` before a digit
 abbrev pub behind_zero : ℕ → List ℕ → List ℕ
 behind_zero byte bytes = elim (byte == 88 || byte == 120) [
   | true ↦ 92 ∷ 94 ∷ hex_digits bytes
-  | false ↦ elim (is_digit byte) [
-    | true ↦ 92 ∷ 126 ∷ mantissa_bytes (byte ∷ bytes)
-    | false ↦ 48 ∷ mantissa_bytes (byte ∷ bytes)
+  | false ↦ elim (byte == 66 || byte == 98) [
+    | true ↦ 92 ∷ 92 ∷ mantissa_bytes bytes
+    | false ↦ elim (is_digit byte) [
+      | true ↦ 92 ∷ 126 ∷ mantissa_bytes (byte ∷ bytes)
+      | false ↦ 48 ∷ mantissa_bytes (byte ∷ bytes)
+    ]
   ]
 ]
 

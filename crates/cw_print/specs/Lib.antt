@@ -2,6 +2,7 @@
 pub mod Escaping
 pub mod Constants
 pub mod Texts
+pub mod Dividing
 pub mod Comments
 pub mod Tokens
 pub mod Signs

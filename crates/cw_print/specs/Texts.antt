@@ -1,6 +1,7 @@
--- The bytes that strings, include names and control texts say.
-use Rattle.std.specs.Prelude.{ℕ, ◌&&◌, ◌==◌, Bool, true, false, List, [], ◌∷◌, drop}
+-- The bytes that strings, include names and control texts say, and how long ones are divided.
+use Rattle.std.specs.Prelude.{ℕ, ◌+◌, ◌&&◌, ◌==◌, nat_le, Bool, true, false, List, [], ◌∷◌, ◌++◌, codes, drop, length}
 use Rattle.cw_rules.specs.Bytes.{begins}
+use Rattle.cw_print.specs.Escaping.{braced, escaped}
 
 -- In a string `@@` is one `@`, and a backslash and a line's end print nothing. Any other byte behind a backslash is
 -- taken
@@ -34,6 +35,38 @@ include_bytes [] = []
 include_bytes (byte ∷ []) = byte ∷ []
 include_bytes (byte ∷ next ∷ bytes) =
     elim (is_at_pair byte next) [ true ↦ byte ∷ include_bytes bytes | false ↦ byte ∷ include_bytes (next ∷ bytes) ]
+
+-- ## Long texts
+
+-- A text falls into units, which stay whole: a backslash and the byte behind it, or one byte.
+abbrev pub units : List ℕ → List (List ℕ)
+units [] = []
+units (byte ∷ []) = (byte ∷ []) ∷ []
+units (byte ∷ next ∷ bytes) = elim (byte == 92) [
+  | true ↦ (byte ∷ next ∷ []) ∷ units bytes
+  | false ↦ (byte ∷ []) ∷ units (next ∷ bytes)
+]
+
+-- The text is divided before each unit before which 20 bytes or more of it have come, since the last division or the
+-- beginning.
+abbrev pub division : List ℕ
+division = codes "}\\)\\.{"
+
+abbrev pub divided_units : ℕ → List (List ℕ) → List ℕ
+divided_units come [] = []
+divided_units come (unit ∷ rest) = elim (nat_le 20 come) [
+  | true ↦ division ++ (escaped unit ++ divided_units (length unit) rest)
+  | false ↦ escaped unit ++ divided_units (come + length unit) rest
+]
+
+abbrev pub divided : List ℕ → List ℕ
+divided text = divided_units 0 (units text)
+
+-- a text in typewriter type at which a line may be broken
+abbrev pub divided_typewriter : List ℕ → List ℕ
+divided_typewriter text = braced (codes "\\.") (divided text)
+
+-- ## Control texts
 
 -- A control text goes to the first `@>`. In it `@@` is one `@`, and another `@` is kept.
 abbrev pub is_text_end : ℕ → ℕ → Bool

@@ -9,7 +9,7 @@ use Rattle.cw_rules.specs.declared.tokens.TokKind.TheVariants as kind
 use Rattle.cw_rules.specs.Signs.{spelling}
 use Rattle.cw_print.specs.Escaping.{escaped, braced, typewriter}
 use Rattle.cw_print.specs.Constants.{constant_bytes}
-use Rattle.cw_print.specs.Texts.{string_bytes, include_bytes, control_bytes}
+use Rattle.cw_print.specs.Texts.{string_bytes, include_bytes, control_bytes, divided_typewriter}
 
 -- A sign has a macro, or prints itself.
 abbrev pub sign_macro : Sign → List ℕ
@@ -36,13 +36,15 @@ sign_macro sign.Question = codes "\\?"
 sign_macro sign.LeftBrace = codes "\\{"
 sign_macro sign.RightBrace = codes "\\}"
 sign_macro sign.Ellipsis = codes "\\,\\ldots\\,"
+sign_macro sign.DoubleColon = codes "\\DC"
+sign_macro sign.QuestionColon = codes "\\?:"
 sign_macro other = spelling other
 
 -- A code by its text, or by a macro. `@'` is a string with these two bytes before it.
 abbrev pub code_bytes : Code → List ℕ → List ℕ
 code_bytes code.Verbatim text = braced (codes "\\vb") (escaped (control_bytes text))
 code_bytes code.TexBox text = braced (codes "\\hbox") (control_bytes text)
-code_bytes code.Quote text = typewriter (codes "@'" ++ string_bytes (drop 2 text))
+code_bytes code.Quote text = divided_typewriter (codes "@'" ++ string_bytes (drop 2 text))
 code_bytes code.Join text = codes "\\J"
 code_bytes code.HeaderFile text = codes "\\ATH"
 code_bytes code.Define text = codes "\\D"
@@ -53,8 +55,8 @@ code_bytes other text = []
 -- by where they stand.
 abbrev pub token_bytes : TokKind → List ℕ → List ℕ
 token_bytes kind.Constant text = braced (codes "\\T") (constant_bytes text)
-token_bytes kind.Quoted text = typewriter (string_bytes text)
-token_bytes kind.IncludeName text = typewriter (include_bytes text)
+token_bytes kind.Quoted text = divided_typewriter (string_bytes text)
+token_bytes kind.IncludeName text = divided_typewriter (include_bytes text)
 token_bytes kind.OtherByte text = typewriter text
 token_bytes (kind.Sign sign) text = sign_macro sign
 token_bytes kind.HashLine text = codes "\\8\\#"

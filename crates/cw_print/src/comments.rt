@@ -89,7 +89,7 @@ fn two_at(text: &[u8]) -> Option<Two>
     })
 }
 
-// The last byte, if there is one.
+// The last byte, if there is one: a blank keeps a backslash from the brace that closes the comment.
 fn put_last(out: &mut Bytes, text: &[u8], braces: usize) -> Result<usize, Memory>
     requires { length text.now ≤ 1 }
     ensures bytes { OnOk result (out.new ≡ out.old ++ (comment_piece text.now braces).bytes) }
@@ -97,6 +97,10 @@ fn put_last(out: &mut Bytes, text: &[u8], braces: usize) -> Result<usize, Memory
 {
     match text {
         [] => Ok(braces),
+        [b'\\', ..] => {
+            put_pair(out, b'\\', b' ')?;
+            Ok(braces)
+        }
         [byte, ..] => put_byte(out, *byte, braces),
     }
 }

@@ -5,6 +5,7 @@ mod book_titles;
 mod braces;
 mod comments;
 mod constants;
+mod dividing;
 mod escaping;
 mod name_walk;
 mod printing;

@@ -50,6 +50,9 @@ pub(crate) fn sign_macro(sign: Sign) -> &'static [u8]
         Sign::Semicolon => b";",
         Sign::Colon => b":",
         Sign::Ellipsis => b"\\,\\ldots\\,",
+        Sign::DoubleColon => b"\\DC",
+        Sign::QuestionColon => b"\\?:",
+        Sign::DoubleBracket => b"[[",
     }
 }
 

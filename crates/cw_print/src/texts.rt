@@ -1,9 +1,11 @@
 //! The bytes of strings, include names and control texts.
-ghost use Rattle.std.specs.Prelude.{◌≡◌, ◌++◌, OnOk};
+ghost use Rattle.std.specs.Prelude.{◌≡◌, ◌++◌, ◌∷◌, OnOk};
+ghost use Rattle.cw_print.specs.Dividing.{rest_bytes};
 ghost use Rattle.cw_print.specs.Escaping.{escaped};
 ghost use Rattle.cw_print.specs.Texts.{is_continued, is_pair, is_at_pair, string_bytes, include_bytes, is_text_end};
-ghost use Rattle.cw_print.specs.Texts.{text_to_end};
+ghost use Rattle.cw_print.specs.Texts.{divided, text_to_end};
 
+use crate::dividing::Portion;
 use crate::escaping::{put_escaped, put_escaped_byte};
 use cw_base::{Bytes, Memory};
 
@@ -37,21 +39,22 @@ fn is_text_end(byte: u8, next: u8) -> bool
     byte == b'@' && next == b'>'
 }
 
-/// Appends the escaped bytes that a string says.
-pub(crate) fn put_string(out: &mut Bytes, text: &[u8]) -> Result<(), Memory>
-    ensures { OnOk result (out.new ≡ out.old ++ escaped (string_bytes text.now)) }
+// Appends what the rest of a string says, from where its portion has come to.
+fn put_string_rest(out: &mut Bytes, first: Portion, text: &[u8]) -> Result<(), Memory>
+    ensures { OnOk result (out.new ≡ out.old ++ rest_bytes first (string_bytes text.now)) }
 {
+    let mut portion = first;
     let mut rest = text;
     while let [byte, others @ ..] = rest {
         let [next, behind @ ..] = others else {
-            return put_escaped(out, rest);
+            return portion.put(out, *byte);
         };
         if is_continued(*byte, *next) {
             rest = behind;
         } else {
-            put_escaped_byte(out, *byte)?;
+            portion.put(out, *byte)?;
             if is_pair(*byte, *next, behind) {
-                put_escaped_byte(out, *next)?;
+                portion.put(out, *next)?;
                 rest = behind;
             } else if is_at_pair(*byte, *next) {
                 rest = behind;
@@ -63,16 +66,32 @@ pub(crate) fn put_string(out: &mut Bytes, text: &[u8]) -> Result<(), Memory>
     Ok(())
 }
 
-/// Appends the escaped bytes that an include name says.
-pub(crate) fn put_include_name(out: &mut Bytes, text: &[u8]) -> Result<(), Memory>
-    ensures { OnOk result (out.new ≡ out.old ++ escaped (include_bytes text.now)) }
+/// Appends what a string says, escaped and divided.
+pub(crate) fn put_string(out: &mut Bytes, text: &[u8]) -> Result<(), Memory>
+    ensures { OnOk result (out.new ≡ out.old ++ divided (string_bytes text.now)) }
 {
+    put_string_rest(out, Portion::behind(0), text)
+}
+
+/// The same of a string behind `@'`: these two bytes are its first.
+pub(crate) fn put_quote(out: &mut Bytes, text: &[u8]) -> Result<(), Memory>
+    ensures { OnOk result (out.new ≡ out.old ++ divided (64 ∷ 39 ∷ string_bytes text.now)) }
+{
+    out.append(b"@'")?;
+    put_string_rest(out, Portion::behind(2), text)
+}
+
+// Appends what the rest of an include name says, from where its portion has come to.
+fn put_include_rest(out: &mut Bytes, first: Portion, text: &[u8]) -> Result<(), Memory>
+    ensures { OnOk result (out.new ≡ out.old ++ rest_bytes first (include_bytes text.now)) }
+{
+    let mut portion = first;
     let mut rest = text;
     while let [byte, others @ ..] = rest {
         let [next, behind @ ..] = others else {
-            return put_escaped(out, rest);
+            return portion.put(out, *byte);
         };
-        put_escaped_byte(out, *byte)?;
+        portion.put(out, *byte)?;
         rest = if is_at_pair(*byte, *next) {
             behind
         } else {
@@ -80,6 +99,13 @@ pub(crate) fn put_include_name(out: &mut Bytes, text: &[u8]) -> Result<(), Memor
         };
     }
     Ok(())
+}
+
+/// Appends what an include name says, escaped and divided.
+pub(crate) fn put_include_name(out: &mut Bytes, text: &[u8]) -> Result<(), Memory>
+    ensures { OnOk result (out.new ≡ out.old ++ divided (include_bytes text.now)) }
+{
+    put_include_rest(out, Portion::behind(0), text)
 }
 
 /// Appends what a control text says.

@@ -6,7 +6,7 @@ ghost use Rattle.cw_print.specs.Tokens.{code_bytes, token_bytes};
 use crate::constants::put_constant;
 use crate::escaping::put_escaped;
 use crate::signs::put_sign;
-use crate::texts::{put_control_text, put_escaped_control_text, put_include_name, put_string};
+use crate::texts::{put_control_text, put_escaped_control_text, put_include_name, put_quote, put_string};
 use cw_base::{Bytes, Memory};
 use cw_lex::{Code, TokKind};
 
@@ -39,8 +39,8 @@ fn put_code(out: &mut Bytes, code: Code, text: &[u8]) -> Result<(), Memory>
             out.push(b'}')
         }
         Code::Quote => {
-            out.append(b"\\.{@'")?;
-            put_string(out, behind_code(text))?;
+            out.append(b"\\.{")?;
+            put_quote(out, behind_code(text))?;
             out.push(b'}')
         }
         Code::Join => out.append(b"\\J"),

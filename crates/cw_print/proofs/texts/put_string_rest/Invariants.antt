@@ -1,0 +1,12 @@
+-- What is put so far, with what the rest of the string prints from its portion on, is what all of it prints.
+use Rattle.std.proofs.Common.{◌≡◌, ◌++◌, length}
+use Rattle.cw_print.specs.Dividing.{rest_bytes}
+use Rattle.cw_print.specs.Texts.{string_bytes}
+use Rattle.cw_print.proofs.texts.put_string_rest.Given as goal
+
+abbrev pub invariant-loop-rest : goal.invariant-loop-rest
+invariant-loop-rest l = l.out ++ rest_bytes l.portion (string_bytes l.rest)
+    ≡ l.initial.out ++ rest_bytes l.initial.portion (string_bytes l.text)
+
+abbrev pub decreases-loop-rest : goal.decreases-loop-rest
+decreases-loop-rest l = length l.rest

@@ -1,0 +1,33 @@
+-- A text that is printed byte by byte, and divided on the way.
+use Rattle.std.specs.Prelude.{ℕ, ◌-◌, ◌&&◌, ◌==◌, Bool, true, false, not, List, [], ◌∷◌, ◌++◌}
+use Rattle.cw_print.specs.declared.dividing.Portion.{Portion}
+use Rattle.cw_print.specs.Escaping.{escaped_byte}
+use Rattle.cw_print.specs.Texts.{division}
+
+-- a portion of which so many bytes have come, and no backslash last
+abbrev pub portion_behind : ℕ → Portion
+portion_behind come = record { room = 20 - come; takes_next = false }
+
+-- A portion without room ends where no backslash takes the next byte along.
+abbrev pub is_full : Portion → Bool
+is_full portion = not portion.takes_next && portion.room == 0
+
+-- the portion in which the next byte stands
+abbrev pub portion_for_next : Portion → Portion
+portion_for_next portion = elim (is_full portion) [ true ↦ portion_behind 0 | false ↦ portion ]
+
+abbrev pub with_byte : Portion → ℕ → Portion
+with_byte portion byte = record {
+  room = portion.room - 1;
+  takes_next = not portion.takes_next && byte == 92;
+}
+
+-- what the next byte prints
+abbrev pub next_byte : Portion → ℕ → List ℕ
+next_byte portion byte = elim (is_full portion) [ true ↦ division ++ escaped_byte byte | false ↦ escaped_byte byte ]
+
+-- what the rest of a text prints
+abbrev pub rest_bytes : Portion → List ℕ → List ℕ
+rest_bytes portion [] = []
+rest_bytes portion (byte ∷ bytes) =
+    next_byte portion byte ++ rest_bytes (with_byte (portion_for_next portion) byte) bytes
