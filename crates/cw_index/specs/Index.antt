@@ -2,6 +2,7 @@
 use Rattle.std.specs.Prelude.{ℕ, Bool, List, [], ◌++◌, codes, if◌then◌else◌}
 use Rattle.std.specs.List.{flat_map}
 use Rattle.cw_base.specs.declared.category.Cat.{Cat}
+use Rattle.cw_join.specs.Tokens.{is_tex_like, macro_bytes}
 use Rattle.cw_names.specs.declared.entry.EntryKind.{EntryKind}
 use Rattle.cw_names.specs.declared.entry.EntryKind.TheVariants.{Ident, Roman, Typewriter, User}
 use Rattle.cw_names.specs.declared.xrefs.Occurrence.{Occurrence}
@@ -15,12 +16,17 @@ use Rattle.cw_table.specs.Sound.{is_exp}
 use Rattle.cw_trees.specs.Printing.{ident_bytes, reserved_bytes}
 use Rattle.cw_index.specs.Mentions.{Row, index_rows}
 
--- Identifiers print as they do in C text; the other texts are TeX's and stay as they are.
-abbrev pub word_bytes : Bool → List ℕ → List ℕ
-word_bytes is_exp text = if is_exp then ident_bytes text else reserved_bytes text
+-- Identifiers print as they do in C text, and macros of TeX in a formula; the other texts are TeX's and stay as they are.
+abbrev pub formula : List ℕ → List ℕ
+formula bytes = codes "$" ++ (bytes ++ codes "$")
+
+abbrev pub word_bytes : Cat → List ℕ → List ℕ
+word_bytes category text =
+    if is_tex_like category then formula (macro_bytes text)
+    else (if is_exp category then ident_bytes text else reserved_bytes text)
 
 abbrev pub kind_bytes : EntryKind → Cat → List ℕ → List ℕ
-kind_bytes Ident category text = word_bytes (is_exp category) text
+kind_bytes Ident category text = word_bytes category text
 kind_bytes Roman category text = braced [] text
 kind_bytes Typewriter category text = braced (codes "\\.") text
 kind_bytes User category text = braced (codes "\\9") text

@@ -1,7 +1,7 @@
 //! The index, as it is printed.
 ghost use Rattle.std.specs.Prelude.{◌≡◌, ◌<◌, [], ◌∷◌, All, IfOk, length, map, true};
 ghost use Rattle.std.specs.List.{flat_map};
-ghost use Rattle.cw_join.specs.Tokens.{text_at};
+ghost use Rattle.cw_join.specs.Tokens.{is_tex_like, word_at};
 ghost use Rattle.cw_lines.specs.Writes.{CanWrite, Puts};
 ghost use Rattle.cw_print.specs.Escaping.{braced};
 ghost use Rattle.cw_print.specs.Sources.{is_changed};
@@ -9,7 +9,8 @@ ghost use Rattle.cw_print.specs.Walk.{section_number};
 ghost use Rattle.cw_table.specs.Sound.{is_exp};
 ghost use Rattle.cw_trees.specs.Printing.{ident_bytes, reserved_bytes};
 ghost use Rattle.cw_index.specs.Headings.{IsNamed, entry_of, row_of};
-ghost use Rattle.cw_index.specs.Index.{entry_bytes, index_bytes, number_bytes, row_bytes, section_bytes, word_bytes};
+ghost use Rattle.cw_index.specs.Index.{entry_bytes, formula, index_bytes, number_bytes, row_bytes, section_bytes};
+ghost use Rattle.cw_index.specs.Index.{word_bytes};
 ghost use Rattle.cw_index.specs.Mentions.{listed};
 
 use crate::heading::Heading;
@@ -35,7 +36,7 @@ fn put_ident<D: Desk>(
 ) -> Result<(), PutError>
     requires can { CanWrite (D.told desk.old) out.old }
     requires name { id.index < length names.now }
-    ensures { Puts (ident_bytes (text_at names.now id.index)) out.old out.new
+    ensures { Puts (word_at ident_bytes names.now id.index) out.old out.new
         (D.told desk.old) (D.told desk.new) result }
 {
     let item = FlatItem::Ident(id, 0);
@@ -53,13 +54,36 @@ fn put_reserved<D: Desk>(
 ) -> Result<(), PutError>
     requires can { CanWrite (D.told desk.old) out.old }
     requires name { id.index < length names.now }
-    ensures { Puts (reserved_bytes (text_at names.now id.index)) out.old out.new
+    ensures { Puts (word_at reserved_bytes names.now id.index) out.old out.new
         (D.told desk.old) (D.told desk.new) result }
 {
     let item = FlatItem::Reserved(id, 0);
     let mut joiner = Joiner::new(false);
     joiner.push(FlatToken { item, bytes: b"" }, names, out, desk)?;
     joiner.finish(out, desk)
+}
+
+// Puts a name between the dollars of a formula.
+fn put_formula<D: Desk>(
+    names: &Names,
+    id: NameId,
+    out: &mut LineOut,
+    desk: &mut D,
+) -> Result<(), PutError>
+    requires can { CanWrite (D.told desk.old) out.old }
+    requires name { id.index < length names.now }
+    ensures { Puts (formula (word_at reserved_bytes names.now id.index)) out.old out.new
+        (D.told desk.old) (D.told desk.new) result }
+{
+    out.put_all(b"$", desk)?;
+    put_reserved(names, id, out, desk)?;
+    out.put_all(b"$", desk)
+}
+
+fn is_tex_like(category: Cat) -> bool
+    ensures { result ≡ is_tex_like category }
+{
+    matches!(category, Cat::TexLike)
 }
 
 fn is_exp(category: Cat) -> bool
@@ -77,9 +101,12 @@ fn put_word<D: Desk>(
 ) -> Result<(), PutError>
     requires can { CanWrite (D.told desk.old) out.old }
     requires name { IsNamed names.now heading.now }
-    ensures { Puts (word_bytes (is_exp heading.now.category) heading.now.collated.text.now) out.old out.new
+    ensures { Puts (word_bytes heading.now.category heading.now.collated.text.now) out.old out.new
         (D.told desk.old) (D.told desk.new) result }
 {
+    if is_tex_like(heading.category) {
+        return put_formula(names, heading.id, out, desk);
+    }
     if is_exp(heading.category) {
         return put_ident(names, heading.id, out, desk);
     }

@@ -4,4 +4,5 @@ pub mod EarlyLaws
 pub mod PrintedLaws
 pub mod StateLaws
 pub mod NameLaws
+pub mod MacroLaws
 mod Rows

@@ -1,6 +1,8 @@
 -- What an item prints where it is in no run.
-use Rattle.std.specs.Prelude.{◌≡◌, ℕ, ◌<◌, ◌||◌, Bool, codes, eqb, true, false, List, [], ◌∷◌, option_map, slice_get}
-use Rattle.std.specs.Prelude.{None, unwrap_or, if◌then◌else◌}
+use Rattle.std.specs.Prelude.{◌≡◌, ℕ, ◌<◌, ◌||◌, Bool, codes, eqb, true, false, List, [], ◌∷◌, map, option_map}
+use Rattle.std.specs.Prelude.{None, slice_get, unwrap_or, if◌then◌else◌}
+use Rattle.cw_base.specs.declared.category.Cat.{Cat}
+use Rattle.cw_base.specs.declared.category.Cat.TheVariants.{Exp, TexLike}
 use Rattle.cw_names.specs.Names.{Entry}
 use Rattle.cw_tokens.specs.declared.flat.FlatItem.{FlatItem}
 use Rattle.cw_tokens.specs.declared.flat.FlatItem.TheVariants.{Source, Ident, Reserved, Control, Open, Close}
@@ -28,6 +30,26 @@ font_bytes lower = if lower then codes "\\\\{" else codes "\\.{"
 abbrev pub text_at : List Entry → ℕ → List ℕ
 text_at names name = unwrap_or (option_map (λ entry. entry.text) (slice_get names name)) []
 
+-- The category of a name. A macro of TeX has its own.
+abbrev pub category_at : List Entry → ℕ → Cat
+category_at names name = unwrap_or (option_map (λ entry. entry.category) (slice_get names name)) Exp
+
+abbrev pub is_tex_like : Cat → Bool
+is_tex_like TexLike = true
+is_tex_like category = false
+
+-- A macro prints a backslash and its name, in which `x` stands for `_` and `X` for `$`.
+abbrev pub macro_letter : ℕ → ℕ
+macro_letter byte = if eqb byte 95 then 120 else (if eqb byte 36 then 88 else byte)
+
+abbrev pub macro_bytes : List ℕ → List ℕ
+macro_bytes name = 92 ∷ map macro_letter name
+
+-- What a name prints: a macro, or else what its text prints as an identifier or as a reserved word.
+abbrev pub word_at : (List ℕ → List ℕ) → List Entry → ℕ → List ℕ
+word_at plain names name =
+    if is_tex_like (category_at names name) then macro_bytes (text_at names name) else plain (text_at names name)
+
 -- The end of a comment and the two controls of a section name print what is given; other signs have bytes of their own.
 abbrev pub control_bytes : Sign → List ℕ → List ℕ
 control_bytes CommentEnd given = given
@@ -36,8 +58,8 @@ control_bytes NameEnd given = given
 control_bytes control given = sign_bytes control
 
 abbrev pub item_bytes : List Entry → FlatItem → List ℕ → List ℕ
-item_bytes names (Ident name number) given = ident_bytes (text_at names name.index)
-item_bytes names (Reserved name number) given = reserved_bytes (text_at names name.index)
+item_bytes names (Ident name number) given = word_at ident_bytes names name.index
+item_bytes names (Reserved name number) given = word_at reserved_bytes names name.index
 item_bytes names (Control control) given = control_bytes control given
 item_bytes names (Source number) given = given
 item_bytes names Open given = given

@@ -12,8 +12,7 @@ ghost use Rattle.cw_join.specs.Stretches.{is_inner};
 ghost use Rattle.cw_join.specs.Tokens.{CanCome, IsNamed, PrintsByte, alone, control_bytes, item_bytes};
 
 use crate::joiner::{Joiner, depth_behind, step};
-use crate::names_behind::{append_few, append_ident, append_reserved};
-use crate::naming::text_of;
+use crate::names_behind::{append_few, append_ident_of, append_reserved_of};
 use crate::pieces::sign;
 use crate::run::{Pause, Run, run_control};
 use cw_base::{Bytes, Memory};
@@ -220,8 +219,8 @@ fn append_item(item: FlatItem, names: &Names, out: &mut Bytes) -> Result<(), Mem
     ensures stays { OnErr result (StaysBefore out.old out.new) }
 {
     match item {
-        FlatItem::Ident(name, _) => append_ident(text_of(names, name), out),
-        FlatItem::Reserved(name, _) => append_reserved(text_of(names, name), out),
+        FlatItem::Ident(name, _) => append_ident_of(names, name, out),
+        FlatItem::Reserved(name, _) => append_reserved_of(names, name, out),
         FlatItem::Control(control) => append_sign(control, out),
         FlatItem::Source(_) | FlatItem::Open | FlatItem::Close => Ok(()),
     }

@@ -9,7 +9,7 @@ ghost use Rattle.cw_join.specs.Standing.{Stands};
 ghost use Rattle.cw_join.specs.Stretches.{is_inner};
 ghost use Rattle.cw_join.specs.Tokens.{CanCome, HasRoom, IsNamed, item_bytes, printable};
 
-use crate::naming::{put_ident, put_reserved, text_of};
+use crate::naming::{put_ident_of, put_reserved_of};
 use crate::pieces::{put_some, sign};
 use crate::run::{Run, indent, run_control};
 use crate::token::FlatToken;
@@ -174,8 +174,8 @@ fn put_item<D: Desk>(
         (D.told desk.old) (D.told desk.new) result }
 {
     match token.item {
-        FlatItem::Ident(name, _) => put_ident(text_of(names, name), out, desk),
-        FlatItem::Reserved(name, _) => put_reserved(text_of(names, name), out, desk),
+        FlatItem::Ident(name, _) => put_ident_of(names, name, out, desk),
+        FlatItem::Reserved(name, _) => put_reserved_of(names, name, out, desk),
         FlatItem::Control(control) => put_some(sign(control, token.bytes), out, desk),
         FlatItem::Source(_) | FlatItem::Open | FlatItem::Close => put_some(token.bytes, out, desk),
     }

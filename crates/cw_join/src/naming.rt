@@ -1,11 +1,13 @@
 //! The bytes of names.
-ghost use Rattle.std.specs.Prelude.{◌≡◌, ◌+◌, ◌<◌, ◌≤◌, ◌∷◌, ◌++◌, codes, drop, length};
+ghost use Rattle.std.specs.Prelude.{◌≡◌, ◌+◌, ◌<◌, ◌≤◌, ◌∷◌, ◌++◌, codes, drop, length, map};
 ghost use Rattle.std.specs.List.{list_any, position_or_len};
 ghost use Rattle.cw_trees.specs.Printing.{ident_bytes, is_lower, name_bytes, reserved_bytes};
 ghost use Rattle.cw_lines.specs.Writes.{CanWrite, Puts};
-ghost use Rattle.cw_join.specs.Tokens.{BeginsMarked, font_bytes, is_marked, text_at};
+ghost use Rattle.cw_join.specs.Tokens.{BeginsMarked, category_at, font_bytes, is_marked, is_tex_like, macro_bytes};
+ghost use Rattle.cw_join.specs.Tokens.{macro_letter, text_at, word_at};
 
 use crate::short_names::{LONGEST, short_ident};
+use cw_base::Cat;
 use cw_desk::Desk;
 use cw_lines::{LineOut, PutError};
 use cw_names::{NameId, Names};
@@ -18,8 +20,85 @@ pub(crate) fn text_of(names: &Names, name: NameId) -> &[u8]
     names.text(name)
 }
 
-/// Puts an identifier.
-pub fn put_ident<D: Desk>(name: &[u8], out: &mut LineOut, desk: &mut D) -> Result<(), PutError>
+/// Whether a name is a macro of TeX.
+pub(crate) fn is_macro(names: &Names, name: NameId) -> bool
+    requires { name.index < length names.now }
+    ensures { result ≡ is_tex_like (category_at names.now name.index) }
+{
+    matches!(names.category(name), Cat::TexLike)
+}
+
+/// Puts an identifier, which may be a macro of TeX.
+pub fn put_ident_of<D: Desk>(
+    names: &Names,
+    name: NameId,
+    out: &mut LineOut,
+    desk: &mut D,
+) -> Result<(), PutError>
+    requires can { CanWrite (D.told desk.old) out.old }
+    requires named { name.index < length names.now }
+    ensures { Puts (word_at ident_bytes names.now name.index) out.old out.new
+        (D.told desk.old) (D.told desk.new) result }
+{
+    let text = text_of(names, name);
+    if is_macro(names, name) {
+        return put_macro(text, out, desk);
+    }
+    put_ident(text, out, desk)
+}
+
+/// Puts a reserved word, which may be a macro of TeX.
+pub(crate) fn put_reserved_of<D: Desk>(
+    names: &Names,
+    name: NameId,
+    out: &mut LineOut,
+    desk: &mut D,
+) -> Result<(), PutError>
+    requires can { CanWrite (D.told desk.old) out.old }
+    requires named { name.index < length names.now }
+    ensures { Puts (word_at reserved_bytes names.now name.index) out.old out.new
+        (D.told desk.old) (D.told desk.new) result }
+{
+    let text = text_of(names, name);
+    if is_macro(names, name) {
+        return put_macro(text, out, desk);
+    }
+    put_reserved(text, out, desk)
+}
+
+// Puts the name of a macro of TeX.
+fn put_macro<D: Desk>(name: &[u8], out: &mut LineOut, desk: &mut D) -> Result<(), PutError>
+    requires can { CanWrite (D.told desk.old) out.old }
+    ensures { Puts (macro_bytes name.now) out.old out.new (D.told desk.old) (D.told desk.new) result }
+{
+    out.put_all(b"\\", desk)?;
+    put_letters(name, out, desk)
+}
+
+// Puts the letters of a macro of TeX, one by one.
+fn put_letters<D: Desk>(name: &[u8], out: &mut LineOut, desk: &mut D) -> Result<(), PutError>
+    requires can { CanWrite (D.told desk.old) out.old }
+    ensures { Puts (map macro_letter name.now) out.old out.new (D.told desk.old) (D.told desk.new) result }
+{
+    'letters: for byte in name {
+        out.put_all(&[macro_letter(*byte)], desk)?;
+    }
+    Ok(())
+}
+
+/// The letter that stands for a byte of a name in the macro of that name.
+pub(crate) fn macro_letter(byte: u8) -> u8
+    ensures { result ≡ macro_letter byte }
+{
+    match byte {
+        b'_' => b'x',
+        b'$' => b'X',
+        _ => byte,
+    }
+}
+
+// Puts an identifier that is no macro.
+fn put_ident<D: Desk>(name: &[u8], out: &mut LineOut, desk: &mut D) -> Result<(), PutError>
     requires can { CanWrite (D.told desk.old) out.old }
     ensures { Puts (ident_bytes name.now) out.old out.new (D.told desk.old) (D.told desk.new) result }
 {
@@ -29,12 +108,8 @@ pub fn put_ident<D: Desk>(name: &[u8], out: &mut LineOut, desk: &mut D) -> Resul
     put_word(font(name), name, out, desk)
 }
 
-/// Puts a reserved word.
-pub(crate) fn put_reserved<D: Desk>(
-    name: &[u8],
-    out: &mut LineOut,
-    desk: &mut D,
-) -> Result<(), PutError>
+// Puts a reserved word that is no macro.
+fn put_reserved<D: Desk>(name: &[u8], out: &mut LineOut, desk: &mut D) -> Result<(), PutError>
     requires can { CanWrite (D.told desk.old) out.old }
     ensures { Puts (reserved_bytes name.now) out.old out.new (D.told desk.old) (D.told desk.new) result }
 {

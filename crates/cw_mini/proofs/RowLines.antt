@@ -12,7 +12,6 @@ use Rattle.cw_names.specs.declared.entry.EntryKind.TheVariants.{Ident, Roman, Ty
 use Rattle.cw_names.specs.declared.xrefs.Occurrence.{Occurrence}
 use Rattle.cw_names.specs.declared.xrefs.SectionRef.{SectionRef}
 use Rattle.cw_phase1.specs.declared.sections.Section.{Section}
-use Rattle.cw_table.specs.Sound.{is_exp}
 use Rattle.cw_index.specs.Index.{kind_bytes, word_bytes}
 use Rattle.cw_index.specs.Mentions.{Row, index_rows, is_ident, needs_underline, row}
 use Rattle.cw_mini.specs.Mini.{defining, is_listed_in, section_rows}
@@ -23,7 +22,7 @@ use Rattle.cw_mini.proofs.NamedRows.{IsRowOf, index-named}
 -- ## The line of an identifier
 
 ident-bytes : (kind : EntryKind) (category : Cat) (text : List ℕ) → is_ident kind ≡ true
-    → kind_bytes kind category text ≡ word_bytes (is_exp category) text
+    → kind_bytes kind category text ≡ word_bytes category text
 ident-bytes Ident category text is = refl
 ident-bytes Roman category text is = absurd cc
 ident-bytes Typewriter category text is = absurd cc
@@ -32,11 +31,11 @@ ident-bytes User category text is = absurd cc
 -- It is its word, the sections that define it, and the end.
 pub ident-line : (sections : List Section) (name : ℕ) (entry : Entry) (occurrences : List Occurrence)
     (before : List ℕ) → is_ident entry.kind ≡ true
-    → ((before ++ word_bytes (is_exp entry.category) entry.text)
+    → ((before ++ word_bytes entry.category entry.text)
     ++ flat_map (defining_bytes sections) (defining (mentions name occurrences))) ++ codes ".\n"
     ≡ before ++ row_line sections (row name entry occurrences)
 ident-line sections name entry occurrences before is =
-    let word : List ℕ = word_bytes (is_exp entry.category) entry.text in
+    let word : List ℕ = word_bytes entry.category entry.text in
     let given : List SectionRef → List ℕ = λ ms. flat_map (defining_bytes sections) (defining ms) in
     let ms : List SectionRef = mentions name occurrences in
     append_assoc (before ++ word) (given ms) (codes ".\n")

@@ -25,42 +25,42 @@ defined name section = record { name = record { index = name }; section = sectio
 abbrev line : ℕ → List ℕ → MiniRow
 line name sections = record { name = name; sections = sections }
 
--- the rows of a section, by the names from position 49 on, behind the built-in words
+-- the rows of a section, by the names from position 102 on, behind the built-in words
 abbrev rows : ℕ → List Entry → List Occurrence → List MiniRow
 rows section entries occurrences = mini_rows section (built_in_words ++ entries) occurrences
 
 -- `int i;` and then `i=i+1;`. The section that defines a name doesn't list it.
 abbrev one_name : List Occurrence
-one_name = used 3 1 ∷ used 49 1 ∷ used 49 2 ∷ used 49 2 ∷ defined 49 1 ∷ []
+one_name = used 3 1 ∷ used 102 1 ∷ used 102 2 ∷ used 102 2 ∷ defined 102 1 ∷ []
 
 own_section_row : rows 1 (ident (codes "i") ∷ []) one_name ≡ []
 own_section_row = refl
 
-other_section_row : rows 2 (ident (codes "i") ∷ []) one_name ≡ line 49 (1 ∷ []) ∷ []
+other_section_row : rows 2 (ident (codes "i") ∷ []) one_name ≡ line 102 (1 ∷ []) ∷ []
 other_section_row = refl
 
 -- `int i;`, then `int j; j=i;`, then `int i; i=j;`. The sections that define a name ascend, each once.
 abbrev two_names : List Occurrence
 two_names =
-    used 49 1 ∷ used 50 2 ∷ used 50 2 ∷ used 49 2 ∷ used 49 3 ∷ used 49 3 ∷ used 50 3 ∷ defined 49 3 ∷ defined 50 2
-    ∷ defined 49 1 ∷ defined 49 3 ∷ []
+    used 102 1 ∷ used 103 2 ∷ used 103 2 ∷ used 102 2 ∷ used 102 3 ∷ used 102 3 ∷ used 103 3 ∷ defined 102 3 ∷ defined 103 2
+    ∷ defined 102 1 ∷ defined 102 3 ∷ []
 
 first_row : rows 1 (ident (codes "i") ∷ ident (codes "j") ∷ []) two_names ≡ []
 first_row = refl
 
-second_row : rows 2 (ident (codes "i") ∷ ident (codes "j") ∷ []) two_names ≡ line 49 (1 ∷ 3 ∷ []) ∷ []
+second_row : rows 2 (ident (codes "i") ∷ ident (codes "j") ∷ []) two_names ≡ line 102 (1 ∷ 3 ∷ []) ∷ []
 second_row = refl
 
-third_row : rows 3 (ident (codes "i") ∷ ident (codes "j") ∷ []) two_names ≡ line 50 (2 ∷ []) ∷ []
+third_row : rows 3 (ident (codes "i") ∷ ident (codes "j") ∷ []) two_names ≡ line 103 (2 ∷ []) ∷ []
 third_row = refl
 
 -- Entries stand in the order of the index: letters before digits, capitals with small letters.
 order_row : rows 2 (ident (codes "a1") ∷ ident (codes "aB") ∷ ident (codes "a_") ∷ ident (codes "A") ∷ [])
-    (defined 49 1 ∷ defined 50 1 ∷ defined 51 1 ∷ defined 52 1 ∷ used 49 2 ∷ used 50 2 ∷ used 51 2 ∷ used 52 2 ∷ [])
-    ≡ line 52 (1 ∷ []) ∷ line 51 (1 ∷ []) ∷ line 50 (1 ∷ []) ∷ line 49 (1 ∷ []) ∷ []
+    (defined 102 1 ∷ defined 103 1 ∷ defined 104 1 ∷ defined 105 1 ∷ used 102 2 ∷ used 103 2 ∷ used 104 2 ∷ used 105 2 ∷ [])
+    ≡ line 105 (1 ∷ []) ∷ line 104 (1 ∷ []) ∷ line 103 (1 ∷ []) ∷ line 102 (1 ∷ []) ∷ []
 order_row = refl
 
 -- A built-in word isn't listed, here `int`, nor is the text of an index code, nor a name that no section defines.
 unlisted_row : rows 2 (entry Roman (codes "x") ∷ ident (codes "abc") ∷ [])
-    (defined 3 1 ∷ used 3 2 ∷ defined 49 1 ∷ used 49 2 ∷ used 50 1 ∷ used 50 2 ∷ []) ≡ []
+    (defined 3 1 ∷ used 3 2 ∷ defined 102 1 ∷ used 102 2 ∷ used 103 1 ∷ used 103 2 ∷ []) ≡ []
 unlisted_row = refl

@@ -1,9 +1,10 @@
 //! Names as they stand in C text, behind other bytes in memory.
 ghost use Rattle.std.specs.Prelude.{◌≡◌, ◌<◌, ◌++◌, [], OnOk, Some, length, slice_get};
-ghost use Rattle.cw_index.specs.Index.{word_bytes};
-ghost use Rattle.cw_join.specs.Tokens.{item_bytes};
+ghost use Rattle.cw_index.specs.Index.{formula, word_bytes};
+ghost use Rattle.cw_join.specs.Tokens.{is_tex_like, item_bytes};
 ghost use Rattle.cw_names.specs.Names.{Entry};
 ghost use Rattle.cw_table.specs.Sound.{is_exp};
+ghost use Rattle.cw_tokens.specs.declared.flat.FlatItem.TheVariants.{Reserved};
 ghost use Rattle.cw_mini.specs.RowForms.{IsWordOf};
 
 use cw_base::{Bytes, Cat, Memory};
@@ -11,16 +12,36 @@ use cw_join::Joiner;
 use cw_names::{NameId, Names};
 use cw_tokens::FlatItem;
 
-/// Appends a name: by its category it is an identifier or a reserved word.
+/// Appends a name: by its category it is a macro of TeX, an identifier or a reserved word.
 pub(crate) fn append_word(names: &Names, id: NameId, line: &mut Bytes) -> Result<(), Memory>
     requires { id.index < length names.now }
     ensures { (entry : Entry) → slice_get names.now id.index ≡ Some entry
-        → OnOk result (line.new ≡ line.old ++ word_bytes (is_exp entry.category) entry.text) }
+        → OnOk result (line.new ≡ line.old ++ word_bytes entry.category entry.text) }
 {
-    if is_exp(names.category(id)) {
+    let category = names.category(id);
+    if is_tex_like(category) {
+        return append_formula(names, id, line);
+    }
+    if is_exp(category) {
         return append_item(names, FlatItem::Ident(id, 0), line);
     }
     append_item(names, FlatItem::Reserved(id, 0), line)
+}
+
+// Appends a name between the dollars of a formula.
+fn append_formula(names: &Names, id: NameId, line: &mut Bytes) -> Result<(), Memory>
+    requires { id.index < length names.now }
+    ensures { OnOk result (line.new ≡ line.old ++ formula (item_bytes names.now (Reserved id 0) [])) }
+{
+    line.push(b'$')?;
+    append_item(names, FlatItem::Reserved(id, 0), line)?;
+    line.push(b'$')
+}
+
+fn is_tex_like(category: Cat) -> bool
+    ensures { result ≡ is_tex_like category }
+{
+    matches!(category, Cat::TexLike)
 }
 
 fn is_exp(category: Cat) -> bool

@@ -1,15 +1,13 @@
 -- A C text that is one identifier.
-use Rattle.std.proofs.Common.{◌≡◌, ℕ, ◌<◌, Bool, true, false, Option, Some, List, [], ◌∷◌, ◌++◌, ap, sym, subst, ◌∙◌}
+use Rattle.std.proofs.Common.{◌≡◌, ℕ, ◌<◌, Bool, true, false, Some, List, [], ◌∷◌, ◌++◌, ap, subst, ◌∙◌}
 use Rattle.std.proofs.Common.{length, slice_get, arith}
-use Rattle.std.specs.Prelude.{option_map, unwrap_or}
 use Rattle.std.proofs.lemmas.List.{append-nil}
-use Rattle.cw_names.specs.Names.{Entry}
 use Rattle.cw_names.specs.declared.entry.NameId.{NameId}
 use Rattle.cw_trees.specs.Flat.{IdentItem}
 use Rattle.cw_trees.specs.Printing.{ident_bytes, printed}
 use Rattle.cw_tokens.specs.declared.flat.FlatItem.{FlatItem}
 use Rattle.cw_tokens.specs.FlatItems.{items_are}
-use Rattle.cw_join.specs.Tokens.{text_at}
+use Rattle.cw_join.specs.Tokens.{word_at}
 use Rattle.cw_print.specs.Coming.{AllMay, MayCome}
 use Rattle.cw_print.specs.Printing.{IsOnlyName, shown}
 use Rattle.cw_print.specs.Walk.{Source}
@@ -22,15 +20,15 @@ only-item (first ∷ []) item one is = let same : first ≡ item = cc in ap (λ 
 only-item (first ∷ second ∷ items) item one is = absurd (omega arith)
 
 one-printed : (inner : Bool) (s : Source) (name number : ℕ)
-    → printed inner (shown s (IdentItem name number ∷ [])) ≡ ident_bytes (text_at s.names name)
+    → printed inner (shown s (IdentItem name number ∷ [])) ≡ word_at ident_bytes s.names name
 one-printed true s name number =
-    append-nil (ident_bytes (text_at s.names name) ++ []) ∙ append-nil (ident_bytes (text_at s.names name))
+    append-nil (word_at ident_bytes s.names name ++ []) ∙ append-nil (word_at ident_bytes s.names name)
 one-printed false s name number =
-    append-nil (ident_bytes (text_at s.names name) ++ []) ∙ append-nil (ident_bytes (text_at s.names name))
+    append-nil (word_at ident_bytes s.names name ++ []) ∙ append-nil (word_at ident_bytes s.names name)
 
 -- it prints its name
 pub only-printed : (inner : Bool) (s : Source) (name : NameId) (items : List FlatItem) → IsOnlyName name items
-    → printed inner (shown s (items_are items)) ≡ ident_bytes (text_at s.names name.index)
+    → printed inner (shown s (items_are items)) ≡ word_at ident_bytes s.names name.index
 only-printed inner s name items is =
     ap (λ (items : List FlatItem). printed inner (shown s (items_are items))) is.1 ∙ one-printed inner s name.index is.0
 
@@ -41,8 +39,3 @@ only-named count name items is may =
     let all : AllMay (MayCome count) 0 (IdentItem name.index is.0 ∷ []) =
     subst (λ (items : List FlatItem). AllMay (MayCome count) 0 (items_are items)) is.1 may in
     all.0.stands.named
-
-pub text-is : (names : List Entry) (name : ℕ) (text : List ℕ)
-    → option_map (λ (e : Entry). e.text) (slice_get names name) ≡ Some text
-    → text ≡ text_at names name
-text-is names name text is = sym (ap (λ (o : Option (List ℕ)). unwrap_or o []) is)

@@ -16,7 +16,7 @@ use Rattle.cw_trees.specs.Tree.{Tree}
 use Rattle.cw_trees.specs.Flat.{Item, SourceItem, IdentItem, ReservedItem, SignItem, Open, Close, flat, trimmed}
 use Rattle.cw_trees.specs.Printing.{Printable, sign_bytes, ident_bytes, reserved_bytes, printed}
 use Rattle.cw_secnames.specs.Parts.{inner_parts}
-use Rattle.cw_join.specs.Tokens.{text_at}
+use Rattle.cw_join.specs.Tokens.{word_at}
 use Rattle.cw_print.specs.Escaping.{typewriter}
 use Rattle.cw_print.specs.Comments.{closing_braces}
 use Rattle.cw_print.specs.Tokens.{sign_macro}
@@ -193,8 +193,8 @@ own_sign CommentEnd = []
 own_sign control = sign_bytes control
 
 abbrev pub own_bytes : List Entry → Item → List ℕ
-own_bytes names (IdentItem name number) = ident_bytes (text_at names name)
-own_bytes names (ReservedItem name number) = reserved_bytes (text_at names name)
+own_bytes names (IdentItem name number) = word_at ident_bytes names name
+own_bytes names (ReservedItem name number) = word_at reserved_bytes names name
 own_bytes names (SignItem control) = own_sign control
 own_bytes names item = []
 

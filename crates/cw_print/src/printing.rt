@@ -12,7 +12,7 @@ ghost use Rattle.cw_tokens.specs.Shapes.{unfolded};
 ghost use Rattle.cw_scraps.specs.Lines.{IsNamedBelow};
 ghost use Rattle.cw_lines.specs.Writes.{CanWrite, Puts};
 ghost use Rattle.cw_join.specs.Early.{added};
-ghost use Rattle.cw_join.specs.Tokens.{CanCome};
+ghost use Rattle.cw_join.specs.Tokens.{CanCome, word_at};
 ghost use Rattle.cw_print.specs.Coming.{AllMay, MayCome};
 ghost use Rattle.cw_print.specs.Printing.{IsBehind, IsMidway, IsOnlyName, Midway, PrintsOn, shown};
 ghost use Rattle.cw_print.specs.Printing.{shown_next, source_of};
@@ -25,10 +25,10 @@ use crate::walk::{Manner, TextWalk, is_placed};
 use cw_answers::Answers;
 use cw_base::{Bytes, Flags, Memory, Span};
 use cw_desk::Desk;
-use cw_join::{Joiner, put_ident};
+use cw_join::{Joiner, put_ident_of};
 use cw_lex::Mode;
 use cw_lines::{LineOut, PutError};
-use cw_names::NameId;
+use cw_names::{NameId, Names};
 use cw_phase1::Book;
 use cw_tokens::{FlatItem, FlatTokens, ListId, TokenStore};
 use cw_trees::Control;
@@ -281,15 +281,18 @@ fn only_name(items: &FlatTokens) -> Option<NameId>
 // Prints a C text that is one identifier, of which no token has to be found.
 fn print_name<D: Desk>(
     wraps: bool,
-    name: &[u8],
+    names: &Names,
+    name: NameId,
     out: &mut LineOut,
     desk: &mut D,
 ) -> Result<(), PutError>
     requires can { CanWrite (D.told desk.old) out.old }
-    ensures { Puts (wrapped wraps (ident_bytes name.now)) out.old out.new (D.told desk.old) (D.told desk.new) result }
+    requires named { name.index < length names.now }
+    ensures { Puts (wrapped wraps (word_at ident_bytes names.now name.index)) out.old out.new
+        (D.told desk.old) (D.told desk.new) result }
 {
     put_bracket(wraps, b"\\PB{", out, desk)?;
-    put_ident(name, out, desk)?;
+    put_ident_of(names, name, out, desk)?;
     put_bracket(wraps, b"}", out, desk)
 }
 
@@ -315,7 +318,7 @@ pub fn print_answers<D: Desk>(
     let wraps = c.is_wrapped();
     let items = store.flat_trimmed(alloc, id)?;
     if let Some(name) = only_name(&items) {
-        return print_name(wraps, c.book.names.text(name), out, desk);
+        return print_name(wraps, &c.book.names, name, out, desk);
     }
     put_bracket(wraps, b"\\PB{", out, desk)?;
     print_items(alloc, c, items.items(), out, desk)?;

@@ -6,7 +6,9 @@ ghost use Rattle.cw_print.specs.Tokens.{code_bytes, token_bytes};
 use crate::constants::put_constant;
 use crate::escaping::put_escaped;
 use crate::signs::put_sign;
-use crate::texts::{put_control_text, put_escaped_control_text, put_include_name, put_quote, put_string};
+use crate::texts::{
+    put_control_text, put_escaped_control_text, put_include_name, put_quote, put_string,
+};
 use cw_base::{Bytes, Memory};
 use cw_lex::{Code, TokKind};
 

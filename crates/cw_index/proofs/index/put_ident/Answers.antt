@@ -1,7 +1,7 @@
 -- The joiner prints the name, and at the end nothing more.
 use Rattle.std.proofs.Common.{ℕ, List, [], ◌∷◌, ◌++◌, refl, ◌∙◌}
 use Rattle.std.proofs.lemmas.List.{append-nil}
-use Rattle.cw_join.specs.Tokens.{text_at}
+use Rattle.cw_join.specs.Tokens.{word_at}
 use Rattle.cw_lines.specs.WritesLaws.{can-after, puts-bytes, puts-failing, puts-then}
 use Rattle.cw_trees.specs.Printing.{ident_bytes}
 use Rattle.cw_index.proofs.AloneLaws.{added-ident, ident, late-ident}
@@ -14,7 +14,7 @@ pub returns-in_err-push : goal.returns-in_err-push
 returns-in_err-push g c =
     puts-failing
     (added-ident c.new-joiner.result.inner c.args.id.index
-    (ident_bytes (text_at c.args.names.now c.args.id.index)) c.new-joiner.ensures.inner)
+    (word_at ident_bytes c.args.names.now c.args.id.index) c.new-joiner.ensures.inner)
     (c.in_err-push.ensures.puts [] c.new-joiner.ensures.stands) c.from_residual.ensures.1
 
 pub finish-requires : goal.finish-requires
@@ -25,7 +25,7 @@ finish-requires g c = record {
 
 pub returns : goal.returns
 returns g c =
-    let bytes : List ℕ = ident_bytes (text_at c.args.names.now c.args.id.index) in
+    let bytes : List ℕ = word_at ident_bytes c.args.names.now c.args.id.index in
     puts-bytes
     ((λ i. added-ident c.new-joiner.result.inner c.args.id.index bytes c.new-joiner.ensures.inner i
     ++ late-ident c.push.new.self.inner c.args.id.index bytes

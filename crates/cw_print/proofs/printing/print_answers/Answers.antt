@@ -7,19 +7,20 @@ use Rattle.cw_trees.specs.Tree.{Tree}
 use Rattle.cw_tokens.specs.FlatItems.{items_are}
 use Rattle.cw_tokens.specs.Shapes.{unfolded}
 use Rattle.cw_lines.specs.WritesLaws.{puts-bytes, puts-failing, puts-longer, puts-then, puts-nothing}
+use Rattle.cw_join.specs.Tokens.{word_at}
 use Rattle.cw_print.specs.Coming.{AllMay, MayCome}
 use Rattle.cw_print.specs.Printing.{shown}
 use Rattle.cw_print.specs.Sources.{source_by}
 use Rattle.cw_print.specs.Walk.{Source, bracket, wrapped}
 use Rattle.cw_print.proofs.ComingLaws.{trimmed-may}
-use Rattle.cw_print.proofs.NameLaws.{only-named, only-printed, text-is}
+use Rattle.cw_print.proofs.NameLaws.{only-named, only-printed}
 use Rattle.cw_print.proofs.printing.print_answers.Goals as goal
 
 pub returns-in_err-items : goal.returns-in_err-items
 returns-in_err-items g c = record { puts = puts-nothing _ _ _ c.from_residual.ensures.1 }
 
-pub text-requires : goal.text-requires
-text-requires g c =
+pub print_name-requires-clause-named : goal.print_name-requires-clause-named
+print_name-requires-clause-named g c =
     only-named (length c.args.c.book.now.names) c.in-Some.name c.in_ok-items.items c.in-Some.ensures
     (subst (λ (items : List Item). AllMay (MayCome (length c.args.c.book.now.names)) 0 items)
     (sym c.in_ok-items.ensures.items)
@@ -31,7 +32,7 @@ returns-in-Some g c =
     record {
       puts = puts-bytes
           ((λ i. wrapped (c.is_wrapped-wraps.ensures i)
-          (ident_bytes (text-is c.args.c.book.now.names c.in-Some.name.index c.text.result.now c.text.ensures i)))
+          (word_at ident_bytes c.args.c.book.now.names c.in-Some.name.index))
           ∙ ap (wrapped (c.args.c.inner && c.args.c.flags.now.wrap))
           (sym (only-printed c.args.c.inner s c.in-Some.name c.in_ok-items.items c.in-Some.ensures)
           ∙ ap (λ (items : List Item). printed c.args.c.inner (shown s items)) c.in_ok-items.ensures.items))

@@ -1,0 +1,8 @@
+-- The letters that are put, with those that are left, are the letters of the macro.
+use Rattle.std.proofs.Common.{drop}
+use Rattle.cw_join.proofs.MacroLaws.{LettersPut}
+use Rattle.cw_join.proofs.naming.put_letters.Given as goal
+
+abbrev pub invariant-letters : goal.invariant-letters
+invariant-letters g l = let told = g.D.Desk.told in LettersPut l.name (drop l.byte-index l.name) l.fn.out l.out
+    (told l.fn.desk) (told l.desk)
