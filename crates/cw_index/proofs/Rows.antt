@@ -54,7 +54,8 @@ abbrev index : List Entry → List Occurrence → List ℕ
 index entries occurrences = index_bytes three (built_in_words ++ entries) occurrences
 
 -- Sections ascend, each once, whatever the order of the occurrences; a changed one has its mark.
-sections_row : index (entry Ident (codes "main") ∷ []) (at 102 3 ∷ at 102 1 ∷ at 102 3 ∷ defined_at 102 2 ∷ at 102 2 ∷ [])
+sections_row : index (entry Ident (codes "main") ∷ [])
+    (at 102 3 ∷ at 102 1 ∷ at 102 3 ∷ defined_at 102 2 ∷ at 102 2 ∷ [])
     ≡ codes "\\I\\\\{main}, 1, \\[2\\*], 3.\n"
 unfolding digits
 sections_row = refl

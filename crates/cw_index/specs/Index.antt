@@ -16,7 +16,8 @@ use Rattle.cw_table.specs.Sound.{is_exp}
 use Rattle.cw_trees.specs.Printing.{ident_bytes, reserved_bytes}
 use Rattle.cw_index.specs.Mentions.{Row, index_rows}
 
--- Identifiers print as they do in C text, and macros of TeX in a formula; the other texts are TeX's and stay as they are.
+-- Identifiers print as they do in C text, and macros of TeX in a formula; the other texts are TeX's and stay as they
+-- are.
 abbrev pub formula : List ℕ → List ℕ
 formula bytes = codes "$" ++ (bytes ++ codes "$")
 

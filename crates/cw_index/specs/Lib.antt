@@ -5,6 +5,7 @@ pub mod Completeness
 pub mod Sorted
 pub mod Mentions
 pub mod Index
+pub mod WordLaws
 pub mod Headings
 pub mod Closing
 pub mod Standing

@@ -1,5 +1,7 @@
 -- The letters of a name that is a macro of TeX.
-use Rattle.std.proofs.Common.{◌≡◌, ℕ, map, List, ◌++◌}
+use Rattle.std.proofs.Common.{◌≡◌, ℕ, ◌+◌, ◌<◌, List, [], ◌∷◌, ◌++◌, length, map, get_or, drop, ap, ◌∙◌, sym, add-one}
+use Rattle.std.proofs.Common.{drop-cons}
+use Rattle.std.proofs.lemmas.List.{append_assoc}
 use Rattle.cw_desk.specs.Told.{Told}
 use Rattle.cw_lines.specs.Line.{LineState}
 use Rattle.cw_lines.specs.Writes.{HasPut}
@@ -10,3 +12,18 @@ pub record LettersPut (name rest : List ℕ) (old new : LineState) (before now :
   pub done : List ℕ
   pub put : HasPut done old new before now
   pub is : done ++ map macro_letter rest ≡ map macro_letter name
+
+next-letter : (name : List ℕ) (i : ℕ) → i < length name
+    → drop i name ≡ get_or name i 0 ∷ drop (i + 1) name
+next-letter name i within = rw (add-one, drop-cons name i 0)
+
+-- one letter more
+pub letters-more : (name done : List ℕ) (i letter : ℕ) → i < length name → letter ≡ macro_letter (get_or name i 0)
+    → done ++ map macro_letter (drop i name) ≡ map macro_letter name
+    → (done ++ letter ∷ []) ++ map macro_letter (drop (i + 1) name) ≡ map macro_letter name
+letters-more name done i letter within is put =
+    append_assoc done (letter ∷ []) (map macro_letter (drop (i + 1) name))
+    ∙ ap (λ (l : List ℕ). done ++ l)
+    (ap (λ (x : ℕ). x ∷ map macro_letter (drop (i + 1) name)) is
+    ∙ sym (ap (λ (l : List ℕ). map macro_letter l) (next-letter name i within)))
+    ∙ put

@@ -1,12 +1,17 @@
 -- Worked rows: small lists, cut into runs and printed, early and late.
-use Rattle.std.proofs.Common.{◌≡◌, true, false, [], ◌∷◌, List, map, codes, refl}
+use Rattle.std.proofs.Common.{◌≡◌, ℕ, true, false, [], ◌∷◌, List, map, codes, refl}
+use Rattle.cw_base.specs.declared.category.Cat.{Cat}
+use Rattle.cw_base.specs.declared.category.Cat.TheVariants.{RawInt, TexLike}
+use Rattle.cw_names.specs.Names.{Entry}
+use Rattle.cw_names.specs.declared.entry.EntryKind.TheVariants.{Ident}
 use Rattle.cw_trees.specs.declared.Control.{Control}
 use Rattle.cw_trees.specs.declared.Control.TheVariants.{Blank, OptionalBreak, Break, BigBreak, Cancel, Backup, Wall}
 use Rattle.cw_trees.specs.declared.Control.TheVariants.{Indent, Outdent, ToMath, ToText}
 use Rattle.cw_trees.specs.Flat.{Item, IdentItem, SignItem, Open, Close}
-use Rattle.cw_trees.specs.Printing.{Printable, sign_bytes, ident_bytes}
+use Rattle.cw_trees.specs.Printing.{Printable, sign_bytes, ident_bytes, reserved_bytes}
 use Rattle.cw_join.specs.Stretches.{Run, Other, stretches, printed_list}
 use Rattle.cw_join.specs.Early.{early, late, added, last_run}
+use Rattle.cw_join.specs.Tokens.{word_at}
 
 abbrev shown : Item → Printable
 shown (SignItem control) = record { item = SignItem control; bytes = sign_bytes control }
@@ -68,3 +73,24 @@ brackets_are_inner = refl
 -- an item that is in no run leaves no run
 run_is_over : last_run (list (sign Break ∷ x ∷ [])) ≡ []
 run_is_over = refl
+
+-- ## Names that are macros of TeX
+
+abbrev name_with : Cat → List ℕ → List Entry
+name_with category text = record { kind = Ident; text = text; category = category } ∷ []
+
+macro_of_a_word : word_at reserved_bytes (name_with TexLike (codes "NULL")) 0 ≡ codes "\\NULL"
+macro_of_a_word = refl
+
+macro_of_one_byte : word_at reserved_bytes (name_with TexLike (codes "x")) 0 ≡ codes "\\x"
+macro_of_one_byte = refl
+
+letters_of_a_macro : word_at reserved_bytes (name_with TexLike (codes "a_b$c")) 0 ≡ codes "\\axbXc"
+letters_of_a_macro = refl
+
+-- whatever the item was made as
+macro_of_an_identifier : word_at ident_bytes (name_with TexLike (codes "a_b")) 0 ≡ codes "\\axb"
+macro_of_an_identifier = refl
+
+no_macro : word_at reserved_bytes (name_with RawInt (codes "NULL")) 0 ≡ codes "\\&{NULL}"
+no_macro = refl

@@ -42,8 +42,8 @@ other_section_row = refl
 -- `int i;`, then `int j; j=i;`, then `int i; i=j;`. The sections that define a name ascend, each once.
 abbrev two_names : List Occurrence
 two_names =
-    used 102 1 ∷ used 103 2 ∷ used 103 2 ∷ used 102 2 ∷ used 102 3 ∷ used 102 3 ∷ used 103 3 ∷ defined 102 3 ∷ defined 103 2
-    ∷ defined 102 1 ∷ defined 102 3 ∷ []
+    used 102 1 ∷ used 103 2 ∷ used 103 2 ∷ used 102 2 ∷ used 102 3 ∷ used 102 3 ∷ used 103 3 ∷ defined 102 3
+    ∷ defined 103 2 ∷ defined 102 1 ∷ defined 102 3 ∷ []
 
 first_row : rows 1 (ident (codes "i") ∷ ident (codes "j") ∷ []) two_names ≡ []
 first_row = refl
@@ -56,7 +56,8 @@ third_row = refl
 
 -- Entries stand in the order of the index: letters before digits, capitals with small letters.
 order_row : rows 2 (ident (codes "a1") ∷ ident (codes "aB") ∷ ident (codes "a_") ∷ ident (codes "A") ∷ [])
-    (defined 102 1 ∷ defined 103 1 ∷ defined 104 1 ∷ defined 105 1 ∷ used 102 2 ∷ used 103 2 ∷ used 104 2 ∷ used 105 2 ∷ [])
+    (defined 102 1 ∷ defined 103 1 ∷ defined 104 1 ∷ defined 105 1 ∷ used 102 2 ∷ used 103 2 ∷ used 104 2
+    ∷ used 105 2 ∷ [])
     ≡ line 105 (1 ∷ []) ∷ line 104 (1 ∷ []) ∷ line 103 (1 ∷ []) ∷ line 102 (1 ∷ []) ∷ []
 order_row = refl
 

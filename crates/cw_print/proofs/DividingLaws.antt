@@ -51,7 +51,8 @@ module _ (come : ℕ) (first others : List ℕ) (size : ℕ) (rest : List (List 
 
 -- a byte that is a unit
 module _ (byte : ℕ) (more : List ℕ) (rest : List (List ℕ)) (come : ℕ)
-    (behind : (c : ℕ) → rest_bytes (record { room = 20 - c; takes_next = byte == 92 }) more ≡ divided_units c rest) where
+    (behind : (c : ℕ) → rest_bytes (record { room = 20 - c; takes_next = byte == 92 }) more
+    ≡ divided_units c rest) where
   one-shown : rest_bytes (portion_behind come) (byte ∷ more) ≡ divided_units come ((byte ∷ []) ∷ rest)
   one-shown =
       shown-by come (escaped_byte byte) [] 1 rest (λ portion. rest_bytes (with_byte portion byte) more) behind-one

@@ -15,7 +15,8 @@ returns-in_err-put_bracket g c =
 pub returns-in_err-put_ident_of : goal.returns-in_err-put_ident_of
 returns-in_err-put_ident_of g c =
     let behind : List ℕ = bracket c.args.wraps (codes "}") in
-    puts-failing (append_assoc (bracket c.args.wraps (codes "\\PB{")) (word_at ident_bytes c.args.names.now c.args.name.index) behind)
+    let name : List ℕ = word_at ident_bytes c.args.names.now c.args.name.index in
+    puts-failing (append_assoc (bracket c.args.wraps (codes "\\PB{")) name behind)
     (puts-longer behind (puts-then c.in_ok-put_bracket.ensures c.in_err-put_ident_of.ensures))
     c.from_residual-in_err-put_ident_of.ensures.1
 

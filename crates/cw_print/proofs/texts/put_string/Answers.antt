@@ -8,7 +8,8 @@ use Rattle.cw_print.proofs.texts.put_string.Goals as goal
 
 pub returns : goal.returns
 returns c =
+    let said : List ℕ = string_bytes c.args.text.now in
     on_ok_weaker c.put_string_rest.result
     (λ is. is ∙ ap (λ (l : List ℕ). c.args.out.now ++ l)
-    ((λ i. rest_bytes (c.behind.ensures i) (string_bytes c.args.text.now)) ∙ rest-divided (string_bytes c.args.text.now)))
+    ((λ i. rest_bytes (c.behind.ensures i) said) ∙ rest-divided said))
     c.put_string_rest.ensures
