@@ -1,6 +1,6 @@
 -- The braces that productions put in. In each row they pair, and no piece between them needs text mode: there TeX would
 -- have to leave math, and between braces it can't.
-use Rattle.std.specs.Prelude.{ℕ, zero, suc, pred, Bool, true, false, not, ◌&&◌, ◌||◌, eqb, ◌≡◌, List, [], ◌∷◌}
+use Rattle.std.specs.Prelude.{ℕ, zero, suc, pred, Bool, true, false, not, ◌&&◌, ◌||◌, eqb, ltb, ◌≡◌, List, [], ◌∷◌}
 use Rattle.std.specs.Prelude.{◌++◌}
 use Rattle.std.specs.List.{list_all}
 use Rattle.cw_base.specs.Category.{all_cats, in_set}
@@ -64,9 +64,9 @@ abbrev pub is_text : MathMode → Bool
 is_text Text = true
 is_text _ = false
 
--- what is put in is a scrap of such a category, whichever its test admits, or a control that needs no text
+-- what is put in is a tested scrap of such a category, whichever its test admits, or a control that needs no text
 abbrev pub is_quiet : (ℕ → Cat → Bool) → Row → Insertion → Bool
-is_quiet these row (Scrap k mode) = admits_only (these k) (test row k)
+is_quiet these row (Scrap k mode) = ltb k row.test_count && admits_only (these k) (test row k)
 is_quiet these row (Sign control mode) = not (is_text mode)
 
 abbrev pub are_quiet : (ℕ → Cat → Bool) → Row → List Piece → Bool

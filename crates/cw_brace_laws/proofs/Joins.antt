@@ -1,0 +1,152 @@
+-- What is joined of pieces that can stand where they stand is braced.
+use Rattle.std.proofs.Common.{◌≡◌, ℕ, zero, suc, Option, Some, None, IfSome, List, [], ◌∷◌, refl, sym, ap, ◌∙◌, subst}
+use Rattle.cw_base.specs.declared.mode.MathMode.{MathMode}
+use Rattle.cw_base.specs.declared.mode.MathMode.TheVariants.{Text, Math, Maybe}
+use Rattle.cw_trees.specs.Joining.{Joined, Whole, Mark, needs, after, first_mode, toggled, joined_tree, joined_left}
+use Rattle.cw_trees.specs.Joining.{joined_right}
+use Rattle.cw_trees.specs.Tree.{Tree, Empty, Then, Sub, Sign}
+use Rattle.cw_trees.specs.declared.Control.{Control}
+use Rattle.cw_trees.specs.declared.Control.TheVariants.{Blank, OptionalBreak, Break, BigBreak, Cancel, Backup, Wall}
+use Rattle.cw_trees.specs.declared.Control.TheVariants.{Indent, Outdent, OptionalLineBreak0, OptionalLineBreak9}
+use Rattle.cw_trees.specs.declared.Control.TheVariants.{ThinSpace, OpenBrace, CloseBrace, OpenRelation, Inserted}
+use Rattle.cw_trees.specs.declared.Control.TheVariants.{ToMath, ToText, Dollar, CommentEnd, NameText, NameEnd}
+use Rattle.cw_brace_laws.specs.Bracing.{leads_on, sign_depth, depth_of, EndsAt, StandsAt}
+use Rattle.cw_brace_laws.proofs.Depths.{ends-maybe, first-ends, after-ends}
+
+-- it leads somewhere, and there this holds
+abbrev pub Then_ : Option ℕ → (ℕ → Type 0) → Type 0
+Then_ None P = ⊥
+Then_ (Some depth) P = P depth
+
+-- pieces lead from a depth to an end
+abbrev pub Lead : ℕ → ℕ → List Joined → Type 0
+Lead e d [] = d ≡ e
+Lead e d (Whole tree left right ∷ js) = StandsAt d tree left right × Lead e d js
+Lead e d (Mark control ∷ js) = Then_ (sign_depth control d) (λ n. Lead e n js)
+
+-- ## Controls
+
+-- before a control and behind it no mode between braces is text
+sign-begins : (c : Control) (d : ℕ) → IfSome (sign_depth c d) (λ n. EndsAt d (needs c))
+sign-begins CloseBrace zero = tt
+sign-begins CloseBrace (suc d) = refl
+sign-begins OpenBrace zero = tt
+sign-begins OpenBrace (suc d) = refl
+sign-begins OpenRelation zero = tt
+sign-begins OpenRelation (suc d) = refl
+sign-begins Wall (suc d) = refl
+sign-begins Indent (suc d) = refl
+sign-begins Outdent (suc d) = refl
+sign-begins OptionalLineBreak0 (suc d) = refl
+sign-begins OptionalLineBreak9 (suc d) = refl
+sign-begins ThinSpace (suc d) = refl
+sign-begins Inserted (suc d) = refl
+sign-begins NameText (suc d) = refl
+sign-begins NameEnd (suc d) = refl
+sign-begins _ zero = tt
+sign-begins _ (suc d) = tt
+
+sign-ends : (c : Control) (d : ℕ) (m : MathMode) → EndsAt d m
+    → IfSome (sign_depth c d) (λ n. EndsAt n (after m (needs c) (needs c)))
+sign-ends CloseBrace zero m h = tt
+sign-ends CloseBrace (suc zero) m h = tt
+sign-ends CloseBrace (suc (suc d)) m h = refl
+sign-ends OpenBrace d m h = refl
+sign-ends OpenRelation d m h = refl
+sign-ends Wall (suc d) m h = h
+sign-ends Indent (suc d) m h = h
+sign-ends Outdent (suc d) m h = h
+sign-ends OptionalLineBreak0 (suc d) m h = h
+sign-ends OptionalLineBreak9 (suc d) m h = h
+sign-ends ThinSpace (suc d) m h = h
+sign-ends Inserted (suc d) m h = h
+sign-ends NameText (suc d) m h = h
+sign-ends NameEnd (suc d) m h = h
+sign-ends _ zero m h = tt
+sign-ends _ (suc d) m h = tt
+
+-- the first mode of a control and of what follows
+sign-first : (c : Control) (d : ℕ) (later : MathMode) → Then_ (sign_depth c d) (λ n. EndsAt n later)
+    → EndsAt d (first_mode (needs c) later)
+sign-first CloseBrace zero later h = tt
+sign-first CloseBrace (suc d) later h = refl
+sign-first OpenBrace zero later h = tt
+sign-first OpenBrace (suc d) later h = refl
+sign-first OpenRelation zero later h = tt
+sign-first OpenRelation (suc d) later h = refl
+sign-first Wall d later h = h
+sign-first Indent d later h = h
+sign-first Outdent d later h = h
+sign-first OptionalLineBreak0 d later h = h
+sign-first OptionalLineBreak9 d later h = h
+sign-first ThinSpace d later h = h
+sign-first Inserted d later h = h
+sign-first NameText d later h = h
+sign-first NameEnd d later h = h
+sign-first _ zero later h = tt
+sign-first _ (suc d) later h = absurd h
+
+-- a toggle stands outside of braces
+toggled-depth : (d : ℕ) (m l : MathMode) (t : Tree) → EndsAt d m → EndsAt d l → depth_of (toggled m l t) d
+    ≡ depth_of t d
+toggled-depth zero Math Text t m l = refl
+toggled-depth zero Text Math t m l = refl
+toggled-depth (suc d) Math Text t m l = absurd cc
+toggled-depth (suc d) Text Math t m l = absurd cc
+toggled-depth d Math Math t m l = refl
+toggled-depth d Math Maybe t m l = refl
+toggled-depth d Text Text t m l = refl
+toggled-depth d Text Maybe t m l = refl
+toggled-depth d Maybe l t m h = refl
+
+-- ## Pieces
+
+pub record Led (e d : ℕ) (m : MathMode) (js : List Joined) : Type 0 where
+  pub tree : depth_of (joined_tree m js) d ≡ Some e
+  pub ends : EndsAt e (joined_right m js)
+
+pub led : (e d : ℕ) (m : MathMode) (js : List Joined) → Lead e d js → EndsAt d m → Led e d m js
+led e d m [] h f = record { tree = ap Some h; ends = subst (λ n. EndsAt n m) h f }
+led e d m (Whole tree l r ∷ js) h f =
+    let rest = led e d (after m l r) js h.1 (after-ends d m l r f h.0.ends) in
+    record {
+      tree = toggled-depth d m l (Sub tree (joined_tree (after m l r) js)) f h.0.begins
+          ∙ ap (λ o. leads_on o (depth_of (joined_tree (after m l r) js))) h.0.back ∙ rest.tree;
+      ends = rest.ends;
+    }
+led e d m (Mark c ∷ js) h f =
+    go (sign_depth c d) refl h (sign-begins c d) (sign-ends c d m f)
+    (λ n k g. led e n (after m (needs c) (needs c)) js k g)
+  where
+    go : (o : Option ℕ) → sign_depth c d ≡ o → Then_ o (λ n. Lead e n js) → IfSome o (λ n. EndsAt d (needs c))
+        → IfSome o (λ n. EndsAt n (after m (needs c) (needs c)))
+        → ((n : ℕ) → Lead e n js → EndsAt n (after m (needs c) (needs c))
+        → Led e n (after m (needs c) (needs c)) js) → Led e d m (Mark c ∷ js)
+    go None is h b g rec = absurd h
+    go (Some n) is h b g rec =
+        let rest = rec n h g in
+        record {
+          tree = toggled-depth d m (needs c) (Then (Sign c) (joined_tree (after m (needs c) (needs c)) js)) f b
+              ∙ ap (λ o. leads_on o (depth_of (joined_tree (after m (needs c) (needs c)) js))) is ∙ rest.tree;
+          ends = rest.ends;
+        }
+
+pub led-left : (e d : ℕ) (js : List Joined) → Lead e d js → EndsAt d (joined_left js)
+led-left e d [] h = ends-maybe d
+led-left e d (Whole tree l r ∷ js) h = first-ends d l (joined_left js) h.0.begins (led-left e d js h.1)
+led-left e d (Mark c ∷ js) h =
+    sign-first c d (joined_left js) (go (sign_depth c d) h (λ n k. led-left e n js k))
+  where
+    go : (o : Option ℕ) → Then_ o (λ n. Lead e n js) → ((n : ℕ) → Lead e n js → EndsAt n (joined_left js))
+        → Then_ o (λ n. EndsAt n (joined_left js))
+    go None h rec = h
+    go (Some n) h rec = rec n h
+
+-- a piece, and those behind it
+abbrev pub JoinedStands : ℕ → Joined → Type 0
+JoinedStands d (Whole tree left right) = StandsAt d tree left right
+JoinedStands d (Mark control) = sign_depth control d ≡ Some d
+
+pub lead-on : (e d : ℕ) (j : Joined) (js : List Joined) → JoinedStands d j → Lead e d js → Lead e d (j ∷ js)
+lead-on e d (Whole tree l r) js h rest = (h, rest)
+lead-on e d (Mark c) js h rest = subst (λ o. Then_ o (λ n. Lead e n js)) (sym h) rest

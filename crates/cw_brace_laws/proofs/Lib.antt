@@ -1,0 +1,7 @@
+-- The proofs of the laws of braces.
+pub mod Depths
+pub mod Joins
+pub mod RowPieces
+pub mod NewScraps
+pub mod Productions
+pub mod Wholes

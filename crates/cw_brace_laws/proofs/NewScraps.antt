@@ -1,0 +1,208 @@
+-- The scrap that a production makes is braced.
+use Rattle.std.proofs.Common.{◌≡◌, ℕ, zero, suc, ◌+◌, ◌<◌, Bool, true, false, not, ◌&&◌, ◌||◌, eqb, ltb, Option, Some}
+use Rattle.std.proofs.Common.{None, List, [], ◌∷◌, get_or, length, map, refl, sym, ap, ◌∙◌, subst, inl, inr, zero-add}
+use Rattle.std.specs.List.{All, list_all}
+use Rattle.std.proofs.lemmas.Bool.{cases_lt, eqb-true, ltb-true}
+use Rattle.std.proofs.lemmas.List.{get_or_past}
+use Rattle.std.proofs.lemmas.List.Elements.{All-head}
+use Rattle.std.proofs.lemmas.List.Sums.{AllPass-from_list_all}
+use Rattle.cw_base.proofs.CategoryLaws.{every-cat}
+use Rattle.cw_base.proofs.TestLaws.{both-left, both-right, not-both, not-true, other-one, unless}
+use Rattle.cw_base.specs.Category.{in_set}
+use Rattle.cw_base.specs.declared.category.Cat.{Cat}
+use Rattle.cw_base.specs.declared.category.Cat.TheVariants.{End}
+use Rattle.cw_base.specs.declared.flags.Flags.{Flags}
+use Rattle.cw_base.specs.declared.mode.MathMode.TheVariants.{Maybe}
+use Rattle.cw_table.proofs.ScrapFacts.{cats-get}
+use Rattle.cw_table.specs.Braces.{admits_only, are_quiet, between, braces_pair, is_binop, is_calm, is_quiet, makes_calm}
+use Rattle.cw_table.specs.Braces.{may_be_calm, may_stand, pieces_are_braced, row_is_braced}
+use Rattle.cw_table.specs.Insertions.{insertion_of}
+use Rattle.cw_table.specs.Rewriting.{cats_of, joined_of, alone, with_cat, row_pieces, new_scrap, takes_other}
+use Rattle.cw_table.specs.Rows.{pieces_by, result_at, test}
+use Rattle.cw_table.specs.declared.types.Piece.{Piece}
+use Rattle.cw_table.specs.declared.types.Piece.TheVariants.{Scrap as ScrapOf, MathScrap, Unused, Blank, OptionalBreak}
+use Rattle.cw_table.specs.declared.types.Piece.TheVariants.{Break, BigBreak, Cancel, Backup, Wall, Indent, Outdent}
+use Rattle.cw_table.specs.declared.types.Piece.TheVariants.{OptionalLineBreak0, OptionalLineBreak9, ThinSpace}
+use Rattle.cw_table.specs.declared.types.Piece.TheVariants.{OpenBrace, CloseBrace, OpenRelation, Inserted}
+use Rattle.cw_table.specs.declared.types.Row.{Row}
+use Rattle.cw_table.specs.declared.types.RowResult.{RowResult}
+use Rattle.cw_table.specs.declared.types.RowResult.TheVariants.{Is, SameAs}
+use Rattle.cw_trees.specs.Joining.{Scrap, no_scrap, Joined, join}
+use Rattle.cw_brace_laws.specs.Bracing.{StandsAt, HoldsNoText, IsBracedScrap}
+use Rattle.cw_brace_laws.specs.Operators.{IsCleanOperator, PutsCleanOperator}
+use Rattle.cw_brace_laws.proofs.Depths.{ends-maybe}
+use Rattle.cw_brace_laws.proofs.Joins.{JoinedStands, Lead, led, led-left}
+use Rattle.cw_brace_laws.proofs.RowPieces.{Stands, alone-pieces, math-stands, pieces-lead}
+
+-- ## Rows
+
+pub pieces-braced : (row : Row) → row_is_braced row ≡ true → (other : Bool)
+    → pieces_are_braced row (pieces_by other row) ≡ true
+unfolding row_is_braced
+pieces-braced row h true = both-right _ _ h
+pieces-braced row h false = both-left _ _ h
+
+-- of the scraps that a piece puts in
+abbrev AtScrap : (ℕ → Type 0) → Piece → Type 0
+AtScrap Q (ScrapOf k) = Q k
+AtScrap Q (MathScrap k) = Q k
+AtScrap Q _ = Unit {0}
+
+pub none-braced : IsBracedScrap no_scrap
+none-braced = record { braced = refl; calm = λ c. absurd cc }
+
+pub at-braced : (scraps : List Scrap) (k : ℕ) → All IsBracedScrap scraps → IsBracedScrap (get_or scraps k no_scrap)
+at-braced scraps k all = elim (cases_lt k (length scraps)) [
+  | inl h ↦ all k no_scrap h
+  | inr h ↦ subst IsBracedScrap (sym (get_or_past scraps k no_scrap h)) none-braced
+]
+
+-- what may stand between braces holds no text
+may-hold : (result : RowResult) (k : ℕ) (s : Scrap) → IsBracedScrap s → IsCleanOperator s
+    → may_stand result k s.cat ≡ true → HoldsNoText s
+may-hold (SameAs j) k s braced clean h = braced.calm h
+may-hold (Is made) k s braced clean h = go (is_calm s.cat) refl
+  where
+    go : (b : Bool) → is_calm s.cat ≡ b → HoldsNoText s
+    go true e = braced.calm e
+    go false e = clean (both-right _ _ (other-one _ _ h e))
+
+-- ## A row that fits
+
+module _ (row : Row) (scraps : List Scrap) (all : All IsBracedScrap scraps)
+    (fits : (k : ℕ) → k < row.test_count → in_set (test row k) (get_or scraps k no_scrap).cat ≡ true)
+    (tested : (k : ℕ) → row.result ≡ SameAs k → k < row.test_count) where
+  -- a category that a test admits is one of those which it admits only
+  admitted : (these : Cat → Bool) (k : ℕ) → k < row.test_count → admits_only these (test row k) ≡ true
+      → these (get_or scraps k no_scrap).cat ≡ true
+  admitted these k lt h = unless _ _ (every-cat (λ cat. not (in_set (test row k) cat) || these cat) h
+      (get_or scraps k no_scrap).cat) (fits k lt)
+
+  quiet-scrap : (these : ℕ → Cat → Bool) (k : ℕ)
+      → (ltb k row.test_count && admits_only (these k) (test row k)) ≡ true
+      → these k (get_or scraps k no_scrap).cat ≡ true
+  quiet-scrap these k h = admitted (these k) k (ltb-true _ _ (both-left _ _ h)) (both-right _ _ h)
+
+  abbrev ScrapStands : ℕ → ℕ → Type 0
+  ScrapStands m k = StandsAt m (get_or scraps k no_scrap).tree (get_or scraps k no_scrap).left
+      (get_or scraps k no_scrap).right
+
+  quiet-stands : (these : ℕ → Cat → Bool) (m : ℕ) (p : Piece)
+      → AtScrap (λ k. these k (get_or scraps k no_scrap).cat ≡ true → ScrapStands m k) p
+      → is_quiet these row (insertion_of p) ≡ true → Stands scraps m p
+  quiet-stands these m (ScrapOf k) at h = at (quiet-scrap these k h)
+  quiet-stands these m (MathScrap k) at h = math-stands m (get_or scraps k no_scrap).tree
+      (get_or scraps k no_scrap).left (get_or scraps k no_scrap).right (at (quiet-scrap these k h))
+  quiet-stands these m OpenBrace at h = tt
+  quiet-stands these m CloseBrace at h = tt
+  quiet-stands these m OpenRelation at h = tt
+  quiet-stands these m Unused at h = refl
+  quiet-stands these m Wall at h = refl
+  quiet-stands these m Indent at h = refl
+  quiet-stands these m Outdent at h = refl
+  quiet-stands these m OptionalLineBreak0 at h = refl
+  quiet-stands these m OptionalLineBreak9 at h = refl
+  quiet-stands these m ThinSpace at h = refl
+  quiet-stands these m Inserted at h = refl
+  quiet-stands these m _ at h = absurd cc
+
+  -- between braces
+  clean-at : (m : ℕ) (p : Piece) → PutsCleanOperator scraps p
+      → AtScrap (λ k. may_stand row.result k (get_or scraps k no_scrap).cat ≡ true → ScrapStands m k) p
+  clean-at m (ScrapOf k) clean = λ h.
+      may-hold row.result k (get_or scraps k no_scrap) (at-braced scraps k all) clean h m
+  clean-at m (MathScrap k) clean = λ h.
+      may-hold row.result k (get_or scraps k no_scrap) (at-braced scraps k all) clean h m
+  clean-at m _ clean = tt
+
+  between-stand : (ps : List Piece) → are_quiet (may_stand row.result) row ps ≡ true
+      → All (PutsCleanOperator scraps) ps → All (λ p. (m : ℕ) → Stands scraps m p) ps
+  between-stand ps h clean = λ i d lt m.
+      quiet-stands (may_stand row.result) m (get_or ps i d) (clean-at m (get_or ps i d) (clean i d lt))
+      (AllPass-from_list_all (λ p. is_quiet (may_stand row.result) row (insertion_of p)) ps h i d lt)
+
+  -- outside of braces
+  stands-outside : (p : Piece) → Stands scraps 0 p
+  stands-outside (ScrapOf k) = record { back = (at-braced scraps k all).braced; begins = tt; ends = tt }
+  stands-outside (MathScrap k) = math-stands 0 (get_or scraps k no_scrap).tree
+      (get_or scraps k no_scrap).left (get_or scraps k no_scrap).right
+      (record { back = (at-braced scraps k all).braced; begins = tt; ends = tt })
+  stands-outside OpenBrace = tt
+  stands-outside CloseBrace = tt
+  stands-outside OpenRelation = tt
+  stands-outside _ = refl
+
+  -- where the result is calm
+  same-calm : (result : RowResult) (k : ℕ) → is_calm (result_at result (cats_of scraps)) ≡ true
+      → makes_calm result k (get_or scraps k no_scrap).cat ≡ true → is_calm (get_or scraps k no_scrap).cat ≡ true
+  same-calm (Is made) k calm h = h
+  same-calm (SameAs j) k calm h = go (is_calm (get_or scraps k no_scrap).cat) refl
+    where
+      go : (b : Bool) → is_calm (get_or scraps k no_scrap).cat ≡ b → is_calm (get_or scraps k no_scrap).cat ≡ true
+      go true e = e
+      go false e =
+          let same : k ≡ j = eqb-true _ _ (other-one _ _ h e) in
+          ap is_calm (sym (cats-get scraps k)) ∙ ap (λ n. is_calm (get_or (cats_of scraps) n End)) same ∙ calm
+
+  may-calm : (result : RowResult) → row.result ≡ result → is_calm (result_at result (cats_of scraps)) ≡ true
+      → may_be_calm row result ≡ true
+  may-calm (Is made) is calm = calm
+  may-calm (SameAs j) is calm = go (admits_only (λ cat. not (is_calm cat)) (test row j)) refl
+    where
+      go : (b : Bool) → admits_only (λ cat. not (is_calm cat)) (test row j) ≡ b → not b ≡ true
+      go false e = refl
+      go true e = not-both (is_calm (get_or scraps j no_scrap).cat) (ap is_calm (sym (cats-get scraps j)) ∙ calm)
+          (not-true _ (admitted (λ cat. not (is_calm cat)) j (tested j is) e))
+
+  calm-at : (m : ℕ) (p : Piece) → is_calm (result_at row.result (cats_of scraps)) ≡ true
+      → AtScrap (λ k. makes_calm row.result k (get_or scraps k no_scrap).cat ≡ true → ScrapStands m k) p
+  calm-at m (ScrapOf k) calm = λ h. (at-braced scraps k all).calm (same-calm row.result k calm h) m
+  calm-at m (MathScrap k) calm = λ h. (at-braced scraps k all).calm (same-calm row.result k calm h) m
+  calm-at m _ calm = tt
+
+  calm-stand : (ps : List Piece) → is_calm (result_at row.result (cats_of scraps)) ≡ true
+      → (not (may_be_calm row row.result) || are_quiet (makes_calm row.result) row ps) ≡ true
+      → (m : ℕ) → All (Stands scraps m) ps
+  calm-stand ps calm h m = λ i d lt.
+      quiet-stands (makes_calm row.result) m (get_or ps i d) (calm-at m (get_or ps i d) calm)
+      (AllPass-from_list_all (λ p. is_quiet (makes_calm row.result) row (insertion_of p)) ps
+      (unless _ _ h (may-calm row.result refl calm)) i d lt)
+
+  -- the new scrap
+  new-by : (ps : List Piece) → pieces_are_braced row ps ≡ true → All (PutsCleanOperator scraps) (between 0 ps)
+      → (o : Option ℕ) → alone row.replaced ps ≡ o
+      → IsBracedScrap (elim o as (λ _. Scrap) [
+        | Some k ↦ with_cat (result_at row.result (cats_of scraps)) (get_or scraps k no_scrap)
+        | None ↦ join (result_at row.result (cats_of scraps)) (map (joined_of scraps) ps)
+      ])
+  new-by ps ok clean (Some k) e = record {
+    braced = (at-braced scraps k all).braced;
+    calm = λ c m. All-head (Stands scraps m) (ScrapOf k) []
+        (subst (All (Stands scraps m)) (alone-pieces row.replaced ps k e) (calm-stand ps c (both-right _ _ ok) m));
+  }
+  new-by ps ok clean None e =
+      let pair : braces_pair 0 ps ≡ true = both-left _ _ (both-left _ _ ok) in
+      let held : All (λ p. (m : ℕ) → Stands scraps m p) (between 0 ps) =
+      between-stand (between 0 ps) (both-right _ _ (both-left _ _ ok)) clean in
+      let js : List Joined = map (joined_of scraps) ps in
+      record {
+        braced = (led 0 0 Maybe (map (joined_of scraps) ps)
+            (pieces-lead scraps 0 0 0 ps refl pair held (λ i d lt. stands-outside (get_or ps i d))) tt).tree;
+        calm = λ c m.
+            let is : m ≡ 0 + m = sym (zero-add m) in
+            let lead : Lead m m (map (joined_of scraps) ps) =
+            pieces-lead scraps m 0 m ps is pair held (calm-stand ps c (both-right _ _ ok) m) in
+            let here = led m m Maybe (map (joined_of scraps) ps) lead (ends-maybe m) in
+            record {
+              back = here.tree;
+              begins = led-left m m (map (joined_of scraps) ps) lead;
+              ends = here.ends;
+            };
+      }
+
+  pub new-braced : (flags : Flags) → row_is_braced row ≡ true
+      → All (PutsCleanOperator scraps) (between 0 (row_pieces flags row (cats_of scraps)))
+      → IsBracedScrap (new_scrap flags row scraps)
+  new-braced flags h clean = new-by (row_pieces flags row (cats_of scraps))
+      (pieces-braced row h (takes_other flags row.action.choice (cats_of scraps))) clean
+      (alone row.replaced (row_pieces flags row (cats_of scraps))) refl

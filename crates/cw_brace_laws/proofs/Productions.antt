@@ -1,0 +1,187 @@
+-- One production keeps the braces of all scraps, and so do all of them.
+use Rattle.std.proofs.Common.{◌≡◌, ℕ, zero, suc, ◌+◌, ◌<◌, Bool, true, false, ◌&&◌, Option, Some, None, List, [], ◌∷◌}
+use Rattle.std.proofs.Common.{◌++◌, get_or, map, take, drop, set, refl, sym, ap, ◌∙◌, subst, arith}
+use Rattle.std.specs.List.{All, list_all}
+use Rattle.std.proofs.lemmas.List.Elements.{All-append, All-take, All-drop, All-set, All-map, All-cons}
+use Rattle.cw_base.proofs.TestLaws.{both-left, both-right}
+use Rattle.cw_base.specs.Category.{in_set}
+use Rattle.cw_base.specs.declared.category.Cat.{Cat}
+use Rattle.cw_base.specs.declared.category.Cat.TheVariants.{RawInt, End}
+use Rattle.cw_base.specs.declared.flags.Flags.{Flags}
+use Rattle.cw_table.proofs.FirstLaws.{length-tests_of}
+use Rattle.cw_table.proofs.Normals.{Found, first-found, Least, least-at, steps-none, steps-turn}
+use Rattle.cw_table.proofs.SafeLaws.{hold-at}
+use Rattle.cw_table.proofs.ScrapFacts.{at-cats, cats-drop, cats-get}
+use Rattle.cw_table.proofs.Soundness.{sound-row}
+use Rattle.cw_table.specs.Braces.{between, row_is_braced}
+use Rattle.cw_table.specs.Fitting.{first_of, row_fits}
+use Rattle.cw_table.specs.Normal.{Place, Nowhere, At, next_place, normal, steps, weight}
+use Rattle.cw_table.specs.Productions.{productions}
+use Rattle.cw_table.specs.Rewriting.{State, cats_of, is_name, named_right, named_scrap, new_scrap, reserved_at}
+use Rattle.cw_table.specs.Rewriting.{reserved_in, rewrite, rewrite_from, row_pieces, search_in, with_cat}
+use Rattle.cw_table.specs.Rows.{test, tests_of}
+use Rattle.cw_table.specs.Sound.{IsSound, is_exp, row_is_sound}
+use Rattle.cw_table.specs.declared.types.Piece.{Piece}
+use Rattle.cw_table.specs.declared.types.Piece.TheVariants as piece
+use Rattle.cw_table.specs.declared.types.Row.{Row}
+use Rattle.cw_trees.specs.Joining.{Scrap, no_scrap}
+use Rattle.cw_trees.specs.Tree.{Search, Found as FoundName, Stopped, Nothing, bare_name}
+use Rattle.cw_brace_laws.specs.Bracing.{HoldsNoText, IsBracedScrap}
+use Rattle.cw_brace_laws.specs.Operators.{HasCleanOperators, IsCleanOperator, PutsCleanOperator, PutsCleanOperators}
+use Rattle.cw_brace_laws.proofs.Depths.{reserve-depth}
+use Rattle.cw_brace_laws.proofs.NewScraps.{at-braced, new-braced}
+
+-- ## Reserving
+
+reserve-holds : (s : Scrap) → HoldsNoText s → HoldsNoText (reserved_in s)
+reserve-holds s h m = record { back = reserve-depth s.tree m ∙ (h m).back; begins = (h m).begins; ends = (h m).ends }
+
+reserve-braced : (s : Scrap) → IsBracedScrap s → IsBracedScrap (reserved_in s)
+reserve-braced s h = record {
+  braced = reserve-depth s.tree 0 ∙ h.braced;
+  calm = λ c. reserve-holds s (h.calm c);
+}
+
+named-braced : (o : Option ℕ) (scraps : List Scrap) → All IsBracedScrap scraps → All IsBracedScrap (reserved_at o scraps)
+named-braced None scraps all = all
+named-braced (Some k) scraps all = All-set IsBracedScrap scraps k (reserved_in (get_or scraps k no_scrap))
+    (reserve-braced (get_or scraps k no_scrap) (at-braced scraps k all)) all
+
+-- a scrap at a place is as before, or its first identifier was reserved
+set-at : (Q : Scrap → Type 0) → ((s : Scrap) → Q s → Q (reserved_in s)) → (scraps : List Scrap) (n k : ℕ)
+    → Q (get_or scraps k no_scrap) → Q (get_or (set scraps n (reserved_in (get_or scraps n no_scrap))) k no_scrap)
+set-at Q keeps [] n k h = h
+set-at Q keeps (s ∷ scraps) zero zero h = keeps s h
+set-at Q keeps (s ∷ scraps) zero (suc k) h = h
+set-at Q keeps (s ∷ scraps) (suc n) zero h = h
+set-at Q keeps (s ∷ scraps) (suc n) (suc k) h = set-at Q keeps scraps n k h
+
+clean-scrap : (o : Option ℕ) (scraps : List Scrap) (k : ℕ) → IsCleanOperator (get_or scraps k no_scrap)
+    → IsCleanOperator (get_or (reserved_at o scraps) k no_scrap)
+clean-scrap None scraps k h = h
+clean-scrap (Some n) scraps k h = set-at IsCleanOperator (λ s g e. reserve-holds s (g e)) scraps n k h
+
+clean-piece : (o : Option ℕ) (scraps : List Scrap) (p : Piece) → PutsCleanOperator scraps p
+    → PutsCleanOperator (reserved_at o scraps) p
+clean-piece o scraps (piece.Scrap k) h = clean-scrap o scraps k h
+clean-piece o scraps (piece.MathScrap k) h = clean-scrap o scraps k h
+clean-piece o scraps _ h = tt
+
+-- to the right of the new scrap
+scrap-braced : (b : Bool) (name : ℕ) (s : Scrap) → (is_exp s.cat && is_name name (bare_name s.tree)) ≡ b
+    → IsBracedScrap s → IsBracedScrap (named_scrap name s)
+scrap-braced true name s e h =
+    rw (e, named_scrap) (record { braced = (reserve-braced s h).braced; calm = λ c. absurd cc })
+scrap-braced false name s e h = rw (e, named_scrap) h
+
+right-braced : (found : Search) (scraps : List Scrap) → All IsBracedScrap scraps
+    → All IsBracedScrap (named_right found scraps)
+right-braced (FoundName name) scraps all = All-map IsBracedScrap (named_scrap name) scraps
+    (λ k d h. scrap-braced (is_exp (get_or scraps k d).cat && is_name name (bare_name (get_or scraps k d).tree)) name
+    (get_or scraps k d) refl (all k d h))
+right-braced Stopped scraps all = all
+right-braced Nothing scraps all = all
+
+-- ## One production
+
+fits-at : (row : Row) (scraps : List Scrap) → IsSound row → row_fits row (cats_of scraps) ≡ true → (k : ℕ)
+    → k < row.test_count → in_set (test row k) (get_or scraps k no_scrap).cat ≡ true
+fits-at row scraps sound fits k lt =
+    let count = length-tests_of row sound in
+    ap (in_set (test row k)) (sym (cats-get scraps k))
+    ∙ hold-at (tests_of row) (cats_of scraps) k fits (omega (arith, count, lt))
+
+pub rewritten-braced : (flags : Flags) (row : Row) (scraps : List Scrap) → IsSound row → row_is_braced row ≡ true
+    → row_fits row (cats_of scraps) ≡ true → PutsCleanOperators flags row scraps → All IsBracedScrap scraps
+    → All IsBracedScrap (rewrite_from flags row scraps)
+rewritten-braced flags row scraps sound braced fits clean all =
+    let named : List Scrap = reserved_at row.action.reserve scraps in
+    let same = at-cats row.action.reserve scraps in
+    let kept : All IsBracedScrap (reserved_at row.action.reserve scraps) =
+    named-braced row.action.reserve scraps all in
+    let held : All (PutsCleanOperator (reserved_at row.action.reserve scraps))
+    (between 0 (row_pieces flags row (cats_of (reserved_at row.action.reserve scraps)))) =
+    subst (λ cats. All (PutsCleanOperator (reserved_at row.action.reserve scraps))
+    (between 0 (row_pieces flags row cats))) (sym same)
+    (λ i d lt. clean-piece row.action.reserve scraps (get_or (between 0 (row_pieces flags row (cats_of scraps))) i d)
+    (clean i d lt)) in
+    let new : IsBracedScrap (new_scrap flags row (reserved_at row.action.reserve scraps)) =
+    new-braced row (reserved_at row.action.reserve scraps) kept
+    (fits-at row (reserved_at row.action.reserve scraps) sound (ap (row_fits row) same ∙ fits)) sound.same_as_tested
+    flags braced held in
+    All-append IsBracedScrap (take row.offset (reserved_at row.action.reserve scraps))
+    (new_scrap flags row (reserved_at row.action.reserve scraps)
+    ∷ named_right (search_in row.action.reserve scraps)
+    (drop (row.offset + row.replaced) (reserved_at row.action.reserve scraps)))
+    (All-take IsBracedScrap row.offset (reserved_at row.action.reserve scraps) kept)
+    (All-cons IsBracedScrap (new_scrap flags row (reserved_at row.action.reserve scraps))
+    (named_right (search_in row.action.reserve scraps)
+    (drop (row.offset + row.replaced) (reserved_at row.action.reserve scraps))) new
+    (right-braced (search_in row.action.reserve scraps)
+    (drop (row.offset + row.replaced) (reserved_at row.action.reserve scraps))
+    (All-drop IsBracedScrap (row.offset + row.replaced) (reserved_at row.action.reserve scraps) kept)))
+
+pub production-keeps : (flags : Flags) (row : Row) (place : ℕ) (scraps : List Scrap) → row_is_sound row ≡ true
+    → row_is_braced row ≡ true → row_fits row (cats_of (drop place scraps)) ≡ true
+    → PutsCleanOperators flags row (drop place scraps) → All IsBracedScrap scraps
+    → All IsBracedScrap (take place scraps ++ rewrite_from flags row (drop place scraps))
+production-keeps flags row place scraps sound braced fits clean all =
+    All-append IsBracedScrap (take place scraps) (rewrite_from flags row (drop place scraps))
+    (All-take IsBracedScrap place scraps all)
+    (rewritten-braced flags row (drop place scraps) (sound-row row sound) braced fits clean
+    (All-drop IsBracedScrap place scraps all))
+
+-- ## All productions
+
+first-passes : (p : Row → Bool) (rows : List Row) (cs : List Cat) (r : Row) → list_all p rows ≡ true
+    → first_of rows cs ≡ Some r → p r ≡ true
+first-passes p [] cs r all h = absurd cc
+first-passes p (x ∷ rows) cs r all h =
+    go (λ k. first-passes p rows cs r (both-right (p x) _ all) k) (row_fits x cs) h
+  where
+    go : (first_of rows cs ≡ Some r → p r ≡ true) → (b : Bool)
+        → elim b as (λ _. Option Row) [ true ↦ Some x | false ↦ first_of rows cs ] ≡ Some r → p r ≡ true
+    go rec true h = let same : x ≡ r = cc in ap p (sym same) ∙ both-left (p x) _ all
+    go rec false h = rec h
+
+module _ (flags : Flags) (sound : list_all row_is_sound productions ≡ true)
+    (braced : list_all row_is_braced productions ≡ true) where
+  next-keeps : (st : State) (i : ℕ) (r : Row) → next_place productions st ≡ At i r
+      → PutsCleanOperators flags r (drop i st.scraps) → All IsBracedScrap st.scraps
+      → All IsBracedScrap (rewrite flags r i st).scraps
+  next-keeps st i r e clean all =
+      let l = least-at productions 0 (cats_of st.scraps) i r e in
+      let same : l.gone ≡ i = omega (arith, l.place_is) in
+      let found : first_of productions (cats_of (drop i st.scraps)) ≡ Some r =
+      ap (first_of productions) (cats-drop i st.scraps)
+      ∙ ap (λ n. first_of productions (drop n (cats_of st.scraps))) (sym same) ∙ l.found in
+      let first = first-found productions (cats_of (drop i st.scraps)) r sound found in
+      production-keeps flags r i st.scraps first.sound
+      (first-passes row_is_braced productions (cats_of (drop i st.scraps)) r braced found) first.fits clean all
+
+  -- the productions behind the first
+  later-clean : (st : State) (i : ℕ) (r : Row) → next_place productions st ≡ At i r → HasCleanOperators flags st
+      → HasCleanOperators flags (rewrite flags r i st)
+  later-clean st i r e clean = λ number place row.
+      subst (λ (s : State). next_place productions s ≡ At place row → PutsCleanOperators flags row (drop place s.scraps))
+      (steps-turn productions flags number i r st e) (clean (suc number) place row)
+
+  steps-keep : (n : ℕ) (st : State) → HasCleanOperators flags st → All IsBracedScrap st.scraps
+      → All IsBracedScrap (steps productions flags n st).scraps
+  steps-keep zero st clean all = all
+  steps-keep (suc n) st clean all = go (next_place productions st) refl (λ s. steps-keep n s)
+    where
+      go : (p : Place) → next_place productions st ≡ p
+          → ((s : State) → HasCleanOperators flags s → All IsBracedScrap s.scraps
+          → All IsBracedScrap (steps productions flags n s).scraps)
+          → All IsBracedScrap (steps productions flags (suc n) st).scraps
+      go Nowhere e rec =
+          subst (λ (s : State). All IsBracedScrap s.scraps) (sym (steps-none productions flags (suc n) st e)) all
+      go (At i r) e rec =
+          subst (λ (s : State). All IsBracedScrap s.scraps) (sym (steps-turn productions flags n i r st e))
+          (rec (rewrite flags r i st) (later-clean st i r e clean) (next-keeps st i r e (clean 0 i r e) all))
+
+  pub normal-keeps : (st : State) → HasCleanOperators flags st → All IsBracedScrap st.scraps
+      → All IsBracedScrap (normal productions flags st).scraps
+  unfolding normal
+  normal-keeps st clean all = steps-keep (weight st.scraps) st clean all

@@ -1,0 +1,25 @@
+-- The laws of braces.
+use Rattle.std.specs.Prelude.{◌≡◌, ℕ, true, List, ◌++◌, take, drop, All}
+use Rattle.cw_base.specs.declared.flags.Flags.{Flags}
+use Rattle.cw_table.specs.Braces.{row_is_braced}
+use Rattle.cw_table.specs.Fitting.{row_fits}
+use Rattle.cw_table.specs.Normal.{normal}
+use Rattle.cw_table.specs.Productions.{productions}
+use Rattle.cw_table.specs.Rewriting.{State, cats_of, rewrite_from}
+use Rattle.cw_table.specs.Sound.{row_is_sound}
+use Rattle.cw_table.specs.declared.types.Row.{Row}
+use Rattle.cw_trees.specs.Joining.{Scrap, whole}
+use Rattle.cw_brace_laws.specs.Bracing.{IsBraced, IsBracedScrap}
+use Rattle.cw_brace_laws.specs.Operators.{HasCleanOperators, PutsCleanOperators}
+
+-- One production, of a row that keeps the law of rows, keeps the braces of all scraps.
+abbrev pub ProductionsKeepBraces : Type 0
+ProductionsKeepBraces = (flags : Flags) (row : Row) (place : ℕ) (scraps : List Scrap)
+    → row_is_sound row ≡ true → row_is_braced row ≡ true → row_fits row (cats_of (drop place scraps)) ≡ true
+    → PutsCleanOperators flags row (drop place scraps) → All IsBracedScrap scraps
+    → All IsBracedScrap (take place scraps ++ rewrite_from flags row (drop place scraps))
+
+-- All productions together keep them, and so the tree is braced to which the scraps that are left are joined.
+abbrev pub ReductionsAreBraced : Type 0
+ReductionsAreBraced = (flags : Flags) (state : State) → HasCleanOperators flags state
+    → All IsBracedScrap state.scraps → IsBraced (whole (normal productions flags state).scraps)

@@ -1,0 +1,4 @@
+-- What the laws of braces say.
+pub mod Bracing
+pub mod Operators
+pub mod BraceLaws

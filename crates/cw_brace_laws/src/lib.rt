@@ -1,0 +1,6 @@
+//! Laws of braces: those that productions put in pair, and no text stands between them.
+#![tactic(auto)]
+
+mod laws;
+
+pub use laws::{production_law, reduction_law};
