@@ -1,13 +1,11 @@
 -- Depths of braces: of trees whose first identifier was reserved, and of ends of scraps.
-use Rattle.std.proofs.Common.{◌≡◌, ℕ, zero, suc, Bool, true, false, Option, Some, None, refl, ap}
+use Rattle.std.proofs.Common.{◌≡◌, ℕ, zero, suc, Option, Some, None, refl, ap}
 use Rattle.cw_base.specs.declared.mode.MathMode.{MathMode}
 use Rattle.cw_base.specs.declared.mode.MathMode.TheVariants.{Text, Math, Maybe}
-use Rattle.cw_table.specs.Rewriting.{reserved_in, with_cat}
-use Rattle.cw_trees.specs.Joining.{Scrap, first_mode, after}
+use Rattle.cw_trees.specs.Joining.{first_mode, after}
 use Rattle.cw_trees.specs.Tree.{Leaf, Source, Ident, Reserved, Sign, Tree, Empty, Then, Sub, Inner, Search, Found}
 use Rattle.cw_trees.specs.Tree.{Stopped, Nothing, search_leaf, first_ident, reserved_leaf, reserve_first}
-use Rattle.cw_brace_laws.specs.Bracing.{leads_on, outside, leaf_depth, depth_of, EndsAt, StandsAt, HoldsNoText}
-use Rattle.cw_brace_laws.specs.Bracing.{IsBracedScrap}
+use Rattle.cw_brace_laws.specs.Bracing.{leads_on, outside, leaf_depth, depth_of, EndsAt}
 
 pub same-leads : (o : Option ℕ) (f g : ℕ → Option ℕ) → ((d : ℕ) → f d ≡ g d) → leads_on o f ≡ leads_on o g
 same-leads None f g h = refl

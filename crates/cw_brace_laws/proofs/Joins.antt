@@ -4,12 +4,12 @@ use Rattle.cw_base.specs.declared.mode.MathMode.{MathMode}
 use Rattle.cw_base.specs.declared.mode.MathMode.TheVariants.{Text, Math, Maybe}
 use Rattle.cw_trees.specs.Joining.{Joined, Whole, Mark, needs, after, first_mode, toggled, joined_tree, joined_left}
 use Rattle.cw_trees.specs.Joining.{joined_right}
-use Rattle.cw_trees.specs.Tree.{Tree, Empty, Then, Sub, Sign}
+use Rattle.cw_trees.specs.Tree.{Tree, Then, Sub, Sign}
 use Rattle.cw_trees.specs.declared.Control.{Control}
-use Rattle.cw_trees.specs.declared.Control.TheVariants.{Blank, OptionalBreak, Break, BigBreak, Cancel, Backup, Wall}
+use Rattle.cw_trees.specs.declared.Control.TheVariants.{Wall}
 use Rattle.cw_trees.specs.declared.Control.TheVariants.{Indent, Outdent, OptionalLineBreak0, OptionalLineBreak9}
 use Rattle.cw_trees.specs.declared.Control.TheVariants.{ThinSpace, OpenBrace, CloseBrace, OpenRelation, Inserted}
-use Rattle.cw_trees.specs.declared.Control.TheVariants.{ToMath, ToText, Dollar, CommentEnd, NameText, NameEnd}
+use Rattle.cw_trees.specs.declared.Control.TheVariants.{NameText, NameEnd}
 use Rattle.cw_brace_laws.specs.Bracing.{leads_on, sign_depth, depth_of, EndsAt, StandsAt}
 use Rattle.cw_brace_laws.proofs.Depths.{ends-maybe, first-ends, after-ends}
 

@@ -5,3 +5,5 @@ pub mod RowPieces
 pub mod NewScraps
 pub mod Productions
 pub mod Wholes
+pub mod Leaves
+pub mod Translations

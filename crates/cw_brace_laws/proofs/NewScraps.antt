@@ -1,7 +1,7 @@
 -- The scrap that a production makes is braced.
-use Rattle.std.proofs.Common.{◌≡◌, ℕ, zero, suc, ◌+◌, ◌<◌, Bool, true, false, not, ◌&&◌, ◌||◌, eqb, ltb, Option, Some}
-use Rattle.std.proofs.Common.{None, List, [], ◌∷◌, get_or, length, map, refl, sym, ap, ◌∙◌, subst, inl, inr, zero-add}
-use Rattle.std.specs.List.{All, list_all}
+use Rattle.std.proofs.Common.{◌≡◌, ℕ, ◌+◌, ◌<◌, Bool, true, false, not, ◌&&◌, ◌||◌, ltb, Option, Some}
+use Rattle.std.proofs.Common.{None, List, [], get_or, length, map, refl, sym, ap, ◌∙◌, subst, inl, inr, zero-add}
+use Rattle.std.specs.List.{All}
 use Rattle.std.proofs.lemmas.Bool.{cases_lt, eqb-true, ltb-true}
 use Rattle.std.proofs.lemmas.List.{get_or_past}
 use Rattle.std.proofs.lemmas.List.Elements.{All-head}
@@ -14,14 +14,14 @@ use Rattle.cw_base.specs.declared.category.Cat.TheVariants.{End}
 use Rattle.cw_base.specs.declared.flags.Flags.{Flags}
 use Rattle.cw_base.specs.declared.mode.MathMode.TheVariants.{Maybe}
 use Rattle.cw_table.proofs.ScrapFacts.{cats-get}
-use Rattle.cw_table.specs.Braces.{admits_only, are_quiet, between, braces_pair, is_binop, is_calm, is_quiet, makes_calm}
+use Rattle.cw_table.specs.Braces.{admits_only, are_quiet, between, braces_pair, is_calm, is_quiet, makes_calm}
 use Rattle.cw_table.specs.Braces.{may_be_calm, may_stand, pieces_are_braced, row_is_braced}
 use Rattle.cw_table.specs.Insertions.{insertion_of}
 use Rattle.cw_table.specs.Rewriting.{cats_of, joined_of, alone, with_cat, row_pieces, new_scrap, takes_other}
 use Rattle.cw_table.specs.Rows.{pieces_by, result_at, test}
 use Rattle.cw_table.specs.declared.types.Piece.{Piece}
-use Rattle.cw_table.specs.declared.types.Piece.TheVariants.{Scrap as ScrapOf, MathScrap, Unused, Blank, OptionalBreak}
-use Rattle.cw_table.specs.declared.types.Piece.TheVariants.{Break, BigBreak, Cancel, Backup, Wall, Indent, Outdent}
+use Rattle.cw_table.specs.declared.types.Piece.TheVariants.{Scrap as ScrapOf, MathScrap, Unused}
+use Rattle.cw_table.specs.declared.types.Piece.TheVariants.{Wall, Indent, Outdent}
 use Rattle.cw_table.specs.declared.types.Piece.TheVariants.{OptionalLineBreak0, OptionalLineBreak9, ThinSpace}
 use Rattle.cw_table.specs.declared.types.Piece.TheVariants.{OpenBrace, CloseBrace, OpenRelation, Inserted}
 use Rattle.cw_table.specs.declared.types.Row.{Row}
@@ -31,7 +31,7 @@ use Rattle.cw_trees.specs.Joining.{Scrap, no_scrap, Joined, join}
 use Rattle.cw_brace_laws.specs.Bracing.{StandsAt, HoldsNoText, IsBracedScrap}
 use Rattle.cw_brace_laws.specs.Operators.{IsCleanOperator, PutsCleanOperator}
 use Rattle.cw_brace_laws.proofs.Depths.{ends-maybe}
-use Rattle.cw_brace_laws.proofs.Joins.{JoinedStands, Lead, led, led-left}
+use Rattle.cw_brace_laws.proofs.Joins.{Lead, led, led-left}
 use Rattle.cw_brace_laws.proofs.RowPieces.{Stands, alone-pieces, math-stands, pieces-lead}
 
 -- ## Rows

@@ -1,15 +1,14 @@
 -- One production keeps the braces of all scraps, and so do all of them.
 use Rattle.std.proofs.Common.{◌≡◌, ℕ, zero, suc, ◌+◌, ◌<◌, Bool, true, false, ◌&&◌, Option, Some, None, List, [], ◌∷◌}
-use Rattle.std.proofs.Common.{◌++◌, get_or, map, take, drop, set, refl, sym, ap, ◌∙◌, subst, arith}
+use Rattle.std.proofs.Common.{◌++◌, get_or, take, drop, set, refl, sym, ap, ◌∙◌, subst, arith}
 use Rattle.std.specs.List.{All, list_all}
 use Rattle.std.proofs.lemmas.List.Elements.{All-append, All-take, All-drop, All-set, All-map, All-cons}
 use Rattle.cw_base.proofs.TestLaws.{both-left, both-right}
 use Rattle.cw_base.specs.Category.{in_set}
 use Rattle.cw_base.specs.declared.category.Cat.{Cat}
-use Rattle.cw_base.specs.declared.category.Cat.TheVariants.{RawInt, End}
 use Rattle.cw_base.specs.declared.flags.Flags.{Flags}
 use Rattle.cw_table.proofs.FirstLaws.{length-tests_of}
-use Rattle.cw_table.proofs.Normals.{Found, first-found, Least, least-at, steps-none, steps-turn}
+use Rattle.cw_table.proofs.Normals.{first-found, least-at, steps-none, steps-turn}
 use Rattle.cw_table.proofs.SafeLaws.{hold-at}
 use Rattle.cw_table.proofs.ScrapFacts.{at-cats, cats-drop, cats-get}
 use Rattle.cw_table.proofs.Soundness.{sound-row}
@@ -18,7 +17,7 @@ use Rattle.cw_table.specs.Fitting.{first_of, row_fits}
 use Rattle.cw_table.specs.Normal.{Place, Nowhere, At, next_place, normal, steps, weight}
 use Rattle.cw_table.specs.Productions.{productions}
 use Rattle.cw_table.specs.Rewriting.{State, cats_of, is_name, named_right, named_scrap, new_scrap, reserved_at}
-use Rattle.cw_table.specs.Rewriting.{reserved_in, rewrite, rewrite_from, row_pieces, search_in, with_cat}
+use Rattle.cw_table.specs.Rewriting.{reserved_in, rewrite, rewrite_from, row_pieces, search_in}
 use Rattle.cw_table.specs.Rows.{test, tests_of}
 use Rattle.cw_table.specs.Sound.{IsSound, is_exp, row_is_sound}
 use Rattle.cw_table.specs.declared.types.Piece.{Piece}
@@ -42,7 +41,8 @@ reserve-braced s h = record {
   calm = λ c. reserve-holds s (h.calm c);
 }
 
-named-braced : (o : Option ℕ) (scraps : List Scrap) → All IsBracedScrap scraps → All IsBracedScrap (reserved_at o scraps)
+named-braced : (o : Option ℕ) (scraps : List Scrap) → All IsBracedScrap scraps
+    → All IsBracedScrap (reserved_at o scraps)
 named-braced None scraps all = all
 named-braced (Some k) scraps all = All-set IsBracedScrap scraps k (reserved_in (get_or scraps k no_scrap))
     (reserve-braced (get_or scraps k no_scrap) (at-braced scraps k all)) all
@@ -163,7 +163,8 @@ module _ (flags : Flags) (sound : list_all row_is_sound productions ≡ true)
   later-clean : (st : State) (i : ℕ) (r : Row) → next_place productions st ≡ At i r → HasCleanOperators flags st
       → HasCleanOperators flags (rewrite flags r i st)
   later-clean st i r e clean = λ number place row.
-      subst (λ (s : State). next_place productions s ≡ At place row → PutsCleanOperators flags row (drop place s.scraps))
+      subst (λ (s : State). next_place productions s ≡ At place row
+      → PutsCleanOperators flags row (drop place s.scraps))
       (steps-turn productions flags number i r st e) (clean (suc number) place row)
 
   steps-keep : (n : ℕ) (st : State) → HasCleanOperators flags st → All IsBracedScrap st.scraps

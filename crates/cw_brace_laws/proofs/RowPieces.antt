@@ -1,6 +1,6 @@
 -- The pieces of a row lead from a depth back to it, where they can stand there and those between braces anywhere.
-use Rattle.std.proofs.Common.{◌≡◌, ℕ, zero, suc, ◌+◌, Bool, true, false, Some, None, List, [], ◌∷◌, map, refl, sym}
-use Rattle.std.proofs.Common.{ap, ◌∙◌, subst, arith, Option}
+use Rattle.std.proofs.Common.{◌≡◌, ℕ, zero, suc, ◌+◌, true, Some, List, [], ◌∷◌, map}
+use Rattle.std.proofs.Common.{ap, subst, arith}
 use Rattle.std.specs.List.{All}
 use Rattle.std.proofs.lemmas.Bool.{eqb-true}
 use Rattle.std.proofs.lemmas.List.Elements.{All-head, All-tail}
@@ -9,10 +9,8 @@ use Rattle.cw_base.specs.declared.mode.MathMode.TheVariants.{Text, Math, Maybe}
 use Rattle.cw_table.specs.Braces.{braces_pair, between}
 use Rattle.cw_table.specs.Rewriting.{joined_of, math_piece, alone}
 use Rattle.cw_table.specs.declared.types.Piece.{Piece}
-use Rattle.cw_table.specs.declared.types.Piece.TheVariants.{Scrap as ScrapOf, MathScrap, Unused, Blank, OptionalBreak}
-use Rattle.cw_table.specs.declared.types.Piece.TheVariants.{Break, BigBreak, Cancel, Backup, Wall, Indent, Outdent}
-use Rattle.cw_table.specs.declared.types.Piece.TheVariants.{OptionalLineBreak0, OptionalLineBreak9, ThinSpace}
-use Rattle.cw_table.specs.declared.types.Piece.TheVariants.{OpenBrace, CloseBrace, OpenRelation, Inserted}
+use Rattle.cw_table.specs.declared.types.Piece.TheVariants.{Scrap as ScrapOf}
+use Rattle.cw_table.specs.declared.types.Piece.TheVariants.{OpenBrace, CloseBrace, OpenRelation}
 use Rattle.cw_trees.specs.Joining.{Scrap}
 use Rattle.cw_trees.specs.Tree.{Tree}
 use Rattle.cw_brace_laws.specs.Bracing.{StandsAt}

@@ -8,6 +8,9 @@ use Rattle.cw_table.specs.Productions.{productions}
 use Rattle.cw_table.specs.Rewriting.{State, cats_of, rewrite_from}
 use Rattle.cw_table.specs.Sound.{row_is_sound}
 use Rattle.cw_table.specs.declared.types.Row.{Row}
+use Rattle.cw_names.specs.Names.{Entry}
+use Rattle.cw_rules.specs.Answers.{Answer}
+use Rattle.cw_translator.specs.Translating.{NameTexts, translated}
 use Rattle.cw_trees.specs.Joining.{Scrap, whole}
 use Rattle.cw_brace_laws.specs.Bracing.{IsBraced, IsBracedScrap}
 use Rattle.cw_brace_laws.specs.Operators.{HasCleanOperators, PutsCleanOperators}
@@ -23,3 +26,9 @@ ProductionsKeepBraces = (flags : Flags) (row : Row) (place : ℕ) (scraps : List
 abbrev pub ReductionsAreBraced : Type 0
 ReductionsAreBraced = (flags : Flags) (state : State) → HasCleanOperators flags state
     → All IsBracedScrap state.scraps → IsBraced (whole (normal productions flags state).scraps)
+
+-- So is the tree of a translation, where the operators of all texts that were reduced on the way hold no text.
+abbrev pub TranslationsAreBraced : Type 0
+TranslationsAreBraced = (flags : Flags) (named : NameTexts) (answers : List Answer) (names : List Entry)
+    (marks : List ℕ) → All (HasCleanOperators flags) (translated flags named answers names marks).known.ended
+    → IsBraced (translated flags named answers names marks).tree

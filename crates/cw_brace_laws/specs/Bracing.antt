@@ -1,5 +1,5 @@
 -- Braces in the tree of a translation: those that productions put in pair, and between them stands no text.
-use Rattle.std.specs.Prelude.{◌≡◌, ℕ, zero, suc, Bool, true, false, Option, Some, None, All}
+use Rattle.std.specs.Prelude.{◌≡◌, ℕ, zero, suc, Bool, true, false, Option, Some, None}
 use Rattle.cw_base.specs.declared.mode.MathMode.{MathMode}
 use Rattle.cw_table.specs.Braces.{is_calm, is_text}
 use Rattle.cw_trees.specs.Joining.{Scrap, needs}

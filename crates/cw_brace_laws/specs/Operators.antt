@@ -1,5 +1,5 @@
--- The premise of the law of braces: the operators of which a production makes one hold no text. Text stands in one where
--- a comment or a layout code stands inside an operator of two signs, which is no C.
+-- The premise of the law of braces: the operators of which a production makes one hold no text. One holds text where a
+-- comment or a layout code stands inside an operator of two signs, which is no C.
 use Rattle.std.specs.Prelude.{◌≡◌, ℕ, true, List, drop, get_or, All}
 use Rattle.cw_base.specs.declared.flags.Flags.{Flags}
 use Rattle.cw_table.specs.Braces.{between, is_binop}

@@ -1,0 +1,282 @@
+-- The tree of a translation is braced, where the operators of all texts that ended hold no text.
+use Rattle.std.proofs.Common.{◌≡◌, ℕ, Bool, true, false, Option, Some, None, List, [], ◌∷◌, ◌++◌, refl, ap, ◌∙◌}
+use Rattle.std.specs.List.{All, list_all}
+use Rattle.std.proofs.lemmas.List.Elements.{All-append, All-cons, All-head, All-nil, All-tail}
+use Rattle.cw_base.proofs.TestLaws.{not-both}
+use Rattle.cw_base.specs.declared.category.Cat.{Cat}
+use Rattle.cw_base.specs.declared.category.Cat.TheVariants as cat
+use Rattle.cw_base.specs.declared.flags.Flags.{Flags}
+use Rattle.cw_base.specs.declared.mode.MathMode.{MathMode}
+use Rattle.cw_base.specs.declared.mode.MathMode.TheVariants.{Text, Maybe}
+use Rattle.cw_lex.specs.Heads.{Head, Headed, Headless, Macro, Format, Silent, Named, headed}
+use Rattle.cw_lex.specs.Nest.{Nest, End, Leaf, Group, nest}
+use Rattle.cw_names.specs.Names.{Entry}
+use Rattle.cw_rules.specs.Answers.{Answer, Seen}
+use Rattle.cw_rules.specs.declared.codes.Code.TheVariants as code
+use Rattle.cw_rules.specs.declared.tokens.TokKind.{TokKind}
+use Rattle.cw_rules.specs.declared.tokens.TokKind.TheVariants as kind
+use Rattle.cw_scraps.specs.Leaves.{LeafForm, names_with, token_form}
+use Rattle.cw_table.specs.Braces.{is_calm, row_is_braced}
+use Rattle.cw_table.specs.Productions.{productions}
+use Rattle.cw_table.specs.Sound.{row_is_sound}
+use Rattle.cw_tokens.specs.declared.token.Token.{Token}
+use Rattle.cw_tokens.specs.declared.token.Token.TheVariants as token
+use Rattle.cw_translator.specs.Translating.{CommentItem, Ended, InnerText, Known, Made, NameTexts, Piece, begin}
+use Rattle.cw_translator.specs.Translating.{beside, comment_rest, comment_scrap, dead, dollared, end_of, first_word}
+use Rattle.cw_translator.specs.Translating.{form_made, group_made, head_made, headed_made, is_macro}
+use Rattle.cw_translator.specs.Translating.{later_words, leaf_of_name, leaf_scrap, made, name_in_text, names_in_text}
+use Rattle.cw_translator.specs.Translating.{no_name, nothing, one_scrap, plain_text, sign_behind, spelled, state_in}
+use Rattle.cw_translator.specs.Translating.{texts_made, texts_named, token_made, translated, with_names, word_tokens}
+use Rattle.cw_trees.specs.Joining.{Scrap}
+use Rattle.cw_trees.specs.Tree.{Tree, Empty, Then, Inner, Sign}
+use Rattle.cw_trees.specs.declared.Control.TheVariants as control
+use Rattle.cw_brace_laws.specs.Bracing.{IsBraced, IsBracedScrap, depth_of, leads_on, outside}
+use Rattle.cw_brace_laws.specs.Operators.{HasCleanOperators}
+use Rattle.cw_brace_laws.proofs.Leaves.{AreFlat, FormBraced, IsFlat, flat-append, flat-braced, token-braced, token-flat}
+use Rattle.cw_brace_laws.proofs.Wholes.{reduction-braced}
+
+-- ## Lists
+
+all-left : {A : Type 0} (P : A → Type 0) (xs ys : List A) → All P (xs ++ ys) → All P xs
+all-left P [] ys all = All-nil P
+all-left P (x ∷ xs) ys all = All-cons P x xs (All-head P x (xs ++ ys) all)
+    (all-left P xs ys (All-tail P x (xs ++ ys) all))
+
+all-last : {A : Type 0} (P : A → Type 0) (xs : List A) (y : A) → All P (xs ++ y ∷ []) → P y
+all-last P [] y all = All-head P y [] all
+all-last P (x ∷ xs) y all = all-last P xs y (All-tail P x (xs ++ y ∷ []) all)
+
+one : {A : Type 0} (P : A → Type 0) (x : A) → P x → All P (x ∷ [])
+one P x h = All-cons P x [] h (All-nil P)
+
+-- ## Trees
+
+inner-braced : (tree rest : Tree) → IsBraced tree → IsBraced rest → IsBraced (Inner tree rest)
+inner-braced tree rest h r = ap (λ o. leads_on (leads_on o outside) (depth_of rest)) h ∙ r
+
+-- a scrap of another category than a calm one
+loud : (scrap : Scrap) → is_calm scrap.cat ≡ false → IsBraced scrap.tree → IsBracedScrap scrap
+loud scrap other h = record { braced = h; calm = λ e. not-both (is_calm scrap.cat) e other }
+
+abbrev ItemBraced : CommentItem → Type 0
+ItemBraced (Piece number) = Unit {0}
+ItemBraced (InnerText tree) = IsBraced tree
+
+comment-braced : (items : List CommentItem) → All ItemBraced items → IsBraced (comment_rest items)
+comment-braced [] all = refl
+comment-braced (Piece number ∷ items) all = comment-braced items (All-tail ItemBraced (Piece number) items all)
+comment-braced (InnerText tree ∷ items) all = inner-braced tree (comment_rest items)
+    (All-head ItemBraced (InnerText tree) items all)
+    (comment-braced items (All-tail ItemBraced (InnerText tree) items all))
+
+-- ## What is made
+
+-- the operators of the texts that ended hold no text
+abbrev AreClean : Flags → Known → Type 0
+AreClean flags known = All (HasCleanOperators flags) known.ended
+
+-- what was made after this was known
+record Brings (flags : Flags) (known : Known) (m : Made) : Type 0 where
+  clean : AreClean flags known
+  scraps : All IsBracedScrap m.scraps
+  items : All ItemBraced m.items
+
+-- what is made is braced, if the operators of the texts that ended by then hold no text
+abbrev Makes : Flags → Known → Made → Type 0
+Makes flags known m = AreClean flags m.known → Brings flags known m
+
+record Ends (flags : Flags) (known : Known) (text : Ended) : Type 0 where
+  clean : AreClean flags known
+  tree : IsBraced text.tree
+
+abbrev Makes_name : Flags → (ℕ → Known → Made) → Type 0
+Makes_name flags name = (number : ℕ) (known : Known) → Makes flags known (name number known)
+
+nothing-made : (flags : Flags) (known : Known) → Makes flags known (nothing known)
+nothing-made flags known clean = record { clean = clean; scraps = All-nil IsBracedScrap; items = All-nil ItemBraced }
+
+-- with these names behind it
+nothing-named : (flags : Flags) (known : Known) (names : List Entry)
+    → Makes flags known (nothing (with_names names known))
+nothing-named flags known names clean =
+    record { clean = clean; scraps = All-nil IsBracedScrap; items = All-nil ItemBraced }
+
+scrap-named : (flags : Flags) (known : Known) (names : List Entry) (scrap : Scrap) → IsBracedScrap scrap
+    → Makes flags known (one_scrap scrap (with_names names known))
+scrap-named flags known names scrap h clean =
+    record { clean = clean; scraps = one IsBracedScrap scrap h; items = All-nil ItemBraced }
+
+beside-made : (flags : Flags) (known : Known) (a b : Made) → Makes flags known a → Makes flags a.known b
+    → Makes flags known (beside a b)
+beside-made flags known a b first second clean =
+    let g = second clean in
+    let f = first g.clean in
+    record {
+      clean = f.clean;
+      scraps = All-append IsBracedScrap a.scraps b.scraps f.scraps g.scraps;
+      items = All-append ItemBraced a.items b.items f.items g.items;
+    }
+
+-- ## The tokens of heads
+
+dollared-flat : (tokens : List Token) → AreFlat tokens → AreFlat (dollared tokens)
+dollared-flat [] all = tt
+dollared-flat (t ∷ ts) all =
+    ((λ rest. refl), (all.0, flat-append ts (token.Control control.Dollar ∷ []) all.1 ((λ rest. refl), tt)))
+
+name-flat : (b : Bool) (word : Token) → is_macro word ≡ b → IsFlat word → AreFlat (name_in_text word)
+name-flat true word e h = rw e (dollared-flat (word ∷ []) (h, tt))
+name-flat false word e h = rw e (h, tt)
+
+names-flat : (words : List Token) → AreFlat words → AreFlat (names_in_text words)
+names-flat [] all = tt
+names-flat (word ∷ words) all = flat-append (name_in_text word) (names_in_text words)
+    (name-flat (is_macro word) word refl all.0) (names-flat words all.1)
+
+spelled-flat : (words : List Seen) (names : List Entry) → AreFlat (spelled words names).tokens
+spelled-flat [] names = tt
+spelled-flat (word ∷ words) names = flat-append (word_tokens word names)
+    (spelled words (names_with word.kind word.text names)).tokens
+    (token-flat word.kind word.text word.hash_line word.span.start names)
+    (spelled-flat words (names_with word.kind word.text names))
+
+dead-braced : (number : ℕ) (tokens : List Token) → AreFlat tokens → IsBracedScrap (leaf_scrap (dead number tokens))
+dead-braced number tokens all = loud (leaf_scrap (dead number tokens)) refl (flat-braced tokens all)
+
+break-flat : AreFlat (token.Control control.OptionalBreak ∷ [])
+break-flat = ((λ rest. refl), tt)
+
+module _ (sound : list_all row_is_sound productions ≡ true) (braced : list_all row_is_braced productions ≡ true)
+    (flags : Flags) where
+  -- ## Texts and comments
+
+  end-made : (known : Known) (m : Made) → Makes flags known m → AreClean flags (end_of flags m).known
+      → Ends flags known (end_of flags m)
+  end-made known m made_ clean =
+      let f = made_ (all-left (HasCleanOperators flags) m.known.ended (state_in m.scraps m.known ∷ []) clean) in
+      record {
+        clean = f.clean;
+        tree = reduction-braced sound braced flags (state_in m.scraps m.known)
+            (all-last (HasCleanOperators flags) m.known.ended (state_in m.scraps m.known) clean) f.scraps;
+      }
+
+  form-made : (o : Option LeafForm) (known : Known) (names : List Entry) → FormBraced o
+      → Makes flags known (form_made o (with_names names known))
+  form-made None known names h = nothing-named flags known names
+  form-made (Some form) known names h = scrap-named flags known names (leaf_scrap form) h
+
+  token-made : (name : ℕ → Known → Made) → Makes_name flags name → (k : TokKind) (t : Seen) (known : Known)
+      → Makes flags known (token_made name k t known)
+  token-made name names kind.Text t known clean = record {
+    clean = clean;
+    scraps = All-nil IsBracedScrap;
+    items = one ItemBraced (Piece t.span.start) tt;
+  }
+  token-made name names (kind.Code code.SectionName) t known clean = names t.span.start known clean
+  token-made name names (kind.Code code.FileName) t known clean = names t.span.start known clean
+  token-made name names k t known clean =
+      form-made (token_form k t.text t.hash_line t.span.start known.names) known (names_with k t.text known.names)
+      (token-braced k t.text t.hash_line t.span.start known.names) clean
+
+  group-made : (k : TokKind) (t : Seen) (known : Known) (m : Made) → Makes flags known m
+      → Makes flags known (group_made flags k t m)
+  group-made kind.InnerText t known m made_ clean =
+      let e = end-made known m made_ clean in
+      record {
+        clean = e.clean;
+        scraps = All-nil IsBracedScrap;
+        items = one ItemBraced (InnerText (end_of flags m).tree) e.tree;
+      }
+  group-made k t known m made_ clean =
+      let f = made_ clean in
+      record {
+        clean = f.clean;
+        scraps = one IsBracedScrap (comment_scrap t.span.start m.items)
+            (loud (comment_scrap t.span.start m.items) refl (comment-braced m.items f.items));
+        items = All-nil ItemBraced;
+      }
+
+  nest-made : (name : ℕ → Known → Made) → Makes_name flags name → (n : Nest) (known : Known)
+      → Makes flags known (made flags name n known)
+  nest-made name names End known = nothing-made flags known
+  nest-made name names (Leaf t rest) known =
+      let first = token_made name t.kind t known in
+      beside-made flags known first (made flags name rest first.known) (token-made name names t.kind t known)
+      (nest-made name names rest first.known)
+  nest-made name names (Group t inner rest) known =
+      let within = made flags name inner known in
+      let first = group_made flags t.kind t within in
+      beside-made flags known first (made flags name rest first.known)
+      (group-made t.kind t known within (nest-made name names inner known)) (nest-made name names rest first.known)
+
+  -- ## Section names
+
+  plain-ends : (answers : List Answer) (known : Known) → AreClean flags (plain_text flags answers known).known
+      → Ends flags known (plain_text flags answers known)
+  plain-ends answers known = end-made known (made flags no_name (nest answers) known)
+      (nest-made no_name (λ number k. nothing-made flags k) (nest answers) known)
+
+  texts-end : (texts : List (List Answer)) (behind : Tree) (known : Known) → IsBraced behind
+      → AreClean flags (texts_made flags texts behind known).known → Ends flags known (texts_made flags texts behind known)
+  texts-end [] behind known h clean = record { clean = clean; tree = h }
+  texts-end (text ∷ texts) behind known h clean =
+      let more = texts-end texts behind (plain_text flags text known).known h clean in
+      let here = plain-ends text known more.clean in
+      record {
+        clean = here.clean;
+        tree = inner-braced (plain_text flags text known).tree (Then (Sign control.NameText)
+            (texts_made flags texts behind (plain_text flags text known).known).tree) here.tree more.tree;
+      }
+
+  named-made : (o : Option (List (List Answer))) (c : Cat) (mode : MathMode) (behind : Tree) (number : ℕ)
+      (known : Known) → is_calm c ≡ false → IsBraced behind
+      → Makes flags known (texts_named flags o c mode behind number known)
+  named-made None c mode behind number known other h clean = nothing-made flags known clean
+  named-made (Some texts) c mode behind number known other h clean =
+      let e = texts-end texts (Then (Sign control.NameEnd) behind) known h clean in
+      record {
+        clean = e.clean;
+        scraps = one IsBracedScrap _ (loud _ other e.tree);
+        items = All-nil ItemBraced;
+      }
+
+  name-made : (named : NameTexts) → Makes_name flags (leaf_of_name flags named)
+  name-made named number known = named-made (named number) cat.SectionScrap Maybe Empty number known refl refl
+
+  -- ## Heads
+
+  head-made : (named : NameTexts) (h : Head) (known : Known) → Makes flags known (head_made flags named h known)
+  head-made named Headless known = nothing-made flags known
+  head-made named (Silent words) known = nothing-named flags known (spelled words known.names).names
+  head-made named (Macro number words) known =
+      let p = spelled words known.names in
+      scrap-named flags known p.names _ (dead-braced number
+      (dollared p.tokens ++ token.Control control.OptionalBreak ∷ [])
+      (flat-append (dollared p.tokens) (token.Control control.OptionalBreak ∷ [])
+      (dollared-flat p.tokens (spelled-flat words known.names)) break-flat))
+  head-made named (Format number words) known =
+      let p = spelled (first_word words) known.names in
+      let q = spelled (later_words words) p.names in
+      scrap-named flags known q.names _ (dead-braced number
+      (names_in_text p.tokens ++ token.Control control.OptionalBreak ∷ names_in_text q.tokens)
+      (flat-append (names_in_text p.tokens) (token.Control control.OptionalBreak ∷ names_in_text q.tokens)
+      (names-flat p.tokens (spelled-flat (first_word words) known.names))
+      ((λ rest. refl), names-flat q.tokens (spelled-flat (later_words words) p.names))))
+  head-made named (Named number sign) known =
+      named-made (named number) cat.Dead Text (sign_behind sign) number known refl refl
+
+  -- ## The whole text
+
+  headed-made : (named : NameTexts) (h : Headed) (known : Known) → Makes flags known (headed_made flags named h known)
+  headed-made named h known =
+      let first = head_made flags named h.head known in
+      beside-made flags known first (made flags (leaf_of_name flags named) h.rest first.known)
+      (head-made named h.head known) (nest-made (leaf_of_name flags named) (name-made named) h.rest first.known)
+
+  pub translation-braced : (named : NameTexts) (answers : List Answer) (names : List Entry) (marks : List ℕ)
+      → All (HasCleanOperators flags) (translated flags named answers names marks).known.ended
+      → IsBraced (translated flags named answers names marks).tree
+  unfolding translated
+  translation-braced named answers names marks clean =
+      (end-made (begin names marks) (headed_made flags named (headed (nest answers)) (begin names marks))
+      (headed-made named (headed (nest answers)) (begin names marks)) clean).tree
