@@ -1,6 +1,6 @@
 -- The scrap of each token is braced, and holds no text where its category is calm.
-use Rattle.std.proofs.Common.{◌≡◌, ℕ, zero, suc, Bool, true, false, Option, Some, None, List, [], ◌∷◌, ◌++◌, refl, ap}
-use Rattle.std.proofs.Common.{◌∙◌}
+use Rattle.std.proofs.Common.{◌≡◌, ℕ, zero, suc, Bool, true, false, Option, Some, None, IfSome, List, [], ◌∷◌, ◌++◌}
+use Rattle.std.proofs.Common.{◌∙◌, ap, refl}
 use Rattle.cw_base.specs.declared.category.Cat.{Cat}
 use Rattle.cw_base.specs.declared.category.Cat.TheVariants as cat
 use Rattle.cw_base.specs.declared.mode.MathMode.{MathMode}
@@ -89,6 +89,15 @@ pub token-braced : (k : TokKind) (text : List ℕ) (hash_line : Bool) (number : 
     → FormBraced (token_form k text hash_line number names)
 token-braced kind.Identifier text hash_line number names = word-braced _ _ number
 token-braced k text hash_line number names = form-braced k number
+
+pub leaf-braced : (k : TokKind) (text : List ℕ) (hash_line : Bool) (number : ℕ) (names : List Entry)
+    → IfSome (token_form k text hash_line number names) (λ form. IsBracedScrap (leaf_scrap form))
+leaf-braced k text hash_line number names =
+    by (token_form k text hash_line number names) (token-braced k text hash_line number names)
+  where
+    by : (o : Option LeafForm) → FormBraced o → IfSome o (λ form. IsBracedScrap (leaf_scrap form))
+    by None h = tt
+    by (Some form) h = h
 
 -- ## Words of heads
 

@@ -7,3 +7,6 @@ pub mod Productions
 pub mod Wholes
 pub mod Leaves
 pub mod Translations
+pub mod Flats
+pub mod Prints
+pub mod Rows

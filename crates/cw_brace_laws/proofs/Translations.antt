@@ -217,7 +217,8 @@ module _ (sound : list_all row_is_sound productions ≡ true) (braced : list_all
       (nest-made no_name (λ number k. nothing-made flags k) (nest answers) known)
 
   texts-end : (texts : List (List Answer)) (behind : Tree) (known : Known) → IsBraced behind
-      → AreClean flags (texts_made flags texts behind known).known → Ends flags known (texts_made flags texts behind known)
+      → AreClean flags (texts_made flags texts behind known).known
+      → Ends flags known (texts_made flags texts behind known)
   texts-end [] behind known h clean = record { clean = clean; tree = h }
   texts-end (text ∷ texts) behind known h clean =
       let more = texts-end texts behind (plain_text flags text known).known h clean in

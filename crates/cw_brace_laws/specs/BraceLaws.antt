@@ -1,5 +1,5 @@
 -- The laws of braces.
-use Rattle.std.specs.Prelude.{◌≡◌, ℕ, true, List, ◌++◌, take, drop, All}
+use Rattle.std.specs.Prelude.{◌≡◌, ℕ, Bool, true, IfSome, List, ◌++◌, take, drop, All}
 use Rattle.cw_base.specs.declared.flags.Flags.{Flags}
 use Rattle.cw_table.specs.Braces.{row_is_braced}
 use Rattle.cw_table.specs.Fitting.{row_fits}
@@ -10,10 +10,19 @@ use Rattle.cw_table.specs.Sound.{row_is_sound}
 use Rattle.cw_table.specs.declared.types.Row.{Row}
 use Rattle.cw_names.specs.Names.{Entry}
 use Rattle.cw_rules.specs.Answers.{Answer}
-use Rattle.cw_translator.specs.Translating.{NameTexts, translated}
+use Rattle.cw_rules.specs.declared.tokens.TokKind.{TokKind}
+use Rattle.cw_scraps.specs.Leaves.{token_form}
+use Rattle.cw_translator.specs.Translating.{NameTexts, leaf_scrap, translated}
 use Rattle.cw_trees.specs.Joining.{Scrap, whole}
 use Rattle.cw_brace_laws.specs.Bracing.{IsBraced, IsBracedScrap}
 use Rattle.cw_brace_laws.specs.Operators.{HasCleanOperators, PutsCleanOperators}
+use Rattle.cw_brace_laws.specs.Printed.{PrintsBraced}
+use Rattle.cw_trees.specs.Tree.{Tree}
+
+-- the scrap of a token that makes one
+abbrev pub LeavesAreBraced : Type 0
+LeavesAreBraced = (kind : TokKind) (text : List ℕ) (hash_line : Bool) (number : ℕ) (names : List Entry)
+    → IfSome (token_form kind text hash_line number names) (λ form. IsBracedScrap (leaf_scrap form))
 
 -- One production, of a row that keeps the law of rows, keeps the braces of all scraps.
 abbrev pub ProductionsKeepBraces : Type 0
@@ -32,3 +41,13 @@ abbrev pub TranslationsAreBraced : Type 0
 TranslationsAreBraced = (flags : Flags) (named : NameTexts) (answers : List Answer) (names : List Entry)
     (marks : List ℕ) → All (HasCleanOperators flags) (translated flags named answers names marks).known.ended
     → IsBraced (translated flags named answers names marks).tree
+
+-- What a braced tree prints is braced.
+abbrev pub TreesPrintBraced : Type 0
+TreesPrintBraced = (tree : Tree) → IsBraced tree → PrintsBraced tree
+
+-- So is what a translation prints.
+abbrev pub TranslationsPrintBraced : Type 0
+TranslationsPrintBraced = (flags : Flags) (named : NameTexts) (answers : List Answer) (names : List Entry)
+    (marks : List ℕ) → All (HasCleanOperators flags) (translated flags named answers names marks).known.ended
+    → PrintsBraced (translated flags named answers names marks).tree

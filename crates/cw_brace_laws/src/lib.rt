@@ -3,4 +3,4 @@
 
 mod laws;
 
-pub use laws::{braces_law, production_law, reduction_law};
+pub use laws::{leaf_law, printing_law, production_law, reduction_law, translation_law};

@@ -1,6 +1,6 @@
 -- The tree of a translation is braced.
 use Rattle.cw_brace_laws.proofs.Translations.{translation-braced}
-use Rattle.cw_brace_laws.proofs.laws.braces_law.Goals as goal
+use Rattle.cw_brace_laws.proofs.laws.translation_law.Goals as goal
 use Rattle.cw_table.proofs.BraceRows.{rows-braced}
 use Rattle.cw_table.proofs.Examples.{productions-sound}
 

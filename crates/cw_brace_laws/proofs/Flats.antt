@@ -1,0 +1,134 @@
+-- A braced tree is braced when it is laid flat and trimmed.
+use Rattle.std.proofs.Common.{◌≡◌, ℕ, zero, suc, Bool, true, false, ◌&&◌, Option, Some, None, List, [], ◌∷◌, ◌++◌, refl}
+use Rattle.std.proofs.Common.{ap, ◌∙◌, sym, append_assoc}
+use Rattle.cw_base.proofs.TestLaws.{both-left, both-right}
+use Rattle.cw_trees.specs.Flat.{Item, SignItem, Close, begins_after}
+use Rattle.cw_trees.specs.Flat.{ends_text, flat, is_break, is_inserted, leaf_item}
+use Rattle.cw_trees.specs.Flat.{trim_back, trim_front, trimmed, without_inserted}
+use Rattle.cw_trees.specs.Tree.{Leaf, Source, Ident, Reserved, Sign, Tree, Empty, Then, Sub, Inner}
+use Rattle.cw_trees.specs.declared.Control.TheVariants.{Blank, OptionalBreak, Break, BigBreak, Inserted}
+use Rattle.cw_table.specs.Braces.{is_text}
+use Rattle.cw_brace_laws.specs.Bracing.{IsBraced, depth_of, leads_on, leaf_depth, outside, outside_if}
+use Rattle.cw_brace_laws.specs.Printed.{AreBraced, item_depth, items_depth}
+
+-- ## Flat lists
+
+-- what led somewhere in a tree leads there in its item
+outside-leads : (b : Bool) (d e : ℕ) → outside_if b d ≡ Some e → d ≡ e
+outside-leads true zero e h = cc
+outside-leads true (suc d) e h = absurd cc
+outside-leads false d e h = cc
+
+leaf-leads : (leaf : Leaf) (d e : ℕ) → leaf_depth leaf d ≡ Some e → item_depth (leaf_item leaf) d ≡ Some e
+leaf-leads (Source number mode) d e h = ap (λ n. Some n) (outside-leads (is_text mode) d e h)
+leaf-leads (Ident name number) d e h = h
+leaf-leads (Reserved name number cat) d e h = h
+leaf-leads (Sign control) d e h = h
+
+-- something led on to an end by way of a depth
+pub record By (o : Option ℕ) (next : ℕ → Option ℕ) (e : ℕ) : Type 0 where
+  pub depth : ℕ
+  pub first : o ≡ Some depth
+  pub second : next depth ≡ Some e
+
+pub by-way : (o : Option ℕ) (next : ℕ → Option ℕ) (e : ℕ) → leads_on o next ≡ Some e → By o next e
+by-way None next e h = absurd cc
+by-way (Some d) next e h = record { depth = d; first = refl; second = h }
+
+outside-same : (d e : ℕ) → outside d ≡ Some e → d ≡ e
+outside-same d e h = outside-leads true d e h
+
+flat-leads : (t : Tree) (rest : List Item) (d e : ℕ) → depth_of t d ≡ Some e
+    → items_depth (flat t ++ rest) d ≡ items_depth rest e
+flat-leads Empty rest d e h = let same : d ≡ e = cc in ap (items_depth rest) same
+flat-leads (Then leaf t) rest d e h =
+    let w = by-way (leaf_depth leaf d) (depth_of t) e h in
+    ap (λ o. leads_on o (items_depth (flat t ++ rest))) (leaf-leads leaf d w.depth w.first)
+    ∙ flat-leads t rest w.depth e w.second
+flat-leads (Sub a b) rest d e h =
+    let w = by-way (depth_of a d) (depth_of b) e h in
+    ap (λ items. items_depth items d) (append_assoc (flat a) (flat b) rest)
+    ∙ flat-leads a (flat b ++ rest) d w.depth w.first ∙ flat-leads b rest w.depth e w.second
+flat-leads (Inner a b) rest d e h =
+    let w = by-way (leads_on (leads_on (outside d) (depth_of a)) outside) (depth_of b) e h in
+    let v = by-way (leads_on (outside d) (depth_of a)) outside w.depth w.first in
+    let u = by-way (outside d) (depth_of a) v.depth v.first in
+    ap (λ o. leads_on o (items_depth ((flat a ++ Close ∷ flat b) ++ rest))) u.first
+    ∙ ap (λ items. items_depth items u.depth) (append_assoc (flat a) (Close ∷ flat b) rest)
+    ∙ flat-leads a (Close ∷ (flat b ++ rest)) u.depth v.depth u.second
+    ∙ ap (λ o. leads_on o (items_depth (flat b ++ rest))) v.second
+    ∙ flat-leads b rest w.depth e w.second
+
+-- ## Trimming
+
+-- an item that leads nowhere else can be taken away
+break-leads : (item : Item) (d e : ℕ) (next : ℕ → Option ℕ) → is_break item ≡ true
+    → leads_on (item_depth item d) next ≡ Some e → next d ≡ Some e
+break-leads (SignItem Blank) zero e next is h = h
+break-leads (SignItem OptionalBreak) zero e next is h = h
+break-leads (SignItem Break) zero e next is h = h
+break-leads (SignItem BigBreak) zero e next is h = h
+break-leads (SignItem Blank) (suc d) e next is h = absurd cc
+break-leads (SignItem OptionalBreak) (suc d) e next is h = absurd cc
+break-leads (SignItem Break) (suc d) e next is h = absurd cc
+break-leads (SignItem BigBreak) (suc d) e next is h = absurd cc
+break-leads item d e next is h = absurd cc
+
+inserted-leads : (item : Item) (d e : ℕ) (next : ℕ → Option ℕ) → is_inserted item ≡ true
+    → leads_on (item_depth item d) next ≡ Some e → next d ≡ Some e
+inserted-leads (SignItem Inserted) d e next is h = h
+inserted-leads item d e next is h = absurd cc
+
+-- what stands behind an item may be taken for what leads to the same end
+next-leads : (o : Option ℕ) (f g : ℕ → Option ℕ) (e : ℕ) → ((d : ℕ) → f d ≡ Some e → g d ≡ Some e)
+    → leads_on o f ≡ Some e → leads_on o g ≡ Some e
+next-leads None f g e rec h = absurd cc
+next-leads (Some d) f g e rec h = rec d h
+
+inserted-out : (items : List Item) (d e : ℕ) → items_depth items d ≡ Some e
+    → items_depth (without_inserted items) d ≡ Some e
+inserted-out [] d e h = h
+inserted-out (item ∷ items) d e h = go (is_inserted item) refl (λ n k. inserted-out items n e k)
+  where
+    go : (b : Bool) → is_inserted item ≡ b
+        → ((n : ℕ) → items_depth items n ≡ Some e → items_depth (without_inserted items) n ≡ Some e)
+        → items_depth (elim b [ true ↦ without_inserted items | false ↦ item ∷ without_inserted items ]) d ≡ Some e
+    go true is rec = rec d (inserted-leads item d e (items_depth items) is h)
+    go false is rec = next-leads (item_depth item d) (items_depth items) (items_depth (without_inserted items)) e rec h
+
+front-out : (begins : Bool) (items : List Item) (d e : ℕ) → items_depth items d ≡ Some e
+    → items_depth (trim_front begins items) d ≡ Some e
+front-out begins [] d e h = h
+front-out begins (item ∷ items) d e h =
+    go (begins && is_break item) refl (λ more n k. front-out more items n e k)
+  where
+    go : (b : Bool) → (begins && is_break item) ≡ b
+        → ((more : Bool) (n : ℕ) → items_depth items n ≡ Some e → items_depth (trim_front more items) n ≡ Some e)
+        → items_depth (elim b [
+          | true ↦ trim_front begins items
+          | false ↦ item ∷ trim_front (begins_after begins item) items
+        ]) d ≡ Some e
+    go true is rec = rec begins d (break-leads item d e (items_depth items) (both-right _ _ is) h)
+    go false is rec = next-leads (item_depth item d) (items_depth items)
+        (items_depth (trim_front (begins_after begins item) items)) e (rec (begins_after begins item)) h
+
+back-out : (items : List Item) (d e : ℕ) → items_depth items d ≡ Some e → items_depth (trim_back items) d ≡ Some e
+back-out [] d e h = h
+back-out (item ∷ items) d e h = go (is_break item && ends_text items) refl (λ n k. back-out items n e k)
+  where
+    go : (b : Bool) → (is_break item && ends_text items) ≡ b
+        → ((n : ℕ) → items_depth items n ≡ Some e → items_depth (trim_back items) n ≡ Some e)
+        → items_depth (elim b [ true ↦ trim_back items | false ↦ item ∷ trim_back items ]) d ≡ Some e
+    go true is rec = rec d (break-leads item d e (items_depth items) (both-left _ _ is) h)
+    go false is rec = next-leads (item_depth item d) (items_depth items) (items_depth (trim_back items)) e rec h
+
+append-none : (items : List Item) → items ++ [] ≡ items
+append-none [] = refl
+append-none (item ∷ items) = ap (λ rest. item ∷ rest) (append-none items)
+
+pub trimmed-braced : (t : Tree) → IsBraced t → AreBraced (trimmed (flat t))
+trimmed-braced t h =
+    let all : AreBraced (flat t) = ap (λ items. items_depth items 0) (sym (append-none (flat t)))
+    ∙ flat-leads t [] 0 0 h in
+    back-out (trim_front true (without_inserted (flat t))) 0 0
+    (front-out true (without_inserted (flat t)) 0 0 (inserted-out (flat t) 0 0 all))

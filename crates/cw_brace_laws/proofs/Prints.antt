@@ -1,0 +1,187 @@
+-- What the signs of a braced list print is braced.
+use Rattle.std.proofs.Common.{◌≡◌, ℕ, zero, suc, Bool, true, false, ◌||◌, ltb, Option, Some, None, List, [], ◌∷◌, ◌++◌}
+use Rattle.std.proofs.Common.{map, refl, ap, ◌∙◌}
+use Rattle.std.specs.List.{list_any}
+use Rattle.std.specs.Prelude.{codes}
+use Rattle.cw_trees.specs.Flat.{Item, SourceItem, IdentItem, ReservedItem, SignItem, Open, Close, flat, is_run_sign}
+use Rattle.cw_trees.specs.Flat.{trimmed}
+use Rattle.cw_trees.specs.Printing.{backup_bytes, break_bytes, indent_bytes, indents, inner_run, is_backup}
+use Rattle.cw_trees.specs.Printing.{is_cancel, opened, part_run, printed_from, run_bytes, strongest}
+use Rattle.cw_trees.specs.Tree.{Tree}
+use Rattle.cw_trees.specs.declared.Control.{Control}
+use Rattle.cw_trees.specs.declared.Control.TheVariants.{Blank, OptionalBreak, Break, BigBreak, Cancel, Backup, Wall}
+use Rattle.cw_trees.specs.declared.Control.TheVariants.{Indent, Outdent, OptionalLineBreak0, OptionalLineBreak9}
+use Rattle.cw_trees.specs.declared.Control.TheVariants.{ThinSpace, OpenBrace, CloseBrace, OpenRelation, Inserted}
+use Rattle.cw_trees.specs.declared.Control.TheVariants.{ToMath, ToText, Dollar, CommentEnd, NameText, NameEnd}
+use Rattle.cw_brace_laws.specs.Bracing.{IsBraced, leads_on, sign_depth}
+use Rattle.cw_brace_laws.specs.Printed.{PrintsBraced, byte_depth, bytes_depth, items_depth, own_sign}
+use Rattle.cw_brace_laws.specs.Printed.{sign_alone}
+use Rattle.cw_brace_laws.proofs.Flats.{by-way, trimmed-braced}
+
+-- ## Bytes
+
+leads-twice : (o : Option ℕ) (f g h : ℕ → Option ℕ) → ((d : ℕ) → g d ≡ leads_on (f d) h)
+    → leads_on o g ≡ leads_on (leads_on o f) h
+leads-twice None f g h e = refl
+leads-twice (Some d) f g h e = e d
+
+bytes-append : (xs ys : List ℕ) (d : ℕ) → bytes_depth (xs ++ ys) d ≡ leads_on (bytes_depth xs d) (bytes_depth ys)
+bytes-append [] ys d = refl
+bytes-append (x ∷ xs) ys d = leads-twice (byte_depth x d) (bytes_depth xs) (bytes_depth (xs ++ ys)) (bytes_depth ys)
+    (λ n. bytes-append xs ys n)
+
+-- bytes without braces and dollars
+abbrev ArePlain : List ℕ → Type 0
+ArePlain bytes = (d : ℕ) → bytes_depth bytes d ≡ Some d
+
+plain-append : (xs ys : List ℕ) → ArePlain xs → ArePlain ys → ArePlain (xs ++ ys)
+plain-append xs ys f g d = bytes-append xs ys d ∙ ap (λ o. leads_on o (bytes_depth ys)) (f d) ∙ g d
+
+-- ## Runs
+
+indent-plain : (c : Control) → ArePlain (indent_bytes c)
+indent-plain Indent d = refl
+indent-plain _ d = refl
+
+indents-plain : (run : List Control) → ArePlain (indents run)
+indents-plain [] d = refl
+indents-plain (c ∷ run) d = plain-append (indent_bytes c) (indents run) (indent-plain c) (indents-plain run) d
+
+break-plain : (n : ℕ) → ArePlain (break_bytes n)
+break-plain zero d = refl
+break-plain (suc zero) d = refl
+break-plain (suc (suc zero)) d = refl
+break-plain (suc (suc (suc zero))) d = refl
+break-plain (suc (suc (suc (suc n)))) d = refl
+
+backup-plain : (run : List Control) → ArePlain (backup_bytes run)
+backup-plain run d = go (list_any is_backup run)
+  where
+    go : (b : Bool) → bytes_depth (elim b [ true ↦ codes "\\4" | false ↦ [] ]) d ≡ Some d
+    go true = refl
+    go false = refl
+
+part-plain : (run : List Control) → ArePlain (part_run run)
+part-plain run = plain-append (indents run) _ (indents-plain run) (λ d. go d (list_any is_cancel run))
+  where
+    go : (d : ℕ) (b : Bool) → bytes_depth (elim b [
+      | true ↦ []
+      | false ↦ break_bytes (strongest run) ++ backup_bytes run
+    ]) d ≡ Some d
+    go d true = refl
+    go d false = plain-append (break_bytes (strongest run)) (backup_bytes run) (break-plain (strongest run))
+        (backup-plain run) d
+
+inner-plain : (run : List Control) → ArePlain (inner_run run)
+inner-plain run d = go (list_any is_cancel run) (ltb 0 (strongest run))
+  where
+    go : (b c : Bool) → bytes_depth (elim b [
+      | true ↦ []
+      | false ↦ elim c [ true ↦ codes " " | false ↦ [] ]
+    ]) d ≡ Some d
+    go true c = refl
+    go false true = refl
+    go false false = refl
+
+run-plain : (inner : Bool) (run : List Control) → ArePlain (run_bytes inner run)
+run-plain true run = inner-plain run
+run-plain false run = part-plain run
+
+-- ## Signs
+
+-- a sign in no run leads where its bytes lead
+sign-leads : (c : Control) (d e : ℕ) → is_run_sign c ≡ false → sign_depth c d ≡ Some e
+    → bytes_depth (own_sign c) d ≡ Some e
+sign-leads OpenBrace d e is h = h
+sign-leads OpenRelation d e is h = h
+sign-leads CloseBrace zero e is h = h
+sign-leads CloseBrace (suc d) e is h = h
+sign-leads ToMath zero e is h = h
+sign-leads ToMath (suc d) e is h = absurd cc
+sign-leads ToText zero e is h = h
+sign-leads ToText (suc d) e is h = absurd cc
+sign-leads Dollar zero e is h = h
+sign-leads Dollar (suc d) e is h = absurd cc
+sign-leads CommentEnd zero e is h = h
+sign-leads CommentEnd (suc d) e is h = absurd cc
+sign-leads Wall d e is h = h
+sign-leads OptionalLineBreak0 d e is h = h
+sign-leads OptionalLineBreak9 d e is h = h
+sign-leads ThinSpace d e is h = h
+sign-leads Inserted d e is h = h
+sign-leads NameText d e is h = h
+sign-leads NameEnd d e is h = h
+sign-leads _ d e is h = absurd cc
+
+-- a sign of a run leads nowhere else
+run-leads : (c : Control) (d e : ℕ) (next : ℕ → Option ℕ) → is_run_sign c ≡ true
+    → leads_on (sign_depth c d) next ≡ Some e → next d ≡ Some e
+run-leads Indent d e next is h = h
+run-leads Outdent d e next is h = h
+run-leads Blank zero e next is h = h
+run-leads OptionalBreak zero e next is h = h
+run-leads Break zero e next is h = h
+run-leads BigBreak zero e next is h = h
+run-leads Cancel zero e next is h = h
+run-leads Backup zero e next is h = h
+run-leads Blank (suc d) e next is h = absurd cc
+run-leads OptionalBreak (suc d) e next is h = absurd cc
+run-leads Break (suc d) e next is h = absurd cc
+run-leads BigBreak (suc d) e next is h = absurd cc
+run-leads Cancel (suc d) e next is h = absurd cc
+run-leads Backup (suc d) e next is h = absurd cc
+run-leads _ d e next is h = absurd cc
+
+-- ## Lists
+
+-- a run, then the bytes of an item, then the rest
+three-lead : (run bytes rest : List ℕ) (d n e : ℕ) → ArePlain run → bytes_depth bytes d ≡ Some n
+    → bytes_depth rest n ≡ Some e → bytes_depth (run ++ (bytes ++ rest)) d ≡ Some e
+three-lead run bytes rest d n e plain here later =
+    bytes-append run (bytes ++ rest) d ∙ ap (λ o. leads_on o (bytes_depth (bytes ++ rest))) (plain d)
+    ∙ bytes-append bytes rest d ∙ ap (λ o. leads_on o (bytes_depth rest)) here ∙ later
+
+printed-leads : (inner : Bool) (depth : ℕ) (run : List Control) (items : List Item) (d e : ℕ)
+    → items_depth items d ≡ Some e → bytes_depth (printed_from inner depth run (map sign_alone items)) d ≡ Some e
+printed-leads inner depth run [] d e h = run-plain (inner || ltb 0 depth) run d ∙ h
+printed-leads inner depth run (SourceItem number ∷ items) d e h =
+    three-lead (run_bytes (inner || ltb 0 depth) run) [] (printed_from inner depth [] (map sign_alone items)) d d e
+    (run-plain (inner || ltb 0 depth) run) refl (printed-leads inner depth [] items d e h)
+printed-leads inner depth run (IdentItem name number ∷ items) d e h =
+    three-lead (run_bytes (inner || ltb 0 depth) run) [] (printed_from inner depth [] (map sign_alone items)) d d e
+    (run-plain (inner || ltb 0 depth) run) refl (printed-leads inner depth [] items d e h)
+printed-leads inner depth run (ReservedItem name number ∷ items) d e h =
+    three-lead (run_bytes (inner || ltb 0 depth) run) [] (printed_from inner depth [] (map sign_alone items)) d d e
+    (run-plain (inner || ltb 0 depth) run) refl (printed-leads inner depth [] items d e h)
+printed-leads inner depth run (Open ∷ items) zero e h =
+    three-lead (run_bytes (inner || ltb 0 depth) run) [] (printed_from inner (opened depth Open) []
+    (map sign_alone items)) 0 0 e
+    (run-plain (inner || ltb 0 depth) run) refl (printed-leads inner (opened depth Open) [] items 0 e h)
+printed-leads inner depth run (Open ∷ items) (suc d) e h = absurd cc
+printed-leads inner depth run (Close ∷ items) zero e h =
+    three-lead (run_bytes (inner || ltb 0 depth) run) [] (printed_from inner (opened depth Close) []
+    (map sign_alone items)) 0 0 e
+    (run-plain (inner || ltb 0 depth) run) refl (printed-leads inner (opened depth Close) [] items 0 e h)
+printed-leads inner depth run (Close ∷ items) (suc d) e h = absurd cc
+printed-leads inner depth run (SignItem c ∷ items) d e h =
+    go (is_run_sign c) refl (λ more n k. printed-leads inner depth more items n e k)
+  where
+    go : (b : Bool) → is_run_sign c ≡ b
+        → ((more : List Control) (n : ℕ) → items_depth items n ≡ Some e
+        → bytes_depth (printed_from inner depth more (map sign_alone items)) n ≡ Some e)
+        → bytes_depth (elim (elim b as (λ _. Option Control) [ true ↦ Some c | false ↦ None ]) as (λ _. List ℕ) [
+          | Some control ↦ printed_from inner depth (run ++ control ∷ []) (map sign_alone items)
+          | None ↦ run_bytes (inner || ltb 0 depth) run ++ (own_sign c ++ printed_from inner depth []
+              (map sign_alone items))
+        ]) d ≡ Some e
+    go true is rec = rec (run ++ c ∷ []) d (run-leads c d e (items_depth items) is h)
+    go false is rec =
+        let w = by-way (sign_depth c d) (items_depth items) e h in
+        three-lead (run_bytes (inner || ltb 0 depth) run) (own_sign c)
+        (printed_from inner depth [] (map sign_alone items)) d w.depth e (run-plain (inner || ltb 0 depth) run)
+        (sign-leads c d w.depth is w.first) (rec [] w.depth w.second)
+
+pub prints-braced : (t : Tree) → IsBraced t → PrintsBraced t
+prints-braced t h =
+    let all = trimmed-braced t h in
+    record { items = all; bytes = λ inner. printed-leads inner 0 [] (trimmed (flat t)) 0 0 all }
