@@ -56,3 +56,25 @@ named_part : plain (over (codes "@<A |i| b@>=\nc;") (one_title 0 (codes "A |i| b
     ∷ [])
     ≡ codes "<A |i| b>=\nc;"
 named_part = refl
+
+-- ## What a blank keeps apart
+
+brackets : plain (over (codes "@c a[ [b]];") no_titles) (IdentItem 0 3 ∷ SourceItem 4 ∷ SourceItem 6 ∷ IdentItem 1 7
+    ∷ SourceItem 8 ∷ SourceItem 9 ∷ SourceItem 10 ∷ []) ≡ codes "a[ [b]];"
+brackets = refl
+
+name_and_string : plain (over (codes "@c L \"x\";") no_titles)
+    (IdentItem 0 3 ∷ SignItem ToMath ∷ SourceItem 5 ∷ SignItem ToText ∷ SourceItem 8 ∷ []) ≡ codes "L \"x\";"
+name_and_string = refl
+
+constant_and_string : plain (over (codes "@c 1 '2';") no_titles) (SourceItem 3 ∷ SourceItem 5 ∷ SourceItem 8 ∷ [])
+    ≡ codes "1 '2';"
+constant_and_string = refl
+
+question_and_colons : plain (over (codes "@c a ? ::b:c;") no_titles) (IdentItem 0 3 ∷ SourceItem 5 ∷ SourceItem 7
+    ∷ IdentItem 1 9 ∷ SourceItem 10 ∷ IdentItem 2 11 ∷ SourceItem 12 ∷ []) ≡ codes "a? ::b:c;"
+question_and_colons = refl
+
+prefix : plain (over (codes "@c x=u8\"y\";") no_titles)
+    (IdentItem 0 3 ∷ SourceItem 4 ∷ SourceItem 5 ∷ SourceItem 10 ∷ []) ≡ codes "x=u8\"y\";"
+prefix = refl

@@ -1,8 +1,8 @@
 //! Where a blank stands between two words.
 ghost use Rattle.std.specs.Prelude.{◌≡◌, [], codes, cond};
-ghost use Rattle.cw_plain.specs.Lines.{blank_before, clash, is_joining, is_wordy, last_behind};
+ghost use Rattle.cw_plain.specs.Lines.{blank_before, clash, is_joining, is_wordy, last_behind, signs_touch, words_touch};
 
-use cw_rules::classes::is_word;
+use cw_rules::classes::{is_mark, is_word};
 
 fn is_wordy(byte: u8) -> bool
     ensures { result ≡ is_wordy byte }
@@ -34,10 +34,22 @@ fn is_joining(byte: u8) -> bool
     )
 }
 
+fn words_touch(byte: u8, next: u8) -> bool
+    ensures { result ≡ words_touch byte next }
+{
+    is_wordy(byte) && (is_wordy(next) || is_mark(next))
+}
+
+fn signs_touch(byte: u8, next: u8) -> bool
+    ensures { result ≡ signs_touch byte next }
+{
+    byte == b'[' && next == b'[' || is_joining(byte) && is_joining(next)
+}
+
 fn clash(byte: u8, next: u8) -> bool
     ensures { result ≡ clash byte next }
 {
-    is_wordy(byte) && is_wordy(next) || is_joining(byte) && is_joining(next)
+    words_touch(byte, next) || signs_touch(byte, next)
 }
 
 /// Whether a blank parts a word from the byte before it.
