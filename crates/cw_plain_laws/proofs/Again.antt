@@ -1,5 +1,5 @@
 -- Tokens that are scanned again, one behind another, with white space between them.
-use Rattle.std.proofs.Common.{◌≡◌, ℕ, ◌==◌, ◌||◌, ◌&&◌, not, Bool, true, false, List, [], ◌∷◌, ◌++◌, length}
+use Rattle.std.proofs.Common.{◌≡◌, ℕ, ◌||◌, ◌&&◌, not, Bool, true, false, List, [], ◌∷◌, ◌++◌, codes, length}
 use Rattle.cw_rules.specs.declared.classes.Class.TheVariants as classes
 use Rattle.cw_rules.specs.declared.parts.Part.TheVariants as parts
 use Rattle.cw_rules.specs.declared.tokens.TokKind.{TokKind}
@@ -7,7 +7,7 @@ use Rattle.cw_rules.specs.declared.tokens.TokKind.TheVariants as kinds
 use Rattle.cw_rules.specs.Answers.{Answer, Token, Where}
 use Rattle.cw_rules.specs.declared.bodies.Body.TheVariants as bodies
 use Rattle.cw_rules.specs.Bodies.{is_single, stops, takes_next}
-use Rattle.cw_rules.specs.Bytes.{apostrophe, at_sign, is_in, is_letter, quote, run}
+use Rattle.cw_rules.specs.Bytes.{apostrophe, at_sign, is_in, is_letter, is_mark, run}
 use Rattle.cw_rules.specs.declared.codes.Code.TheVariants as codes
 use Rattle.cw_rules.specs.Constants.{constant}
 use Rattle.cw_rules.specs.Signs.{spelling}
@@ -32,6 +32,30 @@ IsClosed mark last along (byte ∷ next ∷ bytes) =
     × has_no_note along byte (next ∷ bytes)
     × IsClosed mark byte (not along && takes_next (bodies.Quoted mark) byte (next ∷ bytes)) (next ∷ bytes)
 
+-- what may stand before the mark with which a string begins
+pub data Prefix : Type 0 where
+  Bare : Prefix
+  Wide : Prefix
+  Utf16 : Prefix
+  Utf32 : Prefix
+  Utf8 : Prefix
+
+abbrev pub prefix_bytes : Prefix → List ℕ
+prefix_bytes Bare = []
+prefix_bytes Wide = codes "L"
+prefix_bytes Utf16 = codes "u"
+prefix_bytes Utf32 = codes "U"
+prefix_bytes Utf8 = codes "u8"
+
+-- a string, with its prefix and its marks
+pub record IsString (bytes : List ℕ) : Type 0 where
+  pub prefix : Prefix
+  pub mark : ℕ
+  pub body : List ℕ
+  pub mark_is : is_mark mark ≡ true
+  pub closed : IsClosed mark 0 false body
+  pub same : bytes ≡ prefix_bytes prefix ++ mark ∷ body
+
 -- the string of `@'`, without the `@`
 abbrev pub IsInQuotes : List ℕ → Type 0
 IsInQuotes [] = ⊥
@@ -43,7 +67,7 @@ IsAlone kinds.Identifier byte bytes = (is_letter byte ≡ true)
     × (run classes.Word (byte ∷ bytes) ≡ length (byte ∷ bytes))
 IsAlone kinds.Constant byte bytes = (is_letter byte ≡ false) × (constant (byte ∷ bytes) ≡ length (byte ∷ bytes))
     × (is_wordy (last_of byte bytes) ≡ true)
-IsAlone kinds.Quoted byte bytes = ((byte == quote || byte == apostrophe) ≡ true) × IsClosed byte 0 false bytes
+IsAlone kinds.Quoted byte bytes = IsString (byte ∷ bytes)
 IsAlone (kinds.Sign sign) byte bytes = (byte ∷ bytes ≡ spelling sign) × (is_hash sign ≡ false)
 IsAlone (kinds.Code codes.Quote) byte bytes = (byte ≡ at_sign) × IsInQuotes bytes
 IsAlone _ byte bytes = ⊥

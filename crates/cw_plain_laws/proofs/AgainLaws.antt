@@ -1,6 +1,7 @@
 -- The tokens of a text that is made of tokens and white space.
 use Rattle.std.proofs.Common.{◌≡◌, ℕ, suc, ◌+◌, ◌-◌, Bool, true, false, ◌&&◌, ◌||◌, ◌==◌, nat_lt, List, []}
-use Rattle.std.proofs.Common.{◌∷◌, ◌++◌, length, refl, sym, ap, ◌∙◌, arith, subst}
+use Rattle.std.proofs.Common.{◌∷◌, ◌++◌, length, codes, drop, inl, inr, refl, sym, ap, ◌∙◌, arith, subst}
+use Rattle.std.specs.Prelude.{if◌then◌else◌}
 use Rattle.std.proofs.lemmas.Bool.Decides.{nat_tests}
 use Rattle.std.proofs.lemmas.List.{append-nil, take_at}
 use Rattle.cw_rules.specs.declared.classes.Class.{Class}
@@ -13,17 +14,21 @@ use Rattle.cw_rules.specs.declared.signs.Sign.{Sign}
 use Rattle.cw_rules.specs.declared.signs.Sign.TheVariants as signs
 use Rattle.cw_rules.specs.Signs.{spelling}
 use Rattle.cw_rules.specs.Answers.{Answer, Cut, Token, Where, Found, token_of, plain}
-use Rattle.cw_rules.specs.Bytes.{is_in, is_letter, run, hash, newline, at_sign}
-use Rattle.cw_rules.specs.Tokens.{found, skipped_byte, one, in_code, start_of}
+use Rattle.cw_rules.specs.Bodies.{at_start}
+use Rattle.cw_rules.specs.Bytes.{is_in, is_letter, is_mark, run, hash, newline, at_sign, begins_by, begins_with}
+use Rattle.cw_rules.specs.Prefixes.{is_prefix_letter, prefix_size}
+use Rattle.cw_rules.specs.Tokens.{found, skipped_byte, one, in_code, start_of, string, string_of}
 use Rattle.cw_rules.proofs.Choices.{and-none, at-byte, or-false, or-first, or-second}
-use Rattle.cw_rules.specs.Constants.{constant}
+use Rattle.cw_rules.specs.Constants.{constant, digits, more_digits}
+use Rattle.cw_rules.specs.declared.bodies.Body.TheVariants as bodies
 use Rattle.cw_plain_laws.proofs.ConstantLaws.{constant-apart, no-constant}
-use Rattle.cw_plain_laws.proofs.StringLaws.{quote-cut, string-cut}
-use Rattle.cw_plain_laws.proofs.Tests.{unless, differs}
+use Rattle.cw_plain_laws.proofs.StringLaws.{quote-cut, string-of-cut}
+use Rattle.cw_plain_laws.proofs.Tests.{differs, else-is, or-case, then-is, unless}
 use Rattle.cw_lex.specs.Lexing.{answers, joined, still_fresh}
-use Rattle.cw_plain.specs.Lines.{clash, is_wordy, is_joining}
+use Rattle.cw_plain.specs.Lines.{clash, is_bracket, is_wordy, is_joining, signs_touch, words_touch}
 use Rattle.cw_plain_laws.proofs.Again.{IsAlone, IsApart, last_of, Spaced, spaced_text, AreSpaced, AreWhite, words}
 use Rattle.cw_plain_laws.proofs.Again.{alone_token}
+use Rattle.cw_plain_laws.proofs.Again.{Prefix, Bare, Wide, Utf16, Utf32, Utf8, prefix_bytes}
 use Rattle.cw_plain_laws.proofs.Again.{IsClosed, in_part}
 use Rattle.cw_plain_laws.specs.PlainLaws.{all_unplaced, is_hash}
 
@@ -64,12 +69,24 @@ run-last class b (c ∷ bs) e = run-last class c bs (run-rest class b (c ∷ bs)
 
 -- ## Bytes
 
--- a byte behind a word is in no word
+-- a byte behind a word or a constant is in no word and begins no string
+free-behind : (last z : ℕ) → clash last z ≡ false → is_wordy last ≡ true → (is_wordy z || is_mark z) ≡ false
+free-behind last z apart wordy =
+    sym (λ i. wordy i && (is_wordy z || is_mark z)) ∙ or-first (words_touch last z) (signs_touch last z) apart
+
 not-wordy : (last z : ℕ) → clash last z ≡ false → is_in classes.Word last ≡ true → is_in classes.Word z ≡ false
-not-wordy last z apart wordy =
+not-wordy last z apart word =
     or-first (is_in classes.Word z) (z == 46)
-    (sym (λ i. (wordy i || last == 46) && is_wordy z)
-    ∙ or-first (is_wordy last && is_wordy z) (is_joining last && is_joining z) apart)
+    (or-first (is_wordy z) (is_mark z) (free-behind last z apart (λ i. word i || last == 46)))
+
+no-mark : (last z : ℕ) → clash last z ≡ false → is_in classes.Word last ≡ true → is_mark z ≡ false
+no-mark last z apart word =
+    or-second (is_wordy z) (is_mark z) (free-behind last z apart (λ i. word i || last == 46))
+
+word-no-mark : (z : ℕ) → is_in classes.Word z ≡ true → is_mark z ≡ false
+word-no-mark z word =
+    or-false (z == 34) (z == 39) (unless (is_in classes.Word) z 34 word refl)
+    (unless (is_in classes.Word) z 39 word refl)
 
 -- ## A token
 
@@ -150,18 +167,58 @@ run-apart b bs [] e apart = ap (λ l. run classes.Word (b ∷ l)) (append-nil bs
 run-apart b bs (z ∷ more) e apart = run-all classes.Word (b ∷ bs) z more e
     (not-wordy (last_of b bs) z apart (run-last classes.Word b bs e))
 
-identifier-start : (b : ℕ) (bytes : List ℕ) → is_letter b ≡ true → start_of false b bytes ≡ start.Identifier
-identifier-start b bytes letter = rw letter refl
+-- No prefix of a string begins here: no mark stands behind its letter, or behind `u8`.
+none-before : (b : ℕ) (bytes : List ℕ) → begins_by is_mark bytes ≡ false
+    → (begins_with (codes "u8") (b ∷ bytes) && begins_by is_mark (drop 1 bytes)) ≡ false → prefix_size (b ∷ bytes) ≡ 0
+none-before b bytes one two =
+    else-is (is_prefix_letter b && begins_by is_mark bytes) 1
+    (if begins_with (codes "u8") (b ∷ bytes) && begins_by is_mark (drop 1 bytes) then 2 else 0)
+    ((λ i. is_prefix_letter b && one i) ∙ and-none (is_prefix_letter b))
+    ∙ else-is (begins_with (codes "u8") (b ∷ bytes) && begins_by is_mark (drop 1 bytes)) 2 0 two
+
+rest-no-mark : (last : ℕ) (rest : List ℕ) → is_in classes.Word last ≡ true → IsApart last rest
+    → begins_by is_mark rest ≡ false
+rest-no-mark last [] word apart = refl
+rest-no-mark last (z ∷ more) word apart = no-mark last z apart word
+
+-- a word that stands apart is no prefix
+no-prefix : (b : ℕ) (bs rest : List ℕ) → run classes.Word (b ∷ bs) ≡ suc (length bs) → IsApart (last_of b bs) rest
+    → prefix_size (b ∷ (bs ++ rest)) ≡ 0
+no-prefix b [] [] size apart = none-before b [] refl (and-none (b == 117 && false))
+no-prefix b [] (z ∷ more) size apart =
+    let word = in-class classes.Word b [] size in
+    let eight : (z == 56) ≡ false = differs (is_in classes.Word) z 56 (not-wordy b z apart word) refl in
+    none-before b (z ∷ more) (no-mark b z apart word)
+    ((λ i. (b == 117 && (eight i && true)) && begins_by is_mark more)
+    ∙ (λ i. and-none (b == 117) i && begins_by is_mark more))
+no-prefix b (c ∷ []) rest size apart =
+    let word = in-class classes.Word c [] (run-rest classes.Word b (c ∷ []) size) in
+    none-before b (c ∷ rest) (word-no-mark c word)
+    ((λ i. (b == 117 && (c == 56 && true)) && rest-no-mark c rest word apart i)
+    ∙ and-none (b == 117 && (c == 56 && true)))
+no-prefix b (c ∷ d ∷ bs) rest size apart =
+    let less = run-rest classes.Word b (c ∷ d ∷ bs) size in
+    let word = in-class classes.Word c (d ∷ bs) less in
+    let next = in-class classes.Word d bs (run-rest classes.Word c (d ∷ bs) less) in
+    none-before b (c ∷ d ∷ (bs ++ rest)) (word-no-mark c word)
+    ((λ i. (b == 117 && (c == 56 && true)) && word-no-mark d next i) ∙ and-none (b == 117 && (c == 56 && true)))
+
+identifier-start : (b : ℕ) (bytes : List ℕ) → is_letter b ≡ true → prefix_size (b ∷ bytes) ≡ 0
+    → start_of false b bytes ≡ start.Identifier
+identifier-start b bytes letter none =
+    else-is (nat_lt 0 (prefix_size (b ∷ bytes))) _ _ (ap (nat_lt 0) none) ∙ then-is (is_letter b) _ _ letter
 
 identifier-taken : (b : ℕ) (bs : List ℕ) → IsAlone kinds.Identifier b bs → IsTaken kinds.Identifier b bs
 identifier-taken b bs alone true fresh last place rest apart =
     code-found true fresh last place b (bs ++ rest) (code-by is_letter b letter-passes alone.0)
-    ∙ ap (λ s. in_code s (in_part true) place (b ∷ (bs ++ rest))) (identifier-start b (bs ++ rest) alone.0)
+    ∙ ap (λ s. in_code s (in_part true) place (b ∷ (bs ++ rest)))
+    (identifier-start b (bs ++ rest) alone.0 (no-prefix b bs rest alone.1 apart))
     ∙ one-size (in_part false) kinds.Identifier place (length bs) (b ∷ (bs ++ rest)) _
     (run-apart b bs rest alone.1 apart)
 identifier-taken b bs alone false fresh last place rest apart =
     code-found false fresh last place b (bs ++ rest) (code-by is_letter b letter-passes alone.0)
-    ∙ ap (λ s. in_code s (in_part false) place (b ∷ (bs ++ rest))) (identifier-start b (bs ++ rest) alone.0)
+    ∙ ap (λ s. in_code s (in_part false) place (b ∷ (bs ++ rest)))
+    (identifier-start b (bs ++ rest) alone.0 (no-prefix b bs rest alone.1 apart))
     ∙ one-size (in_part false) kinds.Identifier place (length bs) (b ∷ (bs ++ rest)) _
     (run-apart b bs rest alone.1 apart)
 
@@ -212,14 +269,12 @@ begins signs.Slash h = (
 begins signs.Dot h = (
   plain-code 46 refl refl refl refl,
   by-rest 46 [] signs.Dot refl refl
-      (λ z more e. let wordy = or-first (is_wordy z) (is_joining z) e in
-      let joining = or-second (is_wordy z) (is_joining z) e in
+      (λ z more e. let free = or-first (is_wordy z || is_mark z) (is_joining z) e in
+      let wordy = or-first (is_wordy z) (is_mark z) free in
       let digit = or-second (is_letter z) (is_in classes.Digit z) (or-first (is_in classes.Word z) (z == 46) wordy) in
-      let none : run classes.Digit (z ∷ more) ≡ 0 = ap (λ t. elim t [
-        | true ↦ 1 + run classes.Digit more
-        | false ↦ 0
-      ]) digit in
-      rw (none, joins z 46 joining refl) refl),
+      let none : digits classes.Digit (z ∷ more) ≡ 0 =
+      else-is (is_in classes.Digit z) (more_digits classes.Digit (z ∷ more)) 0 digit in
+      rw (none, or-second (is_in classes.Word z) (z == 46) wordy) refl),
 )
 begins signs.Less h = (
   plain-code 60 refl refl refl refl,
@@ -265,7 +320,11 @@ begins signs.Caret h = (plain-code 94 refl refl refl refl, by-rest 94 [] signs.C
 begins signs.Percent h = (plain-code 37 refl refl refl refl, by-rest 37 [] signs.Percent refl refl (λ z more e. refl))
 begins signs.Tilde h = (plain-code 126 refl refl refl refl, by-rest 126 [] signs.Tilde refl refl (λ z more e. refl))
 begins signs.Star h = (plain-code 42 refl refl refl refl, by-rest 42 [] signs.Star refl refl (λ z more e. refl))
-begins signs.Question h = (plain-code 63 refl refl refl refl, by-rest 63 [] signs.Question refl refl (λ z more e. refl))
+begins signs.Question h = (
+  plain-code 63 refl refl refl refl,
+  by-rest 63 [] signs.Question refl refl
+      (λ z more e. rw (joins z 58 e refl) refl),
+)
 begins signs.LeftParen h = (
   plain-code 40 refl refl refl refl,
   by-rest 40 [] signs.LeftParen refl refl
@@ -274,7 +333,7 @@ begins signs.LeftParen h = (
 begins signs.LeftBracket h = (
   plain-code 91 refl refl refl refl,
   by-rest 91 [] signs.LeftBracket refl refl
-      (λ z more e. refl),
+      (λ z more e. rw (differs is_bracket z 91 (or-first (is_bracket z) false e) refl) refl),
 )
 begins signs.RightParen h = (
   plain-code 41 refl refl refl refl,
@@ -302,7 +361,11 @@ begins signs.Semicolon h = (
   by-rest 59 [] signs.Semicolon refl refl
       (λ z more e. refl),
 )
-begins signs.Colon h = (plain-code 58 refl refl refl refl, by-rest 58 [] signs.Colon refl refl (λ z more e. refl))
+begins signs.Colon h = (
+  plain-code 58 refl refl refl refl,
+  by-rest 58 [] signs.Colon refl refl
+      (λ z more e. rw (joins z 58 e refl) refl),
+)
 begins signs.Arrow h = (
   plain-code 45 refl refl refl refl,
   by-rest 45 (62 ∷ []) signs.Arrow refl refl
@@ -363,6 +426,21 @@ begins signs.Ellipsis h = (
   by-rest 46 (46 ∷ 46 ∷ []) signs.Ellipsis refl refl
       (λ z more e. refl),
 )
+begins signs.DoubleColon h = (
+  plain-code 58 refl refl refl refl,
+  by-rest 58 (58 ∷ []) signs.DoubleColon refl refl
+      (λ z more e. refl),
+)
+begins signs.QuestionColon h = (
+  plain-code 63 refl refl refl refl,
+  by-rest 63 (58 ∷ []) signs.QuestionColon refl refl
+      (λ z more e. refl),
+)
+begins signs.DoubleBracket h = (
+  plain-code 91 refl refl refl refl,
+  by-rest 91 (91 ∷ []) signs.DoubleBracket refl refl
+      (λ z more e. refl),
+)
 
 begins-taken : (s : Sign) (t : List ℕ) → length (spelling s) ≡ length t → Begins s t → IsTakenList (kinds.Sign s) t
 begins-taken s [] size is = absurd is
@@ -395,20 +473,39 @@ number-begins : (b : ℕ) (bs : List ℕ) → is_letter b ≡ false → constant
     ≡ true
 number-begins b bs letter size = by (begins_number b) refl
   where
+    none : (t : Bool) → (b == 39) ≡ t → begins_number b ≡ false → constant (b ∷ bs) ≡ 0
+    none true mark e = at-byte (λ y. constant (y ∷ bs) ≡ 0) b 39 mark refl
+    none false mark e = no-constant b bs (record {
+      word = or-false (is_letter b) (is_in classes.Digit b) letter (or-first (is_in classes.Digit b) (b == 46) e);
+      dotless = or-second (is_in classes.Digit b) (b == 46) e;
+      markless = mark;
+    })
+
     by : (t : Bool) → begins_number b ≡ t → begins_number b ≡ true
     by true e = e
     by false e =
-        let digit = or-first (is_in classes.Digit b) (b == 46) e in
-        let none = no-constant b bs (or-false (is_letter b) (is_in classes.Digit b) letter digit)
-        (or-second (is_in classes.Digit b) (b == 46) e) in
-        let never : suc (length bs) ≡ 0 = sym size ∙ none in
+        let never : suc (length bs) ≡ 0 = sym size ∙ none (b == 39) refl e in
         absurd (omega arith)
+
+-- each prefix begins with a letter
+no-letter : (b : ℕ) (bytes : List ℕ) → is_letter b ≡ false → prefix_size (b ∷ bytes) ≡ 0
+no-letter b bytes letter =
+    let u = differs is_letter b 117 letter refl in
+    else-is (is_prefix_letter b && begins_by is_mark bytes) 1
+    (if begins_with (codes "u8") (b ∷ bytes) && begins_by is_mark (drop 1 bytes) then 2 else 0)
+    (λ i. or-false (b == 76 || b == 117) (b == 85)
+    (or-false (b == 76) (b == 117) (differs is_letter b 76 letter refl) u)
+    (differs is_letter b 85 letter refl) i && begins_by is_mark bytes)
+    ∙ else-is (begins_with (codes "u8") (b ∷ bytes) && begins_by is_mark (drop 1 bytes)) 2 0
+    (λ i. (u i && begins_with (codes "8") bytes) && begins_by is_mark (drop 1 bytes))
 
 constant-start : (b : ℕ) (bytes : List ℕ) (n : ℕ) → is_letter b ≡ false → constant (b ∷ bytes) ≡ suc n
     → start_of false b bytes ≡ start.Constant
 constant-start b bytes n letter size =
     let some : nat_lt 0 (constant (b ∷ bytes)) ≡ true = ap (nat_lt 0) size ∙ less n in
-    rw (letter, some) refl
+    else-is (nat_lt 0 (prefix_size (b ∷ bytes))) _ _ (ap (nat_lt 0) (no-letter b bytes letter))
+    ∙ else-is (is_letter b) _ _ letter
+    ∙ then-is (nat_lt 0 (constant (b ∷ bytes))) _ _ some
   where
     less : (n : ℕ) → nat_lt 0 (suc n) ≡ true
     less n = grind (arith, nat_tests)
@@ -434,10 +531,13 @@ constant-size : (b : ℕ) (bs rest : List ℕ) → IsAlone kinds.Constant b bs �
     → constant (b ∷ (bs ++ rest)) ≡ suc (length bs)
 constant-size b bs [] alone apart = ap (λ l. constant (b ∷ l)) (append-nil bs) ∙ alone.1
 constant-size b bs (z ∷ more) alone apart =
-    let both = or-first (is_wordy (last_of b bs) && is_wordy z) (is_joining (last_of b bs) && is_joining z) apart in
-    let free : is_wordy z ≡ false = sym (λ i. alone.2 i && is_wordy z) ∙ both in
-    constant-apart (b ∷ bs) z more alone.1 (or-first (is_in classes.Word z) (z == 46) free)
-    (or-second (is_in classes.Word z) (z == 46) free)
+    let free = free-behind (last_of b bs) z apart alone.2 in
+    let wordy = or-first (is_wordy z) (is_mark z) free in
+    constant-apart (b ∷ bs) z more alone.1 (record {
+      word = or-first (is_in classes.Word z) (z == 46) wordy;
+      dotless = or-second (is_in classes.Word z) (z == 46) wordy;
+      markless = or-second (z == 34) (z == 39) (or-second (is_wordy z) (is_mark z) free);
+    })
 
 constant-taken : (b : ℕ) (bs : List ℕ) → IsAlone kinds.Constant b bs → IsTaken kinds.Constant b bs
 constant-taken b bs alone first fresh last place rest apart =
@@ -445,27 +545,11 @@ constant-taken b bs alone first fresh last place rest apart =
 
 -- ## Strings
 
-abbrev is_mark : ℕ → Bool
-is_mark byte = byte == 34 || byte == 39
-
-mark-passes : Passes is_mark
-mark-passes = record {
-  at = refl;
-  newline = refl;
-  space = refl;
-  tab = refl;
-  vertical = refl;
-  form = refl;
-  return = refl;
-  hash = refl;
-}
-
-mark-start : (b : ℕ) (bytes : List ℕ) → is_mark b ≡ true → start_of false b bytes ≡ start.Quoted b
-mark-start b bytes mark = by (b == 34) refl
-  where
-    by : (t : Bool) → (b == 34) ≡ t → start_of false b bytes ≡ start.Quoted b
-    by true e = at-byte (λ y. start_of false y bytes ≡ start.Quoted y) b 34 e refl
-    by false e = at-byte (λ y. start_of false y bytes ≡ start.Quoted y) b 39 (sym (λ i. e i || b == 39) ∙ mark) refl
+pub at-mark : (P : ℕ → Type 0) (mark : ℕ) → is_mark mark ≡ true → P 34 → P 39 → P mark
+at-mark P mark is double single = elim (or-case (mark == 34) (mark == 39) is) [
+  | inl e ↦ at-byte P mark 34 e double
+  | inr e ↦ at-byte P mark 39 e single
+]
 
 filled : (q last : ℕ) (along : Bool) (bs : List ℕ) → IsClosed q last along bs → length bs ≡ suc (length bs - 1)
 filled q last along [] closed = absurd closed
@@ -478,17 +562,73 @@ one-plain k next place n bytes cut e = ap (λ c. one false next place bytes c) e
     ∙ ap (λ m. record { answers = Token (token_of false k place (suc n) bytes) ∷ []; more = m; next = next })
     (omega arith)
 
+-- a string that begins with this byte, and of which this is known
+string-here : (b mark : ℕ) (bs : List ℕ) → IsCode b
+    → ((rest : List ℕ) → start_of false b (bs ++ rest) ≡ start.Quoted mark)
+    → ((place : ℕ) (rest : List ℕ) → string kinds.Quoted (prefix_size (b ∷ (bs ++ rest)) + 1) mark place
+    (b ∷ (bs ++ rest)) ≡ plain kinds.Quoted (suc (length bs)))
+    → IsTaken kinds.Quoted b bs
+string-here b mark bs is begins cut true fresh last place rest apart =
+    code-found true fresh last place b (bs ++ rest) is
+    ∙ ap (λ s. in_code s (in_part true) place (b ∷ (bs ++ rest))) (begins rest)
+    ∙ one-plain kinds.Quoted (in_part false) place (length bs) (b ∷ (bs ++ rest)) _ (cut place rest)
+string-here b mark bs is begins cut false fresh last place rest apart =
+    code-found false fresh last place b (bs ++ rest) is
+    ∙ ap (λ s. in_code s (in_part false) place (b ∷ (bs ++ rest))) (begins rest)
+    ∙ one-plain kinds.Quoted (in_part false) place (length bs) (b ∷ (bs ++ rest)) _ (cut place rest)
+
+string-cut : (opening mark size : ℕ) (body : List ℕ) → IsClosed mark 0 false body
+    → opening + length body ≡ suc size → (place : ℕ) (rest : List ℕ)
+    → string_of kinds.Quoted opening (at_start (bodies.Quoted mark) (place + opening)) (body ++ rest)
+    ≡ plain kinds.Quoted (suc size)
+string-cut opening mark size body closed same place rest =
+    string-of-cut kinds.Quoted opening mark (place + opening) body (length body - 1) rest
+    (filled mark 0 false body closed) closed
+    ∙ ap (λ m. plain kinds.Quoted m) same
+
+-- with a prefix of one letter
+letter-taken : (b mark : ℕ) (body : List ℕ) → IsCode b → IsClosed mark 0 false body
+    → ((rest : List ℕ) → start_of false b (mark ∷ rest) ≡ start.Quoted mark)
+    → ((rest : List ℕ) → prefix_size (b ∷ mark ∷ rest) ≡ 1) → IsTaken kinds.Quoted b (mark ∷ body)
+letter-taken b mark body is closed begins one =
+    string-here b mark (mark ∷ body) is (λ rest. begins (body ++ rest)) (λ place rest.
+    ap (λ n. string kinds.Quoted (n + 1) mark place (b ∷ mark ∷ (body ++ rest))) (one (body ++ rest))
+    ∙ string-cut 2 mark (suc (length body)) body closed (omega arith) place rest)
+
+opened-taken : (p : Prefix) (mark : ℕ) (body : List ℕ) → is_mark mark ≡ true → IsClosed mark 0 false body
+    → IsTakenList kinds.Quoted (prefix_bytes p ++ mark ∷ body)
+opened-taken Bare mark body is closed = at-mark (λ m. IsClosed m 0 false body → IsTaken kinds.Quoted m body) mark is
+    (λ closed. string-here 34 34 body (plain-code 34 refl refl refl refl) (λ rest. refl)
+    (string-cut 1 34 (length body) body closed (omega arith)))
+    (λ closed. string-here 39 39 body (plain-code 39 refl refl refl refl) (λ rest. refl)
+    (string-cut 1 39 (length body) body closed (omega arith)))
+    closed
+opened-taken Wide mark body is closed =
+    at-mark (λ m. IsClosed m 0 false body → IsTaken kinds.Quoted 76 (m ∷ body)) mark is
+    (λ closed. letter-taken 76 34 body (plain-code 76 refl refl refl refl) closed (λ rest. refl) (λ rest. refl))
+    (λ closed. letter-taken 76 39 body (plain-code 76 refl refl refl refl) closed (λ rest. refl) (λ rest. refl))
+    closed
+opened-taken Utf16 mark body is closed =
+    at-mark (λ m. IsClosed m 0 false body → IsTaken kinds.Quoted 117 (m ∷ body)) mark is
+    (λ closed. letter-taken 117 34 body (plain-code 117 refl refl refl refl) closed (λ rest. refl) (λ rest. refl))
+    (λ closed. letter-taken 117 39 body (plain-code 117 refl refl refl refl) closed (λ rest. refl) (λ rest. refl))
+    closed
+opened-taken Utf32 mark body is closed =
+    at-mark (λ m. IsClosed m 0 false body → IsTaken kinds.Quoted 85 (m ∷ body)) mark is
+    (λ closed. letter-taken 85 34 body (plain-code 85 refl refl refl refl) closed (λ rest. refl) (λ rest. refl))
+    (λ closed. letter-taken 85 39 body (plain-code 85 refl refl refl refl) closed (λ rest. refl) (λ rest. refl))
+    closed
+opened-taken Utf8 mark body is closed =
+    at-mark (λ m. IsClosed m 0 false body → IsTaken kinds.Quoted 117 (56 ∷ m ∷ body)) mark is
+    (λ closed. string-here 117 34 (56 ∷ 34 ∷ body) (plain-code 117 refl refl refl refl) (λ rest. refl)
+    (string-cut 3 34 (suc (suc (length body))) body closed (omega arith)))
+    (λ closed. string-here 117 39 (56 ∷ 39 ∷ body) (plain-code 117 refl refl refl refl) (λ rest. refl)
+    (string-cut 3 39 (suc (suc (length body))) body closed (omega arith)))
+    closed
+
 string-taken : (b : ℕ) (bs : List ℕ) → IsAlone kinds.Quoted b bs → IsTaken kinds.Quoted b bs
-string-taken b bs alone true fresh last place rest apart =
-    code-found true fresh last place b (bs ++ rest) (code-by is_mark b mark-passes alone.0)
-    ∙ ap (λ s. in_code s (in_part true) place (b ∷ (bs ++ rest))) (mark-start b (bs ++ rest) alone.0)
-    ∙ one-plain kinds.Quoted (in_part false) place (length bs) (b ∷ (bs ++ rest)) _
-    (string-cut b place bs (length bs - 1) rest (filled b 0 false bs alone.1) alone.1)
-string-taken b bs alone false fresh last place rest apart =
-    code-found false fresh last place b (bs ++ rest) (code-by is_mark b mark-passes alone.0)
-    ∙ ap (λ s. in_code s (in_part false) place (b ∷ (bs ++ rest))) (mark-start b (bs ++ rest) alone.0)
-    ∙ one-plain kinds.Quoted (in_part false) place (length bs) (b ∷ (bs ++ rest)) _
-    (string-cut b place bs (length bs - 1) rest (filled b 0 false bs alone.1) alone.1)
+string-taken b bs is = subst (IsTakenList kinds.Quoted) (sym is.same)
+    (opened-taken is.prefix is.mark is.body is.mark_is is.closed)
 
 -- the string of `@'`
 quote-here : (bs : List ℕ) → IsClosed 39 0 false bs → IsTaken (kinds.Code codes.Quote) 64 (39 ∷ bs)

@@ -1,24 +1,30 @@
 -- What begins at a place of a C part: white space, one token, or what is none of the tokens that are scanned again.
 -- These are tokens by themselves.
 use Rattle.std.proofs.Common.{◌≡◌, ℕ, zero, suc, ◌+◌, ◌-◌, ◌<◌, ◌≤◌, Bool, true, false, ◌&&◌, ◌||◌, ◌==◌, nat_lt, List}
-use Rattle.std.proofs.Common.{[], ◌∷◌, ◌++◌, length, take, drop, refl, sym, ap, subst, ◌∙◌, arith, Option, Some, None}
+use Rattle.std.proofs.Common.{[], ◌∷◌, ◌++◌, codes, inl, inr, length, take, drop, refl, sym, ap, subst, ◌∙◌, arith}
+use Rattle.std.proofs.Common.{Option, Some, None, slice_index}
 use Rattle.std.proofs.lemmas.Bool.{eqb-true}
 use Rattle.std.proofs.lemmas.Bool.Decides.{nat_tests}
 use Rattle.std.proofs.lemmas.List.{length-take, take-append-drop}
 use Rattle.cw_base.specs.Text.{is_blank}
 use Rattle.cw_lex.specs.Lexing.{answers, fresh_at, joined, last_at, still_fresh, tokens_of}
-use Rattle.cw_plain_laws.proofs.Again.{IsAloneText, IsClosed, in_part}
+use Rattle.cw_plain_laws.proofs.Again.{Bare, IsAloneText, IsClosed, Prefix, Utf16, Utf32, Utf8, Wide, in_part}
+use Rattle.cw_plain_laws.proofs.Again.{prefix_bytes}
+use Rattle.cw_plain_laws.proofs.AgainLaws.{at-mark}
 use Rattle.cw_plain_laws.proofs.CutConstants.{constant-cut, constant-last, run-cut}
 use Rattle.cw_plain_laws.proofs.CutStrings.{sign-alone, string-closed}
+use Rattle.cw_plain_laws.proofs.Tests.{or-case}
 use Rattle.cw_plain_laws.specs.PlainLaws.{AreSimpleTokens, BeginsBefore, is_hash, is_program, is_simple}
-use Rattle.cw_rules.proofs.Choices.{if-both}
+use Rattle.cw_base.proofs.TestLaws.{both-left, both-right}
+use Rattle.cw_rules.proofs.Choices.{and-none, if-both}
 use Rattle.cw_rules.proofs.Sizes.{constant-le, run-le}
 use Rattle.cw_rules.proofs.Taking.{AreNotes}
 use Rattle.cw_rules.specs.Answers.{Answer, Token, Begin, Finish, Note, Cut, Found, Seen, Where, note_answers, plain}
 use Rattle.cw_rules.specs.Answers.{token_of}
 use Rattle.cw_rules.specs.Bodies.{at_start, extent}
-use Rattle.cw_rules.specs.Bytes.{apostrophe, at_sign, begins, hash, is_between, is_in, is_letter, is_letter_of, less}
-use Rattle.cw_rules.specs.Bytes.{newline, quote, run, slash, star}
+use Rattle.cw_rules.specs.Bytes.{at_sign, begins, begins_by, begins_with, hash, is_between, is_in, is_letter}
+use Rattle.cw_rules.specs.Bytes.{is_letter_of, is_mark, less, newline, run, slash, star}
+use Rattle.cw_rules.specs.Prefixes.{is_prefix_letter, prefix_size}
 use Rattle.cw_rules.specs.Codes.{begins_section, code_at, code_of}
 use Rattle.cw_rules.specs.Constants.{constant}
 use Rattle.cw_rules.specs.Signs.{all_signs, longest, spelling}
@@ -40,15 +46,15 @@ use Rattle.cw_rules.specs.declared.tokens.TokKind.TheVariants as kinds
 
 -- ## What is cut is a token by itself
 
--- where the same bytes are cut without what stands behind them
-whole-cut : (f : List ℕ → ℕ) → ((t r : List ℕ) → f (t ++ r) ≤ length t → f t ≡ f (t ++ r)) → (bytes : List ℕ)
+-- where all of the same bytes is cut without what stands behind them
+whole-cut : (f : List ℕ → ℕ) → ((t r : List ℕ) → f (t ++ r) ≡ length t → f t ≡ length t) → (bytes : List ℕ)
     → f bytes ≤ length bytes → f (take (f bytes) bytes) ≡ length (take (f bytes) bytes)
 whole-cut f cut bytes most =
     let t = take (f bytes) bytes in
     let r = drop (f bytes) bytes in
     let all : f (t ++ r) ≡ f bytes = ap f (take-append-drop (f bytes) bytes) in
     let size : length t ≡ f bytes = omega (arith, length-take (f bytes) bytes) in
-    cut t r (omega arith) ∙ all ∙ sym size
+    cut t r (all ∙ sym size)
 
 abbrev IsCutAlone : TokKind → (List ℕ → ℕ) → ℕ → List ℕ → Type 0
 IsCutAlone k f b bs = IsAloneText k (take (f (b ∷ bs)) (b ∷ bs))
@@ -60,7 +66,8 @@ identifier-alone b bs letter =
     let e : run classes.Word (b ∷ bs) ≡ suc m = ap (λ t. elim t [ true ↦ 1 + m | false ↦ 0 ]) word ∙ omega arith in
     let whole : run classes.Word (take (suc m) (b ∷ bs)) ≡ length (take (suc m) (b ∷ bs)) =
     subst (λ n. run classes.Word (take n (b ∷ bs)) ≡ length (take n (b ∷ bs))) e
-    (whole-cut (run classes.Word) (run-cut classes.Word) (b ∷ bs) (run-le classes.Word (b ∷ bs))) in
+    (whole-cut (run classes.Word) (λ t r all. run-cut classes.Word t r (omega arith) ∙ all) (b ∷ bs)
+    (run-le classes.Word (b ∷ bs))) in
     subst (λ n. IsAloneText kinds.Identifier (take n (b ∷ bs))) (sym e) (letter, whole)
 
 some-more : (n : ℕ) → nat_lt 0 n ≡ true → n ≡ suc (n - 1)
@@ -190,21 +197,144 @@ tells-code false _ place b bytes at e = other (refl, refl)
 
 -- ## Tokens
 
-string-alone : (mark b : ℕ) (bytes : List ℕ) (place : ℕ) → mark ≡ b → (b == quote || b == apostrophe) ≡ true
-    → (string kinds.Quoted 1 mark place (b ∷ bytes)).notes ≡ []
-    → IsAloneText kinds.Quoted (take (string kinds.Quoted 1 mark place (b ∷ bytes)).size (b ∷ bytes))
-string-alone mark b bytes place same is quiet =
-    let n = (extent (at_start (bodies.Quoted mark) (place + 1)) bytes).size in
-    let closed : IsClosed mark 0 false (take n bytes) = string-closed mark (place + 1) bytes quiet in
+-- a string begins with these bytes, by this mark
+record Opens (mark : ℕ) (bytes : List ℕ) : Type 0 where
+  prefix : Prefix
+  rest : List ℕ
+  mark_is : is_mark mark ≡ true
+  same : bytes ≡ prefix_bytes prefix ++ mark ∷ rest
+
+-- the size of a prefix
+prefix-is : (p : Prefix) (mark : ℕ) (rest : List ℕ) → is_mark mark ≡ true
+    → prefix_size (prefix_bytes p ++ mark ∷ rest) ≡ length (prefix_bytes p)
+prefix-is Bare mark rest is = at-mark (λ m. prefix_size (m ∷ rest) ≡ 0) mark is refl refl
+prefix-is Wide mark rest is = at-mark (λ m. prefix_size (76 ∷ m ∷ rest) ≡ 1) mark is refl refl
+prefix-is Utf16 mark rest is = at-mark (λ m. prefix_size (117 ∷ m ∷ rest) ≡ 1) mark is refl refl
+prefix-is Utf32 mark rest is = at-mark (λ m. prefix_size (85 ∷ m ∷ rest) ≡ 1) mark is refl refl
+prefix-is Utf8 mark rest is = at-mark (λ m. prefix_size (117 ∷ 56 ∷ m ∷ rest) ≡ 2) mark is refl refl
+
+letter-opens : (b mark : ℕ) (rest : List ℕ) → is_prefix_letter b ≡ true → is_mark mark ≡ true
+    → Opens mark (b ∷ mark ∷ rest)
+letter-opens b mark rest letter is = elim (or-case (b == 76 || b == 117) (b == 85) letter) [
+  | inr e ↦ record { prefix = Utf32; rest = rest; mark_is = is; same = ap (λ c. c ∷ mark ∷ rest) (eqb-true b 85 e) }
+  | inl two ↦ elim (or-case (b == 76) (b == 117) two) [
+    | inl e ↦ record { prefix = Wide; rest = rest; mark_is = is; same = ap (λ c. c ∷ mark ∷ rest) (eqb-true b 76 e) }
+    | inr e ↦ record { prefix = Utf16; rest = rest; mark_is = is; same = ap (λ c. c ∷ mark ∷ rest) (eqb-true b 117 e) }
+  ]
+]
+
+-- `u8` and a mark, at the first bytes
+eight-opens : (b : ℕ) (bytes : List ℕ)
+    → (begins_with (codes "u8") (b ∷ bytes) && begins_by is_mark (drop 1 bytes)) ≡ true
+    → Opens (slice_index (b ∷ bytes) 2) (b ∷ bytes)
+eight-opens b [] h = absurd (let e : (begins_with (codes "u8") (b ∷ []) && false) ≡ true = h in
+    let k : true ≡ false = sym e ∙ and-none (begins_with (codes "u8") (b ∷ [])) in cc)
+eight-opens b (c ∷ []) h = absurd (let e : (begins_with (codes "u8") (b ∷ c ∷ []) && false) ≡ true = h in
+    let k : true ≡ false = sym e ∙ and-none (begins_with (codes "u8") (b ∷ c ∷ [])) in cc)
+eight-opens b (c ∷ mark ∷ rest) h =
+    let both = both-left (b == 117 && (c == 56 && true)) (is_mark mark) h in
+    let first = eqb-true b 117 (both-left (b == 117) (c == 56 && true) both) in
+    let second = eqb-true c 56 (both-left (c == 56) true (both-right (b == 117) (c == 56 && true) both)) in
+    record {
+      prefix = Utf8;
+      rest = rest;
+      mark_is = both-right (b == 117 && (c == 56 && true)) (is_mark mark) h;
+      same = λ i. first i ∷ second i ∷ mark ∷ rest;
+    }
+
+one-opens : (b : ℕ) (bytes : List ℕ) → (is_prefix_letter b && begins_by is_mark bytes) ≡ true
+    → Opens (slice_index (b ∷ bytes) 1) (b ∷ bytes)
+one-opens b [] h = absurd (let k : true ≡ false = sym h ∙ and-none (is_prefix_letter b) in cc)
+one-opens b (mark ∷ rest) h = letter-opens b mark rest (both-left (is_prefix_letter b) (is_mark mark) h)
+    (both-right (is_prefix_letter b) (is_mark mark) h)
+
+-- where a prefix has a size, the mark stands behind it
+prefix-opens : (b : ℕ) (bytes : List ℕ) → nat_lt 0 (prefix_size (b ∷ bytes)) ≡ true
+    → Opens (slice_index (b ∷ bytes) (prefix_size (b ∷ bytes))) (b ∷ bytes)
+prefix-opens b bytes =
+    if-both Here (is_prefix_letter b && begins_by is_mark bytes) 1 _ (λ h e. one-opens b bytes h) (λ n.
+    if-both Here (begins_with (codes "u8") (b ∷ bytes) && begins_by is_mark (drop 1 bytes)) 2 0
+    (λ h e. eight-opens b bytes h) (λ n e. absurd cc))
+  where
+    Here : ℕ → Type 0
+    Here size = nat_lt 0 size ≡ true → Opens (slice_index (b ∷ bytes) size) (b ∷ bytes)
+
+-- A string without a note, as far as it goes behind its opening bytes.
+abbrev IsCutString : ℕ → ℕ → ℕ → List ℕ → Type 0
+IsCutString opening mark place bytes = (string kinds.Quoted opening mark place bytes).notes ≡ []
+    → IsAloneText kinds.Quoted (take (string kinds.Quoted opening mark place bytes).size bytes)
+
+opened-cut : (p : Prefix) (mark : ℕ) (rest : List ℕ) (place : ℕ) → is_mark mark ≡ true
+    → IsCutString (length (prefix_bytes p) + 1) mark place (prefix_bytes p ++ mark ∷ rest)
+opened-cut Bare mark rest place is quiet =
+    let n = (extent (at_start (bodies.Quoted mark) (place + 1)) rest).size in
     let size : 1 + n ≡ suc n = omega arith in
-    subst (λ k. IsAloneText kinds.Quoted (take k (b ∷ bytes))) (sym size)
-    (is, subst (λ q. IsClosed q 0 false (take n bytes)) same closed)
+    subst (λ k. IsAloneText kinds.Quoted (take k (mark ∷ rest))) (sym size) (record {
+      prefix = Bare;
+      mark = mark;
+      body = take n rest;
+      mark_is = is;
+      closed = string-closed mark (place + 1) rest quiet;
+      same = refl;
+    })
+opened-cut Wide mark rest place is quiet =
+    let n = (extent (at_start (bodies.Quoted mark) (place + 2)) rest).size in
+    let size : 2 + n ≡ suc (suc n) = omega arith in
+    subst (λ k. IsAloneText kinds.Quoted (take k (76 ∷ mark ∷ rest))) (sym size) (record {
+      prefix = Wide;
+      mark = mark;
+      body = take n rest;
+      mark_is = is;
+      closed = string-closed mark (place + 2) rest quiet;
+      same = refl;
+    })
+opened-cut Utf16 mark rest place is quiet =
+    let n = (extent (at_start (bodies.Quoted mark) (place + 2)) rest).size in
+    let size : 2 + n ≡ suc (suc n) = omega arith in
+    subst (λ k. IsAloneText kinds.Quoted (take k (117 ∷ mark ∷ rest))) (sym size) (record {
+      prefix = Utf16;
+      mark = mark;
+      body = take n rest;
+      mark_is = is;
+      closed = string-closed mark (place + 2) rest quiet;
+      same = refl;
+    })
+opened-cut Utf32 mark rest place is quiet =
+    let n = (extent (at_start (bodies.Quoted mark) (place + 2)) rest).size in
+    let size : 2 + n ≡ suc (suc n) = omega arith in
+    subst (λ k. IsAloneText kinds.Quoted (take k (85 ∷ mark ∷ rest))) (sym size) (record {
+      prefix = Utf32;
+      mark = mark;
+      body = take n rest;
+      mark_is = is;
+      closed = string-closed mark (place + 2) rest quiet;
+      same = refl;
+    })
+opened-cut Utf8 mark rest place is quiet =
+    let n = (extent (at_start (bodies.Quoted mark) (place + 3)) rest).size in
+    let size : 3 + n ≡ suc (suc (suc n)) = omega arith in
+    subst (λ k. IsAloneText kinds.Quoted (take k (117 ∷ 56 ∷ mark ∷ rest))) (sym size) (record {
+      prefix = Utf8;
+      mark = mark;
+      body = take n rest;
+      mark_is = is;
+      closed = string-closed mark (place + 3) rest quiet;
+      same = refl;
+    })
+
+string-alone : (mark : ℕ) (bytes : List ℕ) (place : ℕ) → Opens mark bytes
+    → IsCutString (prefix_size bytes + 1) mark place bytes
+string-alone mark bytes place opens =
+    subst (λ l. IsCutString (prefix_size l + 1) mark place l) (sym opens.same)
+    (subst (λ n. IsCutString (n + 1) mark place (prefix_bytes opens.prefix ++ mark ∷ opens.rest))
+    (sym (prefix-is opens.prefix mark opens.rest opens.mark_is))
+    (opened-cut opens.prefix mark opens.rest place opens.mark_is))
 
 -- what is known where C text begins so
 abbrev Says : ℕ → List ℕ → Start → Type 0
 Says b bytes start.Identifier = is_letter b ≡ true
 Says b bytes start.Constant = (is_letter b ≡ false) × (nat_lt 0 (constant (b ∷ bytes)) ≡ true)
-Says b bytes (start.Quoted mark) = (mark ≡ b) × ((b == quote || b == apostrophe) ≡ true)
+Says b bytes (start.Quoted mark) = Opens mark (b ∷ bytes)
 Says b bytes (start.Code code) = ((b == at_sign) ≡ true) × (code ≡ code_at bytes)
 Says b bytes (start.Sign sign) = longest all_signs (b ∷ bytes) ≡ Some sign
 Says b bytes s = Unit {0}
@@ -216,14 +346,16 @@ sign-says b bytes (Some sign) e = e
 
 start-says : (b : ℕ) (bytes : List ℕ) → Says b bytes (start_of false b bytes)
 start-says b bytes =
+    if-both (Says b bytes) (nat_lt 0 (prefix_size (b ∷ bytes))) _ _ (λ h. prefix-opens b bytes h) (λ n.
     if-both (Says b bytes) (is_letter b) _ _ (λ h. h) (λ letter.
     if-both (Says b bytes) (nat_lt 0 (constant (b ∷ bytes))) _ _ (λ h. (letter, h)) (λ n.
-    if-both (Says b bytes) (b == quote || b == apostrophe) _ _ (λ h. (refl, h)) (λ n.
+    if-both (Says b bytes) (is_mark b) _ _
+    (λ h. record { prefix = Bare; rest = bytes; mark_is = h; same = refl }) (λ n.
     if-both (Says b bytes) (b == slash && begins star bytes) _ _ (λ h. tt) (λ n.
     if-both (Says b bytes) (b == slash && begins slash bytes) _ _ (λ h. tt) (λ n.
     if-both (Says b bytes) (b == at_sign) _ _ (λ h. (h, refl)) (λ n.
     if-both (Says b bytes) (b == 124 && (false && not-bar)) _ _ (λ h. tt) (λ n.
-    sign-says b bytes (longest all_signs (b ∷ bytes)) refl)))))))
+    sign-says b bytes (longest all_signs (b ∷ bytes)) refl))))))))
   where
     not-bar : Bool
     not-bar = elim (begins 124 bytes) [ true ↦ false | false ↦ true ]
@@ -248,8 +380,8 @@ tells-start first start.Constant place b bytes says =
 tells-start first (start.Quoted mark) place b bytes says =
     tells-one first (in_hash_line (in_part first).part) (moved (in_part first) (passed (in_part first).part)) place
     (b ∷ bytes)
-    (string kinds.Quoted 1 mark place (b ∷ bytes)) (passed-on first)
-    (no-line first) (λ simple quiet. string-alone mark b bytes place says.0 says.1 quiet)
+    (string kinds.Quoted (prefix_size (b ∷ bytes) + 1) mark place (b ∷ bytes)) (passed-on first)
+    (no-line first) (λ simple quiet. string-alone mark (b ∷ bytes) place says quiet)
 tells-start first start.LongComment place b bytes says = other tt
 tells-start first start.ShortComment place b bytes says = other tt
 tells-start first (start.Code code) place b bytes says = tells-code first code place b bytes says.0 says.1

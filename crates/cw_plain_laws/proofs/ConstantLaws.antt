@@ -1,27 +1,37 @@
--- A constant is the same whatever stands behind it that is no letter, digit or dot.
-use Rattle.std.proofs.Common.{◌≡◌, ℕ, suc, ◌+◌, ◌-◌, ◌≤◌, Bool, true, false, ◌&&◌, ◌||◌, ◌==◌, nat_lt, List, []}
+-- A constant is the same whatever stands behind it that is no letter, digit, dot or mark.
+use Rattle.std.proofs.Common.{◌≡◌, ℕ, suc, ◌+◌, ◌-◌, ◌≤◌, Bool, true, false, ◌&&◌, ◌||◌, not, ◌==◌, nat_lt, List, []}
 use Rattle.std.proofs.Common.{◌∷◌, ◌++◌, length, drop, refl, sym, ap, ◌∙◌, arith, length-drop}
 use Rattle.std.specs.Prelude.{if◌then◌else◌}
 use Rattle.std.proofs.lemmas.Bool.Decides.{nat_tests}
+use Rattle.std.proofs.lemmas.List.{drop-drop}
 use Rattle.cw_rules.specs.declared.classes.Class.{Class}
 use Rattle.cw_rules.specs.declared.classes.Class.TheVariants as classes
-use Rattle.cw_rules.specs.Bytes.{is_in, is_letter, is_letter_of, is_suffix, run, dot, digit_0, begins, begins_by, plus}
-use Rattle.cw_rules.specs.Bytes.{minus}
-use Rattle.cw_rules.specs.Constants.{hexadecimal, fraction, exponent_sign, exponent, mantissa, decimal, number}
-use Rattle.cw_rules.specs.Constants.{constant}
+use Rattle.cw_rules.specs.Bytes.{is_in, is_letter, is_letter_of, is_suffix, run, apostrophe, dot, digit_0, begins}
+use Rattle.cw_rules.specs.Bytes.{begins_by, plus, minus}
+use Rattle.cw_rules.specs.Constants.{binary, constant, decimal, digits, exponent, exponent_sign, fraction, goes_on}
+use Rattle.cw_rules.specs.Constants.{hexadecimal, is_prefixed, mantissa, more_digits, number, scaled}
 use Rattle.cw_rules.proofs.Ahead.{drop-same}
-use Rattle.cw_rules.proofs.Sizes.{run-le, mantissa-le, number-le}
-use Rattle.cw_rules.proofs.Choices.{if-same, and-none, or-second}
+use Rattle.cw_rules.proofs.Sizes.{digits-le, mantissa-le, number-le}
+use Rattle.cw_rules.proofs.Choices.{if-same, and-none, or-false, or-second}
 use Rattle.cw_plain_laws.proofs.Tests.{differs}
 
 hex-none : (z : ℕ) → is_in classes.Word z ≡ false → is_in classes.HexDigit z ≡ false
 hex-none z e = grind (arith, nat_tests)
 
+binary-none : (z : ℕ) → is_in classes.Word z ≡ false → is_in classes.BinaryDigit z ≡ false
+binary-none z e = grind (arith, nat_tests)
+
 suffix-none : (z : ℕ) → is_in classes.Word z ≡ false → is_in classes.Suffix z ≡ false
 suffix-none z e = grind (arith, nat_tests)
 
+b-none : (z : ℕ) → is_in classes.Word z ≡ false → is_letter_of 98 z ≡ false
+b-none z e = grind (arith, nat_tests)
+
 e-none : (z : ℕ) → is_in classes.Word z ≡ false → is_letter_of 101 z ≡ false
 e-none z e = grind (arith, nat_tests)
+
+p-none : (z : ℕ) → is_in classes.Word z ≡ false → is_letter_of 112 z ≡ false
+p-none z e = grind (arith, nat_tests)
 
 x-none : (z : ℕ) → is_in classes.Word z ≡ false → is_letter_of 120 z ≡ false
 x-none z e = grind (arith, nat_tests)
@@ -29,39 +39,73 @@ x-none z e = grind (arith, nat_tests)
 e-suffix : (b : ℕ) → is_letter_of 101 b ≡ true → is_suffix b ≡ false
 e-suffix b e = grind (arith, nat_tests)
 
--- Only an `e` that ends the bytes would look at a sign behind them.
-abbrev EndsWell : List ℕ → Type 0
-EndsWell [] = Unit {0}
-EndsWell (b ∷ []) = is_letter_of 101 b ≡ false
-EndsWell (b ∷ c ∷ bs) = Unit {0}
+p-suffix : (b : ℕ) → is_letter_of 112 b ≡ true → is_suffix b ≡ false
+p-suffix b e = grind (arith, nat_tests)
 
-module _ (z : ℕ) (more : List ℕ) (word : is_in classes.Word z ≡ false) (dotless : (z == dot) ≡ false) where
-  digit : is_in classes.Digit z ≡ false
-  digit = or-second (is_letter z) (is_in classes.Digit z) word
+-- Only an exponent's letter that ends the bytes would look at a sign behind them.
+abbrev pub EndsWell : ℕ → List ℕ → Type 0
+EndsWell letter [] = Unit {0}
+EndsWell letter (b ∷ []) = is_letter_of letter b ≡ false
+EndsWell letter (b ∷ c ∷ bs) = Unit {0}
+
+-- what stands behind the mantissa of a number with this letter
+abbrev pub behind_mantissa : Class → List ℕ → List ℕ
+behind_mantissa class bytes = drop (mantissa class bytes) bytes
+
+-- A number ends well: a hexadecimal one behind its `0x`, and a decimal one.
+pub record NumberEndsWell (bs : List ℕ) : Type 0 where
+  pub hexadecimal_end : is_prefixed 120 classes.HexDigit bs ≡ true
+      → EndsWell 112 (behind_mantissa classes.HexDigit (drop 2 bs))
+  pub decimal_end : nat_lt 0 (hexadecimal bs) ≡ false → nat_lt 0 (binary bs) ≡ false
+      → EndsWell 101 (behind_mantissa classes.Digit bs)
+
+-- a byte with which no constant goes on
+pub record IsBeyond (z : ℕ) : Type 0 where
+  pub word : is_in classes.Word z ≡ false
+  pub dotless : (z == dot) ≡ false
+  pub markless : (z == apostrophe) ≡ false
+
+module _ (z : ℕ) (more : List ℕ) (beyond : IsBeyond z) where
+  digit-none : is_in classes.Digit z ≡ false
+  digit-none = or-second (is_letter z) (is_in classes.Digit z) beyond.word
 
   run-same : (class : Class) (bs : List ℕ) → is_in class z ≡ false → run class (bs ++ z ∷ more) ≡ run class bs
   run-same class [] h = ap (λ t. elim t [ true ↦ 1 + run class more | false ↦ 0 ]) h
   run-same class (b ∷ bs) h = ap (λ n. elim (is_in class b) [ true ↦ 1 + n | false ↦ 0 ]) (run-same class bs h)
 
-  hexadecimal-same : (bs : List ℕ) → hexadecimal (bs ++ z ∷ more) ≡ hexadecimal bs
-  hexadecimal-same [] =
-      ap (λ t. if (t && begins_by (is_letter_of 120) more) && nat_lt 0 (run classes.HexDigit (drop 1 more)) then 2
-      + run classes.HexDigit (drop 1 more) else 0) (differs (is_in classes.Digit) z digit_0 digit refl)
-  hexadecimal-same (b ∷ []) =
-      ap (λ t. if (b == digit_0 && t) && nat_lt 0 (run classes.HexDigit more) then 2 + run classes.HexDigit more else 0)
-      (x-none z word)
-      ∙ ap (λ t. if t && nat_lt 0 (run classes.HexDigit more) then 2 + run classes.HexDigit more else 0)
-      (and-none (b == digit_0))
-      ∙ sym (ap (λ t. if t && nat_lt 0 0 then 2 + 0 else 0) (and-none (b == digit_0)))
-  hexadecimal-same (b ∷ c ∷ bs) = ap (λ n. if (b == digit_0 && is_letter_of 120 c) && nat_lt 0 n then 2 + n else 0)
-      (run-same classes.HexDigit bs (hex-none z word))
+  begins-same : (class : Class) (bs : List ℕ) → is_in class z ≡ false
+      → begins_by (is_in class) (bs ++ z ∷ more) ≡ begins_by (is_in class) bs
+  begins-same class [] h = h
+  begins-same class (b ∷ bs) h = refl
 
-  fraction-same : (behind : Bool) (bs : List ℕ) → fraction behind (bs ++ z ∷ more) ≡ fraction behind bs
-  fraction-same behind [] = ap (λ t. if t && (behind || nat_lt 0 (run classes.Digit more)) then 1 + run classes.Digit
-      more
-      else 0) dotless
-  fraction-same behind (b ∷ bs) = ap (λ n. if b == dot && (behind || nat_lt 0 n) then 1 + n else 0)
-      (run-same classes.Digit bs digit)
+  dot-same : (bs : List ℕ) → begins dot (bs ++ z ∷ more) ≡ begins dot bs
+  dot-same [] = beyond.dotless
+  dot-same (b ∷ bs) = refl
+
+  stops : (class : Class) → is_in class z ≡ false → goes_on class z more ≡ false
+  stops class h = or-false (is_in class z) (z == apostrophe && begins_by (is_in class) more) h
+      (ap (λ t. t && begins_by (is_in class) more) beyond.markless)
+
+  more_digits-same : (class : Class) (bs : List ℕ) → is_in class z ≡ false
+      → more_digits class (bs ++ z ∷ more) ≡ more_digits class bs
+  more_digits-same class [] h = ap (λ t. elim t [ true ↦ 1 + more_digits class more | false ↦ 0 ]) (stops class h)
+  more_digits-same class (b ∷ bs) h =
+      let test = begins-same class bs h in
+      let rest = more_digits-same class bs h in
+      λ i. elim (is_in class b || (b == apostrophe && test i)) [ true ↦ 1 + rest i | false ↦ 0 ]
+
+  digits-same : (class : Class) (bs : List ℕ) → is_in class z ≡ false → digits class (bs ++ z ∷ more) ≡ digits class bs
+  digits-same class [] h = ap (λ t. if t then more_digits class (z ∷ more) else 0) h
+  digits-same class (b ∷ bs) h = ap (λ n. if is_in class b then n else 0) (more_digits-same class (b ∷ bs) h)
+
+  fraction-same : (class : Class) (behind : Bool) (bs : List ℕ) → is_in class z ≡ false
+      → fraction class behind (bs ++ z ∷ more) ≡ fraction class behind bs
+  fraction-same class behind [] h = ap (λ t. if t && (not (begins dot more) && (behind || nat_lt 0 (digits class more)))
+      then 1 + digits class more else 0) beyond.dotless
+  fraction-same class behind (b ∷ bs) h =
+      let follows = dot-same bs in
+      let size = digits-same class bs h in
+      λ i. if b == dot && (not (follows i) && (behind || nat_lt 0 (size i))) then 1 + size i else 0
 
   sign-le : (bs : List ℕ) → exponent_sign bs ≤ length bs
   sign-le [] = omega arith
@@ -71,115 +115,168 @@ module _ (z : ℕ) (more : List ℕ) (word : is_in classes.Word z ≡ false) (do
       by true = omega arith
       by false = omega arith
 
-  exponent-same : (bs : List ℕ) → EndsWell bs → exponent (bs ++ z ∷ more) ≡ exponent bs
-  exponent-same [] well =
+  exponent-same : (letter : ℕ) (bs : List ℕ) → is_letter_of letter z ≡ false → EndsWell letter bs
+      → exponent letter (bs ++ z ∷ more) ≡ exponent letter bs
+  exponent-same letter [] none well =
       let s = exponent_sign more in
-      ap (λ t. if t && nat_lt 0 (run classes.Digit (drop (1 + s) (z ∷ more))) then (1 + s)
-      + run classes.Digit (drop (1 + s) (z ∷ more)) else 0) (e-none z word)
-  exponent-same (b ∷ []) well =
+      ap (λ t. if t && nat_lt 0 (digits classes.Digit (drop (1 + s) (z ∷ more))) then (1 + s)
+      + digits classes.Digit (drop (1 + s) (z ∷ more)) else 0) none
+  exponent-same letter (b ∷ []) none well =
       let s = exponent_sign (z ∷ more) in
-      ap (λ t. if t && nat_lt 0 (run classes.Digit (drop (1 + s) (b ∷ z ∷ more))) then (1 + s)
-      + run classes.Digit (drop (1 + s) (b ∷ z ∷ more)) else 0) well
-      ∙ sym (ap (λ t. if t && nat_lt 0 (run classes.Digit (drop (1 + 0) (b ∷ []))) then (1 + 0)
-      + run classes.Digit (drop (1 + 0) (b ∷ [])) else 0) well)
-  exponent-same (b ∷ c ∷ bs) well =
+      ap (λ t. if t && nat_lt 0 (digits classes.Digit (drop (1 + s) (b ∷ z ∷ more))) then (1 + s)
+      + digits classes.Digit (drop (1 + s) (b ∷ z ∷ more)) else 0) well
+      ∙ sym (ap (λ t. if t && nat_lt 0 (digits classes.Digit (drop (1 + 0) (b ∷ []))) then (1 + 0)
+      + digits classes.Digit (drop (1 + 0) (b ∷ [])) else 0) well)
+  exponent-same letter (b ∷ c ∷ bs) none well =
       let s = exponent_sign (c ∷ bs) in
       let size : 1 + s ≤ suc (length (c ∷ bs)) = omega (arith, sign-le (c ∷ bs)) in
-      let digits = ap (run classes.Digit) (drop-same (1 + s) (b ∷ c ∷ bs) (z ∷ more) size)
-      ∙ run-same classes.Digit (drop (1 + s) (b ∷ c ∷ bs)) digit in
-      ap (λ n. if is_letter_of 101 b && nat_lt 0 n then (1 + s) + n else 0) digits
+      let all = ap (digits classes.Digit) (drop-same (1 + s) (b ∷ c ∷ bs) (z ∷ more) size)
+      ∙ digits-same classes.Digit (drop (1 + s) (b ∷ c ∷ bs)) digit-none in
+      ap (λ n. if is_letter_of letter b && nat_lt 0 n then (1 + s) + n else 0) all
 
-  mantissa-same : (bs : List ℕ) → mantissa (bs ++ z ∷ more) ≡ mantissa bs
-  mantissa-same bs =
-      let d = run-same classes.Digit bs digit in
-      let rest = ap (fraction (nat_lt 0 (run classes.Digit bs))) (drop-same (run classes.Digit bs) bs (z ∷ more)
-      (run-le classes.Digit bs)) ∙ fraction-same (nat_lt 0 (run classes.Digit bs))
-      (drop (run classes.Digit bs) bs) in
-      (λ i. d i + fraction (nat_lt 0 (d i)) (drop (d i) (bs ++ z ∷ more))) ∙ ap (λ n. run classes.Digit bs + n) rest
+  mantissa-same : (class : Class) (bs : List ℕ) → is_in class z ≡ false
+      → mantissa class (bs ++ z ∷ more) ≡ mantissa class bs
+  mantissa-same class bs h =
+      let n = digits class bs in
+      let d = digits-same class bs h in
+      let rest = ap (fraction class (nat_lt 0 n)) (drop-same n bs (z ∷ more) (digits-le class bs))
+      ∙ fraction-same class (nat_lt 0 n) (drop n bs) h in
+      (λ i. d i + fraction class (nat_lt 0 (d i)) (drop (d i) (bs ++ z ∷ more))) ∙ ap (λ k. n + k) rest
 
-  decimal-same : (bs : List ℕ) → EndsWell (drop (mantissa bs) bs) → decimal (bs ++ z ∷ more) ≡ decimal bs
-  decimal-same bs well =
-      let m = mantissa-same bs in
-      let rest = ap exponent (drop-same (mantissa bs) bs (z ∷ more) (mantissa-le bs))
-      ∙ exponent-same (drop (mantissa bs) bs) well in
-      (λ i. if nat_lt 0 (m i) then m i + exponent (drop (m i) (bs ++ z ∷ more)) else 0)
-      ∙ ap (λ n. if nat_lt 0 (mantissa bs) then mantissa bs + n else 0) rest
+  scaled-same : (class : Class) (letter : ℕ) (bs : List ℕ) → is_in class z ≡ false → is_letter_of letter z ≡ false
+      → EndsWell letter (behind_mantissa class bs) → scaled class letter (bs ++ z ∷ more) ≡ scaled class letter bs
+  scaled-same class letter bs h none well =
+      let n = mantissa class bs in
+      let m = mantissa-same class bs h in
+      let rest = ap (exponent letter) (drop-same n bs (z ∷ more) (mantissa-le class bs))
+      ∙ exponent-same letter (drop n bs) none well in
+      (λ i. if nat_lt 0 (m i) then m i + exponent letter (drop (m i) (bs ++ z ∷ more)) else 0)
+      ∙ ap (λ k. if nat_lt 0 n then n + k else 0) rest
 
-  number-same : (bs : List ℕ) → (nat_lt 0 (hexadecimal bs) ≡ false → EndsWell (drop (mantissa bs) bs))
-      → number (bs ++ z ∷ more) ≡ number bs
+  -- what stands behind `0` and a letter
+  prefixed-same : (letter : ℕ) (class : Class) (f : List ℕ → ℕ) (bs : List ℕ) → is_letter_of letter z ≡ false
+      → is_in class z ≡ false
+      → (is_prefixed letter class bs ≡ true → f (drop 2 bs ++ z ∷ more) ≡ f (drop 2 bs))
+      → (if is_prefixed letter class (bs ++ z ∷ more) then 2 + f (drop 2 (bs ++ z ∷ more)) else 0)
+      ≡ (if is_prefixed letter class bs then 2 + f (drop 2 bs) else 0)
+  prefixed-same letter class f [] none h same =
+      ap (λ t. if t && (begins_by (is_letter_of letter) more && begins_by (is_in class) (drop 1 more))
+      then 2 + f (drop 1 more) else 0) (differs (is_in classes.Digit) z digit_0 digit-none refl)
+  prefixed-same letter class f (b ∷ []) none h same =
+      ap (λ t. if b == digit_0 && (t && begins_by (is_in class) more) then 2 + f more else 0) none
+      ∙ ap (λ t. if t then 2 + f more else 0) (and-none (b == digit_0))
+      ∙ sym (ap (λ t. if t then 2 + f [] else 0) (and-none (b == digit_0)))
+  prefixed-same letter class f (b ∷ c ∷ bs) none h same =
+      let first = begins-same class bs h in
+      if-same (is_prefixed letter class (b ∷ c ∷ (bs ++ z ∷ more))) (is_prefixed letter class (b ∷ c ∷ bs)) _ _ _ _
+      (λ i. b == digit_0 && (is_letter_of letter c && first i)) (λ e. ap (λ n. 2 + n) (same e)) (λ e. refl)
+
+  number-same : (bs : List ℕ) → NumberEndsWell bs → number (bs ++ z ∷ more) ≡ number bs
   number-same bs well =
-      if-same (nat_lt 0 (hexadecimal (bs ++ z ∷ more))) (nat_lt 0 (hexadecimal bs)) _ _ _ _
-      (ap (nat_lt 0) (hexadecimal-same bs)) (λ e. hexadecimal-same bs) (λ e. decimal-same bs (well e))
+      let hex : hexadecimal (bs ++ z ∷ more) ≡ hexadecimal bs =
+      prefixed-same 120 classes.HexDigit (scaled classes.HexDigit 112) bs (x-none z beyond.word)
+      (hex-none z beyond.word) (λ e. scaled-same classes.HexDigit 112 (drop 2 bs) (hex-none z beyond.word)
+      (p-none z beyond.word) (well.hexadecimal_end e)) in
+      let two : binary (bs ++ z ∷ more) ≡ binary bs =
+      prefixed-same 98 classes.BinaryDigit (digits classes.BinaryDigit) bs (b-none z beyond.word)
+      (binary-none z beyond.word)
+      (λ e. digits-same classes.BinaryDigit (drop 2 bs) (binary-none z beyond.word)) in
+      if-same (nat_lt 0 (hexadecimal (bs ++ z ∷ more))) (nat_lt 0 (hexadecimal bs)) _ _ _ _ (ap (nat_lt 0) hex)
+      (λ e. hex)
+      (λ e. if-same (nat_lt 0 (binary (bs ++ z ∷ more))) (nat_lt 0 (binary bs)) _ _ _ _ (ap (nat_lt 0) two) (λ f. two)
+      (λ f. scaled-same classes.Digit 101 bs digit-none (e-none z beyond.word) (well.decimal_end e f)))
 
-  pub constant-same : (bs : List ℕ) → (nat_lt 0 (hexadecimal bs) ≡ false → EndsWell (drop (mantissa bs) bs))
-      → constant (bs ++ z ∷ more) ≡ constant bs
+  pub constant-same : (bs : List ℕ) → NumberEndsWell bs → constant (bs ++ z ∷ more) ≡ constant bs
   constant-same bs well =
       let n = number-same bs well in
       let rest = ap (run classes.Suffix) (drop-same (number bs) bs (z ∷ more) (number-le bs))
-      ∙ run-same classes.Suffix (drop (number bs) bs) (suffix-none z word) in
+      ∙ run-same classes.Suffix (drop (number bs) bs) (suffix-none z beyond.word) in
       (λ i. if nat_lt 0 (n i) then n i + run classes.Suffix (drop (n i) (bs ++ z ∷ more)) else 0)
       ∙ ap (λ k. if nat_lt 0 (number bs) then number bs + k else 0) rest
 
   -- it begins no constant itself
   pub no-constant : constant (z ∷ more) ≡ 0
-  no-constant = constant-same [] (λ e. tt)
+  no-constant = constant-same [] (record { hexadecimal_end = λ e. absurd cc; decimal_end = λ e f. tt })
 
 -- ## A whole constant ends well
-
-lone-exponent : (b : ℕ) → is_letter_of 101 b ≡ true → exponent (b ∷ []) ≡ 0
-lone-exponent b e = ap (λ t. if t && nat_lt 0 (run classes.Digit (drop (1 + 0) (b ∷ []))) then (1 + 0)
-    + run classes.Digit (drop (1 + 0) (b ∷ [])) else 0) e
-
-lone-suffix : (b : ℕ) → is_letter_of 101 b ≡ true → run classes.Suffix (b ∷ []) ≡ 0
-lone-suffix b e = ap (λ t. elim t [ true ↦ 1 + 0 | false ↦ 0 ]) (e-suffix b e)
 
 pub none-there : (m : ℕ) → nat_lt 0 m ≡ false → m ≡ 0
 none-there m e = grind (arith, nat_tests)
 
-lone-decimal : (bs : List ℕ) (b : ℕ) → drop (mantissa bs) bs ≡ b ∷ [] → is_letter_of 101 b ≡ true
-    → decimal bs ≡ mantissa bs
-lone-decimal bs b behind e =
-    ap (λ n. if nat_lt 0 (mantissa bs) then mantissa bs + n else 0) (ap exponent behind ∙ lone-exponent b e)
-    ∙ by (nat_lt 0 (mantissa bs)) refl
+lone-exponent : (letter b : ℕ) → is_letter_of letter b ≡ true → exponent letter (b ∷ []) ≡ 0
+lone-exponent letter b e = ap (λ t. if t && nat_lt 0 (digits classes.Digit (drop (1 + 0) (b ∷ []))) then (1 + 0)
+    + digits classes.Digit (drop (1 + 0) (b ∷ [])) else 0) e
+
+lone-suffix : (b : ℕ) → is_suffix b ≡ false → run classes.Suffix (b ∷ []) ≡ 0
+lone-suffix b e = ap (λ t. elim t [ true ↦ 1 + 0 | false ↦ 0 ]) e
+
+-- no exponent is there
+none-more : (m : ℕ) → (if nat_lt 0 m then m + 0 else 0) ≡ m
+none-more m = by (nat_lt 0 m) refl
   where
-    by : (t : Bool) → nat_lt 0 (mantissa bs) ≡ t → (if t then mantissa bs + 0 else 0) ≡ mantissa bs
+    by : (t : Bool) → nat_lt 0 m ≡ t → (if t then m + 0 else 0) ≡ m
     by true there = omega arith
-    by false there = sym (none-there (mantissa bs) there)
+    by false there = sym (none-there m there)
 
-lone-number : (bs : List ℕ) (b : ℕ) → nat_lt 0 (hexadecimal bs) ≡ false → drop (mantissa bs) bs ≡ b ∷ []
-    → is_letter_of 101 b ≡ true → number bs ≡ mantissa bs
-lone-number bs b hex behind e = ap (λ t. if t then hexadecimal bs else decimal bs) hex ∙ lone-decimal bs b behind e
+lone-scaled : (class : Class) (letter : ℕ) (bs : List ℕ) (b : ℕ) → behind_mantissa class bs ≡ b ∷ []
+    → is_letter_of letter b ≡ true → scaled class letter bs ≡ mantissa class bs
+lone-scaled class letter bs b behind e =
+    ap (λ n. if nat_lt 0 (mantissa class bs) then mantissa class bs + n else 0)
+    (ap (exponent letter) behind ∙ lone-exponent letter b e)
+    ∙ none-more (mantissa class bs)
 
-lone-constant : (bs : List ℕ) (b : ℕ) → nat_lt 0 (hexadecimal bs) ≡ false → drop (mantissa bs) bs ≡ b ∷ []
-    → is_letter_of 101 b ≡ true → constant bs ≡ mantissa bs
-lone-constant bs b hex behind e =
-    let n = lone-number bs b hex behind e in
-    (λ i. if nat_lt 0 (n i) then n i + run classes.Suffix (drop (n i) bs) else 0)
-    ∙ ap (λ k. if nat_lt 0 (mantissa bs) then mantissa bs + k else 0) (ap (run classes.Suffix) behind ∙ lone-suffix b e)
-    ∙ by (nat_lt 0 (mantissa bs)) refl
+-- a byte behind the number that is no suffix letter
+lone-byte : (bs : List ℕ) (n b : ℕ) → number bs ≡ n → drop n bs ≡ b ∷ [] → is_suffix b ≡ false
+    → constant bs ≡ length bs → ⊥
+lone-byte bs n b size behind none whole =
+    let low : constant bs ≡ n =
+    (λ i. if nat_lt 0 (size i) then size i + run classes.Suffix (drop (size i) bs) else 0)
+    ∙ ap (λ k. if nat_lt 0 n then n + k else 0) (ap (run classes.Suffix) behind ∙ lone-suffix b none)
+    ∙ none-more n in
+    let one : length bs - n ≡ 1 = sym (length-drop n bs) ∙ ap length behind in
+    let all : constant bs ≡ length bs = whole in
+    omega arith
+
+ends-unless : (letter : ℕ) (r : List ℕ) → ((b : ℕ) → r ≡ b ∷ [] → is_letter_of letter b ≡ true → ⊥)
+    → EndsWell letter r
+ends-unless letter [] not-lone = tt
+ends-unless letter (b ∷ c ∷ r) not-lone = tt
+ends-unless letter (b ∷ []) not-lone = by (is_letter_of letter b) refl
   where
-    by : (t : Bool) → nat_lt 0 (mantissa bs) ≡ t → (if t then mantissa bs + 0 else 0) ≡ mantissa bs
-    by true there = omega arith
-    by false there = sym (none-there (mantissa bs) there)
+    by : (t : Bool) → is_letter_of letter b ≡ t → is_letter_of letter b ≡ false
+    by false f = f
+    by true f = absurd (not-lone b refl f)
 
-pub whole-ends : (bs : List ℕ) → constant bs ≡ length bs → nat_lt 0 (hexadecimal bs) ≡ false
-    → EndsWell (drop (mantissa bs) bs)
-whole-ends bs whole hex = go (drop (mantissa bs) bs) refl
+pub whole-ends : (bs : List ℕ) → constant bs ≡ length bs → NumberEndsWell bs
+whole-ends bs whole = record {
+  hexadecimal_end = λ prefixed. ends-unless 112 (behind_mantissa classes.HexDigit (drop 2 bs)) (λ b behind letter.
+      let m = mantissa classes.HexDigit (drop 2 bs) in
+      let hex : hexadecimal bs ≡ 2 + m =
+      ap (λ t. if t then 2 + scaled classes.HexDigit 112 (drop 2 bs) else 0) prefixed
+      ∙ ap (λ n. 2 + n) (lone-scaled classes.HexDigit 112 (drop 2 bs) b behind letter) in
+      let size : number bs ≡ 2 + m = (λ i. if nat_lt 0 (hex i) then hex i else
+      (if nat_lt 0 (binary bs) then binary bs else decimal bs)) ∙ there m in
+      lone-byte bs (2 + m) b size (after m ∙ behind) (p-suffix b letter) whole);
+  decimal_end = λ hex two. ends-unless 101 (behind_mantissa classes.Digit bs) (λ b behind letter.
+      let m = mantissa classes.Digit bs in
+      let size : number bs ≡ m =
+      ap (λ t. if t then hexadecimal bs else (if nat_lt 0 (binary bs) then binary bs else decimal bs)) hex
+      ∙ ap (λ t. if t then binary bs else decimal bs) two
+      ∙ lone-scaled classes.Digit 101 bs b behind letter in
+      lone-byte bs m b size behind (e-suffix b letter) whole);
+}
   where
-    go : (r : List ℕ) → drop (mantissa bs) bs ≡ r → EndsWell r
-    go [] e = tt
-    go (b ∷ c ∷ r) e = tt
-    go (b ∷ []) e = by (is_letter_of 101 b) refl
+    there : (m : ℕ) → (if nat_lt 0 (2 + m) then 2 + m else
+        (if nat_lt 0 (binary bs) then binary bs else decimal bs)) ≡ 2 + m
+    there m = ap (λ t. if t then 2 + m else (if nat_lt 0 (binary bs) then binary bs else decimal bs)) (some m)
       where
-        by : (t : Bool) → is_letter_of 101 b ≡ t → is_letter_of 101 b ≡ false
-        by false f = f
-        by true f =
-            let one : length bs - mantissa bs ≡ 1 = sym (length-drop (mantissa bs) bs) ∙ ap length e in
-            let low : constant bs ≡ mantissa bs = lone-constant bs b hex e f in
-            let n : constant bs ≡ length bs = whole in
-            absurd (omega arith)
+        some : (m : ℕ) → nat_lt 0 (2 + m) ≡ true
+        some m = grind (arith, nat_tests)
+
+    after : (m : ℕ) → drop (2 + m) bs ≡ drop m (drop 2 bs)
+    after m = ap (λ n. drop n bs) (omega arith) ∙ sym (drop-drop m 2 bs)
 
 -- what stands apart from a whole constant leaves it as it is
-pub constant-apart : (bs : List ℕ) (z : ℕ) (more : List ℕ) → constant bs ≡ length bs
-    → is_in classes.Word z ≡ false → (z == dot) ≡ false → constant (bs ++ z ∷ more) ≡ length bs
-constant-apart bs z more whole word dotless = constant-same z more word dotless bs (whole-ends bs whole) ∙ whole
+pub constant-apart : (bs : List ℕ) (z : ℕ) (more : List ℕ) → constant bs ≡ length bs → IsBeyond z
+    → constant (bs ++ z ∷ more) ≡ length bs
+constant-apart bs z more whole beyond = constant-same z more beyond bs (whole-ends bs whole) ∙ whole

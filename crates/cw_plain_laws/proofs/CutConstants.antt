@@ -1,10 +1,12 @@
 -- A constant is a constant by itself: it is the same where what stands behind it is left out, and it ends with a
--- letter,
--- a digit or a dot.
-use Rattle.std.proofs.Common.{◌≡◌, ℕ, zero, suc, ◌+◌, ◌-◌, ◌<◌, ◌≤◌, Bool, true, false, ◌&&◌, ◌||◌, ◌==◌, nat_lt, List}
-use Rattle.std.proofs.Common.{[], ◌∷◌, ◌++◌, length, drop, refl, sym, ap, subst, ◌∙◌, arith, length-drop}
+-- letter, a digit or a dot.
+use Rattle.std.proofs.Common.{◌≡◌, ◌⊎◌, ℕ, zero, suc, ◌+◌, ◌-◌, ◌<◌, ◌≤◌, Bool, true, false, ◌&&◌, ◌||◌, not, ◌==◌}
+use Rattle.std.proofs.Common.{nat_lt, List, [], ◌∷◌, ◌++◌, length, drop, inl, inr, refl, sym, ap, subst, ◌∙◌, arith}
+use Rattle.std.proofs.Common.{length-drop}
 use Rattle.std.specs.Prelude.{if◌then◌else◌}
+use Rattle.std.proofs.lemmas.Bool.{eqb-true}
 use Rattle.std.proofs.lemmas.Bool.Decides.{nat_tests}
+use Rattle.std.proofs.lemmas.List.{drop-drop}
 use Rattle.cw_plain.specs.Lines.{is_wordy}
 use Rattle.cw_plain_laws.proofs.Again.{last_of}
 use Rattle.cw_plain_laws.proofs.AgainLaws.{run-last}
@@ -12,10 +14,10 @@ use Rattle.cw_plain_laws.proofs.ConstantLaws.{none-there}
 use Rattle.cw_base.proofs.TestLaws.{both-left, both-right}
 use Rattle.cw_rules.proofs.Ahead.{drop-same}
 use Rattle.cw_rules.proofs.Choices.{and-none}
-use Rattle.cw_rules.proofs.Sizes.{number-le, run-le}
-use Rattle.cw_rules.specs.Bytes.{begins, begins_by, digit_0, dot, is_in, is_letter_of, run}
-use Rattle.cw_rules.specs.Constants.{constant, decimal, exponent, exponent_sign, fraction, hexadecimal, mantissa}
-use Rattle.cw_rules.specs.Constants.{number}
+use Rattle.cw_rules.proofs.Sizes.{digits-le, mantissa-le, number-le}
+use Rattle.cw_rules.specs.Bytes.{apostrophe, begins, begins_by, digit_0, dot, is_in, is_letter_of, run}
+use Rattle.cw_rules.specs.Constants.{binary, constant, decimal, digits, exponent, exponent_sign, fraction, goes_on}
+use Rattle.cw_rules.specs.Constants.{hexadecimal, is_prefixed, mantissa, more_digits, number, scaled}
 use Rattle.cw_rules.specs.declared.classes.Class.{Class}
 use Rattle.cw_rules.specs.declared.classes.Class.TheVariants as classes
 
@@ -23,6 +25,9 @@ use Rattle.cw_rules.specs.declared.classes.Class.TheVariants as classes
 
 some-there : (n : ℕ) → nat_lt 0 n ≡ true → 0 < n
 some-there n e = grind (arith, nat_tests)
+
+there-some : (n : ℕ) → 0 < n → nat_lt 0 n ≡ true
+there-some n h = grind (arith, nat_tests)
 
 -- What a number of digits adds where a test and their presence, or another test, allow it.
 abbrev added : Bool → Bool → ℕ → ℕ → ℕ
@@ -72,9 +77,18 @@ behind-same n m more other e same = ap (λ k. behind k more) e ∙ by (nat_lt 0 
     by true e = ap (λ k. m + k) (same e)
     by false e = refl
 
+-- nothing stands behind it
+behind-nothing : (n more : ℕ) → 0 < n → more ≡ 0 → behind n more ≡ n
+behind-nothing n more some none = ap (λ t. if t then n + more else 0) (there-some n some)
+    ∙ (let k : more ≡ 0 = none in omega arith)
+
 -- ## Without what stands behind it
 
-pub run-cut : (class : Class) (t r : List ℕ) → run class (t ++ r) ≤ length t → run class t ≡ run class (t ++ r)
+-- what takes no more than these bytes is the same without the bytes behind them
+abbrev Cuts : (List ℕ → ℕ) → Type 0
+Cuts f = (t r : List ℕ) → f (t ++ r) ≤ length t → f t ≡ f (t ++ r)
+
+pub run-cut : (class : Class) → Cuts (run class)
 run-cut class [] r h = let k : run class r ≤ 0 = h in omega arith
 run-cut class (b ∷ t) r h = by (is_in class b) refl (run-cut class t r)
   where
@@ -87,24 +101,135 @@ run-cut class (b ∷ t) r h = by (is_in class b) refl (run-cut class t r)
     by false e cut = ap (λ x. elim x [ true ↦ 1 + run class t | false ↦ 0 ]) e
         ∙ sym (ap (λ x. elim x [ true ↦ 1 + run class (t ++ r) | false ↦ 0 ]) e)
 
-hexadecimal-cut : (t r : List ℕ) → hexadecimal (t ++ r) ≤ length t → hexadecimal t ≡ hexadecimal (t ++ r)
-hexadecimal-cut [] r h = let k : hexadecimal r ≤ 0 = h in omega arith
-hexadecimal-cut (b ∷ []) r h =
-    let few : hexadecimal (b ∷ r) ≤ 2 = let k : hexadecimal (b ∷ r) ≤ 1 = h in omega arith in
-    let test = b == digit_0 && begins_by (is_letter_of 120) r in
-    ap (λ t. if t && nat_lt 0 0 then 2 + 0 else 0) (and-none (b == digit_0))
-    ∙ sym (added-none test 2 (run classes.HexDigit (drop 1 r)) (omega arith) few)
-hexadecimal-cut (b ∷ c ∷ t) r h =
-    let test = b == digit_0 && is_letter_of 120 c in
-    added-same test false 2 (run classes.HexDigit t) (run classes.HexDigit (t ++ r)) (λ e. run-cut classes.HexDigit t r
-    (added-least test false 2 (run classes.HexDigit (t ++ r)) (length t) (suc (suc (length t))) h (omega arith) e))
+-- ## Digits
 
-fraction-cut : (free : Bool) (t r : List ℕ) → fraction free (t ++ r) ≤ length t
-    → fraction free t ≡ fraction free (t ++ r)
-fraction-cut free [] r h = let k : fraction free r ≤ 0 = h in omega arith
-fraction-cut free (b ∷ t) r h =
-    added-same (b == dot) free 1 (run classes.Digit t) (run classes.Digit (t ++ r)) (λ e. run-cut classes.Digit t r
-    (added-least (b == dot) free 1 (run classes.Digit (t ++ r)) (length t) (suc (length t)) h (omega arith) e))
+-- a byte that a test takes, and what stands behind it
+abbrev counted : Bool → ℕ → ℕ
+counted t n = elim t [ true ↦ 1 + n | false ↦ 0 ]
+
+-- where a digit begins the bytes, a run goes on with it
+more-some : (class : Class) (r : List ℕ) → begins_by (is_in class) r ≡ true → 1 ≤ more_digits class r
+more-some class [] e = absurd cc
+more-some class (b ∷ r) e =
+    let same : more_digits class (b ∷ r) ≡ 1 + more_digits class r =
+    ap (λ t. counted (t || (b == apostrophe && begins_by (is_in class) r)) (more_digits class r)) e in
+    omega arith
+
+digits-some : (class : Class) (r : List ℕ) → begins_by (is_in class) r ≡ true → 1 ≤ digits class r
+digits-some class r e =
+    let same : digits class r ≡ more_digits class r = ap (λ t. if t then more_digits class r else 0) e in
+    omega (arith, more-some class r e)
+
+-- The last byte, where a run of digits might go on with it for what stands behind it.
+last-more : (digit mark next : Bool) (n : ℕ) → (next ≡ true → 1 ≤ n) → counted (digit || (mark && next)) n ≤ 1
+    → counted (digit || (mark && false)) 0 ≡ counted (digit || (mark && next)) n
+last-more true mark next n some h = let k : 1 + n ≤ 1 = h in omega arith
+last-more false true true n some h = absurd (let k : 1 + n ≤ 1 = h in let m : 1 ≤ n = some refl in omega arith)
+last-more false true false n some h = refl
+last-more false false next n some h = refl
+
+more-cut : (class : Class) → Cuts (more_digits class)
+more-cut class [] r h = let k : more_digits class r ≤ 0 = h in omega arith
+more-cut class (b ∷ []) r h =
+    last-more (is_in class b) (b == apostrophe) (begins_by (is_in class) r) (more_digits class r) (more-some class r) h
+more-cut class (b ∷ c ∷ t) r h = by (goes_on class b (c ∷ t)) refl (more-cut class (c ∷ t) r)
+  where
+    by : (x : Bool) → goes_on class b (c ∷ t) ≡ x
+        → (more_digits class (c ∷ (t ++ r)) ≤ suc (length t)
+        → more_digits class (c ∷ t) ≡ more_digits class (c ∷ (t ++ r)))
+        → more_digits class (b ∷ c ∷ t) ≡ more_digits class (b ∷ c ∷ (t ++ r))
+    by true e cut =
+        let most : 1 + more_digits class (c ∷ (t ++ r)) ≤ suc (suc (length t)) =
+        subst (λ (x : Bool). counted x (more_digits class (c ∷ (t ++ r))) ≤ suc (suc (length t))) e h in
+        ap (counted (goes_on class b (c ∷ t))) (cut (omega arith))
+    by false e cut = ap (λ x. counted x (more_digits class (c ∷ t))) e
+        ∙ sym (ap (λ x. counted x (more_digits class (c ∷ (t ++ r)))) e)
+
+digits-cut : (class : Class) → Cuts (digits class)
+digits-cut class [] r h = let k : digits class r ≤ 0 = h in omega arith
+digits-cut class (b ∷ t) r h = by (is_in class b) refl
+  where
+    by : (x : Bool) → is_in class b ≡ x → digits class (b ∷ t) ≡ digits class (b ∷ (t ++ r))
+    by true e =
+        let most : more_digits class (b ∷ (t ++ r)) ≤ suc (length t) =
+        subst (λ (x : Bool). (if x then more_digits class (b ∷ (t ++ r)) else 0) ≤ suc (length t)) e h in
+        ap (λ n. if is_in class b then n else 0) (more-cut class (b ∷ t) r most)
+    by false e = ap (λ x. if x then more_digits class (b ∷ t) else 0) e
+        ∙ sym (ap (λ x. if x then more_digits class (b ∷ (t ++ r)) else 0) e)
+
+-- ## A dot before another one
+
+-- A fraction that is only lost because another dot stands behind the last byte.
+record LosesDot (class : Class) (free : Bool) (t r : List ℕ) : Type 0 where
+  free_is : free ≡ true
+  only : t ≡ dot ∷ []
+  none : fraction class free (t ++ r) ≡ 0
+
+abbrev dotted : Bool → Bool → Bool → ℕ → ℕ
+dotted here follows free n = if here && (not follows && (free || nat_lt 0 n)) then 1 + n else 0
+
+last-dot : (here follows free : Bool) (n : ℕ) → dotted here follows free n ≤ 1
+    → (dotted here false free 0 ≡ dotted here follows free n)
+    ⊎ ((here ≡ true) × (free ≡ true) × (dotted here follows free n ≡ 0))
+last-dot false follows free n h = inl refl
+last-dot true true true n h = inr (refl, refl, refl)
+last-dot true true false n h = inl refl
+last-dot true false true n h = inl (let k : 1 + n ≤ 1 = h in omega arith)
+last-dot true false false n h = inl (by (nat_lt 0 n) refl h)
+  where
+    by : (t : Bool) → nat_lt 0 n ≡ t → (if t then 1 + n else 0) ≤ 1 → 0 ≡ (if t then 1 + n else 0)
+    by true e h = absurd (let some : 0 < n = some-there n e in let k : 1 + n ≤ 1 = h in omega arith)
+    by false e h = refl
+
+dotted-same : (here follows free : Bool) (n m most : ℕ) → dotted here follows free m ≤ suc most → (m ≤ most → n ≡ m)
+    → dotted here follows free n ≡ dotted here follows free m
+dotted-same false follows free n m most h same = refl
+dotted-same true true free n m most h same = refl
+dotted-same true false true n m most h same =
+    ap (λ k. 1 + k) (same (let k : 1 + m ≤ suc most = h in omega arith))
+dotted-same true false false n m most h same = by (nat_lt 0 m) refl h
+  where
+    by : (t : Bool) → nat_lt 0 m ≡ t → (if t then 1 + m else 0) ≤ suc most
+        → dotted true false false n ≡ dotted true false false m
+    by true e h = ap (dotted true false false) (same (let k : 1 + m ≤ suc most = h in omega arith))
+    by false e h = ap (dotted true false false) (same (let none : m ≡ 0 = none-there m e in omega arith))
+
+fraction-cut : (class : Class) (free : Bool) (t r : List ℕ) → fraction class free (t ++ r) ≤ length t
+    → (fraction class free t ≡ fraction class free (t ++ r)) ⊎ LosesDot class free t r
+fraction-cut class free [] r h = inl (let k : fraction class free r ≤ 0 = h in omega arith)
+fraction-cut class free (b ∷ []) r h = elim (last-dot (b == dot) (begins dot r) free (digits class r) h) [
+  | inl same ↦ inl same
+  | inr lost ↦ inr (record {
+    free_is = lost.1;
+    only = ap (λ c. c ∷ []) (eqb-true b dot lost.0);
+    none = lost.2;
+  })
+]
+fraction-cut class free (b ∷ c ∷ t) r h =
+    inl (dotted-same (b == dot) (c == dot) free (digits class (c ∷ t)) (digits class (c ∷ (t ++ r))) (suc (length t)) h
+    (digits-cut class (c ∷ t) r))
+
+-- Some bytes are taken, and the last one is a dot.
+record IsLost (n : ℕ) (t r : List ℕ) : Type 0 where
+  some : 0 < n
+  size : n + 1 ≡ length t
+  next : drop n (t ++ r) ≡ dot ∷ r
+
+-- the same without the bytes behind, but for such a dot
+abbrev CutsOrLoses : (List ℕ → ℕ) → Type 0
+CutsOrLoses f = (t r : List ℕ) → f (t ++ r) ≤ length t → (f t ≡ f (t ++ r)) ⊎ IsLost (f (t ++ r)) t r
+
+-- what stands behind a number of bytes, without what stands behind that
+tail-same : (f : List ℕ → ℕ) (t r : List ℕ) (n m : ℕ) → n ≡ m → n ≤ length t → f (drop m (t ++ r)) ≡ f (drop n t ++ r)
+tail-same f t r n m e low = sym (ap (λ k. f (drop k (t ++ r))) e) ∙ ap f (drop-same n t r low)
+
+tail-cut : (f : List ℕ → ℕ) → Cuts f → (t r : List ℕ) (n m : ℕ) → n ≡ m → n ≤ length t
+    → f (drop m (t ++ r)) ≤ length t - m → f (drop n t) ≡ f (drop m (t ++ r))
+tail-cut f cut t r n m e low most =
+    let all = tail-same f t r n m e low in
+    cut (drop n t) r (omega (arith, length-drop n t, all)) ∙ sym all
+
+-- ## Numbers
 
 sign-most : (bytes : List ℕ) → exponent_sign bytes ≤ 1
 sign-most bytes = by (begins 43 bytes || begins 45 bytes)
@@ -113,89 +238,221 @@ sign-most bytes = by (begins 43 bytes || begins 45 bytes)
     by true = omega arith
     by false = omega arith
 
-exponent-cut : (t r : List ℕ) → exponent (t ++ r) ≤ length t → exponent t ≡ exponent (t ++ r)
-exponent-cut [] r h = let k : exponent r ≤ 0 = h in omega arith
-exponent-cut (b ∷ []) r h =
+exponent-cut : (letter : ℕ) → Cuts (exponent letter)
+exponent-cut letter [] r h = let k : exponent letter r ≤ 0 = h in omega arith
+exponent-cut letter (b ∷ []) r h =
     let s = exponent_sign r in
-    let few : exponent (b ∷ r) ≤ 1 + s = let k : exponent (b ∷ r) ≤ 1 = h in omega arith in
-    and-number (is_letter_of 101 b)
-    ∙ sym (added-none (is_letter_of 101 b) (1 + s) (run classes.Digit (drop (1 + s) (b ∷ r))) (omega arith) few)
+    let few : exponent letter (b ∷ r) ≤ 1 + s = let k : exponent letter (b ∷ r) ≤ 1 = h in omega arith in
+    and-number (is_letter_of letter b)
+    ∙ sym (added-none (is_letter_of letter b) (1 + s) (digits classes.Digit (drop (1 + s) (b ∷ r))) (omega arith) few)
   where
     and-number : (t : Bool) → (if t && nat_lt 0 0 then 1 + 0 else 0) ≡ 0
     and-number true = refl
     and-number false = refl
-exponent-cut (b ∷ c ∷ t) r h =
+exponent-cut letter (b ∷ c ∷ t) r h =
     let s = exponent_sign (c ∷ t) in
     let size : 1 + s ≤ suc (suc (length t)) = omega (arith, sign-most (c ∷ t)) in
     let same = drop-same (1 + s) (b ∷ c ∷ t) r size in
     let all = b ∷ c ∷ (t ++ r) in
-    added-same (is_letter_of 101 b) false (1 + s) (run classes.Digit (drop (1 + s) (b ∷ c ∷ t)))
-    (run classes.Digit (drop (1 + s) all)) (λ e.
-    let few : run classes.Digit (drop (1 + s) all) ≤ suc (suc (length t)) - (1 + s) =
-    added-least (is_letter_of 101 b) false (1 + s) (run classes.Digit (drop (1 + s) all))
+    added-same (is_letter_of letter b) false (1 + s) (digits classes.Digit (drop (1 + s) (b ∷ c ∷ t)))
+    (digits classes.Digit (drop (1 + s) all)) (λ e.
+    let few : digits classes.Digit (drop (1 + s) all) ≤ suc (suc (length t)) - (1 + s) =
+    added-least (is_letter_of letter b) false (1 + s) (digits classes.Digit (drop (1 + s) all))
     (suc (suc (length t)) - (1 + s)) (suc (suc (length t))) h (omega arith) e in
     let left : length (drop (1 + s) (b ∷ c ∷ t)) ≡ suc (suc (length t)) - (1 + s) = length-drop (1 + s) (b ∷ c ∷ t) in
-    let less : run classes.Digit (drop (1 + s) (b ∷ c ∷ t) ++ r) ≤ length (drop (1 + s) (b ∷ c ∷ t)) =
-    omega (arith, ap (run classes.Digit) same) in
-    run-cut classes.Digit (drop (1 + s) (b ∷ c ∷ t)) r less ∙ ap (run classes.Digit) (sym same))
+    let less : digits classes.Digit (drop (1 + s) (b ∷ c ∷ t) ++ r) ≤ length (drop (1 + s) (b ∷ c ∷ t)) =
+    omega (arith, ap (digits classes.Digit) same) in
+    digits-cut classes.Digit (drop (1 + s) (b ∷ c ∷ t)) r less ∙ ap (digits classes.Digit) (sym same))
 
-mantissa-cut : (t r : List ℕ) → mantissa (t ++ r) ≤ length t → mantissa t ≡ mantissa (t ++ r)
-mantissa-cut t r h =
-    let d = run classes.Digit t in
-    let most : run classes.Digit (t ++ r) ≤ length t = omega arith in
-    let e : run classes.Digit t ≡ run classes.Digit (t ++ r) = run-cut classes.Digit t r most in
-    let whole : mantissa (t ++ r) ≡ d + fraction (nat_lt 0 d) (drop d t ++ r) =
-    sym (λ i. e i + fraction (nat_lt 0 (e i)) (drop (e i) (t ++ r)))
-    ∙ ap (λ l. d + fraction (nat_lt 0 d) l) (drop-same d t r (omega arith)) in
-    let less : fraction (nat_lt 0 d) (drop d t ++ r) ≤ length (drop d t) = omega (arith, length-drop d t) in
-    ap (λ n. d + n) (fraction-cut (nat_lt 0 d) (drop d t) r less) ∙ sym whole
-
--- what stands behind a number of bytes, without what stands behind that
-tail-cut : (f : List ℕ → ℕ) → ((t r : List ℕ) → f (t ++ r) ≤ length t → f t ≡ f (t ++ r)) → (t r : List ℕ) (n m : ℕ)
-    → n ≡ m → n ≤ length t → f (drop m (t ++ r)) ≤ length t - m → f (drop n t) ≡ f (drop m (t ++ r))
-tail-cut f cut t r n m e low most =
-    let same = drop-same n t r low in
-    let all : f (drop m (t ++ r)) ≡ f (drop n t ++ r) = sym (ap (λ k. f (drop k (t ++ r))) e) ∙ ap f same in
-    cut (drop n t) r (omega (arith, length-drop n t)) ∙ sym all
-
-decimal-cut : (t r : List ℕ) → decimal (t ++ r) ≤ length t → decimal t ≡ decimal (t ++ r)
-decimal-cut t r h =
-    let m' = mantissa (t ++ r) in
-    let first : m' ≤ length t = behind-first m' (exponent (drop m' (t ++ r))) (length t) h in
-    let e : mantissa t ≡ m' = mantissa-cut t r first in
-    behind-same (mantissa t) m' (exponent (drop (mantissa t) t)) (exponent (drop m' (t ++ r))) e
-    (λ some. tail-cut exponent exponent-cut t r (mantissa t) m' e (omega arith)
-    (behind-more m' (exponent (drop m' (t ++ r))) (length t) h some))
-
-number-cut : (t r : List ℕ) → number (t ++ r) ≤ length t → number t ≡ number (t ++ r)
-number-cut t r h = by (nat_lt 0 (hexadecimal (t ++ r))) refl
+mantissa-cut : (class : Class) → CutsOrLoses (mantissa class)
+mantissa-cut class t r h = by (fraction-cut class free (drop d t) r less)
   where
-    by : (x : Bool) → nat_lt 0 (hexadecimal (t ++ r)) ≡ x → number t ≡ number (t ++ r)
-    by true e =
-        let most : hexadecimal (t ++ r) ≤ length t =
-        subst (λ (x : Bool). (if x then hexadecimal (t ++ r) else decimal (t ++ r)) ≤ length t) e h in
-        let same = hexadecimal-cut t r most in
-        ap (λ n. if nat_lt 0 n then n else decimal t) same
-        ∙ ap (λ x. if x then hexadecimal (t ++ r) else decimal t) e
-        ∙ sym (ap (λ x. if x then hexadecimal (t ++ r) else decimal (t ++ r)) e)
-    by false e =
-        let most : decimal (t ++ r) ≤ length t =
-        subst (λ (x : Bool). (if x then hexadecimal (t ++ r) else decimal (t ++ r)) ≤ length t) e h in
-        let none : hexadecimal (t ++ r) ≡ 0 = none-there (hexadecimal (t ++ r)) e in
-        let same = hexadecimal-cut t r (omega arith) in
-        ap (λ n. if nat_lt 0 n then n else decimal t) same
-        ∙ ap (λ x. if x then hexadecimal (t ++ r) else decimal t) e
-        ∙ decimal-cut t r most
-        ∙ sym (ap (λ x. if x then hexadecimal (t ++ r) else decimal (t ++ r)) e)
+    d : ℕ
+    d = digits class t
 
-pub constant-cut : (t r : List ℕ) → constant (t ++ r) ≤ length t → constant t ≡ constant (t ++ r)
-constant-cut t r h =
-    let n' = number (t ++ r) in
-    let first : n' ≤ length t = behind-first n' (run classes.Suffix (drop n' (t ++ r))) (length t) h in
-    let e : number t ≡ n' = number-cut t r first in
-    behind-same (number t) n' (run classes.Suffix (drop (number t) t)) (run classes.Suffix (drop n' (t ++ r))) e
-    (λ some. tail-cut (run classes.Suffix) (run-cut classes.Suffix) t r (number t) n' e (omega arith)
-    (behind-more n' (run classes.Suffix (drop n' (t ++ r))) (length t) h some))
+    free : Bool
+    free = nat_lt 0 d
+
+    most : mantissa class (t ++ r) ≤ length t
+    most = h
+
+    e : d ≡ digits class (t ++ r)
+    e = digits-cut class t r (omega (arith, most))
+
+    whole : mantissa class (t ++ r) ≡ d + fraction class free (drop d t ++ r)
+    whole = sym (λ i. e i + fraction class (nat_lt 0 (e i)) (drop (e i) (t ++ r)))
+        ∙ ap (λ l. d + fraction class free l) (drop-same d t r (digits-le class t))
+
+    less : fraction class free (drop d t ++ r) ≤ length (drop d t)
+    less = omega (arith, most, whole, length-drop d t, digits-le class t)
+
+    by : (fraction class free (drop d t) ≡ fraction class free (drop d t ++ r)) ⊎ LosesDot class free (drop d t) r
+        → (mantissa class t ≡ mantissa class (t ++ r)) ⊎ IsLost (mantissa class (t ++ r)) t r
+    by (inl same) = inl (ap (λ n. d + n) same ∙ sym whole)
+    by (inr lost) =
+        let size : length t - d ≡ 1 = sym (length-drop d t) ∙ ap length lost.only in
+        let all : d ≡ mantissa class (t ++ r) = sym (whole ∙ ap (λ k. d + k) lost.none ∙ omega arith) in
+        inr (subst (λ n. IsLost n t r) all (record {
+          some = some-there d lost.free_is;
+          size = omega (arith, size);
+          next = drop-same d t r (digits-le class t) ∙ ap (λ l. l ++ r) lost.only;
+        }))
+
+scaled-cut : (class : Class) (letter : ℕ) → is_letter_of letter dot ≡ false → CutsOrLoses (scaled class letter)
+scaled-cut class letter none t r h = by (mantissa-cut class t r (behind-first m more (length t) h))
+  where
+    m : ℕ
+    m = mantissa class (t ++ r)
+
+    more : ℕ
+    more = exponent letter (drop m (t ++ r))
+
+    -- a dot begins no exponent
+    no-exponent : exponent letter (dot ∷ r) ≡ 0
+    no-exponent = ap (λ x. added x false (1 + exponent_sign r)
+        (digits classes.Digit (drop (1 + exponent_sign r) (dot ∷ r)))) none
+
+    by : (mantissa class t ≡ m) ⊎ IsLost m t r
+        → (scaled class letter t ≡ scaled class letter (t ++ r)) ⊎ IsLost (scaled class letter (t ++ r)) t r
+    by (inl e) = inl (behind-same (mantissa class t) m (exponent letter (drop (mantissa class t) t)) more e
+        (λ some. tail-cut (exponent letter) (exponent-cut letter) t r (mantissa class t) m e (mantissa-le class t)
+        (behind-more m more (length t) h some)))
+    by (inr lost) = inr (subst (λ n. IsLost n t r)
+        (sym (behind-nothing m more lost.some (ap (exponent letter) lost.next ∙ no-exponent))) lost)
+
+-- ## Behind `0` and a letter
+
+abbrev prefixed : ℕ → Class → (List ℕ → ℕ) → List ℕ → ℕ
+prefixed letter class f bytes = if is_prefixed letter class bytes then 2 + f (drop 2 bytes) else 0
+
+no-prefix-one : (letter : ℕ) (class : Class) (f : List ℕ → ℕ) (b : ℕ) → prefixed letter class f (b ∷ []) ≡ 0
+no-prefix-one letter class f b = ap (λ t. if t then 2 + f [] else 0) (and-none (b == digit_0))
+
+tested-few : (t : Bool) (n : ℕ) → (if t then 2 + n else 0) ≤ 1 → (if t then 2 + n else 0) ≡ 0
+tested-few true n h = absurd (let k : 2 + n ≤ 1 = h in omega arith)
+tested-few false n h = refl
+
+abbrev HasSome : Class → (List ℕ → ℕ) → Type 0
+HasSome class f = (r : List ℕ) → begins_by (is_in class) r ≡ true → 1 ≤ f r
+
+-- a digit is wanted behind the letter
+no-digit : (first second digit : Bool) (n m : ℕ) → (digit ≡ true → 1 ≤ n)
+    → (if first && (second && digit) then 2 + n else 0) ≤ 2
+    → (if first && (second && false) then 2 + m else 0) ≡ (if first && (second && digit) then 2 + n else 0)
+no-digit true true true n m some h = absurd (let k : 2 + n ≤ 2 = h in let l : 1 ≤ n = some refl in omega arith)
+no-digit true true false n m some h = refl
+no-digit true false digit n m some h = refl
+no-digit false second digit n m some h = refl
+
+prefixed-cut : (letter : ℕ) (class : Class) (f : List ℕ → ℕ) → HasSome class f → CutsOrLoses f
+    → CutsOrLoses (prefixed letter class f)
+prefixed-cut letter class f some cut [] r h =
+    inl (let k : prefixed letter class f r ≤ 0 = h in omega arith)
+prefixed-cut letter class f some cut (b ∷ []) r h =
+    inl (no-prefix-one letter class f b
+    ∙ sym (tested-few (is_prefixed letter class (b ∷ r)) (f (drop 2 (b ∷ r))) h))
+prefixed-cut letter class f some cut (b ∷ c ∷ []) r h =
+    inl (no-digit (b == digit_0) (is_letter_of letter c) (begins_by (is_in class) r) (f r) (f []) (some r) h)
+prefixed-cut letter class f some cut (b ∷ c ∷ d ∷ t) r h =
+    by (is_prefixed letter class (b ∷ c ∷ d ∷ t)) refl
+  where
+    by : (x : Bool) → is_prefixed letter class (b ∷ c ∷ d ∷ t) ≡ x
+        → (prefixed letter class f (b ∷ c ∷ d ∷ t) ≡ prefixed letter class f (b ∷ c ∷ d ∷ (t ++ r)))
+        ⊎ IsLost (prefixed letter class f (b ∷ c ∷ d ∷ (t ++ r))) (b ∷ c ∷ d ∷ t) r
+    by false e = inl (ap (λ x. if x then 2 + f (d ∷ t) else 0) e
+        ∙ sym (ap (λ x. if x then 2 + f (d ∷ (t ++ r)) else 0) e))
+    by true e =
+        let all : prefixed letter class f (b ∷ c ∷ d ∷ (t ++ r)) ≡ 2 + f (d ∷ (t ++ r)) =
+        ap (λ x. if x then 2 + f (d ∷ (t ++ r)) else 0) e in
+        let few : 2 + f (d ∷ (t ++ r)) ≤ suc (suc (suc (length t))) =
+        subst (λ n. n ≤ suc (suc (suc (length t)))) all h in
+        elim (cut (d ∷ t) r (omega arith)) [
+          | inl same ↦ inl (ap (λ x. if x then 2 + f (d ∷ t) else 0) e ∙ ap (λ n. 2 + n) same ∙ sym all)
+          | inr lost ↦ inr (subst (λ n. IsLost n (b ∷ c ∷ d ∷ t) r) (sym all) (record {
+            some = omega arith;
+            size = omega (arith, lost.size);
+            next = ap (λ n. drop n (b ∷ c ∷ d ∷ (t ++ r))) (omega arith)
+                ∙ sym (drop-drop (f (d ∷ (t ++ r))) 2 (b ∷ c ∷ d ∷ (t ++ r))) ∙ lost.next;
+          }))
+        ]
+
+scaled-some : (class : Class) (letter : ℕ) → HasSome class (scaled class letter)
+scaled-some class letter r e =
+    let m = mantissa class r in
+    let least : 1 ≤ m = omega (arith, digits-some class r e) in
+    let all : scaled class letter r ≡ m + exponent letter (drop m r) =
+    ap (λ t. if t then m + exponent letter (drop m r) else 0) (there-some m (omega arith)) in
+    omega arith
+
+hexadecimal-cut : CutsOrLoses hexadecimal
+hexadecimal-cut = prefixed-cut 120 classes.HexDigit (scaled classes.HexDigit 112) (scaled-some classes.HexDigit 112)
+    (scaled-cut classes.HexDigit 112 refl)
+
+binary-cut : CutsOrLoses binary
+binary-cut = prefixed-cut 98 classes.BinaryDigit (digits classes.BinaryDigit) (digits-some classes.BinaryDigit)
+    (λ t r h. inl (digits-cut classes.BinaryDigit t r h))
+
+-- ## Constants
+
+-- one rule, or the next one where it takes nothing
+abbrev first_or : (List ℕ → ℕ) → (List ℕ → ℕ) → List ℕ → ℕ
+first_or f g bytes = if nat_lt 0 (f bytes) then f bytes else g bytes
+
+first-cut : (f g : List ℕ → ℕ) → CutsOrLoses f → CutsOrLoses g → CutsOrLoses (first_or f g)
+first-cut f g cut other t r h = by (nat_lt 0 (f (t ++ r))) refl
+  where
+    by : (x : Bool) → nat_lt 0 (f (t ++ r)) ≡ x
+        → (first_or f g t ≡ first_or f g (t ++ r)) ⊎ IsLost (first_or f g (t ++ r)) t r
+    by true e =
+        let all : first_or f g (t ++ r) ≡ f (t ++ r) = ap (λ x. if x then f (t ++ r) else g (t ++ r)) e in
+        let most : f (t ++ r) ≤ length t = subst (λ n. n ≤ length t) all h in
+        elim (cut t r most) [
+          | inl same ↦ inl (ap (λ n. if nat_lt 0 n then n else g t) same
+              ∙ ap (λ x. if x then f (t ++ r) else g t) e ∙ sym all)
+          | inr lost ↦ inr (subst (λ n. IsLost n t r) (sym all) lost)
+        ]
+    by false e =
+        let none : f (t ++ r) ≡ 0 = none-there (f (t ++ r)) e in
+        let all : first_or f g (t ++ r) ≡ g (t ++ r) = ap (λ x. if x then f (t ++ r) else g (t ++ r)) e in
+        let most : g (t ++ r) ≤ length t = subst (λ n. n ≤ length t) all h in
+        elim (cut t r (omega arith)) [
+          | inr lost ↦ absurd (let some : 0 < f (t ++ r) = lost.some in omega arith)
+          | inl same ↦
+              let left : first_or f g t ≡ g t = ap (λ n. if nat_lt 0 n then n else g t) (same ∙ none) in
+              elim (other t r most) [
+                | inl rest ↦ inl (left ∙ rest ∙ sym all)
+                | inr lost ↦ inr (subst (λ n. IsLost n t r) (sym all) lost)
+              ]
+        ]
+
+number-cut : CutsOrLoses number
+number-cut = first-cut hexadecimal (first_or binary decimal) hexadecimal-cut
+    (first-cut binary decimal binary-cut (scaled-cut classes.Digit 101 refl))
+
+-- A whole constant is one without what stands behind it: a dot that ends it has no other dot behind it.
+pub constant-cut : (t r : List ℕ) → constant (t ++ r) ≡ length t → constant t ≡ length t
+constant-cut t r whole = by (number-cut t r (behind-first n more (length t) most))
+  where
+    n : ℕ
+    n = number (t ++ r)
+
+    more : ℕ
+    more = run classes.Suffix (drop n (t ++ r))
+
+    all : constant (t ++ r) ≡ length t
+    all = whole
+
+    most : constant (t ++ r) ≤ length t
+    most = omega (arith, all)
+
+    by : (number t ≡ n) ⊎ IsLost n t r → constant t ≡ length t
+    by (inl e) = behind-same (number t) n (run classes.Suffix (drop (number t) t)) more e
+        (λ some. tail-cut (run classes.Suffix) (run-cut classes.Suffix) t r (number t) n e (number-le t)
+        (behind-more n more (length t) most some))
+        ∙ whole
+    by (inr lost) =
+        let few : constant (t ++ r) ≡ n = behind-nothing n more lost.some (ap (run classes.Suffix) lost.next) in
+        absurd (omega (arith, all, few, lost.size))
 
 -- ## Its last byte
 
@@ -208,21 +465,11 @@ last-drop zero b bs c cs e = let first : b ≡ c = cc in let rest : bs ≡ cs = 
 last-drop (suc n) b [] c cs e = absurd (let k : [] ≡ c ∷ cs = sym (drop-none n) ∙ e in cc)
 last-drop (suc n) b (d ∷ bs) c cs e = last-drop n d bs c cs e
 
--- Bytes of a class to the end.
-whole-last : (class : Class) (n b : ℕ) (bs : List ℕ) → n + run class (drop n (b ∷ bs)) ≡ suc (length bs)
-    → 0 < run class (drop n (b ∷ bs)) → is_in class (last_of b bs) ≡ true
-whole-last class n b bs whole some = go (drop n (b ∷ bs)) refl
-  where
-    go : (l : List ℕ) → drop n (b ∷ bs) ≡ l → is_in class (last_of b bs) ≡ true
-    go [] e = absurd (let none : run class (drop n (b ∷ bs)) ≡ 0 = ap (run class) e in omega arith)
-    go (c ∷ cs) e =
-        let size : suc (length cs) ≡ suc (length bs) - n = sym (ap length e) ∙ length-drop n (b ∷ bs) in
-        let same : run class (drop n (b ∷ bs)) ≡ run class (c ∷ cs) = ap (run class) e in
-        let all : run class (c ∷ cs) ≡ suc (length cs) = omega (arith, run-le class (c ∷ cs)) in
-        ap (is_in class) (last-drop n b bs c cs e) ∙ run-last class c cs all
-
 digit-wordy : (z : ℕ) → is_in classes.Digit z ≡ true → is_wordy z ≡ true
 digit-wordy z e = grind (arith, nat_tests)
+
+binary-wordy : (z : ℕ) → is_in classes.BinaryDigit z ≡ true → is_wordy z ≡ true
+binary-wordy z e = grind (arith, nat_tests)
 
 hex-wordy : (z : ℕ) → is_in classes.HexDigit z ≡ true → is_wordy z ≡ true
 hex-wordy z e = grind (arith, nat_tests)
@@ -233,41 +480,11 @@ suffix-wordy z e = grind (arith, nat_tests)
 dot-wordy : (z : ℕ) → (z == dot) ≡ true → is_wordy z ≡ true
 dot-wordy z e = grind (arith, nat_tests)
 
--- what is added is some
-added-some : (test free : Bool) (k n total : ℕ) → added test free k n ≡ suc total
-    → (test ≡ true) × ((free || nat_lt 0 n) ≡ true) × (k + n ≡ suc total)
-added-some test free k n total e = by (test && (free || nat_lt 0 n)) refl e
-  where
-    by : (t : Bool) → (test && (free || nat_lt 0 n)) ≡ t → (if t then k + n else 0) ≡ suc total
-        → (test ≡ true) × ((free || nat_lt 0 n) ≡ true) × (k + n ≡ suc total)
-    by true h e = (both-left test (free || nat_lt 0 n) h, both-right test (free || nat_lt 0 n) h, e)
-    by false h e = absurd (let k : 0 ≡ suc total = e in omega arith)
+-- a class whose bytes are all wordy
+abbrev AreWordy : Class → Type 0
+AreWordy class = (z : ℕ) → is_in class z ≡ true → is_wordy z ≡ true
 
-behind-some : (n more total : ℕ) → behind n more ≡ suc total → (nat_lt 0 n ≡ true) × (n + more ≡ suc total)
-behind-some n more total e = by (nat_lt 0 n) refl e
-  where
-    by : (t : Bool) → nat_lt 0 n ≡ t → (if t then n + more else 0) ≡ suc total
-        → (nat_lt 0 n ≡ true) × (n + more ≡ suc total)
-    by true h e = (h, e)
-    by false h e = absurd (let k : 0 ≡ suc total = e in omega arith)
-
-fraction-last : (free : Bool) (b : ℕ) (bs : List ℕ) → fraction free (b ∷ bs) ≡ suc (length bs)
-    → is_wordy (last_of b bs) ≡ true
-fraction-last free b [] e =
-    dot-wordy b (added-some (b == dot) free 1 (run classes.Digit []) 0 e).0
-fraction-last free b (c ∷ bs) e =
-    let a = added-some (b == dot) free 1 (run classes.Digit (c ∷ bs)) (suc (length bs)) e in
-    let all : run classes.Digit (c ∷ bs) ≡ suc (length bs) = omega (arith, a.2) in
-    digit-wordy (last_of c bs) (run-last classes.Digit c bs all)
-
-exponent-last : (b : ℕ) (bs : List ℕ) → exponent (b ∷ bs) ≡ suc (length bs) → is_wordy (last_of b bs) ≡ true
-exponent-last b bs e =
-    let s = exponent_sign bs in
-    let a = added-some (is_letter_of 101 b) false (1 + s) (run classes.Digit (drop (1 + s) (b ∷ bs))) (length bs) e in
-    digit-wordy (last_of b bs) (whole-last classes.Digit (1 + s) b bs a.2
-    (some-there (run classes.Digit (drop (1 + s) (b ∷ bs))) a.1))
-
--- what stands behind some bytes ends the text with a wordy byte, or nothing stands behind them
+-- What takes all of some bytes ends with a wordy byte.
 abbrev EndsWordy : (List ℕ → ℕ) → Type 0
 EndsWordy f = (b : ℕ) (bs : List ℕ) → f (b ∷ bs) ≡ suc (length bs) → is_wordy (last_of b bs) ≡ true
 
@@ -285,31 +502,90 @@ tail-last f ends n b bs low whole first = go (drop n (b ∷ bs)) refl
         let same : f (drop n (b ∷ bs)) ≡ f (c ∷ cs) = ap f e in
         ap is_wordy (last-drop n b bs c cs e) ∙ ends c cs (omega arith)
 
-mantissa-last : EndsWordy mantissa
-mantissa-last b bs e =
-    let d = run classes.Digit (b ∷ bs) in
-    tail-last (fraction (nat_lt 0 d)) (fraction-last (nat_lt 0 d)) d b bs (run-le classes.Digit (b ∷ bs)) e
-    (λ all. digit-wordy (last_of b bs) (run-last classes.Digit b bs all))
+-- what a test allows is there
+tested-some : (t : Bool) (n total : ℕ) → (if t then n else 0) ≡ suc total → (t ≡ true) × (n ≡ suc total)
+tested-some true n total e = (refl, e)
+tested-some false n total e = absurd (let k : 0 ≡ suc total = e in omega arith)
 
-decimal-last : EndsWordy decimal
-decimal-last b bs e =
-    let m = mantissa (b ∷ bs) in
-    let a = behind-some m (exponent (drop m (b ∷ bs))) (length bs) e in
-    tail-last exponent exponent-last m b bs (omega (arith, a.1)) a.1 (mantissa-last b bs)
+more-last : (class : Class) → AreWordy class → EndsWordy (more_digits class)
+more-last class wordy b [] e = wordy b (only (is_in class b) (b == apostrophe) e)
+  where
+    only : (digit mark : Bool) → counted (digit || (mark && false)) 0 ≡ 1 → digit ≡ true
+    only true mark e = refl
+    only false true e = absurd (let k : 0 ≡ 1 = e in omega arith)
+    only false false e = absurd (let k : 0 ≡ 1 = e in omega arith)
+more-last class wordy b (c ∷ bs) e = more-last class wordy c bs (rest (goes_on class b (c ∷ bs)) e)
+  where
+    rest : (t : Bool) → counted t (more_digits class (c ∷ bs)) ≡ suc (suc (length bs))
+        → more_digits class (c ∷ bs) ≡ suc (length bs)
+    rest true e = let k : 1 + more_digits class (c ∷ bs) ≡ suc (suc (length bs)) = e in omega arith
+    rest false e = absurd (let k : 0 ≡ suc (suc (length bs)) = e in omega arith)
+
+digits-last : (class : Class) → AreWordy class → EndsWordy (digits class)
+digits-last class wordy b bs e =
+    more-last class wordy b bs (tested-some (is_in class b) (more_digits class (b ∷ bs)) (length bs) e).1
+
+fraction-last : (class : Class) → AreWordy class → (free : Bool) → EndsWordy (fraction class free)
+fraction-last class wordy free b [] e =
+    dot-wordy b (both-left (b == dot) (not (begins dot []) && (free || nat_lt 0 0))
+    (tested-some ((b == dot) && (not (begins dot []) && (free || nat_lt 0 0))) 1 0 e).0)
+fraction-last class wordy free b (c ∷ bs) e =
+    let a = tested-some ((b == dot) && (not (c == dot) && (free || nat_lt 0 (digits class (c ∷ bs)))))
+    (1 + digits class (c ∷ bs)) (suc (length bs)) e in
+    digits-last class wordy c bs (omega (arith, a.1))
+
+exponent-last : (letter : ℕ) → EndsWordy (exponent letter)
+exponent-last letter b bs e =
+    let s = exponent_sign bs in
+    let n = digits classes.Digit (drop (1 + s) (b ∷ bs)) in
+    let a = tested-some (is_letter_of letter b && nat_lt 0 n) ((1 + s) + n) (length bs) e in
+    let some : 0 < n = some-there n (both-right (is_letter_of letter b) (nat_lt 0 n) a.0) in
+    tail-last (digits classes.Digit) (digits-last classes.Digit digit-wordy) (1 + s) b bs (omega (arith, a.1)) a.1
+    (λ all. absurd (let k : (1 + s) + n ≡ suc (length bs) = a.1 in omega arith))
+
+behind-some : (n more total : ℕ) → behind n more ≡ suc total → (nat_lt 0 n ≡ true) × (n + more ≡ suc total)
+behind-some n more total e = tested-some (nat_lt 0 n) (n + more) total e
+
+mantissa-last : (class : Class) → AreWordy class → EndsWordy (mantissa class)
+mantissa-last class wordy b bs e =
+    let d = digits class (b ∷ bs) in
+    tail-last (fraction class (nat_lt 0 d)) (fraction-last class wordy (nat_lt 0 d)) d b bs
+    (digits-le class (b ∷ bs)) e (λ all. digits-last class wordy b bs all)
+
+scaled-last : (class : Class) (letter : ℕ) → AreWordy class → EndsWordy (scaled class letter)
+scaled-last class letter wordy b bs e =
+    let m = mantissa class (b ∷ bs) in
+    let a = behind-some m (exponent letter (drop m (b ∷ bs))) (length bs) e in
+    tail-last (exponent letter) (exponent-last letter) m b bs (omega (arith, a.1)) a.1
+    (mantissa-last class wordy b bs)
+
+prefixed-last : (letter : ℕ) (class : Class) (f : List ℕ → ℕ) → HasSome class f → EndsWordy f
+    → EndsWordy (prefixed letter class f)
+prefixed-last letter class f some ends b bs e =
+    let a = tested-some (is_prefixed letter class (b ∷ bs)) (2 + f (drop 2 (b ∷ bs))) (length bs) e in
+    let digit = both-right (is_letter_of_next bs) (begins_by (is_in class) (drop 2 (b ∷ bs)))
+    (both-right (b == digit_0) (is_letter_of_next bs && begins_by (is_in class) (drop 2 (b ∷ bs))) a.0) in
+    let least = some (drop 2 (b ∷ bs)) digit in
+    tail-last f ends 2 b bs (omega (arith, a.1)) a.1 (λ all. absurd (omega (arith, a.1, least)))
+  where
+    is_letter_of_next : List ℕ → Bool
+    is_letter_of_next bs = begins_by (is_letter_of letter) bs
+
+first-last : (f g : List ℕ → ℕ) → EndsWordy f → EndsWordy g → EndsWordy (first_or f g)
+first-last f g ends other b bs e = by (nat_lt 0 (f (b ∷ bs))) e
+  where
+    by : (t : Bool) → (if t then f (b ∷ bs) else g (b ∷ bs)) ≡ suc (length bs) → is_wordy (last_of b bs) ≡ true
+    by true e = ends b bs e
+    by false e = other b bs e
 
 number-last : EndsWordy number
-number-last b bs e = by (nat_lt 0 (hexadecimal (b ∷ bs))) e
-  where
-    test : Bool
-    test = b == digit_0 && begins_by (is_letter_of 120) bs
-
-    by : (t : Bool) → (if t then hexadecimal (b ∷ bs) else decimal (b ∷ bs)) ≡ suc (length bs)
-        → is_wordy (last_of b bs) ≡ true
-    by true e =
-        let a = added-some test false 2 (run classes.HexDigit (drop 2 (b ∷ bs))) (length bs) e in
-        hex-wordy (last_of b bs) (whole-last classes.HexDigit 2 b bs a.2
-        (some-there (run classes.HexDigit (drop 2 (b ∷ bs))) a.1))
-    by false e = decimal-last b bs e
+number-last = first-last hexadecimal (first_or binary decimal)
+    (prefixed-last 120 classes.HexDigit (scaled classes.HexDigit 112) (scaled-some classes.HexDigit 112)
+    (scaled-last classes.HexDigit 112 hex-wordy))
+    (first-last binary decimal
+    (prefixed-last 98 classes.BinaryDigit (digits classes.BinaryDigit) (digits-some classes.BinaryDigit)
+    (digits-last classes.BinaryDigit binary-wordy))
+    (scaled-last classes.Digit 101 digit-wordy))
 
 suffix-last : EndsWordy (run classes.Suffix)
 suffix-last b bs e = suffix-wordy (last_of b bs) (run-last classes.Suffix b bs e)

@@ -1,6 +1,6 @@
 -- Plain text of simple tokens is these tokens with white space between them, where they would touch.
 use Rattle.std.proofs.Common.{◌≡◌, ℕ, zero, suc, Bool, true, false, ◌&&◌, ◌||◌, List, [], ◌∷◌, ◌++◌, Option, Some, None}
-use Rattle.std.proofs.Common.{refl, sym, ap, ◌∙◌, arith, cond, length, subst, ◌⊎◌, inl, inr, ◌==◌}
+use Rattle.std.proofs.Common.{refl, sym, ap, ◌∙◌, arith, cond, length, subst, inl, inr, ◌==◌}
 use Rattle.std.specs.List.{list_any}
 use Rattle.std.specs.Prelude.{codes, nat_lt}
 use Rattle.std.proofs.lemmas.List.{append-nil, append_assoc, take_all}
@@ -8,15 +8,15 @@ use Rattle.std.proofs.lemmas.Grind.{flat_map-append}
 use Rattle.std.proofs.lemmas.List.Concat.{flat_map-cons}
 use Rattle.cw_rules.specs.declared.classes.Class.TheVariants as classes
 use Rattle.cw_rules.specs.declared.tokens.TokKind.{TokKind}
-use Rattle.cw_rules.specs.Bytes.{is_in}
-use Rattle.cw_rules.proofs.Choices.{and-none, at-byte}
+use Rattle.cw_rules.specs.Bytes.{is_in, is_mark}
+use Rattle.cw_rules.proofs.Choices.{and-none, at-byte, or-false}
 use Rattle.cw_trees.specs.declared.Control.{Control}
 use Rattle.cw_trees.specs.Printing.{is_cancel, strongest, is_backup}
 use Rattle.cw_lex.specs.Lexing.{answers_at, fresh_at, last_at}
 use Rattle.cw_plain.specs.Pieces.{Piece, Word, Part, Ending, Opening, Closing, Move, Nothing}
 use Rattle.cw_plain.specs.Lines.{Stretch, Run, Other, Ink, Own, Added, Layout, at_start, behind_run, blank_before}
-use Rattle.cw_plain.specs.Lines.{break_text, clash, indent, ink_bytes, ink_text, is_joining, is_wordy, laid, laid_from}
-use Rattle.cw_plain.specs.Lines.{last_behind}
+use Rattle.cw_plain.specs.Lines.{break_text, clash, indent, ink_bytes, ink_text, is_bracket, is_joining, is_wordy}
+use Rattle.cw_plain.specs.Lines.{laid, laid_from, last_behind, signs_touch, words_touch}
 use Rattle.cw_plain.specs.Lines.{piece_inks, run_text, stretches, level_behind, backed, cut_off}
 use Rattle.cw_plain_laws.proofs.Again.{IsAlone, IsApart, last_of, Spaced, spaced_text, AreSpaced, AreWhite, words}
 use Rattle.cw_plain_laws.proofs.Again.{in_part}
@@ -25,6 +25,7 @@ use Rattle.cw_plain_laws.specs.PlainLaws.{all_unplaced, part_tokens}
 use Rattle.cw_plain_laws.proofs.Again.{alone_token}
 use Rattle.cw_rules.specs.Answers.{Answer}
 use Rattle.cw_plain_laws.proofs.AgainLaws.{again, white-gives}
+use Rattle.cw_plain_laws.proofs.Tests.{or-case}
 
 -- ## White space
 
@@ -55,27 +56,27 @@ white-run l run = by (list_any is_cancel run)
     by false = white-break (nat_lt 0 l.depth) (backed (list_any is_backup run) (level_behind l.level run))
         (strongest run)
 
-or-case : (a b : Bool) → (a || b) ≡ true → (a ≡ true) ⊎ (b ≡ true)
-or-case true b e = inl refl
-or-case false b e = inr e
-
-clash-none : (x z : ℕ) → is_wordy z ≡ false → is_joining z ≡ false → clash x z ≡ false
-clash-none x z w j = (λ i. is_wordy x && w i || is_joining x && j i)
-    ∙ (λ i. and-none (is_wordy x) i || is_joining x && false) ∙ and-none (is_joining x)
+-- what begins no word, string, bracket or sign of several bytes
+clash-none : (x z : ℕ) → (is_wordy z || is_mark z) ≡ false → is_bracket z ≡ false → is_joining z ≡ false
+    → clash x z ≡ false
+clash-none x z w b j =
+    or-false (words_touch x z) (signs_touch x z) ((λ i. is_wordy x && w i) ∙ and-none (is_wordy x))
+    (or-false (is_bracket x && is_bracket z) (is_joining x && is_joining z)
+    ((λ i. is_bracket x && b i) ∙ and-none (is_bracket x)) ((λ i. is_joining x && j i) ∙ and-none (is_joining x)))
 
 -- white space touches nothing
 white-free : (x z : ℕ) → is_in classes.White z ≡ true → clash x z ≡ false
 white-free x z white = elim (or-case (z == 10) (is_in classes.Blank z) white) [
-  | inl e ↦ at 10 e (clash-none x 10 refl refl)
+  | inl e ↦ at 10 e (clash-none x 10 refl refl refl)
   | inr blank ↦ elim (or-case (z == 32 || z == 9 || z == 11 || z == 12) (z == 13) blank) [
-    | inr e ↦ at 13 e (clash-none x 13 refl refl)
+    | inr e ↦ at 13 e (clash-none x 13 refl refl refl)
     | inl b ↦ elim (or-case (z == 32 || z == 9 || z == 11) (z == 12) b) [
-      | inr e ↦ at 12 e (clash-none x 12 refl refl)
+      | inr e ↦ at 12 e (clash-none x 12 refl refl refl)
       | inl b ↦ elim (or-case (z == 32 || z == 9) (z == 11) b) [
-        | inr e ↦ at 11 e (clash-none x 11 refl refl)
+        | inr e ↦ at 11 e (clash-none x 11 refl refl refl)
         | inl b ↦ elim (or-case (z == 32) (z == 9) b) [
-          | inr e ↦ at 9 e (clash-none x 9 refl refl)
-          | inl e ↦ at 32 e (clash-none x 32 refl refl)
+          | inr e ↦ at 9 e (clash-none x 9 refl refl refl)
+          | inl e ↦ at 32 e (clash-none x 32 refl refl refl)
         ]
       ]
     ]

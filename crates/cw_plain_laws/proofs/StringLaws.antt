@@ -106,11 +106,6 @@ string-of-cut kind opening q place bs k rest size closed =
       notes = and_last (e.quiet j) (note_unless (is j).closed notes.StringUnended (is j).stop);
     }) ∙ ap (λ m. plain kind m) (omega (arith, size))
 
-pub string-cut : (q place : ℕ) (bs : List ℕ) (k : ℕ) (rest : List ℕ) → length bs ≡ suc k → IsClosed q 0 false bs
-    → string kinds.Quoted 1 q place (q ∷ (bs ++ rest)) ≡ plain kinds.Quoted (suc (length bs))
-string-cut q place bs k rest size closed = string-of-cut kinds.Quoted 1 q (place + 1) bs k rest size closed
-    ∙ ap (λ m. plain kinds.Quoted m) (omega arith)
-
 pub quote-cut : (place : ℕ) (bs : List ℕ) (k : ℕ) (rest : List ℕ) → length bs ≡ suc k → IsClosed apostrophe 0 false bs
     → string (kinds.Code codes.Quote) 2 apostrophe place (at_sign ∷ apostrophe ∷ (bs ++ rest))
     ≡ plain (kinds.Code codes.Quote) (suc (suc (length bs)))
