@@ -49,7 +49,8 @@ def step(book, k):
         f"${{}}\\|b\\MRL{{+{{\\K}}}}\\T{{{k}}};{{}}$\\6",
         f"${{}}\\|c(\\T{{{k}}},\\39\\|a);{{}}$\\6",
         "\\4${}\\}\\2{}$\\6",
-        "\\&{else}\\1\\5\\&{while} (\\|b)\\1\\5${}\\|b\\MM;\\2{}$\\2\\par",
+        "\\&{else}\\1\\6",
+        "\\&{while} (\\|b)\\1\\5${}\\|b\\MM;\\2{}$\\2\\par",
         ("footnotes", f"Step {k}."),
     ]
     book.count(29, 20)
@@ -175,7 +176,7 @@ def told(book):
     tex, index, names = lines_of(book)
     unused = [f"! Never used: <{text}>" for text, kept in book.names.items() if not kept["used"]]
     return "\n".join(
-        ["[term]This is CWEAVE (profile 2)"] + unused + ["Writing the output file...", "[tex] is foo.tex", "[tex]" + tex[0]] + tex[1:]
+        ["[term]This is CWEAVE (profile 3)"] + unused + ["Writing the output file...", "[tex] is foo.tex", "[tex]" + tex[0]] + tex[1:]
         + ["[term]Writing the index...", "[idx] is foo.idx", "[idx]" + index[0]] + index[1:]
         + ["[scn] is foo.scn", "[scn]" + names[0]] + names[1:]
         + ["[term]Done.", f"sections {SECTIONS}", f"scraps {book.scraps}", f"productions {book.productions}", f"lines {len(tex)}"]

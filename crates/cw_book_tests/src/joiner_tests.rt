@@ -105,15 +105,15 @@ const IDENTIFIERS: [&[u8]; 3] = [b"_next_of$", b"x", b"EOF"];
 
 /// Names, signs and runs; the names are the first three behind the built-in words.
 const TEXT: [(FlatItem, &[u8]); 13] = [
-    (FlatItem::Ident(NameId { index: 49 }, 0), b""),
+    (FlatItem::Ident(NameId { index: 102 }, 0), b""),
     (FlatItem::Control(Control::Blank), b""),
     (FlatItem::Control(Control::Indent), b""),
     (FlatItem::Control(Control::Break), b""),
     (FlatItem::Control(Control::Backup), b""),
     (FlatItem::Control(Control::ToMath), b""),
-    (FlatItem::Ident(NameId { index: 50 }, 0), b""),
+    (FlatItem::Ident(NameId { index: 103 }, 0), b""),
     (FlatItem::Source(9), b"\\K"),
-    (FlatItem::Ident(NameId { index: 51 }, 0), b""),
+    (FlatItem::Ident(NameId { index: 104 }, 0), b""),
     (FlatItem::Control(Control::ToText), b""),
     (FlatItem::Control(Control::BigBreak), b""),
     (FlatItem::Control(Control::Cancel), b""),

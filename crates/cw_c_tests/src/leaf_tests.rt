@@ -68,7 +68,7 @@ fn is_leaf(
 
 const SOURCE: FlatItem = FlatItem::Source(3);
 
-const SIGNS: [(Sign, Cat, MathMode); 37] = [
+const SIGNS: [(Sign, Cat, MathMode); 40] = [
     (Sign::Slash, Cat::Binop, MathMode::Math),
     (Sign::Dot, Cat::Dot, MathMode::Math),
     (Sign::Less, Cat::Binop, MathMode::Math),
@@ -105,7 +105,10 @@ const SIGNS: [(Sign, Cat, MathMode); 37] = [
     (Sign::Comma, Cat::Comma, MathMode::Math),
     (Sign::Semicolon, Cat::Semi, MathMode::Maybe),
     (Sign::Colon, Cat::Colon, MathMode::Maybe),
-    (Sign::Ellipsis, Cat::RawInt, MathMode::Math),
+    (Sign::Ellipsis, Cat::Dots, MathMode::Math),
+    (Sign::DoubleColon, Cat::Colcol, MathMode::Math),
+    (Sign::QuestionColon, Cat::Binop, MathMode::Math),
+    (Sign::DoubleBracket, Cat::AttrHead, MathMode::Maybe),
 ];
 
 // The first sign with another scrap.
@@ -126,11 +129,14 @@ fn each_sign_has_its_category_and_mode(rt: HostRuntime) -> Result<(), Fail> {
 }
 
 // The scrap holds the place of the token alone: prefixes, exponents, suffixes and escapes are printed from there.
-const CONSTANTS: [&[u8]; 8] = [
-    b"0", b"12", b"017", b"0x1F", b"0XaL", b"1.5e-3", b"2E9f", b"7ul",
+const CONSTANTS: [&[u8]; 11] = [
+    b"0", b"12", b"017", b"0x1F", b"0XaL", b"1.5e-3", b"2E9f", b"7ul", b"0b1'0", b"1'000",
+    b"0x1.8p3",
 ];
 
-const STRINGS: [&[u8]; 9] = [
+const STRINGS: [&[u8]; 11] = [
+    b"L\"a\"",
+    b"u8'a'",
     b"\"\"",
     b"'a'",
     b"\" #%$^{}~&_\"",
@@ -201,8 +207,8 @@ const CANCEL: FlatItem = FlatItem::Control(Control::Cancel);
 const WALL: FlatItem = FlatItem::Control(Control::Wall);
 
 const CODES: [(u8, Cat, MathMode, &[FlatItem]); 13] = [
-    (b'=', Cat::Exp, MathMode::Maybe, &[SOURCE]),
-    (b't', Cat::Exp, MathMode::Maybe, &[SOURCE]),
+    (b'=', Cat::Box, MathMode::Maybe, &[SOURCE]),
+    (b't', Cat::Box, MathMode::Maybe, &[SOURCE]),
     (b'\'', Cat::Exp, MathMode::Maybe, &[SOURCE]),
     (b';', Cat::Semi, MathMode::Maybe, &[]),
     (b'[', Cat::BeginArg, MathMode::Maybe, &[]),
@@ -233,7 +239,7 @@ const CODES: [(u8, Cat, MathMode, &[FlatItem]); 13] = [
         &[
             CANCEL,
             WALL,
-            FlatItem::Control(Control::Blank),
+            FlatItem::Control(Control::OptionalBreak),
             WALL,
             CANCEL,
         ],
@@ -272,11 +278,15 @@ fn a_line_of_the_preprocessor_is_put_on_a_line_of_its_own(rt: HostRuntime) -> Re
 }
 
 // Words with their categories outside `#` lines and in them.
-const WORDS: [(&[u8], Cat, Cat); 27] = [
+const WORDS: [(&[u8], Cat, Cat); 41] = [
     (b"n", Cat::Exp, Cat::Exp),
     (b"size_t", Cat::RawInt, Cat::RawInt),
     (b"_Bool", Cat::RawInt, Cat::RawInt),
+    (b"bool", Cat::RawInt, Cat::RawInt),
+    (b"uint8_t", Cat::RawInt, Cat::RawInt),
+    (b"_Complex", Cat::RawInt, Cat::RawInt),
     (b"static", Cat::IntLike, Cat::IntLike),
+    (b"constexpr", Cat::IntLike, Cat::IntLike),
     (b"inline", Cat::IntLike, Cat::IntLike),
     (b"const", Cat::ConstLike, Cat::ConstLike),
     (b"restrict", Cat::ConstLike, Cat::ConstLike),
@@ -288,8 +298,17 @@ const WORDS: [(&[u8], Cat, Cat); 27] = [
     (b"else", Cat::ElseLike, Cat::ElseLike),
     (b"sizeof", Cat::SizeofLike, Cat::SizeofLike),
     (b"_Generic", Cat::SizeofLike, Cat::SizeofLike),
+    (b"_Static_assert", Cat::SizeofLike, Cat::SizeofLike),
     (b"typedef", Cat::TypedefLike, Cat::TypedefLike),
+    (b"typeof", Cat::TypeofLike, Cat::TypeofLike),
+    (b"_Atomic", Cat::TypeofLike, Cat::TypeofLike),
+    (b"alignas", Cat::AlignasLike, Cat::AlignasLike),
+    (b"_Pragma", Cat::AlignasLike, Cat::AlignasLike),
+    (b"true", Cat::Exp, Cat::Exp),
+    (b"nullptr", Cat::Exp, Cat::Exp),
     (b"elif", Cat::Exp, Cat::IfLike),
+    (b"elifdef", Cat::Exp, Cat::IfLike),
+    (b"embed", Cat::Exp, Cat::IfLike),
     (b"error", Cat::Exp, Cat::IfLike),
     (b"ifdef", Cat::Exp, Cat::IfLike),
     (b"ifndef", Cat::Exp, Cat::IfLike),
@@ -297,6 +316,7 @@ const WORDS: [(&[u8], Cat, Cat); 27] = [
     (b"line", Cat::Exp, Cat::IfLike),
     (b"pragma", Cat::Exp, Cat::IfLike),
     (b"undef", Cat::Exp, Cat::IfLike),
+    (b"warning", Cat::Exp, Cat::IfLike),
     (b"endif", Cat::Exp, Cat::ElseLike),
     (b"define", Cat::Exp, Cat::DefineLike),
     (b"defined", Cat::Exp, Cat::SizeofLike),
@@ -325,6 +345,16 @@ fn first_other_word(alloc: Global) -> Result<Option<usize>, Memory> {
 #[test]
 fn a_word_is_reserved_in_its_place_only(rt: HostRuntime) -> Result<(), Fail> {
     assert_eq!(rt; first_other_word(rt.alloc())?, None);
+    Ok(())
+}
+
+#[test]
+fn a_macro_of_tex_is_an_expression_in_math(rt: HostRuntime) -> Result<(), Fail> {
+    let leaves = [
+        word_leaf(rt.alloc(), b"NULL", false)?,
+        word_leaf(rt.alloc(), b"TeX", true)?,
+    ];
+    assert_eq!(rt; leaves, [(Cat::Exp, MathMode::Math); 2]);
     Ok(())
 }
 

@@ -40,7 +40,7 @@ fn found_again(alloc: Global) -> Result<Found, Memory> {
 #[test]
 fn names_are_found_again(rt: HostRuntime) -> Result<(), Fail> {
     let wanted = (
-        [49, 49, 50, 49],
+        [102, 102, 103, 102],
         true,
         ([Cat::Exp, Cat::RawInt, Cat::Exp], false),
     );
@@ -96,8 +96,8 @@ fn note_all(xrefs: &mut Xrefs, x: NameId, y: NameId) -> Result<(), Memory> {
 // occurrences there are.
 fn noted_in(xrefs: &mut Xrefs) -> Result<(bool, [usize; 3]), Memory> {
     let (x, y, other) = (
-        NameId { index: 49 },
-        NameId { index: 50 },
+        NameId { index: 102 },
+        NameId { index: 103 },
         NameId { index: 3 },
     );
     note_all(xrefs, x, y)?;

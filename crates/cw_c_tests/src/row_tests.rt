@@ -21,7 +21,7 @@ use std::test::Fail;
 // how many scraps are left, and the category and the translation of the new one. In a translation a digit stands for a
 // scrap, and as in the table `_` for a blank, Y, F and B for breaks, N for a cancel, U for a backup, W for a wall, `>`
 // and `<` for indents, O for the optional break of cost 9, T for a thin space, `{`, `}` and m for braces and a
-// relation; I for the mark.
+// relation; I for the mark; `$` for the toggle into math.
 macro_rules! rows {
     ($($row:literal: [$($test:ident)*] $at:literal $left:literal $cat:ident $bytes:literal;)*) => {
         [$(($row, &[$(Cat::$test),*], $at, $left, Cat::$cat, $bytes)),*]
@@ -32,12 +32,12 @@ const FROM_1: [(u8, &[Cat], usize, usize, Cat, &[u8]); 12] = rows! {
     1: [Stmt Insert] 0 1 Stmt b"01";
     2: [BeginArg EndArg] 0 1 Exp b"01";
     3: [Comma EndArg] 0 1 EndArg b"01";
-    4: [Exp Lbrace] 0 2 FnDecl b"0>>";
+    4: [Exp Lbrace] 0 2 FnDecl b"WN>>0";
     5: [Exp Unop] 0 1 Exp b"01";
     6: [Exp Binop Exp] 0 1 Exp b"012";
     7: [Exp Comma Exp] 0 1 Exp b"01O2";
     8: [Exp Semi] 0 1 Stmt b"01";
-    9: [Exp Colon] 0 1 Tag b"01";
+    9: [Exp Colon] 0 1 Tag b"0WN1";
     10: [Exp Rbrace] 0 2 Stmt b"0";
     11: [Exp Cast] 0 1 Exp b"01";
     12: [Lpar Ubinop Rpar] 0 1 Exp b"012";
@@ -70,7 +70,7 @@ const FROM_25: [(u8, &[Cat], usize, usize, Cat, &[u8]); 12] = rows! {
     33: [DeclHead Exp Semi] 0 2 DeclHead b"01";
     34: [DeclHead Binop Exp Semi] 0 2 DeclHead b"012";
     35: [DeclHead Cast] 0 1 DeclHead b"01";
-    36: [DeclHead Decl] 0 2 FnDecl b"0>>";
+    36: [DeclHead Decl] 0 2 FnDecl b"W>>0";
 };
 
 const FROM_37: [(u8, &[Cat], usize, usize, Cat, &[u8]); 12] = rows! {
@@ -95,11 +95,11 @@ const FROM_49: [(u8, &[Cat], usize, usize, Cat, &[u8]); 12] = rows! {
     52: [Lbrace Exp Comma Rbrace] 0 1 Exp b"0123";
     53: [IfLike Exp] 0 1 IfClause b"0_1";
     54: [ElseLike Lbrace] 0 2 ElseHead b"0";
-    55: [ElseLike Stmt] 0 1 Stmt b"F0>YWN1<F";
+    55: [ElseLike Stmt] 0 1 Stmt b"F0Y>1<F";
     56: [ElseHead Exp] 0 1 Stmt b"F0YWN1F";
     57: [IfClause Lbrace] 0 2 IfHead b"0";
-    58: [IfClause Stmt ElseLike IfLike] 0 1 IfLike b"F0>YWN1<F2_3";
-    59: [IfClause Stmt ElseLike Stmt] 0 2 ElseLike b"F0>YWN1<F2";
+    58: [IfClause Stmt ElseLike IfLike] 0 1 IfLike b"F0Y>1<F2_3";
+    59: [IfClause Stmt ElseLike Stmt] 0 2 ElseLike b"F0Y>1<F2";
     60: [IfClause Stmt Stmt] 0 3 ElseLike b"0";
 };
 
@@ -124,7 +124,7 @@ const FROM_73: [(u8, &[Cat], usize, usize, Cat, &[u8]); 10] = rows! {
     75: [Lproc IfLike] 0 1 Lproc b"01";
     76: [Lproc Rproc] 0 1 Insert b"I01";
     77: [Lproc Exp Rproc] 0 1 Insert b"I0_12";
-    78: [Lproc Exp Exp Rproc] 0 1 Insert b"I0_1Y23";
+    78: [Lproc Exp Exp Rproc] 0 3 Lproc b"0_1Y";
     79: [SectionScrap Semi] 0 1 Stmt b"01F";
     80: [SectionScrap] 0 1 Exp b"0";
     81: [Insert Decl] 0 1 Decl b"01";
@@ -139,7 +139,7 @@ const FROM_83: [(u8, &[Cat], usize, usize, Cat, &[u8]); 10] = rows! {
     87: [TypedefLike Ubinop Cast] 1 2 Cast b"{1}2";
     88: [Question Exp Colon] 0 1 Binop b"012";
     89: [RawInt] 0 1 IntLike b"0";
-    90: [RawUbin ConstLike] 0 1 RawUbin b"01_";
+    90: [RawUbin ConstLike] 0 1 RawUbin b"01TT";
     91: [RawUbin] 0 1 Ubinop b"0";
     92: [ConstLike] 0 1 IntLike b"0";
 };
@@ -152,15 +152,56 @@ const FROM_93: [(u8, &[Cat], usize, usize, Cat, &[u8]); 5] = rows! {
     97: [Dot] 0 1 Binop b"0";
 };
 
+const FROM_98: [(u8, &[Cat], usize, usize, Cat, &[u8]); 10] = rows! {
+    98: [Stmt Exp] 1 2 Stmt b"1";
+    99: [Tag Exp] 0 1 Exp b"0_1";
+    100: [DoLike Exp ElseLike Comma] 0 2 Stmt b"0YWN1NWY2";
+    101: [Stmt Rbrace] 0 1 Stmt b"0FU1";
+    102: [Colon Binop] 0 1 Binop b"0m1}";
+    103: [Lpar Exp Ubinop Comma] 1 3 DeclHead b"1_${2}";
+    104: [Ubinop Ubinop Rpar] 0 2 Ubinop b"{0}{1}";
+    105: [Exp Function] 0 1 Function b"0F1";
+    106: [StructHead Exp Comma Rbrace] 1 3 Stmt b"12";
+    107: [Binop IntLike] 1 2 Exp b"1";
+};
+
+const FROM_108: [(u8, &[Cat], usize, usize, Cat, &[u8]); 11] = rows! {
+    108: [FnDecl Lbrace Exp Rbrace] 1 2 Stmt b"F1>F2FU3<F";
+    109: [DeclHead Binop Stmt] 0 1 DeclHead b"012";
+    110: [SectionScrap ElseLike] 0 2 Stmt b"0F";
+    111: [Dots Rpar] 0 2 IntLike b"0";
+    112: [Box SectionScrap] 0 1 SectionScrap b"01";
+    113: [Box Semi] 0 2 Exp b"0";
+    114: [AttrHead Exp Rpar Rpar] 0 1 Attr b"0123";
+    115: [AlignasLike Exp] 0 1 Attr b"01";
+    116: [StructLike Attr] 0 1 StructLike b"0_1";
+    117: [Attr StructLike] 0 1 StructLike b"0_1";
+    118: [TypeofLike IntLike] 0 1 IntLike b"0_1";
+};
+
+const FROM_119: [(u8, &[Cat], usize, usize, Cat, &[u8]); 10] = rows! {
+    119: [SizeofLike ConstLike] 0 1 SizeofLike b"0_1";
+    120: [Colcol Colon] 0 1 Colcol b"01";
+    121: [DeclHead Colon IntLike Lbrace] 0 1 StructHead b"01_2_3";
+    122: [Function Binop Lbrace] 0 2 Stmt b"0_1";
+    123: [Binop Exp Rpar] 0 2 Exp b"01";
+    124: [Exp Comma Rproc] 0 2 Exp b"01";
+    125: [CaseLike ForLike] 0 1 Exp b"0_1";
+    126: [Lbrace Stmt] 0 1 Exp b"0_1";
+    127: [Insert IntLike] 0 2 Decl b"0";
+    128: [Lproc Exp DoLike] 0 2 Lproc b"0_1Y";
+};
+
 // The same for the rows that a flag changes, with all flags off. Behind a function a declaration is set apart all the
 // same.
-const FLAGS_OFF: [(u8, &[Cat], usize, usize, Cat, &[u8]); 6] = rows! {
+const FLAGS_OFF: [(u8, &[Cat], usize, usize, Cat, &[u8]); 7] = rows! {
     4: [Exp Lbrace] 0 2 FnDecl b"0";
     36: [DeclHead Decl] 0 2 FnDecl b"0";
     39: [Decl Stmt] 0 1 Stmt b"0F1";
     39: [Decl Function] 0 1 Function b"0B1";
     47: [FnDecl Stmt] 0 1 Function b"0F1";
     72: [Stmt Stmt] 0 1 Stmt b"0Y1";
+    105: [Exp Function] 0 1 Function b"0Y1";
 };
 
 // The scrap whose identifier a production underlines.
@@ -480,8 +521,9 @@ fn first_wrong(
     Ok(0)
 }
 
-const ROWS: [&[(u8, &[Cat], usize, usize, Cat, &[u8])]; 9] = [
+const ROWS: [&[(u8, &[Cat], usize, usize, Cat, &[u8])]; 12] = [
     &FROM_1, &FROM_13, &FROM_25, &FROM_37, &FROM_49, &FROM_61, &FROM_73, &FROM_83, &FROM_93,
+    &FROM_98, &FROM_108, &FROM_119,
 ];
 
 // The first such number of all productions, or 0.

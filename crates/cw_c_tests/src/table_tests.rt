@@ -33,7 +33,7 @@ fn distances_are_the_least_safe_ones(rt: HostRuntime) {
 #[test]
 fn steps_back_are_the_distances(rt: HostRuntime) {
     let table = table();
-    for number in 1..98 {
+    for number in 1..129 {
         assert_eq!(rt;
             step_back(RowNo { number }),
             table.distance(RowNo { number }),
@@ -55,7 +55,7 @@ fn nothing_fits_at_what_no_row_joins(rt: HostRuntime) {
 #[test]
 fn each_row_is_found_by_its_own_tests(rt: HostRuntime) {
     let table = table();
-    for number in 1..98 {
+    for number in 1..129 {
         let row = table.row(RowNo { number });
         let window = [
             first_of(row.tests[0]),

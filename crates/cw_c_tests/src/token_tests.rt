@@ -5,14 +5,49 @@ use cw_lex::{Code, Mode, Sign, TokKind};
 
 #[test]
 fn identifiers(rt: HostRuntime) {
-    for text in [b"a".as_slice(), b"_x1", b"$", b"int", b"L", b"\xe9t\xe9"] {
+    for text in [
+        b"a".as_slice(),
+        b"_x1",
+        b"$",
+        b"int",
+        b"L",
+        b"u8",
+        b"\xe9t\xe9",
+    ] {
         assert!(rt; is_one(Mode::CPart, text, TokKind::Identifier));
     }
 }
 
-const WHOLE_CONSTANTS: [&[u8]; 20] = [
-    b"0", b"7", b"120", b"012", b"08", b"0x1f", b"0XaF", b"1.", b"1.5", b".5", b"1e5", b"1E+5",
-    b"1.e-5", b".5e10", b"012.5", b"12u", b"0x1fUL", b"1.5f", b"2e3L", b"7lulu",
+const WHOLE_CONSTANTS: [&[u8]; 29] = [
+    b"0",
+    b"7",
+    b"120",
+    b"012",
+    b"08",
+    b"0x1f",
+    b"0XaF",
+    b"1.",
+    b"1.5",
+    b".5",
+    b"1e5",
+    b"1E+5",
+    b"1.e-5",
+    b".5e10",
+    b"012.5",
+    b"12u",
+    b"0x1fUL",
+    b"1.5f",
+    b"2e3L",
+    b"7lulu",
+    b"0b1010'1010",
+    b"0B1uL",
+    b"0x1.8p-3f",
+    b"0x1.p3",
+    b"0X1p3",
+    b"0x1'f",
+    b"1'000'000u",
+    b"1'0.5'5e1'2",
+    b".5'5",
 ];
 
 #[test]
@@ -26,9 +61,13 @@ const CONSTANT: Shown = Shown::Token(TokKind::Constant, 0, 1);
 
 const NAME: Shown = Shown::Token(TokKind::Identifier, 1, 2);
 
-// Digits are wanted behind `0x`, behind a dot that begins a constant, and in an exponent.
-const WHERE_A_CONSTANT_ENDS: [Row; 5] = [
+const CHARACTER: Shown = Shown::Token(TokKind::Quoted, 1, 4);
+
+// Digits are wanted behind `0x` and `0b`, behind a dot that begins a constant, and in an exponent; a dot before a dot
+// belongs to no constant, and between two digits of one run one quote may stand.
+const WHERE_A_CONSTANT_ENDS: [Row; 11] = [
     (Mode::CPart, b"0x", &[CONSTANT, NAME]),
+    (Mode::CPart, b"0b", &[CONSTANT, NAME]),
     (Mode::CPart, b"1e", &[CONSTANT, NAME]),
     (
         Mode::CPart,
@@ -44,8 +83,43 @@ const WHERE_A_CONSTANT_ENDS: [Row; 5] = [
         Mode::CPart,
         b"1..2",
         &[
-            Shown::Token(TokKind::Constant, 0, 2),
+            CONSTANT,
+            Shown::Token(TokKind::Sign(Sign::Dot), 1, 2),
             Shown::Token(TokKind::Constant, 2, 4),
+        ],
+    ),
+    (
+        Mode::CPart,
+        b"1...5",
+        &[
+            CONSTANT,
+            Shown::Token(TokKind::Sign(Sign::Ellipsis), 1, 4),
+            Shown::Token(TokKind::Constant, 4, 5),
+        ],
+    ),
+    (
+        Mode::CPart,
+        b"0b12",
+        &[
+            Shown::Token(TokKind::Constant, 0, 3),
+            Shown::Token(TokKind::Constant, 3, 4),
+        ],
+    ),
+    (
+        Mode::CPart,
+        b"0x1p",
+        &[
+            Shown::Token(TokKind::Constant, 0, 3),
+            Shown::Token(TokKind::Identifier, 3, 4),
+        ],
+    ),
+    (Mode::CPart, b"1'a'", &[CONSTANT, CHARACTER]),
+    (
+        Mode::CPart,
+        b"1.'5'",
+        &[
+            Shown::Token(TokKind::Constant, 0, 2),
+            Shown::Token(TokKind::Quoted, 2, 5),
         ],
     ),
 ];
@@ -56,7 +130,7 @@ fn where_a_constant_ends(rt: HostRuntime) {
     expect_answers(&rt, &WHERE_A_CONSTANT_ENDS);
 }
 
-const SIGNS: [(&[u8], Sign); 37] = [
+const SIGNS: [(&[u8], Sign); 40] = [
     (b"/", Sign::Slash),
     (b".", Sign::Dot),
     (b"<", Sign::Less),
@@ -94,6 +168,9 @@ const SIGNS: [(&[u8], Sign); 37] = [
     (b";", Sign::Semicolon),
     (b":", Sign::Colon),
     (b"...", Sign::Ellipsis),
+    (b"::", Sign::DoubleColon),
+    (b"?:", Sign::QuestionColon),
+    (b"[[", Sign::DoubleBracket),
 ];
 
 #[test]
@@ -104,7 +181,7 @@ fn each_sign(rt: HostRuntime) {
 }
 
 // Of the signs that fit the longest is taken, and what begins none is a byte of its own.
-const WHERE_A_SIGN_ENDS: [Row; 3] = [
+const WHERE_A_SIGN_ENDS: [Row; 5] = [
     (
         Mode::CPart,
         b"<<=",
@@ -119,6 +196,22 @@ const WHERE_A_SIGN_ENDS: [Row; 3] = [
         &[
             Shown::Token(TokKind::Sign(Sign::MinusMinus), 0, 2),
             Shown::Token(TokKind::Sign(Sign::Arrow), 2, 4),
+        ],
+    ),
+    (
+        Mode::CPart,
+        b":::",
+        &[
+            Shown::Token(TokKind::Sign(Sign::DoubleColon), 0, 2),
+            Shown::Token(TokKind::Sign(Sign::Colon), 2, 3),
+        ],
+    ),
+    (
+        Mode::CPart,
+        b"?::",
+        &[
+            Shown::Token(TokKind::Sign(Sign::QuestionColon), 0, 2),
+            Shown::Token(TokKind::Sign(Sign::Colon), 2, 3),
         ],
     ),
     (
@@ -140,7 +233,11 @@ fn where_a_sign_ends(rt: HostRuntime) {
 }
 
 // A backslash takes any byte along, and a line's end goes on wherever a backslash stands before it.
-const WHOLE_STRINGS: [&[u8]; 8] = [
+const WHOLE_STRINGS: [&[u8]; 12] = [
+    b"L\"a\"",
+    b"u'a'",
+    b"U\"a\"",
+    b"u8\"a\"",
     b"\"a b\"",
     b"'\"'",
     b"'\\''",
@@ -151,13 +248,21 @@ const WHOLE_STRINGS: [&[u8]; 8] = [
     b"\"a\\@b\"",
 ];
 
-const STRINGS: [Row; 2] = [
+const STRINGS: [Row; 3] = [
     (
         Mode::CPart,
-        b"L'a'",
+        b"uL'a'",
+        &[
+            Shown::Token(TokKind::Identifier, 0, 2),
+            Shown::Token(TokKind::Quoted, 2, 5),
+        ],
+    ),
+    (
+        Mode::CPart,
+        b"L 'a'",
         &[
             Shown::Token(TokKind::Identifier, 0, 1),
-            Shown::Token(TokKind::Quoted, 1, 4),
+            Shown::Token(TokKind::Quoted, 2, 5),
         ],
     ),
     (

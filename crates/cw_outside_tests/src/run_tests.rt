@@ -130,7 +130,7 @@ fn close_thrice(alloc: Global, desk: &mut MemDesk) -> Result<[Exit; 3], PutError
         sections: 3,
         scraps: 87,
         productions: 60,
-        lines: 31,
+        lines: 34,
     };
     let flags = Flags::start();
     let harmless = [note(NoteKind::NeverUsed, 0, 0)];
@@ -181,7 +181,7 @@ const PARTS: [(Part, Option<[Exit; 3]>, &[u8]); 4] = [
     (
         Part::Lines,
         None,
-        b"This is CWEAVE (profile 2)
+        b"This is CWEAVE (profile 3)
 Writing the index...
 Done.
 ",
@@ -211,7 +211,7 @@ Done.
         b"sections 3
 scraps 87
 productions 60
-lines 31
+lines 34
 (No errors were found.)
 (Did you see the warning message above?)
 (Pardon me, but I think I spotted something wrong.)

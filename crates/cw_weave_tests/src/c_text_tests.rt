@@ -7,7 +7,7 @@ use std::alloc::Global;
 use std::test::Fail;
 
 /// What a run of one section tells before it.
-const BEGINNING: &[u8] = b"[term]This is CWEAVE (profile 2)
+const BEGINNING: &[u8] = b"[term]This is CWEAVE (profile 3)
 Writing the output file...
 [tex] is foo.tex
 [tex]\\input cwebmac

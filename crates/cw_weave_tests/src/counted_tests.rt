@@ -18,7 +18,7 @@ const COUNTED: [Counted; 4] = [
             told: b"[term]sections 3
 scraps 87
 productions 60
-lines 31
+lines 34
 Clean",
         },
         fails_at: None,
@@ -44,7 +44,7 @@ Clean",
                 (b"f10", b"@i f11\n@ Deep.\n"),
                 (b"f11", b"Too deep.\n"),
             ],
-            told: b"[term]This is CWEAVE (profile 2)
+            told: b"[term]This is CWEAVE (profile 3)
 ! Too many nested includes (l. 1 of f10)
 Writing the output file...
 [tex] is foo.tex
@@ -71,7 +71,7 @@ Errors",
             name: "a failing put",
             words: &[FOO],
             files: &[(b"foo.w", HELLO)],
-            told: b"[term]This is CWEAVE (profile 2)
+            told: b"[term]This is CWEAVE (profile 3)
 Writing the output file...
 [tex] is foo.tex
 [tex]\\input cwebmac
@@ -86,7 +86,7 @@ Fault",
             name: "a failing read",
             words: &[FOO],
             files: &[(b"foo.w", HELLO)],
-            told: b"[term]This is CWEAVE (profile 2)\nFault",
+            told: b"[term]This is CWEAVE (profile 3)\nFault",
         },
         fails_at: Some(3),
         calls: 3,

@@ -13,7 +13,7 @@ const RUNS: [Run; 7] = [
         name: "a declaration with its index",
         words: &[FOO],
         files: &[(b"foo.w", b"@ @c int a=b+c, *d;\n")],
-        told: b"[term]This is CWEAVE (profile 2)
+        told: b"[term]This is CWEAVE (profile 3)
 Writing the output file...
 [tex] is foo.tex
 [tex]\\input cwebmac
@@ -41,7 +41,7 @@ Clean",
             b"@ @c aaaaaaaaaaaaaaaaaaaaaaaaaaaaaaaaaaaaaaaaaaaaaaaaaaaaaaaaaaaaaaaaaaaaaaaaaaaaaaaaaaaaaaaaaaaaaaaaaaaa\
 aaaaaaaaaaaaaaaaaaaaaaaaaaaaaaaaaaaaaaaaaaaaaaaaaaaaaaaaaaaaaaaaaaaaaaaaaaaaaaaaaaaaaaaaaaaaaaaaaaaa\n",
         )],
-        told: b"[term]This is CWEAVE (profile 2)
+        told: b"[term]This is CWEAVE (profile 3)
 Writing the output file...
 [tex] is foo.tex
 [tex]\\input cwebmac
@@ -63,7 +63,7 @@ Clean",
         name: "statistics with an index",
         words: &[b"+s", FOO],
         files: &[(b"foo.w", b"@ @c int i;\n@ @c i=i+1;\n")],
-        told: b"[term]This is CWEAVE (profile 2)
+        told: b"[term]This is CWEAVE (profile 3)
 Writing the output file...
 [tex] is foo.tex
 [tex]\\input cwebmac
@@ -111,18 +111,18 @@ int main(void)
 printf(\"Hello\\n\"); /* |i| is unused */
 ",
         )],
-        told: b"[term]This is CWEAVE (profile 2)
+        told: b"[term]This is CWEAVE (profile 3)
 Writing the output file...
 [tex] is foo.tex
 [tex]\\input cwebmac
 \\def\\title{Hello}
 \\N{0}{1}Hello. This program greets \\PB{\\|n} times.
 \\Y\\B\\4\\D$\\|n$\\5\\T{3}\\par
-\\Y\\B\\8\\#\\&{include} \\.{<stdio.h>}\\6
-\\&{int} \\\\{main}(\\&{void})\\1\\1\\2\\2\\6
+\\Y\\B\\8\\#\\&{include} \\.{<stdio.h>}\\7
+\\1\\1\\&{int} \\\\{main}(\\&{void})\\2\\2\\6
 ${}\\{\\1{}$\\6
 \\&{int} \\|i;\\7
-\\&{for} ${}(\\|i\\K\\T{0};{}$ ${}\\|i<\\|n;{}$ ${}\\|i\\PP)\\1{}$\\5\\X2:Greet\\X;\\2\\6
+\\&{for} ${}(\\|i\\K\\T{0};{}$ ${}\\|i<\\|n;{}$ ${}\\|i\\PP){}$\\1\\5\\X2:Greet\\X;\\2\\6
 \\&{return} \\T{0};\\6
 \\4${}\\}\\2{}$\\par
 \\fi
@@ -156,7 +156,7 @@ Clean",
             b"foo.w",
             b"@ @<Read@>= x;\n@ @<Read b@>= y;\n@ @f foo int\n@c foo x; /* b |x /* c |y| */| */\n",
         )],
-        told: b"[term]This is CWEAVE (profile 2)
+        told: b"[term]This is CWEAVE (profile 3)
 ! Name conflicts with another (l. 2 of foo.w)
 ! Never used: <Read>
 Writing the output file...
@@ -204,7 +204,7 @@ Errors",
         told: b"[term]sections 2000
 scraps 58000
 productions 40000
-lines 18004
+lines 20004
 Clean",
     },
 ];
@@ -249,7 +249,7 @@ fn forty_told(alloc: Global) -> Result<Bytes, Memory> {
     told(alloc, &[b"-e", b"+s", FOO], &[(b"foo.w", web.as_slice())])
 }
 
-// Each section has 29 scraps, 20 productions and 9 lines. The section list counts for none of them.
+// Each section has 29 scraps, 20 productions and 10 lines. The section list counts for none of them.
 #[test]
 fn forty_sections(rt: HostRuntime) -> Result<(), Fail> {
     let text = forty_told(rt.alloc())?;
@@ -258,7 +258,7 @@ fn forty_sections(rt: HostRuntime) -> Result<(), Fail> {
 sections 40
 scraps 1160
 productions 800
-lines 364
+lines 404
 (Did you see the warning message above?)
 Clean"
             .as_slice())
