@@ -2,11 +2,15 @@
 use cw_logtext::judge;
 
 // Logs, and files that are none, each with the number of its fault; 0 stands for a log.
-const FILES: [(&str, usize); 36] = [
+const FILES: [(&str, usize); 37] = [
     ("", 0),
     ("text 0\nend\n", 0),
     ("text 0\nend", 0),
-    ("text 0\nP6 0\nP97 16777215\nend\ntext 0\nend\n", 0),
+    ("text 0\nP6 0\nP128 16777215\nend\ntext 0\nend\n", 0),
+    (
+        "text 4\ns tex_like\nc attr_head attr\ns dots\ni alignas_like colcol\nend\n",
+        0,
+    ),
     (
         "text 4\nb exp i\nc case_like\nc dead n case\ni exp a _b2 $\nend\n",
         0,
@@ -36,7 +40,7 @@ const FILES: [(&str, usize); 36] = [
     ("text 1\nb exp 1x\nend\n", 2),
     ("text 1\ns end\nend\n", 2),
     ("text 1\nP6 0\nend\n", 2),
-    ("text 0\nP98 0\nend\n", 2),
+    ("text 0\nP129 0\nend\n", 2),
     ("text 0\nP0 0\nend\n", 2),
     ("text 0\nP06 0\nend\n", 2),
     ("text 0\nP6 16777216\nend\n", 2),

@@ -7,10 +7,26 @@ use std::alloc::Global;
 use std::test::Fail;
 
 // Webs, and the log of each.
-const WEBS: [(&str, &str); 12] = [
+const WEBS: [(&str, &str); 15] = [
     (
         "@ @c i=i+1;\n",
         "text 6\nb exp i\ns binop\nb exp i\ns ubinop\ns exp\ns semi\nP6 0\nP6 0\nP8 0\nend\n",
+    ),
+    // A name that prints as a macro of TeX tells no name.
+    (
+        "@ @s p_q TeX\n@c a=NULL; p_q=a;\n",
+        "text 8\nb exp a\ns binop\ns exp\ns semi\ns exp\ns binop\nb exp a\ns semi\nP6 0\nP8 0\nP6 1\nP8 1\nP72 0\nend\n",
+    ),
+    // An attribute and a box.
+    (
+        "@ @c [[a]] int b;\n@ @c @t\\4@>x;\n",
+        "text 7\ns attr_head\nb exp a\ns rpar\ns rpar\ns raw_int\nb exp b\ns semi\nP114 0\nP117 0\nP89 0\nP29 0\n\
+         P33 0\nP37 0\nend\ntext 3\ns box\nb exp x\ns semi\nP113 0\nP11 0\nP8 0\nend\n",
+    ),
+    // A list of parameters that goes on.
+    (
+        "@ |f(int,...)|\n",
+        "text 6\nb exp f\ns lpar\ns raw_int\ns comma\ns dots\ns rpar\nP89 2\nP15 1\nP111 2\nP14 1\nP11 0\nend\n",
     ),
     // Inner texts of comments end before the text around them.
     (

@@ -2,7 +2,7 @@
 use crate::runs::Row;
 
 /// Webs, and the files that are written of them.
-pub(crate) const ROWS: [Row; 14] = [
+pub(crate) const ROWS: [Row; 15] = [
     // A long comment with inner C text.
     Row {
         web: b"@ @c a; /* b |x+ +y| c */ d;
@@ -11,6 +11,22 @@ pub(crate) const ROWS: [Row; 14] = [
         file: b"section 1
 a;/* b |x+ +y| c */
 d;
+
+",
+    },
+    // Blanks that keep apart what would be one sign, constant or string, and a name that prints as a macro of TeX.
+    Row {
+        web: b"@ @c a[ [b]]; L \"x\"; 1 '2'; a ? ::b:c; x=u8\"y\"; p=NULL; n=1'000;
+",
+        change: b"",
+        file: b"section 1
+a[ [b]];
+L \"x\";
+1 '2';
+a? ::b:c;
+x=u8\"y\";
+p=NULL;
+n=1'000;
 
 ",
     },
@@ -39,6 +55,7 @@ printf(\"Hi\\n\"); // done |i|
         file: b"section 1
 #include <stdio.h>
 #define N 3
+
 int main(void)
 {
   int i;
