@@ -68,11 +68,11 @@ struct lead {
 };
 
 @ @<Constants@>=
-static const struct lead leads[]={
-  {.mask=0b1000'0000,@|.bits=0b0000'0000,.followers=0,.least=0},
-  {.mask=0b1110'0000,@|.bits=0b1100'0000,.followers=1,.least=0x80},
-  {.mask=0b1111'0000,@|.bits=0b1110'0000,.followers=2,.least=0x800},
-  {.mask=0b1111'1000,@|.bits=0b1111'0000,.followers=3,.least=0x1'0000},
+static const struct lead leads[]={@t\1@>@/
+  {.mask=0b1000'0000,.bits=0b0000'0000,.followers=0,.least=0},@/
+  {.mask=0b1110'0000,.bits=0b1100'0000,.followers=1,.least=0x80},@/
+  {.mask=0b1111'0000,.bits=0b1110'0000,.followers=2,.least=0x800},@/
+  {.mask=0b1111'1000,.bits=0b1111'0000,.followers=3,.least=0x1'0000}@t\2@>@/
 };
 static_assert(sizeof leads/sizeof leads[0]==4);
 
@@ -80,7 +80,7 @@ static_assert(sizeof leads/sizeof leads[0]==4);
 that explain it. The fault |none| stands where nothing is wrong.
 
 @<Types@>=
-enum fault : uint8_t {@t\1@>@/
+enum fault : uint8_t {
   none,@/
   stray, /* a later byte without a first one */
   unknown, /* no character begins with such a byte */
@@ -88,7 +88,7 @@ enum fault : uint8_t {@t\1@>@/
   ended, /* the text is over before the character is */
   overlong, /* fewer bytes would do */
   surrogate, /* half of a pair */
-  too_great@t\2@>@/
+  too_great /* no character has such a number */
 };
 
 @ @<Constants@>=
