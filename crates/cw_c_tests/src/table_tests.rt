@@ -74,7 +74,7 @@ fn rows_are_as_written(rt: HostRuntime) {
     let row = table.row(RowNo { number: 58 });
     assert!(rt; table.is_sound());
     assert!(rt; row.tests[0].has(Cat::IfClause) && !row.tests[0].has(Cat::IfLike));
-    assert!(rt; row.action.usual.pieces[11] == Piece::Scrap(3) && row.action.usual.count == 12);
+    assert!(rt; row.action.usual.pieces[9] == Piece::Scrap(3) && row.action.usual.count == 10);
 }
 
 #[test]
