@@ -14,7 +14,7 @@ struct Row {
     lines: Lines,
 }
 
-const ROWS: [Row; 11] = [
+const ROWS: [Row; 12] = [
     // The section that defines a name doesn't list it.
     Row {
         web: &[b"@ @c int i;", b"@ @c i=i+1;"],
@@ -70,6 +70,12 @@ const ROWS: [Row; 11] = [
             b"\\&{foo}, 1.",
             b"\\|x, 2.",
         ],
+    },
+    // A name that prints as a macro of TeX.
+    Row {
+        web: &[b"@ @s p_q TeX", b"@d p_q 1", b"@ @c a=p_q;"],
+        change: &[],
+        lines: &[b"section 1", b"section 2", b"$\\pxq$, 1."],
     },
     // Comments, section names, a mark that waits.
     Row {

@@ -7,7 +7,7 @@ use std::process::Abort;
 use std::test::Fail;
 
 /// A web, and what its run tells of its sections, of its index and at the end.
-const ROWS: [(&[u8], &[u8], &[u8], &[u8]); 7] = [
+const ROWS: [(&[u8], &[u8], &[u8], &[u8]); 8] = [
     // Two names begin with the prefix.
     (
         b"@ @<Read a@>= x;\n@ @<Read b@>= y;\n@ @c @<Read...@>;\n",
@@ -67,6 +67,33 @@ Writing the output file...
 [idx] is foo.idx
 [idx]\\I\\&{foo}, 1.
 \\I\\|x, \\[1].
+[scn] is foo.scn
+[term]",
+        b"Done.
+(No errors were found.)
+Clean",
+    ),
+    // Names that print as macros of TeX, one of them defined.
+    (
+        b"@ @f p_q TeX\n@d NULL 0\n@c a=p_q;\n",
+        b"[term]This is CWEAVE (profile 3)
+Writing the output file...
+[tex] is foo.tex
+[tex]\\input cwebmac
+\\M{1}
+\\Y\\B\\4\\F$\\pxq$\\5$\\TeX$\\par
+\\B\\4\\D$\\NULL$\\5\\T{0}\\par
+\\Y\\B$\\|a\\K\\pxq;$\\par
+\\fi
+
+",
+        b"\\inx
+\\fin
+\\end
+[term]Writing the index...
+[idx] is foo.idx
+[idx]\\I$\\NULL$, \\[1].
+\\I$\\pxq$, 1.
 [scn] is foo.scn
 [term]",
         b"Done.
