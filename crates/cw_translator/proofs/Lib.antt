@@ -15,3 +15,4 @@ pub mod NameLists
 pub mod Recorded
 pub mod Routes
 pub mod AnswerRoutes
+pub mod FormatNames

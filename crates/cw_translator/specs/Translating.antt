@@ -1,6 +1,6 @@
 -- The translation of a C text, over the nest of its tokens: a token makes a leaf; the inner texts of a comment are
 -- translated when its leaf is made; a text that ends is reduced and put together.
-use Rattle.std.specs.Prelude.{ℕ, List, [], ◌∷◌, ◌++◌, Option, Some, None}
+use Rattle.std.specs.Prelude.{ℕ, Bool, true, false, List, [], ◌∷◌, ◌++◌, Option, Some, None, if◌then◌else◌}
 use Rattle.cw_base.specs.declared.category.Cat.{Cat}
 use Rattle.cw_base.specs.declared.category.Cat.TheVariants as cat
 use Rattle.cw_base.specs.declared.flags.Flags.{Flags}
@@ -238,9 +238,22 @@ macro_made number words known =
     one_scrap (leaf_scrap (dead number (dollared words.tokens ++ token.Control control.OptionalBreak ∷ [])))
     (with_names words.names known)
 
+-- The names of a format definition stand in text, so a macro of TeX among them has dollars of its own.
+abbrev pub is_macro : Token → Bool
+is_macro (token.Reserved name number cat.TexLike) = true
+is_macro word = false
+
+abbrev pub name_in_text : Token → List Token
+name_in_text word = if is_macro word then dollared (word ∷ []) else word ∷ []
+
+abbrev pub names_in_text : List Token → List Token
+names_in_text [] = []
+names_in_text (word ∷ words) = name_in_text word ++ names_in_text words
+
 abbrev pub format_made : ℕ → Spelled → Spelled → Known → Made
 format_made number first second known =
-    one_scrap (leaf_scrap (dead number (first.tokens ++ token.Control control.OptionalBreak ∷ second.tokens)))
+    one_scrap (leaf_scrap (dead number (names_in_text first.tokens ++ token.Control control.OptionalBreak
+    ∷ names_in_text second.tokens)))
     (with_names second.names known)
 
 abbrev pub format_from : ℕ → Spelled → List Seen → Known → Made
