@@ -1,7 +1,7 @@
 -- A text that is printed byte by byte, and divided on the way.
-use Rattle.std.specs.Prelude.{ℕ, ◌-◌, ◌&&◌, ◌==◌, Bool, true, false, not, List, [], ◌∷◌, ◌++◌}
+use Rattle.std.specs.Prelude.{ℕ, ◌-◌, ◌&&◌, ◌||◌, ◌==◌, Bool, true, false, not, List, [], ◌∷◌, ◌++◌}
 use Rattle.cw_print.specs.declared.dividing.Portion.{Portion}
-use Rattle.cw_print.specs.Escaping.{escaped_byte}
+use Rattle.cw_print.specs.Escaping.{escaped_byte, is_escaped}
 use Rattle.cw_print.specs.Texts.{division}
 
 -- a portion of which so many bytes have come, and no backslash last
@@ -31,3 +31,7 @@ abbrev pub rest_bytes : Portion → List ℕ → List ℕ
 rest_bytes portion [] = []
 rest_bytes portion (byte ∷ bytes) =
     next_byte portion byte ++ rest_bytes (with_byte (portion_for_next portion) byte) bytes
+
+-- a byte of a string that does not print itself, or not whatever stands beside it
+abbrev pub is_special : ℕ → Bool
+is_special byte = is_escaped byte || byte == 64

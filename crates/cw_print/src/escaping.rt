@@ -4,7 +4,7 @@ ghost use Rattle.cw_print.specs.Escaping.{is_escaped, escaped_byte, escaped};
 
 use cw_base::{Bytes, Memory};
 
-fn is_escaped(byte: u8) -> bool
+pub(crate) fn is_escaped(byte: u8) -> bool
     ensures { result ≡ is_escaped byte }
 {
     match byte {

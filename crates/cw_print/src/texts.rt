@@ -1,5 +1,5 @@
 //! The bytes of strings, include names and control texts.
-ghost use Rattle.std.specs.Prelude.{◌≡◌, ◌++◌, ◌∷◌, OnOk};
+ghost use Rattle.std.specs.Prelude.{◌≡◌, ◌≤◌, ◌++◌, ◌∷◌, IfOk, OnOk, length};
 ghost use Rattle.cw_print.specs.Dividing.{rest_bytes};
 ghost use Rattle.cw_print.specs.Escaping.{escaped};
 ghost use Rattle.cw_print.specs.Texts.{is_continued, is_pair, is_at_pair, string_bytes, include_bytes, is_text_end};
@@ -39,29 +39,47 @@ fn is_text_end(byte: u8, next: u8) -> bool
     byte == b'@' && next == b'>'
 }
 
+// Appends what the two bytes with which a string's text goes on print, or the first of them alone, and answers what
+// stands behind.
+#[inline(always)]
+fn put_two<'a>(
+    out: &mut Bytes,
+    portion: &mut Portion,
+    byte: u8,
+    others: &'a [u8],
+) -> Result<&'a [u8], Memory>
+    ensures printed { IfOk result (λ rest. out.new ++ rest_bytes portion.new (string_bytes rest.now)
+        ≡ out.old ++ rest_bytes portion.old (string_bytes (byte ∷ others.now))) }
+    ensures shorter { IfOk result (λ rest. length rest.now ≤ length others.now) }
+{
+    let [next, behind @ ..] = others else {
+        portion.put(out, byte)?;
+        return Ok(others);
+    };
+    if is_continued(byte, *next) {
+        return Ok(behind);
+    }
+    portion.put(out, byte)?;
+    if is_pair(byte, *next, behind) {
+        portion.put(out, *next)?;
+        return Ok(behind);
+    }
+    Ok(if is_at_pair(byte, *next) {
+        behind
+    } else {
+        others
+    })
+}
+
 // Appends what the rest of a string says, from where its portion has come to.
 fn put_string_rest(out: &mut Bytes, first: Portion, text: &[u8]) -> Result<(), Memory>
     ensures { OnOk result (out.new ≡ out.old ++ rest_bytes first (string_bytes text.now)) }
 {
     let mut portion = first;
-    let mut rest = text;
+    let mut rest = portion.put_plain(out, text)?;
     while let [byte, others @ ..] = rest {
-        let [next, behind @ ..] = others else {
-            return portion.put(out, *byte);
-        };
-        if is_continued(*byte, *next) {
-            rest = behind;
-        } else {
-            portion.put(out, *byte)?;
-            if is_pair(*byte, *next, behind) {
-                portion.put(out, *next)?;
-                rest = behind;
-            } else if is_at_pair(*byte, *next) {
-                rest = behind;
-            } else {
-                rest = others;
-            }
-        }
+        let behind = put_two(out, &mut portion, *byte, others)?;
+        rest = portion.put_plain(out, behind)?;
     }
     Ok(())
 }

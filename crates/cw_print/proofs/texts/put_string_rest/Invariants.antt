@@ -6,7 +6,7 @@ use Rattle.cw_print.proofs.texts.put_string_rest.Given as goal
 
 abbrev pub invariant-loop-rest : goal.invariant-loop-rest
 invariant-loop-rest l = l.out ++ rest_bytes l.portion (string_bytes l.rest)
-    ≡ l.initial.out ++ rest_bytes l.initial.portion (string_bytes l.text)
+    ≡ l.fn.out ++ rest_bytes l.fn.first (string_bytes l.text)
 
 abbrev pub decreases-loop-rest : goal.decreases-loop-rest
 decreases-loop-rest l = length l.rest
