@@ -114,7 +114,7 @@ abbrev pub FormWalks : Source → Option LeafForm → Type 0
 FormWalks s None = Unit {0}
 FormWalks s (Some form) = TokensWalk s form.tokens
 
-word-walks : (s : Source) (c : Cat) (name : NameId) (n : ℕ) → Owns s n → TokensWalk s (word_form c name n).tokens
+pub word-walks : (s : Source) (c : Cat) (name : NameId) (n : ℕ) → Owns s n → TokensWalk s (word_form c name n).tokens
 word-walks s Exp name n owns rest walks = ident-walks s name.index n (tree_in [] rest) owns walks
 word-walks s c name n owns rest walks = reserved-walks s name.index n c (tree_in [] rest) owns walks
 
@@ -131,13 +131,10 @@ code-walks s code.OptionalBreak n owns = λ rest walks.
 code-walks s code.NoBreak n owns = λ rest walks.
     let last = sign-walks s control.Cancel (tree_in [] rest) tt walks in
     let wall = sign-walks s control.Wall (Then (Sign control.Cancel) (tree_in [] rest)) tt last in
-    let blank = sign-walks s control.Blank (Then (Sign control.Wall) (Then (Sign control.Cancel) (tree_in [] rest))) tt
-    wall in
-    sign-walks s control.Cancel
-    (Then (Sign control.Wall) (Then (Sign control.Blank) (Then (Sign control.Wall) (Then (Sign control.Cancel)
-    (tree_in [] rest))))) tt
-    (sign-walks s control.Wall
-    (Then (Sign control.Blank) (Then (Sign control.Wall) (Then (Sign control.Cancel) (tree_in [] rest)))) tt blank)
+    let behind : Tree = Then (Sign control.Wall) (Then (Sign control.Cancel) (tree_in [] rest)) in
+    let break = sign-walks s control.OptionalBreak behind tt wall in
+    sign-walks s control.Cancel (Then (Sign control.Wall) (Then (Sign control.OptionalBreak) behind)) tt
+    (sign-walks s control.Wall (Then (Sign control.OptionalBreak) behind) tt break)
 code-walks s code.HeaderFile n owns = λ rest walks.
     let behind : Tree = Then (Sign control.Break) (tree_in [] rest) in
     sign-walks s control.Break (Then (SourceLeaf n Text) behind) tt

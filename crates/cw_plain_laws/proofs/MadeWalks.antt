@@ -7,6 +7,7 @@ use Rattle.std.proofs.lemmas.List.{append-nil, append_assoc}
 use Rattle.std.proofs.lemmas.List.Elements.{All-append, All-cons, All-nil}
 use Rattle.cw_base.proofs.TestLaws.{both-left, both-right}
 use Rattle.cw_base.specs.declared.category.Cat.{Cat}
+use Rattle.cw_base.specs.declared.category.Cat.TheVariants.{Exp}
 use Rattle.cw_base.specs.declared.flags.Flags.{Flags}
 use Rattle.cw_base.specs.declared.mode.MathMode.{MathMode}
 use Rattle.cw_base.specs.declared.mode.MathMode.TheVariants.{Text}
@@ -15,13 +16,14 @@ use Rattle.cw_lex.specs.Heads.{head_behind, head_words, named_headed, no_word, w
 use Rattle.cw_lex.specs.Nest.{Nest, End, Leaf, Group, IsGroupOf, IsWell}
 use Rattle.cw_lex.specs.declared.heads.Wanted.{Wanted}
 use Rattle.cw_lex.specs.declared.heads.Wanted.TheVariants as wants
+use Rattle.cw_names.specs.declared.NameId.{NameId}
 use Rattle.cw_names.specs.Names.{Entry}
 use Rattle.cw_plain.specs.Pieces.{Source}
 use Rattle.cw_plain_laws.proofs.FoundTokens.{AllOf, IsFound}
 use Rattle.cw_plain_laws.proofs.KeptTrees.{OfScrap, end-kept}
 use Rattle.cw_plain_laws.proofs.LeafWalks.{FormWalks, ItemWalks, Owns, TokensWalk, comment-walks, form-walks}
 use Rattle.cw_plain_laws.proofs.LeafWalks.{found-owns}
-use Rattle.cw_plain_laws.proofs.LeafWalks.{is_name, name-walks, source-walks, stays}
+use Rattle.cw_plain_laws.proofs.LeafWalks.{is_name, name-walks, source-walks, stays, word-walks}
 use Rattle.cw_plain_laws.proofs.WalkLaws.{empty-walks, reserve-walks, sign-walks, sub-walks}
 use Rattle.cw_plain_laws.proofs.Walks.{Walks}
 use Rattle.cw_reduce.proofs.HeadAnswers.{first-all, head-words-fit, later-all, word_kind}
@@ -29,7 +31,8 @@ use Rattle.cw_rules.specs.Answers.{Answer, Seen, is_head_sign}
 use Rattle.cw_rules.specs.declared.codes.Code.TheVariants as code
 use Rattle.cw_rules.specs.declared.tokens.TokKind.{TokKind}
 use Rattle.cw_rules.specs.declared.tokens.TokKind.TheVariants as kind
-use Rattle.cw_scraps.specs.Leaves.{LeafForm, names_with, token_form}
+use Rattle.cw_rules.proofs.Choices.{if-both}
+use Rattle.cw_scraps.specs.Leaves.{LeafForm, names_with, token_form, word_form}
 use Rattle.cw_scraps.specs.Words.{is_word}
 use Rattle.cw_tokens.specs.Shapes.{tree_in}
 use Rattle.cw_tokens.specs.declared.token.Token.{Token}
@@ -37,7 +40,7 @@ use Rattle.cw_tokens.specs.declared.token.Token.TheVariants as token
 use Rattle.cw_translator.specs.Translating.{CommentItem, Piece, InnerText, Known, Made, NameTexts, beside}
 use Rattle.cw_translator.specs.Translating.{dead, dollared, end_of, first_word, form_made, form_tokens}
 use Rattle.cw_translator.specs.Translating.{group_made, head_made, headed_made, later_words, leaf_of_name, leaf_scrap}
-use Rattle.cw_translator.specs.Translating.{made}
+use Rattle.cw_translator.specs.Translating.{is_macro, made, name_in_text, names_in_text}
 use Rattle.cw_translator.specs.Translating.{one_item, one_scrap, sign_behind, spelled, state_in, texts_named}
 use Rattle.cw_translator.specs.Translating.{token_made, with_names, word_tokens}
 use Rattle.cw_trees.specs.Joining.{Scrap}
@@ -261,20 +264,40 @@ word-stays kind.Identifier e = refl
 word-stays (kind.Sign sign) e = refl
 word-stays _ e = absurd cc
 
-form-tokens : (s : Source) (o : Option LeafForm) → FormWalks s o → TokensWalk s (form_tokens o)
-form-tokens s None walks = tokens-none s
-form-tokens s (Some form) walks = walks
+-- each of some tokens has its bytes
+abbrev EachWalks : Source → List Token → Type 0
+EachWalks s [] = Unit {0}
+EachWalks s (t ∷ ts) = TokensWalk s (t ∷ []) × EachWalks s ts
 
-spelled-walks : (s : Source) (words : List Seen) (names : List Entry) → list_all word_kind words ≡ true
-    → Each (IsFound s.answers) words → TokensWalk s (spelled words names).tokens
-spelled-walks s [] names are all = tokens-none s
-spelled-walks s (t ∷ words) names are all =
+each-walk : (s : Source) (tokens : List Token) → EachWalks s tokens → TokensWalk s tokens
+each-walk s [] each = tokens-none s
+each-walk s (t ∷ ts) each = tokens-append s (t ∷ []) ts each.0 (each-walk s ts each.1)
+
+each-append : (s : Source) (xs ys : List Token) → EachWalks s xs → EachWalks s ys → EachWalks s (xs ++ ys)
+each-append s [] ys f g = g
+each-append s (x ∷ xs) ys f g = (f.0, each-append s xs ys f.1 g)
+
+-- a name has one token
+name-each : (s : Source) (c : Cat) (name : NameId) (n : ℕ) → Owns s n → EachWalks s (word_form c name n).tokens
+name-each s Exp name n owns = (word-walks s Exp name n owns, tt)
+name-each s c name n owns = (word-walks s c name n owns, tt)
+
+word-each : (s : Source) (k : TokKind) (text : List ℕ) (hash_line : Bool) (n : ℕ) (names : List Entry)
+    → is_word k ≡ true → Owns s n → EachWalks s (form_tokens (token_form k text hash_line n names))
+word-each s kind.Identifier text hash_line n names is owns = name-each s _ _ n owns
+word-each s (kind.Sign sign) text hash_line n names is owns =
+    (form-walks s (kind.Sign sign) text hash_line n names (λ stay. owns), tt)
+word-each s _ text hash_line n names is owns = absurd cc
+
+spelled-each : (s : Source) (words : List Seen) (names : List Entry) → list_all word_kind words ≡ true
+    → Each (IsFound s.answers) words → EachWalks s (spelled words names).tokens
+spelled-each s [] names are all = tt
+spelled-each s (t ∷ words) names are all =
     let is : is_word t.kind ≡ true = both-left (word_kind t) (list_all word_kind words) are in
     let owns : Owns s t.span.start = found-owns s t all.0 (word-stays t.kind is) in
-    tokens-append s (word_tokens t names) (spelled words (names_with t.kind t.text names)).tokens
-    (form-tokens s (token_form t.kind t.text t.hash_line t.span.start names)
-    (form-walks s t.kind t.text t.hash_line t.span.start names (λ stay. owns)))
-    (spelled-walks s words (names_with t.kind t.text names)
+    each-append s (word_tokens t names) (spelled words (names_with t.kind t.text names)).tokens
+    (word-each s t.kind t.text t.hash_line t.span.start names is owns)
+    (spelled-each s words (names_with t.kind t.text names)
     (both-right (word_kind t) (list_all word_kind words) are) all.1)
 
 control-walks : (s : Source) (rest : List Token) → Walks s (tree_in [] rest)
@@ -287,6 +310,14 @@ dollared-walks s (t ∷ ts) walks = λ rest more.
     control-walks s (((t ∷ ts) ++ token.Control control.Dollar ∷ []) ++ rest)
     (tokens-append s (t ∷ ts) (token.Control control.Dollar ∷ []) walks (λ rest more. control-walks s rest more) rest
     more)
+
+-- the names of a format definition, with the dollars of macros of TeX
+names-walk : (s : Source) (tokens : List Token) → EachWalks s tokens → TokensWalk s (names_in_text tokens)
+names-walk s [] each = tokens-none s
+names-walk s (t ∷ ts) each = tokens-append s (name_in_text t) (names_in_text ts)
+    (if-both (TokensWalk s) (is_macro t) (dollared (t ∷ [])) (t ∷ []) (λ h. dollared-walks s (t ∷ []) each.0)
+    (λ h. each.0))
+    (names-walk s ts each.1)
 
 break-walks : (s : Source) → TokensWalk s (token.Control control.OptionalBreak ∷ [])
 break-walks s rest walks = sign-walks s control.OptionalBreak (tree_in [] rest) tt walks
@@ -314,17 +345,20 @@ head-made s flags named titled (Macro number words) known found =
     dead-made s number (dollared p.tokens ++ token.Control control.OptionalBreak ∷ []) _
     (number-owns s number found.0)
     (tokens-append s (dollared p.tokens) (token.Control control.OptionalBreak ∷ [])
-    (dollared-walks s p.tokens (spelled-walks s words known.names found.1.fit found.1.each)) (break-walks s))
+    (dollared-walks s p.tokens (each-walk s p.tokens (spelled-each s words known.names found.1.fit found.1.each)))
+    (break-walks s))
 head-made s flags named titled (Format number words) known found =
     let p = spelled (first_word words) known.names in
     let q = spelled (later_words words) p.names in
-    dead-made s number (p.tokens ++ token.Control control.OptionalBreak ∷ q.tokens) _ (number-owns s number found.0)
-    (tokens-append s p.tokens (token.Control control.OptionalBreak ∷ q.tokens)
-    (spelled-walks s (first_word words) known.names (first-all word_kind words found.1.fit)
-    (each-first (IsFound s.answers) words found.1.each))
-    (tokens-append s (token.Control control.OptionalBreak ∷ []) q.tokens (break-walks s)
-    (spelled-walks s (later_words words) p.names (later-all word_kind words found.1.fit)
-    (each-later (IsFound s.answers) words found.1.each))))
+    let first = names_in_text p.tokens in
+    let second = names_in_text q.tokens in
+    dead-made s number (first ++ token.Control control.OptionalBreak ∷ second) _ (number-owns s number found.0)
+    (tokens-append s first (token.Control control.OptionalBreak ∷ second)
+    (names-walk s p.tokens (spelled-each s (first_word words) known.names (first-all word_kind words found.1.fit)
+    (each-first (IsFound s.answers) words found.1.each)))
+    (tokens-append s (token.Control control.OptionalBreak ∷ []) second (break-walks s)
+    (names-walk s q.tokens (spelled-each s (later_words words) p.names (later-all word_kind words found.1.fit)
+    (each-later (IsFound s.answers) words found.1.each)))))
 head-made s flags named titled (Named number sign) known found =
     let t = found.0.0 in
     let behind = source-walks s sign Text (Then (Sign control.Break) Empty) (number-owns s sign found.1)
