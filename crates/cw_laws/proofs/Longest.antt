@@ -1,5 +1,5 @@
 -- Identifiers, constants and signs are the longest that begin at their places.
-use Rattle.std.proofs.Common.{◌≡◌, ℕ, zero, suc, ◌+◌, ◌-◌, ◌≤◌, Bool, true, false, ◌&&◌, ◌||◌, not, ◌==◌, nat_lt}
+use Rattle.std.proofs.Common.{◌≡◌, ℕ, zero, suc, ◌+◌, ◌-◌, ◌≤◌, Bool, true, false, ◌&&◌, not, ◌==◌, nat_lt}
 use Rattle.std.proofs.Common.{nat_le, List, [], ◌∷◌, ◌++◌, Option, Some, None, if◌then◌else◌, length, slice_index, drop}
 use Rattle.std.proofs.Common.{take, refl}
 use Rattle.std.proofs.Common.{sym, ap, subst, ◌∙◌, arith}
