@@ -35,7 +35,7 @@ use Rattle.cw_rewrite.specs.Gathering.{refs_in}
 use Rattle.cw_reduce.specs.HeadReading.{IsLast, HasTokens, answer_words, head_line, is_definition, macro_tokens}
 use Rattle.cw_reduce.specs.HeadReading.{format_tokens, with_break, read_made, words_in, words_tokens}
 use Rattle.cw_translator.specs.Translating.{NameTexts, Known, Made, with_names, spelled, first_word, later_words}
-use Rattle.cw_translator.specs.Translating.{dollared}
+use Rattle.cw_translator.specs.Translating.{dollared, names_in_text}
 use Rattle.cw_translator.specs.Translating.{dead, leaf_scrap, head_made}
 use Rattle.cw_reduce.proofs.HeadAnswers.{word_kind, words-fit, words-same}
 use Rattle.cw_reduce.proofs.HeadReads.{HeadFits, reads-head}
@@ -140,7 +140,8 @@ module _ (number : ℕ) (words : List Seen) (old new : StoredLists) (names names
       → Defines old new names names' head (Format number words)
   format-by (read.Dead list) fits last =
       let first = spelled (first_word words) names in
-      let ts = first.tokens ++ token.Control control.OptionalBreak ∷ (spelled (later_words words) first.names).tokens in
+      let ts = names_in_text first.tokens ++ token.Control control.OptionalBreak
+      ∷ names_in_text (spelled (later_words words) first.names).tokens in
       let same : ts ≡ with_break (spelled words names).tokens = break-behind words names fit in
       let known : Known = record { names = names; marks = []; ended = [] } in
       let agrees : scrap_agrees (leaf_scrap (dead number ts)) = All-head scrap_agrees (leaf_scrap (dead number ts)) []

@@ -5,7 +5,7 @@ use Rattle.std.specs.List.{list_all}
 use Rattle.std.proofs.lemmas.List.{append-nil, append_assoc}
 use Rattle.cw_base.proofs.TestLaws.{both, both-left, both-right}
 use Rattle.cw_base.specs.declared.category.Cat.{Cat}
-use Rattle.cw_base.specs.declared.category.Cat.TheVariants.{Exp}
+use Rattle.cw_base.specs.declared.category.Cat.TheVariants.{Exp, TexLike}
 use Rattle.cw_base.specs.declared.flags.Flags.{Flags}
 use Rattle.cw_base.specs.declared.mode.MathMode.{MathMode}
 use Rattle.cw_base.specs.declared.mode.MathMode.TheVariants.{Text, Math}
@@ -33,7 +33,8 @@ use Rattle.cw_scraps.specs.Words.{is_word}
 use Rattle.cw_reduce.specs.TranslationLaws.{InnersRead, ReadsInText}
 use Rattle.cw_translator.specs.Translating.{Known, spelled, form_tokens, word_tokens, first_word, later_words, dollared}
 use Rattle.cw_translator.specs.Translating.{dead, leaf_scrap, sign_behind, head_made, headed_made, leaf_of_name, made}
-use Rattle.cw_translator.specs.Translating.{begin, translated}
+use Rattle.cw_translator.specs.Translating.{begin, names_in_text, translated}
+use Rattle.cw_translator.proofs.FormatNames.{names-append}
 use Rattle.cw_reduce.proofs.HeadAnswers.{first-all, head-words-fit, later-all, word_kind}
 use Rattle.cw_reduce.proofs.ReadLaws.{IsFineKnown, IsSoundMade, reads-nothing, reads-scrap, reads-beside, reads-end}
 use Rattle.cw_reduce.proofs.ReadLaws.{reads-made, reads-leaf, reads-headed-name}
@@ -79,10 +80,6 @@ abbrev StayIn : MathMode → (TokKind → Bool) → Type 0
 StayIn mode fits = (k : TokKind) (text : List ℕ) (hash_line : Bool) (n : ℕ) (names : List Entry) → fits k ≡ true
     → StaysIn mode (form_tokens (token_form k text hash_line n names))
 
-names-stay : StayIn Text is_name
-names-stay kind.Identifier text hash_line n names h = word-stays Text _ _ n
-names-stay k text hash_line n names h = absurd cc
-
 words-stay : StayIn Math is_word
 words-stay kind.Identifier text hash_line n names h = word-stays Math _ _ n
 words-stay (kind.Sign s) text hash_line n names h = sign-stays s n
@@ -97,6 +94,28 @@ spelled-stays mode fits stay (word ∷ words) names h =
     (both-left (fits word.kind) (list_all (λ word. fits word.kind) words) h))
     (spelled-stays mode fits stay words (names_with word.kind word.text names)
     (both-right (fits word.kind) (list_all (λ word. fits word.kind) words) h))
+
+-- the names of a format definition stay in text
+word-in-text : (c : Cat) (name : NameId) (n : ℕ) → StaysIn Text (names_in_text (word_form c name n).tokens)
+word-in-text Exp name n = record { stays = λ rest. refl; inners = λ rest h. h }
+word-in-text TexLike name n = record { stays = λ rest. refl; inners = λ rest h. h }
+word-in-text _ name n = record { stays = λ rest. refl; inners = λ rest h. h }
+
+name-in-text : (k : TokKind) (text : List ℕ) (hash_line : Bool) (n : ℕ) (names : List Entry) → is_name k ≡ true
+    → StaysIn Text (names_in_text (form_tokens (token_form k text hash_line n names)))
+name-in-text kind.Identifier text hash_line n names h = word-in-text _ _ n
+name-in-text k text hash_line n names h = absurd cc
+
+names-stay : (words : List Seen) (names : List Entry) → list_all name_kind words ≡ true
+    → StaysIn Text (names_in_text (spelled words names).tokens)
+names-stay [] names h = stays-none Text
+names-stay (word ∷ words) names h =
+    let n = names_with word.kind word.text names in
+    subst (StaysIn Text) (sym (names-append (word_tokens word names) (spelled words n).tokens))
+    (stays-append Text (names_in_text (word_tokens word names)) (names_in_text (spelled words n).tokens)
+    (name-in-text word.kind word.text word.hash_line word.span.start names
+    (both-left (name_kind word) (list_all name_kind words) h))
+    (names-stay words n (both-right (name_kind word) (list_all name_kind words) h)))
 
 dollared-stays : (tokens : List Token) → StaysIn Math tokens → StaysIn Text (dollared tokens)
 dollared-stays [] s = stays-none Text
@@ -216,11 +235,13 @@ reads-head flags named (Macro number words) known fits f =
 reads-head flags named (Format number words) known fits f =
     let s = spelled (first_word words) known.names in
     let t = spelled (later_words words) s.names in
-    reads-dead number (s.tokens ++ token.Control control.OptionalBreak ∷ t.tokens) _
-    (stays-append Text s.tokens (token.Control control.OptionalBreak ∷ t.tokens)
-    (spelled-stays Text is_name names-stay (first_word words) known.names (first-all name_kind words fits))
-    (stays-append Text (token.Control control.OptionalBreak ∷ []) t.tokens break-stays
-    (spelled-stays Text is_name names-stay (later_words words) s.names (later-all name_kind words fits)))) f
+    let first = names_in_text s.tokens in
+    let later = names_in_text t.tokens in
+    reads-dead number (first ++ token.Control control.OptionalBreak ∷ later) _
+    (stays-append Text first (token.Control control.OptionalBreak ∷ later)
+    (names-stay (first_word words) known.names (first-all name_kind words fits))
+    (stays-append Text (token.Control control.OptionalBreak ∷ []) later break-stays
+    (names-stay (later_words words) s.names (later-all name_kind words fits)))) f
 reads-head flags named (Named number sign) known fits f = reads-headed-name flags (named number) (sign_behind sign)
     number known refl tt f
 

@@ -4,7 +4,7 @@ use Rattle.std.proofs.Common.{refl, sym, ap, ◌∙◌, subst, arith}
 use Rattle.std.specs.Prelude.{if◌then◌else◌}
 use Rattle.std.specs.List.{list_all, slice_get}
 use Rattle.std.proofs.lemmas.Bool.{ltb-true}
-use Rattle.std.proofs.lemmas.List.{length-append}
+use Rattle.std.proofs.lemmas.List.{append-nil, length-append}
 use Rattle.std.proofs.lemmas.List.Sums.{prefix_len-le-length}
 use Rattle.cw_base.proofs.TestLaws.{both-left, both-right}
 use Rattle.cw_base.specs.declared.category.Cat.{Cat}
@@ -31,7 +31,7 @@ use Rattle.cw_scraps.proofs.LeafForms.{IsGood}
 use Rattle.cw_rewrite.specs.Gathering.{refs_in}
 use Rattle.cw_reduce.specs.HeadReading.{macro_tokens, format_tokens, with_break}
 use Rattle.cw_translator.specs.Translating.{spelled, form_tokens, word_tokens, first_word, later_words, dollared, dead}
-use Rattle.cw_translator.specs.Translating.{leaf_scrap}
+use Rattle.cw_translator.specs.Translating.{is_macro, leaf_scrap, name_in_text, names_in_text}
 use Rattle.cw_rewrite.proofs.GatherSteps.{ref-place, AtPlace}
 use Rattle.cw_reduce.proofs.HeadAnswers.{word_kind}
 use Rattle.cw_translator.proofs.LeafSteps.{names-grow}
@@ -157,8 +157,8 @@ kind-one k text hash_line n names h = absurd cc
 
 -- the first of them, the break, and the others
 pub break-behind : (words : List Seen) (names : List Entry) → list_all word_kind words ≡ true
-    → (spelled (first_word words) names).tokens ++ token.Control control.OptionalBreak
-    ∷ (spelled (later_words words) (spelled (first_word words) names).names).tokens
+    → names_in_text (spelled (first_word words) names).tokens ++ token.Control control.OptionalBreak
+    ∷ names_in_text (spelled (later_words words) (spelled (first_word words) names).names).tokens
     ≡ with_break (spelled words names).tokens
 break-behind [] names h = refl
 break-behind (word ∷ words) names h =
@@ -166,10 +166,12 @@ break-behind (word ∷ words) names h =
     by (word_tokens word names) (spelled words n).tokens (kind-one word.kind word.text word.hash_line word.span.start
     names (both-left (word_kind word) (list_all word_kind words) h))
   where
-    by : (ts us : List Token) → IsOne ts → (ts ++ []) ++ token.Control control.OptionalBreak ∷ us
-        ≡ with_break (ts ++ us)
-    by ts us o = subst (λ ts. (ts ++ []) ++ token.Control control.OptionalBreak ∷ us ≡ with_break (ts ++ us)) (sym o.is)
-        refl
+    by : (ts us : List Token) → IsOne ts
+        → names_in_text (ts ++ []) ++ token.Control control.OptionalBreak ∷ names_in_text us ≡ with_break (ts ++ us)
+    by ts us o = subst (λ ts. names_in_text (ts ++ []) ++ token.Control control.OptionalBreak ∷ names_in_text us
+        ≡ with_break (ts ++ us)) (sym o.is)
+        (ap (λ word. word ++ token.Control control.OptionalBreak ∷ names_in_text us)
+        (append-nil (name_in_text o.token)))
 
 pub later-names : (words : List Seen) (names : List Entry)
     → (spelled (later_words words) (spelled (first_word words) names).names).names ≡ (spelled words names).names
@@ -182,9 +184,23 @@ dollared-named : (count : ℕ) (ts : List Token) → AreNamed count ts → AreNa
 dollared-named count [] h = tt
 dollared-named count (t ∷ ts) h = (tt, named-append count (t ∷ ts) (token.Control control.Dollar ∷ []) h (tt, tt))
 
+name-named : (count : ℕ) (t : Token) → IsNamed count t → AreNamed count (name_in_text t)
+name-named count t h = by (is_macro t)
+  where
+    by : (b : Bool) → AreNamed count (if b then dollared (t ∷ []) else t ∷ [])
+    by true = (tt, (h, (tt, tt)))
+    by false = (h, tt)
+
+names-named : (count : ℕ) (ts : List Token) → AreNamed count ts → AreNamed count (names_in_text ts)
+names-named count [] h = tt
+names-named count (t ∷ ts) h =
+    named-append count (name_in_text t) (names_in_text ts) (name-named count t h.0) (names-named count ts h.1)
+
 break-named : (count : ℕ) (ts : List Token) → AreNamed count ts → AreNamed count (with_break ts)
 break-named count [] h = (tt, tt)
-break-named count (t ∷ ts) h = (h.0, (tt, h.1))
+break-named count (t ∷ ts) h =
+    named-append count (name_in_text t) (token.Control control.OptionalBreak ∷ names_in_text ts)
+    (name-named count t h.0) (tt, names-named count ts h.1)
 
 pub macro-named : (count number : ℕ) (ts : List Token) → AreNamed count ts → AreNamed count (macro_tokens number ts)
 macro-named count number ts h = (

@@ -1,11 +1,11 @@
 -- The words of heads stand in the tree of a translation as well.
 use Rattle.std.proofs.Common.{◌≡◌, ℕ, Bool, true, false, is_some, Option, Some, None, List, [], ◌∷◌, ◌++◌, refl, ◌∙◌}
-use Rattle.std.proofs.Common.{ap}
+use Rattle.std.proofs.Common.{ap, subst, sym}
 use Rattle.std.specs.List.{list_all}
 use Rattle.std.proofs.lemmas.List.{append-nil}
 use Rattle.cw_base.proofs.TestLaws.{both, both-left, both-right}
 use Rattle.cw_base.specs.declared.category.Cat.{Cat}
-use Rattle.cw_base.specs.declared.category.Cat.TheVariants.{Exp, Dead}
+use Rattle.cw_base.specs.declared.category.Cat.TheVariants.{Exp, Dead, TexLike}
 use Rattle.cw_base.specs.declared.flags.Flags.{Flags}
 use Rattle.cw_base.specs.declared.mode.MathMode.TheVariants.{Text}
 use Rattle.cw_rules.specs.Answers.{Answer, Seen, is_head_sign}
@@ -20,7 +20,7 @@ use Rattle.cw_trees.specs.declared.Control.TheVariants as control
 use Rattle.cw_tokens.specs.declared.token.Token.{Token}
 use Rattle.cw_tokens.specs.declared.token.Token.TheVariants as token
 use Rattle.cw_tokens.specs.Shapes.{tree_in}
-use Rattle.cw_scraps.specs.Leaves.{token_form, word_form}
+use Rattle.cw_scraps.specs.Leaves.{names_with, token_form, word_form}
 use Rattle.cw_base.specs.Conditions.{list_if}
 use Rattle.cw_scraps.specs.Words.{is_word}
 use Rattle.cw_lex.specs.Nest.{Nest, End, Leaf, Group, nest, IsWell}
@@ -32,6 +32,8 @@ use Rattle.cw_lex.specs.declared.heads.Wanted.TheVariants as wants
 use Rattle.cw_reduce.specs.Visible.{starts, shown_in, shown_head, shown}
 use Rattle.cw_translator.specs.Translating.{Known, spelled, form_tokens, first_word, later_words, dollared, sign_behind}
 use Rattle.cw_translator.specs.Translating.{texts_named, head_made, headed_made, leaf_of_name, made, begin, translated}
+use Rattle.cw_translator.specs.Translating.{names_in_text, word_tokens}
+use Rattle.cw_translator.proofs.FormatNames.{names-append}
 use Rattle.cw_reduce.proofs.ShownLaws.{Shows, shows-beside, shows-made, shows-name, struck-end}
 use Rattle.cw_reduce.proofs.ShownLaws.{struck-parts}
 use Rattle.cw_reduce.proofs.HeadAnswers.{first-all, head-words-fit, later-all, word_kind}
@@ -114,6 +116,34 @@ dollared-plain (t ∷ ts) ns p =
     (record { plain = refl; numbers_are = refl }) in
     record { plain = q.plain; numbers_are = q.numbers_are ∙ append-nil ns }
 
+-- the names of a format definition
+word-in-text-plain : (c : Cat) (name : NameId) (n : ℕ)
+    → PlainFor (names_in_text (word_form c name n).tokens) (n ∷ [])
+unfolding is_plain
+word-in-text-plain Exp name n = record { plain = refl; numbers_are = refl }
+word-in-text-plain TexLike name n = record { plain = refl; numbers_are = refl }
+word-in-text-plain _ name n = record { plain = refl; numbers_are = refl }
+
+name-plain : (k : TokKind) (text : List ℕ) (hash_line : Bool) (n : ℕ) (names : List Entry) → is_word k ≡ true
+    → PlainFor (names_in_text (form_tokens (token_form k text hash_line n names))) (n ∷ [])
+unfolding is_plain
+name-plain kind.Identifier text hash_line n names h = word-in-text-plain _ _ n
+name-plain (kind.Sign s) text hash_line n names h = record { plain = refl; numbers_are = refl }
+name-plain k text hash_line n names h = absurd cc
+
+names-plain : (words : List Seen) (names : List Entry) → list_all word_kind words ≡ true
+    → PlainFor (names_in_text (spelled words names).tokens) (starts words)
+unfolding is_plain
+names-plain [] names h = record { plain = refl; numbers_are = refl }
+names-plain (t ∷ words) names h =
+    let n = names_with t.kind t.text names in
+    subst (λ ts. PlainFor ts (starts (t ∷ words)))
+    (sym (names-append (word_tokens t names) (spelled words n).tokens))
+    (plain-append (names_in_text (word_tokens t names)) (names_in_text (spelled words n).tokens) (t.span.start ∷ [])
+    (starts words)
+    (name-plain t.kind t.text t.hash_line t.span.start names (both-left (word_kind t) (list_all word_kind words) h))
+    (names-plain words n (both-right (word_kind t) (list_all word_kind words) h)))
+
 -- The heads.
 pub AreHeadWords : Head → Type 0
 AreHeadWords (Macro number words) = list_all word_kind words ≡ true
@@ -189,10 +219,11 @@ shows-head flags named (Macro number words) known w =
 shows-head flags named (Format number words) known w =
     let s = spelled (first_word words) known.names in
     let t = spelled (later_words words) s.names in
-    let a = spelled-plain (first_word words) known.names (first-all word_kind words w) in
-    let b = spelled-plain (later_words words) s.names (later-all word_kind words w) in
-    let p = plain-append s.tokens (token.Control control.OptionalBreak ∷ t.tokens) (starts (first_word words))
-    (starts (later_words words)) a (record { plain = b.plain; numbers_are = b.numbers_are }) in
+    let a = names-plain (first_word words) known.names (first-all word_kind words w) in
+    let b = names-plain (later_words words) s.names (later-all word_kind words w) in
+    let p = plain-append (names_in_text s.tokens) (token.Control control.OptionalBreak ∷ names_in_text t.tokens)
+    (starts (first_word words)) (starts (later_words words)) a
+    (record { plain = b.plain; numbers_are = b.numbers_are }) in
     record { fine = refl; numbers_are = append-nil _ ∙ ap (λ ns. number ∷ ns) (p.numbers_are ∙ starts-split words) }
 shows-head flags named (Named number sign) known w = shows-named-head flags (named number) number sign known
 

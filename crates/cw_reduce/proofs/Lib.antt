@@ -1,5 +1,6 @@
 -- The laws of translating a whole text: heads, section names, and what is shown.
 mod TranslatedRows
+mod ModernRows
 pub mod ReadSteps
 pub mod Joined
 pub mod ShownLaws

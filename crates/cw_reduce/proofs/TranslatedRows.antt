@@ -27,10 +27,10 @@ none_named number = false
 abbrev c_answers : List ℕ → List Answer
 c_answers text = tokens_of text 0 (length text) CPart
 
-abbrev in_c_part : List ℕ → Ended
+abbrev pub in_c_part : List ℕ → Ended
 in_c_part text = translated start_flags unnamed (c_answers text) built_in_words []
 
-abbrev in_bars : List ℕ → Ended
+abbrev pub in_bars : List ℕ → Ended
 in_bars text = translated start_flags unnamed (tokens_of text 0 (length text) InnerMode) built_in_words []
 
 -- the bytes of a source token that is not printed as it is read, by its number
@@ -55,7 +55,7 @@ shown texts names (SignItem control) = record { item = SignItem control; bytes =
 shown texts names Open = record { item = Open; bytes = codes "\\PB{" }
 shown texts names Close = record { item = Close; bytes = codes "}" }
 
-abbrev bytes_of : List (ℕ × List ℕ) → Ended → List ℕ
+abbrev pub bytes_of : List (ℕ × List ℕ) → Ended → List ℕ
 bytes_of texts t = printed false (map (shown texts t.known.names) (trimmed (flat t.tree)))
 
 -- the scraps and the productions
@@ -185,7 +185,7 @@ unfolding translated normal log count positions looks productions
 one_name = refl
 
 -- Definitions.
-abbrev in_definition : List ℕ → Ended
+abbrev pub in_definition : List ℕ → Ended
 in_definition text = translated start_flags unnamed (tokens_of text 0 (length text) Definition) built_in_words []
 
 macro_bytes : bytes_of ((0, codes "\\D") ∷ (5, codes "\\T{3}") ∷ []) (in_definition (codes "@d n 3"))

@@ -21,7 +21,8 @@ use Rattle.cw_reduce.specs.declared.heads.Beginning.{Beginning}
 use Rattle.cw_reduce.specs.declared.heads.HeadRead.{HeadRead}
 use Rattle.cw_reduce.specs.declared.heads.HeadRead.TheVariants as read
 use Rattle.cw_translator.specs.Opening.{answers_in}
-use Rattle.cw_translator.specs.Translating.{NameTexts, Known, Made, dead, dollared, sign_behind, spelled, texts_named}
+use Rattle.cw_translator.specs.Translating.{NameTexts, Known, Made, dead, dollared, name_in_text, names_in_text}
+use Rattle.cw_translator.specs.Translating.{sign_behind, spelled, texts_named}
 
 -- The codes of definitions, and section names, may begin heads.
 abbrev pub is_definition : TokKind → Bool
@@ -94,7 +95,7 @@ macro_tokens number words = (dead number (dollared words ++ token.Control contro
 
 abbrev pub with_break : List StoredToken → List StoredToken
 with_break [] = token.Control control.OptionalBreak ∷ []
-with_break (first ∷ later) = first ∷ token.Control control.OptionalBreak ∷ later
+with_break (first ∷ later) = name_in_text first ++ token.Control control.OptionalBreak ∷ names_in_text later
 
 abbrev pub format_tokens : ℕ → List StoredToken → List StoredToken
 format_tokens number words = (dead number (with_break words)).tokens

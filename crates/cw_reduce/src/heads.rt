@@ -1,5 +1,5 @@
 //! The head with which a definition or a named C part begins, as it is read.
-ghost use Rattle.std.specs.Prelude.{◌≡◌, ◌+◌, ◌^◌, ◌<◌, ◌≤◌, [], ◌∷◌, ◌++◌, length, true, option_map, IsSome, None};
+ghost use Rattle.std.specs.Prelude.{◌≡◌, ◌+◌, ◌*◌, ◌^◌, ◌<◌, ◌≤◌, [], ◌∷◌, ◌++◌, length, true, option_map, IsSome, None};
 ghost use Rattle.std.specs.Prelude.{Some, IfOk, OnOk, OnErr};
 ghost use Rattle.cw_rules.specs.Answers.{Gives, Token as TokenAnswer, seen};
 ghost use Rattle.cw_answers.specs.Reading.{Stays};
@@ -18,10 +18,11 @@ ghost use Rattle.cw_reduce.specs.HeadReading.{format_tokens, head_line, head_nam
 ghost use Rattle.cw_reduce.specs.HeadReading.{macro_tokens, without_notes, words_tokens};
 ghost use Rattle.cw_reduce.specs.HeadsRead.{HeadIsRead};
 ghost use Rattle.cw_translator.specs.Opening.{StartsBelow, answers_in};
-ghost use Rattle.cw_translator.specs.Translating.{dollared, spelled};
+ghost use Rattle.cw_tokens.specs.Shapes.{ref_of, shape};
+ghost use Rattle.cw_translator.specs.Translating.{dollared, is_macro, name_in_text, names_in_text, spelled};
 
 use cw_answers::Reader;
-use cw_base::{MathMode, Memory};
+use cw_base::{Cat, MathMode, Memory};
 use cw_lex::{Code, Lexed, Tok, TokKind, Wanted};
 use cw_names::Names;
 use cw_scraps::word_token;
@@ -267,13 +268,13 @@ fn macro_list(number: u32, words: &[Token], store: &mut TokenStore) -> Result<Li
     ensures idle { store.new.building ≡ None }
     ensures no_lists { OnErr result (store.new.lists ≡ store.old.lists) }
 {
-    begin_head(number, words, store)?;
+    begin_head(number, words.len() + 3, store)?;
     push_dollared(words, store);
     store.push(Token::Control(Control::OptionalBreak));
     Ok(store.finish())
 }
 
-/// Puts the head of a format definition into a new list: a break stands behind its first word.
+/// Puts the head of a format definition into a new list: a break stands behind its first name.
 fn format_list(number: u32, words: &[Token], store: &mut TokenStore) -> Result<ListId, Memory>
     requires plain { refs_in words.now ≡ [] }
     requires idle { store.old.building ≡ None }
@@ -282,24 +283,25 @@ fn format_list(number: u32, words: &[Token], store: &mut TokenStore) -> Result<L
     ensures idle { store.new.building ≡ None }
     ensures no_lists { OnErr result (store.new.lists ≡ store.old.lists) }
 {
-    begin_head(number, words, store)?;
+    begin_head(number, 3 * words.len() + 1, store)?;
     let first = words.len().min(1);
-    push_words(&words[..first], store);
+    push_names(&words[..first], store);
     store.push(Token::Control(Control::OptionalBreak));
-    push_words(&words[first..], store);
+    push_names(&words[first..], store);
     Ok(store.finish())
 }
 
-/// Begins the list of a definition's head with these words.
-fn begin_head(number: u32, words: &[Token], store: &mut TokenStore) -> Result<(), Memory>
+/// Begins the list of a definition's head, with room for so many tokens behind that of its code.
+fn begin_head(number: u32, room: usize, store: &mut TokenStore) -> Result<(), Memory>
+    requires room { room + 3 < 2 ^ 64 }
     requires idle { store.old.building ≡ None }
     ensures building { OnOk result (store.new.building ≡ Some (Tokens.Control Controls.Backup ∷
         Tokens.Source number Modes.Text ∷ [])) }
-    ensures room { OnOk result (length words.now + 3 ≤ store.new.spare) }
+    ensures room { OnOk result (room ≤ store.new.spare) }
     ensures lists { store.new.lists ≡ store.old.lists }
     ensures idle { OnErr result (store.new.building ≡ None) }
 {
-    store.reserve(words.len() + 6)?;
+    store.reserve(room + 3)?;
     store.begin();
     store.push(Token::Control(Control::Backup));
     store.push(Token::Source(number, MathMode::Text));
@@ -321,6 +323,46 @@ fn push_dollared(words: &[Token], store: &mut TokenStore)
     store.push(Token::Control(Control::Dollar));
     push_words(words, store);
     store.push(Token::Control(Control::Dollar));
+}
+
+/// Puts the names of a format definition into the list that is being built.
+fn push_names(words: &[Token], store: &mut TokenStore)
+    requires plain { refs_in words.now ≡ [] }
+    requires building { IsSome store.old.building }
+    requires room { 3 * length words.now ≤ store.old.spare }
+    ensures building { store.new.building ≡
+        option_map (λ tokens. tokens ++ names_in_text words.now) store.old.building }
+    ensures lists { store.new.lists ≡ store.old.lists }
+    ensures spare { store.old.spare ≤ store.new.spare + 3 * length words.now }
+{
+    for word in words {
+        push_name(*word, store);
+    }
+}
+
+/// Puts a name into it: a macro of TeX between dollars.
+fn push_name(word: Token, store: &mut TokenStore)
+    requires plain { ref_of (shape word) ≡ None }
+    requires building { IsSome store.old.building }
+    requires room { 3 ≤ store.old.spare }
+    ensures building { store.new.building ≡ option_map (λ tokens. tokens ++ name_in_text word) store.old.building }
+    ensures lists { store.new.lists ≡ store.old.lists }
+    ensures spare { store.old.spare ≤ store.new.spare + 3 }
+{
+    if is_macro(word) {
+        store.push(Token::Control(Control::Dollar));
+        store.push(word);
+        store.push(Token::Control(Control::Dollar));
+    } else {
+        store.push(word);
+    }
+}
+
+/// Whether a word is a macro of TeX.
+fn is_macro(word: Token) -> bool
+    ensures { result ≡ is_macro word }
+{
+    matches!(word, Token::Reserved(_, _, Cat::TexLike))
 }
 
 /// Puts words into the list that is being built.
