@@ -76,12 +76,12 @@ impl Portion {
     }
 }
 
-// Whether a byte of a string doesn't print itself, or not whatever stands beside it.
+// Whether a byte of a string doesn't print itself, or not whatever stands beside it. Most bytes are letters.
 #[inline(always)]
 fn is_special(byte: u8) -> bool
     ensures { result ≡ is_special byte }
 {
-    is_escaped(byte) || byte == b'@'
+    !byte.is_ascii_alphanumeric() && (is_escaped(byte) || byte == b'@')
 }
 
 // How many bytes come before the first that is special, up to so many.
