@@ -39,10 +39,10 @@ fn is_text_end(byte: u8, next: u8) -> bool
     byte == b'@' && next == b'>'
 }
 
-// Appends what the two bytes with which a string's text goes on print, or the first of them alone, and answers what
-// stands behind.
+// Appends what the next byte of a string prints, with the one that it takes along or prints for, and answers what
+// stands behind them.
 #[inline(always)]
-fn put_two<'a>(
+fn put_next<'a>(
     out: &mut Bytes,
     portion: &mut Portion,
     byte: u8,
@@ -78,7 +78,7 @@ fn put_string_rest(out: &mut Bytes, first: Portion, text: &[u8]) -> Result<(), M
     let mut portion = first;
     let mut rest = portion.put_plain(out, text)?;
     while let [byte, others @ ..] = rest {
-        let behind = put_two(out, &mut portion, *byte, others)?;
+        let behind = put_next(out, &mut portion, *byte, others)?;
         rest = portion.put_plain(out, behind)?;
     }
     Ok(())
