@@ -55,3 +55,10 @@ simple = (refl, (refl, (refl, (refl, (refl, (refl, (refl, (refl, (refl, (refl, (
 
 again : all_unplaced (part_tokens (codes "if (a) b=c\"x\"+@'y'-1;")) ≡ all_unplaced simple_tokens
 again = refl
+
+-- constants with digits apart, strings with a prefix, and signs of modern C
+abbrev modern_tokens : List Answer
+modern_tokens = drop 1 (part_tokens (codes "@c x=0b1'0+0x1.8p-3 ?: L 'y'-u8\"z\"[ [a]]:: b;"))
+
+modern : all_unplaced (part_tokens (codes "x=0b1'0+0x1.8p-3?:L 'y'-u8\"z\"[ [a]]::b;")) ≡ all_unplaced modern_tokens
+modern = refl
