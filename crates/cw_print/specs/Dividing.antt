@@ -1,5 +1,5 @@
 -- A text that is printed byte by byte, and divided on the way.
-use Rattle.std.specs.Prelude.{ℕ, ◌-◌, ◌&&◌, ◌||◌, ◌==◌, Bool, true, false, not, List, [], ◌∷◌, ◌++◌}
+use Rattle.std.specs.Prelude.{ℕ, ◌-◌, ◌&&◌, ◌||◌, ◌==◌, nat_lt, Bool, true, false, not, List, [], ◌∷◌, ◌++◌}
 use Rattle.cw_print.specs.declared.dividing.Portion.{Portion}
 use Rattle.cw_print.specs.Escaping.{escaped_byte, is_escaped}
 use Rattle.cw_print.specs.Texts.{division}
@@ -11,6 +11,9 @@ portion_behind come = record { room = 20 - come; takes_next = false }
 -- A portion without room ends where no backslash takes the next byte along.
 abbrev pub is_full : Portion → Bool
 is_full portion = not portion.takes_next && portion.room == 0
+
+abbrev pub has_room : Portion → Bool
+has_room portion = not portion.takes_next && nat_lt 0 portion.room
 
 -- the portion in which the next byte stands
 abbrev pub portion_for_next : Portion → Portion

@@ -1,9 +1,7 @@
 //! The division of long texts in typewriter type.
-ghost use Rattle.std.specs.Prelude.{◌≡◌, ◌≤◌, ◌++◌, IfOk, OnOk, length, min};
-ghost use Rattle.std.specs.List.{position_or_len};
-ghost use Rattle.cw_print.specs.Dividing.{is_full, is_special, next_byte, portion_behind, portion_for_next};
-ghost use Rattle.cw_print.specs.Dividing.{rest_bytes, with_byte};
-ghost use Rattle.cw_print.specs.Texts.{string_bytes};
+ghost use Rattle.std.specs.Prelude.{◌≡◌, ◌++◌, OnOk};
+ghost use Rattle.cw_print.specs.Dividing.{has_room, is_full, is_special, next_byte, portion_behind, portion_for_next};
+ghost use Rattle.cw_print.specs.Dividing.{with_byte};
 
 use crate::escaping::{is_escaped, put_escaped_byte};
 use cw_base::{Bytes, Memory};
@@ -31,6 +29,14 @@ impl Portion {
         }
     }
 
+    /// Whether a byte more may come before the next division, and stands behind no backslash that takes it along.
+    #[inline(always)]
+    pub(crate) fn has_room(self) -> bool
+        ensures { result ≡ has_room self }
+    {
+        !self.takes_next && self.room > 0
+    }
+
     #[inline(always)]
     fn is_full(self) -> bool
         ensures { result ≡ is_full self }
@@ -53,46 +59,12 @@ impl Portion {
         self.takes_next = !self.takes_next && byte == b'\\';
         Ok(())
     }
-
-    /// Appends the bytes with which a string's text goes on that print themselves, as many as have room, and answers
-    /// what stands behind them.
-    pub(crate) fn put_plain<'a>(
-        &mut self,
-        out: &mut Bytes,
-        text: &'a [u8],
-    ) -> Result<&'a [u8], Memory>
-        ensures printed { IfOk result (λ rest. out.new ++ rest_bytes self.new (string_bytes rest.now)
-            ≡ out.old ++ rest_bytes self.old (string_bytes text.now)) }
-        ensures shorter { IfOk result (λ rest. length rest.now ≤ length text.now) }
-    {
-        if self.takes_next {
-            return Ok(text);
-        }
-        let size = plain_size(text, self.room);
-        let (plain, rest) = text.split_at(size);
-        out.append(plain)?;
-        self.room -= size;
-        Ok(rest)
-    }
 }
 
-// Whether a byte of a string doesn't print itself, or not whatever stands beside it. Most bytes are letters.
+/// Whether a byte of a string doesn't print itself, or not whatever stands beside it. Most bytes are letters.
 #[inline(always)]
-fn is_special(byte: u8) -> bool
+pub(crate) fn is_special(byte: u8) -> bool
     ensures { result ≡ is_special byte }
 {
     !byte.is_ascii_alphanumeric() && (is_escaped(byte) || byte == b'@')
-}
-
-// How many bytes come before the first that is special, up to so many.
-fn plain_size(text: &[u8], most: usize) -> usize
-    ensures size { result ≡ min most (position_or_len is_special text.now) }
-    ensures within { result ≤ length text.now }
-{
-    for (i, byte) in text.iter().enumerate() {
-        if i == most || is_special(*byte) {
-            return i;
-        }
-    }
-    text.len()
 }

@@ -5,7 +5,7 @@ ghost use Rattle.cw_print.specs.Escaping.{escaped};
 ghost use Rattle.cw_print.specs.Texts.{is_continued, is_pair, is_at_pair, string_bytes, include_bytes, is_text_end};
 ghost use Rattle.cw_print.specs.Texts.{divided, text_to_end};
 
-use crate::dividing::Portion;
+use crate::dividing::{Portion, is_special};
 use crate::escaping::{put_escaped, put_escaped_byte};
 use cw_base::{Bytes, Memory};
 
@@ -40,9 +40,9 @@ fn is_text_end(byte: u8, next: u8) -> bool
 }
 
 // Appends what the next byte of a string prints, with the one that it takes along or prints for, and answers what
-// stands behind them.
-#[inline(always)]
-fn put_next<'a>(
+// stands behind them. It stands apart, since most bytes print themselves.
+#[inline(never)]
+fn put_special<'a>(
     out: &mut Bytes,
     portion: &mut Portion,
     byte: u8,
@@ -71,15 +71,34 @@ fn put_next<'a>(
     })
 }
 
+// The same of any byte.
+#[inline(always)]
+fn put_next<'a>(
+    out: &mut Bytes,
+    portion: &mut Portion,
+    byte: u8,
+    others: &'a [u8],
+) -> Result<&'a [u8], Memory>
+    ensures printed { IfOk result (λ rest. out.new ++ rest_bytes portion.new (string_bytes rest.now)
+        ≡ out.old ++ rest_bytes portion.old (string_bytes (byte ∷ others.now))) }
+    ensures shorter { IfOk result (λ rest. length rest.now ≤ length others.now) }
+{
+    if portion.has_room() && !is_special(byte) {
+        out.push(byte)?;
+        portion.room -= 1;
+        return Ok(others);
+    }
+    put_special(out, portion, byte, others)
+}
+
 // Appends what the rest of a string says, from where its portion has come to.
 fn put_string_rest(out: &mut Bytes, first: Portion, text: &[u8]) -> Result<(), Memory>
     ensures { OnOk result (out.new ≡ out.old ++ rest_bytes first (string_bytes text.now)) }
 {
     let mut portion = first;
-    let mut rest = portion.put_plain(out, text)?;
+    let mut rest = text;
     while let [byte, others @ ..] = rest {
-        let behind = put_next(out, &mut portion, *byte, others)?;
-        rest = portion.put_plain(out, behind)?;
+        rest = put_next(out, &mut portion, *byte, others)?;
     }
     Ok(())
 }
