@@ -1,4 +1,4 @@
--- The scrap of each token is braced, and holds no text where its category is calm.
+-- The scrap of each token is braced, and holds no text where its category is calm, an operator or a colon.
 use Rattle.std.proofs.Common.{◌≡◌, ℕ, zero, suc, Bool, true, false, Option, Some, None, IfSome, List, [], ◌∷◌, ◌++◌}
 use Rattle.std.proofs.Common.{◌∙◌, ap, refl}
 use Rattle.cw_base.specs.declared.category.Cat.{Cat}
@@ -19,7 +19,8 @@ use Rattle.cw_tokens.specs.Shapes.{item_of, shape, tree_in}
 use Rattle.cw_tokens.specs.declared.token.Token.{Token}
 use Rattle.cw_translator.specs.Translating.{form_tokens, leaf_scrap}
 use Rattle.cw_trees.specs.Tree.{Tree}
-use Rattle.cw_brace_laws.specs.Bracing.{IsBraced, IsBracedScrap, EndsAt, depth_of, leads_on, outside_if}
+use Rattle.cw_brace_laws.specs.Bracing.{EndsAt, IsBraced, IsBracedScrap, depth_of, leads_on, outside_if}
+use Rattle.cw_brace_laws.proofs.CleanScraps.{IsLeafScrap, leaf-is-braced}
 use Rattle.cw_brace_laws.proofs.Depths.{ends-maybe, ends-math}
 
 -- ## Scraps
@@ -30,44 +31,44 @@ quiet-ends (suc d) mode h = h
 
 -- a token that is printed as it is read, in math or in either mode
 source-braced : (c : Cat) (mode : MathMode) (number : ℕ) → is_text mode ≡ false
-    → IsBracedScrap (leaf_scrap (source c mode number))
+    → IsLeafScrap (leaf_scrap (source c mode number))
 source-braced c mode number h = record {
   braced = ap (λ b. leads_on (outside_if b 0) (λ d. Some d)) h;
-  calm = λ e d. record {
+  clean = λ e d. record {
     back = ap (λ b. leads_on (outside_if b d) (λ n. Some n)) h;
     begins = quiet-ends d mode h;
     ends = quiet-ends d mode h;
   };
 }
 
-word-braced : (c : Cat) (name : NameId) (number : ℕ) → IsBracedScrap (leaf_scrap (word_form c name number))
+word-braced : (c : Cat) (name : NameId) (number : ℕ) → IsLeafScrap (leaf_scrap (word_form c name number))
 word-braced cat.TexLike name number = record {
   braced = refl;
-  calm = λ e d. record { back = refl; begins = ends-math d; ends = ends-math d };
+  clean = λ e d. record { back = refl; begins = ends-math d; ends = ends-math d };
 }
 word-braced c name number = record {
   braced = refl;
-  calm = λ e d. record { back = refl; begins = ends-maybe d; ends = ends-maybe d };
+  clean = λ e d. record { back = refl; begins = ends-maybe d; ends = ends-maybe d };
 }
 
 abbrev pub FormBraced : Option LeafForm → Type 0
 FormBraced None = Unit {0}
-FormBraced (Some form) = IsBracedScrap (leaf_scrap form)
+FormBraced (Some form) = IsLeafScrap (leaf_scrap form)
 
 code-braced : (c : Code) (number : ℕ) → FormBraced (code_form c number)
 code-braced code.TexBox number = source-braced _ Maybe number refl
 code-braced code.Verbatim number = source-braced _ Maybe number refl
 code-braced code.Quote number = source-braced _ Maybe number refl
 code-braced code.Join number = source-braced _ Maybe number refl
-code-braced code.ThinSpace number = record { braced = refl; calm = λ e. absurd cc }
-code-braced code.OptionalBreak number = record { braced = refl; calm = λ e. absurd cc }
-code-braced code.LineBreak number = record { braced = refl; calm = λ e. absurd cc }
-code-braced code.BigBreak number = record { braced = refl; calm = λ e. absurd cc }
-code-braced code.NoBreak number = record { braced = refl; calm = λ e. absurd cc }
-code-braced code.HeaderFile number = record { braced = refl; calm = λ e. absurd cc }
-code-braced code.InvisibleSemicolon number = record { braced = refl; calm = λ e. absurd cc }
-code-braced code.BeginArgument number = record { braced = refl; calm = λ e. absurd cc }
-code-braced code.EndArgument number = record { braced = refl; calm = λ e. absurd cc }
+code-braced code.ThinSpace number = record { braced = refl; clean = λ e. absurd cc }
+code-braced code.OptionalBreak number = record { braced = refl; clean = λ e. absurd cc }
+code-braced code.LineBreak number = record { braced = refl; clean = λ e. absurd cc }
+code-braced code.BigBreak number = record { braced = refl; clean = λ e. absurd cc }
+code-braced code.NoBreak number = record { braced = refl; clean = λ e. absurd cc }
+code-braced code.HeaderFile number = record { braced = refl; clean = λ e. absurd cc }
+code-braced code.InvisibleSemicolon number = record { braced = refl; clean = λ e. absurd cc }
+code-braced code.BeginArgument number = record { braced = refl; clean = λ e. absurd cc }
+code-braced code.EndArgument number = record { braced = refl; clean = λ e. absurd cc }
 code-braced _ number = tt
 
 sign-quiet : (s : Sign) → is_text (sign_mode s) ≡ false
@@ -80,8 +81,8 @@ form-braced kind.Quoted number = source-braced _ Maybe number refl
 form-braced kind.IncludeName number = source-braced _ Maybe number refl
 form-braced kind.OtherByte number = source-braced _ Maybe number refl
 form-braced (kind.Sign s) number = source-braced (sign_cat s) (sign_mode s) number (sign-quiet s)
-form-braced kind.HashLine number = record { braced = refl; calm = λ e. absurd cc }
-form-braced kind.HashLineEnd number = record { braced = refl; calm = λ e. absurd cc }
+form-braced kind.HashLine number = record { braced = refl; clean = λ e. absurd cc }
+form-braced kind.HashLineEnd number = record { braced = refl; clean = λ e. absurd cc }
 form-braced (kind.Code c) number = code-braced c number
 form-braced _ number = tt
 
@@ -97,7 +98,7 @@ leaf-braced k text hash_line number names =
   where
     by : (o : Option LeafForm) → FormBraced o → IfSome o (λ form. IsBracedScrap (leaf_scrap form))
     by None h = tt
-    by (Some form) h = h
+    by (Some form) h = leaf-is-braced (leaf_scrap form) h
 
 -- ## Words of heads
 

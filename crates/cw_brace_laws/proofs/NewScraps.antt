@@ -36,14 +36,32 @@ use Rattle.cw_brace_laws.proofs.RowPieces.{Stands, alone-pieces, math-stands, pi
 
 -- ## Rows
 
-pub pieces-braced : (row : Row) → row_is_braced row ≡ true → (other : Bool)
-    → pieces_are_braced row (pieces_by other row) ≡ true
+-- what the law of rows says of pieces
+pub record IsBracedRow (row : Row) (ps : List Piece) : Type 0 where
+  pub pair : braces_pair 0 ps ≡ true
+  pub held : are_quiet (may_stand row.result) row (between 0 ps) ≡ true
+  pub calm : (not (may_be_calm row row.result) || are_quiet (makes_calm row.result) row ps) ≡ true
+
+parts : (row : Row) (ps : List Piece) → pieces_are_braced row ps ≡ true → IsBracedRow row ps
+parts row ps ok = record {
+  pair = both-left (braces_pair 0 ps) (are_quiet (may_stand row.result) row (between 0 ps))
+      (both-left (braces_pair 0 ps && are_quiet (may_stand row.result) row (between 0 ps))
+      (not (may_be_calm row row.result) || are_quiet (makes_calm row.result) row ps) ok);
+  held = both-right (braces_pair 0 ps) (are_quiet (may_stand row.result) row (between 0 ps))
+      (both-left (braces_pair 0 ps && are_quiet (may_stand row.result) row (between 0 ps))
+      (not (may_be_calm row row.result) || are_quiet (makes_calm row.result) row ps) ok);
+  calm = both-right (braces_pair 0 ps && are_quiet (may_stand row.result) row (between 0 ps))
+      (not (may_be_calm row row.result) || are_quiet (makes_calm row.result) row ps) ok;
+}
+
+pub row-braced : (row : Row) → row_is_braced row ≡ true → (other : Bool)
+    → IsBracedRow row (pieces_by other row)
 unfolding row_is_braced
-pieces-braced row h true = both-right _ _ h
-pieces-braced row h false = both-left _ _ h
+row-braced row h true = parts row (pieces_by true row) (both-right _ _ h)
+row-braced row h false = parts row (pieces_by false row) (both-left _ _ h)
 
 -- of the scraps that a piece puts in
-abbrev AtScrap : (ℕ → Type 0) → Piece → Type 0
+abbrev pub AtScrap : (ℕ → Type 0) → Piece → Type 0
 AtScrap Q (ScrapOf k) = Q k
 AtScrap Q (MathScrap k) = Q k
 AtScrap Q _ = Unit {0}
@@ -51,11 +69,16 @@ AtScrap Q _ = Unit {0}
 pub none-braced : IsBracedScrap no_scrap
 none-braced = record { braced = refl; calm = λ c. absurd cc }
 
-pub at-braced : (scraps : List Scrap) (k : ℕ) → All IsBracedScrap scraps → IsBracedScrap (get_or scraps k no_scrap)
-at-braced scraps k all = elim (cases_lt k (length scraps)) [
+-- what holds of each scrap of a list holds at each place
+pub all-at : (P : Scrap → Type 0) → P no_scrap → (scraps : List Scrap) (k : ℕ) → All P scraps
+    → P (get_or scraps k no_scrap)
+all-at P none scraps k all = elim (cases_lt k (length scraps)) [
   | inl h ↦ all k no_scrap h
-  | inr h ↦ subst IsBracedScrap (sym (get_or_past scraps k no_scrap h)) none-braced
+  | inr h ↦ subst P (sym (get_or_past scraps k no_scrap h)) none
 ]
+
+at-braced : (scraps : List Scrap) (k : ℕ) → All IsBracedScrap scraps → IsBracedScrap (get_or scraps k no_scrap)
+at-braced scraps k all = all-at IsBracedScrap none-braced scraps k all
 
 -- what may stand between braces holds no text
 may-hold : (result : RowResult) (k : ℕ) (s : Scrap) → IsBracedScrap s → IsCleanOperator s
@@ -69,11 +92,10 @@ may-hold (Is made) k s braced clean h = go (is_calm s.cat) refl
 
 -- ## A row that fits
 
-module _ (row : Row) (scraps : List Scrap) (all : All IsBracedScrap scraps)
-    (fits : (k : ℕ) → k < row.test_count → in_set (test row k) (get_or scraps k no_scrap).cat ≡ true)
-    (tested : (k : ℕ) → row.result ≡ SameAs k → k < row.test_count) where
+module _ (row : Row) (scraps : List Scrap)
+    (fits : (k : ℕ) → k < row.test_count → in_set (test row k) (get_or scraps k no_scrap).cat ≡ true) where
   -- a category that a test admits is one of those which it admits only
-  admitted : (these : Cat → Bool) (k : ℕ) → k < row.test_count → admits_only these (test row k) ≡ true
+  pub admitted : (these : Cat → Bool) (k : ℕ) → k < row.test_count → admits_only these (test row k) ≡ true
       → these (get_or scraps k no_scrap).cat ≡ true
   admitted these k lt h = unless _ _ (every-cat (λ cat. not (in_set (test row k) cat) || these cat) h
       (get_or scraps k no_scrap).cat) (fits k lt)
@@ -83,11 +105,11 @@ module _ (row : Row) (scraps : List Scrap) (all : All IsBracedScrap scraps)
       → these k (get_or scraps k no_scrap).cat ≡ true
   quiet-scrap these k h = admitted (these k) k (ltb-true _ _ (both-left _ _ h)) (both-right _ _ h)
 
-  abbrev ScrapStands : ℕ → ℕ → Type 0
+  abbrev pub ScrapStands : ℕ → ℕ → Type 0
   ScrapStands m k = StandsAt m (get_or scraps k no_scrap).tree (get_or scraps k no_scrap).left
       (get_or scraps k no_scrap).right
 
-  quiet-stands : (these : ℕ → Cat → Bool) (m : ℕ) (p : Piece)
+  pub quiet-stands : (these : ℕ → Cat → Bool) (m : ℕ) (p : Piece)
       → AtScrap (λ k. these k (get_or scraps k no_scrap).cat ≡ true → ScrapStands m k) p
       → is_quiet these row (insertion_of p) ≡ true → Stands scraps m p
   quiet-stands these m (ScrapOf k) at h = at (quiet-scrap these k h)
@@ -106,19 +128,37 @@ module _ (row : Row) (scraps : List Scrap) (all : All IsBracedScrap scraps)
   quiet-stands these m Inserted at h = refl
   quiet-stands these m _ at h = absurd cc
 
+  -- a new scrap whose pieces can stand between braces
+  pub new-holds : (ps : List Piece) → braces_pair 0 ps ≡ true → All (λ p. (m : ℕ) → Stands scraps m p) (between 0 ps)
+      → ((m : ℕ) → All (Stands scraps m) ps) → (c : Cat) (o : Option ℕ) → alone row.replaced ps ≡ o
+      → HoldsNoText (elim o as (λ _. Scrap) [
+        | Some k ↦ with_cat c (get_or scraps k no_scrap)
+        | None ↦ join c (map (joined_of scraps) ps)
+      ])
+  new-holds ps pair held stand c (Some k) e m = All-head (Stands scraps m) (ScrapOf k) []
+      (subst (All (Stands scraps m)) (alone-pieces row.replaced ps k e) (stand m))
+  new-holds ps pair held stand c None e m =
+      let is : m ≡ 0 + m = sym (zero-add m) in
+      let lead : Lead m m (map (joined_of scraps) ps) = pieces-lead scraps m 0 m ps is pair held (stand m) in
+      let here = led m m Maybe (map (joined_of scraps) ps) lead (ends-maybe m) in
+      record { back = here.tree; begins = led-left m m (map (joined_of scraps) ps) lead; ends = here.ends }
+
+module _ (row : Row) (scraps : List Scrap) (all : All IsBracedScrap scraps)
+    (fits : (k : ℕ) → k < row.test_count → in_set (test row k) (get_or scraps k no_scrap).cat ≡ true)
+    (tested : (k : ℕ) → row.result ≡ SameAs k → k < row.test_count) where
   -- between braces
   clean-at : (m : ℕ) (p : Piece) → PutsCleanOperator scraps p
-      → AtScrap (λ k. may_stand row.result k (get_or scraps k no_scrap).cat ≡ true → ScrapStands m k) p
+      → AtScrap (λ k. may_stand row.result k (get_or scraps k no_scrap).cat ≡ true → ScrapStands row scraps fits m k) p
   clean-at m (ScrapOf k) clean = λ h.
       may-hold row.result k (get_or scraps k no_scrap) (at-braced scraps k all) clean h m
   clean-at m (MathScrap k) clean = λ h.
       may-hold row.result k (get_or scraps k no_scrap) (at-braced scraps k all) clean h m
   clean-at m _ clean = tt
 
-  between-stand : (ps : List Piece) → are_quiet (may_stand row.result) row ps ≡ true
+  pub between-stand : (ps : List Piece) → are_quiet (may_stand row.result) row ps ≡ true
       → All (PutsCleanOperator scraps) ps → All (λ p. (m : ℕ) → Stands scraps m p) ps
   between-stand ps h clean = λ i d lt m.
-      quiet-stands (may_stand row.result) m (get_or ps i d) (clean-at m (get_or ps i d) (clean i d lt))
+      quiet-stands row scraps fits (may_stand row.result) m (get_or ps i d) (clean-at m (get_or ps i d) (clean i d lt))
       (AllPass-from_list_all (λ p. is_quiet (may_stand row.result) row (insertion_of p)) ps h i d lt)
 
   -- outside of braces
@@ -152,10 +192,10 @@ module _ (row : Row) (scraps : List Scrap) (all : All IsBracedScrap scraps)
       go : (b : Bool) → admits_only (λ cat. not (is_calm cat)) (test row j) ≡ b → not b ≡ true
       go false e = refl
       go true e = not-both (is_calm (get_or scraps j no_scrap).cat) (ap is_calm (sym (cats-get scraps j)) ∙ calm)
-          (not-true _ (admitted (λ cat. not (is_calm cat)) j (tested j is) e))
+          (not-true _ (admitted row scraps fits (λ cat. not (is_calm cat)) j (tested j is) e))
 
   calm-at : (m : ℕ) (p : Piece) → is_calm (result_at row.result (cats_of scraps)) ≡ true
-      → AtScrap (λ k. makes_calm row.result k (get_or scraps k no_scrap).cat ≡ true → ScrapStands m k) p
+      → AtScrap (λ k. makes_calm row.result k (get_or scraps k no_scrap).cat ≡ true → ScrapStands row scraps fits m k) p
   calm-at m (ScrapOf k) calm = λ h. (at-braced scraps k all).calm (same-calm row.result k calm h) m
   calm-at m (MathScrap k) calm = λ h. (at-braced scraps k all).calm (same-calm row.result k calm h) m
   calm-at m _ calm = tt
@@ -164,12 +204,12 @@ module _ (row : Row) (scraps : List Scrap) (all : All IsBracedScrap scraps)
       → (not (may_be_calm row row.result) || are_quiet (makes_calm row.result) row ps) ≡ true
       → (m : ℕ) → All (Stands scraps m) ps
   calm-stand ps calm h m = λ i d lt.
-      quiet-stands (makes_calm row.result) m (get_or ps i d) (calm-at m (get_or ps i d) calm)
+      quiet-stands row scraps fits (makes_calm row.result) m (get_or ps i d) (calm-at m (get_or ps i d) calm)
       (AllPass-from_list_all (λ p. is_quiet (makes_calm row.result) row (insertion_of p)) ps
       (unless _ _ h (may-calm row.result refl calm)) i d lt)
 
   -- the new scrap
-  new-by : (ps : List Piece) → pieces_are_braced row ps ≡ true → All (PutsCleanOperator scraps) (between 0 ps)
+  new-by : (ps : List Piece) → IsBracedRow row ps → All (PutsCleanOperator scraps) (between 0 ps)
       → (o : Option ℕ) → alone row.replaced ps ≡ o
       → IsBracedScrap (elim o as (λ _. Scrap) [
         | Some k ↦ with_cat (result_at row.result (cats_of scraps)) (get_or scraps k no_scrap)
@@ -177,32 +217,19 @@ module _ (row : Row) (scraps : List Scrap) (all : All IsBracedScrap scraps)
       ])
   new-by ps ok clean (Some k) e = record {
     braced = (at-braced scraps k all).braced;
-    calm = λ c m. All-head (Stands scraps m) (ScrapOf k) []
-        (subst (All (Stands scraps m)) (alone-pieces row.replaced ps k e) (calm-stand ps c (both-right _ _ ok) m));
+    calm = λ c. new-holds row scraps fits ps ok.pair (between-stand (between 0 ps) ok.held clean)
+        (calm-stand ps c ok.calm) (result_at row.result (cats_of scraps)) (Some k) e;
   }
-  new-by ps ok clean None e =
-      let pair : braces_pair 0 ps ≡ true = both-left _ _ (both-left _ _ ok) in
-      let held : All (λ p. (m : ℕ) → Stands scraps m p) (between 0 ps) =
-      between-stand (between 0 ps) (both-right _ _ (both-left _ _ ok)) clean in
-      let js : List Joined = map (joined_of scraps) ps in
-      record {
-        braced = (led 0 0 Maybe (map (joined_of scraps) ps)
-            (pieces-lead scraps 0 0 0 ps refl pair held (λ i d lt. stands-outside (get_or ps i d))) tt).tree;
-        calm = λ c m.
-            let is : m ≡ 0 + m = sym (zero-add m) in
-            let lead : Lead m m (map (joined_of scraps) ps) =
-            pieces-lead scraps m 0 m ps is pair held (calm-stand ps c (both-right _ _ ok) m) in
-            let here = led m m Maybe (map (joined_of scraps) ps) lead (ends-maybe m) in
-            record {
-              back = here.tree;
-              begins = led-left m m (map (joined_of scraps) ps) lead;
-              ends = here.ends;
-            };
-      }
+  new-by ps ok clean None e = record {
+    braced = (led 0 0 Maybe (map (joined_of scraps) ps) (pieces-lead scraps 0 0 0 ps refl ok.pair
+        (between-stand (between 0 ps) ok.held clean) (λ i d lt. stands-outside (get_or ps i d))) tt).tree;
+    calm = λ c. new-holds row scraps fits ps ok.pair (between-stand (between 0 ps) ok.held clean)
+        (calm-stand ps c ok.calm) (result_at row.result (cats_of scraps)) None e;
+  }
 
   pub new-braced : (flags : Flags) → row_is_braced row ≡ true
       → All (PutsCleanOperator scraps) (between 0 (row_pieces flags row (cats_of scraps)))
       → IsBracedScrap (new_scrap flags row scraps)
   new-braced flags h clean = new-by (row_pieces flags row (cats_of scraps))
-      (pieces-braced row h (takes_other flags row.action.choice (cats_of scraps))) clean
+      (row-braced row h (takes_other flags row.action.choice (cats_of scraps))) clean
       (alone row.replaced (row_pieces flags row (cats_of scraps))) refl

@@ -6,6 +6,7 @@ use Rattle.std.proofs.lemmas.List.Elements.{All-append, All-take, All-drop, All-
 use Rattle.cw_base.proofs.TestLaws.{both-left, both-right}
 use Rattle.cw_base.specs.Category.{in_set}
 use Rattle.cw_base.specs.declared.category.Cat.{Cat}
+use Rattle.cw_base.specs.declared.category.Cat.TheVariants.{RawInt}
 use Rattle.cw_base.specs.declared.flags.Flags.{Flags}
 use Rattle.cw_table.proofs.FirstLaws.{length-tests_of}
 use Rattle.cw_table.proofs.Normals.{first-found, least-at, steps-none, steps-turn}
@@ -17,7 +18,7 @@ use Rattle.cw_table.specs.Fitting.{first_of, row_fits}
 use Rattle.cw_table.specs.Normal.{Place, Nowhere, At, next_place, normal, steps, weight}
 use Rattle.cw_table.specs.Productions.{productions}
 use Rattle.cw_table.specs.Rewriting.{State, cats_of, is_name, named_right, named_scrap, new_scrap, reserved_at}
-use Rattle.cw_table.specs.Rewriting.{reserved_in, rewrite, rewrite_from, row_pieces, search_in}
+use Rattle.cw_table.specs.Rewriting.{reserved_in, rewrite, rewrite_from, row_pieces, search_in, with_cat}
 use Rattle.cw_table.specs.Rows.{test, tests_of}
 use Rattle.cw_table.specs.Sound.{IsSound, is_exp, row_is_sound}
 use Rattle.cw_table.specs.declared.types.Piece.{Piece}
@@ -28,11 +29,11 @@ use Rattle.cw_trees.specs.Tree.{Search, Found as FoundName, Stopped, Nothing, ba
 use Rattle.cw_brace_laws.specs.Bracing.{HoldsNoText, IsBracedScrap}
 use Rattle.cw_brace_laws.specs.Operators.{HasCleanOperators, IsCleanOperator, PutsCleanOperator, PutsCleanOperators}
 use Rattle.cw_brace_laws.proofs.Depths.{reserve-depth}
-use Rattle.cw_brace_laws.proofs.NewScraps.{at-braced, new-braced}
+use Rattle.cw_brace_laws.proofs.NewScraps.{all-at, new-braced, none-braced}
 
 -- ## Reserving
 
-reserve-holds : (s : Scrap) → HoldsNoText s → HoldsNoText (reserved_in s)
+pub reserve-holds : (s : Scrap) → HoldsNoText s → HoldsNoText (reserved_in s)
 reserve-holds s h m = record { back = reserve-depth s.tree m ∙ (h m).back; begins = (h m).begins; ends = (h m).ends }
 
 reserve-braced : (s : Scrap) → IsBracedScrap s → IsBracedScrap (reserved_in s)
@@ -40,12 +41,6 @@ reserve-braced s h = record {
   braced = reserve-depth s.tree 0 ∙ h.braced;
   calm = λ c. reserve-holds s (h.calm c);
 }
-
-named-braced : (o : Option ℕ) (scraps : List Scrap) → All IsBracedScrap scraps
-    → All IsBracedScrap (reserved_at o scraps)
-named-braced None scraps all = all
-named-braced (Some k) scraps all = All-set IsBracedScrap scraps k (reserved_in (get_or scraps k no_scrap))
-    (reserve-braced (get_or scraps k no_scrap) (at-braced scraps k all)) all
 
 -- a scrap at a place is as before, or its first identifier was reserved
 set-at : (Q : Scrap → Type 0) → ((s : Scrap) → Q s → Q (reserved_in s)) → (scraps : List Scrap) (n k : ℕ)
@@ -67,59 +62,74 @@ clean-piece o scraps (piece.Scrap k) h = clean-scrap o scraps k h
 clean-piece o scraps (piece.MathScrap k) h = clean-scrap o scraps k h
 clean-piece o scraps _ h = tt
 
--- to the right of the new scrap
-scrap-braced : (b : Bool) (name : ℕ) (s : Scrap) → (is_exp s.cat && is_name name (bare_name s.tree)) ≡ b
-    → IsBracedScrap s → IsBracedScrap (named_scrap name s)
-scrap-braced true name s e h =
-    rw (e, named_scrap) (record { braced = (reserve-braced s h).braced; calm = λ c. absurd cc })
-scrap-braced false name s e h = rw (e, named_scrap) h
+-- ## Keeping
 
-right-braced : (found : Search) (scraps : List Scrap) → All IsBracedScrap scraps
-    → All IsBracedScrap (named_right found scraps)
-right-braced (FoundName name) scraps all = All-map IsBracedScrap (named_scrap name) scraps
-    (λ k d h. scrap-braced (is_exp (get_or scraps k d).cat && is_name name (bare_name (get_or scraps k d).tree)) name
-    (get_or scraps k d) refl (all k d h))
-right-braced Stopped scraps all = all
-right-braced Nothing scraps all = all
+-- What holds of each scrap holds of each that a production leaves, if it holds of the new one.
+module _ (P : Scrap → Type 0) (none : P no_scrap) (reserves : (s : Scrap) → P s → P (reserved_in s))
+    (types : (s : Scrap) → P s → P (with_cat RawInt (reserved_in s))) where
+  pub named-keeps : (o : Option ℕ) (scraps : List Scrap) → All P scraps → All P (reserved_at o scraps)
+  named-keeps None scraps all = all
+  named-keeps (Some k) scraps all = All-set P scraps k (reserved_in (get_or scraps k no_scrap))
+      (reserves (get_or scraps k no_scrap) (all-at P none scraps k all)) all
+
+  scrap-keeps : (b : Bool) (name : ℕ) (s : Scrap) → (is_exp s.cat && is_name name (bare_name s.tree)) ≡ b → P s
+      → P (named_scrap name s)
+  scrap-keeps true name s e h = rw (e, named_scrap) (types s h)
+  scrap-keeps false name s e h = rw (e, named_scrap) h
+
+  right-keeps : (found : Search) (scraps : List Scrap) → All P scraps → All P (named_right found scraps)
+  right-keeps (FoundName name) scraps all = All-map P (named_scrap name) scraps
+      (λ k d h. scrap-keeps (is_exp (get_or scraps k d).cat && is_name name (bare_name (get_or scraps k d).tree)) name
+      (get_or scraps k d) refl (all k d h))
+  right-keeps Stopped scraps all = all
+  right-keeps Nothing scraps all = all
+
+  pub rewritten-keeps : (flags : Flags) (row : Row) (scraps : List Scrap) → All P scraps
+      → P (new_scrap flags row (reserved_at row.action.reserve scraps)) → All P (rewrite_from flags row scraps)
+  rewritten-keeps flags row scraps all new =
+      let kept : All P (reserved_at row.action.reserve scraps) = named-keeps row.action.reserve scraps all in
+      All-append P (take row.offset (reserved_at row.action.reserve scraps))
+      (new_scrap flags row (reserved_at row.action.reserve scraps)
+      ∷ named_right (search_in row.action.reserve scraps)
+      (drop (row.offset + row.replaced) (reserved_at row.action.reserve scraps)))
+      (All-take P row.offset (reserved_at row.action.reserve scraps) kept)
+      (All-cons P (new_scrap flags row (reserved_at row.action.reserve scraps))
+      (named_right (search_in row.action.reserve scraps)
+      (drop (row.offset + row.replaced) (reserved_at row.action.reserve scraps))) new
+      (right-keeps (search_in row.action.reserve scraps)
+      (drop (row.offset + row.replaced) (reserved_at row.action.reserve scraps))
+      (All-drop P (row.offset + row.replaced) (reserved_at row.action.reserve scraps) kept)))
 
 -- ## One production
 
-fits-at : (row : Row) (scraps : List Scrap) → IsSound row → row_fits row (cats_of scraps) ≡ true → (k : ℕ)
+types-braced : (s : Scrap) → IsBracedScrap s → IsBracedScrap (with_cat RawInt (reserved_in s))
+types-braced s h = record { braced = (reserve-braced s h).braced; calm = λ c. absurd cc }
+
+pub fits-at : (row : Row) (scraps : List Scrap) → IsSound row → row_fits row (cats_of scraps) ≡ true → (k : ℕ)
     → k < row.test_count → in_set (test row k) (get_or scraps k no_scrap).cat ≡ true
 fits-at row scraps sound fits k lt =
     let count = length-tests_of row sound in
     ap (in_set (test row k)) (sym (cats-get scraps k))
     ∙ hold-at (tests_of row) (cats_of scraps) k fits (omega (arith, count, lt))
 
-pub rewritten-braced : (flags : Flags) (row : Row) (scraps : List Scrap) → IsSound row → row_is_braced row ≡ true
+rewritten-braced : (flags : Flags) (row : Row) (scraps : List Scrap) → IsSound row → row_is_braced row ≡ true
     → row_fits row (cats_of scraps) ≡ true → PutsCleanOperators flags row scraps → All IsBracedScrap scraps
     → All IsBracedScrap (rewrite_from flags row scraps)
 rewritten-braced flags row scraps sound braced fits clean all =
     let named : List Scrap = reserved_at row.action.reserve scraps in
     let same = at-cats row.action.reserve scraps in
     let kept : All IsBracedScrap (reserved_at row.action.reserve scraps) =
-    named-braced row.action.reserve scraps all in
+    named-keeps IsBracedScrap none-braced reserve-braced types-braced row.action.reserve scraps all in
     let held : All (PutsCleanOperator (reserved_at row.action.reserve scraps))
     (between 0 (row_pieces flags row (cats_of (reserved_at row.action.reserve scraps)))) =
     subst (λ cats. All (PutsCleanOperator (reserved_at row.action.reserve scraps))
     (between 0 (row_pieces flags row cats))) (sym same)
     (λ i d lt. clean-piece row.action.reserve scraps (get_or (between 0 (row_pieces flags row (cats_of scraps))) i d)
     (clean i d lt)) in
-    let new : IsBracedScrap (new_scrap flags row (reserved_at row.action.reserve scraps)) =
-    new-braced row (reserved_at row.action.reserve scraps) kept
+    rewritten-keeps IsBracedScrap none-braced reserve-braced types-braced flags row scraps all
+    (new-braced row (reserved_at row.action.reserve scraps) kept
     (fits-at row (reserved_at row.action.reserve scraps) sound (ap (row_fits row) same ∙ fits)) sound.same_as_tested
-    flags braced held in
-    All-append IsBracedScrap (take row.offset (reserved_at row.action.reserve scraps))
-    (new_scrap flags row (reserved_at row.action.reserve scraps)
-    ∷ named_right (search_in row.action.reserve scraps)
-    (drop (row.offset + row.replaced) (reserved_at row.action.reserve scraps)))
-    (All-take IsBracedScrap row.offset (reserved_at row.action.reserve scraps) kept)
-    (All-cons IsBracedScrap (new_scrap flags row (reserved_at row.action.reserve scraps))
-    (named_right (search_in row.action.reserve scraps)
-    (drop (row.offset + row.replaced) (reserved_at row.action.reserve scraps))) new
-    (right-braced (search_in row.action.reserve scraps)
-    (drop (row.offset + row.replaced) (reserved_at row.action.reserve scraps))
-    (All-drop IsBracedScrap (row.offset + row.replaced) (reserved_at row.action.reserve scraps) kept)))
+    flags braced held)
 
 pub production-keeps : (flags : Flags) (row : Row) (place : ℕ) (scraps : List Scrap) → row_is_sound row ≡ true
     → row_is_braced row ≡ true → row_fits row (cats_of (drop place scraps)) ≡ true
@@ -144,45 +154,56 @@ first-passes p (x ∷ rows) cs r all h =
     go rec true h = let same : x ≡ r = cc in ap p (sym same) ∙ both-left (p x) _ all
     go rec false h = rec h
 
-module _ (flags : Flags) (sound : list_all row_is_sound productions ≡ true)
-    (braced : list_all row_is_braced productions ≡ true) where
-  next-keeps : (st : State) (i : ℕ) (r : Row) → next_place productions st ≡ At i r
-      → PutsCleanOperators flags r (drop i st.scraps) → All IsBracedScrap st.scraps
-      → All IsBracedScrap (rewrite flags r i st).scraps
-  next-keeps st i r e clean all =
-      let l = least-at productions 0 (cats_of st.scraps) i r e in
-      let same : l.gone ≡ i = omega (arith, l.place_is) in
-      let found : first_of productions (cats_of (drop i st.scraps)) ≡ Some r =
-      ap (first_of productions) (cats-drop i st.scraps)
-      ∙ ap (λ n. first_of productions (drop n (cats_of st.scraps))) (sym same) ∙ l.found in
-      let first = first-found productions (cats_of (drop i st.scraps)) r sound found in
-      production-keeps flags r i st.scraps first.sound
-      (first-passes row_is_braced productions (cats_of (drop i st.scraps)) r braced found) first.fits clean all
+-- the row of a production is one of the table that fits
+pub record Taken (row : Row) (scraps : List Scrap) : Type 0 where
+  pub fits : row_fits row (cats_of scraps) ≡ true
+  pub sound : row_is_sound row ≡ true
+  pub passes : (p : Row → Bool) → list_all p productions ≡ true → p row ≡ true
 
-  -- the productions behind the first
-  later-clean : (st : State) (i : ℕ) (r : Row) → next_place productions st ≡ At i r → HasCleanOperators flags st
-      → HasCleanOperators flags (rewrite flags r i st)
-  later-clean st i r e clean = λ number place row.
-      subst (λ (s : State). next_place productions s ≡ At place row
-      → PutsCleanOperators flags row (drop place s.scraps))
-      (steps-turn productions flags number i r st e) (clean (suc number) place row)
+pub taken : list_all row_is_sound productions ≡ true → (st : State) (i : ℕ) (r : Row)
+    → next_place productions st ≡ At i r → Taken r (drop i st.scraps)
+taken sound st i r e =
+    let l = least-at productions 0 (cats_of st.scraps) i r e in
+    let same : l.gone ≡ i = omega (arith, l.place_is) in
+    let found : first_of productions (cats_of (drop i st.scraps)) ≡ Some r =
+    ap (first_of productions) (cats-drop i st.scraps)
+    ∙ ap (λ n. first_of productions (drop n (cats_of st.scraps))) (sym same) ∙ l.found in
+    let first = first-found productions (cats_of (drop i st.scraps)) r sound found in
+    record {
+      fits = first.fits;
+      sound = first.sound;
+      passes = λ p all. first-passes p productions (cats_of (drop i st.scraps)) r all found;
+    }
 
-  steps-keep : (n : ℕ) (st : State) → HasCleanOperators flags st → All IsBracedScrap st.scraps
-      → All IsBracedScrap (steps productions flags n st).scraps
-  steps-keep zero st clean all = all
-  steps-keep (suc n) st clean all = go (next_place productions st) refl (λ s. steps-keep n s)
-    where
-      go : (p : Place) → next_place productions st ≡ p
-          → ((s : State) → HasCleanOperators flags s → All IsBracedScrap s.scraps
-          → All IsBracedScrap (steps productions flags n s).scraps)
-          → All IsBracedScrap (steps productions flags (suc n) st).scraps
-      go Nowhere e rec =
-          subst (λ (s : State). All IsBracedScrap s.scraps) (sym (steps-none productions flags (suc n) st e)) all
-      go (At i r) e rec =
-          subst (λ (s : State). All IsBracedScrap s.scraps) (sym (steps-turn productions flags n i r st e))
-          (rec (rewrite flags r i st) (later-clean st i r e clean) (next-keeps st i r e (clean 0 i r e) all))
+-- what each production keeps is kept by all
+pub steps-keep : (flags : Flags) (Q : State → Type 0)
+    → ((st : State) (i : ℕ) (r : Row) → next_place productions st ≡ At i r → Q st → Q (rewrite flags r i st))
+    → (n : ℕ) (st : State) → Q st → Q (steps productions flags n st)
+steps-keep flags Q next zero st h = h
+steps-keep flags Q next (suc n) st h = go (next_place productions st) refl (λ s. steps-keep flags Q next n s)
+  where
+    go : (p : Place) → next_place productions st ≡ p → ((s : State) → Q s → Q (steps productions flags n s))
+        → Q (steps productions flags (suc n) st)
+    go Nowhere e rec = subst Q (sym (steps-none productions flags (suc n) st e)) h
+    go (At i r) e rec =
+        subst Q (sym (steps-turn productions flags n i r st e)) (rec (rewrite flags r i st) (next st i r e h))
 
-  pub normal-keeps : (st : State) → HasCleanOperators flags st → All IsBracedScrap st.scraps
-      → All IsBracedScrap (normal productions flags st).scraps
-  unfolding normal
-  normal-keeps st clean all = steps-keep (weight st.scraps) st clean all
+-- the productions behind the first
+later-clean : (flags : Flags) (st : State) (i : ℕ) (r : Row) → next_place productions st ≡ At i r
+    → HasCleanOperators flags st → HasCleanOperators flags (rewrite flags r i st)
+later-clean flags st i r e clean = λ number place row.
+    subst (λ (s : State). next_place productions s ≡ At place row
+    → PutsCleanOperators flags row (drop place s.scraps))
+    (steps-turn productions flags number i r st e) (clean (suc number) place row)
+
+pub normal-keeps : (flags : Flags) → list_all row_is_sound productions ≡ true
+    → list_all row_is_braced productions ≡ true → (st : State) → HasCleanOperators flags st
+    → All IsBracedScrap st.scraps → All IsBracedScrap (normal productions flags st).scraps
+unfolding normal
+normal-keeps flags sound braced st clean all =
+    (steps-keep flags (λ s. HasCleanOperators flags s × All IsBracedScrap s.scraps)
+    (λ s i r e h.
+    let t = taken sound s i r e in
+    (later-clean flags s i r e h.0,
+    production-keeps flags r i s.scraps t.sound (t.passes row_is_braced braced) t.fits (h.0 0 i r e) h.1))
+    (weight st.scraps) st (clean, all)).1

@@ -1,5 +1,5 @@
 -- The tree of a translation is braced, where the operators of all texts that ended hold no text.
-use Rattle.std.proofs.Common.{◌≡◌, ℕ, Bool, true, false, Option, Some, None, List, [], ◌∷◌, ◌++◌, refl, ap, ◌∙◌}
+use Rattle.std.proofs.Common.{◌≡◌, ℕ, Bool, true, false, Option, Some, None, List, [], ◌∷◌, ◌++◌, get_or, refl, ap, ◌∙◌}
 use Rattle.std.specs.List.{All, list_all}
 use Rattle.std.proofs.lemmas.List.Elements.{All-append, All-cons, All-head, All-nil, All-tail}
 use Rattle.cw_base.proofs.TestLaws.{not-both}
@@ -16,7 +16,8 @@ use Rattle.cw_rules.specs.declared.codes.Code.TheVariants as code
 use Rattle.cw_rules.specs.declared.tokens.TokKind.{TokKind}
 use Rattle.cw_rules.specs.declared.tokens.TokKind.TheVariants as kind
 use Rattle.cw_scraps.specs.Leaves.{LeafForm, names_with, token_form}
-use Rattle.cw_table.specs.Braces.{is_calm, row_is_braced}
+use Rattle.cw_table.specs.Braces.{row_is_braced}
+use Rattle.cw_table.specs.Rewriting.{State}
 use Rattle.cw_table.specs.Productions.{productions}
 use Rattle.cw_table.specs.Sound.{row_is_sound}
 use Rattle.cw_tokens.specs.declared.token.Token.{Token}
@@ -30,8 +31,9 @@ use Rattle.cw_translator.specs.Translating.{texts_made, texts_named, token_made,
 use Rattle.cw_trees.specs.Joining.{Scrap}
 use Rattle.cw_trees.specs.Tree.{Tree, Empty, Then, Inner, Sign}
 use Rattle.cw_trees.specs.declared.Control.TheVariants as control
-use Rattle.cw_brace_laws.specs.Bracing.{IsBraced, IsBracedScrap, depth_of, leads_on, outside}
+use Rattle.cw_brace_laws.specs.Bracing.{IsBraced, depth_of, leads_on, outside}
 use Rattle.cw_brace_laws.specs.Operators.{HasCleanOperators}
+use Rattle.cw_brace_laws.proofs.CleanScraps.{IsLeafScrap, is_clean, leaf-is-braced}
 use Rattle.cw_brace_laws.proofs.Leaves.{AreFlat, FormBraced, IsFlat, flat-append, flat-braced, token-braced, token-flat}
 use Rattle.cw_brace_laws.proofs.Wholes.{reduction-braced}
 
@@ -54,9 +56,9 @@ one P x h = All-cons P x [] h (All-nil P)
 inner-braced : (tree rest : Tree) → IsBraced tree → IsBraced rest → IsBraced (Inner tree rest)
 inner-braced tree rest h r = ap (λ o. leads_on (leads_on o outside) (depth_of rest)) h ∙ r
 
--- a scrap of another category than a calm one
-loud : (scrap : Scrap) → is_calm scrap.cat ≡ false → IsBraced scrap.tree → IsBracedScrap scrap
-loud scrap other h = record { braced = h; calm = λ e. not-both (is_calm scrap.cat) e other }
+-- a scrap that is no operator and none of a calm category
+loud : (scrap : Scrap) → is_clean scrap.cat ≡ false → IsBraced scrap.tree → IsLeafScrap scrap
+loud scrap other h = record { braced = h; clean = λ e. not-both (is_clean scrap.cat) e other }
 
 abbrev ItemBraced : CommentItem → Type 0
 ItemBraced (Piece number) = Unit {0}
@@ -71,49 +73,49 @@ comment-braced (InnerText tree ∷ items) all = inner-braced tree (comment_rest 
 
 -- ## What is made
 
--- the operators of the texts that ended hold no text
-abbrev AreClean : Flags → Known → Type 0
-AreClean flags known = All (HasCleanOperators flags) known.ended
+-- What is asked of the texts that ended: their operators hold no text, or what makes sure of that.
+abbrev AreClean : (State → Type 0) → Known → Type 0
+AreClean C known = All C known.ended
 
 -- what was made after this was known
-record Brings (flags : Flags) (known : Known) (m : Made) : Type 0 where
-  clean : AreClean flags known
-  scraps : All IsBracedScrap m.scraps
+record Brings (C : State → Type 0) (known : Known) (m : Made) : Type 0 where
+  clean : AreClean C known
+  scraps : All IsLeafScrap m.scraps
   items : All ItemBraced m.items
 
--- what is made is braced, if the operators of the texts that ended by then hold no text
-abbrev Makes : Flags → Known → Made → Type 0
-Makes flags known m = AreClean flags m.known → Brings flags known m
+-- what is made is braced, if that holds of the texts that ended by then
+abbrev Makes : (State → Type 0) → Known → Made → Type 0
+Makes C known m = AreClean C m.known → Brings C known m
 
-record Ends (flags : Flags) (known : Known) (text : Ended) : Type 0 where
-  clean : AreClean flags known
+record Ends (C : State → Type 0) (known : Known) (text : Ended) : Type 0 where
+  clean : AreClean C known
   tree : IsBraced text.tree
 
-abbrev Makes_name : Flags → (ℕ → Known → Made) → Type 0
-Makes_name flags name = (number : ℕ) (known : Known) → Makes flags known (name number known)
+abbrev MakesNames : (State → Type 0) → (ℕ → Known → Made) → Type 0
+MakesNames C name = (number : ℕ) (known : Known) → Makes C known (name number known)
 
-nothing-made : (flags : Flags) (known : Known) → Makes flags known (nothing known)
-nothing-made flags known clean = record { clean = clean; scraps = All-nil IsBracedScrap; items = All-nil ItemBraced }
+nothing-made : (C : State → Type 0) (known : Known) → Makes C known (nothing known)
+nothing-made C known clean = record { clean = clean; scraps = All-nil IsLeafScrap; items = All-nil ItemBraced }
 
 -- with these names behind it
-nothing-named : (flags : Flags) (known : Known) (names : List Entry)
-    → Makes flags known (nothing (with_names names known))
-nothing-named flags known names clean =
-    record { clean = clean; scraps = All-nil IsBracedScrap; items = All-nil ItemBraced }
+nothing-named : (C : State → Type 0) (known : Known) (names : List Entry)
+    → Makes C known (nothing (with_names names known))
+nothing-named C known names clean =
+    record { clean = clean; scraps = All-nil IsLeafScrap; items = All-nil ItemBraced }
 
-scrap-named : (flags : Flags) (known : Known) (names : List Entry) (scrap : Scrap) → IsBracedScrap scrap
-    → Makes flags known (one_scrap scrap (with_names names known))
-scrap-named flags known names scrap h clean =
-    record { clean = clean; scraps = one IsBracedScrap scrap h; items = All-nil ItemBraced }
+scrap-named : (C : State → Type 0) (known : Known) (names : List Entry) (scrap : Scrap) → IsLeafScrap scrap
+    → Makes C known (one_scrap scrap (with_names names known))
+scrap-named C known names scrap h clean =
+    record { clean = clean; scraps = one IsLeafScrap scrap h; items = All-nil ItemBraced }
 
-beside-made : (flags : Flags) (known : Known) (a b : Made) → Makes flags known a → Makes flags a.known b
-    → Makes flags known (beside a b)
-beside-made flags known a b first second clean =
+beside-made : (C : State → Type 0) (known : Known) (a b : Made) → Makes C known a → Makes C a.known b
+    → Makes C known (beside a b)
+beside-made C known a b first second clean =
     let g = second clean in
     let f = first g.clean in
     record {
       clean = f.clean;
-      scraps = All-append IsBracedScrap a.scraps b.scraps f.scraps g.scraps;
+      scraps = All-append IsLeafScrap a.scraps b.scraps f.scraps g.scraps;
       items = All-append ItemBraced a.items b.items f.items g.items;
     }
 
@@ -140,36 +142,38 @@ spelled-flat (word ∷ words) names = flat-append (word_tokens word names)
     (token-flat word.kind word.text word.hash_line word.span.start names)
     (spelled-flat words (names_with word.kind word.text names))
 
-dead-braced : (number : ℕ) (tokens : List Token) → AreFlat tokens → IsBracedScrap (leaf_scrap (dead number tokens))
+dead-braced : (number : ℕ) (tokens : List Token) → AreFlat tokens → IsLeafScrap (leaf_scrap (dead number tokens))
 dead-braced number tokens all = loud (leaf_scrap (dead number tokens)) refl (flat-braced tokens all)
 
 break-flat : AreFlat (token.Control control.OptionalBreak ∷ [])
 break-flat = ((λ rest. refl), tt)
 
 module _ (sound : list_all row_is_sound productions ≡ true) (braced : list_all row_is_braced productions ≡ true)
-    (flags : Flags) where
+    (flags : Flags) (C : State → Type 0)
+    (uses : (state : State) → C state → All IsLeafScrap state.scraps → HasCleanOperators flags state) where
   -- ## Texts and comments
 
-  end-made : (known : Known) (m : Made) → Makes flags known m → AreClean flags (end_of flags m).known
-      → Ends flags known (end_of flags m)
+  end-made : (known : Known) (m : Made) → Makes C known m → AreClean C (end_of flags m).known
+      → Ends C known (end_of flags m)
   end-made known m made_ clean =
-      let f = made_ (all-left (HasCleanOperators flags) m.known.ended (state_in m.scraps m.known ∷ []) clean) in
+      let f = made_ (all-left C m.known.ended (state_in m.scraps m.known ∷ []) clean) in
       record {
         clean = f.clean;
         tree = reduction-braced sound braced flags (state_in m.scraps m.known)
-            (all-last (HasCleanOperators flags) m.known.ended (state_in m.scraps m.known) clean) f.scraps;
+            (uses (state_in m.scraps m.known) (all-last C m.known.ended (state_in m.scraps m.known) clean) f.scraps)
+            (λ i d lt. leaf-is-braced (get_or m.scraps i d) (f.scraps i d lt));
       }
 
   form-made : (o : Option LeafForm) (known : Known) (names : List Entry) → FormBraced o
-      → Makes flags known (form_made o (with_names names known))
-  form-made None known names h = nothing-named flags known names
-  form-made (Some form) known names h = scrap-named flags known names (leaf_scrap form) h
+      → Makes C known (form_made o (with_names names known))
+  form-made None known names h = nothing-named C known names
+  form-made (Some form) known names h = scrap-named C known names (leaf_scrap form) h
 
-  token-made : (name : ℕ → Known → Made) → Makes_name flags name → (k : TokKind) (t : Seen) (known : Known)
-      → Makes flags known (token_made name k t known)
+  token-made : (name : ℕ → Known → Made) → MakesNames C name → (k : TokKind) (t : Seen) (known : Known)
+      → Makes C known (token_made name k t known)
   token-made name names kind.Text t known clean = record {
     clean = clean;
-    scraps = All-nil IsBracedScrap;
+    scraps = All-nil IsLeafScrap;
     items = one ItemBraced (Piece t.span.start) tt;
   }
   token-made name names (kind.Code code.SectionName) t known clean = names t.span.start known clean
@@ -178,47 +182,47 @@ module _ (sound : list_all row_is_sound productions ≡ true) (braced : list_all
       form-made (token_form k t.text t.hash_line t.span.start known.names) known (names_with k t.text known.names)
       (token-braced k t.text t.hash_line t.span.start known.names) clean
 
-  group-made : (k : TokKind) (t : Seen) (known : Known) (m : Made) → Makes flags known m
-      → Makes flags known (group_made flags k t m)
+  group-made : (k : TokKind) (t : Seen) (known : Known) (m : Made) → Makes C known m
+      → Makes C known (group_made flags k t m)
   group-made kind.InnerText t known m made_ clean =
       let e = end-made known m made_ clean in
       record {
         clean = e.clean;
-        scraps = All-nil IsBracedScrap;
+        scraps = All-nil IsLeafScrap;
         items = one ItemBraced (InnerText (end_of flags m).tree) e.tree;
       }
   group-made k t known m made_ clean =
       let f = made_ clean in
       record {
         clean = f.clean;
-        scraps = one IsBracedScrap (comment_scrap t.span.start m.items)
+        scraps = one IsLeafScrap (comment_scrap t.span.start m.items)
             (loud (comment_scrap t.span.start m.items) refl (comment-braced m.items f.items));
         items = All-nil ItemBraced;
       }
 
-  nest-made : (name : ℕ → Known → Made) → Makes_name flags name → (n : Nest) (known : Known)
-      → Makes flags known (made flags name n known)
-  nest-made name names End known = nothing-made flags known
+  nest-made : (name : ℕ → Known → Made) → MakesNames C name → (n : Nest) (known : Known)
+      → Makes C known (made flags name n known)
+  nest-made name names End known = nothing-made C known
   nest-made name names (Leaf t rest) known =
       let first = token_made name t.kind t known in
-      beside-made flags known first (made flags name rest first.known) (token-made name names t.kind t known)
+      beside-made C known first (made flags name rest first.known) (token-made name names t.kind t known)
       (nest-made name names rest first.known)
   nest-made name names (Group t inner rest) known =
       let within = made flags name inner known in
       let first = group_made flags t.kind t within in
-      beside-made flags known first (made flags name rest first.known)
+      beside-made C known first (made flags name rest first.known)
       (group-made t.kind t known within (nest-made name names inner known)) (nest-made name names rest first.known)
 
   -- ## Section names
 
-  plain-ends : (answers : List Answer) (known : Known) → AreClean flags (plain_text flags answers known).known
-      → Ends flags known (plain_text flags answers known)
+  plain-ends : (answers : List Answer) (known : Known) → AreClean C (plain_text flags answers known).known
+      → Ends C known (plain_text flags answers known)
   plain-ends answers known = end-made known (made flags no_name (nest answers) known)
-      (nest-made no_name (λ number k. nothing-made flags k) (nest answers) known)
+      (nest-made no_name (λ number k. nothing-made C k) (nest answers) known)
 
   texts-end : (texts : List (List Answer)) (behind : Tree) (known : Known) → IsBraced behind
-      → AreClean flags (texts_made flags texts behind known).known
-      → Ends flags known (texts_made flags texts behind known)
+      → AreClean C (texts_made flags texts behind known).known
+      → Ends C known (texts_made flags texts behind known)
   texts-end [] behind known h clean = record { clean = clean; tree = h }
   texts-end (text ∷ texts) behind known h clean =
       let more = texts-end texts behind (plain_text flags text known).known h clean in
@@ -230,35 +234,35 @@ module _ (sound : list_all row_is_sound productions ≡ true) (braced : list_all
       }
 
   named-made : (o : Option (List (List Answer))) (c : Cat) (mode : MathMode) (behind : Tree) (number : ℕ)
-      (known : Known) → is_calm c ≡ false → IsBraced behind
-      → Makes flags known (texts_named flags o c mode behind number known)
-  named-made None c mode behind number known other h clean = nothing-made flags known clean
+      (known : Known) → is_clean c ≡ false → IsBraced behind
+      → Makes C known (texts_named flags o c mode behind number known)
+  named-made None c mode behind number known other h clean = nothing-made C known clean
   named-made (Some texts) c mode behind number known other h clean =
       let e = texts-end texts (Then (Sign control.NameEnd) behind) known h clean in
       record {
         clean = e.clean;
-        scraps = one IsBracedScrap _ (loud _ other e.tree);
+        scraps = one IsLeafScrap _ (loud _ other e.tree);
         items = All-nil ItemBraced;
       }
 
-  name-made : (named : NameTexts) → Makes_name flags (leaf_of_name flags named)
+  name-made : (named : NameTexts) → MakesNames C (leaf_of_name flags named)
   name-made named number known = named-made (named number) cat.SectionScrap Maybe Empty number known refl refl
 
   -- ## Heads
 
-  head-made : (named : NameTexts) (h : Head) (known : Known) → Makes flags known (head_made flags named h known)
-  head-made named Headless known = nothing-made flags known
-  head-made named (Silent words) known = nothing-named flags known (spelled words known.names).names
+  head-made : (named : NameTexts) (h : Head) (known : Known) → Makes C known (head_made flags named h known)
+  head-made named Headless known = nothing-made C known
+  head-made named (Silent words) known = nothing-named C known (spelled words known.names).names
   head-made named (Macro number words) known =
       let p = spelled words known.names in
-      scrap-named flags known p.names _ (dead-braced number
+      scrap-named C known p.names _ (dead-braced number
       (dollared p.tokens ++ token.Control control.OptionalBreak ∷ [])
       (flat-append (dollared p.tokens) (token.Control control.OptionalBreak ∷ [])
       (dollared-flat p.tokens (spelled-flat words known.names)) break-flat))
   head-made named (Format number words) known =
       let p = spelled (first_word words) known.names in
       let q = spelled (later_words words) p.names in
-      scrap-named flags known q.names _ (dead-braced number
+      scrap-named C known q.names _ (dead-braced number
       (names_in_text p.tokens ++ token.Control control.OptionalBreak ∷ names_in_text q.tokens)
       (flat-append (names_in_text p.tokens) (token.Control control.OptionalBreak ∷ names_in_text q.tokens)
       (names-flat p.tokens (spelled-flat (first_word words) known.names))
@@ -268,14 +272,14 @@ module _ (sound : list_all row_is_sound productions ≡ true) (braced : list_all
 
   -- ## The whole text
 
-  headed-made : (named : NameTexts) (h : Headed) (known : Known) → Makes flags known (headed_made flags named h known)
+  headed-made : (named : NameTexts) (h : Headed) (known : Known) → Makes C known (headed_made flags named h known)
   headed-made named h known =
       let first = head_made flags named h.head known in
-      beside-made flags known first (made flags (leaf_of_name flags named) h.rest first.known)
+      beside-made C known first (made flags (leaf_of_name flags named) h.rest first.known)
       (head-made named h.head known) (nest-made (leaf_of_name flags named) (name-made named) h.rest first.known)
 
   pub translation-braced : (named : NameTexts) (answers : List Answer) (names : List Entry) (marks : List ℕ)
-      → All (HasCleanOperators flags) (translated flags named answers names marks).known.ended
+      → All C (translated flags named answers names marks).known.ended
       → IsBraced (translated flags named answers names marks).tree
   unfolding translated
   translation-braced named answers names marks clean =

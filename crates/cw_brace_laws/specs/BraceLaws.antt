@@ -16,6 +16,7 @@ use Rattle.cw_translator.specs.Translating.{NameTexts, leaf_scrap, translated}
 use Rattle.cw_trees.specs.Joining.{Scrap, whole}
 use Rattle.cw_brace_laws.specs.Bracing.{IsBraced, IsBracedScrap}
 use Rattle.cw_brace_laws.specs.Operators.{HasCleanOperators, PutsCleanOperators}
+use Rattle.cw_brace_laws.specs.PlainTexts.{IsPlainText}
 use Rattle.cw_brace_laws.specs.Printed.{PrintsBraced}
 use Rattle.cw_trees.specs.Tree.{Tree}
 
@@ -50,4 +51,10 @@ TreesPrintBraced = (tree : Tree) → IsBraced tree → PrintsBraced tree
 abbrev pub TranslationsPrintBraced : Type 0
 TranslationsPrintBraced = (flags : Flags) (named : NameTexts) (answers : List Answer) (names : List Entry)
     (marks : List ℕ) → All (HasCleanOperators flags) (translated flags named answers names marks).known.ended
+    → PrintsBraced (translated flags named answers names marks).tree
+
+-- What a translation of plain texts prints is braced, with no premise on productions.
+abbrev pub PlainTextsPrintBraced : Type 0
+PlainTextsPrintBraced = (flags : Flags) (named : NameTexts) (answers : List Answer) (names : List Entry)
+    (marks : List ℕ) → All IsPlainText (translated flags named answers names marks).known.ended
     → PrintsBraced (translated flags named answers names marks).tree

@@ -1,6 +1,7 @@
 //! Laws of braces.
 ghost use Rattle.cw_brace_laws.specs.BraceLaws.{LeavesAreBraced, ProductionsKeepBraces, ReductionsAreBraced};
-ghost use Rattle.cw_brace_laws.specs.BraceLaws.{TranslationsAreBraced, TranslationsPrintBraced, TreesPrintBraced};
+ghost use Rattle.cw_brace_laws.specs.BraceLaws.{PlainTextsPrintBraced, TranslationsAreBraced, TranslationsPrintBraced};
+ghost use Rattle.cw_brace_laws.specs.BraceLaws.{TreesPrintBraced};
 
 /// The law of leaves: the scrap of each token has no braces, and holds no text where its category is calm. It does
 /// nothing: what it ensures is for proofs.
@@ -35,4 +36,11 @@ pub fn translation_law()
 pub fn printing_law()
     ensures trees { TreesPrintBraced }
     ensures translations { TranslationsPrintBraced }
+{}
+
+/// The law of plain texts: where no text has comments, layout codes, `#` lines, question marks or attributes, what its
+/// translation prints has braces that pair, with no `$` between them, whatever productions do. It does nothing: what it
+/// ensures is for proofs.
+pub fn plain_text_law()
+    ensures { PlainTextsPrintBraced }
 {}

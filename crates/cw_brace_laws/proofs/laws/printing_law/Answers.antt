@@ -3,13 +3,15 @@ use Rattle.cw_brace_laws.proofs.Prints.{prints-braced}
 use Rattle.cw_brace_laws.proofs.Translations.{translation-braced}
 use Rattle.cw_brace_laws.proofs.laws.printing_law.Goals as goal
 use Rattle.cw_brace_laws.specs.BraceLaws.{TranslationsPrintBraced}
+use Rattle.cw_brace_laws.specs.Operators.{HasCleanOperators}
 use Rattle.cw_table.proofs.BraceRows.{rows-braced}
 use Rattle.cw_table.proofs.Examples.{productions-sound}
 use Rattle.cw_translator.specs.Translating.{translated}
 
 translations : TranslationsPrintBraced
 translations flags named answers names marks clean = prints-braced (translated flags named answers names marks).tree
-    (translation-braced productions-sound rows-braced flags named answers names marks clean)
+    (translation-braced productions-sound rows-braced flags (HasCleanOperators flags) (λ state h leaves. h) named
+    answers names marks clean)
 
 pub returns : goal.returns
 returns c = record { trees = prints-braced; translations = translations }

@@ -1,8 +1,10 @@
 -- The tree of a translation is braced.
 use Rattle.cw_brace_laws.proofs.Translations.{translation-braced}
 use Rattle.cw_brace_laws.proofs.laws.translation_law.Goals as goal
+use Rattle.cw_brace_laws.specs.Operators.{HasCleanOperators}
 use Rattle.cw_table.proofs.BraceRows.{rows-braced}
 use Rattle.cw_table.proofs.Examples.{productions-sound}
 
 pub returns : goal.returns
-returns c = translation-braced productions-sound rows-braced
+returns c = λ flags. translation-braced productions-sound rows-braced flags (HasCleanOperators flags)
+    (λ state clean leaves. clean)

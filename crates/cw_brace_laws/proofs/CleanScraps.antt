@@ -1,0 +1,30 @@
+-- Scraps that hold no text where they may become part of an operator.
+use Rattle.std.proofs.Common.{◌≡◌, Bool, true, false, refl}
+use Rattle.cw_base.specs.declared.category.Cat.{Cat}
+use Rattle.cw_base.specs.declared.category.Cat.TheVariants.{Binop, Colon}
+use Rattle.cw_table.specs.Braces.{is_binop, is_calm}
+use Rattle.cw_trees.specs.Joining.{Scrap}
+use Rattle.cw_brace_laws.specs.Bracing.{HoldsNoText, IsBraced, IsBracedScrap}
+
+-- the calm categories, operators and the colon, with which some operators begin
+abbrev pub is_clean : Cat → Bool
+is_clean Binop = true
+is_clean Colon = true
+is_clean cat = is_calm cat
+
+pub calm-clean : (c : Cat) → is_calm c ≡ true → is_clean c ≡ true
+calm-clean Binop h = refl
+calm-clean Colon h = refl
+calm-clean c h = h
+
+pub binop-clean : (c : Cat) → is_binop c ≡ true → is_clean c ≡ true
+binop-clean Binop h = refl
+binop-clean c h = absurd cc
+
+-- a leaf: of each of these categories it holds no text
+pub record IsLeafScrap (scrap : Scrap) : Type 0 where
+  pub braced : IsBraced scrap.tree
+  pub clean : is_clean scrap.cat ≡ true → HoldsNoText scrap
+
+pub leaf-is-braced : (s : Scrap) → IsLeafScrap s → IsBracedScrap s
+leaf-is-braced s h = record { braced = h.braced; calm = λ c. h.clean (calm-clean s.cat c) }
