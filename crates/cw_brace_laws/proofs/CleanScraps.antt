@@ -1,5 +1,5 @@
 -- Scraps that hold no text where they may become part of an operator.
-use Rattle.std.proofs.Common.{◌≡◌, Bool, true, false, refl}
+use Rattle.std.proofs.Common.{◌≡◌, Bool, true, refl}
 use Rattle.cw_base.specs.declared.category.Cat.{Cat}
 use Rattle.cw_base.specs.declared.category.Cat.TheVariants.{Binop, Colon}
 use Rattle.cw_table.specs.Braces.{is_binop, is_calm}

@@ -27,7 +27,7 @@ use Rattle.cw_table.specs.declared.types.Piece.TheVariants.{OpenBrace, CloseBrac
 use Rattle.cw_table.specs.declared.types.Row.{Row}
 use Rattle.cw_table.specs.declared.types.RowResult.{RowResult}
 use Rattle.cw_table.specs.declared.types.RowResult.TheVariants.{Is, SameAs}
-use Rattle.cw_trees.specs.Joining.{Scrap, no_scrap, Joined, join}
+use Rattle.cw_trees.specs.Joining.{Scrap, no_scrap, join}
 use Rattle.cw_brace_laws.specs.Bracing.{StandsAt, HoldsNoText, IsBracedScrap}
 use Rattle.cw_brace_laws.specs.Operators.{IsCleanOperator, PutsCleanOperator}
 use Rattle.cw_brace_laws.proofs.Depths.{ends-maybe}

@@ -1,6 +1,6 @@
 -- In a text without comments, `#` lines, question marks and attributes no production gives text to an operator.
-use Rattle.std.proofs.Common.{◌≡◌, ℕ, ◌<◌, Bool, true, false, not, ◌&&◌, ◌||◌, eqb, ltb, Option, Some, None, List, []}
-use Rattle.std.proofs.Common.{◌∷◌, ◌++◌, get_or, map, take, drop, refl, sym, ap, ◌∙◌}
+use Rattle.std.proofs.Common.{◌≡◌, ℕ, ◌<◌, Bool, true, false, not, ◌&&◌, ◌||◌, eqb, ltb, Option, Some, None, List}
+use Rattle.std.proofs.Common.{get_or, map, take, drop, refl, sym, ap, ◌∙◌}
 use Rattle.std.specs.List.{All, list_all}
 use Rattle.std.proofs.lemmas.Bool.{eqb-true, ltb-true}
 use Rattle.std.proofs.lemmas.List.Elements.{All-append, All-drop, All-take}
@@ -14,7 +14,7 @@ use Rattle.cw_table.proofs.BraceRows.{rows-braced}
 use Rattle.cw_table.proofs.Examples.{productions-sound}
 use Rattle.cw_table.proofs.ScrapFacts.{at-cats, cats-get}
 use Rattle.cw_table.proofs.Soundness.{sound-row}
-use Rattle.cw_table.specs.Braces.{admits_only, are_quiet, between, is_binop, is_calm, is_quiet, may_stand, row_is_braced}
+use Rattle.cw_table.specs.Braces.{admits_only, are_quiet, between, is_calm, is_quiet, may_stand, row_is_braced}
 use Rattle.cw_table.specs.Fitting.{row_fits}
 use Rattle.cw_table.specs.Insertions.{insertion_of}
 use Rattle.cw_table.specs.Normal.{At, next_place, steps}

@@ -203,7 +203,8 @@ unfolding normal
 normal-keeps flags sound braced st clean all =
     (steps-keep flags (λ s. HasCleanOperators flags s × All IsBracedScrap s.scraps)
     (λ s i r e h.
-    let t = taken sound s i r e in
-    (later-clean flags s i r e h.0,
-    production-keeps flags r i s.scraps t.sound (t.passes row_is_braced braced) t.fits (h.0 0 i r e) h.1))
+    let t = taken sound s i r e in (
+      later-clean flags s i r e h.0,
+      production-keeps flags r i s.scraps t.sound (t.passes row_is_braced braced) t.fits (h.0 0 i r e) h.1,
+    ))
     (weight st.scraps) st (clean, all)).1

@@ -3,4 +3,6 @@
 
 mod laws;
 
-pub use laws::{leaf_law, plain_text_law, printing_law, production_law, reduction_law, translation_law};
+pub use laws::{
+    leaf_law, plain_text_law, printing_law, production_law, reduction_law, translation_law,
+};
