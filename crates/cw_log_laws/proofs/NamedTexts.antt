@@ -1,5 +1,6 @@
 -- What section names and heads make, and whole texts.
 use Rattle.std.proofs.Common.{◌≢◌, ℕ, ◌+◌, ◌≤◌, Bool, true, false, Option, Some, None, List, [], ◌∷◌, ◌++◌, arith}
+use Rattle.std.proofs.Common.{if◌then◌else◌}
 use Rattle.cw_base.specs.declared.category.Cat.{Cat}
 use Rattle.cw_base.specs.declared.category.Cat.TheVariants as cat
 use Rattle.cw_base.specs.declared.flags.Flags.{Flags}
@@ -25,7 +26,8 @@ use Rattle.cw_logtext.specs.LogText.{greatest}
 use Rattle.cw_translator.specs.Translating.{Known, NameTexts, Spelled, before, begin, dead, dollared, end_of}
 use Rattle.cw_translator.specs.Translating.{first_word, format_made, head_made, headed_made, later_words, leaf_of_name}
 use Rattle.cw_translator.specs.Translating.{leaf_scrap, macro_made, made, plain_text, sign_behind, spelled, texts_made}
-use Rattle.cw_translator.specs.Translating.{texts_named, translated, with_names, word_tokens}
+use Rattle.cw_translator.specs.Translating.{is_macro, name_in_text, names_in_text, texts_named, translated, with_names}
+use Rattle.cw_translator.specs.Translating.{word_tokens}
 use Rattle.cw_log_laws.proofs.CountedTokens.{nest-size, nest_size, tokens_in}
 use Rattle.cw_log_laws.proofs.LaterNames.{HaveCats, later-on}
 use Rattle.cw_log_laws.proofs.LeafScraps.{AreNamesBehind, form-tokens, names-behind, same-behind, token-logged}
@@ -143,6 +145,32 @@ dollared-written names [] h = tt
 dollared-written names (first ∷ tokens) h =
     (tt, tokens-append names (first ∷ tokens) (token.Control control.Dollar ∷ []) h (tt, tt))
 
+-- the names of a format definition
+split-written : (names : List Entry) (t : Token) (ts : List Token) → IsWritten names (tree_in [] (t ∷ ts))
+    → IsWritten names (tree_in [] (t ∷ [])) × IsWritten names (tree_in [] ts)
+split-written names (token.Source number mode) ts h = ((h.0, tt), h.1)
+split-written names (token.Ident name number) ts h = ((h.0, tt), h.1)
+split-written names (token.Reserved name number c) ts h = ((h.0, tt), h.1)
+split-written names (token.Control c) ts h = ((h.0, tt), h.1)
+split-written names (token.Inner list) ts h = (tt, h)
+split-written names (token.«List» list) ts h = ((h.0, tt), h.1)
+
+name-written : (names : List Entry) (t : Token) → IsWritten names (tree_in [] (t ∷ []))
+    → IsWritten names (tree_in [] (name_in_text t))
+name-written names t h = by (is_macro t)
+  where
+    by : (b : Bool) → IsWritten names (tree_in [] (if b then dollared (t ∷ []) else t ∷ []))
+    by true = dollared-written names (t ∷ []) h
+    by false = h
+
+names-written : (names : List Entry) (ts : List Token) → IsWritten names (tree_in [] ts)
+    → IsWritten names (tree_in [] (names_in_text ts))
+names-written names [] h = tt
+names-written names (t ∷ ts) h =
+    let both = split-written names t ts h in
+    tokens-append names (name_in_text t) (names_in_text ts) (name-written names t both.0)
+    (names-written names ts both.1)
+
 module _ (number : ℕ) (known : Known) where
   words-grow : (words : Spelled) → HaveCats known.names → IsWellSpelled known.names words
       → Grows 1 known (with_names words.names known)
@@ -162,11 +190,14 @@ module _ (number : ℕ) (known : Known) where
   format-well : (first second : Spelled) → HaveCats known.names → IsWellSpelled known.names first
       → IsWellSpelled first.names second → IsWellMade 1 known (format_made number first second known)
   format-well first second cats s t =
-      let behind = token.Control control.OptionalBreak ∷ second.tokens in
-      well-scrap 1 known (with_names second.names known) (leaf_scrap (dead number (first.tokens ++ behind)))
-      (omega arith) (dead-logged second.names number (first.tokens ++ behind)
-      (tokens-append second.names first.tokens behind
-      (written-later first.names second.names t.behind.0 (tree_in [] first.tokens) s.written) (tt, t.written)))
+      let front = names_in_text first.tokens in
+      let behind = token.Control control.OptionalBreak ∷ names_in_text second.tokens in
+      well-scrap 1 known (with_names second.names known) (leaf_scrap (dead number (front ++ behind)))
+      (omega arith) (dead-logged second.names number (front ++ behind)
+      (tokens-append second.names front behind
+      (written-later first.names second.names t.behind.0 (tree_in [] front)
+      (names-written first.names first.tokens s.written))
+      (tt, names-written second.names second.tokens t.written)))
       (grows-wider 0 1 known (with_names second.names known) (omega arith)
       (grows-names known second.names cats (behind-on known.names first.names second.names s.behind t.behind)))
 

@@ -6,7 +6,11 @@ use Rattle.cw_leaves.specs.Spelling.{production_of}
 use Rattle.cw_logtext.specs.Appending.{block_of}
 use Rattle.cw_log.specs.Checking.{told}
 use Rattle.cw_log.proofs.CheckLaws.{CheckedSoFar, all-accepted, block-accepted, block-few, block-rejected}
+use Rattle.cw_log.proofs.CheckLaws.{none-checked}
 use Rattle.cw_log.proofs.checking.check_log.Goals as goal
+
+pub loop-rest-init : goal.loop-rest-init
+loop-rest-init g c = none-checked c.args.log.now c.requires.log
 
 pub overflow_add-texts : goal.overflow_add-texts
 overflow_add-texts g c =
