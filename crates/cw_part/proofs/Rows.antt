@@ -222,11 +222,11 @@ program_row : woven (web (
     ≡ lines_of (
     codes "\\N{0}{1}Hello. This program greets \\PB{\\|n} times." ∷
     codes "\\Y\\B\\4\\D$\\|n$\\5\\T{3}\\par" ∷
-    codes "\\Y\\B\\8\\#\\&{include} \\.{<stdio.h>}\\6" ∷
-    codes "\\&{int} \\\\{main}(\\&{void})\\1\\1\\2\\2\\6" ∷
+    codes "\\Y\\B\\8\\#\\&{include} \\.{<stdio.h>}\\7" ∷
+    codes "\\1\\1\\&{int} \\\\{main}(\\&{void})\\2\\2\\6" ∷
     codes "${}\\{\\1{}$\\6" ∷
     codes "\\&{int} \\|i;\\7" ∷
-    codes "\\&{for} ${}(\\|i\\K\\T{0};{}$ ${}\\|i<\\|n;{}$ ${}\\|i\\PP)\\1{}$\\5\\X2:Greet\\X;\\2\\6" ∷
+    codes "\\&{for} ${}(\\|i\\K\\T{0};{}$ ${}\\|i<\\|n;{}$ ${}\\|i\\PP){}$\\1\\5\\X2:Greet\\X;\\2\\6" ∷
     codes "\\&{return} \\T{0};\\6" ∷
     codes "\\4${}\\}\\2{}$\\par" ∷
     codes "\\fi" ∷
