@@ -8,8 +8,8 @@ use Rattle.std.proofs.lemmas.Bool.Decides.{nat_tests}
 use Rattle.std.proofs.lemmas.List.{length-take, take-append-drop}
 use Rattle.cw_base.specs.Text.{is_blank}
 use Rattle.cw_lex.specs.Lexing.{answers, fresh_at, joined, last_at, still_fresh, tokens_of}
-use Rattle.cw_plain_laws.proofs.Again.{Bare, IsAloneText, IsClosed, Prefix, Utf16, Utf32, Utf8, Wide, in_part}
-use Rattle.cw_plain_laws.proofs.Again.{prefix_bytes}
+use Rattle.cw_plain_laws.proofs.Again.{Bare, IsAloneText, IsClosed, IsString, Prefix, Utf16, Utf32, Utf8, Wide}
+use Rattle.cw_plain_laws.proofs.Again.{in_part, prefix_bytes}
 use Rattle.cw_plain_laws.proofs.AgainLaws.{at-mark}
 use Rattle.cw_plain_laws.proofs.CutConstants.{constant-cut, constant-last, run-cut}
 use Rattle.cw_plain_laws.proofs.CutStrings.{sign-alone, string-closed}
@@ -21,7 +21,8 @@ use Rattle.cw_rules.proofs.Sizes.{constant-le, run-le}
 use Rattle.cw_rules.proofs.Taking.{AreNotes}
 use Rattle.cw_rules.specs.Answers.{Answer, Token, Begin, Finish, Note, Cut, Found, Seen, Where, note_answers, plain}
 use Rattle.cw_rules.specs.Answers.{token_of}
-use Rattle.cw_rules.specs.Bodies.{at_start, extent}
+use Rattle.cw_base.specs.declared.notes.NoteKind.TheVariants as notes
+use Rattle.cw_rules.specs.Bodies.{all_notes, at_start, extent}
 use Rattle.cw_rules.specs.Bytes.{at_sign, begins, begins_by, begins_with, hash, is_between, is_in, is_letter}
 use Rattle.cw_rules.specs.Bytes.{is_letter_of, is_mark, less, newline, run, slash, star}
 use Rattle.cw_rules.specs.Prefixes.{is_prefix_letter, prefix_size}
@@ -264,63 +265,54 @@ abbrev IsCutString : ℕ → ℕ → ℕ → List ℕ → Type 0
 IsCutString opening mark place bytes = (string kinds.Quoted opening mark place bytes).notes ≡ []
     → IsAloneText kinds.Quoted (take (string kinds.Quoted opening mark place bytes).size bytes)
 
+a-string : (p : Prefix) (mark : ℕ) (body : List ℕ) → is_mark mark ≡ true → IsClosed mark 0 false body
+    → IsString (prefix_bytes p ++ mark ∷ body)
+a-string p mark body is closed = record {
+  prefix = p;
+  mark = mark;
+  body = body;
+  mark_is = is;
+  closed = closed;
+  same = refl;
+}
+
+string-text : (p : Prefix) (mark : ℕ) (body : List ℕ) → IsString (prefix_bytes p ++ mark ∷ body)
+    → IsAloneText kinds.Quoted (prefix_bytes p ++ mark ∷ body)
+string-text Bare mark body is = is
+string-text Wide mark body is = is
+string-text Utf16 mark body is = is
+string-text Utf32 mark body is = is
+string-text Utf8 mark body is = is
+
+-- what stands behind the opening bytes, and as many of it as are taken
+behind-opening : (xs : List ℕ) (y : ℕ) (ys : List ℕ) → drop (length xs + 1) (xs ++ y ∷ ys) ≡ ys
+behind-opening [] y ys = refl
+behind-opening (x ∷ xs) y ys =
+    let one : length (x ∷ xs) + 1 ≡ suc (length xs + 1) = omega arith in
+    ap (λ n. drop n ((x ∷ xs) ++ y ∷ ys)) one ∙ behind-opening xs y ys
+
+with-opening : (xs : List ℕ) (y : ℕ) (ys : List ℕ) (n : ℕ)
+    → take ((length xs + 1) + n) (xs ++ y ∷ ys) ≡ xs ++ y ∷ take n ys
+with-opening [] y ys n =
+    let one : (0 + 1) + n ≡ suc n = omega arith in
+    ap (λ k. take k (y ∷ ys)) one
+with-opening (x ∷ xs) y ys n =
+    let one : (length (x ∷ xs) + 1) + n ≡ suc ((length xs + 1) + n) = omega arith in
+    ap (λ k. take k ((x ∷ xs) ++ y ∷ ys)) one ∙ ap (λ l. x ∷ l) (with-opening xs y ys n)
+
 opened-cut : (p : Prefix) (mark : ℕ) (rest : List ℕ) (place : ℕ) → is_mark mark ≡ true
     → IsCutString (length (prefix_bytes p) + 1) mark place (prefix_bytes p ++ mark ∷ rest)
-opened-cut Bare mark rest place is quiet =
-    let n = (extent (at_start (bodies.Quoted mark) (place + 1)) rest).size in
-    let size : 1 + n ≡ suc n = omega arith in
-    subst (λ k. IsAloneText kinds.Quoted (take k (mark ∷ rest))) (sym size) (record {
-      prefix = Bare;
-      mark = mark;
-      body = take n rest;
-      mark_is = is;
-      closed = string-closed mark (place + 1) rest quiet;
-      same = refl;
-    })
-opened-cut Wide mark rest place is quiet =
-    let n = (extent (at_start (bodies.Quoted mark) (place + 2)) rest).size in
-    let size : 2 + n ≡ suc (suc n) = omega arith in
-    subst (λ k. IsAloneText kinds.Quoted (take k (76 ∷ mark ∷ rest))) (sym size) (record {
-      prefix = Wide;
-      mark = mark;
-      body = take n rest;
-      mark_is = is;
-      closed = string-closed mark (place + 2) rest quiet;
-      same = refl;
-    })
-opened-cut Utf16 mark rest place is quiet =
-    let n = (extent (at_start (bodies.Quoted mark) (place + 2)) rest).size in
-    let size : 2 + n ≡ suc (suc n) = omega arith in
-    subst (λ k. IsAloneText kinds.Quoted (take k (117 ∷ mark ∷ rest))) (sym size) (record {
-      prefix = Utf16;
-      mark = mark;
-      body = take n rest;
-      mark_is = is;
-      closed = string-closed mark (place + 2) rest quiet;
-      same = refl;
-    })
-opened-cut Utf32 mark rest place is quiet =
-    let n = (extent (at_start (bodies.Quoted mark) (place + 2)) rest).size in
-    let size : 2 + n ≡ suc (suc n) = omega arith in
-    subst (λ k. IsAloneText kinds.Quoted (take k (85 ∷ mark ∷ rest))) (sym size) (record {
-      prefix = Utf32;
-      mark = mark;
-      body = take n rest;
-      mark_is = is;
-      closed = string-closed mark (place + 2) rest quiet;
-      same = refl;
-    })
-opened-cut Utf8 mark rest place is quiet =
-    let n = (extent (at_start (bodies.Quoted mark) (place + 3)) rest).size in
-    let size : 3 + n ≡ suc (suc (suc n)) = omega arith in
-    subst (λ k. IsAloneText kinds.Quoted (take k (117 ∷ 56 ∷ mark ∷ rest))) (sym size) (record {
-      prefix = Utf8;
-      mark = mark;
-      body = take n rest;
-      mark_is = is;
-      closed = string-closed mark (place + 3) rest quiet;
-      same = refl;
-    })
+opened-cut p mark rest place is quiet =
+    let xs = prefix_bytes p in
+    let opening = length (prefix_bytes p) + 1 in
+    let start = at_start (bodies.Quoted mark) (place + opening) in
+    let behind = behind-opening xs mark rest in
+    let n = (extent start rest).size in
+    let closed = string-closed mark (place + opening) rest
+    (ap (all_notes notes.StringUnended start) (sym behind) ∙ quiet) in
+    subst (IsAloneText kinds.Quoted)
+    (sym (ap (λ l. take (opening + (extent start l).size) (xs ++ mark ∷ rest)) behind ∙ with-opening xs mark rest n))
+    (string-text p mark (take n rest) (a-string p mark (take n rest) is closed))
 
 string-alone : (mark : ℕ) (bytes : List ℕ) (place : ℕ) → Opens mark bytes
     → IsCutString (prefix_size bytes + 1) mark place bytes
