@@ -5,8 +5,8 @@ use Rattle.cw_base.specs.declared.category.Cat.{Cat}
 use Rattle.cw_base.specs.declared.category.Cat.TheVariants.{AlignasLike, Attr, AttrHead, Insert, Lproc, Question}
 use Rattle.cw_table.specs.Rewriting.{State}
 
--- Not a comment or a layout code, the beginning of a `#` line, a question mark, or a part of an attribute: no text comes
--- into an operator but by one of these.
+-- Not a comment or a layout code, the beginning of a `#` line, a question mark, or a part of an attribute: no text
+-- comes into an operator but by one of these.
 abbrev pub is_plain : Cat → Bool
 is_plain Insert = false
 is_plain Lproc = false
