@@ -14,6 +14,7 @@ use Rattle.cw_trees.specs.Joining.{Scrap, whole}
 use Rattle.cw_trees.specs.Tree.{Empty, Then, Source, Ident, Reserved, Sign}
 use Rattle.cw_trees.specs.declared.Control.TheVariants.{Blank, CloseBrace, OpenBrace, ThinSpace, ToMath, ToText}
 use Rattle.cw_brace_laws.specs.Bracing.{IsBraced, depth_of}
+use Rattle.cw_brace_laws.specs.PlainTexts.{IsPlainText}
 use Rattle.cw_brace_laws.specs.Printed.{signs_printed}
 
 -- `{*const\,}`, and with a blank in the place of the thin space
@@ -70,6 +71,22 @@ commented = start (word RawInt 0 0 ∷ sign RawUbin Math 1 ∷ comment_scrap 2 [
 commented_braced : IsBraced (whole (normal productions start_flags commented).scraps)
 unfolding normal productions
 commented_braced = refl
+
+-- `b+=a`, a plain text: the operator of two signs is a relation
+abbrev assigned : State
+assigned = start (ident 0 0 ∷ sign Ubinop Math 1 ∷ sign Binop Math 2 ∷ ident 1 3 ∷ [])
+
+assigned_plain : IsPlainText assigned
+assigned_plain = refl
+
+assigned_braced : IsBraced (whole (normal productions start_flags assigned).scraps)
+unfolding normal productions
+assigned_braced = refl
+
+assigned_prints : signs_printed true (trimmed (flat (whole (normal productions start_flags assigned).scraps)))
+    ≡ codes "$\\MRL{{}}$"
+unfolding normal productions
+assigned_prints = refl
 
 -- `a+/* c */=b`, which is no C: the comment stands between the braces of the operator, so the premise isn't met
 abbrev split : State
