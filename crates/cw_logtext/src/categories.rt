@@ -72,8 +72,52 @@ fn is_named(cat: Cat, name: &[u8]) -> bool
     cat_text(cat) == name
 }
 
-// The category that has this name.
-pub(crate) fn cat_named(name: &[u8]) -> Option<Cat>
+// The category that a name with this first letter and of this length is likely to be. Whatever it says, the name is
+// looked at.
+fn likely_cat(letter: u8, length: usize) -> Cat {
+    match (letter, length) {
+        (b'a', _) => Cat::AlignasLike,
+        (b'b', 3) => Cat::Box,
+        (b'b', 5) => Cat::Binop,
+        (b'b', _) => Cat::BeginArg,
+        (b'c', 5) => Cat::Comma,
+        (b'c', 6) => Cat::Colcol,
+        (b'c', 9) => Cat::CaseLike,
+        (b'c', _) => Cat::ConstLike,
+        (b'd', 3) => Cat::Dot,
+        (b'd', 4) => Cat::Dots,
+        (b'd', 7) => Cat::DoLike,
+        (b'd', _) => Cat::DefineLike,
+        (b'e', 3) => Cat::Exp,
+        (b'e', 9) => Cat::ElseLike,
+        (b'e', _) => Cat::EndArg,
+        (b'f', _) => Cat::ForLike,
+        (b'i', 6) => Cat::Insert,
+        (b'i', 7) => Cat::IfLike,
+        (b'i', _) => Cat::IntLike,
+        (b'l', 4) => Cat::Lpar,
+        (b'l', 5) => Cat::Lproc,
+        (b'l', _) => Cat::Lbrace,
+        (b'q', _) => Cat::Question,
+        (b'r', 4) => Cat::Rpar,
+        (b'r', 5) => Cat::Rproc,
+        (b'r', 6) => Cat::Rbrace,
+        (b'r', 7) => Cat::RawInt,
+        (b'r', _) => Cat::RawUbin,
+        (b's', 4) => Cat::Semi,
+        (b's', 13) => Cat::SectionScrap,
+        (b's', _) => Cat::StructLike,
+        (b't', 8) => Cat::TexLike,
+        (b't', 11) => Cat::TypeofLike,
+        (b't', _) => Cat::TypedefLike,
+        (b'u', 4) => Cat::Unop,
+        (b'u', _) => Cat::Ubinop,
+        _ => Cat::End,
+    }
+}
+
+// The category that has this name, of all.
+fn cat_of_all(name: &[u8]) -> Option<Cat>
     ensures { MatchOption result ((cat : Cat) → cat ≢ Cat.End → name.now ≢ cat_text cat)
         (λ cat. (cat ≢ Cat.End) × (name.now ≡ cat_text cat)) }
 {
@@ -86,4 +130,20 @@ pub(crate) fn cat_named(name: &[u8]) -> Option<Cat>
         }
     }
     None
+}
+
+// The category that has this name.
+pub(crate) fn cat_named(name: &[u8]) -> Option<Cat>
+    ensures { MatchOption result ((cat : Cat) → cat ≢ Cat.End → name.now ≢ cat_text cat)
+        (λ cat. (cat ≢ Cat.End) × (name.now ≡ cat_text cat)) }
+{
+    let likely = match name {
+        [letter, ..] => likely_cat(*letter, name.len()),
+        [] => Cat::End,
+    };
+    match likely {
+        Cat::End => cat_of_all(name),
+        cat if is_named(cat, name) => Some(cat),
+        _ => cat_of_all(name),
+    }
 }

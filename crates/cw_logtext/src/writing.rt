@@ -24,11 +24,17 @@ fn kind_text(kind: LeafKind) -> &'static [u8]
     }
 }
 
-// Appends a number in decimal digits.
+// Appends a number in decimal digits. Most numbers have one or two, which cost less by themselves.
 fn append_number(text: &mut Bytes, number: u64) -> Result<(), Memory>
     ensures ok { OnOk result (text.new ≡ text.old ++ decimal number) }
     ensures err { OnErr result (text.new ≡ text.old) }
 {
+    if number < 10 {
+        return text.push(b'0' + number as u8);
+    }
+    if number < 100 {
+        return text.append(&[b'0' + (number / 10) as u8, b'0' + (number % 10) as u8]);
+    }
     text.append(Buffer::new().format(number).as_bytes())
 }
 

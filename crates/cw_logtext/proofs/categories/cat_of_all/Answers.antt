@@ -4,7 +4,7 @@ use Rattle.std.proofs.lemmas.List.{get_or_default}
 use Rattle.cw_base.specs.declared.category.Cat.TheVariants.{End}
 use Rattle.cw_base.specs.Category.{all_cats}
 use Rattle.cw_logtext.proofs.CatNames.{no-cat, one-more-cat}
-use Rattle.cw_logtext.proofs.categories.cat_named.Goals as goal
+use Rattle.cw_logtext.proofs.categories.cat_of_all.Goals as goal
 
 pub loop-cat-preserved : goal.loop-cat-preserved
 loop-cat-preserved c =
