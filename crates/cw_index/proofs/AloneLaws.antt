@@ -1,5 +1,5 @@
 -- A name that stands alone prints as it does among other items.
-use Rattle.std.proofs.Common.{◌≡◌, ℕ, Bool, false, refl, ap, ◌∙◌, List, [], ◌∷◌}
+use Rattle.std.proofs.Common.{◌≡◌, ℕ, Bool, false, ap, ◌∙◌, List, [], ◌∷◌}
 use Rattle.std.proofs.lemmas.List.{append-nil}
 use Rattle.cw_join.specs.Early.{added, late}
 use Rattle.cw_trees.specs.Flat.{IdentItem, ReservedItem}

@@ -20,7 +20,8 @@ category-is names name entry category there is =
 pub returns-then-is_tex_like : goal.returns-then-is_tex_like
 returns-then-is_tex_like c = λ entry there.
     let same : entry.category ≡ c.category-category.result =
-    category-is c.args.names.now c.args.id.index entry c.category-category.result there c.category-category.ensures.value in
+    category-is c.args.names.now c.args.id.index entry c.category-category.result there
+    c.category-category.ensures.value in
     on_ok_weaker c.append_formula.result
     (λ e. e ∙ ap (λ (l : List ℕ). c.args.line.now ++ l)
     (tex-word c.args.names.now c.args.id.index entry there
@@ -30,7 +31,8 @@ returns-then-is_tex_like c = λ entry there.
 pub returns-then-is_exp : goal.returns-then-is_exp
 returns-then-is_exp c = λ entry there.
     let same : entry.category ≡ c.category-category.result =
-    category-is c.args.names.now c.args.id.index entry c.category-category.result there c.category-category.ensures.value in
+    category-is c.args.names.now c.args.id.index entry c.category-category.result there
+    c.category-category.ensures.value in
     on_ok_weaker c.append_item.result
     (λ e. e ∙ ap (λ (l : List ℕ). c.args.line.now ++ l)
     (ident-word c.args.names.now c.args.id.index entry there
@@ -41,7 +43,8 @@ returns-then-is_exp c = λ entry there.
 pub returns : goal.returns
 returns c = λ entry there.
     let same : entry.category ≡ c.category-category.result =
-    category-is c.args.names.now c.args.id.index entry c.category-category.result there c.category-category.ensures.value in
+    category-is c.args.names.now c.args.id.index entry c.category-category.result there
+    c.category-category.ensures.value in
     on_ok_weaker c.append_item-2.result
     (λ e. e ∙ ap (λ (l : List ℕ). c.args.line.now ++ l)
     (reserved-word c.args.names.now c.args.id.index entry there
