@@ -1,0 +1,6 @@
+-- Worked texts: their productions and what they print.
+mod Worked
+mod Declarations
+mod Statements
+mod Expressions
+mod Lines

@@ -1,0 +1,1 @@
+-- The worked texts have no definitions beyond those of the table.
