@@ -1,5 +1,5 @@
 -- Worked declarations: attributes, boxes before types, names before declarations, and heads of functions.
-use Rattle.std.proofs.Common.{◌≡◌, [], ◌∷◌, codes, refl}
+use Rattle.std.proofs.Common.{◌≡◌, [], ◌∷◌, ◌++◌, codes, refl}
 use Rattle.cw_base.specs.declared.category.Cat.TheVariants.{RawInt, ConstLike, Exp, Semi, Binop, Lpar, Rpar, Lbrace}
 use Rattle.cw_base.specs.declared.category.Cat.TheVariants.{Rbrace, Comma, AttrHead, AlignasLike}
 use Rattle.cw_base.specs.declared.mode.MathMode.TheVariants.{Math, Maybe}
@@ -37,7 +37,8 @@ commented_parameter_log = refl
 commented_parameter_bytes : bytes_of (codes "int" ∷ codes "f" ∷ codes "(" ∷ codes "int" ∷ codes "a" ∷ codes ","
     ∷ codes "\\C{" ∷ codes " c " ∷ codes "int" ∷ codes "b" ∷ codes ")" ∷ codes "\\{" ∷ codes "c" ∷ codes ";"
     ∷ codes "\\}" ∷ []) (normal productions start_flags commented_parameter)
-    ≡ codes "\\1\\1\\&{int} \\|f(\\&{int} \\|a${},\\39{}$\\C{ c }\\6\n\\&{int} \\|b)\\2\\2\\6\n${}\\{\\1{}$\\6\n\\|c;\\6\n\\4${}\\}\\2{}$"
+    ≡ codes "\\1\\1\\&{int} \\|f(\\&{int} \\|a${},\\39{}$\\C{ c }\\6\n"
+    ++ codes "\\&{int} \\|b)\\2\\2\\6\n${}\\{\\1{}$\\6\n\\|c;\\6\n\\4${}\\}\\2{}$"
 unfolding normal productions
 commented_parameter_bytes = refl
 
@@ -55,7 +56,8 @@ name_behind_call_log = refl
 name_behind_call_bytes : bytes_of (codes "f" ∷ codes "(" ∷ codes ")" ∷ codes "\\X1:x\\X" ∷ codes "int" ∷ codes "g"
     ∷ codes "(" ∷ codes ")" ∷ codes "\\{" ∷ codes "a" ∷ codes ";" ∷ codes "\\}" ∷ [])
     (normal productions start_flags name_behind_call)
-    ≡ codes "\\|f(\\,)\\6\n\\X1:x\\X\\7\n\\1\\1\\&{int} \\|g(\\,)\\2\\2\\6\n${}\\{\\1{}$\\6\n\\|a;\\6\n\\4${}\\}\\2{}$"
+    ≡ codes "\\|f(\\,)\\6\n\\X1:x\\X\\7\n\\1\\1\\&{int} \\|g(\\,)\\2\\2\\6\n"
+    ++ codes "${}\\{\\1{}$\\6\n\\|a;\\6\n\\4${}\\}\\2{}$"
 unfolding normal productions
 name_behind_call_bytes = refl
 

@@ -1,5 +1,5 @@
 -- Worked comments and `#` lines.
-use Rattle.std.proofs.Common.{◌≡◌, [], ◌∷◌, codes, refl}
+use Rattle.std.proofs.Common.{◌≡◌, [], ◌∷◌, ◌++◌, codes, refl}
 use Rattle.cw_base.specs.declared.category.Cat.TheVariants.{RawInt, Exp, Semi, RawUbin, Binop, Lpar, Rpar, Lbrace}
 use Rattle.cw_base.specs.declared.category.Cat.TheVariants.{Rbrace, IfLike, DefineLike}
 use Rattle.cw_base.specs.declared.mode.MathMode.TheVariants.{Math, Maybe}
@@ -81,7 +81,8 @@ function_behind_line_log = refl
 function_behind_line_bytes : bytes_of (codes "\\8\\#" ∷ codes "include" ∷ codes "\\.{<x>}" ∷ codes "int" ∷ codes "f"
     ∷ codes "(" ∷ codes ")" ∷ codes "\\{" ∷ codes "a" ∷ codes ";" ∷ codes "\\}" ∷ [])
     (normal productions start_flags function_behind_line)
-    ≡ codes "\\8\\#\\&{include} \\.{<x>}\\7\n\\1\\1\\&{int} \\|f(\\,)\\2\\2\\6\n${}\\{\\1{}$\\6\n\\|a;\\6\n\\4${}\\}\\2{}$"
+    ≡ codes "\\8\\#\\&{include} \\.{<x>}\\7\n\\1\\1\\&{int} \\|f(\\,)\\2\\2\\6\n"
+    ++ codes "${}\\{\\1{}$\\6\n\\|a;\\6\n\\4${}\\}\\2{}$"
 unfolding normal productions
 function_behind_line_bytes = refl
 

@@ -1,5 +1,5 @@
 -- Worked statements: labels, conditions, loops, and what stands before them.
-use Rattle.std.proofs.Common.{◌≡◌, [], ◌∷◌, codes, refl}
+use Rattle.std.proofs.Common.{◌≡◌, [], ◌∷◌, ◌++◌, codes, refl}
 use Rattle.cw_base.specs.declared.category.Cat.TheVariants.{RawInt, Exp, Semi, Binop, Lpar, Rpar, Lbrace, Rbrace}
 use Rattle.cw_base.specs.declared.category.Cat.TheVariants.{Colon, CaseLike, ForLike, DoLike, IfLike, ElseLike}
 use Rattle.cw_base.specs.declared.category.Cat.TheVariants.{AttrHead}
@@ -67,7 +67,8 @@ loop_before_else_log = refl
 loop_before_else_bytes : bytes_of (codes "if" ∷ codes "(" ∷ codes "a" ∷ codes ")" ∷ codes "while" ∷ codes "("
     ∷ codes "b" ∷ codes ")" ∷ codes "c" ∷ codes ";" ∷ codes "else" ∷ codes "if" ∷ codes "(" ∷ codes "d" ∷ codes ")"
     ∷ codes "e" ∷ codes ";" ∷ []) (normal productions start_flags loop_before_else)
-    ≡ codes "\\&{if} (\\|a)\\1\\6\n\\&{while} (\\|b)\\1\\5\\|c;\\2\\2\\6\n\\&{else} \\&{if} (\\|d)\\1\\5\\|e;\\2"
+    ≡ codes "\\&{if} (\\|a)\\1\\6\n\\&{while} (\\|b)\\1\\5\\|c;\\2\\2\\6\n"
+    ++ codes "\\&{else} \\&{if} (\\|d)\\1\\5\\|e;\\2"
 unfolding normal productions
 loop_before_else_bytes = refl
 
@@ -103,7 +104,8 @@ macro_in_condition_log = refl
 macro_in_condition_bytes : bytes_of (codes "if" ∷ codes "(" ∷ codes "a" ∷ codes ")" ∷ codes "each" ∷ codes "("
     ∷ codes "b" ∷ codes ")" ∷ codes "\\{" ∷ codes "c" ∷ codes ";" ∷ codes "\\}" ∷ [])
     (normal productions start_flags macro_in_condition)
-    ≡ codes "\\&{if} (\\|a)\\1\\5\\1\\1\\\\{each}(\\|b)\\2\\2\\6\n${}\\{\\1{}$\\6\n\\|c;\\6\n\\4${}\\}\\2{}$\\2"
+    ≡ codes "\\&{if} (\\|a)\\1\\5\\1\\1\\\\{each}(\\|b)\\2\\2\\6\n"
+    ++ codes "${}\\{\\1{}$\\6\n\\|c;\\6\n\\4${}\\}\\2{}$\\2"
 unfolding normal productions
 macro_in_condition_bytes = refl
 
@@ -224,7 +226,8 @@ alternatives_log = refl
 
 alternatives_bytes : bytes_of (codes "\\{" ∷ codes "a" ∷ codes ";" ∷ codes "\\}" ∷ codes "\\OR" ∷ codes "\\{"
     ∷ codes "b" ∷ codes ";" ∷ codes "\\}" ∷ []) (normal productions start_flags alternatives)
-    ≡ codes "${}\\{\\1{}$\\6\n\\|a;\\6\n\\4${}\\}\\2{}$\\6\n${}\\OR{}$\\6\n${}\\{\\1{}$\\6\n\\|b;\\6\n\\4${}\\}\\2{}$"
+    ≡ codes "${}\\{\\1{}$\\6\n\\|a;\\6\n\\4${}\\}\\2{}$\\6\n${}\\OR{}$\\6\n"
+    ++ codes "${}\\{\\1{}$\\6\n\\|b;\\6\n\\4${}\\}\\2{}$"
 unfolding normal productions
 alternatives_bytes = refl
 
