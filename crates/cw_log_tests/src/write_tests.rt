@@ -15,7 +15,8 @@ const WEBS: [(&str, &str); 15] = [
     // A name that prints as a macro of TeX tells no name.
     (
         "@ @s p_q TeX\n@c a=NULL; p_q=a;\n",
-        "text 8\nb exp a\ns binop\ns exp\ns semi\ns exp\ns binop\nb exp a\ns semi\nP6 0\nP8 0\nP6 1\nP8 1\nP72 0\nend\n",
+        "text 8\nb exp a\ns binop\ns exp\ns semi\ns exp\ns binop\nb exp a\ns semi\nP6 0\nP8 0\nP6 1\n\
+         P8 1\nP72 0\nend\n",
     ),
     // An attribute and a box.
     (
