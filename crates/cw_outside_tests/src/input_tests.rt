@@ -344,6 +344,32 @@ fn told(alloc: Global, line: &[&[u8]]) -> Result<[bool; 2], Memory> {
 
 const LINE: [&[u8]; 6] = [b"-bx", b"d/foo.w", b"+b", b"foo", b"out", b"more"];
 
+// What a command line with long words asks for, as a word.
+fn long_asked(alloc: Global, line: &[&[u8]]) -> Result<&'static str, Memory> {
+    let command = command_of(alloc, line)?;
+    Ok(match &command {
+        Command::Help => "help",
+        Command::Version => "version",
+        Command::Unknown(unknown) if unknown.word.as_slice() == b"--quite".as_slice() => "unknown",
+        Command::Weave(line) if !line.flags.banner && !line.flags.happy && line.flags.wrap =>
+            "quiet",
+        _ => "else",
+    })
+}
+
+#[test]
+fn long_words(rt: HostRuntime) -> Result<(), Fail> {
+    let alloc = rt.alloc();
+    assert_eq!(rt; long_asked(alloc, &[b"--help"])?, "help");
+    assert_eq!(rt; long_asked(alloc, &[b"--version"])?, "version");
+    assert_eq!(rt; long_asked(alloc, &[b"foo", b"--quiet"])?, "quiet");
+    assert_eq!(rt;
+        long_asked(alloc, &[b"foo", b"--quite", b"--help"])?,
+        "unknown"
+    );
+    Ok(())
+}
+
 #[test]
 fn command_lines(rt: HostRuntime) -> Result<(), Fail> {
     let asked = told(rt.alloc(), &LINE[..5])?;

@@ -29,7 +29,8 @@ use cw_lines::PutError;
 use cw_phase1::Book;
 use cw_program::status_of;
 use cw_run::{
-    Judgement, Message, Noted, print_notes, say_if, stop, stop_without_change, stop_without_web,
+    Judgement, Message, Noted, print_notes, say_if, stop, stop_at_unknown, stop_without_change,
+    stop_without_web, tell,
 };
 use std::alloc::Global;
 
@@ -176,6 +177,12 @@ fn run<D: Desk, L: Ledger>(
     ensures real { IfOk result (λ exit. exit ≢ Exit.Fault) }
 {
     match command {
+        Command::Help => tell(desk, Message::Help),
+        Command::Version => tell(desk, Message::Banner),
+        Command::Unknown(unknown) => {
+            say_if(desk, unknown.flags.banner, Message::Banner)?;
+            stop_at_unknown(alloc, desk, unknown.word.as_slice())
+        }
         Command::Usage(flags) => {
             say_if(desk, flags.banner, Message::Banner)?;
             stop(desk, Message::Usage)

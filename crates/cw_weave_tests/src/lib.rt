@@ -6,6 +6,8 @@ mod c_text_tests;
 #[cfg(test)]
 mod changing_file_tests;
 #[cfg(test)]
+mod command_line_tests;
+#[cfg(test)]
 mod counted_tests;
 #[cfg(test)]
 mod desk_failing_tests;
@@ -24,6 +26,8 @@ mod merging_tests;
 #[cfg(test)]
 mod printed_tests;
 mod quiet;
+#[cfg(test)]
+mod ranged_tests;
 #[cfg(test)]
 mod real_file_tests;
 #[cfg(test)]

@@ -1,0 +1,94 @@
+//! Whole runs over command lines with words of two hyphens and a letter.
+use crate::expectations::{Run, expect_runs};
+use crate::runs::{FOO, HELLO};
+use std::test::Fail;
+
+/// Command lines, and what each has to tell.
+const RUNS: [Run; 6] = [
+    Run {
+        name: "help",
+        words: &[b"--help"],
+        files: &[(b"foo.w", HELLO)],
+        told: b"[term]Usage: cweave [options] webfile[.w] [{changefile[.ch]|-} [outfile[.tex]]]
+  webfile     the web; without an extension webfile.w, else webfile.web
+  changefile  changes of the web, - for none
+  outfile     the TeX file; index and list of section names lie beside it
+Options stand anywhere; letters behind - turn off, behind + turn on:
+  b  print the banner (on at the start, as all but s and k)
+  p  print progress lines
+  h  print the happy message
+  f  separate statements by forced breaks
+  e  wrap inner C text in \\PB{..}
+  i  indent parameter declarations of functions
+  o  separate declarations from statements by a big break
+  x  write the index and the list of section names
+  s  print statistics
+  k  keep an output that has not changed as it is
+--quiet is -bph, --verbose is +bph. On a line of their own:
+  --sample N  print the statistics of a sample of N sections, 1 to 2000
+  --help      print this text
+  --version   print the banner
+Status: 0 no errors, 1 errors in the web or in these words,
+2 a device failed, 3 memory ran out.
+Clean",
+    },
+    Run {
+        name: "version",
+        words: &[b"--version"],
+        files: &[],
+        told: b"[term]This is CWEAVE (profile 3)
+Clean",
+    },
+    Run {
+        name: "quiet",
+        words: &[FOO, b"-x", b"--quiet"],
+        files: &[(b"foo.w", HELLO)],
+        told: b"[tex] is foo.tex
+[tex]\\input cwebmac
+% limbo
+\\M{1}Hello.
+\\fi
+
+\\end
+Clean",
+    },
+    Run {
+        name: "verbose behind quiet",
+        words: &[b"--quiet", b"-x", FOO, b"--verbose"],
+        files: &[(b"foo.w", HELLO)],
+        told: b"[term]This is CWEAVE (profile 3)
+Writing the output file...
+[tex] is foo.tex
+[tex]\\input cwebmac
+% limbo
+\\M{1}Hello.
+\\fi
+
+\\end
+[term]Done.
+(No errors were found.)
+Clean",
+    },
+    Run {
+        name: "an unknown word",
+        words: &[FOO, b"--quite"],
+        files: &[(b"foo.w", HELLO)],
+        told: b"[term]This is CWEAVE (profile 3)
+! Unknown option --quite
+(That was a fatal error, my friend.)
+Errors",
+    },
+    Run {
+        name: "help beside a web",
+        words: &[b"--help", FOO, b"-b"],
+        files: &[(b"foo.w", HELLO)],
+        told: b"[term]! Unknown option --help
+(That was a fatal error, my friend.)
+Errors",
+    },
+];
+
+#[test]
+fn long_words(rt: HostRuntime) -> Result<(), Fail> {
+    expect_runs(&rt, rt.alloc(), &RUNS)
+}
