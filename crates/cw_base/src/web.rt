@@ -60,6 +60,8 @@ impl Model for Web {
 }
 
 impl Web {
+    ghost use Rattle.std.specs.Prelude.{bytes_eq};
+    ghost use Rattle.std.specs.List.{list_any};
     ghost use Rattle.cw_base.specs.Web.{WebState, empty_web, text_of, infos_of};
     ghost use Rattle.cw_base.specs.declared.web.LineInfo.{LineInfo};
 
@@ -163,6 +165,18 @@ impl Web {
         ensures { result.now ≡ slice_index_or self.now.files file [] }
     {
         self.files[file as usize].as_slice()
+    }
+
+    /// Whether one of the files has this name.
+    pub fn has_file(&self, name: &[u8]) -> bool
+        ensures { result ≡ list_any (λ file. bytes_eq file name.now) self.now.files }
+    {
+        for file in &self.files {
+            if file.as_slice() == name {
+                return true;
+            }
+        }
+        false
     }
 
     /// The notes of reading, in the order in which they were made.

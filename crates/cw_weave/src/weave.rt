@@ -12,7 +12,7 @@ ghost use Rattle.cw_weave.specs.Looks.{book_looks, command_looks, looks_of, web_
 ghost use Rattle.cw_run.specs.Notes.{note_events};
 ghost use Rattle.cw_weave.specs.Pressing.{IsPrintable, flags_in, text_in};
 ghost use Rattle.cw_weave.specs.Proper.{IsProper};
-ghost use Rattle.cw_weave.specs.Woven.{change_text, weave_book, weave_command_of, weave_web, woven};
+ghost use Rattle.cw_weave.specs.Woven.{change_text, weave_book, weave_command_of, weave_web, weave_whole, woven};
 ghost use Rattle.cw_weave.specs.Written.{AreWritten, events_of};
 
 use crate::ending::end_run;
@@ -24,13 +24,13 @@ use crate::source::Source;
 use crate::tex_file::{totals_of, write_tex};
 use cw_base::{Exit, Ledger, Steps, Words};
 use cw_desk::Desk;
-use cw_input::{Command, CommandLine, LoadError, load, read_command};
+use cw_input::{Command, CommandLine, LoadError, load, overwriting, read_command};
 use cw_lines::PutError;
 use cw_phase1::Book;
 use cw_program::status_of;
 use cw_run::{
-    Judgement, Message, Noted, print_notes, say_if, stop, stop_at_unknown, stop_without_change,
-    stop_without_web, tell,
+    Judgement, Message, Noted, print_notes, say_if, stop, stop_at_unknown, stop_before_overwriting,
+    stop_without_change, stop_without_web, tell,
 };
 use std::alloc::Global;
 
@@ -106,6 +106,24 @@ fn weave_web<D: Desk, L: Ledger>(
     weave_book(source, &mut book, desk, steps)
 }
 
+// Weaves a web that was read, if no output would overwrite an input.
+fn weave_whole<D: Desk, L: Ledger>(
+    source: Source,
+    desk: &mut D,
+    steps: &mut Steps<L>,
+) -> Result<Exit, PutError>
+    ensures runs { RunsBy (weave_whole source.entry.line.now source.entry.web.now)
+        (D.told desk.old) (D.told desk.new) result }
+    ensures bound { steps.new ≤ steps.old
+        + book_looks (text_in source.entry) (flags_in source.entry) (book source.entry.web.now.lines) }
+    ensures real { IfOk result (λ exit. exit ≢ Exit.Fault) }
+{
+    match overwriting(source.web, source.line) {
+        Some(name) => stop_before_overwriting(source.alloc, desk, name),
+        None => weave_web(source, desk, steps),
+    }
+}
+
 // The change word of a command line.
 fn change_word(line: &CommandLine) -> Option<&[u8]>
     ensures { option_copied result ≡ line.now.change }
@@ -143,7 +161,7 @@ fn weave_line<D: Desk, L: Ledger>(
     ensures real { IfOk result (λ exit. exit ≢ Exit.Fault) }
 {
     match load(alloc, desk, line.web.as_slice(), change_word(line)) {
-        Ok(web) => weave_web(
+        Ok(web) => weave_whole(
             Source {
                 alloc,
                 web: &web,

@@ -1,4 +1,4 @@
-//! Whole runs over command lines with words of two hyphens and a letter.
+//! Whole runs over command lines with words of two hyphens and a letter, and with outputs that would overwrite an input.
 use crate::expectations::{Run, expect_runs};
 use crate::runs::{FOO, HELLO};
 use std::test::Fail;
@@ -87,6 +87,64 @@ Errors",
 Errors",
     },
 ];
+
+/// Command lines whose outputs would overwrite an input or one another, and what each has to tell.
+const OVERWRITING: [Run; 5] = [
+    Run {
+        name: "the web",
+        words: &[b"foo.tex"],
+        files: &[(b"foo.tex", HELLO)],
+        told: b"[term]This is CWEAVE (profile 3)
+! Output file would overwrite foo.tex
+(That was a fatal error, my friend.)
+Errors",
+    },
+    Run {
+        name: "the web as an output word",
+        words: &[FOO, b"-", b"foo.w"],
+        files: &[(b"foo.w", HELLO)],
+        told: b"[term]This is CWEAVE (profile 3)
+! Output file would overwrite foo.w
+(That was a fatal error, my friend.)
+Errors",
+    },
+    Run {
+        name: "an included file",
+        words: &[FOO],
+        files: &[(b"foo.w", b"@i foo.scn\n"), (b"foo.scn", HELLO)],
+        told: b"[term]This is CWEAVE (profile 3)
+! Output file would overwrite foo.scn
+(That was a fatal error, my friend.)
+Errors",
+    },
+    Run {
+        name: "the TeX file by the index",
+        words: &[FOO, b"-", b"a.idx"],
+        files: &[(b"foo.w", HELLO)],
+        told: b"[term]This is CWEAVE (profile 3)
+! Output file would overwrite a.idx
+(That was a fatal error, my friend.)
+Errors",
+    },
+    Run {
+        name: "no index is made",
+        words: &[FOO, b"-", b"a.idx", b"-bphx"],
+        files: &[(b"foo.w", HELLO)],
+        told: b"[tex] is a.idx
+[tex]\\input cwebmac
+% limbo
+\\M{1}Hello.
+\\fi
+
+\\end
+Clean",
+    },
+];
+
+#[test]
+fn outputs_that_are_inputs(rt: HostRuntime) -> Result<(), Fail> {
+    expect_runs(&rt, rt.alloc(), &OVERWRITING)
+}
 
 #[test]
 fn long_words(rt: HostRuntime) -> Result<(), Fail> {
