@@ -12,9 +12,11 @@ use Rattle.cw_base.specs.declared.notes.NoteKind.TheVariants.{ControlTextUnended
 use Rattle.cw_base.specs.declared.notes.NoteKind.TheVariants.{CodeInName, NameEmpty, AmbiguousPrefix, NameConflict}
 use Rattle.cw_base.specs.declared.notes.NoteKind.TheVariants.{CommentUnended, AtInComment, ExtraBrace, MissingBrace}
 use Rattle.cw_base.specs.declared.notes.NoteKind.TheVariants.{BarMissing, TooDeep, ImproperMacro, ImproperFormat}
-use Rattle.cw_base.specs.declared.notes.NoteKind.TheVariants.{NameIncomplete, NeverDefined, NeverUsed, LineBroken}
+use Rattle.cw_base.specs.declared.notes.NoteKind.TheVariants.{EqualsMissing, NameIncomplete, NeverDefined, NeverUsed}
+use Rattle.cw_base.specs.declared.notes.NoteKind.TheVariants.{LineBroken}
 
 abbrev pub grade_of : NoteKind → Grade
+grade_of EqualsMissing = Harmless
 grade_of NeverDefined = Harmless
 grade_of NeverUsed = Harmless
 grade_of LineBroken = Harmless
@@ -54,6 +56,7 @@ message_of BarMissing = codes "Missing | after C text"
 message_of TooDeep = codes "C text is nested too deeply"
 message_of ImproperMacro = codes "Improper macro definition"
 message_of ImproperFormat = codes "Improper format definition"
+message_of EqualsMissing = codes "Is an = missing behind this section name?"
 message_of NameIncomplete = codes "Incomplete name"
 message_of NeverDefined = codes "Never defined"
 message_of NeverUsed = codes "Never used"

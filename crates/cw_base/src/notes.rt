@@ -95,6 +95,8 @@ pub enum NoteKind {
     ImproperMacro,
     /// A `@f` or `@s` isn't followed by two names.
     ImproperFormat,
+    /// A section name that no section defines stands alone on a line of TeX text, where no C part follows.
+    EqualsMissing,
     /// A section name is only given abbreviated.
     NameIncomplete,
     /// A section name is used or cited and not defined.
@@ -106,13 +108,16 @@ pub enum NoteKind {
 }
 
 impl NoteKind {
-    /// How grave the note is: `Harmless` for a name that is never defined or never used and for a line
-    /// that had to be broken, else `Error`.
+    /// How grave the note is: `Harmless` for a name that is never defined or never used, for one behind which a `=`
+    /// seems to be missing, and for a line that had to be broken, else `Error`.
     pub fn grade(&self) -> Grade
         ensures { result ≡ grade_of self.now }
     {
         match self {
-            NoteKind::NeverDefined | NoteKind::NeverUsed | NoteKind::LineBroken => Grade::Harmless,
+            NoteKind::EqualsMissing
+            | NoteKind::NeverDefined
+            | NoteKind::NeverUsed
+            | NoteKind::LineBroken => Grade::Harmless,
             _ => Grade::Error,
         }
     }
@@ -155,6 +160,7 @@ impl NoteKind {
             NoteKind::TooDeep => "C text is nested too deeply",
             NoteKind::ImproperMacro => "Improper macro definition",
             NoteKind::ImproperFormat => "Improper format definition",
+            NoteKind::EqualsMissing => "Is an = missing behind this section name?",
             NoteKind::NameIncomplete => "Incomplete name",
             NoteKind::NeverDefined => "Never defined",
             NoteKind::NeverUsed => "Never used",

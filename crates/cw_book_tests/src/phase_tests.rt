@@ -85,6 +85,50 @@ fn has_notes(alloc: Global, lines: &[&[u8]], kinds: &[NoteKind]) -> Result<bool,
     Ok(are_of_kinds(&book(alloc, lines)?, kinds))
 }
 
+/// Webs, and the notes on each: where a `=` seems to be missing, and four where none is.
+const EQUALS: [(&[&[u8]], &[NoteKind]); 6] = [
+    (
+        &[b"@ Text.", b"  @<Read@>", b"x=1;"],
+        &[
+            NoteKind::EqualsMissing,
+            NoteKind::NeverDefined,
+            NoteKind::NeverUsed,
+        ],
+    ),
+    (
+        &[b"@ @<Read@>", b"x=1;"],
+        &[
+            NoteKind::EqualsMissing,
+            NoteKind::NeverDefined,
+            NoteKind::NeverUsed,
+        ],
+    ),
+    (
+        &[b"@ See @<Read@>."],
+        &[NoteKind::NeverDefined, NoteKind::NeverUsed],
+    ),
+    (
+        &[b"@ The text |", b"@<Read@>", b"| is read."],
+        &[NoteKind::NeverDefined, NoteKind::NeverUsed],
+    ),
+    (
+        &[b"@ See", b"@<Read@>", b"@ @<Read@>= x;"],
+        &[NoteKind::NeverUsed],
+    ),
+    (
+        &[b"@ See", b"@<Read@>", b"@c x;"],
+        &[NoteKind::NeverDefined, NoteKind::NeverUsed],
+    ),
+];
+
+#[test]
+fn a_missing_equals_sign(rt: HostRuntime) -> Result<(), Fail> {
+    for (lines, kinds) in &EQUALS {
+        assert!(rt; has_notes(rt.alloc(), lines, kinds)?);
+    }
+    Ok(())
+}
+
 #[test]
 fn notes_come_in_order(rt: HostRuntime) -> Result<(), Fail> {
     let lines: &[&[u8]] = &[b"@ @<Read@>=", b"@c @<Read @^b", b"@ @<@>@<Wr...@>@(Read@>"];

@@ -1,7 +1,8 @@
 -- The laws of the first phase: what each answer keeps, and what holds of the book that comes of all answers.
 mod Rows
 pub mod PlaceLaws
-pub mod NameLaws
+pub mod MissingLaws
+mod NameLaws
 pub mod Passing
 pub mod Ignored
 pub mod Outlines

@@ -257,5 +257,27 @@ a_cited_name : notes_in ((codes "@ See @<Read@>.") ∷ []) ≡ note notes.NeverD
     ∷ []
 a_cited_name = refl
 
+-- a `=` seems to be missing behind a name that stands alone on its line; blanks and the section code don't count
+a_missing_equals_sign : notes_in ((codes "@ Text.") ∷ (codes "  @<Read@>") ∷ (codes "x=1;") ∷ [])
+    ≡ note notes.EqualsMissing 0 0 2 ∷ note notes.NeverDefined 0 0 0 ∷ note notes.NeverUsed 0 0 0 ∷ []
+a_missing_equals_sign = refl
+
+a_missing_equals_sign_behind_the_code : notes_in ((codes "@ @<Read@>") ∷ (codes "x=1;") ∷ [])
+    ≡ note notes.EqualsMissing 0 0 1 ∷ note notes.NeverDefined 0 0 0 ∷ note notes.NeverUsed 0 0 0 ∷ []
+a_missing_equals_sign_behind_the_code = refl
+
+-- none is missing between bars, behind a name that has a definition, and in a section with a C part
+a_name_between_bars : notes_in ((codes "@ The text |") ∷ (codes "@<Read@>") ∷ (codes "| is read.") ∷ [])
+    ≡ note notes.NeverDefined 0 0 0 ∷ note notes.NeverUsed 0 0 0 ∷ []
+a_name_between_bars = refl
+
+a_name_that_is_defined_elsewhere : notes_in ((codes "@ See") ∷ (codes "@<Read@>") ∷ (codes "@ @<Read@>= x;") ∷ [])
+    ≡ note notes.NeverUsed 0 0 0 ∷ []
+a_name_that_is_defined_elsewhere = refl
+
+a_name_before_a_c_part : notes_in ((codes "@ See") ∷ (codes "@<Read@>") ∷ (codes "@c x;") ∷ [])
+    ≡ note notes.NeverDefined 0 0 0 ∷ note notes.NeverUsed 0 0 0 ∷ []
+a_name_before_a_c_part = refl
+
 a_file : notes_in ((codes "@ @(a.c@>= x;") ∷ []) ≡ []
 a_file = refl

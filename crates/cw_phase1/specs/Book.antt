@@ -11,6 +11,7 @@ use Rattle.cw_phase1.specs.Roles.{placed}
 use Rattle.cw_phase1.specs.Words.{names_after, occurrences}
 use Rattle.cw_phase1.specs.Uses.{uses_of, section_names}
 use Rattle.cw_phase1.specs.Sections.{sections_of, limbo_of}
+use Rattle.cw_phase1.specs.Missing.{missing_equals}
 use Rattle.cw_phase1.specs.Notes.{scanned_notes, name_notes}
 
 -- the answers of the scanner for a whole web
@@ -25,14 +26,16 @@ book lines =
     let tokens = placed answers in
     let names = names_after tokens built_in_words in
     let kept = section_names (kept_after [] answers) tokens in
+    let uses = uses_of tokens in
+    let sections = sections_of lines size tokens in
     record {
       names = names;
       xrefs = occurrences names tokens;
       sec_names = kept;
-      name_uses = uses_of tokens;
+      name_uses = uses;
       outline = record {
         limbo = limbo_of size tokens;
-        sections = sections_of lines size tokens;
-        notes = scanned_notes lines (noted answers) ++ name_notes kept;
+        sections = sections;
+        notes = scanned_notes lines (noted answers) ++ (missing_equals lines uses kept sections ++ name_notes kept);
       };
     }

@@ -9,6 +9,7 @@ pub mod Places
 pub mod LinePlaces
 pub mod Sections
 pub mod Notes
+pub mod Missing
 pub mod Book
 pub mod Placing
 pub mod Outlining

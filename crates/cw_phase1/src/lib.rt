@@ -5,6 +5,7 @@ mod book;
 mod entering;
 mod held;
 mod laws;
+mod missing;
 mod named;
 mod note_list;
 mod packed;

@@ -4,6 +4,7 @@ ghost use Rattle.cw_base.specs.Web.{text_of};
 ghost use Rattle.cw_phase1.specs.Book.{book};
 ghost use Rattle.cw_phase1.specs.Ending.{AreOfKept, IsScanned, notes_at, section_total, with_references};
 ghost use Rattle.cw_phase1.specs.Holding.{held_of};
+ghost use Rattle.cw_phase1.specs.Missing.{missing_equals};
 ghost use Rattle.cw_phase1.specs.Notes.{name_note as noted_name, name_notes};
 ghost use Rattle.cw_phase1.specs.Outlining.{closing};
 ghost use Rattle.cw_phase1.specs.Ready.{held_start};
@@ -12,6 +13,7 @@ ghost use Rattle.cw_phase1.specs.Sound.{IsNamedBy, LiesIn, RefersUpTo};
 
 use crate::book::{Book, Outline};
 use crate::held::Held;
+use crate::missing::Search;
 use crate::named::{Named, References};
 use crate::note_list::NoteList;
 use crate::sections::or_else;
@@ -126,6 +128,8 @@ fn make_book(web: &Web, held: Held) -> Result<Book, Memory>
     requires ids { AreOfKept held.kept held.told.named.references }
     requires total { section_total held.told.sections ≤ 16777216 }
     requires few { length held.kept ≤ 16777216 }
+    requires lie { All (LiesIn (length (text_of web.now.lines)))
+        (closing web.now.lines (length (text_of web.now.lines)) held.told.sections) }
     ensures names { IfOk result (λ b. b.names ≡ held.entry.told.words.names) }
     ensures xrefs { IfOk result (λ b. b.xrefs ≡ held.entry.told.words.xrefs) }
     ensures sec_names { IfOk result
@@ -137,8 +141,11 @@ fn make_book(web: &Web, held: Held) -> Result<Book, Memory>
         ≡ span 0 (unwrap_or held.entry.told.sections.limbo_end (length (text_of web.now.lines)))) }
     ensures sections { IfOk result (λ b. b.outline.sections ≡
         closing web.now.lines (length (text_of web.now.lines)) held.entry.told.sections) }
-    ensures notes { IfOk result (λ b. b.outline.notes ≡
-        held.entry.notes ++ name_notes (with_references held.entry.told.named.references held.entry.kept)) }
+    ensures notes { IfOk result (λ b. b.outline.notes ≡ held.entry.notes
+        ++ (missing_equals web.now.lines held.entry.told.named.uses
+        (with_references held.entry.told.named.references held.entry.kept)
+        (closing web.now.lines (length (text_of web.now.lines)) held.entry.told.sections)
+        ++ name_notes (with_references held.entry.told.named.references held.entry.kept))) }
 {
     let mut held = held;
     complete(web, &mut held)?;
@@ -187,6 +194,8 @@ fn make_book(web: &Web, held: Held) -> Result<Book, Memory>
 fn complete(web: &Web, held: &mut Held) -> Result<(), Memory>
     requires ids { AreOfKept held.old.kept held.old.told.named.references }
     requires few { length held.old.kept ≤ 16777216 }
+    requires lie { All (LiesIn (length (text_of web.now.lines)))
+        (closing web.now.lines (length (text_of web.now.lines)) held.old.told.sections) }
     ensures words { OnOk result (held.new.told.words ≡ held.old.told.words) }
     ensures named { OnOk result (held.new.told.named ≡ held.old.told.named) }
     ensures sections { OnOk result (held.new.told.sections ≡ record held.old.told.sections {
@@ -195,11 +204,20 @@ fn complete(web: &Web, held: &mut Held) -> Result<(), Memory>
     ensures kept { OnOk result
         (held.new.kept ≡ with_references held.old.told.named.references held.old.kept) }
     ensures count { OnOk result (length held.new.kept ≡ length held.old.kept) }
-    ensures notes { OnOk result (held.new.notes ≡
-        held.old.notes ++ name_notes (with_references held.old.told.named.references held.old.kept)) }
+    ensures notes { OnOk result (held.new.notes ≡ held.old.notes
+        ++ (missing_equals web.now.lines held.old.told.named.uses
+        (with_references held.old.told.named.references held.old.kept)
+        (closing web.now.lines (length (text_of web.now.lines)) held.old.told.sections)
+        ++ name_notes (with_references held.old.told.named.references held.old.kept))) }
 {
     held.told.sections.close(web, web.text().len())?;
     held.kept.release();
     refer(&mut held.kept, &held.told.named.references)?;
+    let search = Search {
+        web,
+        names: &held.kept,
+        uses: &held.told.named.uses,
+    };
+    search.note_sections(&held.told.sections.closed, &mut held.notes)?;
     note_names(&held.kept, &mut held.notes)
 }

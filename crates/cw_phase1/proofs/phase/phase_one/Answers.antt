@@ -8,6 +8,7 @@ use Rattle.cw_secnames.specs.References.{Reference}
 use Rattle.cw_secnames.specs.Uses.{NameUse}
 use Rattle.cw_phase1.specs.declared.sections.Section.{Section}
 use Rattle.cw_phase1.specs.Book.{answers_of, book}
+use Rattle.cw_phase1.specs.Missing.{missing_equals}
 use Rattle.cw_phase1.specs.Notes.{name_notes}
 use Rattle.cw_phase1.specs.Entering.{kept_after}
 use Rattle.cw_phase1.specs.Roles.{Placed, at_limbo, placed}
@@ -70,8 +71,35 @@ sections-are c =
     all-sections c.args.web.now.lines (length (text_of c.args.web.now.lines))
     (placed (answers_of c.args.web.now.lines)))
 
+uses-are : (c : goal.In_ok-book)
+    → c.in_ok-held.held.told.named.uses ≡ uses_of (placed (answers_of c.args.web.now.lines))
+uses-are c = ap (λ (t : Told). t.named.uses) c.in_ok-held.ensures.told
+    ∙ all-uses c.args.web.now.lines (placed (answers_of c.args.web.now.lines))
+
+closed-are : (c : goal.In_ok-book)
+    → closing c.args.web.now.lines (length (text_of c.args.web.now.lines)) c.in_ok-held.held.told.sections
+    ≡ (book c.args.web.now.lines).outline.sections
+closed-are c =
+    ap (λ (t : Told). closing c.args.web.now.lines (length (text_of c.args.web.now.lines)) t.sections)
+    c.in_ok-held.ensures.told
+    ∙ all-sections c.args.web.now.lines (length (text_of c.args.web.now.lines))
+    (placed (answers_of c.args.web.now.lines))
+
 notes-are : (c : goal.In_ok-book) → c.in_ok-book.book.outline.notes ≡ (book c.args.web.now.lines).outline.notes
-notes-are c = c.in_ok-book.ensures.notes ∙ (λ i. c.in_ok-held.ensures.notes i ++ name_notes (kept c i))
+notes-are c = c.in_ok-book.ensures.notes ∙ (λ i. c.in_ok-held.ensures.notes i
+    ++ (missing_equals c.args.web.now.lines (uses-are c i) (kept c i) (closed-are c i) ++ name_notes (kept c i)))
+
+pub make_book-requires-clause-lie : goal.make_book-requires-clause-lie
+make_book-requires-clause-lie c =
+    subst (λ (sections : List Section). All (LiesIn (length (text_of c.args.web.now.lines))) sections)
+    (sym (ap (λ (t : Told). closing c.args.web.now.lines (length (text_of c.args.web.now.lines)) t.sections)
+    c.in_ok-held.ensures.told
+    ∙ all-sections c.args.web.now.lines (length (text_of c.args.web.now.lines))
+    (placed (answers_of c.args.web.now.lines))))
+    (all-lie c.args.web.now.lines 0 (length (text_of c.args.web.now.lines))
+    (placed (answers_of c.args.web.now.lines))
+    (follows (text_of c.args.web.now.lines) 0 (length (text_of c.args.web.now.lines)) at_limbo []
+    (answers_of c.args.web.now.lines) c.in_ok-held.ensures.covers))
 
 pub returns-clause-book : goal.returns-clause-book
 returns-clause-book c = (λ i. record {

@@ -1,0 +1,67 @@
+-- Where each section name has a definition, no section lacks a `=`.
+use Rattle.std.proofs.Common.{◌≡◌, ℕ, zero, suc, ◌==◌, ◌&&◌, ◌||◌, Bool, true, false, List, [], ◌∷◌, Option, Some, None}
+use Rattle.std.proofs.Common.{refl, ap, filter, map, if◌then◌else◌}
+use Rattle.std.specs.List.{list_any, slice_get}
+use Rattle.cw_base.specs.Web.{MergedLine, text_of}
+use Rattle.cw_base.specs.declared.span.Span.{Span}
+use Rattle.cw_lex.specs.Lexing.{tokens_of}
+use Rattle.cw_rules.specs.Answers.{Seen}
+use Rattle.cw_rules.specs.declared.tokens.Mode.TheVariants.{TexText}
+use Rattle.cw_secnames.specs.Kept.{SecName}
+use Rattle.cw_secnames.specs.Uses.{NameUse, name_at}
+use Rattle.cw_phase1.specs.Missing.{has_no_definition, is_undefined, is_undefined_name, lacks_equals, missing_equals}
+use Rattle.cw_phase1.specs.Missing.{missing_in, missing_note, outer_names, stands_alone}
+use Rattle.cw_phase1.specs.declared.sections.Section.{Section}
+
+-- one of two tests that fail together
+pub left-false : (a b : Bool) → (a || b) ≡ false → a ≡ false
+left-false true b e = e
+left-false false b e = refl
+
+pub right-false : (a b : Bool) → (a || b) ≡ false → b ≡ false
+right-false true b e = absurd (never e)
+  where
+    never : true ≡ false → ⊥
+    never e = cc
+right-false false b e = e
+
+pub defined-at : (names : List SecName) (k : ℕ) → list_any has_no_definition names ≡ false
+    → is_undefined (slice_get names k) ≡ false
+defined-at [] k e = refl
+defined-at (n ∷ names) zero e = left-false (has_no_definition n) (list_any has_no_definition names) e
+defined-at (n ∷ names) (suc k) e =
+    defined-at names k (right-false (has_no_definition n) (list_any has_no_definition names) e)
+
+undefined-none : (names : List SecName) (name : Option ℕ) → list_any has_no_definition names ≡ false
+    → is_undefined_name names name ≡ false
+undefined-none names None e = refl
+undefined-none names (Some k) e = defined-at names k e
+
+not-lacking : (text : List ℕ) (uses : List NameUse) (names : List SecName) (tex : Span) (token : Seen)
+    → list_any has_no_definition names ≡ false → lacks_equals text uses names tex token ≡ false
+not-lacking text uses names tex token e =
+    ap (λ undefined. undefined && stands_alone text tex token.span)
+    (undefined-none names (name_at token.span.start uses) e)
+
+none-lack : (text : List ℕ) (uses : List NameUse) (names : List SecName) (tex : Span) (tokens : List Seen)
+    → list_any has_no_definition names ≡ false → filter (lacks_equals text uses names tex) tokens ≡ []
+none-lack text uses names tex [] e = refl
+none-lack text uses names tex (token ∷ tokens) e =
+    rw (not-lacking text uses names tex token e) (none-lack text uses names tex tokens e)
+
+empty-if : {X : Type 0} (test : Bool) (xs : List X) → xs ≡ [] → (if test then xs else []) ≡ []
+empty-if true xs e = e
+empty-if false xs e = refl
+
+none-in : (lines : List MergedLine) (uses : List NameUse) (names : List SecName) (s : Section)
+    → list_any has_no_definition names ≡ false → missing_in lines uses names s ≡ []
+none-in lines uses names s e =
+    empty-if (s.c_part.start == s.c_part.«end») _
+    (ap (map (missing_note lines)) (none-lack (text_of lines) uses names s.tex
+    (outer_names 0 (tokens_of (text_of lines) s.tex.start s.tex.«end» TexText)) e))
+
+pub none_missing : (lines : List MergedLine) (uses : List NameUse) (names : List SecName) (sections : List Section)
+    → list_any has_no_definition names ≡ false → missing_equals lines uses names sections ≡ []
+none_missing lines uses names [] e = refl
+none_missing lines uses names (s ∷ sections) e =
+    rw (none-in lines uses names s e) (none_missing lines uses names sections e)
