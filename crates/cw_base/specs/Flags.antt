@@ -14,4 +14,5 @@ start_flags = record {
   index = true;
   stats = false;
   keep = false;
+  ranged = false;
 }

@@ -10,6 +10,7 @@ use Rattle.cw_names.specs.Words.{built_in_words}
 use Rattle.cw_phase1.specs.declared.sections.Depth.TheVariants.{Zero}
 use Rattle.cw_phase1.specs.declared.sections.Section.{Section}
 use Rattle.cw_index.specs.Index.{entry_bytes, index_bytes}
+use Rattle.cw_base.specs.Flags.{start_flags}
 use Rattle.cw_index.specs.Closing.{closing_lines}
 
 abbrev entry : EntryKind → List ℕ → Entry
@@ -83,11 +84,11 @@ entries_row = refl
 
 -- ## The closing lines
 
-contents_row : closing_lines true three ≡ codes "\\inx\n\\fin\n\\con\n"
+contents_row : closing_lines start_flags three ≡ codes "\\inx\n\\fin\n\\con\n"
 contents_row = refl
 
-end_row : closing_lines true (section false false ∷ []) ≡ codes "\\inx\n\\fin\n\\end\n"
+end_row : closing_lines start_flags (section false false ∷ []) ≡ codes "\\inx\n\\fin\n\\end\n"
 end_row = refl
 
-no_index_row : closing_lines false three ≡ codes "\\end\n"
+no_index_row : closing_lines (record start_flags { index = false }) three ≡ codes "\\end\n"
 no_index_row = refl

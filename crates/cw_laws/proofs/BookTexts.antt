@@ -1,8 +1,8 @@
 -- Sections leave what their texts leave, one after another.
-use Rattle.std.proofs.Common.{◌≡◌, ℕ, suc, Bool, true, false, ◌||◌, List, [], ◌∷◌, ◌++◌, Option, Some, None, All, map}
-use Rattle.std.proofs.Common.{refl, sym, ap, ◌∙◌, append_assoc}
-use Rattle.std.specs.Prelude.{codes, is_some}
-use Rattle.std.specs.List.{filter, flat_map}
+use Rattle.std.proofs.Common.{◌≡◌, ℕ, suc, Bool, true, false, not, ◌&&◌, ◌||◌, List, [], ◌∷◌, ◌++◌, Option, Some, None}
+use Rattle.std.proofs.Common.{All, map, refl, sym, ap, ◌∙◌, append_assoc}
+use Rattle.std.specs.Prelude.{is_some, if◌then◌else◌}
+use Rattle.std.specs.List.{filter, flat_map, list_any}
 use Rattle.std.proofs.lemmas.List.{append-nil}
 use Rattle.std.proofs.lemmas.List.Elements.{All-head, All-tail, filter-append}
 use Rattle.cw_base.specs.Conditions.{list_if}
@@ -12,18 +12,23 @@ use Rattle.cw_lex.specs.Nest.{IsWell}
 use Rattle.cw_lex.specs.NestLaws.{NestsAreWell}
 use Rattle.cw_lex.specs.Nested.{CTextsAreNested}
 use Rattle.cw_names.specs.Names.{Entry}
-use Rattle.cw_part.specs.Parts.{definition_done, definitions_done, is_printed as is_printed_part, paragraph_if}
-use Rattle.cw_part.specs.Parts.{part_done}
+use Rattle.cw_part.specs.Parts.{definition_done, definitions_done, first_opening, is_printed as is_printed_part}
+use Rattle.cw_part.specs.Parts.{later_opening, paragraph_if, part_done, part_opening}
 use Rattle.cw_part.specs.Sections.{at_section, ending, rest_done, section_done, sections_done}
 use Rattle.cw_phase1.specs.declared.sections.Section.{Section}
 use Rattle.cw_phase1.specs.Book.{book}
 use Rattle.cw_phase1.specs.Whole.{IsWholeSection, SectionsAreWhole}
 use Rattle.cw_rules.specs.declared.tokens.Mode.TheVariants as modes
-use Rattle.cw_secnames.specs.Uses.{name_at}
+use Rattle.cw_secnames.specs.Uses.{NameUse, name_at}
 use Rattle.cw_table.specs.Rewriting.{State}
+use Rattle.cw_phase1.proofs.MissingLaws.{right-false}
+use Rattle.cw_texpart.specs.Beside.{first_code, has_definition, has_prose, is_nothing, is_prose}
+use Rattle.cw_texpart.specs.declared.beside.Beside.{Beside}
+use Rattle.cw_texpart.specs.declared.beside.Beside.TheVariants as besides
 use Rattle.cw_texpart.specs.Done.{Done, plain, reprinted, then}
+use Rattle.cw_texpart.specs.Heads.{head}
 use Rattle.cw_texpart.specs.Inks.{prints}
-use Rattle.cw_texpart.specs.TexParts.{piece_done, pieces_done, tex_done}
+use Rattle.cw_texpart.specs.TexParts.{beside_in, piece_done, pieces_done, tex_by, tex_done}
 use Rattle.cw_texpart.specs.Texts.{Setting, name_done_by, setting, text_done}
 use Rattle.cw_texts.specs.declared.definitions.Definition.{Definition}
 use Rattle.cw_texts.specs.declared.text_list.TextRef.{TextRef}
@@ -118,15 +123,15 @@ module _ (looked_at : List State → List State)
       (λ ns. pieces-left s n ps ns))
       (refs-joined s (piece_refs s.book.name_uses n p) (tex_refs s.book.name_uses n ps) names)
 
-  definitions-left : (s : Setting) (n : ℕ) (first : Bool) (ds : List Definition) (names : List Entry)
-      → LeaveTheSame looked_at (definitions_done (at_section s n) first ds names)
+  definitions-left : (s : Setting) (n : ℕ) (opening : List ℕ) (ds : List Definition) (names : List Entry)
+      → LeaveTheSame looked_at (definitions_done (at_section s n) opening ds names)
       (refs_done s (definition_refs n ds) names)
-  definitions-left s n first [] names = record { names = refl; marks = refl; ended = refl }
-  definitions-left s n first (d ∷ ds) names =
-      across (definition_done (at_section s n) first d names) (ref_done s (text_ref n modes.Definition d.span) names)
-      (definitions_done (at_section s n) false ds)
+  definitions-left s n opening [] names = record { names = refl; marks = refl; ended = refl }
+  definitions-left s n opening (d ∷ ds) names =
+      across (definition_done (at_section s n) opening d names) (ref_done s (text_ref n modes.Definition d.span) names)
+      (definitions_done (at_section s n) later_opening ds)
       (refs_done s (definition_refs n ds)) (record { names = refl; marks = refl; ended = refl })
-      (λ ns. definitions-left s n false ds ns)
+      (λ ns. definitions-left s n later_opening ds ns)
 
   -- ## The C part
 
@@ -138,7 +143,8 @@ module _ (looked_at : List State → List State)
       → LeaveTheSame looked_at (part_done (at_section s n) section names)
       (ref_done s (text_ref n modes.CPart section.c_part) names)
   part-alone s n section names =
-      if-left (is_printed_part section (ref_done s (text_ref n modes.CPart section.c_part) names)) (codes "\\Y\\B")
+      if-left (is_printed_part section (ref_done s (text_ref n modes.CPart section.c_part) names))
+      (part_opening (beside_in (at_section s n) section) s.flags.ranged section)
       (ref_done s (text_ref n modes.CPart section.c_part) names)
 
   nothing-left : (s : Setting) (d : Done ℕ) (out : List ℕ) (names : List Entry) → LeavesNothing looked_at names d
@@ -164,6 +170,53 @@ module _ (looked_at : List State → List State)
       (λ ns. record { names = refl; marks = refl; ended = refl }))
       (nothing-left s d out names (none refl))
 
+  -- ## TeX parts
+
+  -- a TeX part without prose has no C text
+  no-refs : (text : List ℕ) (uses : List NameUse) (n : ℕ) (ps : List TexPiece) → list_any (is_prose text) ps ≡ false
+      → tex_refs uses n ps ≡ []
+  no-refs text uses n [] e = refl
+  no-refs text uses n (Copied token ∷ ps) e =
+      no-refs text uses n ps (right-false (is_prose text (Copied token)) (list_any (is_prose text) ps) e)
+  no-refs text uses n (InnerText part ∷ ps) e = absurd (never e)
+    where
+      never : true ≡ false → ⊥
+      never e = cc
+  no-refs text uses n (Cited part ∷ ps) e = absurd (never e)
+    where
+      never : true ≡ false → ⊥
+      never e = cc
+
+  -- code stands beside a number only where there is no prose
+  no-prose : (ranged prose : Bool) (code : Beside)
+      → is_nothing (if ranged && not prose then code else besides.Nothing) ≡ false → prose ≡ false
+  no-prose true false code e = refl
+  no-prose true true code e = e
+  no-prose false prose code e = absurd (never e)
+    where
+      never : true ≡ false → ⊥
+      never e = cc
+
+  tex-by-left : (s : Setting) (n : ℕ) (section : Section) (alone : Bool) (front : List ℕ) (names : List Entry)
+      → (alone ≡ false → tex_refs s.book.name_uses n (pieces_of s.text section.tex) ≡ [])
+      → LeaveTheSame looked_at (tex_by alone front (at_section s n) section names)
+      (refs_done s (tex_refs s.book.name_uses n (pieces_of s.text section.tex)) names)
+  tex-by-left s n section true front names none =
+      let q = pieces-left s n (pieces_of s.text section.tex) names in
+      record { names = q.names; marks = q.marks; ended = q.ended }
+  tex-by-left s n section false front names none =
+      rw (none refl) (record { names = refl; marks = refl; ended = refl })
+
+  tex-left : (s : Setting) (n : ℕ) (section : Section) (names : List Entry)
+      → LeaveTheSame looked_at (tex_done (at_section s n) section names)
+      (refs_done s (tex_refs s.book.name_uses n (pieces_of s.text section.tex)) names)
+  tex-left s n section names =
+      tex-by-left s n section (is_nothing (beside_in (at_section s n) section))
+      (head s.flags.ranged s.text n section) names
+      (λ e. no-refs s.text s.book.name_uses n (pieces_of s.text section.tex)
+      (no-prose s.flags.ranged (has_prose s.text section.tex)
+      (first_code (has_definition s.text section.definitions) (is_printed s.text s.book.name_uses section)) e))
+
   -- ## Sections
 
   section-left : (s : Setting) (n : ℕ) (section : Section) (b : Bool) (names : List Entry)
@@ -179,12 +232,12 @@ module _ (looked_at : List State → List State)
       trans (section_done t section names) (then (refs_done s ps names) (refs_done s (ds ++ part)))
       (refs_done s (ps ++ (ds ++ part)) names)
       (across (tex_done t section names) (refs_done s ps names) (rest_done t section) (refs_done s (ds ++ part))
-      (let q = pieces-left s n (pieces_of s.text section.tex) names in
-      record { names = q.names; marks = q.marks; ended = q.ended })
+      (tex-left s n section names)
       (λ ns. trans (rest_done t section ns) (then (refs_done s ds ns) (refs_done s part)) (refs_done s (ds ++ part) ns)
-      (across (definitions_done t true (printed_definitions s.text section.definitions) ns) (refs_done s ds ns)
+      (across (definitions_done t (first_opening (beside_in t section))
+      (printed_definitions s.text section.definitions) ns) (refs_done s ds ns)
       (λ ms. then (part_done t section ms) (plain (ending t section))) (refs_done s part)
-      (definitions-left s n true (printed_definitions s.text section.definitions) ns)
+      (definitions-left s n (first_opening (beside_in t section)) (printed_definitions s.text section.definitions) ns)
       (λ ms. part-left s n section b (ending t section) ms (none ms)))
       (refs-joined s ds part ns)))
       (refs-joined s ps (ds ++ part) names)

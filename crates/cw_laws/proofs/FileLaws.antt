@@ -16,7 +16,7 @@ use Rattle.cw_rules.specs.declared.tokens.Mode.TheVariants.{Inner}
 use Rattle.cw_part.specs.Footnotes.{footnote, footnote_numbers, number_in, of_kept, use_footnotes}
 use Rattle.cw_texpart.specs.Limbo.{limbo_bytes}
 use Rattle.cw_texpart.specs.Texts.{Setting, setting, text_done}
-use Rattle.cw_index.specs.Closing.{last_lines, closing_lines, last_line}
+use Rattle.cw_index.specs.Closing.{changes_line, closing_lines, last_line, last_lines}
 use Rattle.cw_index.specs.Index.{entry_bytes, row_bytes, section_bytes}
 use Rattle.cw_index.specs.Mentions.{Row, index_rows}
 use Rattle.cw_index.specs.NameList.{all_listed, listed_done, name_ending, name_span, use_notes}
@@ -49,10 +49,14 @@ closing-ends false starred = (codes "\\end", refl)
 
 tex-ends : (line : CommandLine) (text : List ℕ) (b : Book) → EndInLine (tex_file text line.flags b).out
 tex-ends line text b =
-    let closing : List ℕ = closing_lines line.flags.index b.outline.sections in
+    let changes : List ℕ = changes_line line.flags b.outline.sections in
+    let last : List ℕ = last_lines line.flags.index
+    (list_any (λ (section : Section). section.starred) b.outline.sections) in
+    let closing : List ℕ = closing_lines line.flags b.outline.sections in
     inr (behind-any (limbo_bytes text b.outline.limbo) ((all_sections text line.flags b).out ++ closing)
     (behind-any (all_sections text line.flags b).out closing
-    (closing-ends line.flags.index (list_any (λ (section : Section). section.starred) b.outline.sections))))
+    (behind-any changes last
+    (closing-ends line.flags.index (list_any (λ (section : Section). section.starred) b.outline.sections)))))
 
 -- ## The index
 

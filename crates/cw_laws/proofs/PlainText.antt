@@ -21,12 +21,13 @@ use Rattle.cw_lex.specs.Lexing.{answers, beginning, fresh_at, joined, last_after
 use Rattle.cw_names.specs.Names.{Entry}
 use Rattle.cw_phase1.specs.declared.sections.Section.{Section}
 use Rattle.cw_texpart.specs.Done.{Done, behind, plain, reprinted}
-use Rattle.cw_texpart.specs.Heads.{depth_bytes, head, head_by}
+use Rattle.cw_texpart.specs.Beside.{is_nothing}
+use Rattle.cw_texpart.specs.Heads.{head, head_by, printed_depth}
 use Rattle.cw_print.specs.Walk.{section_number}
 use Rattle.cw_texpart.specs.Inks.{Ink, bytes_of, copied, end_if, ends_empty_line, ink_by, inks, laid}
 use Rattle.cw_texpart.specs.Limbo.{limbo_text}
 use Rattle.cw_texts.specs.Scans.{scanned}
-use Rattle.cw_texpart.specs.TexParts.{pieces_done, tex_done}
+use Rattle.cw_texpart.specs.TexParts.{beside_in, pieces_done, tex_by, tex_done}
 use Rattle.cw_texts.specs.TexPieces.{Copied, pieces_of, tex_pieces}
 use Rattle.cw_phase1.specs.Sections.{span as span_of}
 use Rattle.cw_texpart.specs.Texts.{Setting}
@@ -315,19 +316,21 @@ plain-text-is-kept = record { limbo = limbo; no_c_text = no-c-text; tex = tex }
         (sym (tex-scanned text part h g)) (text-pieces part.start (bytes_of text part))
 
     tex : (s : Setting) (section : Section) (names : List Entry) → HasNo at_sign (bytes_of s.text section.tex)
-        → HasNo bar (bytes_of s.text section.tex)
+        → HasNo bar (bytes_of s.text section.tex) → is_nothing (beside_in s section) ≡ true
         → tex_done s section names
-        ≡ plain (last_line_ended (head s.text s.section section ++ bytes_of s.text section.tex)) names
-    tex s section names h g =
-        let front : List ℕ = head s.text s.section section in
+        ≡ plain (last_line_ended (head s.flags.ranged s.text s.section section ++ bytes_of s.text section.tex)) names
+    tex s section names h g none =
+        let front : List ℕ = head s.flags.ranged s.text s.section section in
         let bytes : List ℕ = bytes_of s.text section.tex in
         let start : ℕ = section.tex.start in
-        ap (λ (l : List Answer). behind front (reprinted (laid true) (pieces_done s (tex_pieces zero zero l) names)))
+        ap (λ (b : Bool). tex_by b front s section names) none
+        ∙ ap (λ (l : List Answer). behind front (reprinted (laid true) (pieces_done s (tex_pieces zero zero l) names)))
         (tex-scanned s.text section.tex h g)
         ∙ ap (λ (d : Done Ink). behind front (reprinted (laid true) d))
         (text-done s start bytes names (same-bytes s.text section.tex))
         ∙ ap (λ (l : List ℕ). plain (front ++ l) names)
         (laid-tex s.text start bytes (last_after newline front)
-        (head-last section.starred (depth_bytes s.text section.depth) (section_number s.section section.changed))
+        (head-last section.starred (printed_depth s.flags.ranged s.text section.depth)
+        (section_number s.section section.changed))
         (stand s.text section.tex))
         ∙ ap (λ (l : List ℕ). plain l names) (behind-head front bytes)

@@ -1,12 +1,16 @@
 -- Definitions and C parts, as they are printed.
-use Rattle.std.specs.Prelude.{ℕ, ◌||◌, Bool, true, false, is_some, nat_lt, List, [], ◌∷◌, ◌++◌, codes}
+use Rattle.std.specs.Prelude.{ℕ, ◌&&◌, ◌||◌, Bool, true, false, is_some, nat_lt, List, [], ◌∷◌, ◌++◌, codes}
+use Rattle.cw_base.specs.Conditions.{list_if}
 use Rattle.cw_rules.specs.declared.tokens.Mode.TheVariants as modes
 use Rattle.cw_names.specs.Names.{Entry}
 use Rattle.cw_texts.specs.declared.definitions.Definition.{Definition}
 use Rattle.cw_phase1.specs.declared.sections.Section.{Section}
 use Rattle.cw_translator.specs.Counting.{scraps_in}
 use Rattle.cw_texpart.specs.Done.{Done, plain, reprinted, then}
+use Rattle.cw_texpart.specs.TexParts.{beside_in}
 use Rattle.cw_texpart.specs.Texts.{Setting, text_done}
+use Rattle.cw_texpart.specs.declared.beside.Beside.{Beside}
+use Rattle.cw_texpart.specs.declared.beside.Beside.TheVariants as besides
 
 -- a C text that is a paragraph, behind these bytes
 abbrev pub paragraph : List ℕ → Done ℕ → Done ℕ
@@ -14,18 +18,23 @@ paragraph front d = reprinted (λ out. front ++ out ++ codes "\\par\n") d
 
 -- ## Definitions
 
--- The first one stands behind `\Y\B`, each later one behind `\B`.
-abbrev pub opening : Bool → List ℕ
-opening true = codes "\\Y\\B"
-opening false = codes "\\B"
+-- Space is before the first one, but where it stands beside the number of its section: there `\quad` takes back the
+-- step to the left with which it begins.
+abbrev pub first_opening : Beside → List ℕ
+first_opening besides.Definition = codes "\\B\\quad"
+first_opening other = codes "\\Y\\B"
 
-abbrev pub definition_done : Setting → Bool → Definition → List Entry → Done ℕ
-definition_done s first d names = paragraph (opening first) (text_done s modes.Definition false d.span names)
+abbrev pub later_opening : List ℕ
+later_opening = codes "\\B"
 
--- Definitions one after another; with `first` no other is printed before them.
-abbrev pub definitions_done : Setting → Bool → List Definition → List Entry → Done ℕ
-definitions_done s first [] names = plain [] names
-definitions_done s first (d ∷ ds) names = then (definition_done s first d names) (definitions_done s false ds)
+abbrev pub definition_done : Setting → List ℕ → Definition → List Entry → Done ℕ
+definition_done s opening d names = paragraph opening (text_done s modes.Definition false d.span names)
+
+-- Definitions one after another, the first behind this opening.
+abbrev pub definitions_done : Setting → List ℕ → List Definition → List Entry → Done ℕ
+definitions_done s opening [] names = plain [] names
+definitions_done s opening (d ∷ ds) names =
+    then (definition_done s opening d names) (definitions_done s later_opening ds)
 
 -- ## The C part
 
@@ -38,8 +47,19 @@ paragraph_if false front d = reprinted (λ out. []) d
 abbrev pub is_printed : Section → Done ℕ → Bool
 is_printed section d = is_some section.name || nat_lt 0 (scraps_in d.ended)
 
-abbrev pub part_from : Section → Done ℕ → Done ℕ
-part_from section d = paragraph_if (is_printed section d) (codes "\\Y\\B") d
+-- With flag r a name at its head stands one step to the left, as definitions do.
+abbrev pub step_left : Bool → Section → List ℕ
+step_left ranged section = list_if (ranged && is_some section.name) (codes "\\4")
+
+-- Space is before it, but where it stands beside the number of its section, and not to the left.
+abbrev pub part_opening : Beside → Bool → Section → List ℕ
+part_opening besides.CPart ranged section = codes "\\B"
+part_opening other ranged section = codes "\\Y\\B" ++ step_left ranged section
+
+abbrev pub part_from : List ℕ → Section → Done ℕ → Done ℕ
+part_from opening section d = paragraph_if (is_printed section d) opening d
 
 abbrev pub part_done : Setting → Section → List Entry → Done ℕ
-part_done s section names = part_from section (text_done s modes.CPart false section.c_part names)
+part_done s section names =
+    part_from (part_opening (beside_in s section) s.flags.ranged section) section
+    (text_done s modes.CPart false section.c_part names)

@@ -1,12 +1,12 @@
 -- Whole sections.
-use Rattle.std.specs.Prelude.{ℕ, suc, true, List, [], ◌∷◌, ◌++◌, codes}
+use Rattle.std.specs.Prelude.{ℕ, suc, List, [], ◌∷◌, ◌++◌, codes}
 use Rattle.cw_names.specs.Names.{Entry}
 use Rattle.cw_texts.specs.Definitions.{printed_definitions}
 use Rattle.cw_part.specs.Footnotes.{footnotes}
-use Rattle.cw_part.specs.Parts.{definitions_done, part_done}
+use Rattle.cw_part.specs.Parts.{definitions_done, first_opening, part_done}
 use Rattle.cw_phase1.specs.declared.sections.Section.{Section}
 use Rattle.cw_texpart.specs.Done.{Done, plain, then}
-use Rattle.cw_texpart.specs.TexParts.{tex_done}
+use Rattle.cw_texpart.specs.TexParts.{beside_in, tex_done}
 use Rattle.cw_texpart.specs.Texts.{Setting}
 
 -- The footnotes, a line `\fi` and an empty line end a section.
@@ -16,7 +16,8 @@ ending s section = footnotes s section ++ codes "\\fi\n\n"
 -- what stands behind the TeX part of a section
 abbrev pub rest_done : Setting → Section → List Entry → Done ℕ
 rest_done s section names =
-    then (definitions_done s true (printed_definitions s.text section.definitions) names) (λ names.
+    let definitions = printed_definitions s.text section.definitions in
+    then (definitions_done s (first_opening (beside_in s section)) definitions names) (λ names.
     then (part_done s section names) (plain (ending s section)))
 
 abbrev pub section_done : Setting → Section → List Entry → Done ℕ

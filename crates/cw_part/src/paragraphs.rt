@@ -15,16 +15,19 @@ use cw_desk::Desk;
 use cw_lex::Mode;
 use cw_lines::{LineOut, PutError};
 use cw_phase1::Book;
-use cw_texpart::{CText, Counts, translate_text};
+use cw_texpart::{Beside, CText, Counts, translate_text};
 use std::alloc::Global;
 
-/// What the present section is printed with: the web's text, the section's number, and the flags.
+/// What the present section is printed with: the web's text, the section's number and what stands beside it, and the
+/// flags.
 #[derive(Clone, Copy)]
 pub(crate) struct Present<'a> {
     pub(crate) text: &'a [u8],
     pub(crate) section: u32,
     pub(crate) flags: &'a Flags,
     pub(crate) alloc: Global,
+    /// The code that stands beside the section's number.
+    pub(crate) beside: Beside,
 }
 
 /// A C text that is a paragraph.

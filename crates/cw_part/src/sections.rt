@@ -1,16 +1,17 @@
 //! What stands behind the TeX part of a section.
-ghost use Rattle.std.specs.Prelude.{◌≡◌, ◌^◌, ◌-◌, ◌<◌, ◌≤◌, All, Some, length, slice_get, true};
+ghost use Rattle.std.specs.Prelude.{◌≡◌, ◌^◌, ◌-◌, ◌<◌, ◌≤◌, false, All, Some, length, slice_get};
 ghost use Rattle.cw_base.specs.Web.{text_of};
 ghost use Rattle.cw_lines.specs.Writes.{CanWrite, Puts};
 ghost use Rattle.cw_texts.specs.Definitions.{definitions_in, printed_definitions};
-ghost use Rattle.cw_part.specs.Parts.{definitions_done, opening, part_done};
+ghost use Rattle.cw_part.specs.Parts.{definitions_done, first_opening, part_from, part_opening};
 ghost use Rattle.cw_part.specs.PresentForms.{part_setting};
 ghost use Rattle.cw_part.specs.Sections.{ending, rest_done};
 ghost use Rattle.cw_part.specs.WholeTexts.{IsWholeDefinition, IsWholeIn, IsWholeRest};
 ghost use Rattle.cw_phase1.specs.declared.sections.Section.{Section};
 ghost use Rattle.cw_rules.specs.declared.tokens.Mode.TheVariants.{CPart, Definition};
 ghost use Rattle.cw_translator.specs.NameParts.{AreNamesOf};
-ghost use Rattle.cw_texpart.specs.Texts.{lasting, setting};
+ghost use Rattle.cw_texpart.specs.TexParts.{beside_in};
+ghost use Rattle.cw_texpart.specs.Texts.{lasting, setting, text_done};
 ghost use Rattle.cw_texpart.specs.Weaving.{Weaves};
 
 use crate::footnotes::put_footnotes;
@@ -20,15 +21,29 @@ use cw_desk::Desk;
 use cw_lex::Mode;
 use cw_lines::{LineOut, PutError};
 use cw_phase1::{Book, Section};
-use cw_texpart::Counts;
+use cw_texpart::{Beside, Counts, beside};
 use cw_texts::Definitions;
 use std::alloc::Global;
 
-// The bytes before a definition.
-fn opening(first: bool) -> &'static [u8]
-    ensures { result.now ≡ opening first }
+// The bytes before the first definition of a section.
+fn first_opening(beside: Beside) -> &'static [u8]
+    ensures { result.now ≡ first_opening beside }
 {
-    if first { b"\\Y\\B" } else { b"\\B" }
+    match beside {
+        Beside::Definition => b"\\B\\quad",
+        _ => b"\\Y\\B",
+    }
+}
+
+// The bytes before a C part.
+fn part_opening(beside: Beside, ranged: bool, section: &Section) -> &'static [u8]
+    ensures { result.now ≡ part_opening beside ranged section.now }
+{
+    match beside {
+        Beside::CPart => b"\\B",
+        _ if ranged && section.name.is_some() => b"\\Y\\B\\4",
+        _ => b"\\Y\\B",
+    }
 }
 
 // Prints the definitions that stand at a span, but for the silent ones.
@@ -46,26 +61,26 @@ fn print_definitions<D: Desk, L: Ledger>(
     requires each { All (IsWholeDefinition p.text.now) (definitions_in p.text.now part) }
     requires kept { AreNamesOf book.old.sec_names book.old.name_uses }
     ensures { Weaves (part_setting p.entry (lasting book.old))
-        (definitions_done (part_setting p.entry (lasting book.old)) true
+        (definitions_done (part_setting p.entry (lasting book.old)) (first_opening p.entry.beside)
         (printed_definitions p.entry.text.now part) book.old.names)
         (record { book = book.old; line = out.old; told = D.told desk.old; steps = steps.old })
         (record { book = book.new; line = out.new; told = D.told desk.new; steps = steps.new }) result }
 {
     let mut definitions = Definitions::over(p.text, part);
     let mut counts = Counts::none();
-    let mut first = true;
+    let mut front = first_opening(p.beside);
     'printed: loop {
         match definitions.next_printed() {
             Some(span) => {
                 let paragraph = Paragraph {
-                    front: opening(first),
+                    front,
                     mode: Mode::Definition,
                     span,
                     always: true,
                 };
                 let more = print_paragraph(p, paragraph, book, out, desk, steps)?;
                 counts = counts.plus(more)?;
-                first = false;
+                front = b"\\B";
             }
             None => return Ok(counts),
         }
@@ -86,12 +101,13 @@ fn print_c_part<D: Desk, L: Ledger>(
     requires whole { IsWholeIn CPart p.text.now section.c_part }
     requires kept { AreNamesOf book.old.sec_names book.old.name_uses }
     ensures { Weaves (part_setting p.entry (lasting book.old))
-        (part_done (part_setting p.entry (lasting book.old)) section book.old.names)
+        (part_from (part_opening p.entry.beside p.entry.flags.now.ranged section) section
+        (text_done (part_setting p.entry (lasting book.old)) CPart false section.c_part book.old.names))
         (record { book = book.old; line = out.old; told = D.told desk.old; steps = steps.old })
         (record { book = book.new; line = out.new; told = D.told desk.new; steps = steps.new }) result }
 {
     let paragraph = Paragraph {
-        front: b"\\Y\\B",
+        front: part_opening(p.beside, p.flags.ranged, &section),
         mode: Mode::CPart,
         span: section.c_part,
         always: section.name.is_some(),
@@ -127,6 +143,7 @@ fn print_rest<D: Desk, L: Ledger>(
     requires can { CanWrite (D.told desk.old) out.old }
     requires short { length p.text.now ≤ 2 ^ 24 }
     requires whole { IsWholeRest p.text.now section }
+    requires beside { p.beside ≡ beside_in (part_setting p (lasting book.old)) section }
     requires kept { AreNamesOf book.old.sec_names book.old.name_uses }
     ensures { Weaves (part_setting p.entry (lasting book.old))
         (rest_done (part_setting p.entry (lasting book.old)) section book.old.names)
@@ -164,12 +181,14 @@ pub fn weave_section<D: Desk, L: Ledger>(
         (record { book = book.old; line = out.old; told = D.told desk.old; steps = steps.old })
         (record { book = book.new; line = out.new; told = D.told desk.new; steps = steps.new }) result }
 {
+    let text = web.text();
+    let printed = book.section(section);
     let present = Present {
-        text: web.text(),
+        text,
         section,
         flags,
         alloc,
+        beside: beside(text, flags, book, &printed)?,
     };
-    let section = book.section(section);
-    print_rest(present, section, book, out, desk, steps)
+    print_rest(present, printed, book, out, desk, steps)
 }

@@ -11,6 +11,7 @@ pub mod Sections
 pub mod Notes
 pub mod Missing
 pub mod Book
+pub mod Changed
 pub mod Placing
 pub mod Outlining
 pub mod Referring

@@ -74,6 +74,16 @@ impl Outline {
 }
 
 impl Book {
+    ghost use Rattle.cw_phase1.specs.Changed.{marked_book};
+
+    /// Marks the last section as changed, where any section holds a changed line: the index, with which a book ends,
+    /// changes with it.
+    pub fn mark_last(&mut self)
+        ensures { self.new ≡ marked_book self.old }
+    {
+        self.outline.sections.mark_last();
+    }
+
     /// How many sections there are.
     pub fn section_count(&self) -> u32
         ensures { result ≡ length self.now.outline.sections }

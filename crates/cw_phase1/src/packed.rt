@@ -1,5 +1,6 @@
 //! Sections in a row, as they lie in memory: with places of 32 bits.
 ghost use Rattle.std.specs.Prelude.{◌≡◌, ◌<◌, [], ◌∷◌, ◌++◌, Some, IfOk, OnOk, length, slice_get};
+ghost use Rattle.cw_phase1.specs.Changed.{has_changed, with_last_marked};
 ghost use Rattle.cw_phase1.specs.Packed.{depth_of, name_of, span_of, unpacked, whole_section};
 
 use crate::{Depth, Section};
@@ -202,6 +203,30 @@ impl SectionList {
         ensures { result ≡ length self.now }
     {
         self.rows.len()
+    }
+
+    // Whether a section is changed.
+    fn has_changed(&self) -> bool
+        ensures { result ≡ has_changed self.now }
+    {
+        for row in &self.rows {
+            if row.changed {
+                return true;
+            }
+        }
+        false
+    }
+
+    /// Marks the last section as changed, where any is.
+    pub(crate) fn mark_last(&mut self)
+        ensures { self.new ≡ with_last_marked self.old }
+    {
+        if !self.has_changed() {
+            return;
+        }
+        if let Some(last) = self.rows.last_mut() {
+            last.changed = true;
+        }
     }
 
     /// The section at a position.

@@ -14,7 +14,7 @@ use Rattle.cw_print.specs.Sources.{source_by, titles}
 use Rattle.cw_print.specs.Walk.{Source, item_shown, items_shown, outside, stand_after}
 
 abbrev pub source_of : KeptText → Source
-source_of c = source_by c.answers.now c.book.now c.section c.flags.now.wrap
+source_of c = source_by c.answers.now c.book.now c.section c.flags.now
 
 -- what these items print, and what the next one does behind them
 abbrev pub shown : Source → List Item → List Printable

@@ -1,6 +1,7 @@
 -- What a C text of a book is printed from.
-use Rattle.std.specs.Prelude.{ℕ, ◌-◌, ◌==◌, Bool, true, false, List, [], ◌∷◌, Option, Some, None, option_map, slice_get}
-use Rattle.std.specs.Prelude.{unwrap_or}
+use Rattle.std.specs.Prelude.{ℕ, ◌-◌, ◌==◌, ◌&&◌, Bool, true, false, List, [], ◌∷◌, Option, Some, None, option_map}
+use Rattle.std.specs.Prelude.{drop, map, slice_get, unwrap_or}
+use Rattle.cw_base.specs.declared.flags.Flags.{Flags}
 use Rattle.cw_base.specs.declared.span.Span.{Span}
 use Rattle.cw_rules.specs.Answers.{Answer}
 use Rattle.cw_lex.specs.Lexing.{tokens_of}
@@ -12,7 +13,7 @@ use Rattle.cw_secnames.specs.Uses.{name_at}
 use Rattle.cw_secnames.specs.declared.kinds.SecId.{SecId}
 use Rattle.cw_secnames.specs.declared.kinds.SecKind.{SecKind}
 use Rattle.cw_secnames.specs.declared.kinds.SecKind.TheVariants.{Named, File}
-use Rattle.cw_print.specs.Walk.{Source, Title}
+use Rattle.cw_print.specs.Walk.{Numbered, Source, Title}
 
 -- the section of a number; they are counted from 1
 abbrev pub section_of : List Section → ℕ → Option Section
@@ -32,6 +33,9 @@ abbrev pub is_file : SecKind → Bool
 is_file Named = false
 is_file File = true
 
+abbrev pub numbered_in : List Section → ℕ → Numbered
+numbered_in sections number = record { number = number; is_changed = is_changed sections number }
+
 -- a name that is kept, as it is printed
 abbrev pub title_of_name : List Section → SecName → Title
 title_of_name sections name = record {
@@ -39,6 +43,7 @@ title_of_name sections name = record {
   is_file = is_file name.kind;
   number = first_section name.defined;
   is_changed = is_changed sections (first_section name.defined);
+  later = map (numbered_in sections) (drop 1 name.defined);
 }
 
 abbrev pub title_of_kept : List Section → List SecName → Option ℕ → Option Title
@@ -67,13 +72,22 @@ is_first book number = defines_its_name book.sec_names (section_of book.outline.
 
 -- ## The source
 
+-- With flag r the section list, which has the number 0, has all sections that define a name.
+abbrev pub lists_all : Flags → ℕ → Bool
+lists_all flags section = flags.ranged && section == 0
+
 -- what a C text with these answers of the scanner is printed from
-abbrev pub source_by : List Answer → Book → ℕ → Bool → Source
-source_by answers book section wraps = record {
-  fixed = record { answers = answers; wraps = wraps; first = is_first book section };
+abbrev pub source_by : List Answer → Book → ℕ → Flags → Source
+source_by answers book section flags = record {
+  fixed = record {
+    answers = answers;
+    wraps = flags.wrap;
+    first = is_first book section;
+    lists = lists_all flags section;
+  };
   titles = titles book;
   names = book.names;
 }
 
-abbrev pub source : List ℕ → Span → Mode → Book → ℕ → Bool → Source
-source text span mode book section wraps = source_by (tokens_of text span.start span.«end» mode) book section wraps
+abbrev pub source : List ℕ → Span → Mode → Book → ℕ → Flags → Source
+source text span mode book section flags = source_by (tokens_of text span.start span.«end» mode) book section flags

@@ -1,6 +1,7 @@
 -- The bytes that the items of a flat list print, each by itself, in their order; and those of the whole list.
 use Rattle.std.specs.Prelude.{◌≡◌, ℕ, ◌+◌, ◌-◌, ◌&&◌, Bool, true, false, List, [], ◌∷◌, ◌++◌, Option, Some, None, codes}
 use Rattle.std.specs.Prelude.{decimal, drop, slice_range, if◌then◌else◌}
+use Rattle.std.specs.List.{flat_map}
 use Rattle.cw_base.specs.declared.span.Span.{Span}
 use Rattle.cw_base.specs.Conditions.{list_if}
 use Rattle.cw_names.specs.Names.{Entry}
@@ -25,14 +26,19 @@ use Rattle.cw_print.specs.Found.{numbered}
 
 -- ## Section names
 
--- A section name as it is printed: its text, whether it is a file's, and the number of its first defining section, or
--- 0,
--- and whether that section is changed.
+-- a section by its number, and whether it is changed
+pub record Numbered : Type 0 where
+  pub number : ℕ
+  pub is_changed : Bool
+
+-- A section name as it is printed: its text, whether it is a file's, the number of its first defining section, or 0,
+-- and whether that section is changed; and the later sections that define it.
 pub record Title : Type 0 where
   pub text : List ℕ
   pub is_file : Bool
   pub number : ℕ
   pub is_changed : Bool
+  pub later : List Numbered
 
 -- a section number, with `\*` where its section is changed
 abbrev pub changed_mark : Bool → List ℕ
@@ -41,8 +47,14 @@ changed_mark changed = list_if changed (codes "\\*")
 abbrev pub section_number : ℕ → Bool → List ℕ
 section_number number is_changed = decimal number ++ changed_mark is_changed
 
-abbrev pub front : Title → List ℕ
-front title = codes "\\X" ++ (section_number title.number title.is_changed ++ codes ":")
+abbrev pub later_number : Numbered → List ℕ
+later_number n = codes ", " ++ section_number n.number n.is_changed
+
+-- The first section that defines a name stands before its text, and with `lists` all that do.
+abbrev pub front : Bool → Title → List ℕ
+front lists title =
+    codes "\\X" ++ (section_number title.number title.is_changed
+    ++ (list_if lists (flat_map later_number title.later) ++ codes ":"))
 
 -- What a name prints up to an inner text or to its end, and the scanner's answers for that inner text, whose numbers
 -- are
@@ -112,8 +124,8 @@ behind_next (p ∷ pieces) = record { answers = p.answers; pieces = pieces }
 abbrev pub piece_shown : List ℕ → List NamePiece → Stand → Shown
 piece_shown before pieces stand = prints (before ++ next_bytes pieces) (with_name (Some (behind_next pieces)) stand)
 
-abbrev pub name_begins : Title → Stand → Shown
-name_begins title stand = piece_shown (front title) (name_pieces title) stand
+abbrev pub name_begins : Bool → Title → Stand → Shown
+name_begins lists title stand = piece_shown (front lists title) (name_pieces title) stand
 
 abbrev pub name_goes_on : Option InName → Stand → Shown
 name_goes_on None stand = prints [] stand
@@ -132,37 +144,37 @@ comment_ends stand = prints (closing_braces (innermost stand.braces)) (with_brac
 
 -- ## Items
 
--- What is fixed while one C text is printed: the scanner's answers for it, whether inner texts are wrapped, and whether
--- the
--- present section is the first that defines its name.
+-- What is fixed while one C text is printed: the scanner's answers for it, whether inner texts are wrapped, whether the
+-- present section is the first that defines its name, and whether names list all sections that define them.
 pub record Fixed : Type 0 where
   pub answers : List Answer
   pub wraps : Bool
   pub first : Bool
+  pub lists : Bool
 
 -- A section name prints its title, where it has one.
-abbrev pub named_shown : Option Title → Stand → Shown
-named_shown None stand = prints [] stand
-named_shown (Some title) stand = name_begins title stand
+abbrev pub named_shown : Bool → Option Title → Stand → Shown
+named_shown lists None stand = prints [] stand
+named_shown lists (Some title) stand = name_begins lists title stand
 
 abbrev pub is_name : Option Seen → Bool
 is_name None = false
 is_name (Some token) = is_name_kind token.kind
 
-abbrev pub seen_shown : Bool → Option Title → Option Seen → Stand → Shown
-seen_shown first title token stand = elim (is_name token) [
-  | true ↦ named_shown title stand
+abbrev pub seen_shown : Bool → Bool → Option Title → Option Seen → Stand → Shown
+seen_shown first lists title token stand = elim (is_name token) [
+  | true ↦ named_shown lists title stand
   | false ↦ found_shown first token stand
 ]
 
 -- A token prints as a sign, wherever it stands.
 abbrev pub PrintsSign : Sign → Option Seen → Type 0
 PrintsSign sign token =
-    (first : Bool) (title : Option Title) (stand : Stand) → seen_shown first title token stand
+    (first lists : Bool) (title : Option Title) (stand : Stand) → seen_shown first lists title token stand
     ≡ prints (sign_macro sign) stand
 
 abbrev pub outer_shown : Fixed → Option Title → ℕ → Stand → Shown
-outer_shown f title number stand = seen_shown f.first title (numbered number f.answers) stand
+outer_shown f title number stand = seen_shown f.first f.lists title (numbered number f.answers) stand
 
 -- A number stands for a token of the text, perhaps a section name; or, in a section name, for a token of its inner
 -- text.

@@ -1,5 +1,5 @@
 //! The titles of a book's section names.
-ghost use Rattle.std.specs.Prelude.{◌≡◌, Some, option_map};
+ghost use Rattle.std.specs.Prelude.{◌≡◌, Some, drop, option_map};
 ghost use Rattle.cw_print.specs.Sources.{defines_first, first_section, is_changed, is_file, is_first, section_of};
 ghost use Rattle.cw_print.specs.Sources.{title_of_kept, titles};
 ghost use Rattle.cw_print.specs.Titles.{title_of};
@@ -37,6 +37,15 @@ fn first_of(defined: &[u32]) -> u32
     }
 }
 
+fn behind_first(defined: &[u32]) -> &[u32]
+    ensures { result.now ≡ drop 1 defined.now }
+{
+    match defined {
+        [] => &[],
+        [_, later @ ..] => later,
+    }
+}
+
 fn is_file(kind: SecKind) -> bool
     ensures { result ≡ is_file kind }
 {
@@ -52,12 +61,15 @@ fn title_of_kept(book: &Book, id: SecId) -> Option<SectionTitle>
     if id.index >= book.sec_names.len() {
         return None;
     }
-    let number = first_of(book.sec_names.defined_in(id));
+    let defined = book.sec_names.defined_in(id);
+    let number = first_of(defined);
     Some(SectionTitle {
         text: book.sec_names.text(id),
         is_file: is_file(book.sec_names.kind(id)),
         number,
         is_changed: is_changed(book, number),
+        later: behind_first(defined),
+        book,
     })
 }
 

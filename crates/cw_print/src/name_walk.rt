@@ -48,12 +48,13 @@ impl<'a> NameWalk<'a> {
         alloc: Global,
         out: &mut Bytes,
         title: &SectionTitle<'a>,
+        lists: bool,
     ) -> Result<NameWalk<'a>, Memory>
-        ensures bytes { OnOk result (out.new ≡ out.old ++ (front (title_of title.now) ++
+        ensures bytes { OnOk result (out.new ≡ out.old ++ (front lists (title_of title.now) ++
             next_bytes (name_pieces (title_of title.now)))) }
         ensures behind { IfOk result (λ walk. walk ≡ behind_next (name_pieces (title_of title.now))) }
     {
-        put_front(out, title)?;
+        put_front(out, title, lists)?;
         if title.is_file {
             out.append(b"\\.{")?;
             put_escaped(out, title.text)?;

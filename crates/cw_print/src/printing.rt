@@ -16,7 +16,7 @@ ghost use Rattle.cw_join.specs.Tokens.{CanCome, word_at};
 ghost use Rattle.cw_print.specs.Coming.{AllMay, MayCome};
 ghost use Rattle.cw_print.specs.Printing.{IsBehind, IsMidway, IsOnlyName, Midway, PrintsOn, shown};
 ghost use Rattle.cw_print.specs.Printing.{shown_next, source_of};
-ghost use Rattle.cw_print.specs.Sources.{source, source_by};
+ghost use Rattle.cw_print.specs.Sources.{lists_all, source, source_by};
 ghost use Rattle.cw_print.specs.Walk.{Source, bracket, tree_bytes, wrapped};
 
 use crate::book_titles::is_first;
@@ -43,10 +43,18 @@ pub struct KeptText<'s, 'a> {
     pub book: &'s Book,
     /// The present section, or 0 in the section list.
     pub section: u32,
-    /// They say whether inner texts stand in `\PB{` and `}`.
+    /// They say whether inner texts stand in `\PB{` and `}`, and whether names of the section list have all sections
+    /// that define them.
     pub flags: &'s Flags,
     /// The text is itself inner C text.
     pub inner: bool,
+}
+
+// Whether names list all sections that define them: with flag r those of the section list do.
+fn lists_all(flags: &Flags, section: u32) -> bool
+    ensures { result ≡ lists_all flags.now section }
+{
+    flags.ranged && section == 0
 }
 
 // Where the printing of a C text stands.
@@ -65,6 +73,7 @@ impl<'s, 'a> Printer<'s, 'a> {
         let manner = Manner {
             wraps: c.flags.wrap,
             first: is_first(c.book, c.section),
+            lists: lists_all(c.flags, c.section),
         };
         Printer {
             book: c.book,
@@ -311,7 +320,7 @@ pub fn print_answers<D: Desk>(
     requires list { id.index < length store.now.lists }
     requires named { IsNamedBelow (length c.book.now.names) (unfolded store.now.lists id.index) }
     ensures puts { Puts (tree_bytes c.entry.inner
-        (source_by c.entry.answers.now c.entry.book.now c.entry.section c.entry.flags.now.wrap)
+        (source_by c.entry.answers.now c.entry.book.now c.entry.section c.entry.flags.now)
         (unfolded store.now.lists id.index))
         out.old out.new (D.told desk.old) (D.told desk.new) result }
 {
@@ -347,7 +356,7 @@ pub fn print_list<D: Desk>(
     requires uncut { begins_section_in (tokens_of text.now span.start span.end mode) ≡ false }
     requires list { id.index < length store.now.lists }
     requires named { IsNamedBelow (length book.now.names) (unfolded store.now.lists id.index) }
-    ensures puts { Puts (tree_bytes inner (source text.now span mode book.now section flags.now.wrap)
+    ensures puts { Puts (tree_bytes inner (source text.now span mode book.now section flags.now)
         (unfolded store.now.lists id.index))
         out.old out.new (D.told desk.old) (D.told desk.new) result }
 {

@@ -32,6 +32,8 @@ pub(crate) struct Manner {
     pub wraps: bool,
     /// The present section is the first that defines its name.
     pub first: bool,
+    /// Names list all sections that define them.
+    pub lists: bool,
 }
 
 /// A walk over the items of a C text in their order: where the printing stands in section names, in comments, and among
@@ -53,7 +55,12 @@ impl<'s, 'a> Model for TextWalk<'s, 'a> {
     ghost Value = { Walked };
 
     ghost view = { λ w. record {
-      fixed = record { answers = among w.answers.now w.seek; wraps = w.manner.wraps; first = w.manner.first };
+      fixed = record {
+        answers = among w.answers.now w.seek;
+        wraps = w.manner.wraps;
+        first = w.manner.first;
+        lists = w.manner.lists;
+      };
       stand = record { name = w.name; braces = w.braces };
     } };
 
@@ -66,6 +73,7 @@ impl<'s, 'a> TextWalk<'s, 'a> {
         ensures answers { result.fixed.answers ≡ answers.now }
         ensures wraps { result.fixed.wraps ≡ manner.wraps }
         ensures first { result.fixed.first ≡ manner.first }
+        ensures lists { result.fixed.lists ≡ manner.lists }
         ensures outside { result.stand ≡ outside }
     {
         TextWalk {
@@ -136,11 +144,13 @@ impl<'s, 'a> TextWalk<'s, 'a> {
     #[inline(never)]
     fn begin_name(&mut self, out: &mut Bytes, number: u32, book: &'s Book) -> Result<(), Memory>
         requires outside { self.old.stand.name ≡ None }
-        ensures bytes { OnOk result (out.new ≡ out.old ++ (named_shown (titles book.now number) self.old.stand).bytes) }
-        ensures stand { OnOk result (self.new ≡ behind self.old (named_shown (titles book.now number) self.old.stand)) }
+        ensures bytes { OnOk result (out.new ≡ out.old
+            ++ (named_shown self.old.fixed.lists (titles book.now number) self.old.stand).bytes) }
+        ensures stand { OnOk result (self.new ≡ behind self.old
+            (named_shown self.old.fixed.lists (titles book.now number) self.old.stand)) }
     {
         if let Some(title) = title_at(book, number) {
-            let name = NameWalk::begin(self.alloc, out, &title)?;
+            let name = NameWalk::begin(self.alloc, out, &title, self.manner.lists)?;
             self.name = Some(name);
         }
         Ok(())

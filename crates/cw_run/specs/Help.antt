@@ -9,7 +9,7 @@ help_lines =
     codes "  changefile  changes of the web, - for none" ∷
     codes "  outfile     the TeX file; index and list of section names lie beside it" ∷
     codes "Options stand anywhere; letters behind - turn off, behind + turn on:" ∷
-    codes "  b  print the banner (on at the start, as all but s and k)" ∷
+    codes "  b  print the banner (on at the start, as all but s, k and r)" ∷
     codes "  p  print progress lines" ∷
     codes "  h  print the happy message" ∷
     codes "  f  separate statements by forced breaks" ∷
@@ -19,6 +19,7 @@ help_lines =
     codes "  x  write the index and the list of section names" ∷
     codes "  s  print statistics" ∷
     codes "  k  keep an output that has not changed as it is" ∷
+    codes "  r  range pages as the original does" ∷
     codes "--quiet is -bph, --verbose is +bph. On a line of their own:" ∷
     codes "  --sample N  print the statistics of a sample of N sections, 1 to 2000" ∷
     codes "  --help      print this text" ∷

@@ -1,4 +1,5 @@
 -- The laws of limbo, heads and TeX parts: pieces woven one after another, and C texts that are whole.
+pub mod DepthLaws
 pub mod LayingLaws
 pub mod WeavingLaws
 pub mod TextLaws

@@ -1,7 +1,8 @@
 -- Worked rows: the limbo and the first section's head and TeX part of small webs.
-use Rattle.std.proofs.Common.{◌≡◌, ℕ, Bool, false, true, List, [], ◌∷◌, codes, refl}
+use Rattle.std.proofs.Common.{◌≡◌, ℕ, Bool, false, true, List, [], ◌∷◌, codes, map, refl}
 use Rattle.std.specs.Fmt.{digits}
 use Rattle.cw_base.specs.Flags.{start_flags}
+use Rattle.cw_base.specs.declared.flags.Flags.{Flags}
 use Rattle.cw_base.specs.Web.{MergedLine, text_of}
 use Rattle.cw_names.specs.Names.{Entry}
 use Rattle.cw_phase1.specs.Book.{book}
@@ -12,6 +13,7 @@ use Rattle.cw_table.specs.Normal.{count, log, normal}
 use Rattle.cw_table.specs.NormalWalk.{positions}
 use Rattle.cw_table.specs.Productions.{productions}
 use Rattle.cw_table.specs.WalkCounts.{looks}
+use Rattle.cw_texpart.specs.Heads.{successor}
 use Rattle.cw_texpart.specs.Limbo.{limbo_bytes}
 use Rattle.cw_texpart.specs.TexParts.{tex_done}
 use Rattle.cw_texpart.specs.Texts.{Setting, setting}
@@ -27,11 +29,15 @@ abbrev first_tex : Setting → List Section → List Entry → List ℕ
 first_tex s [] names = []
 first_tex s (section ∷ sections) names = (tex_done s section names).out
 
-abbrev tex_from : List MergedLine → Book → List ℕ
-tex_from lines b = first_tex (setting (text_of lines) start_flags 1 b) b.outline.sections b.names
+abbrev tex_from : Flags → List MergedLine → Book → List ℕ
+tex_from flags lines b = first_tex (setting (text_of lines) flags 1 b) b.outline.sections b.names
 
 abbrev tex : List MergedLine → List ℕ
-tex lines = tex_from lines (book lines)
+tex lines = tex_from start_flags lines (book lines)
+
+-- the same with flag r
+abbrev ranged_tex : List MergedLine → List ℕ
+ranged_tex lines = tex_from (record start_flags { ranged = true }) lines (book lines)
 
 abbrev limbo : List MergedLine → List ℕ
 limbo lines = limbo_bytes (text_of lines) (book lines).outline.limbo
@@ -56,6 +62,19 @@ no_limbo_row = refl
 depth_row : tex (line true (codes "@*07 Deep.") ∷ []) ≡ codes "\\N{7}{1\\*}Deep.\n"
 unfolding digits
 depth_row = refl
+
+-- with flag r depths are as the macros count them: `@**` is 0
+raised_rows : map successor (codes "0" ∷ codes "7" ∷ codes "09" ∷ codes "199" ∷ codes "99" ∷ [])
+    ≡ codes "1" ∷ codes "8" ∷ codes "10" ∷ codes "200" ∷ codes "100" ∷ []
+raised_rows = refl
+
+ranged_row : ranged_tex (web (codes "@*07 Deep." ∷ [])) ≡ codes "\\N{8}{1}Deep.\n"
+unfolding digits
+ranged_row = refl
+
+ranged_top_row : ranged_tex (web (codes "@** Top." ∷ [])) ≡ codes "\\N{0}{1}Top.\n"
+unfolding digits
+ranged_top_row = refl
 
 no_depth_row : tex (web (codes "@*Top." ∷ [])) ≡ codes "\\N{0}{1}Top.\n"
 unfolding digits

@@ -27,7 +27,7 @@ use Rattle.cw_texpart.specs.declared.counts.Counts.{Counts}
 use Rattle.cw_texts.specs.declared.pieces.Piece.{Piece}
 use Rattle.cw_texpart.specs.Done.{Done, behind, joined, plain, reprinted}
 use Rattle.cw_print.specs.Walk.{section_number}
-use Rattle.cw_texpart.specs.Heads.{depth_bytes, head, head_by}
+use Rattle.cw_texpart.specs.Heads.{head, head_by, printed_depth}
 use Rattle.cw_texpart.specs.Inks.{Ink, end_if, laid, prints}
 use Rattle.cw_texpart.specs.Laying.{held, held_behind, holds_bytes, inked}
 use Rattle.cw_texts.specs.PieceForms.{piece_is}
@@ -385,7 +385,7 @@ head-by-holds true holds depth number = brace-last holds (((codes "\\N{" ++ dept
 head-by-holds false holds depth number = brace-last holds (codes "\\M{" ++ number)
 
 -- behind a head the line holds bytes
-pub head-holds : (holds : Bool) (text : List ℕ) (n : ℕ) (section : Section) → held_behind holds (head text n section)
-    ≡ true
-head-holds holds text n section = head-by-holds section.starred holds (depth_bytes text section.depth)
-    (section_number n section.changed)
+pub head-holds : (holds ranged : Bool) (text : List ℕ) (n : ℕ) (section : Section)
+    → held_behind holds (head ranged text n section) ≡ true
+head-holds holds ranged text n section =
+    head-by-holds section.starred holds (printed_depth ranged text section.depth) (section_number n section.changed)

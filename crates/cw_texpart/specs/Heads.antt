@@ -1,5 +1,5 @@
 -- The heads of sections.
-use Rattle.std.specs.Prelude.{ℕ, ◌==◌, Bool, true, false, List, [], ◌∷◌, ◌++◌, codes, if◌then◌else◌}
+use Rattle.std.specs.Prelude.{ℕ, ◌+◌, ◌==◌, nat_lt, Bool, true, false, List, [], ◌∷◌, ◌++◌, codes, if◌then◌else◌}
 use Rattle.cw_phase1.specs.declared.sections.Depth.{Depth}
 use Rattle.cw_phase1.specs.declared.sections.Depth.TheVariants.{Minus, Zero, Digits}
 use Rattle.cw_phase1.specs.declared.sections.Section.{Section}
@@ -18,10 +18,51 @@ depth_bytes text Minus = codes "-1"
 depth_bytes text Zero = codes "0"
 depth_bytes text (Digits span) = drop_zeros (bytes_of text span)
 
+-- ## Depths that count from 0
+
+-- digits to which one was added, and whether one is carried over them
+pub record Added : Type 0 where
+  pub carried : Bool
+  pub digits : List ℕ
+
+-- behind a digit to which one is carried: a nine is a zero then, and carries it on
+abbrev pub carry_to : ℕ → List ℕ → Added
+carry_to digit digits =
+    if nat_lt digit 57 then record { carried = false; digits = digit + 1 ∷ digits }
+    else record { carried = true; digits = 48 ∷ digits }
+
+abbrev pub add_behind : ℕ → Added → Added
+add_behind digit rest =
+    if rest.carried then carry_to digit rest.digits else record { carried = false; digits = digit ∷ rest.digits }
+
+abbrev pub with_one : List ℕ → Added
+with_one [] = record { carried = true; digits = [] }
+with_one (digit ∷ digits) = add_behind digit (with_one digits)
+
+abbrev pub one_if_carried : Added → List ℕ
+one_if_carried added = if added.carried then 49 ∷ added.digits else added.digits
+
+-- the digits of a number that is one higher
+abbrev pub successor : List ℕ → List ℕ
+successor digits = one_if_carried (with_one digits)
+
+-- The macros count `@**` as 0, and every other depth as one more than stands in the web.
+abbrev pub raised_depth : List ℕ → Depth → List ℕ
+raised_depth text Minus = codes "0"
+raised_depth text Zero = codes "1"
+raised_depth text (Digits span) = successor (drop_zeros (bytes_of text span))
+
+-- with flag r depths are as the macros count them
+abbrev pub printed_depth : Bool → List ℕ → Depth → List ℕ
+printed_depth ranged text depth = if ranged then raised_depth text depth else depth_bytes text depth
+
+-- ## Heads
+
 -- The head: `\M{n}`, or `\N{depth}{n}` where the section is starred.
 abbrev pub head_by : Bool → List ℕ → List ℕ → List ℕ
 head_by starred depth number =
     if starred then codes "\\N{" ++ depth ++ codes "}{" ++ number ++ codes "}" else codes "\\M{" ++ number ++ codes "}"
 
-abbrev pub head : List ℕ → ℕ → Section → List ℕ
-head text n section = head_by section.starred (depth_bytes text section.depth) (section_number n section.changed)
+abbrev pub head : Bool → List ℕ → ℕ → Section → List ℕ
+head ranged text n section =
+    head_by section.starred (printed_depth ranged text section.depth) (section_number n section.changed)

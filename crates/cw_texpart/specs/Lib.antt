@@ -2,6 +2,7 @@
 pub mod Inks
 pub mod Laying
 pub mod Heads
+pub mod Beside
 pub mod Limbo
 pub mod Done
 pub mod Texts

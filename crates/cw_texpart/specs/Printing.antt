@@ -17,4 +17,4 @@ text_printed c book names = text_done (setting_of c book) c.mode c.inner c.span 
 
 -- what a tree prints as this C text of the book
 abbrev pub text_bytes : CText → Book → Tree → List ℕ
-text_bytes c book tree = tree_bytes c.inner (source c.text.now c.span c.mode book c.section c.flags.now.wrap) tree
+text_bytes c book tree = tree_bytes c.inner (source c.text.now c.span c.mode book c.section c.flags.now) tree

@@ -1,5 +1,5 @@
 -- The head of a section, and its TeX part as it is printed.
-use Rattle.std.specs.Prelude.{◌≡◌, ℕ, ◌≤◌, true, false, List, [], ◌∷◌, length}
+use Rattle.std.specs.Prelude.{◌≡◌, ℕ, ◌≤◌, Bool, true, false, List, [], ◌∷◌, length}
 use Rattle.cw_base.specs.declared.span.Span.{Span}
 use Rattle.cw_rules.specs.declared.tokens.Mode.TheVariants as modes
 use Rattle.cw_lex.specs.Nested.{begins_section_in}
@@ -7,6 +7,8 @@ use Rattle.cw_names.specs.Names.{Entry}
 use Rattle.cw_phase1.specs.declared.sections.Section.{Section}
 use Rattle.cw_texts.specs.Scans.{scanned}
 use Rattle.cw_texts.specs.TexPieces.{TexPiece, Copied, InnerText, Cited, pieces_of}
+use Rattle.cw_texpart.specs.Beside.{beside, is_nothing}
+use Rattle.cw_texpart.specs.declared.beside.Beside.{Beside}
 use Rattle.cw_texpart.specs.Done.{Done, behind, plain, reprinted, then}
 use Rattle.cw_texpart.specs.Heads.{head}
 use Rattle.cw_texpart.specs.Inks.{Ink, laid, prints, token_inks}
@@ -23,10 +25,18 @@ abbrev pub pieces_done : Setting → List TexPiece → List Entry → Done Ink
 pieces_done s [] names = plain [] names
 pieces_done s (piece ∷ pieces) names = then (piece_done s piece names) (pieces_done s pieces)
 
--- the head, and the TeX part directly behind it
+-- the head, and the TeX part directly behind it, which prints nothing where code stands beside the number
+abbrev pub tex_by : Bool → List ℕ → Setting → Section → List Entry → Done ℕ
+tex_by true front s section names =
+    behind front (reprinted (laid true) (pieces_done s (pieces_of s.text section.tex) names))
+tex_by false front s section names = plain front names
+
+abbrev pub beside_in : Setting → Section → Beside
+beside_in s section = beside s.text s.flags s.book.name_uses section
+
 abbrev pub tex_done : Setting → Section → List Entry → Done ℕ
 tex_done s section names =
-    behind (head s.text s.section section) (reprinted (laid true) (pieces_done s (pieces_of s.text section.tex) names))
+    tex_by (is_nothing (beside_in s section)) (head s.flags.ranged s.text s.section section) s section names
 
 -- ## C texts in it
 

@@ -44,7 +44,7 @@ setting text flags section book = record { text = text; flags = flags; book = la
 -- the translation of the C text of a span is printed, as inner C text or not
 abbrev pub ended_done : Setting → Mode → Bool → Span → Ended → Done ℕ
 ended_done s mode inner span t = record {
-  out = tree_bytes inner (source s.text span mode (book_with s.book t.known.names) s.section s.flags.wrap) t.tree;
+  out = tree_bytes inner (source s.text span mode (book_with s.book t.known.names) s.section s.flags) t.tree;
   names = t.known.names;
   marks = t.known.marks;
   ended = t.known.ended;

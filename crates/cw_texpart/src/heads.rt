@@ -1,31 +1,84 @@
 //! The heads of sections.
-ghost use Rattle.std.specs.Prelude.{◌≡◌, ◌++◌, codes};
+ghost use Rattle.std.specs.Prelude.{◌≡◌, ◌++◌, true, IfOk, codes};
 ghost use Rattle.cw_lines.specs.Writes.{CanWrite, Puts};
 ghost use Rattle.cw_print.specs.Walk.{changed_mark, section_number};
-ghost use Rattle.cw_texpart.specs.Heads.{depth_bytes, drop_zeros, head};
+ghost use Rattle.cw_texpart.specs.Heads.{depth_bytes, drop_zeros, head, head_by, printed_depth};
+ghost use Rattle.cw_texpart.specs.Heads.{raised_depth, successor};
 
 use crate::spans::part_of;
+use cw_base::{Bytes, Memory};
 use cw_desk::Desk;
 use cw_lines::{LineOut, PutError};
 use cw_phase1::{Depth, Section};
 use itoa::Buffer;
+use std::alloc::Global;
 
-/// Puts the head of the section of this number.
-pub fn put_head<D: Desk>(
-    text: &[u8],
-    section: &Section,
-    number: u32,
-    out: &mut LineOut,
-    desk: &mut D,
-) -> Result<(), PutError>
+/// What the head of a section is made of: the web's text, and the section with its number. With `ranged` its depth is as
+/// the macros count it.
+#[derive(Clone, Copy)]
+pub(crate) struct Head<'a> {
+    pub(crate) alloc: Global,
+    pub(crate) text: &'a [u8],
+    pub(crate) section: Section,
+    pub(crate) number: u32,
+    pub(crate) ranged: bool,
+}
+
+/// Puts the head of a section.
+pub(crate) fn put_head<D: Desk>(h: Head, out: &mut LineOut, desk: &mut D) -> Result<(), PutError>
     requires can { CanWrite (D.told desk.old) out.old }
-    ensures { Puts (head text.now number section.now) out.old out.new (D.told desk.old) (D.told desk.new) result }
+    ensures { Puts (head h.entry.ranged h.entry.text.now h.entry.number h.entry.section) out.old out.new
+        (D.told desk.old) (D.told desk.new) result }
 {
-    if section.starred {
-        let depth = depth_of(text, section.depth);
-        return put_starred(depth, number, section.changed, out, desk);
+    if h.section.starred {
+        return put_deep(h, out, desk);
     }
-    put_plain(number, section.changed, out, desk)
+    put_plain(h.number, h.section.changed, out, desk)
+}
+
+// Puts the head of a starred section with its depth as it is printed.
+fn put_deep<D: Desk>(h: Head, out: &mut LineOut, desk: &mut D) -> Result<(), PutError>
+    requires can { CanWrite (D.told desk.old) out.old }
+    ensures { Puts (head_by true (printed_depth h.entry.ranged h.entry.text.now h.entry.section.depth)
+        (section_number h.entry.number h.entry.section.changed)) out.old out.new
+        (D.told desk.old) (D.told desk.new) result }
+{
+    if !h.ranged {
+        let depth = depth_of(h.text, h.section.depth);
+        return put_starred(depth, h.number, h.section.changed, out, desk);
+    }
+    let depth = raised_depth(h)?;
+    put_starred(depth.as_slice(), h.number, h.section.changed, out, desk)
+}
+
+// The depth of a section in digits, as the macros count it.
+fn raised_depth(h: Head) -> Result<Bytes, Memory>
+    ensures { IfOk result (λ digits. digits ≡ raised_depth h.entry.text.now h.entry.section.depth) }
+{
+    match h.section.depth {
+        Depth::Minus => Bytes::from_slice(h.alloc, b"0"),
+        Depth::Zero => Bytes::from_slice(h.alloc, b"1"),
+        Depth::Digits(span) => successor(h.alloc, without_zeros(part_of(h.text, span))),
+    }
+}
+
+// The digits of the number that is one higher.
+fn successor(alloc: Global, number: &[u8]) -> Result<Bytes, Memory>
+    ensures { IfOk result (λ digits. digits ≡ successor number.now) }
+{
+    let mut digits = Vec::from_slice(alloc, number)?;
+    let mut at = digits.len();
+    while at > 0 {
+        at -= 1;
+        if digits[at] < b'9' {
+            digits[at] += 1;
+            return Ok(Bytes::from_vec(digits));
+        }
+        digits[at] = b'0';
+    }
+    let mut longer = Bytes::from_slice(alloc, b"1")?;
+    longer.append(digits.as_slice())?;
+    Ok(longer)
 }
 
 // Puts the head of a section that isn't starred.

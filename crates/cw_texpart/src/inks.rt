@@ -1,5 +1,5 @@
 //! What a token of limbo or of TeX text prints.
-ghost use Rattle.std.specs.Prelude.{◌≡◌};
+ghost use Rattle.std.specs.Prelude.{◌≡◌, ◌==◌, length};
 ghost use Rattle.cw_rules.specs.Answers.{seen};
 ghost use Rattle.cw_lex.specs.Nest.{is_text_kind};
 ghost use Rattle.cw_lines.specs.Writes.{CanWrite, Puts};
@@ -7,6 +7,7 @@ ghost use Rattle.cw_texpart.specs.Inks.{kind_inks, prints, token_inks};
 ghost use Rattle.cw_texpart.specs.Laying.{holds_bytes, inked};
 
 use crate::copying::copy;
+use crate::spans::part_of;
 use cw_desk::Desk;
 use cw_lex::{Code, Tok, TokKind};
 use cw_lines::{LineOut, PutError};
@@ -27,6 +28,16 @@ pub(crate) fn put_token<D: Desk>(
         return copy(text, token.span, out, desk);
     }
     out.put_all(kind_bytes(token.kind), desk)
+}
+
+/// Whether a token prints nothing.
+pub(crate) fn prints_nothing(text: &[u8], token: &Tok) -> bool
+    ensures { result ≡ (length (token_inks text.now token.now.kind (seen token.now)) == 0) }
+{
+    if is_text(token.kind) {
+        return part_of(text, token.span).is_empty();
+    }
+    kind_bytes(token.kind).is_empty()
 }
 
 // Whether a token is a piece of text.

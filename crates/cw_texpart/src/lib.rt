@@ -1,6 +1,7 @@
 //! Limbo, and the heads and TeX parts of sections, as they are printed.
 #![tactic(auto)]
 
+mod beside;
 mod copying;
 mod counts;
 mod heads;
@@ -12,8 +13,9 @@ mod tex_parts;
 mod texts;
 mod whole;
 
+pub use beside::{Beside, beside};
 pub use counts::Counts;
-pub use heads::{put_head, put_number};
+pub use heads::put_number;
 pub use laws::whole_pieces_law;
 pub use limbo::copy_limbo;
 pub use tex_parts::copy_tex;

@@ -16,8 +16,9 @@ ghost use Rattle.cw_texts.specs.TexPieces.{pieces_of};
 ghost use Rattle.cw_texpart.specs.Texts.{lasting, name_done, setting, text_done};
 ghost use Rattle.cw_texpart.specs.Weaving.{Weaves};
 
+use crate::beside::beside;
 use crate::copying::{end_line_if, holds_bytes};
-use crate::heads::put_head;
+use crate::heads::{Head, put_head};
 use crate::inks::put_token;
 use crate::texts::{Rooms, StoredTree, translate_into};
 use crate::{CText, Counts};
@@ -194,7 +195,7 @@ fn put_pieces<D: Desk, L: Ledger>(
     }
 }
 
-// Puts the head of a section, and directly behind it its TeX part.
+// Puts the head of a section, and directly behind it its TeX part, where no code stands beside the number.
 fn put_section<D: Desk, L: Ledger>(
     t: &mut TexPart,
     section: Section,
@@ -212,7 +213,18 @@ fn put_section<D: Desk, L: Ledger>(
         (record { book = book.old; line = out.old; told = D.told desk.old; steps = steps.old })
         (record { book = book.new; line = out.new; told = D.told desk.new; steps = steps.new }) result }
 {
-    put_head(t.text, &section, t.section, out, desk)?;
+    let code = beside(t.text, t.flags, book, &section)?;
+    let head = Head {
+        alloc: t.alloc,
+        text: t.text,
+        section,
+        number: t.section,
+        ranged: t.flags.ranged,
+    };
+    put_head(head, out, desk)?;
+    if !code.is_nothing() {
+        return Ok(Counts::none());
+    }
     put_pieces(t, section.tex, book, out, desk, steps)
 }
 

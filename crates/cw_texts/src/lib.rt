@@ -10,5 +10,6 @@ mod text_list;
 
 pub use definitions::{Begun, Definition, Definitions};
 pub use pieces::{Piece, Pieces};
+pub use printed::is_printed;
 pub use scans::scan;
 pub use text_list::{TextList, TextRef, texts};

@@ -14,7 +14,7 @@ use cw_scraps::makes_leaf;
 use cw_secnames::NameUses;
 
 /// Whether the C part of a section is printed.
-pub(crate) fn is_printed(text: &[u8], uses: &NameUses, section: &Section) -> Result<bool, Memory>
+pub fn is_printed(text: &[u8], uses: &NameUses, section: &Section) -> Result<bool, Memory>
     ensures { IfOk result (λ printed. printed ≡ is_printed text.now uses.now section.now) }
 {
     if section.name.is_some() {

@@ -4,7 +4,6 @@ ghost use Rattle.std.specs.FinMap.{get};
 ghost use Rattle.cw_desk.specs.Meaning.{Files, Rose};
 ghost use Rattle.cw_input.specs.Merged.{merged};
 ghost use Rattle.cw_lines.specs.Writes.{Adds};
-ghost use Rattle.cw_phase1.specs.Book.{book};
 ghost use Rattle.cw_program.specs.Program.{Outcome};
 ghost use Rattle.cw_texpart.specs.Texts.{lasting};
 ghost use Rattle.cw_run.specs.Emits.{EmitsBy, Faults, Runs, RunsBy};
@@ -12,13 +11,13 @@ ghost use Rattle.cw_weave.specs.Looks.{book_looks, command_looks, looks_of, web_
 ghost use Rattle.cw_run.specs.Notes.{note_events};
 ghost use Rattle.cw_weave.specs.Pressing.{IsPrintable, flags_in, text_in};
 ghost use Rattle.cw_weave.specs.Proper.{IsProper};
-ghost use Rattle.cw_weave.specs.Woven.{change_text, weave_book, weave_command_of, weave_web, weave_whole, woven};
+ghost use Rattle.cw_weave.specs.Woven.{book_of, change_text, weave_book, weave_command_of, weave_web, weave_whole, woven};
 ghost use Rattle.cw_weave.specs.Written.{AreWritten, events_of};
 
 use crate::ending::end_run;
 use crate::files::Written;
 use crate::index_files::write_index_files;
-use crate::reading::read_book;
+use crate::reading::book_of;
 use crate::sample::weave_sample;
 use crate::source::Source;
 use crate::tex_file::{totals_of, write_tex};
@@ -96,13 +95,14 @@ fn weave_web<D: Desk, L: Ledger>(
     steps: &mut Steps<L>,
 ) -> Result<Exit, PutError>
     ensures runs { RunsBy
-        (weave_book source.entry.line.now source.entry.web.now (book source.entry.web.now.lines))
+        (weave_book source.entry.line.now source.entry.web.now (book_of (flags_in source.entry) source.entry.web.now))
         (D.told desk.old) (D.told desk.new) result }
     ensures bound { steps.new ≤ steps.old
-        + book_looks (text_in source.entry) (flags_in source.entry) (book source.entry.web.now.lines) }
+        + book_looks (text_in source.entry) (flags_in source.entry)
+        (book_of (flags_in source.entry) source.entry.web.now) }
     ensures real { IfOk result (λ exit. exit ≢ Exit.Fault) }
 {
-    let mut book = read_book(source.alloc, source.web)?;
+    let mut book = book_of(source.alloc, source.web, &source.line.flags)?;
     weave_book(source, &mut book, desk, steps)
 }
 
@@ -115,7 +115,8 @@ fn weave_whole<D: Desk, L: Ledger>(
     ensures runs { RunsBy (weave_whole source.entry.line.now source.entry.web.now)
         (D.told desk.old) (D.told desk.new) result }
     ensures bound { steps.new ≤ steps.old
-        + book_looks (text_in source.entry) (flags_in source.entry) (book source.entry.web.now.lines) }
+        + book_looks (text_in source.entry) (flags_in source.entry)
+        (book_of (flags_in source.entry) source.entry.web.now) }
     ensures real { IfOk result (λ exit. exit ≢ Exit.Fault) }
 {
     match overwriting(source.web, source.line) {

@@ -1,4 +1,4 @@
-//! Whole runs over command lines with words of two hyphens and a letter, and with outputs that would overwrite an input.
+//! Whole runs over command lines with words of two hyphens and a letter, and with outputs that would overwrite inputs.
 use crate::expectations::{Run, expect_runs};
 use crate::runs::{FOO, HELLO};
 use std::test::Fail;
@@ -14,7 +14,7 @@ const RUNS: [Run; 6] = [
   changefile  changes of the web, - for none
   outfile     the TeX file; index and list of section names lie beside it
 Options stand anywhere; letters behind - turn off, behind + turn on:
-  b  print the banner (on at the start, as all but s and k)
+  b  print the banner (on at the start, as all but s, k and r)
   p  print progress lines
   h  print the happy message
   f  separate statements by forced breaks
@@ -24,6 +24,7 @@ Options stand anywhere; letters behind - turn off, behind + turn on:
   x  write the index and the list of section names
   s  print statistics
   k  keep an output that has not changed as it is
+  r  range pages as the original does
 --quiet is -bph, --verbose is +bph. On a line of their own:
   --sample N  print the statistics of a sample of N sections, 1 to 2000
   --help      print this text

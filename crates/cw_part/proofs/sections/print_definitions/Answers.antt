@@ -1,12 +1,12 @@
 -- One definition goes behind another.
-use Rattle.std.proofs.Common.{◌≡◌, true, false, not, refl, sym, ap, subst, All, List, length, arith}
+use Rattle.std.proofs.Common.{◌≡◌, false, not, refl, sym, ap, subst, All, List, length, arith}
 use Rattle.std.proofs.lemmas.List.Elements.{All-filter, All-head, All-tail}
 use Rattle.cw_rules.specs.declared.tokens.Mode.TheVariants.{Definition as Definitions}
 use Rattle.cw_lines.specs.WritesLaws.{can-after}
 use Rattle.cw_texts.specs.declared.definitions.Definition.{Definition}
 use Rattle.cw_texts.specs.DefinitionForms.{loud}
 use Rattle.cw_texts.specs.Definitions.{definitions_in, not_silent}
-use Rattle.cw_part.specs.Parts.{definition_done, definitions_done}
+use Rattle.cw_part.specs.Parts.{definition_done, definitions_done, first_opening, later_opening}
 use Rattle.cw_part.specs.PresentForms.{part_setting}
 use Rattle.cw_part.specs.WholeTexts.{IsWholeDefinition}
 use Rattle.cw_translator.specs.NameParts.{AreNamesOf}
@@ -21,8 +21,10 @@ printed-init g c =
     let are : c.over-definitions.result ≡ definitions_in c.args.p.text.now c.args.part =
     c.over-definitions.ensures in
     record {
-      woven = weaving-as (ap (λ (ds : List Definition). definitions_done s true (not_silent ds)) (sym are))
-          (weaving-begun s (definitions_done s true (not_silent (definitions_in c.args.p.text.now c.args.part))) _
+      woven = weaving-as
+          (ap (λ (ds : List Definition). definitions_done s (first_opening c.args.p.beside) (not_silent ds)) (sym are))
+          (weaving-begun s (definitions_done s (first_opening c.args.p.beside)
+          (not_silent (definitions_in c.args.p.text.now c.args.part))) _
           (record { scraps = c.none-counts.ensures.scraps; productions = c.none-counts.ensures.productions }));
       whole = All-filter (λ d. not d.silent) (IsWholeDefinition c.args.p.text.now) c.over-definitions.result
           (subst (All (IsWholeDefinition c.args.p.text.now)) (sym are) c.requires.each);
@@ -47,26 +49,26 @@ print_paragraph-requires g c =
 pub returns-in_err-more-in-Some : goal.returns-in_err-more-in-Some
 returns-in_err-more-in-Some g c =
     let s : Setting = part_setting c.args.p (lasting c.args.book.now) in
-    weaving-stopped (definition_done s c.printed.first (loud c.in-Some.span))
-    (definitions_done s false (not_silent c.next_printed.new.self))
-    (weaving-as (ap (definitions_done s c.printed.first) c.in-Some.ensures) c.printed.invariant.woven)
-    (moved c.args.p (λ (t : Setting). definition_done t c.printed.first (loud c.in-Some.span) c.printed.book.names)
+    weaving-stopped (definition_done s c.printed.front.now (loud c.in-Some.span))
+    (definitions_done s later_opening (not_silent c.next_printed.new.self))
+    (weaving-as (ap (definitions_done s c.printed.front.now) c.in-Some.ensures) c.printed.invariant.woven)
+    (moved c.args.p (λ (t : Setting). definition_done t c.printed.front.now (loud c.in-Some.span) c.printed.book.names)
     c.printed.invariant.woven.woven.same
     (fronted (text_done (part_setting c.args.p (lasting c.printed.book)) Definitions false c.in-Some.span
-    c.printed.book.names) c.opening.ensures c.in_err-more-in-Some.ensures))
+    c.printed.book.names) refl c.in_err-more-in-Some.ensures))
     c.from_residual.ensures.1
 
 pub returns-in_err-counts-in-Some : goal.returns-in_err-counts-in-Some
 returns-in_err-counts-in-Some g c =
     let s : Setting = part_setting c.args.p (lasting c.args.book.now) in
     weaving-wanting
-    (weaving-next (definition_done s c.printed.first (loud c.in-Some.span))
-    (definitions_done s false (not_silent c.next_printed.new.self))
-    (weaving-as (ap (definitions_done s c.printed.first) c.in-Some.ensures) c.printed.invariant.woven)
-    (moved c.args.p (λ (t : Setting). definition_done t c.printed.first (loud c.in-Some.span) c.printed.book.names)
+    (weaving-next (definition_done s c.printed.front.now (loud c.in-Some.span))
+    (definitions_done s later_opening (not_silent c.next_printed.new.self))
+    (weaving-as (ap (definitions_done s c.printed.front.now) c.in-Some.ensures) c.printed.invariant.woven)
+    (moved c.args.p (λ (t : Setting). definition_done t c.printed.front.now (loud c.in-Some.span) c.printed.book.names)
     c.printed.invariant.woven.woven.same
     (fronted (text_done (part_setting c.args.p (lasting c.printed.book)) Definitions false c.in-Some.span
-    c.printed.book.names) c.opening.ensures c.in_ok-more-in-Some.ensures))
+    c.printed.book.names) refl c.in_ok-more-in-Some.ensures))
     (sums-are c.printed.counts c.in_ok-more-in-Some.more))
     c.from_residual-in_err-counts-in-Some.ensures.1
 
@@ -74,13 +76,13 @@ pub printed-preserved : goal.printed-preserved
 printed-preserved g c =
     let s : Setting = part_setting c.args.p (lasting c.args.book.now) in
     record {
-      woven = weaving-next (definition_done s c.printed.first (loud c.in-Some.span))
-          (definitions_done s false (not_silent c.next_printed.new.self))
-          (weaving-as (ap (definitions_done s c.printed.first) c.in-Some.ensures) c.printed.invariant.woven)
-          (moved c.args.p (λ (t : Setting). definition_done t c.printed.first
+      woven = weaving-next (definition_done s c.printed.front.now (loud c.in-Some.span))
+          (definitions_done s later_opening (not_silent c.next_printed.new.self))
+          (weaving-as (ap (definitions_done s c.printed.front.now) c.in-Some.ensures) c.printed.invariant.woven)
+          (moved c.args.p (λ (t : Setting). definition_done t c.printed.front.now
           (loud c.in-Some.span) c.printed.book.names) c.printed.invariant.woven.woven.same
           (fronted (text_done (part_setting c.args.p (lasting c.printed.book)) Definitions false c.in-Some.span
-          c.printed.book.names) c.opening.ensures c.in_ok-more-in-Some.ensures))
+          c.printed.book.names) refl c.in_ok-more-in-Some.ensures))
           (record {
             scraps = c.in_ok-counts-in-Some.ensures.scraps;
             productions =
@@ -97,4 +99,4 @@ pub returns-in-None : goal.returns-in-None
 returns-in-None g c =
     let s : Setting = part_setting c.args.p (lasting c.args.book.now) in
     weaving-ended c.printed.invariant.woven
-    (λ names. ap (λ (ds : List Definition). definitions_done s c.printed.first ds names) c.in-None.ensures)
+    (λ names. ap (λ (ds : List Definition). definitions_done s c.printed.front.now ds names) c.in-None.ensures)

@@ -1,7 +1,7 @@
 -- The definitions so far are woven.
-use Rattle.std.proofs.Common.{true, All, length}
+use Rattle.std.proofs.Common.{All, length}
 use Rattle.cw_texts.specs.Definitions.{not_silent, printed_definitions}
-use Rattle.cw_part.specs.Parts.{definitions_done}
+use Rattle.cw_part.specs.Parts.{definitions_done, first_opening}
 use Rattle.cw_part.specs.PresentForms.{part_setting}
 use Rattle.cw_part.specs.WholeTexts.{IsWholeDefinition}
 use Rattle.cw_texpart.specs.Texts.{lasting}
@@ -11,8 +11,8 @@ use Rattle.cw_part.proofs.sections.print_definitions.Given as goal
 abbrev pub invariant-printed : goal.invariant-printed
 invariant-printed g l = let told = g.D.Desk.told in record {
   woven : Weaving (part_setting l.p (lasting l.fn.book))
-      (definitions_done (part_setting l.p (lasting l.fn.book)) l.first (not_silent l.definitions))
-      (definitions_done (part_setting l.p (lasting l.fn.book)) true
+      (definitions_done (part_setting l.p (lasting l.fn.book)) l.front (not_silent l.definitions))
+      (definitions_done (part_setting l.p (lasting l.fn.book)) (first_opening l.p.beside)
       (printed_definitions l.p.text.now l.fn.part) l.fn.book.names)
       (record { book = l.fn.book; line = l.fn.out; told = told l.fn.desk; steps = l.fn.steps })
       (record { book = l.book; line = l.out; told = told l.desk; steps = l.steps })

@@ -1,15 +1,16 @@
 -- Definitions, then the C part, and then what ends the section.
-use Rattle.std.proofs.Common.{ℕ, true, refl, sym, ap, ◌∙◌, subst, List, arith}
+use Rattle.std.proofs.Common.{ℕ, refl, sym, ap, ◌∙◌, subst, List, arith}
 use Rattle.cw_lines.specs.WritesLaws.{can-after, puts-bytes}
 use Rattle.cw_names.specs.Names.{Entry}
 use Rattle.cw_texts.specs.declared.definitions.Definition.{Definition}
 use Rattle.cw_texts.specs.Definitions.{printed_definitions}
-use Rattle.cw_part.specs.Parts.{definitions_done, part_done}
+use Rattle.cw_part.specs.Parts.{definitions_done, first_opening, part_done}
 use Rattle.cw_part.specs.PresentForms.{part_setting}
 use Rattle.cw_part.specs.Sections.{ending, rest_done}
 use Rattle.cw_translator.specs.NameParts.{AreNamesOf}
 use Rattle.cw_texpart.specs.declared.counts.Counts.{Counts}
 use Rattle.cw_texpart.specs.Done.{Done, plain, then}
+use Rattle.cw_texpart.specs.TexParts.{beside_in}
 use Rattle.cw_texpart.specs.Texts.{Lasting, Setting, lasting}
 use Rattle.cw_part.proofs.SectionLaws.{moved, sums-are}
 use Rattle.cw_part.proofs.WovenLaws.{
@@ -49,7 +50,7 @@ returns-in_err-more g c =
     let part : List Entry → Done ℕ = part_done s c.args.section in
     let end : List Entry → Done ℕ = plain (ending s c.args.section) in
     weaving-stopped part end
-    (weaving-next (definitions_done s true ds) (λ names. then (part names) end)
+    (weaving-next (definitions_done s (first_opening (beside_in s c.args.section)) ds) (λ names. then (part names) end)
     (weaving-begun s (rest_done s c.args.section) _ {counts = no_counts}
     (record { scraps = refl; productions = refl })) c.in_ok-counts.ensures (none-before c.in_ok-counts.counts))
     (moved c.args.p (λ (t : Setting). part_done t c.args.section c.print_definitions.new.book.names)
@@ -64,7 +65,7 @@ returns-in_err-counts-2 g c =
     let end : List Entry → Done ℕ = plain (ending s c.args.section) in
     weaving-wanting
     (weaving-next part end
-    (weaving-next (definitions_done s true ds) (λ names. then (part names) end)
+    (weaving-next (definitions_done s (first_opening (beside_in s c.args.section)) ds) (λ names. then (part names) end)
     (weaving-begun s (rest_done s c.args.section) _ {counts = no_counts}
     (record { scraps = refl; productions = refl })) c.in_ok-counts.ensures (none-before c.in_ok-counts.counts))
     (moved c.args.p (λ (t : Setting). part_done t c.args.section c.print_definitions.new.book.names)
@@ -84,7 +85,7 @@ returns-in_err-put_ending g c =
     let end : List Entry → Done ℕ = plain (ending s c.args.section) in
     weaving-last-stopped
     (weaving-next part end
-    (weaving-next (definitions_done s true ds) (λ names. then (part names) end)
+    (weaving-next (definitions_done s (first_opening (beside_in s c.args.section)) ds) (λ names. then (part names) end)
     (weaving-begun s (rest_done s c.args.section) _ {counts = no_counts}
     (record { scraps = refl; productions = refl })) c.in_ok-counts.ensures (none-before c.in_ok-counts.counts))
     (moved c.args.p (λ (t : Setting). part_done t c.args.section c.print_definitions.new.book.names)
@@ -103,7 +104,7 @@ returns g c =
     let end : List Entry → Done ℕ = plain (ending s c.args.section) in
     weaving-last
     (weaving-next part end
-    (weaving-next (definitions_done s true ds) (λ names. then (part names) end)
+    (weaving-next (definitions_done s (first_opening (beside_in s c.args.section)) ds) (λ names. then (part names) end)
     (weaving-begun s (rest_done s c.args.section) _ {counts = no_counts}
     (record { scraps = refl; productions = refl })) c.in_ok-counts.ensures (none-before c.in_ok-counts.counts))
     (moved c.args.p (λ (t : Setting). part_done t c.args.section c.print_definitions.new.book.names)

@@ -15,7 +15,8 @@ use Rattle.cw_texpart.proofs.tex_parts.put_section.Goals as goal
 
 pub returns-in_err-put_head : goal.returns-in_err-put_head
 returns-in_err-put_head g c =
-    weaves-refused _ (puts-stop _ (puts-bytes (ap (λ (s : TexSetting). head s.text s.section c.args.section)
+    weaves-refused _ (puts-stop _ (puts-bytes
+    (ap (λ (s : TexSetting). head s.flags.ranged s.text s.section c.args.section)
     c.t.view_is)
     c.in_err-put_head.ensures) c.from_residual.ensures.1) refl
     (omega arith) c.from_residual.ensures.1
@@ -25,7 +26,7 @@ put_pieces-requires-clause-can g c = can-after c.requires.can c.in_ok-put_head.e
 
 pub returns : goal.returns
 returns g c =
-    let put = puts-bytes (ap (λ (s : TexSetting). head s.text s.section c.args.section) c.t.view_is)
+    let put = puts-bytes (ap (λ (s : TexSetting). head s.flags.ranged s.text s.section c.args.section) c.t.view_is)
     c.in_ok-put_head.ensures in
     weaves-behind put
     (weaves-as
@@ -33,5 +34,5 @@ returns g c =
     (pieces_done (tex_setting c.args.t.now (lasting c.args.book.now))
     (pieces_of c.args.t.now.text c.args.section.tex) c.args.book.now.names))
     (holds-put put ∙ head-holds
-    (holds_bytes c.args.out.now) c.args.t.now.text c.args.t.now.section c.args.section))
+    (holds_bytes c.args.out.now) c.args.t.now.flags.ranged c.args.t.now.text c.args.t.now.section c.args.section))
     c.put_pieces.ensures)

@@ -10,6 +10,7 @@ returns c = record {
     answers = c.over.ensures.answers i;
     wraps = c.over.ensures.wraps i;
     first = (c.over.ensures.first ∙ c.is_first.ensures) i;
+    lists = (c.over.ensures.lists ∙ c.lists_all.ensures) i;
   };
   stand = c.over.ensures.outside;
   same_inner = c.new.ensures.inner;

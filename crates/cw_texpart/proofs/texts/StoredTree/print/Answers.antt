@@ -12,6 +12,6 @@ returns g c =
     let t = c.args.self in
     puts-bytes
     (ap (λ (answers : List Answer). tree_bytes t.text.inner
-    (source_by answers c.args.book.now t.text.section t.text.flags.now.wrap)
+    (source_by answers c.args.book.now t.text.section t.text.flags.now)
     (unfolded t.store.now.lists t.list.index)) c.requires.kept.answers_are)
     c.print_answers.ensures.puts

@@ -1,0 +1,12 @@
+-- Nines stand from here on, which are zeros now, and one is carried over them; what is before them is as it was.
+use Rattle.std.proofs.Common.{◌≡◌, ◌≤◌, true, drop, length, take}
+use Rattle.cw_texpart.specs.Heads.{with_one}
+use Rattle.cw_texpart.proofs.heads.successor.Given as goal
+
+abbrev pub invariant-loop : goal.invariant-loop
+invariant-loop l = record {
+  within : l.at ≤ length l.digits.items;
+  size : length l.digits.items ≡ length l.number;
+  front : take l.at l.digits.items ≡ take l.at l.number;
+  carried : with_one (drop l.at l.number) ≡ record { carried = true; digits = drop l.at l.digits.items };
+}
