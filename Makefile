@@ -1,5 +1,5 @@
 # make try      weaves examples/hello.w without any proof, in about half a minute
-# make hello    proves and builds cweave, and weaves examples/hello.w
+# make hello    proves and builds cweave, which tells how many crates are proved on the way, and weaves examples/hello.w
 # make programs proves and builds all programs: $(PROGRAMS)
 # make book     weaves, compiles and typesets the examples, as far as ctangle, cc and TeX are there
 # make install  puts the programs into PREFIX/bin and their man pages into PREFIX/share/man/man1; make uninstall takes them away
@@ -24,7 +24,8 @@ programs: $(BUILT)
 # A change of any crate is proved again before a program is built.
 build/%: $(shell find crates -name '*.rt' -o -name '*.antt' 2>/dev/null) crates.txt
 	rm -f crates/$*/out/$*
-	cd crates/$* && (rt run >run.log 2>&1 </dev/null || true)
+	cd crates/$* && (rt run >run.log 2>&1 </dev/null || true) & proof=$$!; \
+	while kill -0 $$proof 2>/dev/null; do tools/proved; sleep 15; done; wait $$proof
 	test -x crates/$*/out/$* || { cat crates/$*/run.log; exit 1; }
 	rm -f crates/$*/run.log
 	mkdir -p build && cp crates/$*/out/$* $@
