@@ -1,7 +1,9 @@
 -- The C texts of a book, translated one after another.
 use Rattle.std.specs.Prelude.{ℕ, List, [], ◌∷◌}
+use Rattle.cw_base.specs.Flags.{start_flags}
 use Rattle.cw_base.specs.declared.flags.Flags.{Flags}
 use Rattle.cw_names.specs.Names.{Entry}
+use Rattle.cw_phase1.specs.declared.book.Book.{Book}
 use Rattle.cw_secnames.specs.Kept.{SecName}
 use Rattle.cw_secnames.specs.Uses.{NameUse}
 use Rattle.cw_texts.specs.declared.text_list.TextRef.{TextRef}
@@ -34,3 +36,12 @@ with_ended text ended later = record { text = text; ended = ended } ∷ later en
 abbrev pub each_text : Source → List TextRef → List Entry → List EndedText
 each_text s [] names = []
 each_text s (text ∷ texts) names = with_ended text (text_ended s text names) (each_text s texts)
+
+-- what stays while the texts of a book are translated, with the flags of the start
+abbrev pub book_source : List ℕ → Book → Source
+book_source text b = record {
+  text = text;
+  flags = start_flags;
+  sec_names = b.sec_names;
+  name_uses = b.name_uses;
+}

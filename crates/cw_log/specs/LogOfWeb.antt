@@ -2,9 +2,8 @@
 use Rattle.std.specs.Prelude.{ℕ, List, map}
 use Rattle.std.specs.List.{flat_map}
 use Rattle.cw_base.specs.declared.flags.Flags.{Flags}
-use Rattle.cw_base.specs.Flags.{start_flags}
 use Rattle.cw_base.specs.Web.{MergedLine, WebState, text_of}
-use Rattle.cw_each.specs.EachText.{EndedText, Source, each_text}
+use Rattle.cw_each.specs.EachText.{EndedText, Source, book_source, each_text}
 use Rattle.cw_leaves.specs.LeafLines.{leaf_line}
 use Rattle.cw_logtext.specs.LogText.{Block, log_text}
 use Rattle.cw_names.specs.Names.{Entry}
@@ -33,14 +32,6 @@ abbrev pub blocks_from : Source → List TextRef → List Entry → List Block
 blocks_from s texts names = flat_map (text_blocks s.flags) (each_text s texts names)
 
 -- ## A web, with the flags of the start
-
-abbrev pub book_source : List ℕ → Book → Source
-book_source text b = record {
-  text = text;
-  flags = start_flags;
-  sec_names = b.sec_names;
-  name_uses = b.name_uses;
-}
 
 abbrev pub book_blocks : List ℕ → Book → List Block
 book_blocks text b = blocks_from (book_source text b) (texts_of text b.name_uses b.outline.sections) b.names

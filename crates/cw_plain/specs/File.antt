@@ -1,7 +1,6 @@
 -- The file of plain texts: one for each C part that is printed.
 use Rattle.std.specs.Prelude.{ℕ, List, [], ◌++◌, codes, decimal}
 use Rattle.std.specs.List.{flat_map}
-use Rattle.cw_base.specs.Flags.{start_flags}
 use Rattle.cw_base.specs.Web.{WebState, text_of}
 use Rattle.cw_names.specs.Names.{Entry}
 use Rattle.cw_phase1.specs.Book.{book}
@@ -11,7 +10,7 @@ use Rattle.cw_rules.specs.declared.tokens.Mode.TheVariants as modes
 use Rattle.cw_texts.specs.Scans.{scanned}
 use Rattle.cw_texts.specs.Texts.{texts_of}
 use Rattle.cw_texts.specs.declared.text_list.TextRef.{TextRef}
-use Rattle.cw_each.specs.EachText.{EndedText, Source as EachSource, each_text}
+use Rattle.cw_each.specs.EachText.{EndedText, Source as EachSource, book_source, each_text}
 use Rattle.cw_plain.specs.Plain.{plain_tree}
 use Rattle.cw_plain.specs.Titles.{source_by}
 
@@ -37,16 +36,8 @@ texts_lines s texts names = flat_map (text_lines s) (each_text s texts names)
 
 -- ## The file of a web, with the flags of the start
 
-abbrev pub each_source : List ℕ → Book → EachSource
-each_source text b = record {
-  text = text;
-  flags = start_flags;
-  sec_names = b.sec_names;
-  name_uses = b.name_uses;
-}
-
 abbrev pub plain_book : List ℕ → Book → List ℕ
-plain_book text b = texts_lines (each_source text b) (texts_of text b.name_uses b.outline.sections) b.names
+plain_book text b = texts_lines (book_source text b) (texts_of text b.name_uses b.outline.sections) b.names
 
 abbrev pub plain_web : WebState → List ℕ
 plain_web web = plain_book (text_of web.lines) (book web.lines)

@@ -145,7 +145,10 @@ impl Lines {
         ensures run { self.new.run ≡ self.old.run }
     {
         self.last = last_behind(self.last, bytes);
-        out.append(bytes)
+        match bytes {
+            [byte] => out.push(*byte),
+            _ => out.append(bytes),
+        }
     }
 
     // The level behind a control. An inner text has one of its own, which is no matter: no line ends in it.
