@@ -1,5 +1,6 @@
-//! The texts of a list, each of which is translated with the names that the one before it leaves.
-ghost use Rattle.std.specs.Prelude.{◌≡◌, All, IfOk, OnErr};
+//! The texts of a book, each of which is translated with the names that the one before it leaves.
+ghost use Rattle.std.specs.Prelude.{◌≡◌, ◌++◌, [], All, IfOk, None, OnErr, OnOk};
+ghost use Rattle.std.specs.Option.{option_to_list};
 ghost use Rattle.cw_translator.specs.NameParts.{AreNamesOf};
 ghost use Rattle.cw_each.specs.Forms.{GivesText, IsWholeRef, source_in};
 
@@ -10,7 +11,7 @@ use cw_names::Names;
 use cw_reduce::{Context, Translated};
 use cw_scraps::Marks;
 use cw_secnames::{NameUses, SecNames};
-use cw_texts::{TextList, TextRef};
+use cw_texts::{BookTexts, TextRef};
 use cw_tokens::TokenStore;
 use std::marker::Model;
 
@@ -27,20 +28,22 @@ pub struct NextText {
 pub struct EachText<'a> {
     text: &'a [u8],
     context: Context<'a>,
-    texts: &'a TextList,
-    place: usize,
+    texts: BookTexts<'a>,
+    // The next text, if it was found and isn't translated yet.
+    found: Option<TextRef>,
     rooms: Rooms<'a>,
 }
 
 impl<'a> Model for EachText<'a> {
-    ghost use Rattle.std.specs.Prelude.{drop};
+    ghost use Rattle.std.specs.Prelude.{◌++◌};
+    ghost use Rattle.std.specs.Option.{option_to_list};
     ghost use Rattle.cw_each.specs.Forms.{Each, source_in};
 
     ghost Value = { Each };
 
     ghost view = { λ e. record {
       source = source_in e.text.now e.context;
-      coming = drop e.place e.texts.now;
+      coming = option_to_list e.found ++ e.texts;
       answers = e.rooms.answers;
       lists = e.rooms.store.lists;
       marks = e.rooms.marks;
@@ -48,16 +51,16 @@ impl<'a> Model for EachText<'a> {
 }
 
 impl<'a> EachText<'a> {
-    /// The texts of a list, none of which is translated yet. It takes no memory.
-    pub fn over(text: &'a [u8], context: Context<'a>, texts: &'a TextList) -> EachText<'a>
-        ensures coming { result.coming ≡ texts.now }
+    /// Texts none of which is translated yet. It takes no memory.
+    pub fn over(text: &'a [u8], context: Context<'a>, texts: BookTexts<'a>) -> EachText<'a>
+        ensures coming { result.coming ≡ texts.entry }
         ensures source { result.source ≡ source_in text.now context.entry }
     {
         EachText {
             text,
             context,
             texts,
-            place: 0,
+            found: None,
             rooms: Rooms::new_in(context.alloc),
         }
     }
@@ -76,14 +79,14 @@ impl<'a> EachText<'a> {
         ensures source { self.new.source ≡ self.old.source }
         ensures memory { OnErr result (self.new.coming ≡ self.old.coming) }
     {
-        if self.place >= self.texts.len() {
+        find_next(&mut self.texts, &mut self.found)?;
+        let Some(text) = self.found else {
             return Ok(None);
-        }
-        let text = self.texts.text_ref(self.place);
+        };
         let translated = self
             .rooms
             .translate(self.text, &self.context, text, names, steps)?;
-        self.place += 1;
+        self.found = None;
         Ok(Some(NextText { text, translated }))
     }
 
@@ -121,4 +124,15 @@ impl<'a> EachText<'a> {
     {
         self.context.uses
     }
+}
+
+// Finds the next text, if none is found.
+fn find_next(texts: &mut BookTexts, found: &mut Option<TextRef>) -> Result<(), Memory>
+    ensures same { option_to_list found.new ++ texts.new ≡ option_to_list found.old ++ texts.old }
+    ensures none { OnOk result (found.new ≡ None → texts.new ≡ []) }
+{
+    if found.is_none() {
+        *found = texts.next()?;
+    }
+    Ok(())
 }

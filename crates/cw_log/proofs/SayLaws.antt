@@ -122,7 +122,8 @@ one-said-of lists tokens place old mid new token d ms s lt is says grown = recor
   names = s.names ++ ms;
   grown = grown-twice old mid new s.names ms s.grown grown;
   rest = sym (followed-twice s.names ms (list_said lists (drop (place + 1) tokens)))
-      ∙ (ap (followed (names_alone s.names)) (ap (λ h. followed h (list_said lists (drop (place + 1) tokens))) (sym says)
+      ∙ (ap (followed (names_alone s.names))
+      (ap (λ h. followed h (list_said lists (drop (place + 1) tokens))) (sym says)
       ∙ sym (here-said lists tokens place token d lt is)) ∙ s.rest);
 }
 
@@ -175,7 +176,10 @@ said-stopped lists tokens place old mid new token d stops s lt is h stop =
 -- the names that a reserved word says are none
 pub no-word-said : (lists : List (List Token)) (cat : Cat) (old : List NameId) (stops : Bool)
     → stops ≡ (told_by (search_word cat)).stops → IsSaid (told_by (search_word cat)) old old stops
-no-word-said lists cat old stops is = record { grown = sym (ap (λ ns. old ++ map id_of ns) (none cat) ∙ append-none old); is = is }
+no-word-said lists cat old stops is = record {
+  grown = sym (ap (λ ns. old ++ map id_of ns) (none cat) ∙ append-none old);
+  is = is;
+}
   where
     append-none : (xs : List NameId) → xs ++ [] ≡ xs
     append-none [] = refl

@@ -1,16 +1,18 @@
 -- The log of a web is written text by text.
-use Rattle.std.proofs.Common.{◌≡◌, ℕ, zero, suc, ◌+◌, ◌<◌, ◌≤◌, All, Option, Some, Result, Ok, Err, List, [], ◌∷◌, ◌++◌}
-use Rattle.std.proofs.Common.{IsErrAnd, IsTrue, length, map, take, drop, get_or, slice_get, refl, sym, ◌∙◌, ap, subst}
+use Rattle.std.proofs.Common.{◌≡◌, ℕ, zero, suc, ◌+◌, All, Option, Some, Result, Ok, Err, List, [], ◌∷◌, ◌++◌}
+use Rattle.std.proofs.Common.{IsErrAnd, map, take, slice_get, refl, sym, ◌∙◌, ap, subst}
 use Rattle.std.proofs.Common.{arith, append_assoc}
 use Rattle.std.specs.List.{flat_map}
 use Rattle.std.proofs.lemmas.Grind.{flat_map-append}
-use Rattle.std.proofs.lemmas.List.{append-nil, take_all, drop_all}
+use Rattle.std.proofs.lemmas.List.{append-nil, take_all}
+use Rattle.std.proofs.lemmas.List.Elements.{All-head, All-tail}
 use Rattle.cw_base.specs.declared.event.Out.TheVariants.{Tex}
 use Rattle.cw_base.specs.declared.flags.Flags.{Flags}
 use Rattle.cw_base.specs.declared.memory.Memory.{Memory}
 use Rattle.cw_desk.specs.Journal.{byte_events}
 use Rattle.cw_desk.specs.Told.{Told}
 use Rattle.cw_each.specs.EachText.{EndedText, Source, each_text, text_ended}
+use Rattle.cw_each.specs.Forms.{IsWholeRef}
 use Rattle.cw_leaves.specs.declared.lines.TextLog.{TextLog}
 use Rattle.cw_leaves.specs.Spelling.{item_of, line_of, production_of, spelled}
 use Rattle.cw_lines.specs.declared.put_error.PutError.{PutError}
@@ -128,76 +130,81 @@ log-first : (s : Source) (text : TextRef) (texts : List TextRef) (names : List E
 log-first s text texts names = text-of-both (text_blocks s.flags (ended_by s text names))
     (blocks_from s texts (text_ended s text names).known.names)
 
-drop-at : {A : Type 0} (xs : List A) (i : ℕ) (x : A) → slice_get xs i ≡ Some x → drop i xs ≡ x ∷ drop (suc i) xs
-drop-at [] zero x e = absurd cc
-drop-at [] (suc i) x e = absurd cc
-drop-at (y ∷ ys) zero x e = ap (λ z. z ∷ ys) (let d : y ≡ x = cc in d)
-drop-at (y ∷ ys) (suc i) x e = drop-at ys i x e
-
--- The blocks of the texts before this one are written, and behind them come those of the others.
-pub record Written (s : Source) (texts : List TextRef) (place : ℕ) (names names' : List Entry) (before now : Told)
+-- Blocks are written, and behind them come those of the texts that are left.
+pub record Written (s : Source) (all coming : List TextRef) (names names' : List Entry) (before now : Told)
     : Type 0 where
   pub done : List ℕ
   pub added : HasAdded (byte_events Tex done) before now
-  pub left : done ++ texts_log s (drop place texts) names' ≡ texts_log s texts names
+  pub left : done ++ texts_log s coming names' ≡ texts_log s all names
+  pub whole : All (IsWholeRef s.text) coming
 
 pub none-written : (s : Source) (texts : List TextRef) (names : List Entry) (told : Told)
-    → Written s texts 0 names names told told
-none-written s texts names told = record { done = []; added = adds-none told tt; left = refl }
+    → All (IsWholeRef s.text) texts → Written s texts texts names names told told
+none-written s texts names told whole = record {
+  done = [];
+  added = adds-none told tt;
+  left = refl;
+  whole = whole;
+}
 
-pub all-at : {A : Type 0} (P : A → Type 0) (xs : List A) (i : ℕ) (x : A) → All P xs → slice_get xs i ≡ Some x → P x
-all-at P [] zero x all e = absurd cc
-all-at P [] (suc i) x all e = absurd cc
-all-at P (y ∷ ys) zero x all e = subst P (let d : y ≡ x = cc in d) (all 0 y (omega arith))
-all-at P (y ∷ ys) (suc i) x all e = all-at P ys i x (λ k d lt. all (suc k) d (omega (arith, lt))) e
-
-module _ (s : Source) (texts : List TextRef) (place : ℕ) (names names' : List Entry) (before now : Told)
-    (w : Written s texts place names names' before now) where
+module _ (s : Source) (all coming : List TextRef) (names names' : List Entry) (before now : Told)
+    (w : Written s all coming names names' before now) where
   -- memory was wanting before a text was translated
   pub written-wanting : {U : Type 0} {result : Result U PutError} → IsErrAnd result (λ found. found ≡ no_memory)
-      → Adds (byte_events Tex (texts_log s texts names)) before now result
+      → Adds (byte_events Tex (texts_log s all names)) before now result
   written-wanting is =
       adds-events (ap (byte_events Tex) w.left)
-      (piece-then Tex w.done (texts_log s (drop place texts) names') w.added
-      (piece-wanting Tex (texts_log s (drop place texts) names') is))
+      (piece-then Tex w.done (texts_log s coming names') w.added (piece-wanting Tex (texts_log s coming names') is))
 
   -- no text is left
-  pub written-all : {U : Type 0} (value : U) → length texts ≤ place
-      → Adds {T = U} (byte_events Tex (texts_log s texts names)) before now (Ok value)
-  written-all value last =
+  pub written-all : {U : Type 0} (value : U) → coming ≡ []
+      → Adds {T = U} (byte_events Tex (texts_log s all names)) before now (Ok value)
+  written-all value none =
       adds-events (ap (byte_events Tex) (sym (append-nil w.done)
-      ∙ (ap (λ (rest : List TextRef). w.done ++ texts_log s rest names') (sym (drop_all place texts last)) ∙ w.left)))
+      ∙ (ap (λ (rest : List TextRef). w.done ++ texts_log s rest names') (sym none) ∙ w.left)))
       (record { ok = w.added.ok; err = tt; same = w.added.same; fault = λ fault. cc })
 
-module _ (s : Source) (texts : List TextRef) (place : ℕ) (text : TextRef) (names names' names'' : List Entry)
-    (before now : Told) (w : Written s texts place names names' before now) (there : slice_get texts place ≡ Some text)
-    (bytes : List ℕ) (is : bytes ≡ log_text (text_blocks s.flags (ended_by s text names')))
-    (same : names'' ≡ (text_ended s text names').known.names) where
-  text-left : w.done ++ (bytes ++ texts_log s (drop (suc place) texts) names'') ≡ texts_log s texts names
+-- ## The next text
+
+-- the text of its blocks
+abbrev pub text_log : Source → TextRef → List Entry → List ℕ
+text_log s text names = log_text (text_blocks s.flags (ended_by s text names))
+
+-- the names that it leaves
+abbrev pub names_behind : Source → TextRef → List Entry → List Entry
+names_behind s text names = (text_ended s text names).known.names
+
+module _ (s : Source) (all coming coming' : List TextRef) (text : TextRef) (names names' : List Entry)
+    (before now : Told) (w : Written s all coming names names' before now) (gives : coming ≡ text ∷ coming') where
+  text-left : w.done ++ (text_log s text names' ++ texts_log s coming' (names_behind s text names'))
+      ≡ texts_log s all names
   text-left =
-      ap (λ (xs : List ℕ). w.done ++ (xs ++ texts_log s (drop (suc place) texts) names'')) is
-      ∙ (ap (λ (ns : List Entry). w.done ++ (log_text (text_blocks s.flags (ended_by s text names'))
-      ++ texts_log s (drop (suc place) texts) ns)) same
-      ∙ (ap (λ (xs : List ℕ). w.done ++ xs) (sym (log-first s text (drop (suc place) texts) names'))
-      ∙ (ap (λ (ts : List TextRef). w.done ++ texts_log s ts names') (sym (drop-at texts place text there)) ∙ w.left)))
+      ap (λ (bytes : List ℕ). w.done ++ bytes) (sym (log-first s text coming' names'))
+      ∙ (ap (λ (ts : List TextRef). w.done ++ texts_log s ts names') (sym gives) ∙ w.left)
+
+  pub text-whole : IsWholeRef s.text text
+  text-whole = All-head (IsWholeRef s.text) text coming' (subst (All (IsWholeRef s.text)) gives w.whole)
 
   -- its blocks are written
-  pub written-more : {U : Type 0} {later : Told} {value : U} → Adds {T = U} (byte_events Tex bytes) now later (Ok value)
-      → Written s texts (place + 1) names names'' before later
-  written-more {later = later} piece = record {
-    done = w.done ++ bytes;
-    added = piece-then Tex w.done bytes w.added
+  pub written-more : {U : Type 0} {later : Told} {value : U} (names'' : List Entry)
+      → names'' ≡ names_behind s text names'
+      → Adds {T = U} (byte_events Tex (text_log s text names')) now later (Ok value)
+      → Written s all coming' names names'' before later
+  written-more names'' same piece = record {
+    done = w.done ++ text_log s text names';
+    added = piece-then Tex w.done (text_log s text names') w.added
         (record { ok = piece.ok; err = tt; same = piece.same; fault = λ fault. cc });
-    left = append_assoc w.done bytes (texts_log s (drop (place + 1) texts) names'')
-        ∙ (ap (λ n. w.done ++ (bytes ++ texts_log s (drop n texts) names''))
-        (let e : place + 1 ≡ suc place = omega arith in e) ∙ text-left);
+    left = append_assoc w.done (text_log s text names') (texts_log s coming' names'')
+        ∙ (ap (λ (ns : List Entry). w.done ++ (text_log s text names' ++ texts_log s coming' ns)) same ∙ text-left);
+    whole = All-tail (IsWholeRef s.text) text coming' (subst (All (IsWholeRef s.text)) gives w.whole);
   }
 
   -- they are refused
   pub written-refused : {T U : Type 0} {later : Told} {error : PutError} {result : Result U PutError}
-      → Adds {T = T} (byte_events Tex bytes) now later (Err error) → IsErrAnd result (λ found. found ≡ error)
-      → Adds (byte_events Tex (texts_log s texts names)) before later result
+      → Adds {T = T} (byte_events Tex (text_log s text names')) now later (Err error)
+      → IsErrAnd result (λ found. found ≡ error)
+      → Adds (byte_events Tex (texts_log s all names)) before later result
   written-refused piece refused =
       adds-events (ap (byte_events Tex) text-left)
-      (piece-then Tex w.done (bytes ++ texts_log s (drop (suc place) texts) names'') w.added
-      (piece-stop Tex bytes (texts_log s (drop (suc place) texts) names'') piece refused))
+      (piece-then Tex w.done (text_log s text names' ++ texts_log s coming' (names_behind s text names')) w.added
+      (piece-stop Tex (text_log s text names') (texts_log s coming' (names_behind s text names')) piece refused))

@@ -1,4 +1,4 @@
--- The texts of a book while their logs are written.
+-- The texts of a web while their logs are written.
 use Rattle.std.specs.Prelude.{ℕ, List, map}
 use Rattle.std.specs.List.{flat_map}
 use Rattle.cw_each.specs.EachText.{EndedText, Source, text_ended}
@@ -9,10 +9,10 @@ use Rattle.cw_logtext.specs.LogText.{block_lines, ended}
 use Rattle.cw_names.specs.Names.{Entry}
 use Rattle.cw_texts.specs.declared.text_list.TextRef.{TextRef}
 use Rattle.cw_translator.specs.Recording.{logged}
-use Rattle.cw_log.specs.declared.writing.BookTexts.{BookTexts}
+use Rattle.cw_log.specs.declared.writing.WebSource.{WebSource}
 
 -- what stays while they are translated
-abbrev pub source_of : BookTexts → Source
+abbrev pub source_of : WebSource → Source
 source_of b = source_in b.text.now b.context
 
 -- a text that begins with these names

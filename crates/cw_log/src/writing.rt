@@ -22,7 +22,7 @@ use cw_part::whole_texts_law;
 use cw_phase1::Book;
 use cw_reduce::{Context, Work, translate_recorded};
 use cw_scraps::Marks;
-use cw_texts::{TextList, TextRef, texts};
+use cw_texts::{BookTexts, TextRef};
 use cw_tokens::TokenStore;
 use cw_tool::Tool;
 use std::alloc::Global;
@@ -52,7 +52,6 @@ impl Tool for LogTool {
         steps: &mut Steps<L>,
     ) -> Result<(), PutError> {
         whole_texts_law();
-        let list = texts(alloc, web, book)?;
         let flags = Flags::start();
         let context = Context {
             sec_names: &book.sec_names,
@@ -60,11 +59,9 @@ impl Tool for LogTool {
             flags: &flags,
             alloc,
         };
-        let all = BookTexts {
-            text: web.text(),
-            context,
-            list: &list,
-        };
+        let text = web.text();
+        let source = WebSource { text, context };
+        let mut texts = BookTexts::over(alloc, text, &book.name_uses, &book.outline);
         let mut store = TokenStore::new_in(alloc);
         let mut marks = Marks::new_in(alloc);
         let mut work = Work {
@@ -74,60 +71,80 @@ impl Tool for LogTool {
             steps,
             recorder: ProductionLog::new_in(alloc),
         };
-        write_texts(&all, &mut work, desk)
+        write_texts(&source, &mut texts, &mut work, desk)
     }
 }
 
 /// The usage text of the program, with its line's end.
 pub(crate) const USAGE: &[u8] = b"! Usage: cwlog write web change|- out, or cwlog check log\n";
 
-// The C texts of a book.
+// What stays while the C texts of a web are translated.
 #[derive(Clone, Copy)]
-pub(crate) struct BookTexts<'a> {
+pub(crate) struct WebSource<'a> {
     pub text: &'a [u8],
     pub context: Context<'a>,
-    pub list: &'a TextList,
 }
 
-// Writes the blocks of all texts: those of each as soon as it is translated.
+// Writes the blocks of all texts that are to come: those of each as soon as it is translated.
 fn write_texts<D: Desk, L: Ledger>(
-    all: &BookTexts,
+    source: &WebSource,
+    texts: &mut BookTexts,
     work: &mut Work<L, ProductionLog>,
     desk: &mut D,
 ) -> Result<(), PutError>
     requires made { IsTrue (is_open (D.told desk.old).outputs Tex) }
-    requires kept { AreNamesOf (source_of all.now).sec_names (source_of all.now).name_uses }
-    requires whole { All (IsWholeRef all.now.text.now) all.now.list.now }
-    ensures { Adds (byte_events Tex (log_text (blocks_from (source_of all.now) all.now.list.now work.old.names.now)))
+    requires kept { AreNamesOf (source_of source.now).sec_names (source_of source.now).name_uses }
+    requires whole { All (IsWholeRef source.now.text.now) texts.old }
+    ensures { Adds (byte_events Tex (log_text (blocks_from (source_of source.now) texts.old work.old.names.now)))
         (D.told desk.old) (D.told desk.new) result }
 {
-    for i in 0..all.list.len() {
-        let blocks = text_blocks(all, all.list.text_ref(i), work)?;
-        write_all(desk, Out::Tex, blocks.as_slice())?;
+    'all: loop {
+        match texts.next()? {
+            Some(text) => write_text(source, text, work, desk)?,
+            None => return Ok(()),
+        }
     }
-    Ok(())
+}
+
+// Writes the blocks of a text and of its inner texts.
+fn write_text<D: Desk, L: Ledger>(
+    source: &WebSource,
+    text: TextRef,
+    work: &mut Work<L, ProductionLog>,
+    desk: &mut D,
+) -> Result<(), PutError>
+    requires made { IsTrue (is_open (D.told desk.old).outputs Tex) }
+    requires kept { AreNamesOf (source_of source.now).sec_names (source_of source.now).name_uses }
+    requires whole { IsWholeRef source.now.text.now text }
+    ensures names { OnOk result (work.new.names.now ≡
+        (text_ended (source_of source.now) text work.old.names.now).known.names) }
+    ensures written { Adds (byte_events Tex (log_text (text_blocks (source_of source.now).flags
+        (ended_by (source_of source.now) text work.old.names.now)))) (D.told desk.old) (D.told desk.new) result }
+{
+    let blocks = text_blocks(source, text, work)?;
+    write_all(desk, Out::Tex, blocks.as_slice())
 }
 
 // The blocks of a text and of its inner texts, as they are written. The store is emptied first.
 fn text_blocks<L: Ledger>(
-    all: &BookTexts,
+    source: &WebSource,
     part: TextRef,
     work: &mut Work<L, ProductionLog>,
 ) -> Result<Bytes, Memory>
-    requires kept { AreNamesOf (source_of all.now).sec_names (source_of all.now).name_uses }
-    requires whole { IsWholeRef all.now.text.now part }
+    requires kept { AreNamesOf (source_of source.now).sec_names (source_of source.now).name_uses }
+    requires whole { IsWholeRef source.now.text.now part }
     ensures names { OnOk result (work.new.names.now ≡
-        (text_ended (source_of all.now) part work.old.names.now).known.names) }
-    ensures text { IfOk result (λ bytes. bytes ≡ log_text (text_blocks (source_of all.now).flags
-        (ended_by (source_of all.now) part work.old.names.now))) }
+        (text_ended (source_of source.now) part work.old.names.now).known.names) }
+    ensures text { IfOk result (λ bytes. bytes ≡ log_text (text_blocks (source_of source.now).flags
+        (ended_by (source_of source.now) part work.old.names.now))) }
 {
-    let alloc = all.context.alloc;
+    let alloc = source.context.alloc;
     let marks = Marks::new_in(alloc);
     let recorder = ProductionLog::new_in(alloc);
     work.store.reset();
     *work.marks = marks;
     work.recorder = recorder;
-    translate_recorded(all.text, part.span, part.mode, &all.context, work)?;
+    translate_recorded(source.text, part.span, part.mode, &source.context, work)?;
     blocks_of(alloc, work.names, &work.recorder)
 }
 

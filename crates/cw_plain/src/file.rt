@@ -28,7 +28,7 @@ use cw_names::Names;
 use cw_part::whole_texts_law;
 use cw_phase1::Book;
 use cw_reduce::Context;
-use cw_texts::texts;
+use cw_texts::BookTexts;
 use cw_tool::{Tool, tool_command, tool_files};
 use itoa::Buffer;
 use std::alloc::Global;
@@ -58,7 +58,6 @@ impl Tool for Plain {
         steps: &mut Steps<L>,
     ) -> Result<(), PutError> {
         whole_texts_law();
-        let list = texts(alloc, web, book)?;
         let flags = Flags::start();
         let context = Context {
             sec_names: &book.sec_names,
@@ -67,7 +66,9 @@ impl Tool for Plain {
             alloc,
         };
         // By its type a text has at most 16,777,216 bytes, and no section name is longer.
-        let mut each = EachText::over(web.text(), context, &list);
+        let text = web.text();
+        let texts = BookTexts::over(alloc, text, &book.name_uses, &book.outline);
+        let mut each = EachText::over(text, context, texts);
         write_texts(alloc, &mut each, &mut book.names, desk, steps)
     }
 }

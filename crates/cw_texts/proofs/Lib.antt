@@ -1,4 +1,5 @@
--- Laws of the pieces of TeX parts, of what is there, and of texts one behind another.
+-- Laws of the pieces of TeX parts, of what is there, of texts one behind another, and of those still to come.
 pub mod PieceLaws
 mod PrintedLaws
 mod RefLaws
+mod ComingLaws

@@ -6,3 +6,4 @@ pub mod Definitions
 pub mod DefinitionForms
 pub mod Printed
 pub mod Texts
+pub mod Coming

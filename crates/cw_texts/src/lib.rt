@@ -2,12 +2,14 @@
 //! book's sections in the order in which they are woven.
 #![tactic(auto)]
 
+mod book_texts;
 mod definitions;
 mod pieces;
 mod printed;
 mod scans;
 mod text_list;
 
+pub use book_texts::BookTexts;
 pub use definitions::{Begun, Definition, Definitions};
 pub use pieces::{Piece, Pieces};
 pub use printed::is_printed;

@@ -46,7 +46,7 @@ impl Model for TextList {
 }
 
 impl TextList {
-    fn new_in(alloc: Global) -> TextList
+    pub(crate) fn new_in(alloc: Global) -> TextList
         ensures { result ≡ [] }
     {
         TextList {
@@ -67,6 +67,13 @@ impl TextList {
         ensures { slice_get self.now i ≡ Some result }
     {
         self.refs[i]
+    }
+
+    /// Takes all out, and keeps their room.
+    pub(crate) fn clear(&mut self)
+        ensures { self.new ≡ [] }
+    {
+        self.refs.clear();
     }
 
     fn push(&mut self, text: TextRef) -> Result<(), Memory>
@@ -102,8 +109,8 @@ pub fn texts(alloc: Global, web: &Web, book: &Book) -> Result<TextList, Memory>
     Ok(list)
 }
 
-// Adds the texts of the section of a number.
-fn add_section(
+/// Adds the texts of the section of a number.
+pub(crate) fn add_section(
     text: &[u8],
     uses: &NameUses,
     number: u32,

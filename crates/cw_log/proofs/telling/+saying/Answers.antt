@@ -22,8 +22,8 @@ say-say_token-requires t c =
       λ x e.
           let less : x < c.args.list.index =
           below-earlier c.args.store.now.lists c.tokens-token-items.result.now c.args.list.index
-          c.loop-token.token-index x token (Source 0 Text) tied c.tokens-token-items.ensures.tokens c.loop-token-test.true
-          refl e in
+          c.loop-token.token-index x token (Source 0 Text) tied c.tokens-token-items.ensures.tokens
+          c.loop-token-test.true refl e in
           omega (arith, less, c.requires),
     )
 

@@ -23,15 +23,15 @@ pub returns-clause-names : goal.returns-clause-names
 returns-clause-names g c =
     let none : marked_names c.new_in-marks.result ≡ [] = ap (map (λ (id : NameId). id.index)) c.new_in-marks.ensures in
     let same : c.translate_recorded.new.work.names.now
-    ≡ (text_ended (source_of c.args.all.now) c.args.part c.args.work.now.names.now).known.names =
-    text-names (source_of c.args.all.now) c.args.part c.args.work.now.names.now
+    ≡ (text_ended (source_of c.args.source.now) c.args.part c.args.work.now.names.now).known.names =
+    text-names (source_of c.args.source.now) c.args.part c.args.work.now.names.now
     c.translate_recorded.new.work.names.now (marked_names c.new_in-marks.result) none
     c.in_ok-translate_recorded.ensures.text.text.names_are in
     always _ c.blocks_of.result same
 
 pub returns-clause-text : goal.returns-clause-text
 returns-clause-text g c =
-    let s : Source = source_of c.args.all.now in
+    let s : Source = source_of c.args.source.now in
     let t : EndedText = ended_by s c.args.part c.args.work.now.names.now in
     let done = c.translate_recorded.new.work in
     let none : marked_names c.new_in-marks.result ≡ [] = ap (map (λ (id : NameId). id.index)) c.new_in-marks.ensures in

@@ -1,27 +1,45 @@
 -- The blocks of a text stand behind those of the texts before it.
-use Rattle.std.proofs.Common.{◌∙◌}
-use Rattle.cw_each.specs.Forms.{IsWholeRef}
+use Rattle.std.proofs.Common.{◌≡◌, ◌∷◌, Option, None, subst}
+use Rattle.cw_texts.specs.Coming.{GivesRef}
+use Rattle.cw_texts.specs.declared.text_list.TextRef.{TextRef}
 use Rattle.cw_log.specs.Writing.{source_of}
-use Rattle.cw_log.proofs.WritingLaws.{all-at, none-written, written-more, written-refused, written-wanting}
+use Rattle.cw_log.proofs.WritingLaws.{none-written, text-whole, written-all, written-more, written-refused}
+use Rattle.cw_log.proofs.WritingLaws.{written-wanting}
 use Rattle.cw_log.proofs.writing.write_texts.Goals as goal
 
-pub loop-i-init : goal.loop-i-init
-loop-i-init g c = none-written (source_of c.args.all.now) c.args.all.now.list.now c.args.work.now.names.now
-    (g.D.Desk.told c.args.desk.now)
+pub all-init : goal.all-init
+all-init g c = none-written (source_of c.args.source.now) c.args.texts.now c.args.work.now.names.now
+    (g.D.Desk.told c.args.desk.now) c.requires.whole
 
-pub text_blocks-requires-clause-whole : goal.text_blocks-requires-clause-whole
-text_blocks-requires-clause-whole g c = all-at (IsWholeRef c.args.all.now.text.now) c.args.all.now.list.now c.loop-i.i
-    c.text_ref.result c.requires.whole c.text_ref.ensures
+pub returns-in_err-next : goal.returns-in_err-next
+returns-in_err-next g c = written-wanting _ _ _ _ _ _ _ c.all.invariant c.from_residual.ensures.1
 
-pub returns-in_err-blocks : goal.returns-in_err-blocks
-returns-in_err-blocks g c = written-wanting _ _ _ _ _ _ _ c.loop-i.invariant c.from_residual.ensures.1
+pub write_text-requires-clause-whole : goal.write_text-requires-clause-whole
+write_text-requires-clause-whole g c =
+    let gives : c.all.texts ≡ c.in-Some.text ∷ c.next.new.self =
+    subst (λ (next : Option TextRef). GivesRef c.all.texts next c.next.new.self) c.in-Some.is
+    c.in_ok-next.ensures.gives in
+    text-whole _ _ _ _ _ _ _ _ _ c.all.invariant gives
 
-pub returns-in_err-write_all : goal.returns-in_err-write_all
-returns-in_err-write_all g c = written-refused _ _ _ c.text_ref.result _ _ c.text_blocks.new.work.names.now _ _
-    c.loop-i.invariant c.text_ref.ensures c.as_slice.result.now (c.as_slice.ensures ∙ c.in_ok-blocks.ensures.text)
-    c.in_ok-blocks.ensures.names c.in_err-write_all.ensures c.from_residual-in_err-write_all.ensures.1
+pub all-preserved : goal.all-preserved
+all-preserved g c =
+    let gives : c.all.texts ≡ c.in-Some.text ∷ c.next.new.self =
+    subst (λ (next : Option TextRef). GivesRef c.all.texts next c.next.new.self) c.in-Some.is
+    c.in_ok-next.ensures.gives in
+    written-more _ _ _ _ _ _ _ _ _ c.all.invariant gives c.write_text.new.work.names.now
+    c.in_ok-write_text-in-Some.ensures.names c.in_ok-write_text-in-Some.ensures.written
 
-pub loop-i-preserved : goal.loop-i-preserved
-loop-i-preserved g c = written-more _ _ _ c.text_ref.result _ _ c.text_blocks.new.work.names.now _ _
-    c.loop-i.invariant c.text_ref.ensures c.as_slice.result.now (c.as_slice.ensures ∙ c.in_ok-blocks.ensures.text)
-    c.in_ok-blocks.ensures.names c.in_ok-write_all.ensures
+pub returns-in_err-write_text-in-Some : goal.returns-in_err-write_text-in-Some
+returns-in_err-write_text-in-Some g c =
+    let gives : c.all.texts ≡ c.in-Some.text ∷ c.next.new.self =
+    subst (λ (next : Option TextRef). GivesRef c.all.texts next c.next.new.self) c.in-Some.is
+    c.in_ok-next.ensures.gives in
+    written-refused _ _ _ _ _ _ _ _ _ c.all.invariant gives c.in_err-write_text-in-Some.ensures.written
+    c.from_residual-in_err-write_text-in-Some.ensures.1
+
+pub returns-in-None : goal.returns-in-None
+returns-in-None g c =
+    let gives : GivesRef c.all.texts None c.next.new.self =
+    subst (λ (next : Option TextRef). GivesRef c.all.texts next c.next.new.self) c.in-None.is
+    c.in_ok-next.ensures.gives in
+    written-all _ _ _ _ _ _ _ c.all.invariant _ gives.0
