@@ -1,8 +1,9 @@
 -- The laws of the first phase: what each answer keeps, and what holds of the book that comes of all answers.
 mod Rows
 pub mod PlaceLaws
+pub mod NameLaws
 pub mod MissingLaws
-mod NameLaws
+pub mod ChangedLaws
 pub mod Passing
 pub mod Ignored
 pub mod Outlines

@@ -1,8 +1,12 @@
--- Where each section name has a definition, no section lacks a `=`.
-use Rattle.std.proofs.Common.{◌≡◌, ℕ, zero, suc, ◌==◌, ◌&&◌, ◌||◌, Bool, true, false, List, [], ◌∷◌, Option, Some, None}
-use Rattle.std.proofs.Common.{refl, ap, filter, map, if◌then◌else◌}
+-- Where each section name has a definition, no section lacks a `=`; else the notes come section by section.
+use Rattle.std.proofs.Common.{◌≡◌, ℕ, zero, suc, ◌+◌, ◌<◌, ◌==◌, ◌&&◌, ◌||◌, Bool, true, false, List, [], ◌∷◌, ◌++◌}
+use Rattle.std.proofs.Common.{Option, Some, None, ◌∙◌, refl, ap, sym, append_assoc, arith, drop, filter, length, map}
+use Rattle.std.proofs.Common.{if◌then◌else◌}
+use Rattle.std.proofs.lemmas.List.{at_drop_more}
+use Rattle.std.proofs.lemmas.Option.{get_or_from_slice_get, slice_get_within}
 use Rattle.std.specs.List.{list_any, slice_get}
 use Rattle.cw_base.specs.Web.{MergedLine, text_of}
+use Rattle.cw_base.specs.declared.notes.Note.{Note}
 use Rattle.cw_base.specs.declared.span.Span.{Span}
 use Rattle.cw_lex.specs.Lexing.{tokens_of}
 use Rattle.cw_rules.specs.Answers.{Seen}
@@ -65,3 +69,29 @@ pub none_missing : (lines : List MergedLine) (uses : List NameUse) (names : List
 none_missing lines uses names [] e = refl
 none_missing lines uses names (s ∷ sections) e =
     rw (none-in lines uses names s e) (none_missing lines uses names sections e)
+
+-- ## Names that are looked at one by one
+
+pub any-more : (names : List SecName) (k : ℕ) → k < length names → list_any has_no_definition (drop k names)
+    ≡ (is_undefined_name names (Some k) || list_any has_no_definition (drop (k + 1) names))
+any-more [] k h = absurd (omega arith)
+any-more (n ∷ names) zero h = refl
+any-more (n ∷ names) (suc k) h =
+    any-more names k (omega arith) ∙
+    ap (λ rest. is_undefined_name names (Some k) || list_any has_no_definition rest)
+    (let one : suc (k + 1) ≡ suc k + 1 = omega arith in ap (λ m. drop m (n ∷ names)) one)
+
+-- ## Section by section
+
+pub equals-more : (lines : List MergedLine) (uses : List NameUse) (names : List SecName) (sections : List Section)
+    → (k : ℕ) (s : Section) (total notes more : List Note) → slice_get sections k ≡ Some s
+    → more ≡ notes ++ missing_in lines uses names s
+    → notes ++ missing_equals lines uses names (drop k sections) ≡ total
+    → more ++ missing_equals lines uses names (drop (k + 1) sections) ≡ total
+equals-more lines uses names sections k s total notes more e added i =
+    ap (λ ns. ns ++ missing_equals lines uses names (drop (k + 1) sections)) added
+    ∙ (append_assoc notes (missing_in lines uses names s) (missing_equals lines uses names (drop (k + 1) sections))
+    ∙ (ap (λ ns. notes ++ ns) (sym (at_drop_more (missing_equals lines uses names) sections k s
+    (slice_get_within sections k s e)
+    ∙ ap (λ (x : Section). missing_in lines uses names x
+    ++ missing_equals lines uses names (drop (k + 1) sections)) (get_or_from_slice_get sections k s s e))) ∙ i))

@@ -1,7 +1,7 @@
 -- Section names behind which a `=` seems to be missing: what should begin a C part is TeX text then.
 use Rattle.std.specs.Prelude.{ℕ, ◌+◌, ◌-◌, ◌==◌, ◌&&◌, ◌||◌, Bool, true, false, List, [], ◌∷◌, Option, Some, None, map}
-use Rattle.std.specs.Prelude.{filter, length, slice_get, slice_range, if◌then◌else◌}
-use Rattle.std.specs.List.{flat_map, reverse}
+use Rattle.std.specs.Prelude.{filter, length, reverse, slice_get, slice_range, if◌then◌else◌}
+use Rattle.std.specs.List.{flat_map}
 use Rattle.cw_base.specs.Text.{is_blank}
 use Rattle.cw_base.specs.Web.{MergedLine, text_of}
 use Rattle.cw_base.specs.declared.notes.Note.{Note}

@@ -42,6 +42,14 @@ pub struct Book {
 }
 
 impl Outline {
+    ghost use Rattle.cw_phase1.specs.Changed.{with_last_marked};
+
+    fn mark_last(&mut self)
+        ensures { self.new ≡ record self.old { sections = with_last_marked self.old.sections } }
+    {
+        self.sections.mark_last();
+    }
+
     /// How many sections there are.
     pub fn section_count(&self) -> u32
         ensures { result ≡ length self.now.sections }
@@ -81,7 +89,7 @@ impl Book {
     pub fn mark_last(&mut self)
         ensures { self.new ≡ marked_book self.old }
     {
-        self.outline.sections.mark_last();
+        self.outline.mark_last();
     }
 
     /// How many sections there are.

@@ -1,9 +1,10 @@
 //! Section names behind which a `=` seems to be missing.
-ghost use Rattle.std.specs.Prelude.{◌≡◌, ◌<◌, ◌≤◌, ◌&&◌, ◌++◌, All, IfOk, OnOk, Some, length};
-ghost use Rattle.std.specs.List.{list_any, reverse};
+ghost use Rattle.std.specs.Prelude.{◌≡◌, ◌<◌, ◌≤◌, ◌&&◌, ◌++◌, [], ◌∷◌, All, IfOk, OnOk, Some, length, reverse};
+ghost use Rattle.std.specs.List.{list_any};
 ghost use Rattle.cw_base.specs.Web.{text_of};
 ghost use Rattle.cw_lex.specs.Limbo.{is_name_kind};
 ghost use Rattle.cw_lex.specs.Lexing.{tokens_of};
+ghost use Rattle.cw_rules.specs.Answers.{Token, seen};
 ghost use Rattle.cw_rules.specs.Order.{LiesWithin};
 ghost use Rattle.cw_rules.specs.declared.tokens.Mode.TheVariants.{TexText};
 ghost use Rattle.cw_secnames.specs.Uses.{name_at};
@@ -22,7 +23,7 @@ use crate::Section;
 use crate::note_list::NoteList;
 use crate::packed::{SectionList, short};
 use cw_base::{Memory, NoteKind, Span, Web};
-use cw_lex::{Code, Lexed, Lexer, Mode, TokKind};
+use cw_lex::{Code, Lexed, Lexer, Mode, Tok, TokKind};
 use cw_rules::classes::is_blank;
 use cw_secnames::{NameUses, SecId, SecNames};
 
@@ -128,6 +129,29 @@ impl<'a> Search<'a> {
         Ok(undefined && stands_alone(self.web.text(), tex, name))
     }
 
+    // The note on a token of a TeX part, where so many inner texts are open.
+    fn note_token(
+        &self,
+        tex: Span,
+        depth: usize,
+        token: Tok,
+        notes: &mut NoteList,
+    ) -> Result<(), Memory>
+        requires lies { LiesWithin tex.start tex.«end» token.span }
+        requires within { tex.«end» ≤ length (text_of self.now.web.now.lines) }
+        ensures { OnOk result (notes.new ≡ notes.old
+            ++ missing_among self.now.web.now.lines self.now.uses.now self.now.names.now tex depth
+            (Token (seen token.entry) ∷ [])) }
+    {
+        if depth > 0 || !is_name(token.kind) {
+            return Ok(());
+        }
+        if self.lacks_equals(tex, token.span)? {
+            return notes.add(self.web, NoteKind::EqualsMissing, token.span.start);
+        }
+        Ok(())
+    }
+
     // The notes on names of a TeX part.
     fn note_tex(&self, tex: Span, notes: &mut NoteList) -> Result<(), Memory>
         requires order { tex.start ≤ tex.«end» }
@@ -140,11 +164,7 @@ impl<'a> Search<'a> {
         let mut depth: usize = 0;
         'answers: loop {
             match lexer.next() {
-                Lexed::Token(token) => {
-                    if depth == 0 && is_name(token.kind) && self.lacks_equals(tex, token.span)? {
-                        notes.add(self.web, NoteKind::EqualsMissing, token.span.start)?;
-                    }
-                }
+                Lexed::Token(token) => self.note_token(tex, depth, token, notes)?,
                 Lexed::Begin(_begin) => depth = depth.checked_add(1).ok_or(Memory)?,
                 Lexed::Finish(_finish) => depth = depth.saturating_sub(1),
                 Lexed::Note(_kind, _place) => {}
@@ -166,7 +186,6 @@ impl<'a> Search<'a> {
     }
 
     /// The notes on names of all sections. Where each name has a definition no section is looked at.
-    #[tactic(auto, using(crate::proofs::MissingLaws::none_missing))]
     pub(crate) fn note_sections(
         &self,
         sections: &SectionList,
