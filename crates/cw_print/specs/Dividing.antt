@@ -2,11 +2,11 @@
 use Rattle.std.specs.Prelude.{ℕ, ◌-◌, ◌&&◌, ◌||◌, ◌==◌, nat_lt, Bool, true, false, not, List, [], ◌∷◌, ◌++◌}
 use Rattle.cw_print.specs.declared.dividing.Portion.{Portion}
 use Rattle.cw_print.specs.Escaping.{escaped_byte, is_escaped}
-use Rattle.cw_print.specs.Texts.{division}
+use Rattle.cw_print.specs.Texts.{division, portion_size}
 
 -- a portion of which so many bytes have come, and no backslash last
 abbrev pub portion_behind : ℕ → Portion
-portion_behind come = record { room = 20 - come; takes_next = false }
+portion_behind come = record { room = portion_size - come; takes_next = false }
 
 -- A portion without room ends where no backslash takes the next byte along.
 abbrev pub is_full : Portion → Bool

@@ -49,12 +49,15 @@ units (byte ∷ next ∷ bytes) = elim (byte == 92) [
 
 -- The text is divided before each unit before which 20 bytes or more of it have come, since the last division or the
 -- beginning.
+abbrev pub portion_size : ℕ
+portion_size = 20
+
 abbrev pub division : List ℕ
 division = codes "}\\)\\.{"
 
 abbrev pub divided_units : ℕ → List (List ℕ) → List ℕ
 divided_units come [] = []
-divided_units come (unit ∷ rest) = elim (nat_le 20 come) [
+divided_units come (unit ∷ rest) = elim (nat_le portion_size come) [
   | true ↦ division ++ (escaped unit ++ divided_units (length unit) rest)
   | false ↦ escaped unit ++ divided_units (come + length unit) rest
 ]

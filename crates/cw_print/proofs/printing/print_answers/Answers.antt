@@ -33,7 +33,7 @@ returns-in-Some g c =
       puts = puts-bytes
           ((λ i. wrapped (c.is_wrapped-wraps.ensures i)
           (word_at ident_bytes c.args.c.book.now.names c.in-Some.name.index))
-          ∙ ap (wrapped (c.args.c.inner && c.args.c.flags.now))
+          ∙ ap (wrapped (c.args.c.inner && c.args.c.flags.now.wrap))
           (sym (only-printed c.args.c.inner s c.in-Some.name c.in_ok-items.items c.in-Some.ensures)
           ∙ ap (λ (items : List Item). printed c.args.c.inner (shown s items)) c.in_ok-items.ensures.items))
           c.print_name.ensures;
@@ -50,7 +50,7 @@ returns-in_err-put_bracket g c =
     let s : Source = source_by c.args.c.answers.now c.args.c.book.now c.args.c.section c.args.c.flags.now in
     let tree : Tree = unfolded c.args.store.now.lists c.args.id.index in
     let later : List ℕ = printed c.args.c.inner (shown s (trimmed (flat tree)))
-    ++ bracket (c.args.c.inner && c.args.c.flags.now) (codes "}") in
+    ++ bracket (c.args.c.inner && c.args.c.flags.now.wrap) (codes "}") in
     record {
       puts = puts-failing (ap (λ (b : Bool). bracket b (codes "\\PB{") ++ later) c.is_wrapped-wraps.ensures)
           (puts-longer later c.in_err-put_bracket.ensures) c.from_residual-in_err-put_bracket.ensures.1;
@@ -60,7 +60,7 @@ pub returns-in_err-print_items : goal.returns-in_err-print_items
 returns-in_err-print_items g c =
     let s : Source = source_by c.args.c.answers.now c.args.c.book.now c.args.c.section c.args.c.flags.now in
     let tree : Tree = unfolded c.args.store.now.lists c.args.id.index in
-    let wraps : Bool = c.args.c.inner && c.args.c.flags.now in
+    let wraps : Bool = c.args.c.inner && c.args.c.flags.now.wrap in
     record {
       puts = puts-failing
           ((λ i. (bracket (c.is_wrapped-wraps.ensures i) (codes "\\PB{")
