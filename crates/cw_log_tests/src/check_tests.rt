@@ -1,7 +1,7 @@
 //! Whole runs of `check`: what is printed of a file, and the status.
 use cw_base::{Bytes, Event, Exit, Memory, Out, Silent, Steps};
 use cw_desk::MemDesk;
-use cw_log::check;
+use cw_log::{LOG_LIMIT, check};
 use cw_program::status_of;
 use std::alloc::Global;
 use std::test::Fail;
@@ -77,6 +77,9 @@ const RUNS: [(&str, &str, Exit); 14] = [
     ("text 01\n", "! Not a log (line 1)\n", Exit::Errors),
 ];
 
+// A part of a log that is too long for its line, and for a log.
+const PORTION: [u8; 4096] = [b'x'; 4096];
+
 /// What was printed, and the bytes of the file that was made, behind its name in brackets.
 pub(crate) fn printed(alloc: Global, journal: &[Event]) -> Result<Bytes, Memory> {
     let mut text = Bytes::new_in(alloc);
@@ -125,6 +128,27 @@ fn logs_are_checked(rt: HostRuntime) -> Result<(), Fail> {
 fn a_log_that_is_missing(rt: HostRuntime) -> Result<(), Fail> {
     let (text, exit) = checked(rt.alloc(), MemDesk::new_in(rt.alloc()))?;
     let told = b"! Cannot open log foo.log\n".as_slice();
+    assert_eq!(rt; (text.as_slice(), exit), (told, Exit::Errors));
+    Ok(())
+}
+
+// What `check` prints of a file of so many bytes more than a log may have, none of which ends a line; and the status.
+fn seen_of_long(alloc: Global, more: usize) -> Result<(Bytes, Exit), Memory> {
+    let mut log = Bytes::new_in(alloc);
+    for _ in 0..LOG_LIMIT / 4096 {
+        log.append(&PORTION)?;
+    }
+    log.append(&PORTION[..more.min(PORTION.len())])?;
+    seen(alloc, log.as_slice())
+}
+
+#[test]
+fn a_log_has_67_108_864_bytes_at_most(rt: HostRuntime) -> Result<(), Fail> {
+    let (text, exit) = seen_of_long(rt.alloc(), 0)?;
+    let told = b"! Not a log (line 1)\n".as_slice();
+    assert_eq!(rt; (text.as_slice(), exit), (told, Exit::Errors));
+    let (text, exit) = seen_of_long(rt.alloc(), 1)?;
+    let told = b"! Log is longer than 67108864 bytes\n".as_slice();
     assert_eq!(rt; (text.as_slice(), exit), (told, Exit::Errors));
     Ok(())
 }
