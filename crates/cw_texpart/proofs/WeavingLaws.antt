@@ -11,7 +11,7 @@ use Rattle.cw_desk.specs.Told.{Told}
 use Rattle.cw_rules.specs.declared.tokens.Mode.TheVariants.{Inner}
 use Rattle.cw_lines.specs.Line.{LineState}
 use Rattle.cw_lines.specs.Writes.{HasPut, Puts}
-use Rattle.cw_lines.specs.WritesLaws.{is_err, puts-bytes, puts-none, puts-stop, puts-then}
+use Rattle.cw_lines.specs.WritesLaws.{is_err, puts-bytes, puts-failing, puts-none, puts-stop, puts-then}
 use Rattle.cw_lines.specs.WritesLaws.{puts-nothing}
 use Rattle.cw_lines.specs.declared.put_error.PutError.{PutError}
 use Rattle.cw_lines.specs.declared.put_error.PutError.TheVariants.{Memory}
@@ -31,7 +31,7 @@ use Rattle.cw_texpart.specs.Heads.{head, head_by, printed_depth}
 use Rattle.cw_texpart.specs.Inks.{Ink, end_if, laid, prints}
 use Rattle.cw_texpart.specs.Laying.{held, held_behind, holds_bytes, inked}
 use Rattle.cw_texts.specs.PieceForms.{piece_is}
-use Rattle.cw_texpart.specs.TexParts.{piece_done, pieces_done}
+use Rattle.cw_texpart.specs.TexParts.{piece_done, pieces_done, tex_by}
 use Rattle.cw_texts.specs.TexPieces.{TexPiece}
 use Rattle.cw_texpart.specs.Texts.{Setting, lasting, name_done_by, text_done}
 use Rattle.cw_texpart.specs.Weaving.{Press, Weaves, mark_at, underlined}
@@ -327,14 +327,14 @@ weaving-counts {s = s} {rest = rest} {all = all} {old = old} {now = now} {scraps
     subst (λ (n : ℕ). Weaving s rest all old now n prods') (sym a)
     (subst (λ (n : ℕ). Weaving s rest all old now scraps n) (sym b) w)
 
--- what is copied
-pub weaves-plain : {s : Setting} (xs : List Ink) {old : Press} {line : LineState} {told : Told}
+-- bytes that were put, of no C text
+pub weaves-put : {s : Setting} (bytes : List ℕ) {old : Press} {line : LineState} {told : Told}
     (result : Result Counts PutError)
-    → Puts (inked (holds_bytes old.line) xs) old.line line old.told told result
+    → Puts bytes old.line line old.told told result
     → IfOk result (λ counts. counts.scraps ≡ 0) → IfOk result (λ counts. counts.productions ≡ 0)
-    → Weaves s (reprinted (inked (holds_bytes old.line)) (plain xs old.book.names)) old
+    → Weaves s (plain bytes old.book.names) old
     (record { book = old.book; line = line; told = told; steps = old.steps }) result
-weaves-plain {s = s} xs {old = old} (Ok counts) puts scraps prods = record {
+weaves-put {s = s} bytes {old = old} (Ok counts) puts scraps prods = record {
   puts = puts;
   names = refl;
   occurrences = sym (append-nil old.book.xrefs)
@@ -345,7 +345,7 @@ weaves-plain {s = s} xs {old = old} (Ok counts) puts scraps prods = record {
   steps_are = omega arith;
   bound = omega arith;
 }
-weaves-plain xs (Err error) puts scraps prods = record {
+weaves-put bytes (Err error) puts scraps prods = record {
   puts = puts;
   names = tt;
   occurrences = tt;
@@ -355,6 +355,16 @@ weaves-plain xs (Err error) puts scraps prods = record {
   steps_are = tt;
   bound = omega arith;
 }
+
+-- what is copied
+pub weaves-plain : {s : Setting} (xs : List Ink) {old : Press} {line : LineState} {told : Told}
+    (result : Result Counts PutError)
+    → Puts (inked (holds_bytes old.line) xs) old.line line old.told told result
+    → IfOk result (λ counts. counts.scraps ≡ 0) → IfOk result (λ counts. counts.productions ≡ 0)
+    → Weaves s (reprinted (inked (holds_bytes old.line)) (plain xs old.book.names)) old
+    (record { book = old.book; line = line; told = told; steps = old.steps }) result
+weaves-plain xs {old = old} result puts scraps prods =
+    weaves-put (inked (holds_bytes old.line) xs) result puts scraps prods
 
 -- nothing
 pub weaves-nothing : {s : Setting} {old : Press} {counts : Counts} → counts.scraps ≡ 0 → counts.productions ≡ 0
@@ -383,6 +393,15 @@ brace-last holds bytes = held_behind-append holds bytes (codes "}")
 head-by-holds : (starred holds : Bool) (depth number : List ℕ) → held_behind holds (head_by starred depth number) ≡ true
 head-by-holds true holds depth number = brace-last holds (((codes "\\N{" ++ depth) ++ codes "}{") ++ number)
 head-by-holds false holds depth number = brace-last holds (codes "\\M{" ++ number)
+
+-- A head is refused, whatever would have stood behind it.
+pub head-refused : {T : Type 0} {s : Setting} (section : Section) (goes : Bool) (front : List ℕ) {old : Press}
+    {line : LineState} {told : Told} {error : PutError} {result : Result Counts PutError}
+    → Puts {T = T} front old.line line old.told told (Err error) → IsErrAnd result (λ found. found ≡ error)
+    → Weaves s (tex_by goes front s section old.book.names) old
+    (record { book = old.book; line = line; told = told; steps = old.steps }) result
+head-refused section true front puts is = weaves-refused _ (puts-stop _ puts is) refl (omega arith) is
+head-refused section false front puts is = weaves-refused _ (puts-failing refl puts is) refl (omega arith) is
 
 -- behind a head the line holds bytes
 pub head-holds : (holds ranged : Bool) (text : List ℕ) (n : ℕ) (section : Section)

@@ -28,7 +28,7 @@ pub record Added : Type 0 where
 -- behind a digit to which one is carried: a nine is a zero then, and carries it on
 abbrev pub carry_to : ℕ → List ℕ → Added
 carry_to digit digits =
-    if nat_lt digit 57 then record { carried = false; digits = digit + 1 ∷ digits }
+    if nat_lt digit 57 then record { carried = false; digits = (digit + 1) ∷ digits }
     else record { carried = true; digits = 48 ∷ digits }
 
 abbrev pub add_behind : ℕ → Added → Added

@@ -7,7 +7,7 @@ use Rattle.cw_names.specs.Names.{Entry}
 use Rattle.cw_phase1.specs.declared.sections.Section.{Section}
 use Rattle.cw_texts.specs.Scans.{scanned}
 use Rattle.cw_texts.specs.TexPieces.{TexPiece, Copied, InnerText, Cited, pieces_of}
-use Rattle.cw_texpart.specs.Beside.{beside, is_nothing}
+use Rattle.cw_texpart.specs.Beside.{code_beside, is_nothing}
 use Rattle.cw_texpart.specs.declared.beside.Beside.{Beside}
 use Rattle.cw_texpart.specs.Done.{Done, behind, plain, reprinted, then}
 use Rattle.cw_texpart.specs.Heads.{head}
@@ -32,7 +32,7 @@ tex_by true front s section names =
 tex_by false front s section names = plain front names
 
 abbrev pub beside_in : Setting → Section → Beside
-beside_in s section = beside s.text s.flags s.book.name_uses section
+beside_in s section = code_beside s.text s.flags s.book.name_uses section
 
 abbrev pub tex_done : Setting → Section → List Entry → Done ℕ
 tex_done s section names =

@@ -1,7 +1,7 @@
 //! What stands beside the number of a section, on its line.
 ghost use Rattle.std.specs.Prelude.{◌≡◌, IfOk};
 ghost use Rattle.cw_rules.specs.Answers.{seen};
-ghost use Rattle.cw_texpart.specs.Beside.{beside, has_definition, has_prose, is_nothing, is_prose};
+ghost use Rattle.cw_texpart.specs.Beside.{code_beside, has_definition, has_prose, is_nothing, is_prose};
 ghost use Rattle.cw_texts.specs.PieceForms.{piece_is};
 
 use crate::inks::prints_nothing;
@@ -45,7 +45,8 @@ fn has_prose(text: &[u8], tex: Span) -> Result<bool, Memory>
 {
     let mut pieces = Pieces::over(text, tex);
     'all: loop {
-        match pieces.next()? {
+        let next = pieces.next()?;
+        match next {
             Some(piece) => {
                 if is_prose(text, &piece) {
                     return Ok(true);
@@ -64,8 +65,13 @@ fn has_definition(text: &[u8], part: Span) -> bool
 }
 
 /// What stands beside the number of a section: with flag r, where it has no prose, the first code that it prints.
-pub fn beside(text: &[u8], flags: &Flags, book: &Book, section: &Section) -> Result<Beside, Memory>
-    ensures { IfOk result (λ b. b ≡ beside text.now flags.now book.now.name_uses section.now) }
+pub fn code_beside(
+    text: &[u8],
+    flags: &Flags,
+    book: &Book,
+    section: &Section,
+) -> Result<Beside, Memory>
+    ensures { IfOk result (λ b. b ≡ code_beside text.now flags.now book.now.name_uses section.now) }
 {
     if !flags.ranged {
         return Ok(Beside::Nothing);

@@ -13,8 +13,8 @@ use cw_phase1::{Depth, Section};
 use itoa::Buffer;
 use std::alloc::Global;
 
-/// What the head of a section is made of: the web's text, and the section with its number. With `ranged` its depth is as
-/// the macros count it.
+/// What the head of a section is made of: the web's text, and the section with its number. With `ranged` its depth is
+/// as the macros count it.
 #[derive(Clone, Copy)]
 pub(crate) struct Head<'a> {
     pub(crate) alloc: Global,
@@ -43,12 +43,12 @@ fn put_deep<D: Desk>(h: Head, out: &mut LineOut, desk: &mut D) -> Result<(), Put
         (section_number h.entry.number h.entry.section.changed)) out.old out.new
         (D.told desk.old) (D.told desk.new) result }
 {
-    if !h.ranged {
-        let depth = depth_of(h.text, h.section.depth);
-        return put_starred(depth, h.number, h.section.changed, out, desk);
+    if h.ranged {
+        let depth = raised_depth(h)?;
+        return put_starred(depth.as_slice(), h.number, h.section.changed, out, desk);
     }
-    let depth = raised_depth(h)?;
-    put_starred(depth.as_slice(), h.number, h.section.changed, out, desk)
+    let depth = depth_of(h.text, h.section.depth);
+    put_starred(depth, h.number, h.section.changed, out, desk)
 }
 
 // The depth of a section in digits, as the macros count it.

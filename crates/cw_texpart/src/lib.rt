@@ -13,7 +13,7 @@ mod tex_parts;
 mod texts;
 mod whole;
 
-pub use beside::{Beside, beside};
+pub use beside::{Beside, code_beside};
 pub use counts::Counts;
 pub use heads::put_number;
 pub use laws::whole_pieces_law;

@@ -16,7 +16,7 @@ ghost use Rattle.cw_texts.specs.TexPieces.{pieces_of};
 ghost use Rattle.cw_texpart.specs.Texts.{lasting, name_done, setting, text_done};
 ghost use Rattle.cw_texpart.specs.Weaving.{Weaves};
 
-use crate::beside::beside;
+use crate::beside::code_beside;
 use crate::copying::{end_line_if, holds_bytes};
 use crate::heads::{Head, put_head};
 use crate::inks::put_token;
@@ -213,7 +213,7 @@ fn put_section<D: Desk, L: Ledger>(
         (record { book = book.old; line = out.old; told = D.told desk.old; steps = steps.old })
         (record { book = book.new; line = out.new; told = D.told desk.new; steps = steps.new }) result }
 {
-    let code = beside(t.text, t.flags, book, &section)?;
+    let code = code_beside(t.text, t.flags, book, &section)?;
     let head = Head {
         alloc: t.alloc,
         text: t.text,
@@ -222,10 +222,10 @@ fn put_section<D: Desk, L: Ledger>(
         ranged: t.flags.ranged,
     };
     put_head(head, out, desk)?;
-    if !code.is_nothing() {
-        return Ok(Counts::none());
+    if code.is_nothing() {
+        return put_pieces(t, section.tex, book, out, desk, steps);
     }
-    put_pieces(t, section.tex, book, out, desk, steps)
+    Ok(Counts::none())
 }
 
 /// Prints the head of the section of this number, and directly behind it its TeX part. The marks of the C texts in it

@@ -5,7 +5,7 @@ use Rattle.cw_texpart.specs.Beside.{has_prose, is_prose}
 use Rattle.cw_texpart.proofs.beside.has_prose.Given as goal
 
 abbrev pub invariant-all : goal.invariant-all
-invariant-all l = list_any (is_prose l.text) l.pieces ≡ has_prose l.text l.tex
+invariant-all l = list_any (is_prose l.text) l.pieces ≡ has_prose l.text l.fn.tex
 
 abbrev pub decreases-all : goal.decreases-all
 decreases-all l = length l.pieces

@@ -3,10 +3,13 @@ use Rattle.std.proofs.Common.{◌≡◌, ◌≤◌, true, drop, length, take}
 use Rattle.cw_texpart.specs.Heads.{with_one}
 use Rattle.cw_texpart.proofs.heads.successor.Given as goal
 
-abbrev pub invariant-loop : goal.invariant-loop
-invariant-loop l = record {
+abbrev pub invariant-loop-at : goal.invariant-loop-at
+invariant-loop-at l = record {
   within : l.at ≤ length l.digits.items;
   size : length l.digits.items ≡ length l.number;
   front : take l.at l.digits.items ≡ take l.at l.number;
   carried : with_one (drop l.at l.number) ≡ record { carried = true; digits = drop l.at l.digits.items };
 }
+
+abbrev pub decreases-loop-at : goal.decreases-loop-at
+decreases-loop-at l = l.at

@@ -1,38 +1,66 @@
--- The TeX part stands behind its head.
-use Rattle.std.proofs.Common.{Bool, ap, refl, ◌∙◌, arith}
-use Rattle.cw_lines.specs.WritesLaws.{can-after, puts-bytes, puts-stop}
+-- The TeX part stands behind its head, where no code stands beside the number.
+use Rattle.std.proofs.Common.{◌≡◌, Bool, true, false, ap, refl, sym, ◌∙◌, arith}
+use Rattle.std.specs.Prelude.{Ok}
+use Rattle.std.proofs.lemmas.List.{append-nil}
+use Rattle.cw_lines.specs.WritesLaws.{can-after, puts-bytes, puts-none, puts-nothing, puts-then}
+use Rattle.cw_lines.specs.declared.put_error.PutError.TheVariants.{Memory}
+use Rattle.cw_texpart.specs.Beside.{code_beside, is_nothing}
 use Rattle.cw_texpart.specs.Done.{reprinted}
 use Rattle.cw_texpart.specs.Heads.{head}
 use Rattle.cw_texpart.specs.Inks.{laid}
 use Rattle.cw_texpart.specs.Laying.{holds_bytes}
 use Rattle.cw_texpart.specs.PartForms.{TexSetting, tex_setting}
-use Rattle.cw_texpart.specs.TexParts.{pieces_done}
+use Rattle.cw_texpart.specs.TexParts.{beside_in, pieces_done, tex_by}
 use Rattle.cw_texts.specs.TexPieces.{pieces_of}
 use Rattle.cw_texpart.specs.Texts.{lasting}
 use Rattle.cw_texpart.proofs.LayingLaws.{holds-put}
-use Rattle.cw_texpart.proofs.WeavingLaws.{head-holds, weaves-as, weaves-behind, weaves-refused}
+use Rattle.cw_texpart.proofs.WeavingLaws.{head-holds, head-refused, weaves-as, weaves-behind, weaves-put}
+use Rattle.cw_texpart.proofs.WeavingLaws.{weaves-refused}
 use Rattle.cw_texpart.proofs.tex_parts.put_section.Goals as goal
+
+pub returns-in_err-code : goal.returns-in_err-code
+returns-in_err-code g c =
+    weaves-refused Memory (puts-nothing _ _ _ c.from_residual.ensures.1) refl (omega arith) c.from_residual.ensures.1
 
 pub returns-in_err-put_head : goal.returns-in_err-put_head
 returns-in_err-put_head g c =
-    weaves-refused _ (puts-stop _ (puts-bytes
-    (ap (λ (s : TexSetting). head s.flags.ranged s.text s.section c.args.section)
-    c.t.view_is)
-    c.in_err-put_head.ensures) c.from_residual.ensures.1) refl
-    (omega arith) c.from_residual.ensures.1
+    head-refused c.args.section
+    (is_nothing (beside_in (tex_setting c.args.t.now (lasting c.args.book.now)) c.args.section))
+    (head c.args.t.now.flags.ranged c.args.t.now.text c.args.t.now.section c.args.section)
+    (puts-bytes (ap (λ (s : TexSetting). head s.flags.ranged s.text s.section c.args.section) c.t.view_is)
+    c.in_err-put_head.ensures)
+    c.from_residual-in_err-put_head.ensures.1
 
 pub put_pieces-requires-clause-can : goal.put_pieces-requires-clause-can
 put_pieces-requires-clause-can g c = can-after c.requires.can c.in_ok-put_head.ensures
 
-pub returns : goal.returns
-returns g c =
+pub returns-then-is_nothing : goal.returns-then-is_nothing
+returns-then-is_nothing g c =
+    let s = tex_setting c.args.t.now (lasting c.args.book.now) in
+    let front = head c.args.t.now.flags.ranged c.args.t.now.text c.args.t.now.section c.args.section in
     let put = puts-bytes (ap (λ (s : TexSetting). head s.flags.ranged s.text s.section c.args.section) c.t.view_is)
     c.in_ok-put_head.ensures in
-    weaves-behind put
+    let none : true ≡ is_nothing (beside_in s c.args.section) =
+    sym c.if-is_nothing.true ∙ c.is_nothing.ensures ∙ ap is_nothing (c.in_ok-code.ensures
+    ∙ ap (λ (s : TexSetting). code_beside s.text s.flags c.args.book.now.name_uses c.args.section) c.t.view_is) in
+    weaves-as (ap (λ (goes : Bool). tex_by goes front s c.args.section c.args.book.now.names) none)
+    (weaves-behind put
     (weaves-as
     (ap (λ (holds : Bool). reprinted (laid holds)
-    (pieces_done (tex_setting c.args.t.now (lasting c.args.book.now))
-    (pieces_of c.args.t.now.text c.args.section.tex) c.args.book.now.names))
+    (pieces_done s (pieces_of c.args.t.now.text c.args.section.tex) c.args.book.now.names))
     (holds-put put ∙ head-holds
     (holds_bytes c.args.out.now) c.args.t.now.flags.ranged c.args.t.now.text c.args.t.now.section c.args.section))
-    c.put_pieces.ensures)
+    c.put_pieces.ensures))
+
+pub returns : goal.returns
+returns g c =
+    let s = tex_setting c.args.t.now (lasting c.args.book.now) in
+    let front = head c.args.t.now.flags.ranged c.args.t.now.text c.args.t.now.section c.args.section in
+    let put = puts-bytes (ap (λ (s : TexSetting). head s.flags.ranged s.text s.section c.args.section) c.t.view_is)
+    c.in_ok-put_head.ensures in
+    let none : false ≡ is_nothing (beside_in s c.args.section) =
+    sym c.if-is_nothing.false ∙ c.is_nothing.ensures ∙ ap is_nothing (c.in_ok-code.ensures
+    ∙ ap (λ (s : TexSetting). code_beside s.text s.flags c.args.book.now.name_uses c.args.section) c.t.view_is) in
+    weaves-as (ap (λ (goes : Bool). tex_by goes front s c.args.section c.args.book.now.names) none)
+    (weaves-put front (Ok c.none.result) (puts-bytes (append-nil front) (puts-then put (puts-none _ _ _)))
+    c.none.ensures.scraps c.none.ensures.productions)
