@@ -2,6 +2,7 @@
 use Rattle.std.proofs.Common.{◌≡◌, ℕ, Bool, false, true, List, [], ◌∷◌, ◌++◌, codes, refl}
 use Rattle.std.specs.Fmt.{digits}
 use Rattle.cw_base.specs.Flags.{start_flags}
+use Rattle.cw_base.specs.declared.flags.Flags.{Flags}
 use Rattle.cw_base.specs.Web.{MergedLine, text_of}
 use Rattle.cw_part.specs.Footnotes.{footnote, name_footnotes}
 use Rattle.cw_part.specs.Sections.{sections_done}
@@ -23,12 +24,16 @@ abbrev web : List (List ℕ) → List MergedLine
 web [] = []
 web (text ∷ texts) = line false text ∷ web texts
 
-abbrev woven_from : List MergedLine → Book → List ℕ
-woven_from lines b = (sections_done (setting (text_of lines) start_flags 0 b) 1 b.outline.sections b.names).out
+abbrev woven_from : Flags → List MergedLine → Book → List ℕ
+woven_from flags lines b = (sections_done (setting (text_of lines) flags 0 b) 1 b.outline.sections b.names).out
 
 -- the sections of a web
 abbrev woven : List MergedLine → List ℕ
-woven lines = woven_from lines (book lines)
+woven lines = woven_from start_flags lines (book lines)
+
+-- the same with flag r
+abbrev ranged : List MergedLine → List ℕ
+ranged lines = woven_from (record start_flags { ranged = true }) lines (book lines)
 
 -- these lines, one after another
 abbrev lines_of : List (List ℕ) → List ℕ
@@ -202,6 +207,35 @@ changed_row : woven (line true (codes "@ @c @<A@>;") ∷ web (
     [])
 unfolding digits translated normal log count positions looks productions
 changed_row = refl
+
+-- With flag r code stands beside the number of a section without prose, and elsewhere a name is one step to the left.
+ranged_row : ranged (web (
+    codes "@ @<A@>= x;" ∷
+    codes "@ See @<A@>." ∷
+    codes "@<A@>= y;" ∷
+    codes "@ @d n 3" ∷
+    codes "@c @<A@>;" ∷
+    []))
+    ≡ lines_of (
+    codes "\\M{1}\\B\\X1:A\\X${}\\E{}$\\6" ∷
+    codes "\\|x;\\par" ∷
+    codes "\\A2." ∷
+    codes "\\Q2." ∷
+    codes "\\U3." ∷
+    codes "\\fi" ∷
+    codes "" ∷
+    codes "\\M{2}See \\PB{\\X1:A\\X}." ∷
+    codes "\\Y\\B\\4\\X1:A\\X${}\\mathrel+\\E{}$\\6" ∷
+    codes "\\|y;\\par" ∷
+    codes "\\fi" ∷
+    codes "" ∷
+    codes "\\M{3}\\B\\quad\\4\\D$\\|n$\\5\\T{3}\\par" ∷
+    codes "\\Y\\B\\X1:A\\X;\\par" ∷
+    codes "\\fi" ∷
+    codes "" ∷
+    [])
+unfolding digits translated normal log count positions looks productions
+ranged_row = refl
 
 program_row : woven (web (
     codes "\\def\\title{Hello}" ∷

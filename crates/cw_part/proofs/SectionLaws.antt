@@ -1,11 +1,10 @@
 -- Pieces of a section, in the setting of the section.
-use Rattle.std.proofs.Common.{◌≡◌, ℕ, ◌+◌, refl, ap, subst, List}
+use Rattle.std.proofs.Common.{◌≡◌, ℕ, ◌+◌, refl, subst, List}
 use Rattle.std.specs.Prelude.{Result}
 use Rattle.cw_base.specs.declared.flags.Flags.{Flags}
 use Rattle.cw_lines.specs.declared.put_error.PutError.{PutError}
 use Rattle.cw_names.specs.Names.{Entry}
 use Rattle.cw_part.specs.declared.paragraphs.Present.{Present}
-use Rattle.cw_part.specs.Parts.{paragraph}
 use Rattle.cw_part.specs.PresentForms.{part_setting}
 use Rattle.cw_part.specs.Sections.{rest_done}
 use Rattle.cw_part.specs.WholeTexts.{IsWholeRest}
@@ -15,7 +14,6 @@ use Rattle.cw_texpart.specs.declared.counts.Counts.{Counts}
 use Rattle.cw_texpart.specs.Done.{Done}
 use Rattle.cw_texpart.specs.Texts.{Lasting, Setting, setting}
 use Rattle.cw_texpart.specs.Weaving.{Press, Weaves}
-use Rattle.cw_texpart.proofs.WeavingLaws.{weaves-as}
 use Rattle.cw_part.proofs.WovenLaws.{AreSums, Weaving}
 
 -- the same of what stays of a book
@@ -25,12 +23,6 @@ pub moved : (p : Present) (d : Setting → Done ℕ) {l l' : Lasting} {old new :
     → Weaves (part_setting p l') (d (part_setting p l')) old new result
 moved p d {old = old} {new = new} {result = result} same woven =
     subst (λ (l : Lasting). Weaves (part_setting p l) (d (part_setting p l)) old new result) same woven
-
--- the same front
-pub fronted : {s : Setting} (d : Done ℕ) {front front' : List ℕ} {old new : Press} {result : Result Counts PutError}
-    → front ≡ front'
-    → Weaves s (paragraph front d) old new result → Weaves s (paragraph front' d) old new result
-fronted d same woven = weaves-as (ap (λ (front : List ℕ). paragraph front d) same) woven
 
 -- the same rest
 pub weaving-as : {s : Setting} {rest rest' : List Entry → Done ℕ} {all : Done ℕ} {old now : Press} {counts : Counts}

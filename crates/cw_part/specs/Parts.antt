@@ -59,7 +59,11 @@ part_opening other ranged section = codes "\\Y\\B" ++ step_left ranged section
 abbrev pub part_from : List ℕ → Section → Done ℕ → Done ℕ
 part_from opening section d = paragraph_if (is_printed section d) opening d
 
-abbrev pub part_done : Setting → Section → List Entry → Done ℕ
-part_done s section names =
-    part_from (part_opening (beside_in s section) s.flags.ranged section) section
+-- the C part of a section that has this code beside its number
+abbrev pub part_by : Beside → Setting → Section → List Entry → Done ℕ
+part_by code s section names =
+    part_from (part_opening code s.flags.ranged section) section
     (text_done s modes.CPart false section.c_part names)
+
+abbrev pub part_done : Setting → Section → List Entry → Done ℕ
+part_done s section names = part_by (beside_in s section) s section names

@@ -3,15 +3,14 @@ ghost use Rattle.std.specs.Prelude.{◌≡◌, ◌^◌, ◌-◌, ◌<◌, ◌≤
 ghost use Rattle.cw_base.specs.Web.{text_of};
 ghost use Rattle.cw_lines.specs.Writes.{CanWrite, Puts};
 ghost use Rattle.cw_texts.specs.Definitions.{definitions_in, printed_definitions};
-ghost use Rattle.cw_part.specs.Parts.{definitions_done, first_opening, part_from, part_opening};
+ghost use Rattle.cw_part.specs.Parts.{definitions_done, first_opening, part_by, part_opening};
 ghost use Rattle.cw_part.specs.PresentForms.{part_setting};
-ghost use Rattle.cw_part.specs.Sections.{ending, rest_done};
+ghost use Rattle.cw_part.specs.Sections.{ending, rest_by, rest_done};
 ghost use Rattle.cw_part.specs.WholeTexts.{IsWholeDefinition, IsWholeIn, IsWholeRest};
 ghost use Rattle.cw_phase1.specs.declared.sections.Section.{Section};
 ghost use Rattle.cw_rules.specs.declared.tokens.Mode.TheVariants.{CPart, Definition};
 ghost use Rattle.cw_translator.specs.NameParts.{AreNamesOf};
-ghost use Rattle.cw_texpart.specs.TexParts.{beside_in};
-ghost use Rattle.cw_texpart.specs.Texts.{lasting, setting, text_done};
+ghost use Rattle.cw_texpart.specs.Texts.{lasting, setting};
 ghost use Rattle.cw_texpart.specs.Weaving.{Weaves};
 
 use crate::footnotes::put_footnotes;
@@ -21,7 +20,7 @@ use cw_desk::Desk;
 use cw_lex::Mode;
 use cw_lines::{LineOut, PutError};
 use cw_phase1::{Book, Section};
-use cw_texpart::{Beside, Counts, beside};
+use cw_texpart::{Beside, Counts, code_beside};
 use cw_texts::Definitions;
 use std::alloc::Global;
 
@@ -101,8 +100,7 @@ fn print_c_part<D: Desk, L: Ledger>(
     requires whole { IsWholeIn CPart p.text.now section.c_part }
     requires kept { AreNamesOf book.old.sec_names book.old.name_uses }
     ensures { Weaves (part_setting p.entry (lasting book.old))
-        (part_from (part_opening p.entry.beside p.entry.flags.now.ranged section) section
-        (text_done (part_setting p.entry (lasting book.old)) CPart false section.c_part book.old.names))
+        (part_by p.entry.beside (part_setting p.entry (lasting book.old)) section book.old.names)
         (record { book = book.old; line = out.old; told = D.told desk.old; steps = steps.old })
         (record { book = book.new; line = out.new; told = D.told desk.new; steps = steps.new }) result }
 {
@@ -143,10 +141,9 @@ fn print_rest<D: Desk, L: Ledger>(
     requires can { CanWrite (D.told desk.old) out.old }
     requires short { length p.text.now ≤ 2 ^ 24 }
     requires whole { IsWholeRest p.text.now section }
-    requires beside { p.beside ≡ beside_in (part_setting p (lasting book.old)) section }
     requires kept { AreNamesOf book.old.sec_names book.old.name_uses }
     ensures { Weaves (part_setting p.entry (lasting book.old))
-        (rest_done (part_setting p.entry (lasting book.old)) section book.old.names)
+        (rest_by p.entry.beside (part_setting p.entry (lasting book.old)) section book.old.names)
         (record { book = book.old; line = out.old; told = D.told desk.old; steps = steps.old })
         (record { book = book.new; line = out.new; told = D.told desk.new; steps = steps.new }) result }
 {
@@ -183,12 +180,13 @@ pub fn weave_section<D: Desk, L: Ledger>(
 {
     let text = web.text();
     let printed = book.section(section);
+    let beside = code_beside(text, flags, book, &printed)?;
     let present = Present {
         text,
         section,
         flags,
         alloc,
-        beside: beside(text, flags, book, &printed)?,
+        beside,
     };
     print_rest(present, printed, book, out, desk, steps)
 }

@@ -1,7 +1,6 @@
 -- One definition goes behind another.
-use Rattle.std.proofs.Common.{◌≡◌, false, not, refl, sym, ap, subst, All, List, length, arith}
+use Rattle.std.proofs.Common.{◌≡◌, ℕ, not, refl, sym, ap, subst, All, List, length, arith}
 use Rattle.std.proofs.lemmas.List.Elements.{All-filter, All-head, All-tail}
-use Rattle.cw_rules.specs.declared.tokens.Mode.TheVariants.{Definition as Definitions}
 use Rattle.cw_lines.specs.WritesLaws.{can-after}
 use Rattle.cw_texts.specs.declared.definitions.Definition.{Definition}
 use Rattle.cw_texts.specs.DefinitionForms.{loud}
@@ -10,8 +9,8 @@ use Rattle.cw_part.specs.Parts.{definition_done, definitions_done, first_opening
 use Rattle.cw_part.specs.PresentForms.{part_setting}
 use Rattle.cw_part.specs.WholeTexts.{IsWholeDefinition}
 use Rattle.cw_translator.specs.NameParts.{AreNamesOf}
-use Rattle.cw_texpart.specs.Texts.{Lasting, Setting, lasting, text_done}
-use Rattle.cw_part.proofs.SectionLaws.{fronted, moved, sums-are, weaving-as}
+use Rattle.cw_texpart.specs.Texts.{Lasting, Setting, lasting}
+use Rattle.cw_part.proofs.SectionLaws.{moved, sums-are, weaving-as}
 use Rattle.cw_part.proofs.WovenLaws.{weaving-begun, weaving-ended, weaving-next, weaving-stopped, weaving-wanting}
 use Rattle.cw_part.proofs.sections.print_definitions.Goals as goal
 
@@ -22,10 +21,13 @@ printed-init g c =
     c.over-definitions.ensures in
     record {
       woven = weaving-as
+          (ap (λ (opening : List ℕ). definitions_done s opening (not_silent c.over-definitions.result))
+          (sym c.first_opening-front.ensures))
+          (weaving-as
           (ap (λ (ds : List Definition). definitions_done s (first_opening c.args.p.beside) (not_silent ds)) (sym are))
           (weaving-begun s (definitions_done s (first_opening c.args.p.beside)
           (not_silent (definitions_in c.args.p.text.now c.args.part))) _
-          (record { scraps = c.none-counts.ensures.scraps; productions = c.none-counts.ensures.productions }));
+          (record { scraps = c.none-counts.ensures.scraps; productions = c.none-counts.ensures.productions })));
       whole = All-filter (λ d. not d.silent) (IsWholeDefinition c.args.p.text.now) c.over-definitions.result
           (subst (All (IsWholeDefinition c.args.p.text.now)) (sym are) c.requires.each);
     }
@@ -54,8 +56,7 @@ returns-in_err-more-in-Some g c =
     (weaving-as (ap (definitions_done s c.printed.front.now) c.in-Some.ensures) c.printed.invariant.woven)
     (moved c.args.p (λ (t : Setting). definition_done t c.printed.front.now (loud c.in-Some.span) c.printed.book.names)
     c.printed.invariant.woven.woven.same
-    (fronted (text_done (part_setting c.args.p (lasting c.printed.book)) Definitions false c.in-Some.span
-    c.printed.book.names) refl c.in_err-more-in-Some.ensures))
+    c.in_err-more-in-Some.ensures)
     c.from_residual.ensures.1
 
 pub returns-in_err-counts-in-Some : goal.returns-in_err-counts-in-Some
@@ -67,8 +68,7 @@ returns-in_err-counts-in-Some g c =
     (weaving-as (ap (definitions_done s c.printed.front.now) c.in-Some.ensures) c.printed.invariant.woven)
     (moved c.args.p (λ (t : Setting). definition_done t c.printed.front.now (loud c.in-Some.span) c.printed.book.names)
     c.printed.invariant.woven.woven.same
-    (fronted (text_done (part_setting c.args.p (lasting c.printed.book)) Definitions false c.in-Some.span
-    c.printed.book.names) refl c.in_ok-more-in-Some.ensures))
+    c.in_ok-more-in-Some.ensures)
     (sums-are c.printed.counts c.in_ok-more-in-Some.more))
     c.from_residual-in_err-counts-in-Some.ensures.1
 
@@ -81,8 +81,7 @@ printed-preserved g c =
           (weaving-as (ap (definitions_done s c.printed.front.now) c.in-Some.ensures) c.printed.invariant.woven)
           (moved c.args.p (λ (t : Setting). definition_done t c.printed.front.now
           (loud c.in-Some.span) c.printed.book.names) c.printed.invariant.woven.woven.same
-          (fronted (text_done (part_setting c.args.p (lasting c.printed.book)) Definitions false c.in-Some.span
-          c.printed.book.names) refl c.in_ok-more-in-Some.ensures))
+          c.in_ok-more-in-Some.ensures)
           (record {
             scraps = c.in_ok-counts-in-Some.ensures.scraps;
             productions =

@@ -4,13 +4,12 @@ use Rattle.cw_lines.specs.WritesLaws.{can-after, puts-bytes}
 use Rattle.cw_names.specs.Names.{Entry}
 use Rattle.cw_texts.specs.declared.definitions.Definition.{Definition}
 use Rattle.cw_texts.specs.Definitions.{printed_definitions}
-use Rattle.cw_part.specs.Parts.{definitions_done, first_opening, part_done}
+use Rattle.cw_part.specs.Parts.{definitions_done, first_opening, part_by}
 use Rattle.cw_part.specs.PresentForms.{part_setting}
-use Rattle.cw_part.specs.Sections.{ending, rest_done}
+use Rattle.cw_part.specs.Sections.{ending, rest_by}
 use Rattle.cw_translator.specs.NameParts.{AreNamesOf}
 use Rattle.cw_texpart.specs.declared.counts.Counts.{Counts}
 use Rattle.cw_texpart.specs.Done.{Done, plain, then}
-use Rattle.cw_texpart.specs.TexParts.{beside_in}
 use Rattle.cw_texpart.specs.Texts.{Lasting, Setting, lasting}
 use Rattle.cw_part.proofs.SectionLaws.{moved, sums-are}
 use Rattle.cw_part.proofs.WovenLaws.{
@@ -47,13 +46,13 @@ pub returns-in_err-more : goal.returns-in_err-more
 returns-in_err-more g c =
     let s : Setting = part_setting c.args.p (lasting c.args.book.now) in
     let ds : List Definition = printed_definitions c.args.p.text.now c.args.section.definitions in
-    let part : List Entry → Done ℕ = part_done s c.args.section in
+    let part : List Entry → Done ℕ = part_by c.args.p.beside s c.args.section in
     let end : List Entry → Done ℕ = plain (ending s c.args.section) in
     weaving-stopped part end
-    (weaving-next (definitions_done s (first_opening (beside_in s c.args.section)) ds) (λ names. then (part names) end)
-    (weaving-begun s (rest_done s c.args.section) _ {counts = no_counts}
+    (weaving-next (definitions_done s (first_opening c.args.p.beside) ds) (λ names. then (part names) end)
+    (weaving-begun s (rest_by c.args.p.beside s c.args.section) _ {counts = no_counts}
     (record { scraps = refl; productions = refl })) c.in_ok-counts.ensures (none-before c.in_ok-counts.counts))
-    (moved c.args.p (λ (t : Setting). part_done t c.args.section c.print_definitions.new.book.names)
+    (moved c.args.p (λ (t : Setting). part_by c.args.p.beside t c.args.section c.print_definitions.new.book.names)
     c.in_ok-counts.ensures.same c.in_err-more.ensures)
     c.from_residual-in_err-more.ensures.1
 
@@ -61,14 +60,14 @@ pub returns-in_err-counts-2 : goal.returns-in_err-counts-2
 returns-in_err-counts-2 g c =
     let s : Setting = part_setting c.args.p (lasting c.args.book.now) in
     let ds : List Definition = printed_definitions c.args.p.text.now c.args.section.definitions in
-    let part : List Entry → Done ℕ = part_done s c.args.section in
+    let part : List Entry → Done ℕ = part_by c.args.p.beside s c.args.section in
     let end : List Entry → Done ℕ = plain (ending s c.args.section) in
     weaving-wanting
     (weaving-next part end
-    (weaving-next (definitions_done s (first_opening (beside_in s c.args.section)) ds) (λ names. then (part names) end)
-    (weaving-begun s (rest_done s c.args.section) _ {counts = no_counts}
+    (weaving-next (definitions_done s (first_opening c.args.p.beside) ds) (λ names. then (part names) end)
+    (weaving-begun s (rest_by c.args.p.beside s c.args.section) _ {counts = no_counts}
     (record { scraps = refl; productions = refl })) c.in_ok-counts.ensures (none-before c.in_ok-counts.counts))
-    (moved c.args.p (λ (t : Setting). part_done t c.args.section c.print_definitions.new.book.names)
+    (moved c.args.p (λ (t : Setting). part_by c.args.p.beside t c.args.section c.print_definitions.new.book.names)
     c.in_ok-counts.ensures.same c.in_ok-more.ensures)
     (sums-are c.in_ok-counts.counts c.in_ok-more.more))
     c.from_residual-in_err-counts-2.ensures.1
@@ -81,14 +80,14 @@ pub returns-in_err-put_ending : goal.returns-in_err-put_ending
 returns-in_err-put_ending g c =
     let s : Setting = part_setting c.args.p (lasting c.args.book.now) in
     let ds : List Definition = printed_definitions c.args.p.text.now c.args.section.definitions in
-    let part : List Entry → Done ℕ = part_done s c.args.section in
+    let part : List Entry → Done ℕ = part_by c.args.p.beside s c.args.section in
     let end : List Entry → Done ℕ = plain (ending s c.args.section) in
     weaving-last-stopped
     (weaving-next part end
-    (weaving-next (definitions_done s (first_opening (beside_in s c.args.section)) ds) (λ names. then (part names) end)
-    (weaving-begun s (rest_done s c.args.section) _ {counts = no_counts}
+    (weaving-next (definitions_done s (first_opening c.args.p.beside) ds) (λ names. then (part names) end)
+    (weaving-begun s (rest_by c.args.p.beside s c.args.section) _ {counts = no_counts}
     (record { scraps = refl; productions = refl })) c.in_ok-counts.ensures (none-before c.in_ok-counts.counts))
-    (moved c.args.p (λ (t : Setting). part_done t c.args.section c.print_definitions.new.book.names)
+    (moved c.args.p (λ (t : Setting). part_by c.args.p.beside t c.args.section c.print_definitions.new.book.names)
     c.in_ok-counts.ensures.same c.in_ok-more.ensures)
     (record { scraps = c.in_ok-counts-2.ensures.scraps; productions = c.in_ok-counts-2.ensures.productions }))
     (bytes-refused (puts-bytes
@@ -100,14 +99,14 @@ pub returns : goal.returns
 returns g c =
     let s : Setting = part_setting c.args.p (lasting c.args.book.now) in
     let ds : List Definition = printed_definitions c.args.p.text.now c.args.section.definitions in
-    let part : List Entry → Done ℕ = part_done s c.args.section in
+    let part : List Entry → Done ℕ = part_by c.args.p.beside s c.args.section in
     let end : List Entry → Done ℕ = plain (ending s c.args.section) in
     weaving-last
     (weaving-next part end
-    (weaving-next (definitions_done s (first_opening (beside_in s c.args.section)) ds) (λ names. then (part names) end)
-    (weaving-begun s (rest_done s c.args.section) _ {counts = no_counts}
+    (weaving-next (definitions_done s (first_opening c.args.p.beside) ds) (λ names. then (part names) end)
+    (weaving-begun s (rest_by c.args.p.beside s c.args.section) _ {counts = no_counts}
     (record { scraps = refl; productions = refl })) c.in_ok-counts.ensures (none-before c.in_ok-counts.counts))
-    (moved c.args.p (λ (t : Setting). part_done t c.args.section c.print_definitions.new.book.names)
+    (moved c.args.p (λ (t : Setting). part_by c.args.p.beside t c.args.section c.print_definitions.new.book.names)
     c.in_ok-counts.ensures.same c.in_ok-more.ensures)
     (record { scraps = c.in_ok-counts-2.ensures.scraps; productions = c.in_ok-counts-2.ensures.productions }))
     (weaves-bytes (puts-bytes
