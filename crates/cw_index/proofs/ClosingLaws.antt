@@ -1,9 +1,12 @@
--- Whether a section of a list is starred, by the first and the others.
-use Rattle.std.proofs.Common.{◌≡◌, ℕ, ◌+◌, ◌-◌, Bool, true, false, refl, sym, ap, ◌∙◌, subst, List, ◌∷◌, Some, drop}
-use Rattle.std.proofs.Common.{arith}
-use Rattle.std.specs.Prelude.{slice_get}
-use Rattle.std.specs.List.{list_any}
+-- Whether a section of a list is starred, and what is left of the line of changed sections.
+use Rattle.std.proofs.Common.{◌≡◌, ℕ, ◌+◌, ◌-◌, ◌≤◌, ◌&&◌, Bool, true, false, refl, sym, ap, ◌∙◌, subst, List, [], ◌∷◌}
+use Rattle.std.proofs.Common.{◌++◌, Some, append_assoc, arith, drop, length}
+use Rattle.std.specs.Prelude.{codes, slice_get, if◌then◌else◌}
+use Rattle.std.specs.List.{flat_map, list_any}
+use Rattle.std.proofs.lemmas.List.{drop_all}
+use Rattle.cw_base.specs.declared.flags.Flags.{Flags}
 use Rattle.cw_phase1.specs.declared.sections.Section.{Section}
+use Rattle.cw_index.specs.Closing.{change, changed_from, changes_line, changes_of}
 use Rattle.cw_index.proofs.RowLaws.{drop-at}
 
 abbrev any_starred : List Section → Bool
@@ -25,3 +28,59 @@ pub starred-later : (sections : List Section) (i : ℕ) (s : Section) → slice_
     → list_any (λ section. section.starred) (drop (i + 1) sections)
     ≡ list_any (λ section. section.starred) (drop i sections)
 starred-later sections i s there is = sym (here sections i s there ∙ rw is refl)
+
+-- ## The line of changed sections
+
+-- What is left to put of it for these numbers, where none is listed before them, and where one is.
+abbrev pub changes_left : Bool → List ℕ → List ℕ
+changes_left true numbers = changes_of numbers
+changes_left false numbers = flat_map (change false) numbers ++ codes ".\n"
+
+left-next : (first : Bool) (n : ℕ) (later : List ℕ)
+    → changes_left first (n ∷ later) ≡ change first n ++ changes_left false later
+left-next true n later = refl
+left-next false n later = append_assoc (change false n) (flat_map (change false) later) (codes ".\n")
+
+left-end : (first : Bool) → changes_left first [] ≡ (if first then [] else codes ".\n")
+left-end true = refl
+left-end false = refl
+
+-- Behind the last section the line is ended, if it was begun.
+pub left-behind : (first : Bool) (sections : List Section) (i : ℕ) (bytes : List ℕ) → length sections ≤ i
+    → bytes ≡ (if first then [] else codes ".\n")
+    → changes_left first (changed_from (i + 1) (drop i sections)) ≡ bytes
+left-behind first sections i bytes all is =
+    ap (λ (later : List Section). changes_left first (changed_from (i + 1) later)) (drop_all i sections all)
+    ∙ left-end first ∙ sym is
+
+left-at : (first : Bool) (sections : List Section) (i : ℕ) (s : Section)
+    → slice_get sections ((i + 1) - 1) ≡ Some s
+    → changes_left first (changed_from (i + 1) (drop i sections))
+    ≡ changes_left first (changed_from (i + 1) (s ∷ drop (i + 1) sections))
+left-at first sections i s there =
+    let e : (i + 1) - 1 ≡ i = omega arith in
+    ap (λ (later : List Section). changes_left first (changed_from (i + 1) later))
+    (drop-at sections i s (subst (λ (n : ℕ). slice_get sections n ≡ Some s) e there))
+
+pub left-here : (first : Bool) (sections : List Section) (i : ℕ) (s : Section)
+    → slice_get sections ((i + 1) - 1) ≡ Some s → s.changed ≡ true
+    → changes_left first (changed_from (i + 1) (drop i sections))
+    ≡ change first (i + 1) ++ changes_left false (changed_from ((i + 1) + 1) (drop (i + 1) sections))
+left-here first sections i s there is =
+    left-at first sections i s there
+    ∙ rw is (left-next first (i + 1) (changed_from ((i + 1) + 1) (drop (i + 1) sections)))
+
+pub left-later : (first : Bool) (sections : List Section) (i : ℕ) (s : Section)
+    → slice_get sections ((i + 1) - 1) ≡ Some s → s.changed ≡ false
+    → changes_left first (changed_from (i + 1) (drop i sections))
+    ≡ changes_left first (changed_from ((i + 1) + 1) (drop (i + 1) sections))
+left-later first sections i s there is = left-at first sections i s there ∙ rw is refl
+
+-- The line stands there where the flags ask for it.
+pub listed : (flags : Flags) (sections : List Section) → (flags.ranged && flags.index) ≡ true
+    → changes_of (changed_from 1 sections) ≡ changes_line flags sections
+listed flags sections asked = rw asked refl
+
+pub unlisted : (flags : Flags) (sections : List Section) → (flags.ranged && flags.index) ≡ false
+    → [] ≡ changes_line flags sections
+unlisted flags sections asked = rw asked refl

@@ -1,5 +1,5 @@
 -- Bytes are put piece by piece.
-use Rattle.std.proofs.Common.{◌≡◌, ℕ, ◌∙◌, List, ◌++◌, append_assoc}
+use Rattle.std.proofs.Common.{◌≡◌, ℕ, sym, ap, ◌∙◌, subst, List, ◌++◌, append_assoc}
 use Rattle.std.specs.Prelude.{Result, Ok, Err, IsErrAnd}
 use Rattle.std.proofs.lemmas.List.{append-nil}
 use Rattle.cw_part.proofs.PutLaws.{Putting}
@@ -32,3 +32,17 @@ pub putting-stop : {T U : Type 0} (xs ys : List ℕ) {all : List ℕ} {old mid n
     → Puts all old new before now result
 putting-stop xs ys p puts is =
     puts-bytes (append_assoc p.done xs ys ∙ p.goes) (puts-stop ys (puts-then p.put puts) is)
+
+-- what is left is put whole
+pub putting-end : {T : Type 0} {bytes rest all : List ℕ} {old mid new : LineState} {before told now : Told}
+    {result : Result T PutError} → rest ≡ bytes → Putting rest all old mid before told
+    → Puts {T = T} bytes mid new told now result → Puts {T = T} all old new before now result
+putting-end same p puts =
+    puts-bytes (ap (λ (bytes : List ℕ). p.done ++ bytes) (sym same) ∙ p.goes) (puts-then p.put puts)
+
+-- the same line and desk
+pub putting-moved : {rest all : List ℕ} {old mid new : LineState} {before told now : Told} → new ≡ mid → now ≡ told
+    → Putting rest all old mid before told → Putting rest all old new before now
+putting-moved {rest = rest} {all = all} {old = old} {mid = mid} {before = before} {now = now} line same p =
+    subst (λ (l : LineState). Putting rest all old l before now) (sym line)
+    (subst (λ (t : Told). Putting rest all old mid before t) (sym same) p)

@@ -92,3 +92,14 @@ end_row = refl
 
 no_index_row : closing_lines (record start_flags { index = false }) three ≡ codes "\\end\n"
 no_index_row = refl
+
+-- With flag r the changed sections are listed before the index.
+changes_row : closing_lines (record start_flags { ranged = true })
+    (section false true ∷ section false false ∷ section false true ∷ [])
+    ≡ codes "\\ch 1\\*, 3\\*.\n\\inx\n\\fin\n\\end\n"
+unfolding digits
+changes_row = refl
+
+no_changes_row : closing_lines (record start_flags { ranged = true }) (section false false ∷ [])
+    ≡ codes "\\inx\n\\fin\n\\end\n"
+no_changes_row = refl

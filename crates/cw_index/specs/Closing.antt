@@ -1,6 +1,6 @@
 -- The lines with which the TeX file of a book closes.
 use Rattle.std.specs.Prelude.{ℕ, ◌+◌, ◌&&◌, Bool, true, false, List, [], ◌∷◌, ◌++◌, codes, if◌then◌else◌}
-use Rattle.std.specs.List.{list_any}
+use Rattle.std.specs.List.{flat_map, list_any}
 use Rattle.cw_base.specs.declared.flags.Flags.{Flags}
 use Rattle.cw_phase1.specs.declared.sections.Section.{Section}
 use Rattle.cw_print.specs.Walk.{section_number}
@@ -13,26 +13,29 @@ last_line starred = if starred then codes "\\con\n" else codes "\\end\n"
 abbrev pub last_lines : Bool → Bool → List ℕ
 last_lines index starred = if index then codes "\\inx\n\\fin\n" ++ last_line starred else codes "\\end\n"
 
--- ## The list of changed sections
+-- ## The line of changed sections
 
--- What stands before the number of a changed section, where it is the first that is listed, and where it isn't.
+-- the numbers of the changed ones of sections, of which the first has this number
+abbrev pub changed_from : ℕ → List Section → List ℕ
+changed_from n [] = []
+changed_from n (s ∷ sections) =
+    if s.changed then n ∷ changed_from (n + 1) sections else changed_from (n + 1) sections
+
+-- what stands before the first of them, and before each other
 abbrev pub before_change : Bool → List ℕ
 before_change first = if first then codes "\\ch " else codes ", "
 
--- what stands behind the last of them; where none is listed there is no line
-abbrev pub behind_changes : Bool → List ℕ
-behind_changes none = if none then [] else codes ".\n"
+abbrev pub change : Bool → ℕ → List ℕ
+change first n = before_change first ++ section_number n true
 
--- The changed ones of sections, of which the first has this number; with `first` none is listed before them.
-abbrev pub changes_from : Bool → ℕ → List Section → List ℕ
-changes_from first n [] = behind_changes first
-changes_from first n (s ∷ sections) =
-    if s.changed then before_change first ++ section_number n true ++ changes_from false (n + 1) sections
-    else changes_from first (n + 1) sections
+-- A line with these numbers; without a number there is no line.
+abbrev pub changes_of : List ℕ → List ℕ
+changes_of [] = []
+changes_of (n ∷ later) = change true n ++ (flat_map (change false) later ++ codes ".\n")
 
--- with flag r they are listed before the index
+-- With flag r they are listed before the index.
 abbrev pub changes_line : Flags → List Section → List ℕ
-changes_line flags sections = if flags.ranged && flags.index then changes_from true 1 sections else []
+changes_line flags sections = if flags.ranged && flags.index then changes_of (changed_from 1 sections) else []
 
 abbrev pub closing_lines : Flags → List Section → List ℕ
 closing_lines flags sections =

@@ -1,8 +1,9 @@
 //! The lines with which the TeX file of a book closes.
-ghost use Rattle.std.specs.Prelude.{◌≡◌, true, IfOk};
+ghost use Rattle.std.specs.Prelude.{◌≡◌, ◌&&◌, [], IfOk, codes, if◌then◌else◌};
 ghost use Rattle.std.specs.List.{list_any};
 ghost use Rattle.cw_lines.specs.Writes.{CanWrite, Puts};
-ghost use Rattle.cw_index.specs.Closing.{changes_from, changes_line, closing_lines, last_lines};
+ghost use Rattle.cw_index.specs.Closing.{before_change, change, changed_from, changes_line, changes_of, closing_lines};
+ghost use Rattle.cw_index.specs.Closing.{last_lines};
 
 use cw_base::Flags;
 use cw_desk::Desk;
@@ -35,28 +36,53 @@ fn closing_bytes(index: bool, starred: bool) -> &'static [u8]
     }
 }
 
+// What stands before the first changed section, and before each other.
+fn before_change(first: bool) -> &'static [u8]
+    ensures { result.now ≡ before_change first }
+{
+    if first { b"\\ch " } else { b", " }
+}
+
+// What ends the line of changed sections, which is left out where there is none.
+fn behind_changes(none: bool) -> &'static [u8]
+    ensures { result.now ≡ (if none then [] else codes ".\n") }
+{
+    if none { b"" } else { b".\n" }
+}
+
+// Puts the number of a changed section, and what stands before it.
+fn put_change<D: Desk>(first: bool, number: u32, out: &mut LineOut, desk: &mut D) -> Result<(), PutError>
+    requires can { CanWrite (D.told desk.old) out.old }
+    ensures { Puts (change first number) out.old out.new (D.told desk.old) (D.told desk.new) result }
+{
+    out.put_all(before_change(first), desk)?;
+    put_number(number, true, out, desk)
+}
+
 // Puts a line with the numbers of the changed sections, where there is one.
 fn put_changes<D: Desk>(book: &Book, out: &mut LineOut, desk: &mut D) -> Result<(), PutError>
     requires can { CanWrite (D.told desk.old) out.old }
-    ensures { Puts (changes_from true 1 book.now.outline.sections) out.old out.new
+    ensures { Puts (changes_of (changed_from 1 book.now.outline.sections)) out.old out.new
         (D.told desk.old) (D.told desk.new) result }
 {
     let mut first = true;
     for before in 0..book.section_count() {
         if book.section(before + 1).changed {
-            let front: &[u8] = if first { b"\\ch " } else { b", " };
-            out.put_all(front, desk)?;
-            put_number(before + 1, true, out, desk)?;
+            put_change(first, before + 1, out, desk)?;
             first = false;
         }
     }
-    if first {
-        return Ok(());
-    }
-    out.put_all(b".\n", desk)
+    out.put_all(behind_changes(first), desk)
 }
 
-// With flag r the changed sections are listed before the index.
+// Whether the changed sections are listed: with flag r, before the index.
+fn lists_changes(flags: &Flags) -> bool
+    ensures { result ≡ (flags.now.ranged && flags.now.index) }
+{
+    flags.ranged && flags.index
+}
+
+// Puts the line of changed sections where it is asked for.
 fn put_changes_if<D: Desk>(
     book: &Book,
     flags: &Flags,
@@ -67,7 +93,7 @@ fn put_changes_if<D: Desk>(
     ensures { Puts (changes_line flags.now book.now.outline.sections) out.old out.new
         (D.told desk.old) (D.told desk.new) result }
 {
-    if flags.ranged && flags.index {
+    if lists_changes(flags) {
         return put_changes(book, out, desk);
     }
     Ok(())
