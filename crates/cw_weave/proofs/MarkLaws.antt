@@ -27,4 +27,8 @@ all-marked P keeps sections all = all-marked-by P keeps (has_changed sections) s
 pub all_whole : (text : List ℕ) (sections : List Section) → All (IsWholeSection text) sections
     → All (IsWholeSection text) (with_last_marked sections)
 all_whole text sections all =
-    all-marked (IsWholeSection text) (λ s is. record { tex = is.tex; rest = is.rest }) sections all
+    all-marked (IsWholeSection text)
+    (λ s is. record {
+      tex = is.tex;
+      rest = record { definitions = is.rest.definitions; each = is.rest.each; c_part = is.rest.c_part };
+    }) sections all
