@@ -8,12 +8,17 @@ use Rattle.cw_logtext.specs.Appending.{block_of}
 use Rattle.cw_logtext.specs.LogText.{block_lines, ended}
 use Rattle.cw_names.specs.Names.{Entry}
 use Rattle.cw_texts.specs.declared.text_list.TextRef.{TextRef}
+use Rattle.cw_texts.specs.Texts.{texts_of}
 use Rattle.cw_translator.specs.Recording.{logged}
 use Rattle.cw_log.specs.declared.writing.WebSource.{WebSource}
 
 -- what stays while they are translated
 abbrev pub source_of : WebSource → Source
 source_of b = source_in b.text.now b.context
+
+-- the texts
+abbrev pub texts_in : WebSource → List TextRef
+texts_in b = texts_of b.text.now b.context.uses.now b.outline.now.sections
 
 -- a text that begins with these names
 abbrev pub ended_by : Source → TextRef → List Entry → EndedText

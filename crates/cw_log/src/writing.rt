@@ -10,7 +10,7 @@ ghost use Rattle.cw_lines.specs.Writes.{Adds};
 ghost use Rattle.cw_logtext.specs.LogText.{log_text};
 ghost use Rattle.cw_translator.specs.NameParts.{AreNamesOf};
 ghost use Rattle.cw_log.specs.LogOfWeb.{blocks_from, text_blocks};
-ghost use Rattle.cw_log.specs.Writing.{block_bytes, ended_by, source_of};
+ghost use Rattle.cw_log.specs.Writing.{block_bytes, ended_by, source_of, texts_in};
 
 use crate::logs::ProductionLog;
 use cw_base::{Bytes, Flags, Ledger, Memory, Out, Steps, Web};
@@ -19,7 +19,7 @@ use cw_lines::{PutError, write_all};
 use cw_logtext::append_block;
 use cw_names::Names;
 use cw_part::whole_texts_law;
-use cw_phase1::Book;
+use cw_phase1::{Book, Outline};
 use cw_reduce::{Context, Work, translate_recorded};
 use cw_scraps::Marks;
 use cw_texts::{BookTexts, TextRef};
@@ -59,19 +59,12 @@ impl Tool for LogTool {
             flags: &flags,
             alloc,
         };
-        let text = web.text();
-        let source = WebSource { text, context };
-        let mut texts = BookTexts::over(alloc, text, &book.name_uses, &book.outline);
-        let mut store = TokenStore::new_in(alloc);
-        let mut marks = Marks::new_in(alloc);
-        let mut work = Work {
-            names: &mut book.names,
-            store: &mut store,
-            marks: &mut marks,
-            steps,
-            recorder: ProductionLog::new_in(alloc),
+        let source = WebSource {
+            text: web.text(),
+            context,
+            outline: &book.outline,
         };
-        write_texts(&source, &mut texts, &mut work, desk)
+        write_book(&source, &mut book.names, desk, steps)
     }
 }
 
@@ -83,6 +76,34 @@ pub(crate) const USAGE: &[u8] = b"! Usage: cwlog write web change|- out, or cwlo
 pub(crate) struct WebSource<'a> {
     pub text: &'a [u8],
     pub context: Context<'a>,
+    pub outline: &'a Outline,
+}
+
+// Writes the blocks of all texts of a web, which begins with these names.
+fn write_book<D: Desk, L: Ledger>(
+    source: &WebSource,
+    names: &mut Names,
+    desk: &mut D,
+    steps: &mut Steps<L>,
+) -> Result<(), PutError>
+    requires made { IsTrue (is_open (D.told desk.old).outputs Tex) }
+    requires kept { AreNamesOf (source_of source.now).sec_names (source_of source.now).name_uses }
+    requires whole { All (IsWholeRef source.now.text.now) (texts_in source.now) }
+    ensures { Adds (byte_events Tex (log_text (blocks_from (source_of source.now) (texts_in source.now) names.old)))
+        (D.told desk.old) (D.told desk.new) result }
+{
+    let alloc = source.context.alloc;
+    let mut texts = BookTexts::over(alloc, source.text, source.context.uses, source.outline);
+    let mut store = TokenStore::new_in(alloc);
+    let mut marks = Marks::new_in(alloc);
+    let mut work = Work {
+        names,
+        store: &mut store,
+        marks: &mut marks,
+        steps,
+        recorder: ProductionLog::new_in(alloc),
+    };
+    write_texts(source, &mut texts, &mut work, desk)
 }
 
 // Writes the blocks of all texts that are to come: those of each as soon as it is translated.
