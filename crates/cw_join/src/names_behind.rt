@@ -36,7 +36,9 @@ pub(crate) fn append_reserved_of(names: &Names, name: NameId, out: &mut Bytes) -
     append_reserved(text, out)
 }
 
-// Appends the name of a macro of TeX. It stands apart, since few names are one.
+// Appends the name of a macro of TeX. It stands apart, since few names are one. It is marked as rare: else the compiler
+// takes what appends other names for rare, and calls a function for each of their bytes.
+#[cold]
 #[inline(never)]
 fn append_macro(name: &[u8], out: &mut Bytes) -> Result<(), Memory>
     ensures bytes { OnOk result (out.new ≡ out.old ++ macro_bytes name.now) }

@@ -19,6 +19,7 @@ pub fn constant(bytes: &[u8]) -> usize
     }
 }
 
+#[inline(always)]
 fn number(bytes: &[u8]) -> usize
     ensures value { result ≡ number bytes.now }
     ensures within { result ≤ length bytes.now }
@@ -31,6 +32,7 @@ fn number(bytes: &[u8]) -> usize
     if 0 < binary { binary } else { decimal(bytes) }
 }
 
+#[inline(always)]
 fn hexadecimal(bytes: &[u8]) -> usize
     ensures value { result ≡ hexadecimal bytes.now }
     ensures within { result ≤ length bytes.now }
@@ -41,6 +43,7 @@ fn hexadecimal(bytes: &[u8]) -> usize
     2 + scaled(Class::HexDigit, b'p', from(bytes, 2))
 }
 
+#[inline(always)]
 fn binary(bytes: &[u8]) -> usize
     ensures value { result ≡ binary bytes.now }
     ensures within { result ≤ length bytes.now }
@@ -52,6 +55,7 @@ fn binary(bytes: &[u8]) -> usize
 }
 
 // Whether a digit of the class stands behind `0` and this letter.
+#[inline(always)]
 fn is_prefixed(letter: u8, class: Class, bytes: &[u8]) -> bool
     ensures value { result ≡ is_prefixed letter class bytes.now }
     ensures within { result ≡ true → 2 < length bytes.now }
@@ -59,6 +63,7 @@ fn is_prefixed(letter: u8, class: Class, bytes: &[u8]) -> bool
     bytes.len() > 2 && bytes[0] == b'0' && is_letter_of(letter, bytes[1]) && class.has(bytes[2])
 }
 
+#[inline(always)]
 fn decimal(bytes: &[u8]) -> usize
     ensures value { result ≡ decimal bytes.now }
     ensures within { result ≤ length bytes.now }
@@ -67,6 +72,7 @@ fn decimal(bytes: &[u8]) -> usize
 }
 
 // A mantissa and perhaps an exponent with this letter.
+#[inline(always)]
 fn scaled(class: Class, letter: u8, bytes: &[u8]) -> usize
     ensures value { result ≡ scaled class letter bytes.now }
     ensures within { result ≤ length bytes.now }
@@ -79,6 +85,7 @@ fn scaled(class: Class, letter: u8, bytes: &[u8]) -> usize
     }
 }
 
+#[inline(always)]
 fn mantissa(class: Class, bytes: &[u8]) -> usize
     ensures value { result ≡ mantissa class bytes.now }
     ensures within { result ≤ length bytes.now }
@@ -87,6 +94,7 @@ fn mantissa(class: Class, bytes: &[u8]) -> usize
     digits + fraction(class, 0 < digits, from(bytes, digits))
 }
 
+#[inline(always)]
 fn fraction(class: Class, behind_digit: bool, bytes: &[u8]) -> usize
     ensures value { result ≡ fraction class behind_digit bytes.now }
     ensures within { result ≤ length bytes.now }
@@ -103,6 +111,7 @@ fn fraction(class: Class, behind_digit: bool, bytes: &[u8]) -> usize
     }
 }
 
+#[inline(always)]
 fn exponent(letter: u8, bytes: &[u8]) -> usize
     ensures value { result ≡ exponent letter bytes.now }
     ensures within { result ≤ length bytes.now }
@@ -115,6 +124,7 @@ fn exponent(letter: u8, bytes: &[u8]) -> usize
     if 0 < digits { sign + digits } else { 0 }
 }
 
+#[inline(always)]
 fn exponent_sign(bytes: &[u8]) -> usize
     ensures value { result ≡ exponent_sign bytes.now }
     ensures within { result ≤ length bytes.now }
@@ -127,6 +137,7 @@ fn exponent_sign(bytes: &[u8]) -> usize
 }
 
 // How many bytes a run of digits has, with its `'`.
+#[inline(always)]
 fn digits(class: Class, bytes: &[u8]) -> usize
     ensures value { result ≡ digits class bytes.now }
     ensures within { result ≤ length bytes.now }

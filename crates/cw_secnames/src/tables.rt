@@ -7,10 +7,10 @@ use cw_base::Memory;
 use std::alloc::Global;
 use std::mem::replace;
 
-// How many rows the first table has, and each further one.
+// How many rows the first table has, and each further one: a full table has two links a row.
 const FIRST_ROWS: usize = 1024;
 
-const ROWS: usize = 16384;
+const ROWS: usize = 32768;
 
 // A place in a table has 16 bits, and no place is the greatest of these numbers.
 const NOWHERE: u16 = 65535;
