@@ -27,6 +27,7 @@ pub(crate) struct SectionTitle<'a> {
 }
 
 /// Appends a section number, with `\*` behind that of a changed section.
+#[inline(always)]
 pub(crate) fn put_section_number(
     out: &mut Bytes,
     number: u32,
@@ -41,7 +42,8 @@ pub(crate) fn put_section_number(
     Ok(())
 }
 
-// Appends the numbers of the later sections that define a name.
+// Appends the numbers of the later sections that define a name. It stands apart, since few names list them.
+#[inline(never)]
 fn put_later(out: &mut Bytes, title: &SectionTitle) -> Result<(), Memory>
     ensures { OnOk result (out.new ≡ out.old ++ flat_map later_number (title_of title.now).later) }
 {
